@@ -1,0 +1,6 @@
+pub mod Going
+pub mod Cells
+pub mod Marks
+pub mod Render
+pub mod Runs
+pub mod Splice
