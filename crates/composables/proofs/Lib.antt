@@ -1,0 +1,4 @@
+pub mod Keys
+pub mod Joining
+pub mod Frames
+pub mod Keeping

@@ -1,0 +1,9 @@
+pub mod ReelNames
+pub mod Bounds
+pub mod Items
+pub mod TrackState
+pub mod TrackFacts
+
+pub mod Joined
+pub mod Places
+pub mod TrackInside

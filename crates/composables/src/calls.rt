@@ -1,0 +1,152 @@
+// The calls that edit a cut. Names and meanings are those of OpenTimelineIO's editAlgorithm, but for `Extract`,
+// `Dissolve`, `Undissolve`, `Link3` and `Unlink`, and for edits over several named tracks, which are this project's
+// own. Places and lengths are record frames, `from` is a source frame, `by` is a delta in frames, positive is later,
+// and bit t of `tracks` names track t.
+
+use crate::Listed;
+use frame_meaning::What;
+
+/// An end of an item.
+#[derive(Clone, Copy, Debug, PartialEq, Eq)]
+pub enum End {
+    Head,
+    Tail,
+}
+
+/// How much a `Fill` puts into its gap: that many source frames or as many as fit, or the whole gap.
+#[derive(Clone, Copy, Debug, PartialEq, Eq)]
+pub enum FillLength {
+    Source(u32),
+    Sequence,
+}
+
+/// A list of numbers.
+pub type Numbers = Listed<u32>;
+
+/// Puts a new item over [at, at + len). Where the track is shorter than `at` it grows by dark frames up to it.
+#[derive(Clone, Copy, Debug, PartialEq, Eq)]
+pub struct Overwrite {
+    pub track: u32,
+    pub at: u32,
+    pub what: What,
+    pub from: u32,
+    pub len: u32,
+}
+
+/// Puts a new item at `at`, and moves what is from there on later, on all named tracks.
+#[derive(Clone, Copy, Debug, PartialEq, Eq)]
+pub struct Insert {
+    pub tracks: u32,
+    pub track: u32,
+    pub at: u32,
+    pub what: What,
+    pub from: u32,
+    pub len: u32,
+}
+
+/// Leaves a gap in place of an item.
+#[derive(Clone, Copy, Debug, PartialEq, Eq)]
+pub struct Remove {
+    pub track: u32,
+    pub item: u32,
+}
+
+/// Takes an item out, and moves what is after it earlier, on all named tracks.
+#[derive(Clone, Copy, Debug, PartialEq, Eq)]
+pub struct Extract {
+    pub tracks: u32,
+    pub track: u32,
+    pub item: u32,
+}
+
+/// Cuts the item at a place in two.
+#[derive(Clone, Copy, Debug, PartialEq, Eq)]
+pub struct Slice {
+    pub track: u32,
+    pub at: u32,
+}
+
+/// Puts a new item at the start of the gap that holds `at`.
+#[derive(Clone, Copy, Debug, PartialEq, Eq)]
+pub struct Fill {
+    pub track: u32,
+    pub at: u32,
+    pub what: What,
+    pub from: u32,
+    pub length: FillLength,
+}
+
+/// Moves an end of an item and nothing else.
+#[derive(Clone, Copy, Debug, PartialEq, Eq)]
+pub struct Trim {
+    pub track: u32,
+    pub item: u32,
+    pub end: End,
+    pub by: i32,
+}
+
+/// Moves the source frames of an item, and of the items linked to it on the named tracks.
+#[derive(Clone, Copy, Debug, PartialEq, Eq)]
+pub struct Slip {
+    pub tracks: u32,
+    pub track: u32,
+    pub item: u32,
+    pub by: i32,
+}
+
+/// Moves an end of an item and all that is after it, on all named tracks.
+#[derive(Clone, Copy, Debug, PartialEq, Eq)]
+pub struct Ripple {
+    pub tracks: u32,
+    pub track: u32,
+    pub item: u32,
+    pub end: End,
+    pub by: i32,
+}
+
+/// Moves a cut.
+#[derive(Clone, Copy, Debug, PartialEq, Eq)]
+pub struct Roll {
+    pub track: u32,
+    pub at: u32,
+    pub by: i32,
+}
+
+/// Moves an item between its neighbours, of which one grows and the other gives way.
+#[derive(Clone, Copy, Debug, PartialEq, Eq)]
+pub struct Slide {
+    pub tracks: u32,
+    pub track: u32,
+    pub item: u32,
+    pub by: i32,
+}
+
+/// Puts a dissolve at a cut, from `a` frames before it to `b` frames after it.
+#[derive(Clone, Copy, Debug, PartialEq, Eq)]
+pub struct Dissolve {
+    pub track: u32,
+    pub at: u32,
+    pub a: u32,
+    pub b: u32,
+}
+
+/// Takes a dissolve away.
+#[derive(Clone, Copy, Debug, PartialEq, Eq)]
+pub struct Undissolve {
+    pub track: u32,
+    pub at: u32,
+}
+
+/// Links items, one on each named track, in the order of the tracks. The name differs from a cell's `Link`.
+#[derive(Drop)]
+pub struct Link3 {
+    pub tracks: u32,
+    pub items: Numbers,
+}
+
+/// Takes the link from an item.
+#[derive(Clone, Copy, Debug, PartialEq, Eq)]
+pub struct Unlink {
+    pub track: u32,
+    pub item: u32,
+}

@@ -1,0 +1,26 @@
+//! What a cut is composed of: tracks of items and gaps, the table of reels, media and nests, and the calls that
+//! edit it.
+//!
+//! The main contract is that of `Track`: contracts see its number, a list of cells, one for each frame, and its next
+//! item and link numbers; the code keeps items and gaps and never makes a cell.
+#![tactic(auto)]
+
+mod calls;
+mod items;
+mod lists;
+mod media;
+mod reel_table;
+mod refusals;
+mod tracks;
+
+pub use calls::{
+    Dissolve, End, Extract, Fill, FillLength, Insert, Link3, Numbers, Overwrite, Remove, Ripple, Roll, Slice, Slide,
+    Slip, Trim, Undissolve, Unlink,
+};
+pub use items::{ItemView, Place};
+pub use frame_meaning::Memory;
+pub use lists::Listed;
+pub use media::{Kind, Layer, Media, Nest, Table};
+pub use reel_table::Reels;
+pub use refusals::{Done, EditFault, Refusal, Which};
+pub use tracks::Track;

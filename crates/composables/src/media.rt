@@ -1,0 +1,66 @@
+// The table of a room: the kinds of its tracks, its reels, media and nests.
+ghost use Rattle.std.specs.Prelude.{◌≡◌};
+
+use crate::{Listed, Reels, Track};
+use frame_meaning::What;
+
+/// What a track carries.
+#[derive(Clone, Copy, Debug, PartialEq, Eq)]
+pub enum Kind {
+    Video,
+    Audio,
+}
+
+/// A media entry: a reel, and the source frames [from, to) that it has.
+#[derive(Clone, Copy, Debug, PartialEq, Eq)]
+pub struct Media {
+    pub reel: u32,
+    pub from: u32,
+    pub to: u32,
+}
+
+/// A layer of a nest: the places [from, to) of a track, and dark after them.
+#[derive(Drop)]
+pub struct Layer {
+    pub track: Track,
+    pub from: u32,
+    pub to: u32,
+}
+
+/// A nest: layers that lie over one another, the last on top, and its length in frames. The nests that stand in a
+/// layer have lower numbers than this one.
+#[derive(Drop)]
+pub struct Nest {
+    pub layers: Listed<Layer>,
+    pub length: u32,
+}
+
+/// What the numbers in a cut stand for: track t is of kind t, a media entry names a reel by its number, and `@m` and
+/// `#j` are entries m and j of the lists of media and nests.
+#[derive(Drop)]
+pub struct Table {
+    pub kinds: Listed<Kind>,
+    pub reels: Reels,
+    pub media: Listed<Media>,
+    pub nests: Listed<Nest>,
+}
+
+impl Table {
+    ghost use Rattle.composables.specs.Bounds.{bounds_of};
+
+    /// The source frames [from, to) that a thing has, or `None` where it is not in the table.
+    pub fn bounds(&self, what: What) -> Option<(u32, u32)>
+        ensures { result ≡ bounds_of self.now what }
+    {
+        match what {
+            What::Media(m) => {
+                let media = self.media.as_slice().get(m as usize)?;
+                Some((media.from, media.to))
+            }
+            What::Nest(j) => {
+                let nest = self.nests.as_slice().get(j as usize)?;
+                Some((0, nest.length))
+            }
+        }
+    }
+}
