@@ -6,4 +6,5 @@ pub mod TrackFacts
 
 pub mod Joined
 pub mod Places
+pub mod Good
 pub mod TrackInside

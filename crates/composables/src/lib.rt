@@ -23,4 +23,10 @@ pub use lists::Listed;
 pub use media::{Kind, Layer, Media, Nest, Table};
 pub use reel_table::Reels;
 pub use refusals::{Done, EditFault, Refusal, Which};
-pub use tracks::Track;
+pub use tracks::{Track, push_item};
+
+/// The most frames of a track.
+pub const MAX_FRAMES: u32 = 2_592_000;
+
+/// The most items of a track, gaps counted.
+pub const MAX_ITEMS: u32 = 65_536;

@@ -213,8 +213,8 @@ fn find_place<L: Ledger>(items: &[ItemView], at: u32, steps: &mut Steps<L>) -> O
     None
 }
 
-// An item or gap behind others. Those that belong together become one.
-fn push_item(items: &mut Vec<ItemView>, view: ItemView) -> Result<(), Memory>
+/// Puts an item or gap behind others. Two gaps that meet become one, and so do two parts of one item.
+pub fn push_item(items: &mut Vec<ItemView>, view: ItemView) -> Result<(), Memory>
     requires { frames_in items.old.items + view.len < 2 ^ 32 }
     ensures ok { OnOk result (items.new.items ≡ push_view items.old.items view) }
     ensures err { OnErr result (items.new.items ≡ items.old.items) }
