@@ -36,7 +36,7 @@ impl Model for Track {
 }
 
 impl Track {
-    ghost use Rattle.std.specs.Prelude.{◌≡◌, ◌+◌, ◌<◌, ◌≤◌, ◌↔◌, [], length, slice_get, vec_len, IfSome, IsNone, OnOk, OnErr};
+    ghost use Rattle.std.specs.Prelude.{◌≡◌, ◌+◌, ◌<◌, ◌≤◌, ◌↔◌, [], length, slice_get, vec_len, IfSome, IfOk, IsNone, OnOk, OnErr};
     ghost use Rattle.composables.specs.Items.{items_of};
     ghost use Rattle.composables.specs.TrackState.{pushed, replaced};
     ghost use Rattle.composables.specs.TrackFacts.{IsKept, NumbersBelow};
@@ -110,6 +110,21 @@ impl Track {
     {
         steps.tick();
         find_place(&self.items, at, steps)
+    }
+
+    /// An equal track.
+    pub fn copy(&self, alloc: Global) -> Result<Track, Memory>
+        ensures { IfOk result (λ t. t ≡ self.now) }
+    {
+        let items = Vec::from_slice(alloc, &self.items)?;
+        Ok(Track {
+            alloc,
+            number: self.number,
+            items,
+            next_item: self.next_item,
+            next_link: self.next_link,
+            total: self.total,
+        })
     }
 
     /// Adds an item or gap at the end, and raises the next item number past its number. Gaps that meet become one.
