@@ -1,0 +1,56 @@
+-- The reply to a question to a track: the runs of the frames shown, or the items and gaps, in order.
+use Rattle.std.specs.Prelude.{ℕ, List, [], ◌++◌, Option, Some, None, Result, Ok, Err, codes, decimal}
+use Rattle.std.specs.List.{flat_map}
+use Rattle.frame_meaning.specs.declared.cells.What.{What}
+use Rattle.frame_meaning.specs.declared.cells.Mark.{Mark}
+use Rattle.frame_meaning.specs.declared.cells.Link.{Link}
+use Rattle.frame_meaning.specs.declared.frames.Side.{Side}
+use Rattle.frame_meaning.specs.declared.frames.Side.TheVariants as side
+use Rattle.frame_meaning.specs.declared.frames.Frame.{Frame}
+use Rattle.frame_meaning.specs.declared.frames.Frame.TheVariants as frame
+use Rattle.frame_meaning.specs.declared.frames.Run.{Run}
+use Rattle.composables.specs.declared.items.ItemView.{ItemView}
+use Rattle.edit_apply.specs.declared.asks.Seen.{Seen}
+use Rattle.edit_apply.specs.declared.asks.Seen.TheVariants.{Runs, Items}
+use Rattle.edit_apply.specs.declared.asks.AskRefusal.{AskRefusal}
+use Rattle.edit_apply.specs.declared.asks.AskRefusal.TheVariants.{NoTrack, Range}
+use Rattle.call_text.specs.CallTexts.{what_text}
+use Rattle.call_text.specs.Replies.{link_text}
+
+-- a side: nothing, or a thing and the source frame
+abbrev pub side_text : Side What → List ℕ
+side_text side.Dark = codes " dark"
+side_text (side.Pic what source) = codes " " ++ what_text what ++ codes " " ++ decimal source
+
+-- what a run's first frame shows
+abbrev pub frame_text : Frame What → List ℕ
+frame_text frame.Dark = codes " dark"
+frame_text (frame.Pic what source) = codes " " ++ what_text what ++ codes " " ++ decimal source
+frame_text (frame.Mix left right num den) = codes " mix" ++ side_text left ++ side_text right ++ codes " " ++ decimal num ++ codes " " ++ decimal den
+
+abbrev pub run_text : Run What → List ℕ
+run_text run = frame_text run.frame ++ codes " " ++ decimal run.len
+
+-- the dissolve at the cut before an item or gap, where there is one
+abbrev pub mark_text : Option Mark → List ℕ
+mark_text None = []
+mark_text (Some mark) = codes " mark " ++ decimal mark.a ++ codes " " ++ decimal mark.b
+
+-- the number of an item; a gap has none
+abbrev pub number_text : Option ℕ → List ℕ
+number_text None = []
+number_text (Some item) = codes " " ++ decimal item
+
+abbrev pub item_link_text : Option Link → List ℕ
+item_link_text None = []
+item_link_text (Some link) = codes " link " ++ link_text link.home link.number
+
+-- the mark before it, its number, what it shows from which source frame on, its length, its link
+abbrev pub item_text : ItemView → List ℕ
+item_text view = mark_text view.mark ++ number_text view.item ++ side_text view.first ++ codes " " ++ decimal view.len ++ item_link_text view.link
+
+abbrev pub seen_of : ℕ → Result Seen AskRefusal → List ℕ
+seen_of point (Ok (Runs runs)) = codes "seen " ++ decimal point ++ flat_map run_text runs
+seen_of point (Ok (Items views)) = codes "items " ++ decimal point ++ flat_map item_text views
+seen_of point (Err (NoTrack track)) = codes "no " ++ decimal point ++ codes " V1 " ++ decimal track
+seen_of point (Err (Range length)) = codes "no " ++ decimal point ++ codes " V2 " ++ decimal length

@@ -1,0 +1,62 @@
+-- How the parts of a line are spelled, each as what its word says, or why the word is wrong: B3 where it is not spelled
+-- so, B4 where its number is past its bound. This project's own protocol.
+use Rattle.std.specs.Prelude.{ℕ, List, [], ◌∷◌, Option, Some, None, Result, Ok, Err, nat_le, ◌==◌, if◌then◌else◌}
+use Rattle.line_words.specs.Digits.{number_of}
+use Rattle.line_words.specs.declared.numbers.NumberFault.{NumberFault}
+use Rattle.line_words.specs.declared.numbers.NumberFault.TheVariants.{NotANumber, TooLarge}
+use Rattle.frame_meaning.specs.declared.cells.What.{What}
+use Rattle.frame_meaning.specs.declared.cells.What.TheVariants.{Media, Nest}
+use Rattle.call_text.specs.declared.lines.LineFault.{LineFault}
+use Rattle.call_text.specs.declared.lines.LineFault.TheVariants.{B3, B4}
+
+-- go on with what was read, or end at the first fault
+infixl 10 ◌>>=◌
+abbrev pub ◌>>=◌ : {A B : Type 0} → Result A LineFault → (A → Result B LineFault) → Result B LineFault
+(Ok x) >>= f = f x
+(Err e) >>= f = Err e
+
+abbrev pub number_fault : NumberFault → LineFault
+number_fault NotANumber = B3
+number_fault TooLarge = B4
+
+abbrev pub number_or_fault : Result ℕ NumberFault → Result ℕ LineFault
+number_or_fault (Ok n) = Ok n
+number_or_fault (Err fault) = Err (number_fault fault)
+
+-- a number: decimal digits, at most 4,294,967,295
+abbrev pub numeral_of : List ℕ → Result ℕ LineFault
+numeral_of word = number_or_fault (number_of word)
+
+-- a track: a number, at most 31
+abbrev pub track_of : List ℕ → Result ℕ LineFault
+track_of word = do
+  track ← numeral_of word
+  if nat_le track 31 then Ok track else Err B4
+
+-- the place of a label, where it names one
+abbrev pub place_or_fault : Option ℕ → Result ℕ LineFault
+place_or_fault None = Err B3
+place_or_fault (Some place) = Ok place
+
+abbrev pub number_or_label : Result ℕ NumberFault → Option ℕ → Result ℕ LineFault
+number_or_label (Ok n) label = Ok n
+number_or_label (Err TooLarge) label = Err B4
+number_or_label (Err NotANumber) label = place_or_fault label
+
+-- a place: a number, or a label, of which place_at says which place it names
+abbrev pub place_of : (List ℕ → Option ℕ) → List ℕ → Result ℕ LineFault
+place_of place_at word = number_or_label (number_of word) (place_at word)
+
+-- a thing: `@` (64) and the number of a media entry, or `#` (35) and the number of a nest
+abbrev pub what_of : List ℕ → Result What LineFault
+what_of [] = Err B3
+what_of (sign ∷ digits) =
+    if sign == 64 then media_of (numeral_of digits) else if sign == 35 then nest_of (numeral_of digits) else Err B3 where
+  media_of : Result ℕ LineFault → Result What LineFault
+  media_of number = do
+    n ← number
+    Ok (Media n)
+  nest_of : Result ℕ LineFault → Result What LineFault
+  nest_of number = do
+    n ← number
+    Ok (Nest n)

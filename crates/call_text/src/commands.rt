@@ -1,0 +1,31 @@
+// The first words of lines.
+ghost use Rattle.std.specs.Prelude.{◌≡◌};
+ghost use Rattle.call_text.specs.Reading.{command_of};
+
+/// The first word of a line, which says what the line asks for.
+#[derive(Clone, Copy, Debug, PartialEq, Eq)]
+pub enum Command {
+    Overwrite,
+    View,
+    Items,
+    Point,
+}
+
+impl Command {
+    /// The command that a word is, if it is one.
+    pub fn of_word(word: &[u8]) -> Option<Command>
+        ensures { result ≡ command_of word.now }
+    {
+        if word == b"overwrite".as_slice() {
+            Some(Command::Overwrite)
+        } else if word == b"view".as_slice() {
+            Some(Command::View)
+        } else if word == b"items".as_slice() {
+            Some(Command::Items)
+        } else if word == b"point".as_slice() {
+            Some(Command::Point)
+        } else {
+            None
+        }
+    }
+}

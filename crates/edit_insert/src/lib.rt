@@ -1,0 +1,2 @@
+//! Edits that put items in and take them out.
+#![tactic(auto)]

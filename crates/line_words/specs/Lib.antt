@@ -1,0 +1,5 @@
+pub mod Blanks
+pub mod Digits
+pub mod Lines
+pub mod Pieces
+pub mod Told

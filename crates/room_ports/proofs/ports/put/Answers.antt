@@ -1,0 +1,16 @@
+use Rattle.std.proofs.Common.{arith}
+use Rattle.std.proofs.lemmas.Result.{err_from_is_err_and}
+use Rattle.room_ports.proofs.Fronts.{takes-more, takes_front-more}
+use Rattle.room_ports.proofs.ports.put.Goals as goal
+
+pub loop-done-preserved : goal.loop-done-preserved
+loop-done-preserved g c = record {
+  within = omega (arith, c.in_ok-done.ensures.within, c.split_at.ensures.back_len);
+  so_far = takes-more (g.K.Sink.taken c.args.sink.now) (g.K.Sink.taken c.loop-done.sink) (g.K.Sink.taken c.write.new.self) _ _ _ _ c.split_at.ensures.back c.loop-done.invariant.so_far c.in_ok-done.ensures.ok;
+  count = omega (arith, c.write.ensures.count);
+}
+
+pub returns-in_err-done-clause-err : goal.returns-in_err-done-clause-err
+returns-in_err-done-clause-err g c =
+    let p = err_from_is_err_and c.from_residual.result c.from_residual.ensures.1 in
+    rw p.1 (takes_front-more (g.K.Sink.taken c.args.sink.now) (g.K.Sink.taken c.loop-done.sink) (g.K.Sink.taken c.write.new.self) _ _ _ c.split_at.ensures.back c.loop-done.invariant.so_far c.in_err-done.ensures.err)

@@ -1,0 +1,5 @@
+pub mod Counts
+pub mod Bytes
+pub mod Calls
+pub mod Pieces
+pub mod States

@@ -1,0 +1,22 @@
+//! The outside of the cutting room: sources and sinks of bytes, as two traits, with objects over memory and
+//! adapters over the readers and writers of std. A read gives the next bytes and a write takes a front of its
+//! piece, where the object tells its bytes; a call answers `Failed` only where the object's count of faults
+//! rose, and `put` writes a whole piece or leaves a front of it behind.
+#![tactic(auto)]
+
+mod calls;
+mod failed;
+pub mod laws;
+mod pieces;
+mod ports;
+mod sink;
+mod source;
+mod standard;
+#[cfg(test)]
+mod tests;
+
+pub use failed::{Failed, Memory};
+pub use ports::{Sink, Source, put};
+pub use sink::{MemSink, SureSink};
+pub use source::{MemSource, SureSource};
+pub use standard::{StdSink, StdSource};
