@@ -1,7 +1,9 @@
 pub mod CallTexts
 pub mod Gives
 pub mod Journals
+pub mod Labels
 pub mod Reading
 pub mod Replies
 pub mod Sights
 pub mod Spelling
+pub mod Table

@@ -17,15 +17,19 @@ use Rattle.edit_apply.specs.declared.asks.AskRefusal.TheVariants.{NoTrack, Range
 use Rattle.call_text.specs.CallTexts.{what_text}
 use Rattle.call_text.specs.Replies.{link_text}
 
+-- a thing, and a source frame of it
+abbrev pub picture_text : What → ℕ → List ℕ
+picture_text what source = codes " " ++ what_text what ++ codes " " ++ decimal source
+
 -- a side: nothing, or a thing and the source frame
 abbrev pub side_text : Side What → List ℕ
 side_text side.Dark = codes " dark"
-side_text (side.Pic what source) = codes " " ++ what_text what ++ codes " " ++ decimal source
+side_text (side.Pic what source) = picture_text what source
 
 -- what a run's first frame shows
 abbrev pub frame_text : Frame What → List ℕ
 frame_text frame.Dark = codes " dark"
-frame_text (frame.Pic what source) = codes " " ++ what_text what ++ codes " " ++ decimal source
+frame_text (frame.Pic what source) = picture_text what source
 frame_text (frame.Mix left right num den) = codes " mix" ++ side_text left ++ side_text right ++ codes " " ++ decimal num ++ codes " " ++ decimal den
 
 abbrev pub run_text : Run What → List ℕ

@@ -6,6 +6,7 @@ use Rattle.line_words.specs.declared.numbers.NumberFault.{NumberFault}
 use Rattle.line_words.specs.declared.numbers.NumberFault.TheVariants.{NotANumber, TooLarge}
 use Rattle.frame_meaning.specs.declared.cells.What.{What}
 use Rattle.frame_meaning.specs.declared.cells.What.TheVariants.{Media, Nest}
+use Rattle.call_text.specs.declared.parts.TheConstants.{LAST_TRACK}
 use Rattle.call_text.specs.declared.lines.LineFault.{LineFault}
 use Rattle.call_text.specs.declared.lines.LineFault.TheVariants.{B3, B4}
 
@@ -31,7 +32,7 @@ numeral_of word = number_or_fault (number_of word)
 abbrev pub track_of : List ℕ → Result ℕ LineFault
 track_of word = do
   track ← numeral_of word
-  if nat_le track 31 then Ok track else Err B4
+  if nat_le track LAST_TRACK then Ok track else Err B4
 
 -- the place of a label, where it names one
 abbrev pub place_or_fault : Option ℕ → Result ℕ LineFault
@@ -51,12 +52,6 @@ place_of place_at word = number_or_label (number_of word) (place_at word)
 abbrev pub what_of : List ℕ → Result What LineFault
 what_of [] = Err B3
 what_of (sign ∷ digits) =
-    if sign == 64 then media_of (numeral_of digits) else if sign == 35 then nest_of (numeral_of digits) else Err B3 where
-  media_of : Result ℕ LineFault → Result What LineFault
-  media_of number = do
-    n ← number
-    Ok (Media n)
-  nest_of : Result ℕ LineFault → Result What LineFault
-  nest_of number = do
-    n ← number
-    Ok (Nest n)
+    if sign == 64 then numeral_of digits >>= (λ n. Ok (Media n))
+    else if sign == 35 then numeral_of digits >>= (λ n. Ok (Nest n))
+    else Err B3

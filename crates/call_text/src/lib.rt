@@ -1,10 +1,39 @@
-//! Lines and replies (in the making).
+//! Lines and replies of a cutting room as text, and its journal as text.
+//!
+//! The main contract is that of `read_line`: a line is read by the table, or refused by the first fault of it. What
+//! `call_text` writes is read again as that call: the law `written_calls_are_read`. Each reply is a text that is
+//! defined case by case, in `specs/`.
 #![tactic(auto)]
 
+mod bytes;
+mod calls;
 mod commands;
+mod counted;
+mod counting;
 mod entries;
+mod journal;
+mod labels;
+mod laws;
 mod lines;
+mod parts;
+mod reading;
+mod replies;
+mod short_text;
+mod sights;
 
+pub use calls::call_text;
 pub use commands::Command;
+pub use composables::Memory;
+pub use counting::Counting;
 pub use entries::Entry;
+pub use journal::journal_text;
+pub use laws::{lines_are_those_of_the_table, written_calls_are_read};
 pub use lines::{Line, LineFault};
+pub use parts::LAST_TRACK;
+pub use reading::read_line;
+pub use replies::{fault_text, reply_text};
+pub use short_text::{MAX_SHORT, Short};
+pub use sights::seen_text;
+
+#[cfg(test)]
+mod tests;

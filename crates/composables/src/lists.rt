@@ -29,6 +29,13 @@ impl<T> Listed<T> {
         }
     }
 
+    /// The list of these items.
+    pub fn from_vec(items: Vec<T>) -> Self
+        ensures { result ≡ items.items }
+    {
+        Listed { items }
+    }
+
     /// The items, in order.
     pub fn as_slice(&self) -> &[T]
         ensures { result.now ≡ self.now }

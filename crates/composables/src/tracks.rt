@@ -100,6 +100,13 @@ impl Track {
         view_at(&self.items, index)
     }
 
+    /// All its items and gaps, in order.
+    pub fn items(&self, alloc: Global) -> Result<Vec<ItemView>, Memory>
+        ensures { IfOk result (λ all. all.items ≡ items_of self.now.cells) }
+    {
+        Ok(Vec::from_slice(alloc, &self.items)?)
+    }
+
     /// Where the item or gap that holds the place `at` stands, or `None` where the track has no such place.
     pub fn item_at<L: Ledger>(&self, at: u32, steps: &mut Steps<L>) -> Option<Place>
         ensures found { IfSome result (λ p. IsPlaceOf self.now.cells p) }

@@ -15,8 +15,8 @@ use Rattle.call_text.specs.declared.lines.Line.{Line}
 use Rattle.call_text.specs.declared.lines.Line.TheVariants.{Edit, Ask as AskOf, Point}
 use Rattle.call_text.specs.declared.lines.LineFault.{LineFault}
 use Rattle.cut_server.specs.History.{most_entries, replay, after_entry, answer_in, state_in, RiseAfter, NumbersRise, IsLegal}
-use Rattle.cut_server.specs.Transcript.{Opening, History, meaning_of, tracks_at, answer_at, sight_at, BearsNone, IsDone, IsRefused, IsFull, IsMemory, IsSeen, IsPoint, IsBad, Row, Rows, Transcript, points_from, sent}
-use Rattle.cut_server.specs.Session.{SessionState, Commits, Refuses, HasNoRoom, Answers, Step}
+use Rattle.cut_server.specs.Transcript.{Opening, Setting, History, meaning_of, tracks_at, answer_at, sight_at, BearsNone, IsDone, IsRefused, IsFull, IsMemory, IsSeen, IsPoint, IsBad, Row, Rows, Transcript, points_from, sent}
+use Rattle.cut_server.specs.Session.{SessionState, past_line, Commits, Refuses, HasNoRoom, Answers, Step}
 use Rattle.cut_server.proofs.Transcripts.{get_last, answer_more, mono_rows, more_rows, points_more, replay_more, tracks_now}
 
 -- each entry is of a line before this one
@@ -46,36 +46,38 @@ rise_more (f ∷ fs) e b r = (rise_after f fs e b.0 r.0, rise_more fs e b.1 r.1)
 
 -- the lines so far have their replies, and the tracks are what the journal comes to
 pub record Served (o : Opening) (s : SessionState) (ls : List InputLine) (rs : List (List ℕ)) (last : ℕ) : Type 0 where
-  pub table : s.table ≡ o.table
-  pub state : replay (applied o.table) o.tracks s.journal ≡ Some s.tracks
+  pub setting : s.setting ≡ o.setting
+  pub state : replay (applied o.setting.table) o.tracks s.journal ≡ Some s.tracks
   pub rows : Rows o s.journal 0 1 0 ls rs last (points_from 0 0 s.journal)
   pub told : last ≤ length s.journal
+  pub line : s.line ≡ 1 + length ls
   pub before : AllBefore (1 + length ls) s.journal
   pub rise : NumbersRise s.journal
   pub within : length s.journal ≤ most_entries
 
-pub served_none : (o : Opening) (s : SessionState) → s.table ≡ o.table → s.tracks ≡ o.tracks → s.journal ≡ [] → Served o s [] [] 0
-served_none o s t ts j = record {
-    table = t;
-    state = ap (λ (h : History). replay (applied o.table) o.tracks h) j ∙ ap Some (sym ts);
+pub served_none : (o : Opening) (s : SessionState) → s.setting ≡ o.setting → s.tracks ≡ o.tracks → s.journal ≡ [] → s.line ≡ 1 → Served o s [] [] 0
+served_none o s t ts j first = record {
+    setting = t;
+    state = ap (λ (h : History). replay (applied o.setting.table) o.tracks h) j ∙ ap Some (sym ts);
     rows = (refl, ap (points_from 0 0) j);
     told = omega arith;
+    line = first;
     before = rw j tt;
     rise = rw j tt;
     within = omega (arith, ap length j);
   }
 
-answer_now : (o : Opening) (s : SessionState) (c : Call) → s.table ≡ o.table → replay (applied o.table) o.tracks s.journal ≡ Some s.tracks
-    → answer_at o s.journal (length s.journal) c ≡ Some (answer_in (applied s.table s.tracks c))
+answer_now : (o : Opening) (s : SessionState) (c : Call) → s.setting ≡ o.setting → replay (applied o.setting.table) o.tracks s.journal ≡ Some s.tracks
+    → answer_at o s.journal (length s.journal) c ≡ Some (answer_in (applied s.setting.table s.tracks c))
 answer_now o s c t state =
-    ap (option_map (λ tracks. answer_in (applied o.table tracks c))) (tracks_now o s.journal ∙ state)
-    ∙ ap (λ table. Some (answer_in (applied table s.tracks c))) (sym t)
+    ap (option_map (λ tracks. answer_in (applied o.setting.table tracks c))) (tracks_now o s.journal ∙ state)
+    ∙ ap (λ (x : Setting). Some (answer_in (applied x.table s.tracks c))) (sym t)
 
-sight_now : (o : Opening) (s : SessionState) (q : Ask) → s.table ≡ o.table → replay (applied o.table) o.tracks s.journal ≡ Some s.tracks
-    → sight_at o s.journal (length s.journal) q ≡ Some (seen_in s.table s.tracks q)
+sight_now : (o : Opening) (s : SessionState) (q : Ask) → s.setting ≡ o.setting → replay (applied o.setting.table) o.tracks s.journal ≡ Some s.tracks
+    → sight_at o s.journal (length s.journal) q ≡ Some (seen_in s.setting.table s.tracks q)
 sight_now o s q t state =
-    ap (option_map (λ tracks. seen_in o.table tracks q)) (tracks_now o s.journal ∙ state)
-    ∙ ap (λ table. Some (seen_in table s.tracks q)) (sym t)
+    ap (option_map (λ tracks. seen_in o.setting.table tracks q)) (tracks_now o s.journal ∙ state)
+    ∙ ap (λ (x : Setting). Some (seen_in x.table s.tracks q)) (sym t)
 
 zero_plus : (n : ℕ) → 0 + n ≡ n
 zero_plus n = omega arith
@@ -91,13 +93,14 @@ memory_row o s ls rs last reply w is = record {
 
 -- a reply that commits nothing
 served_same : (o : Opening) (s : SessionState) (ls : List InputLine) (rs : List (List ℕ)) (last : ℕ) (l : InputLine) (reply : List ℕ) (after : ℕ)
-    → Served o s ls rs last → Row o s.journal 0 (1 + length ls) last reply after [] (meaning_of o l) → after ≤ length s.journal
-    → Served o s (ls ++ l ∷ []) (rs ++ reply ∷ []) after
+    → Served o s ls rs last → Row o s.journal 0 (1 + length ls) last reply after [] (meaning_of o.setting l) → after ≤ length s.journal
+    → Served o (past_line s) (ls ++ l ∷ []) (rs ++ reply ∷ []) after
 served_same o s ls rs last l reply after w row told = record {
-    table = w.table;
+    setting = w.setting;
     state = w.state;
     rows = rw append-nil at (more_rows o s.journal 0 1 0 ls rs last (points_from 0 0 s.journal) l reply after [] w.rows row);
     told = told;
+    line = omega (arith, w.line, length-append ls (l ∷ []));
     before = before_later (1 + length ls) (1 + length (ls ++ l ∷ [])) s.journal (omega (arith, length-append ls (l ∷ []))) w.before;
     rise = w.rise;
     within = w.within;
@@ -105,21 +108,21 @@ served_same o s ls rs last l reply after w row told = record {
 
 -- one line more that commits an edit
 served_commit : (o : Opening) (old new : SessionState) (ls : List InputLine) (rs : List (List ℕ)) (last : ℕ) (l : InputLine) (reply : List ℕ) (c : Call) (d : Done)
-    → Served o old ls rs last → meaning_of o l ≡ Ok (Edit c) → Commits old new (1 + length ls) reply c d
-    → Served o new (ls ++ l ∷ []) (rs ++ reply ∷ []) (length old.journal + 1)
+    → Served o old ls rs last → meaning_of o.setting l ≡ Ok (Edit c) → Commits old new reply c d
+    → Served o (past_line new) (ls ++ l ∷ []) (rs ++ reply ∷ []) (length old.journal + 1)
 served_commit o old new ls rs last l reply c d w says k =
     let h : History = old.journal in
     let n : ℕ = length h in
     let e : Entry Call = record { station = 0; number = 1 + length ls; call = c } in
-    let j : new.journal ≡ h ++ e ∷ [] = k.journal in
+    let j : new.journal ≡ h ++ e ∷ [] = k.journal ∙ ap (λ (n : ℕ). h ++ record { station = 0; number = n; call = c } ∷ []) w.line in
     let counted : length (h ++ e ∷ []) ≡ n + 1 = length-append h (e ∷ []) in
-    let state : replay (applied o.table) o.tracks (h ++ e ∷ []) ≡ Some new.tracks =
+    let state : replay (applied o.setting.table) o.tracks (h ++ e ∷ []) ≡ Some new.tracks =
         replay_more o h e
-        ∙ (ap (λ (x : Option (List TrackState)). after_entry (applied o.table) x e) w.state
-        ∙ (ap (λ table. state_in (applied table old.tracks c)) (sym w.table) ∙ ap state_in k.applies)) in
+        ∙ (ap (λ (x : Option (List TrackState)). after_entry (applied o.setting.table) x e) w.state
+        ∙ (ap (λ (x : Setting). state_in (applied x.table old.tracks c)) (sym w.setting) ∙ ap state_in k.applies)) in
     let answer : answer_at o (h ++ e ∷ []) n c ≡ Some (Ok d) =
         answer_more o h e n c (omega arith)
-        ∙ (answer_now o old c w.table w.state ∙ ap (λ x. Some (answer_in x)) k.applies) in
+        ∙ (answer_now o old c w.setting w.state ∙ ap (λ x. Some (answer_in x)) k.applies) in
     let done : IsDone o (h ++ e ∷ []) 0 (1 + length ls) last reply (n + 1) (n ∷ []) c n d = record {
           told_of = w.told;
           entry = get_last h e;
@@ -128,14 +131,15 @@ served_commit o old new ls rs last l reply c d w says k =
           after_is = refl;
           points_are = refl;
         } in
-    let row : Row o (h ++ e ∷ []) 0 (1 + length ls) last reply (n + 1) (n ∷ []) (meaning_of o l) = rw says (inl (inl (n, d, done))) in
+    let row : Row o (h ++ e ∷ []) 0 (1 + length ls) last reply (n + 1) (n ∷ []) (meaning_of o.setting l) = rw says (inl (inl (n, d, done))) in
     let rows = more_rows o (h ++ e ∷ []) 0 1 0 ls rs last (points_from 0 0 h) l reply (n + 1) (n ∷ []) (mono_rows o h e 0 1 0 ls rs last (points_from 0 0 h) k.room (omega arith) w.rows) row in
     let points : points_from 0 0 (h ++ e ∷ []) ≡ points_from 0 0 h ++ n ∷ [] = points_more 0 0 h e refl ∙ ap (λ m. points_from 0 0 h ++ m ∷ []) (zero_plus n) in
     record {
-      table = k.table ∙ w.table;
+      setting = k.setting ∙ w.setting;
       state = rw j state;
       rows = rw (j, points) rows;
       told = omega (arith, ap length j, counted);
+      line = omega (arith, k.line, w.line, length-append ls (l ∷ []));
       before = rw j (before_more (1 + length (ls ++ l ∷ [])) h e (omega (arith, length-append ls (l ∷ []))) (before_later (1 + length ls) (1 + length (ls ++ l ∷ [])) h (omega (arith, length-append ls (l ∷ []))) w.before));
       rise = rw j (rise_more h e w.before w.rise);
       within = omega (arith, ap length j, counted, k.room);
@@ -143,8 +147,8 @@ served_commit o old new ls rs last l reply c d w says k =
 
 -- one line more, whatever it says
 pub served_more : (o : Opening) (old new : SessionState) (ls : List InputLine) (rs : List (List ℕ)) (last : ℕ) (l : InputLine) (reply : List ℕ) (m : Result Line LineFault)
-    → Served o old ls rs last → meaning_of o l ≡ m → Step old new (1 + length ls) reply m
-    → (after : ℕ) × Served o new (ls ++ l ∷ []) (rs ++ reply ∷ []) after
+    → Served o old ls rs last → meaning_of o.setting l ≡ m → Step old new reply m
+    → (after : ℕ) × Served o (past_line new) (ls ++ l ∷ []) (rs ++ reply ∷ []) after
 served_more o old new ls rs last l reply (Ok (Edit c)) w says (inl (inl (d, k))) =
     (length old.journal + 1, served_commit o old new ls rs last l reply c d w says k)
 served_more o old new ls rs last l reply (Ok (Edit c)) w says (inl (inr (r, k))) =
@@ -152,7 +156,7 @@ served_more o old new ls rs last l reply (Ok (Edit c)) w says (inl (inr (r, k)))
     let refused : IsRefused o old.journal 0 (1 + length ls) last reply n [] c n r = record {
           told_of = w.told;
           within = omega arith;
-          answer = answer_now o old c w.table w.state ∙ ap (λ x. Some (answer_in x)) k.refused;
+          answer = answer_now o old c w.setting w.state ∙ ap (λ x. Some (answer_in x)) k.refused;
           reply_is = k.reply_is;
           after_is = refl;
           points_are = refl;
@@ -162,7 +166,7 @@ served_more o old new ls rs last l reply (Ok (Edit c)) w says (inr (inl (d, k)))
     let full : IsFull o old.journal 0 (1 + length ls) last reply most_entries [] c d = record {
           told_of = omega (arith, w.told, k.full);
           full = k.full;
-          answer = rw k.full at (answer_now o old c w.table w.state ∙ ap Some k.applies);
+          answer = rw k.full at (answer_now o old c w.setting w.state ∙ ap Some k.applies);
           reply_is = k.reply_is;
           after_is = refl;
           points_are = refl;
@@ -172,15 +176,15 @@ served_more o old new ls rs last l reply (Ok (Edit c)) w says (inr (inr k)) =
     (last, rw k.same (served_same o old ls rs last l reply last w (rw says (inr (inr (memory_row o old ls rs last reply w k.reply_is)))) w.told))
 served_more o old new ls rs last l reply (Ok (AskOf q)) w says (inl k) =
     let n : ℕ = length old.journal in
-    let seen : IsSeen o old.journal 0 (1 + length ls) last reply n [] q n (seen_in old.table old.tracks q) = record {
+    let seen : IsSeen o old.journal 0 (1 + length ls) last reply n [] q n (seen_in old.setting.table old.tracks q) = record {
           told_of = w.told;
           within = omega arith;
-          sight = sight_now o old q w.table w.state;
+          sight = sight_now o old q w.setting w.state;
           reply_is = k.reply_is;
           after_is = refl;
           points_are = refl;
         } in
-    (n, rw k.same (served_same o old ls rs last l reply n w (rw says (inl (n, seen_in old.table old.tracks q, seen))) (omega arith)))
+    (n, rw k.same (served_same o old ls rs last l reply n w (rw says (inl (n, seen_in old.setting.table old.tracks q, seen))) (omega arith)))
 served_more o old new ls rs last l reply (Ok (AskOf q)) w says (inr k) =
     (last, rw k.same (served_same o old ls rs last l reply last w (rw says (inr (memory_row o old ls rs last reply w k.reply_is))) w.told))
 served_more o old new ls rs last l reply (Ok Point) w says k =
@@ -204,7 +208,7 @@ served_more o old new ls rs last l reply (Err fault) w says k =
 pub transcript_served : (o : Opening) (s : SessionState) (ls : List InputLine) (rs : List (List ℕ)) (last : ℕ) → Served o s ls rs last → Transcript o s.journal 0 ls rs
 transcript_served o s ls rs last w = (last, w.rows)
 
-pub legal_served : (o : Opening) (s : SessionState) (ls : List InputLine) (rs : List (List ℕ)) (last : ℕ) → Served o s ls rs last → IsLegal (applied o.table) o.tracks s.journal
+pub legal_served : (o : Opening) (s : SessionState) (ls : List InputLine) (rs : List (List ℕ)) (last : ℕ) → Served o s ls rs last → IsLegal (applied o.setting.table) o.tracks s.journal
 legal_served o s ls rs last w = record {
     within = w.within;
     applies = rw w.state refl;

@@ -39,13 +39,13 @@ get_last [] e = refl
 get_last (f ∷ fs) e = get_last fs e
 
 tracks_more : (o : Opening) (h : History) (e : Entry Call) (n : ℕ) → n ≤ length h → tracks_at o (h ++ e ∷ []) n ≡ tracks_at o h n
-tracks_more o h e n le = ap (λ (x : History). replay (applied o.table) o.tracks x) (take_more h e n le)
+tracks_more o h e n le = ap (λ (x : History). replay (applied o.setting.table) o.tracks x) (take_more h e n le)
 
 pub answer_more : (o : Opening) (h : History) (e : Entry Call) (n : ℕ) (c : Call) → n ≤ length h → answer_at o (h ++ e ∷ []) n c ≡ answer_at o h n c
-answer_more o h e n c le = ap (option_map (λ tracks. answer_in (applied o.table tracks c))) (tracks_more o h e n le)
+answer_more o h e n c le = ap (option_map (λ tracks. answer_in (applied o.setting.table tracks c))) (tracks_more o h e n le)
 
 sight_more : (o : Opening) (h : History) (e : Entry Call) (n : ℕ) (q : Ask) → n ≤ length h → sight_at o (h ++ e ∷ []) n q ≡ sight_at o h n q
-sight_more o h e n q le = ap (option_map (λ tracks. seen_in o.table tracks q)) (tracks_more o h e n le)
+sight_more o h e n q le = ap (option_map (λ tracks. seen_in o.setting.table tracks q)) (tracks_more o h e n le)
 
 none_more : (h : History) (e : Entry Call) (station line : ℕ) → line < e.number → BearsNone h station line → BearsNone (h ++ e ∷ []) station line
 none_more [] e station line less none = (λ same is. absurd (omega (arith, is, less)), tt)
@@ -116,12 +116,12 @@ mono_rows o h e station line told [] [] last points room less rows = rows
 mono_rows o h e station line told [] (r ∷ rs) last points room less rows = rows
 mono_rows o h e station line told (l ∷ ls) [] last points room less rows = rows
 mono_rows o h e station line told (l ∷ ls) (r ∷ rs) last points room less (after, here, rest, row, rows, is) =
-    (after, here, rest, mono_row o h e station line told r after here (meaning_of o l) room (omega arith) row,
+    (after, here, rest, mono_row o h e station line told r after here (meaning_of o.setting l) room (omega arith) row,
     mono_rows o h e station (line + 1) after ls rs last rest room (omega arith) rows, is)
 
 -- a line more
 pub more_rows : (o : Opening) (h : History) (station line told : ℕ) (ls : List InputLine) (rs : List (List ℕ)) (last : ℕ) (points : List ℕ) (l : InputLine) (reply : List ℕ) (after : ℕ) (here : List ℕ)
-    → Rows o h station line told ls rs last points → Row o h station (line + length ls) last reply after here (meaning_of o l)
+    → Rows o h station line told ls rs last points → Row o h station (line + length ls) last reply after here (meaning_of o.setting l)
     → Rows o h station line told (ls ++ l ∷ []) (rs ++ reply ∷ []) after (points ++ here)
 more_rows o h station line told [] [] last points l reply after here (is, none) row =
     let n : line + 0 ≡ line = omega arith in
@@ -154,8 +154,8 @@ sent_more [] r = append-nil (r ++ codes "\n")
 sent_more (x ∷ xs) r = ap (λ t. (x ++ codes "\n") ++ t) (sent_more xs r) ∙ sym (append_assoc (x ++ codes "\n") (sent xs) (r ++ codes "\n"))
 
 -- the tracks after one entry more
-pub replay_more : (o : Opening) (h : History) (e : Entry Call) → replay (applied o.table) o.tracks (h ++ e ∷ []) ≡ after_entry (applied o.table) (replay (applied o.table) o.tracks h) e
-replay_more o h e = fold-append (after_entry (applied o.table)) (Some o.tracks) h (e ∷ [])
+pub replay_more : (o : Opening) (h : History) (e : Entry Call) → replay (applied o.setting.table) o.tracks (h ++ e ∷ []) ≡ after_entry (applied o.setting.table) (replay (applied o.setting.table) o.tracks h) e
+replay_more o h e = fold-append (after_entry (applied o.setting.table)) (Some o.tracks) h (e ∷ [])
 
-pub tracks_now : (o : Opening) (h : History) → tracks_at o h (length h) ≡ replay (applied o.table) o.tracks h
-tracks_now o h = ap (λ (x : History). replay (applied o.table) o.tracks x) (take-length h)
+pub tracks_now : (o : Opening) (h : History) → tracks_at o h (length h) ≡ replay (applied o.setting.table) o.tracks h
+tracks_now o h = ap (λ (x : History). replay (applied o.setting.table) o.tracks x) (take-length h)

@@ -1,3 +1,5 @@
 pub mod History
 pub mod Transcript
 pub mod Session
+pub mod SessionInside
+pub mod Editing

@@ -17,35 +17,43 @@ use Rattle.call_text.specs.declared.lines.Line.{Line}
 use Rattle.call_text.specs.declared.lines.Line.TheVariants.{Edit, Ask as AskOf, Point}
 use Rattle.call_text.specs.declared.lines.LineFault.{LineFault}
 use Rattle.call_text.specs.declared.lines.LineFault.TheVariants.{B5}
+use Rattle.call_text.specs.declared.counting.Counting.{Counting}
+use Rattle.call_text.specs.Labels.{place_by}
+use Rattle.call_text.specs.Reading.{line_of}
 use Rattle.call_text.specs.Replies.{reply_of, fault_of}
 use Rattle.call_text.specs.Sights.{seen_of}
 use Rattle.cut_server.specs.History.{answer_in, replay, most_entries}
 
--- what a room is opened from: its table, its tracks, and what a line says in it
-pub record Opening : Type 0 where
+-- what stays as it is in a room: its table, how its frames are counted, and the frame at which its record starts
+pub record Setting : Type 0 where
   pub table : Table
+  pub counting : Counting
+  pub start : ℕ
+
+-- what a room is opened from
+pub record Opening : Type 0 where
+  pub setting : Setting
   pub tracks : List TrackState
-  pub read : List ℕ → Result Line LineFault
 
 -- what a line of the input says; one that is too long says nothing
-abbrev pub meaning_of : Opening → InputLine → Result Line LineFault
-meaning_of o None = Err B5
-meaning_of o (Some bytes) = o.read bytes
+abbrev pub meaning_of : Setting → InputLine → Result Line LineFault
+meaning_of setting None = Err B5
+meaning_of setting (Some bytes) = line_of (place_by setting.counting setting.start) bytes
 
 abbrev pub History : Type 0
 History = List (Entry Call)
 
 -- the tracks after the first n entries
 abbrev pub tracks_at : Opening → History → ℕ → Option (List TrackState)
-tracks_at o h n = replay (applied o.table) o.tracks (take n h)
+tracks_at o h n = replay (applied o.setting.table) o.tracks (take n h)
 
 -- what a call is answered where it stands after the first n entries
 abbrev pub answer_at : Opening → History → ℕ → Call → Option (Result Done Refusal)
-answer_at o h n c = option_map (λ tracks. answer_in (applied o.table tracks c)) (tracks_at o h n)
+answer_at o h n c = option_map (λ tracks. answer_in (applied o.setting.table tracks c)) (tracks_at o h n)
 
 -- what a question is answered there
 abbrev pub sight_at : Opening → History → ℕ → Ask → Option (Result Seen AskRefusal)
-sight_at o h n q = option_map (λ tracks. seen_in o.table tracks q) (tracks_at o h n)
+sight_at o h n q = option_map (λ tracks. seen_in o.setting.table tracks q) (tracks_at o h n)
 
 -- no entry bears this line's number and its station
 abbrev pub BearsNone : History → ℕ → ℕ → Type 0
@@ -120,7 +128,7 @@ Rows o h station line told [] [] last points = (last ≡ told) × (points ≡ []
 Rows o h station line told [] (reply ∷ replies) last points = ⊥
 Rows o h station line told (l ∷ ls) [] last points = ⊥
 Rows o h station line told (l ∷ ls) (reply ∷ replies) last points =
-    (after : ℕ) × (here : List ℕ) × (rest : List ℕ) × Row o h station line told reply after here (meaning_of o l)
+    (after : ℕ) × (here : List ℕ) × (rest : List ℕ) × Row o h station line told reply after here (meaning_of o.setting l)
     × Rows o h station (line + 1) after ls replies last rest × (points ≡ here ++ rest)
 
 -- where in the journal the entries of a station stand

@@ -1,11 +1,6 @@
 //! The program of the cutting room.
 #![tactic(auto)]
 
-ghost use Rattle.std.specs.Prelude.{◌≡◌};
-
-/// Nothing yet.
-pub fn nothing() -> u32
-    ensures { result ≡ 0 }
-{
-    0
-}
+mod edits;
+mod reply;
+mod session;

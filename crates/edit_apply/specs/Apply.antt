@@ -5,9 +5,8 @@ use Rattle.composables.specs.declared.media.Table.{Table}
 use Rattle.composables.specs.declared.refusals.Refusal.{Refusal}
 use Rattle.composables.specs.declared.refusals.Refusal.TheVariants.{NoTrack}
 use Rattle.composables.specs.declared.refusals.Done.{Done}
-use Rattle.composables.specs.declared.calls.Overwrite.{Overwrite}
 use Rattle.composables.specs.TrackState.{TrackState}
-use Rattle.edit_insert.specs.Overwriting.{overwrite_on}
+use Rattle.edit_insert.specs.Overwriting.{overwrite_named}
 use Rattle.edit_apply.specs.declared.asks.Call.{Call}
 use Rattle.edit_apply.specs.declared.asks.Call.TheVariants as call
 
@@ -28,17 +27,9 @@ first_absent count (n ∷ ns) = if nat_lt n count then first_absent count ns els
 abbrev pub refuse_names_of : Table → Call → Option Refusal
 refuse_names_of table c = first_absent (length table.kinds) (names_of c)
 
-abbrev pub on_one : Result (TrackState × Done) Refusal → Applied
-on_one (Ok (t, d)) = Ok (t ∷ [], d)
-on_one (Err r) = Err r
-
-abbrev pub overwrite_first : Table → List TrackState → Overwrite → Applied
-overwrite_first table [] c = Err (NoTrack c.track)
-overwrite_first table (t ∷ ts) c = on_one (overwrite_on table t c)
-
 -- on the named tracks alone
 abbrev pub applied_on : Table → List TrackState → Call → Applied
-applied_on table named (call.Overwrite c) = overwrite_first table named c
+applied_on table named (call.Overwrite c) = overwrite_named table named c
 
 -- the tracks with these numbers
 abbrev pub picked : List TrackState → List ℕ → List TrackState

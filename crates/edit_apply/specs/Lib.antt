@@ -1,3 +1,4 @@
 pub mod Apply
 pub mod See
-
+pub mod Sights
+pub mod Named

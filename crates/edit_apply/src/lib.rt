@@ -5,5 +5,8 @@
 #![tactic(auto)]
 
 mod asks;
+mod editor;
+mod sights;
 
 pub use asks::{Ask, AskRefusal, Call, Seen};
+pub use editor::{Editor, SightFault};

@@ -1,1 +1,5 @@
+pub mod Answers
+pub mod Sources
+pub mod Limits
+pub mod Parts
 pub mod Overwriting

@@ -1,2 +1,6 @@
-//! Edits that put items in and take them out.
+//! Stub.
 #![tactic(auto)]
+
+mod overwriting;
+
+pub use overwriting::overwrite;

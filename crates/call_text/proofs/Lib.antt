@@ -1,0 +1,4 @@
+pub mod ReadParts
+pub mod TableLaws
+pub mod WrittenCalls
+pub mod WrittenParts

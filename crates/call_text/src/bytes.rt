@@ -1,0 +1,32 @@
+// Texts that grow at their end, and take memory.
+ghost use Rattle.std.specs.Prelude.{◌≡◌, ◌++◌, decimal, OnOk};
+ghost use Rattle.call_text.specs.CallTexts.{what_text};
+
+use frame_meaning::{Memory, What};
+use itoa::Buffer;
+
+pub(crate) fn put(out: &mut Vec<u8>, text: &[u8]) -> Result<(), Memory>
+    ensures { OnOk result (out.new.items ≡ out.old.items ++ text.now) }
+{
+    out.extend_from_slice(text)?;
+    Ok(())
+}
+
+// A text and a number, in decimal digits without leading zeros.
+pub(crate) fn put_number(out: &mut Vec<u8>, lead: &[u8], number: u32) -> Result<(), Memory>
+    ensures { OnOk result (out.new.items ≡ out.old.items ++ (lead.now ++ decimal number)) }
+{
+    put(out, lead)?;
+    let mut buffer = Buffer::new();
+    put(out, buffer.format(number).as_bytes())
+}
+
+// A space and a thing.
+pub(crate) fn put_what(out: &mut Vec<u8>, what: &What) -> Result<(), Memory>
+    ensures { OnOk result (out.new.items ≡ out.old.items ++ what_text what.now) }
+{
+    match what {
+        What::Media(media) => put_number(out, b"@", *media),
+        What::Nest(nest) => put_number(out, b"#", *nest),
+    }
+}

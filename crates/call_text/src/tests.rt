@@ -1,0 +1,332 @@
+use super::*;
+use composables::{Done, EditFault, ItemView, Listed, Overwrite, Refusal, Which};
+use edit_apply::{Ask, AskRefusal, Call, Seen};
+use frame_meaning::{Frame, Link, Mark, Run, Side, What};
+use std::alloc::Global;
+use std::test::Fail;
+
+const FILM: Counting = Counting { frames: 24 };
+
+const FOUR: Overwrite = Overwrite {
+    track: 1,
+    at: 20,
+    what: What::Media(3),
+    from: 400,
+    len: 5000,
+};
+
+fn read(alloc: Global, line: &[u8]) -> Result<Line, LineFault> {
+    read_line(alloc, line, &FILM, 0)
+}
+
+#[test]
+fn lines_of_the_table_are_read(rt: HostRuntime) {
+    let table: [(&[u8], Line); 8] = [
+        (b"point", Line::Point),
+        (b" \tpoint\t", Line::Point),
+        (b"items 0", Line::Ask(Ask::Items { track: 0 })),
+        (b"items\t 031 ", Line::Ask(Ask::Items { track: 31 })),
+        (
+            b"view 2 7 5",
+            Line::Ask(Ask::View {
+                track: 2,
+                a: 7,
+                b: 5,
+            }),
+        ),
+        (
+            b"overwrite 1 20 @3 400 5000",
+            Line::Edit(Call::Overwrite(FOUR)),
+        ),
+        (
+            b"overwrite 001 0020 @03 0400 005000",
+            Line::Edit(Call::Overwrite(FOUR)),
+        ),
+        (
+            b"overwrite 1 20 #3 400 5000",
+            Line::Edit(Call::Overwrite(Overwrite {
+                what: What::Nest(3),
+                ..FOUR
+            })),
+        ),
+    ];
+    for (line, want) in table {
+        assert_eq!(rt; read(rt.alloc(), line), Ok(want));
+    }
+}
+
+#[test]
+fn the_first_fault_of_a_line_is_told(rt: HostRuntime) {
+    let table: [(&[u8], LineFault); 31] = [
+        (b"", LineFault::B2),
+        (b" \t ", LineFault::B2),
+        (b"jump", LineFault::B1),
+        (b"Point", LineFault::B1),
+        (b"point\r", LineFault::B1),
+        (b"overwrit 0 0 @0 0 1", LineFault::B1),
+        (b"point 0", LineFault::B2),
+        (b"items", LineFault::B2),
+        (b"items 0 0", LineFault::B2),
+        (b"items x", LineFault::B3),
+        (b"items -1", LineFault::B3),
+        (b"items 32", LineFault::B4),
+        (b"items 4294967296", LineFault::B4),
+        (b"view 0 0", LineFault::B2),
+        (b"view 0 0 0 0", LineFault::B2),
+        (b"view 0 x 0", LineFault::B3),
+        (b"view 0 0 4294967296", LineFault::B4),
+        (b"view 32 x 0", LineFault::B4),
+        (b"view x 4294967296 0", LineFault::B3),
+        (b"view 0 4294967296 x", LineFault::B4),
+        (b"overwrite 0 0 @0 0", LineFault::B2),
+        (b"overwrite 0 0 @0 0 1 1", LineFault::B2),
+        (b"overwrite x 0 0 0 4294967296", LineFault::B3),
+        (b"overwrite 32 0 0 0 x", LineFault::B4),
+        (b"overwrite 0 0 0 0 1", LineFault::B3),
+        (b"overwrite 0 0 @ 0 1", LineFault::B3),
+        (b"overwrite 0 0 @-1 0 1", LineFault::B3),
+        (b"overwrite 0 0 #4294967296 x 1", LineFault::B4),
+        (b"overwrite 0 0 @0 00:00:00:01 1", LineFault::B3),
+        (b"overwrite 0 0 @0 4294967296 x", LineFault::B4),
+        (b"overwrite 0 0 @0 0 -1", LineFault::B3),
+    ];
+    for (line, want) in table {
+        assert_eq!(rt; read(rt.alloc(), line), Err(want));
+    }
+}
+
+#[test]
+fn a_line_has_at_most_1024_bytes(rt: HostRuntime) -> Result<(), Fail> {
+    let mut line = Vec::from_slice(rt.alloc(), b"point")?;
+    while line.len() < 1024 {
+        line.push(b' ')?;
+    }
+    assert_eq!(rt; read(rt.alloc(), line.as_slice()), Ok(Line::Point));
+    line.push(b' ')?;
+    assert_eq!(rt; read(rt.alloc(), line.as_slice()), Err(LineFault::B5));
+    Ok(())
+}
+
+#[test]
+fn faults_of_lines_are_replied(rt: HostRuntime) {
+    let table: [(LineFault, &[u8]); 7] = [
+        (LineFault::B1, b"bad B1"),
+        (LineFault::B2, b"bad B2"),
+        (LineFault::B3, b"bad B3"),
+        (LineFault::B4, b"bad B4"),
+        (LineFault::B5, b"bad B5"),
+        (LineFault::B6, b"bad B6"),
+        (LineFault::Memory, b"memory"),
+    ];
+    for (fault, want) in table {
+        assert_eq!(rt; fault_text(&fault).as_bytes(), want);
+    }
+}
+
+#[test]
+fn edits_are_replied(rt: HostRuntime) {
+    let done: [(Done, &[u8]); 5] = [
+        (Done::Plain, b"ok 7"),
+        (Done::Item(0), b"ok 7 item 0"),
+        (Done::By(-12), b"ok 7 by -12"),
+        (Done::By(0), b"ok 7 by 0"),
+        (
+            Done::Linked {
+                home: 3,
+                number: 14,
+            },
+            b"ok 7 link 3.14",
+        ),
+    ];
+    for (done, want) in done {
+        assert_eq!(rt; reply_text(7, &Ok(done)).as_bytes(), want);
+    }
+    let refused: [(Refusal, &[u8]); 15] = [
+        (Refusal::NoTrack(9), b"no 10 E1 9"),
+        (Refusal::NoItem, b"no 10 E2"),
+        (Refusal::NoMedia, b"no 10 E3"),
+        (Refusal::EmptyRange, b"no 10 E4"),
+        (Refusal::MediaEnds, b"no 10 E5"),
+        (Refusal::NotAGap(86400), b"no 10 E6 86400"),
+        (Refusal::NotACut(5), b"no 10 E7 5"),
+        (Refusal::DissolveRoom(Which::Left), b"no 10 E8 left"),
+        (Refusal::DissolveRoom(Which::Right), b"no 10 E8 right"),
+        (Refusal::OffsetsDiffer(-3, 4), b"no 10 E9 -3 4"),
+        (
+            Refusal::AlreadyLinked { track: 1, item: 20 },
+            b"no 10 E10 1 20",
+        ),
+        (
+            Refusal::LinkOutside {
+                home: 1,
+                number: 2,
+                track: 3,
+            },
+            b"no 10 E11 1.2 3",
+        ),
+        (
+            Refusal::LinkBroken {
+                home: 4294967295,
+                number: 4294967295,
+                old: i64::MIN,
+                new: i64::MAX,
+            },
+            b"no 10 E12 4294967295.4294967295 -9223372036854775808 9223372036854775807",
+        ),
+        (Refusal::TooLong(31), b"no 10 E13 31"),
+        (Refusal::TooManyItems(0), b"no 10 E14 0"),
+    ];
+    for (refusal, want) in refused {
+        assert_eq!(rt;
+            reply_text(10, &Err(EditFault::Refused(refusal))).as_bytes(),
+            want
+        );
+    }
+    assert_eq!(rt;
+        reply_text(10, &Err(EditFault::Memory)).as_bytes(),
+        b"memory".as_slice()
+    );
+}
+
+#[test]
+fn views_are_replied(rt: HostRuntime) -> Result<(), Fail> {
+    let alloc = rt.alloc();
+    let frames = [
+        Frame::Dark,
+        Frame::Pic {
+            what: What::Media(0),
+            source: 86396,
+        },
+        Frame::Pic {
+            what: What::Nest(12),
+            source: 0,
+        },
+        Frame::Mix {
+            left: Side::Dark,
+            right: Side::Pic {
+                what: What::Media(2),
+                source: 5,
+            },
+            num: 1,
+            den: 4,
+        },
+    ];
+    let mut runs = Listed::new(alloc);
+    let none = seen_text(alloc, 4, &Ok(Seen::Runs(Listed::new(alloc))))?;
+    assert_eq!(rt; none.as_slice(), b"seen 4".as_slice());
+    for (frame, len) in frames.into_iter().zip(2..) {
+        runs.push(Run { frame, len })?;
+    }
+    let text = seen_text(alloc, 10, &Ok(Seen::Runs(runs)))?;
+    assert_eq!(rt;
+        text.as_slice(),
+        b"seen 10 dark 2 @0 86396 3 #12 0 4 mix dark @2 5 1 4 5".as_slice()
+    );
+    Ok(())
+}
+
+#[test]
+fn items_are_replied(rt: HostRuntime) -> Result<(), Fail> {
+    let alloc = rt.alloc();
+    let gap = ItemView {
+        item: None,
+        first: Side::Dark,
+        len: 24,
+        mark: None,
+        link: None,
+    };
+    let item = ItemView {
+        item: Some(3),
+        first: Side::Pic {
+            what: What::Media(1),
+            source: 100,
+        },
+        len: 6,
+        mark: Some(Mark { a: 2, b: 3 }),
+        link: Some(Link {
+            home: 1,
+            number: 40,
+            tracks: 3,
+        }),
+    };
+    let ends = ItemView {
+        mark: Some(Mark { a: 1, b: 0 }),
+        len: 1,
+        ..gap
+    };
+    let mut items = Listed::new(alloc);
+    let none = seen_text(alloc, 0, &Ok(Seen::Items(Listed::new(alloc))))?;
+    assert_eq!(rt; none.as_slice(), b"items 0".as_slice());
+    for view in [gap, item, ends] {
+        items.push(view)?;
+    }
+    let text = seen_text(alloc, 8, &Ok(Seen::Items(items)))?;
+    assert_eq!(rt;
+        text.as_slice(),
+        b"items 8 dark 24 mark 2 3 3 @1 100 6 link 1.40 mark 1 0 dark 1".as_slice()
+    );
+    Ok(())
+}
+
+#[test]
+fn refused_questions_are_replied(rt: HostRuntime) -> Result<(), Fail> {
+    let text = seen_text(rt.alloc(), 3, &Err(AskRefusal::NoTrack(5)))?;
+    assert_eq!(rt; text.as_slice(), b"no 3 V1 5".as_slice());
+    let text = seen_text(rt.alloc(), 3, &Err(AskRefusal::Range(24)))?;
+    assert_eq!(rt; text.as_slice(), b"no 3 V2 24".as_slice());
+    Ok(())
+}
+
+#[test]
+fn a_journal_is_written(rt: HostRuntime) -> Result<(), Fail> {
+    let none = journal_text(rt.alloc(), &[])?;
+    assert_eq!(rt; none.as_slice(), b"journal 0\n".as_slice());
+    let entries = [
+        Entry {
+            station: 0,
+            number: 1,
+            call: Call::Overwrite(FOUR),
+        },
+        Entry {
+            station: 15,
+            number: 70,
+            call: Call::Overwrite(Overwrite {
+                what: What::Nest(0),
+                ..FOUR
+            }),
+        },
+    ];
+    let text = journal_text(rt.alloc(), &entries)?;
+    assert_eq!(rt;
+        text.as_slice(),
+        b"journal 2\n0 1 overwrite 1 20 @3 400 5000\n15 70 overwrite 1 20 #0 400 5000\n".as_slice()
+    );
+    Ok(())
+}
+
+#[test]
+fn written_calls_come_back(rt: HostRuntime) -> Result<(), Fail> {
+    let calls = [
+        FOUR,
+        Overwrite {
+            track: 31,
+            at: u32::MAX,
+            what: What::Nest(u32::MAX),
+            from: u32::MAX,
+            len: u32::MAX,
+        },
+        Overwrite {
+            track: 0,
+            at: 0,
+            what: What::Media(0),
+            from: 0,
+            len: 0,
+        },
+    ];
+    for call in calls {
+        let call = Call::Overwrite(call);
+        let text = call_text(rt.alloc(), &call)?;
+        assert_eq!(rt; read(rt.alloc(), text.as_slice()), Ok(Line::Edit(call)));
+    }
+    Ok(())
+}

@@ -1,0 +1,6 @@
+//! Stub.
+#![tactic(auto)]
+
+mod shown;
+
+pub use shown::runs_in;

@@ -1,0 +1,115 @@
+// Every call on the tracks that it names, and every question to a track.
+ghost use Rattle.std.specs.Prelude.{◌≡◌, ◌+◌, ◌*◌, ◌<◌, ◌≤◌, ◌^◌, All, length, sum_by};
+ghost use Rattle.composables.specs.Good.{IsGood, AllUnmarked};
+ghost use Rattle.composables.specs.Items.{items_of};
+ghost use Rattle.edit_insert.specs.Answers.{Answers, NextRises};
+
+use crate::sights::view;
+use crate::{Ask, AskRefusal, Call, Seen};
+use composables::{Done, EditFault, Listed, Memory, Refusal, Table, Track};
+use edit_insert::overwrite;
+use std::alloc::Global;
+use std::sync::ledger::Ledger;
+use step_count::Steps;
+
+/// Why a question has no answer.
+#[derive(Clone, Copy, Debug, PartialEq, Eq)]
+pub enum SightFault {
+    Refused(AskRefusal),
+    /// Want of memory.
+    Memory,
+}
+
+impl From<Memory> for SightFault {
+    ghost use Rattle.std.specs.Prelude.{◌≡◌};
+    ghost use Rattle.edit_apply.specs.declared.editor.SightFault.TheVariants.{Memory as NoMemory};
+
+    ghost from_gives = { λ _ e. e ≡ NoMemory };
+
+    fn from(_: Memory) -> Self {
+        SightFault::Memory
+    }
+}
+
+/// The editor of a room. It knows the room's table and keeps no track.
+#[derive(Drop)]
+pub struct Editor {
+    pub table: Table,
+}
+
+impl Editor {
+    ghost use Rattle.edit_apply.specs.Apply.{names_of, refuse_names_of, applied_on};
+    ghost use Rattle.edit_apply.specs.See.{ask_part_of, seen_on, track_asked};
+    ghost use Rattle.edit_apply.specs.Named.{AreNamed};
+    ghost use Rattle.edit_apply.specs.Sights.{Shows};
+
+    /// The refusal of a call for the tracks that it names: the first that is not in the room.
+    pub fn refuse_names(&self, call: &Call) -> Option<Refusal>
+        ensures { result ≡ refuse_names_of self.now.table call.now }
+    {
+        match call {
+            Call::Overwrite(overwrite) => {
+                if (overwrite.track as usize) < self.table.kinds.as_slice().len() {
+                    None
+                } else {
+                    Some(Refusal::NoTrack(overwrite.track))
+                }
+            }
+        }
+    }
+
+    /// Does a call on the tracks that it names, handed in in ascending order, or refuses it by the first refusal that
+    /// holds, or finds no memory. It changes nothing where it does not do the call.
+    pub fn apply<L: Ledger>(
+        &self,
+        alloc: Global,
+        parts: &mut Vec<Track>,
+        call: &Call,
+        steps: &mut Steps<L>,
+    ) -> Result<Done, EditFault>
+        requires names { refuse_names_of self.now.table call.now ≡ None }
+        requires named { AreNamed call.now parts.old.items }
+        requires good { All (λ t. IsGood self.now.table t) parts.old.items }
+        requires unmarked { All (λ t. AllUnmarked (items_of t.cells)) parts.old.items }
+        requires numbers { All (λ t. t.next_item ≤ 2 ^ 31) parts.old.items }
+
+        ensures answers { Answers (applied_on self.now.table parts.old.items call.now) parts.old.items parts.new.items result }
+
+        ensures good { All (λ t. IsGood self.now.table t) parts.new.items }
+        ensures unmarked { All (λ t. AllUnmarked (items_of t.cells)) parts.new.items }
+        ensures numbers { NextRises 2 parts.old.items parts.new.items }
+
+        ensures least { steps.old + 1 ≤ steps.new }
+        ensures most { steps.new ≤ steps.old + 32 * sum_by (λ t. length (items_of t.cells) + 64) parts.old.items }
+    {
+        match call {
+            Call::Overwrite(edit) => overwrite(alloc, &self.table, parts, edit, steps),
+        }
+    }
+
+    /// The track that a question is for, where it is in the room.
+    pub fn ask_part(&self, ask: &Ask) -> Result<u32, AskRefusal>
+        ensures { result ≡ ask_part_of self.now.table ask.now }
+    {
+        let track = match ask {
+            Ask::View { track, .. } => *track,
+            Ask::Items { track } => *track,
+        };
+        if (track as usize) < self.table.kinds.as_slice().len() {
+            Ok(track)
+        } else {
+            Err(AskRefusal::NoTrack(track))
+        }
+    }
+
+    /// What a question to a track is answered: the frames shown in [a, b) as maximal runs, or the items and gaps.
+    pub fn see(&self, alloc: Global, part: &Track, ask: &Ask) -> Result<Seen, SightFault>
+        requires unmarked { AllUnmarked (items_of part.now.cells) }
+        ensures { Shows (seen_on part.now ask.now) result }
+    {
+        match ask {
+            Ask::View { track: _, a, b } => view(alloc, part, *a, *b),
+            Ask::Items { track: _ } => Ok(Seen::Items(Listed::from_vec(part.items(alloc)?))),
+        }
+    }
+}
