@@ -1,6 +1,6 @@
 -- What a call leaves on the tracks of a room, and what it answers: a function of the table, the tracks that it names
 -- and the call alone.
-use Rattle.std.specs.Prelude.{◌≡◌, ℕ, List, [], ◌∷◌, Option, Some, None, Result, Ok, Err, length, nat_lt, slice_get, slice_set, if◌then◌else◌}
+use Rattle.std.specs.Prelude.{◌≡◌, ℕ, ◌+◌, ◌^◌, List, [], ◌∷◌, Option, Some, None, Result, Ok, Err, length, nat_lt, slice_get, slice_set, if◌then◌else◌}
 use Rattle.composables.specs.declared.media.Table.{Table}
 use Rattle.composables.specs.declared.refusals.Refusal.{Refusal}
 use Rattle.composables.specs.declared.refusals.Refusal.TheVariants.{NoTrack}
@@ -17,6 +17,11 @@ Applied = Result (List TrackState × Done) Refusal
 -- the tracks that a call names, in ascending order
 abbrev pub names_of : Call → List ℕ
 names_of (call.Overwrite c) = c.track ∷ []
+
+-- these numbers as a set, bit n for the number n; a number over 31 is in no set
+abbrev pub set_of : List ℕ → ℕ
+set_of [] = 0
+set_of (n ∷ ns) = (if nat_lt n 32 then 2 ^ n else 0) + set_of ns
 
 -- the first track of these that is not in the room
 abbrev pub first_absent : ℕ → List ℕ → Option Refusal

@@ -1,8 +1,9 @@
 // Every call on the tracks that it names, and every question to a track.
-ghost use Rattle.std.specs.Prelude.{◌≡◌, ◌+◌, ◌*◌, ◌<◌, ◌≤◌, ◌^◌, All, length, sum_by};
+ghost use Rattle.std.specs.Prelude.{◌≡◌, ◌+◌, ◌*◌, ◌<◌, ◌≤◌, ◌^◌, ◌∷◌, [], All, length, sum_by};
 ghost use Rattle.composables.specs.Good.{IsGood, AllUnmarked};
 ghost use Rattle.composables.specs.Items.{items_of};
 ghost use Rattle.edit_insert.specs.Answers.{Answers, NextRises};
+ghost use Rattle.edit_apply.specs.Apply.{names_of};
 
 use crate::sights::view;
 use crate::{Ask, AskRefusal, Call, Seen};
@@ -37,11 +38,28 @@ pub struct Editor {
     pub table: Table,
 }
 
+/// The track that a call edits.
+pub fn track_of(call: &Call) -> u32
+    ensures { names_of call.now ≡ result ∷ [] }
+{
+    match call {
+        Call::Overwrite(edit) => edit.track,
+    }
+}
+
 impl Editor {
-    ghost use Rattle.edit_apply.specs.Apply.{names_of, refuse_names_of, applied_on};
+    ghost use Rattle.edit_apply.specs.Apply.{names_of, set_of, refuse_names_of, applied_on};
     ghost use Rattle.edit_apply.specs.See.{ask_part_of, seen_on, track_asked};
     ghost use Rattle.edit_apply.specs.Named.{AreNamed};
     ghost use Rattle.edit_apply.specs.Sights.{Shows};
+
+    /// The set of the tracks that a call names: bit t names track t. A track over 31 is in no set.
+    pub fn names(&self, call: &Call) -> u32
+        ensures { result ≡ set_of (names_of call.now) }
+    {
+        let track = track_of(call);
+        if track < 32 { 1 << track } else { 0 }
+    }
 
     /// The refusal of a call for the tracks that it names: the first that is not in the room.
     pub fn refuse_names(&self, call: &Call) -> Option<Refusal>

@@ -9,4 +9,4 @@ mod editor;
 mod sights;
 
 pub use asks::{Ask, AskRefusal, Call, Seen};
-pub use editor::{Editor, SightFault};
+pub use editor::{Editor, SightFault, track_of};

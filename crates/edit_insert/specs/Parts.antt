@@ -5,6 +5,8 @@ use Rattle.frame_meaning.specs.declared.frames.Side.TheVariants.{Dark, Pic}
 use Rattle.frame_meaning.specs.Cells.{same_number, later_side}
 use Rattle.composables.specs.declared.calls.Overwrite.{Overwrite}
 use Rattle.composables.specs.declared.items.ItemView.{ItemView}
+use Rattle.composables.specs.Items.{items_of}
+use Rattle.composables.specs.TrackState.{TrackState, replaced}
 
 -- the items and gaps of the first n frames
 abbrev pub front_views : ℕ → List ItemView → List ItemView
@@ -51,3 +53,7 @@ overwritten_views items frames c next = parts (front_views c.at items) (back_vie
   parts : List ItemView → List ItemView → List ItemView
   parts front back =
       (front ++ gap_views (c.at - frames)) ++ new_view next c ∷ map (renumbered_view (split_number front back) (next + 1)) back
+
+-- the track with these in place of all its items and gaps
+abbrev pub all_replaced : TrackState → List ItemView → TrackState
+all_replaced t items = replaced t 0 (length (items_of t.cells)) items

@@ -1,0 +1,11 @@
+pub mod Spans
+pub mod Plain
+pub mod Joins
+pub mod Cuts
+pub mod Numbers
+pub mod Crossing
+pub mod Unmarked
+pub mod Standing
+pub mod Overwritten
+pub mod Assembled
+pub mod Answering

@@ -1,0 +1,10 @@
+use Rattle.std.proofs.Common.{◌≡◌, ◌≤◌, ◌+◌, ◌++◌, drop}
+use Rattle.edit_insert.specs.Parts.{back_views}
+use Rattle.edit_insert.proofs.parts.back_items.Given as goal
+
+abbrev pub invariant-loop-view : goal.invariant-loop-view
+invariant-loop-view g l = record {
+  same : l.back.items ++ back_views l.left (drop l.view-index l.items) ≡ back_views l.count l.items;
+  least : l.fn.steps ≤ l.steps;
+  most : l.steps ≤ l.fn.steps + l.view-index;
+}
