@@ -5,6 +5,15 @@ use Rattle.frame_meaning.specs.declared.frames.Side.{Side}
 use Rattle.frame_meaning.specs.declared.frames.Side.TheVariants as side
 use Rattle.frame_meaning.specs.declared.frames.Frame.{Frame}
 use Rattle.frame_meaning.specs.declared.frames.Frame.TheVariants as frame
+use Rattle.frame_meaning.specs.declared.cells.What.{What}
+use Rattle.frame_meaning.specs.declared.cells.What.TheVariants as what
+
+-- whether two things are one
+abbrev pub same_what : What → What → Bool
+same_what (what.Media m) (what.Media n) = m == n
+same_what (what.Media m) (what.Nest j) = false
+same_what (what.Nest i) (what.Media n) = false
+same_what (what.Nest i) (what.Nest j) = i == j
 
 abbrev pub side_goes_on : {W : Type 0} → (W → W → Bool) → Side W → Side W → Bool
 side_goes_on eq side.Dark side.Dark = true

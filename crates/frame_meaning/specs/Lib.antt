@@ -4,3 +4,4 @@ pub mod Marks
 pub mod Render
 pub mod Runs
 pub mod Splice
+pub mod Numbered

@@ -16,3 +16,8 @@ with_frame eq f (r ∷ rs) =
 abbrev pub runs : {W : Type 0} → (W → W → Bool) → List (Frame W) → List (Run W)
 runs eq [] = []
 runs eq (f ∷ fs) = with_frame eq f (runs eq fs)
+
+-- the length of the first of some runs
+abbrev pub first_len : {W : Type 0} → List (Run W) → ℕ
+first_len [] = 0
+first_len (r ∷ rs) = r.len
