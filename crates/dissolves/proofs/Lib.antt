@@ -1,0 +1,5 @@
+pub mod Behind
+pub mod Cutting
+pub mod LastRun
+pub mod Walk
+pub mod Whole
