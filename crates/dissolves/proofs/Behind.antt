@@ -1,7 +1,6 @@
 -- The runs of frames behind which come the frames of a run.
-use Rattle.std.proofs.Common.{◌≡◌, ℕ, zero, suc, ◌+◌, ◌-◌, ◌<◌, ◌≤◌, Bool, true, false, cond, eqb, ◌&&◌, List, [], ◌∷◌, ◌++◌, length, refl, sym, ap, ◌∙◌, arith}
+use Rattle.std.proofs.Common.{◌≡◌, ℕ, zero, suc, ◌+◌, ◌-◌, ◌<◌, Bool, true, false, cond, eqb, ◌&&◌, List, [], ◌∷◌, ◌++◌, length, refl, sym, ap, ◌∙◌, arith}
 use Rattle.std.proofs.lemmas.Bool.{and_parts, eq-eqb, eqb-true}
-use Rattle.std.proofs.lemmas.List.{length-append}
 use Rattle.frame_meaning.specs.declared.cells.What.{What}
 use Rattle.frame_meaning.specs.declared.cells.What.TheVariants as what
 use Rattle.frame_meaning.specs.declared.frames.Side.{Side}
@@ -74,7 +73,7 @@ frame_is_next (frame.Mix l r n d) (frame.Mix l' r' n' d') h =
 
 -- later by zero, and later twice
 
-side-zero : (s : Side What) → later_side s 0 ≡ s
+pub side-zero : (s : Side What) → later_side s 0 ≡ s
 side-zero side.Dark = refl
 side-zero (side.Pic w s) = let e : s + 0 ≡ s = omega arith in ap (λ (n : ℕ). side.Pic w n) e
 
@@ -86,7 +85,7 @@ frame-zero (frame.Mix l r n d) =
     ap (λ (x : Side What). frame.Mix x (later_side r 0) (n + 0) d) (side-zero l)
     ∙ (ap (λ (x : Side What). frame.Mix l x (n + 0) d) (side-zero r) ∙ ap (λ (k : ℕ). frame.Mix l r k d) e)
 
-side-twice : (s : Side What) (j k : ℕ) → later_side (later_side s j) k ≡ later_side s (j + k)
+pub side-twice : (s : Side What) (j k : ℕ) → later_side (later_side s j) k ≡ later_side s (j + k)
 side-twice side.Dark j k = refl
 side-twice (side.Pic w s) j k = let e : s + j + k ≡ s + (j + k) = omega arith in ap (λ (n : ℕ). side.Pic w n) e
 

@@ -3,3 +3,4 @@ pub mod Cutting
 pub mod LastRun
 pub mod Walk
 pub mod Whole
+pub mod Dissolved

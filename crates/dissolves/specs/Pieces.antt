@@ -1,5 +1,5 @@
 -- Runs put one after another, and the part of a run that lies in a range of places.
-use Rattle.std.specs.Prelude.{ℕ, zero, suc, ◌+◌, ◌-◌, ◌<◌, ◌≤◌, ◌^◌, Bool, List, [], ◌∷◌, take, drop, if◌then◌else◌}
+use Rattle.std.specs.Prelude.{ℕ, zero, suc, ◌+◌, ◌-◌, ◌≤◌, ◌^◌, Bool, List, [], ◌∷◌, take, drop, if◌then◌else◌}
 use Rattle.frame_meaning.specs.declared.frames.Side.{Side}
 use Rattle.frame_meaning.specs.declared.frames.Side.TheVariants as side
 use Rattle.frame_meaning.specs.declared.frames.Frame.{Frame}

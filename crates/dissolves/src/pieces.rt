@@ -1,15 +1,16 @@
 // Runs put one behind another.
-ghost use Rattle.std.specs.Prelude.{◌≡◌, ◌+◌, ◌-◌, ◌<◌, ◌≤◌, ◌^◌, ◌==◌, ◌++◌, List, OnOk};
+ghost use Rattle.std.specs.Prelude.{◌≡◌, ◌+◌, ◌<◌, ◌≤◌, ◌^◌, ◌==◌, ◌++◌, List, OnOk};
 ghost use Rattle.frame_meaning.specs.declared.cells.What.{What};
 ghost use Rattle.frame_meaning.specs.declared.frames.Frame.{Frame};
 ghost use Rattle.frame_meaning.specs.Cells.{later_side};
 ghost use Rattle.frame_meaning.specs.Going.{frame_goes_on, same_what, side_goes_on};
-ghost use Rattle.frame_meaning.specs.Runs.{runs};
-ghost use Rattle.dissolves.specs.Pieces.{Reaches, SideReaches, cut, last_frame, later_frame, len_of, push_run, run_frames};
+ghost use Rattle.dissolves.specs.Pieces.{Reaches, SideReaches, last_frame, later_frame, len_of, push_run, run_frames};
+ghost use Rattle.dissolves.specs.Walk.{Walked};
 
 use frame_meaning::{Frame, Memory, Run, Side, What};
 
-/// Adds the part of a run that lies in the places [a, b), where the run begins at the place `from`.
+/// Adds the part of a run that lies in the places [a, b), where the run begins at the place `from`, behind the runs of
+/// all frames before it.
 pub fn add_part(
     all: &mut Vec<Run<What>>,
     run: Run<What>,
@@ -21,7 +22,8 @@ pub fn add_part(
     requires reaches { Reaches run.frame run.len }
     requires places { from + run.len < 2 ^ 32 }
     requires room { len_of all.old.items ≤ from }
-    ensures { OnOk result ((fs : List (Frame What)) → all.old.items ≡ runs same_what fs → all.new.items ≡ runs same_what (fs ++ cut (a - from) (b - from) (run_frames run))) }
+    ensures walked { OnOk result ((rest frames : List (Frame What)) → Walked all.old.items from a b (run_frames run ++ rest) frames → Walked all.new.items (from + run.len) a b rest frames) }
+    ensures room { OnOk result (len_of all.new.items ≤ from + run.len) }
 {
     let begin = a.max(from);
     let end = b.min(from + run.len);
@@ -132,7 +134,7 @@ fn frame_later(frame: Frame<What>, n: u32) -> Frame<What>
     }
 }
 
-fn side_later(side: Side<What>, n: u32) -> Side<What>
+pub fn side_later(side: Side<What>, n: u32) -> Side<What>
     requires { SideReaches side (n + 1) }
     ensures { result ≡ later_side side n }
 {
