@@ -90,3 +90,9 @@ walk_three v0 v1 v2 v3 from to a b h o t hs os ts rest all head own tail place o
     let begun = subst (λ (gs : List (Frame What)). Walked v0 from a b gs all) parts w in
     subst (λ (n : ℕ). Walked v3 n a b rest all) place
     (three rest all (two (run_frames t ++ rest) all (one (run_frames o ++ (run_frames t ++ rest)) all begun)))
+
+-- the frames before the place b are all passed
+pub walk_past : (shown : List (Run What)) (from a b : ℕ) (rest all : List (Frame What)) → Walked shown from a b rest all → b ≤ from → shown ≡ runs same_what (cut a b all)
+walk_past shown from a b rest all w h =
+    let none : b - from - (a - from) ≡ 0 = omega arith in
+    w.are ∙ ap (runs same_what) (sym (append-nil w.passed) ∙ (ap (λ gs. w.passed ++ gs) (sym (ap (λ (k : ℕ). take k (drop (a - from) rest)) none)) ∙ w.left))

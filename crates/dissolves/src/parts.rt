@@ -4,7 +4,7 @@ ghost use Rattle.frame_meaning.specs.declared.cells.What.{What};
 ghost use Rattle.frame_meaning.specs.declared.frames.Frame.{Frame};
 ghost use Rattle.frame_meaning.specs.Render.{frame_of};
 ghost use Rattle.composables.specs.TrackFacts.{Holds, left_reach, right_reach};
-ghost use Rattle.dissolves.specs.Pieces.{Reaches, len_of, run_frames};
+ghost use Rattle.dissolves.specs.Pieces.{Reaches, SideReaches, len_of, run_frames};
 ghost use Rattle.dissolves.specs.Parts.{HasFront, HoldsBefore, MarkIsNumbered, SideHasFront, earlier_side, head_frames, item_frames, mark_of, own_frames, tail_frames};
 ghost use Rattle.dissolves.specs.Walk.{Walked};
 
@@ -39,7 +39,7 @@ pub fn add_item(
     requires room { len_of all.old.items ≤ from }
     ensures walked { OnOk result ((rest frames : List (Frame What)) → Walked all.old.items from a b (item_frames before view after ++ rest) frames → Walked all.new.items (from + view.len) a b rest frames) }
 {
-    let head = head_of(before, &view, after);
+    let head = head_of(before, &view);
     let tail = tail_of(&view, after);
     let own = own_of(&view, head.len, tail.len);
     add_part(all, head, from, a, b)?;
@@ -49,9 +49,9 @@ pub fn add_item(
 }
 
 // The rest of the dissolve at its head.
-fn head_of(before: Option<ItemView>, view: &ItemView, after: Option<ItemView>) -> Run<What>
+fn head_of(before: Option<ItemView>, view: &ItemView) -> Run<What>
     requires holds_before { HoldsBefore before view.now.mark }
-    requires holds { Holds view.now (mark_of after) }
+    requires reaches { SideReaches view.now.first (right_reach view.now.mark) }
     requires mark { MarkIsNumbered view.now.mark }
     ensures frames { run_frames result ≡ head_frames before view.now }
     ensures len { result.len ≡ right_reach view.now.mark }

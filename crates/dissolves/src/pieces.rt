@@ -95,10 +95,10 @@ fn is_side_followed(side: &Side<What>, more: u32, after: &Side<What>) -> bool
         (
             Side::Pic {
                 what: thing,
-                source: at,
+                source: frame,
             },
             Side::Pic { what, source },
-        ) => thing == what && is_next(*at, more, *source),
+        ) => thing == what && is_next(*frame, more, *source),
         _ => false,
     }
 }

@@ -25,6 +25,9 @@ pub fn runs_in(alloc: Global, track: &Track, a: u32, b: u32) -> Result<Vec<Run<W
     let mut from = 0;
     let mut index = 0;
     while let Some(view) = track.item(index) {
+        if from >= b {
+            return Ok(shown);
+        }
         let after = track.item(index + 1);
         add_item(&mut shown, before, view, after, from, a, b)?;
         from += view.len;

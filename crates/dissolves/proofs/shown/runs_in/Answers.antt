@@ -8,7 +8,7 @@ use Rattle.composables.specs.TrackFacts.{Holds, EachHolds, first_mark}
 use Rattle.dissolves.specs.Parts.{item_frames, frames_shown, HoldsBefore, HasFront, MarkIsNumbered, EachMarkIsNumbered, mark_of}
 use Rattle.dissolves.specs.Walk.{Walked}
 use Rattle.dissolves.proofs.Dissolved.{render_shown}
-use Rattle.dissolves.proofs.Walk.{walk_begun, walk_done, walk_room}
+use Rattle.dissolves.proofs.Walk.{walk_begun, walk_done, walk_past, walk_room}
 use Rattle.dissolves.proofs.Whole.{from_index, past_all, first_at, mark-first, index_within, frames_of_items, index_below, has_front, each_numbered, first_numbered, unmarked_reach}
 use Rattle.dissolves.proofs.shown.runs_in.Goals as goal
 
@@ -108,3 +108,6 @@ returns c =
     let vs = items_of cs in
     walk_done c.loop-view.shown.items c.loop-view.from c.args.a c.args.b _ (render cs) c.loop-view.invariant.walked
     (ap (frames_shown c.loop-view.before) (past_all vs c.loop-view.index (sym c.item.ensures ∙ c.in_default.is)))
+
+pub returns-then-from-b : goal.returns-then-from-b
+returns-then-from-b c = walk_past c.loop-view.shown.items c.loop-view.from c.args.a c.args.b _ (render c.args.track.now.cells) c.loop-view.invariant.walked c.if-from-b.true
