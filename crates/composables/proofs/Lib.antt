@@ -2,3 +2,4 @@ pub mod Keys
 pub mod Joining
 pub mod Frames
 pub mod Keeping
+pub mod Spans

@@ -1,9 +1,9 @@
 -- The items and gaps of a track's cells. A gap is a maximal run of dark cells.
-use Rattle.std.specs.Prelude.{ℕ, ◌+◌, List, [], ◌∷◌, Option, Some, None, if◌then◌else◌}
+use Rattle.std.specs.Prelude.{ℕ, ◌+◌, List, [], ◌∷◌, Option, None, ◌==◌, if◌then◌else◌}
 use Rattle.std.specs.List.{flat_map}
 use Rattle.frame_meaning.specs.declared.cells.Mark.{Mark}
 use Rattle.frame_meaning.specs.declared.cells.Cell.{Cell}
-use Rattle.frame_meaning.specs.Cells.{span, same_number}
+use Rattle.frame_meaning.specs.Cells.{span, later_side, same_number}
 use Rattle.composables.specs.declared.items.ItemView.{ItemView}
 
 -- the mark stands at the first cell
@@ -14,6 +14,10 @@ marked mark (c ∷ cs) = record c { mark = mark } ∷ cs
 -- the cells of an item or gap
 abbrev pub view_cells : ItemView → List Cell
 view_cells v = marked v.mark (span v.item v.first v.link v.len)
+
+-- its cell k frames after its first
+abbrev pub cell_in : ItemView → ℕ → Cell
+cell_in v k = record { item = v.item; side = later_side v.first k; mark = if k == 0 then v.mark else None; link = v.link }
 
 -- the cells of items and gaps, one after another
 abbrev pub cells_of : List ItemView → List Cell

@@ -1,12 +1,14 @@
 // A track of items and gaps, which contracts see as its cells.
 ghost use Rattle.std.specs.Prelude.{◌≡◌, ◌+◌, ◌<◌, ◌≤◌, ◌^◌, ◌↔◌, ◌++◌, length, take, drop, slice_get, IfSome, IfOk, IsNone, OnOk, OnErr};
-ghost use Rattle.frame_meaning.specs.Cells.{same_number};
+ghost use Rattle.frame_meaning.specs.Cells.{later_side, same_number};
+ghost use Rattle.composables.specs.Items.{cell_in, cells_of, view_cells};
 ghost use Rattle.composables.specs.Joined.{joined, push_view, push_views, frames_in};
 ghost use Rattle.composables.specs.TrackState.{next_past, next_past_all};
-ghost use Rattle.composables.specs.TrackFacts.{NumbersBelow};
+ghost use Rattle.composables.specs.TrackFacts.{EachHolds, HasSource, NumbersBelow};
 ghost use Rattle.composables.specs.Places.{StandsAt};
 
 use crate::{ItemView, Memory, Place};
+use frame_meaning::{Cell, Side, What};
 use std::alloc::Global;
 use std::marker::Model;
 use std::sync::ledger::Ledger;
@@ -174,6 +176,13 @@ impl Track {
         self.items = all;
         Ok(())
     }
+
+    /// Its cells, one for each frame. It takes memory and time for each frame, and serves tests.
+    pub fn cells(&self, alloc: Global) -> Result<Vec<Cell>, Memory>
+        ensures { IfOk result (λ all. all.items ≡ self.now.cells) }
+    {
+        cells_in(alloc, &self.items)
+    }
 }
 
 fn view_at(items: &[ItemView], index: u32) -> Option<ItemView>
@@ -261,7 +270,11 @@ fn is_same(first: Option<u32>, second: Option<u32>) -> bool
     }
 }
 
-fn push_items<L: Ledger>(views: &[ItemView], into: &mut Vec<ItemView>, steps: &mut Steps<L>) -> Result<(), Memory>
+fn push_items<L: Ledger>(
+    views: &[ItemView],
+    into: &mut Vec<ItemView>,
+    steps: &mut Steps<L>,
+) -> Result<(), Memory>
     requires { frames_in into.old.items + frames_in views.now < 2 ^ 32 }
     ensures ok { OnOk result (into.new.items ≡ push_views into.old.items views.now) }
     ensures frames { OnOk result (frames_in into.new.items ≡ frames_in into.old.items + frames_in views.now) }
@@ -305,4 +318,51 @@ fn number_past_all(next: u32, items: &[ItemView]) -> u32
         past = number_past(past, view.item);
     }
     past
+}
+
+fn cells_in(alloc: Global, items: &[ItemView]) -> Result<Vec<Cell>, Memory>
+    requires { EachHolds items.now }
+    ensures { IfOk result (λ all. all.items ≡ cells_of items.now) }
+{
+    let mut all = Vec::new(alloc);
+    for view in items {
+        push_cells(&mut all, view)?;
+    }
+    Ok(all)
+}
+
+fn push_cells(into: &mut Vec<Cell>, view: &ItemView) -> Result<(), Memory>
+    requires { HasSource view.now.first view.now.len 0 0 }
+    ensures { OnOk result (into.new.items ≡ into.old.items ++ view_cells view.now) }
+{
+    for k in 0..view.len {
+        into.push(cell_of(view, k))?;
+    }
+    Ok(())
+}
+
+fn cell_of(view: &ItemView, k: u32) -> Cell
+    requires within { k < view.now.len }
+    requires source { HasSource view.now.first view.now.len 0 0 }
+    ensures { result ≡ cell_in view.now k }
+{
+    Cell {
+        item: view.item,
+        side: side_later(view.first, k),
+        mark: if k == 0 { view.mark } else { None },
+        link: view.link,
+    }
+}
+
+fn side_later(side: Side<What>, n: u32) -> Side<What>
+    requires { HasSource side (n + 1) 0 0 }
+    ensures { result ≡ later_side side n }
+{
+    match side {
+        Side::Dark => Side::Dark,
+        Side::Pic { what, source } => Side::Pic {
+            what,
+            source: source + n,
+        },
+    }
 }
