@@ -122,7 +122,7 @@ impl Editor {
 
     /// What a question to a track is answered: the frames shown in [a, b) as maximal runs, or the items and gaps.
     pub fn see(&self, alloc: Global, part: &Track, ask: &Ask) -> Result<Seen, SightFault>
-        requires unmarked { AllUnmarked (items_of part.now.cells) }
+        requires { IsGood self.now.table part.now }
         ensures { Shows (seen_on part.now ask.now) result }
     {
         match ask {

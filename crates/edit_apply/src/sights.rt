@@ -1,6 +1,5 @@
 // What questions are answered.
-ghost use Rattle.composables.specs.Good.{AllUnmarked};
-ghost use Rattle.composables.specs.Items.{items_of};
+ghost use Rattle.std.specs.Prelude.{◌<◌, length};
 ghost use Rattle.edit_apply.specs.See.{view_on};
 ghost use Rattle.edit_apply.specs.Sights.{Shows};
 
@@ -11,7 +10,7 @@ use std::alloc::Global;
 
 // The frames shown in the places [a, b), as maximal runs.
 pub(crate) fn view(alloc: Global, part: &Track, a: u32, b: u32) -> Result<Seen, SightFault>
-    requires { AllUnmarked (items_of part.now.cells) }
+    requires { length part.now.cells < 4294967295 }
     ensures { Shows (view_on part.now a b) result }
 {
     let length = part.length();
