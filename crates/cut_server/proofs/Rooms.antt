@@ -12,8 +12,12 @@ use Rattle.composables.specs.Items.{items_of}
 use Rattle.composables.specs.TrackState.{TrackState}
 use Rattle.edit_insert.specs.Answers.{NextRises}
 use Rattle.edit_apply.specs.declared.asks.Call.{Call}
+use Rattle.edit_apply.specs.declared.asks.Ask.{Ask}
+use Rattle.edit_apply.specs.declared.asks.AskRefusal.{AskRefusal}
+use Rattle.edit_apply.specs.declared.asks.AskRefusal.TheVariants.{NoTrack}
+use Rattle.edit_apply.specs.See.{ask_part_of, seen_in, seen_on, seen_at, seen_if, track_asked}
 use Rattle.edit_apply.specs.Apply.{Applied, applied, applied_on, names_of, refuse_names_of, first_absent, picked, put_back, on_whole, unless_refused}
-use Rattle.cut_server.specs.SessionInside.{IsTrackOf, AreTracksOf}
+use Rattle.cut_server.specs.Tracks.{IsTrackOf, AreTracksOf}
 use Rattle.cut_server.specs.Editing.{EditsTo, Changes, Attempts}
 use Rattle.cut_server.specs.declared.edits.Attempt.{Attempt}
 use Rattle.cut_server.specs.declared.edits.Attempt.TheVariants as attempt
@@ -105,3 +109,39 @@ pub one_name : (m n : ℕ) (names : List ℕ) → names ≡ m ∷ [] → names �
 one_name m n names e f = heads (sym e ∙ f) where
   heads : m ∷ [] ≡ n ∷ [] → m ≡ n
   heads h = cc
+
+-- the track that a call names, where the call is not refused for it
+pub record Found (table : Table) (tracks : List TrackState) (most i : ℕ) (t : TrackState) : Type 0 where
+  pub inside : i < length tracks
+  pub is_track : IsTrackOf table i most t
+  pub at : slice_get tracks i ≡ Some t
+
+found_at : (table : Table) (tracks : List TrackState) (most i : ℕ) (t : TrackState) → i < length tracks → AreTracksOf table 0 most tracks → t ≡ get_or tracks i t → Found table tracks most i t
+found_at table tracks most i t inside all is =
+    let zero_plus : 0 + i ≡ i = omega arith in
+    let P : ℕ → Type 0 = λ m. IsTrackOf table m most (get_or tracks i t) in
+    let Q : TrackState → Type 0 = λ s. IsTrackOf table i most s in
+    record {
+      inside = inside;
+      is_track = subst Q (sym is) (subst P zero_plus (track_in table 0 most tracks i t inside all));
+      at = slice_get-get_or tracks i t inside ∙ ap Some (sym is);
+    }
+
+pub found : (table : Table) (tracks : List TrackState) (most : ℕ) (c : Call) (i : ℕ) (t : TrackState) → length tracks ≡ length table.kinds → AreTracksOf table 0 most tracks
+    → refuse_names_of table c ≡ None → names_of c ≡ i ∷ [] → t ≡ get_or tracks i t → Found table tracks most i t
+found table tracks most c i t kinds all none named is = found_at table tracks most i t (omega (arith, kinds, named_in table c i none named)) all is
+
+pub asked : (table : Table) (tracks : List TrackState) (most i : ℕ) (t : TrackState) → length tracks ≡ length table.kinds → i < length table.kinds → AreTracksOf table 0 most tracks → t ≡ get_or tracks i t → Found table tracks most i t
+asked table tracks most i t kinds within all is = found_at table tracks most i t (omega (arith, kinds, within)) all is
+
+asked_by : (table : Table) (q : Ask) (n : ℕ) (b : Bool) (r : AskRefusal) → nat_lt (track_asked q) (length table.kinds) ≡ b → cond b (Ok (track_asked q)) (Err r) ≡ Ok n → n < length table.kinds
+asked_by table q n true r e h = let same : track_asked q ≡ n = cc in grind (arith, nat_tests)
+asked_by table q n false r e h = cc
+
+-- a question that is not refused for its track is for one of the room
+pub asked_in : (table : Table) (q : Ask) (n : ℕ) → ask_part_of table q ≡ Ok n → n < length table.kinds
+asked_in table q n h = asked_by table q n (nat_lt (track_asked q) (length table.kinds)) (NoTrack (track_asked q)) refl h
+
+-- what one track shows is what the room shows of it
+pub seen_one : (table : Table) (tracks : List TrackState) (q : Ask) (n : ℕ) (t : TrackState) → ask_part_of table q ≡ Ok n → slice_get tracks n ≡ Some t → seen_in table tracks q ≡ seen_on t q
+seen_one table tracks q n t asked at = ap (λ r. seen_if r tracks q) asked ∙ ap (λ o. seen_at o q) at

@@ -5,7 +5,7 @@ use Rattle.composables.specs.declared.refusals.Done.{Done}
 use Rattle.composables.specs.TrackState.{TrackState}
 use Rattle.edit_apply.specs.declared.asks.Call.{Call}
 use Rattle.edit_apply.specs.Apply.{Applied, applied, names_of}
-use Rattle.cut_server.specs.SessionInside.{IsTrackOf}
+use Rattle.cut_server.specs.Tracks.{IsTrackOf}
 use Rattle.cut_server.specs.History.{answer_in, most_entries}
 use Rattle.cut_server.specs.Session.{SessionState}
 use Rattle.cut_server.specs.declared.edits.Attempt.{Attempt}

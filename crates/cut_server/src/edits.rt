@@ -2,7 +2,7 @@
 ghost use Rattle.std.specs.Prelude.{◌≡◌, ◌+◌, ◌*◌, ◌<◌, ◌≤◌, ◌^◌, ◌∷◌, [], None, length, slice_set};
 ghost use Rattle.edit_apply.specs.Apply.{refuse_names_of, applied_on};
 ghost use Rattle.edit_apply.specs.Named.{AreNamed};
-ghost use Rattle.cut_server.specs.SessionInside.{IsTrackOf, AreTracksOf};
+ghost use Rattle.cut_server.specs.Tracks.{IsTrackOf, AreTracksOf};
 ghost use Rattle.cut_server.specs.Editing.{EditsTo, Attempts};
 
 use composables::{Done, EditFault, Refusal, Track};

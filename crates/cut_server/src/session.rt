@@ -1,10 +1,15 @@
 // The session of one station: its room, and the answer to each of its lines.
+ghost use Rattle.std.specs.Prelude.{◌≡◌, ◌++◌, ℕ, IfOk, codes, decimal, length};
+ghost use Rattle.call_text.specs.Sights.{seen_of};
+ghost use Rattle.edit_apply.specs.See.{seen_in};
+ghost use Rattle.edit_apply.specs.Sights.{Shows};
+ghost use Rattle.cut_server.specs.Tracks.{AreTracksOf};
 
 use crate::edits::{Attempt, put_track, try_edit};
 use crate::reply::Reply;
 use call_text::{Counting, Entry, Line, LineFault, Short, fault_text, read_line, reply_text, seen_text};
-use composables::{Done, EditFault, Refusal, Track};
-use edit_apply::{Ask, Call, Editor, Seen, SightFault, track_of};
+use composables::{Done, EditFault, Memory, Refusal, Track};
+use edit_apply::{Ask, AskRefusal, Call, Editor, Seen, SightFault, track_of};
 use line_words::LineEnd;
 use std::alloc::Global;
 use std::marker::Model;
@@ -90,4 +95,109 @@ impl Session {
         put_track(&mut self.tracks, index, track);
         Answer::Done(done)
     }
+
+    /// What a question is answered by the tracks as they are.
+    fn see(&self, ask: &Ask) -> Result<Seen, SightFault>
+        ensures { Shows (seen_in self.now.setting.table self.now.tracks ask.now) result }
+    {
+        see_track(self.alloc, &self.editor, &self.tracks, ask)
+    }
+
+    /// What a line of the input says.
+    fn said(&self, end: LineEnd, text: &[u8]) -> Result<Line, LineFault>
+        ensures { result ≡ meaning_of self.now.setting (line_told end text.now) }
+    {
+        match end {
+            LineEnd::Whole => read_line(self.alloc, text, &self.counting, self.start),
+            LineEnd::TooLong => Err(LineFault::B5),
+        }
+    }
+
+    fn reply_to_edit(&mut self, call: Call) -> Short
+        ensures { Step self.old self.new result (Ok (EditLine call)) }
+    {
+        let point = self.journal.len() as u32;
+        match self.edit(call) {
+            Answer::Done(done) => reply_text(point, &Ok(done)),
+            Answer::Refused(refusal) => reply_text(point, &Err(EditFault::Refused(refusal))),
+            Answer::Full => full_text(),
+            Answer::Memory => reply_text(point, &Err(EditFault::Memory)),
+        }
+    }
+
+    fn reply_to_ask(&self, ask: &Ask) -> Reply
+        ensures { Replies self.now self.now (Ok (AskLine ask.now)) result }
+    {
+        let point = self.journal.len() as u32;
+        let answer = match self.see(ask) {
+            Ok(seen) => Ok(seen),
+            Err(fault) => match fault {
+                SightFault::Refused(refusal) => Err(refusal),
+                SightFault::Memory => return Reply::Short(memory_text()),
+            },
+        };
+        match sight_line(self.alloc, point, &answer) {
+            Ok(text) => Reply::Text(text),
+            Err(_) => Reply::Short(memory_text()),
+        }
+    }
+
+    /// Answers a line, and commits it where it is an edit that applies.
+    fn answer(&mut self, end: LineEnd, text: &[u8]) -> Reply
+        ensures { Replies self.old self.new (meaning_of self.old.setting (line_told end text.now)) result }
+    {
+        match self.said(end, text) {
+            Ok(line) => match line {
+                Line::Edit(call) => Reply::Short(self.reply_to_edit(call)),
+                Line::Ask(ask) => self.reply_to_ask(&ask),
+                Line::Point => Reply::Short(point_text(self.journal.len() as u32)),
+            },
+            Err(fault) => Reply::Short(fault_text(&fault)),
+        }
+    }
+}
+
+// What a question to one of these tracks is answered.
+fn see_track(alloc: Global, editor: &Editor, tracks: &[Track], ask: &Ask) -> Result<Seen, SightFault>
+    requires kinds { length tracks.now ≡ length editor.now.table.kinds }
+    requires tracks { (most : ℕ) × AreTracksOf editor.now.table 0 most tracks.now }
+    ensures { Shows (seen_in editor.now.table tracks.now ask.now) result }
+{
+    match editor.ask_part(ask) {
+        Ok(track) => editor.see(alloc, &tracks[track as usize], ask),
+        Err(refusal) => Err(SightFault::Refused(refusal)),
+    }
+}
+
+// The reply to a question, with its line feed.
+fn sight_line(alloc: Global, point: u32, answer: &Result<Seen, AskRefusal>) -> Result<Vec<u8>, Memory>
+    ensures { IfOk result (λ text. text.items ≡ seen_of point answer.now ++ codes "\n") }
+{
+    let mut text = seen_text(alloc, point, answer)?;
+    text.push(b'\n')?;
+    Ok(text)
+}
+
+fn memory_text() -> Short
+    ensures { result ≡ codes "memory" }
+{
+    fault_text(&LineFault::Memory)
+}
+
+// The reply to an edit that would apply where the journal has its most entries.
+fn full_text() -> Short
+    ensures { result ≡ codes "no 100000 E15" }
+{
+    let mut text = Short::new();
+    text.push(b"no 100000 E15");
+    text
+}
+
+fn point_text(point: u32) -> Short
+    ensures { result ≡ codes "point " ++ decimal point }
+{
+    let mut text = Short::new();
+    text.push(b"point ");
+    text.push_number(point);
+    text
 }

@@ -3,7 +3,7 @@ use Rattle.std.proofs.Math.ListN.{set, length-set}
 use Rattle.std.proofs.lemmas.List.{length-append}
 use Rattle.composables.specs.TrackState.{TrackState}
 use Rattle.cut_server.specs.History.{answer_in}
-use Rattle.cut_server.specs.SessionInside.{AreTracksOf}
+use Rattle.cut_server.specs.Tracks.{AreTracksOf}
 use Rattle.cut_server.proofs.Rooms.{later_tracks, later_track, tracks_with, one_name}
 use Rattle.cut_server.proofs.session.Session.commit.Goals as goal
 
