@@ -1,3 +1,5 @@
+pub mod LabelPlaces
+pub mod Positions
 pub mod ReadParts
 pub mod TableLaws
 pub mod WrittenCalls

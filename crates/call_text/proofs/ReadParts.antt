@@ -68,25 +68,25 @@ place_spelled place_at word n h = place_ok (number_of word) (place_at word) n h
 
 pub place_read : (place_at : List ℕ → Option ℕ) (word : List ℕ) (n : ℕ) → IsPlace place_at word n → place_of place_at word ≡ Ok n
 place_read place_at word n h = elim h [
-    | inl number ↦ rw number refl
-    | inr label ↦ rw (label.0, label.1) refl
-  ]
+  | inl number ↦ rw number refl
+  | inr label ↦ rw (label.0, label.1) refl
+]
 
 pub thing_spelled : (word : List ℕ) (w : What) → what_of word ≡ Ok w → IsThing word w
 thing_spelled [] w h = absurd cc
 thing_spelled (sign ∷ digits) w h = elim (chosen (sign == 64) _ _ (Ok w) h) [
-    | inl media ↦
-        let number = bind_ok (numeral_of digits) _ w media.1 in
-        let same = ok_same (Media number.0) w number.2 in
-        rw (← same) (digits, ap (λ byte. byte ∷ digits) (eqb-true sign 64 media.0), numeral_spelled digits number.0 number.1)
-    | inr other ↦ elim (chosen (sign == 35) _ _ (Ok w) other.1) [
-      | inl nest ↦
-          let number = bind_ok (numeral_of digits) _ w nest.1 in
-          let same = ok_same (Nest number.0) w number.2 in
-          rw (← same) (digits, ap (λ byte. byte ∷ digits) (eqb-true sign 35 nest.0), numeral_spelled digits number.0 number.1)
-      | inr none ↦ absurd (err_ok B3 w none.1)
-    ]
+  | inl media ↦
+      let number = bind_ok (numeral_of digits) _ w media.1 in
+      let same = ok_same (Media number.0) w number.2 in
+      rw (← same) (digits, ap (λ byte. byte ∷ digits) (eqb-true sign 64 media.0), numeral_spelled digits number.0 number.1)
+  | inr other ↦ elim (chosen (sign == 35) _ _ (Ok w) other.1) [
+    | inl nest ↦
+        let number = bind_ok (numeral_of digits) _ w nest.1 in
+        let same = ok_same (Nest number.0) w number.2 in
+        rw (← same) (digits, ap (λ byte. byte ∷ digits) (eqb-true sign 35 nest.0), numeral_spelled digits number.0 number.1)
+    | inr none ↦ absurd (err_ok B3 w none.1)
   ]
+]
 
 pub thing_read : (word : List ℕ) (w : What) → IsThing word w → what_of word ≡ Ok w
 thing_read word (Media m) h = let number = numeral_read h.0 m h.2 in rw (h.1, number) refl

@@ -28,18 +28,18 @@ some_same x y h = cc
 
 command_spelled : (word : List ℕ) (k : Command) → command_of word ≡ Some k → word ≡ first_word k
 command_spelled word k h = elim (chosen (bytes_eq word (codes "overwrite")) _ _ (Some k) h) [
-    | inl overwrite ↦ let same = some_same command.Overwrite k overwrite.1 in rw (← same) ((bytes_eq-Decides word (codes "overwrite")).0 overwrite.0)
-    | inr h ↦ elim (chosen (bytes_eq word (codes "view")) _ _ (Some k) h.1) [
-      | inl view ↦ let same = some_same command.View k view.1 in rw (← same) ((bytes_eq-Decides word (codes "view")).0 view.0)
-      | inr h ↦ elim (chosen (bytes_eq word (codes "items")) _ _ (Some k) h.1) [
-        | inl items ↦ let same = some_same command.Items k items.1 in rw (← same) ((bytes_eq-Decides word (codes "items")).0 items.0)
-        | inr h ↦ elim (chosen (bytes_eq word (codes "point")) _ _ (Some k) h.1) [
-          | inl point ↦ let same = some_same command.Point k point.1 in rw (← same) ((bytes_eq-Decides word (codes "point")).0 point.0)
-          | inr none ↦ absurd cc
-        ]
+  | inl overwrite ↦ let same = some_same command.Overwrite k overwrite.1 in rw (← same) ((bytes_eq-Decides word (codes "overwrite")).0 overwrite.0)
+  | inr h ↦ elim (chosen (bytes_eq word (codes "view")) _ _ (Some k) h.1) [
+    | inl view ↦ let same = some_same command.View k view.1 in rw (← same) ((bytes_eq-Decides word (codes "view")).0 view.0)
+    | inr h ↦ elim (chosen (bytes_eq word (codes "items")) _ _ (Some k) h.1) [
+      | inl items ↦ let same = some_same command.Items k items.1 in rw (← same) ((bytes_eq-Decides word (codes "items")).0 items.0)
+      | inr h ↦ elim (chosen (bytes_eq word (codes "point")) _ _ (Some k) h.1) [
+        | inl point ↦ let same = some_same command.Point k point.1 in rw (← same) ((bytes_eq-Decides word (codes "point")).0 point.0)
+        | inr none ↦ absurd cc
       ]
     ]
   ]
+]
 
 overwrite_spelled : (place_at : List ℕ → Option ℕ) (words : List (List ℕ)) (line : Line) → overwrite_of place_at words ≡ Ok line → AreWords place_at (codes "overwrite" ∷ words) line
 overwrite_spelled place_at words line h =
@@ -50,9 +50,19 @@ overwrite_spelled place_at words line h =
     let from = bind_ok (numeral_of word.0.3) _ line what.2 in
     let len = bind_ok (numeral_of word.0.4) _ line from.2 in
     let same = ok_same (Edit (call.Overwrite (record { track = track.0; at = at.0; what = what.0; from = from.0; len = len.0 }))) line len.2 in
-    rw (← same) (word.0.0, word.0.1, word.0.2, word.0.3, word.0.4, ap (λ ws. codes "overwrite" ∷ ws) (five_spelled words word.0 word.1),
-        track_spelled word.0.0 track.0 track.1, place_spelled place_at word.0.1 at.0 at.1, thing_spelled word.0.2 what.0 what.1,
-        numeral_spelled word.0.3 from.0 from.1, numeral_spelled word.0.4 len.0 len.1)
+    rw (← same) (
+      word.0.0,
+      word.0.1,
+      word.0.2,
+      word.0.3,
+      word.0.4,
+      ap (λ ws. codes "overwrite" ∷ ws) (five_spelled words word.0 word.1),
+      track_spelled word.0.0 track.0 track.1,
+      place_spelled place_at word.0.1 at.0 at.1,
+      thing_spelled word.0.2 what.0 what.1,
+      numeral_spelled word.0.3 from.0 from.1,
+      numeral_spelled word.0.4 len.0 len.1,
+    )
 
 view_spelled : (place_at : List ℕ → Option ℕ) (words : List (List ℕ)) (line : Line) → view_of place_at words ≡ Ok line → AreWords place_at (codes "view" ∷ words) line
 view_spelled place_at words line h =
@@ -61,8 +71,15 @@ view_spelled place_at words line h =
     let a = bind_ok (place_of place_at word.0.1) _ line track.2 in
     let b = bind_ok (place_of place_at word.0.2) _ line a.2 in
     let same = ok_same (Ask (ask.View track.0 a.0 b.0)) line b.2 in
-    rw (← same) (word.0.0, word.0.1, word.0.2, ap (λ ws. codes "view" ∷ ws) (three_spelled words word.0 word.1),
-        track_spelled word.0.0 track.0 track.1, place_spelled place_at word.0.1 a.0 a.1, place_spelled place_at word.0.2 b.0 b.1)
+    rw (← same) (
+      word.0.0,
+      word.0.1,
+      word.0.2,
+      ap (λ ws. codes "view" ∷ ws) (three_spelled words word.0 word.1),
+      track_spelled word.0.0 track.0 track.1,
+      place_spelled place_at word.0.1 a.0 a.1,
+      place_spelled place_at word.0.2 b.0 b.1,
+    )
 
 items_spelled : (place_at : List ℕ → Option ℕ) (words : List (List ℕ)) (line : Line) → items_of words ≡ Ok line → AreWords place_at (codes "items" ∷ words) line
 items_spelled place_at words line h =
@@ -90,9 +107,9 @@ words_spelled place_at (first ∷ words) line h = row_spelled place_at first (co
 
 pub line_spelled : (place_at : List ℕ → Option ℕ) (bytes : List ℕ) (line : Line) → line_of place_at bytes ≡ Ok line → IsLine place_at bytes line
 line_spelled place_at bytes line h = elim (chosen (nat_le (length bytes) 1024) _ _ (Ok line) h) [
-    | inl short ↦ record { short = leb-true (length bytes) 1024 short.0; words = words_spelled place_at (words_of bytes) line short.1 }
-    | inr long ↦ absurd (err_ok B5 line long.1)
-  ]
+  | inl short ↦ record { short = leb-true (length bytes) 1024 short.0; words = words_spelled place_at (words_of bytes) line short.1 }
+  | inr long ↦ absurd (err_ok B5 line long.1)
+]
 
 words_read : (place_at : List ℕ → Option ℕ) (words : List (List ℕ)) (line : Line) → AreWords place_at words line → line_of_words place_at words ≡ Ok line
 words_read place_at words (Edit (call.Overwrite c)) h =

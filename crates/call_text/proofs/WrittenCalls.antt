@@ -41,12 +41,31 @@ written_overwrite place_at c h =
     let small : c.track < 2 ^ 32 = omega (arith, h.track) in
     let same = regrouped track at what from len in
     let words = words_of-spaced (codes "overwrite") track at what from len (IsWord-tested (codes "overwrite") refl) (IsWord-decimal c.track small)
-        (IsWord-decimal c.at h.at) (IsWord-what_text c.what h.what) (IsWord-decimal c.from h.from) (IsWord-decimal c.len h.len) in
+    (IsWord-decimal c.at h.at) (IsWord-what_text c.what h.what) (IsWord-decimal c.from h.from) (IsWord-decimal c.len h.len) in
     line_read place_at (overwrite_text c) (Edit (call.Overwrite c)) (record {
-      short = omega (arith, ap length same, length-spaced (codes "overwrite") track at what from len,
-          length-decimal c.track small, length-decimal c.at h.at, length-what_text c.what h.what, length-decimal c.from h.from, length-decimal c.len h.len);
-      words = (track, at, what, from, len, ap words_of same ∙ words, (number_of-decimal c.track small, h.track), inl (number_of-decimal c.at h.at),
-          IsThing-what_text c.what h.what, number_of-decimal c.from h.from, number_of-decimal c.len h.len);
+      short = omega (
+        arith,
+        ap length same,
+        length-spaced (codes "overwrite") track at what from len,
+        length-decimal c.track small,
+        length-decimal c.at h.at,
+        length-what_text c.what h.what,
+        length-decimal c.from h.from,
+        length-decimal c.len h.len,
+      );
+      words = (
+        track,
+        at,
+        what,
+        from,
+        len,
+        ap words_of same ∙ words,
+        (number_of-decimal c.track small, h.track),
+        inl (number_of-decimal c.at h.at),
+        IsThing-what_text c.what h.what,
+        number_of-decimal c.from h.from,
+        number_of-decimal c.len h.len,
+      );
     })
 
 pub written_call : (place_at : List ℕ → Option ℕ) (c : Call) → IsWritten c → line_of place_at (call_text_of c) ≡ Ok (Edit c)

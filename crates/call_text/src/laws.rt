@@ -1,9 +1,14 @@
 // What lines and calls as text are, whoever writes and reads them.
-ghost use Rattle.std.specs.Prelude.{◌≡◌, ℕ, List, Option, Ok};
+ghost use Rattle.std.specs.Prelude.{◌≡◌, ◌↔◌, ◌+◌, ℕ, List, Option, Some, Ok};
+ghost use Rattle.timecode12.specs.Labels.{IsLabelOf};
+ghost use Rattle.timecode12.specs.Numbers.{Counted};
+ghost use Rattle.timecode12.specs.Spelling.{Spells};
+ghost use Rattle.timecode12.specs.declared.label.Label.{Label as Timecode};
 ghost use Rattle.edit_apply.specs.declared.asks.Call.{Call as Sent};
 ghost use Rattle.call_text.specs.declared.lines.Line.{Line as Asked};
 ghost use Rattle.call_text.specs.declared.lines.Line.TheVariants.{Edit};
 ghost use Rattle.call_text.specs.CallTexts.{call_text_of, IsWritten};
+ghost use Rattle.call_text.specs.Labels.{place_by};
 ghost use Rattle.call_text.specs.Reading.{line_of};
 ghost use Rattle.call_text.specs.Table.{IsLine};
 
@@ -11,6 +16,11 @@ ghost use Rattle.call_text.specs.Table.{IsLine};
 pub fn lines_are_those_of_the_table()
     ensures spelled { (place_at : List ℕ → Option ℕ) (bytes : List ℕ) (line : Asked) → line_of place_at bytes ≡ Ok line → IsLine place_at bytes line }
     ensures read { (place_at : List ℕ → Option ℕ) (bytes : List ℕ) (line : Asked) → IsLine place_at bytes line → line_of place_at bytes ≡ Ok line }
+{}
+
+/// A word is the label of the place that it names, counted from the start, and a label of the counting names its place.
+pub fn labels_name_places()
+    ensures { (c : Counted) (start place : ℕ) (word : List ℕ) → (place_by c start word ≡ Some place) ↔ ((l : Timecode) × Spells word l × IsLabelOf c (start + place) l) }
 {}
 
 /// The text of a call is read again as that call, whatever labels name.

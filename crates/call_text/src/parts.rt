@@ -3,10 +3,11 @@ ghost use Rattle.std.specs.Prelude.{◌≡◌};
 ghost use Rattle.call_text.specs.Labels.{place_by};
 ghost use Rattle.call_text.specs.Spelling.{numeral_of, track_of, place_of, what_of};
 
+use crate::LineFault;
 use crate::labels::label_place;
-use crate::{Counting, LineFault};
 use frame_meaning::What;
 use line_words::{NumberFault, number};
+use timecode12::Counting;
 
 /// The greatest number of a track that a line can name.
 pub const LAST_TRACK: u32 = 31;

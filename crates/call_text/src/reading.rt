@@ -6,11 +6,12 @@ ghost use Rattle.call_text.specs.Reading.{overwrite_of, view_of, items_of, point
 
 use crate::counted::{first_word, five_words, no_word, one_word, three_words};
 use crate::parts::{numeral, place, track, what};
-use crate::{Command, Counting, Line, LineFault};
+use crate::{Command, Line, LineFault};
 use composables::Overwrite;
 use edit_apply::{Ask, Call};
 use line_words::MAX_LINE;
 use std::alloc::Global;
+use timecode12::Counting;
 
 /// The line that these bytes are, without its line feed, or the first fault of it. Labels name record frames by the
 /// counting, and `start` is the record frame of place 0.

@@ -4,8 +4,7 @@ use edit_apply::{Ask, AskRefusal, Call, Seen};
 use frame_meaning::{Frame, Link, Mark, Run, Side, What};
 use std::alloc::Global;
 use std::test::Fail;
-
-const FILM: Counting = Counting { frames: 24 };
+use timecode12::{Counting, SequenceRate};
 
 const FOUR: Overwrite = Overwrite {
     track: 1,
@@ -15,8 +14,10 @@ const FOUR: Overwrite = Overwrite {
     len: 5000,
 };
 
-fn read(alloc: Global, line: &[u8]) -> Result<Line, LineFault> {
-    read_line(alloc, line, &FILM, 0)
+// Reads a line where 24 frames a second are counted from 0.
+fn read(alloc: Global, line: &[u8]) -> Option<Result<Line, LineFault>> {
+    let film = Counting::new(SequenceRate::F24, false)?;
+    Some(read_line(alloc, line, &film, 0))
 }
 
 #[test]
@@ -51,7 +52,7 @@ fn lines_of_the_table_are_read(rt: HostRuntime) {
         ),
     ];
     for (line, want) in table {
-        assert_eq!(rt; read(rt.alloc(), line), Ok(want));
+        assert_eq!(rt; read(rt.alloc(), line), Some(Ok(want)));
     }
 }
 
@@ -91,8 +92,61 @@ fn the_first_fault_of_a_line_is_told(rt: HostRuntime) {
         (b"overwrite 0 0 @0 0 -1", LineFault::B3),
     ];
     for (line, want) in table {
-        assert_eq!(rt; read(rt.alloc(), line), Err(want));
+        assert_eq!(rt; read(rt.alloc(), line), Some(Err(want)));
     }
+}
+
+// A counting, the record frame of place 0, a word, and the place that it names.
+type Named = (
+    SequenceRate,
+    bool,
+    u32,
+    &'static [u8],
+    Result<u32, LineFault>,
+);
+
+#[test]
+fn labels_name_places_from_the_start(rt: HostRuntime) -> Result<(), Fail> {
+    let b3 = Err(LineFault::B3);
+    let table: [Named; 20] = [
+        (SequenceRate::F24, false, 0, b"00:00:00:00", Ok(0)),
+        (SequenceRate::F24, false, 0, b"00:00:01:00", Ok(24)),
+        (SequenceRate::F24, false, 0, b"00:00:00;23", Ok(23)),
+        (SequenceRate::F24, false, 0, b"00:00:00:24", b3),
+        (SequenceRate::F25, false, 0, b"00:00:00:24", Ok(24)),
+        (SequenceRate::F24, false, 0, b"23:59:59:23", Ok(2073599)),
+        (SequenceRate::F24, false, 0, b"24:00:00:00", b3),
+        (SequenceRate::F24, false, 0, b"00:60:00:00", b3),
+        (SequenceRate::F24, false, 0, b"00:00;00:00", b3),
+        (SequenceRate::F24, false, 0, b"0:00:00:00", b3),
+        (SequenceRate::F24, false, 0, b"00:00:00:000", b3),
+        (SequenceRate::F24, false, 24, b"00:00:01:00", Ok(0)),
+        (SequenceRate::F24, false, 24, b"00:00:00:23", b3),
+        (SequenceRate::F24, false, 24, b"24", Ok(24)),
+        (SequenceRate::F24, false, 86400, b"01:00:01:00", Ok(24)),
+        (SequenceRate::F2997, true, 0, b"00:01:00;00", b3),
+        (SequenceRate::F2997, true, 0, b"00:01:00:02", Ok(1800)),
+        (SequenceRate::F2997, true, 0, b"00:10:00;00", Ok(17982)),
+        (SequenceRate::F2997, false, 0, b"00:01:00;00", Ok(1800)),
+        (
+            SequenceRate::F24,
+            false,
+            0,
+            b"4294967296",
+            Err(LineFault::B4),
+        ),
+    ];
+    for (rate, drop, start, word, want) in table {
+        let counting = Counting::new(rate, drop).ok_or("no such counting")?;
+        let mut line = Vec::from_slice(rt.alloc(), b"view 0 0 ")?;
+        line.extend_from_slice(word)?;
+        let want = want.map(|b| Line::Ask(Ask::View { track: 0, a: 0, b }));
+        assert_eq!(rt;
+            read_line(rt.alloc(), line.as_slice(), &counting, start),
+            want
+        );
+    }
+    Ok(())
 }
 
 #[test]
@@ -101,9 +155,9 @@ fn a_line_has_at_most_1024_bytes(rt: HostRuntime) -> Result<(), Fail> {
     while line.len() < 1024 {
         line.push(b' ')?;
     }
-    assert_eq!(rt; read(rt.alloc(), line.as_slice()), Ok(Line::Point));
+    assert_eq!(rt; read(rt.alloc(), line.as_slice()), Some(Ok(Line::Point)));
     line.push(b' ')?;
-    assert_eq!(rt; read(rt.alloc(), line.as_slice()), Err(LineFault::B5));
+    assert_eq!(rt; read(rt.alloc(), line.as_slice()), Some(Err(LineFault::B5)));
     Ok(())
 }
 
@@ -326,7 +380,10 @@ fn written_calls_come_back(rt: HostRuntime) -> Result<(), Fail> {
     for call in calls {
         let call = Call::Overwrite(call);
         let text = call_text(rt.alloc(), &call)?;
-        assert_eq!(rt; read(rt.alloc(), text.as_slice()), Ok(Line::Edit(call)));
+        assert_eq!(rt;
+            read(rt.alloc(), text.as_slice()),
+            Some(Ok(Line::Edit(call)))
+        );
     }
     Ok(())
 }

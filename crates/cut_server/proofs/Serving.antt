@@ -17,12 +17,8 @@ use Rattle.call_text.specs.declared.lines.LineFault.{LineFault}
 use Rattle.cut_server.specs.History.{most_entries, replay, after_entry, answer_in, state_in, RiseAfter, NumbersRise, IsLegal}
 use Rattle.cut_server.specs.Transcript.{Opening, Setting, History, meaning_of, tracks_at, answer_at, sight_at, BearsNone, IsDone, IsRefused, IsFull, IsMemory, IsSeen, IsPoint, IsBad, Row, Rows, Transcript, points_from, sent}
 use Rattle.cut_server.specs.Session.{SessionState, past_line, Commits, Refuses, HasNoRoom, Answers, Step}
+use Rattle.cut_server.specs.Served.{AllBefore, Served}
 use Rattle.cut_server.proofs.Transcripts.{get_last, answer_more, mono_rows, more_rows, points_more, replay_more, tracks_now}
-
--- each entry is of a line before this one
-abbrev pub AllBefore : ℕ → History → Type 0
-AllBefore line [] = Unit {0}
-AllBefore line (e ∷ es) = (e.number < line) × AllBefore line es
 
 before_later : (m n : ℕ) (h : History) → m ≤ n → AllBefore m h → AllBefore n h
 before_later m n [] le b = tt
@@ -43,17 +39,6 @@ rise_after f (g ∷ gs) e less r = (r.0, rise_after f gs e less r.1)
 rise_more : (h : History) (e : Entry Call) → AllBefore e.number h → NumbersRise h → NumbersRise (h ++ e ∷ [])
 rise_more [] e b r = (tt, tt)
 rise_more (f ∷ fs) e b r = (rise_after f fs e b.0 r.0, rise_more fs e b.1 r.1)
-
--- the lines so far have their replies, and the tracks are what the journal comes to
-pub record Served (o : Opening) (s : SessionState) (ls : List InputLine) (rs : List (List ℕ)) (last : ℕ) : Type 0 where
-  pub setting : s.setting ≡ o.setting
-  pub state : replay (applied o.setting.table) o.tracks s.journal ≡ Some s.tracks
-  pub rows : Rows o s.journal 0 1 0 ls rs last (points_from 0 0 s.journal)
-  pub told : last ≤ length s.journal
-  pub line : s.line ≡ 1 + length ls
-  pub before : AllBefore (1 + length ls) s.journal
-  pub rise : NumbersRise s.journal
-  pub within : length s.journal ≤ most_entries
 
 pub served_none : (o : Opening) (s : SessionState) → s.setting ≡ o.setting → s.tracks ≡ o.tracks → s.journal ≡ [] → s.line ≡ 1 → Served o s [] [] 0
 served_none o s t ts j first = record {

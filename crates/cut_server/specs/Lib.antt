@@ -4,3 +4,6 @@ pub mod Session
 pub mod Tracks
 pub mod SessionInside
 pub mod Editing
+pub mod Openings
+pub mod Served
+pub mod Serving

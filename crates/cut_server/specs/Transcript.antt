@@ -17,7 +17,7 @@ use Rattle.call_text.specs.declared.lines.Line.{Line}
 use Rattle.call_text.specs.declared.lines.Line.TheVariants.{Edit, Ask as AskOf, Point}
 use Rattle.call_text.specs.declared.lines.LineFault.{LineFault}
 use Rattle.call_text.specs.declared.lines.LineFault.TheVariants.{B5}
-use Rattle.call_text.specs.declared.counting.Counting.{Counting}
+use Rattle.timecode12.specs.Numbers.{Counted}
 use Rattle.call_text.specs.Labels.{place_by}
 use Rattle.call_text.specs.Reading.{line_of}
 use Rattle.call_text.specs.Replies.{reply_of, fault_of}
@@ -27,7 +27,7 @@ use Rattle.cut_server.specs.History.{answer_in, replay, most_entries}
 -- what stays as it is in a room: its table, how its frames are counted, and the frame at which its record starts
 pub record Setting : Type 0 where
   pub table : Table
-  pub counting : Counting
+  pub counting : Counted
   pub start : ℕ
 
 -- what a room is opened from

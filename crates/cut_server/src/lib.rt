@@ -2,5 +2,7 @@
 #![tactic(auto)]
 
 mod edits;
+mod opening;
 mod reply;
+mod serve;
 mod session;

@@ -7,12 +7,13 @@ ghost use Rattle.cut_server.specs.Tracks.{AreTracksOf};
 
 use crate::edits::{Attempt, put_track, try_edit};
 use crate::reply::Reply;
-use call_text::{Counting, Entry, Line, LineFault, Short, fault_text, read_line, reply_text, seen_text};
+use call_text::{Entry, Line, LineFault, Short, fault_text, read_line, reply_text, seen_text};
 use composables::{Done, EditFault, Memory, Refusal, Track};
 use edit_apply::{Ask, AskRefusal, Call, Editor, Seen, SightFault, track_of};
 use line_words::LineEnd;
 use std::alloc::Global;
 use std::marker::Model;
+use timecode12::Counting;
 
 /// The most entries of a journal.
 pub(crate) const MOST_ENTRIES: usize = 100_000;
@@ -142,8 +143,16 @@ impl Session {
         }
     }
 
+    /// The next line has the next number.
+    pub(crate) fn next_line(&mut self)
+        requires { self.old.line + 1 < 2 ^ 32 }
+        ensures { self.new ≡ past_line self.old }
+    {
+        self.line += 1;
+    }
+
     /// Answers a line, and commits it where it is an edit that applies.
-    fn answer(&mut self, end: LineEnd, text: &[u8]) -> Reply
+    pub(crate) fn answer(&mut self, end: LineEnd, text: &[u8]) -> Reply
         ensures { Replies self.old self.new (meaning_of self.old.setting (line_told end text.now)) result }
     {
         match self.said(end, text) {

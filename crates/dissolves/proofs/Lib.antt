@@ -4,3 +4,5 @@ pub mod LastRun
 pub mod Walk
 pub mod Whole
 pub mod Dissolved
+pub mod Numbers
+pub mod Laid

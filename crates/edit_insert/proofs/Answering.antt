@@ -1,25 +1,23 @@
 -- What is answered is what is meant.
-use Rattle.std.proofs.Common.{◌≡◌, ◌≢◌, ℕ, zero, suc, ◌+◌, ◌<◌, ◌≤◌, ◌^◌, Bool, true, false, cond, ltb, ◌&&◌, eqb, leb, List, [], ◌∷◌, ◌++◌, length, max, All, Option, Some, None, Result, Ok, Err, get_or, refl, sym, ap, ◌∙◌, arith, subst}
+use Rattle.std.proofs.Common.{◌≡◌, ℕ, zero, suc, ◌+◌, ◌<◌, ◌≤◌, ◌^◌, Bool, true, false, cond, ltb, ◌&&◌, eqb, leb, List, [], ◌∷◌, length, All, Option, Some, None, Result, Ok, Err, get_or, refl, sym, ap, ◌∙◌, arith, subst}
 use Rattle.std.proofs.Math.ListN.{set}
 use Rattle.std.proofs.lemmas.Bool.{cond_both, lt-ltb, ltb-false, eqb-false, leb-true, and_parts}
-use Rattle.frame_meaning.specs.declared.cells.What.{What}
-use Rattle.frame_meaning.specs.declared.frames.Side.TheVariants.{Pic}
 use Rattle.composables.specs.declared.calls.Overwrite.{Overwrite}
 use Rattle.composables.specs.declared.items.ItemView.{ItemView}
 use Rattle.composables.specs.declared.media.Table.{Table}
 use Rattle.composables.specs.declared.refusals.Done.{Done}
 use Rattle.composables.specs.declared.refusals.Done.TheVariants.{Item}
 use Rattle.composables.specs.declared.refusals.Refusal.{Refusal}
-use Rattle.composables.specs.declared.refusals.Refusal.TheVariants.{NoMedia, EmptyRange, MediaEnds, TooLong, TooManyItems}
+use Rattle.composables.specs.declared.refusals.Refusal.TheVariants.{EmptyRange, MediaEnds, TooLong, TooManyItems}
 use Rattle.composables.specs.declared.refusals.EditFault.{EditFault}
 use Rattle.composables.specs.declared.refusals.EditFault.TheVariants.{Refused, Memory}
 use Rattle.composables.specs.declared.TheConstants.{MAX_FRAMES, MAX_ITEMS}
 use Rattle.composables.specs.Bounds.{bounds_of}
-use Rattle.composables.specs.Items.{cells_of, items_of}
-use Rattle.composables.specs.Good.{IsGood, AllUnmarked, LiesIn, SideLiesIn}
+use Rattle.composables.specs.Items.{items_of}
+use Rattle.composables.specs.Good.{IsGood, AllUnmarked, LiesIn}
 use Rattle.composables.specs.Joined.{joined, AllFilled, frames_in}
 use Rattle.composables.specs.TrackFacts.{HasSource, IsKept, NumbersBelow}
-use Rattle.composables.specs.TrackState.{TrackState, next_past_all}
+use Rattle.composables.specs.TrackState.{TrackState}
 use Rattle.composables.proofs.Joining.{filled-joined, length-cells_of}
 use Rattle.edit_insert.specs.Answers.{Answers, alone}
 use Rattle.edit_insert.specs.Limits.{within_limits, unless}
@@ -30,7 +28,7 @@ use Rattle.edit_insert.proofs.Plain.{EachPlain, filled_from_plain}
 use Rattle.edit_insert.proofs.Joins.{below-joined, cells-joined, next-joined}
 use Rattle.edit_insert.proofs.Numbers.{below-weaker}
 use Rattle.edit_insert.proofs.Overwritten.{NewFits, IsMeant, overwrite_meant, length-overwritten, next-overwritten, after_split}
-use Rattle.edit_insert.proofs.Standing.{Stands, plain_items, items_stand, kept_stand, good_stand, unmarked_stand, replaced_whole}
+use Rattle.edit_insert.proofs.Standing.{items_stand, kept_stand, good_stand, unmarked_stand, replaced_whole}
 
 -- what is not refused has its source frames
 positive : (n : ℕ) → (n ≡ 0 → ⊥) → 0 < n
@@ -47,9 +45,9 @@ not_refused (Some (low, high)) true from len e =
     cond_both (eqb len 0) (Some EmptyRange) (cond (leb low from && leb (from + len) high) None (Some MediaEnds)) (λ (r : Option Refusal). r ≡ None → (0 < len) × LiesIn (Some (low, high)) from len 0 0)
     (λ z h. absurd cc)
     (λ z. cond_both (leb low from && leb (from + len) high) None (Some MediaEnds) (λ (r : Option Refusal). r ≡ None → (0 < len) × LiesIn (Some (low, high)) from len 0 0)
-      (λ y h. (let both = and_parts (leb low from) (leb (from + len) high) y in
-        (positive len (eqb-false len 0 z), lies low high from len (leb-true low from both.0) (leb-true (from + len) high both.1))))
-      (λ y h. absurd cc))
+    (λ y h. (let both = and_parts (leb low from) (leb (from + len) high) y in
+    (positive len (eqb-false len 0 z), lies low high from len (leb-true low from both.0) (leb-true (from + len) high both.1))))
+    (λ y h. absurd cc))
     e
 
 pub new_fits : (table : Table) (track : ℕ) (c : Overwrite) (fits : Bool) → refusal_in (bounds_of table c.what) fits c.from c.len ≡ None → c.from + c.len ≤ 2 ^ 32 → NewFits table c
@@ -83,8 +81,12 @@ meant table t c m = overwrite_meant table t c m.good m.unmarked m.new
 
 pub next_rises : (table : Table) (t : TrackState) (c : Overwrite) → MayBeDone table t c → (overwritten t c).next_item ≤ t.next_item + 2
 next_rises table t c m =
-    omega (arith, (meant table t c m).next, next-overwritten (items_of t.cells) (length t.cells) c t.next_item m.good.kept.below,
-      split_rises (split_number (front_views c.at (items_of t.cells)) (back_views (c.at + c.len) (items_of t.cells))) t.next_item)
+    omega (
+      arith,
+      (meant table t c m).next,
+      next-overwritten (items_of t.cells) (length t.cells) c t.next_item m.good.kept.below,
+      split_rises (split_number (front_views c.at (items_of t.cells)) (back_views (c.at + c.len) (items_of t.cells))) t.next_item,
+    )
 
 pub short_after : (table : Table) (t : TrackState) (c : Overwrite) → MayBeDone table t c → length (overwritten t c).cells ≤ MAX_FRAMES
 short_after table t c m = omega (arith, length-overwritten t c, m.good.frames, m.short)
@@ -103,8 +105,8 @@ pub replaced_after : (table : Table) (t : TrackState) (c : Overwrite) → MayBeD
 replaced_after table t c m =
     let is = meant table t c m in
     replaced_whole t (length (items_of t.cells)) (joined (views_after t c)) (overwritten t c) refl refl refl
-      (is.cells ∙ sym (cells-joined table t.number (views_after t c) is.stands.plain is.stands.apart))
-      (is.next ∙ sym (next-joined t.next_item (views_after t c)))
+    (is.cells ∙ sym (cells-joined table t.number (views_after t c) is.stands.plain is.stands.apart))
+    (is.next ∙ sym (next-joined t.next_item (views_after t c)))
 
 pub kept_after : (table : Table) (t : TrackState) (c : Overwrite) → MayBeDone table t c → IsKept (overwritten t c)
 kept_after table t c m = kept_stand table (overwritten t c) (views_after t c) (meant table t c m).cells (meant table t c m).stands (omega (arith, short_after table t c m))
@@ -124,11 +126,11 @@ same_pair u n done d e = let pair : ◌≡◌ {A = TrackState × Done} (u, done)
 within : (u : TrackState) (done : Done) (n : TrackState) (d : Done) → within_limits u done ≡ Ok (n, d) → IsWithin u n
 within u done n d e =
     cond_both (ltb MAX_FRAMES (length u.cells)) (Err (TooLong u.number)) (cond (ltb MAX_ITEMS (length (items_of u.cells))) (Err (TooManyItems u.number)) (Ok (u, done)))
-      (λ (r : Result (TrackState × Done) Refusal). r ≡ Ok (n, d) → IsWithin u n)
+    (λ (r : Result (TrackState × Done) Refusal). r ≡ Ok (n, d) → IsWithin u n)
     (λ z h. absurd cc)
     (λ z. cond_both (ltb MAX_ITEMS (length (items_of u.cells))) (Err (TooManyItems u.number)) (Ok (u, done)) (λ (r : Result (TrackState × Done) Refusal). r ≡ Ok (n, d) → IsWithin u n)
-      (λ y h. absurd cc)
-      (λ y h. record { same = same_pair u n done d h; frames = ltb-false MAX_FRAMES (length u.cells) z; items = ltb-false MAX_ITEMS (length (items_of u.cells)) y }))
+    (λ y h. absurd cc)
+    (λ y h. record { same = same_pair u n done d h; frames = ltb-false MAX_FRAMES (length u.cells) z; items = ltb-false MAX_ITEMS (length (items_of u.cells)) y }))
     e
 
 -- what an answer leaves

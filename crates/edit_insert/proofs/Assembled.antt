@@ -1,5 +1,5 @@
 -- A track put together from its parts.
-use Rattle.std.proofs.Common.{◌≡◌, ℕ, zero, suc, ◌+◌, ◌-◌, ◌*◌, ◌<◌, ◌≤◌, Bool, true, false, cond, eqb, List, [], ◌∷◌, ◌++◌, length, map, min, Option, Some, None, refl, sym, ap, ◌∙◌, arith, subst, append_assoc}
+use Rattle.std.proofs.Common.{◌≡◌, ℕ, suc, ◌+◌, ◌-◌, ◌*◌, ◌≤◌, Bool, true, false, cond, eqb, List, [], ◌∷◌, ◌++◌, length, map, min, Option, Some, None, refl, sym, ap, ◌∙◌, arith, append_assoc}
 use Rattle.std.proofs.lemmas.List.{length-append, length-map}
 use Rattle.std.proofs.lemmas.Bool.{cond_both, eqb-true}
 use Rattle.frame_meaning.specs.Cells.{same_number}
@@ -38,8 +38,8 @@ frames_in-pushes xs (y ∷ ys) = omega (arith, frames_in-pushes (push_view xs y)
 pub frames_in-gap : (n : ℕ) → frames_in (gap_views n) ≡ n
 frames_in-gap n =
     cond_both (eqb n 0) [] (gap_view n ∷ []) (λ (vs : List ItemView). frames_in vs ≡ n) (λ e. sym (eqb-true n 0 e)) (λ e. one n) where
-  one : (n : ℕ) → n + 0 ≡ n
-  one n = omega arith
+      one : (n : ℕ) → n + 0 ≡ n
+      one n = omega arith
 
 pub len_stays : (s : Option ℕ) (fresh : ℕ) (v : ItemView) → (renumbered_view s fresh v).len ≡ v.len
 len_stays None fresh v = refl
@@ -79,8 +79,16 @@ few_overwritten vs frames c next =
     let back : List ItemView = back_views (c.at + c.len) vs in
     let gaps : List ItemView = gap_views (c.at - frames) in
     let rest : List ItemView = map (renumbered_view (split_number front back) (next + 1)) back in
-    omega (arith, length-joined (overwritten_views vs frames c next), length-append (front ++ gaps) (new_view next c ∷ rest), length-append front gaps, length-gap (c.at - frames),
-      length-map back (renumbered_view (split_number front back) (next + 1)), length-front c.at vs, length-back (c.at + c.len) vs)
+    omega (
+      arith,
+      length-joined (overwritten_views vs frames c next),
+      length-append (front ++ gaps) (new_view next c ∷ rest),
+      length-append front gaps,
+      length-gap (c.at - frames),
+      length-map back (renumbered_view (split_number front back) (next + 1)),
+      length-front c.at vs,
+      length-back (c.at + c.len) vs,
+    )
 
 -- the steps of the code, one after another
 pub same_parts : (vs : List ItemView) (frames : ℕ) (c : Overwrite) (next : ℕ) (zs bs cs ds back : List ItemView) (gap : ℕ) (new : ItemView) (split : Option ℕ)
@@ -92,9 +100,9 @@ same_parts vs frames c next zs bs cs ds back gap new split t z k g n s b m d =
     let rear : List ItemView = back_views (c.at + c.len) vs in
     let cut : split ≡ split_number front rear = s ∙ (ap (λ fs. split_number fs back) z ∙ ap (split_number front) k) in
     let rest : map (renumbered_view split (next + 1)) back ≡ map (renumbered_view (split_number front rear) (next + 1)) rear =
-        ap (λ (o : Option ℕ). map (renumbered_view o (next + 1)) back) cut ∙ ap (map (renumbered_view (split_number front rear) (next + 1))) k in
+    ap (λ (o : Option ℕ). map (renumbered_view o (next + 1)) back) cut ∙ ap (map (renumbered_view (split_number front rear) (next + 1))) k in
     put_together front (gap_views (c.at - frames)) (map (renumbered_view (split_number front rear) (next + 1)) rear) zs bs cs ds (new_view next c) (tight-front c.at vs t) z
-      (b ∙ ap (λ (i : ℕ). push_views zs (gap_views i)) g) (m ∙ ap (push_view bs) n) (d ∙ ap (push_views cs) rest)
+    (b ∙ ap (λ (i : ℕ). push_views zs (gap_views i)) g) (m ∙ ap (push_view bs) n) (d ∙ ap (push_views cs) rest)
 
 pub pushed_frames : (zs bs gaps : List ItemView) (n : ℕ) → bs ≡ push_views zs gaps → gaps ≡ gap_views n → frames_in bs ≡ frames_in zs + n
 pushed_frames zs bs gaps n b g = ap frames_in (b ∙ ap (push_views zs) g) ∙ omega (arith, frames_in-pushes zs (gap_views n), frames_in-gap n)

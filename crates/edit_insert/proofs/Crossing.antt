@@ -1,7 +1,7 @@
 -- The item that stands on both sides of a cut, by the items and gaps before it and behind it, and by their cells.
-use Rattle.std.proofs.Common.{◌≡◌, ◌≢◌, ℕ, zero, suc, ◌+◌, ◌-◌, ◌<◌, ◌≤◌, Bool, true, false, cond, eqb, leb, ltb, ◌&&◌, List, [], ◌∷◌, ◌++◌, length, min, map, Option, Some, None, IfSome, refl, sym, ap, ◌∙◌, arith, subst, take, drop, get_or, slice_get, option_map, add-one}
+use Rattle.std.proofs.Common.{◌≡◌, ℕ, zero, suc, ◌+◌, ◌-◌, ◌<◌, ◌≤◌, Bool, true, false, cond, eqb, leb, ltb, ◌&&◌, List, [], ◌∷◌, ◌++◌, length, min, map, Option, Some, None, IfSome, refl, sym, ap, ◌∙◌, arith, take, drop, slice_get, option_map}
 use Rattle.std.proofs.lemmas.List.{append-nil, drop_more, take_more, drop_all, length-append}
-use Rattle.std.proofs.lemmas.Bool.{cond_both, eqb-true, eqb-false, leb-true, leb-false, ltb-true, ltb-false}
+use Rattle.std.proofs.lemmas.Bool.{cond_both, leb-false, ltb-true, ltb-false}
 use Rattle.frame_meaning.specs.declared.cells.What.{What}
 use Rattle.frame_meaning.specs.declared.cells.Link.{Link}
 use Rattle.frame_meaning.specs.declared.cells.Cell.{Cell}
@@ -11,10 +11,9 @@ use Rattle.frame_meaning.specs.Render.{cell_at}
 use Rattle.frame_meaning.specs.Splice.{split_item}
 use Rattle.composables.specs.declared.items.ItemView.{ItemView}
 use Rattle.composables.specs.Items.{marked, view_cells, cells_of}
-use Rattle.composables.specs.Good.{AllUnmarked}
 use Rattle.composables.specs.Joined.{AllFilled}
 use Rattle.composables.specs.TrackFacts.{Lacks, Apart, NumbersBelow}
-use Rattle.composables.proofs.Joining.{same-refl, length-view_cells, length-cells_of}
+use Rattle.composables.proofs.Joining.{same-refl, length-view_cells}
 use Rattle.edit_insert.specs.Parts.{front_views, back_views, later_view, number_across, split_number, renumbered_view}
 use Rattle.edit_insert.proofs.Cuts.{front-zero, lacks-back}
 use Rattle.edit_insert.proofs.Numbers.{Foreign, lacks-renumbered, lacks-split}
@@ -62,14 +61,16 @@ foreign-cut x y fresh [] s le a b e = tt
 foreign-cut x y fresh (v ∷ vs) s le a b e =
     let front : ItemView = record v { len = min v.len x } in
     cond_both (eqb x 0) [] (front ∷ front_views (x - v.len) vs)
-      (λ (fs : List ItemView). split_number fs (back_views y (v ∷ vs)) ≡ s → Foreign fs (map (renumbered_view s fresh) (back_views y (v ∷ vs))))
-      (λ z h. tt)
-      (λ z. cond_both (leb v.len y) (back_views (y - v.len) vs) (later_view v y ∷ back_views 0 vs)
-        (λ (bs : List ItemView). split_number (front ∷ front_views (x - v.len) vs) bs ≡ s → Foreign (front ∷ front_views (x - v.len) vs) (map (renumbered_view s fresh) bs))
-        (λ t h. (apart_case s v.item fresh vs (back_views (y - v.len) vs) (λ i. lacks-back i (y - v.len) vs) a.0 b.0,
-          rest_case s fresh front (front_views (x - v.len) vs) (back_views (y - v.len) vs) (foreign-cut (x - v.len) (y - v.len) fresh vs s (less_le x y v.len le) a.1 b.1) h))
-        (λ t h. cut_case s fresh front (later_view v y) (front_views (x - v.len) vs) (back_views 0 vs) (front-zero (x - v.len) vs (less_zero x y v.len le (leb-false v.len y t))) refl b.0 h))
-      e
+    (λ (fs : List ItemView). split_number fs (back_views y (v ∷ vs)) ≡ s → Foreign fs (map (renumbered_view s fresh) (back_views y (v ∷ vs))))
+    (λ z h. tt)
+    (λ z. cond_both (leb v.len y) (back_views (y - v.len) vs) (later_view v y ∷ back_views 0 vs)
+    (λ (bs : List ItemView). split_number (front ∷ front_views (x - v.len) vs) bs ≡ s → Foreign (front ∷ front_views (x - v.len) vs) (map (renumbered_view s fresh) bs))
+    (λ t h. (
+      apart_case s v.item fresh vs (back_views (y - v.len) vs) (λ i. lacks-back i (y - v.len) vs) a.0 b.0,
+      rest_case s fresh front (front_views (x - v.len) vs) (back_views (y - v.len) vs) (foreign-cut (x - v.len) (y - v.len) fresh vs s (less_le x y v.len le) a.1 b.1) h,
+    ))
+    (λ t h. cut_case s fresh front (later_view v y) (front_views (x - v.len) vs) (back_views 0 vs) (front-zero (x - v.len) vs (less_zero x y v.len le (leb-false v.len y t))) refl b.0 h))
+    e
 
 -- the number of the first cell, and of the last
 abbrev pub first_item : List Cell → Option (Option ℕ)
@@ -170,12 +171,15 @@ pub split-item : (cs : List Cell) (x y : ℕ) → x ≤ y → split_item cs x y 
 split-item cs x y le = by_end (ltb y (length cs)) refl where
   body : Bool → Bool → Option ℕ
   body s t = cond ((s && t) && same_number (cell_at cs (x - 1)).item (cell_at cs y).item) (cell_at cs y).item None
+
   no_end : (s : Bool) → body s false ≡ None
   no_end true = refl
   no_end false = refl
+
   by_start : (s : Bool) → ltb 0 x ≡ s → y < length cs → body s true ≡ across (last_item (take x cs)) (Some (cell_at cs y).item)
   by_start true e lt = sym (ap (λ o. across o (Some (cell_at cs y).item)) (last_before cs x (ltb-true 0 x e) (omega (arith, lt, le))))
   by_start false e lt = let none : x ≡ 0 = omega (arith, ltb-false 0 x e) in sym (ap (λ (k : ℕ). across (last_item (take k cs)) (Some (cell_at cs y).item)) none)
+
   by_end : (t : Bool) → ltb y (length cs) ≡ t → body (ltb 0 x) t ≡ across (last_item (take x cs)) (first_item (drop y cs))
   by_end true e =
       let lt = ltb-true y (length cs) e in

@@ -1,18 +1,17 @@
 -- The items and gaps of the first frames of a track, and those of all but the first.
-use Rattle.std.proofs.Common.{◌≡◌, ◌≢◌, ℕ, zero, suc, ◌+◌, ◌-◌, ◌<◌, ◌≤◌, Bool, true, false, cond, eqb, leb, List, [], ◌∷◌, ◌++◌, length, min, max, map, Option, Some, None, IfSome, refl, sym, ap, ◌∙◌, arith, subst, take, drop}
-use Rattle.std.proofs.lemmas.List.{append-nil, drop_all}
+use Rattle.std.proofs.Common.{◌≡◌, ℕ, zero, suc, ◌+◌, ◌-◌, ◌<◌, ◌≤◌, eqb, leb, List, [], ◌∷◌, ◌++◌, length, min, Option, Some, None, refl, sym, ap, ◌∙◌, arith, take, drop}
+use Rattle.std.proofs.lemmas.List.{drop_all}
 use Rattle.std.proofs.lemmas.Bool.{cond_both, eqb-true, eqb-false, leb-true, leb-false}
 use Rattle.frame_meaning.specs.declared.cells.What.{What}
 use Rattle.frame_meaning.specs.declared.cells.Link.{Link}
 use Rattle.frame_meaning.specs.declared.frames.Side.{Side}
 use Rattle.frame_meaning.specs.declared.frames.Side.TheVariants.{Dark, Pic}
-use Rattle.frame_meaning.specs.Cells.{later_side, span}
+use Rattle.frame_meaning.specs.Cells.{later_side}
 use Rattle.composables.specs.declared.items.ItemView.{ItemView}
 use Rattle.composables.specs.declared.media.Table.{Table}
 use Rattle.composables.specs.Items.{view_cells, cells_of}
 use Rattle.composables.specs.Bounds.{bounds_of}
 use Rattle.composables.specs.Good.{LiesIn, SideLiesIn, AllUnmarked}
-use Rattle.composables.specs.Joined.{AllFilled, frames_in}
 use Rattle.composables.specs.TrackFacts.{ShowsAsItem, HasSource, Lacks, Apart, NumbersBelow}
 use Rattle.composables.proofs.Joining.{length-view_cells}
 use Rattle.edit_insert.specs.Parts.{front_views, back_views, later_view}
@@ -41,8 +40,8 @@ cells-front n (v ∷ vs) u =
     cond_both (eqb n 0) [] (record v { len = min v.len n } ∷ front_views (n - v.len) vs) (λ (fs : List ItemView). cells_of fs ≡ take n (view_cells v ++ cells_of vs))
     (λ e. sym (ap (λ (k : ℕ). take k (view_cells v ++ cells_of vs)) (eqb-true n 0 e)))
     (λ e. ap (λ cs. cs ++ cells_of (front_views (n - v.len) vs)) (shorter_cells v n u.0)
-      ∙ (ap (λ cs. take n (view_cells v) ++ cs) (cells-front (n - v.len) vs u.1 ∙ ap (λ (k : ℕ). take k (cells_of vs)) past)
-      ∙ sym (take_through n (view_cells v) (cells_of vs))))
+    ∙ (ap (λ cs. take n (view_cells v) ++ cs) (cells-front (n - v.len) vs u.1 ∙ ap (λ (k : ℕ). take k (cells_of vs)) past)
+    ∙ sym (take_through n (view_cells v) (cells_of vs))))
 
 later_cells : (v : ItemView) (n : ℕ) → v.mark ≡ None → n ≤ v.len → view_cells (later_view v n) ≡ drop n (view_cells v)
 later_cells v n e h =
@@ -58,18 +57,18 @@ cells-back (suc n) [] u = refl
 cells-back n (v ∷ vs) u =
     cond_both (leb v.len n) (back_views (n - v.len) vs) (later_view v n ∷ back_views 0 vs) (λ (bs : List ItemView). cells_of bs ≡ drop n (view_cells v ++ cells_of vs))
     (λ e.
-      let le = leb-true v.len n e in
-      let whole : length (view_cells v) ≤ n = omega (arith, length-view_cells v, le) in
-      let past : n - v.len ≡ n - length (view_cells v) = omega (arith, length-view_cells v) in
-      cells-back (n - v.len) vs u.1
-      ∙ (ap (λ (k : ℕ). drop k (cells_of vs)) past
-      ∙ sym (drop_through n (view_cells v) (cells_of vs) ∙ ap (λ cs. cs ++ drop (n - length (view_cells v)) (cells_of vs)) (drop_all n (view_cells v) whole))))
+    let le = leb-true v.len n e in
+    let whole : length (view_cells v) ≤ n = omega (arith, length-view_cells v, le) in
+    let past : n - v.len ≡ n - length (view_cells v) = omega (arith, length-view_cells v) in
+    cells-back (n - v.len) vs u.1
+    ∙ (ap (λ (k : ℕ). drop k (cells_of vs)) past
+    ∙ sym (drop_through n (view_cells v) (cells_of vs) ∙ ap (λ cs. cs ++ drop (n - length (view_cells v)) (cells_of vs)) (drop_all n (view_cells v) whole))))
     (λ e.
-      let lt = leb-false v.len n e in
-      let past : n - length (view_cells v) ≡ 0 = omega (arith, length-view_cells v, lt) in
-      ap (λ cs. cs ++ cells_of (back_views 0 vs)) (later_cells v n u.0 (le_of_lt n v.len lt))
-      ∙ (ap (λ cs. drop n (view_cells v) ++ cs) (cells-back 0 vs u.1)
-      ∙ sym (drop_through n (view_cells v) (cells_of vs) ∙ ap (λ (k : ℕ). drop n (view_cells v) ++ drop k (cells_of vs)) past)))
+    let lt = leb-false v.len n e in
+    let past : n - length (view_cells v) ≡ 0 = omega (arith, length-view_cells v, lt) in
+    ap (λ cs. cs ++ cells_of (back_views 0 vs)) (later_cells v n u.0 (le_of_lt n v.len lt))
+    ∙ (ap (λ cs. drop n (view_cells v) ++ cs) (cells-back 0 vs u.1)
+    ∙ sym (drop_through n (view_cells v) (cells_of vs) ∙ ap (λ (k : ℕ). drop n (view_cells v) ++ drop k (cells_of vs)) past)))
 
 -- they are plain
 source_front : (s : Side What) (len n : ℕ) → HasSource s len 0 0 → HasSource s (min len n) 0 0

@@ -1,8 +1,7 @@
 -- Items and gaps without dissolves, of which no two have one number, joined: only gaps become one, and nothing of
 -- what they are changes.
-use Rattle.std.proofs.Common.{◌≡◌, ◌≢◌, ℕ, ◌+◌, ◌<◌, ◌≤◌, Bool, true, false, cond, List, [], ◌∷◌, ◌++◌, length, max, Option, Some, None, IfSome, refl, sym, ap, ◌∙◌, arith, subst, append_assoc}
+use Rattle.std.proofs.Common.{◌≡◌, ◌≢◌, ℕ, ◌+◌, ◌<◌, Bool, true, false, cond, List, [], ◌∷◌, ◌++◌, Option, Some, None, IfSome, refl, sym, ap, ◌∙◌, arith, append_assoc}
 use Rattle.frame_meaning.specs.declared.cells.What.{What}
-use Rattle.frame_meaning.specs.declared.cells.Mark.{Mark}
 use Rattle.frame_meaning.specs.declared.cells.Link.{Link}
 use Rattle.frame_meaning.specs.declared.frames.Side.{Side}
 use Rattle.frame_meaning.specs.declared.frames.Side.TheVariants.{Dark, Pic}
@@ -11,9 +10,8 @@ use Rattle.composables.specs.declared.items.ItemView.{ItemView}
 use Rattle.composables.specs.declared.media.Table.{Table}
 use Rattle.composables.specs.Items.{view_cells, cells_of}
 use Rattle.composables.specs.Joined.{with_view, joined}
-use Rattle.composables.specs.TrackFacts.{ShowsAsItem, HasSource, Lacks, Apart, NumbersBelow}
+use Rattle.composables.specs.TrackFacts.{ShowsAsItem, Lacks, Apart, NumbersBelow}
 use Rattle.composables.specs.TrackState.{next_past, next_past_all}
-use Rattle.composables.specs.Good.{SideLiesIn}
 use Rattle.composables.proofs.Joining.{same-is}
 use Rattle.edit_insert.proofs.Spans.{unmarked_cells, dark_more}
 use Rattle.edit_insert.proofs.Plain.{IsPlain, EachPlain}
@@ -88,9 +86,9 @@ cells-with_view table number r (v ∷ vs) p q a = by_test (same_number r.item v.
       let same = same-is r.item v.item e in
       let none = never_some r.item v vs a (sym same) in
       ap (λ cs. cs ++ cells_of vs) (gap_cells table number (record r { len = r.len + v.len }) (longer_gap table number r v.len p none) none
-        ∙ (dark_more r.len v.len
-        ∙ (ap (λ cs. cs ++ span None Dark None v.len) (sym (gap_cells table number r p none))
-        ∙ ap (λ cs. view_cells r ++ cs) (sym (gap_cells table number v q.0 (sym same ∙ none))))))
+      ∙ (dark_more r.len v.len
+      ∙ (ap (λ cs. cs ++ span None Dark None v.len) (sym (gap_cells table number r p none))
+      ∙ ap (λ cs. view_cells r ++ cs) (sym (gap_cells table number v q.0 (sym same ∙ none))))))
       ∙ append_assoc (view_cells r) (view_cells v) (cells_of vs)
   by_test false e = refl
 

@@ -9,3 +9,4 @@ pub mod Standing
 pub mod Overwritten
 pub mod Assembled
 pub mod Answering
+pub mod Pushing

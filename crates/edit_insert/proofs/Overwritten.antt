@@ -1,5 +1,5 @@
 -- The items and gaps after an overwrite are those of the cells that it means.
-use Rattle.std.proofs.Common.{◌≡◌, ◌≢◌, ℕ, zero, suc, ◌+◌, ◌-◌, ◌<◌, ◌≤◌, ◌^◌, Bool, true, false, cond, eqb, List, [], ◌∷◌, ◌++◌, length, map, min, max, Option, Some, None, IfSome, refl, sym, ap, ◌∙◌, arith, subst, take, drop, append_assoc, slice_get, ⊎_elim}
+use Rattle.std.proofs.Common.{◌≡◌, ◌≢◌, ℕ, zero, suc, ◌+◌, ◌-◌, ◌<◌, ◌≤◌, ◌^◌, Bool, true, cond, eqb, List, [], ◌∷◌, ◌++◌, length, map, min, max, Option, Some, None, IfSome, refl, sym, ap, ◌∙◌, arith, subst, take, drop, append_assoc, slice_get, ⊎_elim}
 use Rattle.std.proofs.lemmas.List.{append-nil, drop_all, length-append, length-take, length-drop, length-map}
 use Rattle.std.proofs.lemmas.Bool.{cond_both, cases_lt, eqb-true, eqb-false}
 use Rattle.frame_meaning.specs.declared.cells.What.{What}
@@ -14,17 +14,16 @@ use Rattle.composables.specs.declared.items.ItemView.{ItemView}
 use Rattle.composables.specs.declared.media.Table.{Table}
 use Rattle.composables.specs.Items.{view_cells, cells_of, items_of}
 use Rattle.composables.specs.Good.{IsGood, AllUnmarked, SideLiesIn}
-use Rattle.composables.specs.Joined.{AllFilled, IsTight, joined, with_view, push_view, push_views, frames_in}
-use Rattle.composables.specs.TrackFacts.{ShowsAsItem, HasSource, Lacks, Apart, NumbersBelow}
+use Rattle.composables.specs.Joined.{AllFilled}
+use Rattle.composables.specs.TrackFacts.{ShowsAsItem, Lacks, Apart, NumbersBelow}
 use Rattle.composables.specs.TrackState.{TrackState, next_past, next_past_all}
-use Rattle.composables.proofs.Joining.{same-is, same-refl, cells_of-append, length-cells_of, joined-tight, push-joined, pushes-joined}
-use Rattle.composables.proofs.Frames.{frames_in-append, frames_in-push}
+use Rattle.composables.proofs.Joining.{same-is, same-refl, cells_of-append}
 use Rattle.edit_insert.specs.Overwriting.{padded, new_cells, end_of, overwritten}
 use Rattle.edit_insert.specs.Parts.{front_views, back_views, gap_view, gap_views, new_view, number_across, split_number, renumbered_view, overwritten_views}
-use Rattle.edit_insert.proofs.Spans.{take_through, drop_through, length-span, unmarked_cells}
+use Rattle.edit_insert.proofs.Spans.{take_through, length-span, unmarked_cells}
 use Rattle.edit_insert.proofs.Plain.{IsPlain, EachPlain, plain-append, filled_from_plain, unmarked_from_plain}
 use Rattle.edit_insert.proofs.Cuts.{pos_of, cells-front, cells-back, plain-front, plain-back, apart-front, apart-back, below-front, below-back}
-use Rattle.edit_insert.proofs.Numbers.{Foreign, lacks-append, apart-append, foreign-append, foreign-more, lacks-below, below-weaker, below-append, below_next, next-append, next-below, lacks-renumbered, apart-renumbered, below-renumbered, below-unsplit}
+use Rattle.edit_insert.proofs.Numbers.{Foreign, apart-append, foreign-append, foreign-more, lacks-below, below-weaker, below-append, below_next, next-append, next-below, lacks-renumbered, apart-renumbered, below-renumbered, below-unsplit}
 use Rattle.edit_insert.proofs.Standing.{Stands, plain_items}
 use Rattle.edit_insert.proofs.Crossing.{foreign-cut, across, across_none, first_item, last_item, split-by_cells, split-item}
 use Rattle.edit_insert.proofs.Unmarked.{NoMarks, unmarked-span, unmarked-append, unmarked-take, unmarked-drop, unmarked-cells_of, before-unmarked, behind-unmarked, cells-renumbered}
@@ -45,6 +44,7 @@ drop-padded cs c = ⊎_elim (within) (past) (cases_lt (c.at + c.len) (length cs)
       ap (λ (k : ℕ). drop k (padded cs c.at)) at
       ∙ (ap (λ (k : ℕ). drop (c.at + c.len) (cs ++ dark_span k)) none
       ∙ ap (drop (c.at + c.len)) (append-nil cs))
+
   past : length cs ≤ c.at + c.len → drop (end_of (padded cs c.at) c) (padded cs c.at) ≡ drop (c.at + c.len) cs
   past le =
       let all : length (padded cs c.at) ≤ end_of (padded cs c.at) c = omega (arith, le, length-padded cs c.at) in
@@ -67,15 +67,15 @@ split-padded cs vs c whole u f g =
     split-item (padded cs c.at) c.at (end_of (padded cs c.at) c) ordered
     ∙ (ap (λ ds. across (last_item (take c.at (padded cs c.at))) (first_item ds)) (drop-padded cs c)
     ∙ (⊎_elim
-      (λ (lt : c.at + c.len < length cs).
-        let none : c.at - length cs ≡ 0 = omega (arith, lt) in
-        ap (λ ds. across (last_item ds) (first_item (drop (c.at + c.len) cs))) (take-padded cs c.at ∙ (ap (λ (k : ℕ). take c.at cs ++ dark_span k) none ∙ append-nil (take c.at cs))))
-      (λ (le : length cs ≤ c.at + c.len).
-        let none = drop_all (c.at + c.len) cs le in
-        ap (λ ds. across (last_item (take c.at (padded cs c.at))) (first_item ds)) none
-        ∙ (across_none (last_item (take c.at (padded cs c.at)))
-        ∙ sym (ap (λ ds. across (last_item (take c.at cs)) (first_item ds)) none ∙ across_none (last_item (take c.at cs)))))
-      (cases_lt (c.at + c.len) (length cs))
+    (λ (lt : c.at + c.len < length cs).
+    let none : c.at - length cs ≡ 0 = omega (arith, lt) in
+    ap (λ ds. across (last_item ds) (first_item (drop (c.at + c.len) cs))) (take-padded cs c.at ∙ (ap (λ (k : ℕ). take c.at cs ++ dark_span k) none ∙ append-nil (take c.at cs))))
+    (λ (le : length cs ≤ c.at + c.len).
+    let none = drop_all (c.at + c.len) cs le in
+    ap (λ ds. across (last_item (take c.at (padded cs c.at))) (first_item ds)) none
+    ∙ (across_none (last_item (take c.at (padded cs c.at)))
+    ∙ sym (ap (λ ds. across (last_item (take c.at cs)) (first_item ds)) none ∙ across_none (last_item (take c.at cs)))))
+    (cases_lt (c.at + c.len) (length cs))
     ∙ sym (split-by_cells (front_views c.at vs) (back_views (c.at + c.len) vs) f g ∙ (ap (λ o. across o (first_item (cells_of (back_views (c.at + c.len) vs)))) before ∙ ap (across (last_item (take c.at cs))) behind))))
 
 -- the cells of a gap, if there is one
@@ -95,20 +95,20 @@ cells-overwritten t vs c whole u f g ub =
     let back : List ItemView = back_views (c.at + c.len) vs in
     let split : Option ℕ = split_number front back in
     let marks : NoMarks (padded t.cells c.at) =
-        (let P : List Cell → Type 0 = λ cs. NoMarks cs in unmarked-append t.cells (dark_span n) (subst P whole (unmarked-cells_of vs u)) (unmarked-span None Dark None n)) in
+    (let P : List Cell → Type 0 = λ cs. NoMarks cs in unmarked-append t.cells (dark_span n) (subst P whole (unmarked-cells_of vs u)) (unmarked-span None Dark None n)) in
     let first : before_splice c.at (take c.at (padded t.cells c.at)) ≡ cells_of front ++ dark_span n =
-        before-unmarked c.at (take c.at (padded t.cells c.at)) (unmarked-take c.at (padded t.cells c.at) marks)
-        ∙ (take-padded t.cells c.at ∙ ap (λ ds. ds ++ dark_span n) (sym (cells-front c.at vs u ∙ ap (take c.at) whole))) in
+    before-unmarked c.at (take c.at (padded t.cells c.at)) (unmarked-take c.at (padded t.cells c.at) marks)
+    ∙ (take-padded t.cells c.at ∙ ap (λ ds. ds ++ dark_span n) (sym (cells-front c.at vs u ∙ ap (take c.at) whole))) in
     let last : map (renumbered (split_item (padded t.cells c.at) c.at (end_of (padded t.cells c.at) c)) fresh) (behind_splice 0 (drop (end_of (padded t.cells c.at) c) (padded t.cells c.at))) ≡ cells_of (map (renumbered_view split fresh) back) =
-        ap (λ (o : Option ℕ). map (renumbered o fresh) (behind_splice 0 (drop (end_of (padded t.cells c.at) c) (padded t.cells c.at)))) (split-padded t.cells vs c whole u f g)
-        ∙ (ap (map (renumbered split fresh)) (behind-unmarked 0 (drop (end_of (padded t.cells c.at) c) (padded t.cells c.at)) (unmarked-drop (end_of (padded t.cells c.at) c) (padded t.cells c.at) marks)
-          ∙ (drop-padded t.cells c ∙ sym (cells-back (c.at + c.len) vs u ∙ ap (drop (c.at + c.len)) whole)))
-        ∙ sym (cells-renumbered split fresh back ub)) in
+    ap (λ (o : Option ℕ). map (renumbered o fresh) (behind_splice 0 (drop (end_of (padded t.cells c.at) c) (padded t.cells c.at)))) (split-padded t.cells vs c whole u f g)
+    ∙ (ap (map (renumbered split fresh)) (behind-unmarked 0 (drop (end_of (padded t.cells c.at) c) (padded t.cells c.at)) (unmarked-drop (end_of (padded t.cells c.at) c) (padded t.cells c.at) marks)
+    ∙ (drop-padded t.cells c ∙ sym (cells-back (c.at + c.len) vs u ∙ ap (drop (c.at + c.len)) whole)))
+    ∙ sym (cells-renumbered split fresh back ub)) in
     let rest : List ItemView = new_view t.next_item c ∷ map (renumbered_view split fresh) back in
     let parts : cells_of ((front ++ gap_views n) ++ rest) ≡ (cells_of front ++ dark_span n) ++ (new_cells t c ++ cells_of (map (renumbered_view split fresh) back)) =
-        cells_of-append (front ++ gap_views n) rest
-        ∙ (ap (λ ds. ds ++ cells_of rest) (cells_of-append front (gap_views n) ∙ ap (λ ds. cells_of front ++ ds) (cells-gap n))
-        ∙ ap (λ ds. (cells_of front ++ dark_span n) ++ (ds ++ cells_of (map (renumbered_view split fresh) back))) (unmarked_cells (new_view t.next_item c) refl)) in
+    cells_of-append (front ++ gap_views n) rest
+    ∙ (ap (λ ds. ds ++ cells_of rest) (cells_of-append front (gap_views n) ∙ ap (λ ds. cells_of front ++ ds) (cells-gap n))
+    ∙ ap (λ ds. (cells_of front ++ dark_span n) ++ (ds ++ cells_of (map (renumbered_view split fresh) back))) (unmarked_cells (new_view t.next_item c) refl)) in
     ap (λ ds. (ds ++ new_cells t c) ++ map (renumbered (split_item (padded t.cells c.at) c.at (end_of (padded t.cells c.at) c)) fresh) (behind_splice 0 (drop (end_of (padded t.cells c.at) c) (padded t.cells c.at)))) first
     ∙ (ap (λ ds. ((cells_of front ++ dark_span n) ++ new_cells t c) ++ ds) last
     ∙ (append_assoc (cells_of front ++ dark_span n) (new_cells t c) (cells_of (map (renumbered_view split fresh) back))
@@ -200,13 +200,14 @@ apart-overwritten vs frames c next a b =
     let rest : List ItemView = map (renumbered_view split (next + 1)) back in
     let below = below-back next (c.at + c.len) vs b in
     apart-append (front ++ gaps) (new_view next c ∷ rest)
-      (apart-append front gaps (apart-front c.at vs a) (apart-gap (c.at - frames)) (foreign-to_gap front (c.at - frames)))
-      (lacks-renumbered split (next + 1) next back (lacks-below next next back below (le_self next)) (not_next next),
-        apart-renumbered split (next + 1) back (apart-back (c.at + c.len) vs a) (below-weaker next (next + 1) back (le_more next) below))
-      (foreign-append front gaps (new_view next c ∷ rest)
-        (foreign-more front (new_view next c) rest next refl (below-front next c.at vs b)
-          (foreign-cut c.at (c.at + c.len) (next + 1) vs split (at_le c.at c.len) a (below-weaker next (next + 1) vs (le_more next) b) refl))
-        (foreign-of_gap (c.at - frames) (new_view next c ∷ rest)))
+    (apart-append front gaps (apart-front c.at vs a) (apart-gap (c.at - frames)) (foreign-to_gap front (c.at - frames))) (
+      lacks-renumbered split (next + 1) next back (lacks-below next next back below (le_self next)) (not_next next),
+      apart-renumbered split (next + 1) back (apart-back (c.at + c.len) vs a) (below-weaker next (next + 1) back (le_more next) below),
+    )
+    (foreign-append front gaps (new_view next c ∷ rest)
+    (foreign-more front (new_view next c) rest next refl (below-front next c.at vs b)
+    (foreign-cut c.at (c.at + c.len) (next + 1) vs split (at_le c.at c.len) a (below-weaker next (next + 1) vs (le_more next) b) refl))
+    (foreign-of_gap (c.at - frames) (new_view next c ∷ rest)))
 
 -- what stands on the track
 plain-gap : (table : Table) (number n : ℕ) → EachPlain table number (gap_views n)
@@ -246,8 +247,8 @@ plain-overwritten table number vs frames c next n p =
     let gaps : List ItemView = gap_views (c.at - frames) in
     let split : Option ℕ = split_number front back in
     plain-append table number (front ++ gaps) (new_view next c ∷ map (renumbered_view split (next + 1)) back)
-      (plain-append table number front gaps (plain-front table number c.at vs p) (plain-gap table number (c.at - frames)))
-      (new_plain table number next c n, plain-renumbered table number split (next + 1) back (plain-back table number (c.at + c.len) vs p))
+    (plain-append table number front gaps (plain-front table number c.at vs p) (plain-gap table number (c.at - frames)))
+    (new_plain table number next c n, plain-renumbered table number split (next + 1) back (plain-back table number (c.at + c.len) vs p))
 
 -- all of it
 pub record IsMeant (table : Table) (t u : TrackState) (ws : List ItemView) : Type 0 where
@@ -267,7 +268,7 @@ overwrite_meant table t c g u n =
     let back_filled = filled_from_plain table t.number (back_views (c.at + c.len) vs) back in
     let split = split-padded t.cells vs c g.kept.whole u front_filled back_filled in
     let next : (overwritten t c).next_item ≡ next_past_all t.next_item ws =
-        next-splice (padded t.cells c.at) c.at (end_of (padded t.cells c.at) c) (t.next_item + 1) _ split ∙ sym (next-overwritten vs (length t.cells) c t.next_item g.kept.below) in
+    next-splice (padded t.cells c.at) c.at (end_of (padded t.cells c.at) c) (t.next_item + 1) _ split ∙ sym (next-overwritten vs (length t.cells) c t.next_item g.kept.below) in
     let B : ℕ → Type 0 = λ k. NumbersBelow k ws in
     record {
       cells = cells-overwritten t vs c g.kept.whole u front_filled back_filled (unmarked_from_plain table t.number (back_views (c.at + c.len) vs) back);

@@ -1,13 +1,12 @@
 -- Items and gaps without a dissolve that may stand on a track.
-use Rattle.std.proofs.Common.{◌≡◌, ℕ, ◌+◌, ◌<◌, ◌≤◌, ◌^◌, List, [], ◌∷◌, ◌++◌, length, Option, Some, None, refl, sym, ap, ◌∙◌, arith, subst}
+use Rattle.std.proofs.Common.{◌≡◌, ℕ, ◌<◌, List, [], ◌∷◌, ◌++◌, Option, None, refl, ap, arith, subst}
 use Rattle.frame_meaning.specs.declared.cells.What.{What}
 use Rattle.frame_meaning.specs.declared.cells.Mark.{Mark}
 use Rattle.frame_meaning.specs.declared.frames.Side.{Side}
 use Rattle.composables.specs.declared.items.ItemView.{ItemView}
 use Rattle.composables.specs.declared.media.Table.{Table}
-use Rattle.composables.specs.TrackFacts.{ShowsAsItem, HasSource, Holds, EachHolds, IsFilled, IsNoNest, first_mark, left_reach, right_reach}
-use Rattle.composables.specs.Good.{LiesIn, SideLiesIn, EachLiesIn, IsLinkOf, EachLinkOf, AllUnmarked}
-use Rattle.composables.specs.Bounds.{bounds_of}
+use Rattle.composables.specs.TrackFacts.{ShowsAsItem, HasSource, Holds, EachHolds, first_mark, left_reach, right_reach}
+use Rattle.composables.specs.Good.{SideLiesIn, EachLiesIn, IsLinkOf, EachLinkOf, AllUnmarked}
 use Rattle.composables.specs.Joined.{AllFilled}
 
 pub record IsPlain (table : Table) (number : ℕ) (v : ItemView) : Type 0 where
@@ -41,15 +40,17 @@ range_alone table s len m n e f h =
 -- what stands on a good track without dissolves
 pub each_plain : (table : Table) (number : ℕ) (vs : List ItemView) → EachHolds vs → AllUnmarked vs → EachLiesIn table vs → EachLinkOf number vs → EachPlain table number vs
 each_plain table number [] h u r l = tt
-each_plain table number (v ∷ vs) h u r l =
-    (record {
-      filled = h.0.filled;
-      shows = h.0.shows;
-      unmarked = u.0;
-      source = source_alone v.first v.len v.mark (first_mark vs) u.0 (first_unmarked vs u.1) h.0.source;
-      range = range_alone table v.first v.len v.mark (first_mark vs) u.0 (first_unmarked vs u.1) r.0;
-      own = l.0;
-    }, each_plain table number vs h.1 u.1 r.1 l.1)
+each_plain table number (v ∷ vs) h u r l = (
+  record {
+    filled = h.0.filled;
+    shows = h.0.shows;
+    unmarked = u.0;
+    source = source_alone v.first v.len v.mark (first_mark vs) u.0 (first_unmarked vs u.1) h.0.source;
+    range = range_alone table v.first v.len v.mark (first_mark vs) u.0 (first_unmarked vs u.1) r.0;
+    own = l.0;
+  },
+  each_plain table number vs h.1 u.1 r.1 l.1,
+)
 
 -- and what is plain may stand on a good track
 pub unmarked_from_plain : (table : Table) (number : ℕ) (vs : List ItemView) → EachPlain table number vs → AllUnmarked vs

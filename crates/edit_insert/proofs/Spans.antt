@@ -1,16 +1,13 @@
 -- The cells of items and gaps without a dissolve, and their fronts and backs.
-use Rattle.std.proofs.Common.{◌≡◌, ℕ, zero, suc, ◌+◌, ◌-◌, ◌<◌, ◌≤◌, List, [], ◌∷◌, ◌++◌, length, Option, Some, None, min, refl, sym, ap, ◌∙◌, arith, take, drop, append_assoc}
-use Rattle.std.proofs.lemmas.List.{append-nil, take-append-le, drop-append-le, take_all, drop_all}
-use Rattle.std.proofs.Math.Seq.{take-append-add, drop-append-add}
+use Rattle.std.proofs.Common.{◌≡◌, ℕ, zero, suc, ◌+◌, ◌-◌, ◌≤◌, List, [], ◌∷◌, ◌++◌, length, Option, None, min, refl, sym, ap, ◌∙◌, arith, take, drop}
 use Rattle.frame_meaning.specs.declared.cells.What.{What}
 use Rattle.frame_meaning.specs.declared.cells.Mark.{Mark}
 use Rattle.frame_meaning.specs.declared.cells.Link.{Link}
-use Rattle.frame_meaning.specs.declared.cells.Cell.{Cell}
 use Rattle.frame_meaning.specs.declared.frames.Side.{Side}
 use Rattle.frame_meaning.specs.declared.frames.Side.TheVariants.{Dark, Pic}
 use Rattle.frame_meaning.specs.Cells.{span, next_side, later_side}
 use Rattle.composables.specs.declared.items.ItemView.{ItemView}
-use Rattle.composables.specs.Items.{marked, view_cells, cells_of}
+use Rattle.composables.specs.Items.{marked, view_cells}
 
 -- the first cells of two lists in a row, and all but the first
 pub take_through : {A : Type 0} (n : ℕ) (xs ys : List A) → take n (xs ++ ys) ≡ take n xs ++ take (n - length xs) ys

@@ -1,13 +1,12 @@
 -- A track whose cells are those of items and gaps without dissolves, of which no two have one number, is good within
 -- the limits.
-use Rattle.std.proofs.Common.{◌≡◌, ℕ, ◌+◌, ◌<◌, ◌≤◌, ◌^◌, List, [], ◌∷◌, ◌++◌, length, Option, None, refl, sym, ap, ◌∙◌, arith, subst, take, drop}
+use Rattle.std.proofs.Common.{◌≡◌, ℕ, ◌<◌, ◌≤◌, ◌^◌, List, [], ◌++◌, length, sym, ap, ◌∙◌, arith, subst, drop}
 use Rattle.std.proofs.lemmas.List.{append-nil, drop_all}
-use Rattle.frame_meaning.specs.declared.cells.Cell.{Cell}
 use Rattle.composables.specs.declared.items.ItemView.{ItemView}
 use Rattle.composables.specs.declared.media.Table.{Table}
 use Rattle.composables.specs.declared.TheConstants.{MAX_FRAMES, MAX_ITEMS}
 use Rattle.composables.specs.Items.{cells_of, items_of}
-use Rattle.composables.specs.Joined.{joined, AllFilled, IsTight}
+use Rattle.composables.specs.Joined.{joined, IsTight}
 use Rattle.composables.specs.Good.{IsGood, AllUnmarked, EachLiesIn, EachLinkOf}
 use Rattle.composables.specs.TrackFacts.{IsKept, EachHolds, Apart, NumbersBelow, first_mark}
 use Rattle.composables.specs.TrackState.{TrackState, replaced, next_past_all}

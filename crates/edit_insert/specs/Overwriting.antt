@@ -1,6 +1,6 @@
 -- What an overwrite means. OpenTimelineIO's editAlgorithm, `overwrite`; numbers of items and limits are this
 -- project's own.
-use Rattle.std.specs.Prelude.{ℕ, ◌+◌, ◌-◌, List, [], ◌∷◌, ◌++◌, Option, Some, None, Result, Ok, Err, min, length}
+use Rattle.std.specs.Prelude.{ℕ, ◌+◌, ◌-◌, List, [], ◌∷◌, ◌++◌, Some, None, Result, Err, min, length}
 use Rattle.frame_meaning.specs.declared.cells.Cell.{Cell}
 use Rattle.frame_meaning.specs.declared.frames.Side.TheVariants.{Dark, Pic}
 use Rattle.frame_meaning.specs.Cells.{span}
@@ -31,8 +31,9 @@ end_of cells c = min (c.at + c.len) (length cells)
 -- the track with the new item over the places [at, at + len)
 abbrev pub overwritten : TrackState → Overwrite → TrackState
 overwritten t c = record t {
-    cells = spliced (padded t.cells c.at) c.at (end_of (padded t.cells c.at) c) (new_cells t c) (t.next_item + 1);
-    next_item = next_after_splice (padded t.cells c.at) c.at (end_of (padded t.cells c.at) c) (t.next_item + 1) }
+  cells = spliced (padded t.cells c.at) c.at (end_of (padded t.cells c.at) c) (new_cells t c) (t.next_item + 1);
+  next_item = next_after_splice (padded t.cells c.at) c.at (end_of (padded t.cells c.at) c) (t.next_item + 1);
+}
 
 -- the track after it and the number of the new item, or the first refusal that holds
 abbrev pub overwrite_on : Table → TrackState → Overwrite → Result (TrackState × Done) Refusal

@@ -22,8 +22,8 @@ refusal_in None fits from len = Some NoMedia
 refusal_in (Some (low, high)) fits from len =
     if fits
     then (if nat_eq len 0
-      then Some EmptyRange
-      else (if nat_le low from && nat_le (from + len) high then None else Some MediaEnds))
+    then Some EmptyRange
+    else (if nat_le low from && nat_le (from + len) high then None else Some MediaEnds))
     else Some NoMedia
 
 -- why these source frames of a thing can't be put on the track with this number, if they can't

@@ -11,7 +11,9 @@ ghost use Rattle.edit_insert.specs.Parts.{all_replaced, overwritten_views};
 
 use crate::parts::{all_items, overwritten_items};
 use crate::sources::source_refusal;
-use composables::{Done, EditFault, ItemView, MAX_FRAMES, MAX_ITEMS, Memory, Overwrite, Refusal, Table, Track};
+use composables::{
+    Done, EditFault, ItemView, MAX_FRAMES, MAX_ITEMS, Memory, Overwrite, Refusal, Table, Track,
+};
 use std::alloc::Global;
 use std::sync::ledger::Ledger;
 use step_count::Steps;
@@ -33,7 +35,7 @@ pub fn overwrite<L: Ledger>(
     requires track { All (λ t. t.number ≡ call.now.track) named.old.items }
     requires good { All (λ t. IsGood table.now t) named.old.items }
     requires unmarked { All (λ t. AllUnmarked (items_of t.cells)) named.old.items }
-    requires numbers { All (λ t. t.next_item ≤ 2 ^ 31) named.old.items }
+    requires next { All (λ t. t.next_item ≤ 2 ^ 31) named.old.items }
     requires kinds { call.now.track < length table.now.kinds }
 
     ensures answers { Answers (overwrite_named table.now named.old.items call.now) named.old.items named.new.items result }
@@ -42,7 +44,7 @@ pub fn overwrite<L: Ledger>(
     ensures track { All (λ t. t.number ≡ call.now.track) named.new.items }
     ensures good { All (λ t. IsGood table.now t) named.new.items }
     ensures unmarked { All (λ t. AllUnmarked (items_of t.cells)) named.new.items }
-    ensures numbers { NextRises 2 named.old.items named.new.items }
+    ensures next { NextRises 2 named.old.items named.new.items }
 
     ensures least { steps.old + 1 ≤ steps.new }
     ensures most { steps.new ≤ steps.old + 32 * sum_by (λ t. length (items_of t.cells) + 64) named.old.items }
@@ -60,7 +62,7 @@ fn overwrite_track<L: Ledger>(
 ) -> Result<Done, EditFault>
     requires good { IsGood table.now track.old }
     requires unmarked { AllUnmarked (items_of track.old.cells) }
-    requires numbers { track.old.next_item ≤ 2 ^ 31 }
+    requires next { track.old.next_item ≤ 2 ^ 31 }
 
     ensures answers { Answers (overwrite_on table.now track.old call.now) track.old track.new result }
 
@@ -104,7 +106,14 @@ fn changed_items<L: Ledger>(
     ensures most { steps.new ≤ steps.old + 4 * length (items_of track.now.cells) }
 {
     let items = all_items(alloc, track, steps)?;
-    overwritten_items(alloc, &items, track.length(), call, track.next_item(), steps)
+    overwritten_items(
+        alloc,
+        &items,
+        track.length(),
+        call,
+        track.next_item(),
+        steps,
+    )
 }
 
 // Puts items and gaps in place of all of the track's, unless they are too many.

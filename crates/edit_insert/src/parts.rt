@@ -13,7 +13,11 @@ use std::sync::ledger::Ledger;
 use step_count::Steps;
 
 // The items and gaps of a track.
-pub fn all_items<L: Ledger>(alloc: Global, track: &Track, steps: &mut Steps<L>) -> Result<Vec<ItemView>, Memory>
+pub fn all_items<L: Ledger>(
+    alloc: Global,
+    track: &Track,
+    steps: &mut Steps<L>,
+) -> Result<Vec<ItemView>, Memory>
     ensures items { IfOk result (λ all. all.items ≡ items_of track.now.cells) }
     ensures least { steps.old ≤ steps.new }
     ensures most { steps.new ≤ steps.old + length (items_of track.now.cells) }
@@ -133,7 +137,11 @@ fn split_number(front: &[ItemView], back: &[ItemView]) -> Option<u32>
 {
     let left = front.last().copied()?;
     let right = back.first().copied()?;
-    if is_same(left.item, right.item) { right.item } else { None }
+    if is_same(left.item, right.item) {
+        right.item
+    } else {
+        None
+    }
 }
 
 fn is_same(first: Option<u32>, second: Option<u32>) -> bool

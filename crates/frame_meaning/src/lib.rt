@@ -13,3 +13,6 @@ mod plain;
 pub use cells::{Cell, Link, Mark, What};
 pub use frames::{Frame, Run, Side, goes_on};
 pub use plain::{Memory, rendered, runs_of};
+
+#[cfg(test)]
+mod tests;

@@ -1,4 +1,4 @@
-use Rattle.std.proofs.Common.{◌≡◌, ◌+◌, ◌≤◌, length, ap, sym, ◌∙◌, refl, arith}
+use Rattle.std.proofs.Common.{◌+◌, ◌≤◌, length, ap, refl, arith}
 use Rattle.composables.specs.Items.{items_of}
 use Rattle.composables.specs.declared.TheConstants.{MAX_FRAMES}
 use Rattle.edit_insert.proofs.Answering.{may_be_done, too_long, all_sources, frames_after, filled_after, numbers_after, kept_with, short_with, items_with, answered, on_track, left_after}
@@ -7,9 +7,11 @@ use Rattle.edit_insert.proofs.Standing.{plain_items, tight_items}
 use Rattle.edit_insert.proofs.overwriting.overwrite_track.Goals as goal
 
 pub returns-then-from-clause-answers : goal.returns-then-from-clause-answers
-returns-then-from-clause-answers g c =
-    (too_long c.args.table.now c.args.track.now c.args.call.now c.number.result c.number-then-from.result c.number.ensures c.in-None.ensures.refusal c.number-then-from.ensures
-      (omega (arith, c.if-from.true, c.from.ensures, c.from-2.ensures, c.from-3.ensures)), refl)
+returns-then-from-clause-answers g c = (
+  too_long c.args.table.now c.args.track.now c.args.call.now c.number.result c.number-then-from.result c.number.ensures c.in-None.ensures.refusal c.number-then-from.ensures
+      (omega (arith, c.if-from.true, c.from.ensures, c.from-2.ensures, c.from-3.ensures)),
+  refl,
+)
 
 pub changed_items-requires-clause-tight : goal.changed_items-requires-clause-tight
 changed_items-requires-clause-tight g c = tight_items c.args.table.now c.args.track.now c.requires.good c.requires.unmarked
@@ -22,13 +24,13 @@ changed_items-requires-clause-sources g c =
 pub changed_items-requires-clause-frames : goal.changed_items-requires-clause-frames
 changed_items-requires-clause-frames g c =
     let short : c.args.call.now.at + c.args.call.now.len ≤ MAX_FRAMES = omega (arith, c.if-from.false, c.from.ensures, c.from-2.ensures, c.from-3.ensures) in
-    let may = may_be_done c.args.table.now c.args.track.now c.args.call.now c.number.result c.requires.good c.requires.unmarked c.requires.numbers c.in-None.ensures.refusal c.in-None.ensures.source short in
+    let may = may_be_done c.args.table.now c.args.track.now c.args.call.now c.number.result c.requires.good c.requires.unmarked c.requires.next c.in-None.ensures.refusal c.in-None.ensures.source short in
     frames_after c.args.table.now c.args.track.now c.args.call.now may
 
 pub put_items-requires : goal.put_items-requires
 put_items-requires g c =
     let short : c.args.call.now.at + c.args.call.now.len ≤ MAX_FRAMES = omega (arith, c.if-from.false, c.from.ensures, c.from-2.ensures, c.from-3.ensures) in
-    let may = may_be_done c.args.table.now c.args.track.now c.args.call.now c.number.result c.requires.good c.requires.unmarked c.requires.numbers c.in-None.ensures.refusal c.in-None.ensures.source short in
+    let may = may_be_done c.args.table.now c.args.track.now c.args.call.now c.number.result c.requires.good c.requires.unmarked c.requires.next c.in-None.ensures.refusal c.in-None.ensures.source short in
     let is = c.in-Ok.ensures.items in
     record {
       filled = rw is (filled_after c.args.table.now c.args.track.now c.args.call.now may);
@@ -42,7 +44,7 @@ pub returns-in-Ok : goal.returns-in-Ok
 returns-in-Ok g c =
     let t = c.args.track.now in
     let short : c.args.call.now.at + c.args.call.now.len ≤ MAX_FRAMES = omega (arith, c.if-from.false, c.from.ensures, c.from-2.ensures, c.from-3.ensures) in
-    let may = may_be_done c.args.table.now t c.args.call.now c.number.result c.requires.good c.requires.unmarked c.requires.numbers c.in-None.ensures.refusal c.in-None.ensures.source short in
+    let may = may_be_done c.args.table.now t c.args.call.now c.number.result c.requires.good c.requires.unmarked c.requires.next c.in-None.ensures.refusal c.in-None.ensures.source short in
     let done = answered c.args.table.now t c.args.call.now c.in-Ok.items.items c.next_item-number.result c.put_items.new.track c.put_items.result may c.in-Ok.ensures.items c.next_item-number.ensures c.put_items.ensures.answers in
     let left = left_after c.args.table.now t c.args.call.now c.put_items.new.track c.put_items.result may done in
     record {

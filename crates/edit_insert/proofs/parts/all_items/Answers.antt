@@ -20,8 +20,8 @@ loop-index-preserved g c =
     let vs = items_of c.args.track.now.cells in
     record {
       so_far = elim c.match-item.branch [
-        in-Some+in_ok-push-in-Some w ↦ rw w.all-is (one_more vs c.loop-index.all.items w.push.new.self.items c.loop-index.index w.in-Some.view c.loop-index.invariant.so_far w.in-Some.ensures w.in_ok-push-in-Some.ensures.items)
-      | in-None w ↦ absurd (no_end vs c.loop-index.index (omega (arith, c.loop-index-test.true, c.count-index-end.ensures)) w.in-None.ensures)
+        | in-Some+in_ok-push-in-Some w ↦ rw w.all-is (one_more vs c.loop-index.all.items w.push.new.self.items c.loop-index.index w.in-Some.view c.loop-index.invariant.so_far w.in-Some.ensures w.in_ok-push-in-Some.ensures.items)
+        | in-None w ↦ absurd (no_end vs c.loop-index.index (omega (arith, c.loop-index-test.true, c.count-index-end.ensures)) w.in-None.ensures)
       ];
       least = omega (arith, c.loop-index.invariant.least, c.tick.ensures);
       most = omega (arith, c.loop-index.invariant.most, c.tick.ensures);

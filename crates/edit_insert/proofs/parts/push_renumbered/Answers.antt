@@ -1,4 +1,4 @@
-use Rattle.std.proofs.Common.{◌≡◌, ◌+◌, drop, suc, get_or, map, sym, ap, ◌∙◌, arith, add-one, List, ◌∷◌}
+use Rattle.std.proofs.Common.{◌≡◌, ◌+◌, drop, suc, get_or, map, sym, ap, ◌∙◌, arith, add-one, List}
 use Rattle.std.proofs.lemmas.List.{drop_more}
 use Rattle.composables.specs.declared.items.ItemView.{ItemView}
 use Rattle.composables.specs.Joined.{frames_in, push_views, push_view}
@@ -22,7 +22,7 @@ loop-view-preserved g c =
     let past : drop (i + 1) vs ≡ drop (suc i) vs = rw add-one in
     record {
       same = ap (λ (zs : List ItemView). push_views zs (map (renumbered_view c.args.split c.args.fresh) (drop (i + 1) vs))) pushed
-        ∙ (sym (ap (λ (zs : List ItemView). push_views c.loop-view.into.items (map (renumbered_view c.args.split c.args.fresh) zs)) (drop_more vs i no_view c.loop-view-test.true)) ∙ c.loop-view.invariant.same);
+          ∙ (sym (ap (λ (zs : List ItemView). push_views c.loop-view.into.items (map (renumbered_view c.args.split c.args.fresh) zs)) (drop_more vs i no_view c.loop-view-test.true)) ∙ c.loop-view.invariant.same);
       frames = omega (arith, ap frames_in pushed, ap frames_in past, frames_in-push c.loop-view.into.items (renumbered_view c.args.split c.args.fresh view), len_stays c.args.split c.args.fresh view, frames_in-drop vs i no_view c.loop-view-test.true, c.loop-view.invariant.frames);
       least = omega (arith, c.loop-view.invariant.least, c.tick.ensures);
       most = omega (arith, c.loop-view.invariant.most, c.tick.ensures);

@@ -1,4 +1,4 @@
-use Rattle.std.proofs.Common.{◌+◌, ◌<◌, arith}
+use Rattle.std.proofs.Common.{arith}
 use Rattle.frame_meaning.specs.Going.{same_what}
 use Rattle.frame_meaning.proofs.RunFacts.{first_len-behind}
 use Rattle.frame_meaning.proofs.plain.runs_of.Goals as goal

@@ -1,0 +1,79 @@
+// What the program tells of itself.
+ghost use Rattle.std.specs.Prelude.{◌≡◌, ◌≢◌, ◌↔◌, ◌≤◌, ◌⊎◌, ◌∷◌, [], Some, codes};
+ghost use Rattle.room_ports.specs.Bytes.{Takes, TakesFront};
+ghost use Rattle.room_ports.specs.Counts.{HasRisen};
+ghost use Rattle.cutroom.specs.Notices.{text_of};
+
+use line_words::Words;
+use room_ports::{Failed, Sink, put};
+
+/// How the program is called.
+pub const HELP: &str = "\
+usage: cutroom COMMAND
+
+run TRACKS REELS   one station on an empty cut: lines from standard input; replies, then the journal, to standard output
+--help             this text
+--version          the version
+
+TRACKS is 1 to 16 and REELS is 0 to 999.
+
+Example:
+  printf 'overwrite 0 10 @0 100 5\\nview 0 0 15\\n' | cutroom run 2 1
+";
+
+/// The program and its version.
+pub const VERSION: &str = "cutroom 0.1\n";
+
+/// The status of a program that wrote all that it was to write.
+const WRITTEN: u8 = 0;
+
+/// The status of a program whose output failed.
+const WRITE_FAULT: u8 = 2;
+
+/// A text on the program itself.
+#[derive(Clone, Copy, Debug, PartialEq, Eq)]
+pub enum Notice {
+    Help,
+    Version,
+}
+
+impl Notice {
+    #[tactic(auto, using(crate::proofs::Lone::lone))]
+    /// The notice that a command line asks for by its only word, `--help` or `--version`.
+    pub fn asked_by(words: &Words) -> Option<Notice>
+        ensures help { (result ≡ Some Notice.Help) ↔ (words.now ≡ codes "--help" ∷ []) }
+        ensures version { (result ≡ Some Notice.Version) ↔ (words.now ≡ codes "--version" ∷ []) }
+    {
+        if words.count() != 1 {
+            return None;
+        }
+        match words.word(0) {
+            "--help" => Some(Notice::Help),
+            "--version" => Some(Notice::Version),
+            _ => None,
+        }
+    }
+
+    fn text(self) -> &'static str
+        ensures { result.now ≡ text_of self }
+    {
+        match self {
+            Notice::Help => HELP,
+            Notice::Version => VERSION,
+        }
+    }
+
+    /// Puts the notice on output, and answers the status that the program ends with: 0, or 2 where a write failed.
+    pub fn tell<K: Sink>(self, output: &mut K) -> u8
+        ensures status { (result ≡ 0) ⊎ (result ≡ 2) }
+        ensures told { result ≡ 0 → Takes (K.taken output.old) (K.taken output.new) (text_of self) }
+        ensures front { result ≡ 2 → TakesFront (K.taken output.old) (K.taken output.new) (text_of self) }
+        ensures cause { result ≡ 2 → HasRisen (K.write_faults output.old) (K.write_faults output.new) }
+        ensures count { K.write_faults output.old ≤ K.write_faults output.new }
+    {
+        match put(output, self.text().as_bytes()) {
+            Ok(()) => WRITTEN,
+            Err(Failed) => WRITE_FAULT,
+        }
+    }
+}

@@ -1,0 +1,70 @@
+// What the program tells of itself, and to whom.
+use crate::arguments::words_after_the_name;
+use crate::notice::{HELP, Notice};
+use line_words::{Memory, Words};
+use room_ports::MemSink;
+use std::alloc::Global;
+
+fn words_in(alloc: Global, texts: &[&str]) -> Result<Words, Memory> {
+    let mut words = Words::new(alloc);
+    for text in texts {
+        if words.count() < u32::MAX {
+            words.push(text)?;
+        }
+    }
+    Ok(words)
+}
+
+#[test]
+fn a_lone_word_asks_for_a_notice(rt: HostRuntime) -> Result<(), Memory> {
+    let alloc = rt.alloc();
+    let cases: [(&[&str], Option<Notice>); 9] = [
+        (&["--help"], Some(Notice::Help)),
+        (&["--version"], Some(Notice::Version)),
+        (&[], None),
+        (&[""], None),
+        (&["--Help"], None),
+        (&["--help "], None),
+        (&["--help", "--help"], None),
+        (&["run", "--help"], None),
+        (&["run", "2", "1"], None),
+    ];
+    for (texts, notice) in cases {
+        let words = words_in(alloc, texts)?;
+        assert!(rt; Notice::asked_by(&words) == notice, "{texts:?}");
+    }
+    Ok(())
+}
+
+#[test]
+fn a_notice_is_told_whole_or_is_a_write_fault(rt: HostRuntime) -> Result<(), Memory> {
+    let alloc = rt.alloc();
+    for (notice, text) in [(Notice::Help, HELP), (Notice::Version, "cutroom 0.1\n")] {
+        let mut sink = MemSink::new(alloc, Vec::new(alloc));
+        assert_eq!(rt; notice.tell(&mut sink), 0);
+        assert!(rt; sink.bytes() == Some(text.as_bytes()));
+
+        let mut failing = Vec::new(alloc);
+        failing.push(1)?;
+        let mut broken = MemSink::new(alloc, failing);
+        assert_eq!(rt; notice.tell(&mut broken), 2);
+    }
+    Ok(())
+}
+
+#[test]
+fn the_first_argument_is_no_word(rt: HostRuntime) -> Result<(), Memory> {
+    let alloc = rt.alloc();
+    let mut arguments = Vec::new(alloc);
+    for text in ["/bin/cutroom", "run", "", "cutroom"] {
+        arguments.push(String::from_str(alloc, text)?)?;
+    }
+    let words = words_after_the_name(alloc, arguments.into_iter())?;
+    assert_eq!(rt; words.count(), 3);
+    if words.count() == 3 {
+        assert_eq!(rt; words.word(0), "run");
+        assert_eq!(rt; words.word(1), "");
+        assert_eq!(rt; words.word(2), "cutroom");
+    }
+    Ok(())
+}

@@ -1,0 +1,4 @@
+pub mod Division
+pub mod Moments
+pub mod Numerals
+pub mod Rates

@@ -1,0 +1,20 @@
+//! Exact time, after OpenTimelineIO's `RationalTime`: decimal numbers, rates of so many a second, and
+//! moments that are whole frames of a rate or are not. No float is used and nothing is rounded on the
+//! way: moments are compared by whole numbers multiplied crosswise. The main contracts are those of
+//! [`RationalTime::frames_at`], [`TimeRange::narrowed_at`] and [`rate_of`], each exact in both
+//! directions, and none of these calls takes memory.
+#![tactic(auto)]
+
+mod fraction;
+mod laws;
+mod numeral;
+mod rate;
+mod time;
+
+pub use laws::one_form;
+pub use numeral::Numeral;
+pub use rate::{Rate, rate_of};
+pub use time::{RationalTime, TimeFault, TimeRange, TooFar};
+
+#[cfg(test)]
+mod tests;

@@ -1,0 +1,122 @@
+// Moments and ranges of time, exact at every rate.
+ghost use Rattle.std.specs.Prelude.{◌≡◌, ℤ, ◌≤◌, ◌*◌, ◌^◌, pos, unsigned_abs, OnErr, IfOk, IsErr, ◌↔◌, Ok, Err, Some, None, MatchResult};
+ghost use Rattle.ratio_time.specs.Division.{frames_of, narrowed_of};
+ghost use Rattle.ratio_time.specs.Moments.{over, under, OnFrame, IsRoundedDown, IsRoundedUp, IsNarrowed, IsNear};
+
+use crate::fraction::Fraction;
+use crate::numeral::Numeral;
+use crate::rate::Rate;
+
+/// The moment `value`/`rate` seconds.
+#[derive(Clone, Copy, Debug, PartialEq, Eq)]
+pub struct RationalTime {
+    pub value: Numeral,
+    pub rate: Rate,
+}
+
+/// The moments from `start` on, `duration` long, without the last.
+#[derive(Clone, Copy, Debug, PartialEq, Eq)]
+pub struct TimeRange {
+    pub start: RationalTime,
+    pub duration: RationalTime,
+}
+
+/// Why a moment has no counted frame.
+#[derive(Clone, Copy, Debug, PartialEq, Eq)]
+pub enum TimeFault {
+    /// The moment is between two frames.
+    NotOnFrame,
+    /// The frame is more than 2,147,483,647 from 0.
+    TooFar,
+}
+
+/// A frame that is more than 2,147,483,647 from 0.
+#[derive(Clone, Copy, Debug, PartialEq, Eq)]
+pub struct TooFar;
+
+impl RationalTime {
+    /// The frame of `rate` that names this very moment, counted from the moment 0.
+    pub fn frames_at(&self, rate: &Rate) -> Result<i64, TimeFault>
+        ensures ok { (f : ℤ) → (result ≡ Ok f) ↔ (OnFrame self.now rate.now f × IsNear f) }
+        ensures not_on_frame { (result ≡ Err TimeFault.NotOnFrame) ↔ ((f : ℤ) → OnFrame self.now rate.now f → ⊥) }
+        ensures too_far { (result ≡ Err TimeFault.TooFar) ↔ ((f : ℤ) × OnFrame self.now rate.now f × (IsNear f → ⊥)) }
+        ensures value { result ≡ frames_of self.now rate.now }
+    {
+        let frame = self.floor_at(rate);
+        if self.ceiling_at(rate) != frame {
+            return Err(TimeFault::NotOnFrame);
+        }
+        match near(frame) {
+            Ok(frame) => Ok(frame),
+            Err(TooFar) => Err(TimeFault::TooFar),
+        }
+    }
+
+    /// The moment rounded down to a frame of the rate.
+    fn floor_at(&self, rate: &Rate) -> i128
+        ensures rounded { IsRoundedDown self.now rate.now result }
+        ensures size { unsigned_abs result ≤ 10 ^ 36 }
+    {
+        self.in_frames(rate).floor()
+    }
+
+    /// The moment rounded up to a frame of the rate.
+    fn ceiling_at(&self, rate: &Rate) -> i128
+        ensures { IsRoundedUp self.now rate.now result }
+    {
+        self.in_frames(rate).ceiling()
+    }
+
+    /// The moment counted in frames of the rate, most often no whole number of them.
+    fn in_frames(&self, rate: &Rate) -> Fraction
+        ensures over { result.over ≡ over self.now rate.now }
+        ensures under { result.under ≡ pos (under self.now rate.now) }
+    {
+        Fraction {
+            over: self.over(rate),
+            under: self.under(rate),
+        }
+    }
+
+    fn over(&self, rate: &Rate) -> i128
+        ensures value { result ≡ over self.now rate.now }
+        ensures size { unsigned_abs result ≤ 10 ^ 36 }
+    {
+        let factor = u128::from(self.rate.den) * u128::from(rate.num);
+        i128::from(self.value.mantissa) * factor as i128
+    }
+
+    fn under(&self, rate: &Rate) -> i128
+        ensures value { result ≡ pos (under self.now rate.now) }
+        ensures positive { 1 ≤ under self.now rate.now }
+        ensures size { under self.now rate.now ≤ 10 ^ 36 }
+    {
+        let under = self.value.denominator() * u128::from(self.rate.num) * u128::from(rate.den);
+        under as i128
+    }
+}
+
+impl TimeRange {
+    /// The range's frames of `rate`, from the first on that starts in it to before the second number:
+    /// none, where that is not the greater one.
+    pub fn narrowed_at(&self, rate: &Rate) -> Result<(i64, i64), TooFar>
+        ensures ok { (from to : ℤ) → (result ≡ Ok (from, to)) ↔ (IsNarrowed self.now rate.now from to × IsNear from × IsNear to) }
+        ensures too_far { IsErr result ↔ ((from : ℤ) × (to : ℤ) × IsNarrowed self.now rate.now from to × (IsNear from × IsNear to → ⊥)) }
+        ensures value { MatchResult result (λ frames. narrowed_of self.now rate.now ≡ Some frames) (λ _. narrowed_of self.now rate.now ≡ None) }
+    {
+        let from = self.start.ceiling_at(rate);
+        let to = self.start.floor_at(rate) + self.duration.floor_at(rate);
+        Ok((near(from)?, near(to)?))
+    }
+}
+
+/// The frame, where it is within 2,147,483,647 of 0.
+fn near(frame: i128) -> Result<i64, TooFar>
+    ensures near { IfOk result (λ f. (f ≡ frame) × IsNear f) }
+    ensures too_far { OnErr result (IsNear frame → ⊥) }
+{
+    if frame.unsigned_abs() > 2_147_483_647 {
+        return Err(TooFar);
+    }
+    Ok(frame as i64)
+}

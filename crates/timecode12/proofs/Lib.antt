@@ -1,0 +1,5 @@
+pub mod Blocks
+pub mod Day
+pub mod Digits
+pub mod Places
+pub mod Told
