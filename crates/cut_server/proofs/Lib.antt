@@ -3,3 +3,4 @@ pub mod Serving
 pub mod Rooms
 pub mod Serves
 pub mod Inputs
+pub mod Openings

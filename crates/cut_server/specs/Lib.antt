@@ -5,5 +5,7 @@ pub mod Tracks
 pub mod SessionInside
 pub mod Editing
 pub mod Openings
+pub mod Commands
+pub mod Runs
 pub mod Served
 pub mod Serving

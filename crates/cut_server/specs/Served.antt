@@ -22,6 +22,13 @@ pub record Served (o : Opening) (s : SessionState) (ls : List InputLine) (rs : L
   pub rise : NumbersRise s.journal
   pub within : length s.journal ≤ most_entries
 
+-- a session that has just been opened
+pub record IsFresh (o : Opening) (s : SessionState) : Type 0 where
+  pub setting : s.setting ≡ o.setting
+  pub tracks : s.tracks ≡ o.tracks
+  pub journal : s.journal ≡ []
+  pub line : s.line ≡ 1
+
 -- Between two moments a session answered these lines: whatever it had answered before, it has answered these too, and
 -- their replies, as they are sent, are what was taken.
 abbrev pub ServesTo : SessionState → SessionState → List InputLine → (List ℕ → Type 0) → Type 0

@@ -1,6 +1,7 @@
 //! The program of the cutting room.
 #![tactic(auto)]
 
+mod command;
 mod edits;
 mod opening;
 mod reply;

@@ -1,6 +1,7 @@
 // The opening of a plain room.
 ghost use Rattle.std.specs.Prelude.{◌≡◌, ◌<◌, ◌≤◌, ◌++◌, codes, decimal, map, IfOk};
 ghost use Rattle.std.specs.List.{range_with_len};
+ghost use Rattle.std.specs.String.{string_bytes};
 ghost use Rattle.cut_server.specs.Openings.{plain_media, plain_reel, plain_table, empty_track};
 
 use composables::{Kind, Listed, Media, Memory, Reels, Table, Track};
@@ -13,7 +14,8 @@ fn plain_kinds(alloc: Global, tracks: u32) -> Result<Listed<Kind>, Memory>
     ensures { IfOk result (λ kinds. kinds ≡ (plain_table tracks 0).kinds) }
 {
     let mut kinds = Listed::new(alloc);
-    for _track in 0..tracks {
+    for track in 0..tracks {
+        let _ = track;
         kinds.push(Kind::Video)?;
     }
     Ok(kinds)
@@ -33,13 +35,19 @@ fn plain_media_list(alloc: Global, reels: u32) -> Result<Listed<Media>, Memory>
     Ok(media)
 }
 
+fn reel_name(alloc: Global, reel: u32) -> Result<String, Memory>
+    ensures { IfOk result (λ name. string_bytes name ≡ plain_reel reel) }
+{
+    Ok(format!(in alloc; "R{reel}")?)
+}
+
 fn plain_reels(alloc: Global, count: u32) -> Result<Reels, Memory>
     requires { count ≤ 999 }
     ensures { IfOk result (λ reels. reels ≡ map plain_reel (range_with_len 0 count)) }
 {
     let mut reels = Reels::new(alloc);
     for reel in 0..count {
-        let name = format!(in alloc; "R{reel}")?;
+        let name = reel_name(alloc, reel)?;
         reels.add(name.as_str())?;
     }
     Ok(reels)

@@ -6,6 +6,7 @@ ghost use Rattle.edit_apply.specs.Sights.{Shows};
 ghost use Rattle.cut_server.specs.Tracks.{AreTracksOf};
 
 use crate::edits::{Attempt, put_track, try_edit};
+use crate::opening::{empty_tracks, plain};
 use crate::reply::Reply;
 use call_text::{Entry, Line, LineFault, Short, fault_text, read_line, reply_text, seen_text};
 use composables::{Done, EditFault, Memory, Refusal, Track};
@@ -13,7 +14,7 @@ use edit_apply::{Ask, AskRefusal, Call, Editor, Seen, SightFault, track_of};
 use line_words::LineEnd;
 use std::alloc::Global;
 use std::marker::Model;
-use timecode12::Counting;
+use timecode12::{Counting, SequenceRate};
 
 /// The most entries of a journal.
 pub(crate) const MOST_ENTRIES: usize = 100_000;
@@ -54,7 +55,7 @@ impl Model for Session {
 }
 
 impl Session {
-    ghost use Rattle.std.specs.Prelude.{◌≡◌, ◌+◌, ◌*◌, ◌<◌, ◌≤◌, ◌^◌, ◌++◌, [], List, ℕ, Ok, codes, decimal, length};
+    ghost use Rattle.std.specs.Prelude.{◌≡◌, ◌+◌, ◌*◌, ◌<◌, ◌≤◌, ◌^◌, ◌++◌, [], List, ℕ, IfOk, Ok, codes, decimal, length};
     ghost use Rattle.call_text.specs.declared.lines.Line.TheVariants.{Edit as EditLine, Ask as AskLine};
     ghost use Rattle.line_words.specs.Told.{line_told};
     ghost use Rattle.edit_apply.specs.See.{seen_in};
@@ -62,6 +63,36 @@ impl Session {
     ghost use Rattle.cut_server.specs.Transcript.{meaning_of};
     ghost use Rattle.cut_server.specs.Session.{past_line, IsReply, Replies, Step};
     ghost use Rattle.cut_server.specs.Editing.{Changes, Edits};
+    ghost use Rattle.cut_server.specs.Openings.{plain_opening};
+    ghost use Rattle.cut_server.specs.Served.{IsFresh};
+
+    /// A session in a plain room of so many tracks and reels, with an empty journal.
+    pub(crate) fn plain(alloc: Global, tracks: u32, reels: u32) -> Result<Session, Memory>
+        requires { reels ≤ 999 }
+        ensures { IfOk result (λ s. IsFresh (plain_opening tracks reels) s) }
+    {
+        let table = plain(alloc, tracks, reels)?;
+        let tracks = empty_tracks(alloc, tracks)?;
+        let Some(counting) = Counting::new(SequenceRate::F24, false) else {
+            return Err(Memory);
+        };
+        Ok(Session {
+            alloc,
+            editor: Editor { table },
+            counting,
+            start: 0,
+            tracks,
+            journal: Vec::new(alloc),
+            line: 1,
+        })
+    }
+
+    /// The entries of the journal.
+    pub(crate) fn journal(&self) -> &[Entry<Call>]
+        ensures { result.now ≡ self.now.journal }
+    {
+        &self.journal
+    }
 
     /// Does an edit and puts it into the journal, or says why not.
     fn edit(&mut self, call: Call) -> Answer
