@@ -4,3 +4,4 @@ pub mod Rooms
 pub mod Serves
 pub mod Inputs
 pub mod Openings
+pub mod Telling

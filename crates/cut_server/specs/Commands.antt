@@ -1,5 +1,5 @@
 -- The words that the program takes: `run` TRACKS REELS, with TRACKS from 1 to 16 and REELS from 0 to 999.
-use Rattle.std.specs.Prelude.{ℕ, Bool, ◌&&◌, List, [], ◌∷◌, Option, Some, None, Result, Ok, Err, nat_le, codes, bytes_eq, if◌then◌else◌}
+use Rattle.std.specs.Prelude.{ℕ, ◌≤◌, Bool, ◌&&◌, List, [], ◌∷◌, Option, Some, None, Result, Ok, Err, nat_le, codes, bytes_eq, if◌then◌else◌}
 use Rattle.line_words.specs.Digits.{number_of}
 use Rattle.line_words.specs.declared.numbers.NumberFault.{NumberFault}
 use Rattle.cut_server.specs.declared.command.Command.{Command}
@@ -24,3 +24,7 @@ command_of (first ∷ []) = None
 command_of (first ∷ tracks ∷ []) = None
 command_of (first ∷ tracks ∷ reels ∷ []) = if bytes_eq first (codes "run") then sizes_of (size_of tracks 1 16) (size_of reels 0 999) else None
 command_of (first ∷ tracks ∷ reels ∷ more ∷ words) = None
+
+-- so many tracks and reels as a plain room may have
+abbrev pub HasBounds : Command → Type 0
+HasBounds (Run tracks reels) = (tracks ≤ 16) × (reels ≤ 999)

@@ -1,6 +1,6 @@
 // The words of the program's command line.
-ghost use Rattle.std.specs.Prelude.{◌≡◌, Some};
-ghost use Rattle.cut_server.specs.Commands.{command_of, size_of};
+ghost use Rattle.std.specs.Prelude.{◌≡◌, IfSome};
+ghost use Rattle.cut_server.specs.Commands.{command_of, size_of, HasBounds};
 
 use line_words::{Words, number};
 
@@ -29,7 +29,8 @@ fn size(word: &str, least: u32, most: u32) -> Option<u32>
 
 /// The command that the words are, or `None` where they are none.
 pub(crate) fn command_in(words: &Words) -> Option<Command>
-    ensures { result ≡ command_of words.now }
+    ensures command { result ≡ command_of words.now }
+    ensures bound { IfSome result (λ c. HasBounds c) }
 {
     if words.count() != 3 || words.word(0) != "run" {
         return None;

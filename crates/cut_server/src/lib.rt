@@ -3,7 +3,10 @@
 
 mod command;
 mod edits;
+mod main_call;
 mod opening;
 mod reply;
 mod serve;
 mod session;
+
+pub use main_call::cut_main;
