@@ -1,5 +1,5 @@
 -- What is read of a part is spelled there, and what is spelled there is read.
-use Rattle.std.proofs.Common.{◌≡◌, ℕ, ◌≤◌, ◌⊎◌, List, [], ◌∷◌, ◌++◌, Bool, true, false, Option, Some, None, Result, Ok, Err, ◌==◌, nat_le, if◌then◌else◌, inl, inr, refl, ap, sym, ◌∙◌, codes}
+use Rattle.std.proofs.Common.{◌≡◌, ℕ, ◌⊎◌, List, [], ◌∷◌, Bool, true, false, Option, Some, None, Result, Ok, Err, ◌==◌, nat_le, if◌then◌else◌, inl, inr, refl, ap, sym}
 use Rattle.std.proofs.lemmas.Bool.{leb-true, le-leb, eqb-true}
 use Rattle.line_words.specs.Digits.{number_of}
 use Rattle.line_words.specs.declared.numbers.NumberFault.{NumberFault}
@@ -7,7 +7,7 @@ use Rattle.line_words.specs.declared.numbers.NumberFault.TheVariants.{NotANumber
 use Rattle.frame_meaning.specs.declared.cells.What.{What}
 use Rattle.frame_meaning.specs.declared.cells.What.TheVariants.{Media, Nest}
 use Rattle.call_text.specs.declared.lines.LineFault.{LineFault}
-use Rattle.call_text.specs.declared.lines.LineFault.TheVariants.{B2, B3, B4}
+use Rattle.call_text.specs.declared.lines.LineFault.TheVariants.{B3, B4}
 use Rattle.call_text.specs.Spelling.{◌>>=◌, number_or_fault, numeral_of, track_of, place_or_fault, number_or_label, place_of, what_of}
 use Rattle.call_text.specs.Reading.{none_of, one_of, two_of, three_of, four_of, five_of}
 use Rattle.call_text.specs.Table.{IsNumeral, IsTrack, IsPlace, IsThing}

@@ -8,7 +8,7 @@ use Rattle.std.proofs.lemmas.Bool.Decides.{nat_tests}
 use Rattle.std.proofs.lemmas.Fmt.{decimal_nonempty, length-decimal-le}
 use Rattle.std.proofs.lemmas.List.Elements.{All-nil, All-cons}
 use Rattle.line_words.specs.Blanks.{is_blank, is_filled, IsWord}
-use Rattle.line_words.specs.Digits.{is_number, number_of}
+use Rattle.line_words.specs.Digits.{is_number}
 use Rattle.line_words.specs.declared.numbers.NumberFault.{NumberFault}
 use Rattle.line_words.specs.declared.numbers.NumberFault.TheVariants.{NotANumber}
 use Rattle.line_words.proofs.DigitLaws.{number_of-decimal}

@@ -4,7 +4,6 @@
 use Rattle.std.specs.Prelude.{ℕ, List, [], ◌∷◌, Option, Some, None, Result, Ok, Err, length, nat_le, codes, bytes_eq, if◌then◌else◌}
 use Rattle.line_words.specs.Blanks.{words_of}
 use Rattle.line_words.specs.declared.TheConstants.{MAX_LINE}
-use Rattle.composables.specs.declared.calls.Overwrite.{Overwrite as Overwritten}
 use Rattle.edit_apply.specs.declared.asks.Call.TheVariants as call
 use Rattle.edit_apply.specs.declared.asks.Ask.TheVariants as ask
 use Rattle.call_text.specs.declared.lines.Line.{Line}

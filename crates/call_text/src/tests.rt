@@ -152,7 +152,7 @@ fn labels_name_places_from_the_start(rt: HostRuntime) -> Result<(), Fail> {
 #[test]
 fn a_line_has_at_most_1024_bytes(rt: HostRuntime) -> Result<(), Fail> {
     let mut line = Vec::from_slice(rt.alloc(), b"point")?;
-    while line.len() < 1024 {
+    for _ in line.len()..1024 {
         line.push(b' ')?;
     }
     assert_eq!(rt; read(rt.alloc(), line.as_slice()), Some(Ok(Line::Point)));

@@ -10,3 +10,6 @@ mod serve;
 mod session;
 
 pub use main_call::cut_main;
+
+#[cfg(test)]
+mod tests;

@@ -6,6 +6,7 @@ use Rattle.std.proofs.lemmas.Int.{ints}
 use Rattle.std.proofs.lemmas.List.Folds.{list_all_at}
 use Rattle.std.proofs.lemmas.Bool.Decides.{nat_tests}
 use Rattle.ratio_time.specs.Rates.{usual_rates, StandsFor, stands_for, itself, rate_value}
+use Rattle.ratio_time.specs.declared.numeral.Numeral.{Numeral}
 use Rattle.ratio_time.proofs.Products.{one_positive}
 
 crossed : (n t a b c d : ℕ) → 1 ≤ t → 200 * (a * t) ≤ 200 * (n * b) + b * t → 200 * (n * d) ≤ 200 * (c * t) + d * t → 100 * (a * d) ≤ 100 * (c * b) + b * d
@@ -48,15 +49,15 @@ same_or_apart r s = ((r.0 == s.0) && (r.1 == s.1)) || (far_above r s || far_abov
 not_tiny : ℕ × ℕ → Bool
 not_tiny r = nat_lt r.1 (200 * r.0)
 
-one_rate : (m : ℤ) (p : ℕ) (r s : ℕ × ℕ) → not_tiny r ≡ true → not_tiny s ≡ true → same_or_apart r s ≡ true → StandsFor m p r → StandsFor m p s → (r.0 ≡ s.0) × (r.1 ≡ s.1)
+one_rate : (n : Numeral) (r s : ℕ × ℕ) → not_tiny r ≡ true → not_tiny s ≡ true → same_or_apart r s ≡ true → StandsFor n r → StandsFor n s → (r.0 ≡ s.0) × (r.1 ≡ s.1)
 unfolding far_above same_or_apart not_tiny
-one_rate m p r s tr ts apart one other =
-    let some = one_positive p in
+one_rate n r s tr ts apart one other =
+    let some = one_positive n.places in
     let pr : r.1 < 200 * r.0 = grind (arith, nat_tests) in
     let ps : s.1 < 200 * s.0 = grind (arith, nat_tests) in
-    let br = between m (10 ^ p) r.0 r.1 some pr one in
-    let bs = between m (10 ^ p) s.0 s.1 some ps other in
-    told r.0 r.1 s.0 s.1 (close m (10 ^ p) r.0 r.1 s.0 s.1 some br bs) (close m (10 ^ p) s.0 s.1 r.0 r.1 some bs br) apart
+    let br = between n.mantissa (10 ^ n.places) r.0 r.1 some pr one in
+    let bs = between n.mantissa (10 ^ n.places) s.0 s.1 some ps other in
+    told r.0 r.1 s.0 s.1 (close n.mantissa (10 ^ n.places) r.0 r.1 s.0 s.1 some br bs) (close n.mantissa (10 ^ n.places) s.0 s.1 r.0 r.1 some bs br) apart
   where
     told : (a b c d : ℕ) → 100 * (a * d) ≤ 100 * (c * b) + b * d → 100 * (c * b) ≤ 100 * (a * d) + d * b
         → (((a == c) && (b == d)) || (nat_lt (100 * (c * b) + b * d) (100 * (a * d)) || nat_lt (100 * (a * d) + d * b) (100 * (c * b)))) ≡ true → (a ≡ c) × (b ≡ d)
@@ -69,11 +70,11 @@ true_at false h = absurd (h refl)
 pick : (f : ℕ × ℕ → Bool) (rates : List (ℕ × ℕ)) (k : ℕ) (d : ℕ × ℕ) → k < length rates → list_all f rates ≡ true → f (slice_index_or rates k d) ≡ true
 pick f rates k d lt all = true_at (f (slice_index_or rates k d)) (λ no. let none = list_all_at f rates k d lt no in cc)
 
-one_of : (m : ℤ) (p : ℕ) (rates : List (ℕ × ℕ)) (j k : ℕ) (e d : ℕ × ℕ) → list_all not_tiny rates ≡ true → list_all (λ r. list_all (same_or_apart r) rates) rates ≡ true
-    → j < length rates → k < length rates → StandsFor m p (slice_index_or rates j e) → StandsFor m p (slice_index_or rates k d)
+one_of : (n : Numeral) (rates : List (ℕ × ℕ)) (j k : ℕ) (e d : ℕ × ℕ) → list_all not_tiny rates ≡ true → list_all (λ r. list_all (same_or_apart r) rates) rates ≡ true
+    → j < length rates → k < length rates → StandsFor n (slice_index_or rates j e) → StandsFor n (slice_index_or rates k d)
     → ((slice_index_or rates j e).0 ≡ (slice_index_or rates k d).0) × ((slice_index_or rates j e).1 ≡ (slice_index_or rates k d).1)
-one_of m p rates j k e d sized apart jl kl one other =
-    one_rate m p (slice_index_or rates j e) (slice_index_or rates k d) (pick not_tiny rates j e jl sized) (pick not_tiny rates k d kl sized)
+one_of n rates j k e d sized apart jl kl one other =
+    one_rate n (slice_index_or rates j e) (slice_index_or rates k d) (pick not_tiny rates j e jl sized) (pick not_tiny rates k d kl sized)
     (pick (same_or_apart (slice_index_or rates j e)) rates k d kl (pick (λ r. list_all (same_or_apart r) rates) rates j e jl apart)) one other
 
 sizes : list_all not_tiny usual_rates ≡ true
@@ -84,13 +85,13 @@ all_apart : list_all (λ r. list_all (same_or_apart r) usual_rates) usual_rates 
 unfolding far_above same_or_apart
 all_apart = refl
 
-pub one_usual : (m : ℤ) (p : ℕ) (r : ℕ × ℕ) → Contains usual_rates r → StandsFor m p r
-    → (k : ℕ) (d : ℕ × ℕ) → k < length usual_rates → StandsFor m p (slice_index_or usual_rates k d)
+pub one_usual : (n : Numeral) (r : ℕ × ℕ) → Contains usual_rates r → StandsFor n r
+    → (k : ℕ) (d : ℕ × ℕ) → k < length usual_rates → StandsFor n (slice_index_or usual_rates k d)
     → (r.0 ≡ (slice_index_or usual_rates k d).0) × (r.1 ≡ (slice_index_or usual_rates k d).1)
-one_usual m p r found one k d kl other =
-    let near : StandsFor m p (slice_index_or usual_rates found.0 r) = subst (StandsFor m p) (sym found.2) one in
+one_usual n r found one k d kl other =
+    let near : StandsFor n (slice_index_or usual_rates found.0 r) = subst (StandsFor n) (sym found.2) one in
     subst (λ (x : ℕ × ℕ). (x.0 ≡ (slice_index_or usual_rates k d).0) × (x.1 ≡ (slice_index_or usual_rates k d).1)) found.2
-    (one_of m p usual_rates found.0 k r d sizes all_apart found.1 kl near other)
+    (one_of n usual_rates found.0 k r d sizes all_apart found.1 kl near other)
 
 -- ---- the same as functions
 
@@ -112,34 +113,34 @@ found_none {A} test (y ∷ ys) e k d lt = by (test y) refl (λ none j. found_non
     by false t more e zero lt = t
     by false t more e (suc k) lt = more e k (omega arith)
 
-is_near : (m : ℤ) (p : ℕ) (rate : ℕ × ℕ) → stands_for m p rate ≡ true → StandsFor m p rate
-is_near m p rate e = grind (arith, nat_tests)
+is_near : (n : Numeral) (rate : ℕ × ℕ) → stands_for n rate ≡ true → StandsFor n rate
+is_near n rate e = grind (arith, nat_tests)
 
-not_near : (m : ℤ) (p : ℕ) (rate : ℕ × ℕ) → stands_for m p rate ≡ false → StandsFor m p rate → ⊥
-not_near m p rate e near = grind (arith, nat_tests)
+not_near : (n : Numeral) (rate : ℕ × ℕ) → stands_for n rate ≡ false → StandsFor n rate → ⊥
+not_near n rate e near = grind (arith, nat_tests)
 
-usual_found : (m : ℤ) (p : ℕ) (r : ℕ × ℕ) → Contains usual_rates r → StandsFor m p r → (o : Option (ℕ × ℕ)) → find (stands_for m p) usual_rates ≡ o → o ≡ Some r
-usual_found m p r found near (Some x) e =
-    let first = found_first (stands_for m p) usual_rates x e in
-    let same = one_usual m p r found near first.0.0 x first.0.1 (subst (StandsFor m p) (sym first.0.2) (is_near m p x first.1)) in
+usual_found : (n : Numeral) (r : ℕ × ℕ) → Contains usual_rates r → StandsFor n r → (o : Option (ℕ × ℕ)) → find (stands_for n) usual_rates ≡ o → o ≡ Some r
+usual_found n r found near (Some x) e =
+    let first = found_first (stands_for n) usual_rates x e in
+    let same = one_usual n r found near first.0.0 x first.0.1 (subst (StandsFor n) (sym first.0.2) (is_near n x first.1)) in
     ap (λ (y : ℕ × ℕ). Some y) (sym (pair_is r x (same.0 ∙ ap (λ (y : ℕ × ℕ). y.0) first.0.2) (same.1 ∙ ap (λ (y : ℕ × ℕ). y.1) first.0.2)))
   where
     pair_is : (a b : ℕ × ℕ) → a.0 ≡ b.0 → a.1 ≡ b.1 → a ≡ b
     pair_is (a, b) (c, d) p q = cc
-usual_found m p r found near None e =
-    let all = found_none (stands_for m p) usual_rates e found.0 r found.1 in
-    absurd (not_near m p (slice_index_or usual_rates found.0 r) all (subst (StandsFor m p) (sym found.2) near))
+usual_found n r found near None e =
+    let all = found_none (stands_for n) usual_rates e found.0 r found.1 in
+    absurd (not_near n (slice_index_or usual_rates found.0 r) all (subst (StandsFor n) (sym found.2) near))
 
-none_found : (m : ℤ) (p : ℕ) → ((k : ℕ) (d : ℕ × ℕ) → k < length usual_rates → StandsFor m p (slice_index_or usual_rates k d) → ⊥) → (o : Option (ℕ × ℕ)) → find (stands_for m p) usual_rates ≡ o → o ≡ None
-none_found m p none (Some x) e =
-    let first = found_first (stands_for m p) usual_rates x e in
-    absurd (none first.0.0 x first.0.1 (subst (StandsFor m p) (sym first.0.2) (is_near m p x first.1)))
-none_found m p none None e = refl
+none_found : (n : Numeral) → ((k : ℕ) (d : ℕ × ℕ) → k < length usual_rates → StandsFor n (slice_index_or usual_rates k d) → ⊥) → (o : Option (ℕ × ℕ)) → find (stands_for n) usual_rates ≡ o → o ≡ None
+none_found n none (Some x) e =
+    let first = found_first (stands_for n) usual_rates x e in
+    absurd (none first.0.0 x first.0.1 (subst (StandsFor n) (sym first.0.2) (is_near n x first.1)))
+none_found n none None e = refl
 
-pub usual_value : (m : ℤ) (p : ℕ) (r : ℕ × ℕ) → Contains usual_rates r → StandsFor m p r → rate_value m p ≡ Some r
+pub usual_value : (n : Numeral) (r : ℕ × ℕ) → Contains usual_rates r → StandsFor n r → rate_value n ≡ Some r
 unfolding rate_value
-usual_value m p r found near = ap (λ o. option_or o (itself m p)) (usual_found m p r found near (find (stands_for m p) usual_rates) refl)
+usual_value n r found near = ap (λ o. option_or o (itself n)) (usual_found n r found near (find (stands_for n) usual_rates) refl)
 
-pub itself_value : (m : ℤ) (p : ℕ) → ((k : ℕ) (d : ℕ × ℕ) → k < length usual_rates → StandsFor m p (slice_index_or usual_rates k d) → ⊥) → rate_value m p ≡ itself m p
+pub itself_value : (n : Numeral) → ((k : ℕ) (d : ℕ × ℕ) → k < length usual_rates → StandsFor n (slice_index_or usual_rates k d) → ⊥) → rate_value n ≡ itself n
 unfolding rate_value
-itself_value m p none = ap (λ o. option_or o (itself m p)) (none_found m p none (find (stands_for m p) usual_rates) refl)
+itself_value n none = ap (λ o. option_or o (itself n)) (none_found n none (find (stands_for n) usual_rates) refl)

@@ -1,8 +1,8 @@
 //! Exact time, after OpenTimelineIO's `RationalTime`: decimal numbers, rates of so many a second, and
-//! moments that are whole frames of a rate or are not. No float is used and nothing is rounded on the
-//! way: moments are compared by whole numbers multiplied crosswise. The main contracts are those of
-//! [`RationalTime::frames_at`], [`TimeRange::narrowed_at`] and [`rate_of`], each exact in both
-//! directions, and none of these calls takes memory.
+//! moments that are whole frames of a rate or are not. No float is used, and moments are compared by
+//! whole numbers multiplied crosswise. The main contracts are those of [`RationalTime::frames_at`],
+//! [`TimeRange::narrowed_at`] and [`rate_of`], each exact in both directions. None of these calls
+//! takes memory.
 #![tactic(auto)]
 
 mod fraction;
@@ -10,11 +10,13 @@ mod laws;
 mod numeral;
 mod rate;
 mod time;
+mod usual_rates;
 
 pub use laws::one_form;
 pub use numeral::Numeral;
-pub use rate::{Rate, rate_of};
+pub use rate::Rate;
 pub use time::{RationalTime, TimeFault, TimeRange, TooFar};
+pub use usual_rates::rate_of;
 
 #[cfg(test)]
 mod tests;

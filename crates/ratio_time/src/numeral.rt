@@ -2,8 +2,8 @@
 ghost use Rattle.std.specs.Prelude.{◌≡◌, ℕ, ◌<◌, ◌≤◌, ◌-◌, ◌*◌, ◌^◌, ℤ, pos, unsigned_abs};
 ghost use Rattle.ratio_time.specs.Numerals.{with_sign, SameNumber, HasLeastPlaces};
 
-/// The number `mantissa`/10^`places`, in its one shortest form: 1.50 is 15 with one place, and 0 has
-/// no places. So two numerals are equal exactly where their numbers are.
+/// The number `mantissa`/10^`places`, in its one shortest form: 1.50 is 15 with one place, and 0 has no
+/// places. So two numerals are equal exactly where their numbers are.
 #[derive(Clone, Copy, Debug, PartialEq, Eq)]
 pub struct Numeral {
     pub mantissa: i64,

@@ -1,7 +1,7 @@
 // Moments and ranges of time, exact at every rate.
-ghost use Rattle.std.specs.Prelude.{◌≡◌, ℤ, ◌≤◌, ◌*◌, ◌^◌, pos, unsigned_abs, OnErr, IfOk, IsErr, ◌↔◌, Ok, Err, Some, None, MatchResult};
-ghost use Rattle.ratio_time.specs.Division.{frames_of, narrowed_of};
-ghost use Rattle.ratio_time.specs.Moments.{over, under, OnFrame, IsRoundedDown, IsRoundedUp, IsNarrowed, IsNear};
+ghost use Rattle.std.specs.Prelude.{◌≡◌, ℤ, ◌≤◌, ◌*◌, ◌^◌, pos, unsigned_abs, OnErr, IfOk, IsErr, ◌↔◌, Ok, Err};
+ghost use Rattle.ratio_time.specs.Division.{frames_of, IsNarrowedValue};
+ghost use Rattle.ratio_time.specs.Moments.{over, under, OnFrame, IsRoundedDown, IsRoundedUp, IsBetweenFrames, IsOnFarFrame, IsNarrowedNear, IsNarrowedFar, IsNear};
 
 use crate::fraction::Fraction;
 use crate::numeral::Numeral;
@@ -38,8 +38,10 @@ impl RationalTime {
     /// The frame of `rate` that names this very moment, counted from the moment 0.
     pub fn frames_at(&self, rate: &Rate) -> Result<i64, TimeFault>
         ensures ok { (f : ℤ) → (result ≡ Ok f) ↔ (OnFrame self.now rate.now f × IsNear f) }
-        ensures not_on_frame { (result ≡ Err TimeFault.NotOnFrame) ↔ ((f : ℤ) → OnFrame self.now rate.now f → ⊥) }
-        ensures too_far { (result ≡ Err TimeFault.TooFar) ↔ ((f : ℤ) × OnFrame self.now rate.now f × (IsNear f → ⊥)) }
+        ensures not_on_frame { (result ≡ Err TimeFault.NotOnFrame) ↔ IsBetweenFrames self.now rate.now }
+        ensures too_far { (result ≡ Err TimeFault.TooFar) ↔ IsOnFarFrame self.now rate.now }
+
+        // the same as a function
         ensures value { result ≡ frames_of self.now rate.now }
     {
         let frame = self.floor_at(rate);
@@ -100,9 +102,11 @@ impl TimeRange {
     /// The range's frames of `rate`, from the first on that starts in it to before the second number:
     /// none, where that is not the greater one.
     pub fn narrowed_at(&self, rate: &Rate) -> Result<(i64, i64), TooFar>
-        ensures ok { (from to : ℤ) → (result ≡ Ok (from, to)) ↔ (IsNarrowed self.now rate.now from to × IsNear from × IsNear to) }
-        ensures too_far { IsErr result ↔ ((from : ℤ) × (to : ℤ) × IsNarrowed self.now rate.now from to × (IsNear from × IsNear to → ⊥)) }
-        ensures value { MatchResult result (λ frames. narrowed_of self.now rate.now ≡ Some frames) (λ _. narrowed_of self.now rate.now ≡ None) }
+        ensures ok { (from to : ℤ) → (result ≡ Ok (from, to)) ↔ IsNarrowedNear self.now rate.now from to }
+        ensures too_far { IsErr result ↔ IsNarrowedFar self.now rate.now }
+
+        // the same as a function
+        ensures value { IsNarrowedValue self.now rate.now result }
     {
         let from = self.start.ceiling_at(rate);
         let to = self.start.floor_at(rate) + self.duration.floor_at(rate);

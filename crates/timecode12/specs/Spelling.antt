@@ -1,4 +1,4 @@
--- How a label is written: two digits four times, with ':' between, and ':' or ';' before the frames.
+-- How a label is written: two digits four times, with ':' between and ':' or ';' before the frames.
 use Rattle.std.specs.Prelude.{◌≡◌, ℕ, ◌+◌, ◌/◌, ◌%◌, ◌<◌, [], ◌∷◌, ◌++◌, List, ◌⊎◌}
 use Rattle.timecode12.specs.declared.label.Label.{Label}
 
@@ -12,7 +12,8 @@ IsMark mark = (mark ≡ 58) ⊎ (mark ≡ 59)
 
 abbrev pub text_of : Label → ℕ → List ℕ
 text_of label mark =
-    two_digits label.hours ++ 58 ∷ two_digits label.minutes ++ 58 ∷ two_digits label.seconds ++ mark ∷ two_digits label.frames
+    two_digits label.hours ++ 58 ∷ two_digits label.minutes
+    ++ 58 ∷ two_digits label.seconds ++ mark ∷ two_digits label.frames
 
 pub record HasTwoDigits (label : Label) : Type 0 where
   pub hours : label.hours < 100

@@ -94,8 +94,12 @@ impl Counting {
     /// The frame of a label. Too large a field is told before a dropped number.
     pub fn frame_of(&self, label: &Label) -> Result<u32, LabelFault>
         ensures ok { (frame : ℕ) → (result ≡ Ok frame) ↔ IsLabelOf self.now frame label.now }
-        ensures field_too_large { (result ≡ Err LabelFault.FieldTooLarge) ↔ HasLargeField self.now label.now }
-        ensures dropped_number { (result ≡ Err LabelFault.DroppedNumber) ↔ ((HasLargeField self.now label.now → ⊥) × IsDropped self.now label.now) }
+        ensures field_too_large { (result ≡ Err LabelFault.FieldTooLarge)
+            ↔ HasLargeField self.now label.now }
+        ensures dropped_number { (result ≡ Err LabelFault.DroppedNumber)
+            ↔ ((HasLargeField self.now label.now → ⊥) × IsDropped self.now label.now) }
+
+        // the same as a function
         ensures value { result ≡ frame_value self.now label.now }
     {
         if self.has_large_field(label) {

@@ -12,7 +12,8 @@ use crate::label::Label;
 pub fn frames_and_labels()
     ensures each_frame { (c : Counted) (f : ℕ) → f < length (day_of c) → (l : Label) × IsLabelOf c f l }
     ensures one_label { (c : Counted) (f : ℕ) (l k : Label) → IsLabelOf c f l → IsLabelOf c f k → l ≡ k }
-    ensures each_label { (c : Counted) (l : Label) → (HasLargeField c l → ⊥) → (IsDropped c l → ⊥) → (f : ℕ) × IsLabelOf c f l }
+    ensures each_label { (c : Counted) (l : Label) → (HasLargeField c l → ⊥) → (IsDropped c l → ⊥)
+        → (f : ℕ) × IsLabelOf c f l }
     ensures one_frame { (c : Counted) (l : Label) (f g : ℕ) → IsLabelOf c f l → IsLabelOf c g l → f ≡ g }
     ensures within { (c : Counted) (f : ℕ) (l : Label) → IsLabelOf c f l → f < length (day_of c) }
     ensures small { (c : Counted) (f : ℕ) (l : Label) → IsLabelOf c f l → HasLargeField c l → ⊥ }

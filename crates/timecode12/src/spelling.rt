@@ -39,7 +39,8 @@ pub fn label_text(label: &Label, last: u8) -> [u8; 11]
 
 /// Whether the text is as long as a label, with its three marks.
 fn has_marks(text: &[u8]) -> bool
-    ensures { IsTrue result ↔ ((length text.now ≡ 11) × (slice_index text.now 2 ≡ 58) × (slice_index text.now 5 ≡ 58) × IsMark (slice_index text.now 8)) }
+    ensures { IsTrue result ↔ ((length text.now ≡ 11) × (slice_index text.now 2 ≡ 58)
+        × (slice_index text.now 5 ≡ 58) × IsMark (slice_index text.now 8)) }
 {
     text.len() == 11 && text[2] == b':' && text[5] == b':' && (text[8] == b':' || text[8] == b';')
 }

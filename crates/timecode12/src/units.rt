@@ -48,7 +48,8 @@ impl Units {
         ensures minutes { result.minutes < 60 }
         ensures seconds { result.seconds < 60 }
         ensures frames { result.frames < self.now.numbers }
-        ensures stays { 0 < result.minutes % 10 → self.now.dropped ≤ result.seconds * self.now.numbers + result.frames }
+        ensures stays { 0 < result.minutes % 10
+            → self.now.dropped ≤ result.seconds * self.now.numbers + result.frames }
     {
         let in_hour = frame % self.hour();
         let (minute, in_minute) = self.minute_at(in_hour % self.ten_minutes());

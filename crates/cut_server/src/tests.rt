@@ -1,0 +1,215 @@
+// The program's call over objects in memory.
+
+use crate::cut_main;
+use line_words::Words;
+use room_ports::{MemSink, MemSource};
+use std::alloc::Global;
+use std::test::Fail;
+
+fn words_of(alloc: Global, texts: &[&str]) -> Result<Words, Fail> {
+    let mut words = Words::new(alloc);
+    for text in texts {
+        if words.count() < 10 {
+            words.push(text)?;
+        }
+    }
+    Ok(words)
+}
+
+// The status and the output of a run with these words, over these pieces of input and these calls that fail.
+fn ended(
+    alloc: Global,
+    words: &[&str],
+    pieces: &[&[u8]],
+    reads: &[u32],
+    writes: &[u32],
+) -> Result<(u8, Vec<u8>), Fail> {
+    let mut input = Vec::new(alloc);
+    for piece in pieces {
+        input.push(piece.to_vec(alloc)?)?;
+    }
+    let mut input = MemSource::new(input, reads.to_vec(alloc)?);
+    let mut output = MemSink::new(alloc, writes.to_vec(alloc)?);
+    let words = words_of(alloc, words)?;
+    let status = cut_main(alloc, &words, &mut input, &mut output);
+    let bytes = match output.bytes() {
+        Some(bytes) => bytes.to_vec(alloc)?,
+        None => Vec::new(alloc),
+    };
+    Ok((status, bytes))
+}
+
+#[test]
+fn lines_are_answered(rt: HostRuntime) -> Result<(), Fail> {
+    let alloc = rt.alloc();
+    let table: [(&[u8], &[u8]); 11] = [
+        (b"", b"journal 0\n"),
+        (
+            b"overwrite 0 10 @0 100 5\nview 0 0 15\n",
+            b"ok 0 item 0\nseen 1 dark 10 @0 100 5\njournal 1\n0 1 overwrite 0 10 @0 100 5\n",
+        ),
+        (
+            b"overwrite 0 10 @0 100 5\nview 0 0 16\nview 2 0 0\noverwrite 0 0 @0 86396 5\njump\n",
+            b"ok 0 item 0\nno 1 V2 15\nno 1 V1 2\nno 1 E5\nbad B1\njournal 1\n0 1 overwrite 0 10 @0 100 5\n",
+        ),
+        (
+            b"overwrite 0 10 @0 100 5\noverwrite 0 12 @0 500 1\nitems 0\n",
+            b"ok 0 item 0\nok 1 item 1\nitems 2 dark 10 0 @0 100 2 1 @0 500 1 2 @0 103 2\njournal 2\n0 1 overwrite 0 10 @0 100 5\n0 2 overwrite 0 12 @0 500 1\n",
+        ),
+        (
+            b"overwrite 0 00:00:01:00 @0 0 1\nview 0 0 00:00:01:01\nview 0 0 00:00:00:24\nitems 0\n",
+            b"ok 0 item 0\nseen 1 dark 24 @0 0 1\nbad B3\nitems 1 dark 24 0 @0 0 1\njournal 1\n0 1 overwrite 0 24 @0 0 1\n",
+        ),
+        (
+            b"overwrite 2 0 @0 0 1\noverwrite 0 0 @1 0 1\noverwrite 0 0 #0 0 1\noverwrite 0 0 @0 0 0\noverwrite 0 2591999 @0 0 2\n",
+            b"no 0 E1 2\nno 0 E3\nno 0 E3\nno 0 E4\nno 0 E13 0\njournal 0\n",
+        ),
+        (
+            b"\n \t\nview\nview 32 0 0\nview 0 4294967296 0\nview x 99999999999 0\npoint 1\nitems 1,0\n",
+            b"bad B2\nbad B2\nbad B2\nbad B4\nbad B4\nbad B3\nbad B2\nbad B3\njournal 0\n",
+        ),
+        (b"point\r\npoint", b"point 0\npoint 0\njournal 0\n"),
+        (b"point\r", b"bad B1\njournal 0\n"),
+        (
+            b"items 1\nview 1 0 0\nview 1 1 0\n",
+            b"items 0\nseen 0\nno 0 V2 0\njournal 0\n",
+        ),
+        (
+            b"overwrite 0 2591998 @0 0 2\npoint\n",
+            b"ok 0 item 0\npoint 1\njournal 1\n0 1 overwrite 0 2591998 @0 0 2\n",
+        ),
+    ];
+    for (input, wanted) in table {
+        let (status, output) = ended(alloc, &["run", "2", "1"], &[input], &[], &[])?;
+        assert_eq!(rt; status, 0);
+        assert_eq!(rt; output.as_slice(), wanted);
+    }
+    Ok(())
+}
+
+#[test]
+fn pieces_make_no_difference(rt: HostRuntime) -> Result<(), Fail> {
+    let alloc = rt.alloc();
+    let text = b"overwrite 0 10 @0 100 5\r\nview 0 0 15";
+    let wanted = b"ok 0 item 0\nseen 1 dark 10 @0 100 5\njournal 1\n0 1 overwrite 0 10 @0 100 5\n";
+    for cut in 0..text.len() {
+        let (front, back) = text.split_at(cut);
+        let (status, output) = ended(alloc, &["run", "2", "1"], &[front, b"", back], &[], &[])?;
+        assert_eq!(rt; status, 0, "cut at {cut}");
+        assert_eq!(rt; output.as_slice(), wanted.as_slice(), "cut at {cut}");
+    }
+    let mut bytes = Vec::new(alloc);
+    for byte in text {
+        bytes.push(vec![in alloc; *byte; 1]?)?;
+    }
+    let mut input = MemSource::new(bytes, Vec::new(alloc));
+    let mut output = MemSink::new(alloc, Vec::new(alloc));
+    let words = words_of(alloc, &["run", "2", "1"])?;
+    assert_eq!(rt; cut_main(alloc, &words, &mut input, &mut output), 0);
+    let told = output.bytes().ok_or("told")?;
+    assert_eq!(rt; told, wanted.as_slice());
+    Ok(())
+}
+
+#[test]
+fn faults_end_the_run(rt: HostRuntime) -> Result<(), Fail> {
+    let alloc = rt.alloc();
+    let pieces: [&[u8]; 2] = [b"overwrite 0 0 @0 0 1\npo", b"int\n"];
+    let table: [(&[u32], &[u32], u8, &[u8]); 6] = [
+        (&[1], &[], 1, b""),
+        (&[2], &[], 1, b"ok 0 item 0\n"),
+        (&[3], &[], 1, b"ok 0 item 0\npoint 1\n"),
+        (&[], &[1], 2, b""),
+        (&[], &[2], 2, b"ok 0 item 0\n"),
+        (&[], &[3], 2, b"ok 0 item 0\npoint 1\n"),
+    ];
+    for (reads, writes, status, wanted) in table {
+        let (ended_with, output) = ended(alloc, &["run", "1", "1"], &pieces, reads, writes)?;
+        assert_eq!(rt; ended_with, status);
+        assert_eq!(rt; output.as_slice(), wanted);
+    }
+    let (status, output) = ended(alloc, &["run"], &[b"point\n"], &[], &[1])?;
+    assert_eq!(rt; status, 2);
+    assert_eq!(rt; output.len(), 0);
+    Ok(())
+}
+
+#[test]
+fn words_are_a_run_or_refused(rt: HostRuntime) -> Result<(), Fail> {
+    let alloc = rt.alloc();
+    let refused: [&[&str]; 10] = [
+        &[],
+        &["run"],
+        &["run", "2"],
+        &["run", "0", "1"],
+        &["run", "17", "1"],
+        &["run", "2", "1000"],
+        &["run", "2", "-1"],
+        &["run", " 2", "1"],
+        &["run", "2", "1", "1"],
+        &["Run", "2", "1"],
+    ];
+    for words in refused {
+        let (status, output) = ended(alloc, words, &[b"point\n"], &[], &[])?;
+        assert_eq!(rt; status, 3);
+        assert_eq!(rt; output.as_slice(), b"refused words\n".as_slice());
+    }
+    let taken: [&[&str]; 4] = [
+        &["run", "1", "0"],
+        &["run", "16", "999"],
+        &["run", "02", "1"],
+        &["run", "2", "000"],
+    ];
+    for words in taken {
+        let (status, output) = ended(alloc, words, &[b"point\n"], &[], &[])?;
+        assert_eq!(rt; status, 0);
+        assert_eq!(rt; output.as_slice(), b"point 0\njournal 0\n".as_slice());
+    }
+    Ok(())
+}
+
+#[test]
+fn a_line_has_a_limit(rt: HostRuntime) -> Result<(), Fail> {
+    let alloc = rt.alloc();
+    for (blanks, wanted) in [
+        (1_019usize, b"point 0\npoint 0\njournal 0\n".as_slice()),
+        (1_020, b"bad B5\npoint 0\njournal 0\n".as_slice()),
+    ] {
+        let mut line = vec![in alloc; b' '; blanks]?;
+        line.extend_from_slice(b"point\npoint\n")?;
+        let (status, output) = ended(alloc, &["run", "1", "1"], &[&line], &[], &[])?;
+        assert_eq!(rt; status, 0);
+        assert_eq!(rt; output.as_slice(), wanted);
+    }
+    Ok(())
+}
+
+#[test]
+fn an_input_has_a_limit(rt: HostRuntime) -> Result<(), Fail> {
+    let alloc = rt.alloc();
+    let mut line = b"point\n".to_vec(alloc)?;
+    let most = vec![in alloc; b'x'; 67_108_858]?;
+    line.extend_from_slice(&most)?;
+    let (status, output) = ended(alloc, &["run", "1", "1"], &[&line], &[], &[])?;
+    assert_eq!(rt; status, 0);
+    assert_eq!(rt; output.as_slice(), b"point 0\nbad B5\njournal 0\n".as_slice());
+    let (status, output) = ended(alloc, &["run", "1", "1"], &[&line, b"x"], &[], &[])?;
+    assert_eq!(rt; status, 7);
+    assert_eq!(rt; output.as_slice(), b"point 0\n".as_slice());
+    Ok(())
+}
+
+#[test]
+fn a_journal_has_a_limit(rt: HostRuntime) -> Result<(), Fail> {
+    let alloc = rt.alloc();
+    let mut lines = Vec::new(alloc);
+    for _ in 0..100_001u32 {
+        lines.extend_from_slice(b"overwrite 0 0 @0 0 1\n")?;
+    }
+    lines.extend_from_slice(b"overwrite 0 0 @1 0 1\npoint\n")?;
+    let (status, output) = ended(alloc, &["run", "1", "1"], &[&lines], &[], &[])?;
+    assert_eq!(rt; status, 0);
+    let wanted = b"\nok 99999 item 99999\nno 100000 E15\nno 100000 E3\npoint 100000\njournal 100000\n0 1 overwrite 0 0 @0 0 1\n";
+    assert!(rt; output.as_slice().windows(wanted.len()).any(|part| part == wanted.as_slice()));
+    Ok(())
+}

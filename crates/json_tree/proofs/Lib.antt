@@ -1,0 +1,17 @@
+pub mod Blanks
+pub mod TextLoop
+pub mod ListLoop
+pub mod Levels
+pub mod Digits
+pub mod Fractions
+pub mod Steps
+pub mod Kept
+pub mod WritingSteps
+pub mod Tools
+pub mod Utf8Laws
+pub mod TextLaws
+pub mod NumeralLaws
+pub mod ValueLaws
+pub mod AgainLaws
+pub mod SoundSteps
+pub mod WriteLaws

@@ -1,0 +1,46 @@
+// A whole text in JSON.
+ghost use Rattle.std.specs.Prelude.{◌≤◌, length, IfOk, Ok};
+ghost use Rattle.json_tree.specs.Grammar.{Spells};
+ghost use Rattle.json_tree.specs.Reading.{Gives};
+ghost use Rattle.json_tree.specs.ReadingValues.{document_at};
+ghost use Rattle.json_tree.specs.Tree.{Tree};
+ghost use Rattle.json_tree.specs.View.{tree_of};
+
+use crate::fault::JsonFault;
+use crate::rest::Rest;
+use crate::tree::Json;
+use crate::values::item;
+use std::alloc::Global;
+
+/// The most bytes that are read: 32 MiB.
+pub const MOST_BYTES: usize = 33_554_432;
+
+/// The most levels of lists and objects in one another.
+pub const MOST_LEVELS: u32 = 64;
+
+/// The value that the bytes spell, with blanks around it; or the first fault, from left to right. Bytes that
+/// are too many are not looked into.
+pub fn read(alloc: Global, bytes: &[u8]) -> Result<Json, JsonFault>
+    // What is read is spelled so, with its places.
+    ensures found { IfOk result (λ tree. (length bytes.now ≤ MOST_BYTES) × Spells MOST_LEVELS bytes.now (tree_of tree)) }
+    // What is spelled so is read, unless memory runs out.
+    ensures only { (tree : Tree) → length bytes.now ≤ MOST_BYTES → Spells MOST_LEVELS bytes.now tree → Gives tree_of result (Ok tree) }
+    // Which fault it is, and where.
+    ensures exact { Gives tree_of result (document_at bytes.now) }
+{
+    document(alloc, bytes)
+}
+
+#[tactic(auto, unfolding(crate::specs::ReadingValues::document_at))]
+fn document(alloc: Global, bytes: &[u8]) -> Result<Json, JsonFault>
+    ensures { Gives tree_of result (document_at bytes.now) }
+{
+    if bytes.len() > MOST_BYTES {
+        return Err(JsonFault::TooLarge);
+    }
+    let (tree, rest) = item(alloc, MOST_LEVELS, Rest { at: 0, bytes })?;
+    if !rest.bytes.is_empty() {
+        return Err(JsonFault::Syntax(rest.at));
+    }
+    Ok(tree)
+}

@@ -1,0 +1,472 @@
+use super::*;
+use std::alloc::{AllocError, Global};
+use std::test::Fail;
+
+/// A tree as text, each value with its place before it, down to a few levels.
+fn show(alloc: Global, out: &mut String, tree: &Json, levels: u32) -> Result<(), AllocError> {
+    if levels == 0 {
+        return out.push_str("..");
+    }
+    out.push_str(format!(in alloc; "{}", tree.at)?.as_str())?;
+    match &tree.value {
+        Value::Null => out.push_str("n"),
+        Value::Bool(true) => out.push_str("t"),
+        Value::Bool(false) => out.push_str("f"),
+        Value::Numeral(n) => {
+            out.push_str(format!(in alloc; "#{}/{}", n.mantissa, n.places)?.as_str())
+        }
+        Value::Wide => out.push_str("wide"),
+        Value::Text(text) => show_text(out, text),
+        Value::List(items) => {
+            out.push_str("[")?;
+            for item in items.as_slice() {
+                show(alloc, out, item, levels - 1)?;
+                out.push_str(" ")?;
+            }
+            out.push_str("]")
+        }
+        Value::Object(members) => {
+            out.push_str("{")?;
+            for member in members.as_slice() {
+                show_text(out, &member.name)?;
+                show(alloc, out, &member.value, levels - 1)?;
+                out.push_str(" ")?;
+            }
+            out.push_str("}")
+        }
+    }
+}
+
+fn show_text(out: &mut String, text: &Text) -> Result<(), AllocError> {
+    out.push_str("'")?;
+    out.push_str(text.as_str())?;
+    out.push_str("'")
+}
+
+/// What reading the bytes gives, as text.
+fn reading(alloc: Global, bytes: &[u8]) -> Result<String, AllocError> {
+    match read(alloc, bytes) {
+        Ok(tree) => {
+            let mut out = String::new(alloc);
+            show(alloc, &mut out, &tree, 5)?;
+            Ok(out)
+        }
+        Err(JsonFault::Syntax(at)) => format!(in alloc; "syntax {at}"),
+        Err(JsonFault::Depth(at)) => format!(in alloc; "depth {at}"),
+        Err(JsonFault::NotUtf8(at)) => format!(in alloc; "utf8 {at}"),
+        Err(JsonFault::TooLarge) => String::from_str(alloc, "too large"),
+        Err(JsonFault::Memory) => String::from_str(alloc, "memory"),
+    }
+}
+
+#[test]
+fn values_and_blanks(rt: HostRuntime) -> Result<(), Fail> {
+    for (text, want) in [
+        ("null", "0n"),
+        ("true", "0t"),
+        (" \t\r\nfalse \t\r\n", "4f"),
+        ("\"\"", "0''"),
+        ("[]", "0[]"),
+        ("[ ]", "0[]"),
+        ("{}", "0{}"),
+        ("{\t}", "0{}"),
+        ("[1,2]", "0[1#1/0 3#2/0 ]"),
+        ("[ 1 , [ ] ]", "0[2#1/0 6[] ]"),
+        ("{\"a\":1,\"a\":2}", "0{'a'5#1/0 'a'11#2/0 }"),
+        (" { \"a\" : [ { } , null ] } ", "1{'a'9[11{} 17n ] }"),
+    ] {
+        let got = reading(rt.alloc(), text.as_bytes())?;
+        assert_eq!(rt; got.as_str(), want, "at {text}");
+    }
+    Ok(())
+}
+
+#[test]
+fn faults_have_their_places(rt: HostRuntime) -> Result<(), Fail> {
+    for (text, want) in [
+        ("", "syntax 0"),
+        ("  ", "syntax 2"),
+        ("nul", "syntax 3"),
+        ("nulx", "syntax 3"),
+        ("nullx", "syntax 4"),
+        ("null null", "syntax 5"),
+        ("[1,]", "syntax 3"),
+        ("[,1]", "syntax 1"),
+        ("[1 2]", "syntax 3"),
+        ("[1}", "syntax 2"),
+        ("[", "syntax 1"),
+        ("[1", "syntax 2"),
+        ("[1,", "syntax 3"),
+        ("{\"a\"}", "syntax 4"),
+        ("{\"a\":}", "syntax 5"),
+        ("{\"a\":1,}", "syntax 7"),
+        ("{a:1}", "syntax 1"),
+        ("{1:1}", "syntax 1"),
+        ("{,}", "syntax 1"),
+        ("{\"a\" 1}", "syntax 5"),
+        ("{\"a\":1]", "syntax 6"),
+        ("'a'", "syntax 0"),
+        ("\u{feff}null", "syntax 0"),
+        ("[\u{e9}]", "syntax 1"),
+        ("01", "syntax 1"),
+        ("-", "syntax 1"),
+        ("-a", "syntax 1"),
+        ("+1", "syntax 0"),
+        (".5", "syntax 0"),
+        ("1.", "syntax 2"),
+        ("1.e1", "syntax 2"),
+        ("1e", "syntax 2"),
+        ("1e+", "syntax 3"),
+        ("1e+-1", "syntax 3"),
+        ("1ex", "syntax 2"),
+        ("[1.5.5]", "syntax 4"),
+        ("\"", "syntax 1"),
+        ("\"a", "syntax 2"),
+        ("\"\\", "syntax 2"),
+        ("\"\\x\"", "syntax 2"),
+        ("\"\\u", "syntax 3"),
+        ("\"\\u00g0\"", "syntax 5"),
+        ("\"\\u12", "syntax 5"),
+        ("\"\\udc", "syntax 5"),
+        ("\"\\udczz\"", "syntax 5"),
+        ("\"\\udc00\"", "syntax 1"),
+        ("\"ab\\udfff\"", "syntax 3"),
+        ("\"\\ud800\"", "syntax 1"),
+        ("\"\\ud800", "syntax 7"),
+        ("\"\\ud800\\", "syntax 8"),
+        ("\"\\ud800\\n\"", "syntax 1"),
+        ("\"\\ud800\\u", "syntax 9"),
+        ("\"\\ud800\\u0", "syntax 1"),
+        ("\"\\ud800\\ud", "syntax 10"),
+        ("\"\\ud800\\udb", "syntax 1"),
+        ("\"\\ud800\\udc", "syntax 11"),
+        ("\"\\ud800\\udcz", "syntax 1"),
+        ("\"\\ud800\\udc0\n", "syntax 1"),
+        ("\"\\ud800x\"", "syntax 1"),
+    ] {
+        let got = reading(rt.alloc(), text.as_bytes())?;
+        assert_eq!(rt; got.as_str(), want, "at {text}");
+    }
+    Ok(())
+}
+
+#[test]
+fn characters_of_texts(rt: HostRuntime) -> Result<(), Fail> {
+    for (text, want) in [
+        (
+            "\"a\u{7f}\u{80}\u{7ff}\u{800}\u{ffff}\u{10000}\u{10ffff}\"",
+            "0'a\u{7f}\u{80}\u{7ff}\u{800}\u{ffff}\u{10000}\u{10ffff}'",
+        ),
+        ("\"\u{d7ff}\u{e000}\"", "0'\u{d7ff}\u{e000}'"),
+        ("\"\\\"\\\\\\/\\b\\f\\n\\r\\t\"", "0'\"\\/\u{8}\u{c}\n\r\t'"),
+        (
+            "\"\\u0041\\u00e9\\u20AC\\uFFff\\u0000\"",
+            "0'A\u{e9}\u{20ac}\u{ffff}\u{0}'",
+        ),
+        (
+            "\"\\ud83d\\ude00\\uDBFF\\uDFFF\\uD800\\uDC00\"",
+            "0'\u{1f600}\u{10ffff}\u{10000}'",
+        ),
+        ("{\"\\u0061\":1}", "0{'a'10#1/0 }"),
+    ] {
+        let got = reading(rt.alloc(), text.as_bytes())?;
+        assert_eq!(rt; got.as_str(), want, "at {text}");
+    }
+    Ok(())
+}
+
+#[test]
+fn bytes_that_are_not_utf8(rt: HostRuntime) -> Result<(), Fail> {
+    let table: [(&[u8], &str); 22] = [
+        (b"\"\x80\"", "utf8 1"),
+        (b"\"a\xbf\"", "utf8 2"),
+        (b"\"\xc0\x80\"", "utf8 1"),
+        (b"\"\xc1\xbf\"", "utf8 1"),
+        (b"\"\xc2\"", "utf8 1"),
+        (b"\"\xc2", "syntax 2"),
+        (b"\"\xe0\x9f\xbf\"", "utf8 1"),
+        (b"\"\xe0\xa0", "syntax 3"),
+        (b"\"\xe0\x80", "utf8 1"),
+        (b"\"\xed\xa0\x80\"", "utf8 1"),
+        (b"\"\xed\xbf\xbf\"", "utf8 1"),
+        (b"\"\xe2\x82\"", "utf8 1"),
+        (b"\"\xe2\n", "utf8 1"),
+        (b"\"\xf0\x8f\xbf\xbf\"", "utf8 1"),
+        (b"\"\xf0\x90\x80", "syntax 4"),
+        (b"\"\xf4\x90\x80\x80\"", "utf8 1"),
+        (b"\"\xf5\x80\x80\x80\"", "utf8 1"),
+        (b"\"\xff\"", "utf8 1"),
+        (b"\"\xf1\x80\x80\xc0\"", "utf8 1"),
+        (b"\xff", "syntax 0"),
+        (b"[\"\", \"\xfe\"]", "utf8 6"),
+        (b"\"\\ud800\xff\"", "syntax 1"),
+    ];
+    for (bytes, want) in table {
+        let got = reading(rt.alloc(), bytes)?;
+        assert_eq!(rt; got.as_str(), want);
+    }
+    for control in 0..32 {
+        let got = reading(rt.alloc(), &[b'"', b'a', control, b'"'])?;
+        assert_eq!(rt; got.as_str(), "syntax 2", "at {control}");
+    }
+    Ok(())
+}
+
+#[test]
+fn a_document_cut_at_any_byte(rt: HostRuntime) -> Result<(), Fail> {
+    let text = "{\"a\u{e9}\\n\\ud83d\\ude00\": [1, null ,{\"b\":\"\\u00e9\"}, -0.5e+3]}";
+    for cut in 0..text.len() {
+        let got = reading(rt.alloc(), &text.as_bytes()[..cut])?;
+        let want = format!(in rt.alloc(); "syntax {cut}")?;
+        assert_eq!(rt; got.as_str(), want.as_str(), "cut at {cut}");
+    }
+    Ok(())
+}
+
+/// Brackets that open so many levels, and their closing ones.
+fn nested(alloc: Global, levels: u32, by: u32) -> Result<String, AllocError> {
+    let mut out = String::new(alloc);
+    for level in 0..levels {
+        let open = if by == 0 || (by == 2 && level % 2 == 0) {
+            "["
+        } else {
+            "{\"a\":"
+        };
+        out.push_str(open)?;
+    }
+    out.push_str("1")?;
+    for level in (0..levels).rev() {
+        let close = if by == 0 || (by == 2 && level % 2 == 0) {
+            "]"
+        } else {
+            "}"
+        };
+        out.push_str(close)?;
+    }
+    Ok(out)
+}
+
+#[test]
+fn sixty_four_levels(rt: HostRuntime) -> Result<(), Fail> {
+    for (by, place) in [(0, 64), (1, 320), (2, 192)] {
+        let most = nested(rt.alloc(), 64, by)?;
+        let got = reading(rt.alloc(), most.as_str().as_bytes())?;
+        assert!(rt; !got.as_str().starts_with("depth"));
+        assert!(rt; !got.as_str().starts_with("syntax"));
+        let more = nested(rt.alloc(), 65, by)?;
+        let got = reading(rt.alloc(), more.as_str().as_bytes())?;
+        let want = format!(in rt.alloc(); "depth {place}")?;
+        assert_eq!(rt; got.as_str(), want.as_str());
+    }
+    Ok(())
+}
+
+#[test]
+fn numerals_are_kept_exactly(rt: HostRuntime) -> Result<(), Fail> {
+    for (text, want) in [
+        ("0", "0#0/0"),
+        ("-0", "0#0/0"),
+        ("-0.000e5", "0#0/0"),
+        ("0e999999999999999999999999999999", "0#0/0"),
+        ("24", "0#24/0"),
+        ("-1", "0#-1/0"),
+        ("23.976", "0#23976/3"),
+        ("1.50e3", "0#1500/0"),
+        ("0.0001E+4", "0#1/0"),
+        ("1.50", "0#15/1"),
+        ("100e-2", "0#1/0"),
+        ("999999999999999999", "0#999999999999999999/0"),
+        ("-999999999999999999", "0#-999999999999999999/0"),
+        ("1000000000000000000", "0wide"),
+        ("1e17", "0#100000000000000000/0"),
+        ("1e18", "0wide"),
+        ("1e-18", "0#1/18"),
+        ("1e-19", "0wide"),
+        ("10e-19", "0#1/18"),
+        ("0.999999999999999999", "0#999999999999999999/18"),
+        ("0.9999999999999999999", "0wide"),
+        ("0.0000000000000000001", "0wide"),
+        ("999999999999999999e1", "0wide"),
+        ("9999999999999999990e-1", "0#999999999999999999/0"),
+        ("1e340282366920938463463374607431768211457", "0wide"),
+        ("1e-340282366920938463463374607431768211457", "0wide"),
+        ("1e18446744073709551616", "0wide"),
+        ("1e-18446744073709551616", "0wide"),
+        (
+            "1e0000000000000000000000000000000000000000000002",
+            "0#100/0",
+        ),
+    ] {
+        let got = reading(rt.alloc(), text.as_bytes())?;
+        assert_eq!(rt; got.as_str(), want, "at {text}");
+    }
+    Ok(())
+}
+
+/// A byte, so many times.
+fn repeated(alloc: Global, out: &mut Vec<u8>, byte: u8, count: usize) -> Result<(), AllocError> {
+    let all = vec![in alloc; byte; count]?;
+    out.extend_from_slice(all.as_slice())
+}
+
+#[test]
+fn numerals_of_many_digits(rt: HostRuntime) -> Result<(), Fail> {
+    for (before, between, behind, end, want) in [
+        ("0.", 396, "15", "e398", Some((15, 0))),
+        ("0.", 396, "15", "e397", Some((15, 1))),
+        ("15", 400, "", "e-401", Some((15, 1))),
+        ("15", 400, "", "e-418", Some((15, 18))),
+        ("15", 400, "", "e-419", None),
+        ("15", 400, ".5", "e-400", None),
+        ("-2.5", 400, "", "", Some((-25, 1))),
+    ] {
+        let mut text = Vec::new(rt.alloc());
+        text.extend_from_slice(before.as_bytes())?;
+        repeated(rt.alloc(), &mut text, b'0', between)?;
+        text.extend_from_slice(behind.as_bytes())?;
+        text.extend_from_slice(end.as_bytes())?;
+        let got = numeral(text.as_slice()).map(|n| (n.mantissa, n.places));
+        assert_eq!(rt; got, want, "at {before} {end}");
+    }
+    Ok(())
+}
+
+#[test]
+fn a_text_that_is_a_numeral(rt: HostRuntime) {
+    for (text, want) in [
+        ("24", Some((24, 0))),
+        ("23.976", Some((23976, 3))),
+        ("", None),
+        (" 1", None),
+        ("1 ", None),
+        ("01", None),
+        ("1e18", None),
+        ("null", None),
+        ("1e-3", Some((1, 3))),
+    ] {
+        let got = numeral(text.as_bytes()).map(|n| (n.mantissa, n.places));
+        assert_eq!(rt; got, want, "at {text}");
+    }
+}
+
+#[test]
+fn the_last_of_a_name_is_found(rt: HostRuntime) -> Result<(), Fail> {
+    let text = "{\"a\":1,\"b\":2,\"a\":3,\"\":4}";
+    let tree = read(rt.alloc(), text.as_bytes()).map_err(|_| "it is lawful")?;
+    let Value::Object(members) = &tree.value else {
+        return Err(Fail::from("it is an object"));
+    };
+    for (name, want) in [
+        ("a", Some(17)),
+        ("b", Some(11)),
+        ("", Some(22)),
+        ("c", None),
+    ] {
+        assert_eq!(rt; members.find(name).map(|j| j.at), want, "of {name}");
+    }
+    Ok(())
+}
+
+#[test]
+fn texts_come_back(rt: HostRuntime) -> Result<(), Fail> {
+    for (text, want) in [
+        (" null ", "null"),
+        ("true", "true"),
+        ("false", "false"),
+        ("-0", "0.0"),
+        ("24", "24.0"),
+        ("-24", "-24.0"),
+        ("23.976", "23.976"),
+        ("-0.5", "-0.5"),
+        ("1e-18", "0.000000000000000001"),
+        ("999999999999999999", "999999999999999999.0"),
+        ("-0.999999999999999999", "-0.999999999999999999"),
+        ("100", "100.0"),
+        ("10.01", "10.01"),
+        (
+            "\"a\\/\\\"\\\\\\n\\u001f\\u0000\u{7f}\u{e9}\"",
+            "\"a/\\\"\\\\\\u000a\\u001f\\u0000\u{7f}\u{e9}\"",
+        ),
+        ("[ ]", "[]"),
+        ("{ }", "{}"),
+        ("[ 1 , [ null , 2 ] ]", "[1.0,[null,2.0]]"),
+        (
+            "{ \"a\" : { } , \"\\n\" : [ ] }",
+            "{\"a\":{},\"\\u000a\":[]}",
+        ),
+    ] {
+        let tree = read(rt.alloc(), text.as_bytes()).map_err(|_| "it is lawful")?;
+        assert!(rt; is_writable(&tree));
+        let wrote = write(rt.alloc(), &tree).map_err(|_| "there is memory")?;
+        assert_eq!(rt; wrote.as_slice(), want.as_bytes(), "at {text}");
+        let again = read(rt.alloc(), wrote.as_slice()).map_err(|_| "it is lawful")?;
+        assert!(rt; is_writable(&again));
+        let twice = write(rt.alloc(), &again).map_err(|_| "there is memory")?;
+        assert_eq!(rt; twice.as_slice(), want.as_bytes(), "again at {text}");
+    }
+    Ok(())
+}
+
+#[test]
+fn a_tree_that_was_built(rt: HostRuntime) -> Result<(), Fail> {
+    let alloc = rt.alloc();
+    let mut items = Items::new(alloc);
+    items
+        .push(Json {
+            at: 0,
+            value: Value::Null,
+        })
+        .map_err(|_| "there is memory")?;
+    let mut members = Members::new(alloc);
+    let name = Text::from_str(alloc, "a\"b").map_err(|_| "there is memory")?;
+    let list = Json {
+        at: 0,
+        value: Value::List(items),
+    };
+    members
+        .push(Member { name, value: list })
+        .map_err(|_| "there is memory")?;
+    let tree = Json {
+        at: 0,
+        value: Value::Object(members),
+    };
+    assert!(rt; is_writable(&tree));
+    let wrote = write(alloc, &tree).map_err(|_| "there is memory")?;
+    assert_eq!(rt; wrote.as_slice(), b"{\"a\\\"b\":[null]}".as_slice());
+    Ok(())
+}
+
+#[test]
+fn trees_that_are_not_written(rt: HostRuntime) -> Result<(), Fail> {
+    for (text, want) in [
+        ("1e99", false),
+        ("[{\"a\":[1e-99]}]", false),
+        ("[1e9]", true),
+    ] {
+        let tree = read(rt.alloc(), text.as_bytes()).map_err(|_| "it is lawful")?;
+        assert_eq!(rt; is_writable(&tree), want, "at {text}");
+    }
+    let most = nested(rt.alloc(), 64, 2)?;
+    let tree = read(rt.alloc(), most.as_str().as_bytes()).map_err(|_| "it is lawful")?;
+    assert!(rt; is_writable(&tree));
+    let mut items = Items::new(rt.alloc());
+    items.push(tree).map_err(|_| "there is memory")?;
+    let deeper = Json {
+        at: 0,
+        value: Value::List(items),
+    };
+    assert!(rt; !is_writable(&deeper));
+    Ok(())
+}
+
+#[test]
+fn thirty_two_mebibytes(rt: HostRuntime) -> Result<(), Fail> {
+    let mut bytes = Vec::new(rt.alloc());
+    repeated(rt.alloc(), &mut bytes, b' ', MOST_BYTES)?;
+    let got = reading(rt.alloc(), bytes.as_slice())?;
+    assert_eq!(rt; got.as_str(), "syntax 33554432");
+    bytes.push(b' ')?;
+    let got = reading(rt.alloc(), bytes.as_slice())?;
+    assert_eq!(rt; got.as_str(), "too large");
+    Ok(())
+}
