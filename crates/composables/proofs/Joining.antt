@@ -168,11 +168,13 @@ with_with r w v = by_test (same_number r.item w.item) refl where
       ap (λ (k : ℕ). record r { len = k } ∷ []) n
       ∙ sym (ap (λ (b : Bool). cond b (record r { len = r.len + (w.len + v.len) } ∷ []) (r ∷ record w { len = w.len + v.len } ∷ [])) same)
   inner false e same = sym (ap (λ (b : Bool). cond b (record r { len = r.len + w.len } ∷ v ∷ []) (r ∷ w ∷ v ∷ [])) same)
+
   apart : (b : Bool) → same_number r.item w.item ≡ false →
       r ∷ cond b (record w { len = w.len + v.len } ∷ []) (w ∷ v ∷ [])
       ≡ with_view r (cond b (record w { len = w.len + v.len } ∷ []) (w ∷ v ∷ []))
   apart true e = sym (ap (λ (b : Bool). cond b (record r { len = r.len + (w.len + v.len) } ∷ []) (r ∷ record w { len = w.len + v.len } ∷ [])) e)
   apart false e = sym (ap (λ (b : Bool). cond b (record r { len = r.len + w.len } ∷ v ∷ []) (r ∷ w ∷ v ∷ [])) e)
+
   by_test : (b : Bool) → same_number r.item w.item ≡ b → push_view (cond b (record r { len = r.len + w.len } ∷ []) (r ∷ w ∷ [])) v ≡ with_view r (push_view (w ∷ []) v)
   by_test true e =
       ap (λ (b : Bool). cond b (record r { len = (r.len + w.len) + v.len } ∷ []) (record r { len = r.len + w.len } ∷ v ∷ [])) (sym (same-along r.item w.item v.item e))

@@ -27,5 +27,6 @@ pushed t v = record t { cells = t.cells ++ view_cells v; next_item = next_past t
 -- the track with these in place of its items and gaps from index from up to before to
 abbrev pub replaced : TrackState → ℕ → ℕ → List ItemView → TrackState
 replaced t from to views = record t {
-    cells = (cells_of (take from (items_of t.cells)) ++ cells_of views) ++ cells_of (drop to (items_of t.cells));
-    next_item = next_past_all t.next_item views }
+  cells = (cells_of (take from (items_of t.cells)) ++ cells_of views) ++ cells_of (drop to (items_of t.cells));
+  next_item = next_past_all t.next_item views;
+}

@@ -14,11 +14,11 @@ mod refusals;
 mod tracks;
 
 pub use calls::{
-    Dissolve, End, Extract, Fill, FillLength, Insert, Link3, Numbers, Overwrite, Remove, Ripple, Roll, Slice, Slide,
-    Slip, Trim, Undissolve, Unlink,
+    Dissolve, End, Extract, Fill, FillLength, Insert, Link3, Numbers, Overwrite, Remove, Ripple,
+    Roll, Slice, Slide, Slip, Trim, Undissolve, Unlink,
 };
-pub use items::{ItemView, Place};
 pub use frame_meaning::Memory;
+pub use items::{ItemView, Place};
 pub use lists::Listed;
 pub use media::{Kind, Layer, Media, Nest, Table};
 pub use reel_table::Reels;

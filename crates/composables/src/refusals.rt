@@ -29,9 +29,16 @@ pub enum Refusal {
     /// The offsets (record place less source frame) of the first item and of the first that differs.
     OffsetsDiffer(i64, i64),
     /// An item has a link already.
-    AlreadyLinked { track: u32, item: u32 },
+    AlreadyLinked {
+        track: u32,
+        item: u32,
+    },
     /// A link has a track that is not named.
-    LinkOutside { home: u32, number: u32, track: u32 },
+    LinkOutside {
+        home: u32,
+        number: u32,
+        track: u32,
+    },
     /// Linked items would get different offsets: the offset before and after.
     LinkBroken {
         home: u32,

@@ -41,9 +41,12 @@ serves_all a b c got pending t u v is f g =
 
 pub serves_all_front : (a b c : SessionState) (got : List ℕ) (pending : InputLine) (t u v : Option (List ℕ)) → pending ≡ pending_after (Some []) got
     → ServesTo a b (ended (Some []) got) (Takes t u) → ServesTo b c (last_line pending) (TakesFront u v) → ServesFront a c (lines_of got) (TakesFront t v)
-serves_all_front a b c got pending t u v is f g =
-    (lines_of got, [], sym (append-nil (lines_of got)),
-    serves_lines a c _ _ (TakesFront t v) (ap (λ p. ended (Some []) got ++ last_line p) is ∙ sym (lines_of_lem got)) (serves_front a b c (ended (Some []) got) (last_line pending) t u v f g))
+serves_all_front a b c got pending t u v is f g = (
+  lines_of got,
+  [],
+  sym (append-nil (lines_of got)),
+  serves_lines a c _ _ (TakesFront t v) (ap (λ p. ended (Some []) got ++ last_line p) is ∙ sym (lines_of_lem got)) (serves_front a b c (ended (Some []) got) (last_line pending) t u v f g),
+)
 
 -- the lines that end in a piece more
 pub ended_more : (got piece : List ℕ) (pending : InputLine) → pending ≡ pending_after (Some []) got → ended (Some []) got ++ ended pending piece ≡ ended (Some []) (got ++ piece)
@@ -64,13 +67,15 @@ serves_piece_front a b c got piece more pending t u v is f (front, back, cut, g)
     let done = ended (Some []) got in
     let rest = ended (pending_after (Some []) (got ++ piece)) more ++ last_line (pending_after (Some []) (got ++ (piece ++ more))) in
     let whole : ended (Some []) (got ++ (piece ++ more)) ≡ ended (Some []) (got ++ piece) ++ ended (pending_after (Some []) (got ++ piece)) more =
-        ap (ended (Some [])) (sym (append_assoc got piece more)) ∙ ended-append (Some []) (got ++ piece) more in
+    ap (ended (Some [])) (sym (append_assoc got piece more)) ∙ ended-append (Some []) (got ++ piece) more in
     let fronts : ended (Some []) (got ++ piece) ≡ (done ++ front) ++ back =
-        sym (ended_more got piece pending is) ∙ (ap (λ ls. done ++ ls) cut ∙ sym (append_assoc done front back)) in
-    (done ++ front, back ++ rest,
-    lines_of_lem (got ++ (piece ++ more)) ∙ (ap (λ ls. ls ++ last_line (pending_after (Some []) (got ++ (piece ++ more)))) (whole ∙ ap (λ ls. ls ++ ended (pending_after (Some []) (got ++ piece)) more) fronts)
-      ∙ (append_assoc ((done ++ front) ++ back) _ _ ∙ append_assoc (done ++ front) back rest)),
-    serves_front a b c done front t u v f g)
+    sym (ended_more got piece pending is) ∙ (ap (λ ls. done ++ ls) cut ∙ sym (append_assoc done front back)) in (
+      done ++ front,
+      back ++ rest,
+      lines_of_lem (got ++ (piece ++ more)) ∙ (ap (λ ls. ls ++ last_line (pending_after (Some []) (got ++ (piece ++ more)))) (whole ∙ ap (λ ls. ls ++ ended (pending_after (Some []) (got ++ piece)) more) fronts)
+          ∙ (append_assoc ((done ++ front) ++ back) _ _ ∙ append_assoc (done ++ front) back rest)),
+      serves_front a b c done front t u v f g,
+    )
 
 -- the first bytes of an input
 pub first_bytes : (got piece more : List ℕ) (n : ℕ) → length got + length piece ≡ n → take n (got ++ (piece ++ more)) ≡ got ++ piece

@@ -64,17 +64,17 @@ reel_more m old new name small is named made =
 -- an empty track is good in any table
 empty_is : (table : Table) (n most : ℕ) → IsTrackOf table n most (empty_track n)
 empty_is table n most = record {
-    number_is = refl;
-    good = record {
-      kept = record { whole = refl; not_before = refl; each = tt; apart = tt; below = tt; short = omega arith };
-      ranges = tt;
-      links = tt;
-      frames = omega arith;
-      items = omega arith;
-    };
-    unmarked = tt;
-    next = omega arith;
-  }
+  number_is = refl;
+  good = record {
+    kept = record { whole = refl; not_before = refl; each = tt; apart = tt; below = tt; short = omega arith };
+    ranges = tt;
+    links = tt;
+    frames = omega arith;
+    items = omega arith;
+  };
+  unmarked = tt;
+  next = omega arith;
+}
 
 pub empty_are : (table : Table) (a n most : ℕ) → AreTracksOf table a most (map empty_track (range_with_len a n))
 empty_are table a zero most = tt

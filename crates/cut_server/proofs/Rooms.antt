@@ -54,8 +54,8 @@ applied_one table tracks c n t none named at =
     ap (λ (o : Option Refusal). unless_refused o (on_whole tracks (names_of c) (applied_on table (picked tracks (names_of c)) c))) none
     ∙ (ap (λ (ns : List ℕ). on_whole tracks ns (applied_on table (picked tracks ns) c)) named
     ∙ ap (λ (ts : List TrackState). on_whole tracks (n ∷ []) (applied_on table ts c)) (one_picked tracks n t at)) where
-  one_picked : (tracks : List TrackState) (n : ℕ) (t : TrackState) → slice_get tracks n ≡ Some t → picked tracks (n ∷ []) ≡ t ∷ []
-  one_picked tracks n t at = rw at refl
+      one_picked : (tracks : List TrackState) (n : ℕ) (t : TrackState) → slice_get tracks n ≡ Some t → picked tracks (n ∷ []) ≡ t ∷ []
+      one_picked tracks n t at = rw at refl
 
 pub applied_done : (table : Table) (tracks : List TrackState) (c : Call) (n : ℕ) (t u : TrackState) (d : Done) → refuse_names_of table c ≡ None → names_of c ≡ n ∷ [] → slice_get tracks n ≡ Some t
     → applied_on table (t ∷ []) c ≡ Ok (u ∷ [], d) → applied table tracks c ≡ Ok (set tracks n u, d)
@@ -80,27 +80,30 @@ pub left_alone : (table : Table) (meant : Applied) (old : TrackState) (us rest :
 left_alone table meant old [] rest t d is good unmarked rises e = absurd rises
 left_alone table meant old (u ∷ []) rest t d is good unmarked rises e =
     let same : u ≡ t = no_more rest t u (sym e) in
-    let Q : TrackState → Type 0 = λ s. IsTrackOf table old.number (old.next_item + 2) s in
-    (is ∙ ap (λ (s : TrackState). Ok (s ∷ [], d)) same,
-    subst Q same (record {
-      number_is = rises.0;
-      good = All-get_or (λ (s : TrackState). IsGood table s) (u ∷ []) 0 u (omega arith) good;
-      unmarked = All-get_or (λ (s : TrackState). AllUnmarked (items_of s.cells)) (u ∷ []) 0 u (omega arith) unmarked;
-      next = rises.1;
-    }))
+    let Q : TrackState → Type 0 = λ s. IsTrackOf table old.number (old.next_item + 2) s in (
+      is ∙ ap (λ (s : TrackState). Ok (s ∷ [], d)) same,
+      subst Q same (record {
+        number_is = rises.0;
+        good = All-get_or (λ (s : TrackState). IsGood table s) (u ∷ []) 0 u (omega arith) good;
+        unmarked = All-get_or (λ (s : TrackState). AllUnmarked (items_of s.cells)) (u ∷ []) 0 u (omega arith) unmarked;
+        next = rises.1;
+      }),
+    )
 left_alone table meant old (u ∷ v ∷ vs) rest t d is good unmarked rises e = absurd rises.2
 
 -- an edit of the one track that a call names, as an edit of the room
 pub lifted : (table : Table) (tracks : List TrackState) (most : ℕ) (c : Call) (n : ℕ) (t : TrackState) (a : Attempt)
     → refuse_names_of table c ≡ None → names_of c ≡ n ∷ [] → n < length tracks → slice_get tracks n ≡ Some t → IsTrackOf table n most t
     → EditsTo (applied_on table (t ∷ []) c) table t.number t.next_item a → Attempts table tracks most c a
-lifted table tracks most c n t (attempt.Changed u d) none named within at is (done, left) =
-    (n, record {
-      named = named;
-      within = within;
-      applies = applied_done table tracks c n t u d none named at done;
-      is_track = later_track table n (t.next_item + 2) (most + 2) u (omega (arith, is.next)) (rw is.number_is at left);
-    })
+lifted table tracks most c n t (attempt.Changed u d) none named within at is (done, left) = (
+  n,
+  record {
+    named = named;
+    within = within;
+    applies = applied_done table tracks c n t u d none named at done;
+    is_track = later_track table n (t.next_item + 2) (most + 2) u (omega (arith, is.next)) (rw is.number_is at left);
+  },
+)
 lifted table tracks most c n t (attempt.Refused why) none named within at is refused = applied_refused table tracks c n t why none named at refused
 lifted table tracks most c n t attempt.Memory none named within at is memory = tt
 

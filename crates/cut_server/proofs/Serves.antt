@@ -52,16 +52,22 @@ serves_one old mid new l reply Taken (text, is, step) next taken o ls rs last w 
 pub serves_more : (a b c : SessionState) (xs ys : List InputLine) (t u v : Option (List ℕ)) → ServesTo a b xs (Takes t u) → ServesTo b c ys (Takes u v) → ServesTo a c (xs ++ ys) (Takes t v)
 serves_more a b c xs ys t u v f g o ls rs last w =
     let first = f o ls rs last w in
-    let second = g o (ls ++ xs) (rs ++ first.0) first.1 first.2 in
-    (first.0 ++ second.0, second.1, rw (← append_assoc ls xs ys, ← append_assoc rs first.0 second.0) second.2,
-    subst (Takes t v) (sym (sent-append first.0 second.0)) (takes-takes t u v (sent first.0) (sent second.0) first.3 second.3))
+    let second = g o (ls ++ xs) (rs ++ first.0) first.1 first.2 in (
+      first.0 ++ second.0,
+      second.1,
+      rw (← append_assoc ls xs ys, ← append_assoc rs first.0 second.0) second.2,
+      subst (Takes t v) (sym (sent-append first.0 second.0)) (takes-takes t u v (sent first.0) (sent second.0) first.3 second.3),
+    )
 
 pub serves_front : (a b c : SessionState) (xs ys : List InputLine) (t u v : Option (List ℕ)) → ServesTo a b xs (Takes t u) → ServesTo b c ys (TakesFront u v) → ServesTo a c (xs ++ ys) (TakesFront t v)
 serves_front a b c xs ys t u v f g o ls rs last w =
     let first = f o ls rs last w in
-    let second = g o (ls ++ xs) (rs ++ first.0) first.1 first.2 in
-    (first.0 ++ second.0, second.1, rw (← append_assoc ls xs ys, ← append_assoc rs first.0 second.0) second.2,
-    subst (TakesFront t v) (sym (sent-append first.0 second.0)) (takes-takes_front t u v (sent first.0) (sent second.0) first.3 second.3))
+    let second = g o (ls ++ xs) (rs ++ first.0) first.1 first.2 in (
+      first.0 ++ second.0,
+      second.1,
+      rw (← append_assoc ls xs ys, ← append_assoc rs first.0 second.0) second.2,
+      subst (TakesFront t v) (sym (sent-append first.0 second.0)) (takes-takes_front t u v (sent first.0) (sent second.0) first.3 second.3),
+    )
 
 pub serves_lines : (a b : SessionState) (xs ys : List InputLine) (Taken : List ℕ → Type 0) → xs ≡ ys → ServesTo a b xs Taken → ServesTo a b ys Taken
 serves_lines a b xs ys Taken e f = rw e at f

@@ -55,23 +55,31 @@ none_more (f ∷ fs) e station line less none = (none.0, none_more fs e station 
 pub mono_row : (o : Opening) (h : History) (e : Entry Call) (station line told : ℕ) (reply : List ℕ) (after : ℕ) (points : List ℕ) (m : Result Line LineFault)
     → length h < most_entries → line < e.number → Row o h station line told reply after points m → Row o (h ++ e ∷ []) station line told reply after points m
 mono_row o h e station line told reply after points (Ok (Edit c)) room less (inl (inl (n, d, w))) =
-    inl (inl (n, d, record {
-      told_of = w.told_of;
-      entry = get_more h e _ n w.entry;
-      answer = answer_more o h e n c (omega (arith, get_below h _ n w.entry)) ∙ w.answer;
-      reply_is = w.reply_is;
-      after_is = w.after_is;
-      points_are = w.points_are;
-    }))
+    inl (inl (
+      n,
+      d,
+      record {
+        told_of = w.told_of;
+        entry = get_more h e _ n w.entry;
+        answer = answer_more o h e n c (omega (arith, get_below h _ n w.entry)) ∙ w.answer;
+        reply_is = w.reply_is;
+        after_is = w.after_is;
+        points_are = w.points_are;
+      },
+    ))
 mono_row o h e station line told reply after points (Ok (Edit c)) room less (inl (inr (n, r, w))) =
-    inl (inr (n, r, record {
-      told_of = w.told_of;
-      within = omega (arith, w.within, length-append h (e ∷ []));
-      answer = answer_more o h e n c w.within ∙ w.answer;
-      reply_is = w.reply_is;
-      after_is = w.after_is;
-      points_are = w.points_are;
-    }))
+    inl (inr (
+      n,
+      r,
+      record {
+        told_of = w.told_of;
+        within = omega (arith, w.within, length-append h (e ∷ []));
+        answer = answer_more o h e n c w.within ∙ w.answer;
+        reply_is = w.reply_is;
+        after_is = w.after_is;
+        points_are = w.points_are;
+      },
+    ))
 mono_row o h e station line told reply after points (Ok (Edit c)) room less (inr (inl (d, w))) = absurd (omega (arith, w.full, room))
 mono_row o h e station line told reply after points (Ok (Edit c)) room less (inr (inr w)) =
     inr (inr (record {
@@ -81,14 +89,18 @@ mono_row o h e station line told reply after points (Ok (Edit c)) room less (inr
       points_are = w.points_are;
     }))
 mono_row o h e station line told reply after points (Ok (AskOf q)) room less (inl (n, s, w)) =
-    inl (n, s, record {
-      told_of = w.told_of;
-      within = omega (arith, w.within, length-append h (e ∷ []));
-      sight = sight_more o h e n q w.within ∙ w.sight;
-      reply_is = w.reply_is;
-      after_is = w.after_is;
-      points_are = w.points_are;
-    })
+    inl (
+      n,
+      s,
+      record {
+        told_of = w.told_of;
+        within = omega (arith, w.within, length-append h (e ∷ []));
+        sight = sight_more o h e n q w.within ∙ w.sight;
+        reply_is = w.reply_is;
+        after_is = w.after_is;
+        points_are = w.points_are;
+      },
+    )
 mono_row o h e station line told reply after points (Ok (AskOf q)) room less (inr w) =
     inr (record {
       none = none_more h e station line less w.none;
@@ -96,28 +108,35 @@ mono_row o h e station line told reply after points (Ok (AskOf q)) room less (in
       after_is = w.after_is;
       points_are = w.points_are;
     })
-mono_row o h e station line told reply after points (Ok Point) room less (n, w) =
-    (n, record {
-      told_of = w.told_of;
-      within = omega (arith, w.within, length-append h (e ∷ []));
-      reply_is = w.reply_is;
-      after_is = w.after_is;
-      points_are = w.points_are;
-    })
-mono_row o h e station line told reply after points (Err fault) room less w = record {
+mono_row o h e station line told reply after points (Ok Point) room less (n, w) = (
+  n,
+  record {
+    told_of = w.told_of;
+    within = omega (arith, w.within, length-append h (e ∷ []));
     reply_is = w.reply_is;
     after_is = w.after_is;
     points_are = w.points_are;
-  }
+  },
+)
+mono_row o h e station line told reply after points (Err fault) room less w = record {
+  reply_is = w.reply_is;
+  after_is = w.after_is;
+  points_are = w.points_are;
+}
 
 pub mono_rows : (o : Opening) (h : History) (e : Entry Call) (station line told : ℕ) (ls : List InputLine) (rs : List (List ℕ)) (last : ℕ) (points : List ℕ)
     → length h < most_entries → line + length ls ≤ e.number → Rows o h station line told ls rs last points → Rows o (h ++ e ∷ []) station line told ls rs last points
 mono_rows o h e station line told [] [] last points room less rows = rows
 mono_rows o h e station line told [] (r ∷ rs) last points room less rows = rows
 mono_rows o h e station line told (l ∷ ls) [] last points room less rows = rows
-mono_rows o h e station line told (l ∷ ls) (r ∷ rs) last points room less (after, here, rest, row, rows, is) =
-    (after, here, rest, mono_row o h e station line told r after here (meaning_of o.setting l) room (omega arith) row,
-    mono_rows o h e station (line + 1) after ls rs last rest room (omega arith) rows, is)
+mono_rows o h e station line told (l ∷ ls) (r ∷ rs) last points room less (after, here, rest, row, rows, is) = (
+  after,
+  here,
+  rest,
+  mono_row o h e station line told r after here (meaning_of o.setting l) room (omega arith) row,
+  mono_rows o h e station (line + 1) after ls rs last rest room (omega arith) rows,
+  is,
+)
 
 -- a line more
 pub more_rows : (o : Opening) (h : History) (station line told : ℕ) (ls : List InputLine) (rs : List (List ℕ)) (last : ℕ) (points : List ℕ) (l : InputLine) (reply : List ℕ) (after : ℕ) (here : List ℕ)
@@ -141,6 +160,7 @@ pub points_more : (n : ℕ) (station : ℕ) (h : History) (e : Entry Call) → e
 points_more n station [] e is = own (eqb e.station station) (ap (λ s. eqb s station) is ∙ eqb-refl station) where
   eqb-refl : (m : ℕ) → eqb m m ≡ true
   eqb-refl m = grind arith
+
   own : (b : Bool) → b ≡ true → cond b (n ∷ []) [] ≡ (n + 0) ∷ []
   own true t = let k : n ≡ n + 0 = omega arith in ap (λ m. m ∷ []) k
   own false t = cc

@@ -18,10 +18,11 @@ plain_reel m = codes "R" ++ decimal m
 
 abbrev pub plain_table : ℕ → ℕ → Table
 plain_table tracks reels = record {
-    kinds = map (λ _. Video) (range_with_len 0 tracks);
-    reels = map plain_reel (range_with_len 0 reels);
-    media = map plain_media (range_with_len 0 reels);
-    nests = [] }
+  kinds = map (λ _. Video) (range_with_len 0 tracks);
+  reels = map plain_reel (range_with_len 0 reels);
+  media = map plain_media (range_with_len 0 reels);
+  nests = [];
+}
 
 abbrev pub empty_track : ℕ → TrackState
 empty_track t = record { number = t; cells = []; next_item = 0; next_link = 0 }
@@ -29,5 +30,6 @@ empty_track t = record { number = t; cells = []; next_item = 0; next_link = 0 }
 -- 24 frames a second, non-drop, from frame 0
 abbrev pub plain_opening : ℕ → ℕ → Opening
 plain_opening tracks reels = record {
-    setting = record { table = plain_table tracks reels; counting = record { rate = F24; drop_frame = false }; start = 0 };
-    tracks = map empty_track (range_with_len 0 tracks) }
+  setting = record { table = plain_table tracks reels; counting = record { rate = F24; drop_frame = false }; start = 0 };
+  tracks = map empty_track (range_with_len 0 tracks);
+}

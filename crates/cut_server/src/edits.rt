@@ -72,7 +72,13 @@ fn edit_from<L: Ledger>(
 }
 
 /// What comes of an edit on a copy of the track that it names.
-pub(crate) fn try_edit(alloc: Global, editor: &Editor, tracks: &[Track], call: &Call, most: u32) -> Attempt
+pub(crate) fn try_edit(
+    alloc: Global,
+    editor: &Editor,
+    tracks: &[Track],
+    call: &Call,
+    most: u32,
+) -> Attempt
     requires kinds { length tracks.now ≡ length editor.now.table.kinds }
     requires tracks { AreTracksOf editor.now.table 0 most tracks.now }
     requires most { most ≤ 2 ^ 31 }

@@ -198,7 +198,12 @@ impl Session {
 }
 
 // What a question to one of these tracks is answered.
-fn see_track(alloc: Global, editor: &Editor, tracks: &[Track], ask: &Ask) -> Result<Seen, SightFault>
+fn see_track(
+    alloc: Global,
+    editor: &Editor,
+    tracks: &[Track],
+    ask: &Ask,
+) -> Result<Seen, SightFault>
     requires kinds { length tracks.now ≡ length editor.now.table.kinds }
     requires tracks { (most : ℕ) × AreTracksOf editor.now.table 0 most tracks.now }
     ensures { Shows (seen_in editor.now.table tracks.now ask.now) result }
@@ -210,7 +215,11 @@ fn see_track(alloc: Global, editor: &Editor, tracks: &[Track], ask: &Ask) -> Res
 }
 
 // The reply to a question, with its line feed.
-fn sight_line(alloc: Global, point: u32, answer: &Result<Seen, AskRefusal>) -> Result<Vec<u8>, Memory>
+fn sight_line(
+    alloc: Global,
+    point: u32,
+    answer: &Result<Seen, AskRefusal>,
+) -> Result<Vec<u8>, Memory>
     ensures { IfOk result (λ text. text.items ≡ seen_of point answer.now ++ codes "\n") }
 {
     let mut text = seen_text(alloc, point, answer)?;

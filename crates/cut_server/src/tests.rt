@@ -192,7 +192,10 @@ fn an_input_has_a_limit(rt: HostRuntime) -> Result<(), Fail> {
     line.extend_from_slice(&most)?;
     let (status, output) = ended(alloc, &["run", "1", "1"], &[&line], &[], &[])?;
     assert_eq!(rt; status, 0);
-    assert_eq!(rt; output.as_slice(), b"point 0\nbad B5\njournal 0\n".as_slice());
+    assert_eq!(rt;
+        output.as_slice(),
+        b"point 0\nbad B5\njournal 0\n".as_slice()
+    );
     let (status, output) = ended(alloc, &["run", "1", "1"], &[&line, b"x"], &[], &[])?;
     assert_eq!(rt; status, 7);
     assert_eq!(rt; output.as_slice(), b"point 0\n".as_slice());
@@ -209,7 +212,13 @@ fn a_journal_has_a_limit(rt: HostRuntime) -> Result<(), Fail> {
     lines.extend_from_slice(b"overwrite 0 0 @1 0 1\npoint\n")?;
     let (status, output) = ended(alloc, &["run", "1", "1"], &[&lines], &[], &[])?;
     assert_eq!(rt; status, 0);
-    let wanted = b"\nok 99999 item 99999\nno 100000 E15\nno 100000 E3\npoint 100000\njournal 100000\n0 1 overwrite 0 0 @0 0 1\n";
-    assert!(rt; output.as_slice().windows(wanted.len()).any(|part| part == wanted.as_slice()));
+    let wanted =
+        b"\nok 99999 item 99999\nno 100000 E15\nno 100000 E3\npoint 100000\njournal 100000\n0 1 overwrite 0 0 @0 0 1\n";
+    assert!(rt;
+        output
+            .as_slice()
+            .windows(wanted.len())
+            .any(|part| part == wanted.as_slice())
+    );
     Ok(())
 }

@@ -29,9 +29,9 @@ returns-clause-ok c =
     let xs = c.args.items.now.items in
     let i = c.len-count.result - 1 in
     elim c.else-count-gt0.branch [
-      else-count-gt0-via-then-count-gt0+else-is_same w ↦
-        (let last : suc i ≡ length xs = omega (arith, c.len-count.ensures, c.args.items.now.ok.0, w.if-count-gt0.true) in
-        c.in_ok-push.ensures.items ∙ last_apart xs c.args.view w.index.result.now i last w.index.ensures (sym w.is_same.ensures ∙ w.if-is_same.false))
-    | else-count-gt0-via-else-count-gt0 w ↦
-        (c.in_ok-push.ensures.items ∙ first_pushed xs c.args.view (omega (arith, c.len-count.ensures, c.args.items.now.ok.0, w.if-count-gt0.false)))
+      | else-count-gt0-via-then-count-gt0+else-is_same w ↦
+          (let last : suc i ≡ length xs = omega (arith, c.len-count.ensures, c.args.items.now.ok.0, w.if-count-gt0.true) in
+          c.in_ok-push.ensures.items ∙ last_apart xs c.args.view w.index.result.now i last w.index.ensures (sym w.is_same.ensures ∙ w.if-is_same.false))
+      | else-count-gt0-via-else-count-gt0 w ↦
+          (c.in_ok-push.ensures.items ∙ first_pushed xs c.args.view (omega (arith, c.len-count.ensures, c.args.items.now.ok.0, w.if-count-gt0.false)))
     ]

@@ -15,8 +15,8 @@ loop-view-preserved g c =
     let past : drop (i + 1) vs ≡ drop (suc i) vs = rw add-one in
     record {
       same = ap (λ (zs : List ItemView). push_views zs (drop (i + 1) vs)) pushed
-        ∙ (ap (λ (zs : List ItemView). push_views (push_view c.loop-view.into.items (get_or vs i no_view)) zs) past
-        ∙ (sym (ap (push_views c.loop-view.into.items) (drop_at vs i no_view c.loop-view-test.true)) ∙ c.loop-view.invariant.same));
+          ∙ (ap (λ (zs : List ItemView). push_views (push_view c.loop-view.into.items (get_or vs i no_view)) zs) past
+          ∙ (sym (ap (push_views c.loop-view.into.items) (drop_at vs i no_view c.loop-view-test.true)) ∙ c.loop-view.invariant.same));
       frames = omega (arith, ap frames_in pushed, ap frames_in past, frames_in-push c.loop-view.into.items (get_or vs i no_view), frames_in-drop vs i no_view c.loop-view-test.true, c.loop-view.invariant.frames);
       least = omega (arith, c.loop-view.invariant.least, c.tick.ensures);
       most = omega (arith, c.loop-view.invariant.most, c.tick.ensures);

@@ -1,4 +1,3 @@
-
 use Rattle.room_ports.specs.Bytes.{Takes, TakesFront}
 use Rattle.cut_server.proofs.Serves.{serves_one, on_ok, on_err}
 use Rattle.cut_server.proofs.serve.answer_line.Goals as goal

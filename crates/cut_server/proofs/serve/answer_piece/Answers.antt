@@ -9,12 +9,12 @@ use Rattle.cut_server.proofs.serve.answer_piece.Goals as goal
 
 pub loop-at-init : goal.loop-at-init
 loop-at-init g c = record {
-    within = omega arith;
-    line = omega arith;
-    pending = refl;
-    served = ([], refl, serves_none c.args.session.now (g.K.Sink.taken c.args.output.now));
-    count = omega arith;
-  }
+  within = omega arith;
+  line = omega arith;
+  pending = refl;
+  served = ([], refl, serves_none c.args.session.now (g.K.Sink.taken c.args.output.now));
+  count = omega arith;
+}
 
 pub loop-at-preserved-in-Ok : goal.loop-at-preserved-in-Ok
 loop-at-preserved-in-Ok g c =
@@ -25,7 +25,7 @@ loop-at-preserved-in-Ok g c =
     let q = c.feed-fed.new.self.pending in
     let l = line_told c.in-Some.end c.line.result.now in
     let told : l ∷ [] ≡ ended c.loop-at.reader.pending (take n (drop c.loop-at.at p)) =
-        one_told c.feed-fed.result.line c.in-Some.end c.line.result.now c.feed-fed.new.self.last _ c.in-Some.is c.line.ensures (rw back at c.feed-fed.ensures.lines) in
+    one_told c.feed-fed.result.line c.in-Some.end c.line.result.now c.feed-fed.new.self.last _ c.in-Some.is c.line.ensures (rw back at c.feed-fed.ensures.lines) in
     let pend : q ≡ pending_after c.loop-at.reader.pending (take n (drop c.loop-at.at p)) = rw back at c.feed-fed.ensures.pending in
     let some = c.feed-fed.ensures.some (omega (arith, c.split_at.ensures.back_len, c.loop-at-test.true)) in
     let done = inv.served.0 in
@@ -50,10 +50,9 @@ returns-in-Err-clause-err g c =
     let q = c.feed-fed.new.self.pending in
     let l = line_told c.in-Some.end c.line.result.now in
     let told : l ∷ [] ≡ ended c.loop-at.reader.pending (take n (drop c.loop-at.at p)) =
-        one_told c.feed-fed.result.line c.in-Some.end c.line.result.now c.feed-fed.new.self.last _ c.in-Some.is c.line.ensures (rw back at c.feed-fed.ensures.lines) in
+    one_told c.feed-fed.result.line c.in-Some.end c.line.result.now c.feed-fed.new.self.last _ c.in-Some.is c.line.ensures (rw back at c.feed-fed.ensures.lines) in
     let pend : q ≡ pending_after c.loop-at.reader.pending (take n (drop c.loop-at.at p)) = rw back at c.feed-fed.ensures.pending in
-    let done = inv.served.0 in
-    (
+    let done = inv.served.0 in (
       done ++ l ∷ [],
       ended q (drop (c.loop-at.at + n) p),
       inv.served.1 ∙ (ap (λ (zs : List InputLine). done ++ zs) (ended_fed c.loop-at.reader.pending q (l ∷ []) p c.loop-at.at n told pend) ∙ sym (append_assoc done (l ∷ []) _)),

@@ -12,13 +12,13 @@ use Rattle.cut_server.proofs.serve.serve.Goals as goal
 
 pub loop-total-init : goal.loop-total-init
 loop-total-init g c = record {
-    small = omega arith;
-    buffer = refl;
-    line = omega (arith, c.requires);
-    so_far = ([], gives-nothing (g.S.Source.left c.args.input.now), refl, c.new-reader.ensures.pending, serves_none c.args.session.now (g.K.Sink.taken c.args.output.now));
-    reads = omega arith;
-    writes = omega arith;
-  }
+  small = omega arith;
+  buffer = refl;
+  line = omega (arith, c.requires);
+  so_far = ([], gives-nothing (g.S.Source.left c.args.input.now), refl, c.new-reader.ensures.pending, serves_none c.args.session.now (g.K.Sink.taken c.args.output.now));
+  reads = omega arith;
+  writes = omega arith;
+}
 
 pub returns-then-n-eq0-clause-ended : goal.returns-then-n-eq0-clause-ended
 returns-then-n-eq0-clause-ended g c = λ done.
@@ -60,7 +60,7 @@ returns-then-fits-n-clause-too_much g c = λ much.
     (λ bytes. P (take 67108864 bytes))
     s.1 c.in-Ok.ensures.front cut
     (λ more. subst P (sym (first_bytes s.0 piece more 67108864 (omega (arith, s.2, c.min-fits.ensures, c.if-fits-n.true, c.split_at.ensures.front_len, c.loop-total.invariant.small))))
-      (serves_piece c.args.session.now c.loop-total.session c.answer_piece.new.session s.0 piece c.loop-total.reader.pending (g.K.Sink.taken c.args.output.now) (g.K.Sink.taken c.loop-total.output) (g.K.Sink.taken c.answer_piece.new.output) s.3 s.4 c.in-Ok-answer_piece.ensures.ok))
+    (serves_piece c.args.session.now c.loop-total.session c.answer_piece.new.session s.0 piece c.loop-total.reader.pending (g.K.Sink.taken c.args.output.now) (g.K.Sink.taken c.loop-total.output) (g.K.Sink.taken c.answer_piece.new.output) s.3 s.4 c.in-Ok-answer_piece.ensures.ok))
 
 pub loop-total-preserved : goal.loop-total-preserved
 loop-total-preserved g c =

@@ -29,7 +29,7 @@ invariant_of-self-2 c =
     record {
       kinds = ap length c.put_track.ensures ∙ (length-set t.tracks.items c.track_of-index.result c.args.track ∙ s.kinds);
       tracks = rw (c.put_track.ensures, ← same) (tracks_with t.editor.table 0 (2 * length c.push.new.self.items) t.tracks.items n c.args.track
-        (rw z (later_track t.editor.table n (2 * length t.journal.items + 2) (2 * length c.push.new.self.items) c.args.track (omega (arith, more)) w.is_track))
-        (later_tracks t.editor.table 0 (2 * length t.journal.items) (2 * length c.push.new.self.items) t.tracks.items (omega (arith, more)) s.tracks));
+          (rw z (later_track t.editor.table n (2 * length t.journal.items + 2) (2 * length c.push.new.self.items) c.args.track (omega (arith, more)) w.is_track))
+          (later_tracks t.editor.table 0 (2 * length t.journal.items) (2 * length c.push.new.self.items) t.tracks.items (omega (arith, more)) s.tracks));
       within = omega (arith, more, c.if-len-ge-MOST_ENTRIES.false, c.len.ensures, t.journal.ok.0);
     }
