@@ -1,11 +1,10 @@
 -- Frames of items and gaps that are put one after another.
-use Rattle.std.proofs.Common.{◌≡◌, ℕ, zero, suc, ◌+◌, ◌<◌, ◌≤◌, Bool, true, false, cond, List, [], ◌∷◌, ◌++◌, length, Option, Some, None, refl, sym, ap, ◌∙◌, arith, take, drop, get_or, add-one}
+use Rattle.std.proofs.Common.{◌≡◌, ℕ, zero, suc, ◌+◌, ◌<◌, ◌≤◌, Bool, true, false, cond, List, [], ◌∷◌, ◌++◌, length, None, refl, sym, ap, ◌∙◌, arith, take, drop, get_or, add-one}
 use Rattle.std.proofs.Math.ListN.{set}
 use Rattle.frame_meaning.specs.Cells.{same_number}
 use Rattle.frame_meaning.specs.declared.frames.Side.TheVariants.{Dark}
 use Rattle.composables.specs.declared.items.ItemView.{ItemView}
-use Rattle.composables.specs.Joined.{with_view, push_view, push_views, frames_in}
-use Rattle.composables.proofs.Joining.{same-refl}
+use Rattle.composables.specs.Joined.{with_view, push_view, frames_in}
 
 pub frames_in-append : (xs ys : List ItemView) → frames_in (xs ++ ys) ≡ frames_in xs + frames_in ys
 frames_in-append [] ys = omega arith

@@ -1,13 +1,13 @@
 -- What a track keeps once its items and gaps are joined.
-use Rattle.std.proofs.Common.{◌≡◌, ℕ, ◌+◌, ◌<◌, ◌≤◌, ◌^◌, List, [], ◌∷◌, ◌++◌, length, take, drop, refl, sym, ap, ◌∙◌, arith, subst}
-use Rattle.std.proofs.lemmas.List.{append-nil, length-append}
+use Rattle.std.proofs.Common.{◌≡◌, ℕ, ◌+◌, ◌<◌, List, [], ◌∷◌, ◌++◌, length, take, drop, sym, ap, ◌∙◌, arith, subst}
+use Rattle.std.proofs.lemmas.List.{append-nil}
 use Rattle.frame_meaning.specs.declared.cells.Cell.{Cell}
 use Rattle.composables.specs.declared.items.ItemView.{ItemView}
 use Rattle.composables.specs.Items.{view_cells, cells_of, items_of}
 use Rattle.composables.specs.Joined.{joined, push_view, IsTight, AllFilled, frames_in}
-use Rattle.composables.specs.TrackState.{TrackState, pushed, replaced, next_past, next_past_all}
+use Rattle.composables.specs.TrackState.{TrackState}
 use Rattle.composables.specs.TrackFacts.{IsKept}
-use Rattle.composables.proofs.Joining.{items_of-cells_of, items_of-tight, length-cells_of, cells_of-append, tight-joined, filled-joined, filled-append, filled-take, filled-drop, push-tight}
+use Rattle.composables.proofs.Joining.{items_of-cells_of, length-cells_of, cells_of-append, tight-joined, filled-joined, filled-append, filled-take, filled-drop, push-tight}
 use Rattle.composables.proofs.Frames.{frames_in-append, frames_in-push}
 
 pub same_state : (number link m n : ℕ) (cs ds : List Cell) → cs ≡ ds → m ≡ n

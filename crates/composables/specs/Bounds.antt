@@ -1,5 +1,5 @@
 -- The source frames that a thing has.
-use Rattle.std.specs.Prelude.{ℕ, Option, Some, None, option_map, slice_get}
+use Rattle.std.specs.Prelude.{ℕ, Option, option_map, slice_get}
 use Rattle.frame_meaning.specs.declared.cells.What.{What}
 use Rattle.frame_meaning.specs.declared.cells.What.TheVariants.{Media as MediaOf, Nest as NestOf}
 use Rattle.composables.specs.declared.media.Table.{Table}

@@ -1,5 +1,5 @@
 -- Items and gaps put one after another, where those that belong together become one.
-use Rattle.std.specs.Prelude.{◌≡◌, ℕ, ◌+◌, ◌<◌, Bool, false, List, [], ◌∷◌, if◌then◌else◌}
+use Rattle.std.specs.Prelude.{◌≡◌, ℕ, ◌+◌, ◌<◌, false, List, [], ◌∷◌, if◌then◌else◌}
 use Rattle.frame_meaning.specs.Cells.{same_number}
 use Rattle.composables.specs.declared.items.ItemView.{ItemView}
 

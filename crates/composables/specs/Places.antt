@@ -1,5 +1,5 @@
 -- Where an item or gap stands.
-use Rattle.std.specs.Prelude.{◌≡◌, ℕ, ◌+◌, ◌<◌, List, take, length}
+use Rattle.std.specs.Prelude.{◌≡◌, ◌+◌, ◌<◌, List, take, length}
 use Rattle.frame_meaning.specs.declared.cells.Cell.{Cell}
 use Rattle.composables.specs.declared.items.ItemView.{ItemView}
 use Rattle.composables.specs.declared.items.Place.{Place}

@@ -1,5 +1,5 @@
 -- Reel names in order of first occurrence, without repeats.
-use Rattle.std.specs.Prelude.{◌≡◌, ◌++◌, [], ◌∷◌, ℕ, List, false, if◌then◌else◌}
+use Rattle.std.specs.Prelude.{◌++◌, [], ◌∷◌, ℕ, List, if◌then◌else◌}
 use Rattle.std.specs.List.{list_any}
 use Rattle.std.specs.Str.{bytes_eq}
 

@@ -30,3 +30,6 @@ pub const MAX_FRAMES: u32 = 2_592_000;
 
 /// The most items of a track, gaps counted.
 pub const MAX_ITEMS: u32 = 65_536;
+
+#[cfg(test)]
+mod tests;

@@ -42,7 +42,7 @@ fn ended(
 #[test]
 fn lines_are_answered(rt: HostRuntime) -> Result<(), Fail> {
     let alloc = rt.alloc();
-    let table: [(&[u8], &[u8]); 11] = [
+    let table: [(&[u8], &[u8]); 14] = [
         (b"", b"journal 0\n"),
         (
             b"overwrite 0 10 @0 100 5\nview 0 0 15\n",
@@ -70,6 +70,15 @@ fn lines_are_answered(rt: HostRuntime) -> Result<(), Fail> {
         ),
         (b"point\r\npoint", b"point 0\npoint 0\njournal 0\n"),
         (b"point\r", b"bad B1\njournal 0\n"),
+        (b"\r", b"bad B1\njournal 0\n"),
+        (
+            b"overwrite 0 0 @0 86399 1\noverwrite 0 0 @0 86400 1\noverwrite 0 0 @0 86399 2\noverwrite 0 0 @0 4294967295 4294967295\n",
+            b"ok 0 item 0\nno 1 E5\nno 1 E5\nno 1 E5\njournal 1\n0 1 overwrite 0 0 @0 86399 1\n",
+        ),
+        (
+            b"overwrite 0 -1 @0 0 1\noverwrite 0 0 0 0 1\noverwrite 0 0 @ 0 1\noverwrite 0 0 @0 x 1\noverwrite 0 0 @0 0 4294967296\noverwrite 0 0 @0 0\noverwrite 0 00:00:00:24 @0 0 1\noverwrite 0 0 @0 00:00:00:01 1\n",
+            b"bad B3\nbad B3\nbad B3\nbad B3\nbad B4\nbad B2\nbad B3\nbad B3\njournal 0\n",
+        ),
         (
             b"items 1\nview 1 0 0\nview 1 1 0\n",
             b"items 0\nseen 0\nno 0 V2 0\njournal 0\n",
@@ -131,6 +140,53 @@ fn faults_end_the_run(rt: HostRuntime) -> Result<(), Fail> {
     let (status, output) = ended(alloc, &["run"], &[b"point\n"], &[], &[1])?;
     assert_eq!(rt; status, 2);
     assert_eq!(rt; output.len(), 0);
+    Ok(())
+}
+
+// Ten lines, each in a piece of its own, and each call of reading and writing that fails in its turn.
+#[test]
+fn each_call_may_fail(rt: HostRuntime) -> Result<(), Fail> {
+    let alloc = rt.alloc();
+    let lines: [&[u8]; 10] = [
+        b"overwrite 0 10 @0 100 5\n",
+        b"view 0 0 15\n",
+        b"overwrite 1 0 @0 0 2\n",
+        b"overwrite 1 1 @0 9 9\n",
+        b"jump\n",
+        b"items 1\n",
+        b"overwrite 0 0 @0 86396 5\n",
+        b"point\n",
+        b"overwrite 0 12 @0 7 1\n",
+        b"items 0\n",
+    ];
+    let replies: [&[u8]; 11] = [
+        b"ok 0 item 0\n",
+        b"seen 1 dark 10 @0 100 5\n",
+        b"ok 1 item 0\n",
+        b"ok 2 item 1\n",
+        b"bad B1\n",
+        b"items 3 0 @0 0 1 1 @0 9 9\n",
+        b"no 3 E5\n",
+        b"point 3\n",
+        b"ok 3 item 1\n",
+        b"items 4 dark 10 0 @0 100 2 1 @0 7 1 2 @0 103 2\n",
+        b"journal 4\n0 1 overwrite 0 10 @0 100 5\n0 3 overwrite 1 0 @0 0 2\n0 4 overwrite 1 1 @0 9 9\n0 9 overwrite 0 12 @0 7 1\n",
+    ];
+    let mut wanted = Vec::new(alloc);
+    let mut call = 1u32;
+    for reply in replies {
+        let (read, before) = ended(alloc, &["run", "2", "1"], &lines, &[call], &[])?;
+        assert_eq!(rt; read, 1, "read {call}");
+        assert_eq!(rt; before.as_slice(), wanted.as_slice(), "read {call}");
+        let (write, front) = ended(alloc, &["run", "2", "1"], &lines, &[], &[call])?;
+        assert_eq!(rt; write, 2, "write {call}");
+        assert_eq!(rt; front.as_slice(), wanted.as_slice(), "write {call}");
+        wanted.extend_from_slice(reply)?;
+        call = call.saturating_add(1);
+    }
+    let (status, all) = ended(alloc, &["run", "2", "1"], &lines, &[12], &[12])?;
+    assert_eq!(rt; status, 0);
+    assert_eq!(rt; all.as_slice(), wanted.as_slice());
     Ok(())
 }
 

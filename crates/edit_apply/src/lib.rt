@@ -10,3 +10,6 @@ mod sights;
 
 pub use asks::{Ask, AskRefusal, Call, Seen};
 pub use editor::{Editor, SightFault, track_of};
+
+#[cfg(test)]
+mod tests;

@@ -1,6 +1,5 @@
-use Rattle.std.proofs.Common.{◌≡◌, [], ◌++◌, take, drop, List, sym, ap, ◌∙◌, arith}
-use Rattle.composables.specs.declared.items.ItemView.{ItemView}
-use Rattle.composables.specs.Joined.{push_views, frames_in}
+use Rattle.std.proofs.Common.{take, drop, ap, arith}
+use Rattle.composables.specs.Joined.{frames_in}
 use Rattle.composables.proofs.Joining.{pushed_thrice}
 use Rattle.composables.proofs.tracks.joined_around.Goals as goal
 

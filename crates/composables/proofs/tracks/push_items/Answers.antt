@@ -1,4 +1,4 @@
-use Rattle.std.proofs.Common.{◌≡◌, ◌+◌, drop, suc, get_or, sym, ap, ◌∙◌, arith, add-one, List, ◌∷◌}
+use Rattle.std.proofs.Common.{◌≡◌, ◌+◌, drop, suc, get_or, sym, ap, ◌∙◌, arith, add-one, List}
 use Rattle.composables.specs.declared.items.ItemView.{ItemView}
 use Rattle.composables.specs.Joined.{frames_in, push_views, push_view}
 use Rattle.composables.proofs.Frames.{drop_at, frames_in-drop, frames_in-push, no_view}

@@ -1,4 +1,4 @@
-use Rattle.std.proofs.Common.{Some, sym, ap, ◌∙◌, IfOk, ◌≡◌}
+use Rattle.std.proofs.Common.{sym, ap, ◌∙◌}
 use Rattle.std.specs.Option.{is_some}
 use Rattle.std.specs.String.{string_bytes}
 use Rattle.std.specs.Str.{bytes_eq}

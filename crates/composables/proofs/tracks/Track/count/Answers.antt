@@ -1,5 +1,5 @@
-use Rattle.std.proofs.Common.{◌≡◌, ◌≤◌, ap, sym, length, arith, ◌∙◌}
-use Rattle.composables.specs.Items.{items_of, cells_of}
+use Rattle.std.proofs.Common.{ap, sym, length, arith, ◌∙◌}
+use Rattle.composables.specs.Items.{cells_of}
 use Rattle.composables.proofs.Joining.{items_of-tight, length-items_of}
 use Rattle.composables.proofs.tracks.Track.count.Goals as goal
 

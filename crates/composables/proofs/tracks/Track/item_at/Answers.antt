@@ -1,6 +1,5 @@
-use Rattle.std.proofs.Common.{◌≡◌, length, arith, ap, sym, ◌∙◌}
-use Rattle.composables.specs.Items.{items_of, cells_of}
-use Rattle.composables.specs.Joined.{frames_in}
+use Rattle.std.proofs.Common.{length, arith, ap}
+use Rattle.composables.specs.Items.{cells_of}
 use Rattle.composables.proofs.Joining.{items_of-tight, length-cells_of, length-items_of}
 use Rattle.composables.proofs.tracks.Track.item_at.Goals as goal
 

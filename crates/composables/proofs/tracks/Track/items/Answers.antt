@@ -1,4 +1,4 @@
-use Rattle.std.proofs.Common.{◌≡◌, sym, ◌∙◌}
+use Rattle.std.proofs.Common.{sym, ◌∙◌}
 use Rattle.composables.proofs.Joining.{items_of-tight}
 use Rattle.composables.proofs.tracks.Track.items.Goals as goal
 

@@ -1,8 +1,7 @@
-use Rattle.std.proofs.Common.{◌≡◌, length, arith, ap, sym, ◌∙◌, refl}
+use Rattle.std.proofs.Common.{arith, refl}
 use Rattle.std.proofs.lemmas.List.{length-append}
 use Rattle.composables.specs.Items.{cells_of, view_cells}
-use Rattle.composables.specs.TrackState.{TrackState, pushed}
-use Rattle.composables.specs.TrackFacts.{IsKept}
+use Rattle.composables.specs.TrackState.{pushed}
 use Rattle.composables.specs.TrackInside.{state_of}
 use Rattle.composables.proofs.Joining.{length-cells_of, length-view_cells}
 use Rattle.composables.proofs.Keeping.{push_keeps, same_state}

@@ -1,12 +1,10 @@
-use Rattle.std.proofs.Common.{◌≡◌, ℕ, ◌≤◌, ◌++◌, List, length, take, drop, arith, ap, sym, ◌∙◌, subst}
+use Rattle.std.proofs.Common.{◌≡◌, ℕ, ◌++◌, List, length, take, drop, arith, ap}
 use Rattle.composables.specs.declared.items.ItemView.{ItemView}
 use Rattle.composables.specs.Items.{items_of, cells_of}
-use Rattle.composables.specs.Joined.{frames_in, joined}
-use Rattle.composables.specs.TrackState.{TrackState, replaced, next_past_all}
-use Rattle.composables.specs.TrackFacts.{IsKept}
+use Rattle.composables.specs.TrackState.{replaced}
 use Rattle.composables.specs.TrackInside.{state_of}
-use Rattle.composables.proofs.Joining.{items_of-tight, length-cells_of}
-use Rattle.composables.proofs.Keeping.{Keeps, replace_keeps, replace_frames, same_state}
+use Rattle.composables.proofs.Joining.{items_of-tight}
+use Rattle.composables.proofs.Keeping.{replace_keeps, replace_frames, same_state}
 use Rattle.composables.proofs.tracks.Track.replace.Goals as goal
 
 -- the cells of a replaced track, by its items and gaps
