@@ -1,5 +1,5 @@
 -- The tracks that are handed to an edit are those that its call names.
-use Rattle.std.specs.Prelude.{◌≡◌, ℕ, List, map}
+use Rattle.std.specs.Prelude.{◌≡◌, List, map}
 use Rattle.composables.specs.TrackState.{TrackState}
 use Rattle.edit_apply.specs.declared.asks.Call.{Call}
 use Rattle.edit_apply.specs.Apply.{names_of}

@@ -1,6 +1,5 @@
 -- What a question to a track is answered.
-use Rattle.std.specs.Prelude.{ℕ, ◌-◌, ◌&&◌, Bool, List, Option, Some, None, Result, Ok, Err, length, take, drop, nat_lt, nat_le, slice_get, if◌then◌else◌}
-use Rattle.frame_meaning.specs.declared.cells.What.{What}
+use Rattle.std.specs.Prelude.{ℕ, ◌-◌, ◌&&◌, List, Option, Some, None, Result, Ok, Err, length, take, drop, nat_lt, nat_le, slice_get, if◌then◌else◌}
 use Rattle.frame_meaning.specs.Render.{render}
 use Rattle.frame_meaning.specs.Runs.{runs}
 use Rattle.frame_meaning.specs.Going.{same_what}

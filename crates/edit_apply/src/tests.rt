@@ -52,12 +52,24 @@ fn a_track_of_no_room_is_refused(rt: HostRuntime) -> Result<(), Fail> {
     for track in [0u32, 1] {
         assert_eq!(rt; editor.refuse_names(&overwrite_on(track)), None);
         assert_eq!(rt; editor.ask_part(&Ask::Items { track }), Ok(track));
-        assert_eq!(rt; editor.ask_part(&Ask::View { track, a: 5, b: 4 }), Ok(track));
+        assert_eq!(rt;
+            editor.ask_part(&Ask::View { track, a: 5, b: 4 }),
+            Ok(track)
+        );
     }
     for track in [2u32, 32, 4_294_967_295] {
-        assert_eq!(rt; editor.refuse_names(&overwrite_on(track)), Some(Refusal::NoTrack(track)));
-        assert_eq!(rt; editor.ask_part(&Ask::Items { track }), Err(AskRefusal::NoTrack(track)));
-        assert_eq!(rt; editor.ask_part(&Ask::View { track, a: 0, b: 0 }), Err(AskRefusal::NoTrack(track)));
+        assert_eq!(rt;
+            editor.refuse_names(&overwrite_on(track)),
+            Some(Refusal::NoTrack(track))
+        );
+        assert_eq!(rt;
+            editor.ask_part(&Ask::Items { track }),
+            Err(AskRefusal::NoTrack(track))
+        );
+        assert_eq!(rt;
+            editor.ask_part(&Ask::View { track, a: 0, b: 0 }),
+            Err(AskRefusal::NoTrack(track))
+        );
     }
     Ok(())
 }
