@@ -1,4 +1,7 @@
-//! The program of the cutting room.
+//! The session of one station, and the call that the program makes.
+//!
+//! The main contract is that of `cut_main`: with status 0 the output is one reply to each line of the input, in whatever
+//! pieces it came, and then the text of a journal that is one legal serial history and tells every one of the replies.
 #![tactic(auto)]
 
 mod command;
