@@ -15,12 +15,14 @@ pub struct Reels {
 }
 
 impl Model for Reels {
-    ghost use Rattle.std.specs.Prelude.{List, ℕ, map};
+    ghost use Rattle.std.specs.Prelude.{List, ℕ, ◌<◌, ◌^◌, length, map};
     ghost use Rattle.std.specs.String.{string_bytes};
 
     ghost Value = { List (List ℕ) };
 
     ghost view = { λ r. map (λ s. string_bytes s) r.names.keys };
+
+    ghost invariant = { λ r. length r.names.keys < 2 ^ 32 };
 }
 
 impl Reels {
@@ -36,7 +38,6 @@ impl Reels {
 
     /// How many reels there are.
     pub fn count(&self) -> u32
-        requires { length self.now < 4294967296 }
         ensures { result ≡ length self.now }
     {
         self.names.len() as u32

@@ -133,7 +133,7 @@ pub fn cut_main<S: Source, K: Sink>(
     ensures refused { result ≡ 3 → Takes (K.taken output.old) (K.taken output.new) (codes "refused words\n") }
     ensures unrefused { command_of words.now ≡ None → result ≡ 2 → TakesFront (K.taken output.old) (K.taken output.new) (codes "refused words\n") }
     ensures only_words { result ≡ 3 → command_of words.now ≡ None }
-    ensures untouched { command_of words.now ≡ None → S.left input.new ≡ S.left input.old }
+    ensures untouched { command_of words.now ≡ None → input.new ≡ input.old }
 
     ensures statuses { (result ≡ 0) ⊎ (result ≡ 1) ⊎ (result ≡ 2) ⊎ (result ≡ 3) ⊎ (result ≡ 6) ⊎ (result ≡ 7) }
     ensures read_cause { result ≡ 1 → HasRisen (S.read_faults input.old) (S.read_faults input.new) }
