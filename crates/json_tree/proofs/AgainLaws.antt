@@ -3,15 +3,16 @@ use Rattle.std.proofs.Common.{◌≡◌, ◌≢◌, ℕ, zero, suc, ◌+◌, ◌
 use Rattle.std.specs.Prelude.{codes}
 use Rattle.std.proofs.lemmas.Bool.{eq-eqb, ne_eqb, le-ltb, or_from}
 use Rattle.std.proofs.lemmas.List.{append-nil}
-use Rattle.json_tree.specs.Reading.{Read, is_blank, byte_at}
-use Rattle.json_tree.specs.Decimal.{Digits}
-use Rattle.json_tree.specs.ReadingNumerals.{kind_of_digits, numeral_at, is_digit}
-use Rattle.json_tree.specs.ReadingValues.{quoted_at, scalar_at, elements_at, list_at, item_at, name_at, member_at, items_at, members_at, list_in, object_in, kind_read, tree_read, inner_at, value_at, document_at}
+use Rattle.json_tokens.specs.Reading.{Read, is_blank, byte_at}
+use Rattle.json_tokens.specs.Decimal.{Digits}
+use Rattle.json_tokens.specs.ReadingNumerals.{numeral_of_digits, is_digit}
+use Rattle.json_tree.specs.ReadingValues.{quoted_at, number_kind, number_at, scalar_at, elements_at, list_at, item_at, name_at, member_at, items_at, members_at, list_in, object_in, kind_read, tree_read, inner_at, value_at, document_at}
 use Rattle.json_tree.specs.Tree.{Tree, Kind, Trees, Members, At, Null, Bool_of, Numeral_of, Wide, Text_of, List_of, Object_of, in_trees, in_members}
-use Rattle.json_tree.specs.Grammar.{IsBlank, AreBlanks, IsQuoted, IsDigit, IsNumber, AreElements, IsItem, IsMember, IsKind, IsTree, SpellsAt, Spells}
-use Rattle.json_tree.proofs.Tools.{byte_again, byte_other, NoBlank, blanks_again}
-use Rattle.json_tree.proofs.TextLaws.{text_again}
-use Rattle.json_tree.proofs.NumeralLaws.{Ends, spelling_again, number_first, kept_kind, wide_kind}
+use Rattle.json_tokens.specs.Grammar.{IsBlank, AreBlanks, IsQuoted, IsDigit, IsNumber}
+use Rattle.json_tree.specs.Grammar.{AreElements, IsItem, IsMember, IsKind, IsTree, SpellsAt, Spells}
+use Rattle.json_tokens.proofs.Tools.{byte_again, byte_other, NoBlank, blanks_again}
+use Rattle.json_tokens.proofs.TextLaws.{text_again}
+use Rattle.json_tokens.proofs.NumeralLaws.{Ends, numeral_again, number_first, kept_numeral, wide_numeral}
 use Rattle.json_tree.proofs.ValueLaws.{back_trees, back_members}
 
 -- ---- what may stand behind
@@ -102,10 +103,10 @@ unfolding SpellsAt
 spells_begins zero at bytes t h = tree_begins ⊥ (λ _ _ _. ⊥) at bytes t h
 spells_begins (suc levels) at bytes t h = tree_begins (Unit {0}) (SpellsAt levels) at bytes t h
 
-begins_no_blank : (bytes rest : List ℕ) → Begins bytes → NoBlank (bytes ++ rest)
+pub begins_no_blank : (bytes rest : List ℕ) → Begins bytes → NoBlank (bytes ++ rest)
 begins_no_blank bytes rest b = rw b.2 (starts_no_blank b.0 (b.1 ++ rest) b.3)
 
-begins_other : (byte at : ℕ) (bytes rest : List ℕ) (b : Begins bytes) → (b.0 ≡ byte → ⊥) → byte_at byte at (bytes ++ rest) ≡ None
+pub begins_other : (byte at : ℕ) (bytes rest : List ℕ) (b : Begins bytes) → (b.0 ≡ byte → ⊥) → byte_at byte at (bytes ++ rest) ≡ None
 begins_other byte at bytes rest b ne = ap (λ (l : List ℕ). byte_at byte at (l ++ rest)) b.2 ∙ byte_other byte at b.0 (b.1 ++ rest) ne
 
 -- ---- values that hold no others
@@ -120,12 +121,12 @@ quoted_again bytes s at rest q =
     let t = text_again q.body s (length (q.body ++ 34 ∷ rest)) (at + 1) rest q.spelled (omega (arith, length-append q.body (34 ∷ rest))) in
     ap (scalar_at at) all ∙ rw t (ap (λ (n : ℕ). Ok (at_end (Text_of s) n rest)) (omega (arith, ap length q.bytes_are, length-append q.body (34 ∷ []))))
 
-numeral_again : (bytes : List ℕ) (d : Digits) (k : Kind) (at : ℕ) (rest : List ℕ) → IsNumber bytes d → kind_of_digits d ≡ k → Ends rest → numeral_at at (bytes ++ rest) ≡ Ok (k, at + length bytes, rest)
-unfolding numeral_at at_end
-numeral_again bytes d k at rest n e stop =
-    rw (spelling_again bytes d rest n stop, e) (ap (λ (m : ℕ). Ok (at_end k m rest)) (omega (arith, length-append bytes rest)))
+number_read : (bytes : List ℕ) (d : Digits) (k : Kind) (at : ℕ) (rest : List ℕ) → IsNumber bytes d → number_kind (numeral_of_digits d) ≡ k → Ends rest → number_at at (bytes ++ rest) ≡ Ok (k, at + length bytes, rest)
+unfolding number_at at_end
+number_read bytes d k at rest n e stop =
+    rw (numeral_again bytes d (numeral_of_digits d) at rest n refl stop) (ap (λ (l : Kind). Ok (at_end l (at + length bytes) rest)) e)
 
-number_scalar : (bytes rest : List ℕ) (at : ℕ) (d : Digits) → IsNumber bytes d → scalar_at at (bytes ++ rest) ≡ numeral_at at (bytes ++ rest)
+number_scalar : (bytes rest : List ℕ) (at : ℕ) (d : Digits) → IsNumber bytes d → scalar_at at (bytes ++ rest) ≡ number_at at (bytes ++ rest)
 unfolding scalar_at
 number_scalar bytes rest at d n =
     let f = number_first bytes d n in
@@ -133,7 +134,7 @@ number_scalar bytes rest at d n =
     let s = small f.0 f.3 in
     let all : bytes ++ rest ≡ f.0 ∷ (f.1 ++ rest) = ap (λ (l : List ℕ). l ++ rest) f.2 in
     ap (scalar_at at) all
-    ∙ rw (ne_eqb f.0 34 s.0, ne_eqb f.0 110 (λ g. omega (arith, s.1)), ne_eqb f.0 116 (λ g. omega (arith, s.1)), ne_eqb f.0 102 (λ g. omega (arith, s.1))) (ap (numeral_at at) (sym all))
+    ∙ rw (ne_eqb f.0 34 s.0, ne_eqb f.0 110 (λ g. omega (arith, s.1)), ne_eqb f.0 116 (λ g. omega (arith, s.1)), ne_eqb f.0 102 (λ g. omega (arith, s.1))) (ap (number_at at) (sym all))
 
 -- ---- kinds
 
@@ -166,13 +167,13 @@ module _ (Nested : Type 0) (Is : ℕ → List ℕ → Tree → Type 0) where
   abbrev KindAgain : Option (ℕ → List ℕ → Read Tree) → ℕ → List ℕ → Kind → List ℕ → Type 0
   KindAgain inner at bytes k rest = kind_read inner at (bytes ++ rest) ≡ Ok (k, at + length bytes, rest)
 
-  number_again : (inner : Option (ℕ → List ℕ → Read Tree)) (at : ℕ) (bytes : List ℕ) (d : Digits) (k : Kind) (rest : List ℕ) → IsNumber bytes d → kind_of_digits d ≡ k → Ends rest → KindAgain inner at bytes k rest
+  number_again : (inner : Option (ℕ → List ℕ → Read Tree)) (at : ℕ) (bytes : List ℕ) (d : Digits) (k : Kind) (rest : List ℕ) → IsNumber bytes d → number_kind (numeral_of_digits d) ≡ k → Ends rest → KindAgain inner at bytes k rest
   number_again inner at bytes d k rest n e stop =
       let f = number_first bytes d n in
       let below : (b : ℕ) → (b ≡ 45) ⊎ IsDigit b → b < 91 = λ b h. elim h [ inl g ↦ omega arith | inr g ↦ omega (arith, g.1) ] in
       let b : Begins bytes = (f.0, f.1, f.2, number_starts f.0 f.3) in
       rw (begins_other 91 at bytes rest b (λ g. omega (arith, below f.0 f.3)), begins_other 123 at bytes rest b (λ g. omega (arith, below f.0 f.3)))
-      (number_scalar bytes rest at d n ∙ numeral_again bytes d k at rest n e stop)
+      (number_scalar bytes rest at d n ∙ number_read bytes d k at rest n e stop)
 
   bracketed : (left right at : ℕ) (text bytes rest : List ℕ) → bytes ≡ left ∷ (text ++ right ∷ []) → (bytes ++ rest ≡ left ∷ (text ++ right ∷ rest)) × (at + length bytes ≡ at + 1 + length text + 1)
   bracketed left right at text bytes rest e =
@@ -183,8 +184,8 @@ module _ (Nested : Type 0) (Is : ℕ → List ℕ → Tree → Type 0) where
   kind_again inner s at bytes Null rest h stop = rw h (ap (λ (n : ℕ). Ok (at_end Null n rest)) (omega arith))
   kind_again inner s at bytes (Bool_of true) rest h stop = rw h (ap (λ (n : ℕ). Ok (at_end (Bool_of true) n rest)) (omega arith))
   kind_again inner s at bytes (Bool_of false) rest h stop = rw h (ap (λ (n : ℕ). Ok (at_end (Bool_of false) n rest)) (omega arith))
-  kind_again inner s at bytes (Numeral_of m p) rest h stop = number_again inner at bytes h.0 (Numeral_of m p) rest h.1 (kept_kind h.0 m p h.2) stop
-  kind_again inner s at bytes Wide rest h stop = number_again inner at bytes h.0 Wide rest h.1 (wide_kind h.0 h.2) stop
+  kind_again inner s at bytes (Numeral_of m p) rest h stop = number_again inner at bytes h.0 (Numeral_of m p) rest h.1 (ap number_kind (kept_numeral h.0 m p h.2)) stop
+  kind_again inner s at bytes Wide rest h stop = number_again inner at bytes h.0 Wide rest h.1 (ap number_kind (wide_numeral h.0 h.2)) stop
   kind_again inner s at bytes (Text_of t) rest h stop =
       let b : Begins bytes = (34, h.body ++ 34 ∷ [], h.bytes_are, quote_starts) in
       rw (begins_other 91 at bytes rest b (λ g. omega arith), begins_other 123 at bytes rest b (λ g. omega arith)) (quoted_again bytes t at rest h)
@@ -236,10 +237,10 @@ module _ {E : Type 0} (element : ℕ → List ℕ → Read E) (Is : ℕ → List
   few (f ∷ es) e at inner h = omega (arith, few es f (at + length h.0 + 1) h.1 h.4, ap length h.2, length-append h.0 (44 ∷ h.1))
 
   -- the same elements behind the blanks before the first
-  abbrev Behind : ℕ → List ℕ → List E → Type 0
+  abbrev pub Behind : ℕ → List ℕ → List E → Type 0
   Behind at inner es = (ws body : List ℕ) × (inner ≡ ws ++ body) × AreBlanks ws × Begins body × AreElements Is (at + length ws) body es
 
-  behind : (es : List E) (e : E) (at : ℕ) (inner : List ℕ) → AreElements Is at inner (e ∷ es) → Behind at inner (e ∷ es)
+  pub behind : (es : List E) (e : E) (at : ℕ) (inner : List ℕ) → AreElements Is at inner (e ∷ es) → Behind at inner (e ∷ es)
   behind [] e at inner h = let s = strips at inner e h in (s.blanks, s.body, s.bytes_are, s.are_blanks, s.begins, s.is)
   behind (f ∷ es) e at inner h =
       let s = strips at h.0 e h.3 in
@@ -289,7 +290,7 @@ module _ (value : ℕ → List ℕ → Read Tree) (Is : ℕ → List ℕ → Tre
       ∙ rw (blanks_again b at (x ++ (c ++ rest)) h.blanks_before (begins_no_blank x (c ++ rest) (begins (at + length b) x t h.value)), again (at + length b) x t (c ++ rest) h.value (behind_ends c rest h.blanks_behind stop), blanks_again c (at + length b + length x) rest h.blanks_behind (stops_blank rest stop))
       (ap (λ (n : ℕ). Ok (t, n, rest)) place)
 
-  item_strips : (at : ℕ) (bytes : List ℕ) (t : Tree) → IsItem Is at bytes t → Stripped (IsItem Is) at bytes t
+  pub item_strips : (at : ℕ) (bytes : List ℕ) (t : Tree) → IsItem Is at bytes t → Stripped (IsItem Is) at bytes t
   item_strips at bytes t h =
       let s = begins (at + length h.before) h.text t h.value in
       record {
@@ -301,7 +302,7 @@ module _ (value : ℕ → List ℕ → Read Tree) (Is : ℕ → List ℕ → Tre
         is = record { before = []; text = h.text; behind = h.behind; bytes_are = refl; blanks_before = tt; blanks_behind = h.blanks_behind; value = subst (λ (n : ℕ). Is n h.text t) (omega arith) h.value };
       }
 
-  name_again : (at : ℕ) (before quoted behind name rest : List ℕ) → AreBlanks before → IsQuoted quoted name → AreBlanks behind
+  pub name_again : (at : ℕ) (before quoted behind name rest : List ℕ) → AreBlanks before → IsQuoted quoted name → AreBlanks behind
       → name_at at (before ++ (quoted ++ (behind ++ 58 ∷ rest))) ≡ Ok (name, at + length before + length quoted + length behind + 1, rest)
   unfolding name_at
   name_again at before quoted behind name rest b q c =
@@ -313,7 +314,7 @@ module _ (value : ℕ → List ℕ → Read Tree) (Is : ℕ → List ℕ → Tre
       ∙ rw (blanks_again before at (34 ∷ (q.body ++ 34 ∷ tail)) b refl, t, blanks_again behind (at + length before + 1 + length q.body + 1) (58 ∷ rest) c refl)
       (ap (λ (n : ℕ). Ok (name, n, rest)) (omega arith))
 
-  member_again : (at : ℕ) (bytes : List ℕ) (m : List ℕ × Tree) (rest : List ℕ) → IsMember Is at bytes m → Stops rest → member_at value at (bytes ++ rest) ≡ Ok (m, at + length bytes, rest)
+  pub member_again : (at : ℕ) (bytes : List ℕ) (m : List ℕ × Tree) (rest : List ℕ) → IsMember Is at bytes m → Stops rest → member_at value at (bytes ++ rest) ≡ Ok (m, at + length bytes, rest)
   unfolding member_at
   member_again at bytes m rest h stop =
       let b = h.before in
@@ -328,7 +329,7 @@ module _ (value : ℕ → List ℕ → Read Tree) (Is : ℕ → List ℕ → Tre
       ∙ rw (name_again at b q c m.0 (h.item ++ rest) h.blanks_before h.name h.blanks_behind, item_again start h.item m.1 rest h.value stop)
       (ap (λ (n : ℕ). Ok (m, n, rest)) place)
 
-  member_strips : (at : ℕ) (bytes : List ℕ) (m : List ℕ × Tree) → IsMember Is at bytes m → Stripped (IsMember Is) at bytes m
+  pub member_strips : (at : ℕ) (bytes : List ℕ) (m : List ℕ × Tree) → IsMember Is at bytes m → Stripped (IsMember Is) at bytes m
   member_strips at bytes m h =
       let tail = h.behind ++ 58 ∷ h.item in
       record {

@@ -1,10 +1,10 @@
 -- Reading elements one after the other, as a loop does.
 use Rattle.std.proofs.Common.{◌≡◌, ℕ, suc, ◌-◌, ◌+◌, ◌≤◌, ◌<◌, true, false, List, [], ◌∷◌, ◌++◌, Ok, Err, refl, sym, ap, ◌∙◌, append_assoc, arith}
-use Rattle.json_tree.specs.declared.fault.JsonFault.{JsonFault}
-use Rattle.json_tree.specs.declared.fault.JsonFault.TheVariants.{Syntax}
-use Rattle.json_tree.specs.Reading.{◌>>=◌, Fails, Read}
+use Rattle.json_tokens.specs.declared.fault.JsonFault.{JsonFault}
+use Rattle.json_tokens.specs.declared.fault.JsonFault.TheVariants.{Syntax}
+use Rattle.json_tokens.specs.Reading.{◌>>=◌, Fails, Read}
 use Rattle.json_tree.specs.ReadingValues.{elements_at, separator_at, with_first}
-use Rattle.json_tree.proofs.TextLoop.{fails_is}
+use Rattle.json_tokens.proofs.TextLoop.{fails_is}
 
 -- what was read before, and what is still read
 abbrev pub with_front : {E : Type 0} → List E → Read (List E) → Read (List E)

@@ -1,22 +1,22 @@
 -- Values: what is read is spelled so, and what is spelled so is read.
-use Rattle.std.proofs.Common.{◌≡◌, ℕ, zero, suc, ◌+◌, ◌-◌, ◌≤◌, Bool, true, false, cond, eqb, ltb, List, [], ◌∷◌, ◌++◌, length, Option, Some, None, Result, Ok, Err, refl, sym, ap, subst, ◌∙◌, inl, inr, append_assoc, length-append, arith}
+use Rattle.std.proofs.Common.{◌≡◌, ℕ, ℤ, zero, suc, ◌+◌, ◌≤◌, Bool, true, false, cond, eqb, ltb, List, [], ◌∷◌, ◌++◌, length, Option, Some, None, Result, Ok, Err, refl, sym, ap, subst, ◌∙◌, inl, inr, append_assoc, length-append, arith}
 use Rattle.std.specs.Prelude.{codes, IfOk}
 use Rattle.json_tree.specs.declared.tree.Json.{Json}
 use Rattle.json_tree.specs.View.{tree_of}
 use Rattle.std.proofs.lemmas.Bool.{eqb-true, ltb-false}
 use Rattle.std.proofs.lemmas.List.{append-nil, nil_from_length}
-use Rattle.json_tree.specs.declared.fault.JsonFault.{JsonFault}
-use Rattle.json_tree.specs.declared.fault.JsonFault.TheVariants.{Syntax, TooLarge}
-use Rattle.json_tree.specs.Reading.{◌>>=◌, Read, Gives, past_blanks, byte_at, word_at}
-use Rattle.json_tree.specs.Decimal.{Digits}
-use Rattle.json_tree.specs.ReadingTexts.{text_at}
-use Rattle.json_tree.specs.ReadingNumerals.{Take, spelling_at, kind_of_digits, numeral_from, numeral_at}
-use Rattle.json_tree.specs.ReadingValues.{word_kind_at, quoted_at, scalar_at, separator_at, with_first, elements_at, unless_empty, list_at, item_at, name_at, member_at, items_at, members_at, list_in, object_in, if_there, kind_read, tree_read, inner_at, value_at, ended, document_at}
+use Rattle.json_tokens.specs.declared.fault.JsonFault.{JsonFault}
+use Rattle.json_tokens.specs.declared.fault.JsonFault.TheVariants.{Syntax, TooLarge}
+use Rattle.json_tokens.specs.Reading.{◌>>=◌, Read, Gives, past_blanks, byte_at, word_at}
+use Rattle.json_tokens.specs.ReadingTexts.{text_at}
+use Rattle.json_tokens.specs.ReadingNumerals.{numeral_at}
+use Rattle.json_tree.specs.ReadingValues.{word_kind_at, quoted_at, number_kind, number_at, scalar_at, separator_at, with_first, elements_at, unless_empty, list_at, item_at, name_at, member_at, items_at, members_at, list_in, object_in, if_there, kind_read, tree_read, inner_at, value_at, ended, document_at}
 use Rattle.json_tree.specs.Tree.{Tree, Kind, Trees, Members, At, Null, Bool_of, Numeral_of, Wide, Text_of, List_of, Object_of, no_trees, more_trees, no_members, more_members, trees, members, in_trees, in_members}
-use Rattle.json_tree.specs.Grammar.{AreBlanks, IsQuoted, IsNumber, AreElements, IsItem, IsMember, IsKind, IsTree, SpellsAt, Spells}
-use Rattle.json_tree.proofs.Tools.{Took, bind_ok, ok_is, chosen, byte_took, word_took, blanks_took}
-use Rattle.json_tree.proofs.TextLaws.{text_took}
-use Rattle.json_tree.proofs.NumeralLaws.{spelling_took, IsNumberKind, kind_is}
+use Rattle.json_tokens.specs.Grammar.{AreBlanks, IsQuoted}
+use Rattle.json_tree.specs.Grammar.{AreElements, IsItem, IsMember, IsKind, IsTree, SpellsAt, Spells}
+use Rattle.json_tokens.proofs.Tools.{Took, bind_ok, ok_is, chosen, byte_took, word_took, blanks_took}
+use Rattle.json_tokens.proofs.TextLaws.{text_took}
+use Rattle.json_tokens.proofs.NumeralLaws.{IsNumeralAt, numeral_took}
 
 module _ (Nested : Type 0) (Inner : ℕ → List ℕ → Tree → Type 0) where
   abbrev Kinds : ℕ → List ℕ → Kind → Type 0
@@ -38,26 +38,17 @@ module _ (Nested : Type 0) (Inner : ℕ → List ℕ → Tree → Type 0) where
       let w = word_took word at bytes a.0 a.1 in
       subst (KindTook at bytes) (ok_is (found_kind kind a.0.0 a.0.1) x a.2) (record { front = word; parts = w.0; place = w.1; is = is word refl })
 
-  number_kind : (at : ℕ) (front : List ℕ) (d : Digits) → IsNumber front d → (k : Kind) → IsNumberKind d k → IsKind Nested Inner at front k
-  number_kind at front d n (Numeral_of m p) h = (d, n, h)
-  number_kind at front d n Wide h = (d, n, h)
-  number_kind at front d n Null h = absurd h
-  number_kind at front d n (Bool_of b) h = absurd h
-  number_kind at front d n (Text_of s) h = absurd h
-  number_kind at front d n (List_of ts) h = absurd h
-  number_kind at front d n (Object_of ms) h = absurd h
+  pub number_is : (at : ℕ) (front : List ℕ) (o : Option (ℤ × ℕ)) → IsNumeralAt at front o → IsKind Nested Inner at front (number_kind o)
+  number_is at front (Some n) h = h
+  number_is at front None h = h
 
-  numeral_of : (at : ℕ) (bytes : List ℕ) (r : Take Digits) (x : Kind × ℕ × List ℕ) → spelling_at bytes ≡ r → numeral_from at bytes r ≡ Ok x → KindTook at bytes x
-  numeral_of at bytes (Err rest) x is e = absurd cc
-  numeral_of at bytes (Ok y) x is e =
-      let p = spelling_took bytes y is in
-      let len : length bytes ≡ length p.0 + length y.1 = ap length p.1 ∙ length-append p.0 y.1 in
-      subst (KindTook at bytes) (ok_is (kind_of_digits y.0, at + (length bytes - length y.1), y.1) x e)
-      (record { front = p.0; parts = p.1; place = omega arith; is = number_kind at p.0 y.0 p.2 (kind_of_digits y.0) (kind_is y.0) })
-
-  numeral_took : (at : ℕ) (bytes : List ℕ) (x : Kind × ℕ × List ℕ) → numeral_at at bytes ≡ Ok x → KindTook at bytes x
-  unfolding numeral_at
-  numeral_took at bytes x e = numeral_of at bytes (spelling_at bytes) x refl e
+  number_took : (at : ℕ) (bytes : List ℕ) (x : Kind × ℕ × List ℕ) → number_at at bytes ≡ Ok x → KindTook at bytes x
+  unfolding number_at found_kind
+  number_took at bytes x e =
+      let a = bind_ok (numeral_at at bytes) (λ number. Ok (found_kind (number_kind number.0) number.1 number.2)) x e in
+      let t = numeral_took at bytes a.0 a.1 in
+      subst (KindTook at bytes) (ok_is (found_kind (number_kind a.0.0) a.0.1 a.0.2) x a.2)
+      (record { front = t.front; parts = t.parts; place = t.place; is = number_is at t.front a.0.0 t.is })
 
   quoted_took : (at b : ℕ) (bs : List ℕ) (x : Kind × ℕ × List ℕ) → b ≡ 34 → quoted_at (at + 1) bs ≡ Ok x → KindTook at (b ∷ bs) x
   unfolding quoted_at found_kind
@@ -74,7 +65,7 @@ module _ (Nested : Type 0) (Inner : ℕ → List ℕ → Tree → Type 0) where
 
   scalar_took : (at : ℕ) (bytes : List ℕ) (x : Kind × ℕ × List ℕ) → scalar_at at bytes ≡ Ok x → KindTook at bytes x
   unfolding scalar_at
-  scalar_took at [] x e = numeral_took at [] x e
+  scalar_took at [] x e = number_took at [] x e
   scalar_took at (b ∷ bs) x e =
       elim (chosen (eqb b 34) _ _ _ e) [
         | inl p ↦ quoted_took at b bs x (eqb-true b 34 p.0) p.1
@@ -84,7 +75,7 @@ module _ (Nested : Type 0) (Inner : ℕ → List ℕ → Tree → Type 0) where
             | inl r ↦ word_kind_took (codes "true") (Bool_of true) at (b ∷ bs) x (λ text is. is) r.1
             | inr r ↦ elim (chosen (eqb b 102) _ _ _ r.1) [
               | inl s ↦ word_kind_took (codes "false") (Bool_of false) at (b ∷ bs) x (λ text is. is) s.1
-              | inr s ↦ numeral_took at (b ∷ bs) x s.1
+              | inr s ↦ number_took at (b ∷ bs) x s.1
             ]
           ]
         ]
@@ -92,7 +83,7 @@ module _ (Nested : Type 0) (Inner : ℕ → List ℕ → Tree → Type 0) where
 
 -- ---- elements
 
-separator_took : (close at : ℕ) (bytes : List ℕ) (x : Bool × ℕ × List ℕ) → separator_at close at bytes ≡ Ok x → (bytes ≡ (cond x.0 44 close) ∷ x.2) × (x.1 ≡ at + 1)
+pub separator_took : (close at : ℕ) (bytes : List ℕ) (x : Bool × ℕ × List ℕ) → separator_at close at bytes ≡ Ok x → (bytes ≡ (cond x.0 44 close) ∷ x.2) × (x.1 ≡ at + 1)
 separator_took close at [] x e = absurd cc
 separator_took close at (b ∷ bs) x e =
     elim (chosen (eqb b 44) _ _ _ e) [
@@ -105,6 +96,18 @@ separator_took close at (b ∷ bs) x e =
   where
     no_error : ◌≡◌ {A = Read Bool} (Err (Syntax at)) (Ok x) → ⊥
     no_error h = cc
+
+-- elements with blanks before the first are elements
+module _ {E : Type 0} (Is : ℕ → List ℕ → E → Type 0) (absorbs : (ws : List ℕ) (at : ℕ) (bytes : List ℕ) (e : E) → AreBlanks ws → Is (at + length ws) bytes e → Is at (ws ++ bytes) e) where
+  pub absorb : (ws : List ℕ) (at : ℕ) (inner : List ℕ) (e : E) (es : List E) → AreBlanks ws → AreElements Is (at + length ws) inner (e ∷ es) → AreElements Is at (ws ++ inner) (e ∷ es)
+  absorb ws at inner e [] b h = absorbs ws at inner e b h
+  absorb ws at inner e (f ∷ es) b h = (
+    ws ++ h.0,
+    h.1,
+    ap (λ (l : List ℕ). ws ++ l) h.2 ∙ sym (append_assoc ws h.0 (44 ∷ h.1)),
+    absorbs ws at h.0 e b h.3,
+    subst (λ (n : ℕ). AreElements Is n h.1 (f ∷ es)) (omega (arith, length-append ws h.0)) h.4,
+  )
 
 module _ {E : Type 0} (element : ℕ → List ℕ → Read E) (Is : ℕ → List ℕ → E → Type 0)
     (sound : (at : ℕ) (bytes : List ℕ) (x : E × ℕ × List ℕ) → element at bytes ≡ Ok x → Took Is at bytes x.0 x.1 x.2) where
@@ -172,16 +175,6 @@ module _ {E : Type 0} (element : ℕ → List ℕ → Read E) (Is : ℕ → List
       ]
 
   module _ (absorbs : (ws : List ℕ) (at : ℕ) (bytes : List ℕ) (e : E) → AreBlanks ws → Is (at + length ws) bytes e → Is at (ws ++ bytes) e) where
-    absorb : (ws : List ℕ) (at : ℕ) (inner : List ℕ) (e : E) (es : List E) → AreBlanks ws → AreElements Is (at + length ws) inner (e ∷ es) → AreElements Is at (ws ++ inner) (e ∷ es)
-    absorb ws at inner e [] b h = absorbs ws at inner e b h
-    absorb ws at inner e (f ∷ es) b h = (
-      ws ++ h.0,
-      h.1,
-      ap (λ (l : List ℕ). ws ++ l) h.2 ∙ sym (append_assoc ws h.0 (44 ∷ h.1)),
-      absorbs ws at h.0 e b h.3,
-      subst (λ (n : ℕ). AreElements Is n h.1 (f ∷ es)) (omega (arith, length-append ws h.0)) h.4,
-    )
-
     empty_took : (close at : ℕ) (bytes ws rest : List ℕ) (next : ℕ) (after : ℕ × List ℕ) (x : List E × ℕ × List ℕ) → AreBlanks ws → bytes ≡ ws ++ rest → next ≡ at + length ws → byte_at close next rest ≡ Some after
         → ◌≡◌ {A = Read (List E)} (Ok ([], after.0, after.1)) (Ok x) → ElementsTook close at bytes x
     empty_took close at bytes ws rest next after x b parts place is h =
@@ -197,7 +190,7 @@ module _ {E : Type 0} (element : ℕ → List ℕ → Read E) (Is : ℕ → List
           inner = ws ++ t.inner;
           parts = parts ∙ ap (λ (l : List ℕ). ws ++ l) t.parts ∙ sym (append_assoc ws t.inner (close ∷ x.2));
           place = omega (arith, t.place, place, length-append ws t.inner);
-          is = subst (λ (es : List E). AreElements Is at (ws ++ t.inner) es) (sym s.are) (absorb ws at t.inner s.first s.others b moved);
+          is = subst (λ (es : List E). AreElements Is at (ws ++ t.inner) es) (sym s.are) (absorb Is absorbs ws at t.inner s.first s.others b moved);
         }
 
     pub list_took : (close at : ℕ) (bytes : List ℕ) (x : List E × ℕ × List ℕ) → list_at element close at bytes ≡ Ok x → ElementsTook close at bytes x
@@ -236,6 +229,31 @@ blanks_join : (ws vs : List ℕ) → AreBlanks ws → AreBlanks vs → AreBlanks
 blanks_join [] vs h k = k
 blanks_join (w ∷ ws) vs h k = (h.0, blanks_join ws vs h.1 k)
 
+module _ (Is : ℕ → List ℕ → Tree → Type 0) where
+  pub item_absorbs : (ws : List ℕ) (at : ℕ) (bytes : List ℕ) (t : Tree) → AreBlanks ws → IsItem Is (at + length ws) bytes t → IsItem Is at (ws ++ bytes) t
+  item_absorbs ws at bytes t b h = record {
+    before = ws ++ h.before;
+    text = h.text;
+    behind = h.behind;
+    bytes_are = ap (λ (l : List ℕ). ws ++ l) h.bytes_are ∙ sym (append_assoc ws h.before (h.text ++ h.behind));
+    blanks_before = blanks_join ws h.before b h.blanks_before;
+    blanks_behind = h.blanks_behind;
+    value = subst (λ (n : ℕ). Is n h.text t) (omega (arith, length-append ws h.before)) h.value;
+  }
+
+  pub member_absorbs : (ws : List ℕ) (at : ℕ) (bytes : List ℕ) (m : List ℕ × Tree) → AreBlanks ws → IsMember Is (at + length ws) bytes m → IsMember Is at (ws ++ bytes) m
+  member_absorbs ws at bytes m b h = record {
+    before = ws ++ h.before;
+    quoted = h.quoted;
+    behind = h.behind;
+    item = h.item;
+    bytes_are = ap (λ (l : List ℕ). ws ++ l) h.bytes_are ∙ sym (append_assoc ws h.before (h.quoted ++ (h.behind ++ 58 ∷ h.item)));
+    blanks_before = blanks_join ws h.before b h.blanks_before;
+    blanks_behind = h.blanks_behind;
+    name = h.name;
+    value = subst (λ (n : ℕ). IsItem Is n h.item m.1) (omega (arith, length-append ws h.before)) h.value;
+  }
+
 module _ (value : ℕ → List ℕ → Read Tree) (Is : ℕ → List ℕ → Tree → Type 0)
     (sound : (at : ℕ) (bytes : List ℕ) (x : Tree × ℕ × List ℕ) → value at bytes ≡ Ok x → Took Is at bytes x.0 x.1 x.2) where
   pub item_took : (at : ℕ) (bytes : List ℕ) (x : Tree × ℕ × List ℕ) → item_at value at bytes ≡ Ok x → Took (IsItem Is) at bytes x.0 x.1 x.2
@@ -256,21 +274,10 @@ module _ (value : ℕ → List ℕ → Read Tree) (Is : ℕ → List ℕ → Tre
         is = record { before = b.0; text = t.front; behind = c.0; bytes_are = refl; blanks_before = b.1; blanks_behind = c.1; value = subst (λ (n : ℕ). Is n t.front a.0.0) b.3 t.is };
       })
 
-  item_absorbs : (ws : List ℕ) (at : ℕ) (bytes : List ℕ) (t : Tree) → AreBlanks ws → IsItem Is (at + length ws) bytes t → IsItem Is at (ws ++ bytes) t
-  item_absorbs ws at bytes t b h = record {
-    before = ws ++ h.before;
-    text = h.text;
-    behind = h.behind;
-    bytes_are = ap (λ (l : List ℕ). ws ++ l) h.bytes_are ∙ sym (append_assoc ws h.before (h.text ++ h.behind));
-    blanks_before = blanks_join ws h.before b h.blanks_before;
-    blanks_behind = h.blanks_behind;
-    value = subst (λ (n : ℕ). Is n h.text t) (omega (arith, length-append ws h.before)) h.value;
-  }
-
-  abbrev NameTook : ℕ → List ℕ → List ℕ × ℕ × List ℕ → Type 0
+  abbrev pub NameTook : ℕ → List ℕ → List ℕ × ℕ × List ℕ → Type 0
   NameTook at bytes x = (before quoted behind : List ℕ) × AreBlanks before × AreBlanks behind × IsQuoted quoted x.0 × (bytes ≡ before ++ (quoted ++ (behind ++ 58 ∷ x.2))) × (x.1 ≡ at + length before + length quoted + length behind + 1)
 
-  name_took : (at : ℕ) (bytes : List ℕ) (x : List ℕ × ℕ × List ℕ) → name_at at bytes ≡ Ok x → NameTook at bytes x
+  pub name_took : (at : ℕ) (bytes : List ℕ) (x : List ℕ × ℕ × List ℕ) → name_at at bytes ≡ Ok x → NameTook at bytes x
   unfolding name_at
   name_took at bytes x e =
       let b = blanks_took at bytes in
@@ -307,24 +314,11 @@ module _ (value : ℕ → List ℕ → Read Tree) (Is : ℕ → List ℕ → Tre
         is = record { before = n.0; quoted = n.1; behind = n.2; item = t.front; bytes_are = refl; blanks_before = n.3; blanks_behind = n.4; name = n.5; value = subst (λ (k : ℕ). IsItem Is k t.front c.0.0) n.7 t.is };
       })
 
-  member_absorbs : (ws : List ℕ) (at : ℕ) (bytes : List ℕ) (m : List ℕ × Tree) → AreBlanks ws → IsMember Is (at + length ws) bytes m → IsMember Is at (ws ++ bytes) m
-  member_absorbs ws at bytes m b h = record {
-    before = ws ++ h.before;
-    quoted = h.quoted;
-    behind = h.behind;
-    item = h.item;
-    bytes_are = ap (λ (l : List ℕ). ws ++ l) h.bytes_are ∙ sym (append_assoc ws h.before (h.quoted ++ (h.behind ++ 58 ∷ h.item)));
-    blanks_before = blanks_join ws h.before b h.blanks_before;
-    blanks_behind = h.blanks_behind;
-    name = h.name;
-    value = subst (λ (n : ℕ). IsItem Is n h.item m.1) (omega (arith, length-append ws h.before)) h.value;
-  }
-
   items_took : (at b : ℕ) (bs : List ℕ) (x : Kind × ℕ × List ℕ) → items_at value (at + 1) bs ≡ Ok x → b ≡ 91 → Took (IsKind (Unit {0}) Is) at (b ∷ bs) x.0 x.1 x.2
   unfolding items_at found_kind
   items_took at b bs x e left =
       let a = bind_ok (list_at (item_at value) 93 (at + 1) bs) (λ items. Ok (found_kind (List_of (trees items.0)) items.1 items.2)) x e in
-      let t = list_took (item_at value) (IsItem Is) item_took item_absorbs 93 (at + 1) bs a.0 a.1 in
+      let t = list_took (item_at value) (IsItem Is) item_took (item_absorbs Is) 93 (at + 1) bs a.0 a.1 in
       subst (λ (y : Kind × ℕ × List ℕ). Took (IsKind (Unit {0}) Is) at (b ∷ bs) y.0 y.1 y.2) (ok_is (found_kind (List_of (trees a.0.0)) a.0.1 a.0.2) x a.2)
       (record {
         front = 91 ∷ (t.inner ++ 93 ∷ []);
@@ -337,7 +331,7 @@ module _ (value : ℕ → List ℕ → Read Tree) (Is : ℕ → List ℕ → Tre
   unfolding members_at found_kind
   members_took at b bs x e left =
       let a = bind_ok (list_at (member_at value) 125 (at + 1) bs) (λ named. Ok (found_kind (Object_of (members named.0)) named.1 named.2)) x e in
-      let t = list_took (member_at value) (IsMember Is) member_took member_absorbs 125 (at + 1) bs a.0 a.1 in
+      let t = list_took (member_at value) (IsMember Is) member_took (member_absorbs Is) 125 (at + 1) bs a.0 a.1 in
       subst (λ (y : Kind × ℕ × List ℕ). Took (IsKind (Unit {0}) Is) at (b ∷ bs) y.0 y.1 y.2) (ok_is (found_kind (Object_of (members a.0.0)) a.0.1 a.0.2) x a.2)
       (record {
         front = 123 ∷ (t.inner ++ 125 ∷ []);

@@ -10,14 +10,15 @@ use Rattle.std.proofs.lemmas.List.{append-nil}
 use Rattle.std.proofs.lemmas.Nat.{div-add-mod', mod-mul-add, mod_below, mul-le}
 use Rattle.std.proofs.Math.Nat.{mul_assoc, mul_comm, mul-add, pow-suc}
 use Rattle.ratio_time.specs.Numerals.{with_sign, HasLeastPlaces}
-use Rattle.json_tree.specs.Decimal.{Digits, number_of, number_from}
-use Rattle.json_tree.specs.Tables.{hex_value, short_escape}
+use Rattle.json_tokens.specs.Decimal.{Digits, number_of, number_from}
+use Rattle.json_tokens.specs.Tables.{hex_value, short_escape}
 use Rattle.json_tree.specs.Tree.{Tree, Kind, Trees, Members, At, Null, Bool_of, Numeral_of, Wide, Text_of, List_of, Object_of, no_trees, more_trees, no_members, more_members, in_trees, in_members}
-use Rattle.json_tree.specs.Grammar.{IsUnit, IsCharacter, IsQuoted, IsDigit, SomeDigits, IsMinus, IsWhole, IsNumber, IsKept, AreElements, IsItem, IsMember, IsKind, SpellsAt, Spells}
+use Rattle.json_tokens.specs.Grammar.{IsUnit, IsCharacter, IsQuoted, IsDigit, SomeDigits, IsMinus, IsWhole, IsNumber, IsKept}
+use Rattle.json_tree.specs.Grammar.{AreElements, IsItem, IsMember, IsKind, SpellsAt, Spells}
 use Rattle.json_tree.specs.Writing.{hex_digit, escaped, quoted, last_digits, digits_needed, whole_text, sign_text, places_text, numeral_text, joined, tree_text, kind_text, trees_texts, members_texts}
 use Rattle.json_tree.specs.Sound.{IsSound, IsSoundKind, AreSound, AreSoundMembers, is_writable, is_kind_writable, are_writable, are_members_writable, aside, kind_aside, trees_aside, members_aside, SpellsAgain}
-use Rattle.json_tree.proofs.Fractions.{ten_pos}
-use Rattle.json_tree.proofs.Utf8Laws.{encode_one, encode_two, encode_three, encode_four}
+use Rattle.json_tree.proofs.WritingSteps.{ten_positive}
+use Rattle.json_tokens.proofs.Utf8Laws.{encode_one, encode_two, encode_three, encode_four}
 
 -- ---- texts
 
@@ -147,7 +148,7 @@ split_mod : (a k : ℕ) → a % 10 ^ suc k ≡ (a / 10 ^ k % 10) * 10 ^ k + a % 
 split_mod a k =
     let q = a / 10 ^ k in
     let r = a % 10 ^ k in
-    let low : r < 10 ^ k = mod_below a (10 ^ k) (ten_pos k) in
+    let low : r < 10 ^ k = mod_below a (10 ^ k) (ten_positive k) in
     let power : 10 ^ suc k ≡ 10 * 10 ^ k = pow-suc 10 k ∙ mul_comm (10 ^ k) 10 in
     let parts : a ≡ q * 10 ^ k + r = sym (div-add-mod' a (10 ^ k)) in
     let ten : q ≡ q / 10 * 10 + q % 10 = sym (div-add-mod' q 10) in
@@ -219,7 +220,7 @@ whole_digits n (suc k) h = by_digit (n / 10 ^ k % 10) refl
             let same : suc k - 1 ≡ k = omega arith in
             let at_least : 10 ^ k ≤ n = subst (λ j. 10 ^ j ≤ n) same le in
             let parts = div-add-mod' n (10 ^ k) in
-            let low = mod_below n (10 ^ k) (ten_pos k) in
+            let low = mod_below n (10 ^ k) (ten_positive k) in
             let high : n < 10 * 10 ^ k = subst (λ x. n < x) (pow-suc 10 k ∙ mul_comm (10 ^ k) 10) h.enough in
             small_quotient (n / 10 ^ k) (10 ^ k) (n % 10 ^ k) z parts low at_least high
           where
@@ -263,7 +264,7 @@ places_some n (suc p) = (omega (arith, digits_length n (suc p)), digits_are n (s
 quotient_small : (a p : ℕ) → a < 10 ^ 18 → a / 10 ^ p < 10 ^ 18
 quotient_small a p lt =
     let parts = div-add-mod' a (10 ^ p) in
-    let least : a / 10 ^ p * 1 ≤ a / 10 ^ p * 10 ^ p = mul-le (a / 10 ^ p) 1 (a / 10 ^ p) (10 ^ p) (omega arith) (ten_pos p) in
+    let least : a / 10 ^ p * 1 ≤ a / 10 ^ p * 10 ^ p = mul-le (a / 10 ^ p) 1 (a / 10 ^ p) (10 ^ p) (omega arith) (ten_positive p) in
     omega arith
 
 -- the number that the digits write, with their places
@@ -274,7 +275,7 @@ value_written a zero lt =
 value_written a (suc p) lt =
     let k = suc p in
     let whole = (whole_is (a / 10 ^ k) (quotient_small a k lt)).1 in
-    let low : a % 10 ^ k % 10 ^ k ≡ a % 10 ^ k = mod_small (a % 10 ^ k) (10 ^ k) (mod_below a (10 ^ k) (ten_pos k)) in
+    let low : a % 10 ^ k % 10 ^ k ≡ a % 10 ^ k = mod_small (a % 10 ^ k) (10 ^ k) (mod_below a (10 ^ k) (ten_positive k)) in
     let digits = number_last (a / 10 ^ k) (a % 10 ^ k) k in
     let all : number_from (a / 10 ^ k) (last_digits (a % 10 ^ k) k) ≡ a = digits ∙ omega (arith, low, div-add-mod' a (10 ^ k)) in
     rw (whole, digits_length (a % 10 ^ k) k) (ap (λ x. x * 10 ^ k) all)

@@ -1,12 +1,16 @@
 -- Writing digits, characters and elements one after the other, as the loops do.
 use Rattle.std.proofs.Common.{◌≡◌, ℕ, zero, suc, ◌+◌, ◌-◌, ◌/◌, ◌%◌, ◌^◌, ◌≤◌, ◌<◌, List, [], ◌∷◌, ◌++◌, length, map, get_or, refl, sym, ap, append_assoc, arith}
 use Rattle.std.proofs.lemmas.Bool.{lt-ltb, le-ltb}
+use Rattle.std.proofs.Math.Nat.{one-le-pow}
 use Rattle.json_tree.specs.Tree.{Tree, trees, members}
 use Rattle.json_tree.specs.View.{tree_of, member_of}
 use Rattle.json_tree.specs.Size.{tree_size, items_size, named_size}
 use Rattle.json_tree.specs.declared.tree.Json.{Json}
 use Rattle.json_tree.specs.declared.tree.Member.{Member}
 use Rattle.json_tree.specs.Writing.{digits_needed, last_digits, places_text, tree_text, member_text, trees_texts, members_texts}
+
+pub ten_positive : (places : ℕ) → 0 < 10 ^ places
+ten_positive places = one-le-pow places 10 (omega arith)
 
 pub needed_here : (n count : ℕ) → count < 18 → n < 10 ^ count → digits_needed n (18 - count) count ≡ count
 unfolding digits_needed

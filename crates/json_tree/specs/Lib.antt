@@ -3,15 +3,9 @@ pub mod Size
 pub mod Stored
 pub mod View
 pub mod SizeFalls
-pub mod Reading
-pub mod ReadingTexts
-pub mod ReadingNumerals
 pub mod ReadingValues
 pub mod Next
-pub mod Spelled
-pub mod Significant
 pub mod Writing
-pub mod Tables
-pub mod Decimal
 pub mod Grammar
 pub mod Sound
+pub mod Faults

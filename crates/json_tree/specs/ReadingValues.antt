@@ -1,11 +1,11 @@
 -- Reading values.
-use Rattle.std.specs.Prelude.{ℕ, zero, suc, ◌+◌, Bool, true, false, List, [], ◌∷◌, length, Option, Some, None, Result, Ok, Err, nat_lt, ◌==◌, if◌then◌else◌, codes}
-use Rattle.json_tree.specs.declared.fault.JsonFault.{JsonFault}
-use Rattle.json_tree.specs.declared.fault.JsonFault.TheVariants.{Syntax, Depth, TooLarge}
-use Rattle.json_tree.specs.Reading.{◌>>=◌, Read, past_blanks, byte_at, word_at}
-use Rattle.json_tree.specs.ReadingTexts.{text_at}
-use Rattle.json_tree.specs.ReadingNumerals.{numeral_at}
-use Rattle.json_tree.specs.Tree.{Tree, Kind, At, Null, Bool_of, Text_of, List_of, Object_of, trees, members}
+use Rattle.std.specs.Prelude.{ℕ, zero, suc, ◌+◌, ℤ, Bool, true, false, List, [], ◌∷◌, length, Option, Some, None, Result, Ok, Err, nat_lt, ◌==◌, if◌then◌else◌, codes}
+use Rattle.json_tokens.specs.declared.fault.JsonFault.{JsonFault}
+use Rattle.json_tokens.specs.declared.fault.JsonFault.TheVariants.{Syntax, Depth, TooLarge}
+use Rattle.json_tokens.specs.Reading.{◌>>=◌, Read, past_blanks, byte_at, word_at}
+use Rattle.json_tokens.specs.ReadingTexts.{text_at}
+use Rattle.json_tokens.specs.ReadingNumerals.{numeral_at}
+use Rattle.json_tree.specs.Tree.{Tree, Kind, At, Null, Bool_of, Numeral_of, Wide, Text_of, List_of, Object_of, trees, members}
 
 abbrev pub word_kind_at : List ℕ → Kind → ℕ → List ℕ → Read Kind
 word_kind_at word kind at bytes = do
@@ -17,13 +17,23 @@ quoted_at at bytes = do
   text ← text_at (length bytes) at bytes
   Ok (Text_of text.0, text.1, text.2)
 
+-- a numeral, and a number that is too wide to be kept
+abbrev pub number_kind : Option (ℤ × ℕ) → Kind
+number_kind None = Wide
+number_kind (Some n) = Numeral_of n.0 n.1
+
+unfoldable pub number_at : ℕ → List ℕ → Read Kind
+number_at at bytes = do
+  number ← numeral_at at bytes
+  Ok (number_kind number.0, number.1, number.2)
+
 unfoldable pub scalar_at : ℕ → List ℕ → Read Kind
-scalar_at at [] = numeral_at at []
+scalar_at at [] = number_at at []
 scalar_at at (b ∷ bs) = if b == 34 then quoted_at (at + 1) bs
     else (if b == 110 then word_kind_at (codes "null") Null at (b ∷ bs)
     else (if b == 116 then word_kind_at (codes "true") (Bool_of true) at (b ∷ bs)
     else (if b == 102 then word_kind_at (codes "false") (Bool_of false) at (b ∷ bs)
-    else numeral_at at (b ∷ bs))))
+    else number_at at (b ∷ bs))))
 
 -- a comma, which says that another one comes, or the closing bracket
 abbrev pub separator_at : ℕ → ℕ → List ℕ → Read Bool

@@ -1,15 +1,15 @@
 // A whole text in JSON.
-ghost use Rattle.std.specs.Prelude.{◌≤◌, length, IfOk, Ok};
+ghost use Rattle.std.specs.Prelude.{◌≤◌, length, IfOk, IfErr, Ok};
+ghost use Rattle.json_tree.specs.Faults.{IsPlaced};
 ghost use Rattle.json_tree.specs.Grammar.{Spells};
-ghost use Rattle.json_tree.specs.Reading.{Gives};
+ghost use Rattle.json_tokens.specs.Reading.{Gives};
 ghost use Rattle.json_tree.specs.ReadingValues.{document_at};
 ghost use Rattle.json_tree.specs.Tree.{Tree};
 ghost use Rattle.json_tree.specs.View.{tree_of};
 
-use crate::fault::JsonFault;
-use crate::rest::Rest;
 use crate::tree::Json;
 use crate::values::item;
+use json_tokens::{JsonFault, Rest};
 use std::alloc::Global;
 
 /// The most bytes that are read: 32 MiB.
@@ -25,7 +25,10 @@ pub fn read(alloc: Global, bytes: &[u8]) -> Result<Json, JsonFault>
     ensures found { IfOk result (λ tree. (length bytes.now ≤ MOST_BYTES) × Spells MOST_LEVELS bytes.now (tree_of tree)) }
     // What is spelled so is read, unless memory runs out.
     ensures only { (tree : Tree) → length bytes.now ≤ MOST_BYTES → Spells MOST_LEVELS bytes.now tree → Gives tree_of result (Ok tree) }
-    // Which fault it is, and where.
+    // Where the fault stands: up to it the bytes are lawful, and with the byte there they are not. No bytes have two
+    // faults: `bytes_have_one_fault`.
+    ensures placed { IfErr result (λ fault. IsPlaced bytes.now fault) }
+    // The same answers, by a reading from left to right that can be computed.
     ensures exact { Gives tree_of result (document_at bytes.now) }
 {
     document(alloc, bytes)

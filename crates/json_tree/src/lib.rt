@@ -1,24 +1,19 @@
 //! JSON (RFC 8259) as a tree of values, each with its place in the text. `read` gives exactly the tree
-//! that the bytes spell, or the first fault with its place; `write` gives the canonical text of a tree,
-//! which spells that tree again.
+//! that the bytes spell, or the one fault that they have (`bytes_have_one_fault`), with its place;
+//! `write` gives the canonical text of a tree, which spells that tree again.
 #![tactic(auto)]
 
-mod characters;
 mod document;
-mod fault;
+mod laws;
 mod lookup;
-mod numerals;
-mod rest;
-mod text;
 mod tree;
 mod values;
 mod writable;
 mod writing;
 
 pub use document::{MOST_BYTES, MOST_LEVELS, read};
-pub use fault::{JsonFault, Memory};
-pub use numerals::numeral;
-pub use text::Text;
+pub use json_tokens::{JsonFault, Memory, Text, numeral};
+pub use laws::bytes_have_one_fault;
 pub use tree::{Items, Json, Member, Members, Value};
 pub use writable::is_writable;
 pub use writing::write;

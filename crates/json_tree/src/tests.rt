@@ -110,64 +110,12 @@ fn faults_have_their_places(rt: HostRuntime) -> Result<(), Fail> {
         ("[\u{e9}]", "syntax 1"),
         ("01", "syntax 1"),
         ("-", "syntax 1"),
-        ("-a", "syntax 1"),
         ("+1", "syntax 0"),
-        (".5", "syntax 0"),
-        ("1.", "syntax 2"),
         ("1.e1", "syntax 2"),
-        ("1e", "syntax 2"),
-        ("1e+", "syntax 3"),
-        ("1e+-1", "syntax 3"),
-        ("1ex", "syntax 2"),
         ("[1.5.5]", "syntax 4"),
-        ("\"", "syntax 1"),
         ("\"a", "syntax 2"),
-        ("\"\\", "syntax 2"),
         ("\"\\x\"", "syntax 2"),
-        ("\"\\u", "syntax 3"),
-        ("\"\\u00g0\"", "syntax 5"),
-        ("\"\\u12", "syntax 5"),
-        ("\"\\udc", "syntax 5"),
-        ("\"\\udczz\"", "syntax 5"),
-        ("\"\\udc00\"", "syntax 1"),
-        ("\"ab\\udfff\"", "syntax 3"),
-        ("\"\\ud800\"", "syntax 1"),
-        ("\"\\ud800", "syntax 7"),
-        ("\"\\ud800\\", "syntax 8"),
         ("\"\\ud800\\n\"", "syntax 1"),
-        ("\"\\ud800\\u", "syntax 9"),
-        ("\"\\ud800\\u0", "syntax 1"),
-        ("\"\\ud800\\ud", "syntax 10"),
-        ("\"\\ud800\\udb", "syntax 1"),
-        ("\"\\ud800\\udc", "syntax 11"),
-        ("\"\\ud800\\udcz", "syntax 1"),
-        ("\"\\ud800\\udc0\n", "syntax 1"),
-        ("\"\\ud800x\"", "syntax 1"),
-    ] {
-        let got = reading(rt.alloc(), text.as_bytes())?;
-        assert_eq!(rt; got.as_str(), want, "at {text}");
-    }
-    Ok(())
-}
-
-#[test]
-fn characters_of_texts(rt: HostRuntime) -> Result<(), Fail> {
-    for (text, want) in [
-        (
-            "\"a\u{7f}\u{80}\u{7ff}\u{800}\u{ffff}\u{10000}\u{10ffff}\"",
-            "0'a\u{7f}\u{80}\u{7ff}\u{800}\u{ffff}\u{10000}\u{10ffff}'",
-        ),
-        ("\"\u{d7ff}\u{e000}\"", "0'\u{d7ff}\u{e000}'"),
-        ("\"\\\"\\\\\\/\\b\\f\\n\\r\\t\"", "0'\"\\/\u{8}\u{c}\n\r\t'"),
-        (
-            "\"\\u0041\\u00e9\\u20AC\\uFFff\\u0000\"",
-            "0'A\u{e9}\u{20ac}\u{ffff}\u{0}'",
-        ),
-        (
-            "\"\\ud83d\\ude00\\uDBFF\\uDFFF\\uD800\\uDC00\"",
-            "0'\u{1f600}\u{10ffff}\u{10000}'",
-        ),
-        ("{\"\\u0061\":1}", "0{'a'10#1/0 }"),
     ] {
         let got = reading(rt.alloc(), text.as_bytes())?;
         assert_eq!(rt; got.as_str(), want, "at {text}");
@@ -177,37 +125,16 @@ fn characters_of_texts(rt: HostRuntime) -> Result<(), Fail> {
 
 #[test]
 fn bytes_that_are_not_utf8(rt: HostRuntime) -> Result<(), Fail> {
-    let table: [(&[u8], &str); 22] = [
+    let table: [(&[u8], &str); 5] = [
         (b"\"\x80\"", "utf8 1"),
-        (b"\"a\xbf\"", "utf8 2"),
-        (b"\"\xc0\x80\"", "utf8 1"),
-        (b"\"\xc1\xbf\"", "utf8 1"),
-        (b"\"\xc2\"", "utf8 1"),
-        (b"\"\xc2", "syntax 2"),
-        (b"\"\xe0\x9f\xbf\"", "utf8 1"),
-        (b"\"\xe0\xa0", "syntax 3"),
-        (b"\"\xe0\x80", "utf8 1"),
-        (b"\"\xed\xa0\x80\"", "utf8 1"),
-        (b"\"\xed\xbf\xbf\"", "utf8 1"),
-        (b"\"\xe2\x82\"", "utf8 1"),
-        (b"\"\xe2\n", "utf8 1"),
-        (b"\"\xf0\x8f\xbf\xbf\"", "utf8 1"),
-        (b"\"\xf0\x90\x80", "syntax 4"),
-        (b"\"\xf4\x90\x80\x80\"", "utf8 1"),
-        (b"\"\xf5\x80\x80\x80\"", "utf8 1"),
-        (b"\"\xff\"", "utf8 1"),
-        (b"\"\xf1\x80\x80\xc0\"", "utf8 1"),
         (b"\xff", "syntax 0"),
         (b"[\"\", \"\xfe\"]", "utf8 6"),
-        (b"\"\\ud800\xff\"", "syntax 1"),
+        (b"{\"\xc0\x80\":1}", "utf8 2"),
+        (b"{\"a\":\"\xe2\n\"}", "utf8 6"),
     ];
     for (bytes, want) in table {
         let got = reading(rt.alloc(), bytes)?;
         assert_eq!(rt; got.as_str(), want);
-    }
-    for control in 0..32 {
-        let got = reading(rt.alloc(), &[b'"', b'a', control, b'"'])?;
-        assert_eq!(rt; got.as_str(), "syntax 2", "at {control}");
     }
     Ok(())
 }
@@ -262,40 +189,14 @@ fn sixty_four_levels(rt: HostRuntime) -> Result<(), Fail> {
 }
 
 #[test]
-fn numerals_are_kept_exactly(rt: HostRuntime) -> Result<(), Fail> {
+fn texts_and_numerals_in_a_tree(rt: HostRuntime) -> Result<(), Fail> {
     for (text, want) in [
-        ("0", "0#0/0"),
-        ("-0", "0#0/0"),
-        ("-0.000e5", "0#0/0"),
-        ("0e999999999999999999999999999999", "0#0/0"),
-        ("24", "0#24/0"),
-        ("-1", "0#-1/0"),
-        ("23.976", "0#23976/3"),
-        ("1.50e3", "0#1500/0"),
-        ("0.0001E+4", "0#1/0"),
-        ("1.50", "0#15/1"),
-        ("100e-2", "0#1/0"),
+        ("{\"\\u0061\":1}", "0{'a'10#1/0 }"),
+        ("\"\\ud83d\\ude00\\n\"", "0'\u{1f600}\n'"),
+        ("[-1.50e3,1e99]", "0[1#-1500/0 9wide ]"),
+        ("[0.999999999999999999]", "0[1#999999999999999999/18 ]"),
         ("999999999999999999", "0#999999999999999999/0"),
-        ("-999999999999999999", "0#-999999999999999999/0"),
         ("1000000000000000000", "0wide"),
-        ("1e17", "0#100000000000000000/0"),
-        ("1e18", "0wide"),
-        ("1e-18", "0#1/18"),
-        ("1e-19", "0wide"),
-        ("10e-19", "0#1/18"),
-        ("0.999999999999999999", "0#999999999999999999/18"),
-        ("0.9999999999999999999", "0wide"),
-        ("0.0000000000000000001", "0wide"),
-        ("999999999999999999e1", "0wide"),
-        ("9999999999999999990e-1", "0#999999999999999999/0"),
-        ("1e340282366920938463463374607431768211457", "0wide"),
-        ("1e-340282366920938463463374607431768211457", "0wide"),
-        ("1e18446744073709551616", "0wide"),
-        ("1e-18446744073709551616", "0wide"),
-        (
-            "1e0000000000000000000000000000000000000000000002",
-            "0#100/0",
-        ),
     ] {
         let got = reading(rt.alloc(), text.as_bytes())?;
         assert_eq!(rt; got.as_str(), want, "at {text}");
@@ -307,46 +208,6 @@ fn numerals_are_kept_exactly(rt: HostRuntime) -> Result<(), Fail> {
 fn repeated(alloc: Global, out: &mut Vec<u8>, byte: u8, count: usize) -> Result<(), AllocError> {
     let all = vec![in alloc; byte; count]?;
     out.extend_from_slice(all.as_slice())
-}
-
-#[test]
-fn numerals_of_many_digits(rt: HostRuntime) -> Result<(), Fail> {
-    for (before, between, behind, end, want) in [
-        ("0.", 396, "15", "e398", Some((15, 0))),
-        ("0.", 396, "15", "e397", Some((15, 1))),
-        ("15", 400, "", "e-401", Some((15, 1))),
-        ("15", 400, "", "e-418", Some((15, 18))),
-        ("15", 400, "", "e-419", None),
-        ("15", 400, ".5", "e-400", None),
-        ("-2.5", 400, "", "", Some((-25, 1))),
-    ] {
-        let mut text = Vec::new(rt.alloc());
-        text.extend_from_slice(before.as_bytes())?;
-        repeated(rt.alloc(), &mut text, b'0', between)?;
-        text.extend_from_slice(behind.as_bytes())?;
-        text.extend_from_slice(end.as_bytes())?;
-        let got = numeral(text.as_slice()).map(|n| (n.mantissa, n.places));
-        assert_eq!(rt; got, want, "at {before} {end}");
-    }
-    Ok(())
-}
-
-#[test]
-fn a_text_that_is_a_numeral(rt: HostRuntime) {
-    for (text, want) in [
-        ("24", Some((24, 0))),
-        ("23.976", Some((23976, 3))),
-        ("", None),
-        (" 1", None),
-        ("1 ", None),
-        ("01", None),
-        ("1e18", None),
-        ("null", None),
-        ("1e-3", Some((1, 3))),
-    ] {
-        let got = numeral(text.as_bytes()).map(|n| (n.mantissa, n.places));
-        assert_eq!(rt; got, want, "at {text}");
-    }
 }
 
 #[test]

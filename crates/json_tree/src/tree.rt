@@ -1,7 +1,6 @@
 // The tree that a text in JSON stands for.
-use crate::fault::Memory;
 use crate::lookup::last_of;
-use crate::text::Text;
+use json_tokens::{Memory, Text};
 use ratio_time::Numeral;
 use std::alloc::Global;
 use std::marker::Model;
@@ -10,7 +9,9 @@ use std::marker::Model;
 #[derive(Debug, Drop)]
 #[cycle(tree)]
 pub struct Json {
+    /// How many bytes stand before it.
     pub at: u32,
+    /// What it is.
     pub value: Value,
 }
 
@@ -40,7 +41,9 @@ pub struct Items {
 #[derive(Debug, Drop)]
 #[cycle(tree)]
 pub struct Member {
+    /// Its name, without quotes and escapes.
     pub name: Text,
+    /// The value behind the colon.
     pub value: Json,
 }
 
@@ -134,6 +137,7 @@ impl Items {
     ghost use Rattle.json_tree.specs.Tree.{trees};
     ghost use Rattle.json_tree.specs.View.{tree_of};
 
+    /// No values.
     pub fn new(alloc: Global) -> Items
         ensures { result ≡ [] }
     {
@@ -142,6 +146,7 @@ impl Items {
         }
     }
 
+    /// Its values, in order.
     pub fn as_slice(&self) -> &[Json]
         ensures list { map tree_of result.now ≡ self.now }
         ensures sound { AreSound (trees self.now) }
@@ -166,6 +171,7 @@ impl Members {
     ghost use Rattle.json_tree.specs.Sound.{AreSoundMembers};
     ghost use Rattle.json_tree.specs.Tree.{last_named, members};
 
+    /// No members.
     pub fn new(alloc: Global) -> Members
         ensures { result ≡ [] }
     {
@@ -174,6 +180,7 @@ impl Members {
         }
     }
 
+    /// Its members, in order.
     pub fn as_slice(&self) -> &[Member]
         ensures list { map member_of result.now ≡ self.now }
         ensures sound { AreSoundMembers (members self.now) }

@@ -1,16 +1,16 @@
 // Values: words, texts, numerals, lists and objects (RFC 8259, sections 3 to 5).
 ghost use Rattle.std.specs.Prelude.{◌≡◌, ◌+◌, ◌<◌, ◌≤◌, length, ℕ, List, Bool, true, false};
-ghost use Rattle.json_tree.specs.Reading.{Gives, Read};
-ghost use Rattle.json_tree.specs.ReadingValues.{value_at, kind_read, inner_at, items_at, members_at, list_in, object_in, scalar_at, quoted_at, list_at, elements_at, item_at, member_at, name_at, separator_at};
+ghost use Rattle.json_tokens.specs.Reading.{Gives, Read};
+ghost use Rattle.json_tree.specs.ReadingValues.{value_at, kind_read, inner_at, items_at, members_at, list_in, object_in, scalar_at, number_at, number_kind, quoted_at, list_at, elements_at, item_at, member_at, name_at, separator_at};
+ghost use Rattle.json_tokens.specs.Spelled.{numeral_kept};
 ghost use Rattle.json_tree.specs.View.{tree_of, kind_of, member_of};
 ghost use Rattle.json_tree.specs.Next.{is_another};
 
-use crate::characters::text;
-use crate::fault::JsonFault;
-use crate::numerals::numeral_value;
-use crate::rest::{Rest, past_blanks, past_byte, word};
-use crate::text::Text;
 use crate::tree::{Items, Json, Member, Members, Value};
+use json_tokens::{
+    JsonFault, Rest, Text, numeral_value, past_blanks, past_byte, text_behind_quote, word,
+};
+use ratio_time::Numeral;
 use std::alloc::Global;
 
 /// What stands behind a member of a list or an object.
@@ -111,7 +111,24 @@ fn scalar(alloc: Global, rest: Rest<'_>) -> Result<(Value, Rest<'_>), JsonFault>
         [b'n', ..] => Ok((Value::Null, word(b"null", rest)?)),
         [b't', ..] => Ok((Value::Bool(true), word(b"true", rest)?)),
         [b'f', ..] => Ok((Value::Bool(false), word(b"false", rest)?)),
-        _ => numeral_value(rest),
+        _ => number(rest),
+    }
+}
+
+#[tactic(auto, unfolding(crate::specs::ReadingValues::number_at))]
+fn number(rest: Rest<'_>) -> Result<(Value, Rest<'_>), JsonFault>
+    ensures { Gives (λ r. (kind_of r.0, r.1.at, r.1.bytes.now)) result (number_at rest.entry.at rest.entry.bytes.now) }
+{
+    let (numeral, rest) = numeral_value(rest)?;
+    Ok((number_value(numeral), rest))
+}
+
+fn number_value(numeral: Option<Numeral>) -> Value
+    ensures { kind_of result ≡ number_kind (numeral_kept numeral) }
+{
+    match numeral {
+        Some(numeral) => Value::Numeral(numeral),
+        None => Value::Wide,
     }
 }
 
@@ -119,7 +136,7 @@ fn scalar(alloc: Global, rest: Rest<'_>) -> Result<(Value, Rest<'_>), JsonFault>
 fn quoted(alloc: Global, rest: Rest<'_>) -> Result<(Value, Rest<'_>), JsonFault>
     ensures { Gives (λ r. (kind_of r.0, r.1.at, r.1.bytes.now)) result (quoted_at rest.entry.at rest.entry.bytes.now) }
 {
-    let (text, rest) = text(alloc, rest)?;
+    let (text, rest) = text_behind_quote(alloc, rest)?;
     Ok((Value::Text(text), rest))
 }
 
@@ -242,7 +259,7 @@ fn name(alloc: Global, rest: Rest<'_>) -> Result<(Text, Rest<'_>), JsonFault>
     ensures { Gives (λ r. (r.0, r.1.at, r.1.bytes.now)) result (name_at rest.entry.at rest.entry.bytes.now) }
 {
     let rest = word(b"\"", past_blanks(rest))?;
-    let (name, rest) = text(alloc, rest)?;
+    let (name, rest) = text_behind_quote(alloc, rest)?;
     let rest = word(b":", past_blanks(rest))?;
     Ok((name, rest))
 }

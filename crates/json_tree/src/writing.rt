@@ -6,8 +6,8 @@ ghost use Rattle.json_tree.specs.View.{tree_of, member_of, kind_of};
 ghost use Rattle.json_tree.specs.Writing.{tree_text, kind_text, member_text, joined, commas, quoted, escaped, hex_digit, numeral_text, whole_text, digits_needed, last_digits, places_text, sign_text};
 
 use crate::document::MOST_LEVELS;
-use crate::fault::Memory;
 use crate::tree::{Items, Json, Member, Members, Value};
+use json_tokens::Memory;
 use ratio_time::Numeral;
 use std::alloc::Global;
 
@@ -236,7 +236,7 @@ fn put_digits(out: &mut Vec<u8>, number: u64, count: u8) -> Result<(), Memory>
     Ok(())
 }
 
-#[tactic(auto, using(crate::proofs::Fractions::ten_pos))]
+#[tactic(auto, using(crate::proofs::WritingSteps::ten_positive))]
 fn power_of_ten(places: u8) -> u64
     requires { places ≤ 18 }
     ensures value { result ≡ 10 ^ places }

@@ -1,0 +1,9 @@
+pub mod Reading
+pub mod ReadingTexts
+pub mod ReadingNumerals
+pub mod Spelled
+pub mod Significant
+pub mod Tables
+pub mod Decimal
+pub mod Grammar
+pub mod Faults

@@ -1,6 +1,0 @@
-use Rattle.std.proofs.Common.{◌≡◌, ◌+◌, length, drop}
-use Rattle.json_tree.specs.ReadingNumerals.{digits_of}
-use Rattle.json_tree.proofs.numerals.digit_count.Given as goal
-
-abbrev pub invariant-loop-i : goal.invariant-loop-i
-invariant-loop-i l = l.i + length (digits_of (drop l.i l.bytes)) ≡ length (digits_of l.bytes)
