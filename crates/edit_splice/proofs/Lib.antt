@@ -1,0 +1,13 @@
+pub mod Spans
+pub mod Splits
+pub mod Marks
+pub mod Renumbering
+pub mod Numbers
+pub mod Ends
+pub mod Whole
+pub mod Placed
+pub mod Meeting
+pub mod Cutting
+pub mod Apartness
+pub mod Existing
+pub mod Keeping

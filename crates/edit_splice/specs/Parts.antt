@@ -1,0 +1,103 @@
+-- The items and gaps at the two ends of a range of a track, and what is put in their place.
+use Rattle.std.specs.Prelude.{◌≡◌, ℕ, ◌+◌, ◌-◌, ◌<◌, ◌≤◌, List, [], ◌∷◌, ◌++◌, Option, Some, None, take, length, slice_get, if◌then◌else◌}
+use Rattle.frame_meaning.specs.declared.cells.Cell.{Cell}
+use Rattle.frame_meaning.specs.Cells.{same_number, later_side}
+use Rattle.frame_meaning.specs.Splice.{kept_before, kept_behind}
+use Rattle.composables.specs.declared.items.ItemView.{ItemView}
+use Rattle.composables.specs.Items.{items_of}
+use Rattle.composables.specs.Joined.{frames_in}
+use Rattle.composables.specs.TrackFacts.{HasSource}
+use Rattle.edit_splice.specs.declared.seams.Held.{Held}
+use Rattle.edit_splice.specs.declared.seams.Seams.{Seams}
+
+-- an item or gap stands where it says, and holds the place at
+pub record Stands (items : List ItemView) (at : ℕ) (h : Held) : Type 0 where
+  pub read : slice_get items h.index ≡ Some h.view
+  pub from : h.from ≡ frames_in (take h.index items)
+  pub begins : h.from ≤ at
+  pub ends : at < h.from + h.view.len
+
+-- it holds the last place before x, or there is none
+abbrev pub EndsAt : List Cell → ℕ → Option Held → Type 0
+EndsAt cells x None = x ≡ 0
+EndsAt cells x (Some h) = (0 < x) × Stands (items_of cells) (x - 1) h
+
+-- it holds the place y, or there is none
+abbrev pub StandsFrom : List Cell → ℕ → Option Held → Type 0
+StandsFrom cells y None = length cells ≤ y
+StandsFrom cells y (Some h) = Stands (items_of cells) y h
+
+-- the item or gap after it
+abbrev pub view_after : List ItemView → Option Held → Option ItemView
+view_after items None = None
+view_after items (Some h) = slice_get items (h.index + 1)
+
+-- what stands at the ends of the range [x, y)
+pub record AreSeams (cells : List Cell) (x y : ℕ) (s : Seams) : Type 0 where
+  pub left : EndsAt cells x s.left
+  pub right : StandsFrom cells y s.right
+  pub after : s.after ≡ view_after (items_of cells) s.right
+
+-- it begins by x
+abbrev pub begins_by : ℕ → Option Held → Type 0
+begins_by x None = Unit {0}
+begins_by x (Some h) = h.from ≤ x
+
+-- it holds y, and its source frames are numbers of the program
+abbrev pub reaches_past : ℕ → Option Held → Type 0
+reaches_past y None = Unit {0}
+reaches_past y (Some h) = (h.from ≤ y) × (y - h.from < h.view.len) × HasSource h.view.first h.view.len 0 0
+
+-- the number of the item that stands on both sides, if one item does
+abbrev pub split_number : Option Held → Option Held → Option ℕ
+split_number None right = None
+split_number (Some h) None = None
+split_number (Some h) (Some k) = if same_number h.view.item k.view.item then k.view.item else None
+
+-- the first n frames of an item or gap; its dissolve stays where it ends by then
+abbrev pub front_view : ItemView → ℕ → ItemView
+front_view v n = record v { len = n; mark = kept_before n v.mark }
+
+abbrev pub front_views : Option Held → ℕ → List ItemView
+front_views None x = []
+front_views (Some h) x = front_view h.view (x - h.from) ∷ []
+
+-- an item or gap without its first n frames, and without a dissolve before it
+abbrev pub later_view : ItemView → ℕ → ItemView
+later_view v n = record v { first = later_side v.first n; len = v.len - n; mark = None }
+
+-- an item with a fresh number, if it is the one that is split
+abbrev pub renumbered_view : Option ℕ → ℕ → ItemView → ItemView
+renumbered_view None fresh v = v
+renumbered_view (Some i) fresh v = if same_number v.item (Some i) then record v { item = Some fresh } else v
+
+abbrev pub back_views : Option Held → ℕ → Option ℕ → ℕ → List ItemView
+back_views None y split fresh = []
+back_views (Some h) y split fresh = renumbered_view split fresh (later_view h.view (y - h.from)) ∷ []
+
+-- an item or gap that begins n frames behind the range; its dissolve stays where it begins by then
+abbrev pub after_view : ℕ → ItemView → ItemView
+after_view n v = record v { mark = kept_behind n v.mark }
+
+abbrev pub after_views : Option Held → Option ItemView → ℕ → List ItemView
+after_views None after y = []
+after_views (Some h) None y = []
+after_views (Some h) (Some v) y = after_view (h.view.len - (y - h.from)) v ∷ []
+
+-- what is put in place of the items and gaps at the ends of the range [x, y), with these between
+abbrev pub parts_between : Seams → ℕ → ℕ → List ItemView → ℕ → List ItemView
+parts_between s x y views fresh =
+    (front_views s.left x ++ views) ++ (back_views s.right y (split_number s.left s.right) fresh ++ after_views s.right s.after y)
+
+-- the index of the first item or gap that is replaced, and the index behind the last, of this many
+abbrev pub first_index : Option Held → ℕ
+first_index None = 0
+first_index (Some h) = h.index
+
+abbrev pub end_at : Option Held → Option ItemView → ℕ → ℕ
+end_at None after count = count
+end_at (Some h) None count = h.index + 1
+end_at (Some h) (Some v) count = h.index + 2
+
+abbrev pub end_index : Seams → ℕ → ℕ
+end_index s count = end_at s.right s.after count

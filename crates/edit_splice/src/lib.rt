@@ -1,0 +1,17 @@
+//! A splice of a track with its dissolves: items in place of a range of record frames.
+//!
+//! The main contract is that of `splice`: the track has the cells of `spliced` of frame_meaning and the next item
+//! number that goes with them; for want of memory it is as it was. It works on the few items at the two ends of the
+//! range.
+#![tactic(auto)]
+
+mod laws;
+mod parts;
+mod seams;
+mod splicing;
+
+pub use laws::new_items_may_be_put_in;
+pub use splicing::splice;
+
+#[cfg(test)]
+mod tests;
