@@ -1,0 +1,95 @@
+"""Processor time of cutroom beside that of a plain program, on the same lines, and the memory of an edited track.
+README.md says what each row measures."""
+
+import os
+import subprocess
+import sys
+import tempfile
+
+PLACE_FRAMES = 100
+ITEM_FRAMES = 50
+# A prime: its multiples reach each of the places once, and in scattered order.
+STRIDE = 7919
+
+# A row is measured so often, and its least time is told.
+ROUNDS = 3
+
+
+def scattered(count):
+    places = (number * STRIDE % count * PLACE_FRAMES for number in range(count))
+    return [f"overwrite 0 {place} @0 0 {ITEM_FRAMES}" for place in places]
+
+
+def views(count, items, frames):
+    last = items * PLACE_FRAMES - frames
+    starts = (number * STRIDE * PLACE_FRAMES % last for number in range(count))
+    return [f"view 0 {start} {start + frames}" for start in starts]
+
+
+def inserts_in_the_middle(count, items):
+    middle = items // 2 * PLACE_FRAMES
+    return [f"insert 0 0 {middle} @0 0 {ITEM_FRAMES}"] * count
+
+
+def extracts_in_the_middle(count, items):
+    # Scattered items are numbered in the order in which they came; those of the middle places are taken out.
+    number_at = {number * STRIDE % items: number for number in range(items)}
+    first = (items - count) // 2
+    return [f"extract 0 0 {number_at[place]}" for place in range(first, first + count)]
+
+
+def run(program, lines):
+    """Runs the program on the lines. Answers its replies, the processor seconds that it took, and its most memory in
+    bytes."""
+    with tempfile.TemporaryFile() as text, tempfile.TemporaryFile() as replies:
+        text.write("".join(f"{line}\n" for line in lines).encode())
+        text.seek(0)
+        process = subprocess.Popen([program, "run", "1", "1"], stdin=text, stdout=replies)
+        _, status, used = os.wait4(process.pid, 0)
+        process.returncode = status
+        if status != 0:
+            raise SystemExit(f"bench: {program} ended with {status}")
+        replies.seek(0)
+        return replies.read(), used.ru_utime + used.ru_stime, used.ru_maxrss * 1024
+
+
+def seconds_of(program, before, lines):
+    """The least processor time for the lines behind those before them, which are not counted."""
+    whole = min(run(program, [*before, *lines])[1] for _ in range(ROUNDS))
+    return max(whole - min(run(program, before)[1] for _ in range(ROUNDS)), 1e-6)
+
+
+def compare(ours, plain, name, lines, before=()):
+    before = list(before)
+    if run(ours, [*before, *lines])[0] != run(plain, [*before, *lines])[0]:
+        raise SystemExit(f"bench: {name}: the replies differ")
+    one, other = seconds_of(ours, before, lines), seconds_of(plain, before, lines)
+    print(f"{name:<52}{len(lines):>8}{one:>10.3f}{other:>10.3f}{one / other:>8.1f}", flush=True)
+
+
+def memory_of(ours, count):
+    lines = [f"overwrite 0 0 @0 0 {ITEM_FRAMES}"] * count
+    replies, _, most = run(ours, lines)
+    return most, replies.count(b"\n")
+
+
+def main():
+    ours, plain = sys.argv[1:]
+    print(f"{'lines':<52}{'count':>8}{'ours':>10}{'plain':>10}{'ratio':>8}")
+    compare(ours, plain, "point", ["point"] * 200_000)
+    compare(ours, plain, "items of a track of 10 items", ["items 0"] * 100_000, scattered(10))
+    compare(ours, plain, "overwrite, scattered over one track", scattered(5_000))
+    compare(ours, plain, "view of 1,000 frames in a track of 1,000 items", views(10_000, 1_000, 1_000), scattered(1_000))
+    items = scattered(10_000)
+    try:
+        compare(ours, plain, "insert in the middle of 10,000 items", inserts_in_the_middle(2_000, 10_000), items)
+        compare(ours, plain, "extract in the middle of 10,000 items", extracts_in_the_middle(2_000, 10_000), items)
+    except SystemExit as end:
+        print(end)
+    for count in (1_000, 100_000):
+        most, _ = memory_of(ours, count)
+        print(f"memory after {count:>7,} edits of one small track {most / 1e6:>10.1f} MB", flush=True)
+
+
+if __name__ == "__main__":
+    main()
