@@ -1,15 +1,14 @@
 -- A dissolve put at a cut leaves a track, and a place lies in one item.
-use Rattle.std.proofs.Common.{◌≡◌, ◌≢◌, ℕ, zero, suc, ◌+◌, ◌<◌, ◌≤◌, ◌^◌, List, [], ◌∷◌, length, take, Option, Some, None, IfSome, refl, sym, ap, ◌∙◌, arith, subst, ◌⊎◌, inl, inr}
+use Rattle.std.proofs.Common.{◌≡◌, ℕ, zero, suc, ◌+◌, ◌<◌, ◌≤◌, List, [], ◌∷◌, length, take, Option, Some, None, IfSome, refl, sym, ap, ◌∙◌, arith, subst, ◌⊎◌, inl, inr}
 use Rattle.frame_meaning.specs.declared.cells.Mark.{Mark}
-use Rattle.frame_meaning.specs.declared.cells.Cell.{Cell}
 use Rattle.composables.specs.declared.items.ItemView.{ItemView}
 use Rattle.composables.specs.declared.items.Place.{Place}
 use Rattle.composables.specs.Items.{cells_of, items_of}
 use Rattle.composables.specs.Joined.{joined, IsTight, AllFilled, frames_in}
 use Rattle.composables.specs.Changes.{changed_at, changed_track, with_mark}
-use Rattle.composables.specs.Places.{StandsAt, IsPlaceOf}
+use Rattle.composables.specs.Places.{StandsAt}
 use Rattle.composables.specs.Standing.{HaveRoom}
-use Rattle.composables.specs.TrackFacts.{Holds, EachHolds, Apart, Lacks, NumbersBelow, IsKept, first_mark}
+use Rattle.composables.specs.TrackFacts.{EachHolds, Apart, Lacks, NumbersBelow, IsKept, first_mark}
 use Rattle.composables.specs.TrackState.{TrackState}
 use Rattle.composables.proofs.Joining.{items_of-cells_of, items_of-tight, length-cells_of, tight-joined}
 use Rattle.composables.proofs.Changing.{LeavesShape, frames_in-changed, filled-changed, tight-changed}

@@ -1,5 +1,5 @@
 -- Room among the numbers of a track for those of the next edits.
-use Rattle.std.specs.Prelude.{ℕ, ◌≤◌, ◌^◌}
+use Rattle.std.specs.Prelude.{◌≤◌, ◌^◌}
 use Rattle.composables.specs.TrackState.{TrackState}
 
 -- the next item number and the next link number lie in the lower half of the numbers that the program keeps

@@ -1,5 +1,5 @@
-use Rattle.std.proofs.Common.{ap, sym, take, drop, arith}
-use Rattle.composables.specs.Joined.{frames_in, IsTight}
+use Rattle.std.proofs.Common.{ap, take, drop, arith}
+use Rattle.composables.specs.Joined.{frames_in}
 use Rattle.composables.proofs.Frames.{frames_in-append}
 use Rattle.composables.proofs.Joining.{laid_thrice, tight-take, tight-drop}
 use Rattle.composables.proofs.laying.lay_around.Goals as goal

@@ -1,4 +1,4 @@
-use Rattle.std.proofs.Common.{◌≡◌, ◌≤◌, ◌+◌, drop, length, vec_len, vec_capacity}
+use Rattle.std.proofs.Common.{◌≡◌, ◌≤◌, ◌+◌, drop, vec_len, vec_capacity}
 use Rattle.composables.specs.Joined.{frames_in, push_views}
 use Rattle.composables.proofs.laying.push_each.Given as goal
 

@@ -1,4 +1,4 @@
-use Rattle.std.proofs.Common.{◌≡◌, ◌++◌, length, ap, ◌∙◌, arith}
+use Rattle.std.proofs.Common.{◌++◌, ap, ◌∙◌, arith}
 use Rattle.composables.proofs.Frames.{no_view}
 use Rattle.composables.proofs.Joining.{pushed_tight}
 use Rattle.composables.proofs.laying.push_tight.Goals as goal

@@ -1,5 +1,4 @@
-use Rattle.std.proofs.Common.{◌+◌, ◌<◌, arith, sym, ◌∙◌}
-use Rattle.composables.specs.Joined.{frames_in}
+use Rattle.std.proofs.Common.{◌+◌, arith, sym, ◌∙◌}
 use Rattle.composables.proofs.Frames.{frames_in-take_more, frames_in-take_le, no_view}
 use Rattle.composables.proofs.Finding.{range_found, range_next, range_end, number_at}
 use Rattle.composables.proofs.places.find_item.Goals as goal

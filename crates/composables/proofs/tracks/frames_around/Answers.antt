@@ -1,4 +1,4 @@
-use Rattle.std.proofs.Common.{◌≡◌, ◌-◌, take, drop, ap, ◌∙◌, arith}
+use Rattle.std.proofs.Common.{◌-◌, take, ap, ◌∙◌, arith}
 use Rattle.composables.specs.Joined.{frames_in}
 use Rattle.composables.proofs.Frames.{frames_in-between}
 use Rattle.composables.proofs.tracks.frames_around.Goals as goal

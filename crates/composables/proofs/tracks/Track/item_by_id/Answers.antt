@@ -1,4 +1,4 @@
-use Rattle.std.proofs.Common.{length, arith, ap, IsNone}
+use Rattle.std.proofs.Common.{length, arith, ap}
 use Rattle.composables.specs.Items.{cells_of}
 use Rattle.composables.proofs.Joining.{items_of-tight, length-cells_of, length-items_of}
 use Rattle.composables.proofs.Finding.{none_iff}

@@ -1,6 +1,4 @@
-use Rattle.std.proofs.Common.{◌≡◌, ◌+◌, length, take, drop, arith, ap, refl, sym, ◌∙◌}
-use Rattle.composables.specs.Items.{items_of, cells_of}
-use Rattle.composables.specs.Joined.{frames_in}
+use Rattle.std.proofs.Common.{length, arith, ap, refl, ◌∙◌}
 use Rattle.composables.specs.TrackState.{replaced}
 use Rattle.composables.specs.TrackInside.{state_of}
 use Rattle.composables.proofs.Joining.{items_of-tight, length-cells_of}

@@ -1,4 +1,4 @@
-use Rattle.std.proofs.Common.{length, arith, ap, refl}
+use Rattle.std.proofs.Common.{arith, refl}
 use Rattle.composables.specs.Changes.{with_mark}
 use Rattle.composables.proofs.Changing.{change_keeps, index_within}
 use Rattle.composables.proofs.Keeping.{same_state}
