@@ -8,6 +8,7 @@ pub mod Ends
 pub mod Whole
 pub mod Placed
 pub mod Meeting
+pub mod Lying
 pub mod Cutting
 pub mod Apartness
 pub mod Existing
