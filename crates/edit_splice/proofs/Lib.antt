@@ -13,3 +13,5 @@ pub mod Cutting
 pub mod Apartness
 pub mod Existing
 pub mod Keeping
+pub mod Goodness
+pub mod Outcomes

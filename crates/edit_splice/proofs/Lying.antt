@@ -95,9 +95,10 @@ later_lies table s fresh k after tail v lt le h =
 pub lies-back : (table : Table) (s : Option ℕ) (fresh k : ℕ) (v : ItemView) (ws : List ItemView) → k < v.len → EachLiesIn table (v ∷ ws) → EachLiesIn table (renumbered_view s fresh (later_view v k) ∷ first_kept (v.len - k) ws)
 lies-back table s fresh k v [] lt h = (later_lies table s fresh k 0 0 v lt (same_len 0) h.0, tt)
 lies-back table s fresh k v (w ∷ ws) lt h =
-    let most = behind_both (v.len - k) w.mark in
-    (later_lies table s fresh k (right_reach w.mark) (right_reach (kept_behind (v.len - k) w.mark)) v lt most.1 h.0,
-    (lies-less table w.first w.len w.len (left_reach w.mark) (right_reach (first_mark ws)) (left_reach (kept_behind (v.len - k) w.mark)) (right_reach (first_mark ws)) (same_len w.len) most.0 (same_len (right_reach (first_mark ws))) h.1.0, h.1.1))
+    let most = behind_both (v.len - k) w.mark in (
+      later_lies table s fresh k (right_reach w.mark) (right_reach (kept_behind (v.len - k) w.mark)) v lt most.1 h.0,
+      (lies-less table w.first w.len w.len (left_reach w.mark) (right_reach (first_mark ws)) (left_reach (kept_behind (v.len - k) w.mark)) (right_reach (first_mark ws)) (same_len w.len) most.0 (same_len (right_reach (first_mark ws))) h.1.0, h.1.1),
+    )
 
 -- in a row
 pub lies-append : (table : Table) (xs ys : List ItemView) → EachLiesIn table xs → EachLiesIn table ys → first_mark ys ≡ None → EachLiesIn table (xs ++ ys)
