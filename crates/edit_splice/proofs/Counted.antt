@@ -1,12 +1,12 @@
 -- How many items and gaps the parts of a splice are, once those that belong together and meet are one.
-use Rattle.std.proofs.Common.{◌≡◌, ◌≢◌, ℕ, zero, suc, ◌+◌, ◌-◌, ◌<◌, ◌≤◌, Bool, true, false, cond, List, [], ◌∷◌, ◌++◌, length, map, Option, Some, None, refl, sym, ap, ◌∙◌, arith, subst, take, drop}
+use Rattle.std.proofs.Common.{◌≡◌, ◌≢◌, ℕ, suc, ◌+◌, ◌-◌, ◌≤◌, Bool, true, false, cond, List, [], ◌∷◌, ◌++◌, length, Option, Some, None, refl, sym, ap, ◌∙◌, arith, subst, take, drop}
 use Rattle.std.specs.Option.{option_to_list}
 use Rattle.std.proofs.lemmas.List.{length-append, length-take, length-drop, map-append}
 use Rattle.std.proofs.lemmas.Option.{slice_get_within}
 use Rattle.frame_meaning.specs.declared.cells.Cell.{Cell}
 use Rattle.frame_meaning.specs.Cells.{same_number}
 use Rattle.composables.specs.declared.items.ItemView.{ItemView}
-use Rattle.composables.specs.Items.{cells_of, items_of}
+use Rattle.composables.specs.Items.{items_of}
 use Rattle.composables.specs.Joined.{with_view, joined, IsTight, AllFilled}
 use Rattle.composables.specs.TrackFacts.{IsKept, NumbersBelow}
 use Rattle.composables.specs.TrackState.{TrackState, next_past_all}
@@ -21,8 +21,8 @@ use Rattle.edit_splice.proofs.Numbers.{next-rises}
 use Rattle.edit_splice.proofs.Meeting.{filled-each}
 use Rattle.edit_splice.proofs.Cutting.{tight_front}
 use Rattle.edit_splice.proofs.Apartness.{lacks-below}
-use Rattle.edit_splice.proofs.Keeping.{Stand, stand_of, stand_at, before_range, behind_range, kept_behind_range, behind_is, behind_none, all_parts, sound_before, sound_behind, cells_all}
-use Rattle.edit_splice.specs.Counting.{numbers, belongs, begun, number_of, count_by, count_past, back_number}
+use Rattle.edit_splice.proofs.Keeping.{Stand, stand_of, stand_at, before_range, behind_range, behind_is, behind_none, all_parts, sound_before, sound_behind, cells_all}
+use Rattle.edit_splice.specs.Counting.{numbers, begun, number_of, count_by, count_past, back_number}
 
 abbrev one_or_none : Bool → ℕ
 one_or_none b = cond b 0 1

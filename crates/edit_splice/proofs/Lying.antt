@@ -1,6 +1,6 @@
 -- What the parts of a track at the ends of a range show lies in the ranges of the table, and their links are the
 -- track's own.
-use Rattle.std.proofs.Common.{◌≡◌, ℕ, ◌+◌, ◌-◌, ◌<◌, ◌≤◌, Bool, true, false, cond, leb, ltb, ◌&&◌, List, [], ◌∷◌, ◌++◌, Option, Some, None, IfSome, refl, sym, ap, ◌∙◌, arith, subst}
+use Rattle.std.proofs.Common.{◌≡◌, ℕ, ◌+◌, ◌-◌, ◌<◌, ◌≤◌, Bool, true, false, cond, leb, ltb, ◌&&◌, List, [], ◌∷◌, ◌++◌, Option, Some, None, IfSome, refl, sym, arith, subst}
 use Rattle.std.proofs.lemmas.Bool.{cond_both}
 use Rattle.frame_meaning.specs.declared.cells.What.{What}
 use Rattle.frame_meaning.specs.declared.cells.Mark.{Mark}
@@ -12,10 +12,10 @@ use Rattle.composables.specs.declared.media.Table.{Table}
 use Rattle.composables.specs.Bounds.{bounds_of}
 use Rattle.composables.specs.Good.{LiesIn, SideLiesIn, EachLiesIn, IsLinkOf, EachLinkOf}
 use Rattle.composables.specs.Joined.{with_view, joined}
-use Rattle.composables.specs.TrackFacts.{ShowsAsItem, Holds, EachHolds, Apart, Lacks, first_mark, left_reach, right_reach}
+use Rattle.composables.specs.TrackFacts.{ShowsAsItem, EachHolds, Apart, Lacks, first_mark, left_reach, right_reach}
 use Rattle.composables.proofs.Joining.{same-is}
 use Rattle.composables.specs.Views.{later_view}
-use Rattle.edit_splice.specs.Parts.{kept_before, kept_behind, front_view, after_view, renumbered_view}
+use Rattle.edit_splice.specs.Parts.{kept_before, kept_behind, front_view, renumbered_view}
 use Rattle.edit_splice.proofs.Ends.{first_kept}
 use Rattle.edit_splice.proofs.Meeting.{mark-joined, if-lacks, lacks-joined, never_some, gap_shows}
 

@@ -1,5 +1,5 @@
 -- What every splice leaves: how long the track is, which numbers it has given away, and that no link comes to it.
-use Rattle.std.proofs.Common.{◌≡◌, ℕ, zero, suc, ◌+◌, ◌-◌, ◌<◌, ◌≤◌, Bool, true, false, cond, List, [], ◌∷◌, ◌++◌, length, map, min, Option, Some, None, refl, sym, ap, ◌∙◌, arith, subst, take, drop}
+use Rattle.std.proofs.Common.{◌≡◌, ℕ, zero, suc, ◌+◌, ◌-◌, ◌<◌, ◌≤◌, Bool, true, false, cond, List, [], ◌∷◌, ◌++◌, length, map, Option, Some, None, refl, arith, subst, take, drop}
 use Rattle.std.proofs.lemmas.Bool.{cond_both}
 use Rattle.frame_meaning.specs.declared.cells.What.{What}
 use Rattle.frame_meaning.specs.declared.cells.Link.{Link}

@@ -1,5 +1,5 @@
 -- How many items and gaps there are where those that belong together and meet are one.
-use Rattle.std.specs.Prelude.{ℕ, ◌+◌, ◌-◌, Bool, false, List, [], ◌∷◌, ◌++◌, Option, Some, None, map, if◌then◌else◌}
+use Rattle.std.specs.Prelude.{ℕ, ◌+◌, ◌-◌, Bool, false, List, [], ◌∷◌, Option, Some, None, map, if◌then◌else◌}
 use Rattle.frame_meaning.specs.Cells.{same_number}
 use Rattle.composables.specs.declared.items.ItemView.{ItemView}
 use Rattle.edit_splice.specs.declared.seams.Held.{Held}

@@ -1,10 +1,8 @@
-use Rattle.std.proofs.Common.{◌≡◌, ℕ, ◌+◌, ap, ◌∙◌, sym, arith, length}
-use Rattle.composables.specs.declared.items.ItemView.{ItemView}
-use Rattle.composables.specs.Items.{items_of}
+use Rattle.std.proofs.Common.{ℕ, ap, ◌∙◌, arith}
 use Rattle.composables.specs.TrackState.{next_past_all}
 use Rattle.composables.proofs.Joining.{length-items_of}
 use Rattle.edit_splice.specs.Splicing.{spliced_track}
-use Rattle.edit_splice.proofs.Counted.{counted, count-spliced, left-within, right-within}
+use Rattle.edit_splice.proofs.Counted.{counted, left-within, right-within}
 use Rattle.edit_splice.proofs.counting.count_after.Goals as goal
 
 pub count_by-requires : goal.count_by-requires

@@ -1,4 +1,4 @@
-use Rattle.std.proofs.Common.{◌≡◌, ◌++◌, take}
+use Rattle.std.proofs.Common.{◌≡◌, take}
 use Rattle.edit_splice.specs.Parts.{laid_more}
 use Rattle.edit_splice.proofs.parts.push_items.Given as goal
 

@@ -1,6 +1,5 @@
-use Rattle.std.proofs.Common.{◌≡◌, ℕ, ap, ◌∙◌, sym, arith, subst}
-use Rattle.composables.specs.declared.items.ItemView.{ItemView}
-use Rattle.composables.specs.TrackState.{TrackState, next_past_all}
+use Rattle.std.proofs.Common.{ℕ, ap, ◌∙◌, arith}
+use Rattle.composables.specs.TrackState.{next_past_all}
 use Rattle.edit_splice.specs.Parts.{parts_between}
 use Rattle.edit_splice.proofs.Numbers.{below-weaker}
 use Rattle.edit_splice.proofs.Placed.{seams-reach, end-fits, ends-ordered, replaced-is, kept-replaced, filled-made, below-made, laid-alone}
