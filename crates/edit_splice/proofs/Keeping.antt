@@ -132,7 +132,7 @@ sound_behind next fresh cs y l (Some h) o le s e is =
     (sound_back next fresh (y - h.from) (split_number l (Some h)) h.view (drop (suc h.index) vs) le (omega (arith, e.begins, e.ends)) at.0 at.1 at.2 at.3)
 
 -- no number is on two sides
-foreign_nothing : (xs : List ItemView) → Foreign xs []
+pub foreign_nothing : (xs : List ItemView) → Foreign xs []
 foreign_nothing [] = tt
 foreign_nothing (x ∷ xs) = (nothing x.item, foreign_nothing xs) where
   nothing : (o : Option ℕ) → IfSome o (λ i. Lacks i [])

@@ -13,6 +13,9 @@ pub mod Cutting
 pub mod Apartness
 pub mod Existing
 pub mod Keeping
+pub mod Freedom
 pub mod Goodness
+pub mod Growing
+pub mod Placing
 pub mod Outcomes
 pub mod Counted

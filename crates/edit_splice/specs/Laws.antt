@@ -9,6 +9,7 @@ use Rattle.composables.specs.Joined.{frames_in}
 use Rattle.composables.specs.TrackFacts.{IsKept, NumbersBelow}
 use Rattle.composables.specs.TrackState.{TrackState}
 use Rattle.edit_splice.specs.NewItems.{AreNew, AreNewFor}
+use Rattle.edit_splice.specs.PutIn.{MayBePutIn}
 use Rattle.edit_splice.specs.Splicing.{spliced_track}
 
 -- it has at most as many frames, and as many items and gaps, as a track may have
@@ -27,6 +28,17 @@ abbrev pub GoodStaysGood : Type 0
 GoodStaysGood = (table : Table) (t : TrackState) (x y : ℕ) (views : List ItemView) → IsGood table t → x ≤ y → y ≤ length t.cells
     → AreNewFor table t views → IsWithinLimits (spliced_track t x y views)
     → IsGood table (spliced_track t x y views)
+
+-- and with all that may be put in: also with items that stood within the range, where the item or gap before it goes on,
+-- and where the one behind it reaches back
+abbrev pub GoodTakesParts : Type 0
+GoodTakesParts = (table : Table) (t : TrackState) (x y : ℕ) (views : List ItemView) → IsGood table t → x ≤ y → y ≤ length t.cells
+    → MayBePutIn table t x y views → IsWithinLimits (spliced_track t x y views)
+    → IsGood table (spliced_track t x y views)
+
+-- new items may be put in
+abbrev pub NewMayBePutIn : Type 0
+NewMayBePutIn = (table : Table) (t : TrackState) (x y : ℕ) (views : List ItemView) → AreNewFor table t views → MayBePutIn table t x y views
 
 -- where the numbers of what is put in are below the next item number and n, that rises by n and one more at most
 abbrev pub NumbersRise : Type 0

@@ -1,5 +1,5 @@
 // What a splice leaves, whoever does it.
-ghost use Rattle.edit_splice.specs.Laws.{GoodStaysGood, LengthsAdd, NewItemsMayBePutIn, NumbersRise, UnlinkedStaysUnlinked};
+ghost use Rattle.edit_splice.specs.Laws.{GoodStaysGood, GoodTakesParts, LengthsAdd, NewItemsMayBePutIn, NewMayBePutIn, NumbersRise, UnlinkedStaysUnlinked};
 
 /// New items may be put in place of any range of a track, and it is a track again.
 pub fn new_items_may_be_put_in()
@@ -9,6 +9,13 @@ pub fn new_items_may_be_put_in()
 /// Within the limits a track that is good in a table is good in it with new items in place of any of its ranges.
 pub fn a_good_track_stays_good()
     ensures { GoodStaysGood }
+{}
+
+/// Within the limits a track that is good in a table is good in it also with items put in that stood within the range,
+/// where the item or gap that ends at it goes on, and where the one that begins behind it reaches back.
+pub fn a_good_track_takes_parts()
+    ensures parts { GoodTakesParts }
+    ensures new { NewMayBePutIn }
 {}
 
 /// A splice gives away at most the numbers of the new items and one more.
