@@ -14,7 +14,12 @@ pub fn holds(view: &ItemView, tail: Option<Mark>) -> bool
         && shows_as_item(view)
         && is_filled(view.mark)
         && right_reach(view.mark) + left_reach(tail) <= u64::from(view.len)
-        && has_source(view.first, view.len, left_reach(view.mark), right_reach(tail))
+        && has_source(
+            view.first,
+            view.len,
+            left_reach(view.mark),
+            right_reach(tail),
+        )
         && is_no_nest(view.first, view.mark)
         && is_no_nest(view.first, tail)
 }
@@ -75,7 +80,13 @@ fn is_no_nest(side: Side<What>, mark: Option<Mark>) -> bool
     ensures { IsTrue result ↔ IsNoNest side mark }
 {
     match (side, mark) {
-        (Side::Pic { what: What::Nest(_), .. }, Some(_)) => false,
+        (
+            Side::Pic {
+                what: What::Nest(_),
+                ..
+            },
+            Some(_),
+        ) => false,
         _ => true,
     }
 }

@@ -191,13 +191,7 @@ impl Track {
     }
 
     /// The same in memory that was taken beforehand, of what was laid in it. It can't fail.
-    pub fn replace_in<L: Ledger>(
-        &mut self,
-        from: u32,
-        to: u32,
-        spare: Spare,
-        steps: &mut Steps<L>,
-    )
+    pub fn replace_in<L: Ledger>(&mut self, from: u32, to: u32, spare: Spare, steps: &mut Steps<L>)
         requires order { from ≤ to }
         requires within { to ≤ length (items_of self.old.cells) }
         requires room { length (items_of self.old.cells) ≤ spare.count }
