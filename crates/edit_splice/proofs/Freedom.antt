@@ -70,8 +70,8 @@ free_before next i t x y (Some g) is s e f =
     ⊎_elim
     (λ (new : t.next_item ≤ i). lacks-below next i (before_range vs (Some g) x) (below_before next t.cells x (Some g) s e) (omega (arith, is, new)))
     (λ (w : StandsWithin t x y i). (
-      let less : g.index < w.index = frames_less vs g.index w.index (omega (arith, e.0, e.1.from, e.1.begins, w.stands.starts, w.begins)) in
-      lacks_earlier i w.index g.index (x - g.from) vs g.view (lacks_taken i w.index vs w.view s.apart w.stands.read w.is) e.1.read less))
+    let less : g.index < w.index = frames_less vs g.index w.index (omega (arith, e.0, e.1.from, e.1.begins, w.stands.starts, w.begins)) in
+    lacks_earlier i w.index g.index (x - g.from) vs g.view (lacks_taken i w.index vs w.view s.apart w.stands.read w.is) e.1.read less))
     f
 
 pub lacks_behind : (i j h : ℕ) (vs : List ItemView) (v w : ItemView) → slice_get vs j ≡ Some w → w.item ≡ Some i → j < h → drop h vs ≡ v ∷ drop (suc h) vs → Apart vs → Lacks i (v ∷ drop (suc h) vs)
@@ -96,10 +96,10 @@ free_behind next fresh i t x y l (Some h) o is le lt s e a f =
     ⊎_elim
     (λ (new : t.next_item ≤ i). lacks-below next i (h.view ∷ ws) below (omega (arith, is, new)))
     (λ (w : StandsWithin t x y i). (
-      let up : h.from + h.view.len ≡ frames_in (take (h.index + 1) vs) =
-      omega (arith, e.from, frames_in-take_more vs h.index no_view (slice_get_within vs h.index h.view e.read), ap (λ (u : ItemView). u.len) (get_or_from_slice_get vs h.index h.view no_view e.read)) in
-      let less : w.index + 1 < h.index + 1 = frames_less vs (w.index + 1) (h.index + 1) (omega (arith, up, e.ends, w.stands.stops, w.ends)) in
-      lacks_behind i w.index h.index vs h.view w.view w.stands.read w.is (omega (arith, less)) cut s.apart))
+    let up : h.from + h.view.len ≡ frames_in (take (h.index + 1) vs) =
+    omega (arith, e.from, frames_in-take_more vs h.index no_view (slice_get_within vs h.index h.view e.read), ap (λ (u : ItemView). u.len) (get_or_from_slice_get vs h.index h.view no_view e.read)) in
+    let less : w.index + 1 < h.index + 1 = frames_less vs (w.index + 1) (h.index + 1) (omega (arith, up, e.ends, w.stands.stops, w.ends)) in
+    lacks_behind i w.index h.index vs h.view w.view w.stands.read w.is (omega (arith, less)) cut s.apart))
     f in
     subst P (sym (behind_is vs l h o y fresh a))
     (lacks_back (split_number l (Some h)) fresh (y - h.from) (h.view.len - (y - h.from)) i h.view ws (less_other i fresh lt) old) where

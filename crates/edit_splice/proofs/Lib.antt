@@ -17,5 +17,6 @@ pub mod Freedom
 pub mod Goodness
 pub mod Growing
 pub mod Placing
+pub mod Cellwise
 pub mod Outcomes
 pub mod Counted

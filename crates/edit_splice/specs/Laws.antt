@@ -1,5 +1,8 @@
 -- What every splice leaves, as laws over all tracks.
 use Rattle.std.specs.Prelude.{◌≡◌, ◌+◌, ◌-◌, ◌<◌, ◌≤◌, ◌^◌, ℕ, List, length}
+use Rattle.frame_meaning.specs.declared.cells.Cell.{Cell}
+use Rattle.frame_meaning.specs.Render.{cell_at}
+use Rattle.frame_meaning.specs.Splice.{Rule, mark_under, renumbered, split_item, spliced}
 use Rattle.composables.specs.declared.items.ItemView.{ItemView}
 use Rattle.composables.specs.declared.media.Table.{Table}
 use Rattle.composables.specs.declared.TheConstants.{MAX_FRAMES, MAX_ITEMS}
@@ -54,3 +57,22 @@ UnlinkedStaysUnlinked = (t : TrackState) (x y : ℕ) (views : List ItemView) →
 abbrev pub LengthsAdd : Type 0
 LengthsAdd = (t : TrackState) (x y : ℕ) (views : List ItemView) → x ≤ y → y ≤ length t.cells
     → length (spliced_track t x y views).cells ≡ x + frames_in views + (length t.cells - y)
+
+-- the cell at a place, with its mark by the rule
+abbrev pub ruled_cell : Rule → List Cell → ℕ → ℕ → ℕ → Cell
+ruled_cell rule cells x y p = record (cell_at cells p) { mark = mark_under rule x y p (cell_at cells p).mark }
+
+-- what stands at each place after a splice: before the range the cells stay, with their marks by the rule
+abbrev pub CellsBefore : Type 0
+CellsBefore = (rule : Rule) (cells : List Cell) (x y : ℕ) (middle : List Cell) (fresh p : ℕ) → x ≤ length cells → p < x
+    → cell_at (spliced rule cells x y middle fresh) p ≡ ruled_cell rule cells x y p
+
+-- between stand the cells put in
+abbrev pub CellsBetween : Type 0
+CellsBetween = (rule : Rule) (cells : List Cell) (x y : ℕ) (middle : List Cell) (fresh q : ℕ) → x ≤ length cells → q < length middle
+    → cell_at (spliced rule cells x y middle fresh) (x + q) ≡ cell_at middle q
+
+-- the cell at a place p behind the range moves to p - y behind those put in, with its mark by the rule at p
+abbrev pub CellsBehind : Type 0
+CellsBehind = (rule : Rule) (cells : List Cell) (x y : ℕ) (middle : List Cell) (fresh p : ℕ) → x ≤ length cells → y ≤ p → p < length cells
+    → cell_at (spliced rule cells x y middle fresh) (x + length middle + (p - y)) ≡ renumbered (split_item cells x y) fresh (ruled_cell rule cells x y p)

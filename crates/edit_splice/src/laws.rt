@@ -1,5 +1,5 @@
 // What a splice leaves, whoever does it.
-ghost use Rattle.edit_splice.specs.Laws.{GoodStaysGood, GoodTakesParts, LengthsAdd, NewItemsMayBePutIn, NewMayBePutIn, NumbersRise, UnlinkedStaysUnlinked};
+ghost use Rattle.edit_splice.specs.Laws.{CellsBefore, CellsBehind, CellsBetween, GoodStaysGood, GoodTakesParts, LengthsAdd, NewItemsMayBePutIn, NewMayBePutIn, NumbersRise, UnlinkedStaysUnlinked};
 
 /// New items may be put in place of any range of a track, and it is a track again.
 pub fn new_items_may_be_put_in()
@@ -31,4 +31,11 @@ pub fn an_unlinked_track_stays_unlinked()
 /// A splice leaves the frames before the range, those put in, and those behind it.
 pub fn a_spliced_track_is_as_long_as_its_parts()
     ensures { LengthsAdd }
+{}
+
+/// Where each cell stands after a splice, under any rule for marks, and what becomes of its mark.
+pub fn each_cell_has_its_place()
+    ensures before { CellsBefore }
+    ensures between { CellsBetween }
+    ensures behind { CellsBehind }
 {}
