@@ -1,20 +1,18 @@
 -- Numbers that are free: no item before a range or behind it has them.
 use Rattle.std.proofs.Common.{◌≡◌, ◌≢◌, ℕ, zero, suc, ◌+◌, ◌-◌, ◌<◌, ◌≤◌, ◌⊎◌, ⊎_elim, List, [], ◌∷◌, ◌++◌, Option, Some, None, IfSome, refl, sym, ap, ◌∙◌, arith, subst, take, drop, slice_get}
 use Rattle.std.proofs.lemmas.Option.{slice_get_within, get_or_from_slice_get}
-use Rattle.frame_meaning.specs.declared.cells.Cell.{Cell}
 use Rattle.composables.specs.declared.items.ItemView.{ItemView}
 use Rattle.composables.specs.Items.{items_of}
 use Rattle.composables.specs.Joined.{frames_in}
 use Rattle.composables.specs.TrackFacts.{Lacks, Apart, NumbersBelow}
 use Rattle.composables.specs.TrackState.{TrackState}
-use Rattle.composables.specs.Views.{later_view}
 use Rattle.composables.proofs.Frames.{frames_in-take_more, no_view}
 use Rattle.edit_splice.specs.declared.seams.Held.{Held}
-use Rattle.edit_splice.specs.Parts.{EndsAt, StandsFrom, view_after, split_number, front_view, renumbered_view}
+use Rattle.edit_splice.specs.Parts.{EndsAt, StandsFrom, view_after, split_number, front_view}
 use Rattle.edit_splice.specs.PutIn.{TakesUp, StandsWithin, AllFree}
-use Rattle.edit_splice.proofs.Ends.{split-at, drop-some, below-read, first_kept, frames_less}
+use Rattle.edit_splice.proofs.Ends.{drop-some, frames_less}
 use Rattle.edit_splice.proofs.Apartness.{Foreign, if_known, known, lacks-below, item_lacks, lacks_back, less_other}
-use Rattle.edit_splice.proofs.Keeping.{Stand, before_range, behind_range, kept_behind_range, behind_is, behind_none, foreign_nothing, below_before}
+use Rattle.edit_splice.proofs.Keeping.{Stand, before_range, behind_range, behind_is, behind_none, below_before}
 
 -- either way round
 not_both : (o : Option ℕ) (j : ℕ) (x : ItemView) (xs : List ItemView) → x.item ≡ Some j → IfSome o (λ i. Lacks i (x ∷ xs)) → o ≢ Some j

@@ -1,35 +1,32 @@
 -- A good track stays good where items that stand by themselves are put in, where an item goes on, and where one reaches
 -- back.
-use Rattle.std.proofs.Common.{◌≡◌, ◌≢◌, ℕ, zero, suc, ◌+◌, ◌-◌, ◌<◌, ◌≤◌, ◌⊎◌, inl, Bool, true, false, cond, List, [], ◌∷◌, ◌++◌, length, Option, Some, None, IfSome, refl, sym, ap, ◌∙◌, arith, subst, append_assoc, take, drop, slice_get}
-use Rattle.std.proofs.lemmas.Option.{slice_get_within, get_or_from_slice_get}
+use Rattle.std.proofs.Common.{◌≡◌, ℕ, suc, ◌-◌, ◌<◌, ◌≤◌, ◌⊎◌, inl, Bool, true, false, cond, List, [], ◌∷◌, ◌++◌, length, Option, Some, None, IfSome, refl, sym, ap, ◌∙◌, arith, subst, append_assoc, take, drop, slice_get}
 use Rattle.frame_meaning.specs.declared.cells.What.{What}
 use Rattle.frame_meaning.specs.declared.frames.Side.{Side}
-use Rattle.frame_meaning.specs.declared.cells.Cell.{Cell}
 use Rattle.frame_meaning.specs.Cells.{same_number, later_side}
 use Rattle.composables.specs.declared.items.ItemView.{ItemView}
 use Rattle.composables.specs.declared.media.Table.{Table}
-use Rattle.composables.specs.declared.TheConstants.{MAX_FRAMES, MAX_ITEMS}
 use Rattle.composables.specs.Good.{IsGood, SideLiesIn}
 use Rattle.composables.specs.Items.{view_cells, cells_of, items_of}
 use Rattle.composables.specs.Joined.{frames_in}
-use Rattle.composables.specs.TrackFacts.{IsKept, EachHolds, Apart, HasSource, NumbersBelow, Lacks, first_mark}
+use Rattle.composables.specs.TrackFacts.{IsKept, Apart, HasSource, NumbersBelow}
 use Rattle.composables.specs.TrackState.{TrackState, next_past_all}
 use Rattle.composables.specs.Views.{later_view}
 use Rattle.composables.proofs.Joining.{same-is, cells_of-append}
 use Rattle.composables.proofs.Spans.{later-zero}
 use Rattle.edit_splice.specs.declared.seams.Held.{Held}
 use Rattle.edit_splice.specs.declared.seams.Seams.{Seams}
-use Rattle.edit_splice.specs.Parts.{Stands, EndsAt, StandsFrom, AreSeams, view_after, split_number, front_view, renumbered_view}
+use Rattle.edit_splice.specs.Parts.{EndsAt, StandsFrom, AreSeams, view_after, split_number, front_view, renumbered_view}
 use Rattle.edit_splice.specs.Laws.{IsWithinLimits}
-use Rattle.edit_splice.specs.PutIn.{TakesUp, StandsWithin, MayBePutIn, alone, going_on, reaching_back, AllFree, StandAlone, IsPart, GoesOn, ReachesBack}
+use Rattle.edit_splice.specs.PutIn.{TakesUp, StandsWithin, MayBePutIn, alone, going_on, reaching_back, AllFree, StandAlone, GoesOn, ReachesBack}
 use Rattle.edit_splice.specs.NewItems.{AreNewFor, NumbersFrom}
 use Rattle.edit_splice.specs.Splicing.{spliced_track}
-use Rattle.edit_splice.proofs.Ends.{split-at, drop-some, holds-read, first_kept, frames_less}
+use Rattle.edit_splice.proofs.Ends.{drop-some, holds-read, first_kept, frames_less}
 use Rattle.edit_splice.proofs.Existing.{seams-exist, left_end, right_end}
 use Rattle.edit_splice.proofs.Numbers.{next-rises, below-next, below-append}
 use Rattle.edit_splice.proofs.Apartness.{Foreign, foreign-append}
 use Rattle.edit_splice.proofs.Freedom.{foreign-before, foreign-behind, frames_to, lacks_behind}
-use Rattle.edit_splice.proofs.Keeping.{Sound, Stand, stand_of, sound_append, before_range, behind_range, kept_behind_range, behind_is, all_parts, sound_before, sound_behind, below_all, cells_all, foreign_sides}
+use Rattle.edit_splice.proofs.Keeping.{Sound, stand_of, sound_append, before_range, behind_range, behind_is, sound_before, sound_behind, below_all, cells_all, foreign_sides}
 use Rattle.edit_splice.proofs.Goodness.{Lie, lie-append, lie-before, lie-behind, good-sound}
 use Rattle.edit_splice.proofs.Growing.{longer, cells-longer, cells-on, cells-back, below-on, foreign-on, sound-on, lie-on, sound-back, lie-back, foreign-same, below-same}
 
