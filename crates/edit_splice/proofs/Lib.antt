@@ -18,5 +18,6 @@ pub mod Goodness
 pub mod Growing
 pub mod Placing
 pub mod Cellwise
+pub mod Footprints
 pub mod Outcomes
 pub mod Counted

@@ -1,6 +1,7 @@
 -- What every splice leaves, as laws over all tracks.
-use Rattle.std.specs.Prelude.{◌≡◌, ◌+◌, ◌-◌, ◌<◌, ◌≤◌, ◌^◌, ℕ, List, length}
+use Rattle.std.specs.Prelude.{◌≡◌, ◌+◌, ◌-◌, ◌<◌, ◌≤◌, ◌^◌, ℕ, List, length, true}
 use Rattle.frame_meaning.specs.declared.cells.Cell.{Cell}
+use Rattle.frame_meaning.specs.Marks.{covers}
 use Rattle.frame_meaning.specs.Render.{cell_at}
 use Rattle.frame_meaning.specs.Splice.{Rule, mark_under, renumbered, split_item, spliced}
 use Rattle.composables.specs.declared.items.ItemView.{ItemView}
@@ -76,3 +77,7 @@ CellsBetween = (rule : Rule) (cells : List Cell) (x y : ℕ) (middle : List Cell
 abbrev pub CellsBehind : Type 0
 CellsBehind = (rule : Rule) (cells : List Cell) (x y : ℕ) (middle : List Cell) (fresh p : ℕ) → x ≤ length cells → y ≤ p → p < length cells
     → cell_at (spliced rule cells x y middle fresh) (x + length middle + (p - y)) ≡ renumbered (split_item cells x y) fresh (ruled_cell rule cells x y p)
+
+-- a place lies in the footprint of at most one dissolve of a track
+abbrev pub OneFootprint : Type 0
+OneFootprint = (t : TrackState) (p other q : ℕ) → IsKept t → covers (cell_at t.cells p).mark p q ≡ true → covers (cell_at t.cells other).mark other q ≡ true → p ≡ other

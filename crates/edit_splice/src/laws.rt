@@ -1,5 +1,5 @@
 // What a splice leaves, whoever does it.
-ghost use Rattle.edit_splice.specs.Laws.{CellsBefore, CellsBehind, CellsBetween, GoodStaysGood, GoodTakesParts, LengthsAdd, NewItemsMayBePutIn, NewMayBePutIn, NumbersRise, UnlinkedStaysUnlinked};
+ghost use Rattle.edit_splice.specs.Laws.{CellsBefore, CellsBehind, CellsBetween, GoodStaysGood, GoodTakesParts, LengthsAdd, NewItemsMayBePutIn, NewMayBePutIn, NumbersRise, OneFootprint, UnlinkedStaysUnlinked};
 
 /// New items may be put in place of any range of a track, and it is a track again.
 pub fn new_items_may_be_put_in()
@@ -38,4 +38,9 @@ pub fn each_cell_has_its_place()
     ensures before { CellsBefore }
     ensures between { CellsBetween }
     ensures behind { CellsBehind }
+{}
+
+/// A place lies in the footprint of at most one dissolve.
+pub fn a_place_lies_in_one_footprint_at_most()
+    ensures { OneFootprint }
 {}

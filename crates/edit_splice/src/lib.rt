@@ -13,6 +13,7 @@ mod splicing;
 
 pub use counting::count_after;
 pub use laws::{
+    a_place_lies_in_one_footprint_at_most,
     a_good_track_stays_good, a_good_track_takes_parts, a_spliced_track_is_as_long_as_its_parts,
     an_unlinked_track_stays_unlinked, each_cell_has_its_place, new_items_may_be_put_in,
     next_numbers_rise_by_the_new_items,
