@@ -93,8 +93,8 @@ one (v ∷ vs) s p p' q h e f =
     ⊎_elim
     (λ (lt' : p' < v.len). absurd (apart_from v vs s p' p q h lt' le f e))
     (λ (le' : v.len ≤ p'). (
-      let same = one vs (s + v.len) (p - v.len) (p' - v.len) q h.1 (covered_rest v vs s p q le e) (covered_rest v vs s p' q le' f) in
-      omega (arith, same, le, le')))
+    let same = one vs (s + v.len) (p - v.len) (p' - v.len) q h.1 (covered_rest v vs s p q le e) (covered_rest v vs s p' q le' f) in
+    omega (arith, same, le, le')))
     (cases_lt p' v.len))
     (cases_lt p v.len)
 

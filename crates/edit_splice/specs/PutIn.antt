@@ -76,5 +76,7 @@ pub record ReachesBack (table : Table) (t : TrackState) (y : ℕ) (view : ItemVi
 -- what may be put in
 pub data MayBePutIn (table : Table) (t : TrackState) (x y : ℕ) : List ItemView → Type 0 where
   alone : {views : List ItemView} → StandAlone table t x y views → MayBePutIn table t x y views
-  going_on : {view : ItemView} {views : List ItemView} → GoesOn table t x view → StandAlone table t x y views → MayBePutIn table t x y (view ∷ views)
-  reaching_back : {view : ItemView} {views : List ItemView} → ReachesBack table t y view → StandAlone table t x y views → MayBePutIn table t x y (views ++ view ∷ [])
+  going_on : {view : ItemView} {views : List ItemView} → GoesOn table t x view
+      → StandAlone table t x y views → MayBePutIn table t x y (view ∷ views)
+  reaching_back : {view : ItemView} {views : List ItemView} → ReachesBack table t y view
+      → StandAlone table t x y views → MayBePutIn table t x y (views ++ view ∷ [])
