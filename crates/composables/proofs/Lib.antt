@@ -5,3 +5,4 @@ pub mod Keeping
 pub mod Spans
 pub mod Changing
 pub mod Finding
+pub mod MarkStanding

@@ -13,3 +13,4 @@ pub mod SpareState
 pub mod SpareInside
 pub mod Ranges
 pub mod Changes
+pub mod Standing

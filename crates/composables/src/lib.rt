@@ -9,6 +9,7 @@ mod calls;
 mod cells;
 mod facts;
 mod items;
+mod laws;
 mod laying;
 mod lists;
 mod media;
@@ -26,7 +27,7 @@ pub use calls::{
 pub use facts::holds;
 pub use frame_meaning::Memory;
 pub use items::{ItemView, Place};
-pub use laying::push_item;
+pub use laws::{a_dissolve_may_stand_at_a_cut, a_place_lies_in_one_item};
 pub use lists::Listed;
 pub use media::{Kind, Layer, Media, Nest, Table};
 pub use numbers::{number_past, number_past_all};
