@@ -7,7 +7,8 @@ use Rattle.composables.specs.declared.items.ItemView.{ItemView}
 use Rattle.composables.specs.TrackFacts.{Lacks, Apart, NumbersBelow}
 use Rattle.composables.proofs.Joining.{same-is, same-refl}
 use Rattle.edit_splice.specs.declared.seams.Held.{Held}
-use Rattle.edit_splice.specs.Parts.{split_number, front_view, later_view, renumbered_view}
+use Rattle.composables.specs.Views.{later_view}
+use Rattle.edit_splice.specs.Parts.{split_number, front_view, renumbered_view}
 use Rattle.edit_splice.specs.NewItems.{NumbersFrom}
 use Rattle.edit_splice.proofs.Numbers.{renumbered-item}
 use Rattle.edit_splice.proofs.Ends.{first_kept}
@@ -35,11 +36,11 @@ foreign-append [] ys zs f g = g
 foreign-append (x ∷ xs) ys zs f g = (f.0, foreign-append xs ys zs f.1 g)
 
 -- a number that is present
-if_known : (o : Option ℕ) (P : ℕ → Type 0) → ((i : ℕ) → o ≡ Some i → P i) → IfSome o P
+pub if_known : (o : Option ℕ) (P : ℕ → Type 0) → ((i : ℕ) → o ≡ Some i → P i) → IfSome o P
 if_known None P f = tt
 if_known (Some i) P f = f i refl
 
-known : (o : Option ℕ) (i : ℕ) (P : ℕ → Type 0) → IfSome o P → o ≡ Some i → P i
+pub known : (o : Option ℕ) (i : ℕ) (P : ℕ → Type 0) → IfSome o P → o ≡ Some i → P i
 known None i P h e = absurd cc
 known (Some j) i P h e = let same : j ≡ i = cc in subst P same h
 
@@ -98,7 +99,7 @@ other_number (Some j) fresh i v ne off = by_test (same_number v.item (Some j)) w
   by_test true = λ e. (let same : i ≡ fresh = cc in off same)
   by_test false = ne
 
-lacks_back : (s : Option ℕ) (fresh k n i : ℕ) (v : ItemView) (ws : List ItemView) → i ≢ fresh → Lacks i (v ∷ ws) → Lacks i (renumbered_view s fresh (later_view v k) ∷ first_kept n ws)
+pub lacks_back : (s : Option ℕ) (fresh k n i : ℕ) (v : ItemView) (ws : List ItemView) → i ≢ fresh → Lacks i (v ∷ ws) → Lacks i (renumbered_view s fresh (later_view v k) ∷ first_kept n ws)
 lacks_back s fresh k n i v ws off l = (other_number s fresh i (later_view v k) l.0 off, lacks_kept i n ws l.1)
 
 pub apart-back : (s : Option ℕ) (fresh k n : ℕ) (v : ItemView) (ws : List ItemView) → Apart (v ∷ ws) → Lacks fresh ws → Apart (renumbered_view s fresh (later_view v k) ∷ first_kept n ws)
@@ -113,7 +114,7 @@ apart-back s fresh k n v ws a l = (lacking s, apart_kept n ws a.1) where
       (λ t. lacks_kept fresh n ws l) (λ t. own)
 
 -- the new items are not among those behind it
-less_other : (i n : ℕ) → i < n → i ≢ n
+pub less_other : (i n : ℕ) → i < n → i ≢ n
 less_other i n h e = omega (arith, h, e)
 
 pub foreign-back-new : (s : Option ℕ) (next fresh k n : ℕ) (xs : List ItemView) (v : ItemView) (ws : List ItemView) → NumbersFrom next xs → NumbersBelow fresh xs → NumbersBelow next (v ∷ ws)
@@ -145,7 +146,7 @@ foreign_apart [] (suc i) j le a = tt
 foreign_apart (v ∷ vs) (suc i) zero le a = absurd (omega (arith, le))
 foreign_apart (v ∷ vs) (suc i) (suc j) le a = (if-lacks v.item vs (drop j vs) (λ k. lacks_drop k j vs) a.0, foreign_apart vs i j (omega (arith, le)) a.1)
 
-item_lacks : (vs : List ItemView) (i j : ℕ) (v : ItemView) → slice_get vs i ≡ Some v → i ≤ j → Apart vs → IfSome v.item (λ k. Lacks k (drop (suc j) vs))
+pub item_lacks : (vs : List ItemView) (i j : ℕ) (v : ItemView) → slice_get vs i ≡ Some v → i ≤ j → Apart vs → IfSome v.item (λ k. Lacks k (drop (suc j) vs))
 item_lacks [] i j v e le a = absurd (omega (arith, slice_get_within [] i v e))
 item_lacks (x ∷ xs) zero j v e le a =
     let same : x ≡ v = cc in

@@ -102,7 +102,7 @@ end-within vs y None o s e = omega arith
 end-within vs y (Some h) None s e = omega (arith, slice_get_within vs h.index h.view s)
 end-within vs y (Some h) (Some w) s e = omega (arith, slice_get_within vs (h.index + 1) w (sym e))
 
-frames_less : (vs : List ItemView) (i j : ℕ) → frames_in (take i vs) < frames_in (take j vs) → i < j
+pub frames_less : (vs : List ItemView) (i j : ℕ) → frames_in (take i vs) < frames_in (take j vs) → i < j
 frames_less vs i zero h = absurd (omega (arith, h))
 frames_less vs zero (suc j) h = omega arith
 frames_less [] (suc i) (suc j) h = absurd (omega (arith, h))

@@ -27,14 +27,14 @@ found (v ∷ vs) at lt =
 frames_of_cells : (cs : List Cell) → cells_of (items_of cs) ≡ cs → frames_in (items_of cs) ≡ length cs
 frames_of_cells cs whole = sym (length-cells_of (items_of cs)) ∙ ap length whole
 
-left_end : (cs : List Cell) (x : ℕ) → cells_of (items_of cs) ≡ cs → x ≤ length cs → (l : Option Held) × EndsAt cs x l
+pub left_end : (cs : List Cell) (x : ℕ) → cells_of (items_of cs) ≡ cs → x ≤ length cs → (l : Option Held) × EndsAt cs x l
 left_end cs zero whole le = (None, refl)
 left_end cs (suc x) whole le =
     let inside : suc x - 1 < frames_in (items_of cs) = omega (arith, le, frames_of_cells cs whole) in
     let h = found (items_of cs) (suc x - 1) inside in
     (Some h.0, (omega arith, h.1))
 
-right_end : (cs : List Cell) (y : ℕ) → cells_of (items_of cs) ≡ cs → (r : Option Held) × StandsFrom cs y r
+pub right_end : (cs : List Cell) (y : ℕ) → cells_of (items_of cs) ≡ cs → (r : Option Held) × StandsFrom cs y r
 right_end cs y whole =
     ⊎_elim
     (λ (less : y < length cs). (let h = found (items_of cs) y (omega (arith, less, frames_of_cells cs whole)) in (Some h.0, h.1)))

@@ -28,7 +28,7 @@ drop_through (suc n) (x ∷ xs) ys =
     let e : n - length xs ≡ suc n - suc (length xs) = omega arith in
     drop_through n xs ys ∙ ap (λ (k : ℕ). drop n xs ++ drop k ys) e
 
-later_next : (s : Side What) (n : ℕ) → later_side (next_side s) n ≡ later_side s (suc n)
+pub later_next : (s : Side What) (n : ℕ) → later_side (next_side s) n ≡ later_side s (suc n)
 later_next Dark n = refl
 later_next (Pic w s) n = let e : s + 1 + n ≡ s + suc n = omega arith in ap (λ (k : ℕ). Pic w k) e
 

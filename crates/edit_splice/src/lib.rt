@@ -1,17 +1,24 @@
 //! A splice of a track with its dissolves: items in place of a range of record frames.
 //!
 //! The main contract is that of `splice`: the track has the cells of `spliced` of frame_meaning and the next item
-//! number that goes with them; for want of memory it is as it was. It works on the few items at the two ends of the
-//! range.
+//! number that goes with them; for want of memory it is as it was. `splice_in` does the same in memory that was taken
+//! before, so that several tracks are spliced whole or not at all, and `count_after` tells beforehand how many items
+//! and gaps there will be. They work on the few items at the two ends of the range. The laws say what may be put in.
 #![tactic(auto)]
 
+mod counting;
 mod laws;
 mod parts;
 mod seams;
 mod splicing;
 
-pub use laws::new_items_may_be_put_in;
-pub use splicing::splice;
+pub use counting::count_after;
+pub use laws::{
+    a_good_track_stays_good, a_good_track_takes_parts, a_place_lies_in_one_footprint_at_most,
+    a_spliced_track_is_as_long_as_its_parts, an_unlinked_track_stays_unlinked,
+    each_cell_has_its_place, new_items_may_be_put_in, next_numbers_rise_by_the_new_items,
+};
+pub use splicing::{spare_for, splice, splice_in};
 
 #[cfg(test)]
 mod tests;

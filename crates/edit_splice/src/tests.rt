@@ -4,7 +4,7 @@ ghost use Rattle.composables.specs.Joined.{frames_in};
 ghost use Rattle.composables.specs.TrackFacts.{NumbersBelow};
 ghost use Rattle.edit_splice.specs.NewItems.{AreNew};
 
-use crate::splice;
+use crate::{count_after, spare_for, splice, splice_in};
 use composables::{ItemView, Memory, Track};
 use frame_meaning::{Cell, Link, Mark, Side, What};
 use std::alloc::Global;
@@ -138,7 +138,7 @@ fn plain_splice(
     for (place, cell) in cells.iter().enumerate() {
         if place < x {
             last = cell.item;
-            let stays = |mark: &Mark| place.saturating_add(mark.b as usize) <= x;
+            let stays = |mark: &Mark| place < x && place.saturating_add(mark.b as usize) <= x;
             after.push(Cell {
                 mark: cell.mark.filter(stays),
                 ..*cell
@@ -196,10 +196,37 @@ fn put<L: Ledger>(
     splice(alloc, track, x, y, views, steps)
 }
 
-// The items and gaps of a track, its next item number, its cells, and those that the plain program says.
+// The same in memory that was taken before, with how many items and gaps it was to leave.
+fn put_in<L: Ledger>(
+    alloc: Global,
+    track: &mut Track,
+    x: u32,
+    y: u32,
+    views: &[ItemView],
+    steps: &mut Steps<L>,
+) -> Result<u32, Memory>
+    requires order { x ≤ y }
+    requires within { y ≤ length track.old.cells }
+    requires short { length track.old.cells ≤ 100 }
+    requires next { track.old.next_item ≤ 4 }
+    requires new { AreNew 4 views.now }
+    requires numbers { NumbersBelow 100 views.now }
+    requires frames { frames_in views.now < 100 }
+{
+    let _ = track.length(); // its clause says what the track keeps
+    let count = count_after(track, x, y, views, steps);
+    let spare = spare_for(alloc, track, views.len() as u32)?;
+    splice_in(track, x, y, views, spare, steps);
+    Ok(count)
+}
+
+// The items and gaps of a track, also where the memory was taken before, and how many there were to be; its next item
+// number, its cells, and those that the plain program says.
 #[derive(Drop)]
 struct Played {
     items: Vec<ItemView>,
+    in_spare: Vec<ItemView>,
+    count: u32,
     next: u32,
     cells: Vec<Cell>,
     want: Vec<Cell>,
@@ -238,9 +265,13 @@ fn play<L: Ledger>(
     assert!(rt; next <= 4);
     assert!(rt; x <= y);
     assert!(rt; y <= length);
+    let mut other = track.copy(alloc)?;
     put(alloc, &mut track, x, y, views, &mut steps)?;
+    let count = put_in(alloc, &mut other, x, y, views, &mut steps)?;
     Ok(Played {
         items: track.items(alloc)?,
+        in_spare: other.items(alloc)?,
+        count,
         next: track.next_item(),
         cells: track.cells(alloc)?,
         want,
@@ -268,6 +299,16 @@ fn agrees(
         played.cells.as_slice(),
         played.want.as_slice(),
         "splice {x} {y}"
+    );
+    assert_eq!(rt;
+        played.in_spare.as_slice(),
+        played.items.as_slice(),
+        "splice {x} {y} in spare memory"
+    );
+    assert_eq!(rt;
+        played.count as usize,
+        played.items.len(),
+        "count after splice {x} {y}"
     );
     let split = played
         .want

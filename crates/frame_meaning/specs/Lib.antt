@@ -5,3 +5,4 @@ pub mod Render
 pub mod Runs
 pub mod Splice
 pub mod Numbered
+pub mod RunFrames

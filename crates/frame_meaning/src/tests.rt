@@ -1,5 +1,5 @@
 // Worked frames: which goes on from which, and the runs of a few.
-use crate::{Frame, Run, Side, What, goes_on, runs_of};
+use crate::{Frame, Run, Side, What, goes_on, runs_of, same_item};
 use std::test::Fail;
 
 const REEL: What = What::Media(0);
@@ -104,4 +104,26 @@ fn runs_end_where_a_frame_does_not_go_on(rt: HostRuntime) -> Result<(), Fail> {
     assert_eq!(rt; runs_of(rt.alloc(), &frames)?.as_slice(), want.as_slice());
     assert_eq!(rt; runs_of(rt.alloc(), &[])?.len(), 0);
     Ok(())
+}
+
+#[test]
+fn sides_go_on_and_numbers_are_compared(rt: HostRuntime) {
+    let side = Side::Pic {
+        what: REEL,
+        source: 7,
+    };
+    let later = Side::Pic {
+        what: REEL,
+        source: 9,
+    };
+    assert_eq!(rt; side.later(2), later);
+    assert_eq!(rt; Side::<What>::Dark.later(2), Side::Dark);
+    for (first, second, want) in [
+        (None, None, true),
+        (Some(1), None, false),
+        (Some(1), Some(1), true),
+        (Some(1), Some(2), false),
+    ] {
+        assert_eq!(rt; same_item(first, second), want, "{first:?} {second:?}");
+    }
 }

@@ -1,0 +1,21 @@
+// What holds of all tracks, whoever changes them.
+ghost use Rattle.std.specs.Prelude.{◌≡◌, ◌<◌, ◌≤◌, ℕ, suc, List, Option};
+ghost use Rattle.frame_meaning.specs.declared.cells.Cell.{Cell};
+ghost use Rattle.frame_meaning.specs.declared.cells.Mark.{Mark};
+ghost use Rattle.composables.specs.declared.items.Place.{Place};
+ghost use Rattle.composables.specs.Changes.{changed_track, with_mark};
+ghost use Rattle.composables.specs.Items.{items_of};
+ghost use Rattle.composables.specs.Places.{IsPlaceOf};
+ghost use Rattle.composables.specs.Standing.{HaveRoom};
+ghost use Rattle.composables.specs.TrackFacts.{IsKept};
+ghost use Rattle.composables.specs.TrackState.{TrackState};
+
+/// A place lies in one item or gap at most.
+pub fn a_place_lies_in_one_item()
+    ensures { (cells : List Cell) (p q : Place) (at : ℕ) → IsPlaceOf cells p → IsPlaceOf cells q → p.from ≤ at → at < p.to → q.from ≤ at → at < q.to → p ≡ q }
+{}
+
+/// A dissolve for which both sides of a cut have room may be put there, or taken away.
+pub fn a_dissolve_may_stand_at_a_cut()
+    ensures { (t : TrackState) (left : ℕ) (mark : Option Mark) → IsKept t → HaveRoom (items_of t.cells) left mark → IsKept (changed_track t (suc left) (with_mark mark)) }
+{}
