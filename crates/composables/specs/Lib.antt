@@ -7,3 +7,4 @@ pub mod Joined
 pub mod Places
 pub mod Good
 pub mod TrackInside
+pub mod Roomy
