@@ -2,7 +2,7 @@
 use Rattle.std.proofs.Common.{◌≡◌, ℕ, zero, suc, ◌+◌, ◌-◌, ◌<◌, ◌≤◌, ◌^◌, List, [], ◌∷◌, ◌++◌, length, map, min, Option, Some, None, IfSome, refl, sym, ap, ◌∙◌, arith, take, drop, slice_get, subst, append_assoc}
 use Rattle.std.proofs.lemmas.List.{drop_all, length-append, length-take, length-drop, length-map}
 use Rattle.frame_meaning.specs.declared.cells.Cell.{Cell}
-use Rattle.frame_meaning.specs.Splice.{before_splice, behind_splice, renumbered, split_item, spliced, next_after_splice}
+use Rattle.frame_meaning.specs.Splice.{Rule, kept_or_dropped, with_marks, renumbered, split_item, spliced, next_after_splice}
 use Rattle.composables.specs.declared.items.ItemView.{ItemView}
 use Rattle.composables.specs.Items.{cells_of, items_of}
 use Rattle.composables.specs.Joined.{frames_in, IsTight, joined}
@@ -16,6 +16,7 @@ use Rattle.edit_splice.specs.Splicing.{spliced_track}
 use Rattle.edit_splice.specs.NewItems.{AreNew, NumbersFrom, Meet}
 use Rattle.edit_splice.proofs.Ends.{split-at, drop-some, holds-at, below-read, first_kept, after-parts, index-order}
 use Rattle.edit_splice.proofs.Numbers.{below-weaker, below-append, next-rises, below-next}
+use Rattle.edit_splice.proofs.Surviving.{length-marks}
 use Rattle.edit_splice.proofs.Whole.{cells-spliced, next-spliced}
 use Rattle.edit_splice.proofs.Meeting.{apart-joined, below-joined, mark-joined, each-joined, cells-joined, filled-each}
 use Rattle.edit_splice.proofs.Cutting.{each-front, each-back, back-bare, tight-at, meet-front, meet-back, meet-append, each-append, mark-append, mark-front}
@@ -196,7 +197,7 @@ parts_in_a_row vs s x y views fresh =
     views_in_a_row (take (first_index s.left) vs) (front_views s.left x) views (back_views s.right y (split_number s.left s.right) fresh ++ after_views s.right s.after y) (drop (end_index s (length vs)) vs)
 
 cells_all : (cs : List Cell) (x y fresh : ℕ) (s : Seams) (views : List ItemView) → cells_of (items_of cs) ≡ cs → EachHolds (items_of cs) → Apart (items_of cs) → x ≤ y → AreSeams cs x y s
-    → cells_of (all_parts (items_of cs) s x y views fresh) ≡ spliced cs x y (cells_of views) fresh
+    → cells_of (all_parts (items_of cs) s x y views fresh) ≡ spliced kept_or_dropped cs x y (cells_of views) fresh
 cells_all cs x y fresh s views whole h a order seams =
     let vs : List ItemView = items_of cs in
     let u : List ItemView = take (first_index s.left) vs in
@@ -231,20 +232,13 @@ below_all next cs x y s views whole b order seams =
     (below-weaker next m d le (below_some next (end_index s (length vs)) vs b).1)))
 
 -- the length
-length_before : (room : ℕ) (cs : List Cell) → length (before_splice room cs) ≡ length cs
-length_before room [] = refl
-length_before room (c ∷ cs) = ap suc (length_before (room - 1) cs)
-
-length_behind : (n : ℕ) (cs : List Cell) → length (behind_splice n cs) ≡ length cs
-length_behind n [] = refl
-length_behind n (c ∷ cs) = ap suc (length_behind (n + 1) cs)
-
-pub length-spliced : (cs : List Cell) (x y : ℕ) (ms : List Cell) (fresh : ℕ) → length (spliced cs x y ms fresh) ≡ min x (length cs) + length ms + (length cs - y)
-length-spliced cs x y ms fresh =
-    let before = length_before x (take x cs) ∙ length-take x cs in
-    let behind = length-map (behind_splice 0 (drop y cs)) (renumbered (split_item cs x y) fresh) ∙ (length_behind 0 (drop y cs) ∙ length-drop y cs) in
-    length-append (before_splice x (take x cs) ++ ms) (map (renumbered (split_item cs x y) fresh) (behind_splice 0 (drop y cs)))
-    ∙ omega (arith, before, behind, length-append (before_splice x (take x cs)) ms)
+pub length-spliced : (rule : Rule) (cs : List Cell) (x y : ℕ) (ms : List Cell) (fresh : ℕ) → length (spliced rule cs x y ms fresh) ≡ min x (length cs) + length ms + (length cs - y)
+length-spliced rule cs x y ms fresh =
+    let all : List Cell = with_marks rule x y 0 cs in
+    let count = length-marks rule x y 0 cs in
+    let behind = length-map (drop y all) (renumbered (split_item cs x y) fresh) ∙ length-drop y all in
+    length-append (take x all ++ ms) (map (renumbered (split_item cs x y) fresh) (drop y all))
+    ∙ omega (arith, count, length-take x all, behind, length-append (take x all) ms)
 
 kept_sound : (u : TrackState) (zs : List ItemView) → u.cells ≡ cells_of zs → Sound zs → NumbersBelow u.next_item zs → length u.cells < 2 ^ 32 → IsKept u
 kept_sound u zs is s below short =
@@ -270,7 +264,7 @@ kept_spliced t x y views k order within n short =
     (sym (cells_all t.cells x y fresh found.0 views k.whole k.each k.apart order found.1))
     (sound_all t.next_item t.cells x y found.0 views order (stand_of t k) found.1 n)
     (below_all t.next_item t.cells x y found.0 views k.whole k.below order found.1)
-    (omega (arith, order, within, short, length-spliced t.cells x y (cells_of views) fresh, length-cells_of views))
+    (omega (arith, order, within, short, length-spliced kept_or_dropped t.cells x y (cells_of views) fresh, length-cells_of views))
 
 -- the same where the new numbers are from a higher one on
 from_weaker : (m n : ℕ) (vs : List ItemView) → n ≤ m → NumbersFrom m vs → NumbersFrom n vs

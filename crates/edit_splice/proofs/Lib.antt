@@ -1,5 +1,6 @@
 pub mod Spans
 pub mod Splits
+pub mod Surviving
 pub mod Marks
 pub mod Renumbering
 pub mod Numbers
