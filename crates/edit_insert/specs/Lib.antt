@@ -1,6 +1,10 @@
 pub mod Answers
 pub mod Sources
 pub mod Limits
+pub mod OwnTracks
 pub mod TrackSets
-pub mod Parts
-pub mod Overwriting
+pub mod Views
+pub mod Ranges
+pub mod Links
+pub mod Shifts
+pub mod Edits
