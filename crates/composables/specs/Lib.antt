@@ -8,3 +8,5 @@ pub mod Places
 pub mod Good
 pub mod TrackInside
 pub mod Roomy
+pub mod SpareState
+pub mod SpareInside
