@@ -7,4 +7,6 @@ pub mod Views
 pub mod Ranges
 pub mod Links
 pub mod Shifts
+pub mod Moves
 pub mod Edits
+pub mod Standing

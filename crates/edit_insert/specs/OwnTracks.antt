@@ -1,5 +1,5 @@
 -- The own track of a call among the tracks that it names.
-use Rattle.std.specs.Prelude.{ℕ, List, [], ◌∷◌, Option, Some, None, Result, Ok, Err, nat_eq, if◌then◌else◌}
+use Rattle.std.specs.Prelude.{ℕ, List, [], ◌∷◌, Option, Some, None, Result, Ok, Err, nat_eq, slice_get, if◌then◌else◌}
 use Rattle.composables.specs.declared.refusals.Done.{Done}
 use Rattle.composables.specs.declared.refusals.Refusal.{Refusal}
 use Rattle.composables.specs.declared.refusals.Refusal.TheVariants.{NoTrack}
@@ -10,6 +10,11 @@ use Rattle.edit_insert.specs.Answers.{Applied}
 abbrev pub track_numbered : ℕ → List TrackState → Option TrackState
 track_numbered n [] = None
 track_numbered n (t ∷ ts) = if nat_eq t.number n then Some t else track_numbered n ts
+
+-- the track at an index that was found
+abbrev pub found_at : List TrackState → Option ℕ → Option TrackState
+found_at tracks None = None
+found_at tracks (Some i) = slice_get tracks i
 
 -- the tracks with this one in place of that with its number
 abbrev pub with_track : List TrackState → TrackState → List TrackState
