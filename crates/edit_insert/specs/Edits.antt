@@ -18,10 +18,11 @@ use Rattle.edit_splice.specs.Splicing.{spliced_track}
 use Rattle.edit_insert.specs.Answers.{Applied, unless}
 use Rattle.edit_insert.specs.Limits.{track_within_limits}
 use Rattle.edit_insert.specs.OwnTracks.{for_own, on_own, with_track}
-use Rattle.edit_insert.specs.Ranges.{range_of}
+use Rattle.composables.specs.Ranges.{range_of}
 use Rattle.edit_insert.specs.Shifts.{shift_of}
 use Rattle.edit_insert.specs.Sources.{source_refusal}
-use Rattle.edit_insert.specs.Views.{clip_view, gap_views, padded_track}
+use Rattle.composables.specs.Views.{clip_view, gap_views}
+use Rattle.edit_insert.specs.PutIn.{padded_track}
 
 -- the track with a new item over the places [at, at + len), cut to its length
 abbrev pub overwritten : TrackState → ℕ → What → ℕ → ℕ → TrackState

@@ -3,10 +3,8 @@ pub mod Sources
 pub mod Limits
 pub mod OwnTracks
 pub mod TrackSets
-pub mod Views
-pub mod Ranges
+pub mod PutIn
 pub mod Links
 pub mod Shifts
-pub mod Moves
 pub mod Edits
 pub mod Standing

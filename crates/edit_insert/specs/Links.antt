@@ -7,7 +7,6 @@ use Rattle.frame_meaning.specs.declared.cells.Link.{Link}
 use Rattle.composables.specs.declared.refusals.Refusal.{Refusal}
 use Rattle.composables.specs.declared.refusals.Refusal.TheVariants.{LinkOutside}
 use Rattle.composables.specs.TrackState.{TrackState}
-use Rattle.edit_insert.specs.OwnTracks.{track_numbered}
 use Rattle.edit_insert.specs.TrackSets.{tracks_in}
 
 -- links are told apart, and ordered, by home and then number
@@ -36,21 +35,22 @@ cells_from place tracks = flat_map (λ (t : TrackState). drop place t.cells) tra
 abbrev pub cells_before : ℕ → List TrackState → List Cell
 cells_before place tracks = flat_map (λ (t : TrackState). take place t.cells) tracks
 
+abbrev pub is_named : List TrackState → ℕ → Bool
+is_named named n = list_any (λ (t : TrackState). nat_eq t.number n) named
+
 -- the first track of these that is not named
 abbrev pub first_unnamed : List TrackState → List ℕ → Option ℕ
 first_unnamed named [] = None
-first_unnamed named (n ∷ ns) = unless_found (track_numbered n named) where
-  unless_found : Option TrackState → Option ℕ
-  unless_found None = Some n
-  unless_found (Some t) = first_unnamed named ns
+first_unnamed named (n ∷ ns) = if is_named named n then first_unnamed named ns else Some n
+
+abbrev pub outside_or : Link → Option ℕ → Option Refusal → Option Refusal
+outside_or l None then_this = then_this
+outside_or l (Some n) then_this = Some (LinkOutside l.home l.number n)
 
 -- the first of these links that has a track which is not named, and its first such track
 abbrev pub link_outside : List TrackState → List Link → Option Refusal
 link_outside named [] = None
-link_outside named (l ∷ ls) = unless_found (first_unnamed named (tracks_in l.tracks)) where
-  unless_found : Option ℕ → Option Refusal
-  unless_found (Some n) = Some (LinkOutside l.home l.number n)
-  unless_found None = link_outside named ls
+link_outside named (l ∷ ls) = outside_or l (first_unnamed named (tracks_in l.tracks)) (link_outside named ls)
 
 -- the links that have cells both before x and from z on
 abbrev pub split_links : ℕ → ℕ → List TrackState → List Link
@@ -63,10 +63,10 @@ next_link_at home (t ∷ ts) = if nat_eq t.number home then t.next_link else nex
 
 -- a cell of one link gets another
 abbrev pub relinked : Link → Link → Cell → Cell
-relinked old new c = if has_link c.link then record c { link = Some new } else c where
-  has_link : Option Link → Bool
-  has_link None = Bool.false
-  has_link (Some l) = same_link l old
+relinked old new c = by_link c.link where
+  by_link : Option Link → Cell
+  by_link None = c
+  by_link (Some l) = if same_link l old then record c { link = Some new } else c
 
 -- the cells of a link from z on take the next link number of its home
 abbrev pub link_split : ℕ → List TrackState → Link → List TrackState

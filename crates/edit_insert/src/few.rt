@@ -1,11 +1,9 @@
 // What is put into a track at once: at most two items and gaps.
 ghost use Rattle.std.specs.Prelude.{◌≡◌, ◌++◌, ◌≤◌, [], ◌∷◌, length};
-ghost use Rattle.composables.specs.declared.items.ItemView.{ItemView as View};
-ghost use Rattle.edit_insert.specs.Moves.{new_views};
-ghost use Rattle.edit_insert.specs.Views.{clip_view, gap_view, gap_views};
+ghost use Rattle.edit_insert.specs.PutIn.{new_views};
+ghost use Rattle.composables.specs.Views.{gap_views};
 
 use composables::ItemView;
-use frame_meaning::{Side, What};
 use std::marker::Model;
 
 /// At most two items and gaps.
@@ -31,7 +29,7 @@ impl Few {
     pub(crate) fn of(dark: u32, item: Option<ItemView>) -> Few
         ensures { result ≡ gap_views dark ++ new_views item }
     {
-        let gap = gap(dark);
+        let gap = ItemView::gap(dark);
         match item {
             Some(view) if dark > 0 => Few {
                 both: [gap, view],
@@ -52,31 +50,5 @@ impl Few {
         ensures { result.now ≡ self.now }
     {
         &self.both[..self.count]
-    }
-}
-
-// A gap of so many frames.
-pub(crate) fn gap(len: u32) -> ItemView
-    ensures { result ≡ gap_view len }
-{
-    ItemView {
-        item: None,
-        first: Side::Dark,
-        len,
-        mark: None,
-        link: None,
-    }
-}
-
-// An item of so many source frames of a thing, from a source frame on.
-pub(crate) fn clip(number: u32, what: What, from: u32, len: u32) -> ItemView
-    ensures { result ≡ clip_view number what from len }
-{
-    ItemView {
-        item: Some(number),
-        first: Side::Pic { what, source: from },
-        len,
-        mark: None,
-        link: None,
     }
 }
