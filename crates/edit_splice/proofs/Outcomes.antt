@@ -10,7 +10,7 @@ use Rattle.frame_meaning.specs.Splice.{Rule, kept_or_dropped, with_marks, renumb
 use Rattle.composables.specs.declared.items.ItemView.{ItemView}
 use Rattle.composables.specs.Good.{AllUnlinked}
 use Rattle.composables.specs.Items.{marked, view_cells, cells_of, with_cell, view_from, items_of}
-use Rattle.composables.specs.Joined.{frames_in}
+use Rattle.composables.specs.Joined.{AllFilled, frames_in}
 use Rattle.composables.specs.TrackFacts.{IsKept, NumbersBelow}
 use Rattle.composables.specs.TrackState.{TrackState, next_past_all}
 use Rattle.composables.proofs.Joining.{length-cells_of}
@@ -106,3 +106,11 @@ unlinked-spliced t x y views k old new =
     (append_unlinked (take x all ++ cells_of views) (map (renumbered s fresh) (drop y all))
     (append_unlinked (take x all) (cells_of views) (take_unlinked x all bare) (cells_unlinked views new))
     (numbers_unlinked s fresh (drop y all) (drop_unlinked y all bare)))
+
+-- what is put in has no more items and gaps than the track has frames
+pub count-filled : (vs : List ItemView) → AllFilled vs → length vs ≤ frames_in vs
+count-filled [] h = omega arith
+count-filled (v ∷ vs) h = omega (arith, h.0, count-filled vs h.1)
+
+pub few-put : (t : TrackState) (x y n : ℕ) (views : List ItemView) → x ≤ y → y ≤ length t.cells → AllFilled views → length (spliced_track t x y views).cells < n → length views < n
+few-put t x y n views le within filled short = omega (arith, short, length-spliced_track t x y views le within, count-filled views filled)
