@@ -20,13 +20,14 @@ abbrev pub with_link : Link → List Link → List Link
 with_link l [] = l ∷ []
 with_link l (k ∷ ks) = if same_link l k then k ∷ ks else (if link_before l k then l ∷ k ∷ ks else k ∷ with_link l ks)
 
+abbrev pub with_link_of : Option Link → List Link → List Link
+with_link_of None ls = ls
+with_link_of (Some l) ls = with_link l ls
+
 -- the links of cells, in order and each once
 abbrev pub links_in : List Cell → List Link
 links_in [] = []
-links_in (c ∷ cs) = more c.link (links_in cs) where
-  more : Option Link → List Link → List Link
-  more None ls = ls
-  more (Some l) ls = with_link l ls
+links_in (c ∷ cs) = with_link_of c.link (links_in cs)
 
 -- the cells of these tracks from a place on, and before a place
 abbrev pub cells_from : ℕ → List TrackState → List Cell

@@ -1,0 +1,83 @@
+// Overwrite: a new item over places of a track.
+ghost use Rattle.std.specs.Prelude.{◌≡◌, ◌+◌, ◌*◌, ◌<◌, ◌≤◌, [], ◌∷◌, All, length, map, sum_by};
+ghost use Rattle.composables.specs.Good.{IsGood, AllUnlinked};
+ghost use Rattle.composables.specs.Items.{items_of};
+ghost use Rattle.composables.specs.Roomy.{IsRoomy};
+ghost use Rattle.composables.specs.TrackState.{TrackState};
+ghost use Rattle.edit_insert.specs.Answers.{Answers, NextRises};
+ghost use Rattle.edit_insert.specs.Edits.{overwrite_named, overwrite_track};
+
+use crate::few::Few;
+use crate::placing::place;
+use crate::sources::source_refusal;
+use composables::{Done, EditFault, ItemView, MAX_FRAMES, Overwrite, Refusal, Table, Track};
+use std::alloc::Global;
+use std::sync::ledger::Ledger;
+use step_count::Steps;
+
+/// Puts a new item over the places [at, at + len) of the one track that is named, which grows by dark frames up to
+/// `at` where it is shorter, and by the new item where that reaches past its end. An item that stood on both sides is
+/// cut in two, and its later part gets the number after the new item's. `from` is a source frame of `what`.
+///
+/// It answers the number of the new item, or the first of these refusals that holds: `NoMedia`, `EmptyRange`,
+/// `MediaEnds`, `TooLong`, `TooManyItems`.
+pub fn overwrite<L: Ledger>(
+    alloc: Global,
+    table: &Table,
+    named: &mut Vec<Track>,
+    call: &Overwrite,
+    steps: &mut Steps<L>,
+) -> Result<Done, EditFault>
+    requires named { map (λ (t : TrackState). t.number) named.old.items ≡ call.now.track ∷ [] }
+    requires good { All (λ t. IsGood table.now t) named.old.items }
+    requires roomy { All (λ t. IsRoomy t) named.old.items }
+
+    ensures answers { Answers (overwrite_named table.now named.old.items call.now) named.old.items named.new.items result }
+
+    ensures named { map (λ (t : TrackState). t.number) named.new.items ≡ call.now.track ∷ [] }
+    ensures good { All (λ t. IsGood table.now t) named.new.items }
+    ensures unlinked { All (λ t. AllUnlinked (items_of t.cells)) named.old.items → All (λ t. AllUnlinked (items_of t.cells)) named.new.items }
+    ensures numbers { NextRises 2 named.old.items named.new.items }
+
+    ensures least { steps.old + 1 ≤ steps.new }
+    ensures most { steps.new ≤ steps.old + 32 * sum_by (λ t. length (items_of t.cells) + 64) named.old.items }
+{
+    steps.tick();
+    overwrite_track(alloc, table, &mut named[0], call, steps)
+}
+
+// The same on the track itself.
+fn overwrite_track<L: Ledger>(
+    alloc: Global,
+    table: &Table,
+    track: &mut Track,
+    call: &Overwrite,
+    steps: &mut Steps<L>,
+) -> Result<Done, EditFault>
+    requires good { IsGood table.now track.old }
+    requires roomy { IsRoomy track.old }
+    ensures answers { Answers (overwrite_track table.now call.now track.old) track.old track.new result }
+    ensures least { steps.old ≤ steps.new }
+    ensures most { steps.new ≤ steps.old + 16 * (length (items_of track.old.cells) + 64) }
+{
+    match source_refusal(table, track.number(), call.what, call.from, call.len) {
+        Some(refusal) => return Err(EditFault::Refused(refusal)),
+        None => {}
+    }
+    if u64::from(call.at) + u64::from(call.len) > u64::from(MAX_FRAMES) {
+        return Err(EditFault::Refused(Refusal::TooLong(track.number())));
+    }
+    let length = track.length();
+    let number = track.next_item();
+    let item = ItemView::clip(number, call.what, call.from, call.len);
+    let items = Few::of(call.at.saturating_sub(length), Some(item));
+    place(
+        alloc,
+        track,
+        call.at.min(length),
+        (call.at + call.len).min(length),
+        items.as_slice(),
+        Done::Item(number),
+        steps,
+    )
+}
