@@ -11,7 +11,8 @@ use Rattle.composables.specs.TrackState.{TrackState, next_past_all}
 use Rattle.composables.proofs.Joining.{cells_of-append, items_of-cells_of, tight-joined, length-cells_of}
 use Rattle.edit_splice.specs.declared.seams.Held.{Held}
 use Rattle.edit_splice.specs.declared.seams.Seams.{Seams}
-use Rattle.edit_splice.specs.Parts.{AreSeams, EndsAt, StandsFrom, view_after, split_number, front_view, front_views, later_view, renumbered_view, back_views, after_views, parts_between, first_index, end_at, end_index}
+use Rattle.composables.specs.Views.{later_view}
+use Rattle.edit_splice.specs.Parts.{AreSeams, EndsAt, StandsFrom, view_after, split_number, front_view, front_views, renumbered_view, back_views, after_views, parts_between, first_index, end_at, end_index}
 use Rattle.edit_splice.specs.Splicing.{spliced_track}
 use Rattle.edit_splice.specs.NewItems.{AreNew, NumbersFrom, Meet}
 use Rattle.edit_splice.proofs.Ends.{split-at, drop-some, holds-at, below-read, first_kept, after-parts, index-order}

@@ -15,3 +15,4 @@ pub mod Existing
 pub mod Keeping
 pub mod Goodness
 pub mod Outcomes
+pub mod Counted

@@ -14,7 +14,8 @@ use Rattle.composables.specs.Good.{LiesIn, SideLiesIn, EachLiesIn, IsLinkOf, Eac
 use Rattle.composables.specs.Joined.{with_view, joined}
 use Rattle.composables.specs.TrackFacts.{ShowsAsItem, Holds, EachHolds, Apart, Lacks, first_mark, left_reach, right_reach}
 use Rattle.composables.proofs.Joining.{same-is}
-use Rattle.edit_splice.specs.Parts.{kept_before, kept_behind, front_view, later_view, after_view, renumbered_view}
+use Rattle.composables.specs.Views.{later_view}
+use Rattle.edit_splice.specs.Parts.{kept_before, kept_behind, front_view, after_view, renumbered_view}
 use Rattle.edit_splice.proofs.Ends.{first_kept}
 use Rattle.edit_splice.proofs.Meeting.{mark-joined, if-lacks, lacks-joined, never_some, gap_shows}
 

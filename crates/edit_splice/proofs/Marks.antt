@@ -14,7 +14,8 @@ use Rattle.composables.specs.Items.{marked, view_cells, cells_of}
 use Rattle.composables.specs.Joined.{frames_in}
 use Rattle.composables.specs.TrackFacts.{EachHolds, first_mark, left_reach, right_reach}
 use Rattle.composables.proofs.Joining.{length-view_cells}
-use Rattle.edit_splice.specs.Parts.{kept_before, kept_behind, after_view, later_view}
+use Rattle.composables.specs.Views.{later_view}
+use Rattle.edit_splice.specs.Parts.{kept_before, kept_behind, after_view}
 use Rattle.edit_splice.proofs.Surviving.{before_splice, behind_splice}
 use Rattle.edit_splice.proofs.Spans.{mark_from, view_from}
 

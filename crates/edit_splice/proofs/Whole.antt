@@ -11,7 +11,8 @@ use Rattle.composables.specs.TrackState.{next_past_all}
 use Rattle.composables.proofs.Joining.{cells_of-append, filled-append, length-view_cells}
 use Rattle.edit_splice.specs.declared.seams.Held.{Held}
 use Rattle.edit_splice.specs.declared.seams.Seams.{Seams}
-use Rattle.edit_splice.specs.Parts.{AreSeams, EndsAt, StandsFrom, view_after, split_number, front_view, front_views, later_view, renumbered_view, back_views, after_view, after_views, parts_between, first_index, end_at, end_index}
+use Rattle.composables.specs.Views.{later_view}
+use Rattle.edit_splice.specs.Parts.{AreSeams, EndsAt, StandsFrom, view_after, split_number, front_view, front_views, renumbered_view, back_views, after_view, after_views, parts_between, first_index, end_at, end_index}
 use Rattle.edit_splice.proofs.Spans.{take-cells, drop-cells, view_from}
 use Rattle.edit_splice.proofs.Splits.{first_item, last_item, across, begins, ends, behind, split-item, after_split, next-splice}
 use Rattle.edit_splice.proofs.Surviving.{before_splice, behind_splice, spliced-steps}

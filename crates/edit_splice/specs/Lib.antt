@@ -2,3 +2,4 @@ pub mod Parts
 pub mod Splicing
 pub mod NewItems
 pub mod Laws
+pub mod Counting

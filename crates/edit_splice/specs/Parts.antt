@@ -2,12 +2,13 @@
 use Rattle.std.specs.Prelude.{◌≡◌, ℕ, ◌+◌, ◌-◌, ◌<◌, ◌≤◌, ◌&&◌, List, [], ◌∷◌, ◌++◌, Option, Some, None, take, length, nat_le, nat_lt, slice_get, if◌then◌else◌}
 use Rattle.frame_meaning.specs.declared.cells.Mark.{Mark}
 use Rattle.frame_meaning.specs.declared.cells.Cell.{Cell}
-use Rattle.frame_meaning.specs.Cells.{same_number, later_side}
+use Rattle.frame_meaning.specs.Cells.{same_number}
 use Rattle.composables.specs.declared.items.ItemView.{ItemView}
 use Rattle.composables.specs.Items.{items_of}
 use Rattle.composables.specs.Joined.{frames_in}
 use Rattle.composables.specs.SpareState.{SpareState}
 use Rattle.composables.specs.TrackFacts.{HasSource}
+use Rattle.composables.specs.Views.{later_view}
 use Rattle.edit_splice.specs.declared.seams.Held.{Held}
 use Rattle.edit_splice.specs.declared.seams.Seams.{Seams}
 
@@ -72,10 +73,6 @@ front_view v n = record v { len = n; mark = kept_before n v.mark }
 abbrev pub front_views : Option Held → ℕ → List ItemView
 front_views None x = []
 front_views (Some h) x = front_view h.view (x - h.from) ∷ []
-
--- an item or gap without its first n frames, and without a dissolve before it
-abbrev pub later_view : ItemView → ℕ → ItemView
-later_view v n = record v { first = later_side v.first n; len = v.len - n; mark = None }
 
 -- an item with a fresh number, if it is the one that is split
 abbrev pub renumbered_view : Option ℕ → ℕ → ItemView → ItemView

@@ -5,11 +5,13 @@
 //! range.
 #![tactic(auto)]
 
+mod counting;
 mod laws;
 mod parts;
 mod seams;
 mod splicing;
 
+pub use counting::count_after;
 pub use laws::{
     a_good_track_stays_good, a_spliced_track_is_as_long_as_its_parts,
     an_unlinked_track_stays_unlinked, new_items_may_be_put_in, next_numbers_rise_by_the_new_items,

@@ -1,9 +1,8 @@
 // What is put in place of the items and gaps at the ends of a range: what is left of them, and the new items.
 ghost use Rattle.std.specs.Prelude.{◌≡◌, ◌+◌, ◌-◌, ◌<◌, ◌≤◌, ◌++◌, [], length, take, drop};
-ghost use Rattle.frame_meaning.specs.Cells.{same_number, later_side};
+ghost use Rattle.frame_meaning.specs.Cells.{same_number};
 ghost use Rattle.composables.specs.SpareState.{SpareState};
-ghost use Rattle.composables.specs.TrackFacts.{HasSource};
-ghost use Rattle.edit_splice.specs.Parts.{after_views, back_views, begins_by, end_index, first_index, front_views, kept_before, kept_behind, laid_more, later_view, parts_between, renumbered_view, reaches_past, split_number};
+ghost use Rattle.edit_splice.specs.Parts.{after_views, back_views, begins_by, end_index, first_index, front_views, kept_before, kept_behind, laid_more, parts_between, renumbered_view, reaches_past, split_number};
 
 use crate::seams::{Held, Seams};
 use composables::{ItemView, Spare};
@@ -46,8 +45,8 @@ pub fn end_index(seams: &Seams, count: u32) -> u32
     }
 }
 
-// The number of the item that stands on both sides, if one item does.
-fn split_number(left: Option<Held>, right: Option<Held>) -> Option<u32>
+/// The number of the item that stands on both sides, if one item does.
+pub fn split_number(left: Option<Held>, right: Option<Held>) -> Option<u32>
     ensures { result ≡ split_number left right }
 {
     let left = left?;
@@ -105,25 +104,13 @@ fn push_back(right: Option<Held>, y: u32, split: Option<u32>, fresh: u32, spare:
     ensures { spare.new ≡ laid_more spare.old (back_views right y split fresh) }
 {
     match right {
-        Some(held) => spare.push(renumbered(&later_part(&held.view, y - held.from), split, fresh)),
+        Some(held) => spare.push(renumbered(&held.view.later(y - held.from), split, fresh)),
         None => {}
     }
 }
 
-fn later_part(view: &ItemView, by: u32) -> ItemView
-    requires within { by < view.now.len }
-    requires source { HasSource view.now.first view.now.len 0 0 }
-    ensures { result ≡ later_view view.now by }
-{
-    ItemView {
-        first: view.first.later(by),
-        len: view.len - by,
-        mark: None,
-        ..*view
-    }
-}
-
-fn renumbered(view: &ItemView, split: Option<u32>, fresh: u32) -> ItemView
+/// An item or gap, with the number `fresh` if it is the one that is split.
+pub fn renumbered(view: &ItemView, split: Option<u32>, fresh: u32) -> ItemView
     ensures { result ≡ renumbered_view split fresh view.now }
 {
     match split {
