@@ -6,5 +6,6 @@ pub mod TrackSets
 pub mod PutIn
 pub mod Links
 pub mod Shifts
+pub mod Moves
 pub mod Edits
 pub mod Standing

@@ -11,7 +11,7 @@ ghost use Rattle.edit_insert.specs.Edits.{extract_named, insert_named};
 ghost use Rattle.edit_insert.specs.TrackSets.{tracks_in};
 
 use crate::owning::own_index;
-use crate::shifting::{Shift, shift};
+use crate::shifting::{Shift, shift_tracks};
 use crate::sources::source_refusal;
 use composables::{Done, EditFault, Extract, Insert, ItemView, Refusal, Table, Track};
 use std::alloc::Global;
@@ -75,7 +75,7 @@ fn insert_at<L: Ledger>(
         y: call.at,
         new: Some(ItemView::clip(number, call.what, call.from, call.len)),
     };
-    shift(alloc, named, &made, Done::Item(number), steps)
+    shift_tracks(alloc, named, &made, Done::Item(number), steps)
 }
 
 /// Takes an item out of its own track, and moves what is after it earlier on all named tracks, of which each loses the
@@ -126,7 +126,7 @@ fn extract_at<L: Ledger>(
                 y: found.to,
                 new: None,
             };
-            shift(alloc, named, &made, Done::Plain, steps)
+            shift_tracks(alloc, named, &made, Done::Plain, steps)
         }
         None => Err(EditFault::Refused(Refusal::NoItem)),
     }

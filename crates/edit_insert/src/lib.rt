@@ -6,7 +6,6 @@
 
 mod few;
 mod inserting;
-mod lengths;
 mod overwriting;
 mod owning;
 mod placing;
@@ -17,4 +16,4 @@ mod sources;
 pub use inserting::{extract, insert};
 pub use overwriting::overwrite;
 pub use removing::{remove, slice};
-pub use shifting::{Shift, shift};
+pub use shifting::{Shift, shift_tracks};

@@ -27,7 +27,7 @@ pub struct Shift {
 
 /// Shifts all these tracks, or none: the first that would be too long, and else the first that would have too many
 /// items and gaps, is told, and want of memory, before any of them is changed.
-pub fn shift<L: Ledger>(
+pub fn shift_tracks<L: Ledger>(
     alloc: Global,
     named: &mut Vec<Track>,
     shift: &Shift,
