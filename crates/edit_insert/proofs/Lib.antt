@@ -4,3 +4,9 @@ pub mod Put
 pub mod Standing
 pub mod Unlinked
 pub mod Numbered
+pub mod Moving
+pub mod OneTrack
+pub mod OverPlaces
+pub mod Places
+pub mod SourceRanges
+pub mod Removals

@@ -56,11 +56,8 @@ at_end vs cs gap x ms fresh e holds len =
     spliced-steps all x x ms fresh (omega arith)
   ∙ ap (λ ds. before_splice x ds ++ ms ++ map (renumbered (split_item all x x) fresh) (behind_splice 0 (drop x all))) (take_all x all (omega (arith, all_len)))
   ∙ ap (λ ds. before_splice x all ++ ms ++ map (renumbered (split_item all x x) fresh) (behind_splice 0 ds)) (drop_all x all (omega (arith, all_len)))
-  ∙ ap (λ ds. before_splice x all ++ ds) nothing
-  ∙ ap (λ ds. ds ++ ms) front
-  ∙ append_assoc cs dark ms where
-  nothing : ms ++ map (renumbered (split_item (cs ++ cells_of (gap_views gap)) x x) fresh) (behind_splice 0 []) ≡ ms
-  nothing = append-nil ms
+  ∙ append-nil (before_splice x all ++ ms)
+  ∙ ap (λ ds. ds ++ ms) front where
   dark : List Cell
   dark = cells_of (gap_views gap)
   all : List Cell
@@ -101,7 +98,7 @@ past_end t at views kept h = state_same t _ _ _ _ cells_same next_same where
     ∙ at_end (items_of t.cells) t.cells 0 (length t.cells) (cells_of (gap_views gap ++ views)) fresh_put (sym kept.whole) kept.each (omega arith)
     ∙ ap (λ ds. ds ++ cells_of (gap_views gap ++ views)) (append-nil t.cells)
   cells_same : (spliced_track (padded_track t at) at at views).cells ≡ (spliced_track t (length t.cells) (length t.cells) (gap_views gap ++ views)).cells
-  cells_same = left ∙ sym (right ∙ ap (λ ds. t.cells ++ ds) (cells_of-append (gap_views gap) views))
+  cells_same = left ∙ append_assoc t.cells (cells_of (gap_views gap)) (cells_of views) ∙ sym (right ∙ ap (λ ds. t.cells ++ ds) (cells_of-append (gap_views gap) views))
   next_same : (spliced_track (padded_track t at) at at views).next_item ≡ (spliced_track t (length t.cells) (length t.cells) (gap_views gap ++ views)).next_item
   next_same =
       next_at_end (t.cells ++ cells_of (gap_views gap)) at at fresh (omega (arith, length-padded t at, h))

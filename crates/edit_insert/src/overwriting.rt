@@ -6,6 +6,7 @@ ghost use Rattle.composables.specs.Roomy.{IsRoomy};
 ghost use Rattle.composables.specs.TrackState.{TrackState};
 ghost use Rattle.edit_insert.specs.Answers.{Answers, NextRises};
 ghost use Rattle.edit_insert.specs.Edits.{overwrite_named, overwrite_track};
+ghost use Rattle.edit_insert.specs.Standing.{StaysGood};
 
 use crate::few::Few;
 use crate::placing::place;
@@ -57,6 +58,7 @@ fn overwrite_track<L: Ledger>(
     requires good { IsGood table.now track.old }
     requires roomy { IsRoomy track.old }
     ensures answers { Answers (overwrite_track table.now call.now track.old) track.old track.new result }
+    ensures good { StaysGood table.now track.old track.new }
     ensures least { steps.old ≤ steps.new }
     ensures most { steps.new ≤ steps.old + 16 * (length (items_of track.old.cells) + 64) }
 {

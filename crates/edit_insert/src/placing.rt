@@ -3,7 +3,7 @@ ghost use Rattle.std.specs.Prelude.{◌≡◌, ◌+◌, ◌*◌, ◌-◌, ◌<�
 ghost use Rattle.composables.specs.Items.{items_of};
 ghost use Rattle.composables.specs.Joined.{frames_in};
 ghost use Rattle.composables.specs.Roomy.{IsRoomy};
-ghost use Rattle.composables.specs.TrackFacts.{NumbersBelow};
+ghost use Rattle.composables.specs.TrackFacts.{IsKept, NumbersBelow};
 ghost use Rattle.edit_splice.specs.NewItems.{AreNew};
 ghost use Rattle.edit_splice.specs.Splicing.{spliced_track};
 ghost use Rattle.edit_insert.specs.Answers.{Answers};
@@ -27,7 +27,9 @@ pub(crate) fn place<L: Ledger>(
 ) -> Result<Done, EditFault>
     requires order { x ≤ y }
     requires within { y ≤ length track.old.cells }
+    requires kept { IsKept track.old }
     requires roomy { IsRoomy track.old }
+    requires frames { length track.old.cells ≤ MAX_FRAMES }
     requires few { length items.now ≤ 2 }
     requires new { AreNew track.old.next_item items.now }
     requires numbers { NumbersBelow (track.old.next_item + 1) items.now }

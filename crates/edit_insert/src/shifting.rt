@@ -1,8 +1,8 @@
 // A shift of several tracks: something new in place of their places [x, y), by which what is behind them moves.
-ghost use Rattle.std.specs.Prelude.{◌≡◌, ◌+◌, ◌*◌, ◌-◌, ◌<◌, ◌≤◌, All, IfOk, IfSome, length, sum_by, vec_len};
-ghost use Rattle.composables.specs.Good.{IsGood};
+ghost use Rattle.std.specs.Prelude.{◌≡◌, ◌+◌, ◌*◌, ◌-◌, ◌<◌, ◌≤◌, All, IfOk, length, option_map, sum_by};
+ghost use Rattle.composables.specs.declared.refusals.Refusal.TheVariants.{TooLong, TooManyItems};
 ghost use Rattle.composables.specs.Items.{items_of};
-ghost use Rattle.composables.specs.Roomy.{IsRoomy};
+ghost use Rattle.edit_splice.specs.Splicing.{HasRoom};
 ghost use Rattle.edit_insert.specs.Answers.{Answers};
 ghost use Rattle.edit_insert.specs.Limits.{too_long, too_many, within_limits};
 ghost use Rattle.edit_insert.specs.PutIn.{new_len};
@@ -146,9 +146,10 @@ fn items_after<L: Ledger>(track: &Track, shift: &Shift, steps: &mut Steps<L>) ->
 fn spares_for(alloc: Global, named: &[Track]) -> Result<Vec<Spare>, Memory>
     ensures { IfOk result (λ spares. HasRooms spares.items named.now) }
 {
-    let mut spares = Vec::with_capacity(alloc, named.len())?;
+    let mut spares = Vec::new(alloc);
     for track in named {
-        spares.push_reserved(spare_for(alloc, track, 2)?);
+        let spare = spare_for(alloc, track, 2)?;
+        spares.push(spare)?;
     }
     Ok(spares)
 }
