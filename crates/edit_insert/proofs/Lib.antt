@@ -10,3 +10,6 @@ pub mod OverPlaces
 pub mod Places
 pub mod SourceRanges
 pub mod Removals
+pub mod Sizes
+pub mod Firsts
+pub mod PartMoved

@@ -8,10 +8,13 @@ use Rattle.composables.specs.Joined.{frames_in}
 use Rattle.composables.specs.TrackState.{TrackState}
 use Rattle.composables.specs.Views.{gap_views}
 use Rattle.composables.proofs.Frames.{frames_in-append}
+use Rattle.composables.specs.TrackFacts.{IsKept}
+use Rattle.edit_splice.specs.NewItems.{AreNew}
 use Rattle.edit_splice.specs.Splicing.{spliced_track}
+use Rattle.edit_splice.proofs.Keeping.{kept_spliced}
 use Rattle.edit_splice.proofs.Outcomes.{length-spliced_track}
 use Rattle.edit_insert.specs.declared.shifting.Shift.{Shift}
-use Rattle.edit_insert.specs.Moves.{moved, put_views}
+use Rattle.edit_insert.specs.Moves.{IsShiftOf, moved, put_views}
 use Rattle.edit_insert.specs.PutIn.{new_len, new_views}
 use Rattle.edit_insert.proofs.Padding.{frames-gap}
 
@@ -55,3 +58,13 @@ length-along s t le n h = omega (arith, length-moved s t le, ap frames_in (put-a
 pub length-none : (s : Shift) (t : TrackState) → s.x ≤ s.y → t.number ≢ s.own → length t.cells ≤ s.x
     → length (moved s t).cells ≡ min s.x (length t.cells) + (length t.cells - min s.y (length t.cells))
 length-none s t le n h = omega (arith, length-moved s t le, ap frames_in (put-none s t n h))
+
+-- on a track that keeps its limits it leaves one that keeps what every track keeps
+pub kept-put : (s : Shift) (t : TrackState) (x y : ℕ) (views : List ItemView) → s.x ≤ s.y → IsShiftOf s t → length (moved s t).cells ≤ MAX_FRAMES
+    → x ≡ min s.x (length t.cells) → y ≡ min s.y (length t.cells) → views ≡ put_views s t → IsKept (spliced_track t x y views)
+kept-put s t x y views le f short e h k =
+    kept_spliced t x y views f.kept (omega (arith, e, h, le)) (omega (arith, h)) (subst (AreNew t.next_item) (sym k) f.new)
+      (omega (arith, length-moved s t le, short, f.frames, ap frames_in k, le))
+
+pub kept-moved : (s : Shift) (t : TrackState) → s.x ≤ s.y → IsShiftOf s t → length (moved s t).cells ≤ MAX_FRAMES → IsKept (moved s t)
+kept-moved s t le f short = kept-put s t (min s.x (length t.cells)) (min s.y (length t.cells)) (put_views s t) le f short refl refl refl

@@ -1,6 +1,6 @@
 -- What a shift does on one track, of which it puts in place of the places [x, y), as far as the track has them, what
 -- is new to it.
-use Rattle.std.specs.Prelude.{◌≡◌, ℕ, ◌+◌, ◌-◌, ◌≤◌, List, [], ◌∷◌, ◌++◌, Option, Some, None, map, min, nat_eq, nat_lt, length, slice_get, if◌then◌else◌}
+use Rattle.std.specs.Prelude.{ℕ, ◌+◌, ◌-◌, ◌≤◌, List, [], ◌∷◌, ◌++◌, Option, Some, None, map, min, nat_eq, nat_lt, length, if◌then◌else◌}
 use Rattle.composables.specs.declared.items.ItemView.{ItemView}
 use Rattle.composables.specs.TrackState.{TrackState}
 use Rattle.composables.specs.declared.TheConstants.{MAX_FRAMES}
@@ -35,6 +35,8 @@ pub record IsShiftOf (s : Shift) (t : TrackState) : Type 0 where
   pub numbers : NumbersBelow (t.next_item + 1) (put_views s t)
 
 -- memory for each of these tracks, to splice two items or gaps into it
-pub record HasRooms (spares : List SpareState) (named : List TrackState) : Type 0 where
-  pub count : length spares ≡ length named
-  pub each : (k : ℕ) (s : SpareState) (t : TrackState) → slice_get spares k ≡ Some s → slice_get named k ≡ Some t → HasRoom s t 2
+abbrev pub HasRooms : List SpareState → List TrackState → Type 0
+HasRooms [] [] = Unit {0}
+HasRooms [] (t ∷ ts) = ⊥
+HasRooms (s ∷ ss) [] = ⊥
+HasRooms (s ∷ ss) (t ∷ ts) = HasRoom s t 2 × HasRooms ss ts
