@@ -1,6 +1,6 @@
 -- The first track that is over a limit, one track after another.
-use Rattle.std.proofs.Common.{◌≡◌, ◌≢◌, ℕ, zero, suc, ◌+◌, ◌<◌, ◌≤◌, Bool, true, false, cond, ltb, List, [], ◌∷◌, ◌++◌, drop, take, length, map, Option, Some, None, refl, sym, ap, ◌∙◌, arith, get_or, subst}
-use Rattle.std.proofs.lemmas.Bool.{lt-ltb, le-ltb}
+use Rattle.std.proofs.Common.{◌≡◌, ◌≢◌, ℕ, zero, suc, ◌+◌, ◌<◌, ◌≤◌, Bool, true, false, cond, ltb, List, [], ◌∷◌, ◌++◌, All, drop, take, length, map, Option, Some, None, refl, sym, ap, ◌∙◌, arith, get_or, subst}
+use Rattle.std.proofs.lemmas.Bool.{lt-ltb, le-ltb, ltb-false}
 use Rattle.std.proofs.lemmas.List.{drop_all, take_more}
 use Rattle.std.proofs.Math.Seq.{drop-cons}
 use Rattle.composables.specs.declared.TheConstants.{MAX_FRAMES, MAX_ITEMS}
@@ -9,6 +9,8 @@ use Rattle.composables.specs.Items.{items_of}
 use Rattle.composables.specs.SpareState.{SpareState}
 use Rattle.composables.specs.TrackState.{TrackState}
 use Rattle.edit_splice.specs.Splicing.{HasRoom}
+use Rattle.std.proofs.lemmas.List.Elements.{All-cons}
+use Rattle.edit_insert.proofs.Standing.{all_none}
 use Rattle.edit_insert.specs.declared.shifting.Shift.{Shift}
 use Rattle.edit_insert.specs.Limits.{too_long, too_many}
 use Rattle.edit_insert.specs.Moves.{HasRooms, all_moved, moved}
@@ -76,3 +78,21 @@ rooms-step ss us ts i s t h is e rooms room =
     subst (λ (l : List SpareState). HasRooms l (take (i + 1) ts)) (sym e)
     (subst (HasRooms (ss ++ s ∷ [])) (sym (take_more ts i t h))
     (rooms-more ss (take i ts) s (get_or ts i t) rooms (subst (λ (u : TrackState). HasRoom s u 2) is room)))
+
+pub short-all : (s : Shift) (ts : List TrackState) → too_long (all_moved s ts) ≡ None → All (λ (t : TrackState). length (moved s t).cells ≤ MAX_FRAMES) ts
+short-all s [] e = all_none (λ (t : TrackState). length (moved s t).cells ≤ MAX_FRAMES)
+short-all s (t ∷ ts) e = by (ltb MAX_FRAMES (length (moved s t).cells)) refl e (short-all s ts) where
+  by : (b : Bool) → ltb MAX_FRAMES (length (moved s t).cells) ≡ b → cond b (Some (TooLong t.number)) (too_long (all_moved s ts)) ≡ None
+    → (too_long (all_moved s ts) ≡ None → All (λ (t : TrackState). length (moved s t).cells ≤ MAX_FRAMES) ts)
+    → All (λ (t : TrackState). length (moved s t).cells ≤ MAX_FRAMES) (t ∷ ts)
+  by true f e later = absurd (Prim.grind (arith, e))
+  by false f e later = All-cons (λ (t : TrackState). length (moved s t).cells ≤ MAX_FRAMES) t ts (ltb-false MAX_FRAMES (length (moved s t).cells) f) (later e)
+
+pub few-all : (s : Shift) (ts : List TrackState) → too_many (all_moved s ts) ≡ None → All (λ (t : TrackState). length (items_of (moved s t).cells) ≤ MAX_ITEMS) ts
+few-all s [] e = all_none (λ (t : TrackState). length (items_of (moved s t).cells) ≤ MAX_ITEMS)
+few-all s (t ∷ ts) e = by (ltb MAX_ITEMS (length (items_of (moved s t).cells))) refl e (few-all s ts) where
+  by : (b : Bool) → ltb MAX_ITEMS (length (items_of (moved s t).cells)) ≡ b → cond b (Some (TooManyItems t.number)) (too_many (all_moved s ts)) ≡ None
+    → (too_many (all_moved s ts) ≡ None → All (λ (t : TrackState). length (items_of (moved s t).cells) ≤ MAX_ITEMS) ts)
+    → All (λ (t : TrackState). length (items_of (moved s t).cells) ≤ MAX_ITEMS) (t ∷ ts)
+  by true f e later = absurd (Prim.grind (arith, e))
+  by false f e later = All-cons (λ (t : TrackState). length (items_of (moved s t).cells) ≤ MAX_ITEMS) t ts (ltb-false MAX_ITEMS (length (items_of (moved s t).cells)) f) (later e)

@@ -53,13 +53,13 @@ stays-refused table t u why (Err (Refused r)) g a = subst (StaysGood table t) (s
 stays-refused table t u why (Err Memory) g a = subst (StaysGood table t) (sym a) (stays-self table t g)
 
 -- all tracks
-all_head : {A : Type 0} (P : A → Type 0) (x : A) (xs : List A) → All P (x ∷ xs) → P x
+pub all_head : {A : Type 0} (P : A → Type 0) (x : A) (xs : List A) → All P (x ∷ xs) → P x
 all_head P x xs h = h 0 x (omega arith)
 
-all_tail : {A : Type 0} (P : A → Type 0) (x : A) (xs : List A) → All P (x ∷ xs) → All P xs
+pub all_tail : {A : Type 0} (P : A → Type 0) (x : A) (xs : List A) → All P (x ∷ xs) → All P xs
 all_tail P x xs h k d lt = h (suc k) d (omega (arith, lt))
 
-all_none : {A : Type 0} (P : A → Type 0) → All P []
+pub all_none : {A : Type 0} (P : A → Type 0) → All P []
 all_none P k d lt = absurd (omega (arith, lt))
 
 pub each-self : (table : Table) (ts : List TrackState) → All (IsGood table) ts → EachStaysGood table ts ts
