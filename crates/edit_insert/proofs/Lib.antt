@@ -13,3 +13,5 @@ pub mod Removals
 pub mod Sizes
 pub mod Firsts
 pub mod PartMoved
+pub mod Bridging
+pub mod Inserts

@@ -1,6 +1,6 @@
 // Insert and extract: what is put into one track and taken out of it, and moves all that is behind it on each named
 // track.
-ghost use Rattle.std.specs.Prelude.{◌≡◌, ◌+◌, ◌*◌, ◌<◌, ◌≤◌, All, length, map, nat_eq, sum_by, true};
+ghost use Rattle.std.specs.Prelude.{◌≡◌, ◌+◌, ◌*◌, ◌<◌, ◌≤◌, All, length, map, nat_eq, slice_get, sum_by, true};
 ghost use Rattle.std.specs.List.{list_any};
 ghost use Rattle.composables.specs.Good.{IsGood, AllUnlinked};
 ghost use Rattle.composables.specs.Items.{items_of};
@@ -8,6 +8,8 @@ ghost use Rattle.composables.specs.Roomy.{IsRoomy};
 ghost use Rattle.composables.specs.TrackState.{TrackState};
 ghost use Rattle.edit_insert.specs.Answers.{Answers, NextRises};
 ghost use Rattle.edit_insert.specs.Edits.{extract_named, insert_named};
+ghost use Rattle.edit_insert.specs.OwnTracks.{track_numbered};
+ghost use Rattle.edit_insert.specs.Standing.{EachStaysGood};
 ghost use Rattle.edit_insert.specs.TrackSets.{tracks_in};
 
 use crate::owning::own_index;
@@ -63,6 +65,16 @@ fn insert_at<L: Ledger>(
     call: &Insert,
     steps: &mut Steps<L>,
 ) -> Result<Done, EditFault>
+    requires within { index < length named.old.items }
+    requires found { track_numbered call.now.track named.old.items ≡ slice_get named.old.items index }
+    requires named { map (λ (t : TrackState). t.number) named.old.items ≡ tracks_in call.now.tracks }
+    requires good { All (λ t. IsGood table.now t) named.old.items }
+    requires roomy { All (λ t. IsRoomy t) named.old.items }
+    requires unlinked { All (λ t. AllUnlinked (items_of t.cells)) named.old.items }
+    ensures answers { Answers (insert_named table.now named.old.items call.now) named.old.items named.new.items result }
+    ensures good { EachStaysGood table.now named.old.items named.new.items }
+    ensures least { steps.old ≤ steps.new }
+    ensures most { steps.new ≤ steps.old + 16 * sum_by (λ t. length (items_of t.cells) + 64) named.old.items }
 {
     match source_refusal(table, call.track, call.what, call.from, call.len) {
         Some(refusal) => return Err(EditFault::Refused(refusal)),
@@ -105,18 +117,29 @@ pub fn extract<L: Ledger>(
 {
     steps.tick();
     match own_index(named, call.track) {
-        Some(index) => extract_at(alloc, named, index, call, steps),
+        Some(index) => extract_at(alloc, table, named, index, call, steps),
         None => unreachable!(),
     }
 }
 
 fn extract_at<L: Ledger>(
     alloc: Global,
+    table: &Table,
     named: &mut Vec<Track>,
     index: usize,
     call: &Extract,
     steps: &mut Steps<L>,
 ) -> Result<Done, EditFault>
+    requires within { index < length named.old.items }
+    requires found { track_numbered call.now.track named.old.items ≡ slice_get named.old.items index }
+    requires named { map (λ (t : TrackState). t.number) named.old.items ≡ tracks_in call.now.tracks }
+    requires good { All (λ t. IsGood table.now t) named.old.items }
+    requires roomy { All (λ t. IsRoomy t) named.old.items }
+    requires unlinked { All (λ t. AllUnlinked (items_of t.cells)) named.old.items }
+    ensures answers { Answers (extract_named named.old.items call.now) named.old.items named.new.items result }
+    ensures good { EachStaysGood table.now named.old.items named.new.items }
+    ensures least { steps.old ≤ steps.new }
+    ensures most { steps.new ≤ steps.old + 20 * sum_by (λ t. length (items_of t.cells) + 64) named.old.items }
 {
     match named[index].item_by_id(call.item, steps) {
         Some(found) => {
