@@ -7,3 +7,6 @@ pub mod Joined
 pub mod Places
 pub mod Good
 pub mod TrackInside
+pub mod Roomy
+pub mod SpareState
+pub mod SpareInside

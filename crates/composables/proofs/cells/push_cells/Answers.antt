@@ -1,6 +1,6 @@
 use Rattle.std.proofs.Common.{◌++◌, ap}
 use Rattle.composables.proofs.Spans.{from-zero, cell_more, cells_all}
-use Rattle.composables.proofs.tracks.push_cells.Goals as goal
+use Rattle.composables.proofs.cells.push_cells.Goals as goal
 
 pub loop-k-init : goal.loop-k-init
 loop-k-init c = ap (λ cs. c.args.into.now.items ++ cs) (from-zero c.args.view.now)

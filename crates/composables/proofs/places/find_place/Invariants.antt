@@ -1,6 +1,6 @@
 use Rattle.std.proofs.Common.{◌≡◌, ◌≤◌, ◌+◌, take}
 use Rattle.composables.specs.Joined.{frames_in}
-use Rattle.composables.proofs.tracks.find_place.Given as goal
+use Rattle.composables.proofs.places.find_place.Given as goal
 
 abbrev pub invariant-loop-index : goal.invariant-loop-index
 invariant-loop-index g l = record {

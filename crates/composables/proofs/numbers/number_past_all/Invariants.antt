@@ -1,7 +1,7 @@
 use Rattle.std.proofs.Common.{◌≡◌, drop}
 use Rattle.composables.specs.TrackState.{next_past_all}
 use Rattle.composables.specs.TrackFacts.{NumbersBelow}
-use Rattle.composables.proofs.tracks.number_past_all.Given as goal
+use Rattle.composables.proofs.numbers.number_past_all.Given as goal
 
 abbrev pub invariant-loop-view : goal.invariant-loop-view
 invariant-loop-view l = record {

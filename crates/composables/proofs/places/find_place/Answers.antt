@@ -1,7 +1,7 @@
 use Rattle.std.proofs.Common.{◌+◌, ◌<◌, arith}
 use Rattle.composables.specs.Joined.{frames_in}
 use Rattle.composables.proofs.Frames.{frames_in-take_more, frames_in-take_le, no_view}
-use Rattle.composables.proofs.tracks.find_place.Goals as goal
+use Rattle.composables.proofs.places.find_place.Goals as goal
 
 pub overflow_add-to : goal.overflow_add-to
 overflow_add-to g c =
