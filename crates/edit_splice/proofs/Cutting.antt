@@ -8,12 +8,11 @@ use Rattle.frame_meaning.specs.declared.cells.Link.{Link}
 use Rattle.frame_meaning.specs.declared.frames.Side.{Side}
 use Rattle.frame_meaning.specs.declared.frames.Side.TheVariants.{Dark, Pic}
 use Rattle.frame_meaning.specs.Cells.{later_side, same_number}
-use Rattle.frame_meaning.specs.Splice.{kept_before, kept_behind}
 use Rattle.composables.specs.declared.items.ItemView.{ItemView}
 use Rattle.composables.specs.Joined.{IsTight}
 use Rattle.composables.specs.TrackFacts.{ShowsAsItem, HasSource, IsNoNest, Holds, EachHolds, first_mark, left_reach, right_reach}
 use Rattle.composables.proofs.Joining.{same-is}
-use Rattle.edit_splice.specs.Parts.{front_view, later_view, after_view, renumbered_view}
+use Rattle.edit_splice.specs.Parts.{kept_before, kept_behind, front_view, later_view, after_view, renumbered_view}
 use Rattle.edit_splice.specs.NewItems.{MeetsFirst, Meet}
 use Rattle.edit_splice.proofs.Ends.{first_kept}
 

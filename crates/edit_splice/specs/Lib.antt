@@ -1,3 +1,4 @@
 pub mod Parts
 pub mod Splicing
 pub mod NewItems
+pub mod Laws

@@ -1,8 +1,8 @@
 -- The items and gaps at the two ends of a range of a track, and what is put in their place.
-use Rattle.std.specs.Prelude.{◌≡◌, ℕ, ◌+◌, ◌-◌, ◌<◌, ◌≤◌, List, [], ◌∷◌, ◌++◌, Option, Some, None, take, length, slice_get, if◌then◌else◌}
+use Rattle.std.specs.Prelude.{◌≡◌, ℕ, ◌+◌, ◌-◌, ◌<◌, ◌≤◌, ◌&&◌, List, [], ◌∷◌, ◌++◌, Option, Some, None, take, length, nat_le, nat_lt, slice_get, if◌then◌else◌}
+use Rattle.frame_meaning.specs.declared.cells.Mark.{Mark}
 use Rattle.frame_meaning.specs.declared.cells.Cell.{Cell}
 use Rattle.frame_meaning.specs.Cells.{same_number, later_side}
-use Rattle.frame_meaning.specs.Splice.{kept_before, kept_behind}
 use Rattle.composables.specs.declared.items.ItemView.{ItemView}
 use Rattle.composables.specs.Items.{items_of}
 use Rattle.composables.specs.Joined.{frames_in}
@@ -53,6 +53,16 @@ abbrev pub split_number : Option Held → Option Held → Option ℕ
 split_number None right = None
 split_number (Some h) None = None
 split_number (Some h) (Some k) = if same_number h.view.item k.view.item then k.view.item else None
+
+-- a dissolve whose cut stands n frames before a range survives where its frames after the cut are no more
+abbrev pub kept_before : ℕ → Option Mark → Option Mark
+kept_before n None = None
+kept_before n (Some m) = if nat_le m.b n then Some m else None
+
+-- one whose cut stands n frames behind a range survives where its frames before the cut are no more, and n is not 0
+abbrev pub kept_behind : ℕ → Option Mark → Option Mark
+kept_behind n None = None
+kept_behind n (Some m) = if nat_lt 0 n && nat_le m.a n then Some m else None
 
 -- the first n frames of an item or gap; its dissolve stays where it ends by then
 abbrev pub front_view : ItemView → ℕ → ItemView

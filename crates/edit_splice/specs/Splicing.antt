@@ -1,6 +1,6 @@
 -- What a splice leaves of a track.
 use Rattle.std.specs.Prelude.{ℕ, List}
-use Rattle.frame_meaning.specs.Splice.{spliced, next_after_splice}
+use Rattle.frame_meaning.specs.Splice.{kept_or_dropped, spliced, next_after_splice}
 use Rattle.composables.specs.declared.items.ItemView.{ItemView}
 use Rattle.composables.specs.Items.{cells_of}
 use Rattle.composables.specs.TrackState.{TrackState, next_past_all}
@@ -11,6 +11,6 @@ abbrev pub spliced_track : TrackState → ℕ → ℕ → List ItemView → Trac
 spliced_track t x y views = after (next_past_all t.next_item views) where
   after : ℕ → TrackState
   after fresh = record t {
-    cells = spliced t.cells x y (cells_of views) fresh;
+    cells = spliced kept_or_dropped t.cells x y (cells_of views) fresh;
     next_item = next_after_splice t.cells x y fresh;
   }

@@ -1,10 +1,9 @@
 // What is put in place of the items and gaps at the ends of a range: what is left of them, and the new items.
 ghost use Rattle.std.specs.Prelude.{◌≡◌, ◌+◌, ◌-◌, ◌<◌, ◌≤◌, ◌++◌, IfOk, IfSome, OnOk, length, vec_len};
 ghost use Rattle.frame_meaning.specs.Cells.{same_number, later_side};
-ghost use Rattle.frame_meaning.specs.Splice.{kept_before, kept_behind};
 ghost use Rattle.composables.specs.TrackFacts.{HasSource, NumbersBelow};
 ghost use Rattle.composables.specs.TrackState.{next_past_all, next_past};
-ghost use Rattle.edit_splice.specs.Parts.{after_views, back_views, begins_by, end_index, first_index, front_views, later_view, parts_between, renumbered_view, reaches_past, split_number};
+ghost use Rattle.edit_splice.specs.Parts.{after_views, back_views, begins_by, end_index, first_index, front_views, kept_before, kept_behind, later_view, parts_between, renumbered_view, reaches_past, split_number};
 
 use crate::seams::{Held, Seams};
 use composables::{ItemView, Memory};
@@ -121,11 +120,11 @@ fn push_front(left: Option<Held>, x: u32, into: &mut Vec<ItemView>) -> Result<()
     }
 }
 
-fn mark_before(room: u32, mark: Option<Mark>) -> Option<Mark>
-    ensures { result ≡ kept_before room mark }
+fn mark_before(frames: u32, mark: Option<Mark>) -> Option<Mark>
+    ensures { result ≡ kept_before frames mark }
 {
     match mark {
-        Some(m) => { if m.b <= room { Some(m) } else { None } }
+        Some(m) => { if m.b <= frames { Some(m) } else { None } }
         None => None,
     }
 }
