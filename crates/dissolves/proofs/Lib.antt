@@ -6,3 +6,4 @@ pub mod Whole
 pub mod Dissolved
 pub mod Numbers
 pub mod Laid
+pub mod AtCuts

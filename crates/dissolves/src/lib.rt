@@ -4,6 +4,7 @@
 //! code goes over items and gaps and never over frames.
 #![tactic(auto)]
 
+mod cuts;
 mod parts;
 mod pieces;
 mod shown;
