@@ -1,6 +1,7 @@
 pub mod ReelNames
 pub mod Bounds
 pub mod Items
+pub mod Views
 pub mod TrackState
 pub mod TrackFacts
 pub mod Joined
@@ -10,3 +11,5 @@ pub mod TrackInside
 pub mod Roomy
 pub mod SpareState
 pub mod SpareInside
+pub mod Ranges
+pub mod Changes

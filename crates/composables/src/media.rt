@@ -1,8 +1,9 @@
 // The table of a room: the kinds of its tracks, its reels, media and nests.
-ghost use Rattle.std.specs.Prelude.{◌≡◌};
+ghost use Rattle.std.specs.Prelude.{◌≡◌, IfOk};
 
-use crate::{Listed, Reels, Track};
+use crate::{Listed, Memory, Reels, Track};
 use frame_meaning::What;
+use std::alloc::Global;
 
 /// What a track carries.
 #[derive(Clone, Copy, Debug, PartialEq, Eq)]
@@ -35,6 +36,33 @@ pub struct Nest {
     pub length: u32,
 }
 
+impl Layer {
+    /// An equal layer.
+    pub fn copy(&self, alloc: Global) -> Result<Layer, Memory>
+        ensures { IfOk result (λ l. l ≡ self.now) }
+    {
+        let track = self.track.copy(alloc)?;
+        Ok(Layer {
+            track,
+            from: self.from,
+            to: self.to,
+        })
+    }
+}
+
+impl Nest {
+    /// An equal nest.
+    pub fn copy(&self, alloc: Global) -> Result<Nest, Memory>
+        ensures { IfOk result (λ n. n ≡ self.now) }
+    {
+        let layers = copy_layers(alloc, self.layers.as_slice())?;
+        Ok(Nest {
+            layers,
+            length: self.length,
+        })
+    }
+}
+
 /// What the numbers in a cut stand for: track t is of kind t, a media entry names a reel by its number, and `@m` and
 /// `#j` are entries m and j of the lists of media and nests.
 #[derive(Drop)]
@@ -63,4 +91,40 @@ impl Table {
             }
         }
     }
+
+    /// An equal table.
+    pub fn copy(&self, alloc: Global) -> Result<Table, Memory>
+        ensures { IfOk result (λ t. t ≡ self.now) }
+    {
+        let kinds = self.kinds.copy(alloc)?;
+        let reels = self.reels.copy(alloc)?;
+        let media = self.media.copy(alloc)?;
+        let nests = copy_nests(alloc, self.nests.as_slice())?;
+        Ok(Table {
+            kinds,
+            reels,
+            media,
+            nests,
+        })
+    }
+}
+
+fn copy_layers(alloc: Global, layers: &[Layer]) -> Result<Listed<Layer>, Memory>
+    ensures { IfOk result (λ all. all ≡ layers.now) }
+{
+    let mut all = Listed::new(alloc);
+    for layer in layers {
+        all.push(layer.copy(alloc)?)?;
+    }
+    Ok(all)
+}
+
+fn copy_nests(alloc: Global, nests: &[Nest]) -> Result<Listed<Nest>, Memory>
+    ensures { IfOk result (λ all. all ≡ nests.now) }
+{
+    let mut all = Listed::new(alloc);
+    for nest in nests {
+        all.push(nest.copy(alloc)?)?;
+    }
+    Ok(all)
 }

@@ -1,13 +1,14 @@
 // A track of items and gaps, which contracts see as its cells.
 ghost use Rattle.std.specs.Prelude.{◌≡◌, ◌+◌, ◌<◌, ◌≤◌, ◌^◌, length, take, drop, slice_get};
 ghost use Rattle.composables.specs.Joined.{frames_in};
+ghost use Rattle.composables.specs.Changes.{side_from};
 
 use crate::cells::cells_in;
 use crate::laying::{lay_around, push_item};
 use crate::numbers::{number_past, number_past_all};
-use crate::places::find_place;
+use crate::places::{find_item, find_place};
 use crate::{ItemView, Memory, Place, Spare};
-use frame_meaning::Cell;
+use frame_meaning::{Cell, Link, Mark, Side, What};
 use std::alloc::Global;
 use std::marker::Model;
 use std::sync::ledger::Ledger;
@@ -37,10 +38,12 @@ impl Model for Track {
 }
 
 impl Track {
-    ghost use Rattle.std.specs.Prelude.{◌≡◌, ◌+◌, ◌<◌, ◌≤◌, ◌↔◌, [], length, slice_get, vec_len, vec_capacity, IfSome, IfOk, IsNone, OnOk, OnErr};
+    ghost use Rattle.std.specs.Prelude.{◌≡◌, ◌+◌, ◌<◌, ◌≤◌, ◌↔◌, [], length, slice_get, vec_len, vec_capacity, option_map, IfSome, IfOk, IsNone, OnOk, OnErr};
     ghost use Rattle.composables.specs.Items.{items_of};
     ghost use Rattle.composables.specs.TrackState.{pushed, replaced};
-    ghost use Rattle.composables.specs.TrackFacts.{IsKept, NumbersBelow};
+    ghost use Rattle.composables.specs.TrackFacts.{IsKept, Lacks, NumbersBelow};
+    ghost use Rattle.composables.specs.Ranges.{range_of, HasNumber};
+    ghost use Rattle.composables.specs.Changes.{changed_track, with_link, with_mark, with_source};
     ghost use Rattle.composables.specs.Places.{IsPlaceOf};
     ghost use Rattle.composables.specs.Joined.{AllFilled};
 
@@ -118,6 +121,19 @@ impl Track {
     {
         steps.tick();
         find_place(&self.items, at, steps)
+    }
+
+    /// Where the item with this number stands, or `None` where the track has no such item.
+    pub fn item_by_id<L: Ledger>(&self, item: u32, steps: &mut Steps<L>) -> Option<Place>
+        ensures found { IfSome result (λ p. IsPlaceOf self.now.cells p) }
+        ensures number { IfSome result (λ p. HasNumber (items_of self.now.cells) p.index item) }
+        ensures range { range_of self.now.cells item ≡ option_map (λ p. (p.from, p.to)) result }
+        ensures none { IsNone result ↔ Lacks item (items_of self.now.cells) }
+        ensures least { steps.old + 1 ≤ steps.new }
+        ensures most { steps.new ≤ steps.old + length (items_of self.now.cells) + 64 }
+    {
+        steps.tick();
+        find_item(&self.items, item, steps)
     }
 
     /// An equal track.
@@ -224,6 +240,42 @@ impl Track {
         self.items = all;
     }
 
+    /// Puts a dissolve at the cut before the item or gap with this index, or takes it away.
+    pub fn set_mark(&mut self, index: u32, mark: Option<Mark>)
+        requires within { index < length (items_of self.old.cells) }
+        requires kept { IsKept (changed_track self.old index (with_mark mark)) }
+        ensures { self.new ≡ changed_track self.old index (with_mark mark) }
+    {
+        self.items[index as usize].mark = mark;
+    }
+
+    /// Gives the item with this index a link, or takes it away.
+    pub fn set_link(&mut self, index: u32, link: Option<Link>)
+        requires within { index < length (items_of self.old.cells) }
+        requires kept { IsKept (changed_track self.old index (with_link link)) }
+        ensures { self.new ≡ changed_track self.old index (with_link link) }
+    {
+        self.items[index as usize].link = link;
+    }
+
+    /// Moves the source frames of the item with this index, so that it shows them from this one on.
+    pub fn set_source(&mut self, index: u32, source: u32)
+        requires within { index < length (items_of self.old.cells) }
+        requires kept { IsKept (changed_track self.old index (with_source source)) }
+        ensures { self.new ≡ changed_track self.old index (with_source source) }
+    {
+        let first = self.items[index as usize].first;
+        self.items[index as usize].first = side_from(first, source);
+    }
+
+    /// Raises the number that the next new link with this home gets.
+    pub fn set_next_link(&mut self, next: u32)
+        requires { self.old.next_link ≤ next }
+        ensures { self.new ≡ record self.old { next_link = next } }
+    {
+        self.next_link = next;
+    }
+
     /// Its cells, one for each frame. It takes memory and time for each frame, and serves tests.
     pub fn cells(&self, alloc: Global) -> Result<Vec<Cell>, Memory>
         ensures { IfOk result (λ all. all.items ≡ self.now.cells) }
@@ -236,6 +288,16 @@ fn view_at(items: &[ItemView], index: u32) -> Option<ItemView>
     ensures { result ≡ slice_get items.now index }
 {
     items.get(index as usize).copied()
+}
+
+// What a side shows whose source frames begin at this one.
+fn side_from(side: Side<What>, source: u32) -> Side<What>
+    ensures { result ≡ side_from side source }
+{
+    match side {
+        Side::Dark => Side::Dark,
+        Side::Pic { what, .. } => Side::Pic { what, source },
+    }
 }
 
 // How many frames there are with these in place of those from index `from` up to before `to`.
