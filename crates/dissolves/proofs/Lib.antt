@@ -7,3 +7,4 @@ pub mod Dissolved
 pub mod Numbers
 pub mod Laid
 pub mod AtCuts
+pub mod Marked

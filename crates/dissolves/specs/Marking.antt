@@ -25,16 +25,22 @@ marked_track t p mark = record t { cells = mark_at_place t.cells p mark }
 abbrev pub mark_asked : Dissolve → Mark
 mark_asked call = record { a = call.a; b = call.b }
 
+-- this on the track, unless there is a refusal
+abbrev pub unless_refused : Option Refusal → TrackState → Result (TrackState × Done) Refusal
+unless_refused (Some why) t = Err why
+unless_refused None t = Ok (t, Plain)
+
 -- the dissolve in place of an earlier one at its cut
 abbrev pub dissolve_on : Table → TrackState → Dissolve → Result (TrackState × Done) Refusal
-dissolve_on table t call = unless_refused (dissolve_refusal table t.cells call.at (mark_asked call)) where
-  unless_refused : Option Refusal → Result (TrackState × Done) Refusal
-  unless_refused None = Ok (marked_track t call.at (Some (mark_asked call)), Plain)
-  unless_refused (Some why) = Err why
+dissolve_on table t call =
+    unless_refused (dissolve_refusal table t.cells call.at (mark_asked call)) (marked_track t call.at (Some (mark_asked call)))
 
--- no dissolve, where one stands
+-- why no dissolve can be taken away from a place, if none stands there
+abbrev pub undissolve_refusal : Option Mark → ℕ → Option Refusal
+undissolve_refusal None p = Some (NotACut p)
+undissolve_refusal (Some m) p = None
+
+-- no dissolve, where one stood
 abbrev pub undissolve_on : TrackState → Undissolve → Result (TrackState × Done) Refusal
-undissolve_on t call = where_marked (cell_at t.cells call.at).mark where
-  where_marked : Option Mark → Result (TrackState × Done) Refusal
-  where_marked None = Err (NotACut call.at)
-  where_marked (Some m) = Ok (marked_track t call.at None, Plain)
+undissolve_on t call =
+    unless_refused (undissolve_refusal (cell_at t.cells call.at).mark call.at) (marked_track t call.at None)

@@ -5,6 +5,7 @@
 #![tactic(auto)]
 
 mod cuts;
+mod marking;
 mod parts;
 mod pieces;
 mod shown;
