@@ -6,6 +6,8 @@ use Rattle.composables.specs.declared.items.ItemView.{ItemView}
 use Rattle.composables.specs.Items.{cells_of, items_of}
 use Rattle.composables.specs.Joined.{IsTight, AllFilled, frames_in}
 use Rattle.composables.specs.Changes.{changed_at}
+use Rattle.composables.specs.declared.tracks.Track.TheInside.{Inside}
+use Rattle.composables.specs.TrackInside.{IsTrack}
 use Rattle.composables.proofs.Joining.{items_of-tight, length-cells_of}
 
 -- a change leaves an item or gap its number and its frames
@@ -45,13 +47,19 @@ pub record Changed (change : ItemView → ItemView) (i total : ℕ) (xs zs : Lis
   pub total_is : total ≡ length (cells_of zs)
   pub cells : cells_of zs ≡ cells_of (changed_at change i (items_of (cells_of xs)))
 
-pub change_keeps : (change : ItemView → ItemView) (xs : List ItemView) (i total : ℕ) (w : ItemView) → LeavesShape change → AllFilled xs → IsTight xs
-    → total ≡ length (cells_of xs) → i < length xs → w ≡ get_or xs i w → Changed change i total xs (set xs i (change w))
-change_keeps change xs i total w k f t counted h e =
-    let is = set-changed change xs i w h e in
+-- an index of the track's items and gaps is one of those kept
+pub index_within : (t : Inside) (i : ℕ) → IsTrack t → i < length (items_of (cells_of t.items.items)) → i < length t.items.items
+index_within t i v h = omega (arith, h, ap length (items_of-tight t.items.items v.filled v.tight))
+
+pub change_keeps : (change : ItemView → ItemView) (t : Inside) (i : ℕ) (w : ItemView) → LeavesShape change → IsTrack t
+    → i < length (items_of (cells_of t.items.items)) → w ≡ get_or t.items.items i w
+    → Changed change i t.total t.items.items (set t.items.items i (change w))
+change_keeps change t i w k v h e =
+    let xs = t.items.items in
+    let is = set-changed change xs i w (index_within t i v h) e in
     record {
-      tight = rw is (tight-changed change k i xs t);
-      filled = rw is (filled-changed change k i xs f);
-      total_is = omega (arith, counted, length-cells_of xs, length-cells_of (set xs i (change w)), ap frames_in is, frames_in-changed change k i xs);
-      cells = ap cells_of (is ∙ sym (ap (changed_at change i) (items_of-tight xs f t)));
+      tight = rw is (tight-changed change k i xs v.tight);
+      filled = rw is (filled-changed change k i xs v.filled);
+      total_is = omega (arith, v.total, length-cells_of xs, length-cells_of (set xs i (change w)), ap frames_in is, frames_in-changed change k i xs);
+      cells = ap cells_of (is ∙ sym (ap (changed_at change i) (items_of-tight xs v.filled v.tight)));
     }

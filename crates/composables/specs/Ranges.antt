@@ -1,6 +1,9 @@
 -- Record frames of items and gaps, and cuts between them.
-use Rattle.std.specs.Prelude.{◌≡◌, ℕ, ◌+◌, ◌-◌, Bool, not, ◌&&◌, List, [], ◌∷◌, Option, Some, None, IfSome, nat_lt, length, slice_get, if◌then◌else◌}
+use Rattle.std.specs.Prelude.{◌≡◌, ℕ, ◌+◌, ◌-◌, Bool, not, ◌&&◌, ℤ, pos, ◌-ℤ◌, List, [], ◌∷◌, Option, Some, None, IfSome, nat_lt, length, slice_get, if◌then◌else◌}
+use Rattle.frame_meaning.specs.declared.cells.What.{What}
 use Rattle.frame_meaning.specs.declared.cells.Cell.{Cell}
+use Rattle.frame_meaning.specs.declared.frames.Side.{Side}
+use Rattle.frame_meaning.specs.declared.frames.Side.TheVariants.{Dark, Pic}
 use Rattle.frame_meaning.specs.Cells.{same_number, belong}
 use Rattle.frame_meaning.specs.Render.{cell_at}
 use Rattle.composables.specs.declared.items.ItemView.{ItemView}
@@ -34,3 +37,8 @@ gap_at cells q = gap_from 0 (items_of cells) q
 -- a cut stands at a place: the cells before it and from it on do not belong together
 abbrev pub is_cut : List Cell → ℕ → Bool
 is_cut cells p = (nat_lt 0 p && nat_lt p (length cells)) && not (belong (cell_at cells (p - 1)) (cell_at cells p))
+
+-- the offset of what begins at a record frame: that frame less the source frame shown there, and none of a gap
+abbrev pub offset_of : Side What → ℕ → Option ℤ
+offset_of Dark x = None
+offset_of (Pic what source) x = Some (pos x -ℤ pos source)

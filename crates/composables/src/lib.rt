@@ -7,6 +7,7 @@
 
 mod calls;
 mod cells;
+mod facts;
 mod items;
 mod laying;
 mod lists;
@@ -22,6 +23,7 @@ pub use calls::{
     Dissolve, End, Extract, Fill, FillLength, Insert, Link3, Numbers, Overwrite, Remove, Ripple,
     Roll, Slice, Slide, Slip, Trim, Undissolve, Unlink,
 };
+pub use facts::holds;
 pub use frame_meaning::Memory;
 pub use items::{ItemView, Place};
 pub use laying::push_item;

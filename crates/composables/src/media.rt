@@ -1,8 +1,9 @@
 // The table of a room: the kinds of its tracks, its reels, media and nests.
-ghost use Rattle.std.specs.Prelude.{◌≡◌, IfOk};
+ghost use Rattle.std.specs.Prelude.{◌≡◌, ◌↔◌, IfOk, IsTrue};
+ghost use Rattle.composables.specs.Good.{LiesIn};
 
 use crate::{Listed, Memory, Reels, Track};
-use frame_meaning::What;
+use frame_meaning::{Side, What};
 use std::alloc::Global;
 
 /// What a track carries.
@@ -75,6 +76,7 @@ pub struct Table {
 
 impl Table {
     ghost use Rattle.composables.specs.Bounds.{bounds_of};
+    ghost use Rattle.composables.specs.Good.{SideLiesIn};
 
     /// The source frames [from, to) that a thing has, or `None` where it is not in the table.
     pub fn bounds(&self, what: What) -> Option<(u32, u32)>
@@ -92,6 +94,16 @@ impl Table {
         }
     }
 
+    /// Whether what an item shows lies in its thing's range, with this many source frames before it and after it.
+    pub fn lies_in(&self, side: Side<What>, len: u32, before: u32, after: u32) -> bool
+        ensures { IsTrue result ↔ SideLiesIn self.now side len before after }
+    {
+        match side {
+            Side::Dark => true,
+            Side::Pic { what, source } => lies_in(self.bounds(what), source, len, before, after),
+        }
+    }
+
     /// An equal table.
     pub fn copy(&self, alloc: Global) -> Result<Table, Memory>
         ensures { IfOk result (λ t. t ≡ self.now) }
@@ -106,6 +118,18 @@ impl Table {
             media,
             nests,
         })
+    }
+}
+
+fn lies_in(bounds: Option<(u32, u32)>, source: u32, len: u32, before: u32, after: u32) -> bool
+    ensures { IsTrue result ↔ LiesIn bounds source len before after }
+{
+    match bounds {
+        Some((from, to)) => {
+            u64::from(from) + u64::from(before) <= u64::from(source)
+                && u64::from(source) + u64::from(len) + u64::from(after) <= u64::from(to)
+        }
+        None => false,
     }
 }
 
