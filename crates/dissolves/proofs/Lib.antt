@@ -8,3 +8,4 @@ pub mod Numbers
 pub mod Laid
 pub mod AtCuts
 pub mod Marked
+pub mod Named

@@ -31,7 +31,8 @@ use Rattle.composables.proofs.Frames.{frames_in-append}
 use Rattle.dissolves.specs.Pieces.{SideReaches}
 use Rattle.dissolves.specs.declared.cuts.Cut.{Cut}
 use Rattle.dissolves.specs.Cuts.{IsCutAt, dissolve_refusal, has_frames, is_nest, lie_in, room_left, room_refusal, room_right}
-use Rattle.dissolves.specs.Marking.{dissolve_on, mark_asked, mark_at_place, marked_track, undissolve_on, undissolve_refusal, unless_refused}
+use Rattle.dissolves.specs.Answers.{unless}
+use Rattle.dissolves.specs.Marking.{dissolve_on, mark_asked, mark_at_place, marked_track, undissolve_on, undissolve_refusal}
 use Rattle.dissolves.proofs.AtCuts.{filled_each, mark_there, refusal_is, sides_of, tight_items, Sides}
 
 -- the cells
@@ -342,10 +343,10 @@ pub record Marks (table : Table) (t : TrackState) (p : ℕ) (c : Cut) (m : Optio
   pub track : IsMarked table t p c m
   pub meant : result ≡ Ok (changed_track t c.index (with_mark m), Plain)
 
-marks : (table : Table) (t : TrackState) (p : ℕ) (c : Cut) (m : Option Mark) (o : Option Refusal) → o ≡ None → IsMarked table t p c m → Marks table t p c m (unless_refused o (marked_track t p m))
+marks : (table : Table) (t : TrackState) (p : ℕ) (c : Cut) (m : Option Mark) (o : Option Refusal) → o ≡ None → IsMarked table t p c m → Marks table t p c m (unless o (Ok (marked_track t p m, Plain)))
 marks table t p c m o is track = record {
   track = track;
-  meant = ap (λ (why : Option Refusal). unless_refused why (marked_track t p m)) is ∙ ap (λ (u : TrackState). Ok (u, Plain)) (sym track.state);
+  meant = ap (λ (why : Option Refusal). unless why (Ok (marked_track t p m, Plain))) is ∙ ap (λ (u : TrackState). Ok (u, Plain)) (sym track.state);
 }
 
 pub dissolve_marks : (table : Table) (t : TrackState) (call : Dissolve) (c : Cut) → eqb (call.a + call.b) 0 ≡ false → IsGood table t → IsCutAt t.cells call.at c
@@ -361,7 +362,7 @@ pub dissolve_refused : (table : Table) (t : TrackState) (call : Dissolve) (c : C
     → room_refusal table c.left c.right c.tail (mark_asked call) ≡ Some why → dissolve_on table t call ≡ Err why
 dissolve_refused table t call c why filled kept cut room =
     let m = mark_asked call in
-    ap (λ (o : Option Refusal). unless_refused o (marked_track t call.at (Some m)))
+    ap (λ (o : Option Refusal). unless o (Ok (marked_track t call.at (Some m), Plain)))
     (refusal_is table t call.at c m kept (sides_of t call.at c kept cut) filled ∙ room)
 
 pub undissolve_marks : (table : Table) (t : TrackState) (call : Undissolve) (c : Cut) → IsGood table t → IsCutAt t.cells call.at c → IsSome c.right.mark
@@ -379,7 +380,7 @@ undissolve_marks table t call c good cut some =
 pub undissolve_refused : (t : TrackState) (call : Undissolve) (c : Cut) → IsKept t → IsCutAt t.cells call.at c → IsNone c.right.mark → undissolve_on t call ≡ Err (NotACut call.at)
 undissolve_refused t call c kept cut none =
     let there = mark_there t call.at c kept (sides_of t call.at c kept cut) in
-    ap (λ (o : Option Mark). unless_refused (undissolve_refusal o call.at) (marked_track t call.at None)) there ∙ refused c.right.mark none where
-      refused : (o : Option Mark) → IsNone o → unless_refused (undissolve_refusal o call.at) (marked_track t call.at None) ≡ Err (NotACut call.at)
+    ap (λ (o : Option Mark). unless {A = TrackState × Done} (undissolve_refusal o call.at) (Ok (marked_track t call.at None, Plain))) there ∙ refused c.right.mark none where
+      refused : (o : Option Mark) → IsNone o → unless {A = TrackState × Done} (undissolve_refusal o call.at) (Ok (marked_track t call.at None, Plain)) ≡ Err (NotACut call.at)
       refused None h = refl
       refused (Some m) h = absurd cc

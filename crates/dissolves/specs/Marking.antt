@@ -1,5 +1,5 @@
 -- A dissolve put at a cut, or taken away: the mark of the cell there is set.
-use Rattle.std.specs.Prelude.{ℕ, zero, suc, List, [], ◌∷◌, Option, Some, None, Result, Ok, Err}
+use Rattle.std.specs.Prelude.{ℕ, zero, suc, List, [], ◌∷◌, Option, Some, None, Result, Ok}
 use Rattle.frame_meaning.specs.declared.cells.Mark.{Mark}
 use Rattle.frame_meaning.specs.declared.cells.Cell.{Cell}
 use Rattle.frame_meaning.specs.Render.{cell_at}
@@ -11,6 +11,8 @@ use Rattle.composables.specs.declared.refusals.Done.TheVariants.{Plain}
 use Rattle.composables.specs.declared.refusals.Refusal.{Refusal}
 use Rattle.composables.specs.declared.refusals.Refusal.TheVariants.{NotACut}
 use Rattle.composables.specs.TrackState.{TrackState}
+use Rattle.dissolves.specs.Answers.{Applied, unless}
+use Rattle.dissolves.specs.OwnTracks.{on_own}
 use Rattle.dissolves.specs.Cuts.{dissolve_refusal}
 
 -- the cells with this mark at a place
@@ -25,15 +27,13 @@ marked_track t p mark = record t { cells = mark_at_place t.cells p mark }
 abbrev pub mark_asked : Dissolve → Mark
 mark_asked call = record { a = call.a; b = call.b }
 
--- this on the track, unless there is a refusal
-abbrev pub unless_refused : Option Refusal → TrackState → Result (TrackState × Done) Refusal
-unless_refused (Some why) t = Err why
-unless_refused None t = Ok (t, Plain)
-
 -- the dissolve in place of an earlier one at its cut
 abbrev pub dissolve_on : Table → TrackState → Dissolve → Result (TrackState × Done) Refusal
 dissolve_on table t call =
-    unless_refused (dissolve_refusal table t.cells call.at (mark_asked call)) (marked_track t call.at (Some (mark_asked call)))
+    unless (dissolve_refusal table t.cells call.at (mark_asked call)) (Ok (marked_track t call.at (Some (mark_asked call)), Plain))
+
+abbrev pub dissolve_named : Table → List TrackState → Dissolve → Applied
+dissolve_named table named call = on_own call.track (λ t. dissolve_on table t call) named
 
 -- why no dissolve can be taken away from a place, if none stands there
 abbrev pub undissolve_refusal : Option Mark → ℕ → Option Refusal
@@ -43,4 +43,7 @@ undissolve_refusal (Some m) p = None
 -- no dissolve, where one stood
 abbrev pub undissolve_on : TrackState → Undissolve → Result (TrackState × Done) Refusal
 undissolve_on t call =
-    unless_refused (undissolve_refusal (cell_at t.cells call.at).mark call.at) (marked_track t call.at None)
+    unless (undissolve_refusal (cell_at t.cells call.at).mark call.at) (Ok (marked_track t call.at None, Plain))
+
+abbrev pub undissolve_named : List TrackState → Undissolve → Applied
+undissolve_named named call = on_own call.track (λ t. undissolve_on t call) named
