@@ -18,8 +18,8 @@ use step_count::Steps;
 
 #[derive(Clone, Copy)]
 enum Call {
-    Put(Dissolve),
-    Take(Undissolve),
+    Put(Mark),
+    Take,
 }
 
 // Media 0 to 2 and a nest, with few source frames more than the clips show.
@@ -49,12 +49,16 @@ fn is_good(alloc: Global, table: &Table, track: &Track) -> Result<bool, Memory>
     ensures { IfOk result (λ b. b ≡ true → IsGood table.now track.now) }
 {
     let views = track.items(alloc)?;
-    Ok(
-        track.length() <= MAX_FRAMES
-            && track.count() <= MAX_ITEMS
-            && all_lie(table, &views)
-            && are_unlinked(&views),
-    )
+    if track.length() > MAX_FRAMES {
+        return Ok(false);
+    }
+    if track.count() > MAX_ITEMS {
+        return Ok(false);
+    }
+    if !all_lie(table, &views) {
+        return Ok(false);
+    }
+    Ok(are_unlinked(&views))
 }
 
 fn all_lie(table: &Table, views: &[ItemView]) -> bool
@@ -86,18 +90,30 @@ fn played<L: Ledger>(
     blank: Blank,
     table: &Table,
     track: Track,
+    at: u32,
     call: Call,
 ) -> Result<(Result<Done, EditFault>, Vec<Cell>), Memory>
     requires blank { (blank.name ≡ L.name) × (blank.parts ≡ L.parts) × (0 < blank.parts) }
     requires good { IsGood table.now track }
-    requires number { track.number ≡ 0 }
 {
     let mut steps = Steps::<L>::new(blank);
+    let number = track.number();
     let mut named = Vec::new(alloc);
     named.push(track)?;
     let answer = match call {
-        Call::Put(call) => dissolve(alloc, table, &mut named, &call, &mut steps),
-        Call::Take(call) => undissolve(alloc, table, &mut named, &call, &mut steps),
+        Call::Put(Mark { a, b }) => {
+            let call = Dissolve {
+                track: number,
+                at,
+                a,
+                b,
+            };
+            dissolve(alloc, table, &mut named, &call, &mut steps)
+        }
+        Call::Take => {
+            let call = Undissolve { track: number, at };
+            undissolve(alloc, table, &mut named, &call, &mut steps)
+        }
     };
     let cells = named[0].cells(alloc)?;
     Ok((answer, cells))
@@ -107,12 +123,12 @@ fn tried(
     alloc: Global,
     table: &Table,
     track: &Track,
+    at: u32,
     call: Call,
 ) -> Result<(Result<Done, EditFault>, Vec<Cell>), Memory>
-    requires good { IsGood table.now track.now }
-    requires number { track.now.number ≡ 0 }
+    requires { IsGood table.now track.now }
 {
-    played::<Brand>(alloc, Blank::new(1), table, track.copy(alloc)?, call)
+    played::<Brand>(alloc, Blank::new(1), table, track.copy(alloc)?, at, call)
 }
 
 // Whether the cells at two places belong to one item, or are both dark.
@@ -166,24 +182,24 @@ fn has_more(table: &Table, cell: Option<&Cell>, before: usize, after: usize) -> 
     }
 }
 
-// What a dissolve is answered, cell by cell.
-fn wanted(table: &Table, cells: &[Cell], at: usize, a: usize, b: usize) -> Option<Refusal> {
+// Why a dissolve is refused, cell by cell.
+fn wanted(table: &Table, cells: &[Cell], place: u32, mark: Mark) -> Option<Refusal> {
+    let at = place as usize;
+    let a = mark.a as usize;
+    let b = mark.b as usize;
     if a == 0 && b == 0 {
         return Some(Refusal::EmptyRange);
     }
     if at == 0 || at >= cells.len() || belong(cells, at - 1, at) {
-        return Some(Refusal::NotACut(at as u32));
+        return Some(Refusal::NotACut(place));
     }
-    let side = at - 1;
-    let left = a <= at
-        && are_free(cells, at, at - a, at, side)
-        && has_more(table, cells.get(side), 0, b);
-    if !left {
+    if a > at
+        || !are_free(cells, at, at - a, at, at - 1)
+        || !has_more(table, cells.get(at - 1), 0, b)
+    {
         return Some(Refusal::DissolveRoom(Which::Left));
     }
-    let right = are_free(cells, at, at, at.saturating_add(b), at)
-        && has_more(table, cells.get(at), a, 0);
-    if !right {
+    if !are_free(cells, at, at, at + b, at) || !has_more(table, cells.get(at), a, 0) {
         return Some(Refusal::DissolveRoom(Which::Right));
     }
     None
@@ -204,57 +220,74 @@ fn with_mark(
     Ok(all)
 }
 
+// Whether a call at a place is refused so, or else leaves this mark there.
 fn is_as_wanted(
     alloc: Global,
-    played: (Result<Done, EditFault>, Vec<Cell>),
-    cells: &[Cell],
+    table: &Table,
+    track: &Track,
     at: u32,
-    mark: Option<Mark>,
+    call: Call,
     refusal: Option<Refusal>,
-) -> Result<bool, Memory> {
-    let (answer, after) = played;
+) -> Result<bool, Memory>
+    requires { IsGood table.now track.now }
+{
+    let cells = track.cells(alloc)?;
+    let (answer, after) = tried(alloc, table, track, at, call)?;
+    let mark = match call {
+        Call::Put(mark) => Some(mark),
+        Call::Take => None,
+    };
     match refusal {
-        Some(why) => Ok(answer == Err(EditFault::Refused(why)) && after.as_slice() == cells),
+        Some(why) => {
+            let refused = answer == Err(EditFault::Refused(why));
+            Ok(refused && after.as_slice() == cells.as_slice())
+        }
         None => {
-            let want = with_mark(alloc, cells, at as usize, mark)?;
+            let want = with_mark(alloc, &cells, at as usize, mark)?;
             Ok(answer == Ok(Done::Plain) && after.as_slice() == want.as_slice())
         }
     }
 }
 
-// The first place where a call is not as wanted, with its dissolve.
-fn mistake(alloc: Global, table: &Table, track: &Track) -> Result<Option<(u32, u32, u32)>, Memory>
-    requires good { IsGood table.now track.now }
-    requires number { track.now.number ≡ 0 }
+// Whether each dissolve of up to three frames on each side of a place is put there as wanted.
+fn are_put(alloc: Global, table: &Table, track: &Track, at: u32) -> Result<bool, Memory>
+    requires { IsGood table.now track.now }
 {
     let cells = track.cells(alloc)?;
-    for at in 0..track.length() + 2 {
-        for code in 0..16 {
-            let (a, b) = (code % 4, code / 4);
-            let put = Call::Put(Dissolve { track: 0, at, a, b });
-            let refusal = wanted(table, &cells, at as usize, a as usize, b as usize);
-            let played = tried(alloc, table, track, put)?;
-            if !is_as_wanted(alloc, played, &cells, at, Some(Mark { a, b }), refusal)? {
-                return Ok(Some((at, a, b)));
-            }
+    for code in 0..16 {
+        let mark = Mark {
+            a: code % 4,
+            b: code / 4,
+        };
+        let refusal = wanted(table, &cells, at, mark);
+        if !is_as_wanted(alloc, table, track, at, Call::Put(mark), refusal)? {
+            return Ok(false);
         }
     }
-    Ok(None)
+    Ok(true)
 }
 
-// The first place where the dissolve is not taken away as wanted.
-fn mistaken_undissolve(alloc: Global, table: &Table, track: &Track) -> Result<Option<u32>, Memory>
-    requires good { IsGood table.now track.now }
-    requires number { track.now.number ≡ 0 }
+// Whether the dissolve at a place is taken away as wanted.
+fn is_taken_away(alloc: Global, table: &Table, track: &Track, at: u32) -> Result<bool, Memory>
+    requires { IsGood table.now track.now }
 {
     let cells = track.cells(alloc)?;
-    for at in 0..track.length() + 2 {
-        let refusal = match cells.get(at as usize) {
-            Some(Cell { mark: Some(_), .. }) => None,
-            _ => Some(Refusal::NotACut(at)),
-        };
-        let played = tried(alloc, table, track, Call::Take(Undissolve { track: 0, at }))?;
-        if !is_as_wanted(alloc, played, &cells, at, None, refusal)? {
+    let refusal = match cells.get(at as usize) {
+        Some(Cell { mark: Some(_), .. }) => None,
+        _ => Some(Refusal::NotACut(at)),
+    };
+    is_as_wanted(alloc, table, track, at, Call::Take, refusal)
+}
+
+// The first place of a track where a call is not as wanted.
+fn mistake(alloc: Global, table: &Table, track: &Track) -> Result<Option<u32>, Memory>
+    requires { IsGood table.now track.now }
+{
+    for at in 0..track.length().saturating_add(2) {
+        if !are_put(alloc, table, track, at)? {
+            return Ok(Some(at));
+        }
+        if !is_taken_away(alloc, table, track, at)? {
             return Ok(Some(at));
         }
     }
@@ -295,9 +328,7 @@ fn is_right(alloc: Global, table: &Table, views: Vec<ItemView>) -> Result<Option
     if !is_good(alloc, table, &track)? {
         return Ok(None);
     }
-    let put = mistake(alloc, table, &track)?;
-    let taken = mistaken_undissolve(alloc, table, &track)?;
-    Ok(Some(put == None && taken == None))
+    Ok(Some(mistake(alloc, table, &track)? == None))
 }
 
 #[test]
@@ -341,20 +372,9 @@ fn a_dissolve_is_put_and_taken_away(rt: HostRuntime) -> Result<(), Fail> {
         (10, 10, 11, Some(Refusal::DissolveRoom(Which::Right))),
     ];
     for (at, a, b, want) in rows {
-        let put = Call::Put(Dissolve { track: 0, at, a, b });
-        let (answer, cells) = tried(rt.alloc(), &table, &track, put)?;
-        let mark = cells.get(10).ok_or("the track has twenty frames")?.mark;
-        match want {
-            None => {
-                assert_eq!(rt; answer, Ok(Done::Plain), "dissolve at {at}, {a} and {b}");
-                assert_eq!(rt; mark, Some(Mark { a, b }), "dissolve at {at}, {a} and {b}");
-            }
-            Some(why) => {
-                let refused = Err(EditFault::Refused(why));
-                assert_eq!(rt; answer, refused, "dissolve at {at}, {a} and {b}");
-                assert_eq!(rt; mark, None, "dissolve at {at}, {a} and {b}");
-            }
-        }
+        let put = Call::Put(Mark { a, b });
+        let right = is_as_wanted(rt.alloc(), &table, &track, at, put, want)?;
+        assert!(rt; right, "dissolve at {at}, {a} and {b}");
     }
     Ok(())
 }
