@@ -1,9 +1,8 @@
 -- A track of which each item and gap was found to be good in a table.
-use Rattle.std.proofs.Common.{◌≡◌, ℕ, ◌+◌, ◌<◌, ◌≤◌, List, [], ◌∷◌, length, drop, get_or, Option, None, sym, ap, ◌∙◌, subst}
+use Rattle.std.proofs.Common.{◌≡◌, ℕ, ◌+◌, ◌<◌, List, [], ◌∷◌, length, drop, get_or, Option, None, sym, ap, ◌∙◌, subst}
 use Rattle.std.specs.List.{slice_get}
 use Rattle.std.proofs.lemmas.List.{drop_more}
 use Rattle.frame_meaning.specs.declared.cells.Mark.{Mark}
-use Rattle.frame_meaning.specs.declared.cells.Link.{Link}
 use Rattle.composables.specs.declared.items.ItemView.{ItemView}
 use Rattle.composables.specs.declared.media.Table.{Table}
 use Rattle.composables.specs.Good.{AllUnlinked, EachLiesIn, EachLinkOf, IsLinkOf, SideLiesIn}

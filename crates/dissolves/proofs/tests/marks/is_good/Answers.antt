@@ -1,5 +1,5 @@
-use Rattle.std.proofs.Common.{◌≡◌, ◌≤◌, ◌∙◌, arith, sym, subst}
-use Rattle.composables.specs.Good.{AllUnlinked, EachLiesIn, EachLinkOf}
+use Rattle.std.proofs.Common.{◌∙◌, arith, subst}
+use Rattle.composables.specs.Good.{AllUnlinked, EachLiesIn}
 use Rattle.dissolves.proofs.Goodness.{links_none}
 use Rattle.dissolves.proofs.tests.marks.is_good.Goals as goal
 
