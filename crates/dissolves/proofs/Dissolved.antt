@@ -1,8 +1,9 @@
 -- What a track shows, item by item and gap by gap.
-use Rattle.std.proofs.Common.{◌≡◌, ℕ, zero, suc, ◌+◌, ◌-◌, ◌<◌, ◌≤◌, Bool, true, false, cond, leb, ltb, List, [], ◌∷◌, ◌++◌, map, drop, get_or, Option, Some, None, refl, sym, ap, ◌∙◌, arith, subst, get_or-drop}
-use Rattle.std.specs.List.{range_with_len}
+use Rattle.std.proofs.Common.{◌≡◌, ℕ, zero, suc, ◌+◌, ◌-◌, ◌<◌, ◌≤◌, Bool, true, false, cond, leb, ltb, List, [], ◌∷◌, ◌++◌, map, length, take, drop, get_or, Option, Some, None, refl, sym, ap, ◌∙◌, arith, subst, get_or-drop}
+use Rattle.std.specs.List.{range_with_len, slice_get}
 use Rattle.std.proofs.lemmas.Bool.{le-leb, lt-leb, lt-ltb, le-ltb, and_from, and_left, and_right}
 use Rattle.std.proofs.lemmas.List.{map-append, drop-drop, drop_at}
+use Rattle.std.proofs.lemmas.List.FromFn.{length-map-range_with_len}
 use Rattle.frame_meaning.specs.declared.cells.What.{What}
 use Rattle.frame_meaning.specs.declared.cells.Mark.{Mark}
 use Rattle.frame_meaning.specs.declared.cells.Link.{Link}
@@ -20,7 +21,8 @@ use Rattle.composables.specs.Joined.{frames_in}
 use Rattle.composables.specs.TrackFacts.{EachHolds, HasSource, first_mark, left_reach, right_reach}
 use Rattle.composables.proofs.Joining.{length-view_cells, length-cells_of}
 use Rattle.dissolves.specs.Pieces.{later_frame, frames_from}
-use Rattle.dissolves.specs.Parts.{earlier_side, first_of, mark_of, head_frames, mix_before, tail_frames, own_frames, item_frames, frames_shown, HoldsBefore}
+use Rattle.dissolves.specs.Parts.{earlier_side, first_of, item_before, mark_of, head_frames, mix_before, tail_frames, own_frames, item_frames, frames_shown, HoldsBefore, EachBetween}
+use Rattle.dissolves.proofs.Whole.{mark-first, each_numbered, between_all, unmarked_reach}
 use Rattle.dissolves.proofs.Behind.{frame-zero, frame-twice, side-zero, side-twice}
 
 -- where a mark is looked for
@@ -234,10 +236,6 @@ tail_shown cs p before v (r ∷ rs) st = by_mark r.mark refl where
       (ap (λ (s : Side What). moved s q (p + v.len)) first ∙ right_to r.first v.len p m.a k r.len (right_reach (first_mark rs)) (omega arith) source)
       num)
 
-mark-first : (vs : List ItemView) → mark_of (first_of vs) ≡ first_mark vs
-mark-first [] = refl
-mark-first (v ∷ vs) = refl
-
 view_shown : (cs : List Cell) (p : ℕ) (before : Option ItemView) (v : ItemView) (vs : List ItemView) → Stands cs p before (v ∷ vs) → map (shown_at cs) (range_with_len p v.len) ≡ item_frames before v (first_of vs)
 view_shown cs p before v vs st =
     let h = right_reach v.mark in
@@ -265,3 +263,64 @@ pub render_shown : (vs : List ItemView) → EachHolds vs → first_mark vs ≡ N
 render_shown vs each first =
     let st : Stands (cells_of vs) 0 None vs = record { passed = λ q h. refl; rest = refl; last = λ l e. cc; held = first; each = each } in
     sym (views_shown (cells_of vs) 0 None vs st) ∙ ap (λ (n : ℕ). map (shown_at (cells_of vs)) (range_with_len 0 n)) (sym (length-cells_of vs))
+
+-- what is shown from an index on
+
+abbrev before_from : Option ItemView → List ItemView → ℕ → Option ItemView
+before_from before vs zero = before
+before_from before [] (suc i) = None
+before_from before (v ∷ vs) (suc i) = before_from (Some v) vs i
+
+stands_from : (cs : List Cell) (p : ℕ) (before : Option ItemView) (vs : List ItemView) (i : ℕ) → i ≤ length vs → Stands cs p before vs
+    → Stands cs (p + frames_in (take i vs)) (before_from before vs i) (drop i vs)
+stands_from cs p before vs zero h st = let e : p ≡ p + 0 = omega arith in subst (λ (k : ℕ). Stands cs k before vs) e st
+stands_from cs p before [] (suc i) h st = absurd (omega arith)
+stands_from cs p before (v ∷ vs) (suc i) h st =
+    let e : p + v.len + frames_in (take i vs) ≡ p + (v.len + frames_in (take i vs)) = omega arith in
+    subst (λ (k : ℕ). Stands cs k (before_from (Some v) vs i) (drop i vs)) e
+    (stands_from cs (p + v.len) (Some v) vs i (omega arith) (stands_next cs p before v vs st))
+
+before_is : (vs : List ItemView) (i : ℕ) → before_from None vs i ≡ item_before vs i
+before_is vs zero = refl
+before_is vs (suc i) = behind None vs i where
+  behind : (o : Option ItemView) (ws : List ItemView) (j : ℕ) → before_from o ws (suc j) ≡ slice_get ws j
+  behind o [] zero = refl
+  behind o [] (suc j) = refl
+  behind o (w ∷ ws) zero = refl
+  behind o (w ∷ ws) (suc j) = behind (Some w) ws j
+
+each_from : (before : Option ItemView) (vs : List ItemView) (i : ℕ) → EachBetween before vs → EachBetween (before_from before vs i) (drop i vs)
+each_from before vs zero h = h
+each_from before [] (suc i) h = tt
+each_from before (v ∷ vs) (suc i) h = each_from (Some v) vs i h.1
+
+-- what stands from an index on
+pub record Begins (vs : List ItemView) (i : ℕ) : Type 0 where
+  pub each : EachBetween (item_before vs i) (drop i vs)
+  pub shown : frames_shown (item_before vs i) (drop i vs) ≡ drop (frames_in (take i vs)) (render (cells_of vs))
+  pub frames : frames_in (take i vs) + frames_in (drop i vs) ≡ length (cells_of vs)
+
+frames_split : (vs : List ItemView) (i : ℕ) → frames_in (take i vs) + frames_in (drop i vs) ≡ frames_in vs
+frames_split vs zero = omega arith
+frames_split [] (suc i) = refl
+frames_split (v ∷ vs) (suc i) = omega (arith, frames_split vs i)
+
+pub begins_at : (vs : List ItemView) (i : ℕ) → i ≤ length vs → EachHolds vs → first_mark vs ≡ None → frames_in vs < 4294967295 → Begins vs i
+begins_at vs i h each first short =
+    let cs = cells_of vs in
+    let m = frames_in (take i vs) in
+    let n = frames_in (drop i vs) in
+    let st : Stands cs 0 None vs = record { passed = λ q h. refl; rest = refl; last = λ l e. cc; held = first; each = each } in
+    let here = subst (λ (o : Option ItemView). Stands cs (0 + m) o (drop i vs)) (before_is vs i) (stands_from cs 0 None vs i h st) in
+    let numbered = each_numbered 0 vs each (omega (arith, unmarked_reach (first_mark vs) first)) (omega arith) in
+    let between = each_from None vs i (between_all None vs first each numbered) in
+    let all : length cs ≡ m + n = length-cells_of vs ∙ sym (frames_split vs i) in
+    record {
+      each = subst (λ (o : Option ItemView). EachBetween o (drop i vs)) (before_is vs i) between;
+      shown =
+          sym (views_shown cs (0 + m) (item_before vs i) (drop i vs) here)
+          ∙ sym (ap (λ (k : ℕ). drop m (map (shown_at cs) (range_with_len 0 k))) all
+          ∙ (ap (drop m) (map_split (shown_at cs) 0 m n)
+          ∙ drop_at (map (shown_at cs) (range_with_len 0 m)) (map (shown_at cs) (range_with_len (0 + m) n)) m (length-map-range_with_len (shown_at cs) 0 m)));
+      frames = sym all;
+    }

@@ -6,3 +6,7 @@ pub mod Whole
 pub mod Dissolved
 pub mod Numbers
 pub mod Laid
+pub mod AtCuts
+pub mod Marked
+pub mod Goodness
+pub mod Named

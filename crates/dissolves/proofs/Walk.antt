@@ -1,6 +1,6 @@
 -- A walk over the frames of a track from the front, which makes the runs of those in [a, b).
 use Rattle.std.proofs.Common.{◌≡◌, ℕ, zero, suc, ◌+◌, ◌-◌, ◌≤◌, Bool, true, false, cond, List, [], ◌∷◌, ◌++◌, length, take, drop, refl, sym, ap, ◌∙◌, arith, subst, append_assoc, length-drop, length-take}
-use Rattle.std.proofs.lemmas.List.{append-nil, length-append}
+use Rattle.std.proofs.lemmas.List.{append-nil, drop-drop, length-append}
 use Rattle.frame_meaning.specs.declared.cells.What.{What}
 use Rattle.frame_meaning.specs.declared.frames.Frame.{Frame}
 use Rattle.frame_meaning.specs.declared.frames.Run.{Run}
@@ -11,14 +11,18 @@ use Rattle.dissolves.specs.Walk.{Walked}
 use Rattle.dissolves.proofs.Behind.{len_of-runs, length-frames_from}
 use Rattle.dissolves.proofs.Cutting.{cut-append}
 
-pub walk_begun : (shown : List (Run What)) (a b : ℕ) (rest all : List (Frame What)) → shown ≡ [] → rest ≡ all → Walked shown 0 a b rest all
-walk_begun shown a b rest all none same =
-    let x : a - 0 ≡ a = omega arith in
-    let y : b - 0 ≡ b = omega arith in
+pub walk_begun : (shown : List (Run What)) (from a b : ℕ) (rest all : List (Frame What)) → from ≤ a → a ≤ b → shown ≡ [] → rest ≡ drop from all
+    → Walked shown from a b rest all
+walk_begun shown from a b rest all within order none is =
+    let x : from + (a - from) ≡ a = omega arith in
+    let y : b - from - (a - from) ≡ b - a = omega arith in
     record {
       passed = [];
       are = none;
-      left = ap (λ (k : ℕ). cut k (b - 0) rest) x ∙ (ap (λ (k : ℕ). cut a k rest) y ∙ ap (cut a b) same);
+      left =
+          ap (cut (a - from) (b - from)) is
+          ∙ (ap (take (b - from - (a - from))) (drop-drop (a - from) from all ∙ ap (λ (k : ℕ). drop k all) x)
+          ∙ ap (λ (k : ℕ). take k (drop a all)) y);
       short = omega arith;
     }
 

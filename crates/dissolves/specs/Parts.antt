@@ -1,6 +1,6 @@
 -- What is shown of an item or gap: the rest of the dissolve at its head, its own frames, and the front of the
 -- dissolve at its tail.
-use Rattle.std.specs.Prelude.{◌≡◌, ℕ, ◌+◌, ◌-◌, ◌<◌, ◌≤◌, ◌^◌, List, [], ◌∷◌, ◌++◌, Option, Some, None}
+use Rattle.std.specs.Prelude.{◌≡◌, ℕ, zero, suc, ◌+◌, ◌-◌, ◌<◌, ◌≤◌, ◌^◌, List, [], ◌∷◌, ◌++◌, Option, Some, None, slice_get}
 use Rattle.frame_meaning.specs.declared.cells.What.{What}
 use Rattle.frame_meaning.specs.declared.cells.Mark.{Mark}
 use Rattle.frame_meaning.specs.declared.frames.Side.{Side}
@@ -21,6 +21,11 @@ earlier_side (side.Pic what source) n = side.Pic what (source - n)
 abbrev pub first_of : List ItemView → Option ItemView
 first_of [] = None
 first_of (v ∷ vs) = Some v
+
+-- the item or gap before the one with an index
+abbrev pub item_before : List ItemView → ℕ → Option ItemView
+item_before vs zero = None
+item_before vs (suc i) = slice_get vs i
 
 abbrev pub mark_of : Option ItemView → Option Mark
 mark_of None = None
@@ -76,6 +81,14 @@ abbrev pub MarkIsNumbered : Option Mark → Type 0
 MarkIsNumbered None = Unit {0}
 MarkIsNumbered (Some m) = m.a + m.b + 1 < 2 ^ 32
 
-abbrev pub EachMarkIsNumbered : List ItemView → Type 0
-EachMarkIsNumbered [] = Unit {0}
-EachMarkIsNumbered (v ∷ vs) = MarkIsNumbered v.mark × EachMarkIsNumbered vs
+-- an item or gap with those before and after it, as they stand on a track
+pub record Between (before : Option ItemView) (v : ItemView) (after : Option ItemView) : Type 0 where
+  pub held : HoldsBefore before v.mark
+  pub holds : Holds v (mark_of after)
+  pub front : HasFront after
+  pub head : MarkIsNumbered v.mark
+  pub tail : MarkIsNumbered (mark_of after)
+
+abbrev pub EachBetween : Option ItemView → List ItemView → Type 0
+EachBetween before [] = Unit {0}
+EachBetween before (v ∷ vs) = Between before v (first_of vs) × EachBetween (Some v) vs

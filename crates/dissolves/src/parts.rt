@@ -5,7 +5,7 @@ ghost use Rattle.frame_meaning.specs.declared.frames.Frame.{Frame};
 ghost use Rattle.frame_meaning.specs.Render.{frame_of};
 ghost use Rattle.composables.specs.TrackFacts.{Holds, left_reach, right_reach};
 ghost use Rattle.dissolves.specs.Pieces.{Reaches, SideReaches, len_of, run_frames};
-ghost use Rattle.dissolves.specs.Parts.{HasFront, HoldsBefore, MarkIsNumbered, SideHasFront, earlier_side, head_frames, item_frames, mark_of, own_frames, tail_frames};
+ghost use Rattle.dissolves.specs.Parts.{Between, HasFront, HoldsBefore, MarkIsNumbered, SideHasFront, earlier_side, head_frames, item_frames, mark_of, own_frames, tail_frames};
 ghost use Rattle.dissolves.specs.Walk.{Walked};
 
 use crate::pieces::{add_part, side_later};
@@ -30,11 +30,7 @@ pub fn add_item(
     b: u32,
 ) -> Result<(), Memory>
     requires order { a ≤ b }
-    requires holds_before { HoldsBefore before view.mark }
-    requires holds { Holds view (mark_of after) }
-    requires front { HasFront after }
-    requires mark { MarkIsNumbered view.mark }
-    requires mark_after { MarkIsNumbered (mark_of after) }
+    requires between { Between before view after }
     requires places { from + view.len < 2 ^ 32 }
     requires room { len_of all.old.items ≤ from }
     ensures walked { OnOk result ((rest frames : List (Frame What)) → Walked all.old.items from a b (item_frames before view after ++ rest) frames → Walked all.new.items (from + view.len) a b rest frames) }

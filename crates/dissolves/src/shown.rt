@@ -1,17 +1,24 @@
 // The runs of frames that a track shows.
-ghost use Rattle.std.specs.Prelude.{◌≡◌, ◌-◌, ◌<◌, ◌≤◌, IfOk, length, take, drop};
+ghost use Rattle.std.specs.Prelude.{◌≡◌, ◌-◌, ◌<◌, ◌≤◌, IfOk, IfSome, IsNone, length, take, drop};
 ghost use Rattle.frame_meaning.specs.Going.{same_what};
 ghost use Rattle.frame_meaning.specs.Render.{render};
 ghost use Rattle.frame_meaning.specs.Runs.{runs};
+ghost use Rattle.composables.specs.Items.{items_of};
+ghost use Rattle.composables.specs.Places.{IsPlaceOf};
+ghost use Rattle.dissolves.specs.Parts.{item_before};
 
 use crate::parts::add_item;
-use composables::Track;
+use composables::{ItemView, Place, Track};
 use frame_meaning::{Memory, Run, What};
 use std::alloc::Global;
+use std::marker::Brand;
+use std::sync::ledger::{Blank, Ledger};
+use step_count::Steps;
 
-/// The maximal runs of the frames shown at the places [a, b), in order, where each place is a record frame. It takes
-/// a few steps for each item and gap of the track, and none for a frame. A track of 4,294,967,295 frames has no
-/// answer, since a dissolve over all of them would have a `den` of 2^32.
+/// The maximal runs of the frames shown at the places [a, b), in order, where each place is a record frame. It finds
+/// the item or gap at `a`, and takes a few steps from there on for each item and gap of the range, and none for a
+/// frame. A track of 4,294,967,295 frames has no answer, since a dissolve over all of them would have a `den` of
+/// 2^32.
 pub fn runs_in(alloc: Global, track: &Track, a: u32, b: u32) -> Result<Vec<Run<What>>, Memory>
     requires order { a ≤ b }
     requires within { b ≤ length track.now.cells }
@@ -21,18 +28,43 @@ pub fn runs_in(alloc: Global, track: &Track, a: u32, b: u32) -> Result<Vec<Run<W
     let length = track.length();
     prove!(b <= length);
     let mut shown = Vec::new(alloc);
-    let mut before = None;
-    let mut from = 0;
-    let mut index = 0;
-    while let Some(view) = track.item(index) {
+    let Some(place) = place_at::<Brand>(Blank::new(1), track, a) else {
+        return Ok(shown);
+    };
+    let mut from = place.from;
+    let mut index = place.index;
+    let mut before = view_before(track, index);
+    let mut here = track.item(index);
+    while let Some(view) = here {
         if from >= b {
             return Ok(shown);
         }
         let after = track.item(index + 1);
         add_item(&mut shown, before, view, after, from, a, b)?;
         from += view.len;
-        before = Some(view);
         index += 1;
+        before = here;
+        here = after;
     }
     Ok(shown)
+}
+
+// Where the item or gap that holds a place stands.
+fn place_at<L: Ledger>(blank: Blank, track: &Track, at: u32) -> Option<Place>
+    requires blank { (blank.name ≡ L.name) × (blank.parts ≡ L.parts) × (0 < blank.parts) }
+    ensures found { IfSome result (λ p. IsPlaceOf track.now.cells p) }
+    ensures begins { IfSome result (λ p. p.from ≤ at) }
+    ensures none { IsNone result → length track.now.cells ≤ at }
+{
+    let mut steps = Steps::<L>::new(blank);
+    track.item_at(at, &mut steps)
+}
+
+pub fn view_before(track: &Track, index: u32) -> Option<ItemView>
+    ensures { result ≡ item_before (items_of track.now.cells) index }
+{
+    if index == 0 {
+        return None;
+    }
+    track.item(index - 1)
 }

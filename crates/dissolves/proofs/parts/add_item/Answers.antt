@@ -13,7 +13,7 @@ returns c = record {
       let tail = c.tail_of-tail.result in
       let own_len : own.len ≡ v.len - head.len - tail.len = c.own_of-own.ensures.len in
       let place : c.args.from + head.len + own.len + tail.len ≡ c.args.from + v.len =
-      omega (arith, own_len, c.head_of-head.ensures.len, c.tail_of-tail.ensures.len, c.requires.holds.room) in
+      omega (arith, own_len, c.head_of-head.ensures.len, c.tail_of-tail.ensures.len, c.requires.between.holds.room) in
       walk_three c.args.all.now.items c.add_part.new.all.items c.add_part-2.new.all.items c.add_part-3.new.all.items
       c.args.from (c.args.from + v.len) c.args.a c.args.b head own tail
       (head_frames c.args.before v) (own_frames v (right_reach v.mark) (left_reach (mark_of c.args.after))) (tail_frames v c.args.after) rest frames

@@ -1,0 +1,26 @@
+use Rattle.std.proofs.Common.{Ok, refl, sym, ap, ◌∙◌, subst}
+use Rattle.composables.specs.declared.refusals.Done.TheVariants.{Plain}
+use Rattle.composables.specs.Good.{IsGood, AllUnlinked}
+use Rattle.composables.specs.Items.{items_of}
+use Rattle.composables.specs.TrackState.{TrackState}
+use Rattle.dissolves.proofs.Marked.{dissolve_marks, dissolve_refused}
+use Rattle.dissolves.proofs.marking.dissolve_track.Goals as goal
+
+pub returns-in-Some-room_refusal-clause-answers : goal.returns-in-Some-room_refusal-clause-answers
+returns-in-Some-room_refusal-clause-answers g c = (
+  dissolve_refused c.args.table.now c.args.track.now c.args.call.now c.in-Some.cut c.in-Some-room_refusal.refusal (sym c.is_empty.ensures ∙ c.if-is_empty.false) c.requires.good.kept c.in-Some.ensures.cut
+      (sym c.room_refusal.ensures.refusal ∙ c.in-Some-room_refusal.is),
+  refl,
+)
+
+pub set_mark-requires-clause-kept : goal.set_mark-requires-clause-kept
+set_mark-requires-clause-kept g c = (dissolve_marks c.args.table.now c.args.track.now c.args.call.now c.in-Some.cut (sym c.is_empty.ensures ∙ c.if-is_empty.false) c.requires.good c.in-Some.ensures.cut (sym c.room_refusal.ensures.refusal ∙ c.in-None.is) (c.in-None.ensures.source refl)).track.good.kept
+
+pub returns-clause-answers : goal.returns-clause-answers
+returns-clause-answers g c = (dissolve_marks c.args.table.now c.args.track.now c.args.call.now c.in-Some.cut (sym c.is_empty.ensures ∙ c.if-is_empty.false) c.requires.good c.in-Some.ensures.cut (sym c.room_refusal.ensures.refusal ∙ c.in-None.is) (c.in-None.ensures.source refl)).meant ∙ ap (λ (u : TrackState). Ok (u, Plain)) (sym c.set_mark.ensures)
+
+pub returns-clause-good : goal.returns-clause-good
+returns-clause-good g c = subst (IsGood c.args.table.now) (sym c.set_mark.ensures) (dissolve_marks c.args.table.now c.args.track.now c.args.call.now c.in-Some.cut (sym c.is_empty.ensures ∙ c.if-is_empty.false) c.requires.good c.in-Some.ensures.cut (sym c.room_refusal.ensures.refusal ∙ c.in-None.is) (c.in-None.ensures.source refl)).track.good
+
+pub returns-clause-unlinked : goal.returns-clause-unlinked
+returns-clause-unlinked g c h = subst (λ (u : TrackState). AllUnlinked (items_of u.cells)) (sym c.set_mark.ensures) ((dissolve_marks c.args.table.now c.args.track.now c.args.call.now c.in-Some.cut (sym c.is_empty.ensures ∙ c.if-is_empty.false) c.requires.good c.in-Some.ensures.cut (sym c.room_refusal.ensures.refusal ∙ c.in-None.is) (c.in-None.ensures.source refl)).track.unlinked h)
