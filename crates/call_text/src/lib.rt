@@ -5,6 +5,7 @@
 //! defined case by case, in `specs/`.
 #![tactic(auto)]
 
+mod answers;
 mod bytes;
 mod calls;
 mod commands;
@@ -20,6 +21,7 @@ mod replies;
 mod short_text;
 mod sights;
 
+pub use answers::{Answer, Sight};
 pub use calls::call_text;
 pub use commands::Command;
 pub use composables::Memory;
@@ -29,9 +31,9 @@ pub use laws::{labels_name_places, lines_are_those_of_the_table, written_calls_a
 pub use lines::{Line, LineFault};
 pub use parts::LAST_TRACK;
 pub use reading::read_line;
-pub use replies::{fault_text, reply_text};
-pub use short_text::{MAX_SHORT, Short};
-pub use sights::seen_text;
+pub use replies::{answer_text, fault_text, point_text};
+pub use short_text::{MAX_SHORT, MAX_SHORT_LINE, Short};
+pub use sights::sight_text;
 
 #[cfg(test)]
 mod tests;
