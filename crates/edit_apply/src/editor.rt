@@ -1,5 +1,5 @@
 // Every call on the tracks that it names, and every question to a track.
-ghost use Rattle.std.specs.Prelude.{◌≡◌, ◌+◌, ◌*◌, ◌<◌, ◌≤◌, ◌^◌, ◌∷◌, [], All, length, nat_eq, nat_lt, sum_by};
+ghost use Rattle.std.specs.Prelude.{◌≡◌, ◌+◌, ◌*◌, ◌<◌, ◌≤◌, ◌^◌, ◌&&◌, not, All, length, nat_eq, nat_lt, sum_by};
 ghost use Rattle.composables.specs.Good.{IsGood, AllUnmarked};
 ghost use Rattle.composables.specs.Items.{items_of};
 ghost use Rattle.edit_insert.specs.Answers.{Answers, NextRises};
@@ -161,7 +161,7 @@ fn wrong_track(count: usize, named: NamedTracks) -> Option<u32>
         NamedTracks::One(track) => if is_below(track, count) { None } else { Some(track) },
         NamedTracks::Many { tracks, own } => match first_absent(count, tracks) {
             Some(track) => Some(track),
-            None => if has_track(tracks, own) { None } else { Some(own) },
+            None => if is_among(tracks, own) { None } else { Some(own) },
         },
     }
 }
@@ -171,15 +171,29 @@ fn first_absent(count: usize, tracks: u32) -> Option<u32>
     ensures { result ≡ first_absent count (tracks_in tracks) }
 {
     for track in 0..32 {
-        if has_track(tracks, track) && !is_below(track, count) {
+        if is_absent(count, tracks, track) {
             return Some(track);
         }
     }
     None
 }
 
-fn has_track(tracks: u32, track: u32) -> bool
+fn is_absent(count: usize, tracks: u32, track: u32) -> bool
+    requires { track < 32 }
+    ensures { result ≡ (has_track tracks track && not (nat_lt track count)) }
+{
+    has_track(tracks, track) && !is_below(track, count)
+}
+
+fn is_among(tracks: u32, track: u32) -> bool
     ensures { result ≡ list_any (nat_eq track) (tracks_in tracks) }
 {
-    track < 32 && (tracks >> track) & 1 == 1
+    track < 32 && has_track(tracks, track)
+}
+
+fn has_track(tracks: u32, track: u32) -> bool
+    requires { track < 32 }
+    ensures { result ≡ has_track tracks track }
+{
+    (tracks >> track) & 1 == 1
 }

@@ -1,9 +1,9 @@
 -- Sets of tracks: bit t of a number names track t.
-use Rattle.std.specs.Prelude.{ℕ, zero, suc, Bool, List, [], ◌∷◌, nat_eq, if◌then◌else◌}
-use Rattle.std.specs.Int.{bit_at}
+use Rattle.std.specs.Prelude.{ℕ, zero, suc, ◌/◌, ◌^◌, Bool, List, [], ◌∷◌, nat_eq, if◌then◌else◌}
+use Rattle.std.specs.Int.Bits.{bit_and}
 
 abbrev pub has_track : ℕ → ℕ → Bool
-has_track set t = nat_eq (bit_at set t) 1
+has_track set t = nat_eq (bit_and (set / 2 ^ t) 1) 1
 
 -- those of a set among n tracks from t on
 abbrev pub tracks_from : ℕ → ℕ → ℕ → List ℕ
