@@ -9,7 +9,6 @@ mod answers;
 mod bytes;
 mod calls;
 mod commands;
-mod counted;
 mod entries;
 mod journal;
 mod labels;
@@ -20,6 +19,7 @@ mod reading;
 mod replies;
 mod short_text;
 mod sights;
+mod words;
 
 pub use answers::{Answer, Sight};
 pub use calls::call_text;
@@ -27,7 +27,10 @@ pub use commands::Command;
 pub use composables::Memory;
 pub use entries::Entry;
 pub use journal::journal_text;
-pub use laws::{labels_name_places, lines_are_those_of_the_table, written_calls_are_read};
+pub use laws::{
+    faults_are_those_of_the_table, labels_name_places, lines_are_those_of_the_table,
+    lines_have_one_meaning, written_calls_are_read,
+};
 pub use lines::{Line, LineFault};
 pub use parts::LAST_TRACK;
 pub use reading::read_line;
