@@ -1,7 +1,8 @@
 pub mod CallTexts
-pub mod Gives
+pub mod Faults
 pub mod Journals
 pub mod Labels
+pub mod Meanings
 pub mod Reading
 pub mod Replies
 pub mod Sights

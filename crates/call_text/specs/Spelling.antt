@@ -1,6 +1,8 @@
--- How the parts of a line are spelled, each as what its word says, or why the word is wrong: B3 where it is not spelled
--- so, B4 where its number is past its bound. This project's own protocol.
-use Rattle.std.specs.Prelude.{ℕ, List, [], ◌∷◌, Option, Some, None, Result, Ok, Err, nat_le, ◌==◌, if◌then◌else◌}
+-- How the parts of a line are spelled, each as what its word says, or why the word is wrong: B3 where
+-- it is not spelled so, B4 where a number is past its bound, B6 where a list of tracks does not rise.
+-- This project's own protocol.
+use Rattle.std.specs.Prelude.{ℕ, ◌+◌, ◌^◌, Bool, List, [], ◌∷◌, Option, Some, None, Result, Ok, Err, nat_le, ◌==◌, if◌then◌else◌}
+use Rattle.std.specs.List.{slice_split}
 use Rattle.line_words.specs.Digits.{number_of}
 use Rattle.line_words.specs.declared.numbers.NumberFault.{NumberFault}
 use Rattle.line_words.specs.declared.numbers.NumberFault.TheVariants.{NotANumber, TooLarge}
@@ -8,7 +10,11 @@ use Rattle.frame_meaning.specs.declared.cells.What.{What}
 use Rattle.frame_meaning.specs.declared.cells.What.TheVariants.{Media, Nest}
 use Rattle.call_text.specs.declared.parts.TheConstants.{LAST_TRACK}
 use Rattle.call_text.specs.declared.lines.LineFault.{LineFault}
-use Rattle.call_text.specs.declared.lines.LineFault.TheVariants.{B3, B4}
+use Rattle.call_text.specs.declared.lines.LineFault.TheVariants.{B3, B4, B6}
+
+-- which place a word names as a label, if it names one
+abbrev pub Naming : Type 0
+Naming = List ℕ → Option ℕ
 
 -- go on with what was read, or end at the first fault
 infixl 10 ◌>>=◌
@@ -34,6 +40,27 @@ track_of word = do
   track ← numeral_of word
   if nat_le track LAST_TRACK then Ok track else Err B4
 
+-- tracks parted by commas (44)
+abbrev pub is_comma : ℕ → Bool
+is_comma byte = byte == 44
+
+-- what stands between the commas of a list, if there is one
+abbrev pub listed_in : Option (List ℕ) → List (List ℕ)
+listed_in None = []
+listed_in (Some list) = slice_split is_comma list
+
+-- the set with the tracks of these words, bit t for track t: from the left, each is a track, and is
+-- above the one before, that is at least `least`
+abbrev pub set_with : ℕ → ℕ → List (List ℕ) → Result ℕ LineFault
+set_with least set [] = Ok set
+set_with least set (word ∷ words) = do
+  track ← track_of word
+  if nat_le least track then set_with (track + 1) (set + 2 ^ track) words else Err B6
+
+-- a set of tracks: tracks parted by commas, strictly ascending
+abbrev pub tracks_of : List ℕ → Result ℕ LineFault
+tracks_of word = set_with 0 0 (slice_split is_comma word)
+
 -- the place of a label, where it names one
 abbrev pub place_or_fault : Option ℕ → Result ℕ LineFault
 place_or_fault None = Err B3
@@ -45,7 +72,7 @@ number_or_label (Err TooLarge) label = Err B4
 number_or_label (Err NotANumber) label = place_or_fault label
 
 -- a place: a number, or a label, of which place_at says which place it names
-abbrev pub place_of : (List ℕ → Option ℕ) → List ℕ → Result ℕ LineFault
+abbrev pub place_of : Naming → List ℕ → Result ℕ LineFault
 place_of place_at word = number_or_label (number_of word) (place_at word)
 
 -- a thing: `@` (64) and the number of a media entry, or `#` (35) and the number of a nest
