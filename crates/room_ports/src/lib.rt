@@ -7,6 +7,7 @@
 mod calls;
 mod failed;
 pub mod laws;
+mod line;
 mod pieces;
 mod ports;
 mod sink;
@@ -16,7 +17,8 @@ mod standard;
 mod tests;
 
 pub use failed::{Failed, Memory};
-pub use ports::{Sink, Source, put};
+pub use line::{MemLine, Pair};
+pub use ports::{Line, Sink, Source, put};
 pub use sink::{MemSink, SureSink};
 pub use source::{MemSource, SureSource};
 pub use standard::{StdSink, StdSource};
