@@ -33,19 +33,19 @@ Attempts table tracks most c attempt.Memory = Unit {0}
 
 -- what an edit does to a session
 pub record Edited (old new : SessionState) (c : Call) (d : Done) : Type 0 where
-  pub applies : applied old.setting.table old.tracks c ≡ Ok (new.tracks, d)
-  pub journal : new.journal ≡ old.journal ++ record { station = 0; number = old.line; call = c } ∷ []
-  pub room : length old.journal < most_entries
   pub setting : new.setting ≡ old.setting
-  pub line : new.line ≡ old.line
+  pub applies : applied old.setting.table old.course.state c ≡ Ok (new.course.state, d)
+  pub journal : new.course.journal ≡ old.course.journal ++ record { station = 0; number = old.course.line; call = c } ∷ []
+  pub room : length old.course.journal < most_entries
+  pub line : new.course.line ≡ old.course.line
 
 pub record HasNoRoomFor (old new : SessionState) (c : Call) : Type 0 where
-  pub applies : (d : Done) × (answer_in (applied old.setting.table old.tracks c) ≡ Ok d)
-  pub full : length old.journal ≡ most_entries
+  pub applies : (d : Done) × (answer_in (applied old.setting.table old.course.state c) ≡ Ok d)
+  pub full : length old.course.journal ≡ most_entries
   pub same : new ≡ old
 
 abbrev pub Edits : SessionState → SessionState → Call → Answer → Type 0
 Edits old new c (answer.Done d) = Edited old new c d
-Edits old new c (answer.Refused r) = (applied old.setting.table old.tracks c ≡ Err r) × (new ≡ old)
+Edits old new c (answer.Refused r) = (applied old.setting.table old.course.state c ≡ Err r) × (new ≡ old)
 Edits old new c answer.Full = HasNoRoomFor old new c
 Edits old new c answer.Memory = new ≡ old

@@ -70,7 +70,8 @@ fn put_short<K: Sink>(output: &mut K, text: &[u8]) -> Result<(), Failed>
     ensures ok { OnOk result (Takes (K.taken output.old) (K.taken output.new) (text.now ++ codes "\n")) }
     ensures err { OnErr result (TakesFront (K.taken output.old) (K.taken output.new) (text.now ++ codes "\n")) }
     ensures cause { OnErr result (HasRisen (K.write_faults output.old) (K.write_faults output.new)) }
-    ensures count { K.write_faults output.old ≤ K.write_faults output.new }
+    ensures quiet { OnOk result (K.write_faults output.new ≡ K.write_faults output.old) }
+    ensures apart { K.as_source output.new ≡ K.as_source output.old }
 {
     let line = with_line_feed(text);
     put(output, line.as_bytes())
@@ -94,7 +95,8 @@ impl Reply {
         ensures ok { OnOk result ((text : List ℕ) → IsReply self.now text → Takes (K.taken output.old) (K.taken output.new) (text ++ codes "\n")) }
         ensures err { OnErr result ((text : List ℕ) → IsReply self.now text → TakesFront (K.taken output.old) (K.taken output.new) (text ++ codes "\n")) }
         ensures cause { OnErr result (HasRisen (K.write_faults output.old) (K.write_faults output.new)) }
-        ensures count { K.write_faults output.old ≤ K.write_faults output.new }
+        ensures quiet { OnOk result (K.write_faults output.new ≡ K.write_faults output.old) }
+        ensures apart { K.as_source output.new ≡ K.as_source output.old }
     {
         match self {
             Reply::Short(text) => put_short(output, text.as_bytes()),

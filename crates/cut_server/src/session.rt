@@ -56,12 +56,12 @@ impl Model for Session {
 
 impl Session {
     ghost use Rattle.std.specs.Prelude.{◌≡◌, ◌+◌, ◌*◌, ◌<◌, ◌≤◌, ◌^◌, ◌++◌, [], List, ℕ, IfOk, Ok, codes, decimal, length};
-    ghost use Rattle.call_text.specs.declared.lines.Line.TheVariants.{Edit as EditLine, Ask as AskLine};
     ghost use Rattle.line_words.specs.Told.{line_told};
     ghost use Rattle.edit_apply.specs.See.{seen_in};
     ghost use Rattle.edit_apply.specs.Sights.{Shows};
-    ghost use Rattle.cut_server.specs.Transcript.{meaning_of};
-    ghost use Rattle.cut_server.specs.Session.{past_line, IsReply, Replies, Step};
+    ghost use Rattle.cut_server.specs.Transcript.{Do, See};
+    ghost use Rattle.cut_server.specs.Rooms.{meaning_of, wish_in};
+    ghost use Rattle.cut_server.specs.Session.{past_line, Replies, RepliesShort};
     ghost use Rattle.cut_server.specs.Editing.{Changes, Edits};
     ghost use Rattle.cut_server.specs.Openings.{plain_opening};
     ghost use Rattle.cut_server.specs.Served.{IsFresh};
@@ -74,7 +74,7 @@ impl Session {
         let table = plain(alloc, tracks, reels)?;
         let tracks = empty_tracks(alloc, tracks)?;
         let Some(counting) = Counting::new(SequenceRate::F24, false) else {
-            return Err(Memory);
+            unreachable!()
         };
         Ok(Session {
             alloc,
@@ -89,7 +89,7 @@ impl Session {
 
     /// The entries of the journal.
     pub(crate) fn journal(&self) -> &[Entry<Call>]
-        ensures { result.now ≡ self.now.journal }
+        ensures { result.now ≡ self.now.course.journal }
     {
         &self.journal
     }
@@ -108,7 +108,7 @@ impl Session {
 
     /// Puts an edit into the journal, and the track that it leaves into the room.
     fn commit(&mut self, call: Call, track: Track, done: Done) -> Answer
-        requires { (n : ℕ) × Changes self.old.setting.table self.old.tracks (2 * length self.old.journal) call track done n }
+        requires { (n : ℕ) × Changes self.old.setting.table self.old.course.state (2 * length self.old.course.journal) call track done n }
         ensures { Edits self.old self.new call result }
     {
         if self.journal.len() >= MOST_ENTRIES {
@@ -130,7 +130,7 @@ impl Session {
 
     /// What a question is answered by the tracks as they are.
     fn see(&self, ask: &Ask) -> Result<Seen, SightFault>
-        ensures { Shows (seen_in self.now.setting.table self.now.tracks ask.now) result }
+        ensures { Shows (seen_in self.now.setting.table self.now.course.state ask.now) result }
     {
         see_track(self.alloc, &self.editor, &self.tracks, ask)
     }
@@ -146,7 +146,7 @@ impl Session {
     }
 
     fn reply_to_edit(&mut self, call: Call) -> Short
-        ensures { Step self.old self.new result (Ok (EditLine call)) }
+        ensures { RepliesShort self.old self.new (Do call) result }
     {
         let point = self.journal.len() as u32;
         match self.edit(call) {
@@ -158,7 +158,7 @@ impl Session {
     }
 
     fn reply_to_ask(&self, ask: &Ask) -> Reply
-        ensures { Replies self.now self.now (Ok (AskLine ask.now)) result }
+        ensures { Replies self.now self.now (See ask.now) result }
     {
         let point = self.journal.len() as u32;
         let answer = match self.see(ask) {
@@ -176,15 +176,16 @@ impl Session {
 
     /// The next line has the next number.
     pub(crate) fn next_line(&mut self)
-        requires { self.old.line + 1 < 2 ^ 32 }
-        ensures { self.new ≡ past_line self.old }
+        requires { self.old.course.line + 1 < 2 ^ 32 }
+        ensures setting { self.new.setting ≡ self.old.setting }
+        ensures course { self.new.course ≡ past_line self.old.course }
     {
         self.line += 1;
     }
 
     /// Answers a line, and commits it where it is an edit that applies.
     pub(crate) fn answer(&mut self, end: LineEnd, text: &[u8]) -> Reply
-        ensures { Replies self.old self.new (meaning_of self.old.setting (line_told end text.now)) result }
+        ensures { Replies self.old self.new (wish_in (meaning_of self.old.setting (line_told end text.now))) result }
     {
         match self.said(end, text) {
             Ok(line) => match line {
