@@ -177,8 +177,8 @@ piece_more a b c old now new pending next got piece s k within quiet then g = re
 }
 
 -- what a line's two sides say of it
-pub source_same : (x y : SourceSide) (l m : Option (List ℕ)) (f g : ℕ) (a b : Lent) → x ≡ record { left = l; faults = f; lent = a } → y ≡ record { left = m; faults = g; lent = b } → y ≡ x → (m ≡ l) × (g ≡ f)
-source_same x y l m f g a b is also same = let e = sym also ∙ (same ∙ is) in (ap (λ (s : SourceSide). s.left) e, ap (λ (s : SourceSide). s.faults) e)
+pub source_same : (x y : SourceSide) (l m : Option (List ℕ)) (f g : ℕ) (a b : Lent) → x ≡ record { left = l; faults = f; lent = a } → y ≡ record { left = m; faults = g; lent = b } → y ≡ x → (m ≡ l) × (g ≡ f) × (b ≡ a)
+source_same x y l m f g a b is also same = let e = sym also ∙ (same ∙ is) in (ap (λ (s : SourceSide). s.left) e, ap (λ (s : SourceSide). s.faults) e, ap (λ (s : SourceSide). s.lent) e)
 
-pub sink_same : (x y : SinkSide) (l m : Option (List ℕ)) (f g : ℕ) (a b : Lent) → x ≡ record { taken = l; faults = f; lent = a } → y ≡ record { taken = m; faults = g; lent = b } → y ≡ x → (m ≡ l) × (g ≡ f)
-sink_same x y l m f g a b is also same = let e = sym also ∙ (same ∙ is) in (ap (λ (s : SinkSide). s.taken) e, ap (λ (s : SinkSide). s.faults) e)
+pub sink_same : (x y : SinkSide) (l m : Option (List ℕ)) (f g : ℕ) (a b : Lent) → x ≡ record { taken = l; faults = f; lent = a } → y ≡ record { taken = m; faults = g; lent = b } → y ≡ x → (m ≡ l) × (g ≡ f) × (b ≡ a)
+sink_same x y l m f g a b is also same = let e = sym also ∙ (same ∙ is) in (ap (λ (s : SinkSide). s.taken) e, ap (λ (s : SinkSide). s.faults) e, ap (λ (s : SinkSide). s.lent) e)

@@ -92,13 +92,13 @@ at_end_then old mid new H K same f h =
 pub run_ends : (o : Opening) (a b : SessionState) (old mid new : Outside) (s : Status) → IsFresh o a → SessionEnds (ServesTo a b) old mid end.Ended → JournalEnds b.course.journal mid new s → RunEnds o old new ⊥ s
 run_ends o a b old mid new Done f (quiet, h) (still, same, takes) = (
   (still.0 ∙ quiet.0, still.1 ∙ quiet.1),
-  at_end_then old mid new _ _ same
+  at_end_then old mid new (λ ls. ServesTo a b ls (AreSent old.taken mid.taken)) (λ ls. TellsOne o ls (IsWhole old.taken new.taken)) same
       (λ ls g. let s = tells_by o a b ls (AreSent old.taken mid.taken) f g in (b.course.journal, s.0, s.1, takes-takes old.taken mid.taken new.taken (sent s.0) (journal_text_of b.course.journal) s.2 takes)) h,
 )
 run_ends o a b old mid new ReadFault f ended journal = absurd journal
 run_ends o a b old mid new WriteFault f (quiet, h) (failed, same, takes) = inr (
   (subst (λ (w : ℕ). HasRisen w new.writes) quiet.1 failed.0, failed.1 ∙ quiet.0),
-  at_end_then old mid new _ _ same
+  at_end_then old mid new (λ ls. ServesTo a b ls (AreSent old.taken mid.taken)) (λ ls. TellsOne o ls (JournalIsCut old.taken new.taken)) same
       (λ ls g. let s = tells_by o a b ls (AreSent old.taken mid.taken) f g in (b.course.journal, s.0, s.1, takes-then_front old.taken mid.taken new.taken (sent s.0) (journal_text_of b.course.journal) s.2 takes)) h,
 )
 run_ends o a b old mid new NoCommand f ended journal = absurd journal

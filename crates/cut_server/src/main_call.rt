@@ -18,9 +18,10 @@ use std::alloc::Global;
 
 // Puts the journal's text behind the replies.
 fn put_journal<L: Line>(alloc: Global, session: &Session, line: &mut L) -> Status
-    ensures { JournalEnds session.now.course.journal
+    ensures ends { JournalEnds session.now.course.journal
         (outside (L.left line.old) (L.read_faults line.old) (L.taken line.old) (L.write_faults line.old))
         (outside (L.left line.new) (L.read_faults line.new) (L.taken line.new) (L.write_faults line.new)) result }
+    ensures lent { L.lent line.new ≡ L.lent line.old }
 {
     let text = match journal_text(alloc, session.journal()) {
         Ok(text) => text,
@@ -35,9 +36,10 @@ fn put_journal<L: Line>(alloc: Global, session: &Session, line: &mut L) -> Statu
 // Serves the session of a room that has just been opened, and puts its journal's text behind the replies.
 fn run_session<L: Line>(alloc: Global, session: &mut Session, line: &mut L) -> Status
     requires { session.old.course.line ≡ 1 }
-    ensures { (o : Opening) → IsFresh o session.old → RunEnds o
+    ensures ends { (o : Opening) → IsFresh o session.old → RunEnds o
         (outside (L.left line.old) (L.read_faults line.old) (L.taken line.old) (L.write_faults line.old))
         (outside (L.left line.new) (L.read_faults line.new) (L.taken line.new) (L.write_faults line.new)) ⊥ result }
+    ensures lent { L.lent line.new ≡ L.lent line.old }
 {
     match serve(session, line) {
         End::Ended => put_journal(alloc, session, line),
@@ -45,6 +47,22 @@ fn run_session<L: Line>(alloc: Global, session: &mut Session, line: &mut L) -> S
         End::WriteFault => Status::WriteFault,
         End::TooMuchInput => Status::TooMuchInput,
     }
+}
+
+// The same over an input and an output that are lent.
+fn run_over<S: Source, K: Sink>(
+    alloc: Global,
+    session: &mut Session,
+    input: &mut S,
+    output: &mut K,
+) -> Status
+    requires { session.old.course.line ≡ 1 }
+    ensures { (o : Opening) → IsFresh o session.old → RunEnds o
+        (outside (S.left input.old) (S.read_faults input.old) (K.taken output.old) (K.write_faults output.old))
+        (outside (S.left input.new) (S.read_faults input.new) (K.taken output.new) (K.write_faults output.new)) ⊥ result }
+{
+    let mut line = Pair { input, output };
+    run_session(alloc, session, &mut line)
 }
 
 // A run of one station in a plain room.
@@ -65,7 +83,7 @@ fn run<S: Source, K: Sink>(
         Ok(session) => session,
         Err(_) => return Status::OutOfMemory,
     };
-    run_session(alloc, &mut session, &mut Pair { input, output })
+    run_over(alloc, &mut session, input, output)
 }
 
 // Refuses words that are no command.

@@ -114,9 +114,10 @@ fn finish<K: Sink>(
 /// Answers each line of an input, in order, until the input's end, a fault, or more than 64 MiB.
 pub(crate) fn serve<L: Line>(session: &mut Session, line: &mut L) -> End
     requires { session.old.course.line ≡ 1 }
-    ensures { SessionEnds (ServesTo session.old session.new)
+    ensures ends { SessionEnds (ServesTo session.old session.new)
         (outside (L.left line.old) (L.read_faults line.old) (L.taken line.old) (L.write_faults line.old))
         (outside (L.left line.new) (L.read_faults line.new) (L.taken line.new) (L.write_faults line.new)) result }
+    ensures lent { L.lent line.new ≡ L.lent line.old }
 {
     let mut reader = LineReader::new();
     let mut buffer = [0; MOST_READ];

@@ -11,6 +11,7 @@ pub loop-total-init : goal.loop-total-init
 loop-total-init g c = record {
   buffer = refl;
   number = omega (arith, c.requires);
+  lent = refl;
   so_far = (
     [],
     refl,
@@ -24,8 +25,8 @@ loop-total-init g c = record {
   );
 }
 
-pub returns-in-Ok-finish : goal.returns-in-Ok-finish
-returns-in-Ok-finish g c =
+pub returns-in-Ok-finish-clause-ends : goal.returns-in-Ok-finish-clause-ends
+returns-in-Ok-finish-clause-ends g c =
     let s = c.loop-total.invariant.so_far in
     let k = source_same _ _ _ _ _ _ _ _ (g.met.L.Line.source_side c.read.new.self) (g.met.L.Line.source_side c.finish.new.output) c.finish.ensures.apart in
     let t = sink_same _ _ _ _ _ _ _ _ (g.met.L.Line.sink_side c.loop-total.line) (g.met.L.Line.sink_side c.read.new.self) c.read.ensures.apart in
@@ -38,8 +39,8 @@ returns-in-Ok-finish g c =
     c.if-n-eq0.true (c.in-Ok.ensures.end (omega (arith, c.loop-total.invariant.buffer)))
     (c.in-Ok-finish.ensures.quiet ∙ t.1) (rw t.0 at c.in-Ok-finish.ensures.ok)
 
-pub returns-in-Err-finish : goal.returns-in-Err-finish
-returns-in-Err-finish g c =
+pub returns-in-Err-finish-clause-ends : goal.returns-in-Err-finish-clause-ends
+returns-in-Err-finish-clause-ends g c =
     let s = c.loop-total.invariant.so_far in
     let k = source_same _ _ _ _ _ _ _ _ (g.met.L.Line.source_side c.read.new.self) (g.met.L.Line.source_side c.finish.new.output) c.finish.ensures.apart in
     let t = sink_same _ _ _ _ _ _ _ _ (g.met.L.Line.sink_side c.loop-total.line) (g.met.L.Line.sink_side c.read.new.self) c.read.ensures.apart in
@@ -52,8 +53,8 @@ returns-in-Err-finish g c =
     c.if-n-eq0.true (c.in-Ok.ensures.end (omega (arith, c.loop-total.invariant.buffer)))
     (rw t.1 at c.in-Err-finish.ensures.cause) (rw t.0 at c.in-Err-finish.ensures.err)
 
-pub returns-in-Err-answer_piece : goal.returns-in-Err-answer_piece
-returns-in-Err-answer_piece g c =
+pub returns-in-Err-answer_piece-clause-ends : goal.returns-in-Err-answer_piece-clause-ends
+returns-in-Err-answer_piece-clause-ends g c =
     let s = c.loop-total.invariant.so_far in
     let k = source_same _ _ _ _ _ _ _ _ (g.met.L.Line.source_side c.read.new.self) (g.met.L.Line.source_side c.answer_piece.new.output) c.answer_piece.ensures.apart in
     let t = sink_same _ _ _ _ _ _ _ _ (g.met.L.Line.sink_side c.loop-total.line) (g.met.L.Line.sink_side c.read.new.self) c.read.ensures.apart in
@@ -68,8 +69,8 @@ returns-in-Err-answer_piece g c =
     (take_fitting (67108864 - length s.0) c.in-Ok.n c.min-fits.result into (omega (arith, c.min-fits.ensures, s.1)) (omega (arith, c.min-fits.ensures)) (fitting c.min-fits.result c.in-Ok.n (67108864 - length s.0) (omega (arith, c.min-fits.ensures, s.1))) ∙ sym c.split_at.ensures.front)
     (rw t.1 at c.in-Err-answer_piece.ensures.cause) (rw t.0 at c.in-Err-answer_piece.ensures.err)
 
-pub returns-then-fits-n : goal.returns-then-fits-n
-returns-then-fits-n g c =
+pub returns-then-fits-n-clause-ends : goal.returns-then-fits-n-clause-ends
+returns-then-fits-n-clause-ends g c =
     let s = c.loop-total.invariant.so_far in
     let k = source_same _ _ _ _ _ _ _ _ (g.met.L.Line.source_side c.read.new.self) (g.met.L.Line.source_side c.answer_piece.new.output) c.answer_piece.ensures.apart in
     let t = sink_same _ _ _ _ _ _ _ _ (g.met.L.Line.sink_side c.loop-total.line) (g.met.L.Line.sink_side c.read.new.self) c.read.ensures.apart in
@@ -100,6 +101,7 @@ loop-total-preserved g c =
     record {
       buffer = omega (arith, c.loop-total.invariant.buffer, c.read.auto.into);
       number = omega (arith, c.loop-total.invariant.number, c.answer_piece.ensures.number, c.split_at.ensures.front_len, same);
+      lent = k.2 ∙ (t.2 ∙ c.loop-total.invariant.lent);
       so_far = (
         s.0 ++ piece,
         omega (arith, s.1, same, c.split_at.ensures.front_len, length-append s.0 piece),
@@ -113,3 +115,32 @@ loop-total-preserved g c =
             (c.in-Ok-answer_piece.ensures.quiet ∙ t.1) c.in-Ok-answer_piece.ensures.pending (rw t.0 at c.in-Ok-answer_piece.ensures.ok),
       );
     }
+
+pub returns-in-Ok-finish-clause-lent : goal.returns-in-Ok-finish-clause-lent
+returns-in-Ok-finish-clause-lent g c =
+    let k = source_same _ _ _ _ _ _ _ _ (g.met.L.Line.source_side c.read.new.self) (g.met.L.Line.source_side c.finish.new.output) c.finish.ensures.apart in
+    let t = sink_same _ _ _ _ _ _ _ _ (g.met.L.Line.sink_side c.loop-total.line) (g.met.L.Line.sink_side c.read.new.self) c.read.ensures.apart in
+    k.2 ∙ (t.2 ∙ c.loop-total.invariant.lent)
+
+pub returns-in-Err-finish-clause-lent : goal.returns-in-Err-finish-clause-lent
+returns-in-Err-finish-clause-lent g c =
+    let k = source_same _ _ _ _ _ _ _ _ (g.met.L.Line.source_side c.read.new.self) (g.met.L.Line.source_side c.finish.new.output) c.finish.ensures.apart in
+    let t = sink_same _ _ _ _ _ _ _ _ (g.met.L.Line.sink_side c.loop-total.line) (g.met.L.Line.sink_side c.read.new.self) c.read.ensures.apart in
+    k.2 ∙ (t.2 ∙ c.loop-total.invariant.lent)
+
+pub returns-in-Err-answer_piece-clause-lent : goal.returns-in-Err-answer_piece-clause-lent
+returns-in-Err-answer_piece-clause-lent g c =
+    let k = source_same _ _ _ _ _ _ _ _ (g.met.L.Line.source_side c.read.new.self) (g.met.L.Line.source_side c.answer_piece.new.output) c.answer_piece.ensures.apart in
+    let t = sink_same _ _ _ _ _ _ _ _ (g.met.L.Line.sink_side c.loop-total.line) (g.met.L.Line.sink_side c.read.new.self) c.read.ensures.apart in
+    k.2 ∙ (t.2 ∙ c.loop-total.invariant.lent)
+
+pub returns-then-fits-n-clause-lent : goal.returns-then-fits-n-clause-lent
+returns-then-fits-n-clause-lent g c =
+    let k = source_same _ _ _ _ _ _ _ _ (g.met.L.Line.source_side c.read.new.self) (g.met.L.Line.source_side c.answer_piece.new.output) c.answer_piece.ensures.apart in
+    let t = sink_same _ _ _ _ _ _ _ _ (g.met.L.Line.sink_side c.loop-total.line) (g.met.L.Line.sink_side c.read.new.self) c.read.ensures.apart in
+    k.2 ∙ (t.2 ∙ c.loop-total.invariant.lent)
+
+pub returns-in-Err-clause-lent : goal.returns-in-Err-clause-lent
+returns-in-Err-clause-lent g c =
+    let t = sink_same _ _ _ _ _ _ _ _ (g.met.L.Line.sink_side c.loop-total.line) (g.met.L.Line.sink_side c.read.new.self) c.read.ensures.apart in
+    t.2 ∙ c.loop-total.invariant.lent
