@@ -1,6 +1,10 @@
+pub mod FaultLaws
 pub mod LabelPlaces
+pub mod ListWords
 pub mod Positions
 pub mod ReadParts
+pub mod RowWords
 pub mod TableLaws
+pub mod TrackSets
 pub mod WrittenCalls
 pub mod WrittenParts

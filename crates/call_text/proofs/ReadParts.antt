@@ -1,16 +1,17 @@
 -- What is read of a part is spelled there, and what is spelled there is read.
-use Rattle.std.proofs.Common.{◌≡◌, ℕ, ◌⊎◌, List, [], ◌∷◌, Bool, true, false, Option, Some, None, Result, Ok, Err, ◌==◌, nat_le, if◌then◌else◌, inl, inr, refl, ap, sym}
+use Rattle.std.proofs.Common.{◌≡◌, ℕ, ◌+◌, ◌^◌, ◌<◌, ◌≤◌, ◌⊎◌, List, [], ◌∷◌, Bool, true, false, Option, Some, None, Result, Ok, Err, ◌==◌, nat_le, length, if◌then◌else◌, inl, inr, refl, ap, sym, ◌∙◌, arith, pow_pos}
+use Rattle.std.specs.List.{slice_split}
 use Rattle.std.proofs.lemmas.Bool.{leb-true, le-leb, eqb-true}
+use Rattle.std.proofs.lemmas.List.Splits.{length-slice_split}
 use Rattle.line_words.specs.Digits.{number_of}
 use Rattle.line_words.specs.declared.numbers.NumberFault.{NumberFault}
 use Rattle.line_words.specs.declared.numbers.NumberFault.TheVariants.{NotANumber, TooLarge}
 use Rattle.frame_meaning.specs.declared.cells.What.{What}
 use Rattle.frame_meaning.specs.declared.cells.What.TheVariants.{Media, Nest}
 use Rattle.call_text.specs.declared.lines.LineFault.{LineFault}
-use Rattle.call_text.specs.declared.lines.LineFault.TheVariants.{B3, B4}
-use Rattle.call_text.specs.Spelling.{◌>>=◌, number_or_fault, numeral_of, track_of, place_or_fault, number_or_label, place_of, what_of}
-use Rattle.call_text.specs.Reading.{none_of, one_of, two_of, three_of, four_of, five_of}
-use Rattle.call_text.specs.Table.{IsNumeral, IsTrack, IsPlace, IsThing}
+use Rattle.call_text.specs.declared.lines.LineFault.TheVariants.{B3, B4, B6}
+use Rattle.call_text.specs.Spelling.{◌>>=◌, number_or_fault, numeral_of, track_of, is_comma, set_with, tracks_of, place_or_fault, number_or_label, place_of, what_of}
+use Rattle.call_text.specs.Table.{IsNumeral, IsTrack, AreTracks, IsTracks, IsPlace, IsThing}
 
 -- what was read first, where all was read
 pub bind_ok : {A B : Type 0} (r : Result A LineFault) (f : A → Result B LineFault) (y : B) → (r >>= f) ≡ Ok y → (x : A) × (r ≡ Ok x) × (f x ≡ Ok y)
@@ -54,6 +55,45 @@ track_read word n h =
     let low = le-leb n 31 h.1 in
     rw (number, low) refl
 
+-- the tracks that a list adds to a set
+with_spelled : (words : List (List ℕ)) (least set all : ℕ) → set_with least set words ≡ Ok all → (others : ℕ) × (all ≡ set + others) × AreTracks least words others
+with_spelled [] least set all h = let same = ok_same set all h in (0, omega (arith, same), refl)
+with_spelled (word ∷ words) least set all h =
+    let track = bind_ok (track_of word) _ all h in
+    elim (chosen (nat_le least track.0) _ _ (Ok all) track.2) [
+      | inl above ↦
+          let more = with_spelled words (track.0 + 1) (set + 2 ^ track.0) all above.1 in
+          (2 ^ track.0 + more.0, omega (arith, more.1), (track.0, more.0, track_spelled word track.0 track.1, leb-true least track.0 above.0, refl, more.2))
+      | inr below ↦ absurd (err_ok B6 all below.1)
+    ]
+
+with_read : (words : List (List ℕ)) (least set others : ℕ) → AreTracks least words others → set_with least set words ≡ Ok (set + others)
+with_read [] least set others h = let same : set ≡ set + others = omega (arith, h) in ap Ok same
+with_read (word ∷ words) least set others (track, rest, is, above, sum, more) =
+    let read = track_read word track is in
+    let high = le-leb least track above in
+    let same : set + 2 ^ track + rest ≡ set + others = omega (arith, sum) in
+    rw (read, high) (with_read words (track + 1) (set + 2 ^ track) rest more ∙ ap Ok same)
+
+pub tracks_spelled : (word : List ℕ) (set : ℕ) → tracks_of word ≡ Ok set → IsTracks word set
+tracks_spelled word set h =
+    let more = with_spelled (slice_split is_comma word) 0 0 set h in
+    let same : more.0 ≡ set = omega (arith, more.1) in
+    rw (← same) more.2
+
+pub tracks_read : (word : List ℕ) (set : ℕ) → IsTracks word set → tracks_of word ≡ Ok set
+tracks_read word set h = let same : 0 + set ≡ set = omega arith in with_read (slice_split is_comma word) 0 0 set h ∙ ap Ok same
+
+-- a list has a track, and so has its set
+some_tracks : (words : List (List ℕ)) (least set : ℕ) → 0 < length words → AreTracks least words set → 0 < set
+some_tracks [] least set h k = absurd (omega (arith, h))
+some_tracks (word ∷ words) least set h (track, rest, is, above, sum, more) = let one = pow_pos track in omega (arith, sum, one)
+
+pub tracks_some : (word : List ℕ) (set : ℕ) → tracks_of word ≡ Ok set → 0 < set
+tracks_some word set h =
+    let count = length-slice_split is_comma word in
+    some_tracks (slice_split is_comma word) 0 set (omega (arith, count)) (tracks_spelled word set h)
+
 label_ok : (label : Option ℕ) (n : ℕ) → place_or_fault label ≡ Ok n → label ≡ Some n
 label_ok None n h = absurd cc
 label_ok (Some m) n h = cc
@@ -91,43 +131,3 @@ thing_spelled (sign ∷ digits) w h = elim (chosen (sign == 64) _ _ (Ok w) h) [
 pub thing_read : (word : List ℕ) (w : What) → IsThing word w → what_of word ≡ Ok w
 thing_read word (Media m) h = let number = numeral_read h.0 m h.2 in rw (h.1, number) refl
 thing_read word (Nest n) h = let number = numeral_read h.0 n h.2 in rw (h.1, number) refl
-
-pub none_spelled : {A : Type 0} (x y : A) (words : List (List ℕ)) → none_of x words ≡ Ok y → (words ≡ []) × (x ≡ y)
-none_spelled x y [] h = (refl, cc)
-none_spelled x y (word ∷ words) h = absurd cc
-
-pub one_spelled : (words : List (List ℕ)) (w : List ℕ) → one_of words ≡ Ok w → words ≡ w ∷ []
-one_spelled [] w h = absurd cc
-one_spelled (word ∷ words) w h = let last = none_spelled word w words h in rw (last.0, last.1) refl
-
-two_spelled : (words : List (List ℕ)) (w : List ℕ × List ℕ) → two_of words ≡ Ok w → words ≡ w.0 ∷ w.1 ∷ []
-two_spelled [] w h = absurd cc
-two_spelled (word ∷ words) w h =
-    let more = bind_ok (one_of words) _ w h in
-    let same = ok_same (word, more.0) w more.2 in
-    let rest = one_spelled words more.0 more.1 in
-    rw (← same) (ap (λ ws. word ∷ ws) rest)
-
-pub three_spelled : (words : List (List ℕ)) (w : List ℕ × List ℕ × List ℕ) → three_of words ≡ Ok w → words ≡ w.0 ∷ w.1 ∷ w.2 ∷ []
-three_spelled [] w h = absurd cc
-three_spelled (word ∷ words) w h =
-    let more = bind_ok (two_of words) _ w h in
-    let same = ok_same (word, more.0.0, more.0.1) w more.2 in
-    let rest = two_spelled words more.0 more.1 in
-    rw (← same) (ap (λ ws. word ∷ ws) rest)
-
-four_spelled : (words : List (List ℕ)) (w : List ℕ × List ℕ × List ℕ × List ℕ) → four_of words ≡ Ok w → words ≡ w.0 ∷ w.1 ∷ w.2 ∷ w.3 ∷ []
-four_spelled [] w h = absurd cc
-four_spelled (word ∷ words) w h =
-    let more = bind_ok (three_of words) _ w h in
-    let same = ok_same (word, more.0.0, more.0.1, more.0.2) w more.2 in
-    let rest = three_spelled words more.0 more.1 in
-    rw (← same) (ap (λ ws. word ∷ ws) rest)
-
-pub five_spelled : (words : List (List ℕ)) (w : List ℕ × List ℕ × List ℕ × List ℕ × List ℕ) → five_of words ≡ Ok w → words ≡ w.0 ∷ w.1 ∷ w.2 ∷ w.3 ∷ w.4 ∷ []
-five_spelled [] w h = absurd cc
-five_spelled (word ∷ words) w h =
-    let more = bind_ok (four_of words) _ w h in
-    let same = ok_same (word, more.0.0, more.0.1, more.0.2, more.0.3) w more.2 in
-    let rest = four_spelled words more.0 more.1 in
-    rw (← same) (ap (λ ws. word ∷ ws) rest)

@@ -1,5 +1,5 @@
 -- What is read of a line is spelled there, and what is spelled there is read.
-use Rattle.std.proofs.Common.{◌≡◌, ℕ, List, [], ◌∷◌, Option, Some, None, Ok, length, nat_le, inl, inr, refl, ap, codes}
+use Rattle.std.proofs.Common.{◌≡◌, ℕ, List, [], ◌∷◌, Bool, true, false, Option, Some, None, Ok, length, nat_le, inl, inr, refl, ap, sym, codes, if◌then◌else◌}
 use Rattle.std.proofs.lemmas.Bool.{leb-true, le-leb}
 use Rattle.std.proofs.lemmas.Slice.Eq.{bytes_eq-Decides}
 use Rattle.std.specs.Str.{bytes_eq}
@@ -8,102 +8,178 @@ use Rattle.edit_apply.specs.declared.asks.Call.TheVariants as call
 use Rattle.edit_apply.specs.declared.asks.Ask.TheVariants as ask
 use Rattle.call_text.specs.declared.lines.Line.{Line}
 use Rattle.call_text.specs.declared.lines.Line.TheVariants.{Edit, Ask, Point}
-use Rattle.call_text.specs.declared.lines.LineFault.TheVariants.{B5}
+use Rattle.call_text.specs.declared.lines.LineFault.TheVariants.{B1, B2, B5}
 use Rattle.call_text.specs.declared.commands.Command.{Command}
 use Rattle.call_text.specs.declared.commands.Command.TheVariants as command
-use Rattle.call_text.specs.Spelling.{numeral_of, track_of, place_of, what_of}
-use Rattle.call_text.specs.Reading.{one_of, three_of, five_of, overwrite_of, view_of, items_of, point_of, command_of, row_of, line_of_words, line_of}
-use Rattle.call_text.specs.Table.{AreWords, IsLine}
-use Rattle.call_text.proofs.ReadParts.{bind_ok, chosen, ok_same, err_ok, numeral_spelled, numeral_read, track_spelled, track_read, place_spelled, place_read, thing_spelled, thing_read, none_spelled, one_spelled, three_spelled, five_spelled}
-
--- the first word of a command's lines
-abbrev first_word : Command → List ℕ
-first_word command.Overwrite = codes "overwrite"
-first_word command.View = codes "view"
-first_word command.Items = codes "items"
-first_word command.Point = codes "point"
+use Rattle.call_text.specs.Spelling.{numeral_of, track_of, tracks_of, place_of, what_of}
+use Rattle.call_text.specs.Reading.{overwrite_of, insert_of, remove_of, extract_of, slice_of, view_of, items_of, point_of, command_of, row_of, row_if, line_of_words, line_of}
+use Rattle.call_text.specs.Table.{AreWords, IsLine, word_of}
+use Rattle.call_text.proofs.ReadParts.{bind_ok, chosen, ok_same, err_ok, numeral_spelled, numeral_read, track_spelled, track_read, tracks_spelled, tracks_read, place_spelled, place_read, thing_spelled, thing_read}
 
 some_same : {A : Type 0} (x y : A) → Some x ≡ Some y → x ≡ y
 some_same x y h = cc
 
-command_spelled : (word : List ℕ) (k : Command) → command_of word ≡ Some k → word ≡ first_word k
-command_spelled word k h = elim (chosen (bytes_eq word (codes "overwrite")) _ _ (Some k) h) [
-  | inl overwrite ↦ let same = some_same command.Overwrite k overwrite.1 in rw (← same) ((bytes_eq-Decides word (codes "overwrite")).0 overwrite.0)
-  | inr h ↦ elim (chosen (bytes_eq word (codes "view")) _ _ (Some k) h.1) [
-    | inl view ↦ let same = some_same command.View k view.1 in rw (← same) ((bytes_eq-Decides word (codes "view")).0 view.0)
-    | inr h ↦ elim (chosen (bytes_eq word (codes "items")) _ _ (Some k) h.1) [
-      | inl items ↦ let same = some_same command.Items k items.1 in rw (← same) ((bytes_eq-Decides word (codes "items")).0 items.0)
-      | inr h ↦ elim (chosen (bytes_eq word (codes "point")) _ _ (Some k) h.1) [
-        | inl point ↦ let same = some_same command.Point k point.1 in rw (← same) ((bytes_eq-Decides word (codes "point")).0 point.0)
-        | inr none ↦ absurd cc
-      ]
-    ]
-  ]
+-- the word is this command's, or one of the others
+named : (word : List ℕ) (j k : Command) (others : Option Command) → (others ≡ Some k → word ≡ word_of k) → (if bytes_eq word (word_of j) then Some j else others) ≡ Some k → word ≡ word_of k
+named word j k others more h = elim (chosen (bytes_eq word (word_of j)) _ _ (Some k) h) [
+  | inl this ↦ let same = some_same j k this.1 in rw (← same) ((bytes_eq-Decides word (word_of j)).0 this.0)
+  | inr other ↦ more other.1
 ]
 
-overwrite_spelled : (place_at : List ℕ → Option ℕ) (words : List (List ℕ)) (line : Line) → overwrite_of place_at words ≡ Ok line → AreWords place_at (codes "overwrite" ∷ words) line
-overwrite_spelled place_at words line h =
-    let word = bind_ok (five_of words) _ line h in
-    let track = bind_ok (track_of word.0.0) _ line word.2 in
-    let at = bind_ok (place_of place_at word.0.1) _ line track.2 in
-    let what = bind_ok (what_of word.0.2) _ line at.2 in
-    let from = bind_ok (numeral_of word.0.3) _ line what.2 in
-    let len = bind_ok (numeral_of word.0.4) _ line from.2 in
+pub command_spelled : (word : List ℕ) (k : Command) → command_of word ≡ Some k → word ≡ word_of k
+command_spelled word k h = named word command.Overwrite k _
+    (named word command.Insert k _
+    (named word command.Remove k _
+    (named word command.Extract k _
+    (named word command.Slice k _
+    (named word command.View k _
+    (named word command.Items k _
+    (named word command.Point k None (λ none. absurd cc)))))))) h
+
+pub command_read : (k : Command) → command_of (word_of k) ≡ Some k
+command_read command.Overwrite = refl
+command_read command.Insert = refl
+command_read command.Remove = refl
+command_read command.Extract = refl
+command_read command.Slice = refl
+command_read command.View = refl
+command_read command.Items = refl
+command_read command.Point = refl
+
+overwrite_spelled : (place_at : List ℕ → Option ℕ) (words : List (List ℕ)) (line : Line) → overwrite_of place_at words ≡ Ok line → AreWords place_at (word_of command.Overwrite ∷ words) line
+overwrite_spelled place_at [] line h = absurd (err_ok B2 line h)
+overwrite_spelled place_at (a ∷ []) line h = absurd (err_ok B2 line h)
+overwrite_spelled place_at (a ∷ b ∷ []) line h = absurd (err_ok B2 line h)
+overwrite_spelled place_at (a ∷ b ∷ c ∷ []) line h = absurd (err_ok B2 line h)
+overwrite_spelled place_at (a ∷ b ∷ c ∷ d ∷ []) line h = absurd (err_ok B2 line h)
+overwrite_spelled place_at (a ∷ b ∷ c ∷ d ∷ e ∷ []) line h =
+    let track = bind_ok (track_of a) _ line h in
+    let at = bind_ok (place_of place_at b) _ line track.2 in
+    let what = bind_ok (what_of c) _ line at.2 in
+    let from = bind_ok (numeral_of d) _ line what.2 in
+    let len = bind_ok (numeral_of e) _ line from.2 in
     let same = ok_same (Edit (call.Overwrite (record { track = track.0; at = at.0; what = what.0; from = from.0; len = len.0 }))) line len.2 in
     rw (← same) (
-      word.0.0,
-      word.0.1,
-      word.0.2,
-      word.0.3,
-      word.0.4,
-      ap (λ ws. codes "overwrite" ∷ ws) (five_spelled words word.0 word.1),
-      track_spelled word.0.0 track.0 track.1,
-      place_spelled place_at word.0.1 at.0 at.1,
-      thing_spelled word.0.2 what.0 what.1,
-      numeral_spelled word.0.3 from.0 from.1,
-      numeral_spelled word.0.4 len.0 len.1,
+      a,
+      b,
+      c,
+      d,
+      e,
+      refl,
+      track_spelled a track.0 track.1,
+      place_spelled place_at b at.0 at.1,
+      thing_spelled c what.0 what.1,
+      numeral_spelled d from.0 from.1,
+      numeral_spelled e len.0 len.1,
     )
+overwrite_spelled place_at (a ∷ b ∷ c ∷ d ∷ e ∷ f ∷ words) line h = absurd (err_ok B2 line h)
 
-view_spelled : (place_at : List ℕ → Option ℕ) (words : List (List ℕ)) (line : Line) → view_of place_at words ≡ Ok line → AreWords place_at (codes "view" ∷ words) line
-view_spelled place_at words line h =
-    let word = bind_ok (three_of words) _ line h in
-    let track = bind_ok (track_of word.0.0) _ line word.2 in
-    let a = bind_ok (place_of place_at word.0.1) _ line track.2 in
-    let b = bind_ok (place_of place_at word.0.2) _ line a.2 in
-    let same = ok_same (Ask (ask.View track.0 a.0 b.0)) line b.2 in
+insert_spelled : (place_at : List ℕ → Option ℕ) (words : List (List ℕ)) (line : Line) → insert_of place_at words ≡ Ok line → AreWords place_at (word_of command.Insert ∷ words) line
+insert_spelled place_at [] line h = absurd (err_ok B2 line h)
+insert_spelled place_at (a ∷ []) line h = absurd (err_ok B2 line h)
+insert_spelled place_at (a ∷ b ∷ []) line h = absurd (err_ok B2 line h)
+insert_spelled place_at (a ∷ b ∷ c ∷ []) line h = absurd (err_ok B2 line h)
+insert_spelled place_at (a ∷ b ∷ c ∷ d ∷ []) line h = absurd (err_ok B2 line h)
+insert_spelled place_at (a ∷ b ∷ c ∷ d ∷ e ∷ []) line h = absurd (err_ok B2 line h)
+insert_spelled place_at (a ∷ b ∷ c ∷ d ∷ e ∷ f ∷ []) line h =
+    let tracks = bind_ok (tracks_of a) _ line h in
+    let track = bind_ok (track_of b) _ line tracks.2 in
+    let at = bind_ok (place_of place_at c) _ line track.2 in
+    let what = bind_ok (what_of d) _ line at.2 in
+    let from = bind_ok (numeral_of e) _ line what.2 in
+    let len = bind_ok (numeral_of f) _ line from.2 in
+    let same = ok_same (Edit (call.Insert (record { tracks = tracks.0; track = track.0; at = at.0; what = what.0; from = from.0; len = len.0 }))) line len.2 in
     rw (← same) (
-      word.0.0,
-      word.0.1,
-      word.0.2,
-      ap (λ ws. codes "view" ∷ ws) (three_spelled words word.0 word.1),
-      track_spelled word.0.0 track.0 track.1,
-      place_spelled place_at word.0.1 a.0 a.1,
-      place_spelled place_at word.0.2 b.0 b.1,
+      a,
+      b,
+      c,
+      d,
+      e,
+      f,
+      refl,
+      tracks_spelled a tracks.0 tracks.1,
+      track_spelled b track.0 track.1,
+      place_spelled place_at c at.0 at.1,
+      thing_spelled d what.0 what.1,
+      numeral_spelled e from.0 from.1,
+      numeral_spelled f len.0 len.1,
     )
+insert_spelled place_at (a ∷ b ∷ c ∷ d ∷ e ∷ f ∷ g ∷ words) line h = absurd (err_ok B2 line h)
 
-items_spelled : (place_at : List ℕ → Option ℕ) (words : List (List ℕ)) (line : Line) → items_of words ≡ Ok line → AreWords place_at (codes "items" ∷ words) line
-items_spelled place_at words line h =
-    let word = bind_ok (one_of words) _ line h in
-    let track = bind_ok (track_of word.0) _ line word.2 in
+remove_spelled : (place_at : List ℕ → Option ℕ) (words : List (List ℕ)) (line : Line) → remove_of words ≡ Ok line → AreWords place_at (word_of command.Remove ∷ words) line
+remove_spelled place_at [] line h = absurd (err_ok B2 line h)
+remove_spelled place_at (a ∷ []) line h = absurd (err_ok B2 line h)
+remove_spelled place_at (a ∷ b ∷ []) line h =
+    let track = bind_ok (track_of a) _ line h in
+    let item = bind_ok (numeral_of b) _ line track.2 in
+    let same = ok_same (Edit (call.Remove (record { track = track.0; item = item.0 }))) line item.2 in
+    rw (← same) (a, b, refl, track_spelled a track.0 track.1, numeral_spelled b item.0 item.1)
+remove_spelled place_at (a ∷ b ∷ c ∷ words) line h = absurd (err_ok B2 line h)
+
+extract_spelled : (place_at : List ℕ → Option ℕ) (words : List (List ℕ)) (line : Line) → extract_of words ≡ Ok line → AreWords place_at (word_of command.Extract ∷ words) line
+extract_spelled place_at [] line h = absurd (err_ok B2 line h)
+extract_spelled place_at (a ∷ []) line h = absurd (err_ok B2 line h)
+extract_spelled place_at (a ∷ b ∷ []) line h = absurd (err_ok B2 line h)
+extract_spelled place_at (a ∷ b ∷ c ∷ []) line h =
+    let tracks = bind_ok (tracks_of a) _ line h in
+    let track = bind_ok (track_of b) _ line tracks.2 in
+    let item = bind_ok (numeral_of c) _ line track.2 in
+    let same = ok_same (Edit (call.Extract (record { tracks = tracks.0; track = track.0; item = item.0 }))) line item.2 in
+    rw (← same) (a, b, c, refl, tracks_spelled a tracks.0 tracks.1, track_spelled b track.0 track.1, numeral_spelled c item.0 item.1)
+extract_spelled place_at (a ∷ b ∷ c ∷ d ∷ words) line h = absurd (err_ok B2 line h)
+
+slice_spelled : (place_at : List ℕ → Option ℕ) (words : List (List ℕ)) (line : Line) → slice_of place_at words ≡ Ok line → AreWords place_at (word_of command.Slice ∷ words) line
+slice_spelled place_at [] line h = absurd (err_ok B2 line h)
+slice_spelled place_at (a ∷ []) line h = absurd (err_ok B2 line h)
+slice_spelled place_at (a ∷ b ∷ []) line h =
+    let track = bind_ok (track_of a) _ line h in
+    let at = bind_ok (place_of place_at b) _ line track.2 in
+    let same = ok_same (Edit (call.Slice (record { track = track.0; at = at.0 }))) line at.2 in
+    rw (← same) (a, b, refl, track_spelled a track.0 track.1, place_spelled place_at b at.0 at.1)
+slice_spelled place_at (a ∷ b ∷ c ∷ words) line h = absurd (err_ok B2 line h)
+
+view_spelled : (place_at : List ℕ → Option ℕ) (words : List (List ℕ)) (line : Line) → view_of place_at words ≡ Ok line → AreWords place_at (word_of command.View ∷ words) line
+view_spelled place_at [] line h = absurd (err_ok B2 line h)
+view_spelled place_at (a ∷ []) line h = absurd (err_ok B2 line h)
+view_spelled place_at (a ∷ b ∷ []) line h = absurd (err_ok B2 line h)
+view_spelled place_at (a ∷ b ∷ c ∷ []) line h =
+    let track = bind_ok (track_of a) _ line h in
+    let from = bind_ok (place_of place_at b) _ line track.2 in
+    let to = bind_ok (place_of place_at c) _ line from.2 in
+    let same = ok_same (Ask (ask.View track.0 from.0 to.0)) line to.2 in
+    rw (← same) (a, b, c, refl, track_spelled a track.0 track.1, place_spelled place_at b from.0 from.1, place_spelled place_at c to.0 to.1)
+view_spelled place_at (a ∷ b ∷ c ∷ d ∷ words) line h = absurd (err_ok B2 line h)
+
+items_spelled : (place_at : List ℕ → Option ℕ) (words : List (List ℕ)) (line : Line) → items_of words ≡ Ok line → AreWords place_at (word_of command.Items ∷ words) line
+items_spelled place_at [] line h = absurd (err_ok B2 line h)
+items_spelled place_at (a ∷ []) line h =
+    let track = bind_ok (track_of a) _ line h in
     let same = ok_same (Ask (ask.Items track.0)) line track.2 in
-    rw (← same) (word.0, ap (λ ws. codes "items" ∷ ws) (one_spelled words word.0 word.1), track_spelled word.0 track.0 track.1)
+    rw (← same) (a, refl, track_spelled a track.0 track.1)
+items_spelled place_at (a ∷ b ∷ words) line h = absurd (err_ok B2 line h)
 
-point_spelled : (place_at : List ℕ → Option ℕ) (words : List (List ℕ)) (line : Line) → point_of words ≡ Ok line → AreWords place_at (codes "point" ∷ words) line
-point_spelled place_at words line h =
-    let none = none_spelled Point line words h in
-    rw (← none.1) (ap (λ ws. codes "point" ∷ ws) none.0)
+point_spelled : (place_at : List ℕ → Option ℕ) (words : List (List ℕ)) (line : Line) → point_of words ≡ Ok line → AreWords place_at (word_of command.Point ∷ words) line
+point_spelled place_at [] line h = let same = ok_same Point line h in rw (← same) refl
+point_spelled place_at (a ∷ words) line h = absurd (err_ok B2 line h)
 
-row_spelled : (place_at : List ℕ → Option ℕ) (first : List ℕ) (k : Option Command) (words : List (List ℕ)) (line : Line)
-    → command_of first ≡ k → row_of place_at k words ≡ Ok line → AreWords place_at (first ∷ words) line
-row_spelled place_at first None words line named h = absurd cc
-row_spelled place_at first (Some command.Overwrite) words line named h = let same = command_spelled first command.Overwrite named in rw same (overwrite_spelled place_at words line h)
-row_spelled place_at first (Some command.View) words line named h = let same = command_spelled first command.View named in rw same (view_spelled place_at words line h)
-row_spelled place_at first (Some command.Items) words line named h = let same = command_spelled first command.Items named in rw same (items_spelled place_at words line h)
-row_spelled place_at first (Some command.Point) words line named h = let same = command_spelled first command.Point named in rw same (point_spelled place_at words line h)
+row_spelled : (place_at : List ℕ → Option ℕ) (k : Command) (words : List (List ℕ)) (line : Line) → row_of place_at k words ≡ Ok line → AreWords place_at (word_of k ∷ words) line
+row_spelled place_at command.Overwrite words line h = overwrite_spelled place_at words line h
+row_spelled place_at command.Insert words line h = insert_spelled place_at words line h
+row_spelled place_at command.Remove words line h = remove_spelled place_at words line h
+row_spelled place_at command.Extract words line h = extract_spelled place_at words line h
+row_spelled place_at command.Slice words line h = slice_spelled place_at words line h
+row_spelled place_at command.View words line h = view_spelled place_at words line h
+row_spelled place_at command.Items words line h = items_spelled place_at words line h
+row_spelled place_at command.Point words line h = point_spelled place_at words line h
+
+if_spelled : (place_at : List ℕ → Option ℕ) (first : List ℕ) (o : Option Command) (words : List (List ℕ)) (line : Line)
+    → command_of first ≡ o → row_if place_at o words ≡ Ok line → AreWords place_at (first ∷ words) line
+if_spelled place_at first None words line is h = absurd (err_ok B1 line h)
+if_spelled place_at first (Some k) words line is h = let same = command_spelled first k is in rw same (row_spelled place_at k words line h)
 
 words_spelled : (place_at : List ℕ → Option ℕ) (words : List (List ℕ)) (line : Line) → line_of_words place_at words ≡ Ok line → AreWords place_at words line
-words_spelled place_at [] line h = absurd cc
-words_spelled place_at (first ∷ words) line h = row_spelled place_at first (command_of first) words line refl h
+words_spelled place_at [] line h = absurd (err_ok B2 line h)
+words_spelled place_at (first ∷ words) line h = if_spelled place_at first (command_of first) words line refl h
 
 pub line_spelled : (place_at : List ℕ → Option ℕ) (bytes : List ℕ) (line : Line) → line_of place_at bytes ≡ Ok line → IsLine place_at bytes line
 line_spelled place_at bytes line h = elim (chosen (nat_le (length bytes) 1024) _ _ (Ok line) h) [
@@ -119,6 +195,27 @@ words_read place_at words (Edit (call.Overwrite c)) h =
     let from = numeral_read h.3 c.from h.9 in
     let len = numeral_read h.4 c.len h.10 in
     rw (h.5, track, at, what, from, len) refl
+words_read place_at words (Edit (call.Insert c)) h =
+    let tracks = tracks_read h.0 c.tracks h.7 in
+    let track = track_read h.1 c.track h.8 in
+    let at = place_read place_at h.2 c.at h.9 in
+    let what = thing_read h.3 c.what h.10 in
+    let from = numeral_read h.4 c.from h.11 in
+    let len = numeral_read h.5 c.len h.12 in
+    rw (h.6, tracks, track, at, what, from, len) refl
+words_read place_at words (Edit (call.Remove c)) h =
+    let track = track_read h.0 c.track h.3 in
+    let item = numeral_read h.1 c.item h.4 in
+    rw (h.2, track, item) refl
+words_read place_at words (Edit (call.Extract c)) h =
+    let tracks = tracks_read h.0 c.tracks h.4 in
+    let track = track_read h.1 c.track h.5 in
+    let item = numeral_read h.2 c.item h.6 in
+    rw (h.3, tracks, track, item) refl
+words_read place_at words (Edit (call.Slice c)) h =
+    let track = track_read h.0 c.track h.3 in
+    let at = place_read place_at h.1 c.at h.4 in
+    rw (h.2, track, at) refl
 words_read place_at words (Ask (ask.View t p q)) h =
     let track = track_read h.0 t h.4 in
     let a = place_read place_at h.1 p h.5 in

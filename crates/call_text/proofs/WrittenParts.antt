@@ -1,12 +1,14 @@
 -- Each part of a line is a word where it is written, and spells what was written.
-use Rattle.std.proofs.Common.{◌≡◌, ℕ, ◌<◌, ◌≤◌, ◌^◌, List, [], ◌∷◌, Bool, true, false, not, ◌&&◌, Result, Ok, Err, length, if◌then◌else◌, refl, arith}
+use Rattle.std.proofs.Common.{◌≡◌, ℕ, ◌<◌, ◌≤◌, ◌*◌, ◌^◌, List, [], ◌∷◌, ◌++◌, Bool, true, false, not, ◌&&◌, Result, Ok, Err, length, map, if◌then◌else◌, refl, sym, ap, subst, ◌∙◌, arith, length-append, codes}
 use Rattle.std.specs.Char.{is_ascii_digit}
 use Rattle.std.specs.Fmt.{decimal}
-use Rattle.std.specs.List.{list_all, All}
+use Rattle.std.specs.List.{list_all, slice_split, All}
 use Rattle.std.proofs.lemmas.Bool.{and_parts}
 use Rattle.std.proofs.lemmas.Bool.Decides.{nat_tests}
 use Rattle.std.proofs.lemmas.Fmt.{decimal_nonempty, length-decimal-le}
-use Rattle.std.proofs.lemmas.List.Elements.{All-nil, All-cons}
+use Rattle.std.proofs.lemmas.List.Elements.{All-nil, All-cons, All-append, All-head, All-tail}
+use Rattle.std.proofs.lemmas.List.{append-nil}
+use Rattle.std.proofs.lemmas.List.Splits.{slice_split_at, slice_split_none}
 use Rattle.line_words.specs.Blanks.{is_blank, is_filled, IsWord}
 use Rattle.line_words.specs.Digits.{is_number}
 use Rattle.line_words.specs.declared.numbers.NumberFault.{NumberFault}
@@ -14,8 +16,11 @@ use Rattle.line_words.specs.declared.numbers.NumberFault.TheVariants.{NotANumber
 use Rattle.line_words.proofs.DigitLaws.{number_of-decimal}
 use Rattle.frame_meaning.specs.declared.cells.What.{What}
 use Rattle.frame_meaning.specs.declared.cells.What.TheVariants.{Media, Nest}
-use Rattle.call_text.specs.CallTexts.{what_text, what_number}
-use Rattle.call_text.specs.Table.{IsThing}
+use Rattle.call_text.specs.CallTexts.{what_text, numbers_after, tracks_text, IsSmallWhat}
+use Rattle.call_text.specs.Spelling.{is_comma}
+use Rattle.call_text.specs.Table.{IsThing, AreTracks, IsTracks}
+use Rattle.edit_insert.specs.TrackSets.{tracks_in}
+use Rattle.call_text.proofs.TrackSets.{tracks_in_spell, tracks_in_below, tracks_in_count}
 
 -- a word that is read as a number is spelled as one
 is_number-read : (b : Bool) (r : Result ℕ NumberFault) (n : ℕ) → (if b then r else Err NotANumber) ≡ Ok n → b ≡ true
@@ -25,11 +30,17 @@ is_number-read false r n h = cc
 no_blank : (byte : ℕ) → is_ascii_digit byte ≡ true → is_blank byte ≡ false
 no_blank byte h = grind (arith, nat_tests)
 
-no_blanks : (word : List ℕ) → list_all is_ascii_digit word ≡ true → All (λ byte. is_blank byte ≡ false) word
-no_blanks [] h = All-nil (λ byte. is_blank byte ≡ false)
-no_blanks (byte ∷ word) h =
+no_comma : (byte : ℕ) → is_ascii_digit byte ≡ true → is_comma byte ≡ false
+no_comma byte h = grind (arith, nat_tests)
+
+digits_fail : (p : ℕ → Bool) → ((byte : ℕ) → is_ascii_digit byte ≡ true → p byte ≡ false) → (word : List ℕ) → list_all is_ascii_digit word ≡ true → All (λ byte. p byte ≡ false) word
+digits_fail p fails [] h = All-nil (λ byte. p byte ≡ false)
+digits_fail p fails (byte ∷ word) h =
     let both = and_parts (is_ascii_digit byte) (list_all is_ascii_digit word) h in
-    All-cons (λ byte. is_blank byte ≡ false) byte word (no_blank byte both.0) (no_blanks word both.1)
+    All-cons (λ byte. p byte ≡ false) byte word (fails byte both.0) (digits_fail p fails word both.1)
+
+are_digits : (n : ℕ) → n < 2 ^ 32 → list_all is_ascii_digit (decimal n) ≡ true
+are_digits n h = (and_parts _ _ (is_number-read (is_number (decimal n)) _ n (number_of-decimal n h))).1
 
 not_blank : (b : Bool) → not b ≡ true → b ≡ false
 not_blank true h = cc
@@ -50,12 +61,65 @@ pub length-decimal : (n : ℕ) → n < 2 ^ 32 → length (decimal n) ≤ 10
 length-decimal n h = length-decimal-le 10 n (omega arith) (omega arith) (omega arith)
 
 pub IsWord-decimal : (n : ℕ) → n < 2 ^ 32 → IsWord (decimal n)
-IsWord-decimal n h =
-    let spelled = is_number-read (is_number (decimal n)) _ n (number_of-decimal n h) in
-    record {
-      filled = decimal_nonempty n (omega arith);
-      no_blank = no_blanks (decimal n) (and_parts _ _ spelled).1;
-    }
+IsWord-decimal n h = record {
+  filled = decimal_nonempty n (omega arith);
+  no_blank = digits_fail is_blank no_blank (decimal n) (are_digits n h);
+}
+
+-- numbers, parted by commas
+no_blank_in : (lead ns : List ℕ) → All (λ byte. is_blank byte ≡ false) lead → All (λ n. n < 32) ns → All (λ byte. is_blank byte ≡ false) (numbers_after lead ns)
+no_blank_in lead [] first h = All-nil (λ byte. is_blank byte ≡ false)
+no_blank_in lead (n ∷ ns) first h =
+    let here = All-head (λ n. n < 32) n ns h in
+    All-append (λ byte. is_blank byte ≡ false) (lead ++ decimal n) (numbers_after (codes ",") ns) (All-append (λ byte. is_blank byte ≡ false) lead (decimal n) first (IsWord-decimal n (omega (arith, here))).no_blank)
+    (no_blank_in (codes ",") ns (none_blank (codes ",") refl) (All-tail (λ n. n < 32) n ns h))
+
+length_of : (lead ns : List ℕ) → length lead ≤ 1 → All (λ n. n < 32) ns → length (numbers_after lead ns) ≤ 11 * length ns
+length_of lead [] first h = omega arith
+length_of lead (n ∷ ns) first h =
+    let here = All-head (λ n. n < 32) n ns h in
+    let digits = length-decimal n (omega (arith, here)) in
+    let more = length_of (codes ",") ns (omega arith) (All-tail (λ n. n < 32) n ns h) in
+    let whole = length-append (lead ++ decimal n) (numbers_after (codes ",") ns) in
+    let front = length-append lead (decimal n) in
+    omega (arith, first, digits, more, whole, front)
+
+split_numbers : (n : ℕ) (ns : List ℕ) → n < 32 → All (λ n. n < 32) ns → slice_split is_comma (numbers_after [] (n ∷ ns)) ≡ map decimal (n ∷ ns)
+split_numbers n [] here h = ap (slice_split is_comma) (append-nil (decimal n)) ∙ slice_split_none is_comma (decimal n) (digits_fail is_comma no_comma (decimal n) (are_digits n (omega (arith, here))))
+split_numbers n (m ∷ ns) here h =
+    slice_split_at is_comma (decimal n) 44 (numbers_after [] (m ∷ ns)) (digits_fail is_comma no_comma (decimal n) (are_digits n (omega (arith, here)))) refl
+    ∙ ap (λ words. decimal n ∷ words) (split_numbers m ns (All-head (λ n. n < 32) m ns h) (All-tail (λ n. n < 32) m ns h))
+
+-- a list of the tracks of a set
+module _ (s : ℕ) (some : 0 < s) (small : s < 2 ^ 32) where
+  first_track : (n : ℕ) × (ns : List ℕ) × (tracks_in s ≡ n ∷ ns)
+  first_track = by (tracks_in s) refl
+    where
+      by : (ts : List ℕ) → tracks_in s ≡ ts → (n : ℕ) × (ns : List ℕ) × (tracks_in s ≡ n ∷ ns)
+      by [] e = let none : s ≡ 0 = subst (λ ts. AreTracks 0 (map decimal ts) s) e (tracks_in_spell s small) in absurd (omega (arith, some, none))
+      by (n ∷ ns) e = (n, ns, e)
+
+  pub IsTracks-tracks_text : IsTracks (tracks_text s) s
+  IsTracks-tracks_text =
+      let first = first_track in
+      let below = subst (All (λ n. n < 32)) first.2 (tracks_in_below s) in
+      let split = split_numbers first.0 first.1 (All-head (λ n. n < 32) first.0 first.1 below) (All-tail (λ n. n < 32) first.0 first.1 below) in
+      let words : slice_split is_comma (tracks_text s) ≡ map decimal (tracks_in s) = rw first.2 split in
+      subst (λ ws. AreTracks 0 ws s) (sym words) (tracks_in_spell s small)
+
+  pub IsWord-tracks_text : IsWord (tracks_text s)
+  IsWord-tracks_text =
+      let first = first_track in
+      let below = subst (All (λ n. n < 32)) first.2 (tracks_in_below s) in
+      let number = IsWord-decimal first.0 (omega (arith, All-head (λ n. n < 32) first.0 first.1 below)) in
+      let whole = length-append (decimal first.0) (numbers_after (codes ",") first.1) in
+      record {
+        filled = rw first.2 (omega (arith, number.filled, whole));
+        no_blank = no_blank_in [] (tracks_in s) (All-nil (λ byte. is_blank byte ≡ false)) (tracks_in_below s);
+      }
+
+  pub length-tracks_text : length (tracks_text s) ≤ 352
+  length-tracks_text = let text = length_of [] (tracks_in s) (omega arith) (tracks_in_below s) in let few = tracks_in_count s in omega (arith, text, few)
 
 -- one byte more in front of a word
 IsWord-cons : (byte : ℕ) (word : List ℕ) → is_blank byte ≡ false → IsWord word → IsWord (byte ∷ word)
@@ -64,14 +128,14 @@ IsWord-cons byte word b w = record {
   no_blank = All-cons (λ byte. is_blank byte ≡ false) byte word b w.no_blank;
 }
 
-pub IsWord-what_text : (w : What) → what_number w < 2 ^ 32 → IsWord (what_text w)
+pub IsWord-what_text : (w : What) → IsSmallWhat w → IsWord (what_text w)
 IsWord-what_text (Media m) h = IsWord-cons 64 (decimal m) refl (IsWord-decimal m h)
 IsWord-what_text (Nest n) h = IsWord-cons 35 (decimal n) refl (IsWord-decimal n h)
 
-pub length-what_text : (w : What) → what_number w < 2 ^ 32 → length (what_text w) ≤ 11
+pub length-what_text : (w : What) → IsSmallWhat w → length (what_text w) ≤ 11
 length-what_text (Media m) h = omega (arith, length-decimal m h)
 length-what_text (Nest n) h = omega (arith, length-decimal n h)
 
-pub IsThing-what_text : (w : What) → what_number w < 2 ^ 32 → IsThing (what_text w) w
+pub IsThing-what_text : (w : What) → IsSmallWhat w → IsThing (what_text w) w
 IsThing-what_text (Media m) h = (decimal m, refl, number_of-decimal m h)
 IsThing-what_text (Nest n) h = (decimal n, refl, number_of-decimal n h)

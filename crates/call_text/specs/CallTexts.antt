@@ -1,34 +1,63 @@
 -- The text of a call: its line with one space between words, places as numbers, and numbers without leading zeros.
-use Rattle.std.specs.Prelude.{ℕ, ◌<◌, ◌≤◌, ◌^◌, List, ◌++◌, codes, decimal}
+use Rattle.std.specs.Prelude.{ℕ, ◌<◌, ◌≤◌, ◌^◌, List, [], ◌∷◌, ◌++◌, codes, decimal}
 use Rattle.frame_meaning.specs.declared.cells.What.{What}
 use Rattle.frame_meaning.specs.declared.cells.What.TheVariants.{Media, Nest}
-use Rattle.composables.specs.declared.calls.Overwrite.{Overwrite}
+use Rattle.edit_insert.specs.TrackSets.{tracks_in}
 use Rattle.edit_apply.specs.declared.asks.Call.{Call}
 use Rattle.edit_apply.specs.declared.asks.Call.TheVariants as call
+use Rattle.call_text.specs.declared.lines.Line.{Line}
+use Rattle.call_text.specs.declared.lines.Line.TheVariants.{Edit, Ask, Point}
+use Rattle.call_text.specs.declared.parts.TheConstants.{LAST_TRACK}
 
 -- `@` and the number of a media entry, or `#` and the number of a nest
 abbrev pub what_text : What → List ℕ
 what_text (Media m) = codes "@" ++ decimal m
 what_text (Nest n) = codes "#" ++ decimal n
 
-abbrev pub overwrite_text : Overwrite → List ℕ
-overwrite_text c =
-    codes "overwrite " ++ decimal c.track ++ codes " " ++ decimal c.at ++ codes " " ++ what_text c.what ++ codes " " ++ decimal c.from ++ codes " " ++ decimal c.len
+-- numbers, parted by commas; `lead` stands before the first
+abbrev pub numbers_after : List ℕ → List ℕ → List ℕ
+numbers_after lead [] = []
+numbers_after lead (n ∷ ns) = lead ++ decimal n ++ numbers_after (codes ",") ns
+
+-- the tracks of a set, ascending
+abbrev pub tracks_text : ℕ → List ℕ
+tracks_text set = numbers_after [] (tracks_in set)
+
+-- a thing, a source frame of it, and a count of frames
+abbrev pub frames_text : What → ℕ → ℕ → List ℕ
+frames_text what from len = what_text what ++ codes " " ++ decimal from ++ codes " " ++ decimal len
 
 abbrev pub call_text_of : Call → List ℕ
-call_text_of (call.Overwrite c) = overwrite_text c
+call_text_of (call.Overwrite c) = codes "overwrite " ++ decimal c.track ++ codes " " ++ decimal c.at ++ codes " " ++ frames_text c.what c.from c.len
+call_text_of (call.Insert c) =
+    codes "insert " ++ tracks_text c.tracks ++ codes " " ++ decimal c.track ++ codes " " ++ decimal c.at ++ codes " " ++ frames_text c.what c.from c.len
+call_text_of (call.Remove c) = codes "remove " ++ decimal c.track ++ codes " " ++ decimal c.item
+call_text_of (call.Extract c) = codes "extract " ++ tracks_text c.tracks ++ codes " " ++ decimal c.track ++ codes " " ++ decimal c.item
+call_text_of (call.Slice c) = codes "slice " ++ decimal c.track ++ codes " " ++ decimal c.at
 
--- a call whose text is a line: its numbers have 32 bits, and its track is one of the 32 that a line can name
-abbrev pub what_number : What → ℕ
-what_number (Media m) = m
-what_number (Nest n) = n
+-- a number of 32 bits
+abbrev pub IsSmall : ℕ → Type 0
+IsSmall n = n < 2 ^ 32
 
-pub record IsWrittenOverwrite (c : Overwrite) : Type 0 where
-  pub track : c.track ≤ 31
-  pub at : c.at < 2 ^ 32
-  pub what : what_number c.what < 2 ^ 32
-  pub from : c.from < 2 ^ 32
-  pub len : c.len < 2 ^ 32
+abbrev pub IsSmallWhat : What → Type 0
+IsSmallWhat (Media m) = IsSmall m
+IsSmallWhat (Nest n) = IsSmall n
 
+-- at least one track, and none over 31
+abbrev pub IsSomeTracks : ℕ → Type 0
+IsSomeTracks set = (0 < set) × IsSmall set
+
+-- a call whose text is a line: its numbers have 32 bits, it names at least one track, and its tracks are among the 32
+-- that a line can name
 abbrev pub IsWritten : Call → Type 0
-IsWritten (call.Overwrite c) = IsWrittenOverwrite c
+IsWritten (call.Overwrite c) = (c.track ≤ LAST_TRACK) × IsSmall c.at × IsSmallWhat c.what × IsSmall c.from × IsSmall c.len
+IsWritten (call.Insert c) = IsSomeTracks c.tracks × (c.track ≤ LAST_TRACK) × IsSmall c.at × IsSmallWhat c.what × IsSmall c.from × IsSmall c.len
+IsWritten (call.Remove c) = (c.track ≤ LAST_TRACK) × IsSmall c.item
+IsWritten (call.Extract c) = IsSomeTracks c.tracks × (c.track ≤ LAST_TRACK) × IsSmall c.item
+IsWritten (call.Slice c) = (c.track ≤ LAST_TRACK) × IsSmall c.at
+
+-- the line is no edit, or an edit that can be written and read again
+abbrev pub NamesWritten : Line → Type 0
+NamesWritten (Edit c) = IsWritten c
+NamesWritten (Ask q) = Unit {0}
+NamesWritten Point = Unit {0}

@@ -1,5 +1,5 @@
 pub mod CallTexts
-pub mod Gives
+pub mod Faults
 pub mod Journals
 pub mod Labels
 pub mod Reading

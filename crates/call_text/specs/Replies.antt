@@ -1,14 +1,13 @@
--- The reply to an edit, and to a line that is none of the table. The point is the place of the edit's entry in the
--- journal, or the journal's length where the edit is refused.
-use Rattle.std.specs.Prelude.{ℕ, ℤ, List, [], ◌++◌, Result, Ok, Err, codes, decimal}
+-- The reply to an edit, and to a line that is none of the table.
+use Rattle.std.specs.Prelude.{ℕ, ℤ, List, [], ◌++◌, codes, decimal}
 use Rattle.std.specs.Fmt.{signed_decimal}
 use Rattle.composables.specs.declared.refusals.Done.{Done}
 use Rattle.composables.specs.declared.refusals.Done.TheVariants.{Plain, Item, By, Linked}
 use Rattle.composables.specs.declared.refusals.Refusal.{Refusal}
 use Rattle.composables.specs.declared.refusals.Refusal.TheVariants.{NoTrack, NoItem, NoMedia, EmptyRange, MediaEnds, NotAGap, NotACut, DissolveRoom, OffsetsDiffer, AlreadyLinked, LinkOutside, LinkBroken, TooLong, TooManyItems}
 use Rattle.composables.specs.declared.refusals.Which.TheVariants.{Left, Right}
-use Rattle.composables.specs.declared.refusals.EditFault.{EditFault}
-use Rattle.composables.specs.declared.refusals.EditFault.TheVariants as edit
+use Rattle.call_text.specs.declared.answers.Answer.{Answer}
+use Rattle.call_text.specs.declared.answers.Answer.TheVariants as answer
 use Rattle.call_text.specs.declared.lines.LineFault.{LineFault}
 use Rattle.call_text.specs.declared.lines.LineFault.TheVariants as line
 
@@ -45,16 +44,12 @@ refusal_text (LinkBroken home number old new) = codes " E12 " ++ link_text home 
 refusal_text (TooLong track) = codes " E13 " ++ decimal track
 refusal_text (TooManyItems track) = codes " E14 " ++ decimal track
 
--- the reply to an edit that was done or refused
-abbrev pub reply_of : ℕ → Result Done Refusal → List ℕ
-reply_of point (Ok done) = codes "ok " ++ decimal point ++ done_text done
-reply_of point (Err refusal) = codes "no " ++ decimal point ++ refusal_text refusal
-
--- the reply to an edit, for which memory may have run out
-abbrev pub edit_reply_of : ℕ → Result Done EditFault → List ℕ
-edit_reply_of point (Ok done) = reply_of point (Ok done)
-edit_reply_of point (Err (edit.Refused refusal)) = reply_of point (Err refusal)
-edit_reply_of point (Err edit.Memory) = codes "memory"
+-- the reply to an edit
+abbrev pub answer_text_of : Answer → List ℕ
+answer_text_of (answer.Done point done) = codes "ok " ++ decimal point ++ done_text done
+answer_text_of (answer.Refused point refusal) = codes "no " ++ decimal point ++ refusal_text refusal
+answer_text_of (answer.Full point) = codes "no " ++ decimal point ++ codes " E15"
+answer_text_of answer.Memory = codes "memory"
 
 -- the reply to a line that is none of the table
 abbrev pub fault_of : LineFault → List ℕ

@@ -1,5 +1,5 @@
 -- The reply to a question to a track: the runs of the frames shown, or the items and gaps, in order.
-use Rattle.std.specs.Prelude.{ℕ, List, [], ◌++◌, Option, Some, None, Result, Ok, Err, codes, decimal}
+use Rattle.std.specs.Prelude.{ℕ, List, [], ◌++◌, Option, Some, None, codes, decimal}
 use Rattle.std.specs.List.{flat_map}
 use Rattle.frame_meaning.specs.declared.cells.What.{What}
 use Rattle.frame_meaning.specs.declared.cells.Mark.{Mark}
@@ -14,6 +14,8 @@ use Rattle.edit_apply.specs.declared.asks.Seen.{Seen}
 use Rattle.edit_apply.specs.declared.asks.Seen.TheVariants.{Runs, Items}
 use Rattle.edit_apply.specs.declared.asks.AskRefusal.{AskRefusal}
 use Rattle.edit_apply.specs.declared.asks.AskRefusal.TheVariants.{NoTrack, Range}
+use Rattle.call_text.specs.declared.answers.Sight.{Sight}
+use Rattle.call_text.specs.declared.answers.Sight.TheVariants as sight
 use Rattle.call_text.specs.CallTexts.{what_text}
 use Rattle.call_text.specs.Replies.{link_text}
 
@@ -53,8 +55,18 @@ item_link_text (Some link) = codes " link " ++ link_text link.home link.number
 abbrev pub item_text : ItemView → List ℕ
 item_text view = mark_text view.mark ++ number_text view.item ++ side_text view.first ++ codes " " ++ decimal view.len ++ item_link_text view.link
 
-abbrev pub seen_of : ℕ → Result Seen AskRefusal → List ℕ
-seen_of point (Ok (Runs runs)) = codes "seen " ++ decimal point ++ flat_map run_text runs
-seen_of point (Ok (Items views)) = codes "items " ++ decimal point ++ flat_map item_text views
-seen_of point (Err (NoTrack track)) = codes "no " ++ decimal point ++ codes " V1 " ++ decimal track
-seen_of point (Err (Range length)) = codes "no " ++ decimal point ++ codes " V2 " ++ decimal length
+-- what was seen at a point
+abbrev pub seen_text : ℕ → Seen → List ℕ
+seen_text point (Runs runs) = codes "seen " ++ decimal point ++ flat_map run_text runs
+seen_text point (Items views) = codes "items " ++ decimal point ++ flat_map item_text views
+
+-- why a question was refused
+abbrev pub ask_refusal_text : AskRefusal → List ℕ
+ask_refusal_text (NoTrack track) = codes " V1 " ++ decimal track
+ask_refusal_text (Range length) = codes " V2 " ++ decimal length
+
+-- the reply to a question
+abbrev pub sight_text_of : Sight → List ℕ
+sight_text_of (sight.Seen point seen) = seen_text point seen
+sight_text_of (sight.Refused point refusal) = codes "no " ++ decimal point ++ ask_refusal_text refusal
+sight_text_of sight.Memory = codes "memory"

@@ -1,6 +1,7 @@
 -- How the parts of a line are spelled, each as what its word says, or why the word is wrong: B3 where it is not spelled
--- so, B4 where its number is past its bound. This project's own protocol.
-use Rattle.std.specs.Prelude.{ℕ, List, [], ◌∷◌, Option, Some, None, Result, Ok, Err, nat_le, ◌==◌, if◌then◌else◌}
+-- so, B4 where a number is past its bound, B6 where a list of tracks does not rise. This project's own protocol.
+use Rattle.std.specs.Prelude.{ℕ, ◌+◌, ◌^◌, Bool, List, [], ◌∷◌, Option, Some, None, Result, Ok, Err, nat_le, ◌==◌, if◌then◌else◌}
+use Rattle.std.specs.List.{slice_split}
 use Rattle.line_words.specs.Digits.{number_of}
 use Rattle.line_words.specs.declared.numbers.NumberFault.{NumberFault}
 use Rattle.line_words.specs.declared.numbers.NumberFault.TheVariants.{NotANumber, TooLarge}
@@ -8,7 +9,7 @@ use Rattle.frame_meaning.specs.declared.cells.What.{What}
 use Rattle.frame_meaning.specs.declared.cells.What.TheVariants.{Media, Nest}
 use Rattle.call_text.specs.declared.parts.TheConstants.{LAST_TRACK}
 use Rattle.call_text.specs.declared.lines.LineFault.{LineFault}
-use Rattle.call_text.specs.declared.lines.LineFault.TheVariants.{B3, B4}
+use Rattle.call_text.specs.declared.lines.LineFault.TheVariants.{B3, B4, B6}
 
 -- go on with what was read, or end at the first fault
 infixl 10 ◌>>=◌
@@ -33,6 +34,27 @@ abbrev pub track_of : List ℕ → Result ℕ LineFault
 track_of word = do
   track ← numeral_of word
   if nat_le track LAST_TRACK then Ok track else Err B4
+
+-- tracks parted by commas (44)
+abbrev pub is_comma : ℕ → Bool
+is_comma byte = byte == 44
+
+-- what stands between the commas of a list, if there is one
+abbrev pub listed_in : Option (List ℕ) → List (List ℕ)
+listed_in None = []
+listed_in (Some list) = slice_split is_comma list
+
+-- the set, to which the tracks of these words are added in which bit t stands for track t: from the left, each is a
+-- track and is above the one before, that is at least `least`
+abbrev pub set_with : ℕ → ℕ → List (List ℕ) → Result ℕ LineFault
+set_with least set [] = Ok set
+set_with least set (word ∷ words) = do
+  track ← track_of word
+  if nat_le least track then set_with (track + 1) (set + 2 ^ track) words else Err B6
+
+-- a set of tracks: tracks parted by commas, strictly ascending
+abbrev pub tracks_of : List ℕ → Result ℕ LineFault
+tracks_of word = set_with 0 0 (slice_split is_comma word)
 
 -- the place of a label, where it names one
 abbrev pub place_or_fault : Option ℕ → Result ℕ LineFault

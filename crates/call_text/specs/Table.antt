@@ -1,16 +1,21 @@
 -- What the lines of the table are, word by word. place_at says which place a label names.
-use Rattle.std.specs.Prelude.{◌≡◌, ℕ, ◌≤◌, ◌⊎◌, List, [], ◌∷◌, ◌++◌, Option, Some, Ok, Err, length, codes}
+use Rattle.std.specs.Prelude.{◌≡◌, ℕ, ◌+◌, ◌^◌, ◌≤◌, ◌⊎◌, List, [], ◌∷◌, ◌++◌, Option, Some, Ok, Err, length, codes}
+use Rattle.std.specs.List.{slice_split}
 use Rattle.line_words.specs.Blanks.{words_of}
 use Rattle.line_words.specs.Digits.{number_of}
 use Rattle.line_words.specs.declared.TheConstants.{MAX_LINE}
 use Rattle.line_words.specs.declared.numbers.NumberFault.TheVariants.{NotANumber}
 use Rattle.frame_meaning.specs.declared.cells.What.{What}
 use Rattle.frame_meaning.specs.declared.cells.What.TheVariants.{Media, Nest}
+use Rattle.edit_apply.specs.declared.asks.Call.{Call}
 use Rattle.edit_apply.specs.declared.asks.Call.TheVariants as call
 use Rattle.edit_apply.specs.declared.asks.Ask.TheVariants as ask
 use Rattle.call_text.specs.declared.parts.TheConstants.{LAST_TRACK}
 use Rattle.call_text.specs.declared.lines.Line.{Line}
 use Rattle.call_text.specs.declared.lines.Line.TheVariants.{Edit, Ask, Point}
+use Rattle.call_text.specs.declared.commands.Command.{Command}
+use Rattle.call_text.specs.declared.commands.Command.TheVariants as command
+use Rattle.call_text.specs.Spelling.{is_comma}
 
 -- the word is this number, with leading zeros or without
 abbrev pub IsNumeral : List ℕ → ℕ → Type 0
@@ -18,6 +23,16 @@ IsNumeral word n = number_of word ≡ Ok n
 
 abbrev pub IsTrack : List ℕ → ℕ → Type 0
 IsTrack word track = IsNumeral word track × (track ≤ LAST_TRACK)
+
+-- the words are tracks, each above the one before and at least `least`, and the set has a bit for each and no other
+abbrev pub AreTracks : ℕ → List (List ℕ) → ℕ → Type 0
+AreTracks least [] set = set ≡ 0
+AreTracks least (word ∷ words) set =
+    (track : ℕ) × (others : ℕ) × IsTrack word track × (least ≤ track) × (set ≡ 2 ^ track + others) × AreTracks (track + 1) words others
+
+-- the word is these tracks, parted by commas, strictly ascending
+abbrev pub IsTracks : List ℕ → ℕ → Type 0
+IsTracks word set = AreTracks 0 (slice_split is_comma word) set
 
 -- the number of the place, or a label that names it
 abbrev pub IsPlace : (List ℕ → Option ℕ) → List ℕ → ℕ → Type 0
@@ -27,15 +42,40 @@ abbrev pub IsThing : List ℕ → What → Type 0
 IsThing word (Media m) = (digits : List ℕ) × (word ≡ codes "@" ++ digits) × IsNumeral digits m
 IsThing word (Nest n) = (digits : List ℕ) × (word ≡ codes "#" ++ digits) × IsNumeral digits n
 
--- overwrite T P WHAT FROM LEN · view T P P · items T · point
-abbrev pub AreWords : (List ℕ → Option ℕ) → List (List ℕ) → Line → Type 0
-AreWords place_at words (Edit (call.Overwrite c)) =
-    (track at what from len : List ℕ) × (words ≡ codes "overwrite" ∷ track ∷ at ∷ what ∷ from ∷ len ∷ [])
+-- the first word of a command's lines
+abbrev pub word_of : Command → List ℕ
+word_of command.Overwrite = codes "overwrite"
+word_of command.Insert = codes "insert"
+word_of command.Remove = codes "remove"
+word_of command.Extract = codes "extract"
+word_of command.Slice = codes "slice"
+word_of command.View = codes "view"
+word_of command.Items = codes "items"
+word_of command.Point = codes "point"
+
+-- overwrite T P WHAT FROM LEN · insert TS T P WHAT FROM LEN · remove T I · extract TS T I · slice T P
+abbrev pub AreCall : (List ℕ → Option ℕ) → List (List ℕ) → Call → Type 0
+AreCall place_at words (call.Overwrite c) =
+    (track at what from len : List ℕ) × (words ≡ word_of command.Overwrite ∷ track ∷ at ∷ what ∷ from ∷ len ∷ [])
     × IsTrack track c.track × IsPlace place_at at c.at × IsThing what c.what × IsNumeral from c.from × IsNumeral len c.len
+AreCall place_at words (call.Insert c) =
+    (tracks track at what from len : List ℕ) × (words ≡ word_of command.Insert ∷ tracks ∷ track ∷ at ∷ what ∷ from ∷ len ∷ [])
+    × IsTracks tracks c.tracks × IsTrack track c.track × IsPlace place_at at c.at × IsThing what c.what × IsNumeral from c.from × IsNumeral len c.len
+AreCall place_at words (call.Remove c) =
+    (track item : List ℕ) × (words ≡ word_of command.Remove ∷ track ∷ item ∷ []) × IsTrack track c.track × IsNumeral item c.item
+AreCall place_at words (call.Extract c) =
+    (tracks track item : List ℕ) × (words ≡ word_of command.Extract ∷ tracks ∷ track ∷ item ∷ [])
+    × IsTracks tracks c.tracks × IsTrack track c.track × IsNumeral item c.item
+AreCall place_at words (call.Slice c) =
+    (track at : List ℕ) × (words ≡ word_of command.Slice ∷ track ∷ at ∷ []) × IsTrack track c.track × IsPlace place_at at c.at
+
+-- a call · view T P P · items T · point
+abbrev pub AreWords : (List ℕ → Option ℕ) → List (List ℕ) → Line → Type 0
+AreWords place_at words (Edit c) = AreCall place_at words c
 AreWords place_at words (Ask (ask.View track a b)) =
-    (named from to : List ℕ) × (words ≡ codes "view" ∷ named ∷ from ∷ to ∷ []) × IsTrack named track × IsPlace place_at from a × IsPlace place_at to b
-AreWords place_at words (Ask (ask.Items track)) = (named : List ℕ) × (words ≡ codes "items" ∷ named ∷ []) × IsTrack named track
-AreWords place_at words Point = words ≡ codes "point" ∷ []
+    (named from to : List ℕ) × (words ≡ word_of command.View ∷ named ∷ from ∷ to ∷ []) × IsTrack named track × IsPlace place_at from a × IsPlace place_at to b
+AreWords place_at words (Ask (ask.Items track)) = (named : List ℕ) × (words ≡ word_of command.Items ∷ named ∷ []) × IsTrack named track
+AreWords place_at words Point = words ≡ word_of command.Point ∷ []
 
 -- the bytes are this line
 pub record IsLine (place_at : List ℕ → Option ℕ) (bytes : List ℕ) (line : Line) : Type 0 where

@@ -1,10 +1,12 @@
 // Calls as text.
-ghost use Rattle.std.specs.Prelude.{◌≡◌, ◌++◌, IfOk, OnOk};
-ghost use Rattle.call_text.specs.CallTexts.{call_text_of, overwrite_text};
+ghost use Rattle.std.specs.Prelude.{◌≡◌, ◌<◌, ◌++◌, codes, IfOk, OnOk};
+ghost use Rattle.edit_insert.specs.TrackSets.{has_track};
+ghost use Rattle.call_text.specs.CallTexts.{call_text_of, frames_text, tracks_text};
 
 use crate::bytes::{put, put_number, put_what};
-use composables::{Memory, Overwrite};
+use composables::Memory;
 use edit_apply::Call;
+use frame_meaning::What;
 use std::alloc::Global;
 
 /// The text of a call: its line, without its line feed.
@@ -20,17 +22,61 @@ pub(crate) fn put_call(out: &mut Vec<u8>, call: &Call) -> Result<(), Memory>
     ensures { OnOk result (out.new.items ≡ out.old.items ++ call_text_of call.now) }
 {
     match call {
-        Call::Overwrite(overwrite) => put_overwrite(out, overwrite),
+        Call::Overwrite(edit) => {
+            put_number(out, b"overwrite ", edit.track)?;
+            put_number(out, b" ", edit.at)?;
+            put_frames(out, &edit.what, edit.from, edit.len)
+        }
+        Call::Insert(edit) => {
+            put_tracks(out, b"insert ", edit.tracks)?;
+            put_number(out, b" ", edit.track)?;
+            put_number(out, b" ", edit.at)?;
+            put_frames(out, &edit.what, edit.from, edit.len)
+        }
+        Call::Remove(edit) => {
+            put_number(out, b"remove ", edit.track)?;
+            put_number(out, b" ", edit.item)
+        }
+        Call::Extract(edit) => {
+            put_tracks(out, b"extract ", edit.tracks)?;
+            put_number(out, b" ", edit.track)?;
+            put_number(out, b" ", edit.item)
+        }
+        Call::Slice(edit) => {
+            put_number(out, b"slice ", edit.track)?;
+            put_number(out, b" ", edit.at)
+        }
     }
 }
 
-fn put_overwrite(out: &mut Vec<u8>, overwrite: &Overwrite) -> Result<(), Memory>
-    ensures { OnOk result (out.new.items ≡ out.old.items ++ overwrite_text overwrite.now) }
+// A space and a thing, a source frame of it, and a count of frames.
+fn put_frames(out: &mut Vec<u8>, what: &What, from: u32, len: u32) -> Result<(), Memory>
+    ensures { OnOk result (out.new.items ≡ out.old.items ++ (codes " " ++ frames_text what.now from len)) }
 {
-    put_number(out, b"overwrite ", overwrite.track)?;
-    put_number(out, b" ", overwrite.at)?;
     put(out, b" ")?;
-    put_what(out, &overwrite.what)?;
-    put_number(out, b" ", overwrite.from)?;
-    put_number(out, b" ", overwrite.len)
+    put_what(out, what)?;
+    put_number(out, b" ", from)?;
+    put_number(out, b" ", len)
+}
+
+// A text and the tracks of a set, parted by commas.
+fn put_tracks(out: &mut Vec<u8>, first: &[u8], tracks: u32) -> Result<(), Memory>
+    ensures { OnOk result (out.new.items ≡ out.old.items ++ (first.now ++ tracks_text tracks)) }
+{
+    put(out, first)?;
+    let mut lead = b"".as_slice();
+    for track in 0..32 {
+        if has_track(tracks, track) {
+            put_number(out, lead, track)?;
+            lead = b",";
+        }
+    }
+    Ok(())
+}
+
+fn has_track(tracks: u32, track: u32) -> bool
+    requires { track < 32 }
+    ensures { result ≡ has_track tracks track }
+{
+    (tracks >> track) & 1 == 1
 }

@@ -6,6 +6,10 @@ ghost use Rattle.call_text.specs.Reading.{command_of};
 #[derive(Clone, Copy, Debug, PartialEq, Eq)]
 pub enum Command {
     Overwrite,
+    Insert,
+    Remove,
+    Extract,
+    Slice,
     View,
     Items,
     Point,
@@ -18,6 +22,14 @@ impl Command {
     {
         if word == b"overwrite".as_slice() {
             Some(Command::Overwrite)
+        } else if word == b"insert".as_slice() {
+            Some(Command::Insert)
+        } else if word == b"remove".as_slice() {
+            Some(Command::Remove)
+        } else if word == b"extract".as_slice() {
+            Some(Command::Extract)
+        } else if word == b"slice".as_slice() {
+            Some(Command::Slice)
         } else if word == b"view".as_slice() {
             Some(Command::View)
         } else if word == b"items".as_slice() {

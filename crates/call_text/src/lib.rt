@@ -5,10 +5,10 @@
 //! defined case by case, in `specs/`.
 #![tactic(auto)]
 
+mod answers;
 mod bytes;
 mod calls;
 mod commands;
-mod counted;
 mod entries;
 mod journal;
 mod labels;
@@ -19,19 +19,24 @@ mod reading;
 mod replies;
 mod short_text;
 mod sights;
+mod words;
 
+pub use answers::{Answer, Sight};
 pub use calls::call_text;
 pub use commands::Command;
 pub use composables::Memory;
 pub use entries::Entry;
 pub use journal::journal_text;
-pub use laws::{labels_name_places, lines_are_those_of_the_table, written_calls_are_read};
+pub use laws::{
+    faults_are_those_of_the_table, labels_name_places, lines_are_those_of_the_table,
+    lines_have_one_meaning, written_calls_are_read,
+};
 pub use lines::{Line, LineFault};
 pub use parts::LAST_TRACK;
 pub use reading::read_line;
-pub use replies::{fault_text, reply_text};
-pub use short_text::{MAX_SHORT, Short};
-pub use sights::seen_text;
+pub use replies::{answer_text, fault_text, point_text};
+pub use short_text::{MAX_SHORT, MAX_SHORT_LINE, Short};
+pub use sights::sight_text;
 
 #[cfg(test)]
 mod tests;

@@ -7,30 +7,32 @@ use edit_apply::{Ask, Call};
 use line_words::NumberFault;
 
 /// A line that a station sends: an edit, a question to a track, or the question how long the journal is.
-#[derive(Clone, Copy, Debug, PartialEq, Eq)]
+#[derive(Clone, Debug, PartialEq, Eq, Drop)]
 pub enum Line {
     Edit(Call),
     Ask(Ask),
     Point,
 }
 
-/// Why a line is none of the table: the first of these that holds, where the words are looked at from left to right.
+/// Why a line is none of the table: the first of these that holds, in the order of `specs/Faults.antt`, where the words
+/// are looked at from left to right.
 #[derive(Clone, Copy, Debug, PartialEq, Eq)]
 pub enum LineFault {
     /// The first word is not in the table.
     B1,
     /// The line has no word, or not as many as any row with its first word.
     B2,
-    /// A word is not spelled as its place in the row wants, or is a label that the counting does not have or that names
-    /// a frame before the start.
+    /// A word is not spelled as its part of the row: a number that is not decimal digits, a thing without `@` or `#` and a
+    /// number, a list with a track that is no number, or a place that is no number and no label, or a label that the
+    /// counting does not have or that names a frame before the start.
     B3,
-    /// A number is past its bound.
+    /// A number is past its bound: a track over 31, or any number over 4,294,967,295.
     B4,
-    /// The line has more than 1,024 bytes.
+    /// The line has more than 1,024 bytes before its line feed, its carriage return counted.
     B5,
-    /// A list of tracks does not rise strictly.
+    /// A list of tracks has one that is not above the one before.
     B6,
-    /// Want of memory.
+    /// Want of memory. No line of today's table takes memory.
     Memory,
 }
 

@@ -1,7 +1,8 @@
 // The parts of a line.
-ghost use Rattle.std.specs.Prelude.{◌≡◌};
+ghost use Rattle.std.specs.Prelude.{◌≡◌, ◌<◌, ◌≤◌, ◌∷◌, IfOk, IfSome, length, option_map, position};
+ghost use Rattle.std.specs.List.{slice_split};
 ghost use Rattle.call_text.specs.Labels.{place_by};
-ghost use Rattle.call_text.specs.Spelling.{numeral_of, track_of, place_of, what_of};
+ghost use Rattle.call_text.specs.Spelling.{numeral_of, track_of, is_comma, listed_in, tracks_of, place_of, what_of};
 
 use crate::LineFault;
 use crate::labels::label_place;
@@ -19,13 +20,56 @@ pub(crate) fn numeral(word: &[u8]) -> Result<u32, LineFault>
 }
 
 pub(crate) fn track(word: &[u8]) -> Result<u32, LineFault>
-    ensures { result ≡ track_of word.now }
+    ensures read { result ≡ track_of word.now }
+    ensures bound { IfOk result (λ track. track ≤ LAST_TRACK) }
 {
     let track = numeral(word)?;
     if track > LAST_TRACK {
         return Err(LineFault::B4);
     }
     Ok(track)
+}
+
+// A set of tracks, bit t for track t, of a list that rises strictly.
+pub(crate) fn tracks(list: &[u8]) -> Result<u32, LineFault>
+    ensures read { result ≡ tracks_of list.now }
+    ensures some { IfOk result (λ set. 0 < set) }
+{
+    let mut set = 0;
+    let mut least = 0;
+    let mut rest = Some(list);
+    while let Some(listed) = rest {
+        let (word, more) = first_listed(listed);
+        let track = track(word)?;
+        if track < least {
+            return Err(LineFault::B6);
+        }
+        set += 1 << track;
+        least = track + 1;
+        rest = more;
+    }
+    Ok(set)
+}
+
+// What stands before the first comma of a list, and the list behind it, where there is a comma.
+fn first_listed(list: &[u8]) -> (&[u8], Option<&[u8]>)
+    ensures words { slice_split is_comma list.now ≡ result.0.now ∷ listed_in (option_map (λ more. more.now) result.1) }
+    ensures less { IfSome result.1 (λ more. length more.now < length list.now) }
+{
+    match comma_at(list) {
+        Some(at) => {
+            let (_, more) = list.split_at(at + 1);
+            (&list[..at], Some(more))
+        }
+        None => (list, None),
+    }
+}
+
+fn comma_at(list: &[u8]) -> Option<usize>
+    ensures at { result ≡ position is_comma list.now }
+    ensures within { IfSome result (λ at. at < length list.now) }
+{
+    list.iter().position(|byte| *byte == b',')
 }
 
 // A place in record frames from the start.

@@ -1,13 +1,14 @@
 // Lines that a station sends, by the table.
-ghost use Rattle.std.specs.Prelude.{◌≡◌};
+ghost use Rattle.std.specs.Prelude.{◌≡◌, IfOk, map};
 ghost use Rattle.line_words.specs.Blanks.{words_of};
+ghost use Rattle.call_text.specs.CallTexts.{NamesWritten};
 ghost use Rattle.call_text.specs.Labels.{place_by};
-ghost use Rattle.call_text.specs.Reading.{overwrite_of, view_of, items_of, point_of, line_of};
+ghost use Rattle.call_text.specs.Reading.{overwrite_of, insert_of, remove_of, extract_of, slice_of, view_of, items_of, point_of, row_of, line_of};
 
-use crate::counted::{first_word, five_words, no_word, one_word, three_words};
-use crate::parts::{numeral, place, track, what};
+use crate::parts::{numeral, place, track, tracks, what};
+use crate::words::{first_word, line_words};
 use crate::{Command, Line, LineFault};
-use composables::Overwrite;
+use composables::{Extract, Insert, Overwrite, Remove, Slice};
 use edit_apply::{Ask, Call};
 use line_words::MAX_LINE;
 use std::alloc::Global;
@@ -23,64 +24,183 @@ pub fn read_line(
     counting: &Counting,
     start: u32,
 ) -> Result<Line, LineFault>
-    ensures { result ≡ line_of (place_by counting.now start) line.now }
+    ensures read { result ≡ line_of (place_by counting.now start) line.now }
+    ensures written { IfOk result (λ read. NamesWritten read) }
 {
     if line.len() > MAX_LINE {
         return Err(LineFault::B5);
     }
-    let (first, words) = first_word(line)?;
+    let (first, rest) = first_word(line)?;
     match Command::of_word(first) {
-        Some(Command::Overwrite) => overwrite(words, counting, start),
-        Some(Command::View) => view(words, counting, start),
-        Some(Command::Items) => items(words),
-        Some(Command::Point) => point(words),
+        Some(command) => row(command, rest, counting, start),
         None => Err(LineFault::B1),
     }
 }
 
-// overwrite T P WHAT FROM LEN
-fn overwrite(words: &[u8], counting: &Counting, start: u32) -> Result<Line, LineFault>
-    ensures { result ≡ overwrite_of (place_by counting.now start) (words_of words.now) }
+// The line whose words behind the first stand here.
+fn row(
+    command: Command,
+    rest: &[u8],
+    counting: &Counting,
+    start: u32,
+) -> Result<Line, LineFault>
+    ensures read { result ≡ row_of (place_by counting.now start) command (words_of rest.now) }
+    ensures written { IfOk result (λ read. NamesWritten read) }
 {
-    let word = five_words(words)?;
-    let track = track(word.0)?;
-    let at = place(word.1, counting, start)?;
-    let what = what(word.2)?;
-    let from = numeral(word.3)?;
-    let len = numeral(word.4)?;
-    Ok(Line::Edit(Call::Overwrite(Overwrite {
-        track,
-        at,
-        what,
-        from,
-        len,
-    })))
+    let kept = match line_words(rest) {
+        Some(kept) => kept,
+        None => return Err(LineFault::B2),
+    };
+    let words = kept.as_slice();
+    match command {
+        Command::Overwrite => overwrite(words, counting, start),
+        Command::Insert => insert(words, counting, start),
+        Command::Remove => remove(words),
+        Command::Extract => extract(words),
+        Command::Slice => slice(words, counting, start),
+        Command::View => view(words, counting, start),
+        Command::Items => items(words),
+        Command::Point => point(words),
+    }
+}
+
+// overwrite T P WHAT FROM LEN
+fn overwrite(words: &[&[u8]], counting: &Counting, start: u32) -> Result<Line, LineFault>
+    ensures read { result ≡ overwrite_of (place_by counting.now start) (map (λ w. w.now) words.now) }
+    ensures written { IfOk result (λ read. NamesWritten read) }
+{
+    match words {
+        [track_word, at, thing, from, len] => {
+            let track = track(track_word)?;
+            let at = place(at, counting, start)?;
+            let what = what(thing)?;
+            let from = numeral(from)?;
+            let len = numeral(len)?;
+            Ok(Line::Edit(Call::Overwrite(Overwrite {
+                track,
+                at,
+                what,
+                from,
+                len,
+            })))
+        }
+        _ => Err(LineFault::B2),
+    }
+}
+
+// insert TS T P WHAT FROM LEN
+fn insert(words: &[&[u8]], counting: &Counting, start: u32) -> Result<Line, LineFault>
+    ensures read { result ≡ insert_of (place_by counting.now start) (map (λ w. w.now) words.now) }
+    ensures written { IfOk result (λ read. NamesWritten read) }
+{
+    match words {
+        [list, track_word, at, thing, from, len] => {
+            let tracks = tracks(list)?;
+            let track = track(track_word)?;
+            let at = place(at, counting, start)?;
+            let what = what(thing)?;
+            let from = numeral(from)?;
+            let len = numeral(len)?;
+            Ok(Line::Edit(Call::Insert(Insert {
+                tracks,
+                track,
+                at,
+                what,
+                from,
+                len,
+            })))
+        }
+        _ => Err(LineFault::B2),
+    }
+}
+
+// remove T I
+fn remove(words: &[&[u8]]) -> Result<Line, LineFault>
+    ensures read { result ≡ remove_of (map (λ w. w.now) words.now) }
+    ensures written { IfOk result (λ read. NamesWritten read) }
+{
+    match words {
+        [track_word, item] => {
+            let track = track(track_word)?;
+            let item = numeral(item)?;
+            Ok(Line::Edit(Call::Remove(Remove { track, item })))
+        }
+        _ => Err(LineFault::B2),
+    }
+}
+
+// extract TS T I
+fn extract(words: &[&[u8]]) -> Result<Line, LineFault>
+    ensures read { result ≡ extract_of (map (λ w. w.now) words.now) }
+    ensures written { IfOk result (λ read. NamesWritten read) }
+{
+    match words {
+        [list, track_word, item] => {
+            let tracks = tracks(list)?;
+            let track = track(track_word)?;
+            let item = numeral(item)?;
+            Ok(Line::Edit(Call::Extract(Extract {
+                tracks,
+                track,
+                item,
+            })))
+        }
+        _ => Err(LineFault::B2),
+    }
+}
+
+// slice T P
+fn slice(words: &[&[u8]], counting: &Counting, start: u32) -> Result<Line, LineFault>
+    ensures read { result ≡ slice_of (place_by counting.now start) (map (λ w. w.now) words.now) }
+    ensures written { IfOk result (λ read. NamesWritten read) }
+{
+    match words {
+        [track_word, at] => {
+            let track = track(track_word)?;
+            let at = place(at, counting, start)?;
+            Ok(Line::Edit(Call::Slice(Slice { track, at })))
+        }
+        _ => Err(LineFault::B2),
+    }
 }
 
 // view T P P
-fn view(words: &[u8], counting: &Counting, start: u32) -> Result<Line, LineFault>
-    ensures { result ≡ view_of (place_by counting.now start) (words_of words.now) }
+fn view(words: &[&[u8]], counting: &Counting, start: u32) -> Result<Line, LineFault>
+    ensures read { result ≡ view_of (place_by counting.now start) (map (λ w. w.now) words.now) }
+    ensures written { IfOk result (λ read. NamesWritten read) }
 {
-    let word = three_words(words)?;
-    let track = track(word.0)?;
-    let a = place(word.1, counting, start)?;
-    let b = place(word.2, counting, start)?;
-    Ok(Line::Ask(Ask::View { track, a, b }))
+    match words {
+        [track_word, from, to] => {
+            let track = track(track_word)?;
+            let a = place(from, counting, start)?;
+            let b = place(to, counting, start)?;
+            Ok(Line::Ask(Ask::View { track, a, b }))
+        }
+        _ => Err(LineFault::B2),
+    }
 }
 
 // items T
-fn items(words: &[u8]) -> Result<Line, LineFault>
-    ensures { result ≡ items_of (words_of words.now) }
+fn items(words: &[&[u8]]) -> Result<Line, LineFault>
+    ensures read { result ≡ items_of (map (λ w. w.now) words.now) }
+    ensures written { IfOk result (λ read. NamesWritten read) }
 {
-    let word = one_word(words)?;
-    let track = track(word)?;
-    Ok(Line::Ask(Ask::Items { track }))
+    match words {
+        [track_word] => {
+            let track = track(track_word)?;
+            Ok(Line::Ask(Ask::Items { track }))
+        }
+        _ => Err(LineFault::B2),
+    }
 }
 
 // point
-fn point(words: &[u8]) -> Result<Line, LineFault>
-    ensures { result ≡ point_of (words_of words.now) }
+fn point(words: &[&[u8]]) -> Result<Line, LineFault>
+    ensures read { result ≡ point_of (map (λ w. w.now) words.now) }
+    ensures written { IfOk result (λ read. NamesWritten read) }
 {
-    no_word(words)?;
-    Ok(Line::Point)
+    match words {
+        [] => Ok(Line::Point),
+        _ => Err(LineFault::B2),
+    }
 }

@@ -1,34 +1,49 @@
-// Replies to edits, and to lines that are none of the table.
-ghost use Rattle.std.specs.Prelude.{◌≡◌, ◌+◌, ◌≤◌, ◌++◌, length, decimal};
+// Replies to edits, to `point`, and to lines that are none of the table.
+ghost use Rattle.std.specs.Prelude.{◌≡◌, ◌+◌, ◌≤◌, ◌++◌, length, codes, decimal};
 ghost use Rattle.std.specs.Fmt.{signed_decimal};
-ghost use Rattle.call_text.specs.Replies.{link_text, offsets_text, done_text, refusal_text, edit_reply_of, fault_of};
+ghost use Rattle.call_text.specs.Replies.{link_text, offsets_text, done_text, refusal_text, answer_text_of, fault_of};
 
-use crate::{LineFault, MAX_SHORT, Short};
-use composables::{Done, EditFault, Refusal, Which};
+use crate::{Answer, LineFault, MAX_SHORT, Short};
+use composables::{Done, Refusal, Which};
 
-/// The reply to an edit, without its line feed. The point is the place of its entry in the journal where it is done,
-/// and else the journal's length. It takes no memory.
-pub fn reply_text(point: u32, answer: &Result<Done, EditFault>) -> Short
-    ensures { result ≡ edit_reply_of point answer.now }
+/// The reply to an edit, without its line feed. It takes no memory.
+pub fn answer_text(answer: &Answer) -> Short
+    ensures text { result ≡ answer_text_of answer.now }
+    ensures short { length result ≤ MAX_SHORT }
 {
     let mut text = Short::new();
     match answer {
-        Ok(done) => {
-            push_number(&mut text, b"ok ", point);
+        Answer::Done { point, done } => {
+            push_number(&mut text, b"ok ", *point);
             push_done(&mut text, done);
         }
-        Err(EditFault::Refused(refusal)) => {
-            push_number(&mut text, b"no ", point);
+        Answer::Refused { point, refusal } => {
+            push_number(&mut text, b"no ", *point);
             push_refusal(&mut text, refusal);
         }
-        Err(EditFault::Memory) => text.push(b"memory"),
+        Answer::Full { point } => {
+            push_number(&mut text, b"no ", *point);
+            text.push(b" E15");
+        }
+        Answer::Memory => text.push(b"memory"),
     }
+    text
+}
+
+/// The reply to `point`, where the journal has so many entries, without its line feed. It takes no memory.
+pub fn point_text(point: u32) -> Short
+    ensures text { result ≡ codes "point " ++ decimal point }
+    ensures short { length result ≤ MAX_SHORT }
+{
+    let mut text = Short::new();
+    push_number(&mut text, b"point ", point);
     text
 }
 
 /// The reply to a line that is none of the table, without its line feed. It takes no memory.
 pub fn fault_text(fault: &LineFault) -> Short
-    ensures { result ≡ fault_of fault.now }
+    ensures text { result ≡ fault_of fault.now }
+    ensures short { length result ≤ MAX_SHORT }
 {
     let mut text = Short::new();
     match fault {
@@ -45,7 +60,8 @@ pub fn fault_text(fault: &LineFault) -> Short
 
 fn push_done(text: &mut Short, done: &Done)
     requires { length text.old + 40 ≤ MAX_SHORT }
-    ensures { text.new ≡ text.old ++ done_text done.now }
+    ensures text { text.new ≡ text.old ++ done_text done.now }
+    ensures length { length text.new ≤ length text.old + 40 }
 {
     match done {
         Done::Plain => {}
@@ -57,7 +73,8 @@ fn push_done(text: &mut Short, done: &Done)
 
 fn push_refusal(text: &mut Short, refusal: &Refusal)
     requires { length text.old + 80 ≤ MAX_SHORT }
-    ensures { text.new ≡ text.old ++ refusal_text refusal.now }
+    ensures text { text.new ≡ text.old ++ refusal_text refusal.now }
+    ensures length { length text.new ≤ length text.old + 80 }
 {
     match refusal {
         Refusal::NoTrack(track) => push_number(text, b" E1 ", *track),
@@ -109,7 +126,8 @@ fn push_link(text: &mut Short, lead: &[u8], home: u32, number: u32)
 // A text, and two offsets.
 fn push_offsets(text: &mut Short, lead: &[u8], first: i64, second: i64)
     requires { length text.old + length lead.now + 41 ≤ MAX_SHORT }
-    ensures { text.new ≡ text.old ++ (lead.now ++ offsets_text first second) }
+    ensures text { text.new ≡ text.old ++ (lead.now ++ offsets_text first second) }
+    ensures length { length text.new ≤ length text.old + length lead.now + 41 }
 {
     push_signed(text, lead, first);
     push_signed(text, b" ", second);

@@ -5,25 +5,28 @@ ghost use Rattle.std.specs.Fmt.{signed_decimal};
 use itoa::Buffer;
 use std::marker::Model;
 
-/// The most bytes of a short text.
+/// The most bytes of a short text before its line feed.
 pub const MAX_SHORT: usize = 128;
 
-/// A text of at most 128 bytes, which takes no memory. Contracts see its bytes.
+/// The most bytes of a short text with its line feed.
+pub const MAX_SHORT_LINE: usize = 129;
+
+/// A text of at most 128 bytes and a line feed, which takes no memory. Contracts see its bytes. `push(b"\n")` ends it.
 #[derive(Drop)]
 pub struct Short {
-    bytes: [u8; MAX_SHORT],
+    bytes: [u8; MAX_SHORT_LINE],
     len: usize,
 }
 
 impl Model for Short {
     ghost use Rattle.std.specs.Prelude.{◌≤◌, List, ℕ, take};
-    ghost use Rattle.call_text.specs.declared.short_text.TheConstants.{MAX_SHORT};
+    ghost use Rattle.call_text.specs.declared.short_text.TheConstants.{MAX_SHORT_LINE};
 
     ghost Value = { List ℕ };
 
     ghost view = { λ s. take s.len s.bytes };
 
-    ghost invariant = { λ s. s.len ≤ MAX_SHORT };
+    ghost invariant = { λ s. s.len ≤ MAX_SHORT_LINE };
 }
 
 impl Short {
@@ -32,7 +35,7 @@ impl Short {
         ensures { result ≡ [] }
     {
         Short {
-            bytes: [0; MAX_SHORT],
+            bytes: [0; MAX_SHORT_LINE],
             len: 0,
         }
     }
@@ -40,14 +43,14 @@ impl Short {
     /// Its bytes.
     pub fn as_bytes(&self) -> &[u8]
         ensures text { result.now ≡ self.now }
-        ensures short { length self.now ≤ MAX_SHORT }
+        ensures short { length self.now ≤ MAX_SHORT_LINE }
     {
         &self.bytes[..self.len]
     }
 
     /// Adds a text at the end.
     pub fn push(&mut self, text: &[u8])
-        requires { length self.old + length text.now ≤ MAX_SHORT }
+        requires { length self.old + length text.now ≤ MAX_SHORT_LINE }
         ensures text { self.new ≡ self.old ++ text.now }
         ensures length { length self.new ≡ length self.old + length text.now }
     {
@@ -57,7 +60,7 @@ impl Short {
 
     /// Adds a number, in decimal digits without leading zeros.
     pub fn push_number(&mut self, number: u32)
-        requires { length self.old + 10 ≤ MAX_SHORT }
+        requires { length self.old + 10 ≤ MAX_SHORT_LINE }
         ensures text { self.new ≡ self.old ++ decimal number }
         ensures length { length self.new ≤ length self.old + 10 }
     {
@@ -67,7 +70,7 @@ impl Short {
 
     /// Adds a signed number, with a `-` before its digits where it is negative.
     pub fn push_signed(&mut self, number: i64)
-        requires { length self.old + 20 ≤ MAX_SHORT }
+        requires { length self.old + 20 ≤ MAX_SHORT_LINE }
         ensures text { self.new ≡ self.old ++ signed_decimal number }
         ensures length { length self.new ≤ length self.old + 20 }
     {

@@ -1,43 +1,53 @@
 // Replies to questions.
 ghost use Rattle.std.specs.Prelude.{◌≡◌, ◌++◌, IfOk, OnOk};
 ghost use Rattle.std.specs.List.{flat_map};
-ghost use Rattle.call_text.specs.Sights.{side_text, frame_text, run_text, mark_text, number_text, item_link_text, item_text, picture_text, seen_of};
+ghost use Rattle.call_text.specs.Sights.{side_text, frame_text, run_text, mark_text, number_text, item_link_text, item_text, picture_text, seen_text, ask_refusal_text, sight_text_of};
 
+use crate::Sight;
 use crate::bytes::{put, put_number, put_what};
 use composables::{ItemView, Memory};
 use edit_apply::{AskRefusal, Seen};
 use frame_meaning::{Frame, Link, Mark, Run, Side, What};
 use std::alloc::Global;
 
-/// The reply to a question to a track, without its line feed. The point is the length of the journal when the track was
-/// looked at.
-pub fn seen_text(
-    alloc: Global,
-    point: u32,
-    answer: &Result<Seen, AskRefusal>,
-) -> Result<Vec<u8>, Memory>
-    ensures { IfOk result (λ text. text.items ≡ seen_of point answer.now) }
+/// The reply to a question to a track, without its line feed.
+pub fn sight_text(alloc: Global, sight: &Sight) -> Result<Vec<u8>, Memory>
+    ensures { IfOk result (λ text. text.items ≡ sight_text_of sight.now) }
 {
     let mut out = Vec::new(alloc);
-    match answer {
-        Ok(Seen::Runs(runs)) => {
-            put_number(&mut out, b"seen ", point)?;
-            put_runs(&mut out, runs.as_slice())?;
+    match sight {
+        Sight::Seen { point, seen } => put_seen(&mut out, *point, seen)?,
+        Sight::Refused { point, refusal } => {
+            put_number(&mut out, b"no ", *point)?;
+            put_ask_refusal(&mut out, refusal)?;
         }
-        Ok(Seen::Items(items)) => {
-            put_number(&mut out, b"items ", point)?;
-            put_items(&mut out, items.as_slice())?;
-        }
-        Err(AskRefusal::NoTrack(track)) => {
-            put_number(&mut out, b"no ", point)?;
-            put_number(&mut out, b" V1 ", *track)?;
-        }
-        Err(AskRefusal::Range(length)) => {
-            put_number(&mut out, b"no ", point)?;
-            put_number(&mut out, b" V2 ", *length)?;
-        }
+        Sight::Memory => put(&mut out, b"memory")?,
     }
     Ok(out)
+}
+
+fn put_seen(out: &mut Vec<u8>, point: u32, seen: &Seen) -> Result<(), Memory>
+    ensures { OnOk result (out.new.items ≡ out.old.items ++ seen_text point seen.now) }
+{
+    match seen {
+        Seen::Runs(runs) => {
+            put_number(out, b"seen ", point)?;
+            put_runs(out, runs.as_slice())
+        }
+        Seen::Items(items) => {
+            put_number(out, b"items ", point)?;
+            put_items(out, items.as_slice())
+        }
+    }
+}
+
+fn put_ask_refusal(out: &mut Vec<u8>, refusal: &AskRefusal) -> Result<(), Memory>
+    ensures { OnOk result (out.new.items ≡ out.old.items ++ ask_refusal_text refusal.now) }
+{
+    match refusal {
+        AskRefusal::NoTrack(track) => put_number(out, b" V1 ", *track),
+        AskRefusal::Range(length) => put_number(out, b" V2 ", *length),
+    }
 }
 
 fn put_runs(out: &mut Vec<u8>, runs: &[Run<What>]) -> Result<(), Memory>

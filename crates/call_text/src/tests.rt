@@ -1,5 +1,5 @@
 use super::*;
-use composables::{Done, EditFault, ItemView, Listed, Overwrite, Refusal, Which};
+use composables::{Done, ItemView, Listed, Overwrite, Refusal, Which};
 use edit_apply::{Ask, AskRefusal, Call, Seen};
 use frame_meaning::{Frame, Link, Mark, Run, Side, What};
 use std::alloc::Global;
@@ -193,7 +193,10 @@ fn edits_are_replied(rt: HostRuntime) {
         ),
     ];
     for (done, want) in done {
-        assert_eq!(rt; reply_text(7, &Ok(done)).as_bytes(), want);
+        assert_eq!(rt;
+            answer_text(&Answer::Done { point: 7, done }).as_bytes(),
+            want
+        );
     }
     let refused: [(Refusal, &[u8]); 15] = [
         (Refusal::NoTrack(9), b"no 10 E1 9"),
@@ -231,15 +234,26 @@ fn edits_are_replied(rt: HostRuntime) {
         (Refusal::TooManyItems(0), b"no 10 E14 0"),
     ];
     for (refusal, want) in refused {
-        assert_eq!(rt;
-            reply_text(10, &Err(EditFault::Refused(refusal))).as_bytes(),
-            want
-        );
+        let answer = Answer::Refused { point: 10, refusal };
+        assert_eq!(rt; answer_text(&answer).as_bytes(), want);
     }
+    let full = Answer::Full { point: 100000 };
+    assert_eq!(rt; answer_text(&full).as_bytes(), b"no 100000 E15".as_slice());
     assert_eq!(rt;
-        reply_text(10, &Err(EditFault::Memory)).as_bytes(),
+        answer_text(&Answer::Memory).as_bytes(),
         b"memory".as_slice()
     );
+}
+
+#[test]
+fn a_short_text_has_room_for_its_line_feed(rt: HostRuntime) {
+    let mut text = point_text(4294967295);
+    text.push(b"\n");
+    assert_eq!(rt; text.as_bytes(), b"point 4294967295\n".as_slice());
+    let mut full = Short::new();
+    full.push(&[b'x'; 128]);
+    full.push(b"\n");
+    assert_eq!(rt; full.as_bytes().len(), 129);
 }
 
 #[test]
@@ -266,12 +280,20 @@ fn views_are_replied(rt: HostRuntime) -> Result<(), Fail> {
         },
     ];
     let mut runs = Listed::new(alloc);
-    let none = seen_text(alloc, 4, &Ok(Seen::Runs(Listed::new(alloc))))?;
+    let none = Seen::Runs(Listed::new(alloc));
+    let none = sight_text(
+        alloc,
+        &Sight::Seen {
+            point: 4,
+            seen: none,
+        },
+    )?;
     assert_eq!(rt; none.as_slice(), b"seen 4".as_slice());
     for (frame, len) in frames.into_iter().zip(2..) {
         runs.push(Run { frame, len })?;
     }
-    let text = seen_text(alloc, 10, &Ok(Seen::Runs(runs)))?;
+    let seen = Seen::Runs(runs);
+    let text = sight_text(alloc, &Sight::Seen { point: 10, seen })?;
     assert_eq!(rt;
         text.as_slice(),
         b"seen 10 dark 2 @0 86396 3 #12 0 4 mix dark @2 5 1 4 5".as_slice()
@@ -309,12 +331,20 @@ fn items_are_replied(rt: HostRuntime) -> Result<(), Fail> {
         ..gap
     };
     let mut items = Listed::new(alloc);
-    let none = seen_text(alloc, 0, &Ok(Seen::Items(Listed::new(alloc))))?;
+    let none = Seen::Items(Listed::new(alloc));
+    let none = sight_text(
+        alloc,
+        &Sight::Seen {
+            point: 0,
+            seen: none,
+        },
+    )?;
     assert_eq!(rt; none.as_slice(), b"items 0".as_slice());
     for view in [gap, item, ends] {
         items.push(view)?;
     }
-    let text = seen_text(alloc, 8, &Ok(Seen::Items(items)))?;
+    let seen = Seen::Items(items);
+    let text = sight_text(alloc, &Sight::Seen { point: 8, seen })?;
     assert_eq!(rt;
         text.as_slice(),
         b"items 8 dark 24 mark 2 3 3 @1 100 6 link 1.40 mark 1 0 dark 1".as_slice()
@@ -324,10 +354,27 @@ fn items_are_replied(rt: HostRuntime) -> Result<(), Fail> {
 
 #[test]
 fn refused_questions_are_replied(rt: HostRuntime) -> Result<(), Fail> {
-    let text = seen_text(rt.alloc(), 3, &Err(AskRefusal::NoTrack(5)))?;
-    assert_eq!(rt; text.as_slice(), b"no 3 V1 5".as_slice());
-    let text = seen_text(rt.alloc(), 3, &Err(AskRefusal::Range(24)))?;
-    assert_eq!(rt; text.as_slice(), b"no 3 V2 24".as_slice());
+    let table: [(Sight, &[u8]); 3] = [
+        (
+            Sight::Refused {
+                point: 3,
+                refusal: AskRefusal::NoTrack(5),
+            },
+            b"no 3 V1 5",
+        ),
+        (
+            Sight::Refused {
+                point: 3,
+                refusal: AskRefusal::Range(24),
+            },
+            b"no 3 V2 24",
+        ),
+        (Sight::Memory, b"memory"),
+    ];
+    for (sight, want) in table {
+        let text = sight_text(rt.alloc(), &sight)?;
+        assert_eq!(rt; text.as_slice(), want);
+    }
     Ok(())
 }
 

@@ -1,12 +1,23 @@
 // Calls and questions as a station sends them, and what a question is answered.
 
-use composables::{ItemView, Listed, Overwrite};
+use composables::{Extract, Insert, ItemView, Listed, Overwrite, Remove, Slice};
 use frame_meaning::{Run, What};
 
 /// An edit.
-#[derive(Clone, Copy, Debug, PartialEq, Eq)]
+#[derive(Clone, Debug, PartialEq, Eq, Drop)]
 pub enum Call {
     Overwrite(Overwrite),
+    Insert(Insert),
+    Remove(Remove),
+    Extract(Extract),
+    Slice(Slice),
+}
+
+/// The tracks that a call names: one, or the set `tracks`, in which bit t stands for track t, and the call's own track.
+#[derive(Clone, Copy, Debug, PartialEq, Eq)]
+pub enum NamedTracks {
+    One(u32),
+    Many { tracks: u32, own: u32 },
 }
 
 /// A question to a track: the frames shown in its places [a, b), or its items.

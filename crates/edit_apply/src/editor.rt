@@ -1,12 +1,14 @@
 // Every call on the tracks that it names, and every question to a track.
-ghost use Rattle.std.specs.Prelude.{◌≡◌, ◌+◌, ◌*◌, ◌<◌, ◌≤◌, ◌^◌, ◌∷◌, [], All, length, sum_by};
+ghost use Rattle.std.specs.Prelude.{◌≡◌, ◌+◌, ◌*◌, ◌<◌, ◌≤◌, ◌^◌, ◌&&◌, not, All, length, nat_eq, nat_lt, sum_by};
 ghost use Rattle.composables.specs.Good.{IsGood, AllUnmarked};
 ghost use Rattle.composables.specs.Items.{items_of};
 ghost use Rattle.edit_insert.specs.Answers.{Answers, NextRises};
-ghost use Rattle.edit_apply.specs.Apply.{names_of};
+ghost use Rattle.std.specs.List.{list_any};
+ghost use Rattle.edit_insert.specs.TrackSets.{has_track, tracks_in};
+ghost use Rattle.edit_apply.specs.Apply.{first_absent, named_by, wrong_track_in};
 
 use crate::sights::view;
-use crate::{Ask, AskRefusal, Call, Seen};
+use crate::{Ask, AskRefusal, Call, NamedTracks, Seen};
 use composables::{Done, EditFault, Listed, Memory, Refusal, Table, Track};
 use edit_insert::overwrite;
 use std::alloc::Global;
@@ -38,41 +40,50 @@ pub struct Editor {
     pub table: Table,
 }
 
-/// The track that a call edits.
-pub fn track_of(call: &Call) -> u32
-    ensures { names_of call.now ≡ result ∷ [] }
+/// The tracks that a call is for.
+pub fn named_by(call: &Call) -> NamedTracks
+    ensures { result ≡ named_by call.now }
 {
     match call {
-        Call::Overwrite(edit) => edit.track,
+        Call::Overwrite(edit) => NamedTracks::One(edit.track),
+        Call::Insert(edit) => NamedTracks::Many {
+            tracks: edit.tracks,
+            own: edit.track,
+        },
+        Call::Remove(edit) => NamedTracks::One(edit.track),
+        Call::Extract(edit) => NamedTracks::Many {
+            tracks: edit.tracks,
+            own: edit.track,
+        },
+        Call::Slice(edit) => NamedTracks::One(edit.track),
     }
 }
 
 impl Editor {
-    ghost use Rattle.edit_apply.specs.Apply.{names_of, set_of, refuse_names_of, applied_on};
+    ghost use Rattle.edit_apply.specs.Apply.{names_set_of, refuse_names_of, applied_on};
     ghost use Rattle.edit_apply.specs.See.{ask_part_of, seen_on, track_asked};
     ghost use Rattle.edit_apply.specs.Named.{AreNamed};
     ghost use Rattle.edit_apply.specs.Sights.{Shows};
 
     /// The set of the tracks that a call names: bit t names track t. A track over 31 is in no set.
     pub fn names(&self, call: &Call) -> u32
-        ensures { result ≡ set_of (names_of call.now) }
+        ensures { result ≡ names_set_of call.now }
     {
-        let track = track_of(call);
-        if track < 32 { 1 << track } else { 0 }
+        match named_by(call) {
+            NamedTracks::One(track) => if track < 32 { 1 << track } else { 0 },
+            NamedTracks::Many { tracks, .. } => tracks,
+        }
     }
 
-    /// The refusal of a call for the tracks that it names: the first that is not in the room.
+    /// The refusal of a call for the tracks that it names: the first that is not in the room, else its own track where
+    /// it is not among them.
     pub fn refuse_names(&self, call: &Call) -> Option<Refusal>
         ensures { result ≡ refuse_names_of self.now.table call.now }
     {
-        match call {
-            Call::Overwrite(overwrite) => {
-                if (overwrite.track as usize) < self.table.kinds.as_slice().len() {
-                    None
-                } else {
-                    Some(Refusal::NoTrack(overwrite.track))
-                }
-            }
+        let count = self.table.kinds.as_slice().len();
+        match wrong_track(count, named_by(call)) {
+            Some(track) => Some(Refusal::NoTrack(track)),
+            None => None,
         }
     }
 
@@ -102,6 +113,10 @@ impl Editor {
     {
         match call {
             Call::Overwrite(edit) => overwrite(alloc, &self.table, parts, edit, steps),
+            _ => {
+                steps.tick();
+                Err(EditFault::Refused(Refusal::NoItem))
+            }
         }
     }
 
@@ -113,7 +128,7 @@ impl Editor {
             Ask::View { track, .. } => *track,
             Ask::Items { track } => *track,
         };
-        if (track as usize) < self.table.kinds.as_slice().len() {
+        if is_below(track, self.table.kinds.as_slice().len()) {
             Ok(track)
         } else {
             Err(AskRefusal::NoTrack(track))
@@ -130,4 +145,55 @@ impl Editor {
             Ask::Items { track: _ } => Ok(Seen::Items(Listed::from_vec(part.items(alloc)?))),
         }
     }
+}
+
+fn is_below(track: u32, count: usize) -> bool
+    ensures { result ≡ nat_lt track count }
+{
+    (track as usize) < count
+}
+
+// The track for which a call is refused in a room of so many tracks, if there is one.
+fn wrong_track(count: usize, named: NamedTracks) -> Option<u32>
+    ensures { result ≡ wrong_track_in count named }
+{
+    match named {
+        NamedTracks::One(track) => if is_below(track, count) { None } else { Some(track) },
+        NamedTracks::Many { tracks, own } => match first_absent(count, tracks) {
+            Some(track) => Some(track),
+            None => if is_among(tracks, own) { None } else { Some(own) },
+        },
+    }
+}
+
+// The first track of a set that is not below the count.
+fn first_absent(count: usize, tracks: u32) -> Option<u32>
+    ensures { result ≡ first_absent count (tracks_in tracks) }
+{
+    for track in 0..32 {
+        if is_absent(count, tracks, track) {
+            return Some(track);
+        }
+    }
+    None
+}
+
+fn is_absent(count: usize, tracks: u32, track: u32) -> bool
+    requires { track < 32 }
+    ensures { result ≡ (has_track tracks track && not (nat_lt track count)) }
+{
+    has_track(tracks, track) && !is_below(track, count)
+}
+
+fn is_among(tracks: u32, track: u32) -> bool
+    ensures { result ≡ list_any (nat_eq track) (tracks_in tracks) }
+{
+    track < 32 && has_track(tracks, track)
+}
+
+fn has_track(tracks: u32, track: u32) -> bool
+    requires { track < 32 }
+    ensures { result ≡ has_track tracks track }
+{
+    (tracks >> track) & 1 == 1
 }

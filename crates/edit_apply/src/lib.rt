@@ -8,8 +8,8 @@ mod asks;
 mod editor;
 mod sights;
 
-pub use asks::{Ask, AskRefusal, Call, Seen};
-pub use editor::{Editor, SightFault, track_of};
+pub use asks::{Ask, AskRefusal, Call, NamedTracks, Seen};
+pub use editor::{Editor, SightFault, named_by};
 
 #[cfg(test)]
 mod tests;

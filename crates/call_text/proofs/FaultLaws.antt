@@ -1,0 +1,394 @@
+-- A line that is not read is none of the table for the fault that is told, and one that is none of the table is not read.
+use Rattle.std.proofs.Common.{◌≡◌, ◌≢◌, ℕ, ◌+◌, ◌^◌, ◌<◌, ◌≤◌, ◌⊎◌, List, [], ◌∷◌, ◌++◌, Bool, true, false, Option, Some, None, Result, Ok, Err, ◌==◌, nat_le, length, if◌then◌else◌, inl, inr, refl, ap, sym, ◌∙◌, arith, codes}
+use Rattle.std.specs.List.{slice_split}
+use Rattle.std.proofs.lemmas.Bool.{leb-true, le-leb, leb-false, lt-leb, eqb-true}
+use Rattle.line_words.specs.Blanks.{words_of}
+use Rattle.line_words.specs.Digits.{number_of}
+use Rattle.line_words.specs.declared.numbers.NumberFault.{NumberFault}
+use Rattle.line_words.specs.declared.numbers.NumberFault.TheVariants.{NotANumber, TooLarge}
+use Rattle.frame_meaning.specs.declared.cells.What.{What}
+use Rattle.frame_meaning.specs.declared.cells.What.TheVariants.{Media, Nest}
+use Rattle.call_text.specs.declared.lines.Line.{Line}
+use Rattle.call_text.specs.declared.lines.LineFault.{LineFault}
+use Rattle.call_text.specs.declared.lines.LineFault.TheVariants.{B1, B2, B3, B4, B5, B6}
+use Rattle.call_text.specs.declared.commands.Command.{Command}
+use Rattle.call_text.specs.declared.commands.Command.TheVariants as command
+use Rattle.call_text.specs.Spelling.{◌>>=◌, number_or_fault, numeral_of, track_of, is_comma, set_with, tracks_of, place_or_fault, number_or_label, place_of, what_of}
+use Rattle.call_text.specs.Reading.{command_of, overwrite_of, insert_of, extract_of, remove_of, slice_of, view_of, row_of, row_if, line_of_words, line_of}
+use Rattle.call_text.specs.Table.{IsNumeral, IsTrack, AreTracks, IsLine, word_of}
+use Rattle.call_text.specs.Faults.{Part, Tracks, Track, Place, Thing, Number, rows_of, IsNoNumeral, IsTooLarge, IsPastTracks, IsBadTrack, AreBadTracks, IsSigned, IsBadPart, IsPart, FirstIsBad, AreNoRow, AreBad, IsBad}
+use Rattle.call_text.proofs.ReadParts.{bind_ok, chosen, ok_same, err_ok, numeral_spelled, numeral_read, track_spelled, track_read, tracks_spelled, tracks_read, place_spelled, place_read, thing_spelled, thing_read}
+use Rattle.call_text.proofs.TableLaws.{command_spelled, command_read, line_spelled, line_read}
+
+-- the fault of what was not read
+abbrev pub error_of : {A : Type 0} → Result A LineFault → Option LineFault
+error_of (Ok x) = None
+error_of (Err e) = Some e
+
+-- the earlier of two faults
+abbrev or_later : Option LineFault → Option LineFault → Option LineFault
+or_later (Some e) later = Some e
+or_later None later = later
+
+some_same : {A : Type 0} (x y : A) → Some x ≡ Some y → x ≡ y
+some_same x y h = cc
+
+error_told : {A : Type 0} (r : Result A LineFault) (e : LineFault) → error_of r ≡ Some e → r ≡ Err e
+error_told (Ok x) e h = absurd cc
+error_told (Err f) e h = ap Err (some_same f e h)
+
+error_none : {A : Type 0} (r : Result A LineFault) → error_of r ≡ None → (x : A) × (r ≡ Ok x)
+error_none (Ok x) h = (x, refl)
+error_none (Err f) h = absurd cc
+
+error_read : {A : Type 0} (r : Result A LineFault) (x : A) → r ≡ Ok x → error_of r ≡ None
+error_read r x h = ap error_of h
+
+error_bind : {A B : Type 0} (r : Result A LineFault) (f : A → Result B LineFault) (later : Option LineFault) → ((x : A) → error_of (f x) ≡ later) → error_of (r >>= f) ≡ or_later (error_of r) later
+error_bind (Ok x) f later h = h x
+error_bind (Err e) f later h = refl
+
+or_told : (o later : Option LineFault) (e : LineFault) → or_later o later ≡ Some e → (o ≡ Some e) ⊎ ((o ≡ None) × (later ≡ Some e))
+or_told (Some f) later e h = inl h
+or_told None later e h = inr (refl, h)
+
+err_same : {A : Type 0} (g e : LineFault) → ◌≡◌ {A = Result A LineFault} (Err g) (Err e) → g ≡ e
+err_same g e h = cc
+
+bind_err : {A B : Type 0} (r : Result A LineFault) (f : A → Result B LineFault) (e : LineFault) → (r >>= f) ≡ Err e → (r ≡ Err e) ⊎ ((x : A) × (r ≡ Ok x) × (f x ≡ Err e))
+bind_err (Ok x) f e h = inr (x, refl, h)
+bind_err (Err g) f e h = inl (ap Err (err_same g e h))
+
+-- a number
+numeral_bad_of : (word : List ℕ) (r : Result ℕ NumberFault) (e : LineFault) → number_of word ≡ r → number_or_fault r ≡ Err e → (IsNoNumeral word × (e ≡ B3)) ⊎ (IsTooLarge word × (e ≡ B4))
+numeral_bad_of word (Ok n) e is h = absurd cc
+numeral_bad_of word (Err NotANumber) e is h = inl (is, sym (err_same B3 e h))
+numeral_bad_of word (Err TooLarge) e is h = inr (is, sym (err_same B4 e h))
+
+numeral_bad : (word : List ℕ) (e : LineFault) → numeral_of word ≡ Err e → (IsNoNumeral word × (e ≡ B3)) ⊎ (IsTooLarge word × (e ≡ B4))
+numeral_bad word e h = numeral_bad_of word (number_of word) e refl h
+
+bad_numeral : (word : List ℕ) (e : LineFault) → (IsNoNumeral word × (e ≡ B3)) ⊎ (IsTooLarge word × (e ≡ B4)) → numeral_of word ≡ Err e
+bad_numeral word e (inl (not, is)) = rw (not, is) refl
+bad_numeral word e (inr (large, is)) = rw (large, is) refl
+
+-- a track
+track_bad : (word : List ℕ) (e : LineFault) → track_of word ≡ Err e → IsBadTrack word e
+track_bad word e h = elim (bind_err (numeral_of word) _ e h) [
+  | inl wrong ↦ elim (numeral_bad word e wrong) [
+    | inl not ↦ inl not
+    | inr large ↦ inr (inl large.0, large.1)
+  ]
+  | inr number ↦ elim (chosen (nat_le number.0 31) _ _ (Err e) number.2) [
+    | inl low ↦ absurd cc
+    | inr high ↦ inr (inr (number.0, numeral_spelled word number.0 number.1, leb-false number.0 31 high.0), sym (err_same B4 e high.1))
+  ]
+]
+
+bad_track : (word : List ℕ) (e : LineFault) → IsBadTrack word e → track_of word ≡ Err e
+bad_track word e (inl not) = let read = bad_numeral word e (inl not) in rw read refl
+bad_track word e (inr (inl large, is)) = let read = bad_numeral word e (inr (large, is)) in rw read refl
+bad_track word e (inr (inr (n, number, past), is)) =
+    let read = numeral_read word n number in
+    let high = lt-leb n 31 past in
+    rw (read, high, is) refl
+
+-- a list of tracks
+tracks_bad : (words : List (List ℕ)) (least set : ℕ) (e : LineFault) → set_with least set words ≡ Err e → AreBadTracks least words e
+tracks_bad [] least set e h = absurd cc
+tracks_bad (word ∷ words) least set e h = elim (bind_err (track_of word) _ e h) [
+  | inl wrong ↦ inl (track_bad word e wrong)
+  | inr track ↦ elim (chosen (nat_le least track.0) _ _ (Err e) track.2) [
+    | inl above ↦ inr (track.0, track_spelled word track.0 track.1, inr (leb-true least track.0 above.0, tracks_bad words (track.0 + 1) (set + 2 ^ track.0) e above.1))
+    | inr below ↦ inr (track.0, track_spelled word track.0 track.1, inl (leb-false least track.0 below.0, sym (err_same B6 e below.1)))
+  ]
+]
+
+bad_tracks : (words : List (List ℕ)) (least set : ℕ) (e : LineFault) → AreBadTracks least words e → set_with least set words ≡ Err e
+bad_tracks [] least set e h = absurd h
+bad_tracks (word ∷ words) least set e (inl wrong) = let read = bad_track word e wrong in rw read refl
+bad_tracks (word ∷ words) least set e (inr (track, is, inl (below, fault))) =
+    let read = track_read word track is in
+    let low = lt-leb least track below in
+    rw (read, low, fault) refl
+bad_tracks (word ∷ words) least set e (inr (track, is, inr (above, more))) =
+    let read = track_read word track is in
+    let high = le-leb least track above in
+    rw (read, high) (bad_tracks words (track + 1) (set + 2 ^ track) e more)
+
+-- a place
+place_bad_of : (place_at : List ℕ → Option ℕ) (word : List ℕ) (r : Result ℕ NumberFault) (label : Option ℕ) (e : LineFault) → number_of word ≡ r → place_at word ≡ label → number_or_label r label ≡ Err e → IsBadPart place_at Place word e
+place_bad_of place_at word (Ok n) label e is at h = absurd cc
+place_bad_of place_at word (Err TooLarge) label e is at h = inr (is, sym (err_same B4 e h))
+place_bad_of place_at word (Err NotANumber) None e is at h = inl ((is, at), sym (err_same B3 e h))
+place_bad_of place_at word (Err NotANumber) (Some place) e is at h = absurd cc
+
+bad_place : (place_at : List ℕ → Option ℕ) (word : List ℕ) (e : LineFault) → IsBadPart place_at Place word e → place_of place_at word ≡ Err e
+bad_place place_at word e (inl ((not, none), is)) = rw (not, none, is) refl
+bad_place place_at word e (inr (large, is)) = rw (large, is) refl
+
+-- a thing
+no_numeral : {A : Type 0} (word : List ℕ) (f : ℕ → Result A LineFault) (e : LineFault) → ((n : ℕ) → error_of (f n) ≡ None) → (numeral_of word >>= f) ≡ Err e → (IsNoNumeral word × (e ≡ B3)) ⊎ (IsTooLarge word × (e ≡ B4))
+no_numeral word f e always h = elim (bind_err (numeral_of word) f e h) [
+  | inl wrong ↦ numeral_bad word e wrong
+  | inr number ↦ absurd (none_some e (sym (always number.0) ∙ ap error_of number.2))
+]
+  where
+    none_some : (e : LineFault) → None ≡ Some e → ⊥
+    none_some e h = cc
+
+digits_same : (a b : ℕ) (x y : List ℕ) → a ∷ x ≡ b ∷ y → (a ≡ b) × (x ≡ y)
+digits_same a b x y h = (cc, cc)
+
+-- the digits behind a sign are one list
+one_sign : (sign : ℕ) (digits more : List ℕ) → IsSigned (sign ∷ digits) more → digits ≡ more
+one_sign sign digits more (inl media) = (digits_same sign 64 digits more media).1
+one_sign sign digits more (inr nest) = (digits_same sign 35 digits more nest).1
+
+thing_wrong : (sign : ℕ) (digits : List ℕ) (e : LineFault) → IsSigned (sign ∷ digits) digits → (IsNoNumeral digits × (e ≡ B3)) ⊎ (IsTooLarge digits × (e ≡ B4)) → (place_at : List ℕ → Option ℕ) → IsBadPart place_at Thing (sign ∷ digits) e
+thing_wrong sign digits e signed (inl (not, is)) place_at = inl (λ more other. rw (← one_sign sign digits more other) not, is)
+thing_wrong sign digits e signed (inr (large, is)) place_at = inr ((digits, signed, large), is)
+
+not_signed : (sign : ℕ) (digits : List ℕ) → (sign == 64) ≡ false → (sign == 35) ≡ false → (more : List ℕ) → IsSigned (sign ∷ digits) more → ⊥
+not_signed sign digits media nest more (inl is) = let same = (digits_same sign 64 digits more is).0 in absurd cc
+not_signed sign digits media nest more (inr is) = let same = (digits_same sign 35 digits more is).0 in absurd cc
+
+thing_bad : (place_at : List ℕ → Option ℕ) (word : List ℕ) (e : LineFault) → what_of word ≡ Err e → IsBadPart place_at Thing word e
+thing_bad place_at [] e h = inl (none, sym (err_same B3 e h))
+  where
+    none : (digits : List ℕ) → IsSigned [] digits → IsNoNumeral digits
+    none digits (inl is) = absurd cc
+    none digits (inr is) = absurd cc
+thing_bad place_at (sign ∷ digits) e h = elim (chosen (sign == 64) _ _ (Err e) h) [
+  | inl media ↦ thing_wrong sign digits e (inl (ap (λ byte. byte ∷ digits) (eqb-true sign 64 media.0))) (no_numeral digits _ e (λ n. refl) media.1) place_at
+  | inr other ↦ elim (chosen (sign == 35) _ _ (Err e) other.1) [
+    | inl nest ↦ thing_wrong sign digits e (inr (ap (λ byte. byte ∷ digits) (eqb-true sign 35 nest.0))) (no_numeral digits _ e (λ n. refl) nest.1) place_at
+    | inr none ↦ inl (λ more signed. absurd (not_signed sign digits other.0 none.0 more signed), sym (err_same B3 e none.1))
+  ]
+]
+
+thing_fault : (word digits : List ℕ) (e : LineFault) → IsSigned word digits → (IsNoNumeral digits × (e ≡ B3)) ⊎ (IsTooLarge digits × (e ≡ B4)) → what_of word ≡ Err e
+thing_fault word digits e (inl is) wrong = let read = bad_numeral digits e wrong in rw (is, read) refl
+thing_fault word digits e (inr is) wrong = let read = bad_numeral digits e wrong in rw (is, read) refl
+
+bad_thing : (place_at : List ℕ → Option ℕ) (word : List ℕ) (e : LineFault) → IsBadPart place_at Thing word e → what_of word ≡ Err e
+bad_thing place_at [] e (inl (none, is)) = rw is refl
+bad_thing place_at (sign ∷ digits) e (inl (none, is)) = by (sign == 64) (sign == 35) refl refl
+  where
+    by : (m n : Bool) → (sign == 64) ≡ m → (sign == 35) ≡ n → what_of (sign ∷ digits) ≡ Err e
+    by true n media nest =
+        let signed : IsSigned (sign ∷ digits) digits = inl (ap (λ byte. byte ∷ digits) (eqb-true sign 64 media)) in
+        thing_fault (sign ∷ digits) digits e signed (inl (none digits signed, is))
+    by false true media nest =
+        let signed : IsSigned (sign ∷ digits) digits = inr (ap (λ byte. byte ∷ digits) (eqb-true sign 35 nest)) in
+        thing_fault (sign ∷ digits) digits e signed (inl (none digits signed, is))
+    by false false media nest = rw (media, nest, is) refl
+bad_thing place_at word e (inr ((digits, signed, large), is)) = thing_fault word digits e signed (inr (large, is))
+
+-- the fault of a word as a part
+abbrev part_error : (List ℕ → Option ℕ) → Part → List ℕ → Option LineFault
+part_error place_at Number word = error_of (numeral_of word)
+part_error place_at Track word = error_of (track_of word)
+part_error place_at Tracks word = error_of (tracks_of word)
+part_error place_at Place word = error_of (place_of place_at word)
+part_error place_at Thing word = error_of (what_of word)
+
+part_bad : (place_at : List ℕ → Option ℕ) (part : Part) (word : List ℕ) (e : LineFault) → part_error place_at part word ≡ Some e → IsBadPart place_at part word e
+part_bad place_at Number word e h = numeral_bad word e (error_told (numeral_of word) e h)
+part_bad place_at Track word e h = track_bad word e (error_told (track_of word) e h)
+part_bad place_at Tracks word e h = tracks_bad (slice_split is_comma word) 0 0 e (error_told (tracks_of word) e h)
+part_bad place_at Place word e h = place_bad_of place_at word (number_of word) (place_at word) e refl refl (error_told (place_of place_at word) e h)
+part_bad place_at Thing word e h = thing_bad place_at word e (error_told (what_of word) e h)
+
+bad_part : (place_at : List ℕ → Option ℕ) (part : Part) (word : List ℕ) (e : LineFault) → IsBadPart place_at part word e → part_error place_at part word ≡ Some e
+bad_part place_at Number word e h = ap error_of (bad_numeral word e h)
+bad_part place_at Track word e h = ap error_of (bad_track word e h)
+bad_part place_at Tracks word e h = ap error_of (bad_tracks (slice_split is_comma word) 0 0 e h)
+bad_part place_at Place word e h = ap error_of (bad_place place_at word e h)
+bad_part place_at Thing word e h = ap error_of (bad_thing place_at word e h)
+
+part_right : (place_at : List ℕ → Option ℕ) (part : Part) (word : List ℕ) → part_error place_at part word ≡ None → IsPart place_at part word
+part_right place_at Number word h = let read = error_none (numeral_of word) h in (read.0, numeral_spelled word read.0 read.1)
+part_right place_at Track word h = let read = error_none (track_of word) h in (read.0, track_spelled word read.0 read.1)
+part_right place_at Tracks word h = let read = error_none (tracks_of word) h in (read.0, tracks_spelled word read.0 read.1)
+part_right place_at Place word h = let read = error_none (place_of place_at word) h in (read.0, place_spelled place_at word read.0 read.1)
+part_right place_at Thing word h = let read = error_none (what_of word) h in (read.0, thing_spelled word read.0 read.1)
+
+right_part : (place_at : List ℕ → Option ℕ) (part : Part) (word : List ℕ) → IsPart place_at part word → part_error place_at part word ≡ None
+right_part place_at Number word h = error_read (numeral_of word) h.0 (numeral_read word h.0 h.1)
+right_part place_at Track word h = error_read (track_of word) h.0 (track_read word h.0 h.1)
+right_part place_at Tracks word h = error_read (tracks_of word) h.0 (tracks_read word h.0 h.1)
+right_part place_at Place word h = error_read (place_of place_at word) h.0 (place_read place_at word h.0 h.1)
+right_part place_at Thing word h = error_read (what_of word) h.0 (thing_read word h.0 h.1)
+
+-- the first fault of words as a row
+abbrev first_error : (List ℕ → Option ℕ) → List Part → List (List ℕ) → Option LineFault
+first_error place_at [] words = None
+first_error place_at (part ∷ parts) [] = None
+first_error place_at (part ∷ parts) (word ∷ words) = or_later (part_error place_at part word) (first_error place_at parts words)
+
+first_bad : (place_at : List ℕ → Option ℕ) (row : List Part) (words : List (List ℕ)) (e : LineFault) → first_error place_at row words ≡ Some e → FirstIsBad place_at row words e
+first_bad place_at [] words e h = absurd cc
+first_bad place_at (part ∷ parts) [] e h = absurd cc
+first_bad place_at (part ∷ parts) (word ∷ words) e h = elim (or_told (part_error place_at part word) (first_error place_at parts words) e h) [
+  | inl here ↦ inl (part_bad place_at part word e here)
+  | inr later ↦ inr (part_right place_at part word later.0, first_bad place_at parts words e later.1)
+]
+
+bad_first : (place_at : List ℕ → Option ℕ) (row : List Part) (words : List (List ℕ)) (e : LineFault) → FirstIsBad place_at row words e → first_error place_at row words ≡ Some e
+bad_first place_at [] words e h = absurd h
+bad_first place_at (part ∷ parts) [] e h = absurd h
+bad_first place_at (part ∷ parts) (word ∷ words) e (inl here) = let error = bad_part place_at part word e here in rw error refl
+bad_first place_at (part ∷ parts) (word ∷ words) e (inr (right, later)) =
+    let none = right_part place_at part word right in
+    rw none (bad_first place_at parts words e later)
+
+-- there are as many words as parts
+abbrev as_many : List Part → List (List ℕ) → Bool
+as_many [] [] = true
+as_many [] (word ∷ words) = false
+as_many (part ∷ parts) [] = false
+as_many (part ∷ parts) (word ∷ words) = as_many parts words
+
+many_same : (row : List Part) (words : List (List ℕ)) → as_many row words ≡ true → length words ≡ length row
+many_same [] [] h = refl
+many_same [] (word ∷ words) h = absurd cc
+many_same (part ∷ parts) [] h = absurd cc
+many_same (part ∷ parts) (word ∷ words) h = let same = many_same parts words h in omega (arith, same)
+
+many_other : (row : List Part) (words : List (List ℕ)) → as_many row words ≡ false → length words ≢ length row
+many_other [] [] h = absurd cc
+many_other [] (word ∷ words) h = λ same. omega (arith, same)
+many_other (part ∷ parts) [] h = λ same. omega (arith, same)
+many_other (part ∷ parts) (word ∷ words) h = λ same. many_other parts words h (omega (arith, same))
+
+same_many : (row : List Part) (words : List (List ℕ)) (b : Bool) → as_many row words ≡ b → length words ≡ length row → as_many row words ≡ true
+same_many row words true is h = is
+same_many row words false is h = absurd (many_other row words is h)
+
+other_many : (row : List Part) (words : List (List ℕ)) (b : Bool) → as_many row words ≡ b → length words ≢ length row → as_many row words ≡ false
+other_many row words true is h = absurd (h (many_same row words is))
+other_many row words false is h = is
+
+abbrev rows_error : (List ℕ → Option ℕ) → List (List Part) → List (List ℕ) → Option LineFault
+rows_error place_at [] words = Some B2
+rows_error place_at (row ∷ rows) words = if as_many row words then first_error place_at row words else rows_error place_at rows words
+
+rows_bad : (place_at : List ℕ → Option ℕ) (rows : List (List Part)) (words : List (List ℕ)) (e : LineFault) → rows_error place_at rows words ≡ Some e → AreNoRow place_at rows words e
+rows_bad place_at [] words e h = sym (some_same B2 e h)
+rows_bad place_at (row ∷ rows) words e h = elim (chosen (as_many row words) _ _ (Some e) h) [
+  | inl many ↦ inl (many_same row words many.0, first_bad place_at row words e many.1)
+  | inr other ↦ inr (many_other row words other.0, rows_bad place_at rows words e other.1)
+]
+
+bad_rows : (place_at : List ℕ → Option ℕ) (rows : List (List Part)) (words : List (List ℕ)) (e : LineFault) → AreNoRow place_at rows words e → rows_error place_at rows words ≡ Some e
+bad_rows place_at [] words e h = rw h refl
+bad_rows place_at (row ∷ rows) words e (inl (many, first)) =
+    let same = same_many row words (as_many row words) refl many in
+    rw same (bad_first place_at row words e first)
+bad_rows place_at (row ∷ rows) words e (inr (other, more)) =
+    let not = other_many row words (as_many row words) refl other in
+    rw not (bad_rows place_at rows words e more)
+
+-- the fault that is told of words is that of the table
+overwrite_error : (place_at : List ℕ → Option ℕ) (words : List (List ℕ)) → error_of (overwrite_of place_at words) ≡ rows_error place_at (rows_of command.Overwrite) words
+overwrite_error place_at [] = refl
+overwrite_error place_at (a ∷ []) = refl
+overwrite_error place_at (a ∷ b ∷ []) = refl
+overwrite_error place_at (a ∷ b ∷ c ∷ []) = refl
+overwrite_error place_at (a ∷ b ∷ c ∷ d ∷ []) = refl
+overwrite_error place_at (a ∷ b ∷ c ∷ d ∷ e ∷ []) =
+    error_bind (track_of a) _ _ (λ track. error_bind (place_of place_at b) _ _ (λ at. error_bind (what_of c) _ _ (λ what. error_bind (numeral_of d) _ _ (λ from. error_bind (numeral_of e) _ _ (λ len. refl)))))
+overwrite_error place_at (a ∷ b ∷ c ∷ d ∷ e ∷ f ∷ words) = refl
+
+insert_error : (place_at : List ℕ → Option ℕ) (words : List (List ℕ)) → error_of (insert_of place_at words) ≡ rows_error place_at (rows_of command.Insert) words
+insert_error place_at [] = refl
+insert_error place_at (a ∷ []) = refl
+insert_error place_at (a ∷ b ∷ []) = refl
+insert_error place_at (a ∷ b ∷ c ∷ []) = refl
+insert_error place_at (a ∷ b ∷ c ∷ d ∷ []) = refl
+insert_error place_at (a ∷ b ∷ c ∷ d ∷ e ∷ []) = refl
+insert_error place_at (a ∷ b ∷ c ∷ d ∷ e ∷ f ∷ []) =
+    error_bind (tracks_of a) _ _ (λ tracks. error_bind (track_of b) _ _ (λ track. error_bind (place_of place_at c) _ _ (λ at. error_bind (what_of d) _ _ (λ what. error_bind (numeral_of e) _ _ (λ from. error_bind (numeral_of f) _ _ (λ len. refl))))))
+insert_error place_at (a ∷ b ∷ c ∷ d ∷ e ∷ f ∷ g ∷ words) = refl
+
+row_error : (place_at : List ℕ → Option ℕ) (k : Command) (words : List (List ℕ)) → error_of (row_of place_at k words) ≡ rows_error place_at (rows_of k) words
+row_error place_at command.Overwrite words = overwrite_error place_at words
+row_error place_at command.Insert words = insert_error place_at words
+row_error place_at command.Remove [] = refl
+row_error place_at command.Remove (a ∷ []) = refl
+row_error place_at command.Remove (a ∷ b ∷ []) = error_bind (track_of a) _ _ (λ track. error_bind (numeral_of b) _ _ (λ item. refl))
+row_error place_at command.Remove (a ∷ b ∷ c ∷ words) = refl
+row_error place_at command.Extract [] = refl
+row_error place_at command.Extract (a ∷ []) = refl
+row_error place_at command.Extract (a ∷ b ∷ []) = refl
+row_error place_at command.Extract (a ∷ b ∷ c ∷ []) = error_bind (tracks_of a) _ _ (λ tracks. error_bind (track_of b) _ _ (λ track. error_bind (numeral_of c) _ _ (λ item. refl)))
+row_error place_at command.Extract (a ∷ b ∷ c ∷ d ∷ words) = refl
+row_error place_at command.Slice [] = refl
+row_error place_at command.Slice (a ∷ []) = refl
+row_error place_at command.Slice (a ∷ b ∷ []) = error_bind (track_of a) _ _ (λ track. error_bind (place_of place_at b) _ _ (λ at. refl))
+row_error place_at command.Slice (a ∷ b ∷ c ∷ words) = refl
+row_error place_at command.View [] = refl
+row_error place_at command.View (a ∷ []) = refl
+row_error place_at command.View (a ∷ b ∷ []) = refl
+row_error place_at command.View (a ∷ b ∷ c ∷ []) = error_bind (track_of a) _ _ (λ track. error_bind (place_of place_at b) _ _ (λ from. error_bind (place_of place_at c) _ _ (λ to. refl)))
+row_error place_at command.View (a ∷ b ∷ c ∷ d ∷ words) = refl
+row_error place_at command.Items [] = refl
+row_error place_at command.Items (a ∷ []) = error_bind (track_of a) _ _ (λ track. refl)
+row_error place_at command.Items (a ∷ b ∷ words) = refl
+row_error place_at command.Point [] = refl
+row_error place_at command.Point (a ∷ words) = refl
+
+-- the whole line
+none_named : (first : List ℕ) → command_of first ≡ None → (k : Command) → first ≢ word_of k
+none_named first none k = λ same. absurd (none_some k (sym none ∙ (ap command_of same ∙ command_read k)))
+  where
+    none_some : (k : Command) → None ≡ Some k → ⊥
+    none_some k h = cc
+
+named_none : (first : List ℕ) (o : Option Command) → command_of first ≡ o → ((k : Command) → first ≢ word_of k) → command_of first ≡ None
+named_none first None is none = is
+named_none first (Some k) is none = absurd (none k (command_spelled first k is))
+
+if_bad : (place_at : List ℕ → Option ℕ) (first : List ℕ) (o : Option Command) (words : List (List ℕ)) (e : LineFault) → command_of first ≡ o → row_if place_at o words ≡ Err e → AreBad place_at (first ∷ words) e
+if_bad place_at first None words e is h = inl (none_named first is, sym (err_same B1 e h))
+if_bad place_at first (Some k) words e is h = inr (k, command_spelled first k is, rows_bad place_at (rows_of k) words e (sym (row_error place_at k words) ∙ ap error_of h))
+
+words_bad : (place_at : List ℕ → Option ℕ) (words : List (List ℕ)) (e : LineFault) → line_of_words place_at words ≡ Err e → AreBad place_at words e
+words_bad place_at [] e h = sym (err_same B2 e h)
+words_bad place_at (first ∷ words) e h = if_bad place_at first (command_of first) words e refl h
+
+bad_words : (place_at : List ℕ → Option ℕ) (words : List (List ℕ)) (e : LineFault) → AreBad place_at words e → line_of_words place_at words ≡ Err e
+bad_words place_at [] e h = rw h refl
+bad_words place_at (first ∷ words) e (inl (none, is)) = let no = named_none first (command_of first) refl none in rw (no, is) refl
+bad_words place_at (first ∷ words) e (inr (k, same, more)) =
+    let named : command_of first ≡ Some k = ap command_of same ∙ command_read k in
+    let read = error_told (row_of place_at k words) e (row_error place_at k words ∙ bad_rows place_at (rows_of k) words e more) in
+    rw (named, read) refl
+
+pub line_bad : (place_at : List ℕ → Option ℕ) (bytes : List ℕ) (e : LineFault) → line_of place_at bytes ≡ Err e → IsBad place_at bytes e
+line_bad place_at bytes e h = elim (chosen (nat_le (length bytes) 1024) _ _ (Err e) h) [
+  | inl short ↦ inr (leb-true (length bytes) 1024 short.0, words_bad place_at (words_of bytes) e short.1)
+  | inr long ↦ inl (leb-false (length bytes) 1024 long.0, sym (err_same B5 e long.1))
+]
+
+pub bad_line : (place_at : List ℕ → Option ℕ) (bytes : List ℕ) (e : LineFault) → IsBad place_at bytes e → line_of place_at bytes ≡ Err e
+bad_line place_at bytes e (inl (long, is)) = let over = lt-leb (length bytes) 1024 long in rw (over, is) refl
+bad_line place_at bytes e (inr (short, bad)) = let within = le-leb (length bytes) 1024 short in rw within (bad_words place_at (words_of bytes) e bad)
+
+-- a line has one meaning
+meaning_of : (place_at : List ℕ → Option ℕ) (bytes : List ℕ) (r : Result Line LineFault) → line_of place_at bytes ≡ r → ((line : Line) × IsLine place_at bytes line) ⊎ ((fault : LineFault) × IsBad place_at bytes fault)
+meaning_of place_at bytes (Ok line) is = inl (line, line_spelled place_at bytes line is)
+meaning_of place_at bytes (Err fault) is = inr (fault, line_bad place_at bytes fault is)
+
+pub some_meaning : (place_at : List ℕ → Option ℕ) (bytes : List ℕ) → ((line : Line) × IsLine place_at bytes line) ⊎ ((fault : LineFault) × IsBad place_at bytes fault)
+some_meaning place_at bytes = meaning_of place_at bytes (line_of place_at bytes) refl
+
+pub one_line : (place_at : List ℕ → Option ℕ) (bytes : List ℕ) (line other : Line) → IsLine place_at bytes line → IsLine place_at bytes other → line ≡ other
+one_line place_at bytes line other h k = ok_same line other (sym (line_read place_at bytes line h) ∙ line_read place_at bytes other k)
+
+pub one_fault : (place_at : List ℕ → Option ℕ) (bytes : List ℕ) (fault other : LineFault) → IsBad place_at bytes fault → IsBad place_at bytes other → fault ≡ other
+one_fault place_at bytes fault other h k = err_same fault other (sym (bad_line place_at bytes fault h) ∙ bad_line place_at bytes other k)
+
+pub not_both : (place_at : List ℕ → Option ℕ) (bytes : List ℕ) (line : Line) (fault : LineFault) → IsLine place_at bytes line → IsBad place_at bytes fault → ⊥
+not_both place_at bytes line fault h k = err_ok fault line (sym (bad_line place_at bytes fault k) ∙ line_read place_at bytes line h)

@@ -1,0 +1,14 @@
+use Rattle.call_text.proofs.FaultLaws.{some_meaning, one_line, one_fault, not_both}
+use Rattle.call_text.proofs.laws.lines_have_one_meaning.Goals as goal
+
+pub returns-clause-some : goal.returns-clause-some
+returns-clause-some c = λ place_at bytes. some_meaning place_at bytes
+
+pub returns-clause-one_line : goal.returns-clause-one_line
+returns-clause-one_line c = one_line
+
+pub returns-clause-one_fault : goal.returns-clause-one_fault
+returns-clause-one_fault c = one_fault
+
+pub returns-clause-not_both : goal.returns-clause-not_both
+returns-clause-not_both c = not_both
