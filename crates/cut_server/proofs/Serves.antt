@@ -7,10 +7,12 @@ use Rattle.room_ports.proofs.Fronts.{takes-nothing, takes-takes}
 use Rattle.line_words.specs.Lines.{Line as InputLine}
 use Rattle.line_words.specs.Told.{line_told, lines_told}
 use Rattle.line_words.specs.declared.line.LineEnd.{LineEnd}
+use Rattle.composables.specs.TrackState.{TrackState}
+use Rattle.edit_apply.specs.declared.asks.Call.{Call}
 use Rattle.cut_server.specs.declared.reply.Reply.{Reply}
 use Rattle.cut_server.specs.Outside.{AreSent, TakesThenFront, LastIsCut}
 use Rattle.cut_server.specs.Transcript.{Kind, Wish, sent}
-use Rattle.cut_server.specs.Rooms.{Setting, room_of, meaning_of, wish_in}
+use Rattle.cut_server.specs.Rooms.{Setting, AreWritten, room_of, meaning_of, wish_in}
 use Rattle.cut_server.specs.Session.{Course, SessionState, past_line, IsReply, Replies, Step}
 use Rattle.cut_server.specs.Served.{Served, Serves, ServesTo}
 use Rattle.cut_server.proofs.Serving.{served_more}
@@ -75,20 +77,22 @@ module _ {S C D R Q X Y : Type 0} (k : Kind S C D R Q X Y) (stations station : �
       (text ∷ [], s.0, rw next s.1, taken)
 
 pub serves_none : (s : SessionState) (t : Option (List ℕ)) → ServesTo s s [] (AreSent t t)
-serves_none s t = record { setting = refl; serves = λ o ls rs last w. ([], last, rw (append-nil, append-nil) w, takes-nothing t) }
+serves_none s t = record { setting = refl; written = λ w. w; serves = λ o ls rs last w. ([], last, rw (append-nil, append-nil) w, takes-nothing t) }
 
 pub serves_one : (old mid new : SessionState) (l : InputLine) (reply : Reply) (Taken : List (List ℕ) → Type 0)
     → Replies old mid (wish_in (meaning_of old.setting l)) reply → new.setting ≡ mid.setting → new.course ≡ past_line mid.course
     → ((text : List ℕ) → IsReply reply text → Taken (text ∷ [])) → ServesTo old new (l ∷ []) Taken
-serves_one old mid new l reply Taken (kept, text, is, step) same next taken = record {
-  setting = same ∙ kept;
-  serves = one_serves (room_of old.setting) 1 0 old.course mid.course new.course l text Taken (omega arith) step next (taken text is);
+serves_one old mid new l reply Taken (text, is, r) same next taken = record {
+  setting = same ∙ r.setting;
+  written = λ w. subst (λ (s : Course (List TrackState) Call). AreWritten s.journal) (sym next) (r.written w);
+  serves = one_serves (room_of old.setting) 1 0 old.course mid.course new.course l text Taken (omega arith) r.step next (taken text is);
 }
 
 serves_then : (a b c : SessionState) (xs ys : List InputLine) (P V W : List (List ℕ) → Type 0) → ((us vs : List (List ℕ)) → P us → V vs → W (us ++ vs))
     → ServesTo a b xs P → ServesTo b c ys V → ServesTo a c (xs ++ ys) W
 serves_then a b c xs ys P V W both f g = record {
   setting = g.setting ∙ f.setting;
+  written = λ w. g.written (f.written w);
   serves = then_serves (room_of a.setting) 1 0 a.course b.course c.course xs ys P V W both f.serves
       (subst (λ (setting : Setting). Serves (room_of setting) 1 0 b.course c.course ys V) f.setting g.serves);
 }

@@ -12,7 +12,7 @@ use Rattle.cut_server.specs.declared.serve.End.TheVariants as end
 use Rattle.cut_server.specs.declared.status.Status.{Status}
 use Rattle.cut_server.specs.declared.status.Status.TheVariants.{Done, ReadFault, WriteFault, NoCommand, OutOfMemory, TooMuchInput}
 use Rattle.cut_server.specs.Outside.{Outside, outside, NoFault, WriteFailed, Got, AtEnd, AreSent}
-use Rattle.cut_server.specs.Rooms.{Opening, Setting, room_of, IsLegalIn, RoomTranscript}
+use Rattle.cut_server.specs.Rooms.{Opening, Setting, AreWritten, room_of, IsLegalIn, RoomTranscript}
 use Rattle.cut_server.specs.History.{IsLegal}
 use Rattle.cut_server.specs.Transcript.{Transcript, sent}
 use Rattle.cut_server.specs.Session.{SessionState}
@@ -23,10 +23,11 @@ use Rattle.cut_server.proofs.Inputs.{source_same}
 use Rattle.cut_server.proofs.Serves.{takes-then_front}
 use Rattle.cut_server.proofs.Serving.{served_none, transcript_served, legal_served}
 
-told : (o : Opening) (a b : SessionState) (ls : List InputLine) (rs : List (List ℕ)) (last : ℕ) → IsFresh o a → Served (room_of a.setting) 1 0 o.tracks b.course ls rs last → IsTold o 1 b.course.journal 0 ls rs
-told o a b ls rs last f w = record {
+told : (o : Opening) (a b : SessionState) (ls : List InputLine) (rs : List (List ℕ)) (last : ℕ) → IsFresh o a → AreWritten b.course.journal → Served (room_of a.setting) 1 0 o.tracks b.course ls rs last → IsTold o 1 b.course.journal 0 ls rs
+told o a b ls rs last f texts w = record {
   legal = subst (λ (s : Setting). IsLegal (room_of s).apply o.tracks b.course.journal) f.setting (legal_served (room_of a.setting) 1 0 o.tracks b.course ls rs last w);
   seated = w.seated;
+  written = texts;
   transcript = subst (λ (s : Setting). Transcript (room_of s) o.tracks b.course.journal 0 ls rs) f.setting (transcript_served (room_of a.setting) 1 0 o.tracks b.course ls rs last w);
 }
 
@@ -34,7 +35,7 @@ told o a b ls rs last f w = record {
 tells_by : (o : Opening) (a b : SessionState) (ls : List InputLine) (Taken : List (List ℕ) → Type 0) → IsFresh o a → ServesTo a b ls Taken → (replies : List (List ℕ)) × IsTold o 1 b.course.journal 0 ls replies × Taken replies
 tells_by o a b ls Taken f g =
     let s = g.serves o.tracks [] [] 0 (served_none (room_of a.setting) 1 0 o.tracks a.course f.tracks f.journal f.line) in
-    (s.0, told o a b ls s.0 s.1 f s.2, s.3)
+    (s.0, told o a b ls s.0 s.1 f (g.written (rw f.journal tt)) s.2, s.3)
 
 tells : (o : Opening) (a b : SessionState) → IsFresh o a → (ls : List InputLine) (Taken : List (List ℕ) → Type 0) → ServesTo a b ls Taken → Tells o ls Taken
 tells o a b f ls Taken g = let s = tells_by o a b ls Taken f g in (b.course.journal, s.0, s.1, s.2)

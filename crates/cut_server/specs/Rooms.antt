@@ -1,5 +1,5 @@
 -- The kind of history of a room: edits of its tracks, questions to them, and the lines of the protocol.
-use Rattle.std.specs.Prelude.{ℕ, Bool, true, false, List, [], ◌∷◌, Some, None, Result, Ok, Err, codes}
+use Rattle.std.specs.Prelude.{ℕ, Bool, true, false, List, [], ◌∷◌, Some, None, Result, Ok, Err}
 use Rattle.line_words.specs.Lines.{Line as InputLine}
 use Rattle.timecode12.specs.Numbers.{Counted}
 use Rattle.composables.specs.declared.media.Table.{Table}
@@ -19,9 +19,12 @@ use Rattle.call_text.specs.declared.lines.LineFault.{LineFault}
 use Rattle.call_text.specs.declared.lines.LineFault.TheVariants.{B5}
 use Rattle.call_text.specs.Labels.{place_by}
 use Rattle.call_text.specs.Reading.{line_of}
-use Rattle.call_text.specs.Replies.{reply_of, fault_of}
-use Rattle.call_text.specs.Sights.{seen_of}
-use Rattle.cut_server.specs.History.{IsLegal, own_entries}
+use Rattle.call_text.specs.declared.answers.Answer.TheVariants as answer
+use Rattle.call_text.specs.declared.answers.Sight.TheVariants as sight
+use Rattle.call_text.specs.CallTexts.{IsWritten}
+use Rattle.call_text.specs.Replies.{answer_text_of, fault_of}
+use Rattle.call_text.specs.Sights.{sight_text_of}
+use Rattle.cut_server.specs.History.{IsLegal, most_entries}
 use Rattle.cut_server.specs.Transcript.{Wish, Do, See, Point, Bad, Kind, Transcript}
 
 -- what stays as it is in a room: its table, how its frames are counted, and the frame at which its record starts
@@ -56,6 +59,15 @@ finds_memory (See q) = true
 finds_memory Point = false
 finds_memory (Bad text) = false
 
+-- the reply to an edit at a point, and to a question
+abbrev pub reply_of : ℕ → Result Done Refusal → List ℕ
+reply_of n (Ok d) = answer_text_of (answer.Done n d)
+reply_of n (Err r) = answer_text_of (answer.Refused n r)
+
+abbrev pub seen_of : ℕ → Result Seen AskRefusal → List ℕ
+seen_of n (Ok s) = sight_text_of (sight.Seen n s)
+seen_of n (Err r) = sight_text_of (sight.Refused n r)
+
 abbrev pub room_of : Setting → Kind (List TrackState) Call Done Refusal Ask Seen AskRefusal
 room_of setting = record {
   apply = applied setting.table;
@@ -63,7 +75,7 @@ room_of setting = record {
   wish = λ l. wish_in (meaning_of setting l);
   takes_memory = λ l. finds_memory (wish_in (meaning_of setting l));
   answer_text = reply_of;
-  full_text = codes "no 100000 E15";
+  full_text = answer_text_of (answer.Full most_entries);
   sight_text = seen_of;
 }
 
@@ -73,3 +85,8 @@ RoomTranscript o h station lines replies = Transcript (room_of o.setting) o.trac
 
 abbrev pub IsLegalIn : Opening → History → Type 0
 IsLegalIn o h = IsLegal (applied o.setting.table) o.tracks h
+
+-- each entry's call can be written as a line, and read again
+abbrev pub AreWritten : History → Type 0
+AreWritten [] = Unit {0}
+AreWritten (e ∷ es) = IsWritten e.call × AreWritten es

@@ -13,16 +13,17 @@ use Rattle.cut_server.specs.declared.status.Status.TheVariants.{Done, ReadFault,
 use Rattle.cut_server.specs.History.{AreOfStations}
 use Rattle.cut_server.specs.Openings.{plain_opening}
 use Rattle.cut_server.specs.Outside.{Outside, NoFault, WriteFailed, AtEnd, AreSent, TakesThenFront}
-use Rattle.cut_server.specs.Rooms.{Opening, History, IsLegalIn, RoomTranscript}
+use Rattle.cut_server.specs.Rooms.{Opening, History, AreWritten, IsLegalIn, RoomTranscript}
 use Rattle.cut_server.specs.Serving.{SessionEnds}
 use Rattle.cut_server.specs.Statuses.{number_of}
 use Rattle.cut_server.specs.Transcript.{sent}
 
--- the journal is a legal serial history of the opening with entries of these stations alone, and it tells the replies to
--- the lines of one of them
+-- the journal is a legal serial history of the opening with entries of these stations alone, each of which can be written
+-- and read again, and it tells the replies to the lines of one station
 pub record IsTold (o : Opening) (stations : ℕ) (h : History) (station : ℕ) (lines : List InputLine) (replies : List (List ℕ)) : Type 0 where
   pub legal : IsLegalIn o h
   pub seated : AreOfStations stations h
+  pub written : AreWritten h
   pub transcript : RoomTranscript o h station lines replies
 
 -- there are a journal of one station and replies to these lines that it tells, of which this holds

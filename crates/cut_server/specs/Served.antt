@@ -4,7 +4,7 @@ use Rattle.line_words.specs.Lines.{Line as InputLine}
 use Rattle.call_text.specs.declared.entries.Entry.{Entry}
 use Rattle.cut_server.specs.History.{most_entries, replay, NumbersRise, AreOfStations}
 use Rattle.cut_server.specs.Transcript.{Kind, Rows, points_from}
-use Rattle.cut_server.specs.Rooms.{Opening, room_of}
+use Rattle.cut_server.specs.Rooms.{Opening, AreWritten, room_of}
 use Rattle.cut_server.specs.Session.{Course, SessionState}
 
 -- each entry of the station is of a line before this one
@@ -40,4 +40,5 @@ pub record IsFresh (o : Opening) (s : SessionState) : Type 0 where
 -- a session answered these lines, as the one station of its room
 pub record ServesTo (old new : SessionState) (lines : List InputLine) (Taken : List (List ℕ) → Type 0) : Type 0 where
   pub setting : new.setting ≡ old.setting
+  pub written : AreWritten old.course.journal → AreWritten new.course.journal
   pub serves : Serves (room_of old.setting) 1 0 old.course new.course lines Taken
