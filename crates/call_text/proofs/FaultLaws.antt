@@ -16,7 +16,7 @@ use Rattle.call_text.specs.declared.commands.Command.TheVariants as command
 use Rattle.call_text.specs.Spelling.{◌>>=◌, number_or_fault, numeral_of, track_of, is_comma, set_with, tracks_of, place_or_fault, number_or_label, place_of, what_of}
 use Rattle.call_text.specs.Reading.{command_of, overwrite_of, insert_of, extract_of, remove_of, slice_of, view_of, row_of, row_if, line_of_words, line_of}
 use Rattle.call_text.specs.Table.{IsNumeral, IsTrack, AreTracks, IsLine, word_of}
-use Rattle.call_text.specs.Faults.{Part, Tracks, Track, Place, Thing, Number, rows_of, IsNoNumeral, IsTooLarge, IsPastTracks, IsBadTrack, AreBadTracks, IsSigned, IsBadPart, IsPart, FirstIsBad, AreNoRow, AreBad, IsBad}
+use Rattle.call_text.specs.Faults.{Part, Tracks, Track, Place, Thing, Number, rows_of, IsNoNumeral, IsTooLarge, IsPastTracks, IsBadTrack, AreBadTracks, HasDigits, IsBadPart, IsPart, FirstIsBad, AreNoRow, AreBad, IsBad}
 use Rattle.call_text.proofs.ReadParts.{bind_ok, chosen, ok_same, err_ok, numeral_spelled, numeral_read, track_spelled, track_read, tracks_spelled, tracks_read, place_spelled, place_read, thing_spelled, thing_read}
 use Rattle.call_text.proofs.TableLaws.{command_spelled, command_read, line_spelled, line_read}
 
@@ -141,22 +141,22 @@ digits_same : (a b : ℕ) (x y : List ℕ) → a ∷ x ≡ b ∷ y → (a ≡ b)
 digits_same a b x y h = (cc, cc)
 
 -- the digits behind a sign are one list
-one_sign : (sign : ℕ) (digits more : List ℕ) → IsSigned (sign ∷ digits) more → digits ≡ more
+one_sign : (sign : ℕ) (digits more : List ℕ) → HasDigits (sign ∷ digits) more → digits ≡ more
 one_sign sign digits more (inl media) = (digits_same sign 64 digits more media).1
 one_sign sign digits more (inr nest) = (digits_same sign 35 digits more nest).1
 
-thing_wrong : (sign : ℕ) (digits : List ℕ) (e : LineFault) → IsSigned (sign ∷ digits) digits → (IsNoNumeral digits × (e ≡ B3)) ⊎ (IsTooLarge digits × (e ≡ B4)) → (place_at : List ℕ → Option ℕ) → IsBadPart place_at Thing (sign ∷ digits) e
+thing_wrong : (sign : ℕ) (digits : List ℕ) (e : LineFault) → HasDigits (sign ∷ digits) digits → (IsNoNumeral digits × (e ≡ B3)) ⊎ (IsTooLarge digits × (e ≡ B4)) → (place_at : List ℕ → Option ℕ) → IsBadPart place_at Thing (sign ∷ digits) e
 thing_wrong sign digits e signed (inl (not, is)) place_at = inl (λ more other. rw (← one_sign sign digits more other) not, is)
 thing_wrong sign digits e signed (inr (large, is)) place_at = inr ((digits, signed, large), is)
 
-not_signed : (sign : ℕ) (digits : List ℕ) → (sign == 64) ≡ false → (sign == 35) ≡ false → (more : List ℕ) → IsSigned (sign ∷ digits) more → ⊥
+not_signed : (sign : ℕ) (digits : List ℕ) → (sign == 64) ≡ false → (sign == 35) ≡ false → (more : List ℕ) → HasDigits (sign ∷ digits) more → ⊥
 not_signed sign digits media nest more (inl is) = let same = (digits_same sign 64 digits more is).0 in absurd cc
 not_signed sign digits media nest more (inr is) = let same = (digits_same sign 35 digits more is).0 in absurd cc
 
 thing_bad : (place_at : List ℕ → Option ℕ) (word : List ℕ) (e : LineFault) → what_of word ≡ Err e → IsBadPart place_at Thing word e
 thing_bad place_at [] e h = inl (none, sym (err_same B3 e h))
   where
-    none : (digits : List ℕ) → IsSigned [] digits → IsNoNumeral digits
+    none : (digits : List ℕ) → HasDigits [] digits → IsNoNumeral digits
     none digits (inl is) = absurd cc
     none digits (inr is) = absurd cc
 thing_bad place_at (sign ∷ digits) e h = elim (chosen (sign == 64) _ _ (Err e) h) [
@@ -167,7 +167,7 @@ thing_bad place_at (sign ∷ digits) e h = elim (chosen (sign == 64) _ _ (Err e)
   ]
 ]
 
-thing_fault : (word digits : List ℕ) (e : LineFault) → IsSigned word digits → (IsNoNumeral digits × (e ≡ B3)) ⊎ (IsTooLarge digits × (e ≡ B4)) → what_of word ≡ Err e
+thing_fault : (word digits : List ℕ) (e : LineFault) → HasDigits word digits → (IsNoNumeral digits × (e ≡ B3)) ⊎ (IsTooLarge digits × (e ≡ B4)) → what_of word ≡ Err e
 thing_fault word digits e (inl is) wrong = let read = bad_numeral digits e wrong in rw (is, read) refl
 thing_fault word digits e (inr is) wrong = let read = bad_numeral digits e wrong in rw (is, read) refl
 
@@ -177,10 +177,10 @@ bad_thing place_at (sign ∷ digits) e (inl (none, is)) = by (sign == 64) (sign 
   where
     by : (m n : Bool) → (sign == 64) ≡ m → (sign == 35) ≡ n → what_of (sign ∷ digits) ≡ Err e
     by true n media nest =
-        let signed : IsSigned (sign ∷ digits) digits = inl (ap (λ byte. byte ∷ digits) (eqb-true sign 64 media)) in
+        let signed : HasDigits (sign ∷ digits) digits = inl (ap (λ byte. byte ∷ digits) (eqb-true sign 64 media)) in
         thing_fault (sign ∷ digits) digits e signed (inl (none digits signed, is))
     by false true media nest =
-        let signed : IsSigned (sign ∷ digits) digits = inr (ap (λ byte. byte ∷ digits) (eqb-true sign 35 nest)) in
+        let signed : HasDigits (sign ∷ digits) digits = inr (ap (λ byte. byte ∷ digits) (eqb-true sign 35 nest)) in
         thing_fault (sign ∷ digits) digits e signed (inl (none digits signed, is))
     by false false media nest = rw (media, nest, is) refl
 bad_thing place_at word e (inr ((digits, signed, large), is)) = thing_fault word digits e signed (inr (large, is))

@@ -54,8 +54,7 @@ written_call place_at (call.Overwrite c) (track, at, what, from, len) =
       length-what_text c.what what,
       length-decimal c.from from,
       length-decimal c.len len,
-    ))
-    (
+    )) (
       decimal c.track,
       decimal c.at,
       what_text c.what,
@@ -91,8 +90,7 @@ written_call place_at (call.Insert c) ((some, tracks), track, at, what, from, le
       length-what_text c.what what,
       length-decimal c.from from,
       length-decimal c.len len,
-    ))
-    (
+    )) (
       tracks_text c.tracks,
       decimal c.track,
       decimal c.at,
@@ -140,8 +138,7 @@ written_call place_at (call.Extract c) ((some, tracks), track, item) =
       length-tracks_text c.tracks some tracks,
       length-decimal c.track (low c.track track),
       length-decimal c.item item,
-    ))
-    (
+    )) (
       tracks_text c.tracks,
       decimal c.track,
       decimal c.item,

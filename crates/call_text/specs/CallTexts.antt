@@ -1,4 +1,5 @@
--- The text of a call: its line with one space between words, places as numbers, and numbers without leading zeros.
+-- The text of a call: its line with one space between words, lists of tracks ascending, places as
+-- numbers, and numbers without leading zeros.
 use Rattle.std.specs.Prelude.{ℕ, ◌<◌, ◌≤◌, ◌^◌, List, [], ◌∷◌, ◌++◌, codes, decimal}
 use Rattle.frame_meaning.specs.declared.cells.What.{What}
 use Rattle.frame_meaning.specs.declared.cells.What.TheVariants.{Media, Nest}
@@ -28,11 +29,15 @@ abbrev pub frames_text : What → ℕ → ℕ → List ℕ
 frames_text what from len = what_text what ++ codes " " ++ decimal from ++ codes " " ++ decimal len
 
 abbrev pub call_text_of : Call → List ℕ
-call_text_of (call.Overwrite c) = codes "overwrite " ++ decimal c.track ++ codes " " ++ decimal c.at ++ codes " " ++ frames_text c.what c.from c.len
+call_text_of (call.Overwrite c) =
+    codes "overwrite " ++ decimal c.track ++ codes " " ++ decimal c.at ++ codes " "
+    ++ frames_text c.what c.from c.len
 call_text_of (call.Insert c) =
-    codes "insert " ++ tracks_text c.tracks ++ codes " " ++ decimal c.track ++ codes " " ++ decimal c.at ++ codes " " ++ frames_text c.what c.from c.len
+    codes "insert " ++ tracks_text c.tracks ++ codes " " ++ decimal c.track ++ codes " " ++ decimal c.at
+    ++ codes " " ++ frames_text c.what c.from c.len
 call_text_of (call.Remove c) = codes "remove " ++ decimal c.track ++ codes " " ++ decimal c.item
-call_text_of (call.Extract c) = codes "extract " ++ tracks_text c.tracks ++ codes " " ++ decimal c.track ++ codes " " ++ decimal c.item
+call_text_of (call.Extract c) =
+    codes "extract " ++ tracks_text c.tracks ++ codes " " ++ decimal c.track ++ codes " " ++ decimal c.item
 call_text_of (call.Slice c) = codes "slice " ++ decimal c.track ++ codes " " ++ decimal c.at
 
 -- a number of 32 bits
@@ -47,11 +52,14 @@ IsSmallWhat (Nest n) = IsSmall n
 abbrev pub IsSomeTracks : ℕ → Type 0
 IsSomeTracks set = (0 < set) × IsSmall set
 
--- a call whose text is a line: its numbers have 32 bits, it names at least one track, and its tracks are among the 32
--- that a line can name
+-- a call whose text is a line, which is read again as the call: its numbers have 32 bits, it names at
+-- least one track, and its tracks are among the 32 that a line can name
 abbrev pub IsWritten : Call → Type 0
-IsWritten (call.Overwrite c) = (c.track ≤ LAST_TRACK) × IsSmall c.at × IsSmallWhat c.what × IsSmall c.from × IsSmall c.len
-IsWritten (call.Insert c) = IsSomeTracks c.tracks × (c.track ≤ LAST_TRACK) × IsSmall c.at × IsSmallWhat c.what × IsSmall c.from × IsSmall c.len
+IsWritten (call.Overwrite c) =
+    (c.track ≤ LAST_TRACK) × IsSmall c.at × IsSmallWhat c.what × IsSmall c.from × IsSmall c.len
+IsWritten (call.Insert c) =
+    IsSomeTracks c.tracks × (c.track ≤ LAST_TRACK) × IsSmall c.at
+    × IsSmallWhat c.what × IsSmall c.from × IsSmall c.len
 IsWritten (call.Remove c) = (c.track ≤ LAST_TRACK) × IsSmall c.item
 IsWritten (call.Extract c) = IsSomeTracks c.tracks × (c.track ≤ LAST_TRACK) × IsSmall c.item
 IsWritten (call.Slice c) = (c.track ≤ LAST_TRACK) × IsSmall c.at

@@ -1,6 +1,7 @@
--- Why a line is none of the table. The first of these that holds: it is too long; it has no word; its first word is not
--- in the table; no row of that word has so many words; and then, word by word from the left, a word is not spelled as its
--- part of the row, or a number of it is past its bound, or its list of tracks does not rise.
+-- Why a line is none of the table. The first of these that holds: it is too long; it has no word; its
+-- first word is not in the table; no row of that word has so many words; and then, word by word from the
+-- left, a word is not spelled as its part of the row, or a number of it is past its bound, or its list
+-- of tracks does not rise.
 use Rattle.std.specs.Prelude.{◌≡◌, ◌≢◌, ℕ, ◌+◌, ◌<◌, ◌≤◌, ◌⊎◌, List, [], ◌∷◌, ◌++◌, Option, None, Err, length, codes}
 use Rattle.std.specs.List.{slice_split}
 use Rattle.line_words.specs.Blanks.{words_of}
@@ -13,7 +14,7 @@ use Rattle.call_text.specs.declared.lines.LineFault.{LineFault}
 use Rattle.call_text.specs.declared.lines.LineFault.TheVariants.{B1, B2, B3, B4, B5, B6}
 use Rattle.call_text.specs.declared.commands.Command.{Command}
 use Rattle.call_text.specs.declared.commands.Command.TheVariants as command
-use Rattle.call_text.specs.Spelling.{is_comma}
+use Rattle.call_text.specs.Spelling.{Naming, is_comma}
 use Rattle.call_text.specs.Table.{IsNumeral, IsTrack, IsTracks, IsPlace, IsThing, word_of}
 
 -- what a word of a row is to be: TS, T, P, WHAT, or a number (I, FROM, LEN)
@@ -55,24 +56,27 @@ abbrev pub AreBadTracks : ℕ → List (List ℕ) → LineFault → Type 0
 AreBadTracks least [] fault = ⊥
 AreBadTracks least (word ∷ words) fault =
     IsBadTrack word fault
-    ⊎ ((track : ℕ) × IsTrack word track × (((track < least) × (fault ≡ B6)) ⊎ ((least ≤ track) × AreBadTracks (track + 1) words fault)))
+    ⊎ ((track : ℕ) × IsTrack word track
+    × (((track < least) × (fault ≡ B6)) ⊎ ((least ≤ track) × AreBadTracks (track + 1) words fault)))
 
 -- the word is `@` or `#` and these digits
-abbrev pub IsSigned : List ℕ → List ℕ → Type 0
-IsSigned word digits = (word ≡ codes "@" ++ digits) ⊎ (word ≡ codes "#" ++ digits)
+abbrev pub HasDigits : List ℕ → List ℕ → Type 0
+HasDigits word digits = (word ≡ codes "@" ++ digits) ⊎ (word ≡ codes "#" ++ digits)
 
 -- the word is not spelled as this part, or a number of it is past its bound, or its list does not rise
-abbrev pub IsBadPart : (List ℕ → Option ℕ) → Part → List ℕ → LineFault → Type 0
-IsBadPart place_at Number word fault = (IsNoNumeral word × (fault ≡ B3)) ⊎ (IsTooLarge word × (fault ≡ B4))
+abbrev pub IsBadPart : Naming → Part → List ℕ → LineFault → Type 0
+IsBadPart place_at Number word fault =
+    (IsNoNumeral word × (fault ≡ B3)) ⊎ (IsTooLarge word × (fault ≡ B4))
 IsBadPart place_at Track word fault = IsBadTrack word fault
 IsBadPart place_at Tracks word fault = AreBadTracks 0 (slice_split is_comma word) fault
-IsBadPart place_at Place word fault = ((IsNoNumeral word × (place_at word ≡ None)) × (fault ≡ B3)) ⊎ (IsTooLarge word × (fault ≡ B4))
+IsBadPart place_at Place word fault =
+    ((IsNoNumeral word × (place_at word ≡ None)) × (fault ≡ B3)) ⊎ (IsTooLarge word × (fault ≡ B4))
 IsBadPart place_at Thing word fault =
-    (((digits : List ℕ) → IsSigned word digits → IsNoNumeral digits) × (fault ≡ B3))
-    ⊎ (((digits : List ℕ) × IsSigned word digits × IsTooLarge digits) × (fault ≡ B4))
+    (((digits : List ℕ) → HasDigits word digits → IsNoNumeral digits) × (fault ≡ B3))
+    ⊎ (((digits : List ℕ) × HasDigits word digits × IsTooLarge digits) × (fault ≡ B4))
 
 -- the word is spelled as this part, within its bounds
-abbrev pub IsPart : (List ℕ → Option ℕ) → Part → List ℕ → Type 0
+abbrev pub IsPart : Naming → Part → List ℕ → Type 0
 IsPart place_at Number word = (n : ℕ) × IsNumeral word n
 IsPart place_at Track word = (n : ℕ) × IsTrack word n
 IsPart place_at Tracks word = (set : ℕ) × IsTracks word set
@@ -80,23 +84,28 @@ IsPart place_at Place word = (n : ℕ) × IsPlace place_at word n
 IsPart place_at Thing word = (w : What) × IsThing word w
 
 -- the first word that is wrong, those before it being right
-abbrev pub FirstIsBad : (List ℕ → Option ℕ) → List Part → List (List ℕ) → LineFault → Type 0
+abbrev pub FirstIsBad : Naming → List Part → List (List ℕ) → LineFault → Type 0
 FirstIsBad place_at [] words fault = ⊥
 FirstIsBad place_at (part ∷ parts) [] fault = ⊥
 FirstIsBad place_at (part ∷ parts) (word ∷ words) fault =
-    IsBadPart place_at part word fault ⊎ (IsPart place_at part word × FirstIsBad place_at parts words fault)
+    IsBadPart place_at part word fault
+    ⊎ (IsPart place_at part word × FirstIsBad place_at parts words fault)
 
 -- no row has so many words, or a word is wrong for the row that has
-abbrev pub AreNoRow : (List ℕ → Option ℕ) → List (List Part) → List (List ℕ) → LineFault → Type 0
+abbrev pub AreNoRow : Naming → List (List Part) → List (List ℕ) → LineFault → Type 0
 AreNoRow place_at [] words fault = fault ≡ B2
 AreNoRow place_at (row ∷ rows) words fault =
-    ((length words ≡ length row) × FirstIsBad place_at row words fault) ⊎ ((length words ≢ length row) × AreNoRow place_at rows words fault)
+    ((length words ≡ length row) × FirstIsBad place_at row words fault)
+    ⊎ ((length words ≢ length row) × AreNoRow place_at rows words fault)
 
-abbrev pub AreBad : (List ℕ → Option ℕ) → List (List ℕ) → LineFault → Type 0
+abbrev pub AreBad : Naming → List (List ℕ) → LineFault → Type 0
 AreBad place_at [] fault = fault ≡ B2
 AreBad place_at (first ∷ words) fault =
-    (((k : Command) → first ≢ word_of k) × (fault ≡ B1)) ⊎ ((k : Command) × (first ≡ word_of k) × AreNoRow place_at (rows_of k) words fault)
+    (((k : Command) → first ≢ word_of k) × (fault ≡ B1))
+    ⊎ ((k : Command) × (first ≡ word_of k) × AreNoRow place_at (rows_of k) words fault)
 
 -- the bytes are no line of the table, and this is why
-abbrev pub IsBad : (List ℕ → Option ℕ) → List ℕ → LineFault → Type 0
-IsBad place_at bytes fault = ((MAX_LINE < length bytes) × (fault ≡ B5)) ⊎ ((length bytes ≤ MAX_LINE) × AreBad place_at (words_of bytes) fault)
+abbrev pub IsBad : Naming → List ℕ → LineFault → Type 0
+IsBad place_at bytes fault =
+    ((MAX_LINE < length bytes) × (fault ≡ B5))
+    ⊎ ((length bytes ≤ MAX_LINE) × AreBad place_at (words_of bytes) fault)

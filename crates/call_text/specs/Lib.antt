@@ -2,6 +2,7 @@ pub mod CallTexts
 pub mod Faults
 pub mod Journals
 pub mod Labels
+pub mod Meanings
 pub mod Reading
 pub mod Replies
 pub mod Sights

@@ -1,8 +1,9 @@
--- The table of the lines that a station sends, and the first fault of a line that is none of them:
--- B5 more than 1,024 bytes; B2 no word; B1 a first word that is not in the table; B2 not as many words as the row has;
--- then, word by word from the left, B3 a word that is not spelled so, B4 a number past its bound, B6 a list of tracks
--- that does not rise.
-use Rattle.std.specs.Prelude.{ℕ, List, [], ◌∷◌, Option, Some, None, Result, Ok, Err, length, nat_le, codes, bytes_eq, if◌then◌else◌}
+-- The table of the lines that a station sends, and the first fault of a line that is none of them: B5
+-- more than 1,024 bytes; B2 no word; B1 a first word that is not in the table; B2 not as many words as
+-- the row has; then, word by word from the left, B3 a word that is not spelled so, B4 a number past its
+-- bound, B6 a list of tracks that does not rise.
+use Rattle.std.specs.Prelude.{ℕ, List, [], ◌∷◌, Option, Some, None, Result, Ok, Err, length, map, nat_le, codes, bytes_eq, if◌then◌else◌}
+use Rattle.std.specs.Borrow.{Bor}
 use Rattle.line_words.specs.Blanks.{words_of}
 use Rattle.line_words.specs.declared.TheConstants.{MAX_LINE}
 use Rattle.edit_apply.specs.declared.asks.Call.TheVariants as call
@@ -13,10 +14,14 @@ use Rattle.call_text.specs.declared.lines.LineFault.{LineFault}
 use Rattle.call_text.specs.declared.lines.LineFault.TheVariants.{B1, B2, B5}
 use Rattle.call_text.specs.declared.commands.Command.{Command}
 use Rattle.call_text.specs.declared.commands.Command.TheVariants as command
-use Rattle.call_text.specs.Spelling.{◌>>=◌, numeral_of, track_of, tracks_of, place_of, what_of}
+use Rattle.call_text.specs.Spelling.{Naming, ◌>>=◌, numeral_of, track_of, tracks_of, place_of, what_of}
+
+-- the bytes of words
+abbrev pub texts_of : List (Bor (List ℕ)) → List (List ℕ)
+texts_of words = map (λ w. w.now) words
 
 -- overwrite T P WHAT FROM LEN
-abbrev pub overwrite_of : (List ℕ → Option ℕ) → List (List ℕ) → Result Line LineFault
+abbrev pub overwrite_of : Naming → List (List ℕ) → Result Line LineFault
 overwrite_of place_at (track ∷ at ∷ what ∷ from ∷ len ∷ []) = do
   track ← track_of track
   at ← place_of place_at at
@@ -27,7 +32,7 @@ overwrite_of place_at (track ∷ at ∷ what ∷ from ∷ len ∷ []) = do
 overwrite_of place_at words = Err B2
 
 -- insert TS T P WHAT FROM LEN
-abbrev pub insert_of : (List ℕ → Option ℕ) → List (List ℕ) → Result Line LineFault
+abbrev pub insert_of : Naming → List (List ℕ) → Result Line LineFault
 insert_of place_at (tracks ∷ track ∷ at ∷ what ∷ from ∷ len ∷ []) = do
   tracks ← tracks_of tracks
   track ← track_of track
@@ -56,7 +61,7 @@ extract_of (tracks ∷ track ∷ item ∷ []) = do
 extract_of words = Err B2
 
 -- slice T P
-abbrev pub slice_of : (List ℕ → Option ℕ) → List (List ℕ) → Result Line LineFault
+abbrev pub slice_of : Naming → List (List ℕ) → Result Line LineFault
 slice_of place_at (track ∷ at ∷ []) = do
   track ← track_of track
   at ← place_of place_at at
@@ -64,7 +69,7 @@ slice_of place_at (track ∷ at ∷ []) = do
 slice_of place_at words = Err B2
 
 -- view T P P
-abbrev pub view_of : (List ℕ → Option ℕ) → List (List ℕ) → Result Line LineFault
+abbrev pub view_of : Naming → List (List ℕ) → Result Line LineFault
 view_of place_at (track ∷ from ∷ to ∷ []) = do
   track ← track_of track
   a ← place_of place_at from
@@ -98,7 +103,7 @@ command_of word =
     else None
 
 -- the words after the first, by the row of the first
-abbrev pub row_of : (List ℕ → Option ℕ) → Command → List (List ℕ) → Result Line LineFault
+abbrev pub row_of : Naming → Command → List (List ℕ) → Result Line LineFault
 row_of place_at command.Overwrite words = overwrite_of place_at words
 row_of place_at command.Insert words = insert_of place_at words
 row_of place_at command.Remove words = remove_of words
@@ -108,14 +113,15 @@ row_of place_at command.View words = view_of place_at words
 row_of place_at command.Items words = items_of words
 row_of place_at command.Point words = point_of words
 
-abbrev pub row_if : (List ℕ → Option ℕ) → Option Command → List (List ℕ) → Result Line LineFault
+abbrev pub row_if : Naming → Option Command → List (List ℕ) → Result Line LineFault
 row_if place_at None words = Err B1
 row_if place_at (Some k) words = row_of place_at k words
 
-abbrev pub line_of_words : (List ℕ → Option ℕ) → List (List ℕ) → Result Line LineFault
+abbrev pub line_of_words : Naming → List (List ℕ) → Result Line LineFault
 line_of_words place_at [] = Err B2
 line_of_words place_at (first ∷ words) = row_if place_at (command_of first) words
 
 -- the line that these bytes are, where place_at says which place a label names
-abbrev pub line_of : (List ℕ → Option ℕ) → List ℕ → Result Line LineFault
-line_of place_at bytes = if nat_le (length bytes) MAX_LINE then line_of_words place_at (words_of bytes) else Err B5
+abbrev pub line_of : Naming → List ℕ → Result Line LineFault
+line_of place_at bytes =
+    if nat_le (length bytes) MAX_LINE then line_of_words place_at (words_of bytes) else Err B5

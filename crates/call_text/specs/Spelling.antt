@@ -1,5 +1,6 @@
--- How the parts of a line are spelled, each as what its word says, or why the word is wrong: B3 where it is not spelled
--- so, B4 where a number is past its bound, B6 where a list of tracks does not rise. This project's own protocol.
+-- How the parts of a line are spelled, each as what its word says, or why the word is wrong: B3 where
+-- it is not spelled so, B4 where a number is past its bound, B6 where a list of tracks does not rise.
+-- This project's own protocol.
 use Rattle.std.specs.Prelude.{ℕ, ◌+◌, ◌^◌, Bool, List, [], ◌∷◌, Option, Some, None, Result, Ok, Err, nat_le, ◌==◌, if◌then◌else◌}
 use Rattle.std.specs.List.{slice_split}
 use Rattle.line_words.specs.Digits.{number_of}
@@ -10,6 +11,10 @@ use Rattle.frame_meaning.specs.declared.cells.What.TheVariants.{Media, Nest}
 use Rattle.call_text.specs.declared.parts.TheConstants.{LAST_TRACK}
 use Rattle.call_text.specs.declared.lines.LineFault.{LineFault}
 use Rattle.call_text.specs.declared.lines.LineFault.TheVariants.{B3, B4, B6}
+
+-- which place a word names as a label, if it names one
+abbrev pub Naming : Type 0
+Naming = List ℕ → Option ℕ
 
 -- go on with what was read, or end at the first fault
 infixl 10 ◌>>=◌
@@ -44,8 +49,8 @@ abbrev pub listed_in : Option (List ℕ) → List (List ℕ)
 listed_in None = []
 listed_in (Some list) = slice_split is_comma list
 
--- the set, to which the tracks of these words are added in which bit t stands for track t: from the left, each is a
--- track and is above the one before, that is at least `least`
+-- the set with the tracks of these words, bit t for track t: from the left, each is a track, and is
+-- above the one before, that is at least `least`
 abbrev pub set_with : ℕ → ℕ → List (List ℕ) → Result ℕ LineFault
 set_with least set [] = Ok set
 set_with least set (word ∷ words) = do
@@ -67,7 +72,7 @@ number_or_label (Err TooLarge) label = Err B4
 number_or_label (Err NotANumber) label = place_or_fault label
 
 -- a place: a number, or a label, of which place_at says which place it names
-abbrev pub place_of : (List ℕ → Option ℕ) → List ℕ → Result ℕ LineFault
+abbrev pub place_of : Naming → List ℕ → Result ℕ LineFault
 place_of place_at word = number_or_label (number_of word) (place_at word)
 
 -- a thing: `@` (64) and the number of a media entry, or `#` (35) and the number of a nest

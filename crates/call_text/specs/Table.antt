@@ -15,7 +15,7 @@ use Rattle.call_text.specs.declared.lines.Line.{Line}
 use Rattle.call_text.specs.declared.lines.Line.TheVariants.{Edit, Ask, Point}
 use Rattle.call_text.specs.declared.commands.Command.{Command}
 use Rattle.call_text.specs.declared.commands.Command.TheVariants as command
-use Rattle.call_text.specs.Spelling.{is_comma}
+use Rattle.call_text.specs.Spelling.{Naming, is_comma}
 
 -- the word is this number, with leading zeros or without
 abbrev pub IsNumeral : List ℕ → ℕ → Type 0
@@ -24,19 +24,22 @@ IsNumeral word n = number_of word ≡ Ok n
 abbrev pub IsTrack : List ℕ → ℕ → Type 0
 IsTrack word track = IsNumeral word track × (track ≤ LAST_TRACK)
 
--- the words are tracks, each above the one before and at least `least`, and the set has a bit for each and no other
+-- the words are tracks, each above the one before and at least `least`, and the set has a bit for each
+-- and no other
 abbrev pub AreTracks : ℕ → List (List ℕ) → ℕ → Type 0
 AreTracks least [] set = set ≡ 0
 AreTracks least (word ∷ words) set =
-    (track : ℕ) × (others : ℕ) × IsTrack word track × (least ≤ track) × (set ≡ 2 ^ track + others) × AreTracks (track + 1) words others
+    (track : ℕ) × (others : ℕ) × IsTrack word track × (least ≤ track)
+    × (set ≡ 2 ^ track + others) × AreTracks (track + 1) words others
 
 -- the word is these tracks, parted by commas, strictly ascending
 abbrev pub IsTracks : List ℕ → ℕ → Type 0
 IsTracks word set = AreTracks 0 (slice_split is_comma word) set
 
 -- the number of the place, or a label that names it
-abbrev pub IsPlace : (List ℕ → Option ℕ) → List ℕ → ℕ → Type 0
-IsPlace place_at word place = IsNumeral word place ⊎ ((number_of word ≡ Err NotANumber) × (place_at word ≡ Some place))
+abbrev pub IsPlace : Naming → List ℕ → ℕ → Type 0
+IsPlace place_at word place =
+    IsNumeral word place ⊎ ((number_of word ≡ Err NotANumber) × (place_at word ≡ Some place))
 
 abbrev pub IsThing : List ℕ → What → Type 0
 IsThing word (Media m) = (digits : List ℕ) × (word ≡ codes "@" ++ digits) × IsNumeral digits m
@@ -54,30 +57,38 @@ word_of command.Items = codes "items"
 word_of command.Point = codes "point"
 
 -- overwrite T P WHAT FROM LEN · insert TS T P WHAT FROM LEN · remove T I · extract TS T I · slice T P
-abbrev pub AreCall : (List ℕ → Option ℕ) → List (List ℕ) → Call → Type 0
+abbrev pub AreCall : Naming → List (List ℕ) → Call → Type 0
 AreCall place_at words (call.Overwrite c) =
-    (track at what from len : List ℕ) × (words ≡ word_of command.Overwrite ∷ track ∷ at ∷ what ∷ from ∷ len ∷ [])
-    × IsTrack track c.track × IsPlace place_at at c.at × IsThing what c.what × IsNumeral from c.from × IsNumeral len c.len
+    (track at what from len : List ℕ)
+    × (words ≡ word_of command.Overwrite ∷ track ∷ at ∷ what ∷ from ∷ len ∷ [])
+    × IsTrack track c.track × IsPlace place_at at c.at
+    × IsThing what c.what × IsNumeral from c.from × IsNumeral len c.len
 AreCall place_at words (call.Insert c) =
-    (tracks track at what from len : List ℕ) × (words ≡ word_of command.Insert ∷ tracks ∷ track ∷ at ∷ what ∷ from ∷ len ∷ [])
-    × IsTracks tracks c.tracks × IsTrack track c.track × IsPlace place_at at c.at × IsThing what c.what × IsNumeral from c.from × IsNumeral len c.len
+    (tracks track at what from len : List ℕ)
+    × (words ≡ word_of command.Insert ∷ tracks ∷ track ∷ at ∷ what ∷ from ∷ len ∷ [])
+    × IsTracks tracks c.tracks × IsTrack track c.track × IsPlace place_at at c.at
+    × IsThing what c.what × IsNumeral from c.from × IsNumeral len c.len
 AreCall place_at words (call.Remove c) =
-    (track item : List ℕ) × (words ≡ word_of command.Remove ∷ track ∷ item ∷ []) × IsTrack track c.track × IsNumeral item c.item
+    (track item : List ℕ) × (words ≡ word_of command.Remove ∷ track ∷ item ∷ [])
+    × IsTrack track c.track × IsNumeral item c.item
 AreCall place_at words (call.Extract c) =
     (tracks track item : List ℕ) × (words ≡ word_of command.Extract ∷ tracks ∷ track ∷ item ∷ [])
     × IsTracks tracks c.tracks × IsTrack track c.track × IsNumeral item c.item
 AreCall place_at words (call.Slice c) =
-    (track at : List ℕ) × (words ≡ word_of command.Slice ∷ track ∷ at ∷ []) × IsTrack track c.track × IsPlace place_at at c.at
+    (track at : List ℕ) × (words ≡ word_of command.Slice ∷ track ∷ at ∷ [])
+    × IsTrack track c.track × IsPlace place_at at c.at
 
 -- a call · view T P P · items T · point
-abbrev pub AreWords : (List ℕ → Option ℕ) → List (List ℕ) → Line → Type 0
+abbrev pub AreWords : Naming → List (List ℕ) → Line → Type 0
 AreWords place_at words (Edit c) = AreCall place_at words c
 AreWords place_at words (Ask (ask.View track a b)) =
-    (named from to : List ℕ) × (words ≡ word_of command.View ∷ named ∷ from ∷ to ∷ []) × IsTrack named track × IsPlace place_at from a × IsPlace place_at to b
-AreWords place_at words (Ask (ask.Items track)) = (named : List ℕ) × (words ≡ word_of command.Items ∷ named ∷ []) × IsTrack named track
+    (named from to : List ℕ) × (words ≡ word_of command.View ∷ named ∷ from ∷ to ∷ [])
+    × IsTrack named track × IsPlace place_at from a × IsPlace place_at to b
+AreWords place_at words (Ask (ask.Items track)) =
+    (named : List ℕ) × (words ≡ word_of command.Items ∷ named ∷ []) × IsTrack named track
 AreWords place_at words Point = words ≡ word_of command.Point ∷ []
 
 -- the bytes are this line
-pub record IsLine (place_at : List ℕ → Option ℕ) (bytes : List ℕ) (line : Line) : Type 0 where
+pub record IsLine (place_at : Naming) (bytes : List ℕ) (line : Line) : Type 0 where
   pub short : length bytes ≤ MAX_LINE
   pub words : AreWords place_at (words_of bytes) line

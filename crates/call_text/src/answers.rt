@@ -1,4 +1,4 @@
-// What a line that asks something of the room is answered, with the point of the answer in the journal.
+// What edits and questions are answered, with the point of the answer in the journal.
 
 use composables::{Done, Refusal};
 use edit_apply::{AskRefusal, Seen};

@@ -1,5 +1,5 @@
 // Calls as text.
-ghost use Rattle.std.specs.Prelude.{◌≡◌, ◌<◌, ◌++◌, codes, IfOk, OnOk};
+ghost use Rattle.std.specs.Prelude.{◌≡◌, ◌<◌, ◌++◌, IfOk, OnOk};
 ghost use Rattle.edit_insert.specs.TrackSets.{has_track};
 ghost use Rattle.call_text.specs.CallTexts.{call_text_of, frames_text, tracks_text};
 
@@ -25,12 +25,14 @@ pub(crate) fn put_call(out: &mut Vec<u8>, call: &Call) -> Result<(), Memory>
         Call::Overwrite(edit) => {
             put_number(out, b"overwrite ", edit.track)?;
             put_number(out, b" ", edit.at)?;
+            put(out, b" ")?;
             put_frames(out, &edit.what, edit.from, edit.len)
         }
         Call::Insert(edit) => {
             put_tracks(out, b"insert ", edit.tracks)?;
             put_number(out, b" ", edit.track)?;
             put_number(out, b" ", edit.at)?;
+            put(out, b" ")?;
             put_frames(out, &edit.what, edit.from, edit.len)
         }
         Call::Remove(edit) => {
@@ -49,11 +51,10 @@ pub(crate) fn put_call(out: &mut Vec<u8>, call: &Call) -> Result<(), Memory>
     }
 }
 
-// A space and a thing, a source frame of it, and a count of frames.
+// A thing, a source frame of it, and a count of frames.
 fn put_frames(out: &mut Vec<u8>, what: &What, from: u32, len: u32) -> Result<(), Memory>
-    ensures { OnOk result (out.new.items ≡ out.old.items ++ (codes " " ++ frames_text what.now from len)) }
+    ensures { OnOk result (out.new.items ≡ out.old.items ++ frames_text what.now from len) }
 {
-    put(out, b" ")?;
     put_what(out, what)?;
     put_number(out, b" ", from)?;
     put_number(out, b" ", len)

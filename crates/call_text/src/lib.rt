@@ -28,8 +28,8 @@ pub use composables::Memory;
 pub use entries::Entry;
 pub use journal::journal_text;
 pub use laws::{
-    faults_are_those_of_the_table, labels_name_places, lines_are_those_of_the_table,
-    lines_have_one_meaning, written_calls_are_read,
+    labels_name_places, lines_are_those_of_the_table, lines_have_one_meaning,
+    written_calls_are_read,
 };
 pub use lines::{Line, LineFault};
 pub use parts::LAST_TRACK;

@@ -53,7 +53,8 @@ pub(crate) fn tracks(list: &[u8]) -> Result<u32, LineFault>
 
 // What stands before the first comma of a list, and the list behind it, where there is a comma.
 fn first_listed(list: &[u8]) -> (&[u8], Option<&[u8]>)
-    ensures words { slice_split is_comma list.now ≡ result.0.now ∷ listed_in (option_map (λ more. more.now) result.1) }
+    ensures words { slice_split is_comma list.now
+        ≡ result.0.now ∷ listed_in (option_map (λ more. more.now) result.1) }
     ensures less { IfSome result.1 (λ more. length more.now < length list.now) }
 {
     match comma_at(list) {

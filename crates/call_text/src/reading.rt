@@ -1,9 +1,9 @@
 // Lines that a station sends, by the table.
-ghost use Rattle.std.specs.Prelude.{◌≡◌, IfOk, map};
+ghost use Rattle.std.specs.Prelude.{◌≡◌, IfOk};
 ghost use Rattle.line_words.specs.Blanks.{words_of};
 ghost use Rattle.call_text.specs.CallTexts.{NamesWritten};
 ghost use Rattle.call_text.specs.Labels.{place_by};
-ghost use Rattle.call_text.specs.Reading.{overwrite_of, insert_of, remove_of, extract_of, slice_of, view_of, items_of, point_of, row_of, line_of};
+ghost use Rattle.call_text.specs.Reading.{overwrite_of, insert_of, remove_of, extract_of, slice_of, view_of, items_of, point_of, row_of, line_of, texts_of};
 
 use crate::parts::{numeral, place, track, tracks, what};
 use crate::words::{first_word, line_words};
@@ -38,12 +38,7 @@ pub fn read_line(
 }
 
 // The line whose words behind the first stand here.
-fn row(
-    command: Command,
-    rest: &[u8],
-    counting: &Counting,
-    start: u32,
-) -> Result<Line, LineFault>
+fn row(command: Command, rest: &[u8], counting: &Counting, start: u32) -> Result<Line, LineFault>
     ensures read { result ≡ row_of (place_by counting.now start) command (words_of rest.now) }
     ensures written { IfOk result (λ read. NamesWritten read) }
 {
@@ -66,7 +61,7 @@ fn row(
 
 // overwrite T P WHAT FROM LEN
 fn overwrite(words: &[&[u8]], counting: &Counting, start: u32) -> Result<Line, LineFault>
-    ensures read { result ≡ overwrite_of (place_by counting.now start) (map (λ w. w.now) words.now) }
+    ensures read { result ≡ overwrite_of (place_by counting.now start) (texts_of words.now) }
     ensures written { IfOk result (λ read. NamesWritten read) }
 {
     match words {
@@ -90,7 +85,7 @@ fn overwrite(words: &[&[u8]], counting: &Counting, start: u32) -> Result<Line, L
 
 // insert TS T P WHAT FROM LEN
 fn insert(words: &[&[u8]], counting: &Counting, start: u32) -> Result<Line, LineFault>
-    ensures read { result ≡ insert_of (place_by counting.now start) (map (λ w. w.now) words.now) }
+    ensures read { result ≡ insert_of (place_by counting.now start) (texts_of words.now) }
     ensures written { IfOk result (λ read. NamesWritten read) }
 {
     match words {
@@ -116,7 +111,7 @@ fn insert(words: &[&[u8]], counting: &Counting, start: u32) -> Result<Line, Line
 
 // remove T I
 fn remove(words: &[&[u8]]) -> Result<Line, LineFault>
-    ensures read { result ≡ remove_of (map (λ w. w.now) words.now) }
+    ensures read { result ≡ remove_of (texts_of words.now) }
     ensures written { IfOk result (λ read. NamesWritten read) }
 {
     match words {
@@ -131,7 +126,7 @@ fn remove(words: &[&[u8]]) -> Result<Line, LineFault>
 
 // extract TS T I
 fn extract(words: &[&[u8]]) -> Result<Line, LineFault>
-    ensures read { result ≡ extract_of (map (λ w. w.now) words.now) }
+    ensures read { result ≡ extract_of (texts_of words.now) }
     ensures written { IfOk result (λ read. NamesWritten read) }
 {
     match words {
@@ -151,7 +146,7 @@ fn extract(words: &[&[u8]]) -> Result<Line, LineFault>
 
 // slice T P
 fn slice(words: &[&[u8]], counting: &Counting, start: u32) -> Result<Line, LineFault>
-    ensures read { result ≡ slice_of (place_by counting.now start) (map (λ w. w.now) words.now) }
+    ensures read { result ≡ slice_of (place_by counting.now start) (texts_of words.now) }
     ensures written { IfOk result (λ read. NamesWritten read) }
 {
     match words {
@@ -166,7 +161,7 @@ fn slice(words: &[&[u8]], counting: &Counting, start: u32) -> Result<Line, LineF
 
 // view T P P
 fn view(words: &[&[u8]], counting: &Counting, start: u32) -> Result<Line, LineFault>
-    ensures read { result ≡ view_of (place_by counting.now start) (map (λ w. w.now) words.now) }
+    ensures read { result ≡ view_of (place_by counting.now start) (texts_of words.now) }
     ensures written { IfOk result (λ read. NamesWritten read) }
 {
     match words {
@@ -182,7 +177,7 @@ fn view(words: &[&[u8]], counting: &Counting, start: u32) -> Result<Line, LineFa
 
 // items T
 fn items(words: &[&[u8]]) -> Result<Line, LineFault>
-    ensures read { result ≡ items_of (map (λ w. w.now) words.now) }
+    ensures read { result ≡ items_of (texts_of words.now) }
     ensures written { IfOk result (λ read. NamesWritten read) }
 {
     match words {
@@ -196,7 +191,7 @@ fn items(words: &[&[u8]]) -> Result<Line, LineFault>
 
 // point
 fn point(words: &[&[u8]]) -> Result<Line, LineFault>
-    ensures read { result ≡ point_of (map (λ w. w.now) words.now) }
+    ensures read { result ≡ point_of (texts_of words.now) }
     ensures written { IfOk result (λ read. NamesWritten read) }
 {
     match words {

@@ -1,5 +1,7 @@
 use super::*;
-use composables::{Done, ItemView, Listed, Overwrite, Refusal, Which};
+use composables::{
+    Done, Extract, Insert, ItemView, Listed, Overwrite, Refusal, Remove, Slice, Which,
+};
 use edit_apply::{Ask, AskRefusal, Call, Seen};
 use frame_meaning::{Frame, Link, Mark, Run, Side, What};
 use std::alloc::Global;
@@ -20,9 +22,18 @@ fn read(alloc: Global, line: &[u8]) -> Option<Result<Line, LineFault>> {
     Some(read_line(alloc, line, &film, 0))
 }
 
+const TWO: Insert = Insert {
+    tracks: 5,
+    track: 2,
+    at: 24,
+    what: What::Nest(7),
+    from: 5,
+    len: 6,
+};
+
 #[test]
 fn lines_of_the_table_are_read(rt: HostRuntime) {
-    let table: [(&[u8], Line); 8] = [
+    let table: [(&[u8], Line); 5] = [
         (b"point", Line::Point),
         (b" \tpoint\t", Line::Point),
         (b"items 0", Line::Ask(Ask::Items { track: 0 })),
@@ -35,30 +46,78 @@ fn lines_of_the_table_are_read(rt: HostRuntime) {
                 b: 5,
             }),
         ),
-        (
-            b"overwrite 1 20 @3 400 5000",
-            Line::Edit(Call::Overwrite(FOUR)),
-        ),
-        (
-            b"overwrite 001 0020 @03 0400 005000",
-            Line::Edit(Call::Overwrite(FOUR)),
-        ),
+    ];
+    for (row, (line, want)) in table.into_iter().enumerate() {
+        assert_eq!(rt; read(rt.alloc(), line), Some(Ok(want)), "row {row}");
+    }
+}
+
+#[test]
+fn edits_of_the_table_are_read(rt: HostRuntime) {
+    let table: [(&[u8], Call); 12] = [
+        (b"overwrite 1 20 @3 400 5000", Call::Overwrite(FOUR)),
+        (b"overwrite 001 0020 @03 0400 005000", Call::Overwrite(FOUR)),
         (
             b"overwrite 1 20 #3 400 5000",
-            Line::Edit(Call::Overwrite(Overwrite {
+            Call::Overwrite(Overwrite {
                 what: What::Nest(3),
                 ..FOUR
-            })),
+            }),
+        ),
+        (b"insert 0,2 2 24 #7 5 6", Call::Insert(TWO)),
+        (b"insert 00,02 2 00:00:01:00 #7 5 6", Call::Insert(TWO)),
+        (
+            b"insert 0 2 24 #7 5 6",
+            Call::Insert(Insert { tracks: 1, ..TWO }),
+        ),
+        (
+            b"insert 0,1,31 2 24 #7 5 6",
+            Call::Insert(Insert {
+                tracks: 2147483651,
+                ..TWO
+            }),
+        ),
+        (
+            b"remove 31 4294967295",
+            Call::Remove(Remove {
+                track: 31,
+                item: 4294967295,
+            }),
+        ),
+        (
+            b"extract 30,31 0 9",
+            Call::Extract(Extract {
+                tracks: 3221225472,
+                track: 0,
+                item: 9,
+            }),
+        ),
+        (
+            b"extract 0,1,2,3,4,5,6,7,8,9,10,11,12,13,14,15,16,17,18,19,20,21,22,23,24,25,26,27,28,29,30,31 31 0",
+            Call::Extract(Extract {
+                tracks: u32::MAX,
+                track: 31,
+                item: 0,
+            }),
+        ),
+        (b"slice 1 7", Call::Slice(Slice { track: 1, at: 7 })),
+        (
+            b"slice 1 00:00:01:01",
+            Call::Slice(Slice { track: 1, at: 25 }),
         ),
     ];
-    for (line, want) in table {
-        assert_eq!(rt; read(rt.alloc(), line), Some(Ok(want)));
+    for (row, (line, want)) in table.into_iter().enumerate() {
+        assert_eq!(rt;
+            read(rt.alloc(), line),
+            Some(Ok(Line::Edit(want))),
+            "row {row}"
+        );
     }
 }
 
 #[test]
 fn the_first_fault_of_a_line_is_told(rt: HostRuntime) {
-    let table: [(&[u8], LineFault); 31] = [
+    let table: [(&[u8], LineFault); 60] = [
         (b"", LineFault::B2),
         (b" \t ", LineFault::B2),
         (b"jump", LineFault::B1),
@@ -90,9 +149,38 @@ fn the_first_fault_of_a_line_is_told(rt: HostRuntime) {
         (b"overwrite 0 0 @0 00:00:00:01 1", LineFault::B3),
         (b"overwrite 0 0 @0 4294967296 x", LineFault::B4),
         (b"overwrite 0 0 @0 0 -1", LineFault::B3),
+        (b"overwrite 1 2 3 4 5 6 7 8", LineFault::B2),
+        (b"overwrite 1 2 3 4 5 6 7 8 9 10", LineFault::B2),
+        (b"jump 1 2 3 4 5 6 7 8 9 10", LineFault::B1),
+        (b"insert 0 0 0 @0 0", LineFault::B2),
+        (b"insert 0 0 0 @0 0 1 1", LineFault::B2),
+        (b"insert 2,1 1 0 @0 0 1", LineFault::B6),
+        (b"insert 1,1 1 0 @0 0 1", LineFault::B6),
+        (b"insert 2,1,x 1 0 @0 0 1", LineFault::B6),
+        (b"insert 2,x 1 0 @0 0 1", LineFault::B3),
+        (b"insert 2,40,1 1 0 @0 0 1", LineFault::B4),
+        (b"insert 0, 0 0 @0 0 1", LineFault::B3),
+        (b"insert ,0 0 0 @0 0 1", LineFault::B3),
+        (b"insert 0,,1 0 0 @0 0 1", LineFault::B3),
+        (b"insert , 0 0 @0 0 1", LineFault::B3),
+        (b"insert 0 32 x x x x", LineFault::B4),
+        (b"insert 0 x 4294967296 x x x", LineFault::B3),
+        (b"insert 0 0 0 @0 0 x", LineFault::B3),
+        (b"remove 0", LineFault::B2),
+        (b"remove 0 0 0", LineFault::B2),
+        (b"remove 0 x", LineFault::B3),
+        (b"remove 0,1 0", LineFault::B3),
+        (b"remove 32 x", LineFault::B4),
+        (b"extract 0 0", LineFault::B2),
+        (b"extract 0,32 x x", LineFault::B4),
+        (b"extract 0 0 00:00:00:01", LineFault::B3),
+        (b"slice 0", LineFault::B2),
+        (b"slice 0 0 0", LineFault::B2),
+        (b"slice 0 4294967296", LineFault::B4),
+        (b"slice x 4294967296", LineFault::B3),
     ];
-    for (line, want) in table {
-        assert_eq!(rt; read(rt.alloc(), line), Some(Err(want)));
+    for (row, (line, want)) in table.into_iter().enumerate() {
+        assert_eq!(rt; read(rt.alloc(), line), Some(Err(want)), "row {row}");
     }
 }
 
@@ -136,14 +224,15 @@ fn labels_name_places_from_the_start(rt: HostRuntime) -> Result<(), Fail> {
             Err(LineFault::B4),
         ),
     ];
-    for (rate, drop, start, word, want) in table {
+    for (row, (rate, drop, start, word, want)) in table.into_iter().enumerate() {
         let counting = Counting::new(rate, drop).ok_or("no such counting")?;
         let mut line = Vec::from_slice(rt.alloc(), b"view 0 0 ")?;
         line.extend_from_slice(word)?;
         let want = want.map(|b| Line::Ask(Ask::View { track: 0, a: 0, b }));
         assert_eq!(rt;
             read_line(rt.alloc(), line.as_slice(), &counting, start),
-            want
+            want,
+            "row {row}"
         );
     }
     Ok(())
@@ -172,8 +261,8 @@ fn faults_of_lines_are_replied(rt: HostRuntime) {
         (LineFault::B6, b"bad B6"),
         (LineFault::Memory, b"memory"),
     ];
-    for (fault, want) in table {
-        assert_eq!(rt; fault_text(&fault).as_bytes(), want);
+    for (row, (fault, want)) in table.into_iter().enumerate() {
+        assert_eq!(rt; fault_text(&fault).as_bytes(), want, "row {row}");
     }
 }
 
@@ -192,10 +281,11 @@ fn edits_are_replied(rt: HostRuntime) {
             b"ok 7 link 3.14",
         ),
     ];
-    for (done, want) in done {
+    for (row, (done, want)) in done.into_iter().enumerate() {
         assert_eq!(rt;
             answer_text(&Answer::Done { point: 7, done }).as_bytes(),
-            want
+            want,
+            "row {row}"
         );
     }
     let refused: [(Refusal, &[u8]); 15] = [
@@ -233,9 +323,9 @@ fn edits_are_replied(rt: HostRuntime) {
         (Refusal::TooLong(31), b"no 10 E13 31"),
         (Refusal::TooManyItems(0), b"no 10 E14 0"),
     ];
-    for (refusal, want) in refused {
+    for (row, (refusal, want)) in refused.into_iter().enumerate() {
         let answer = Answer::Refused { point: 10, refusal };
-        assert_eq!(rt; answer_text(&answer).as_bytes(), want);
+        assert_eq!(rt; answer_text(&answer).as_bytes(), want, "row {row}");
     }
     let full = Answer::Full { point: 100000 };
     assert_eq!(rt; answer_text(&full).as_bytes(), b"no 100000 E15".as_slice());
@@ -371,9 +461,9 @@ fn refused_questions_are_replied(rt: HostRuntime) -> Result<(), Fail> {
         ),
         (Sight::Memory, b"memory"),
     ];
-    for (sight, want) in table {
+    for (row, (sight, want)) in table.into_iter().enumerate() {
         let text = sight_text(rt.alloc(), &sight)?;
-        assert_eq!(rt; text.as_slice(), want);
+        assert_eq!(rt; text.as_slice(), want, "row {row}");
     }
     Ok(())
 }
@@ -391,45 +481,66 @@ fn a_journal_is_written(rt: HostRuntime) -> Result<(), Fail> {
         Entry {
             station: 15,
             number: 70,
-            call: Call::Overwrite(Overwrite {
-                what: What::Nest(0),
-                ..FOUR
+            call: Call::Insert(TWO),
+        },
+        Entry {
+            station: 0,
+            number: 2,
+            call: Call::Extract(Extract {
+                tracks: 6,
+                track: 1,
+                item: 3,
             }),
         },
     ];
     let text = journal_text(rt.alloc(), &entries)?;
     assert_eq!(rt;
         text.as_slice(),
-        b"journal 2\n0 1 overwrite 1 20 @3 400 5000\n15 70 overwrite 1 20 #0 400 5000\n".as_slice()
+        b"journal 3\n0 1 overwrite 1 20 @3 400 5000\n15 70 insert 0,2 2 24 #7 5 6\n0 2 extract 1,2 1 3\n".as_slice()
     );
     Ok(())
 }
 
 #[test]
 fn written_calls_come_back(rt: HostRuntime) -> Result<(), Fail> {
-    let calls = [
-        FOUR,
-        Overwrite {
-            track: 31,
-            at: u32::MAX,
-            what: What::Nest(u32::MAX),
-            from: u32::MAX,
-            len: u32::MAX,
-        },
-        Overwrite {
-            track: 0,
-            at: 0,
-            what: What::Media(0),
-            from: 0,
-            len: 0,
-        },
+    let table: [(&[u8], Call); 7] = [
+        (b"overwrite 1 20 @3 400 5000", Call::Overwrite(FOUR)),
+        (
+            b"overwrite 31 4294967295 #4294967295 4294967295 4294967295",
+            Call::Overwrite(Overwrite {
+                track: 31,
+                at: u32::MAX,
+                what: What::Nest(u32::MAX),
+                from: u32::MAX,
+                len: u32::MAX,
+            }),
+        ),
+        (b"insert 0,2 2 24 #7 5 6", Call::Insert(TWO)),
+        (
+            b"insert 0,1,2,3,4,5,6,7,8,9,10,11,12,13,14,15,16,17,18,19,20,21,22,23,24,25,26,27,28,29,30,31 2 24 #7 5 6",
+            Call::Insert(Insert {
+                tracks: u32::MAX,
+                ..TWO
+            }),
+        ),
+        (b"remove 0 0", Call::Remove(Remove { track: 0, item: 0 })),
+        (
+            b"extract 31 31 8",
+            Call::Extract(Extract {
+                tracks: 2147483648,
+                track: 31,
+                item: 8,
+            }),
+        ),
+        (b"slice 3 10", Call::Slice(Slice { track: 3, at: 10 })),
     ];
-    for call in calls {
-        let call = Call::Overwrite(call);
+    for (row, (want, call)) in table.into_iter().enumerate() {
         let text = call_text(rt.alloc(), &call)?;
+        assert_eq!(rt; text.as_slice(), want, "row {row}");
         assert_eq!(rt;
             read(rt.alloc(), text.as_slice()),
-            Some(Ok(Line::Edit(call)))
+            Some(Ok(Line::Edit(call))),
+            "row {row}"
         );
     }
     Ok(())

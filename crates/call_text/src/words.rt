@@ -47,7 +47,8 @@ pub(crate) fn first_word(line: &[u8]) -> Result<(&[u8], &[u8]), LineFault>
 
 // The words of a line, where there are at most eight.
 pub(crate) fn line_words(line: &[u8]) -> Option<LineWords<'_>>
-    ensures { MatchOption result (MOST_WORDS < length (words_of line.now)) (λ words. words ≡ words_of line.now) }
+    ensures { MatchOption result (MOST_WORDS < length (words_of line.now))
+        (λ words. words ≡ words_of line.now) }
 {
     let mut words = [&line[..0]; MOST_WORDS];
     let mut count = 0;

@@ -2,7 +2,7 @@ use Rattle.call_text.proofs.FaultLaws.{some_meaning, one_line, one_fault, not_bo
 use Rattle.call_text.proofs.laws.lines_have_one_meaning.Goals as goal
 
 pub returns-clause-some : goal.returns-clause-some
-returns-clause-some c = λ place_at bytes. some_meaning place_at bytes
+returns-clause-some c = some_meaning
 
 pub returns-clause-one_line : goal.returns-clause-one_line
 returns-clause-one_line c = one_line
