@@ -1,11 +1,12 @@
--- The tracks of a room, and an edit that is done on one of them.
-use Rattle.std.proofs.Common.{◌≡◌, ℕ, zero, suc, ◌+◌, ◌<◌, ◌≤◌, Bool, true, false, cond, nat_lt, List, [], ◌∷◌, ◌++◌, length, Option, Some, None, Result, Ok, Err, refl, sym, ap, ◌∙◌, arith, All, slice_get, get_or, subst, map}
-use Rattle.std.proofs.Math.ListN.{set}
+-- The tracks of a room, and an edit that is done on those that it names.
+use Rattle.std.proofs.Common.{◌≡◌, ℕ, zero, suc, ◌+◌, ◌<◌, ◌≤◌, Bool, true, false, cond, nat_lt, List, [], ◌∷◌, ◌++◌, length, Option, Some, None, Result, Ok, Err, refl, sym, ap, ◌∙◌, arith, All, slice_get, get_or, subst, map, option_map}
+use Rattle.std.proofs.Math.ListN.{set, length-set}
 use Rattle.std.proofs.lemmas.Bool.Decides.{nat_tests}
 use Rattle.std.proofs.lemmas.Option.{slice_get-get_or}
-use Rattle.std.proofs.lemmas.List.Elements.{All-get_or}
+use Rattle.std.proofs.lemmas.List.Elements.{All-nil, All-cons, All-head, All-tail}
 use Rattle.composables.specs.declared.media.Table.{Table}
 use Rattle.composables.specs.declared.refusals.Refusal.{Refusal}
+use Rattle.composables.specs.declared.refusals.Refusal.TheVariants as refusal_of
 use Rattle.composables.specs.declared.refusals.Done.{Done}
 use Rattle.composables.specs.Good.{IsGood, AllUnmarked}
 use Rattle.composables.specs.Items.{items_of}
@@ -16,11 +17,8 @@ use Rattle.edit_apply.specs.declared.asks.Ask.{Ask}
 use Rattle.edit_apply.specs.declared.asks.AskRefusal.{AskRefusal}
 use Rattle.edit_apply.specs.declared.asks.AskRefusal.TheVariants.{NoTrack}
 use Rattle.edit_apply.specs.See.{ask_part_of, seen_in, seen_on, seen_at, seen_if, track_asked}
-use Rattle.edit_apply.specs.Apply.{Applied, applied, applied_on, names_of, refuse_names_of, first_absent, picked, put_back, on_whole, unless_refused}
-use Rattle.cut_server.specs.Tracks.{IsTrackOf, AreTracksOf}
-use Rattle.cut_server.specs.Editing.{EditsTo, Changes, Attempts}
-use Rattle.cut_server.specs.declared.edits.Attempt.{Attempt}
-use Rattle.cut_server.specs.declared.edits.Attempt.TheVariants as attempt
+use Rattle.edit_apply.specs.Apply.{applied, applied_on, names_of, own_of, own_outside, first_of, refuse_names_of, first_absent, picked, put_back, on_whole, unless_refused}
+use Rattle.cut_server.specs.Tracks.{IsTrackOf, AreTracksOf, AreKept}
 
 pub later_track : (table : Table) (n most more : ℕ) (t : TrackState) → most ≤ more → IsTrackOf table n most t → IsTrackOf table n more t
 later_track table n most more t le k = record { number_is = k.number_is; good = k.good; unmarked = k.unmarked; next = omega (arith, k.next, le) }
@@ -39,81 +37,115 @@ tracks_with table n most [] i t k all = tt
 tracks_with table n most (u ∷ us) zero t k all = let e : n + 0 ≡ n = omega arith in (rw e at k, all.1)
 tracks_with table n most (u ∷ us) (suc i) t k all = let e : n + suc i ≡ n + 1 + i = omega arith in (all.0, tracks_with table (n + 1) most us i t (rw e at k) all.1)
 
-present : (count n : ℕ) (b : Bool) (r : Refusal) → nat_lt n count ≡ b → cond b None (Some r) ≡ None → n < count
-present count n true r e h = grind (arith, nat_tests)
-present count n false r e h = cc
+-- a track of the room by its number
+at_number : (table : Table) (n most : ℕ) (ts : List TrackState) (i : ℕ) → i < length ts → AreTracksOf table n most ts → (t : TrackState) × (slice_get ts i ≡ Some t) × IsTrackOf table (n + i) most t
+at_number table n most [] i h k = absurd (omega arith)
+at_number table n most (t ∷ ts) zero h k = let e : n ≡ n + 0 = omega arith in (t, refl, rw (← e) k.0)
+at_number table n most (t ∷ ts) (suc i) h k =
+    let e : n + 1 + i ≡ n + suc i = omega arith in
+    let r = at_number table (n + 1) most ts i (omega arith) k.1 in
+    (r.0, r.1, rw (← e) r.2)
 
--- a call that is not refused for the track that it names finds it in the room
-pub named_in : (table : Table) (c : Call) (n : ℕ) → refuse_names_of table c ≡ None → names_of c ≡ n ∷ [] → n < length table.kinds
-named_in table c n h e = present (length table.kinds) n (nat_lt n (length table.kinds)) _ refl (sym (ap (first_absent (length table.kinds)) e) ∙ h)
+picked_cons : (tracks : List TrackState) (n : ℕ) (ns : List ℕ) (t : TrackState) → slice_get tracks n ≡ Some t → picked tracks (n ∷ ns) ≡ t ∷ picked tracks ns
+picked_cons tracks n ns t at = rw at refl
 
--- what is applied on the one track that a call names is applied on the room
-pub applied_one : (table : Table) (tracks : List TrackState) (c : Call) (n : ℕ) (t : TrackState) → refuse_names_of table c ≡ None → names_of c ≡ n ∷ [] → slice_get tracks n ≡ Some t
-    → applied table tracks c ≡ on_whole tracks (n ∷ []) (applied_on table (t ∷ []) c)
-applied_one table tracks c n t none named at =
-    ap (λ (o : Option Refusal). unless_refused o (on_whole tracks (names_of c) (applied_on table (picked tracks (names_of c)) c))) none
-    ∙ (ap (λ (ns : List ℕ). on_whole tracks ns (applied_on table (picked tracks ns) c)) named
-    ∙ ap (λ (ts : List TrackState). on_whole tracks (n ∷ []) (applied_on table ts c)) (one_picked tracks n t at)) where
-      one_picked : (tracks : List TrackState) (n : ℕ) (t : TrackState) → slice_get tracks n ≡ Some t → picked tracks (n ∷ []) ≡ t ∷ []
-      one_picked tracks n t at = rw at refl
+-- the named tracks, as the session keeps them
+pub picked_kept : (table : Table) (most : ℕ) (tracks : List TrackState) (names : List ℕ) → AreTracksOf table 0 most tracks → All (λ n. n < length tracks) names → AreKept table most names (picked tracks names)
+picked_kept table most tracks [] k below = tt
+picked_kept table most tracks (n ∷ ns) k below =
+    let r = at_number table 0 most tracks n (All-head (λ m. m < length tracks) n ns below) k in
+    let z : 0 + n ≡ n = omega arith in
+    subst (AreKept table most (n ∷ ns)) (sym (picked_cons tracks n ns r.0 r.1)) (rw z at r.2, picked_kept table most tracks ns k (All-tail (λ m. m < length tracks) n ns below))
 
-pub applied_done : (table : Table) (tracks : List TrackState) (c : Call) (n : ℕ) (t u : TrackState) (d : Done) → refuse_names_of table c ≡ None → names_of c ≡ n ∷ [] → slice_get tracks n ≡ Some t
-    → applied_on table (t ∷ []) c ≡ Ok (u ∷ [], d) → applied table tracks c ≡ Ok (set tracks n u, d)
-applied_done table tracks c n t u d none named at is = applied_one table tracks c n t none named at ∙ ap (on_whole tracks (n ∷ [])) is
+pub kept_numbers : (table : Table) (most : ℕ) (names : List ℕ) (parts : List TrackState) → AreKept table most names parts → map (λ (t : TrackState). t.number) parts ≡ names
+kept_numbers table most [] [] k = refl
+kept_numbers table most [] (t ∷ ts) k = absurd k
+kept_numbers table most (n ∷ ns) [] k = absurd k
+kept_numbers table most (n ∷ ns) (t ∷ ts) k = rw (k.0.number_is, kept_numbers table most ns ts k.1) refl
 
-pub applied_refused : (table : Table) (tracks : List TrackState) (c : Call) (n : ℕ) (t : TrackState) (r : Refusal) → refuse_names_of table c ≡ None → names_of c ≡ n ∷ [] → slice_get tracks n ≡ Some t
-    → applied_on table (t ∷ []) c ≡ Err r → applied table tracks c ≡ Err r
-applied_refused table tracks c n t r none named at is = applied_one table tracks c n t none named at ∙ ap (on_whole tracks (n ∷ [])) is
+pub kept_length : (table : Table) (most : ℕ) (names : List ℕ) (parts : List TrackState) → AreKept table most names parts → length parts ≡ length names
+kept_length table most [] [] k = refl
+kept_length table most [] (t ∷ ts) k = absurd k
+kept_length table most (n ∷ ns) [] k = absurd k
+kept_length table most (n ∷ ns) (t ∷ ts) k = ap suc (kept_length table most ns ts k.1)
+
+pub kept_all : (table : Table) (most : ℕ) (names : List ℕ) (parts : List TrackState) (P : TrackState → Type 0) → ((n : ℕ) (t : TrackState) → IsTrackOf table n most t → P t) → AreKept table most names parts → All P parts
+kept_all table most [] [] P f k = All-nil P
+kept_all table most [] (t ∷ ts) P f k = absurd k
+kept_all table most (n ∷ ns) [] P f k = absurd k
+kept_all table most (n ∷ ns) (t ∷ ts) P f k = All-cons P t ts (f n t k.0) (kept_all table most ns ts P f k.1)
+
+-- the named tracks after an edit
+pub kept_after : (table : Table) (most : ℕ) (names : List ℕ) (old new : List TrackState) → AreKept table most names old → All (λ (t : TrackState). IsGood table t) new → All (λ (t : TrackState). AllUnmarked (items_of t.cells)) new → NextRises 2 old new
+    → AreKept table (most + 2) names new
+kept_after table most [] [] [] k good unmarked rises = tt
+kept_after table most [] [] (u ∷ us) k good unmarked rises = absurd rises
+kept_after table most [] (t ∷ ts) us k good unmarked rises = absurd k
+kept_after table most (n ∷ ns) [] us k good unmarked rises = absurd k
+kept_after table most (n ∷ ns) (t ∷ ts) [] k good unmarked rises = absurd rises
+kept_after table most (n ∷ ns) (t ∷ ts) (u ∷ us) k good unmarked rises = (
+  record {
+    number_is = rises.0 ∙ k.0.number_is;
+    good = All-head (λ (s : TrackState). IsGood table s) u us good;
+    unmarked = All-head (λ (s : TrackState). AllUnmarked (items_of s.cells)) u us unmarked;
+    next = omega (arith, rises.1, k.0.next);
+  },
+  kept_after table most ns ts us k.1 (All-tail (λ (s : TrackState). IsGood table s) u us good) (All-tail (λ (s : TrackState). AllUnmarked (items_of s.cells)) u us unmarked) rises.2,
+)
+
+-- put back into the room
+pub put_kept : (table : Table) (most : ℕ) (tracks : List TrackState) (names : List ℕ) (parts : List TrackState) → AreTracksOf table 0 most tracks → AreKept table most names parts → AreTracksOf table 0 most (put_back tracks names parts)
+put_kept table most tracks [] parts k kept = k
+put_kept table most tracks (n ∷ ns) [] k kept = k
+put_kept table most tracks (n ∷ ns) (t ∷ ts) k kept =
+    let z : n ≡ 0 + n = omega arith in
+    put_kept table most (set tracks n t) ns ts (tracks_with table 0 most tracks n t (rw z at kept.0) k) kept.1
+
+pub length_put : (tracks : List TrackState) (names : List ℕ) (parts : List TrackState) → length (put_back tracks names parts) ≡ length tracks
+length_put tracks [] parts = refl
+length_put tracks (n ∷ ns) [] = refl
+length_put tracks (n ∷ ns) (t ∷ ts) = length_put (set tracks n t) ns ts ∙ length-set tracks n t
+
+-- a call that is not refused for the tracks that it names finds them in the room
+none_first : (a b : Option ℕ) → first_of a b ≡ None → a ≡ None
+none_first None b e = refl
+none_first (Some n) b e = cc
+
+none_mapped : (o : Option ℕ) → option_map refusal_of.NoTrack o ≡ None → o ≡ None
+none_mapped None e = refl
+none_mapped (Some n) e = cc
+
+below_one : (count n : ℕ) (ns : List ℕ) (b : Bool) → nat_lt n count ≡ b → cond b (first_absent count ns) (Some n) ≡ None → (n < count) × (first_absent count ns ≡ None)
+below_one count n ns true e h = (grind (arith, nat_tests), h)
+below_one count n ns false e h = cc
+
+all_below : (count : ℕ) (names : List ℕ) → first_absent count names ≡ None → All (λ n. n < count) names
+all_below count [] h = All-nil (λ n. n < count)
+all_below count (n ∷ ns) h =
+    let r = below_one count n ns (nat_lt n count) refl h in
+    All-cons (λ n. n < count) n ns r.0 (all_below count ns r.1)
+
+pub named_below : (table : Table) (tracks : List TrackState) (c : Call) → length tracks ≡ length table.kinds → refuse_names_of table c ≡ None → All (λ n. n < length tracks) (names_of c)
+named_below table tracks c kinds none =
+    subst (λ (count : ℕ). All (λ n. n < count) (names_of c)) (sym kinds)
+    (all_below (length table.kinds) (names_of c) (none_first _ (own_outside (names_of c) (own_of c)) (none_mapped _ none)))
+
+-- what is applied on the named tracks is applied on the room
+applied_named : (table : Table) (tracks : List TrackState) (c : Call) → refuse_names_of table c ≡ None → applied table tracks c ≡ on_whole tracks (names_of c) (applied_on table (picked tracks (names_of c)) c)
+applied_named table tracks c none = ap (λ (o : Option Refusal). unless_refused o (on_whole tracks (names_of c) (applied_on table (picked tracks (names_of c)) c))) none
+
+pub applied_done : (table : Table) (tracks : List TrackState) (c : Call) (parts : List TrackState) (d : Done) → refuse_names_of table c ≡ None
+    → applied_on table (picked tracks (names_of c)) c ≡ Ok (parts, d) → applied table tracks c ≡ Ok (put_back tracks (names_of c) parts, d)
+applied_done table tracks c parts d none is = applied_named table tracks c none ∙ ap (on_whole tracks (names_of c)) is
+
+pub applied_refused : (table : Table) (tracks : List TrackState) (c : Call) (r : Refusal) → refuse_names_of table c ≡ None
+    → applied_on table (picked tracks (names_of c)) c ≡ Err r → applied table tracks c ≡ Err r
+applied_refused table tracks c r none is = applied_named table tracks c none ∙ ap (on_whole tracks (names_of c)) is
 
 pub applied_absent : (table : Table) (tracks : List TrackState) (c : Call) (r : Refusal) → refuse_names_of table c ≡ Some r → applied table tracks c ≡ Err r
 applied_absent table tracks c r is = ap (λ (o : Option Refusal). unless_refused o (on_whole tracks (names_of c) (applied_on table (picked tracks (names_of c)) c))) is
 
--- the one track that an edit leaves in place of one
-no_more : (rest : List TrackState) (t u : TrackState) → rest ++ t ∷ [] ≡ u ∷ [] → u ≡ t
-no_more [] t u e = cc
-no_more (x ∷ []) t u e = cc
-no_more (x ∷ y ∷ ys) t u e = cc
-
-pub left_alone : (table : Table) (meant : Applied) (old : TrackState) (us rest : List TrackState) (t : TrackState) (d : Done)
-    → meant ≡ Ok (us, d) → All (λ (s : TrackState). IsGood table s) us → All (λ (s : TrackState). AllUnmarked (items_of s.cells)) us → NextRises 2 (old ∷ []) us → us ≡ rest ++ t ∷ []
-    → (meant ≡ Ok (t ∷ [], d)) × IsTrackOf table old.number (old.next_item + 2) t
-left_alone table meant old [] rest t d is good unmarked rises e = absurd rises
-left_alone table meant old (u ∷ []) rest t d is good unmarked rises e =
-    let same : u ≡ t = no_more rest t u (sym e) in
-    let Q : TrackState → Type 0 = λ s. IsTrackOf table old.number (old.next_item + 2) s in (
-      is ∙ ap (λ (s : TrackState). Ok (s ∷ [], d)) same,
-      subst Q same (record {
-        number_is = rises.0;
-        good = All-get_or (λ (s : TrackState). IsGood table s) (u ∷ []) 0 u (omega arith) good;
-        unmarked = All-get_or (λ (s : TrackState). AllUnmarked (items_of s.cells)) (u ∷ []) 0 u (omega arith) unmarked;
-        next = rises.1;
-      }),
-    )
-left_alone table meant old (u ∷ v ∷ vs) rest t d is good unmarked rises e = absurd rises.2
-
--- an edit of the one track that a call names, as an edit of the room
-pub lifted : (table : Table) (tracks : List TrackState) (most : ℕ) (c : Call) (n : ℕ) (t : TrackState) (a : Attempt)
-    → refuse_names_of table c ≡ None → names_of c ≡ n ∷ [] → n < length tracks → slice_get tracks n ≡ Some t → IsTrackOf table n most t
-    → EditsTo (applied_on table (t ∷ []) c) table t.number t.next_item a → Attempts table tracks most c a
-lifted table tracks most c n t (attempt.Changed u d) none named within at is (done, left) = (
-  n,
-  record {
-    named = named;
-    within = within;
-    applies = applied_done table tracks c n t u d none named at done;
-    is_track = later_track table n (t.next_item + 2) (most + 2) u (omega (arith, is.next)) (rw is.number_is at left);
-  },
-)
-lifted table tracks most c n t (attempt.Refused why) none named within at is refused = applied_refused table tracks c n t why none named at refused
-lifted table tracks most c n t attempt.Memory none named within at is memory = tt
-
--- a call that names one track names no other
-pub one_name : (m n : ℕ) (names : List ℕ) → names ≡ m ∷ [] → names ≡ n ∷ [] → m ≡ n
-one_name m n names e f = heads (sym e ∙ f) where
-  heads : m ∷ [] ≡ n ∷ [] → m ≡ n
-  heads h = cc
-
--- the track that a call names, where the call is not refused for it
+-- the track that a question is for
 pub record Found (table : Table) (tracks : List TrackState) (most i : ℕ) (t : TrackState) : Type 0 where
   pub inside : i < length tracks
   pub is_track : IsTrackOf table i most t
@@ -129,10 +161,6 @@ found_at table tracks most i t inside all is =
       is_track = subst Q (sym is) (subst P zero_plus (track_in table 0 most tracks i t inside all));
       at = slice_get-get_or tracks i t inside ∙ ap Some (sym is);
     }
-
-pub found : (table : Table) (tracks : List TrackState) (most : ℕ) (c : Call) (i : ℕ) (t : TrackState) → length tracks ≡ length table.kinds → AreTracksOf table 0 most tracks
-    → refuse_names_of table c ≡ None → names_of c ≡ i ∷ [] → t ≡ get_or tracks i t → Found table tracks most i t
-found table tracks most c i t kinds all none named is = found_at table tracks most i t (omega (arith, kinds, named_in table c i none named)) all is
 
 pub asked : (table : Table) (tracks : List TrackState) (most i : ℕ) (t : TrackState) → length tracks ≡ length table.kinds → i < length table.kinds → AreTracksOf table 0 most tracks → t ≡ get_or tracks i t → Found table tracks most i t
 asked table tracks most i t kinds within all is = found_at table tracks most i t (omega (arith, kinds, within)) all is

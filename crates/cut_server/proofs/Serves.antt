@@ -3,74 +3,109 @@ use Rattle.std.proofs.Common.{◌≡◌, ℕ, ◌+◌, ◌<◌, ◌≤◌, ◌�
 use Rattle.std.specs.Prelude.{codes}
 use Rattle.std.proofs.lemmas.List.{append-nil}
 use Rattle.room_ports.specs.Bytes.{Takes, TakesFront}
-use Rattle.room_ports.proofs.Fronts.{takes-nothing, takes-takes, takes-takes_front}
+use Rattle.room_ports.proofs.Fronts.{takes-nothing, takes-takes}
 use Rattle.line_words.specs.Lines.{Line as InputLine}
 use Rattle.line_words.specs.Told.{line_told, lines_told}
 use Rattle.line_words.specs.declared.line.LineEnd.{LineEnd}
-use Rattle.call_text.specs.declared.lines.Line.{Line}
-use Rattle.call_text.specs.declared.lines.Line.TheVariants.{Edit, Ask as AskOf, Point}
-use Rattle.call_text.specs.declared.lines.LineFault.{LineFault}
+use Rattle.composables.specs.TrackState.{TrackState}
+use Rattle.edit_apply.specs.declared.asks.Call.{Call}
 use Rattle.cut_server.specs.declared.reply.Reply.{Reply}
-use Rattle.cut_server.specs.Transcript.{Opening, meaning_of, sent}
-use Rattle.cut_server.specs.Session.{SessionState, past_line, IsReply, Replies, Step}
-use Rattle.cut_server.specs.Served.{Served, ServesTo}
-use Rattle.cut_server.proofs.Transcripts.{sent_more}
+use Rattle.cut_server.specs.Outside.{AreSent, TakesThenFront, LastIsCut}
+use Rattle.cut_server.specs.Transcript.{Kind, Wish, sent}
+use Rattle.cut_server.specs.Rooms.{Setting, AreWritten, room_of, meaning_of, wish_in}
+use Rattle.cut_server.specs.Session.{Course, SessionState, past_line, IsReply, Replies, Step}
+use Rattle.cut_server.specs.Served.{Served, Serves, ServesTo}
 use Rattle.cut_server.proofs.Serving.{served_more}
 
 sent-append : (xs ys : List (List ℕ)) → sent (xs ++ ys) ≡ sent xs ++ sent ys
 sent-append [] ys = refl
 sent-append (x ∷ xs) ys = ap (λ t. (x ++ codes "\n") ++ t) (sent-append xs ys) ∙ sym (append_assoc (x ++ codes "\n") (sent xs) (sent ys))
 
-pub serves_none : (s : SessionState) (t : Option (List ℕ)) → ServesTo s s [] (Takes t t)
-serves_none s t o ls rs last w = ([], last, rw (append-nil, append-nil) w, takes-nothing t)
-
--- one line
-step_line : (old new : SessionState) (r : List ℕ) (m : Result Line LineFault) → Step old new r m → new.line ≡ old.line
-step_line old new r (Ok (Edit c)) (inl (inl (d, k))) = k.line
-step_line old new r (Ok (Edit c)) (inl (inr (why, k))) = ap (λ (s : SessionState). s.line) k.same
-step_line old new r (Ok (Edit c)) (inr (inl (d, k))) = ap (λ (s : SessionState). s.line) k.same
-step_line old new r (Ok (Edit c)) (inr (inr k)) = ap (λ (s : SessionState). s.line) k.same
-step_line old new r (Ok (AskOf q)) (inl k) = ap (λ (s : SessionState). s.line) k.same
-step_line old new r (Ok (AskOf q)) (inr k) = ap (λ (s : SessionState). s.line) k.same
-step_line old new r (Ok Point) k = ap (λ (s : SessionState). s.line) k.same
-step_line old new r (Err fault) k = ap (λ (s : SessionState). s.line) k.same
-
-pub replies_line : (old new : SessionState) (m : Result Line LineFault) (reply : Reply) → Replies old new m reply → new.line ≡ old.line
-replies_line old new m reply (text, is, step) = step_line old new text m step
-
 one_sent : (r : List ℕ) → sent (r ∷ []) ≡ r ++ codes "\n"
 one_sent r = append-nil (r ++ codes "\n")
 
-pub serves_one : (old mid new : SessionState) (l : InputLine) (reply : Reply) (Taken : List ℕ → Type 0)
-    → Replies old mid (meaning_of old.setting l) reply → new ≡ past_line mid → ((text : List ℕ) → IsReply reply text → Taken (text ++ codes "\n")) → ServesTo old new (l ∷ []) Taken
-serves_one old mid new l reply Taken (text, is, step) next taken o ls rs last w =
-    let says : meaning_of o.setting l ≡ meaning_of old.setting l = ap (λ setting. meaning_of setting l) (sym w.setting) in
-    let s = served_more o old mid ls rs last l text (meaning_of old.setting l) w says step in
-    (text ∷ [], s.0, rw next s.1, subst Taken (sym (one_sent text)) (taken text is))
+-- these bytes, and then others with a front of a piece
+pub takes-then : (before mid after : Option (List ℕ)) (xs ys piece : List ℕ) → Takes before mid xs → TakesThenFront mid after ys piece → TakesThenFront before after (xs ++ ys) piece
+takes-then before mid None xs ys piece h k = tt
+takes-then before None (Some c) xs ys piece h k = absurd k
+takes-then None (Some b) (Some c) xs ys piece h k = absurd h
+takes-then (Some a) (Some b) (Some c) xs ys piece h (n, e) =
+    (n, e ∙ (ap (λ t. t ++ (ys ++ take n piece)) h ∙ (append_assoc a xs (ys ++ take n piece) ∙ ap (λ t. a ++ t) (sym (append_assoc xs ys (take n piece))))))
+
+pub front-then : (before after : Option (List ℕ)) (piece : List ℕ) → TakesFront before after piece → TakesThenFront before after [] piece
+front-then before None piece k = tt
+front-then None (Some c) piece k = absurd k
+front-then (Some a) (Some c) piece k = k
+
+pub takes-then_front : (before mid after : Option (List ℕ)) (xs piece : List ℕ) → Takes before mid xs → TakesFront mid after piece → TakesThenFront before after xs piece
+takes-then_front before mid after xs piece h k = subst (λ t. TakesThenFront before after t piece) (append-nil xs) (takes-then before mid after xs [] piece h (front-then mid after piece k))
+
+pub sent_one : (before after : Option (List ℕ)) (r : List ℕ) → Takes before after (r ++ codes "\n") → AreSent before after (r ∷ [])
+sent_one before after r h = subst (Takes before after) (sym (one_sent r)) h
+
+pub cut_one : (before after : Option (List ℕ)) (r : List ℕ) → TakesFront before after (r ++ codes "\n") → LastIsCut before after (r ∷ [])
+cut_one before after r h = ([], r, refl, front-then before after (r ++ codes "\n") h)
+
+pub sent_more : (t u v : Option (List ℕ)) (xs ys : List (List ℕ)) → AreSent t u xs → AreSent u v ys → AreSent t v (xs ++ ys)
+sent_more t u v xs ys h k = subst (Takes t v) (sym (sent-append xs ys)) (takes-takes t u v (sent xs) (sent ys) h k)
+
+pub cut_more : (t u v : Option (List ℕ)) (xs ys : List (List ℕ)) → AreSent t u xs → LastIsCut u v ys → LastIsCut t v (xs ++ ys)
+cut_more t u v xs ys h (whole, cut, is, k) = (
+  xs ++ whole,
+  cut,
+  ap (λ rs. xs ++ rs) is ∙ sym (append_assoc xs whole (cut ∷ [])),
+  subst (λ bytes. TakesThenFront t v bytes (cut ++ codes "\n")) (sym (sent-append xs whole)) (takes-then t u v (sent xs) (sent whole) (cut ++ codes "\n") h k),
+)
+
+-- two runs of lines, for any kind of history, where what was taken composes
+module _ {S C D R Q X Y : Type 0} (k : Kind S C D R Q X Y) (stations station : ℕ) where
+  then_serves : (a b c : Course S C) (xs ys : List InputLine) (P V W : List (List ℕ) → Type 0) → ((us vs : List (List ℕ)) → P us → V vs → W (us ++ vs))
+      → Serves k stations station a b xs P → Serves k stations station b c ys V → Serves k stations station a c (xs ++ ys) W
+  then_serves a b c xs ys P V W both f g o ls rs last w =
+      let first = f o ls rs last w in
+      let second = g o (ls ++ xs) (rs ++ first.0) first.1 first.2 in (
+        first.0 ++ second.0,
+        second.1,
+        rw (← append_assoc ls xs ys, ← append_assoc rs first.0 second.0) second.2,
+        both first.0 second.0 first.3 second.3,
+      )
+
+  one_serves : (old mid new : Course S C) (l : InputLine) (text : List ℕ) (Taken : List (List ℕ) → Type 0) → station < stations
+      → Step k station old mid text (k.wish l) (k.takes_memory l) → new ≡ past_line mid → Taken (text ∷ []) → Serves k stations station old new (l ∷ []) Taken
+  one_serves old mid new l text Taken seated step next taken o ls rs last w =
+      let s = served_more k stations station o old mid ls rs last l text seated w step in
+      (text ∷ [], s.0, rw next s.1, taken)
+
+pub serves_none : (s : SessionState) (t : Option (List ℕ)) → ServesTo s s [] (AreSent t t)
+serves_none s t = record { setting = refl; written = λ w. w; serves = λ o ls rs last w. ([], last, rw (append-nil, append-nil) w, takes-nothing t) }
+
+pub serves_one : (old mid new : SessionState) (l : InputLine) (reply : Reply) (Taken : List (List ℕ) → Type 0)
+    → Replies old mid (wish_in (meaning_of old.setting l)) reply → new.setting ≡ mid.setting → new.course ≡ past_line mid.course
+    → ((text : List ℕ) → IsReply reply text → Taken (text ∷ [])) → ServesTo old new (l ∷ []) Taken
+serves_one old mid new l reply Taken (text, is, r) same next taken = record {
+  setting = same ∙ r.setting;
+  written = λ w. subst (λ (s : Course (List TrackState) Call). AreWritten s.journal) (sym next) (r.written w);
+  serves = one_serves (room_of old.setting) 1 0 old.course mid.course new.course l text Taken (omega arith) r.step next (taken text is);
+}
+
+serves_then : (a b c : SessionState) (xs ys : List InputLine) (P V W : List (List ℕ) → Type 0) → ((us vs : List (List ℕ)) → P us → V vs → W (us ++ vs))
+    → ServesTo a b xs P → ServesTo b c ys V → ServesTo a c (xs ++ ys) W
+serves_then a b c xs ys P V W both f g = record {
+  setting = g.setting ∙ f.setting;
+  written = λ w. g.written (f.written w);
+  serves = then_serves (room_of a.setting) 1 0 a.course b.course c.course xs ys P V W both f.serves
+      (subst (λ (setting : Setting). Serves (room_of setting) 1 0 b.course c.course ys V) f.setting g.serves);
+}
 
 -- these lines and then those
-pub serves_more : (a b c : SessionState) (xs ys : List InputLine) (t u v : Option (List ℕ)) → ServesTo a b xs (Takes t u) → ServesTo b c ys (Takes u v) → ServesTo a c (xs ++ ys) (Takes t v)
-serves_more a b c xs ys t u v f g o ls rs last w =
-    let first = f o ls rs last w in
-    let second = g o (ls ++ xs) (rs ++ first.0) first.1 first.2 in (
-      first.0 ++ second.0,
-      second.1,
-      rw (← append_assoc ls xs ys, ← append_assoc rs first.0 second.0) second.2,
-      subst (Takes t v) (sym (sent-append first.0 second.0)) (takes-takes t u v (sent first.0) (sent second.0) first.3 second.3),
-    )
+pub serves_more : (a b c : SessionState) (xs ys : List InputLine) (t u v : Option (List ℕ)) → ServesTo a b xs (AreSent t u) → ServesTo b c ys (AreSent u v) → ServesTo a c (xs ++ ys) (AreSent t v)
+serves_more a b c xs ys t u v f g = serves_then a b c xs ys (AreSent t u) (AreSent u v) (AreSent t v) (sent_more t u v) f g
 
-pub serves_front : (a b c : SessionState) (xs ys : List InputLine) (t u v : Option (List ℕ)) → ServesTo a b xs (Takes t u) → ServesTo b c ys (TakesFront u v) → ServesTo a c (xs ++ ys) (TakesFront t v)
-serves_front a b c xs ys t u v f g o ls rs last w =
-    let first = f o ls rs last w in
-    let second = g o (ls ++ xs) (rs ++ first.0) first.1 first.2 in (
-      first.0 ++ second.0,
-      second.1,
-      rw (← append_assoc ls xs ys, ← append_assoc rs first.0 second.0) second.2,
-      subst (TakesFront t v) (sym (sent-append first.0 second.0)) (takes-takes_front t u v (sent first.0) (sent second.0) first.3 second.3),
-    )
+pub serves_cut : (a b c : SessionState) (xs ys : List InputLine) (t u v : Option (List ℕ)) → ServesTo a b xs (AreSent t u) → ServesTo b c ys (LastIsCut u v) → ServesTo a c (xs ++ ys) (LastIsCut t v)
+serves_cut a b c xs ys t u v f g = serves_then a b c xs ys (AreSent t u) (LastIsCut u v) (LastIsCut t v) (cut_more t u v) f g
 
-pub serves_lines : (a b : SessionState) (xs ys : List InputLine) (Taken : List ℕ → Type 0) → xs ≡ ys → ServesTo a b xs Taken → ServesTo a b ys Taken
-serves_lines a b xs ys Taken e f = rw e at f
+pub serves_lines : (a b : SessionState) (xs ys : List InputLine) (Taken : List (List ℕ) → Type 0) → xs ≡ ys → ServesTo a b xs Taken → ServesTo a b ys Taken
+serves_lines a b xs ys Taken e f = subst (λ (ls : List InputLine). ServesTo a b ls Taken) e f
 
 pub on_ok : {T F : Type 0} (r : Result T F) (P Q : Type 0) → OnOk r P → (P → Q) → OnOk r Q
 on_ok (Ok x) P Q h f = f h

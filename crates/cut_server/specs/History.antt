@@ -1,6 +1,6 @@
 -- The journal as a history: entries in the order in which they were committed, and the state that they come to. For
 -- any kind of state and call: what a call does is a function handed in.
-use Rattle.std.specs.Prelude.{◌≡◌, ℕ, ◌<◌, ◌≤◌, List, [], ◌∷◌, Option, Some, None, Result, Ok, Err, IsSome, length, take, fold, option_map}
+use Rattle.std.specs.Prelude.{◌≡◌, ℕ, ◌<◌, ◌≤◌, List, [], ◌∷◌, Option, Some, None, Result, Ok, Err, IsSome, length, fold, ◌==◌, if◌then◌else◌}
 use Rattle.call_text.specs.declared.entries.Entry.{Entry}
 
 -- the state that a call leaves, where it applies
@@ -40,3 +40,13 @@ pub record IsLegal {S C D R : Type 0} (apply : S → C → Result (S × D) R) (s
   pub within : length entries ≤ most_entries
   pub applies : IsSome (replay apply s entries)
   pub rise : NumbersRise entries
+
+-- the entries of one station
+abbrev pub own_entries : {C : Type 0} → ℕ → List (Entry C) → List (Entry C)
+own_entries station [] = []
+own_entries station (e ∷ es) = if e.station == station then e ∷ own_entries station es else own_entries station es
+
+-- each entry is of a station below this count
+abbrev pub AreOfStations : {C : Type 0} → ℕ → List (Entry C) → Type 0
+AreOfStations stations [] = Unit {0}
+AreOfStations stations (e ∷ es) = (e.station < stations) × AreOfStations stations es

@@ -1,11 +1,15 @@
 pub mod History
 pub mod Transcript
+pub mod Rooms
+pub mod Longer
 pub mod Session
 pub mod Tracks
 pub mod SessionInside
 pub mod Editing
 pub mod Openings
 pub mod Commands
-pub mod Runs
 pub mod Served
+pub mod Outside
 pub mod Serving
+pub mod Statuses
+pub mod Runs

@@ -6,7 +6,7 @@ use Rattle.composables.specs.declared.media.Kind.TheVariants.{Video}
 use Rattle.composables.specs.declared.media.Media.{Media}
 use Rattle.composables.specs.declared.media.Table.{Table}
 use Rattle.composables.specs.TrackState.{TrackState}
-use Rattle.cut_server.specs.Transcript.{Setting, Opening}
+use Rattle.cut_server.specs.Rooms.{Opening}
 
 -- media m is reel m with its first 86,400 frames, an hour at 24 frames a second
 abbrev pub plain_media : ℕ → Media

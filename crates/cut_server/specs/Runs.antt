@@ -1,59 +1,88 @@
--- What the program promises of a run of one station: what its output is, and that one legal history tells the replies.
-use Rattle.std.specs.Prelude.{◌≡◌, ℕ, ◌<◌, ◌≤◌, ◌⊎◌, List, [], ◌++◌, Option, Some, IfSome, length, take}
+-- How a run of the program ends, by its status: what was read and what stands on the output, and that one legal history
+-- tells the replies.
+use Rattle.std.specs.Prelude.{◌≡◌, ℕ, ◌⊎◌, List, [], ◌++◌, Option, Some, None, codes}
 use Rattle.room_ports.specs.Bytes.{Takes, TakesFront}
-use Rattle.line_words.specs.Lines.{Line as InputLine, lines_of}
-use Rattle.line_words.specs.Pieces.{ended}
-use Rattle.edit_apply.specs.Apply.{applied}
+use Rattle.room_ports.specs.Counts.{HasRisen}
+use Rattle.line_words.specs.Lines.{Line as InputLine}
 use Rattle.call_text.specs.Journals.{journal_text_of}
-use Rattle.cut_server.specs.History.{IsLegal}
-use Rattle.cut_server.specs.Transcript.{Opening, History, Transcript, sent}
+use Rattle.cut_server.specs.declared.command.Command.{Command}
+use Rattle.cut_server.specs.declared.command.Command.TheVariants.{Run}
+use Rattle.cut_server.specs.declared.serve.End.TheVariants as end
+use Rattle.cut_server.specs.declared.status.Status.{Status}
+use Rattle.cut_server.specs.declared.status.Status.TheVariants.{Done, ReadFault, WriteFault, NoCommand, OutOfMemory, TooMuchInput}
+use Rattle.cut_server.specs.History.{AreOfStations}
+use Rattle.cut_server.specs.Openings.{plain_opening}
+use Rattle.cut_server.specs.Outside.{Outside, NoFault, WriteFailed, AtEnd, AreSent, TakesThenFront}
+use Rattle.cut_server.specs.Rooms.{Opening, History, AreWritten, IsLegalIn, RoomTranscript}
+use Rattle.cut_server.specs.Serving.{SessionEnds}
+use Rattle.cut_server.specs.Statuses.{number_of}
+use Rattle.cut_server.specs.Transcript.{sent}
 
--- the journal is a legal serial history of the opening, and it tells these replies to these lines
-pub record IsTold (o : Opening) (h : History) (lines : List InputLine) (replies : List (List ℕ)) : Type 0 where
-  pub legal : IsLegal (applied o.setting.table) o.tracks h
-  pub transcript : Transcript o h 0 lines replies
+-- the journal is a legal serial history of the opening with entries of these stations alone, each of which can be written
+-- and read again, and it tells the replies to the lines of one station
+pub record IsTold (o : Opening) (stations : ℕ) (h : History) (station : ℕ) (lines : List InputLine) (replies : List (List ℕ)) : Type 0 where
+  pub legal : IsLegalIn o h
+  pub seated : AreOfStations stations h
+  pub written : AreWritten h
+  pub transcript : RoomTranscript o h station lines replies
 
--- there are a journal and replies to these lines that are told by it, and of them this was taken
-abbrev pub Tells : Opening → List InputLine → (History → List ℕ → Type 0) → Type 0
-Tells o lines Taken = (h : History) × (replies : List (List ℕ)) × IsTold o h lines replies × Taken h (sent replies)
+-- there are a journal of one station and replies to these lines that it tells, of which this holds
+abbrev pub TellsOne : Opening → List InputLine → (History → List (List ℕ) → Type 0) → Type 0
+TellsOne o lines Holds = (h : History) × (replies : List (List ℕ)) × IsTold o 1 h 0 lines replies × Holds h replies
+
+-- the same, where it holds of the replies
+abbrev pub Tells : Opening → List InputLine → (List (List ℕ) → Type 0) → Type 0
+Tells o lines Holds = TellsOne o lines (λ h replies. Holds replies)
 
 -- the replies, and then the journal's text
-abbrev pub Whole : Option (List ℕ) → Option (List ℕ) → History → List ℕ → Type 0
-Whole before after h replies = Takes before after (replies ++ journal_text_of h)
+abbrev pub IsWhole : Option (List ℕ) → Option (List ℕ) → History → List (List ℕ) → Type 0
+IsWhole before after h replies = Takes before after (sent replies ++ journal_text_of h)
 
-abbrev pub FrontOfWhole : Option (List ℕ) → Option (List ℕ) → History → List ℕ → Type 0
-FrontOfWhole before after h replies = TakesFront before after (replies ++ journal_text_of h)
+-- the replies, and then a front of the journal's text
+abbrev pub JournalIsCut : Option (List ℕ) → Option (List ℕ) → History → List (List ℕ) → Type 0
+JournalIsCut before after h replies = TakesThenFront before after (sent replies) (journal_text_of h)
 
--- the replies alone
-abbrev pub Replies : Option (List ℕ) → Option (List ℕ) → History → List ℕ → Type 0
-Replies before after h replies = Takes before after replies
+-- the journal's text is put behind the replies
+module _ (h : History) (old new : Outside) where
+  abbrev pub JournalEnds : Status → Type 0
+  JournalEnds Done = NoFault old new × (new.left ≡ old.left) × Takes old.taken new.taken (journal_text_of h)
+  JournalEnds ReadFault = ⊥
+  JournalEnds WriteFault = WriteFailed old new × (new.left ≡ old.left) × TakesFront old.taken new.taken (journal_text_of h)
+  JournalEnds NoCommand = ⊥
+  JournalEnds OutOfMemory = new ≡ old
+  JournalEnds TooMuchInput = ⊥
 
--- a front of the replies to a front of the lines, up to and with the one whose reply failed
-abbrev pub FrontOfReplies : Opening → List InputLine → Option (List ℕ) → Option (List ℕ) → Type 0
-FrontOfReplies o lines before after =
-    (front : List InputLine) × (back : List InputLine) × (lines ≡ front ++ back) × Tells o front (λ h replies. TakesFront before after replies)
+-- a run of one station from this opening, where `Untouched` says that input and output are as they were
+module _ (o : Opening) (old new : Outside) (Untouched : Type 0) where
+  abbrev pub RunEnds : Status → Type 0
+  -- the input was read to its end, each line was answered, and all was written
+  RunEnds Done = NoFault old new × AtEnd old new (λ lines. TellsOne o lines (IsWhole old.taken new.taken))
+  -- the lines that ended among the bytes got are answered
+  RunEnds ReadFault = SessionEnds (Tells o) old new end.ReadFault
+  -- a reply is cut, or the journal's text behind all replies
+  RunEnds WriteFault = SessionEnds (Tells o) old new end.WriteFault
+      ⊎ (WriteFailed old new × AtEnd old new (λ lines. TellsOne o lines (JournalIsCut old.taken new.taken)))
+  RunEnds NoCommand = ⊥
+  -- nothing was begun, or the input was read to its end and the output is all replies without the journal
+  RunEnds OutOfMemory = Untouched ⊎ SessionEnds (Tells o) old new end.Ended
+  -- the lines that ended among the first 64 MiB are answered
+  RunEnds TooMuchInput = SessionEnds (Tells o) old new end.TooMuchInput
 
--- the most bytes of one input: 64 MiB
-abbrev pub most_input : ℕ
-most_input = 67108864
+-- words that are no command get a line of refusal, and the input is not looked at
+module _ (old new : Outside) (Unread : Type 0) where
+  abbrev pub RefusalEnds : Status → Type 0
+  RefusalEnds Done = ⊥
+  RefusalEnds ReadFault = ⊥
+  RefusalEnds WriteFault = Unread × HasRisen old.writes new.writes × TakesFront old.taken new.taken (codes "refused words\n")
+  RefusalEnds NoCommand = Unread × (new.writes ≡ old.writes) × Takes old.taken new.taken (codes "refused words\n")
+  RefusalEnds OutOfMemory = ⊥
+  RefusalEnds TooMuchInput = ⊥
 
--- status 0: the input was read to its end, each line was answered, and all was written
-abbrev pub IsDone : Opening → List ℕ → Option (List ℕ) → Option (List ℕ) → Type 0
-IsDone o bytes before after = (length bytes ≤ most_input) × Tells o (lines_of bytes) (Whole before after)
+-- how the program ends, by the words that it was given
+abbrev pub CommandEnds : Option Command → Outside → Outside → Type 0 → Type 0 → Status → Type 0
+CommandEnds None old new Unread Unwritten status = RefusalEnds old new Unread status
+CommandEnds (Some (Run tracks reels)) old new Unread Unwritten status = RunEnds (plain_opening tracks reels) old new (Unread × Unwritten) status
 
--- status 1: the output is the replies to the lines that ended among the bytes got
-abbrev pub IsCutShort : Opening → List ℕ → List ℕ → Option (List ℕ) → Option (List ℕ) → Type 0
-IsCutShort o bytes left before after = (got : List ℕ) × (bytes ≡ got ++ left) × Tells o (ended (Some []) got) (Replies before after)
-
--- status 2: the output is a front of the replies, or of the replies and the journal's text behind them
-abbrev pub IsUnwritten : Opening → List ℕ → Option (List ℕ) → Option (List ℕ) → Type 0
-IsUnwritten o bytes before after = FrontOfReplies o (lines_of bytes) before after ⊎ Tells o (lines_of bytes) (FrontOfWhole before after)
-
--- status 7: the output is the replies to the lines that ended among the first 64 MiB
-abbrev pub IsTooMuch : Opening → List ℕ → Option (List ℕ) → Option (List ℕ) → Type 0
-IsTooMuch o bytes before after = (most_input < length bytes) × Tells o (ended (Some []) (take most_input bytes)) (Replies before after)
-
--- status 6: nothing was read and nothing written, or all was read and the output is all replies without the journal
-abbrev pub IsOutOfMemory : Opening → Option (List ℕ) → Option (List ℕ) → Option (List ℕ) → Option (List ℕ) → Type 0
-IsOutOfMemory o left left' before after =
-    ((left' ≡ left) × (after ≡ before)) ⊎ IfSome left (λ bytes. Tells o (lines_of bytes) (Replies before after))
+-- it ends with the number of a status that it may have
+abbrev pub EndsWith : ℕ → (Status → Type 0) → Type 0
+EndsWith number Ends = (status : Status) × (number ≡ number_of status) × Ends status

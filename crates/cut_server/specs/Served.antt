@@ -1,37 +1,44 @@
 -- A session that has answered some lines: what has held since it began.
 use Rattle.std.specs.Prelude.{◌≡◌, ℕ, ◌+◌, ◌<◌, ◌≤◌, List, [], ◌∷◌, ◌++◌, Some, length}
 use Rattle.line_words.specs.Lines.{Line as InputLine}
-use Rattle.edit_apply.specs.Apply.{applied}
-use Rattle.cut_server.specs.History.{most_entries, replay, NumbersRise}
-use Rattle.cut_server.specs.Transcript.{Opening, History, Rows, points_from, sent}
-use Rattle.cut_server.specs.Session.{SessionState}
+use Rattle.call_text.specs.declared.entries.Entry.{Entry}
+use Rattle.cut_server.specs.History.{most_entries, replay, NumbersRise, AreOfStations}
+use Rattle.cut_server.specs.Transcript.{Kind, Rows, points_from}
+use Rattle.cut_server.specs.Rooms.{Opening, AreWritten, room_of}
+use Rattle.cut_server.specs.Session.{Course, SessionState}
 
--- each entry is of a line before this one
-abbrev pub AllBefore : ℕ → History → Type 0
-AllBefore line [] = Unit {0}
-AllBefore line (e ∷ es) = (e.number < line) × AllBefore line es
+-- each entry of the station is of a line before this one
+abbrev pub OwnBefore : {C : Type 0} → ℕ → ℕ → List (Entry C) → Type 0
+OwnBefore station line [] = Unit {0}
+OwnBefore station line (e ∷ es) = (e.station ≡ station → e.number < line) × OwnBefore station line es
 
--- the lines so far have their replies, and the tracks are what the journal comes to
-pub record Served (o : Opening) (s : SessionState) (ls : List InputLine) (rs : List (List ℕ)) (last : ℕ) : Type 0 where
-  pub setting : s.setting ≡ o.setting
-  pub state : replay (applied o.setting.table) o.tracks s.journal ≡ Some s.tracks
-  pub rows : Rows o s.journal 0 1 0 ls rs last (points_from 0 0 s.journal)
+-- the lines so far have their replies, and the state is what the journal comes to
+pub record Served {S C D R Q X Y : Type 0} (k : Kind S C D R Q X Y) (stations station : ℕ) (o : S) (s : Course S C) (ls : List InputLine) (rs : List (List ℕ)) (last : ℕ) : Type 0 where
+  pub state : replay k.apply o s.journal ≡ Some s.state
+  pub rows : Rows k o s.journal station 1 0 ls rs last (points_from 0 station s.journal)
   pub told : last ≤ length s.journal
   pub line : s.line ≡ 1 + length ls
-  pub before : AllBefore (1 + length ls) s.journal
+  pub before : OwnBefore station (1 + length ls) s.journal
   pub rise : NumbersRise s.journal
+  pub seated : AreOfStations stations s.journal
   pub within : length s.journal ≤ most_entries
+
+-- Between two moments a station answered these lines: whatever it had answered before, it has answered these too, and
+-- their replies were taken so.
+abbrev pub Serves : {S C D R Q X Y : Type 0} → Kind S C D R Q X Y → ℕ → ℕ → Course S C → Course S C → List InputLine → (List (List ℕ) → Type 0) → Type 0
+Serves {S} {C} {D} {R} {Q} {X} {Y} k stations station old new lines Taken =
+    (o : S) (ls : List InputLine) (rs : List (List ℕ)) (last : ℕ) → Served k stations station o old ls rs last
+    → (more : List (List ℕ)) × (after : ℕ) × Served k stations station o new (ls ++ lines) (rs ++ more) after × Taken more
 
 -- a session that has just been opened
 pub record IsFresh (o : Opening) (s : SessionState) : Type 0 where
   pub setting : s.setting ≡ o.setting
-  pub tracks : s.tracks ≡ o.tracks
-  pub journal : s.journal ≡ []
-  pub line : s.line ≡ 1
+  pub tracks : s.course.state ≡ o.tracks
+  pub journal : s.course.journal ≡ []
+  pub line : s.course.line ≡ 1
 
--- Between two moments a session answered these lines: whatever it had answered before, it has answered these too, and
--- their replies, as they are sent, are what was taken.
-abbrev pub ServesTo : SessionState → SessionState → List InputLine → (List ℕ → Type 0) → Type 0
-ServesTo old new lines Taken =
-    (o : Opening) (ls : List InputLine) (rs : List (List ℕ)) (last : ℕ) → Served o old ls rs last
-    → (more : List (List ℕ)) × (after : ℕ) × Served o new (ls ++ lines) (rs ++ more) after × Taken (sent more)
+-- a session answered these lines, as the one station of its room
+pub record ServesTo (old new : SessionState) (lines : List InputLine) (Taken : List (List ℕ) → Type 0) : Type 0 where
+  pub setting : new.setting ≡ old.setting
+  pub written : AreWritten old.course.journal → AreWritten new.course.journal
+  pub serves : Serves (room_of old.setting) 1 0 old.course new.course lines Taken

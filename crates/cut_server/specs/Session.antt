@@ -1,71 +1,90 @@
--- What a session does for one line: it answers it, and at most commits one edit.
-use Rattle.std.specs.Prelude.{◌≡◌, ℕ, ◌+◌, ◌<◌, ◌⊎◌, List, [], ◌∷◌, ◌++◌, Result, Ok, Err, length, codes, decimal}
-use Rattle.composables.specs.declared.refusals.Refusal.{Refusal}
-use Rattle.composables.specs.declared.refusals.Done.{Done}
+-- What a session does for one line: it answers it, and at most commits one call.
+use Rattle.std.specs.Prelude.{◌≡◌, ℕ, ◌+◌, ◌<◌, ◌⊎◌, Bool, IsTrue, List, [], ◌∷◌, ◌++◌, Ok, Err, length, codes, decimal}
+use Rattle.line_words.specs.Lines.{Line as InputLine}
 use Rattle.composables.specs.TrackState.{TrackState}
 use Rattle.edit_apply.specs.declared.asks.Call.{Call}
 use Rattle.edit_apply.specs.declared.asks.Ask.{Ask}
-use Rattle.edit_apply.specs.Apply.{applied}
-use Rattle.edit_apply.specs.See.{seen_in}
-use Rattle.call_text.specs.declared.lines.Line.{Line}
-use Rattle.call_text.specs.declared.lines.Line.TheVariants.{Edit, Ask as AskOf, Point}
-use Rattle.call_text.specs.declared.lines.LineFault.{LineFault}
-use Rattle.call_text.specs.Replies.{reply_of, fault_of}
-use Rattle.call_text.specs.Sights.{seen_of}
-use Rattle.cut_server.specs.History.{answer_in, most_entries}
+use Rattle.call_text.specs.declared.entries.Entry.{Entry}
 use Rattle.call_text.specs.declared.short_text.Short.{Short}
-use Rattle.cut_server.specs.Transcript.{Setting, History}
+use Rattle.cut_server.specs.History.{answer_in, most_entries}
+use Rattle.cut_server.specs.Transcript.{Wish, Do, See, Point, Bad, Kind}
+use Rattle.edit_apply.specs.See.{seen_in}
+use Rattle.call_text.specs.declared.answers.Sight.{Sight}
+use Rattle.call_text.specs.declared.answers.Sight.TheVariants as sight
+use Rattle.cut_server.specs.Rooms.{Setting, AreWritten, room_of, finds_memory}
 use Rattle.cut_server.specs.declared.reply.Reply.{Reply}
 use Rattle.cut_server.specs.declared.reply.Reply.TheVariants as reply
 
--- the room of one station: its setting, its tracks as they are, its journal, and the number of the station's next line
-pub record SessionState : Type 0 where
-  pub setting : Setting
-  pub tracks : List TrackState
-  pub journal : History
+-- how far a station has come: the state as it is, the journal, and the number of its next line
+pub record Course (S C : Type 0) : Type 0 where
+  pub state : S
+  pub journal : List (Entry C)
   pub line : ℕ
 
 -- the number of the next line rises
-abbrev pub past_line : SessionState → SessionState
-past_line s = record s { line = s.line + 1 }
+abbrev pub past_line : {S C : Type 0} → Course S C → Course S C
+past_line s = record { state = s.state; journal = s.journal; line = s.line + 1 }
 
-module _ (old new : SessionState) (reply : List ℕ) where
-  -- the edit was done on the tracks and stands in the journal
-  pub record Commits (c : Call) (d : Done) : Type 0 where
-    pub applies : applied old.setting.table old.tracks c ≡ Ok (new.tracks, d)
-    pub journal : new.journal ≡ old.journal ++ record { station = 0; number = old.line; call = c } ∷ []
+module _ {S C D R Q X Y : Type 0} (k : Kind S C D R Q X Y) (station : ℕ) (old new : Course S C) (reply : List ℕ) where
+  -- the call was done on the state and stands in the journal
+  pub record Commits (c : C) (d : D) : Type 0 where
+    pub applies : k.apply old.state c ≡ Ok (new.state, d)
+    pub journal : new.journal ≡ old.journal ++ record { station = station; number = old.line; call = c } ∷ []
     pub room : length old.journal < most_entries
-    pub setting : new.setting ≡ old.setting
     pub line : new.line ≡ old.line
-    pub reply_is : reply ≡ reply_of (length old.journal) (Ok d)
+    pub reply_is : reply ≡ k.answer_text (length old.journal) (Ok d)
 
-  pub record Refuses (c : Call) (r : Refusal) : Type 0 where
-    pub refused : applied old.setting.table old.tracks c ≡ Err r
+  pub record Refuses (c : C) (r : R) : Type 0 where
+    pub refused : k.apply old.state c ≡ Err r
     pub same : new ≡ old
-    pub reply_is : reply ≡ reply_of (length old.journal) (Err r)
+    pub reply_is : reply ≡ k.answer_text (length old.journal) (Err r)
 
-  -- the edit would apply, and the journal is full
-  pub record HasNoRoom (c : Call) (d : Done) : Type 0 where
-    pub applies : answer_in (applied old.setting.table old.tracks c) ≡ Ok d
+  -- the call would apply, and the journal is full
+  pub record HasNoRoom (c : C) (d : D) : Type 0 where
+    pub applies : answer_in (k.apply old.state c) ≡ Ok d
     pub full : length old.journal ≡ most_entries
     pub same : new ≡ old
-    pub reply_is : reply ≡ codes "no 100000 E15"
+    pub reply_is : reply ≡ k.full_text
 
-  pub record Answers (text : List ℕ) : Type 0 where
+  pub record Says (text : List ℕ) : Type 0 where
     pub same : new ≡ old
     pub reply_is : reply ≡ text
 
-  -- answering a line that says this, before the number of the next line rises
-  abbrev pub Step : Result Line LineFault → Type 0
-  Step (Ok (Edit c)) = (((d : Done) × Commits c d) ⊎ ((r : Refusal) × Refuses c r)) ⊎ (((d : Done) × HasNoRoom c d) ⊎ Answers (codes "memory"))
-  Step (Ok (AskOf q)) = Answers (seen_of (length old.journal) (seen_in old.setting.table old.tracks q)) ⊎ Answers (codes "memory")
-  Step (Ok Point) = Answers (codes "point " ++ decimal (length old.journal))
-  Step (Err fault) = Answers (fault_of fault)
+  -- an answer to what the line asks for
+  abbrev pub Does : Wish C Q → Type 0
+  Does (Do c) = ((d : D) × Commits c d) ⊎ (((r : R) × Refuses c r) ⊎ ((d : D) × HasNoRoom c d))
+  Does (See q) = Says (k.sight_text (length old.journal) (k.see old.state q))
+  Does Point = Says (codes "point " ++ decimal (length old.journal))
+  Does (Bad text) = Says text
 
--- a reply with this text: a short one, or one that ends with its line feed
+  -- answering a line, before the number of the next line rises
+  abbrev pub Step : Wish C Q → Bool → Type 0
+  Step wish takes_memory = Does wish ⊎ (IsTrue takes_memory × Says (codes "memory"))
+
+-- the room of one station: its setting, and how far the station has come
+pub record SessionState : Type 0 where
+  pub setting : Setting
+  pub course : Course (List TrackState) Call
+
+-- a reply with this text, which ends with its line feed
 abbrev pub IsReply : Reply → List ℕ → Type 0
-IsReply (reply.Short short) text = short ≡ text
+IsReply (reply.Short short) text = short ≡ text ++ codes "\n"
 IsReply (reply.Text bytes) text = bytes.items ≡ text ++ codes "\n"
 
-abbrev pub Replies : SessionState → SessionState → Result Line LineFault → Reply → Type 0
-Replies old new m answer = (text : List ℕ) × IsReply answer text × Step old new text m
+-- a reply of this text to what a line asks for: the only station is number 0, and its entries can be written
+pub record RepliesWith (old new : SessionState) (wish : Wish Call Ask) (text : List ℕ) : Type 0 where
+  pub setting : new.setting ≡ old.setting
+  pub written : AreWritten old.course.journal → AreWritten new.course.journal
+  pub step : Step (room_of old.setting) 0 old.course new.course text wish (finds_memory wish)
+
+abbrev pub RepliesShort : SessionState → SessionState → Wish Call Ask → Short → Type 0
+RepliesShort old new wish text = RepliesWith old new wish text
+
+abbrev pub Replies : SessionState → SessionState → Wish Call Ask → Reply → Type 0
+Replies old new wish answer = (text : List ℕ) × IsReply answer text × RepliesWith old new wish text
+
+-- what a question is answered, with the journal's length
+abbrev pub Sees : SessionState → Ask → Sight → Type 0
+Sees s q (sight.Seen n seen) = (n ≡ length s.course.journal) × (seen_in s.setting.table s.course.state q ≡ Ok seen)
+Sees s q (sight.Refused n why) = (n ≡ length s.course.journal) × (seen_in s.setting.table s.course.state q ≡ Err why)
+Sees s q sight.Memory = Unit {0}

@@ -8,9 +8,7 @@ use Rattle.cut_server.specs.Tracks.{AreTracksOf}
 abbrev pub state_of : Inside → SessionState
 state_of s = record {
   setting = record { table = s.editor.table; counting = s.counting; start = s.start };
-  tracks = s.tracks.items;
-  journal = s.journal.items;
-  line = s.line;
+  course = record { state = s.tracks.items; journal = s.journal.items; line = s.line };
 }
 
 pub record IsSession (s : Inside) : Type 0 where

@@ -16,3 +16,10 @@ pub record IsTrackOf (table : Table) (number most : ℕ) (t : TrackState) : Type
 abbrev pub AreTracksOf : Table → ℕ → ℕ → List TrackState → Type 0
 AreTracksOf table number most [] = Unit {0}
 AreTracksOf table number most (t ∷ ts) = IsTrackOf table number most t × AreTracksOf table (number + 1) most ts
+
+-- such tracks, with these numbers
+abbrev pub AreKept : Table → ℕ → List ℕ → List TrackState → Type 0
+AreKept table most [] [] = Unit {0}
+AreKept table most [] (t ∷ ts) = ⊥
+AreKept table most (n ∷ ns) [] = ⊥
+AreKept table most (n ∷ ns) (t ∷ ts) = IsTrackOf table n most t × AreKept table most ns ts

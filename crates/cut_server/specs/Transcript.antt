@@ -1,144 +1,130 @@
 -- What a station is told: one reply for each of its lines. Each reply but `bad` and `memory` names its point in the
 -- journal, and says what the entries before that point give.
-use Rattle.std.specs.Prelude.{◌≡◌, ◌≢◌, ℕ, ◌+◌, ◌≤◌, ◌⊎◌, List, [], ◌∷◌, ◌++◌, Option, Some, None, Result, Ok, Err, length, take, slice_get, codes, decimal, option_map, ◌==◌, if◌then◌else◌}
+use Rattle.std.specs.Prelude.{◌≡◌, ◌≢◌, ℕ, ◌+◌, ◌≤◌, ◌⊎◌, Bool, IsTrue, List, [], ◌∷◌, ◌++◌, Option, Some, Result, Ok, Err, length, take, slice_get, codes, decimal, option_map, ◌==◌, if◌then◌else◌}
 use Rattle.line_words.specs.Lines.{Line as InputLine}
-use Rattle.composables.specs.declared.media.Table.{Table}
-use Rattle.composables.specs.declared.refusals.Refusal.{Refusal}
-use Rattle.composables.specs.declared.refusals.Done.{Done}
-use Rattle.composables.specs.TrackState.{TrackState}
-use Rattle.edit_apply.specs.declared.asks.Call.{Call}
-use Rattle.edit_apply.specs.declared.asks.Ask.{Ask}
-use Rattle.edit_apply.specs.declared.asks.Seen.{Seen}
-use Rattle.edit_apply.specs.declared.asks.AskRefusal.{AskRefusal}
-use Rattle.edit_apply.specs.Apply.{applied}
-use Rattle.edit_apply.specs.See.{seen_in}
 use Rattle.call_text.specs.declared.entries.Entry.{Entry}
-use Rattle.call_text.specs.declared.lines.Line.{Line}
-use Rattle.call_text.specs.declared.lines.Line.TheVariants.{Edit, Ask as AskOf, Point}
-use Rattle.call_text.specs.declared.lines.LineFault.{LineFault}
-use Rattle.call_text.specs.declared.lines.LineFault.TheVariants.{B5}
-use Rattle.timecode12.specs.Numbers.{Counted}
-use Rattle.call_text.specs.Labels.{place_by}
-use Rattle.call_text.specs.Reading.{line_of}
-use Rattle.call_text.specs.Replies.{reply_of, fault_of}
-use Rattle.call_text.specs.Sights.{seen_of}
 use Rattle.cut_server.specs.History.{answer_in, replay, most_entries}
 
--- what stays as it is in a room: its table, how its frames are counted, and the frame at which its record starts
-pub record Setting : Type 0 where
-  pub table : Table
-  pub counting : Counted
-  pub start : ℕ
+-- what a line asks for: a call, a question, the point, or nothing of the protocol, where this is its reply
+pub data Wish (C Q : Type 0) : Type 0 where
+  Do : C → Wish C Q
+  See : Q → Wish C Q
+  Point : Wish C Q
+  Bad : List ℕ → Wish C Q
 
--- what a room is opened from
-pub record Opening : Type 0 where
-  pub setting : Setting
-  pub tracks : List TrackState
-
--- what a line of the input says; one that is too long says nothing
-abbrev pub meaning_of : Setting → InputLine → Result Line LineFault
-meaning_of setting None = Err B5
-meaning_of setting (Some bytes) = line_of (place_by setting.counting setting.start) bytes
-
-abbrev pub History : Type 0
-History = List (Entry Call)
-
--- the tracks after the first n entries
-abbrev pub tracks_at : Opening → History → ℕ → Option (List TrackState)
-tracks_at o h n = replay (applied o.setting.table) o.tracks (take n h)
-
--- what a call is answered where it stands after the first n entries
-abbrev pub answer_at : Opening → History → ℕ → Call → Option (Result Done Refusal)
-answer_at o h n c = option_map (λ tracks. answer_in (applied o.setting.table tracks c)) (tracks_at o h n)
-
--- what a question is answered there
-abbrev pub sight_at : Opening → History → ℕ → Ask → Option (Result Seen AskRefusal)
-sight_at o h n q = option_map (λ tracks. seen_in o.setting.table tracks q) (tracks_at o h n)
+-- A kind of history over states S: what a call does and a question sees, what a line asks for and whether it may find no
+-- memory, and how each is answered at a point.
+pub record Kind (S C D R Q X Y : Type 0) : Type 0 where
+  pub apply : S → C → Result (S × D) R
+  pub see : S → Q → Result X Y
+  pub wish : InputLine → Wish C Q
+  pub takes_memory : InputLine → Bool
+  pub answer_text : ℕ → Result D R → List ℕ
+  pub full_text : List ℕ
+  pub sight_text : ℕ → Result X Y → List ℕ
 
 -- no entry bears this line's number and its station
-abbrev pub BearsNone : History → ℕ → ℕ → Type 0
+abbrev pub BearsNone : {C : Type 0} → List (Entry C) → ℕ → ℕ → Type 0
 BearsNone [] station line = Unit {0}
 BearsNone (e ∷ es) station line = (e.station ≡ station → e.number ≢ line) × BearsNone es station line
 
--- one line with its reply: what the station had been told before, and after; points are those of its own entries
-module _ (o : Opening) (h : History) (station line told : ℕ) (reply : List ℕ) (after : ℕ) (points : List ℕ) where
-  -- the edit is the entry at the point that it names, and what it did is what the entries before give
-  pub record IsDone (c : Call) (n : ℕ) (d : Done) : Type 0 where
-    pub told_of : told ≤ n
-    pub entry : slice_get h n ≡ Some (record { station = station; number = line; call = c })
-    pub answer : answer_at o h n c ≡ Some (Ok d)
-    pub reply_is : reply ≡ reply_of n (Ok d)
-    pub after_is : after ≡ n + 1
-    pub points_are : points ≡ n ∷ []
+module _ {S C D R Q X Y : Type 0} (k : Kind S C D R Q X Y) (o : S) (h : List (Entry C)) where
+  -- the state after the first n entries
+  abbrev pub state_at : ℕ → Option S
+  state_at n = replay k.apply o (take n h)
 
-  pub record IsRefused (c : Call) (n : ℕ) (r : Refusal) : Type 0 where
-    pub told_of : told ≤ n
-    pub within : n ≤ length h
-    pub answer : answer_at o h n c ≡ Some (Err r)
-    pub reply_is : reply ≡ reply_of n (Err r)
-    pub after_is : after ≡ n
-    pub points_are : points ≡ []
+  -- what a call is answered where it stands after the first n entries
+  abbrev pub answer_at : ℕ → C → Option (Result D R)
+  answer_at n c = option_map (λ s. answer_in (k.apply s c)) (state_at n)
 
-  -- the journal is full, and the edit would apply
-  pub record IsFull (c : Call) (d : Done) : Type 0 where
-    pub told_of : told ≤ most_entries
-    pub full : length h ≡ most_entries
-    pub answer : answer_at o h most_entries c ≡ Some (Ok d)
-    pub reply_is : reply ≡ codes "no 100000 E15"
-    pub after_is : after ≡ most_entries
-    pub points_are : points ≡ []
+  -- what a question is answered there
+  abbrev pub sight_at : ℕ → Q → Option (Result X Y)
+  sight_at n q = option_map (λ s. k.see s q) (state_at n)
 
-  -- want of memory; nothing has changed
-  pub record IsMemory : Type 0 where
-    pub none : BearsNone h station line
-    pub reply_is : reply ≡ codes "memory"
-    pub after_is : after ≡ told
-    pub points_are : points ≡ []
+  -- one line with its reply: what the station had been told before, and after; points are those of its own entries
+  module _ (station line told : ℕ) (reply : List ℕ) (after : ℕ) (points : List ℕ) where
+    -- the call is the entry at the point that it names, and what it did is what the entries before give
+    pub record IsDone (c : C) (n : ℕ) (d : D) : Type 0 where
+      pub told_of : told ≤ n
+      pub entry : slice_get h n ≡ Some (record { station = station; number = line; call = c })
+      pub answer : answer_at n c ≡ Some (Ok d)
+      pub reply_is : reply ≡ k.answer_text n (Ok d)
+      pub after_is : after ≡ n + 1
+      pub points_are : points ≡ n ∷ []
 
-  pub record IsSeen (q : Ask) (n : ℕ) (s : Result Seen AskRefusal) : Type 0 where
-    pub told_of : told ≤ n
-    pub within : n ≤ length h
-    pub sight : sight_at o h n q ≡ Some s
-    pub reply_is : reply ≡ seen_of n s
-    pub after_is : after ≡ n
-    pub points_are : points ≡ []
+    pub record IsRefused (c : C) (n : ℕ) (r : R) : Type 0 where
+      pub told_of : told ≤ n
+      pub within : n ≤ length h
+      pub answer : answer_at n c ≡ Some (Err r)
+      pub reply_is : reply ≡ k.answer_text n (Err r)
+      pub after_is : after ≡ n
+      pub points_are : points ≡ []
 
-  pub record IsPoint (n : ℕ) : Type 0 where
-    pub told_of : told ≤ n
-    pub within : n ≤ length h
-    pub reply_is : reply ≡ codes "point " ++ decimal n
-    pub after_is : after ≡ n
-    pub points_are : points ≡ []
+    -- the journal is full, and the call would apply
+    pub record IsFull (c : C) (d : D) : Type 0 where
+      pub told_of : told ≤ most_entries
+      pub full : length h ≡ most_entries
+      pub answer : answer_at most_entries c ≡ Some (Ok d)
+      pub reply_is : reply ≡ k.full_text
+      pub after_is : after ≡ most_entries
+      pub points_are : points ≡ []
 
-  -- the line is none of the protocol
-  pub record IsBad (fault : LineFault) : Type 0 where
-    pub reply_is : reply ≡ fault_of fault
-    pub after_is : after ≡ told
-    pub points_are : points ≡ []
+    pub record IsSeen (q : Q) (n : ℕ) (s : Result X Y) : Type 0 where
+      pub told_of : told ≤ n
+      pub within : n ≤ length h
+      pub sight : sight_at n q ≡ Some s
+      pub reply_is : reply ≡ k.sight_text n s
+      pub after_is : after ≡ n
+      pub points_are : points ≡ []
 
-  abbrev pub Row : Result Line LineFault → Type 0
-  Row (Ok (Edit c)) = (((n : ℕ) × (d : Done) × IsDone c n d) ⊎ ((n : ℕ) × (r : Refusal) × IsRefused c n r)) ⊎ (((d : Done) × IsFull c d) ⊎ IsMemory)
-  Row (Ok (AskOf q)) = ((n : ℕ) × (s : Result Seen AskRefusal) × IsSeen q n s) ⊎ IsMemory
-  Row (Ok Point) = (n : ℕ) × IsPoint n
-  Row (Err fault) = IsBad fault
+    pub record IsPoint (n : ℕ) : Type 0 where
+      pub told_of : told ≤ n
+      pub within : n ≤ length h
+      pub reply_is : reply ≡ codes "point " ++ decimal n
+      pub after_is : after ≡ n
+      pub points_are : points ≡ []
 
--- lines with their replies, from a line number on, where the station had been told of so much
-abbrev pub Rows : Opening → History → ℕ → ℕ → ℕ → List InputLine → List (List ℕ) → ℕ → List ℕ → Type 0
-Rows o h station line told [] [] last points = (last ≡ told) × (points ≡ [])
-Rows o h station line told [] (reply ∷ replies) last points = ⊥
-Rows o h station line told (l ∷ ls) [] last points = ⊥
-Rows o h station line told (l ∷ ls) (reply ∷ replies) last points =
-    (after : ℕ) × (here : List ℕ) × (rest : List ℕ) × Row o h station line told reply after here (meaning_of o.setting l)
-    × Rows o h station (line + 1) after ls replies last rest × (points ≡ here ++ rest)
+    -- the line is none of the protocol
+    pub record IsBad (text : List ℕ) : Type 0 where
+      pub reply_is : reply ≡ text
+      pub after_is : after ≡ told
+      pub points_are : points ≡ []
+
+    -- want of memory; nothing has changed
+    pub record IsMemory : Type 0 where
+      pub none : BearsNone h station line
+      pub reply_is : reply ≡ codes "memory"
+      pub after_is : after ≡ told
+      pub points_are : points ≡ []
+
+    -- an answer to what the line asks for
+    abbrev pub Answered : Wish C Q → Type 0
+    Answered (Do c) = ((n : ℕ) × (d : D) × IsDone c n d) ⊎ (((n : ℕ) × (r : R) × IsRefused c n r) ⊎ ((d : D) × IsFull c d))
+    Answered (See q) = (n : ℕ) × (s : Result X Y) × IsSeen q n s
+    Answered Point = (n : ℕ) × IsPoint n
+    Answered (Bad text) = IsBad text
+
+    abbrev pub Row : InputLine → Type 0
+    Row l = Answered (k.wish l) ⊎ (IsTrue (k.takes_memory l) × IsMemory)
+
+  -- lines with their replies, from a line number on, where the station had been told of so much
+  abbrev pub Rows : ℕ → ℕ → ℕ → List InputLine → List (List ℕ) → ℕ → List ℕ → Type 0
+  Rows station line told [] [] last points = (last ≡ told) × (points ≡ [])
+  Rows station line told [] (reply ∷ replies) last points = ⊥
+  Rows station line told (l ∷ ls) [] last points = ⊥
+  Rows station line told (l ∷ ls) (reply ∷ replies) last points =
+      (after : ℕ) × (here : List ℕ) × (rest : List ℕ) × Row station line told reply after here l
+      × Rows station (line + 1) after ls replies last rest × (points ≡ here ++ rest)
 
 -- where in the journal the entries of a station stand
-abbrev pub points_from : ℕ → ℕ → History → List ℕ
+abbrev pub points_from : {C : Type 0} → ℕ → ℕ → List (Entry C) → List ℕ
 points_from n station [] = []
 points_from n station (e ∷ es) = if e.station == station then n ∷ points_from (n + 1) station es else points_from (n + 1) station es
 
--- the lines and replies of a station, of which each edit that was answered `ok` is its entry, and it has no others
-abbrev pub Transcript : Opening → History → ℕ → List InputLine → List (List ℕ) → Type 0
-Transcript o h station lines replies = (last : ℕ) × Rows o h station 1 0 lines replies last (points_from 0 station h)
+-- The lines and replies of a station over a history that begins at this state: each call that was answered `ok` is its
+-- entry, and it has no others.
+abbrev pub Transcript : {S C D R Q X Y : Type 0} → Kind S C D R Q X Y → S → List (Entry C) → ℕ → List InputLine → List (List ℕ) → Type 0
+Transcript k o h station lines replies = (last : ℕ) × Rows k o h station 1 0 lines replies last (points_from 0 station h)
 
 -- the replies as they are sent: each ends with a line feed
 abbrev pub sent : List (List ℕ) → List ℕ

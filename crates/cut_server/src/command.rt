@@ -4,6 +4,11 @@ ghost use Rattle.cut_server.specs.Commands.{command_of, size_of, HasBounds};
 
 use line_words::{Words, number};
 
+/// The least and the most tracks, and the most reels, of a plain room.
+const LEAST_TRACKS: u32 = 1;
+const MOST_TRACKS: u32 = 16;
+const MOST_REELS: u32 = 999;
+
 /// What the program is asked for.
 #[derive(Clone, Copy, Debug, PartialEq, Eq)]
 pub(crate) enum Command {
@@ -35,7 +40,7 @@ pub(crate) fn command_in(words: &Words) -> Option<Command>
     if words.count() != 3 || words.word(0) != "run" {
         return None;
     }
-    let tracks = size(words.word(1), 1, 16)?;
-    let reels = size(words.word(2), 0, 999)?;
+    let tracks = size(words.word(1), LEAST_TRACKS, MOST_TRACKS)?;
+    let reels = size(words.word(2), 0, MOST_REELS)?;
     Some(Command::Run { tracks, reels })
 }

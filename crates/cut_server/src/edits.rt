@@ -1,101 +1,148 @@
-// An edit on a copy of its track, which counts no steps.
-ghost use Rattle.std.specs.Prelude.{◌≡◌, ◌+◌, ◌*◌, ◌<◌, ◌≤◌, ◌^◌, ◌∷◌, [], None, length, slice_set};
-ghost use Rattle.edit_apply.specs.Apply.{refuse_names_of, applied_on};
-ghost use Rattle.edit_apply.specs.Named.{AreNamed};
-ghost use Rattle.cut_server.specs.Tracks.{IsTrackOf, AreTracksOf};
-ghost use Rattle.cut_server.specs.Editing.{EditsTo, Attempts};
+// An edit on copies of the tracks that it names, which counts no steps.
+ghost use Rattle.std.specs.Prelude.{◌≡◌, ◌+◌, ◌*◌, ◌<◌, ◌≤◌, ◌^◌, [], All, None, IfOk, OnOk, length};
+ghost use Rattle.edit_insert.specs.Answers.{Answers};
+ghost use Rattle.edit_insert.specs.TrackSets.{has_track, tracks_in};
+ghost use Rattle.edit_apply.specs.Apply.{names_of, refuse_names_of, applied_on, picked, put_back};
+ghost use Rattle.cut_server.specs.Tracks.{AreTracksOf, AreKept};
+ghost use Rattle.cut_server.specs.Editing.{Tries};
 
-use composables::{Done, EditFault, Refusal, Track};
-use edit_apply::{Call, Editor, track_of};
+use composables::{Done, EditFault, Memory, Track};
+use edit_apply::{Call, Editor, NamedTracks, named_by};
 use std::alloc::Global;
 use std::marker::Brand;
 use std::sync::ledger::{Blank, Ledger};
 use step_count::Steps;
 
-/// What comes of an edit on a copy: the changed track with the answer, a refusal, or want of memory.
+/// What an edit leaves: the numbers of the tracks that it names, these tracks after it, and its answer.
 #[derive(Drop)]
-pub(crate) enum Attempt {
-    Changed(Track, Done),
-    Refused(Refusal),
-    Memory,
+pub(crate) struct Edited {
+    pub names: Vec<u32>,
+    pub parts: Vec<Track>,
+    pub done: Done,
 }
 
-fn edit_copy<L: Ledger>(
-    alloc: Global,
-    editor: &Editor,
-    track: &Track,
-    call: &Call,
-    steps: &mut Steps<L>,
-) -> Attempt
-    requires names { refuse_names_of editor.now.table call.now ≡ None }
-    requires named { AreNamed call.now (track.now ∷ []) }
-    requires is { IsTrackOf editor.now.table track.now.number track.now.next_item track.now }
-    requires numbers { track.now.next_item ≤ 2 ^ 31 }
-    ensures { EditsTo (applied_on editor.now.table (track.now ∷ []) call.now) editor.now.table track.now.number track.now.next_item result }
+fn has_track(tracks: u32, track: u32) -> bool
+    requires { track < 32 }
+    ensures { result ≡ has_track tracks track }
 {
-    let Ok(copy) = track.copy(alloc) else {
-        return Attempt::Memory;
-    };
-    let mut named = Vec::new(alloc);
-    match named.push(copy) {
-        Ok(()) => {}
-        Err(_) => return Attempt::Memory,
+    (tracks >> track) & 1 == 1
+}
+
+// The tracks of a set, in ascending order.
+fn tracks_of_set(alloc: Global, tracks: u32) -> Result<Vec<u32>, Memory>
+    ensures { IfOk result (λ names. names.items ≡ tracks_in tracks) }
+{
+    let mut names = Vec::new(alloc);
+    for track in 0..32 {
+        if has_track(tracks, track) {
+            names.push(track)?;
+        }
     }
-    match editor.apply(alloc, &mut named, call, steps) {
-        Ok(done) => match named.pop() {
-            Some(track) => Attempt::Changed(track, done),
-            None => Attempt::Memory,
-        },
-        Err(fault) => match fault {
-            EditFault::Refused(refusal) => Attempt::Refused(refusal),
-            EditFault::Memory => Attempt::Memory,
-        },
+    Ok(names)
+}
+
+// The tracks that a call names, in ascending order.
+fn named_tracks(alloc: Global, call: &Call) -> Result<Vec<u32>, Memory>
+    ensures { IfOk result (λ names. names.items ≡ names_of call.now) }
+{
+    match named_by(call) {
+        NamedTracks::One(track) => {
+            let mut names = Vec::new(alloc);
+            names.push(track)?;
+            Ok(names)
+        }
+        NamedTracks::Many { tracks, own: _ } => tracks_of_set(alloc, tracks),
     }
 }
 
-fn edit_from<L: Ledger>(
+// Copies of the tracks with these numbers.
+fn copies(alloc: Global, tracks: &[Track], names: &[u32]) -> Result<Vec<Track>, Memory>
+    requires { All (λ n. n < length tracks.now) names.now }
+    ensures { IfOk result (λ parts. parts.items ≡ picked tracks.now names.now) }
+{
+    let mut parts = Vec::new(alloc);
+    for name in names {
+        parts.push(tracks[*name as usize].copy(alloc)?)?;
+    }
+    Ok(parts)
+}
+
+fn apply_counted<L: Ledger>(
     blank: Blank,
     alloc: Global,
     editor: &Editor,
-    track: &Track,
+    parts: &mut Vec<Track>,
     call: &Call,
-) -> Attempt
+    most: u32,
+) -> Result<Done, EditFault>
     requires blank { (blank.name ≡ L.name) × (blank.parts ≡ L.parts) × (0 < blank.parts) }
     requires names { refuse_names_of editor.now.table call.now ≡ None }
-    requires named { AreNamed call.now (track.now ∷ []) }
-    requires is { IsTrackOf editor.now.table track.now.number track.now.next_item track.now }
-    requires numbers { track.now.next_item ≤ 2 ^ 31 }
-    ensures { EditsTo (applied_on editor.now.table (track.now ∷ []) call.now) editor.now.table track.now.number track.now.next_item result }
+    requires kept { AreKept editor.now.table most (names_of call.now) parts.old.items }
+    requires most { most ≤ 2 ^ 31 }
+    ensures answers { Answers (applied_on editor.now.table parts.old.items call.now) parts.old.items parts.new.items result }
+    ensures kept { AreKept editor.now.table (most + 2) (names_of call.now) parts.new.items }
 {
     let mut steps = Steps::<L>::new(blank);
-    edit_copy(alloc, editor, track, call, &mut steps)
+    editor.apply(alloc, parts, call, &mut steps)
 }
 
-/// What comes of an edit on a copy of the track that it names.
+// An edit of the tracks that it names, whose next item numbers are at most `most`.
+fn apply_named(
+    alloc: Global,
+    editor: &Editor,
+    parts: &mut Vec<Track>,
+    call: &Call,
+    most: u32,
+) -> Result<Done, EditFault>
+    requires names { refuse_names_of editor.now.table call.now ≡ None }
+    requires kept { AreKept editor.now.table most (names_of call.now) parts.old.items }
+    requires most { most ≤ 2 ^ 31 }
+    ensures answers { Answers (applied_on editor.now.table parts.old.items call.now) parts.old.items parts.new.items result }
+    ensures kept { AreKept editor.now.table (most + 2) (names_of call.now) parts.new.items }
+{
+    apply_counted::<Brand>(Blank::new(1), alloc, editor, parts, call, most)
+}
+
+/// What an edit leaves of copies of the tracks that it names.
 pub(crate) fn try_edit(
     alloc: Global,
     editor: &Editor,
     tracks: &[Track],
     call: &Call,
     most: u32,
-) -> Attempt
+) -> Result<Edited, EditFault>
     requires kinds { length tracks.now ≡ length editor.now.table.kinds }
     requires tracks { AreTracksOf editor.now.table 0 most tracks.now }
     requires most { most ≤ 2 ^ 31 }
-    ensures { Attempts editor.now.table tracks.now most call.now result }
+    ensures { Tries editor.now.table tracks.now most call.now result }
 {
     match editor.refuse_names(call) {
-        Some(refusal) => return Attempt::Refused(refusal),
+        Some(refusal) => return Err(EditFault::Refused(refusal)),
         None => {}
     }
-    let track = &tracks[track_of(call) as usize];
-    edit_from::<Brand>(Blank::new(1), alloc, editor, track, call)
+    let names = match named_tracks(alloc, call) {
+        Ok(names) => names,
+        Err(_) => return Err(EditFault::Memory),
+    };
+    let mut parts = match copies(alloc, tracks, &names) {
+        Ok(parts) => parts,
+        Err(_) => return Err(EditFault::Memory),
+    };
+    match apply_named(alloc, editor, &mut parts, call, most) {
+        Ok(done) => Ok(Edited { names, parts, done }),
+        Err(fault) => Err(fault),
+    }
 }
 
-/// Puts a track in place of another.
-pub(crate) fn put_track(tracks: &mut Vec<Track>, index: usize, track: Track)
-    requires { index < length tracks.old.items }
-    ensures { tracks.new.items ≡ slice_set tracks.old.items index track }
+/// Puts tracks in the places with these numbers.
+pub(crate) fn put_tracks(tracks: &mut Vec<Track>, names: &[u32], parts: Vec<Track>)
+    requires within { All (λ n. n < length tracks.old.items) names.now }
+    requires as_many { length parts.items ≡ length names.now }
+    ensures { tracks.new.items ≡ put_back tracks.old.items names.now parts.items }
 {
-    tracks[index] = track;
+    let mut at = 0;
+    for part in parts {
+        tracks[names[at] as usize] = part;
+        at += 1;
+    }
 }

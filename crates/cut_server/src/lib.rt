@@ -6,11 +6,13 @@
 
 mod command;
 mod edits;
+pub mod laws;
 mod main_call;
 mod opening;
 mod reply;
 mod serve;
 mod session;
+mod status;
 
 pub use main_call::cut_main;
 

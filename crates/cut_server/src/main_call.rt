@@ -1,69 +1,68 @@
 // The call that the program makes.
-ghost use Rattle.std.specs.Prelude.{◌≡◌, ◌⊎◌, ◌<◌, ◌≤◌, ℕ, None, Some, IfSome, codes};
-ghost use Rattle.room_ports.specs.Bytes.{Takes, TakesFront};
-ghost use Rattle.room_ports.specs.Counts.{HasRisen};
-ghost use Rattle.call_text.specs.Journals.{journal_text_of};
-ghost use Rattle.cut_server.specs.declared.command.Command.TheVariants.{Run};
-ghost use Rattle.cut_server.specs.Commands.{command_of};
+ghost use Rattle.std.specs.Prelude.{◌≡◌, ◌≤◌, None};
+ghost use Rattle.cut_server.specs.Commands.{command_of, most_reels};
 ghost use Rattle.cut_server.specs.Openings.{plain_opening};
-ghost use Rattle.cut_server.specs.Runs.{IsDone, IsCutShort, IsUnwritten, IsTooMuch, IsOutOfMemory, Tells, Replies};
+ghost use Rattle.cut_server.specs.Outside.{outside};
+ghost use Rattle.cut_server.specs.Rooms.{Opening};
+ghost use Rattle.cut_server.specs.Runs.{JournalEnds, RunEnds, RefusalEnds, CommandEnds, EndsWith};
 ghost use Rattle.cut_server.specs.Served.{IsFresh};
-ghost use Rattle.cut_server.specs.Transcript.{Opening};
-ghost use Rattle.line_words.specs.Lines.{lines_of};
 
 use crate::command::{Command, command_in};
 use crate::serve::{End, serve};
 use crate::session::Session;
+use crate::status::Status;
 use call_text::journal_text;
 use line_words::Words;
-use room_ports::{Sink, Source, put};
+use room_ports::{Line, Pair, Sink, Source, put};
 use std::alloc::Global;
 
 // Puts the journal's text behind the replies.
-fn put_journal<K: Sink>(alloc: Global, session: &Session, output: &mut K) -> u8
-    ensures written { result ≡ 0 → Takes (K.taken output.old) (K.taken output.new) (journal_text_of session.now.journal) }
-    ensures failed { result ≡ 2 → TakesFront (K.taken output.old) (K.taken output.new) (journal_text_of session.now.journal) }
-    ensures memory { result ≡ 6 → K.taken output.new ≡ K.taken output.old }
-    ensures statuses { (result ≡ 0) ⊎ (result ≡ 2) ⊎ (result ≡ 6) }
-    ensures cause { result ≡ 2 → HasRisen (K.write_faults output.old) (K.write_faults output.new) }
-    ensures count { K.write_faults output.old ≤ K.write_faults output.new }
+fn put_journal<L: Line>(alloc: Global, session: &Session, line: &mut L) -> Status
+    ensures ends { JournalEnds session.now.course.journal
+        (outside (L.left line.old) (L.read_faults line.old) (L.taken line.old) (L.write_faults line.old))
+        (outside (L.left line.new) (L.read_faults line.new) (L.taken line.new) (L.write_faults line.new)) result }
+    ensures lent { L.lent line.new ≡ L.lent line.old }
 {
     let text = match journal_text(alloc, session.journal()) {
         Ok(text) => text,
-        Err(_) => return 6,
+        Err(_) => return Status::OutOfMemory,
     };
-    match put(output, &text) {
-        Ok(()) => 0,
-        Err(_) => 2,
+    match put(line, &text) {
+        Ok(()) => Status::Done,
+        Err(_) => Status::WriteFault,
     }
 }
 
 // Serves the session of a room that has just been opened, and puts its journal's text behind the replies.
-fn run_session<S: Source, K: Sink>(
+fn run_session<L: Line>(alloc: Global, session: &mut Session, line: &mut L) -> Status
+    requires { session.old.course.line ≡ 1 }
+    ensures ends { (o : Opening) → IsFresh o session.old → RunEnds o
+        (outside (L.left line.old) (L.read_faults line.old) (L.taken line.old) (L.write_faults line.old))
+        (outside (L.left line.new) (L.read_faults line.new) (L.taken line.new) (L.write_faults line.new)) ⊥ result }
+    ensures lent { L.lent line.new ≡ L.lent line.old }
+{
+    match serve(session, line) {
+        End::Ended => put_journal(alloc, session, line),
+        End::ReadFault => Status::ReadFault,
+        End::WriteFault => Status::WriteFault,
+        End::TooMuchInput => Status::TooMuchInput,
+    }
+}
+
+// The same over an input and an output that are lent.
+fn run_over<S: Source, K: Sink>(
     alloc: Global,
     session: &mut Session,
     input: &mut S,
     output: &mut K,
-) -> u8
-    requires { session.old.line ≡ 1 }
-
-    ensures done { (o : Opening) → IsFresh o session.old → result ≡ 0 → IfSome (S.left input.old) (λ bytes. IsDone o bytes (K.taken output.old) (K.taken output.new)) }
-    ensures cut_short { (o : Opening) → IsFresh o session.old → result ≡ 1 → IfSome (S.left input.old) (λ bytes. IfSome (S.left input.new) (λ left.
-        IsCutShort o bytes left (K.taken output.old) (K.taken output.new))) }
-    ensures unwritten { (o : Opening) → IsFresh o session.old → result ≡ 2 → IfSome (S.left input.old) (λ bytes. IsUnwritten o bytes (K.taken output.old) (K.taken output.new)) }
-    ensures too_much { (o : Opening) → IsFresh o session.old → result ≡ 7 → IfSome (S.left input.old) (λ bytes. IsTooMuch o bytes (K.taken output.old) (K.taken output.new)) }
-    ensures memory { (o : Opening) → IsFresh o session.old → result ≡ 6 → IfSome (S.left input.old) (λ bytes. Tells o (lines_of bytes) (Replies (K.taken output.old) (K.taken output.new))) }
-
-    ensures statuses { (result ≡ 0) ⊎ (result ≡ 1) ⊎ (result ≡ 2) ⊎ (result ≡ 6) ⊎ (result ≡ 7) }
-    ensures read_cause { result ≡ 1 → HasRisen (S.read_faults input.old) (S.read_faults input.new) }
-    ensures write_cause { result ≡ 2 → HasRisen (K.write_faults output.old) (K.write_faults output.new) }
+) -> Status
+    requires { session.old.course.line ≡ 1 }
+    ensures { (o : Opening) → IsFresh o session.old → RunEnds o
+        (outside (S.left input.old) (S.read_faults input.old) (K.taken output.old) (K.write_faults output.old))
+        (outside (S.left input.new) (S.read_faults input.new) (K.taken output.new) (K.write_faults output.new)) ⊥ result }
 {
-    match serve(session, input, output) {
-        End::Ended => put_journal(alloc, session, output),
-        End::ReadFault => 1,
-        End::WriteFault => 2,
-        End::TooMuchInput => 7,
-    }
+    let mut line = Pair { input, output };
+    run_session(alloc, session, &mut line)
 }
 
 // A run of one station in a plain room.
@@ -73,25 +72,47 @@ fn run<S: Source, K: Sink>(
     reels: u32,
     input: &mut S,
     output: &mut K,
-) -> u8
-    requires { reels ≤ 999 }
-
-    ensures done { result ≡ 0 → IfSome (S.left input.old) (λ bytes. IsDone (plain_opening tracks reels) bytes (K.taken output.old) (K.taken output.new)) }
-    ensures cut_short { result ≡ 1 → IfSome (S.left input.old) (λ bytes. IfSome (S.left input.new) (λ left.
-        IsCutShort (plain_opening tracks reels) bytes left (K.taken output.old) (K.taken output.new))) }
-    ensures unwritten { result ≡ 2 → IfSome (S.left input.old) (λ bytes. IsUnwritten (plain_opening tracks reels) bytes (K.taken output.old) (K.taken output.new)) }
-    ensures too_much { result ≡ 7 → IfSome (S.left input.old) (λ bytes. IsTooMuch (plain_opening tracks reels) bytes (K.taken output.old) (K.taken output.new)) }
-    ensures memory { result ≡ 6 → IsOutOfMemory (plain_opening tracks reels) (S.left input.old) (S.left input.new) (K.taken output.old) (K.taken output.new) }
-
-    ensures statuses { (result ≡ 0) ⊎ (result ≡ 1) ⊎ (result ≡ 2) ⊎ (result ≡ 6) ⊎ (result ≡ 7) }
-    ensures read_cause { result ≡ 1 → HasRisen (S.read_faults input.old) (S.read_faults input.new) }
-    ensures write_cause { result ≡ 2 → HasRisen (K.write_faults output.old) (K.write_faults output.new) }
+) -> Status
+    requires { reels ≤ most_reels }
+    ensures { RunEnds (plain_opening tracks reels)
+        (outside (S.left input.old) (S.read_faults input.old) (K.taken output.old) (K.write_faults output.old))
+        (outside (S.left input.new) (S.read_faults input.new) (K.taken output.new) (K.write_faults output.new))
+        ((input.new ≡ input.old) × (output.new ≡ output.old)) result }
 {
     let mut session = match Session::plain(alloc, tracks, reels) {
         Ok(session) => session,
-        Err(_) => return 6,
+        Err(_) => return Status::OutOfMemory,
     };
-    run_session(alloc, &mut session, input, output)
+    run_over(alloc, &mut session, input, output)
+}
+
+// Refuses words that are no command.
+fn refuse<K: Sink>(output: &mut K) -> Status
+    ensures { RefusalEnds (outside None 0 (K.taken output.old) (K.write_faults output.old))
+        (outside None 0 (K.taken output.new) (K.write_faults output.new)) (Unit {0}) result }
+{
+    match put(output, b"refused words\n") {
+        Ok(()) => Status::NoCommand,
+        Err(_) => Status::WriteFault,
+    }
+}
+
+// Does what the words ask for.
+fn do_command<S: Source, K: Sink>(
+    alloc: Global,
+    words: &Words,
+    input: &mut S,
+    output: &mut K,
+) -> Status
+    ensures { CommandEnds (command_of words.now)
+        (outside (S.left input.old) (S.read_faults input.old) (K.taken output.old) (K.write_faults output.old))
+        (outside (S.left input.new) (S.read_faults input.new) (K.taken output.new) (K.write_faults output.new))
+        (input.new ≡ input.old) (output.new ≡ output.old) result }
+{
+    match command_in(words) {
+        Some(Command::Run { tracks, reels }) => run(alloc, tracks, reels, input, output),
+        None => refuse(output),
+    }
 }
 
 /// Does what the words ask for, over this input and output, and answers the status that the program ends with.
@@ -113,39 +134,13 @@ pub fn cut_main<S: Source, K: Sink>(
     input: &mut S,
     output: &mut K,
 ) -> u8
-    // The headline: the output is the replies and then the text of a journal that is one legal serial history, and each
-    // reply is what that history tells, to the lines of all bytes, however they came.
-    ensures done { (tracks reels : ℕ) → command_of words.now ≡ Some (Run tracks reels) → result ≡ 0 → IfSome (S.left input.old) (λ bytes.
-        IsDone (plain_opening tracks reels) bytes (K.taken output.old) (K.taken output.new)) }
-
-    // What stands on the output at each other status, and the history that it is told by.
-    ensures cut_short { (tracks reels : ℕ) → command_of words.now ≡ Some (Run tracks reels) → result ≡ 1 → IfSome (S.left input.old) (λ bytes. IfSome (S.left input.new) (λ left.
-        IsCutShort (plain_opening tracks reels) bytes left (K.taken output.old) (K.taken output.new))) }
-    ensures unwritten { (tracks reels : ℕ) → command_of words.now ≡ Some (Run tracks reels) → result ≡ 2 → IfSome (S.left input.old) (λ bytes.
-        IsUnwritten (plain_opening tracks reels) bytes (K.taken output.old) (K.taken output.new)) }
-    ensures too_much { (tracks reels : ℕ) → command_of words.now ≡ Some (Run tracks reels) → result ≡ 7 → IfSome (S.left input.old) (λ bytes.
-        IsTooMuch (plain_opening tracks reels) bytes (K.taken output.old) (K.taken output.new)) }
-    ensures memory { (tracks reels : ℕ) → command_of words.now ≡ Some (Run tracks reels) → result ≡ 6 →
-        IsOutOfMemory (plain_opening tracks reels) (S.left input.old) (S.left input.new) (K.taken output.old) (K.taken output.new) }
-
-    // Words that are no command are refused, and the input is not looked at.
-    ensures no_command { command_of words.now ≡ None → (result ≡ 3) ⊎ (result ≡ 2) }
-    ensures refused { result ≡ 3 → Takes (K.taken output.old) (K.taken output.new) (codes "refused words\n") }
-    ensures unrefused { command_of words.now ≡ None → result ≡ 2 → TakesFront (K.taken output.old) (K.taken output.new) (codes "refused words\n") }
-    ensures only_words { result ≡ 3 → command_of words.now ≡ None }
-    ensures untouched { command_of words.now ≡ None → input.new ≡ input.old }
-
-    ensures statuses { (result ≡ 0) ⊎ (result ≡ 1) ⊎ (result ≡ 2) ⊎ (result ≡ 3) ⊎ (result ≡ 6) ⊎ (result ≡ 7) }
-    ensures read_cause { result ≡ 1 → HasRisen (S.read_faults input.old) (S.read_faults input.new) }
-    ensures write_cause { result ≡ 2 → HasRisen (K.write_faults output.old) (K.write_faults output.new) }
+    // The headline: with 0 the output is the replies and then the text of a journal that is one legal serial history,
+    // and each reply is what that history tells, to the lines of all bytes, however they came. `CommandEnds` says for
+    // each command and each status what was read, what was written and which count of faults rose.
+    ensures { EndsWith result (CommandEnds (command_of words.now)
+        (outside (S.left input.old) (S.read_faults input.old) (K.taken output.old) (K.write_faults output.old))
+        (outside (S.left input.new) (S.read_faults input.new) (K.taken output.new) (K.write_faults output.new))
+        (input.new ≡ input.old) (output.new ≡ output.old)) }
 {
-    match command_in(words) {
-        Some(command) => match command {
-            Command::Run { tracks, reels } => run(alloc, tracks, reels, input, output),
-        },
-        None => match put(output, b"refused words\n") {
-            Ok(()) => 3,
-            Err(_) => 2,
-        },
-    }
+    do_command(alloc, words, input, output).number()
 }

@@ -1,16 +1,16 @@
-// A session over a source and a sink: each line of the input is answered, in order, until the input's end.
-ghost use Rattle.std.specs.Prelude.{◌≡◌, ◌⊎◌, ◌+◌, ◌<◌, ◌≤◌, ◌^◌, ◌++◌, [], ◌∷◌, ℕ, List, Some, IfSome, OnOk, OnErr, length, take};
-ghost use Rattle.room_ports.specs.Bytes.{Gives, Takes, TakesFront};
-ghost use Rattle.room_ports.specs.Counts.{HasRisen};
-ghost use Rattle.line_words.specs.Lines.{Line as InputLine, last_line, lines_of};
+// The session over a whole input: its lines, in whatever pieces they come, each with its reply.
+ghost use Rattle.std.specs.Prelude.{◌≡◌, ◌+◌, ◌<◌, ◌≤◌, ◌^◌, ◌∷◌, [], List, length, OnOk, OnErr};
+ghost use Rattle.line_words.specs.Lines.{Line as InputLine, last_line};
 ghost use Rattle.line_words.specs.Pieces.{ended, pending_after};
 ghost use Rattle.line_words.specs.Told.{line_told};
+ghost use Rattle.room_ports.specs.Counts.{HasRisen};
+ghost use Rattle.cut_server.specs.Outside.{outside, AreSent, LastIsCut};
 ghost use Rattle.cut_server.specs.Served.{ServesTo};
-ghost use Rattle.cut_server.specs.Serving.{ServesFront, ServesGot};
+ghost use Rattle.cut_server.specs.Serving.{StopsWithin, SessionEnds};
 
 use crate::session::Session;
 use line_words::{LineEnd, LineReader};
-use room_ports::{Failed, Sink, Source};
+use room_ports::{Failed, Line, Sink};
 
 /// How a session ended.
 #[derive(Clone, Copy, Debug, PartialEq, Eq)]
@@ -23,10 +23,10 @@ pub(crate) enum End {
 }
 
 /// The most bytes of one input.
-pub(crate) const MOST_INPUT: usize = 67_108_864;
+const MOST_INPUT: usize = 67_108_864;
 
-/// How many bytes are read at a time.
-const PIECE: usize = 8_192;
+/// The most bytes of one read.
+const MOST_READ: usize = 8_192;
 
 // Answers a line that has ended.
 fn answer_line<K: Sink>(
@@ -35,12 +35,17 @@ fn answer_line<K: Sink>(
     text: &[u8],
     output: &mut K,
 ) -> Result<(), Failed>
-    requires { session.old.line + 1 < 2 ^ 32 }
-    ensures line { session.new.line ≡ session.old.line + 1 }
-    ensures ok { OnOk result (ServesTo session.old session.new (line_told end text.now ∷ []) (Takes (K.taken output.old) (K.taken output.new))) }
-    ensures err { OnErr result (ServesTo session.old session.new (line_told end text.now ∷ []) (TakesFront (K.taken output.old) (K.taken output.new))) }
+    requires { session.old.course.line + 1 < 2 ^ 32 }
+
+    ensures ok { OnOk result (ServesTo session.old session.new (line_told end text.now ∷ [])
+        (AreSent (K.taken output.old) (K.taken output.new))) }
+    ensures err { OnErr result (ServesTo session.old session.new (line_told end text.now ∷ [])
+        (LastIsCut (K.taken output.old) (K.taken output.new))) }
+    ensures number { session.new.course.line ≡ session.old.course.line + 1 }
+
     ensures cause { OnErr result (HasRisen (K.write_faults output.old) (K.write_faults output.new)) }
-    ensures count { K.write_faults output.old ≤ K.write_faults output.new }
+    ensures quiet { OnOk result (K.write_faults output.new ≡ K.write_faults output.old) }
+    ensures apart { K.as_source output.new ≡ K.as_source output.old }
 {
     let reply = session.answer(end, text);
     session.next_line();
@@ -54,13 +59,18 @@ fn answer_piece<K: Sink>(
     piece: &[u8],
     output: &mut K,
 ) -> Result<(), Failed>
-    requires { session.old.line + length piece.now < 2 ^ 32 }
-    ensures line { session.new.line ≤ session.old.line + length piece.now }
+    requires { session.old.course.line + length piece.now < 2 ^ 32 }
+
+    ensures ok { OnOk result (ServesTo session.old session.new (ended reader.old.pending piece.now)
+        (AreSent (K.taken output.old) (K.taken output.new))) }
+    ensures err { OnErr result ((lines : List InputLine) × StopsWithin reader.old.pending piece.now lines
+        × ServesTo session.old session.new lines (LastIsCut (K.taken output.old) (K.taken output.new))) }
     ensures pending { OnOk result (reader.new.pending ≡ pending_after reader.old.pending piece.now) }
-    ensures ok { OnOk result (ServesTo session.old session.new (ended reader.old.pending piece.now) (Takes (K.taken output.old) (K.taken output.new))) }
-    ensures err { OnErr result (ServesFront session.old session.new (ended reader.old.pending piece.now) (TakesFront (K.taken output.old) (K.taken output.new))) }
+    ensures number { session.new.course.line ≤ session.old.course.line + length piece.now }
+
     ensures cause { OnErr result (HasRisen (K.write_faults output.old) (K.write_faults output.new)) }
-    ensures count { K.write_faults output.old ≤ K.write_faults output.new }
+    ensures quiet { OnOk result (K.write_faults output.new ≡ K.write_faults output.old) }
+    ensures apart { K.as_source output.new ≡ K.as_source output.old }
 {
     let mut at = 0;
     while at < piece.len() {
@@ -79,60 +89,53 @@ fn answer_piece<K: Sink>(
 }
 
 // Answers a last line without a line feed.
-fn finish<K: Sink>(reader: &mut LineReader, session: &mut Session, output: &mut K) -> End
-    requires { session.old.line + 1 < 2 ^ 32 }
-    ensures ended { result ≡ End.Ended → ServesTo session.old session.new (last_line reader.old.pending) (Takes (K.taken output.old) (K.taken output.new)) }
-    ensures front { result ≡ End.WriteFault → ServesTo session.old session.new (last_line reader.old.pending) (TakesFront (K.taken output.old) (K.taken output.new)) }
-    ensures ends { (result ≡ End.Ended) ⊎ (result ≡ End.WriteFault) }
-    ensures cause { result ≡ End.WriteFault → HasRisen (K.write_faults output.old) (K.write_faults output.new) }
-    ensures count { K.write_faults output.old ≤ K.write_faults output.new }
+fn finish<K: Sink>(
+    reader: &mut LineReader,
+    session: &mut Session,
+    output: &mut K,
+) -> Result<(), Failed>
+    requires { session.old.course.line + 1 < 2 ^ 32 }
+
+    ensures ok { OnOk result (ServesTo session.old session.new (last_line reader.old.pending)
+        (AreSent (K.taken output.old) (K.taken output.new))) }
+    ensures err { OnErr result ((line : InputLine) × (last_line reader.old.pending ≡ line ∷ [])
+        × ServesTo session.old session.new (line ∷ []) (LastIsCut (K.taken output.old) (K.taken output.new))) }
+
+    ensures cause { OnErr result (HasRisen (K.write_faults output.old) (K.write_faults output.new)) }
+    ensures quiet { OnOk result (K.write_faults output.new ≡ K.write_faults output.old) }
+    ensures apart { K.as_source output.new ≡ K.as_source output.old }
 {
     match reader.finish() {
-        Some(end) => match answer_line(session, end, reader.line(), output) {
-            Ok(()) => End::Ended,
-            Err(_) => End::WriteFault,
-        },
-        None => End::Ended,
+        Some(end) => answer_line(session, end, reader.line(), output),
+        None => Ok(()),
     }
 }
 
 /// Answers each line of an input, in order, until the input's end, a fault, or more than 64 MiB.
-pub(crate) fn serve<S: Source, K: Sink>(session: &mut Session, input: &mut S, output: &mut K) -> End
-    requires { session.old.line ≡ 1 }
-
-    // The lines are those of all bytes, however they came.
-    ensures ended { result ≡ End.Ended → IfSome (S.left input.old) (λ bytes. ServesTo session.old session.new (lines_of bytes) (Takes (K.taken output.old) (K.taken output.new))) }
-    ensures within { result ≡ End.Ended → IfSome (S.left input.old) (λ bytes. length bytes ≤ MOST_INPUT) }
-
-    // Up to and with the line whose reply failed.
-    ensures write_fault { result ≡ End.WriteFault → IfSome (S.left input.old) (λ bytes. ServesFront session.old session.new (lines_of bytes) (TakesFront (K.taken output.old) (K.taken output.new))) }
-    ensures write_cause { result ≡ End.WriteFault → HasRisen (K.write_faults output.old) (K.write_faults output.new) }
-
-    // The lines that ended among the bytes got.
-    ensures read_fault { result ≡ End.ReadFault → IfSome (S.left input.old) (λ bytes. ServesGot session.old session.new bytes (S.left input.new) (Takes (K.taken output.old) (K.taken output.new))) }
-    ensures read_cause { result ≡ End.ReadFault → HasRisen (S.read_faults input.old) (S.read_faults input.new) }
-
-    // The lines that ended among the first 64 MiB.
-    ensures too_much { result ≡ End.TooMuchInput → IfSome (S.left input.old) (λ bytes. ServesTo session.old session.new (ended (Some []) (take MOST_INPUT bytes)) (Takes (K.taken output.old) (K.taken output.new))) }
-    ensures over { result ≡ End.TooMuchInput → IfSome (S.left input.old) (λ bytes. MOST_INPUT < length bytes) }
-
-    ensures reads { S.read_faults input.old ≤ S.read_faults input.new }
-    ensures writes { K.write_faults output.old ≤ K.write_faults output.new }
+pub(crate) fn serve<L: Line>(session: &mut Session, line: &mut L) -> End
+    requires { session.old.course.line ≡ 1 }
+    ensures ends { SessionEnds (ServesTo session.old session.new)
+        (outside (L.left line.old) (L.read_faults line.old) (L.taken line.old) (L.write_faults line.old))
+        (outside (L.left line.new) (L.read_faults line.new) (L.taken line.new) (L.write_faults line.new)) result }
+    ensures lent { L.lent line.new ≡ L.lent line.old }
 {
     let mut reader = LineReader::new();
-    let mut buffer = [0; PIECE];
+    let mut buffer = [0; MOST_READ];
     let mut total = 0;
     while total <= MOST_INPUT {
-        let n = match input.read(&mut buffer) {
+        let n = match line.read(&mut buffer) {
             Ok(n) => n,
             Err(_) => return End::ReadFault,
         };
         if n == 0 {
-            return finish(&mut reader, session, output);
+            return match finish(&mut reader, session, line) {
+                Ok(()) => End::Ended,
+                Err(_) => End::WriteFault,
+            };
         }
         let fits = n.min(MOST_INPUT - total);
         let (piece, _) = buffer.split_at(fits);
-        match answer_piece(&mut reader, session, piece, output) {
+        match answer_piece(&mut reader, session, piece, line) {
             Ok(()) => {}
             Err(_) => return End::WriteFault,
         }

@@ -1,34 +1,29 @@
 // The session of one station: its room, and the answer to each of its lines.
-ghost use Rattle.std.specs.Prelude.{◌≡◌, ◌++◌, ℕ, IfOk, codes, decimal, length};
-ghost use Rattle.call_text.specs.Sights.{seen_of};
+ghost use Rattle.std.specs.Prelude.{◌≡◌, ◌++◌, ◌≤◌, ℕ, IfOk, codes, length};
+ghost use Rattle.call_text.specs.Sights.{sight_text_of};
 ghost use Rattle.edit_apply.specs.See.{seen_in};
 ghost use Rattle.edit_apply.specs.Sights.{Shows};
 ghost use Rattle.cut_server.specs.Tracks.{AreTracksOf};
 
-use crate::edits::{Attempt, put_track, try_edit};
+use crate::edits::{Edited, put_tracks, try_edit};
 use crate::opening::{empty_tracks, plain};
-use crate::reply::Reply;
-use call_text::{Entry, Line, LineFault, Short, fault_text, read_line, reply_text, seen_text};
-use composables::{Done, EditFault, Memory, Refusal, Track};
-use edit_apply::{Ask, AskRefusal, Call, Editor, Seen, SightFault, track_of};
+use crate::reply::{Reply, ended};
+use call_text::{
+    Answer, Entry, Line, LineFault, Short, Sight, answer_text, fault_text, point_text, read_line,
+    sight_text,
+};
+use composables::{EditFault, Memory, Track};
+use edit_apply::{Ask, Call, Editor, Seen, SightFault};
 use line_words::LineEnd;
 use std::alloc::Global;
 use std::marker::Model;
 use timecode12::{Counting, SequenceRate};
 
 /// The most entries of a journal.
-pub(crate) const MOST_ENTRIES: usize = 100_000;
+const MOST_ENTRIES: usize = 100_000;
 
-/// What an edit is answered.
-#[derive(Clone, Copy, Debug, PartialEq, Eq)]
-pub(crate) enum Answer {
-    Done(Done),
-    Refused(Refusal),
-    /// The edit would apply, and the journal has its most entries.
-    Full,
-    /// Want of memory; nothing has changed.
-    Memory,
-}
+/// The number of the only station.
+const STATION: u32 = 0;
 
 /// A room with one station. Contracts see its setting, its tracks, its journal and the number of the next line.
 #[derive(Drop)]
@@ -56,13 +51,14 @@ impl Model for Session {
 
 impl Session {
     ghost use Rattle.std.specs.Prelude.{◌≡◌, ◌+◌, ◌*◌, ◌<◌, ◌≤◌, ◌^◌, ◌++◌, [], List, ℕ, IfOk, Ok, codes, decimal, length};
-    ghost use Rattle.call_text.specs.declared.lines.Line.TheVariants.{Edit as EditLine, Ask as AskLine};
     ghost use Rattle.line_words.specs.Told.{line_told};
     ghost use Rattle.edit_apply.specs.See.{seen_in};
     ghost use Rattle.edit_apply.specs.Sights.{Shows};
-    ghost use Rattle.cut_server.specs.Transcript.{meaning_of};
-    ghost use Rattle.cut_server.specs.Session.{past_line, IsReply, Replies, Step};
+    ghost use Rattle.cut_server.specs.Transcript.{Do, See};
+    ghost use Rattle.cut_server.specs.Rooms.{meaning_of, wish_in};
+    ghost use Rattle.cut_server.specs.Session.{past_line, Replies, RepliesShort, Sees};
     ghost use Rattle.cut_server.specs.Editing.{Changes, Edits};
+    ghost use Rattle.call_text.specs.CallTexts.{IsWritten, NamesWritten};
     ghost use Rattle.cut_server.specs.Openings.{plain_opening};
     ghost use Rattle.cut_server.specs.Served.{IsFresh};
 
@@ -74,7 +70,7 @@ impl Session {
         let table = plain(alloc, tracks, reels)?;
         let tracks = empty_tracks(alloc, tracks)?;
         let Some(counting) = Counting::new(SequenceRate::F24, false) else {
-            return Err(Memory);
+            unreachable!()
         };
         Ok(Session {
             alloc,
@@ -89,7 +85,7 @@ impl Session {
 
     /// The entries of the journal.
     pub(crate) fn journal(&self) -> &[Entry<Call>]
-        ensures { result.now ≡ self.now.journal }
+        ensures { result.now ≡ self.now.course.journal }
     {
         &self.journal
     }
@@ -98,25 +94,27 @@ impl Session {
     fn edit(&mut self, call: Call) -> Answer
         ensures { Edits self.old self.new call result }
     {
-        let most = 2 * self.journal.len() as u32;
-        match try_edit(self.alloc, &self.editor, &self.tracks, &call, most) {
-            Attempt::Changed(track, done) => self.commit(call, track, done),
-            Attempt::Refused(refusal) => Answer::Refused(refusal),
-            Attempt::Memory => Answer::Memory,
+        let point = self.journal.len() as u32;
+        match try_edit(self.alloc, &self.editor, &self.tracks, &call, 2 * point) {
+            Ok(edited) => self.commit(call, edited),
+            Err(fault) => match fault {
+                EditFault::Refused(refusal) => Answer::Refused { point, refusal },
+                EditFault::Memory => Answer::Memory,
+            },
         }
     }
 
-    /// Puts an edit into the journal, and the track that it leaves into the room.
-    fn commit(&mut self, call: Call, track: Track, done: Done) -> Answer
-        requires { (n : ℕ) × Changes self.old.setting.table self.old.tracks (2 * length self.old.journal) call track done n }
+    /// Puts an edit into the journal, and the tracks that it leaves into the room.
+    fn commit(&mut self, call: Call, edited: Edited) -> Answer
+        requires { Changes self.old.setting.table self.old.course.state (2 * length self.old.course.journal) call edited }
         ensures { Edits self.old self.new call result }
     {
+        let point = self.journal.len() as u32;
         if self.journal.len() >= MOST_ENTRIES {
-            return Answer::Full;
+            return Answer::Full { point };
         }
-        let index = track_of(&call) as usize;
         let entry = Entry {
-            station: 0,
+            station: STATION,
             number: self.line,
             call,
         };
@@ -124,20 +122,22 @@ impl Session {
             Ok(()) => {}
             Err(_) => return Answer::Memory,
         }
-        put_track(&mut self.tracks, index, track);
-        Answer::Done(done)
+        let Edited { names, parts, done } = edited;
+        put_tracks(&mut self.tracks, &names, parts);
+        Answer::Done { point, done }
     }
 
     /// What a question is answered by the tracks as they are.
     fn see(&self, ask: &Ask) -> Result<Seen, SightFault>
-        ensures { Shows (seen_in self.now.setting.table self.now.tracks ask.now) result }
+        ensures { Shows (seen_in self.now.setting.table self.now.course.state ask.now) result }
     {
         see_track(self.alloc, &self.editor, &self.tracks, ask)
     }
 
     /// What a line of the input says.
     fn said(&self, end: LineEnd, text: &[u8]) -> Result<Line, LineFault>
-        ensures { result ≡ meaning_of self.now.setting (line_told end text.now) }
+        ensures meant { result ≡ meaning_of self.now.setting (line_told end text.now) }
+        ensures written { IfOk result (λ line. NamesWritten line) }
     {
         match end {
             LineEnd::Whole => read_line(self.alloc, text, &self.counting, self.start),
@@ -146,53 +146,58 @@ impl Session {
     }
 
     fn reply_to_edit(&mut self, call: Call) -> Short
-        ensures { Step self.old self.new result (Ok (EditLine call)) }
+        requires { IsWritten call }
+        ensures replies { RepliesShort self.old self.new (Do call) result }
+        ensures short { length result ≤ 128 }
+    {
+        let answer = self.edit(call);
+        answer_text(&answer)
+    }
+
+    /// What a question is answered, with the journal's length.
+    fn sight(&self, ask: &Ask) -> Sight
+        ensures { Sees self.now ask.now result }
     {
         let point = self.journal.len() as u32;
-        match self.edit(call) {
-            Answer::Done(done) => reply_text(point, &Ok(done)),
-            Answer::Refused(refusal) => reply_text(point, &Err(EditFault::Refused(refusal))),
-            Answer::Full => full_text(),
-            Answer::Memory => reply_text(point, &Err(EditFault::Memory)),
+        match self.see(ask) {
+            Ok(seen) => Sight::Seen { point, seen },
+            Err(fault) => match fault {
+                SightFault::Refused(refusal) => Sight::Refused { point, refusal },
+                SightFault::Memory => Sight::Memory,
+            },
         }
     }
 
     fn reply_to_ask(&self, ask: &Ask) -> Reply
-        ensures { Replies self.now self.now (Ok (AskLine ask.now)) result }
+        ensures { Replies self.now self.now (See ask.now) result }
     {
-        let point = self.journal.len() as u32;
-        let answer = match self.see(ask) {
-            Ok(seen) => Ok(seen),
-            Err(fault) => match fault {
-                SightFault::Refused(refusal) => Err(refusal),
-                SightFault::Memory => return Reply::Short(memory_text()),
-            },
-        };
-        match sight_line(self.alloc, point, &answer) {
+        let sight = self.sight(ask);
+        match sight_line(self.alloc, &sight) {
             Ok(text) => Reply::Text(text),
-            Err(_) => Reply::Short(memory_text()),
+            Err(_) => Reply::Short(ended(answer_text(&Answer::Memory))),
         }
     }
 
     /// The next line has the next number.
     pub(crate) fn next_line(&mut self)
-        requires { self.old.line + 1 < 2 ^ 32 }
-        ensures { self.new ≡ past_line self.old }
+        requires { self.old.course.line + 1 < 2 ^ 32 }
+        ensures setting { self.new.setting ≡ self.old.setting }
+        ensures course { self.new.course ≡ past_line self.old.course }
     {
         self.line += 1;
     }
 
     /// Answers a line, and commits it where it is an edit that applies.
     pub(crate) fn answer(&mut self, end: LineEnd, text: &[u8]) -> Reply
-        ensures { Replies self.old self.new (meaning_of self.old.setting (line_told end text.now)) result }
+        ensures { Replies self.old self.new (wish_in (meaning_of self.old.setting (line_told end text.now))) result }
     {
         match self.said(end, text) {
             Ok(line) => match line {
-                Line::Edit(call) => Reply::Short(self.reply_to_edit(call)),
+                Line::Edit(call) => Reply::Short(ended(self.reply_to_edit(call))),
                 Line::Ask(ask) => self.reply_to_ask(&ask),
-                Line::Point => Reply::Short(point_text(self.journal.len() as u32)),
+                Line::Point => Reply::Short(ended(point_text(self.journal.len() as u32))),
             },
-            Err(fault) => Reply::Short(fault_text(&fault)),
+            Err(fault) => Reply::Short(ended(fault_text(&fault))),
         }
     }
 }
@@ -215,38 +220,10 @@ fn see_track(
 }
 
 // The reply to a question, with its line feed.
-fn sight_line(
-    alloc: Global,
-    point: u32,
-    answer: &Result<Seen, AskRefusal>,
-) -> Result<Vec<u8>, Memory>
-    ensures { IfOk result (λ text. text.items ≡ seen_of point answer.now ++ codes "\n") }
+fn sight_line(alloc: Global, sight: &Sight) -> Result<Vec<u8>, Memory>
+    ensures { IfOk result (λ text. text.items ≡ sight_text_of sight.now ++ codes "\n") }
 {
-    let mut text = seen_text(alloc, point, answer)?;
+    let mut text = sight_text(alloc, sight)?;
     text.push(b'\n')?;
     Ok(text)
-}
-
-fn memory_text() -> Short
-    ensures { result ≡ codes "memory" }
-{
-    fault_text(&LineFault::Memory)
-}
-
-// The reply to an edit that would apply where the journal has its most entries.
-fn full_text() -> Short
-    ensures { result ≡ codes "no 100000 E15" }
-{
-    let mut text = Short::new();
-    text.push(b"no 100000 E15");
-    text
-}
-
-fn point_text(point: u32) -> Short
-    ensures { result ≡ codes "point " ++ decimal point }
-{
-    let mut text = Short::new();
-    text.push(b"point ");
-    text.push_number(point);
-    text
 }

@@ -1,3 +1,4 @@
+mod BeginLaws
 pub mod DigitLaws
 pub mod PieceLaws
 pub mod WordLaws

@@ -23,7 +23,7 @@ impl Model for Words {
 }
 
 impl Words {
-    /// No words yet. It takes no memory.
+    /// No words yet.
     pub fn new(alloc: Global) -> Self
         ensures { result ≡ [] }
     {

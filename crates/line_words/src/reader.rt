@@ -44,7 +44,7 @@ impl LineReader {
 
     /// Takes the bytes of a piece up to and with its first line feed, or all of them.
     ///
-    /// `line` tells how the line ended that the line feed ends. The bytes that were not taken stand at the next line.
+    /// `line` tells how the line ended that the line feed ends. The bytes that were not taken are to be fed next.
     pub fn feed(&mut self, piece: &[u8]) -> Fed
         ensures taken { MatchOption (position is_lf piece.now) (result.taken ≡ length piece.now) (λ at. result.taken ≡ at + 1) }
         ensures within { result.taken ≤ length piece.now }

@@ -206,9 +206,11 @@ fn words_are_parted_by_spaces_and_tabs(rt: HostRuntime) {
     for (from, expected) in [
         (0, Some((2, 4))),
         (2, Some((2, 4))),
-        (3, Some((3, 4))),
+        (3, Some((7, 10))),
         (4, Some((7, 10))),
-        (9, Some((9, 10))),
+        (7, Some((7, 10))),
+        (8, None),
+        (9, None),
         (10, None),
         (11, None),
         (99, None),
@@ -218,6 +220,8 @@ fn words_are_parted_by_spaces_and_tabs(rt: HostRuntime) {
     assert_eq!(rt; next_word(b"", 0), None);
     assert_eq!(rt; next_word(b" \t ", 0), None);
     assert_eq!(rt; next_word(b"end", 0), Some((0, 3)));
+    assert_eq!(rt; next_word(b"end", 1), None);
+    assert_eq!(rt; next_word(b"a b", 1), Some((2, 3)));
 }
 
 #[test]

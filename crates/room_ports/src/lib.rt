@@ -1,12 +1,14 @@
 //! The outside of the cutting room: sources and sinks of bytes, as two traits, with objects over memory and
 //! adapters over the readers and writers of std. A read gives the next bytes and a write takes a front of its
 //! piece, where the object tells its bytes; a call answers `Failed` only where the object's count of faults
-//! rose, and `put` writes a whole piece or leaves a front of it behind.
+//! rose, and leaves the count as it was where it does not; `put` writes a whole piece or leaves a front of it
+//! behind. A `Line` is both in one: a read takes nothing of what is written to it, nor a write of what is left.
 #![tactic(auto)]
 
 mod calls;
 mod failed;
 pub mod laws;
+mod line;
 mod pieces;
 mod ports;
 mod sink;
@@ -16,7 +18,8 @@ mod standard;
 mod tests;
 
 pub use failed::{Failed, Memory};
-pub use ports::{Sink, Source, put};
+pub use line::{MemLine, Pair};
+pub use ports::{Line, Sink, Source, put};
 pub use sink::{MemSink, SureSink};
 pub use source::{MemSource, SureSource};
 pub use standard::{StdSink, StdSource};

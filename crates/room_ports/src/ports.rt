@@ -1,7 +1,8 @@
-// A source and a sink of bytes. What they hold is told by some and not by others.
+// A source and a sink of bytes, and a line, which is both. What they hold is told by some and not by others.
 ghost use Rattle.std.specs.Prelude.{◌≡◌, ◌<◌, ◌≤◌, ◌↔◌, List, ℕ, [], length, take, Option, IfSome, IfOk, OnOk, OnErr};
 ghost use Rattle.room_ports.specs.Bytes.{Gives, Takes, TakesFront};
 ghost use Rattle.room_ports.specs.Counts.{HasRisen};
+ghost use Rattle.room_ports.specs.Sides.{Lent, SourceSide, SinkSide};
 
 use crate::Failed;
 
@@ -13,6 +14,9 @@ pub trait Source {
     /// How often a read has failed.
     ghost read_faults: { Self → ℕ };
 
+    /// What it has taken as a sink, where it is one too.
+    ghost as_sink: { Self → SinkSide };
+
     /// Reads the next bytes into the head of `into` and answers how many; 0 is the end where there was room.
     fn read(&mut self, into: &mut [u8]) -> Result<usize, Failed>
         ensures within { IfOk result (λ n. n ≤ length into.old) }
@@ -23,7 +27,11 @@ pub trait Source {
         // A read that fails uses up no bytes.
         ensures err { OnErr result (left self.new ≡ left self.old) }
         ensures cause { OnErr result (HasRisen (read_faults self.old) (read_faults self.new)) }
-        ensures count { read_faults self.old ≤ read_faults self.new };
+        ensures quiet { OnOk result (read_faults self.new ≡ read_faults self.old) }
+        ensures count { read_faults self.old ≤ read_faults self.new }
+
+        // A read takes nothing.
+        ensures apart { as_sink self.new ≡ as_sink self.old };
 }
 
 /// Bytes that go outside.
@@ -34,6 +42,9 @@ pub trait Sink {
     /// How often a write has failed.
     ghost write_faults: { Self → ℕ };
 
+    /// What is left of it as a source, where it is one too.
+    ghost as_source: { Self → SourceSide };
+
     /// Takes a front of the piece and answers how many bytes; at least one of a piece that is not empty.
     fn write(&mut self, piece: &[u8]) -> Result<usize, Failed>
         ensures within { IfOk result (λ n. n ≤ length piece.now) }
@@ -41,7 +52,23 @@ pub trait Sink {
         ensures ok { IfOk result (λ n. Takes (taken self.old) (taken self.new) (take n piece.now)) }
         ensures err { OnErr result (TakesFront (taken self.old) (taken self.new) piece.now) }
         ensures cause { OnErr result (HasRisen (write_faults self.old) (write_faults self.new)) }
-        ensures count { write_faults self.old ≤ write_faults self.new };
+        ensures quiet { OnOk result (write_faults self.new ≡ write_faults self.old) }
+        ensures count { write_faults self.old ≤ write_faults self.new }
+
+        // A write reads nothing.
+        ensures apart { as_source self.new ≡ as_source self.old };
+}
+
+/// A source and a sink in one, as a connection: what is read of it and what is written to it stay apart.
+pub trait Line: Source + Sink {
+    /// What it stands over, where that is lent.
+    ghost lent: { Self → Lent };
+
+    ghost source_side: { (line : Self) → Self.as_source line
+        ≡ record { left = Self.left line; faults = Self.read_faults line; lent = lent line } };
+
+    ghost sink_side: { (line : Self) → Self.as_sink line
+        ≡ record { taken = Self.taken line; faults = Self.write_faults line; lent = lent line } };
 }
 
 /// Writes all bytes. After `Failed` the sink has taken a front of them.
@@ -49,7 +76,12 @@ pub fn put<K: Sink>(sink: &mut K, bytes: &[u8]) -> Result<(), Failed>
     ensures ok { OnOk result (Takes (K.taken sink.old) (K.taken sink.new) bytes.now) }
     ensures err { OnErr result (TakesFront (K.taken sink.old) (K.taken sink.new) bytes.now) }
     ensures cause { OnErr result (HasRisen (K.write_faults sink.old) (K.write_faults sink.new)) }
+    ensures quiet { OnOk result (K.write_faults sink.new ≡ K.write_faults sink.old) }
     ensures count { K.write_faults sink.old ≤ K.write_faults sink.new }
+    ensures apart { K.as_source sink.new ≡ K.as_source sink.old }
+
+    // No bytes are no write.
+    ensures none { bytes.now ≡ [] → sink.new ≡ sink.old }
 {
     let mut done = 0;
     while done < bytes.len() {

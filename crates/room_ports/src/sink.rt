@@ -4,6 +4,7 @@ ghost use Rattle.std.specs.Option.{option_copied, option_map};
 ghost use Rattle.room_ports.specs.Bytes.{Takes};
 ghost use Rattle.room_ports.specs.Calls.{no_calls, FailsNext, passed, failed};
 ghost use Rattle.room_ports.specs.Counts.{HasRisen};
+ghost use Rattle.room_ports.specs.Sides.{no_source};
 ghost use Rattle.room_ports.specs.States.{kept};
 
 use crate::calls::FailingCalls;
@@ -54,6 +55,8 @@ impl Sink for MemSink {
     ghost taken = { λ s. s.bytes };
 
     ghost write_faults = { λ s. s.calls.faults };
+
+    ghost as_source = { λ _. no_source };
 
     /// Fails exactly where the number of the call is listed, and takes else the whole piece. Where its memory is
     /// refused the sink tells nothing from then on.
@@ -124,6 +127,8 @@ impl Sink for SureSink {
     ghost taken = { λ s. s.bytes };
 
     ghost write_faults = { λ _. 0 };
+
+    ghost as_source = { λ _. no_source };
 
     /// Takes the whole piece. Once its bytes are more than it has room for the sink tells nothing from then on.
     fn write(&mut self, piece: &[u8]) -> Result<usize, Failed>

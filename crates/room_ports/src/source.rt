@@ -4,6 +4,7 @@ ghost use Rattle.room_ports.specs.Bytes.{Gives};
 ghost use Rattle.room_ports.specs.Calls.{no_calls, FailsNext, passed, failed};
 ghost use Rattle.room_ports.specs.Counts.{HasRisen};
 ghost use Rattle.room_ports.specs.Pieces.{Reads, contents_of, joined};
+ghost use Rattle.room_ports.specs.Sides.{no_sink};
 
 use crate::calls::FailingCalls;
 use crate::pieces::PieceReader;
@@ -44,6 +45,8 @@ impl Source for MemSource {
     ghost left = { λ s. Some (joined s.pieces) };
 
     ghost read_faults = { λ s. s.calls.faults };
+
+    ghost as_sink = { λ _. no_sink };
 
     /// Fails exactly where the number of the call is listed, and gives else the rest of the next piece that is not
     /// empty, or as much of it as `into` has room for.
@@ -97,6 +100,8 @@ impl Source for SureSource {
     ghost left = { λ pieces. Some (joined pieces) };
 
     ghost read_faults = { λ _. 0 };
+
+    ghost as_sink = { λ _. no_sink };
 
     /// Gives the rest of the next piece that is not empty, or as much of it as `into` has room for.
     fn read(&mut self, into: &mut [u8]) -> Result<usize, Failed>

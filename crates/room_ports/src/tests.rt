@@ -1,6 +1,10 @@
 // What each object answers, call by call.
+ghost use Rattle.std.specs.Prelude.{◌≡◌, ◌≤◌, IfOk, OnOk, OnErr, length, take};
+ghost use Rattle.room_ports.specs.Bytes.{Gives, Takes, TakesFront};
+
 use crate::{
-    Failed, MemSink, MemSource, Memory, Sink, Source, StdSink, StdSource, SureSink, SureSource, put,
+    Failed, Line, MemLine, MemSink, MemSource, Memory, Pair, Sink, Source, StdSink, StdSource,
+    SureSink, SureSource, put,
 };
 use std::alloc::{AllocError, Global};
 use std::io::{self, Read, Write};
@@ -163,20 +167,21 @@ impl Read for BrokenReader {
     }
 }
 
-// A writer that takes at most so many bytes a write, and fails after so many writes.
+// A writer that takes at most so many bytes a write, and fails once, at the write of that number from 1.
 #[derive(Drop)]
 struct SlowWriter {
     most: usize,
-    writes_left: u32,
+    failing: u32,
+    writes: u32,
     bytes: Vec<u8>,
 }
 
 impl Write for SlowWriter {
     fn write(&mut self, bytes: &[u8]) -> io::Result<usize> {
-        if self.writes_left == 0 {
+        self.writes = self.writes.saturating_add(1);
+        if self.writes == self.failing {
             return Err(io::Error::from(io::ErrorKind::BrokenPipe));
         }
-        self.writes_left -= 1;
         let n = bytes.len().min(self.most);
         self.bytes.extend_from_slice(&bytes[..n])?;
         Ok(n)
@@ -188,44 +193,83 @@ impl Write for SlowWriter {
 }
 
 #[test]
-fn a_standard_source_gives_what_its_reader_gives(rt: HostRuntime) -> Result<(), AllocError> {
+fn a_standard_source_reads_once_a_call(rt: HostRuntime) -> Result<(), AllocError> {
     let alloc = rt.alloc();
-    let mut bytes = StdSource::new("hello".as_bytes());
-    let given = read_log(alloc, &mut bytes, 2, 4)?;
+    let given = read_log(alloc, &mut StdSource::new("hello".as_bytes()), 2, 4)?;
     assert_eq!(rt; given.as_str(), "he/ll/o//");
-    let mut broken = StdSource::new(BrokenReader { reads: 0 });
-    let given = read_log(alloc, &mut broken, 4, 3)?;
+    let mut broken = BrokenReader { reads: 0 };
+    let given = read_log(alloc, &mut StdSource::new(&mut broken), 4, 3)?;
     assert_eq!(rt; given.as_str(), "ab/!ab/");
+    assert_eq!(rt; broken.reads, 3);
+    Ok(())
+}
+
+#[test]
+fn a_standard_sink_writes_once_a_call(rt: HostRuntime) -> Result<(), AllocError> {
+    let alloc = rt.alloc();
+    // bytes a write, the failing write, pieces, what the writes answer, how many writes, what the writer has then
+    let cases: [(usize, u32, &str, &str, u32, &str); 4] = [
+        (9, 0, "abc//d", "301", 3, "abcd"),
+        (9, 2, "abc/de/f", "3!1", 3, "abcf"),
+        (2, 0, "abc/de", "22", 2, "abde"),
+        (0, 0, "abc//d", "!0!", 3, ""),
+    ];
+    for (most, failing, pieces, log, writes, bytes) in cases {
+        let mut writer = SlowWriter {
+            most,
+            failing,
+            writes: 0,
+            bytes: Vec::new(alloc),
+        };
+        let pieces = pieces_of(alloc, pieces)?;
+        let answers = write_log(alloc, &mut StdSink::new(&mut writer), &pieces)?;
+        assert_eq!(rt;
+            answers.as_str(),
+            log,
+            "{most} bytes a write, {failing} fails"
+        );
+        assert_eq!(rt;
+            writer.writes,
+            writes,
+            "{most} bytes a write, {failing} fails"
+        );
+        assert!(rt;
+            writer.bytes.as_slice() == bytes.as_bytes(),
+            "{most} bytes a write, {failing} fails"
+        );
+    }
     Ok(())
 }
 
 #[test]
 fn put_writes_all_or_a_front(rt: HostRuntime) -> Result<(), AllocError> {
     let alloc = rt.alloc();
-    // bytes a write, writes before the writer fails, whether all were put, what the writer has then
-    let cases: [(usize, u32, bool, &str); 6] = [
-        (9, 9, true, "abcdefgh"),
-        (8, 1, true, "abcdefgh"),
-        (3, 3, true, "abcdefgh"),
-        (3, 2, false, "abcdef"),
-        (3, 0, false, ""),
-        (0, 9, false, ""),
+    // bytes a write, the failing write, whether all were put, how many writes, what the writer has then
+    let cases: [(usize, u32, bool, u32, &str); 6] = [
+        (9, 0, true, 1, "abcdefgh"),
+        (8, 2, true, 1, "abcdefgh"),
+        (3, 4, true, 3, "abcdefgh"),
+        (3, 3, false, 3, "abcdef"),
+        (3, 1, false, 1, ""),
+        (0, 0, false, 1, ""),
     ];
-    for (most, writes_left, all, bytes) in cases {
+    for (most, failing, all, writes, bytes) in cases {
         let mut writer = SlowWriter {
             most,
-            writes_left,
+            failing,
+            writes: 0,
             bytes: Vec::new(alloc),
         };
         let done = put(&mut StdSink::new(&mut writer), "abcdefgh".as_bytes());
+        assert_eq!(rt; done.is_ok(), all, "{most} bytes a write, {failing} fails");
         assert_eq!(rt;
-            done.is_ok(),
-            all,
-            "{most} bytes a write, {writes_left} writes"
+            writer.writes,
+            writes,
+            "{most} bytes a write, {failing} fails"
         );
         assert!(rt;
             writer.bytes.as_slice() == bytes.as_bytes(),
-            "{most} bytes a write, {writes_left} writes"
+            "{most} bytes a write, {failing} fails"
         );
     }
     Ok(())
@@ -256,16 +300,55 @@ fn put_reaches_every_sink(rt: HostRuntime) -> Result<(), Memory> {
     Ok(())
 }
 
+// Reads once from a line and writes back what came.
+fn echo<L: Line>(line: &mut L, buffer: &mut [u8]) -> Result<usize, Failed>
+    ensures within { IfOk result (λ n. n ≤ length buffer.new) }
+    ensures given { IfOk result (λ n. Gives (L.left line.old) (L.left line.new) (take n buffer.new)) }
+    ensures taken { IfOk result (λ n. Takes (L.taken line.old) (L.taken line.new) (take n buffer.new)) }
+    ensures reads { OnOk result (L.read_faults line.new ≡ L.read_faults line.old) }
+    ensures writes { OnOk result (L.write_faults line.new ≡ L.write_faults line.old) }
+    ensures front { OnErr result (TakesFront (L.taken line.old) (L.taken line.new) buffer.new) }
+    ensures lent { L.lent line.new ≡ L.lent line.old }
+{
+    let n = line.read(buffer)?;
+    put(line, &buffer[..n])?;
+    Ok(n)
+}
+
+// The same from a source to a sink.
+fn pass_on<S: Source, K: Sink>(
+    input: &mut S,
+    output: &mut K,
+    buffer: &mut [u8],
+) -> Result<usize, Failed>
+    ensures given { IfOk result (λ n. Gives (S.left input.old) (S.left input.new) (take n buffer.new)) }
+    ensures taken { IfOk result (λ n. Takes (K.taken output.old) (K.taken output.new) (take n buffer.new)) }
+    ensures reads { OnOk result (S.read_faults input.new ≡ S.read_faults input.old) }
+    ensures writes { OnOk result (K.write_faults output.new ≡ K.write_faults output.old) }
+{
+    let mut line = Pair { input, output };
+    echo(&mut line, buffer)
+}
+
 #[test]
-fn a_write_that_takes_nothing_is_a_fault(rt: HostRuntime) -> Result<(), AllocError> {
+fn a_line_gives_and_takes_apart(rt: HostRuntime) -> Result<(), AllocError> {
     let alloc = rt.alloc();
-    let mut writer = SlowWriter {
-        most: 0,
-        writes_left: 9,
-        bytes: Vec::new(alloc),
+    let mut failing = Vec::new(alloc);
+    failing.push(2)?;
+    let mut line = MemLine {
+        input: MemSource::new(pieces_of(alloc, "abc/de/f")?, failing),
+        output: MemSink::new(alloc, Vec::new(alloc)),
     };
-    let mut sink = StdSink::new(&mut writer);
-    let answers = write_log(alloc, &mut sink, &pieces_of(alloc, "abc//d")?)?;
-    assert_eq!(rt; answers.as_str(), "!0!");
+    let mut buffer = [0u8; 4];
+    assert!(rt; echo(&mut line, &mut buffer) == Ok(3));
+    assert!(rt; echo(&mut line, &mut buffer) == Err(Failed));
+    assert!(rt; line.output.bytes() == Some("abc".as_bytes()));
+    assert!(rt; echo(&mut line, &mut buffer) == Ok(2));
+    assert!(rt; line.output.bytes() == Some("abcde".as_bytes()));
+
+    let mut output = StdSink::new(Vec::new(alloc));
+    assert!(rt; pass_on(&mut line.input, &mut output, &mut buffer) == Ok(1));
+    assert!(rt; pass_on(&mut line.input, &mut line.output, &mut buffer) == Ok(0));
+    assert!(rt; line.output.bytes() == Some("abcde".as_bytes()));
     Ok(())
 }

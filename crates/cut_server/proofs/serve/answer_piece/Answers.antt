@@ -1,19 +1,19 @@
 use Rattle.std.proofs.Common.{◌≡◌, ◌+◌, ◌++◌, ◌∷◌, [], List, drop, take, Some, refl, sym, ap, ◌∙◌, arith, append_assoc}
-use Rattle.room_ports.specs.Bytes.{Takes, TakesFront}
 use Rattle.line_words.specs.Lines.{Line as InputLine}
 use Rattle.line_words.specs.Pieces.{ended, pending_after}
 use Rattle.line_words.specs.Told.{line_told}
 use Rattle.line_words.proofs.PieceLaws.{ended_fed, pending_after_fed}
-use Rattle.cut_server.proofs.Serves.{serves_none, serves_more, serves_front, one_told}
+use Rattle.cut_server.proofs.Serves.{serves_none, serves_more, serves_cut, one_told}
 use Rattle.cut_server.proofs.serve.answer_piece.Goals as goal
 
 pub loop-at-init : goal.loop-at-init
 loop-at-init g c = record {
   within = omega arith;
-  line = omega arith;
+  number = omega arith;
   pending = refl;
   served = ([], refl, serves_none c.args.session.now (g.K.Sink.taken c.args.output.now));
-  count = omega arith;
+  quiet = refl;
+  apart = refl;
 }
 
 pub loop-at-preserved-in-Ok : goal.loop-at-preserved-in-Ok
@@ -31,14 +31,15 @@ loop-at-preserved-in-Ok g c =
     let done = inv.served.0 in
     record {
       within = omega (arith, c.feed-fed.ensures.within, c.split_at.ensures.back_len);
-      line = omega (arith, inv.line, c.answer_line.ensures.line, some);
+      number = omega (arith, inv.number, c.answer_line.ensures.number, some);
       pending = inv.pending ∙ pending_after_fed c.loop-at.reader.pending q p c.loop-at.at n pend;
       served = (
         done ++ l ∷ [],
         inv.served.1 ∙ (ap (λ (zs : List InputLine). done ++ zs) (ended_fed c.loop-at.reader.pending q (l ∷ []) p c.loop-at.at n told pend) ∙ sym (append_assoc done (l ∷ []) _)),
         serves_more c.args.session.now c.loop-at.session c.answer_line.new.session done (l ∷ []) (g.K.Sink.taken c.args.output.now) (g.K.Sink.taken c.loop-at.output) (g.K.Sink.taken c.answer_line.new.output) inv.served.2 c.in-Ok.ensures.ok,
       );
-      count = omega (arith, inv.count, c.answer_line.ensures.count);
+      quiet = c.in-Ok.ensures.quiet ∙ inv.quiet;
+      apart = c.answer_line.ensures.apart ∙ inv.apart;
     }
 
 pub returns-in-Err-clause-err : goal.returns-in-Err-clause-err
@@ -54,7 +55,12 @@ returns-in-Err-clause-err g c =
     let pend : q ≡ pending_after c.loop-at.reader.pending (take n (drop c.loop-at.at p)) = rw back at c.feed-fed.ensures.pending in
     let done = inv.served.0 in (
       done ++ l ∷ [],
-      ended q (drop (c.loop-at.at + n) p),
-      inv.served.1 ∙ (ap (λ (zs : List InputLine). done ++ zs) (ended_fed c.loop-at.reader.pending q (l ∷ []) p c.loop-at.at n told pend) ∙ sym (append_assoc done (l ∷ []) _)),
-      serves_front c.args.session.now c.loop-at.session c.answer_line.new.session done (l ∷ []) (g.K.Sink.taken c.args.output.now) (g.K.Sink.taken c.loop-at.output) (g.K.Sink.taken c.answer_line.new.output) inv.served.2 c.in-Err.ensures.err,
+      record {
+        before = done;
+        stopped_at = l;
+        behind = ended q (drop (c.loop-at.at + n) p);
+        lines_are = refl;
+        ended_are = inv.served.1 ∙ ap (λ (zs : List InputLine). done ++ zs) (ended_fed c.loop-at.reader.pending q (l ∷ []) p c.loop-at.at n told pend);
+      },
+      serves_cut c.args.session.now c.loop-at.session c.answer_line.new.session done (l ∷ []) (g.K.Sink.taken c.args.output.now) (g.K.Sink.taken c.loop-at.output) (g.K.Sink.taken c.answer_line.new.output) inv.served.2 c.in-Err.ensures.err,
     )

@@ -1,85 +1,146 @@
-use Rattle.std.proofs.Common.{◌≡◌, ℕ, ◌+◌, ◌≤◌, ◌<◌, ◌++◌, [], List, Some, take, drop, length, refl, sym, ap, ◌∙◌, arith, subst}
-use Rattle.std.proofs.lemmas.List.{length-append}
-use Rattle.room_ports.specs.Bytes.{Gives, Takes, TakesFront}
-use Rattle.room_ports.proofs.Fronts.{gives-nothing, gives-gives}
-use Rattle.line_words.specs.Lines.{lines_of}
-use Rattle.line_words.specs.Pieces.{ended}
-use Rattle.cut_server.specs.Served.{ServesTo}
-use Rattle.cut_server.specs.Serving.{ServesFront}
+use Rattle.std.proofs.Common.{◌≡◌, ℕ, ◌+◌, ◌-◌, ◌≤◌, ◌<◌, ◌++◌, ◌⊎◌, inl, inr, [], List, Option, Some, take, drop, length, refl, sym, ap, ◌∙◌, arith, subst}
+use Rattle.std.proofs.lemmas.List.{length-append, length-take}
+use Rattle.room_ports.specs.Bytes.{Gives}
+use Rattle.room_ports.proofs.Fronts.{gives-nothing}
+use Rattle.cut_server.specs.Outside.{outside}
 use Rattle.cut_server.proofs.Serves.{serves_none}
-use Rattle.cut_server.proofs.Inputs.{all_got, piece_got, serves_all, serves_all_front, serves_piece, serves_piece_front, pending_more, first_bytes, take_split}
+use Rattle.cut_server.proofs.Inputs.{SoFar, Chunk, ends_all, ends_cut, piece_cut, too_much, piece_more, take_split, take_fitting, fitting, source_same, sink_same}
 use Rattle.cut_server.proofs.serve.serve.Goals as goal
 
 pub loop-total-init : goal.loop-total-init
 loop-total-init g c = record {
-  small = omega arith;
   buffer = refl;
-  line = omega (arith, c.requires);
-  so_far = ([], gives-nothing (g.S.Source.left c.args.input.now), refl, c.new-reader.ensures.pending, serves_none c.args.session.now (g.K.Sink.taken c.args.output.now));
-  reads = omega arith;
-  writes = omega arith;
+  number = omega (arith, c.requires);
+  lent = refl;
+  so_far = (
+    [],
+    refl,
+    record {
+      gives = gives-nothing (g.L.Source.left c.args.line.now);
+      waits = c.new-reader.ensures.pending;
+      serves = serves_none c.args.session.now (g.L.Sink.taken c.args.line.now);
+      within = omega arith;
+      quiet = (refl, refl);
+    },
+  );
 }
 
-pub returns-then-n-eq0-clause-ended : goal.returns-then-n-eq0-clause-ended
-returns-then-n-eq0-clause-ended g c = λ done.
+pub returns-in-Ok-finish-clause-ends : goal.returns-in-Ok-finish-clause-ends
+returns-in-Ok-finish-clause-ends g c =
     let s = c.loop-total.invariant.so_far in
-    all_got (g.S.Source.left c.args.input.now) (g.S.Source.left c.loop-total.input) s.0 c.in-Ok.n
-    (λ bytes. ServesTo c.args.session.now c.finish.new.session (lines_of bytes) (Takes (g.K.Sink.taken c.args.output.now) (g.K.Sink.taken c.finish.new.output)))
-    s.1 c.if-n-eq0.true (c.in-Ok.ensures.end (omega (arith, c.loop-total.invariant.buffer)))
-    (serves_all c.args.session.now c.loop-total.session c.finish.new.session s.0 c.loop-total.reader.pending (g.K.Sink.taken c.args.output.now) (g.K.Sink.taken c.loop-total.output) (g.K.Sink.taken c.finish.new.output) s.3 s.4 (c.finish.ensures.ended done))
+    let k = source_same _ _ _ _ _ _ _ _ (g.met.L.Line.source_side c.read.new.self) (g.met.L.Line.source_side c.finish.new.output) c.finish.ensures.apart in
+    let t = sink_same _ _ _ _ _ _ _ _ (g.met.L.Line.sink_side c.loop-total.line) (g.met.L.Line.sink_side c.read.new.self) c.read.ensures.apart in
+    ends_all c.args.session.now c.loop-total.session c.finish.new.session
+    (outside (g.L.Source.left c.args.line.now) (g.L.Source.read_faults c.args.line.now) (g.L.Sink.taken c.args.line.now) (g.L.Sink.write_faults c.args.line.now))
+    (outside (g.L.Source.left c.loop-total.line) (g.L.Source.read_faults c.loop-total.line) (g.L.Sink.taken c.loop-total.line) (g.L.Sink.write_faults c.loop-total.line))
+    (outside (g.L.Source.left c.finish.new.output) (g.L.Source.read_faults c.finish.new.output) (g.L.Sink.taken c.finish.new.output) (g.L.Sink.write_faults c.finish.new.output))
+    c.loop-total.reader.pending s.0 (take c.in-Ok.n c.read.new.into) c.in-Ok.n s.2
+    (record { gives = rw k.0 c.in-Ok.ensures.front; reads = k.1 ∙ c.in-Ok.ensures.quiet })
+    c.if-n-eq0.true (c.in-Ok.ensures.end (omega (arith, c.loop-total.invariant.buffer)))
+    (c.in-Ok-finish.ensures.quiet ∙ t.1) (rw t.0 at c.in-Ok-finish.ensures.ok)
 
-pub returns-then-n-eq0-clause-write_fault : goal.returns-then-n-eq0-clause-write_fault
-returns-then-n-eq0-clause-write_fault g c = λ failed.
+pub returns-in-Err-finish-clause-ends : goal.returns-in-Err-finish-clause-ends
+returns-in-Err-finish-clause-ends g c =
     let s = c.loop-total.invariant.so_far in
-    all_got (g.S.Source.left c.args.input.now) (g.S.Source.left c.loop-total.input) s.0 c.in-Ok.n
-    (λ bytes. ServesFront c.args.session.now c.finish.new.session (lines_of bytes) (TakesFront (g.K.Sink.taken c.args.output.now) (g.K.Sink.taken c.finish.new.output)))
-    s.1 c.if-n-eq0.true (c.in-Ok.ensures.end (omega (arith, c.loop-total.invariant.buffer)))
-    (serves_all_front c.args.session.now c.loop-total.session c.finish.new.session s.0 c.loop-total.reader.pending (g.K.Sink.taken c.args.output.now) (g.K.Sink.taken c.loop-total.output) (g.K.Sink.taken c.finish.new.output) s.3 s.4 (c.finish.ensures.front failed))
+    let k = source_same _ _ _ _ _ _ _ _ (g.met.L.Line.source_side c.read.new.self) (g.met.L.Line.source_side c.finish.new.output) c.finish.ensures.apart in
+    let t = sink_same _ _ _ _ _ _ _ _ (g.met.L.Line.sink_side c.loop-total.line) (g.met.L.Line.sink_side c.read.new.self) c.read.ensures.apart in
+    ends_cut c.args.session.now c.loop-total.session c.finish.new.session
+    (outside (g.L.Source.left c.args.line.now) (g.L.Source.read_faults c.args.line.now) (g.L.Sink.taken c.args.line.now) (g.L.Sink.write_faults c.args.line.now))
+    (outside (g.L.Source.left c.loop-total.line) (g.L.Source.read_faults c.loop-total.line) (g.L.Sink.taken c.loop-total.line) (g.L.Sink.write_faults c.loop-total.line))
+    (outside (g.L.Source.left c.finish.new.output) (g.L.Source.read_faults c.finish.new.output) (g.L.Sink.taken c.finish.new.output) (g.L.Sink.write_faults c.finish.new.output))
+    c.loop-total.reader.pending s.0 (take c.in-Ok.n c.read.new.into) c.in-Ok.n s.2
+    (record { gives = rw k.0 c.in-Ok.ensures.front; reads = k.1 ∙ c.in-Ok.ensures.quiet })
+    c.if-n-eq0.true (c.in-Ok.ensures.end (omega (arith, c.loop-total.invariant.buffer)))
+    (rw t.1 at c.in-Err-finish.ensures.cause) (rw t.0 at c.in-Err-finish.ensures.err)
 
-pub returns-in-Err-answer_piece-clause-write_fault : goal.returns-in-Err-answer_piece-clause-write_fault
-returns-in-Err-answer_piece-clause-write_fault g c = λ failed.
+pub returns-in-Err-answer_piece-clause-ends : goal.returns-in-Err-answer_piece-clause-ends
+returns-in-Err-answer_piece-clause-ends g c =
     let s = c.loop-total.invariant.so_far in
+    let k = source_same _ _ _ _ _ _ _ _ (g.met.L.Line.source_side c.read.new.self) (g.met.L.Line.source_side c.answer_piece.new.output) c.answer_piece.ensures.apart in
+    let t = sink_same _ _ _ _ _ _ _ _ (g.met.L.Line.sink_side c.loop-total.line) (g.met.L.Line.sink_side c.read.new.self) c.read.ensures.apart in
+    let into = c.read.new.into in
+    piece_cut c.args.session.now c.loop-total.session c.answer_piece.new.session
+    (outside (g.L.Source.left c.args.line.now) (g.L.Source.read_faults c.args.line.now) (g.L.Sink.taken c.args.line.now) (g.L.Sink.write_faults c.args.line.now))
+    (outside (g.L.Source.left c.loop-total.line) (g.L.Source.read_faults c.loop-total.line) (g.L.Sink.taken c.loop-total.line) (g.L.Sink.write_faults c.loop-total.line))
+    (outside (g.L.Source.left c.answer_piece.new.output) (g.L.Source.read_faults c.answer_piece.new.output) (g.L.Sink.taken c.answer_piece.new.output) (g.L.Sink.write_faults c.answer_piece.new.output))
+    c.loop-total.reader.pending s.0 (take c.in-Ok.n into) c.split_at.result.0.now s.2
+    (record { gives = rw k.0 c.in-Ok.ensures.front; reads = k.1 ∙ c.in-Ok.ensures.quiet })
+    (omega (arith, length-take c.in-Ok.n into, c.in-Ok.ensures.within, c.loop-total.invariant.buffer))
+    (take_fitting (67108864 - length s.0) c.in-Ok.n c.min-fits.result into (omega (arith, c.min-fits.ensures, s.1)) (omega (arith, c.min-fits.ensures)) (fitting c.min-fits.result c.in-Ok.n (67108864 - length s.0) (omega (arith, c.min-fits.ensures, s.1))) ∙ sym c.split_at.ensures.front)
+    (rw t.1 at c.in-Err-answer_piece.ensures.cause) (rw t.0 at c.in-Err-answer_piece.ensures.err)
+
+pub returns-then-fits-n-clause-ends : goal.returns-then-fits-n-clause-ends
+returns-then-fits-n-clause-ends g c =
+    let s = c.loop-total.invariant.so_far in
+    let k = source_same _ _ _ _ _ _ _ _ (g.met.L.Line.source_side c.read.new.self) (g.met.L.Line.source_side c.answer_piece.new.output) c.answer_piece.ensures.apart in
+    let t = sink_same _ _ _ _ _ _ _ _ (g.met.L.Line.sink_side c.loop-total.line) (g.met.L.Line.sink_side c.read.new.self) c.read.ensures.apart in
     let into = c.read.new.into in
     let piece = c.split_at.result.0.now in
     let rest = drop c.min-fits.result (take c.in-Ok.n into) in
     let cut : take c.in-Ok.n into ≡ piece ++ rest = take_split c.min-fits.result c.in-Ok.n into (omega (arith, c.min-fits.ensures)) ∙ ap (λ (p : List ℕ). p ++ rest) (sym c.split_at.ensures.front) in
-    piece_got (g.S.Source.left c.args.input.now) (g.S.Source.left c.loop-total.input) (g.S.Source.left c.read.new.self) s.0 (take c.in-Ok.n into) piece rest
-    (λ bytes. ServesFront c.args.session.now c.answer_piece.new.session (lines_of bytes) (TakesFront (g.K.Sink.taken c.args.output.now) (g.K.Sink.taken c.answer_piece.new.output)))
-    s.1 c.in-Ok.ensures.front cut
-    (λ more. serves_piece_front c.args.session.now c.loop-total.session c.answer_piece.new.session s.0 piece more c.loop-total.reader.pending (g.K.Sink.taken c.args.output.now) (g.K.Sink.taken c.loop-total.output) (g.K.Sink.taken c.answer_piece.new.output) s.3 s.4 c.in-Err-answer_piece.ensures.err)
-
-pub returns-then-fits-n-clause-too_much : goal.returns-then-fits-n-clause-too_much
-returns-then-fits-n-clause-too_much g c = λ much.
-    let s = c.loop-total.invariant.so_far in
-    let into = c.read.new.into in
-    let piece = c.split_at.result.0.now in
-    let rest = drop c.min-fits.result (take c.in-Ok.n into) in
-    let cut : take c.in-Ok.n into ≡ piece ++ rest = take_split c.min-fits.result c.in-Ok.n into (omega (arith, c.min-fits.ensures)) ∙ ap (λ (p : List ℕ). p ++ rest) (sym c.split_at.ensures.front) in
-    let P : List ℕ → Type 0 = λ bytes. ServesTo c.args.session.now c.answer_piece.new.session (ended (Some []) bytes) (Takes (g.K.Sink.taken c.args.output.now) (g.K.Sink.taken c.answer_piece.new.output)) in
-    piece_got (g.S.Source.left c.args.input.now) (g.S.Source.left c.loop-total.input) (g.S.Source.left c.read.new.self) s.0 (take c.in-Ok.n into) piece rest
-    (λ bytes. P (take 67108864 bytes))
-    s.1 c.in-Ok.ensures.front cut
-    (λ more. subst P (sym (first_bytes s.0 piece more 67108864 (omega (arith, s.2, c.min-fits.ensures, c.if-fits-n.true, c.split_at.ensures.front_len, c.loop-total.invariant.small))))
-    (serves_piece c.args.session.now c.loop-total.session c.answer_piece.new.session s.0 piece c.loop-total.reader.pending (g.K.Sink.taken c.args.output.now) (g.K.Sink.taken c.loop-total.output) (g.K.Sink.taken c.answer_piece.new.output) s.3 s.4 c.in-Ok-answer_piece.ensures.ok))
+    too_much c.args.session.now c.loop-total.session c.answer_piece.new.session
+    (outside (g.L.Source.left c.args.line.now) (g.L.Source.read_faults c.args.line.now) (g.L.Sink.taken c.args.line.now) (g.L.Sink.write_faults c.args.line.now))
+    (outside (g.L.Source.left c.loop-total.line) (g.L.Source.read_faults c.loop-total.line) (g.L.Sink.taken c.loop-total.line) (g.L.Sink.write_faults c.loop-total.line))
+    (outside (g.L.Source.left c.answer_piece.new.output) (g.L.Source.read_faults c.answer_piece.new.output) (g.L.Sink.taken c.answer_piece.new.output) (g.L.Sink.write_faults c.answer_piece.new.output))
+    c.loop-total.reader.pending s.0 (take c.in-Ok.n into) piece rest s.2
+    (record { gives = rw k.0 c.in-Ok.ensures.front; reads = k.1 ∙ c.in-Ok.ensures.quiet })
+    (omega (arith, length-take c.in-Ok.n into, c.in-Ok.ensures.within, c.loop-total.invariant.buffer)) cut
+    (omega (arith, s.1, c.min-fits.ensures, c.if-fits-n.true, c.split_at.ensures.front_len))
+    (omega (arith, length-take c.in-Ok.n into, c.in-Ok.ensures.within, c.loop-total.invariant.buffer, c.read.auto.into, c.min-fits.ensures, c.if-fits-n.true, c.split_at.ensures.front_len))
+    (c.in-Ok-answer_piece.ensures.quiet ∙ t.1) (rw t.0 at c.in-Ok-answer_piece.ensures.ok)
 
 pub loop-total-preserved : goal.loop-total-preserved
 loop-total-preserved g c =
     let s = c.loop-total.invariant.so_far in
+    let k = source_same _ _ _ _ _ _ _ _ (g.met.L.Line.source_side c.read.new.self) (g.met.L.Line.source_side c.answer_piece.new.output) c.answer_piece.ensures.apart in
+    let t = sink_same _ _ _ _ _ _ _ _ (g.met.L.Line.sink_side c.loop-total.line) (g.met.L.Line.sink_side c.read.new.self) c.read.ensures.apart in
     let into = c.read.new.into in
     let piece = c.split_at.result.0.now in
     let same : c.min-fits.result ≡ c.in-Ok.n = omega (arith, c.min-fits.ensures, c.if-fits-n.false) in
     let all : take c.in-Ok.n into ≡ piece = sym (c.split_at.ensures.front ∙ ap (λ (n : ℕ). take n into) same) in
     record {
-      small = omega (arith, c.min-fits.ensures, c.if-fits-n.false, c.loop-total.invariant.small);
       buffer = omega (arith, c.loop-total.invariant.buffer, c.read.auto.into);
-      line = omega (arith, c.loop-total.invariant.line, c.answer_piece.ensures.line, c.split_at.ensures.front_len, same);
+      number = omega (arith, c.loop-total.invariant.number, c.answer_piece.ensures.number, c.split_at.ensures.front_len, same);
+      lent = k.2 ∙ (t.2 ∙ c.loop-total.invariant.lent);
       so_far = (
         s.0 ++ piece,
-        gives-gives (g.S.Source.left c.args.input.now) (g.S.Source.left c.loop-total.input) (g.S.Source.left c.read.new.self) s.0 piece s.1 (rw all at c.in-Ok.ensures.front),
-        omega (arith, s.2, same, c.split_at.ensures.front_len, length-append s.0 piece),
-        pending_more s.0 piece c.loop-total.reader.pending c.answer_piece.new.reader.pending s.3 c.in-Ok-answer_piece.ensures.pending,
-        serves_piece c.args.session.now c.loop-total.session c.answer_piece.new.session s.0 piece c.loop-total.reader.pending (g.K.Sink.taken c.args.output.now) (g.K.Sink.taken c.loop-total.output) (g.K.Sink.taken c.answer_piece.new.output) s.3 s.4 c.in-Ok-answer_piece.ensures.ok,
+        omega (arith, s.1, same, c.split_at.ensures.front_len, length-append s.0 piece),
+        piece_more c.args.session.now c.loop-total.session c.answer_piece.new.session
+            (outside (g.L.Source.left c.args.line.now) (g.L.Source.read_faults c.args.line.now) (g.L.Sink.taken c.args.line.now) (g.L.Sink.write_faults c.args.line.now))
+            (outside (g.L.Source.left c.loop-total.line) (g.L.Source.read_faults c.loop-total.line) (g.L.Sink.taken c.loop-total.line) (g.L.Sink.write_faults c.loop-total.line))
+            (outside (g.L.Source.left c.answer_piece.new.output) (g.L.Source.read_faults c.answer_piece.new.output) (g.L.Sink.taken c.answer_piece.new.output) (g.L.Sink.write_faults c.answer_piece.new.output))
+            c.loop-total.reader.pending c.answer_piece.new.reader.pending s.0 piece s.2
+            (record { gives = rw k.0 (rw all at c.in-Ok.ensures.front); reads = k.1 ∙ c.in-Ok.ensures.quiet })
+            (omega (arith, s.1, s.2.within, c.min-fits.ensures, c.split_at.ensures.front_len))
+            (c.in-Ok-answer_piece.ensures.quiet ∙ t.1) c.in-Ok-answer_piece.ensures.pending (rw t.0 at c.in-Ok-answer_piece.ensures.ok),
       );
-      reads = omega (arith, c.loop-total.invariant.reads, c.read.ensures.count);
-      writes = omega (arith, c.loop-total.invariant.writes, c.answer_piece.ensures.count);
     }
+
+pub returns-in-Ok-finish-clause-lent : goal.returns-in-Ok-finish-clause-lent
+returns-in-Ok-finish-clause-lent g c =
+    let k = source_same _ _ _ _ _ _ _ _ (g.met.L.Line.source_side c.read.new.self) (g.met.L.Line.source_side c.finish.new.output) c.finish.ensures.apart in
+    let t = sink_same _ _ _ _ _ _ _ _ (g.met.L.Line.sink_side c.loop-total.line) (g.met.L.Line.sink_side c.read.new.self) c.read.ensures.apart in
+    k.2 ∙ (t.2 ∙ c.loop-total.invariant.lent)
+
+pub returns-in-Err-finish-clause-lent : goal.returns-in-Err-finish-clause-lent
+returns-in-Err-finish-clause-lent g c =
+    let k = source_same _ _ _ _ _ _ _ _ (g.met.L.Line.source_side c.read.new.self) (g.met.L.Line.source_side c.finish.new.output) c.finish.ensures.apart in
+    let t = sink_same _ _ _ _ _ _ _ _ (g.met.L.Line.sink_side c.loop-total.line) (g.met.L.Line.sink_side c.read.new.self) c.read.ensures.apart in
+    k.2 ∙ (t.2 ∙ c.loop-total.invariant.lent)
+
+pub returns-in-Err-answer_piece-clause-lent : goal.returns-in-Err-answer_piece-clause-lent
+returns-in-Err-answer_piece-clause-lent g c =
+    let k = source_same _ _ _ _ _ _ _ _ (g.met.L.Line.source_side c.read.new.self) (g.met.L.Line.source_side c.answer_piece.new.output) c.answer_piece.ensures.apart in
+    let t = sink_same _ _ _ _ _ _ _ _ (g.met.L.Line.sink_side c.loop-total.line) (g.met.L.Line.sink_side c.read.new.self) c.read.ensures.apart in
+    k.2 ∙ (t.2 ∙ c.loop-total.invariant.lent)
+
+pub returns-then-fits-n-clause-lent : goal.returns-then-fits-n-clause-lent
+returns-then-fits-n-clause-lent g c =
+    let k = source_same _ _ _ _ _ _ _ _ (g.met.L.Line.source_side c.read.new.self) (g.met.L.Line.source_side c.answer_piece.new.output) c.answer_piece.ensures.apart in
+    let t = sink_same _ _ _ _ _ _ _ _ (g.met.L.Line.sink_side c.loop-total.line) (g.met.L.Line.sink_side c.read.new.self) c.read.ensures.apart in
+    k.2 ∙ (t.2 ∙ c.loop-total.invariant.lent)
+
+pub returns-in-Err-clause-lent : goal.returns-in-Err-clause-lent
+returns-in-Err-clause-lent g c =
+    let t = sink_same _ _ _ _ _ _ _ _ (g.met.L.Line.sink_side c.loop-total.line) (g.met.L.Line.sink_side c.read.new.self) c.read.ensures.apart in
+    t.2 ∙ c.loop-total.invariant.lent

@@ -1,18 +1,16 @@
-use Rattle.std.proofs.Common.{◌≡◌, ◌≤◌, ◌+◌, ◌-◌, [], List, ℕ, Some, length}
-use Rattle.room_ports.specs.Bytes.{Gives, Takes}
-use Rattle.line_words.specs.Pieces.{ended, pending_after}
-use Rattle.cut_server.specs.Served.{ServesTo}
+use Rattle.std.proofs.Common.{◌≡◌, ◌≤◌, ◌+◌, ◌-◌, List, ℕ, length}
+use Rattle.cut_server.specs.Outside.{outside}
+use Rattle.cut_server.proofs.Inputs.{SoFar}
 use Rattle.cut_server.proofs.serve.serve.Given as goal
 
 abbrev pub invariant-loop-total : goal.invariant-loop-total
 invariant-loop-total g l = record {
-  small : l.total ≤ 67108864;
   buffer : length l.buffer ≡ 8192;
-  line : l.session.line ≤ 1 + l.total;
-  so_far : (got : List ℕ) × Gives (g.S.Source.left l.fn.input) (g.S.Source.left l.input) got × (l.total ≡ length got) × (l.reader.pending ≡ pending_after (Some []) got)
-      × ServesTo l.fn.session l.session (ended (Some []) got) (Takes (g.K.Sink.taken l.fn.output) (g.K.Sink.taken l.output));
-  reads : g.S.Source.read_faults l.fn.input ≤ g.S.Source.read_faults l.input;
-  writes : g.K.Sink.write_faults l.fn.output ≤ g.K.Sink.write_faults l.output;
+  number : l.session.course.line ≤ 1 + l.total;
+  lent : g.L.Line.lent l.line ≡ g.L.Line.lent l.fn.line;
+  so_far : (got : List ℕ) × (l.total ≡ length got) × SoFar l.fn.session l.session
+      (outside (g.L.Source.left l.fn.line) (g.L.Source.read_faults l.fn.line) (g.L.Sink.taken l.fn.line) (g.L.Sink.write_faults l.fn.line))
+      (outside (g.L.Source.left l.line) (g.L.Source.read_faults l.line) (g.L.Sink.taken l.line) (g.L.Sink.write_faults l.line)) l.reader.pending got;
 }
 
 abbrev pub decreases-loop-total : goal.decreases-loop-total

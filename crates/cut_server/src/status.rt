@@ -1,0 +1,36 @@
+// How the program ends.
+ghost use Rattle.std.specs.Prelude.{◌≡◌};
+ghost use Rattle.cut_server.specs.Statuses.{number_of};
+
+/// How the program ends, for its caller a number.
+#[derive(Clone, Copy, Debug, PartialEq, Eq)]
+pub enum Status {
+    /// 0: the input was read to its end, every line was answered, all was written.
+    Done,
+    /// 1: a read failed.
+    ReadFault,
+    /// 2: a write failed.
+    WriteFault,
+    /// 3: the words are no command.
+    NoCommand,
+    /// 6: there was no memory to begin with, or none for the journal's text.
+    OutOfMemory,
+    /// 7: the input gave more than 64 MiB.
+    TooMuchInput,
+}
+
+impl Status {
+    /// The number that the program ends with.
+    pub fn number(self) -> u8
+        ensures { result ≡ number_of self }
+    {
+        match self {
+            Status::Done => 0,
+            Status::ReadFault => 1,
+            Status::WriteFault => 2,
+            Status::NoCommand => 3,
+            Status::OutOfMemory => 6,
+            Status::TooMuchInput => 7,
+        }
+    }
+}
