@@ -1,9 +1,8 @@
 -- One entry more at the end of a history.
-use Rattle.std.proofs.Common.{◌≡◌, ℕ, ◌+◌, ◌<◌, ◌≤◌, List, [], ◌∷◌, ◌++◌, Bool, true, false, cond, not, ◌&&◌, ◌||◌, ◌==◌, nat_lt, Option, Some, None, Result, Ok, Err, length, refl, sym, ap, ◌∙◌, arith}
-use Rattle.std.specs.List.{list_all, fold}
+use Rattle.std.proofs.Common.{◌≡◌, ℕ, ◌<◌, List, [], ◌∷◌, ◌++◌, Bool, true, false, not, ◌&&◌, ◌||◌, ◌==◌, nat_lt, Some, Result, refl, arith}
 use Rattle.std.proofs.lemmas.List.Sums.{fold-append}
 use Rattle.std.proofs.lemmas.Bool.Decides.{nat_tests}
-use Rattle.room_core.specs.History.{after_entry, replay, RiseAfter, NumbersRise, state_in}
+use Rattle.room_core.specs.History.{after_entry, replay, RiseAfter, NumbersRise}
 use Rattle.room_core.specs.Machine.{is_above}
 use Rattle.room_core.specs.declared.entry.Entry.{Entry}
 

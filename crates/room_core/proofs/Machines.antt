@@ -1,5 +1,5 @@
 -- What holds of the machine after any events.
-use Rattle.std.proofs.Common.{◌≡◌, ℕ, ◌+◌, ◌<◌, ◌≤◌, List, [], ◌∷◌, ◌++◌, Bool, true, false, ◌&&◌, nat_lt, Option, Some, None, Result, Ok, Err, IsSome, length, slice_get, refl, sym, ap, subst, ◌∙◌, arith, length-append, if◌then◌else◌}
+use Rattle.std.proofs.Common.{◌≡◌, ℕ, ◌<◌, ◌≤◌, List, [], ◌∷◌, Bool, true, false, ◌&&◌, nat_lt, Option, Some, None, Result, Ok, Err, IsSome, length, slice_get, refl, ap, ◌∙◌, arith, length-append, if◌then◌else◌}
 use Rattle.std.proofs.lemmas.Bool.Decides.{nat_tests}
 use Rattle.room_core.specs.History.{after_entry, replay, state_in, NumbersRise, most_entries, IsLegal}
 use Rattle.room_core.specs.Machine.{Event, Take, Commit, Give, Machine, opened, committed, held_as, holds_all, is_above, is_free, is_held_by, step, run}

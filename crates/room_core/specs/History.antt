@@ -1,6 +1,6 @@
 -- A history: entries in the order in which they were committed, and the state that they come to. For
 -- any kind of state and call: what a call does is a function handed in.
-use Rattle.std.specs.Prelude.{◌≡◌, ℕ, ◌<◌, ◌≤◌, List, [], ◌∷◌, Option, Some, None, Result, Ok, Err, IsSome, length, take, fold, option_map}
+use Rattle.std.specs.Prelude.{◌≡◌, ℕ, ◌<◌, ◌≤◌, List, [], ◌∷◌, Option, Some, None, Result, Ok, Err, IsSome, length, fold}
 use Rattle.room_core.specs.declared.entry.Entry.{Entry}
 
 -- the state that a call leaves, where it applies

@@ -1,6 +1,6 @@
 -- The machine of many stations: each part of an object is held by one station or by none, and a station commits a call
 -- while it holds all parts that the call names. A station is a number. An event that is not lawful changes nothing.
-use Rattle.std.specs.Prelude.{ℕ, ◌+◌, List, [], ◌∷◌, ◌++◌, Option, Some, None, Result, Ok, Err, Bool, true, false, not, ◌&&◌, ◌||◌, ◌==◌, length, nat_lt, slice_get, slice_set, replicate, fold, if◌then◌else◌}
+use Rattle.std.specs.Prelude.{ℕ, List, [], ◌∷◌, ◌++◌, Option, Some, None, Result, Ok, Err, Bool, true, false, not, ◌&&◌, ◌||◌, ◌==◌, length, nat_lt, slice_get, slice_set, replicate, fold, if◌then◌else◌}
 use Rattle.std.specs.List.{list_all}
 use Rattle.room_core.specs.Whole.{Meaning, whole}
 use Rattle.room_core.specs.History.{most_entries}

@@ -1,6 +1,5 @@
 -- The parts that an object can stand over, and the parts that a call can name.
-use Rattle.std.specs.Prelude.{◌≡◌, ◌<◌, ◌≤◌, ◌+◌, ℕ, zero, suc, List, [], ◌∷◌, length}
-use Rattle.std.specs.List.{All}
+use Rattle.std.specs.Prelude.{◌<◌, ◌≤◌, ◌+◌, ℕ, zero, suc, List, [], ◌∷◌, length}
 
 -- each part is good at its number
 abbrev pub AreGood : {P : Type 0} → (ℕ → P → Type 0) → List ℕ → List P → Type 0

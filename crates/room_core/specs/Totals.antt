@@ -1,6 +1,6 @@
 -- An object to try the definitions on: counters with a greatest value, of which counter 0 is a total. A call names
 -- counter 0 and another, and adds an amount to both.
-use Rattle.std.specs.Prelude.{ℕ, ◌+◌, ◌≤◌, ◌<◌, List, [], ◌∷◌, Option, Some, None, Result, Ok, Err, ◌&&◌, nat_lt, nat_le, if◌then◌else◌}
+use Rattle.std.specs.Prelude.{ℕ, ◌+◌, ◌≤◌, ◌<◌, List, [], ◌∷◌, Some, None, Result, Ok, Err, ◌&&◌, nat_lt, nat_le, if◌then◌else◌}
 use Rattle.room_core.specs.Machine.{Event, Take, Commit, Give}
 use Rattle.room_core.specs.Parts.{AreGood, numbers}
 use Rattle.room_core.specs.Whole.{Meaning}

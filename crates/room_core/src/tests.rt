@@ -6,7 +6,7 @@ ghost use Rattle.room_core.specs.TotalLaws.{counters-named, counters-stay_good};
 
 use crate::laws::serial_law;
 use crate::{Entry, Fault, Memory, PartObject};
-use std::alloc::{AllocError, Global};
+use std::alloc::Global;
 use std::marker::Brand;
 use std::sync::ledger::{Blank, Ledger};
 use step_count::Steps;
@@ -123,14 +123,17 @@ impl PartObject for Counters {
     ghost stays_roomy = { λ o ps qs entries opens legal comes. λ k d inside. tt };
 }
 
-// What a call leaves on counter 0 and the other, and answers; `None` where it is refused for its names.
+// What a call answers, or what it refuses, and what it leaves on counter 0 and the other.
+type Called = (Result<u32, u32>, u32, u32);
+
+// `None` where the call is refused for its names.
 fn called<L: Ledger>(
     alloc: Global,
     object: &Counters,
     (total, counter): (u32, u32),
     call: &(u32, u32),
     steps: &mut Steps<L>,
-) -> Result<Option<(Result<u32, Fault<u32>>, u32, u32)>, AllocError> {
+) -> Result<Option<Called>, Memory> {
     let most = object.most;
     if total > most || counter > most || object.refuse_names(call).is_some() {
         return Ok(None);
@@ -138,7 +141,11 @@ fn called<L: Ledger>(
     let mut parts = Vec::new(alloc);
     parts.push(total)?;
     parts.push(counter)?;
-    let answer = object.apply(alloc, &mut parts, call, steps);
+    let answer = match object.apply(alloc, &mut parts, call, steps) {
+        Ok(total) => Ok(total),
+        Err(Fault::Refused(part)) => Err(part),
+        Err(Fault::Memory) => return Err(Memory),
+    };
     match parts.as_slice() {
         [total, counter] => Ok(Some((answer, *total, *counter))),
         _ => Ok(None),
@@ -152,7 +159,7 @@ fn called_once<L: Ledger>(
     object: &Counters,
     parts: (u32, u32),
     call: &(u32, u32),
-) -> Result<Option<(Result<u32, Fault<u32>>, u32, u32)>, AllocError>
+) -> Result<Option<Called>, Memory>
     requires { (blank.name ≡ L.name) × (blank.parts ≡ L.parts) × (0 < blank.parts) }
 {
     let mut steps = Steps::<L>::new(blank);
@@ -202,10 +209,10 @@ fn counters_are_an_object(rt: HostRuntime) -> Result<(), Memory> {
     assert_eq!(rt; entry.call, (1, 2));
     // the total and the counter, the amount, the answer, what is left
     for (parts, amount, answer, left) in [
-        ((0, 0), 10, Ok(10), (10, 10)),
-        ((0, 0), 11, Err(Fault::Refused(0)), (0, 0)),
-        ((3, 2), 8, Err(Fault::Refused(3)), (3, 2)),
-        ((2, 3), 8, Err(Fault::Refused(3)), (2, 3)),
+        ((0u32, 0u32), 10, Ok(10), (10, 10)),
+        ((0, 0), 11, Err(0), (0, 0)),
+        ((3, 2), 8, Err(3), (3, 2)),
+        ((2, 3), 8, Err(3), (2, 3)),
         ((2, 3), 7, Ok(9), (9, 10)),
     ] {
         let done = called_once::<Brand>(Blank::new(1), alloc, &object, parts, &(1, amount))?;
