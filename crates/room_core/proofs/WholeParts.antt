@@ -1,14 +1,14 @@
 -- What a call, and what a history, leaves of the parts of an object.
-use Rattle.std.proofs.Common.{◌≡◌, ◌≢◌, ℕ, zero, suc, ◌+◌, ◌<◌, List, [], ◌∷◌, ◌++◌, Bool, true, false, ◌||◌, ◌==◌, cond, Option, Some, None, Result, Ok, Err, slice_get, slice_set, refl, sym, ap, subst, ◌∙◌, arith}
-use Rattle.std.specs.List.{fold, list_any}
+use Rattle.std.proofs.Common.{◌≡◌, ◌≢◌, ℕ, zero, suc, ◌+◌, ◌<◌, List, [], ◌∷◌, ◌++◌, Bool, true, false, ◌||◌, ◌==◌, cond, Option, Some, None, IfSome, Result, Ok, Err, slice_get, slice_set, refl, sym, ap, subst, ◌∙◌, arith}
+use Rattle.std.specs.List.{All, fold, list_any}
 use Rattle.std.proofs.lemmas.List.{append-nil, append_cancel_left}
-use Rattle.std.proofs.lemmas.List.Elements.{filter-append}
+use Rattle.std.proofs.lemmas.List.Elements.{All-cons, filter-append}
 use Rattle.std.proofs.lemmas.List.Sums.{fold-append}
 use Rattle.std.proofs.lemmas.Bool.Decides.{nat_tests}
 use Rattle.room_core.specs.History.{after_entry, replay, state_in}
-use Rattle.room_core.specs.Parts.{AreGood, AscendBetween, IsNaming, numbers}
+use Rattle.room_core.specs.Parts.{AreGood, AscendBetween, numbers}
 use Rattle.room_core.specs.Projection.{of_part}
-use Rattle.room_core.specs.Whole.{Meaning, picked, put_back, on_whole, unless_refused, whole}
+use Rattle.room_core.specs.Whole.{Meaning, picked, with_picked, put_back, on_whole, unless_refused, whole}
 use Rattle.room_core.specs.declared.entry.Entry.{Entry}
 
 good_get : {P : Type 0} (good : ℕ → P → Type 0) (from count : ℕ) (ps : List P) (n : ℕ) → AreGood good (numbers from count) ps → n < count
@@ -40,6 +40,21 @@ good_picked good count least ps (n ∷ ns) a h =
     let e : 0 + n ≡ n = omega arith in
     rw r.1 (subst (λ k. good k r.0) e r.2, good_picked good count (n + 1) ps ns a.2 h)
 
+roomy_get : {P : Type 0} (Roomy : P → Type 0) (ps : List P) (n : ℕ) (o : Option P) → slice_get ps n ≡ o → All Roomy ps → IfSome o Roomy
+roomy_get Roomy [] n o e h = subst (λ o. IfSome o Roomy) e tt
+roomy_get Roomy (p ∷ ps) zero o e h = subst (λ o. IfSome o Roomy) e (h 0 p (omega arith))
+roomy_get Roomy (p ∷ ps) (suc n) o e h = roomy_get Roomy ps n o e (λ k d inside. h (suc k) d (omega (arith, inside)))
+
+roomy_with : {P : Type 0} (Roomy : P → Type 0) (o : Option P) (ps : List P) → IfSome o Roomy → All Roomy ps → All Roomy (with_picked o ps)
+roomy_with Roomy None ps h all = all
+roomy_with Roomy (Some p) ps h all = All-cons Roomy p ps h all
+
+-- and have room where all have
+pub roomy_picked : {P : Type 0} (Roomy : P → Type 0) (ps : List P) (names : List ℕ) → All Roomy ps → All Roomy (picked ps names)
+roomy_picked Roomy ps [] h = λ k d inside. absurd (omega (arith, inside))
+roomy_picked Roomy ps (n ∷ ns) h =
+    roomy_with Roomy (slice_get ps n) (picked ps ns) (roomy_get Roomy ps n (slice_get ps n) refl h) (roomy_picked Roomy ps ns h)
+
 pub good_put_back : {P : Type 0} (good : ℕ → P → Type 0) (count : ℕ) (ps : List P) (names : List ℕ) (ts : List P)
     → AreGood good (numbers 0 count) ps → AreGood good names ts → AreGood good (numbers 0 count) (put_back ps names ts)
 good_put_back good count ps [] ts h g = h
@@ -58,30 +73,6 @@ whole_done ps names None (Ok (ts, e)) qs d h = (refl, ts, Prim.grind (arith, h),
 no_state : {S C D R : Type 0} (apply : S → C → Result (S × D) R) (entries : List (Entry C)) → fold (after_entry apply) None entries ≡ None
 no_state apply [] = refl
 no_state apply (e ∷ es) = no_state apply es
-
-keeps_next : {S C D R : Type 0} (apply : S → C → Result (S × D) R) (Holds : S → Type 0) (s t : S) (e : Entry C) (es : List (Entry C)) (r : Result (S × D) R)
-    → ((u : S) (d : D) → Holds s → apply s e.call ≡ Ok (u, d) → Holds u) → ((u : S) → Holds u → replay apply u es ≡ Some t → Holds t)
-    → apply s e.call ≡ r → Holds s → fold (after_entry apply) (state_in r) es ≡ Some t → Holds t
-keeps_next apply Holds s t e es (Ok (u, d)) keeps rest is h comes = rest u (keeps u d h is) comes
-keeps_next apply Holds s t e es (Err r) keeps rest is h comes = let none = sym (no_state apply es) ∙ comes in absurd (Prim.grind (arith, none))
-
--- what each call keeps is kept by a history
-pub replay-keeps : {S C D R : Type 0} (apply : S → C → Result (S × D) R) (Holds : S → Type 0)
-    → ((s u : S) (c : C) (d : D) → Holds s → apply s c ≡ Ok (u, d) → Holds u)
-    → (s t : S) (entries : List (Entry C)) → Holds s → replay apply s entries ≡ Some t → Holds t
-replay-keeps apply Holds keeps s t [] h comes = let same : s ≡ t = Prim.grind (arith, comes) in subst Holds same h
-replay-keeps apply Holds keeps s t (e ∷ es) h comes =
-    keeps_next apply Holds s t e es (apply s e.call) (λ u d. keeps s u e.call d) (λ u. replay-keeps apply Holds keeps u t es) refl h comes
-
-pub good_whole : {P C D R : Type 0} (m : Meaning P C D R) (good : ℕ → P → Type 0) (count : ℕ)
-    → ((c : C) → m.refuses c ≡ None → IsNaming count (m.names c))
-    → ((c : C) (ps qs : List P) (d : D) → m.refuses c ≡ None → AreGood good (m.names c) ps → m.applied ps c ≡ Ok (qs, d) → AreGood good (m.names c) qs)
-    → (ps qs : List P) (c : C) (d : D) → AreGood good (numbers 0 count) ps → whole m ps c ≡ Ok (qs, d) → AreGood good (numbers 0 count) qs
-good_whole m good count named stays ps qs c d h is =
-    let done = whole_done ps (m.names c) (m.refuses c) (m.applied (picked ps (m.names c)) c) qs d is in
-    let before = good_picked good count 0 ps (m.names c) (named c done.0).ascend h in
-    subst (λ ts. AreGood good (numbers 0 count) ts) done.3
-    (good_put_back good count ps (m.names c) done.1 h (stays c (picked ps (m.names c)) done.1 d done.0 before done.2))
 
 -- another part stays
 get-set_other : {P : Type 0} (ps : List P) (n k : ℕ) (p : P) → n ≢ k → slice_get (slice_set ps n p) k ≡ slice_get ps k

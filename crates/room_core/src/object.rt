@@ -72,7 +72,8 @@ pub trait PartObject {
         ensures asked { result ≡ asked self.now ask.now }
         ensures within { IfOk result (λ n. n < count self.now) };
 
-    /// Does a call on the parts that it names, in ascending order.
+    /// Does a call on the parts that it names, handed in in ascending order, or refuses it, or finds no memory. It changes
+    /// nothing where it does not do the call. It leaves as many parts, in their order, each good at its number.
     fn apply<L: Ledger>(
         &self,
         alloc: Global,
@@ -84,6 +85,8 @@ pub trait PartObject {
         requires good { AreGood (good self.now) ((meaning self.now).names call.now) parts.old.items }
         requires roomy { All (roomy self.now) parts.old.items }
         ensures meant { Answers ((meaning self.now).applied parts.old.items call.now) parts.old.items parts.new.items result }
+        ensures good { AreGood (good self.now) ((meaning self.now).names call.now) parts.new.items }
+
         ensures least { steps.old + 1 ≤ steps.new }
         ensures most { steps.new ≤ steps.old + 32 * sum_by (λ p. size p + 64) parts.old.items };
 
@@ -105,11 +108,6 @@ pub trait PartObject {
 
     /// A call that is not refused for its names names parts that are there, in ascending order.
     ghost named: { (o : Self) (c : Self.Call) → (meaning o).refuses c ≡ None → IsNaming (count o) ((meaning o).names c) };
-
-    /// A call that is done leaves as many parts, in their order, each good at its number.
-    ghost stays_good: { (o : Self) (c : Self.Call) (ps qs : List Self.Part) (d : Self.Done)
-        → (meaning o).refuses c ≡ None → AreGood (good o) ((meaning o).names c) ps
-        → (meaning o).applied ps c ≡ Ok (qs, d) → AreGood (good o) ((meaning o).names c) qs };
 
     /// An opening has from 1 to 32 parts, as many as the object, each good at its number.
     ghost opening: { (o : Self) (ps : List Self.Part) → opens o ps

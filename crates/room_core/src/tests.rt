@@ -2,7 +2,7 @@
 ghost use Rattle.std.specs.Prelude.{◌≡◌, ◌≤◌, ◌<◌, ◌+◌, ◌^◌, ℕ, None, Ok, Err, IfOk, [], ◌∷◌, nat_lt, if◌then◌else◌};
 ghost use Rattle.room_core.specs.Machine.{opened, run};
 ghost use Rattle.room_core.specs.Totals.{counters, at_most, CanOpen, worked};
-ghost use Rattle.room_core.specs.TotalLaws.{counters-named, counters-stay_good};
+ghost use Rattle.room_core.specs.TotalLaws.{counters-named};
 
 use crate::laws::serial_law;
 use crate::{Entry, Fault, Memory, PartObject};
@@ -115,8 +115,6 @@ impl PartObject for Counters {
     }
 
     ghost named = { λ o c e. counters-named o.count o.most c e };
-
-    ghost stays_good = { λ o c ps qs d e good h. counters-stay_good o.most 0 c.0 c.1 ps qs d good h };
 
     ghost opening = { λ o ps h. h };
 
