@@ -1,0 +1,52 @@
+// Why a call on an object has no answer.
+ghost use Rattle.std.specs.Prelude.{◌≡◌};
+ghost use Rattle.room_core.specs.declared.fault.Fault.TheVariants.{Memory as NoMemory};
+
+use std::alloc::{AllocError, AllocFailed};
+
+/// A call was refused, or found no memory.
+#[derive(Debug, Drop, PartialEq, Eq)]
+pub enum Fault<R> {
+    Refused(R),
+    Memory,
+}
+
+/// The answer of a call that was refused memory.
+#[derive(Clone, Copy, Debug, PartialEq, Eq)]
+pub struct Memory;
+
+impl From<AllocError> for Memory {
+    fn from(_: AllocError) -> Self {
+        Memory
+    }
+}
+
+impl<T: Drop> From<AllocFailed<T>> for Memory {
+    fn from(_: AllocFailed<T>) -> Self {
+        Memory
+    }
+}
+
+impl<R> From<Memory> for Fault<R> {
+    ghost from_gives = { λ _ e. e ≡ NoMemory };
+
+    fn from(_: Memory) -> Self {
+        Fault::Memory
+    }
+}
+
+impl<R> From<AllocError> for Fault<R> {
+    ghost from_gives = { λ _ e. e ≡ NoMemory };
+
+    fn from(_: AllocError) -> Self {
+        Fault::Memory
+    }
+}
+
+impl<T: Drop, R> From<AllocFailed<T>> for Fault<R> {
+    ghost from_gives = { λ _ e. e ≡ NoMemory };
+
+    fn from(_: AllocFailed<T>) -> Self {
+        Fault::Memory
+    }
+}

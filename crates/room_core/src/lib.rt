@@ -1,0 +1,16 @@
+//! What a room can keep: an object of parts that calls change, its history, and the machine of many stations. Nothing
+//! here knows what a part is. [`PartObject`] says by its clauses and laws what an object promises;
+//! [`laws::serial_law`] says that whatever stations take, commit and give back comes to one legal serial history.
+#![tactic(auto)]
+
+mod entry;
+mod fault;
+pub mod laws;
+mod object;
+
+pub use entry::Entry;
+pub use fault::{Fault, Memory};
+pub use object::PartObject;
+
+#[cfg(test)]
+mod tests;
