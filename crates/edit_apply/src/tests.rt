@@ -96,7 +96,11 @@ fn the_first_wrong_track_is_told(rt: HostRuntime) -> Result<(), Fail> {
             Some(n) => Some(Refusal::NoTrack(n)),
             None => None,
         };
-        assert_eq!(rt; editor.refuse_names(&insert_on(tracks, track)), refusal, "{tracks} {track}");
+        assert_eq!(rt;
+            editor.refuse_names(&insert_on(tracks, track)),
+            refusal,
+            "{tracks} {track}"
+        );
     }
     Ok(())
 }
