@@ -160,10 +160,18 @@ fn wrong_track(count: usize, named: NamedTracks) -> Option<u32>
     ensures { result ≡ wrong_track_in count named }
 {
     match named {
-        NamedTracks::One(track) => if is_below(track, count) { None } else { Some(track) },
+        NamedTracks::One(track) => if is_below(track, count) {
+            None
+        } else {
+            Some(track)
+        },
         NamedTracks::Many { tracks, own } => match first_absent(count, tracks) {
             Some(track) => Some(track),
-            None => if is_among(tracks, own) { None } else { Some(own) },
+            None => if is_among(tracks, own) {
+                None
+            } else {
+                Some(own)
+            },
         },
     }
 }

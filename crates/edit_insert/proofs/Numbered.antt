@@ -9,6 +9,6 @@ use Rattle.edit_insert.specs.OwnTracks.{track_numbered}
 pub numbered-here : (n : ℕ) (ts : List TrackState) (i : ℕ) (t : TrackState) → i < length ts → t ≡ get_or ts i t → t.number ≡ n → track_numbered n (drop i ts) ≡ slice_get ts i
 numbered-here n ts i t h is e =
     ap (track_numbered n) (drop-cons ts i t h)
-  ∙ ap (λ (u : TrackState). track_numbered n (u ∷ drop (suc i) ts)) (sym is)
-  ∙ ap (λ (b : Bool). cond b (Some t) (track_numbered n (drop (suc i) ts))) (eq-eqb t.number n e)
-  ∙ sym (slice_get_read ts (length ts) i t refl h is)
+    ∙ ap (λ (u : TrackState). track_numbered n (u ∷ drop (suc i) ts)) (sym is)
+    ∙ ap (λ (b : Bool). cond b (Some t) (track_numbered n (drop (suc i) ts))) (eq-eqb t.number n e)
+    ∙ sym (slice_get_read ts (length ts) i t refl h is)

@@ -91,4 +91,4 @@ each-unlinked table [] (u ∷ us) h a = absurd h
 each-unlinked table (t ∷ ts) [] h a = absurd h
 each-unlinked table (t ∷ ts) (u ∷ us) h a =
     All-cons (λ (t : TrackState). AllUnlinked (items_of t.cells)) u us (h.0.unlinked (all_head (λ (t : TrackState). AllUnlinked (items_of t.cells)) t ts a))
-      (each-unlinked table ts us h.1 (all_tail (λ (t : TrackState). AllUnlinked (items_of t.cells)) t ts a))
+    (each-unlinked table ts us h.1 (all_tail (λ (t : TrackState). AllUnlinked (items_of t.cells)) t ts a))

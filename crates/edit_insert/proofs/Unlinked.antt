@@ -98,8 +98,8 @@ spliced_none t x y views h k =
     let fresh : ℕ = next_past_all t.next_item views in
     let bare : links_in all ≡ [] = marks_none kept_or_dropped x y 0 t.cells h in
     append_none (take x all ++ cells_of views) (map (renumbered s fresh) (drop y all))
-      (append_none (take x all) (cells_of views) (take_none x all bare) (cells_none views k))
-      (numbers_none s fresh (drop y all) (drop_none y all bare))
+    (append_none (take x all) (cells_of views) (take_none x all bare) (cells_none views k))
+    (numbers_none s fresh (drop y all) (drop_none y all bare))
 
 -- no cell of these tracks has a link
 abbrev pub Bare : List TrackState → Type 0
@@ -115,9 +115,10 @@ bare_track t k u = subst (λ (cs : List Cell). links_in cs ≡ []) k.whole (cell
 
 pub bare-good : (table : Table) (ts : List TrackState) → All (IsGood table) ts → All (λ (t : TrackState). AllUnlinked (items_of t.cells)) ts → Bare ts
 bare-good table [] g u = tt
-bare-good table (t ∷ ts) g u =
-    ( bare_track t (all_head (IsGood table) t ts g).kept (all_head (λ (t : TrackState). AllUnlinked (items_of t.cells)) t ts u)
-    , bare-good table ts (all_tail (IsGood table) t ts g) (all_tail (λ (t : TrackState). AllUnlinked (items_of t.cells)) t ts u))
+bare-good table (t ∷ ts) g u = (
+  bare_track t (all_head (IsGood table) t ts g).kept (all_head (λ (t : TrackState). AllUnlinked (items_of t.cells)) t ts u),
+  bare-good table ts (all_tail (IsGood table) t ts g) (all_tail (λ (t : TrackState). AllUnlinked (items_of t.cells)) t ts u),
+)
 
 gap_unlinked : (n : ℕ) → AllUnlinked (gap_views n)
 gap_unlinked n = by (eqb n 0) where
@@ -171,4 +172,4 @@ pub shift-free : (own x y : ℕ) (views : List ItemView) (done : Done) (ts : Lis
     → shift_of own x y views done ts ≡ within_limits (shifted own x y views ts) done
 shift-free own x y views done ts u b =
     ap (λ (r : Option Refusal). unless r (within_limits (after_shift own x y views ts) done)) (none-refused x y (frames_in views) ts b)
-  ∙ ap (λ (us : List TrackState). within_limits us done) (none-split own x y views ts (bare-shifted own x y views ts u b))
+    ∙ ap (λ (us : List TrackState). within_limits us done) (none-split own x y views ts (bare-shifted own x y views ts u b))

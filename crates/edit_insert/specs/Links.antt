@@ -74,8 +74,10 @@ abbrev pub link_split : ℕ → List TrackState → Link → List TrackState
 link_split z tracks l = map split tracks where
   number : ℕ
   number = next_link_at l.home tracks
+
   next_of : TrackState → ℕ
   next_of t = if nat_eq t.number l.home then number + 1 else t.next_link
+
   split : TrackState → TrackState
   split t = record t {
     cells = take z t.cells ++ map (relinked l (record l { number = number })) (drop z t.cells);

@@ -17,3 +17,6 @@ pub use inserting::{extract, insert};
 pub use overwriting::overwrite;
 pub use removing::{remove, slice};
 pub use shifting::{Shift, shift_tracks};
+
+#[cfg(test)]
+mod tests;
