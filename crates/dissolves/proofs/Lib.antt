@@ -8,4 +8,5 @@ pub mod Numbers
 pub mod Laid
 pub mod AtCuts
 pub mod Marked
+pub mod Goodness
 pub mod Named

@@ -1,6 +1,6 @@
 -- A track of which the mark at a cut is set.
-use Rattle.std.proofs.Common.{◌≡◌, ◌≢◌, ℕ, zero, suc, ◌+◌, ◌-◌, ◌<◌, ◌≤◌, ◌^◌, Bool, true, false, not, ltb, leb, eqb, cond, ◌&&◌, List, [], ◌∷◌, ◌++◌, length, take, drop, Option, Some, None, IfSome, IsSome, IsNone, Result, Ok, Err, refl, sym, ap, ◌∙◌, arith, subst, append_assoc}
-use Rattle.std.proofs.lemmas.Bool.{and_parts, and_from, leb-true, eqb-false, false≢true}
+use Rattle.std.proofs.Common.{◌≡◌, ℕ, zero, suc, ◌+◌, ◌<◌, ◌≤◌, ◌^◌, Bool, true, false, not, leb, eqb, cond, ◌&&◌, List, [], ◌∷◌, ◌++◌, length, Option, Some, None, IfSome, IsSome, IsNone, Result, Ok, Err, refl, sym, ap, ◌∙◌, arith, subst, append_assoc}
+use Rattle.std.proofs.lemmas.Bool.{and_parts, leb-true, eqb-false, false≢true}
 use Rattle.frame_meaning.specs.declared.cells.What.{What}
 use Rattle.frame_meaning.specs.declared.cells.What.TheVariants.{Media, Nest}
 use Rattle.frame_meaning.specs.declared.cells.Mark.{Mark}
@@ -8,7 +8,7 @@ use Rattle.frame_meaning.specs.declared.cells.Link.{Link}
 use Rattle.frame_meaning.specs.declared.cells.Cell.{Cell}
 use Rattle.frame_meaning.specs.declared.frames.Side.{Side}
 use Rattle.frame_meaning.specs.declared.frames.Side.TheVariants.{Dark, Pic}
-use Rattle.frame_meaning.specs.Cells.{span, same_number, belong}
+use Rattle.frame_meaning.specs.Cells.{span}
 use Rattle.frame_meaning.specs.Render.{cell_at}
 use Rattle.composables.specs.declared.items.ItemView.{ItemView}
 use Rattle.composables.specs.declared.calls.Dissolve.{Dissolve}
@@ -23,10 +23,10 @@ use Rattle.composables.specs.Bounds.{bounds_of}
 use Rattle.composables.specs.Changes.{changed_at, changed_track, with_mark}
 use Rattle.composables.specs.Good.{IsGood, AllUnlinked, EachLiesIn, EachLinkOf, LiesIn, SideLiesIn}
 use Rattle.composables.specs.Items.{marked, view_cells, cells_of, items_of}
-use Rattle.composables.specs.Joined.{frames_in, IsTight, AllFilled, joined}
+use Rattle.composables.specs.Joined.{frames_in, IsTight, AllFilled}
 use Rattle.composables.specs.TrackFacts.{Apart, EachHolds, HasSource, Holds, IsKept, IsNoNest, Lacks, NumbersBelow, first_mark, left_reach, right_reach}
 use Rattle.composables.specs.TrackState.{TrackState}
-use Rattle.composables.proofs.Joining.{items_of-tight, items_of-cells_of, tight-joined, length-cells_of, cells_of-append}
+use Rattle.composables.proofs.Joining.{items_of-tight, length-cells_of, cells_of-append}
 use Rattle.composables.proofs.Frames.{frames_in-append}
 use Rattle.dissolves.specs.Pieces.{SideReaches}
 use Rattle.dissolves.specs.declared.cuts.Cut.{Cut}

@@ -86,7 +86,7 @@ fn has_room_right(table: &Table, view: ItemView, tail: Option<Mark>, mark: Mark)
     !is_nest(view.first) && reach <= len && has_frames(table, view.first, mark.a, len)
 }
 
-fn after_cut(mark: Option<Mark>) -> u32
+pub fn after_cut(mark: Option<Mark>) -> u32
     ensures { result ≡ right_reach mark }
 {
     match mark {
@@ -95,7 +95,7 @@ fn after_cut(mark: Option<Mark>) -> u32
     }
 }
 
-fn before_cut(mark: Option<Mark>) -> u32
+pub fn before_cut(mark: Option<Mark>) -> u32
     ensures { result ≡ left_reach mark }
 {
     match mark {

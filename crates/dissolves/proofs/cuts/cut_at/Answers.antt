@@ -1,5 +1,4 @@
-use Rattle.std.proofs.Common.{◌≡◌, ◌+◌, ◌<◌, ◌≤◌, length, arith, sym, ◌∙◌}
-use Rattle.composables.specs.Items.{items_of}
+use Rattle.std.proofs.Common.{arith, sym, ◌∙◌}
 use Rattle.composables.proofs.Joining.{length-items_of}
 use Rattle.dissolves.proofs.AtCuts.{no_cut_inside, no_cut_first, cut_is, is_there}
 use Rattle.dissolves.proofs.cuts.cut_at.Goals as goal

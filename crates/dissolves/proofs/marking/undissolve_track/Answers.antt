@@ -1,4 +1,4 @@
-use Rattle.std.proofs.Common.{◌≡◌, ◌+◌, Ok, refl, sym, ap, ◌∙◌, subst}
+use Rattle.std.proofs.Common.{Ok, refl, sym, ap, ◌∙◌, subst}
 use Rattle.composables.specs.declared.refusals.Done.TheVariants.{Plain}
 use Rattle.composables.specs.Good.{IsGood, AllUnlinked}
 use Rattle.composables.specs.Items.{items_of}

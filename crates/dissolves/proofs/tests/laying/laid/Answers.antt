@@ -1,6 +1,6 @@
 use Rattle.std.proofs.Common.{false}
 use Rattle.dissolves.proofs.Laid.{filled_of, below_of, kept_laid}
-use Rattle.dissolves.proofs.tests.laid.Goals as goal
+use Rattle.dissolves.proofs.tests.laying.laid.Goals as goal
 
 pub replace-requires-clause-filled : goal.replace-requires-clause-filled
 replace-requires-clause-filled g c = filled_of 0 false c.args.items.items c.requires.laid.each

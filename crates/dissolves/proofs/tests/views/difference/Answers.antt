@@ -1,6 +1,6 @@
 use Rattle.std.proofs.Common.{◌∙◌}
 use Rattle.dissolves.proofs.Numbers.{kept_numbered}
-use Rattle.dissolves.proofs.tests.difference.Goals as goal
+use Rattle.dissolves.proofs.tests.views.difference.Goals as goal
 
 pub rendered-requires-clause-numbered : goal.rendered-requires-clause-numbered
 rendered-requires-clause-numbered c =
