@@ -1,4 +1,4 @@
-use Rattle.std.proofs.Common.{arith}
+use Rattle.std.proofs.Common.{◌≤◌, arith}
 use Rattle.composables.specs.Good.{IsGood, AllUnmarked}
 use Rattle.composables.specs.Items.{items_of}
 use Rattle.composables.specs.TrackState.{TrackState}
@@ -16,7 +16,7 @@ pub apply-requires-clause-unmarked : goal.apply-requires-clause-unmarked
 apply-requires-clause-unmarked g c = kept_all c.args.editor.now.table c.args.most (names_of c.args.call.now) c.args.parts.now.items _ (λ n t k. k.unmarked) c.requires.kept
 
 pub apply-requires-clause-numbers : goal.apply-requires-clause-numbers
-apply-requires-clause-numbers g c = kept_all c.args.editor.now.table c.args.most (names_of c.args.call.now) c.args.parts.now.items _ (λ n t k. omega (arith, k.next, c.requires.most)) c.requires.kept
+apply-requires-clause-numbers g c = kept_all c.args.editor.now.table c.args.most (names_of c.args.call.now) c.args.parts.now.items (λ (t : TrackState). t.next_item ≤ 2147483648) (λ n t k. omega (arith, k.next, c.requires.most)) c.requires.kept
 
 pub returns-clause-kept : goal.returns-clause-kept
 returns-clause-kept g c = kept_after c.args.editor.now.table c.args.most (names_of c.args.call.now) c.args.parts.now.items c.apply.new.parts.items c.requires.kept c.apply.ensures.good c.apply.ensures.unmarked c.apply.ensures.numbers
