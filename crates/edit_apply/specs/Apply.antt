@@ -1,22 +1,18 @@
 -- What a call leaves on the tracks of a room, and what it answers: a function of the table, the tracks that it names
 -- and the call alone.
-use Rattle.std.specs.Prelude.{ℕ, ◌^◌, List, [], ◌∷◌, Option, Some, None, Result, Ok, Err, length, nat_eq, nat_lt, option_map, slice_get, slice_set, if◌then◌else◌}
+use Rattle.std.specs.Prelude.{ℕ, ◌^◌, List, [], ◌∷◌, Option, Some, None, Ok, Err, length, nat_eq, nat_lt, option_map, slice_get, slice_set, if◌then◌else◌}
 use Rattle.std.specs.List.{list_any}
 use Rattle.composables.specs.declared.media.Table.{Table}
 use Rattle.composables.specs.declared.refusals.Refusal.{Refusal}
-use Rattle.composables.specs.declared.refusals.Refusal.TheVariants.{NoTrack, NoItem}
-use Rattle.composables.specs.declared.refusals.Done.{Done}
+use Rattle.composables.specs.declared.refusals.Refusal.TheVariants.{NoTrack}
 use Rattle.composables.specs.TrackState.{TrackState}
-use Rattle.edit_insert.specs.Overwriting.{overwrite_named}
+use Rattle.edit_insert.specs.Answers.{Applied}
+use Rattle.edit_insert.specs.Edits.{extract_named, insert_named, overwrite_named, remove_named, slice_named}
 use Rattle.edit_insert.specs.TrackSets.{tracks_in}
 use Rattle.edit_apply.specs.declared.asks.Call.{Call}
 use Rattle.edit_apply.specs.declared.asks.Call.TheVariants as call
 use Rattle.edit_apply.specs.declared.asks.NamedTracks.{NamedTracks}
 use Rattle.edit_apply.specs.declared.asks.NamedTracks.TheVariants.{One, Many}
-
--- what a call leaves on the tracks that it names, in order, or the first refusal that holds
-abbrev pub Applied : Type 0
-Applied = Result (List TrackState × Done) Refusal
 
 -- a call is for its one track, or for a set of tracks
 abbrev pub named_by : Call → NamedTracks
@@ -76,10 +72,10 @@ refuse_names_of table c = option_map NoTrack (wrong_track_in (length table.kinds
 -- on the named tracks alone
 abbrev pub applied_on : Table → List TrackState → Call → Applied
 applied_on table named (call.Overwrite c) = overwrite_named table named c
-applied_on table named (call.Insert c) = Err NoItem
-applied_on table named (call.Remove c) = Err NoItem
-applied_on table named (call.Extract c) = Err NoItem
-applied_on table named (call.Slice c) = Err NoItem
+applied_on table named (call.Insert c) = insert_named table named c
+applied_on table named (call.Remove c) = remove_named named c
+applied_on table named (call.Extract c) = extract_named named c
+applied_on table named (call.Slice c) = slice_named named c
 
 -- the tracks with these numbers
 abbrev pub picked : List TrackState → List ℕ → List TrackState

@@ -1,7 +1,8 @@
 // Every call on the tracks that it names, and every question to a track.
 ghost use Rattle.std.specs.Prelude.{◌≡◌, ◌+◌, ◌*◌, ◌<◌, ◌≤◌, ◌^◌, ◌&&◌, not, All, length, nat_eq, nat_lt, sum_by};
-ghost use Rattle.composables.specs.Good.{IsGood, AllUnmarked};
+ghost use Rattle.composables.specs.Good.{IsGood, AllUnlinked};
 ghost use Rattle.composables.specs.Items.{items_of};
+ghost use Rattle.composables.specs.Roomy.{IsRoomy};
 ghost use Rattle.edit_insert.specs.Answers.{Answers, NextRises};
 ghost use Rattle.std.specs.List.{list_any};
 ghost use Rattle.edit_insert.specs.TrackSets.{has_track, tracks_in};
@@ -10,7 +11,7 @@ ghost use Rattle.edit_apply.specs.Apply.{first_absent, named_by, wrong_track_in}
 use crate::sights::view;
 use crate::{Ask, AskRefusal, Call, NamedTracks, Seen};
 use composables::{Done, EditFault, Listed, Memory, Refusal, Table, Track};
-use edit_insert::overwrite;
+use edit_insert::{extract, insert, overwrite, remove, slice};
 use std::alloc::Global;
 use std::sync::ledger::Ledger;
 use step_count::Steps;
@@ -99,13 +100,14 @@ impl Editor {
         requires names { refuse_names_of self.now.table call.now ≡ None }
         requires named { AreNamed call.now parts.old.items }
         requires good { All (λ t. IsGood self.now.table t) parts.old.items }
-        requires unmarked { All (λ t. AllUnmarked (items_of t.cells)) parts.old.items }
-        requires numbers { All (λ t. t.next_item ≤ 2 ^ 31) parts.old.items }
+        requires roomy { All IsRoomy parts.old.items }
+        requires unlinked { All (λ t. AllUnlinked (items_of t.cells)) parts.old.items }
 
         ensures answers { Answers (applied_on self.now.table parts.old.items call.now) parts.old.items parts.new.items result }
 
+        ensures named { AreNamed call.now parts.new.items }
         ensures good { All (λ t. IsGood self.now.table t) parts.new.items }
-        ensures unmarked { All (λ t. AllUnmarked (items_of t.cells)) parts.new.items }
+        ensures unlinked { All (λ t. AllUnlinked (items_of t.cells)) parts.new.items }
         ensures numbers { NextRises 2 parts.old.items parts.new.items }
 
         ensures least { steps.old + 1 ≤ steps.new }
@@ -113,10 +115,10 @@ impl Editor {
     {
         match call {
             Call::Overwrite(edit) => overwrite(alloc, &self.table, parts, edit, steps),
-            _ => {
-                steps.tick();
-                Err(EditFault::Refused(Refusal::NoItem))
-            }
+            Call::Insert(edit) => insert(alloc, &self.table, parts, edit, steps),
+            Call::Remove(edit) => remove(alloc, &self.table, parts, edit, steps),
+            Call::Extract(edit) => extract(alloc, &self.table, parts, edit, steps),
+            Call::Slice(edit) => slice(alloc, &self.table, parts, edit, steps),
         }
     }
 

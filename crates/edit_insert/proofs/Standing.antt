@@ -1,81 +1,94 @@
--- A track whose cells are those of items and gaps without dissolves, of which no two have one number, is good within
--- the limits.
-use Rattle.std.proofs.Common.{◌≡◌, ℕ, ◌<◌, ◌≤◌, ◌^◌, List, [], ◌++◌, length, sym, ap, ◌∙◌, arith, subst, drop}
-use Rattle.std.proofs.lemmas.List.{append-nil, drop_all}
+-- What an edit leaves of the facts on its tracks.
+use Rattle.std.proofs.Common.{◌≡◌, ℕ, zero, suc, ◌+◌, ◌-◌, ◌<◌, ◌≤◌, ◌^◌, List, [], ◌∷◌, ◌++◌, All, length, map, min, Option, Some, None, Result, Ok, Err, refl, sym, ap, ◌∙◌, arith, subst, get_or}
+use Rattle.std.proofs.lemmas.List.Elements.{All-cons}
 use Rattle.composables.specs.declared.items.ItemView.{ItemView}
 use Rattle.composables.specs.declared.media.Table.{Table}
-use Rattle.composables.specs.declared.TheConstants.{MAX_FRAMES, MAX_ITEMS}
-use Rattle.composables.specs.Items.{cells_of, items_of}
-use Rattle.composables.specs.Joined.{joined, IsTight}
-use Rattle.composables.specs.Good.{IsGood, AllUnmarked, EachLiesIn, EachLinkOf}
-use Rattle.composables.specs.TrackFacts.{IsKept, EachHolds, Apart, NumbersBelow, first_mark}
-use Rattle.composables.specs.TrackState.{TrackState, replaced, next_past_all}
-use Rattle.composables.proofs.Joining.{items_of-cells_of, tight-joined}
-use Rattle.composables.proofs.Keeping.{same_state}
-use Rattle.edit_insert.proofs.Plain.{EachPlain, first_unmarked, each_plain, unmarked_from_plain, filled_from_plain, holds_from_plain, ranges_from_plain, links_from_plain}
-use Rattle.edit_insert.proofs.Joins.{plain-joined, apart-joined, below-joined, cells-joined}
+use Rattle.composables.specs.declared.refusals.Done.{Done}
+use Rattle.composables.specs.declared.refusals.EditFault.{EditFault}
+use Rattle.composables.specs.declared.refusals.EditFault.TheVariants.{Refused, Memory}
+use Rattle.composables.specs.declared.refusals.Refusal.{Refusal}
+use Rattle.composables.specs.Good.{AllUnlinked, IsGood}
+use Rattle.composables.specs.Items.{items_of}
+use Rattle.composables.specs.Roomy.{IsRoomy}
+use Rattle.composables.specs.TrackState.{TrackState}
+use Rattle.edit_splice.specs.Laws.{IsWithinLimits}
+use Rattle.edit_splice.specs.Splicing.{spliced_track}
+use Rattle.edit_splice.proofs.Goodness.{good-spliced}
+use Rattle.edit_splice.proofs.Outcomes.{next-bounds, unlinked-spliced}
+use Rattle.edit_insert.specs.Answers.{Answers, NextRises}
+use Rattle.edit_insert.specs.Limits.{track_within_limits}
+use Rattle.edit_insert.specs.Standing.{StaysGood, EachStaysGood}
+use Rattle.edit_insert.proofs.Limits.{within-done}
+use Rattle.edit_insert.proofs.Put.{PutIn}
 
--- what stands on a good track without dissolves
-pub plain_items : (table : Table) (t : TrackState) → IsGood table t → AllUnmarked (items_of t.cells) → EachPlain table t.number (items_of t.cells)
-plain_items table t g u = each_plain table t.number (items_of t.cells) g.kept.each u g.ranges g.links
+pub stays-self : (table : Table) (t : TrackState) → IsGood table t → StaysGood table t t
+stays-self table t g = record { good = g; number = refl; item = omega arith; link = refl; unlinked = λ u. u }
 
--- its items and gaps are apart
-pub tight_items : (table : Table) (t : TrackState) → IsGood table t → AllUnmarked (items_of t.cells) → IsTight (items_of t.cells)
-tight_items table t g u =
-    let P : List ItemView → Type 0 = λ vs. IsTight vs in
-    let filled = filled_from_plain table t.number (items_of t.cells) (plain_items table t g u) in
-    let same : joined (items_of t.cells) ≡ items_of t.cells = sym (items_of-cells_of (items_of t.cells) filled) ∙ ap items_of g.kept.whole in
-    subst P same (tight-joined (items_of t.cells))
-
--- items and gaps that may stand on a track, of which gaps may meet
-pub record Stands (table : Table) (number next : ℕ) (ws : List ItemView) : Type 0 where
-  pub plain : EachPlain table number ws
-  pub apart : Apart ws
-  pub below : NumbersBelow next ws
-
-pub items_stand : (table : Table) (u : TrackState) (ws : List ItemView) → u.cells ≡ cells_of ws → Stands table u.number u.next_item ws → items_of u.cells ≡ joined ws
-items_stand table u ws is s = ap items_of is ∙ items_of-cells_of ws (filled_from_plain table u.number ws s.plain)
-
-pub kept_stand : (table : Table) (u : TrackState) (ws : List ItemView) → u.cells ≡ cells_of ws → Stands table u.number u.next_item ws → length u.cells < 2 ^ 32 → IsKept u
-kept_stand table u ws is s short =
-    let items = items_stand table u ws is s in
-    let plain = plain-joined table u.number ws s.plain s.apart in
-    let E : List ItemView → Type 0 = λ vs. EachHolds vs in
-    let A : List ItemView → Type 0 = λ vs. Apart vs in
-    let B : List ItemView → Type 0 = λ vs. NumbersBelow u.next_item vs in
+pub stays-spliced : (table : Table) (t : TrackState) (x y : ℕ) (views : List ItemView) → IsGood table t → x ≤ y → y ≤ length t.cells → PutIn table t views
+    → IsWithinLimits (spliced_track t x y views) → StaysGood table t (spliced_track t x y views)
+stays-spliced table t x y views g le within p limits =
+    let next : (spliced_track t x y views).next_item ≤ t.next_item + 1 + 1 = (next-bounds t x y 1 views p.numbers).1 in
     record {
-      whole = ap cells_of items ∙ (cells-joined table u.number ws s.plain s.apart ∙ sym is);
-      not_before = ap first_mark items ∙ first_unmarked (joined ws) (unmarked_from_plain table u.number (joined ws) plain);
-      each = subst E (sym items) (holds_from_plain table u.number (joined ws) plain);
-      apart = subst A (sym items) (apart-joined ws s.apart);
-      below = subst B (sym items) (below-joined u.next_item ws s.below);
-      short = short;
+      good = good-spliced table t x y views g le within p.new limits;
+      number = refl;
+      item = omega (arith, next);
+      link = refl;
+      unlinked = λ u. unlinked-spliced t x y views g.kept u p.unlinked;
     }
 
-pub good_stand : (table : Table) (u : TrackState) (ws : List ItemView) → u.cells ≡ cells_of ws → Stands table u.number u.next_item ws → length u.cells ≤ MAX_FRAMES → length (items_of u.cells) ≤ MAX_ITEMS → IsGood table u
-good_stand table u ws is s frames count =
-    let items = items_stand table u ws is s in
-    let plain = plain-joined table u.number ws s.plain s.apart in
-    let R : List ItemView → Type 0 = λ vs. EachLiesIn table vs in
-    let L : List ItemView → Type 0 = λ vs. EachLinkOf u.number vs in
-    record {
-      kept = kept_stand table u ws is s (omega (arith, frames));
-      ranges = subst R (sym items) (ranges_from_plain table u.number (joined ws) plain);
-      links = subst L (sym items) (links_from_plain table u.number (joined ws) plain);
-      frames = frames;
-      items = count;
-    }
+-- an edit that puts items into one track
+pub stays-placed : (table : Table) (t u : TrackState) (x y : ℕ) (views : List ItemView) (done : Done) (result : Result Done EditFault)
+    → IsGood table t → x ≤ y → y ≤ length t.cells → PutIn table t views
+    → Answers (track_within_limits (spliced_track t x y views) done) t u result → StaysGood table t u
+stays-placed table t u x y views done (Ok d) g le within p a =
+    let k : (u ≡ spliced_track t x y views) × (d ≡ done) × IsWithinLimits (spliced_track t x y views) = within-done (spliced_track t x y views) done u d a in
+    subst (StaysGood table t) (sym k.0) (stays-spliced table t x y views g le within p k.2)
+stays-placed table t u x y views done (Err (Refused why)) g le within p a = subst (StaysGood table t) (sym a.1) (stays-self table t g)
+stays-placed table t u x y views done (Err Memory) g le within p a = subst (StaysGood table t) (sym a) (stays-self table t g)
 
-pub unmarked_stand : (table : Table) (u : TrackState) (ws : List ItemView) → u.cells ≡ cells_of ws → Stands table u.number u.next_item ws → AllUnmarked (items_of u.cells)
-unmarked_stand table u ws is s =
-    let U : List ItemView → Type 0 = λ vs. AllUnmarked vs in
-    subst U (sym (items_stand table u ws is s)) (unmarked_from_plain table u.number (joined ws) (plain-joined table u.number ws s.plain s.apart))
+-- a refusal leaves it as it is
+pub stays-refused : (table : Table) (t u : TrackState) (why : Refusal) (result : Result Done EditFault) → IsGood table t → Answers (Err why) t u result → StaysGood table t u
+stays-refused table t u why (Ok d) g a = absurd (Prim.grind (arith, a))
+stays-refused table t u why (Err (Refused r)) g a = subst (StaysGood table t) (sym a.1) (stays-self table t g)
+stays-refused table t u why (Err Memory) g a = subst (StaysGood table t) (sym a) (stays-self table t g)
 
--- a track of which all items and gaps were replaced
-pub replaced_whole : (t : TrackState) (n : ℕ) (zs : List ItemView) (u : TrackState) → n ≡ length (items_of t.cells) → u.number ≡ t.number → u.next_link ≡ t.next_link → u.cells ≡ cells_of zs → u.next_item ≡ next_past_all t.next_item zs
-    → replaced t 0 n zs ≡ u
-replaced_whole t n zs u all number link cells next =
-    let none : drop n (items_of t.cells) ≡ [] = drop_all n (items_of t.cells) (omega (arith, all)) in
-    same_state t.number t.next_link _ _ _ _ (ap (λ vs. cells_of zs ++ cells_of vs) none ∙ (append-nil (cells_of zs) ∙ sym cells)) (sym next)
-    ∙ (ap (λ (k : ℕ). record { number = k; cells = u.cells; next_item = u.next_item; next_link = t.next_link }) (sym number)
-    ∙ ap (λ (k : ℕ). record { number = u.number; cells = u.cells; next_item = u.next_item; next_link = k }) (sym link))
+-- all tracks
+pub all_head : {A : Type 0} (P : A → Type 0) (x : A) (xs : List A) → All P (x ∷ xs) → P x
+all_head P x xs h = h 0 x (omega arith)
+
+pub all_tail : {A : Type 0} (P : A → Type 0) (x : A) (xs : List A) → All P (x ∷ xs) → All P xs
+all_tail P x xs h k d lt = h (suc k) d (omega (arith, lt))
+
+pub all_none : {A : Type 0} (P : A → Type 0) → All P []
+all_none P k d lt = absurd (omega (arith, lt))
+
+pub each-self : (table : Table) (ts : List TrackState) → All (IsGood table) ts → EachStaysGood table ts ts
+each-self table [] h = tt
+each-self table (t ∷ ts) h = (stays-self table t (all_head (IsGood table) t ts h), each-self table ts (all_tail (IsGood table) t ts h))
+
+pub each-good : (table : Table) (ts us : List TrackState) → EachStaysGood table ts us → All (IsGood table) us
+each-good table [] [] h = all_none (IsGood table)
+each-good table [] (u ∷ us) h = absurd h
+each-good table (t ∷ ts) [] h = absurd h
+each-good table (t ∷ ts) (u ∷ us) h = All-cons (IsGood table) u us h.0.good (each-good table ts us h.1)
+
+pub each-numbers : (table : Table) (ts us : List TrackState) → EachStaysGood table ts us → map (λ (t : TrackState). t.number) us ≡ map (λ (t : TrackState). t.number) ts
+each-numbers table [] [] h = refl
+each-numbers table [] (u ∷ us) h = absurd h
+each-numbers table (t ∷ ts) [] h = absurd h
+each-numbers table (t ∷ ts) (u ∷ us) h =
+    ap (λ (n : ℕ). n ∷ map (λ (t : TrackState). t.number) us) h.0.number ∙ ap (λ (ns : List ℕ). t.number ∷ ns) (each-numbers table ts us h.1)
+
+pub each-rises : (table : Table) (ts us : List TrackState) → EachStaysGood table ts us → NextRises 2 ts us
+each-rises table [] [] h = tt
+each-rises table [] (u ∷ us) h = absurd h
+each-rises table (t ∷ ts) [] h = absurd h
+each-rises table (t ∷ ts) (u ∷ us) h = (h.0.number, h.0.item, h.0.link, each-rises table ts us h.1)
+
+pub each-unlinked : (table : Table) (ts us : List TrackState) → EachStaysGood table ts us → All (λ (t : TrackState). AllUnlinked (items_of t.cells)) ts → All (λ (t : TrackState). AllUnlinked (items_of t.cells)) us
+each-unlinked table [] [] h a = a
+each-unlinked table [] (u ∷ us) h a = absurd h
+each-unlinked table (t ∷ ts) [] h a = absurd h
+each-unlinked table (t ∷ ts) (u ∷ us) h a =
+    All-cons (λ (t : TrackState). AllUnlinked (items_of t.cells)) u us (h.0.unlinked (all_head (λ (t : TrackState). AllUnlinked (items_of t.cells)) t ts a))
+      (each-unlinked table ts us h.1 (all_tail (λ (t : TrackState). AllUnlinked (items_of t.cells)) t ts a))

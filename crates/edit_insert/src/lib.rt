@@ -1,14 +1,19 @@
-//! The edits that put items into a track and take them out of it.
+//! The edits that put items into tracks and take them out of them.
 //!
-//! The main contract is that each call leaves on its track, and answers, exactly what its meaning says as a list of
-//! cells; after a refusal, and for want of memory, the track is as it was. So far: `overwrite`.
+//! The main contract is that each call leaves on its tracks, and answers, exactly what its meaning says as a list of
+//! cells; after a refusal, and for want of memory, all tracks are as they were.
 #![tactic(auto)]
 
+mod few;
+mod inserting;
 mod overwriting;
-mod parts;
+mod owning;
+mod placing;
+mod removing;
+mod shifting;
 mod sources;
 
+pub use inserting::{extract, insert};
 pub use overwriting::overwrite;
-
-#[cfg(test)]
-mod tests;
+pub use removing::{remove, slice};
+pub use shifting::{Shift, shift_tracks};

@@ -1,19 +1,17 @@
 // Overwrite: a new item over places of a track.
-ghost use Rattle.std.specs.Prelude.{◌≡◌, ◌+◌, ◌*◌, ◌<◌, ◌≤◌, ◌^◌, All, IfOk, length, vec_len, sum_by};
+ghost use Rattle.std.specs.Prelude.{◌≡◌, ◌+◌, ◌*◌, ◌<◌, ◌≤◌, [], ◌∷◌, All, length, map, sum_by};
+ghost use Rattle.composables.specs.Good.{IsGood, AllUnlinked};
 ghost use Rattle.composables.specs.Items.{items_of};
-ghost use Rattle.composables.specs.Joined.{AllFilled, IsTight, joined, frames_in};
-ghost use Rattle.composables.specs.TrackFacts.{HasSource, IsKept, NumbersBelow};
-ghost use Rattle.composables.specs.Good.{IsGood, AllUnmarked};
+ghost use Rattle.composables.specs.Roomy.{IsRoomy};
+ghost use Rattle.composables.specs.TrackState.{TrackState};
 ghost use Rattle.edit_insert.specs.Answers.{Answers, NextRises};
-ghost use Rattle.edit_insert.specs.Limits.{within_limits};
-ghost use Rattle.edit_insert.specs.Overwriting.{overwrite_on, overwrite_named};
-ghost use Rattle.edit_insert.specs.Parts.{all_replaced, overwritten_views};
+ghost use Rattle.edit_insert.specs.Edits.{overwrite_named, overwrite_track};
+ghost use Rattle.edit_insert.specs.Standing.{StaysGood};
 
-use crate::parts::{all_items, overwritten_items};
+use crate::few::Few;
+use crate::placing::place;
 use crate::sources::source_refusal;
-use composables::{
-    Done, EditFault, ItemView, MAX_FRAMES, MAX_ITEMS, Memory, Overwrite, Refusal, Table, Track,
-};
+use composables::{Done, EditFault, ItemView, MAX_FRAMES, Overwrite, Refusal, Table, Track};
 use std::alloc::Global;
 use std::sync::ledger::Ledger;
 use step_count::Steps;
@@ -31,24 +29,21 @@ pub fn overwrite<L: Ledger>(
     call: &Overwrite,
     steps: &mut Steps<L>,
 ) -> Result<Done, EditFault>
-    requires one { length named.old.items ≡ 1 }
-    requires track { All (λ t. t.number ≡ call.now.track) named.old.items }
+    requires named { map (λ (t : TrackState). t.number) named.old.items ≡ call.now.track ∷ [] }
     requires good { All (λ t. IsGood table.now t) named.old.items }
-    requires unmarked { All (λ t. AllUnmarked (items_of t.cells)) named.old.items }
-    requires next { All (λ t. t.next_item ≤ 2 ^ 31) named.old.items }
-    requires kinds { call.now.track < length table.now.kinds }
+    requires roomy { All (λ t. IsRoomy t) named.old.items }
 
     ensures answers { Answers (overwrite_named table.now named.old.items call.now) named.old.items named.new.items result }
 
-    ensures one { length named.new.items ≡ 1 }
-    ensures track { All (λ t. t.number ≡ call.now.track) named.new.items }
+    ensures named { map (λ (t : TrackState). t.number) named.new.items ≡ call.now.track ∷ [] }
     ensures good { All (λ t. IsGood table.now t) named.new.items }
-    ensures unmarked { All (λ t. AllUnmarked (items_of t.cells)) named.new.items }
-    ensures next { NextRises 2 named.old.items named.new.items }
+    ensures unlinked { All (λ t. AllUnlinked (items_of t.cells)) named.old.items → All (λ t. AllUnlinked (items_of t.cells)) named.new.items }
+    ensures numbers { NextRises 2 named.old.items named.new.items }
 
     ensures least { steps.old + 1 ≤ steps.new }
     ensures most { steps.new ≤ steps.old + 32 * sum_by (λ t. length (items_of t.cells) + 64) named.old.items }
 {
+    steps.tick();
     overwrite_track(alloc, table, &mut named[0], call, steps)
 }
 
@@ -61,20 +56,12 @@ fn overwrite_track<L: Ledger>(
     steps: &mut Steps<L>,
 ) -> Result<Done, EditFault>
     requires good { IsGood table.now track.old }
-    requires unmarked { AllUnmarked (items_of track.old.cells) }
-    requires next { track.old.next_item ≤ 2 ^ 31 }
-
-    ensures answers { Answers (overwrite_on table.now track.old call.now) track.old track.new result }
-
-    ensures good { IsGood table.now track.new }
-    ensures unmarked { AllUnmarked (items_of track.new.cells) }
-    ensures number { track.new.number ≡ track.old.number }
-    ensures next { track.new.next_item ≤ track.old.next_item + 2 }
-
-    ensures least { steps.old + 1 ≤ steps.new }
-    ensures most { steps.new ≤ steps.old + 32 * (length (items_of track.old.cells) + 64) }
+    requires roomy { IsRoomy track.old }
+    ensures answers { Answers (overwrite_track table.now call.now track.old) track.old track.new result }
+    ensures good { StaysGood table.now track.old track.new }
+    ensures least { steps.old ≤ steps.new }
+    ensures most { steps.new ≤ steps.old + 16 * (length (items_of track.old.cells) + 64) }
 {
-    steps.tick();
     match source_refusal(table, track.number(), call.what, call.from, call.len) {
         Some(refusal) => return Err(EditFault::Refused(refusal)),
         None => {}
@@ -82,62 +69,17 @@ fn overwrite_track<L: Ledger>(
     if u64::from(call.at) + u64::from(call.len) > u64::from(MAX_FRAMES) {
         return Err(EditFault::Refused(Refusal::TooLong(track.number())));
     }
+    let length = track.length();
     let number = track.next_item();
-    match changed_items(alloc, track, call, steps) {
-        Ok(items) => put_items(track, items, Done::Item(number), steps),
-        Err(_) => Err(EditFault::Memory),
-    }
-}
-
-// The items and gaps that the track is to have.
-fn changed_items<L: Ledger>(
-    alloc: Global,
-    track: &Track,
-    call: &Overwrite,
-    steps: &mut Steps<L>,
-) -> Result<Vec<ItemView>, Memory>
-    requires tight { IsTight (items_of track.now.cells) }
-    requires sources { All (λ v. HasSource v.first v.len 0 0) (items_of track.now.cells) }
-    requires frames { frames_in (overwritten_views (items_of track.now.cells) (length track.now.cells) call.now track.now.next_item) < 2 ^ 32 }
-    requires end { call.now.at + call.now.len < 2 ^ 32 }
-    requires number { track.now.next_item + 1 < 2 ^ 32 }
-    ensures items { IfOk result (λ items. items.items ≡ joined (overwritten_views (items_of track.now.cells) (length track.now.cells) call.now track.now.next_item)) }
-    ensures least { steps.old ≤ steps.new }
-    ensures most { steps.new ≤ steps.old + 4 * length (items_of track.now.cells) }
-{
-    let items = all_items(alloc, track, steps)?;
-    overwritten_items(
+    let item = ItemView::clip(number, call.what, call.from, call.len);
+    let items = Few::of(call.at.saturating_sub(length), Some(item));
+    place(
         alloc,
-        &items,
-        track.length(),
-        call,
-        track.next_item(),
+        track,
+        call.at.min(length),
+        (call.at + call.len).min(length),
+        items.as_slice(),
+        Done::Item(number),
         steps,
     )
-}
-
-// Puts items and gaps in place of all of the track's, unless they are too many.
-fn put_items<L: Ledger>(
-    track: &mut Track,
-    items: Vec<ItemView>,
-    done: Done,
-    steps: &mut Steps<L>,
-) -> Result<Done, EditFault>
-    requires filled { AllFilled items.items }
-    requires numbers { NumbersBelow 4294967295 items.items }
-    requires kept { IsKept (all_replaced track.old items.items) }
-    requires frames { length (all_replaced track.old items.items).cells ≤ MAX_FRAMES }
-    requires items { items_of (all_replaced track.old items.items).cells ≡ items.items }
-    ensures answers { Answers (within_limits (all_replaced track.old items.items) done) track.old track.new result }
-    ensures least { steps.old ≤ steps.new }
-    ensures most { steps.new ≤ steps.old + length (items_of track.old.cells) + 64 + vec_len items }
-{
-    if items.len() > MAX_ITEMS as usize {
-        return Err(EditFault::Refused(Refusal::TooManyItems(track.number())));
-    }
-    let count = track.count();
-    match track.replace(0, count, items, steps) {
-        Ok(()) => Ok(done),
-        Err(_) => Err(EditFault::Memory),
-    }
 }

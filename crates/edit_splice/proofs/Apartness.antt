@@ -7,7 +7,8 @@ use Rattle.composables.specs.declared.items.ItemView.{ItemView}
 use Rattle.composables.specs.TrackFacts.{Lacks, Apart, NumbersBelow}
 use Rattle.composables.proofs.Joining.{same-is, same-refl}
 use Rattle.edit_splice.specs.declared.seams.Held.{Held}
-use Rattle.edit_splice.specs.Parts.{split_number, front_view, later_view, renumbered_view}
+use Rattle.composables.specs.Views.{later_view}
+use Rattle.edit_splice.specs.Parts.{split_number, front_view, renumbered_view}
 use Rattle.edit_splice.specs.NewItems.{NumbersFrom}
 use Rattle.edit_splice.proofs.Numbers.{renumbered-item}
 use Rattle.edit_splice.proofs.Ends.{first_kept}

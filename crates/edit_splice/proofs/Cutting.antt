@@ -8,12 +8,12 @@ use Rattle.frame_meaning.specs.declared.cells.Link.{Link}
 use Rattle.frame_meaning.specs.declared.frames.Side.{Side}
 use Rattle.frame_meaning.specs.declared.frames.Side.TheVariants.{Dark, Pic}
 use Rattle.frame_meaning.specs.Cells.{later_side, same_number}
-use Rattle.frame_meaning.specs.Splice.{kept_before, kept_behind}
 use Rattle.composables.specs.declared.items.ItemView.{ItemView}
 use Rattle.composables.specs.Joined.{IsTight}
 use Rattle.composables.specs.TrackFacts.{ShowsAsItem, HasSource, IsNoNest, Holds, EachHolds, first_mark, left_reach, right_reach}
 use Rattle.composables.proofs.Joining.{same-is}
-use Rattle.edit_splice.specs.Parts.{front_view, later_view, after_view, renumbered_view}
+use Rattle.composables.specs.Views.{later_view}
+use Rattle.edit_splice.specs.Parts.{kept_before, kept_behind, front_view, after_view, renumbered_view}
 use Rattle.edit_splice.specs.NewItems.{MeetsFirst, Meet}
 use Rattle.edit_splice.proofs.Ends.{first_kept}
 
@@ -162,7 +162,7 @@ meet-tight [] t = tt
 meet-tight (r ∷ []) t = (tt, tt)
 meet-tight (r ∷ s ∷ rs) t = ((λ e f. absurd (two_gaps r.item s.item t.0 e f)), meet-tight (s ∷ rs) t.1)
 
-tight_front : (us : List ItemView) (v : ItemView) (ws : List ItemView) (n : ℕ) → IsTight (us ++ v ∷ ws) → IsTight (us ++ front_view v n ∷ [])
+pub tight_front : (us : List ItemView) (v : ItemView) (ws : List ItemView) (n : ℕ) → IsTight (us ++ v ∷ ws) → IsTight (us ++ front_view v n ∷ [])
 tight_front [] v ws n t = tt
 tight_front (u ∷ []) v ws n t = (t.0, tt)
 tight_front (u ∷ w ∷ us) v ws n t = (t.0, tight_front (w ∷ us) v ws n t.1)

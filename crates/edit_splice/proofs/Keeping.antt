@@ -2,7 +2,7 @@
 use Rattle.std.proofs.Common.{◌≡◌, ℕ, zero, suc, ◌+◌, ◌-◌, ◌<◌, ◌≤◌, ◌^◌, List, [], ◌∷◌, ◌++◌, length, map, min, Option, Some, None, IfSome, refl, sym, ap, ◌∙◌, arith, take, drop, slice_get, subst, append_assoc}
 use Rattle.std.proofs.lemmas.List.{drop_all, length-append, length-take, length-drop, length-map}
 use Rattle.frame_meaning.specs.declared.cells.Cell.{Cell}
-use Rattle.frame_meaning.specs.Splice.{before_splice, behind_splice, renumbered, split_item, spliced, next_after_splice}
+use Rattle.frame_meaning.specs.Splice.{Rule, kept_or_dropped, with_marks, renumbered, split_item, spliced, next_after_splice}
 use Rattle.composables.specs.declared.items.ItemView.{ItemView}
 use Rattle.composables.specs.Items.{cells_of, items_of}
 use Rattle.composables.specs.Joined.{frames_in, IsTight, joined}
@@ -11,11 +11,13 @@ use Rattle.composables.specs.TrackState.{TrackState, next_past_all}
 use Rattle.composables.proofs.Joining.{cells_of-append, items_of-cells_of, tight-joined, length-cells_of}
 use Rattle.edit_splice.specs.declared.seams.Held.{Held}
 use Rattle.edit_splice.specs.declared.seams.Seams.{Seams}
-use Rattle.edit_splice.specs.Parts.{AreSeams, EndsAt, StandsFrom, view_after, split_number, front_view, front_views, later_view, renumbered_view, back_views, after_views, parts_between, first_index, end_at, end_index}
+use Rattle.composables.specs.Views.{later_view}
+use Rattle.edit_splice.specs.Parts.{AreSeams, EndsAt, StandsFrom, view_after, split_number, front_view, front_views, renumbered_view, back_views, after_views, parts_between, first_index, end_at, end_index}
 use Rattle.edit_splice.specs.Splicing.{spliced_track}
 use Rattle.edit_splice.specs.NewItems.{AreNew, NumbersFrom, Meet}
 use Rattle.edit_splice.proofs.Ends.{split-at, drop-some, holds-at, below-read, first_kept, after-parts, index-order}
 use Rattle.edit_splice.proofs.Numbers.{below-weaker, below-append, next-rises, below-next}
+use Rattle.edit_splice.proofs.Surviving.{length-marks}
 use Rattle.edit_splice.proofs.Whole.{cells-spliced, next-spliced}
 use Rattle.edit_splice.proofs.Meeting.{apart-joined, below-joined, mark-joined, each-joined, cells-joined, filled-each}
 use Rattle.edit_splice.proofs.Cutting.{each-front, each-back, back-bare, tight-at, meet-front, meet-back, meet-append, each-append, mark-append, mark-front}
@@ -23,23 +25,23 @@ use Rattle.edit_splice.proofs.Apartness.{Foreign, apart-append, foreign-append, 
 use Rattle.edit_splice.proofs.Existing.{seams-exist}
 
 -- what stands before the range and what stands behind it
-abbrev before_range : List ItemView → Option Held → ℕ → List ItemView
+abbrev pub before_range : List ItemView → Option Held → ℕ → List ItemView
 before_range vs l x = take (first_index l) vs ++ front_views l x
 
-abbrev behind_range : List ItemView → Option Held → Option Held → Option ItemView → ℕ → ℕ → List ItemView
+abbrev pub behind_range : List ItemView → Option Held → Option Held → Option ItemView → ℕ → ℕ → List ItemView
 behind_range vs l r o y fresh = (back_views r y (split_number l r) fresh ++ after_views r o y) ++ drop (end_at r o (length vs)) vs
 
 -- items and gaps that may stand in a row once gaps that meet are one
-record Sound (zs : List ItemView) : Type 0 where
-  each : EachHolds zs
-  first : first_mark zs ≡ None
-  meet : Meet zs
-  apart : Apart zs
+pub record Sound (zs : List ItemView) : Type 0 where
+  pub each : EachHolds zs
+  pub first : first_mark zs ≡ None
+  pub meet : Meet zs
+  pub apart : Apart zs
 
 sound_nothing : Sound []
 sound_nothing = record { each = tt; first = refl; meet = tt; apart = tt }
 
-sound_append : (xs ys : List ItemView) → Sound xs → Sound ys → Foreign xs ys → Sound (xs ++ ys)
+pub sound_append : (xs ys : List ItemView) → Sound xs → Sound ys → Foreign xs ys → Sound (xs ++ ys)
 sound_append xs ys s t f = record {
   each = each-append xs ys s.each t.each t.first;
   first = mark-append xs ys s.first t.first;
@@ -47,18 +49,18 @@ sound_append xs ys s t f = record {
   apart = apart-append xs ys s.apart t.apart f;
 }
 
-sound_new : (next : ℕ) (views : List ItemView) → AreNew next views → Sound views
+pub sound_new : (next : ℕ) (views : List ItemView) → AreNew next views → Sound views
 sound_new next views n = record { each = n.each; first = n.first; meet = n.meet; apart = n.apart }
 
 -- the items and gaps of a track
-record Stand (next : ℕ) (vs : List ItemView) : Type 0 where
-  each : EachHolds vs
-  first : first_mark vs ≡ None
-  tight : IsTight vs
-  apart : Apart vs
-  below : NumbersBelow next vs
+pub record Stand (next : ℕ) (vs : List ItemView) : Type 0 where
+  pub each : EachHolds vs
+  pub first : first_mark vs ≡ None
+  pub tight : IsTight vs
+  pub apart : Apart vs
+  pub below : NumbersBelow next vs
 
-stand_of : (t : TrackState) → IsKept t → Stand t.next_item (items_of t.cells)
+pub stand_of : (t : TrackState) → IsKept t → Stand t.next_item (items_of t.cells)
 stand_of t k =
     let vs : List ItemView = items_of t.cells in
     let P : List ItemView → Type 0 = λ zs. IsTight zs in
@@ -73,14 +75,14 @@ sound_front next us v ws n s some le = record {
   apart = apart-front us v ws n s.apart;
 }
 
-sound_before : (next : ℕ) (cs : List Cell) (x : ℕ) (l : Option Held) → Stand next (items_of cs) → EndsAt cs x l → Sound (before_range (items_of cs) l x)
+pub sound_before : (next : ℕ) (cs : List Cell) (x : ℕ) (l : Option Held) → Stand next (items_of cs) → EndsAt cs x l → Sound (before_range (items_of cs) l x)
 sound_before next cs x None s e = sound_nothing
 sound_before next cs x (Some g) s e =
     let vs : List ItemView = items_of cs in
     let P : List ItemView → Type 0 = λ zs. Stand next zs in
     sound_front next (take g.index vs) g.view (drop (suc g.index) vs) (x - g.from) (subst P (split-at vs g.index g.view e.1.read) s) (omega (arith, e.0, e.1.begins)) (omega (arith, e.0, e.1.ends))
 
-below_before : (next : ℕ) (cs : List Cell) (x : ℕ) (l : Option Held) → Stand next (items_of cs) → EndsAt cs x l → NumbersBelow next (before_range (items_of cs) l x)
+pub below_before : (next : ℕ) (cs : List Cell) (x : ℕ) (l : Option Held) → Stand next (items_of cs) → EndsAt cs x l → NumbersBelow next (before_range (items_of cs) l x)
 below_before next cs x None s e = tt
 below_before next cs x (Some g) s e =
     let vs : List ItemView = items_of cs in
@@ -88,7 +90,7 @@ below_before next cs x (Some g) s e =
     below-front next (take g.index vs) g.view (drop (suc g.index) vs) (x - g.from) (subst P (split-at vs g.index g.view e.1.read) s.below)
 
 -- behind the range
-stand_at : (next : ℕ) (us : List ItemView) (v : ItemView) (ws : List ItemView) → Stand next (us ++ v ∷ ws) → EachHolds (v ∷ ws) × IsTight (v ∷ ws) × Apart (v ∷ ws) × NumbersBelow next (v ∷ ws)
+pub stand_at : (next : ℕ) (us : List ItemView) (v : ItemView) (ws : List ItemView) → Stand next (us ++ v ∷ ws) → EachHolds (v ∷ ws) × IsTight (v ∷ ws) × Apart (v ∷ ws) × NumbersBelow next (v ∷ ws)
 stand_at next us v ws s = (holds-at us v ws s.each, tight-at us v ws s.tight, all_apart us v ws s.apart, all_below next us v ws s.below) where
   all_apart : (us : List ItemView) (v : ItemView) (ws : List ItemView) → Apart (us ++ v ∷ ws) → Apart (v ∷ ws)
   all_apart [] v ws a = a
@@ -98,14 +100,14 @@ stand_at next us v ws s = (holds-at us v ws s.each, tight-at us v ws s.tight, al
   all_below n [] v ws b = b
   all_below n (u ∷ us) v ws b = all_below n us v ws b.1
 
-abbrev kept_behind_range : List ItemView → Option Held → Held → ℕ → ℕ → List ItemView
+abbrev pub kept_behind_range : List ItemView → Option Held → Held → ℕ → ℕ → List ItemView
 kept_behind_range vs l h y fresh = renumbered_view (split_number l (Some h)) fresh (later_view h.view (y - h.from)) ∷ first_kept (h.view.len - (y - h.from)) (drop (suc h.index) vs)
 
-behind_is : (vs : List ItemView) (l : Option Held) (h : Held) (o : Option ItemView) (y fresh : ℕ) → o ≡ slice_get vs (h.index + 1) → behind_range vs l (Some h) o y fresh ≡ kept_behind_range vs l h y fresh
+pub behind_is : (vs : List ItemView) (l : Option Held) (h : Held) (o : Option ItemView) (y fresh : ℕ) → o ≡ slice_get vs (h.index + 1) → behind_range vs l (Some h) o y fresh ≡ kept_behind_range vs l h y fresh
 behind_is vs l h o y fresh e =
     ap (λ zs. renumbered_view (split_number l (Some h)) fresh (later_view h.view (y - h.from)) ∷ zs) (after-parts vs h o y (length vs) e)
 
-behind_none : (vs : List ItemView) (l : Option Held) (o : Option ItemView) (y fresh : ℕ) → behind_range vs l None o y fresh ≡ []
+pub behind_none : (vs : List ItemView) (l : Option Held) (o : Option ItemView) (y fresh : ℕ) → behind_range vs l None o y fresh ≡ []
 behind_none vs l o y fresh = drop_all (length vs) vs (omega arith)
 
 sound_back : (next fresh k : ℕ) (s : Option ℕ) (v : ItemView) (ws : List ItemView) → next ≤ fresh → k < v.len → EachHolds (v ∷ ws) → IsTight (v ∷ ws) → Apart (v ∷ ws) → NumbersBelow next (v ∷ ws)
@@ -117,7 +119,7 @@ sound_back next fresh k s v ws le lt h t a b = record {
   apart = apart-back s fresh k (v.len - k) v ws a (lacks-below next fresh ws b.1 le);
 }
 
-sound_behind : (next fresh : ℕ) (cs : List Cell) (y : ℕ) (l r : Option Held) (o : Option ItemView) → next ≤ fresh → Stand next (items_of cs) → StandsFrom cs y r → o ≡ view_after (items_of cs) r → Sound (behind_range (items_of cs) l r o y fresh)
+pub sound_behind : (next fresh : ℕ) (cs : List Cell) (y : ℕ) (l r : Option Held) (o : Option ItemView) → next ≤ fresh → Stand next (items_of cs) → StandsFrom cs y r → o ≡ view_after (items_of cs) r → Sound (behind_range (items_of cs) l r o y fresh)
 sound_behind next fresh cs y l None o le s e is =
     let P : List ItemView → Type 0 = λ zs. Sound zs in
     subst P (sym (behind_none (items_of cs) l o y fresh)) sound_nothing
@@ -137,7 +139,7 @@ foreign_nothing (x ∷ xs) = (nothing x.item, foreign_nothing xs) where
   nothing None = tt
   nothing (Some i) = tt
 
-foreign_sides : (next fresh : ℕ) (cs : List Cell) (x y : ℕ) (l r : Option Held) (o : Option ItemView) → next ≤ fresh → x ≤ y → Stand next (items_of cs) → EndsAt cs x l → StandsFrom cs y r → o ≡ view_after (items_of cs) r
+pub foreign_sides : (next fresh : ℕ) (cs : List Cell) (x y : ℕ) (l r : Option Held) (o : Option ItemView) → next ≤ fresh → x ≤ y → Stand next (items_of cs) → EndsAt cs x l → StandsFrom cs y r → o ≡ view_after (items_of cs) r
     → Foreign (before_range (items_of cs) l x) (behind_range (items_of cs) l r o y fresh)
 foreign_sides next fresh cs x y None r o le order s e f is = tt
 foreign_sides next fresh cs x y (Some g) None o le order s e f is =
@@ -155,7 +157,7 @@ foreign_sides next fresh cs x y (Some g) (Some h) o le order s e f is =
       below_take n (suc i) [] b = tt
       below_take n (suc i) (v ∷ vs) b = (b.0, below_take n i vs b.1)
 
-foreign_behind : (next fresh : ℕ) (cs : List Cell) (y : ℕ) (l r : Option Held) (o : Option ItemView) (views : List ItemView) → Stand next (items_of cs) → StandsFrom cs y r → o ≡ view_after (items_of cs) r → NumbersFrom next views → NumbersBelow fresh views
+pub foreign_behind : (next fresh : ℕ) (cs : List Cell) (y : ℕ) (l r : Option Held) (o : Option ItemView) (views : List ItemView) → Stand next (items_of cs) → StandsFrom cs y r → o ≡ view_after (items_of cs) r → NumbersFrom next views → NumbersBelow fresh views
     → Foreign views (behind_range (items_of cs) l r o y fresh)
 foreign_behind next fresh cs y l None o views s f is above below =
     let P : List ItemView → Type 0 = λ zs. Foreign views zs in
@@ -169,10 +171,10 @@ foreign_behind next fresh cs y l (Some h) o views s f is above below =
     (foreign-back-new (split_number l (Some h)) next fresh (y - h.from) (h.view.len - (y - h.from)) views h.view (drop (suc h.index) vs) above below at.3)
 
 -- all of it
-abbrev all_parts : List ItemView → Seams → ℕ → ℕ → List ItemView → ℕ → List ItemView
+abbrev pub all_parts : List ItemView → Seams → ℕ → ℕ → List ItemView → ℕ → List ItemView
 all_parts vs s x y views fresh = (before_range vs s.left x ++ views) ++ behind_range vs s.left s.right s.after y fresh
 
-sound_all : (next : ℕ) (cs : List Cell) (x y : ℕ) (s : Seams) (views : List ItemView) → x ≤ y → Stand next (items_of cs) → AreSeams cs x y s → AreNew next views
+pub sound_all : (next : ℕ) (cs : List Cell) (x y : ℕ) (s : Seams) (views : List ItemView) → x ≤ y → Stand next (items_of cs) → AreSeams cs x y s → AreNew next views
     → Sound (all_parts (items_of cs) s x y views (next_past_all next views))
 sound_all next cs x y s views order t a n =
     let vs : List ItemView = items_of cs in
@@ -195,8 +197,8 @@ parts_in_a_row : (vs : List ItemView) (s : Seams) (x y : ℕ) (views : List Item
 parts_in_a_row vs s x y views fresh =
     views_in_a_row (take (first_index s.left) vs) (front_views s.left x) views (back_views s.right y (split_number s.left s.right) fresh ++ after_views s.right s.after y) (drop (end_index s (length vs)) vs)
 
-cells_all : (cs : List Cell) (x y fresh : ℕ) (s : Seams) (views : List ItemView) → cells_of (items_of cs) ≡ cs → EachHolds (items_of cs) → Apart (items_of cs) → x ≤ y → AreSeams cs x y s
-    → cells_of (all_parts (items_of cs) s x y views fresh) ≡ spliced cs x y (cells_of views) fresh
+pub cells_all : (cs : List Cell) (x y fresh : ℕ) (s : Seams) (views : List ItemView) → cells_of (items_of cs) ≡ cs → EachHolds (items_of cs) → Apart (items_of cs) → x ≤ y → AreSeams cs x y s
+    → cells_of (all_parts (items_of cs) s x y views fresh) ≡ spliced kept_or_dropped cs x y (cells_of views) fresh
 cells_all cs x y fresh s views whole h a order seams =
     let vs : List ItemView = items_of cs in
     let u : List ItemView = take (first_index s.left) vs in
@@ -207,12 +209,12 @@ cells_all cs x y fresh s views whole h a order seams =
     ∙ (ap (λ ds. ds ++ cells_of d) (cells_of-append u p) ∙ cells-spliced cs x y fresh s views whole h a order seams))
 
 -- the numbers
-below_some : (n i : ℕ) (vs : List ItemView) → NumbersBelow n vs → NumbersBelow n (take i vs) × NumbersBelow n (drop i vs)
+pub below_some : (n i : ℕ) (vs : List ItemView) → NumbersBelow n vs → NumbersBelow n (take i vs) × NumbersBelow n (drop i vs)
 below_some n zero vs b = (tt, b)
 below_some n (suc i) [] b = (tt, tt)
 below_some n (suc i) (v ∷ vs) b = let rest = below_some n i vs b.1 in ((b.0, rest.0), rest.1)
 
-below_all : (next : ℕ) (cs : List Cell) (x y : ℕ) (s : Seams) (views : List ItemView) → cells_of (items_of cs) ≡ cs → NumbersBelow next (items_of cs) → x ≤ y → AreSeams cs x y s
+pub below_all : (next : ℕ) (cs : List Cell) (x y : ℕ) (s : Seams) (views : List ItemView) → cells_of (items_of cs) ≡ cs → NumbersBelow next (items_of cs) → x ≤ y → AreSeams cs x y s
     → NumbersBelow (next_after_splice cs x y (next_past_all next views)) (all_parts (items_of cs) s x y views (next_past_all next views))
 below_all next cs x y s views whole b order seams =
     let vs : List ItemView = items_of cs in
@@ -231,22 +233,15 @@ below_all next cs x y s views whole b order seams =
     (below-weaker next m d le (below_some next (end_index s (length vs)) vs b).1)))
 
 -- the length
-length_before : (room : ℕ) (cs : List Cell) → length (before_splice room cs) ≡ length cs
-length_before room [] = refl
-length_before room (c ∷ cs) = ap suc (length_before (room - 1) cs)
+pub length-spliced : (rule : Rule) (cs : List Cell) (x y : ℕ) (ms : List Cell) (fresh : ℕ) → length (spliced rule cs x y ms fresh) ≡ min x (length cs) + length ms + (length cs - y)
+length-spliced rule cs x y ms fresh =
+    let all : List Cell = with_marks rule x y 0 cs in
+    let count = length-marks rule x y 0 cs in
+    let behind = length-map (drop y all) (renumbered (split_item cs x y) fresh) ∙ length-drop y all in
+    length-append (take x all ++ ms) (map (renumbered (split_item cs x y) fresh) (drop y all))
+    ∙ omega (arith, count, length-take x all, behind, length-append (take x all) ms)
 
-length_behind : (n : ℕ) (cs : List Cell) → length (behind_splice n cs) ≡ length cs
-length_behind n [] = refl
-length_behind n (c ∷ cs) = ap suc (length_behind (n + 1) cs)
-
-pub length-spliced : (cs : List Cell) (x y : ℕ) (ms : List Cell) (fresh : ℕ) → length (spliced cs x y ms fresh) ≡ min x (length cs) + length ms + (length cs - y)
-length-spliced cs x y ms fresh =
-    let before = length_before x (take x cs) ∙ length-take x cs in
-    let behind = length-map (behind_splice 0 (drop y cs)) (renumbered (split_item cs x y) fresh) ∙ (length_behind 0 (drop y cs) ∙ length-drop y cs) in
-    length-append (before_splice x (take x cs) ++ ms) (map (renumbered (split_item cs x y) fresh) (behind_splice 0 (drop y cs)))
-    ∙ omega (arith, before, behind, length-append (before_splice x (take x cs)) ms)
-
-kept_sound : (u : TrackState) (zs : List ItemView) → u.cells ≡ cells_of zs → Sound zs → NumbersBelow u.next_item zs → length u.cells < 2 ^ 32 → IsKept u
+pub kept_sound : (u : TrackState) (zs : List ItemView) → u.cells ≡ cells_of zs → Sound zs → NumbersBelow u.next_item zs → length u.cells < 2 ^ 32 → IsKept u
 kept_sound u zs is s below short =
     let items : items_of u.cells ≡ joined zs = ap items_of is ∙ items_of-cells_of zs (filled-each zs s.each) in
     let E : List ItemView → Type 0 = λ vs. EachHolds vs in
@@ -270,7 +265,7 @@ kept_spliced t x y views k order within n short =
     (sym (cells_all t.cells x y fresh found.0 views k.whole k.each k.apart order found.1))
     (sound_all t.next_item t.cells x y found.0 views order (stand_of t k) found.1 n)
     (below_all t.next_item t.cells x y found.0 views k.whole k.below order found.1)
-    (omega (arith, order, within, short, length-spliced t.cells x y (cells_of views) fresh, length-cells_of views))
+    (omega (arith, order, within, short, length-spliced kept_or_dropped t.cells x y (cells_of views) fresh, length-cells_of views))
 
 -- the same where the new numbers are from a higher one on
 from_weaker : (m n : ℕ) (vs : List ItemView) → n ≤ m → NumbersFrom m vs → NumbersFrom n vs

@@ -1,5 +1,6 @@
 pub mod Spans
 pub mod Splits
+pub mod Surviving
 pub mod Marks
 pub mod Renumbering
 pub mod Numbers
@@ -7,7 +8,11 @@ pub mod Ends
 pub mod Whole
 pub mod Placed
 pub mod Meeting
+pub mod Lying
 pub mod Cutting
 pub mod Apartness
 pub mod Existing
 pub mod Keeping
+pub mod Goodness
+pub mod Outcomes
+pub mod Counted

@@ -9,13 +9,14 @@ use Rattle.frame_meaning.specs.declared.cells.Link.{Link}
 use Rattle.frame_meaning.specs.declared.cells.Cell.{Cell}
 use Rattle.frame_meaning.specs.declared.frames.Side.{Side}
 use Rattle.frame_meaning.specs.Cells.{span, next_side}
-use Rattle.frame_meaning.specs.Splice.{kept_before, kept_behind, before_splice, behind_splice}
 use Rattle.composables.specs.declared.items.ItemView.{ItemView}
 use Rattle.composables.specs.Items.{marked, view_cells, cells_of}
 use Rattle.composables.specs.Joined.{frames_in}
 use Rattle.composables.specs.TrackFacts.{EachHolds, first_mark, left_reach, right_reach}
 use Rattle.composables.proofs.Joining.{length-view_cells}
-use Rattle.edit_splice.specs.Parts.{after_view, later_view}
+use Rattle.composables.specs.Views.{later_view}
+use Rattle.edit_splice.specs.Parts.{kept_before, kept_behind, after_view}
+use Rattle.edit_splice.proofs.Surviving.{before_splice, behind_splice}
 use Rattle.edit_splice.proofs.Spans.{mark_from, view_from}
 
 -- cells in a row

@@ -77,11 +77,11 @@ meets-joined r [] m = tt
 meets-joined r (v ∷ vs) m = meets-with_view r v (joined vs) vs m
 
 -- what meets and belongs together is no item
-never_some : (o : Option ℕ) (v : ItemView) (vs : List ItemView) → IfSome o (λ i. Lacks i (v ∷ vs)) → v.item ≡ o → o ≡ None
+pub never_some : (o : Option ℕ) (v : ItemView) (vs : List ItemView) → IfSome o (λ i. Lacks i (v ∷ vs)) → v.item ≡ o → o ≡ None
 never_some None v vs h e = refl
 never_some (Some i) v vs h e = absurd (h.0 e)
 
-gap_shows : (o : Option ℕ) (s : Side What) (l : Option Link) → o ≡ None → ShowsAsItem o s l → (s ≡ Dark) × (l ≡ None)
+pub gap_shows : (o : Option ℕ) (s : Side What) (l : Option Link) → o ≡ None → ShowsAsItem o s l → (s ≡ Dark) × (l ≡ None)
 gap_shows None Dark None e h = (refl, refl)
 gap_shows None Dark (Some k) e h = absurd h
 gap_shows None (Pic w s) l e h = absurd h

@@ -2,7 +2,7 @@
 use Rattle.std.proofs.Common.{◌≡◌, ℕ, suc, ◌+◌, ◌-◌, ◌<◌, ◌≤◌, List, [], ◌∷◌, ◌++◌, length, map, Option, Some, None, IfSome, refl, sym, ap, ◌∙◌, arith, take, drop, slice_get, option_map, subst, append_assoc}
 use Rattle.std.proofs.lemmas.List.{append-nil, drop_all, map-append}
 use Rattle.frame_meaning.specs.declared.cells.Cell.{Cell}
-use Rattle.frame_meaning.specs.Splice.{before_splice, behind_splice, renumbered, split_item, spliced, next_after_splice}
+use Rattle.frame_meaning.specs.Splice.{kept_or_dropped, renumbered, split_item, spliced, next_after_splice}
 use Rattle.composables.specs.declared.items.ItemView.{ItemView}
 use Rattle.composables.specs.Items.{view_cells, cells_of, items_of}
 use Rattle.composables.specs.Joined.{AllFilled, frames_in}
@@ -11,9 +11,11 @@ use Rattle.composables.specs.TrackState.{next_past_all}
 use Rattle.composables.proofs.Joining.{cells_of-append, filled-append, length-view_cells}
 use Rattle.edit_splice.specs.declared.seams.Held.{Held}
 use Rattle.edit_splice.specs.declared.seams.Seams.{Seams}
-use Rattle.edit_splice.specs.Parts.{AreSeams, EndsAt, StandsFrom, view_after, split_number, front_view, front_views, later_view, renumbered_view, back_views, after_view, after_views, parts_between, first_index, end_at, end_index}
+use Rattle.composables.specs.Views.{later_view}
+use Rattle.edit_splice.specs.Parts.{AreSeams, EndsAt, StandsFrom, view_after, split_number, front_view, front_views, renumbered_view, back_views, after_view, after_views, parts_between, first_index, end_at, end_index}
 use Rattle.edit_splice.proofs.Spans.{take-cells, drop-cells, view_from}
 use Rattle.edit_splice.proofs.Splits.{first_item, last_item, across, begins, ends, behind, split-item, after_split, next-splice}
+use Rattle.edit_splice.proofs.Surviving.{before_splice, behind_splice, spliced-steps}
 use Rattle.edit_splice.proofs.Marks.{before-kept, before-view, behind-first, behind-parts}
 use Rattle.edit_splice.proofs.Renumbering.{view-renumbered, rest-stays}
 use Rattle.edit_splice.proofs.Numbers.{if-weaker, below-weaker, below-append, next-append, next-below, next-rises, past-renumbered, split-rises, below-renumbered, len-stays}
@@ -131,7 +133,7 @@ in_a_row u f m b d =
 
 pub cells-spliced : (cs : List Cell) (x y fresh : ℕ) (s : Seams) (views : List ItemView) → cells_of (items_of cs) ≡ cs → EachHolds (items_of cs) → Apart (items_of cs) → x ≤ y → AreSeams cs x y s
     → (cells_of (take (first_index s.left) (items_of cs)) ++ cells_of (parts_between s x y views fresh)) ++ cells_of (drop (end_index s (length (items_of cs))) (items_of cs))
-    ≡ spliced cs x y (cells_of views) fresh
+    ≡ spliced kept_or_dropped cs x y (cells_of views) fresh
 cells-spliced cs x y fresh s views whole h a le seams =
     let vs : List ItemView = items_of cs in
     let split : Option ℕ = split_number s.left s.right in
@@ -145,7 +147,8 @@ cells-spliced cs x y fresh s views whole h a le seams =
     ap (λ ds. (u ++ ds) ++ d) (cells_of-append (front ++ views) rear ∙ ap (λ ds. ds ++ cells_of rear) (cells_of-append front views))
     ∙ (in_a_row u (cells_of front) (cells_of views) (cells_of rear) d
     ∙ (ap (λ ds. (ds ++ cells_of views) ++ (cells_of rear ++ d)) (sym (left_cells cs x s.left whole h seams.left))
-    ∙ ap (λ ds. (before_splice x (take x cs) ++ cells_of views) ++ ds) (sym right)))
+    ∙ (ap (λ ds. (before_splice x (take x cs) ++ cells_of views) ++ ds) (sym right)
+    ∙ sym (spliced-steps cs x y (cells_of views) fresh le))))
 
 -- the numbers
 front_below : (n : ℕ) (cs : List Cell) (x : ℕ) (l : Option Held) → EndsAt cs x l → NumbersBelow n (items_of cs) → NumbersBelow n (front_views l x)

@@ -1,3 +1,5 @@
 pub mod Parts
 pub mod Splicing
 pub mod NewItems
+pub mod Laws
+pub mod Counting

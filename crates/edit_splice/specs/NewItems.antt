@@ -1,7 +1,10 @@
 -- Items and gaps that may be put into any track.
 use Rattle.std.specs.Prelude.{◌≡◌, ℕ, ◌≤◌, List, [], ◌∷◌, None, IfSome}
 use Rattle.composables.specs.declared.items.ItemView.{ItemView}
+use Rattle.composables.specs.declared.media.Table.{Table}
+use Rattle.composables.specs.Good.{EachLiesIn, EachLinkOf}
 use Rattle.composables.specs.TrackFacts.{EachHolds, Apart, first_mark}
+use Rattle.composables.specs.TrackState.{TrackState}
 
 -- each item's number is this one or above
 abbrev pub NumbersFrom : ℕ → List ItemView → Type 0
@@ -24,3 +27,10 @@ pub record AreNew (next : ℕ) (views : List ItemView) : Type 0 where
   pub meet : Meet views
   pub apart : Apart views
   pub above : NumbersFrom next views
+
+-- new items and gaps for a track that is good in a table: what they show lies in the ranges of the table, and they
+-- have no links, or links of the track's own
+pub record AreNewFor (table : Table) (t : TrackState) (views : List ItemView) : Type 0 where
+  pub new : AreNew t.next_item views
+  pub ranges : EachLiesIn table views
+  pub links : EachLinkOf t.number views

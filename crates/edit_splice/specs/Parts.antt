@@ -1,12 +1,14 @@
 -- The items and gaps at the two ends of a range of a track, and what is put in their place.
-use Rattle.std.specs.Prelude.{◌≡◌, ℕ, ◌+◌, ◌-◌, ◌<◌, ◌≤◌, List, [], ◌∷◌, ◌++◌, Option, Some, None, take, length, slice_get, if◌then◌else◌}
+use Rattle.std.specs.Prelude.{◌≡◌, ℕ, ◌+◌, ◌-◌, ◌<◌, ◌≤◌, ◌&&◌, List, [], ◌∷◌, ◌++◌, Option, Some, None, take, length, nat_le, nat_lt, slice_get, if◌then◌else◌}
+use Rattle.frame_meaning.specs.declared.cells.Mark.{Mark}
 use Rattle.frame_meaning.specs.declared.cells.Cell.{Cell}
-use Rattle.frame_meaning.specs.Cells.{same_number, later_side}
-use Rattle.frame_meaning.specs.Splice.{kept_before, kept_behind}
+use Rattle.frame_meaning.specs.Cells.{same_number}
 use Rattle.composables.specs.declared.items.ItemView.{ItemView}
 use Rattle.composables.specs.Items.{items_of}
 use Rattle.composables.specs.Joined.{frames_in}
+use Rattle.composables.specs.SpareState.{SpareState}
 use Rattle.composables.specs.TrackFacts.{HasSource}
+use Rattle.composables.specs.Views.{later_view}
 use Rattle.edit_splice.specs.declared.seams.Held.{Held}
 use Rattle.edit_splice.specs.declared.seams.Seams.{Seams}
 
@@ -54,6 +56,16 @@ split_number None right = None
 split_number (Some h) None = None
 split_number (Some h) (Some k) = if same_number h.view.item k.view.item then k.view.item else None
 
+-- a dissolve whose cut stands n frames before a range survives where its frames after the cut are no more
+abbrev pub kept_before : ℕ → Option Mark → Option Mark
+kept_before n None = None
+kept_before n (Some m) = if nat_le m.b n then Some m else None
+
+-- one whose cut stands n frames behind a range survives where its frames before the cut are no more, and n is not 0
+abbrev pub kept_behind : ℕ → Option Mark → Option Mark
+kept_behind n None = None
+kept_behind n (Some m) = if nat_lt 0 n && nat_le m.a n then Some m else None
+
 -- the first n frames of an item or gap; its dissolve stays where it ends by then
 abbrev pub front_view : ItemView → ℕ → ItemView
 front_view v n = record v { len = n; mark = kept_before n v.mark }
@@ -61,10 +73,6 @@ front_view v n = record v { len = n; mark = kept_before n v.mark }
 abbrev pub front_views : Option Held → ℕ → List ItemView
 front_views None x = []
 front_views (Some h) x = front_view h.view (x - h.from) ∷ []
-
--- an item or gap without its first n frames, and without a dissolve before it
-abbrev pub later_view : ItemView → ℕ → ItemView
-later_view v n = record v { first = later_side v.first n; len = v.len - n; mark = None }
 
 -- an item with a fresh number, if it is the one that is split
 abbrev pub renumbered_view : Option ℕ → ℕ → ItemView → ItemView
@@ -101,3 +109,7 @@ end_at (Some h) (Some v) count = h.index + 2
 
 abbrev pub end_index : Seams → ℕ → ℕ
 end_index s count = end_at s.right s.after count
+
+-- spare memory with these laid behind what was laid before
+abbrev pub laid_more : SpareState → List ItemView → SpareState
+laid_more s views = record s { laid = s.laid ++ views }

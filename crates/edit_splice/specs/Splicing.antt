@@ -1,8 +1,9 @@
 -- What a splice leaves of a track.
-use Rattle.std.specs.Prelude.{ℕ, List}
-use Rattle.frame_meaning.specs.Splice.{spliced, next_after_splice}
+use Rattle.std.specs.Prelude.{◌≡◌, ℕ, ◌+◌, ◌≤◌, List, [], length}
+use Rattle.frame_meaning.specs.Splice.{kept_or_dropped, spliced, next_after_splice}
 use Rattle.composables.specs.declared.items.ItemView.{ItemView}
-use Rattle.composables.specs.Items.{cells_of}
+use Rattle.composables.specs.Items.{cells_of, items_of}
+use Rattle.composables.specs.SpareState.{SpareState}
 use Rattle.composables.specs.TrackState.{TrackState, next_past_all}
 
 -- the track with items in place of the record frames [x, y): the new items take their numbers first, and then the
@@ -11,6 +12,13 @@ abbrev pub spliced_track : TrackState → ℕ → ℕ → List ItemView → Trac
 spliced_track t x y views = after (next_past_all t.next_item views) where
   after : ℕ → TrackState
   after fresh = record t {
-    cells = spliced t.cells x y (cells_of views) fresh;
+    cells = spliced kept_or_dropped t.cells x y (cells_of views) fresh;
     next_item = next_after_splice t.cells x y fresh;
   }
+
+-- spare memory in which this track can be laid out anew with n more items put in, and the parts of those at the ends of
+-- the range: one before it, and two behind it
+pub record HasRoom (spare : SpareState) (t : TrackState) (n : ℕ) : Type 0 where
+  pub empty : spare.laid ≡ []
+  pub count : length (items_of t.cells) ≤ spare.count
+  pub more : n + 3 ≤ spare.more

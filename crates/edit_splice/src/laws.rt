@@ -1,13 +1,27 @@
-// What may be put into a track, whoever does it.
-ghost use Rattle.std.specs.Prelude.{◌+◌, ◌<◌, ◌≤◌, ◌^◌, ℕ, List, length};
-ghost use Rattle.composables.specs.declared.items.ItemView.{ItemView};
-ghost use Rattle.composables.specs.Joined.{frames_in};
-ghost use Rattle.composables.specs.TrackFacts.{IsKept};
-ghost use Rattle.composables.specs.TrackState.{TrackState};
-ghost use Rattle.edit_splice.specs.NewItems.{AreNew};
-ghost use Rattle.edit_splice.specs.Splicing.{spliced_track};
+// What a splice leaves, whoever does it.
+ghost use Rattle.edit_splice.specs.Laws.{GoodStaysGood, LengthsAdd, NewItemsMayBePutIn, NumbersRise, UnlinkedStaysUnlinked};
 
 /// New items may be put in place of any range of a track, and it is a track again.
 pub fn new_items_may_be_put_in()
-    ensures { (t : TrackState) (x y : ℕ) (items : List ItemView) → IsKept t → x ≤ y → y ≤ length t.cells → AreNew t.next_item items → length t.cells + frames_in items < 2 ^ 32 → IsKept (spliced_track t x y items) }
+    ensures { NewItemsMayBePutIn }
+{}
+
+/// Within the limits a track that is good in a table is good in it with new items in place of any of its ranges.
+pub fn a_good_track_stays_good()
+    ensures { GoodStaysGood }
+{}
+
+/// A splice gives away at most the numbers of the new items and one more.
+pub fn next_numbers_rise_by_the_new_items()
+    ensures { NumbersRise }
+{}
+
+/// A track without links has none after a splice of items without links.
+pub fn an_unlinked_track_stays_unlinked()
+    ensures { UnlinkedStaysUnlinked }
+{}
+
+/// A splice leaves the frames before the range, those put in, and those behind it.
+pub fn a_spliced_track_is_as_long_as_its_parts()
+    ensures { LengthsAdd }
 {}

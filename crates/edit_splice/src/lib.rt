@@ -5,13 +5,18 @@
 //! range.
 #![tactic(auto)]
 
+mod counting;
 mod laws;
 mod parts;
 mod seams;
 mod splicing;
 
-pub use laws::new_items_may_be_put_in;
-pub use splicing::splice;
+pub use counting::count_after;
+pub use laws::{
+    a_good_track_stays_good, a_spliced_track_is_as_long_as_its_parts,
+    an_unlinked_track_stays_unlinked, new_items_may_be_put_in, next_numbers_rise_by_the_new_items,
+};
+pub use splicing::{spare_for, splice, splice_in};
 
 #[cfg(test)]
 mod tests;

@@ -1,22 +1,22 @@
 // Splice: items in place of a range of a track.
-ghost use Rattle.std.specs.Prelude.{◌≡◌, ◌+◌, ◌*◌, ◌<◌, ◌≤◌, OnOk, OnErr, length};
+ghost use Rattle.std.specs.Prelude.{◌≡◌, ◌+◌, ◌*◌, ◌<◌, ◌≤◌, IfOk, OnOk, OnErr, length};
 ghost use Rattle.composables.specs.Items.{items_of};
 ghost use Rattle.composables.specs.Joined.{AllFilled};
 ghost use Rattle.composables.specs.TrackFacts.{IsKept, NumbersBelow};
-ghost use Rattle.edit_splice.specs.Splicing.{spliced_track};
+ghost use Rattle.edit_splice.specs.Splicing.{HasRoom, spliced_track};
 
-use crate::parts::{end_index, first_index, number_past_all, parts_between};
+use crate::parts::{end_index, first_index, lay_parts};
 use crate::seams::seams_of;
-use composables::{ItemView, Memory, Track};
+use composables::{ItemView, Memory, Spare, Track, number_past_all};
 use std::alloc::Global;
 use std::sync::ledger::Ledger;
 use step_count::Steps;
 
 /// Puts items in place of the record frames [x, y) of a track.
 ///
-/// A dissolve stays where it ends by x, or begins at y or later and its cut is not y itself; each other is dropped. An
-/// item that stood on both sides is cut in two, and its later part takes the next item number, after the new items
-/// have taken theirs. Cells of one item, or dark ones, that meet are one item or gap.
+/// A dissolve stays where its cut is before x and it ends by x, or where its cut is past y and it begins at y or later;
+/// each other is dropped. An item that stood on both sides is cut in two, and its later part takes the next item number,
+/// after the new items have taken theirs. Cells of one item, or dark ones, that meet are one item or gap.
 ///
 /// What it leaves must be a track. Items that hold `AreNew` may be put in place of any range.
 pub fn splice<L: Ledger>(
@@ -41,11 +41,50 @@ pub fn splice<L: Ledger>(
     ensures most { steps.new ≤ steps.old + 6 * (length (items_of track.old.cells) + 64) + length items.now }
 {
     steps.tick();
+    let spare = spare_for(alloc, track, items.len() as u32)?;
+    splice_in(track, x, y, items, spare, steps);
+    Ok(())
+}
+
+/// Memory for a splice of a track that puts in so many items and gaps.
+pub fn spare_for(alloc: Global, track: &Track, items: u32) -> Result<Spare, Memory>
+    ensures { IfOk result (λ spare. HasRoom spare track.now items) }
+{
+    match items.checked_add(3) {
+        Some(more) => Spare::new(alloc, track.count(), more),
+        None => Err(Memory),
+    }
+}
+
+/// The same as `splice`, in memory that was taken before. It can't fail, so several tracks are spliced whole or not at
+/// all where the memory for each is taken first.
+pub fn splice_in<L: Ledger>(
+    track: &mut Track,
+    x: u32,
+    y: u32,
+    items: &[ItemView],
+    spare: Spare,
+    steps: &mut Steps<L>,
+)
+    requires order { x ≤ y }
+    requires within { y ≤ length track.old.cells }
+    requires next { track.old.next_item < 4294967294 }
+    requires filled { AllFilled items.now }
+    requires numbers { NumbersBelow 4294967294 items.now }
+    requires kept { IsKept (spliced_track track.old x y items.now) }
+    requires room { HasRoom spare track.old (length items.now) }
+
+    ensures spliced { track.new ≡ spliced_track track.old x y items.now }
+
+    ensures least { steps.old + 1 ≤ steps.new }
+    ensures most { steps.new + 1 ≤ steps.old + 6 * (length (items_of track.old.cells) + 64) + length items.now }
+{
     let _ = track.length(); // its clause says what the track keeps
     let seams = seams_of(track, x, y, steps);
     let fresh = number_past_all(track.next_item(), items);
-    let parts = parts_between(alloc, &seams, x, y, items, fresh)?;
+    let mut spare = spare;
+    lay_parts(&seams, x, y, items, fresh, &mut spare);
     let from = first_index(seams.left);
     let to = end_index(&seams, track.count());
-    track.replace(from, to, parts, steps)
+    track.replace_in(from, to, spare, steps);
 }

@@ -1,6 +1,6 @@
 -- The frames that a track shows. OpenTimelineIO's transition; the weights are this project's own: frame k of a
 -- dissolve of n frames, from 0, shows the incoming side with weight (k + 1) / (n + 1).
-use Rattle.std.specs.Prelude.{ℕ, ◌+◌, ◌-◌, List, [], ◌∷◌, Option, Some, None, map, length, slice_index_or, if◌then◌else◌}
+use Rattle.std.specs.Prelude.{ℕ, ◌+◌, ◌-◌, List, Option, Some, None, map, length, slice_index_or}
 use Rattle.std.specs.List.{range_with_len}
 use Rattle.frame_meaning.specs.declared.cells.What.{What}
 use Rattle.frame_meaning.specs.declared.cells.Mark.{Mark}

@@ -1,31 +1,32 @@
--- A splice puts cells in place of the places [x, y). A mark at place p survives exactly where its footprint ends at
--- or before x, or begins at or after y and p is not y itself; its place moves with its cell. If one item stood on
--- both sides, its cells on the right take a new number.
-use Rattle.std.specs.Prelude.{ℕ, ◌+◌, ◌-◌, Bool, true, false, ◌&&◌, List, [], ◌∷◌, ◌++◌, Option, Some, None, map, take, drop, nat_le, nat_lt, nat_eq, length, if◌then◌else◌}
+-- A splice puts cells in place of the places [x, y). What becomes of a mark is said by a rule; the mark's place moves
+-- with its cell. If one item stood on both sides, its cells on the right take a new number.
+use Rattle.std.specs.Prelude.{ℕ, ◌+◌, ◌-◌, Bool, ◌&&◌, ◌||◌, List, [], ◌∷◌, ◌++◌, Option, Some, None, map, take, drop, nat_le, nat_lt, length, if◌then◌else◌}
 use Rattle.frame_meaning.specs.declared.cells.Mark.{Mark}
 use Rattle.frame_meaning.specs.declared.cells.Cell.{Cell}
 use Rattle.frame_meaning.specs.Cells.{same_number, belong}
 use Rattle.frame_meaning.specs.Render.{cell_at}
 
--- a mark that stands before a splice stays where its b frames after the cut end by then
-abbrev pub kept_before : ℕ → Option Mark → Option Mark
-kept_before room None = None
-kept_before room (Some m) = if nat_le m.b room then Some m else None
+-- what becomes of a mark at a place, under a splice of [x, y): `rule x y place mark`
+abbrev pub Rule : Type 0
+Rule = ℕ → ℕ → ℕ → Mark → Option Mark
 
--- a mark that stands n frames behind a splice stays where its a frames begin by then, and none at the seam itself
-abbrev pub kept_behind : ℕ → Option Mark → Option Mark
-kept_behind n None = None
-kept_behind n (Some m) = if nat_lt 0 n && nat_le m.a n then Some m else None
+-- a mark at place p survives a splice of [x, y): its cut is before x and its footprint ends by x, or its cut is past y
+-- and its footprint begins at y or later
+abbrev pub survives : ℕ → ℕ → ℕ → Mark → Bool
+survives x y p m = (nat_lt p x && nat_le (p + m.b) x) || (nat_lt y p && nat_le (y + m.a) p)
 
--- the cells before a splice, of which there are room
-abbrev pub before_splice : ℕ → List Cell → List Cell
-before_splice room [] = []
-before_splice room (c ∷ cs) = record c { mark = kept_before room c.mark } ∷ before_splice (room - 1) cs
+-- a mark that survives stays as it is, and each other is dropped
+abbrev pub kept_or_dropped : Rule
+kept_or_dropped x y p m = if survives x y p m then Some m else None
 
--- the cells behind a splice, of which the first stands n frames behind it
-abbrev pub behind_splice : ℕ → List Cell → List Cell
-behind_splice n [] = []
-behind_splice n (c ∷ cs) = record c { mark = kept_behind n c.mark } ∷ behind_splice (n + 1) cs
+abbrev pub mark_under : Rule → ℕ → ℕ → ℕ → Option Mark → Option Mark
+mark_under rule x y p None = None
+mark_under rule x y p (Some m) = rule x y p m
+
+-- the cells with their marks by the rule, where the first of them stands at place p
+abbrev pub with_marks : Rule → ℕ → ℕ → ℕ → List Cell → List Cell
+with_marks rule x y p [] = []
+with_marks rule x y p (c ∷ cs) = record c { mark = mark_under rule x y p c.mark } ∷ with_marks rule x y (p + 1) cs
 
 -- the cells of an item take a new number
 abbrev pub renumbered : Option ℕ → ℕ → Cell → Cell
@@ -39,10 +40,11 @@ split_item cells x y =
     then (cell_at cells y).item
     else None
 
--- the cells after the splice, where fresh is the number for an item that is split
-abbrev pub spliced : List Cell → ℕ → ℕ → List Cell → ℕ → List Cell
-spliced cells x y middle fresh =
-    before_splice x (take x cells) ++ middle ++ map (renumbered (split_item cells x y) fresh) (behind_splice 0 (drop y cells))
+-- the cells after the splice, where fresh is the number for an item that is split: those before x, those put in, and
+-- those from y on
+abbrev pub spliced : Rule → List Cell → ℕ → ℕ → List Cell → ℕ → List Cell
+spliced rule cells x y middle fresh =
+    take x (with_marks rule x y 0 cells) ++ middle ++ map (renumbered (split_item cells x y) fresh) (drop y (with_marks rule x y 0 cells))
 
 -- the next item number after it
 abbrev pub next_after_splice : List Cell → ℕ → ℕ → ℕ → ℕ

@@ -1,58 +1,56 @@
-use Rattle.std.proofs.Common.{◌+◌, ◌≤◌, length, ap, refl, arith}
-use Rattle.composables.specs.Items.{items_of}
-use Rattle.composables.specs.declared.TheConstants.{MAX_FRAMES}
-use Rattle.edit_insert.proofs.Answering.{may_be_done, too_long, all_sources, frames_after, filled_after, numbers_after, kept_with, short_with, items_with, answered, on_track, left_after}
-use Rattle.edit_insert.proofs.Assembled.{few_overwritten}
-use Rattle.edit_insert.proofs.Standing.{plain_items, tight_items}
+use Rattle.std.proofs.Common.{◌≡◌, ◌≢◌, ℕ, ◌+◌, ◌-◌, ◌<◌, ◌≤◌, length, ap, sym, ◌∙◌, arith, refl, None, Some, Err, Result, List, ◌++◌, subst, min}
+use Rattle.composables.specs.declared.refusals.Refusal.TheVariants.{TooLong}
+use Rattle.composables.specs.declared.refusals.Done.TheVariants.{Item}
+use Rattle.composables.specs.declared.items.ItemView.{ItemView}
+use Rattle.composables.specs.declared.refusals.Done.{Done}
+use Rattle.composables.specs.declared.refusals.Refusal.{Refusal}
+use Rattle.composables.specs.TrackState.{TrackState}
+use Rattle.composables.specs.Views.{gap_views}
+use Rattle.edit_insert.specs.Answers.{Answers}
+use Rattle.edit_insert.specs.Edits.{overwritten}
+use Rattle.edit_insert.specs.PutIn.{new_views}
+use Rattle.edit_insert.specs.Sources.{source_refusal}
+use Rattle.edit_insert.proofs.Limits.{within-long}
+use Rattle.edit_insert.proofs.OverPlaces.{items-told, over-length, over-allowed, over-parts}
+use Rattle.edit_insert.proofs.Put.{PutIn, put-clip}
+use Rattle.edit_insert.proofs.SourceRanges.{source-clip}
+use Rattle.edit_insert.proofs.Standing.{stays-placed, stays-self}
 use Rattle.edit_insert.proofs.overwriting.overwrite_track.Goals as goal
 
 pub returns-then-from-clause-answers : goal.returns-then-from-clause-answers
-returns-then-from-clause-answers g c = (
-  too_long c.args.table.now c.args.track.now c.args.call.now c.number.result c.number-then-from.result c.number.ensures c.in-None.ensures.refusal c.number-then-from.ensures
-      (omega (arith, c.if-from.true, c.from.ensures, c.from-2.ensures, c.from-3.ensures)),
-  refl,
-)
+returns-then-from-clause-answers g c =
+    let none : source_refusal c.args.table.now c.args.track.now.number c.args.call.now.what c.args.call.now.from c.args.call.now.len ≡ None =
+      ap (λ (n : ℕ). source_refusal c.args.table.now n c.args.call.now.what c.args.call.now.from c.args.call.now.len) (sym c.number.ensures)
+      ∙ (sym c.source_refusal.ensures.refusal ∙ c.in-None.is) in
+    ( over-allowed c.args.table.now c.args.call.now c.args.track.now none
+      ∙ within-long (overwritten c.args.track.now c.args.call.now.at c.args.call.now.what c.args.call.now.from c.args.call.now.len) (Item c.args.track.now.next_item)
+          (omega (arith, over-length c.args.track.now c.args.call.now.at c.args.call.now.what c.args.call.now.from c.args.call.now.len c.requires.good.kept, c.if-from.true, c.from.ensures, c.from-2.ensures, c.from-3.ensures))
+      ∙ ap (λ (n : ℕ). Err (TooLong n)) (sym c.number-then-from.ensures)
+    , refl)
 
-pub changed_items-requires-clause-tight : goal.changed_items-requires-clause-tight
-changed_items-requires-clause-tight g c = tight_items c.args.table.now c.args.track.now c.requires.good c.requires.unmarked
+pub returns-clause-answers : goal.returns-clause-answers
+returns-clause-answers g c =
+    let none : source_refusal c.args.table.now c.args.track.now.number c.args.call.now.what c.args.call.now.from c.args.call.now.len ≡ None =
+      ap (λ (n : ℕ). source_refusal c.args.table.now n c.args.call.now.what c.args.call.now.from c.args.call.now.len) (sym c.number.ensures)
+      ∙ (sym c.source_refusal.ensures.refusal ∙ c.in-None.is) in
+    let parts = over-parts c.args.table.now c.args.call.now c.args.track.now c.min.result c.min-2.result c.next_item-number.result c.as_slice.result.now none c.requires.good.kept
+      (omega (arith, c.min.ensures, c.length-length.ensures.value)) (omega (arith, c.min-2.ensures, c.length-length.ensures.value)) c.next_item-number.ensures
+      (items-told c.args.call.now.at c.args.call.now.len c.saturating_sub.result c.next_item-number.result c.args.call.now.what c.args.call.now.from c.args.track.now.next_item (length c.args.track.now.cells) c.clip-item.result c.as_slice.result.now
+        (c.as_slice.ensures ∙ c.of-items.ensures) (omega (arith, c.saturating_sub.ensures, c.length-length.ensures.value)) c.clip-item.ensures c.next_item-number.ensures) in
+    subst (λ (m : Result (TrackState × Done) Refusal). Answers m c.args.track.now c.place.new.track c.place.result) (sym parts) c.place.ensures.answers
 
-pub changed_items-requires-clause-sources : goal.changed_items-requires-clause-sources
-changed_items-requires-clause-sources g c =
-    let t = c.args.track.now in
-    all_sources c.args.table.now t.number (items_of t.cells) (plain_items c.args.table.now t c.requires.good c.requires.unmarked)
+pub returns-clause-good : goal.returns-clause-good
+returns-clause-good g c =
+    let none : source_refusal c.args.table.now c.number.result c.args.call.now.what c.args.call.now.from c.args.call.now.len ≡ None = sym c.source_refusal.ensures.refusal ∙ c.in-None.is in
+    let clip = source-clip c.args.table.now c.number.result c.args.call.now.what c.args.call.now.from c.args.call.now.len none (rw c.in-None.is at c.source_refusal.ensures.filled) (rw c.in-None.is at c.source_refusal.ensures.source) in
+    stays-placed c.args.table.now c.args.track.now c.place.new.track c.min.result c.min-2.result c.as_slice.result.now (Item c.next_item-number.result) c.place.result c.requires.good
+      (omega (arith, c.min.ensures, c.min-2.ensures)) (omega (arith, c.min-2.ensures, c.length-length.ensures.value))
+      (subst (PutIn c.args.table.now c.args.track.now) (sym (c.as_slice.ensures ∙ c.of-items.ensures ∙ ap (λ (v : ItemView). gap_views c.saturating_sub.result ++ new_views (Some v)) c.clip-item.ensures))
+        (put-clip c.args.table.now c.args.track.now c.saturating_sub.result c.next_item-number.result c.args.call.now.what c.args.call.now.from c.args.call.now.len c.next_item-number.ensures clip))
+      c.place.ensures.answers
 
-pub changed_items-requires-clause-frames : goal.changed_items-requires-clause-frames
-changed_items-requires-clause-frames g c =
-    let short : c.args.call.now.at + c.args.call.now.len ≤ MAX_FRAMES = omega (arith, c.if-from.false, c.from.ensures, c.from-2.ensures, c.from-3.ensures) in
-    let may = may_be_done c.args.table.now c.args.track.now c.args.call.now c.number.result c.requires.good c.requires.unmarked c.requires.next c.in-None.ensures.refusal c.in-None.ensures.source short in
-    frames_after c.args.table.now c.args.track.now c.args.call.now may
+pub returns-in-Some-clause-good : goal.returns-in-Some-clause-good
+returns-in-Some-clause-good g c = stays-self c.args.table.now c.args.track.now c.requires.good
 
-pub put_items-requires : goal.put_items-requires
-put_items-requires g c =
-    let short : c.args.call.now.at + c.args.call.now.len ≤ MAX_FRAMES = omega (arith, c.if-from.false, c.from.ensures, c.from-2.ensures, c.from-3.ensures) in
-    let may = may_be_done c.args.table.now c.args.track.now c.args.call.now c.number.result c.requires.good c.requires.unmarked c.requires.next c.in-None.ensures.refusal c.in-None.ensures.source short in
-    let is = c.in-Ok.ensures.items in
-    record {
-      filled = rw is (filled_after c.args.table.now c.args.track.now c.args.call.now may);
-      numbers = rw is (numbers_after c.args.table.now c.args.track.now c.args.call.now may);
-      kept = kept_with c.args.table.now c.args.track.now c.args.call.now c.in-Ok.items.items may is;
-      frames = short_with c.args.table.now c.args.track.now c.args.call.now c.in-Ok.items.items may is;
-      items = items_with c.args.table.now c.args.track.now c.args.call.now c.in-Ok.items.items may is;
-    }
-
-pub returns-in-Ok : goal.returns-in-Ok
-returns-in-Ok g c =
-    let t = c.args.track.now in
-    let short : c.args.call.now.at + c.args.call.now.len ≤ MAX_FRAMES = omega (arith, c.if-from.false, c.from.ensures, c.from-2.ensures, c.from-3.ensures) in
-    let may = may_be_done c.args.table.now t c.args.call.now c.number.result c.requires.good c.requires.unmarked c.requires.next c.in-None.ensures.refusal c.in-None.ensures.source short in
-    let done = answered c.args.table.now t c.args.call.now c.in-Ok.items.items c.next_item-number.result c.put_items.new.track c.put_items.result may c.in-Ok.ensures.items c.next_item-number.ensures c.put_items.ensures.answers in
-    let left = left_after c.args.table.now t c.args.call.now c.put_items.new.track c.put_items.result may done in
-    record {
-      answers = on_track c.args.table.now t c.args.call.now c.number.result c.put_items.new.track c.put_items.result c.number.ensures c.in-None.ensures.refusal done;
-      good = left.good;
-      unmarked = left.unmarked;
-      number = left.number;
-      next = left.next;
-      least = omega (arith, c.tick.ensures, c.in-Ok.ensures.least, c.put_items.ensures.least);
-      most = omega (arith, c.tick.ensures, c.in-Ok.ensures.most, c.put_items.ensures.most, c.in-Ok.items.ok, ap length c.in-Ok.ensures.items, few_overwritten (items_of t.cells) (length t.cells) c.args.call.now t.next_item);
-    }
+pub returns-then-from-clause-good : goal.returns-then-from-clause-good
+returns-then-from-clause-good g c = stays-self c.args.table.now c.args.track.now c.requires.good

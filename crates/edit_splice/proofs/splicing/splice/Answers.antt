@@ -1,48 +1,7 @@
-use Rattle.std.proofs.Common.{◌≡◌, ℕ, ap, ◌∙◌, arith, subst, OnOk}
-use Rattle.composables.specs.TrackState.{TrackState, next_past_all}
-use Rattle.edit_splice.proofs.Numbers.{below-weaker}
-use Rattle.edit_splice.proofs.Placed.{seams-reach, end-fits, ends-ordered, replaced-is, kept-replaced, filled-made, below-made}
+use Rattle.std.proofs.Common.{◌^◌, arith}
+use Rattle.edit_splice.proofs.Outcomes.{few-put}
 use Rattle.edit_splice.proofs.splicing.splice.Goals as goal
 
-pub parts_between-requires-clause-right : goal.parts_between-requires-clause-right
-parts_between-requires-clause-right g c =
-    seams-reach c.args.track.now.cells c.args.x c.args.y c.seams_of-seams.result c.length.ensures.kept.each c.seams_of-seams.ensures.seams
-
-pub end_index-to-requires : goal.end_index-to-requires
-end_index-to-requires g c =
-    end-fits c.args.track.now.cells c.args.x c.args.y c.count.result c.seams_of-seams.result c.seams_of-seams.ensures.seams c.count.ensures
-
-pub replace-requires-clause-order : goal.replace-requires-clause-order
-replace-requires-clause-order g c =
-    ends-ordered c.args.track.now.cells c.args.x c.args.y c.count.result c.first_index-from.result c.end_index-to.result c.seams_of-seams.result c.requires.order c.seams_of-seams.ensures.seams c.count.ensures c.first_index-from.ensures c.end_index-to.ensures
-
-pub replace-requires-clause-within : goal.replace-requires-clause-within
-replace-requires-clause-within g c =
-    omega (
-      arith,
-      c.end_index-to.ensures,
-      c.count.ensures,
-      end-fits c.args.track.now.cells c.args.x c.args.y c.count.result c.seams_of-seams.result c.seams_of-seams.ensures.seams c.count.ensures,
-    )
-
-pub replace-requires-clause-filled : goal.replace-requires-clause-filled
-replace-requires-clause-filled g c =
-    filled-made c.args.track.now.cells c.args.x c.args.y c.number_past_all-fresh.result c.seams_of-seams.result c.args.items.now c.in_ok-parts.parts.items c.length.ensures.kept.each c.seams_of-seams.ensures.seams c.requires.filled c.in_ok-parts.ensures
-
-pub replace-requires-clause-numbers : goal.replace-requires-clause-numbers
-replace-requires-clause-numbers g c =
-    below-made c.args.track.now c.args.x c.args.y c.number_past_all-fresh.result 4294967294 c.seams_of-seams.result c.args.items.now c.in_ok-parts.parts.items c.length.ensures.kept c.seams_of-seams.ensures.seams
-    (omega (arith, c.requires.next)) c.requires.numbers (c.number_past_all-fresh.ensures ∙ ap (λ (k : ℕ). next_past_all k c.args.items.now) c.next_item.ensures) (below-weaker 4294967294 4294967295 c.args.items.now (omega arith) c.requires.numbers) c.in_ok-parts.ensures
-
-pub replace-requires-clause-kept : goal.replace-requires-clause-kept
-replace-requires-clause-kept g c =
-    kept-replaced c.args.track.now c.args.x c.args.y c.count.result c.number_past_all-fresh.result c.first_index-from.result c.end_index-to.result c.seams_of-seams.result c.args.items.now c.in_ok-parts.parts.items
-    c.length.ensures.kept c.requires.order c.seams_of-seams.ensures.seams c.count.ensures (c.number_past_all-fresh.ensures ∙ ap (λ (k : ℕ). next_past_all k c.args.items.now) c.next_item.ensures) c.first_index-from.ensures c.end_index-to.ensures c.in_ok-parts.ensures c.requires.kept
-
-pub returns-clause-ok : goal.returns-clause-ok
-returns-clause-ok g c =
-    let P : TrackState → Type 0 = λ t. OnOk c.replace.result (c.replace.new.self ≡ t) in
-    subst P
-    (replaced-is c.args.track.now c.args.x c.args.y c.count.result c.number_past_all-fresh.result c.first_index-from.result c.end_index-to.result c.seams_of-seams.result c.args.items.now c.in_ok-parts.parts.items
-    c.length.ensures.kept c.requires.order c.seams_of-seams.ensures.seams c.count.ensures (c.number_past_all-fresh.ensures ∙ ap (λ (k : ℕ). next_past_all k c.args.items.now) c.next_item.ensures) c.first_index-from.ensures c.end_index-to.ensures c.in_ok-parts.ensures)
-    c.replace.ensures.ok
+pub overflow_cast-items : goal.overflow_cast-items
+overflow_cast-items g c =
+    omega (arith, few-put c.args.track.now c.args.x c.args.y (2 ^ 32) c.args.items.now c.requires.order c.requires.within c.requires.filled c.requires.kept.short)
