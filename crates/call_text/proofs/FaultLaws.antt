@@ -1,23 +1,21 @@
 -- A line that is not read is none of the table for the fault that is told, and one that is none of the table is not read.
-use Rattle.std.proofs.Common.{◌≡◌, ◌≢◌, ℕ, ◌+◌, ◌^◌, ◌<◌, ◌≤◌, ◌⊎◌, List, [], ◌∷◌, ◌++◌, Bool, true, false, Option, Some, None, Result, Ok, Err, ◌==◌, nat_le, length, if◌then◌else◌, inl, inr, refl, ap, sym, ◌∙◌, arith, codes}
+use Rattle.std.proofs.Common.{◌≡◌, ◌≢◌, ℕ, ◌+◌, ◌^◌, ◌⊎◌, List, [], ◌∷◌, Bool, true, false, Option, Some, None, Result, Ok, Err, ◌==◌, nat_le, length, if◌then◌else◌, inl, inr, refl, ap, sym, ◌∙◌, arith}
 use Rattle.std.specs.List.{slice_split}
 use Rattle.std.proofs.lemmas.Bool.{leb-true, le-leb, leb-false, lt-leb, eqb-true}
 use Rattle.line_words.specs.Blanks.{words_of}
 use Rattle.line_words.specs.Digits.{number_of}
 use Rattle.line_words.specs.declared.numbers.NumberFault.{NumberFault}
 use Rattle.line_words.specs.declared.numbers.NumberFault.TheVariants.{NotANumber, TooLarge}
-use Rattle.frame_meaning.specs.declared.cells.What.{What}
-use Rattle.frame_meaning.specs.declared.cells.What.TheVariants.{Media, Nest}
 use Rattle.call_text.specs.declared.lines.Line.{Line}
 use Rattle.call_text.specs.declared.lines.LineFault.{LineFault}
 use Rattle.call_text.specs.declared.lines.LineFault.TheVariants.{B1, B2, B3, B4, B5, B6}
 use Rattle.call_text.specs.declared.commands.Command.{Command}
 use Rattle.call_text.specs.declared.commands.Command.TheVariants as command
-use Rattle.call_text.specs.Spelling.{◌>>=◌, number_or_fault, numeral_of, track_of, is_comma, set_with, tracks_of, place_or_fault, number_or_label, place_of, what_of}
-use Rattle.call_text.specs.Reading.{command_of, overwrite_of, insert_of, extract_of, remove_of, slice_of, view_of, row_of, row_if, line_of_words, line_of}
-use Rattle.call_text.specs.Table.{IsNumeral, IsTrack, AreTracks, IsLine, word_of}
-use Rattle.call_text.specs.Faults.{Part, Tracks, Track, Place, Thing, Number, rows_of, IsNoNumeral, IsTooLarge, IsPastTracks, IsBadTrack, AreBadTracks, HasDigits, IsBadPart, IsPart, FirstIsBad, AreNoRow, AreBad, IsBad}
-use Rattle.call_text.proofs.ReadParts.{bind_ok, chosen, ok_same, err_ok, numeral_spelled, numeral_read, track_spelled, track_read, tracks_spelled, tracks_read, place_spelled, place_read, thing_spelled, thing_read}
+use Rattle.call_text.specs.Spelling.{◌>>=◌, number_or_fault, numeral_of, track_of, is_comma, set_with, tracks_of, number_or_label, place_of, what_of}
+use Rattle.call_text.specs.Reading.{command_of, overwrite_of, insert_of, row_of, row_if, line_of_words, line_of}
+use Rattle.call_text.specs.Table.{IsLine, word_of}
+use Rattle.call_text.specs.Faults.{Part, Tracks, Track, Place, Thing, Number, rows_of, IsNoNumeral, IsTooLarge, IsBadTrack, AreBadTracks, HasDigits, IsBadPart, IsPart, FirstIsBad, AreNoRow, AreBad, IsBad}
+use Rattle.call_text.proofs.ReadParts.{chosen, ok_same, err_ok, numeral_spelled, numeral_read, track_spelled, track_read, tracks_spelled, tracks_read, place_spelled, place_read, thing_spelled, thing_read}
 use Rattle.call_text.proofs.TableLaws.{command_spelled, command_read, line_spelled, line_read}
 
 -- the fault of what was not read

@@ -1,5 +1,5 @@
 -- What is read of a part is spelled there, and what is spelled there is read.
-use Rattle.std.proofs.Common.{◌≡◌, ℕ, ◌+◌, ◌^◌, ◌<◌, ◌≤◌, ◌⊎◌, List, [], ◌∷◌, Bool, true, false, Option, Some, None, Result, Ok, Err, ◌==◌, nat_le, length, if◌then◌else◌, inl, inr, refl, ap, sym, ◌∙◌, arith, pow_pos}
+use Rattle.std.proofs.Common.{◌≡◌, ℕ, ◌+◌, ◌^◌, ◌<◌, ◌⊎◌, List, [], ◌∷◌, Bool, true, false, Option, Some, None, Result, Ok, Err, ◌==◌, nat_le, length, if◌then◌else◌, inl, inr, refl, ap, sym, subst, ◌∙◌, arith, pow_pos}
 use Rattle.std.specs.List.{slice_split}
 use Rattle.std.proofs.lemmas.Bool.{leb-true, le-leb, eqb-true}
 use Rattle.std.proofs.lemmas.List.Splits.{length-slice_split}
@@ -11,7 +11,8 @@ use Rattle.frame_meaning.specs.declared.cells.What.TheVariants.{Media, Nest}
 use Rattle.call_text.specs.declared.lines.LineFault.{LineFault}
 use Rattle.call_text.specs.declared.lines.LineFault.TheVariants.{B3, B4, B6}
 use Rattle.call_text.specs.Spelling.{◌>>=◌, number_or_fault, numeral_of, track_of, is_comma, set_with, tracks_of, place_or_fault, number_or_label, place_of, what_of}
-use Rattle.call_text.specs.Table.{IsNumeral, IsTrack, AreTracks, IsTracks, IsPlace, IsThing}
+use Rattle.call_text.specs.Table.{IsNumeral, IsTrack, IsTracks, IsPlace, IsThing}
+use Rattle.call_text.proofs.TrackSets.{AreRising, rising, set_below, spells}
 
 -- what was read first, where all was read
 pub bind_ok : {A B : Type 0} (r : Result A LineFault) (f : A → Result B LineFault) (y : B) → (r >>= f) ≡ Ok y → (x : A) × (r ≡ Ok x) × (f x ≡ Ok y)
@@ -56,7 +57,7 @@ track_read word n h =
     rw (number, low) refl
 
 -- the tracks that a list adds to a set
-with_spelled : (words : List (List ℕ)) (least set all : ℕ) → set_with least set words ≡ Ok all → (others : ℕ) × (all ≡ set + others) × AreTracks least words others
+with_spelled : (words : List (List ℕ)) (least set all : ℕ) → set_with least set words ≡ Ok all → (others : ℕ) × (all ≡ set + others) × AreRising least words others
 with_spelled [] least set all h = let same = ok_same set all h in (0, omega (arith, same), refl)
 with_spelled (word ∷ words) least set all h =
     let track = bind_ok (track_of word) _ all h in
@@ -67,7 +68,7 @@ with_spelled (word ∷ words) least set all h =
       | inr below ↦ absurd (err_ok B6 all below.1)
     ]
 
-with_read : (words : List (List ℕ)) (least set others : ℕ) → AreTracks least words others → set_with least set words ≡ Ok (set + others)
+with_read : (words : List (List ℕ)) (least set others : ℕ) → AreRising least words others → set_with least set words ≡ Ok (set + others)
 with_read [] least set others h = let same : set ≡ set + others = omega (arith, h) in ap Ok same
 with_read (word ∷ words) least set others (track, rest, is, above, sum, more) =
     let read = track_read word track is in
@@ -75,24 +76,32 @@ with_read (word ∷ words) least set others (track, rest, is, above, sum, more) 
     let same : set + 2 ^ track + rest ≡ set + others = omega (arith, sum) in
     rw (read, high) (with_read words (track + 1) (set + 2 ^ track) rest more ∙ ap Ok same)
 
-pub tracks_spelled : (word : List ℕ) (set : ℕ) → tracks_of word ≡ Ok set → IsTracks word set
-tracks_spelled word set h =
+tracks_rise : (word : List ℕ) (set : ℕ) → tracks_of word ≡ Ok set → AreRising 0 (slice_split is_comma word) set
+tracks_rise word set h =
     let more = with_spelled (slice_split is_comma word) 0 0 set h in
     let same : more.0 ≡ set = omega (arith, more.1) in
-    rw (← same) more.2
+    subst (AreRising 0 (slice_split is_comma word)) same more.2
+
+pub tracks_spelled : (word : List ℕ) (set : ℕ) → tracks_of word ≡ Ok set → IsTracks word set
+tracks_spelled word set h =
+    let rise = tracks_rise word set h in
+    let small = set_below (slice_split is_comma word) 0 0 set rise (omega arith) (omega arith) in
+    (omega (arith, small), spells (slice_split is_comma word) set rise)
 
 pub tracks_read : (word : List ℕ) (set : ℕ) → IsTracks word set → tracks_of word ≡ Ok set
-tracks_read word set h = let same : 0 + set ≡ set = omega arith in with_read (slice_split is_comma word) 0 0 set h ∙ ap Ok same
+tracks_read word set h =
+    let same : 0 + set ≡ set = omega arith in
+    with_read (slice_split is_comma word) 0 0 set (rising set (slice_split is_comma word) h.0 h.1) ∙ ap Ok same
 
 -- a list has a track, and so has its set
-some_tracks : (words : List (List ℕ)) (least set : ℕ) → 0 < length words → AreTracks least words set → 0 < set
+some_tracks : (words : List (List ℕ)) (least set : ℕ) → 0 < length words → AreRising least words set → 0 < set
 some_tracks [] least set h k = absurd (omega (arith, h))
 some_tracks (word ∷ words) least set h (track, rest, is, above, sum, more) = let one = pow_pos track in omega (arith, sum, one)
 
 pub tracks_some : (word : List ℕ) (set : ℕ) → tracks_of word ≡ Ok set → 0 < set
 tracks_some word set h =
     let count = length-slice_split is_comma word in
-    some_tracks (slice_split is_comma word) 0 set (omega (arith, count)) (tracks_spelled word set h)
+    some_tracks (slice_split is_comma word) 0 set (omega (arith, count)) (tracks_rise word set h)
 
 label_ok : (label : Option ℕ) (n : ℕ) → place_or_fault label ≡ Ok n → label ≡ Some n
 label_ok None n h = absurd cc

@@ -1,5 +1,5 @@
 -- The words of a row, one by one.
-use Rattle.std.proofs.Common.{◌≡◌, ℕ, ◌+◌, ◌<◌, ◌≤◌, List, [], ◌∷◌, Bor, length, map, get_or, refl, arith}
+use Rattle.std.proofs.Common.{◌≡◌, ℕ, ◌<◌, ◌≤◌, List, [], ◌∷◌, Bor, length, map, get_or, refl, arith}
 
 -- where no word is
 abbrev pub no_word : Bor (List ℕ)

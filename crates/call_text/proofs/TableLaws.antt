@@ -1,5 +1,5 @@
 -- What is read of a line is spelled there, and what is spelled there is read.
-use Rattle.std.proofs.Common.{◌≡◌, ℕ, List, [], ◌∷◌, Bool, true, false, Option, Some, None, Ok, length, nat_le, inl, inr, refl, ap, sym, codes, if◌then◌else◌}
+use Rattle.std.proofs.Common.{◌≡◌, ℕ, List, [], ◌∷◌, Option, Some, None, Ok, length, nat_le, inl, inr, refl, if◌then◌else◌}
 use Rattle.std.proofs.lemmas.Bool.{leb-true, le-leb}
 use Rattle.std.proofs.lemmas.Slice.Eq.{bytes_eq-Decides}
 use Rattle.std.specs.Str.{bytes_eq}

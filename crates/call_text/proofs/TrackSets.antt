@@ -1,17 +1,19 @@
 -- The tracks of a set, one after another, and the set of ascending tracks.
-use Rattle.std.proofs.Common.{◌≡◌, ℕ, zero, suc, ◌+◌, ◌-◌, ◌*◌, ◌/◌, ◌%◌, ◌^◌, ◌<◌, ◌≤◌, ◌≢◌, Bool, true, false, List, [], ◌∷◌, ◌++◌, length, map, nat_eq, subst, refl, sym, ap, ◌∙◌, arith, append_assoc, codes, if◌then◌else◌}
+use Rattle.std.proofs.Common.{◌≡◌, ℕ, zero, suc, ◌+◌, ◌-◌, ◌*◌, ◌/◌, ◌%◌, ◌^◌, ◌<◌, ◌≤◌, ◌≢◌, Bool, true, false, List, [], ◌∷◌, ◌++◌, length, nat_eq, subst, inl, inr, refl, sym, ap, ◌∙◌, arith, append_assoc, codes, if◌then◌else◌}
 use Rattle.std.specs.Fmt.{decimal}
 use Rattle.std.specs.Int.Bits.{bit_and}
 use Rattle.std.specs.List.{All}
-use Rattle.std.proofs.Math.Nat.{mod-one, mod-eq_of_lt}
+use Rattle.std.proofs.Math.Nat.{mod-one, mod-eq_of_lt, pow-suc}
 use Rattle.std.proofs.lemmas.Bool.{eq-eqb, eqb-true}
 use Rattle.std.proofs.lemmas.List.Elements.{All-nil, All-cons}
-use Rattle.std.proofs.lemmas.Nat.{and_mask, mod-pow-add, mod_below}
-use Rattle.line_words.proofs.DigitLaws.{number_of-decimal}
+use Rattle.std.proofs.lemmas.Nat.{and_mask, mod-pow-add, mod_below, pow-add, div-mul-add}
+use Rattle.std.proofs.Math.Pow.{pow_mono}
+use Rattle.std.proofs.lemmas.Bool.{cases_lt}
 use Rattle.edit_insert.specs.TrackSets.{has_track, tracks_from, tracks_in}
 use Rattle.std.proofs.lemmas.List.{append-nil}
 use Rattle.call_text.specs.CallTexts.{numbers_after, tracks_text}
-use Rattle.call_text.specs.Table.{AreTracks}
+use Rattle.call_text.proofs.ListWords.{set_within}
+use Rattle.call_text.specs.Table.{IsNumeral, IsTrack, AreNumerals}
 
 -- the tracks of a set from t on
 unfoldable pub tracks_after : ℕ → ℕ → List ℕ
@@ -111,20 +113,120 @@ all_bits s h =
     let whole : s % 2 ^ 32 ≡ s = mod-eq_of_lt h in
     omega (arith, sum, none, whole)
 
--- the tracks of a set, as they are written, spell it
-tracks_spell : (s t n least : ℕ) → t + n ≤ 32 → least ≤ t → AreTracks least (map decimal (tracks_from s t n)) (bits s t n)
-tracks_spell s t zero least h low = refl
-tracks_spell s t (suc n) least h low =
-    by (has_track s t) (tracks_spell s (suc t) n (t + 1) (omega (arith, h)) (omega arith)) (tracks_spell s (suc t) n least (omega (arith, h)) (omega (arith, low)))
-  where
-    by : (b : Bool) → AreTracks (t + 1) (map decimal (tracks_from s (suc t) n)) (bits s (suc t) n) → AreTracks least (map decimal (tracks_from s (suc t) n)) (bits s (suc t) n)
-        → AreTracks least (map decimal (if b then t ∷ tracks_from s (suc t) n else tracks_from s (suc t) n)) (if b then 2 ^ t + bits s (suc t) n else bits s (suc t) n)
-    by true above more = (t, bits s (suc t) n, (number_of-decimal t (omega (arith, h)), omega (arith, h)), low, refl, above)
-    by false above more = more
+-- the words are tracks, each above the one before and at least `least`, and the set is the sum of their bits
+abbrev pub AreRising : ℕ → List (List ℕ) → ℕ → Type 0
+AreRising least [] set = set ≡ 0
+AreRising least (word ∷ words) set =
+    (track : ℕ) × (others : ℕ) × IsTrack word track × (least ≤ track) × (set ≡ 2 ^ track + others) × AreRising (track + 1) words others
 
-pub tracks_in_spell : (s : ℕ) → s < 2 ^ 32 → AreTracks 0 (map decimal (tracks_in s)) s
+-- words that spell the tracks of a set rise, and the set is theirs
+are_rising : (s t n least : ℕ) (words : List (List ℕ)) → t + n ≤ 32 → least ≤ t → AreNumerals words (tracks_from s t n) → AreRising least words (bits s t n)
+are_rising s t zero least [] h low spell = refl
+are_rising s t zero least (word ∷ words) h low spell = absurd spell
+are_rising s t (suc n) least words h low spell =
+    by (has_track s t) words (λ ws more. are_rising s (suc t) n (t + 1) ws (omega (arith, h)) (omega arith) more) (λ ws more. are_rising s (suc t) n least ws (omega (arith, h)) (omega (arith, low)) more) spell
+  where
+    by : (b : Bool) (words : List (List ℕ)) → ((ws : List (List ℕ)) → AreNumerals ws (tracks_from s (suc t) n) → AreRising (t + 1) ws (bits s (suc t) n))
+        → ((ws : List (List ℕ)) → AreNumerals ws (tracks_from s (suc t) n) → AreRising least ws (bits s (suc t) n))
+        → AreNumerals words (if b then t ∷ tracks_from s (suc t) n else tracks_from s (suc t) n) → AreRising least words (if b then 2 ^ t + bits s (suc t) n else bits s (suc t) n)
+    by true [] above more spell = absurd spell
+    by true (word ∷ words) above more (number, spell) = (t, bits s (suc t) n, (number, omega (arith, h)), low, refl, above words spell)
+    by false words above more spell = more words spell
+
+pub rising : (s : ℕ) (words : List (List ℕ)) → s < 2 ^ 32 → AreNumerals words (tracks_in s) → AreRising 0 words s
 unfolding tracks_in
-tracks_in_spell s h = let all = all_bits s h in subst (AreTracks 0 (map decimal (tracks_from s 0 32))) all (tracks_spell s 0 32 0 (omega arith) (omega arith))
+rising s words h spell = let all = all_bits s h in subst (AreRising 0 words) all (are_rising s 0 32 0 words (omega arith) (omega arith) spell)
+
+-- the set of rising words has 32 bits
+pub set_below : (words : List (List ℕ)) (least low set : ℕ) → AreRising least words set → low < 2 ^ least → least ≤ 32 → low + set < 2 ^ 32
+set_below [] least low set h small within =
+    let more : 2 ^ least ≤ 2 ^ 32 = pow_mono within in
+    omega (arith, h, small, more)
+set_below (word ∷ words) least low set (track, others, is, above, sum, more) small within =
+    let rest = set_below words (track + 1) (low + 2 ^ track) others more (set_within low least track small above) (omega (arith, is.1)) in
+    omega (arith, sum, rest)
+
+-- the set of rising words is a multiple of the least bit that it may have
+regroup : (p q l m : ℕ) → p ≡ q * l → p + m * (p * 2) ≡ q * (1 + m * 2) * l
+regroup p q l m e = rw e (grind arith)
+
+multiple : (words : List (List ℕ)) (least set : ℕ) → AreRising least words set → (m : ℕ) × (set ≡ m * 2 ^ least)
+multiple [] least set h = (0, omega (arith, h))
+multiple (word ∷ words) least set (track, others, is, above, sum, more) =
+    let rest = multiple words (track + 1) others more in
+    let split : track ≡ track - least + least = omega (arith, above) in
+    let whole : 2 ^ track ≡ 2 ^ (track - least) * 2 ^ least = ap (λ k. 2 ^ k) split ∙ pow-add 2 (track - least) least in
+    let next : track + 1 ≡ suc track = omega arith in
+    let double : 2 ^ (track + 1) ≡ 2 ^ track * 2 = ap (λ k. 2 ^ k) next ∙ pow-suc 2 track in
+    let others_are : others ≡ rest.0 * (2 ^ track * 2) = rest.1 ∙ ap (λ p. rest.0 * p) double in
+    (2 ^ (track - least) * (1 + rest.0 * 2), sum ∙ ap (λ n. 2 ^ track + n) others_are ∙ regroup (2 ^ track) (2 ^ (track - least)) (2 ^ least) rest.0 whole)
+
+bit_with : (s t q : ℕ) (b : Bool) → s / 2 ^ t ≡ q → nat_eq (q % 2) 1 ≡ b → has_track s t ≡ b
+bit_with s t q b e h = ap (λ x. nat_eq (bit_and x 1) 1) e ∙ ap (λ y. nat_eq y 1) (and_mask q 1) ∙ h
+
+absent : (s low set m t : ℕ) → low < 2 ^ t → set ≡ m * 2 ^ suc t → s ≡ low + set → has_track s t ≡ false
+absent s low set m t small many sum =
+    let double : 2 ^ suc t ≡ 2 ^ t * 2 = pow-suc 2 t in
+    let times : m * 2 ^ suc t ≡ m * 2 * 2 ^ t = ap (λ p. m * p) double ∙ swapped m (2 ^ t) in
+    let whole : s ≡ m * 2 * 2 ^ t + low = omega (arith, sum, many, times) in
+    let even : m * 2 % 2 ≡ 0 = omega arith in
+    bit_with s t (m * 2) false (ap (λ n. n / 2 ^ t) whole ∙ div-mul-add (m * 2) (2 ^ t) low small) (ap (λ n. nat_eq n 1) even)
+  where
+    swapped : (m p : ℕ) → m * (p * 2) ≡ m * 2 * p
+    swapped m p = grind arith
+
+present : (s low others m t : ℕ) → low < 2 ^ t → others ≡ m * 2 ^ suc t → s ≡ low + (2 ^ t + others) → has_track s t ≡ true
+present s low others m t small many sum =
+    let double : 2 ^ suc t ≡ 2 ^ t * 2 = pow-suc 2 t in
+    let times : m * 2 ^ suc t + 2 ^ t ≡ (m * 2 + 1) * 2 ^ t = ap (λ p. m * p + 2 ^ t) double ∙ swapped m (2 ^ t) in
+    let whole : s ≡ (m * 2 + 1) * 2 ^ t + low = omega (arith, sum, many, times) in
+    let odd : (m * 2 + 1) % 2 ≡ 1 = omega arith in
+    bit_with s t (m * 2 + 1) true (ap (λ n. n / 2 ^ t) whole ∙ div-mul-add (m * 2 + 1) (2 ^ t) low small) (ap (λ n. nat_eq n 1) odd)
+  where
+    swapped : (m p : ℕ) → m * (p * 2) + p ≡ (m * 2 + 1) * p
+    swapped m p = grind arith
+
+passed : (b : Bool) (words : List (List ℕ)) (t : ℕ) (ts : List ℕ) → b ≡ false → AreNumerals words ts → AreNumerals words (if b then t ∷ ts else ts)
+passed true words t ts e spell = absurd cc
+passed false words t ts e spell = spell
+
+taken : (b : Bool) (word : List ℕ) (words : List (List ℕ)) (t : ℕ) (ts : List ℕ) → b ≡ true → IsNumeral word t → AreNumerals words ts → AreNumerals (word ∷ words) (if b then t ∷ ts else ts)
+taken true word words t ts e number spell = (number, spell)
+taken false word words t ts e number spell = absurd cc
+
+wider : (t low : ℕ) → low < 2 ^ t → low < 2 ^ suc t
+wider t low small = let double : 2 ^ suc t ≡ 2 ^ t * 2 = pow-suc 2 t in omega (arith, small, double)
+
+-- rising words spell the tracks of their set
+spell_on : (n t : ℕ) (words : List (List ℕ)) (low set : ℕ) → t + n ≡ 32 → low < 2 ^ t → AreRising t words set → AreNumerals words (tracks_from (low + set) t n)
+spell_on zero t [] low set h small rise = tt
+spell_on zero t (word ∷ words) low set h small (track, others, is, above, sum, more) = absurd (omega (arith, h, is.1, above))
+spell_on (suc n) t [] low set h small rise =
+    let none = absent (low + set) low set 0 t small (omega (arith, rise)) refl in
+    passed (has_track (low + set) t) [] t (tracks_from (low + set) (suc t) n) none (spell_on n (suc t) [] low set (omega (arith, h)) (wider t low small) rise)
+spell_on (suc n) t (word ∷ words) low set h small (track, others, is, above, sum, more) = elim (cases_lt t track) [
+  | inl later ↦
+      let rise : AreRising (suc t) (word ∷ words) set = (track, others, is, omega (arith, later), sum, more) in
+      let many = multiple (word ∷ words) (suc t) set rise in
+      let none = absent (low + set) low set many.0 t small many.1 refl in
+      passed (has_track (low + set) t) (word ∷ words) t (tracks_from (low + set) (suc t) n) none (spell_on n (suc t) (word ∷ words) low set (omega (arith, h)) (wider t low small) rise)
+  | inr here ↦
+      let same : track ≡ t = omega (arith, here, above) in
+      let next : track + 1 ≡ suc t = omega (arith, same) in
+      let rise : AreRising (suc t) words others = subst (λ k. AreRising k words others) next more in
+      let many = multiple words (suc t) others rise in
+      let bit : 2 ^ track ≡ 2 ^ t = ap (λ k. 2 ^ k) same in
+      let whole : low + set ≡ low + (2 ^ t + others) = omega (arith, sum, bit) in
+      let has = present (low + set) low others many.0 t small many.1 whole in
+      let double : 2 ^ suc t ≡ 2 ^ t * 2 = pow-suc 2 t in
+      let rest = spell_on n (suc t) words (low + 2 ^ t) others (omega (arith, h)) (omega (arith, small, double)) rise in
+      let sum_is : low + 2 ^ t + others ≡ low + set = omega (arith, whole) in
+      taken (has_track (low + set) t) word words t (tracks_from (low + set) (suc t) n) has (subst (IsNumeral word) same is.0) (subst (λ s. AreNumerals words (tracks_from s (suc t) n)) sum_is rest)
+]
+
+pub spells : (words : List (List ℕ)) (set : ℕ) → AreRising 0 words set → AreNumerals words (tracks_in set)
+unfolding tracks_in
+spells words set rise = let same : 0 + set ≡ set = omega arith in subst (λ s. AreNumerals words (tracks_from s 0 32)) same (spell_on 32 0 words 0 set refl (omega arith) rise)
 
 -- each is below 32
 below : (s t n : ℕ) → t + n ≤ 32 → All (λ n. n < 32) (tracks_from s t n)

@@ -6,11 +6,10 @@ use Rattle.line_words.proofs.DigitLaws.{number_of-decimal}
 use Rattle.line_words.proofs.WordLaws.{words_of-word, words_of-last}
 use Rattle.edit_apply.specs.declared.asks.Call.{Call}
 use Rattle.edit_apply.specs.declared.asks.Call.TheVariants as call
-use Rattle.call_text.specs.declared.commands.Command.TheVariants as command
 use Rattle.call_text.specs.declared.lines.Line.TheVariants.{Edit}
-use Rattle.call_text.specs.CallTexts.{what_text, tracks_text, frames_text, call_text_of, IsWritten}
+use Rattle.call_text.specs.CallTexts.{what_text, tracks_text, call_text_of, IsWritten}
 use Rattle.call_text.specs.Reading.{line_of}
-use Rattle.call_text.specs.Table.{AreCall, word_of}
+use Rattle.call_text.specs.Table.{AreCall}
 use Rattle.call_text.proofs.TableLaws.{line_read}
 use Rattle.call_text.proofs.WrittenParts.{length-decimal, IsWord-tested, IsWord-decimal, IsWord-what_text, length-what_text, IsThing-what_text, IsTracks-tracks_text, IsWord-tracks_text, length-tracks_text}
 

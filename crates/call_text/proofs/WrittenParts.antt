@@ -18,9 +18,9 @@ use Rattle.frame_meaning.specs.declared.cells.What.{What}
 use Rattle.frame_meaning.specs.declared.cells.What.TheVariants.{Media, Nest}
 use Rattle.call_text.specs.CallTexts.{what_text, numbers_after, tracks_text, IsSmallWhat}
 use Rattle.call_text.specs.Spelling.{is_comma}
-use Rattle.call_text.specs.Table.{IsThing, AreTracks, IsTracks}
+use Rattle.call_text.specs.Table.{IsThing, AreNumerals, IsTracks}
 use Rattle.edit_insert.specs.TrackSets.{tracks_in}
-use Rattle.call_text.proofs.TrackSets.{tracks_in_spell, tracks_in_below, tracks_in_count}
+use Rattle.call_text.proofs.TrackSets.{rising, tracks_in_below, tracks_in_count}
 
 -- a word that is read as a number is spelled as one
 is_number-read : (b : Bool) (r : Result ℕ NumberFault) (n : ℕ) → (if b then r else Err NotANumber) ≡ Ok n → b ≡ true
@@ -90,13 +90,19 @@ split_numbers n (m ∷ ns) here h =
     slice_split_at is_comma (decimal n) 44 (numbers_after [] (m ∷ ns)) (digits_fail is_comma no_comma (decimal n) (are_digits n (omega (arith, here)))) refl
     ∙ ap (λ words. decimal n ∷ words) (split_numbers m ns (All-head (λ n. n < 32) m ns h) (All-tail (λ n. n < 32) m ns h))
 
+numerals_written : (ns : List ℕ) → All (λ n. n < 32) ns → AreNumerals (map decimal ns) ns
+numerals_written [] h = tt
+numerals_written (n ∷ ns) h =
+    let here = All-head (λ n. n < 32) n ns h in
+    (number_of-decimal n (omega (arith, here)), numerals_written ns (All-tail (λ n. n < 32) n ns h))
+
 -- a list of the tracks of a set
 module _ (s : ℕ) (some : 0 < s) (small : s < 2 ^ 32) where
   first_track : (n : ℕ) × (ns : List ℕ) × (tracks_in s ≡ n ∷ ns)
   first_track = by (tracks_in s) refl
     where
       by : (ts : List ℕ) → tracks_in s ≡ ts → (n : ℕ) × (ns : List ℕ) × (tracks_in s ≡ n ∷ ns)
-      by [] e = let none : s ≡ 0 = subst (λ ts. AreTracks 0 (map decimal ts) s) e (tracks_in_spell s small) in absurd (omega (arith, some, none))
+      by [] e = let none : s ≡ 0 = rising s [] small (subst (AreNumerals []) (sym e) tt) in absurd (omega (arith, some, none))
       by (n ∷ ns) e = (n, ns, e)
 
   pub IsTracks-tracks_text : IsTracks (tracks_text s) s
@@ -105,7 +111,7 @@ module _ (s : ℕ) (some : 0 < s) (small : s < 2 ^ 32) where
       let below = subst (All (λ n. n < 32)) first.2 (tracks_in_below s) in
       let split = split_numbers first.0 first.1 (All-head (λ n. n < 32) first.0 first.1 below) (All-tail (λ n. n < 32) first.0 first.1 below) in
       let words : slice_split is_comma (tracks_text s) ≡ map decimal (tracks_in s) = rw first.2 split in
-      subst (λ ws. AreTracks 0 ws s) (sym words) (tracks_in_spell s small)
+      (small, subst (λ ws. AreNumerals ws (tracks_in s)) (sym words) (numerals_written (tracks_in s) (tracks_in_below s)))
 
   pub IsWord-tracks_text : IsWord (tracks_text s)
   IsWord-tracks_text =

@@ -2,7 +2,7 @@
 -- first word is not in the table; no row of that word has so many words; and then, word by word from the
 -- left, a word is not spelled as its part of the row, or a number of it is past its bound, or its list
 -- of tracks does not rise.
-use Rattle.std.specs.Prelude.{◌≡◌, ◌≢◌, ℕ, ◌+◌, ◌<◌, ◌≤◌, ◌⊎◌, List, [], ◌∷◌, ◌++◌, Option, None, Err, length, codes}
+use Rattle.std.specs.Prelude.{◌≡◌, ◌≢◌, ℕ, ◌+◌, ◌<◌, ◌≤◌, ◌⊎◌, List, [], ◌∷◌, ◌++◌, None, Err, length, codes}
 use Rattle.std.specs.List.{slice_split}
 use Rattle.line_words.specs.Blanks.{words_of}
 use Rattle.line_words.specs.Digits.{number_of}

@@ -1,5 +1,5 @@
 -- What the lines of the table are, word by word. place_at says which place a label names.
-use Rattle.std.specs.Prelude.{◌≡◌, ℕ, ◌+◌, ◌^◌, ◌≤◌, ◌⊎◌, List, [], ◌∷◌, ◌++◌, Option, Some, Ok, Err, length, codes}
+use Rattle.std.specs.Prelude.{◌≡◌, ℕ, ◌^◌, ◌<◌, ◌≤◌, ◌⊎◌, List, [], ◌∷◌, ◌++◌, Some, Ok, Err, length, codes}
 use Rattle.std.specs.List.{slice_split}
 use Rattle.line_words.specs.Blanks.{words_of}
 use Rattle.line_words.specs.Digits.{number_of}
@@ -7,6 +7,7 @@ use Rattle.line_words.specs.declared.TheConstants.{MAX_LINE}
 use Rattle.line_words.specs.declared.numbers.NumberFault.TheVariants.{NotANumber}
 use Rattle.frame_meaning.specs.declared.cells.What.{What}
 use Rattle.frame_meaning.specs.declared.cells.What.TheVariants.{Media, Nest}
+use Rattle.edit_insert.specs.TrackSets.{tracks_in}
 use Rattle.edit_apply.specs.declared.asks.Call.{Call}
 use Rattle.edit_apply.specs.declared.asks.Call.TheVariants as call
 use Rattle.edit_apply.specs.declared.asks.Ask.TheVariants as ask
@@ -24,17 +25,16 @@ IsNumeral word n = number_of word ≡ Ok n
 abbrev pub IsTrack : List ℕ → ℕ → Type 0
 IsTrack word track = IsNumeral word track × (track ≤ LAST_TRACK)
 
--- the words are tracks, each above the one before and at least `least`, and the set has a bit for each
--- and no other
-abbrev pub AreTracks : ℕ → List (List ℕ) → ℕ → Type 0
-AreTracks least [] set = set ≡ 0
-AreTracks least (word ∷ words) set =
-    (track : ℕ) × (others : ℕ) × IsTrack word track × (least ≤ track)
-    × (set ≡ 2 ^ track + others) × AreTracks (track + 1) words others
+-- each word is the number beside it
+abbrev pub AreNumerals : List (List ℕ) → List ℕ → Type 0
+AreNumerals [] [] = Unit {0}
+AreNumerals [] (n ∷ ns) = ⊥
+AreNumerals (word ∷ words) [] = ⊥
+AreNumerals (word ∷ words) (n ∷ ns) = IsNumeral word n × AreNumerals words ns
 
--- the word is these tracks, parted by commas, strictly ascending
+-- the word is the tracks of the set, ascending, parted by commas
 abbrev pub IsTracks : List ℕ → ℕ → Type 0
-IsTracks word set = AreTracks 0 (slice_split is_comma word) set
+IsTracks word set = (set < 2 ^ 32) × AreNumerals (slice_split is_comma word) (tracks_in set)
 
 -- the number of the place, or a label that names it
 abbrev pub IsPlace : Naming → List ℕ → ℕ → Type 0

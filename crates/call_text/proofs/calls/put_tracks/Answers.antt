@@ -1,4 +1,4 @@
-use Rattle.std.proofs.Common.{refl, sym, ap, ◌∙◌, arith}
+use Rattle.std.proofs.Common.{sym, ap, ◌∙◌, arith}
 use Rattle.call_text.proofs.TrackSets.{begun, went_with, went_without, ended}
 use Rattle.call_text.proofs.calls.put_tracks.Goals as goal
 use Rattle.call_text.proofs.calls.put_tracks.Goals.{then-has_track+in_ok-put_number, else-has_track}

@@ -1,5 +1,5 @@
-use Rattle.std.proofs.Common.{◌≡◌, Ok, sym, ap, ◌∙◌, rules, arith}
-use Rattle.call_text.specs.Spelling.{listed_in, set_with, tracks_of}
+use Rattle.std.proofs.Common.{◌≡◌, Ok, sym, rules, arith}
+use Rattle.call_text.specs.Spelling.{tracks_of}
 use Rattle.call_text.proofs.ListWords.{next_track, bit_of, set_within}
 use Rattle.call_text.proofs.ReadParts.{tracks_some}
 use Rattle.call_text.proofs.parts.tracks.Goals as goal
