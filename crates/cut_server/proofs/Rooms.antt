@@ -11,7 +11,7 @@ use Rattle.composables.specs.declared.media.Table.{Table}
 use Rattle.composables.specs.declared.refusals.Refusal.{Refusal}
 use Rattle.composables.specs.declared.refusals.Refusal.TheVariants as refusal_of
 use Rattle.composables.specs.declared.refusals.Done.{Done}
-use Rattle.composables.specs.Good.{IsGood, AllUnmarked}
+use Rattle.composables.specs.Good.{IsGood, AllUnlinked}
 use Rattle.composables.specs.Items.{items_of}
 use Rattle.composables.specs.TrackState.{TrackState}
 use Rattle.edit_insert.specs.Answers.{NextRises}
@@ -26,7 +26,7 @@ use Rattle.cut_server.specs.Editing.{Changes}
 use Rattle.cut_server.specs.declared.edits.Edited.{Edited}
 
 pub later_track : (table : Table) (n most more : ℕ) (t : TrackState) → most ≤ more → IsTrackOf table n most t → IsTrackOf table n more t
-later_track table n most more t le k = record { number_is = k.number_is; good = k.good; unmarked = k.unmarked; next = omega (arith, k.next, le) }
+later_track table n most more t le k = record { number_is = k.number_is; good = k.good; unlinked = k.unlinked; next = omega (arith, k.next, le); next_link = omega (arith, k.next_link, le) }
 
 pub later_tracks : (table : Table) (n most more : ℕ) (ts : List TrackState) → most ≤ more → AreTracksOf table n most ts → AreTracksOf table n more ts
 later_tracks table n most more [] le k = tt
@@ -110,21 +110,22 @@ kept_all table most (n ∷ ns) [] P f k = absurd k
 kept_all table most (n ∷ ns) (t ∷ ts) P f k = All-cons P t ts (f n t k.0) (kept_all table most ns ts P f k.1)
 
 -- the named tracks after an edit
-pub kept_after : (table : Table) (most : ℕ) (names : List ℕ) (old new : List TrackState) → AreKept table most names old → All (λ (t : TrackState). IsGood table t) new → All (λ (t : TrackState). AllUnmarked (items_of t.cells)) new → NextRises 2 old new
+pub kept_after : (table : Table) (most : ℕ) (names : List ℕ) (old new : List TrackState) → AreKept table most names old → All (λ (t : TrackState). IsGood table t) new → All (λ (t : TrackState). AllUnlinked (items_of t.cells)) new → NextRises 2 old new
     → AreKept table (most + 2) names new
-kept_after table most [] [] [] k good unmarked rises = tt
-kept_after table most [] [] (u ∷ us) k good unmarked rises = absurd rises
-kept_after table most [] (t ∷ ts) us k good unmarked rises = absurd k
-kept_after table most (n ∷ ns) [] us k good unmarked rises = absurd k
-kept_after table most (n ∷ ns) (t ∷ ts) [] k good unmarked rises = absurd rises
-kept_after table most (n ∷ ns) (t ∷ ts) (u ∷ us) k good unmarked rises = (
+kept_after table most [] [] [] k good unlinked rises = tt
+kept_after table most [] [] (u ∷ us) k good unlinked rises = absurd rises
+kept_after table most [] (t ∷ ts) us k good unlinked rises = absurd k
+kept_after table most (n ∷ ns) [] us k good unlinked rises = absurd k
+kept_after table most (n ∷ ns) (t ∷ ts) [] k good unlinked rises = absurd rises
+kept_after table most (n ∷ ns) (t ∷ ts) (u ∷ us) k good unlinked rises = (
   record {
     number_is = rises.0 ∙ k.0.number_is;
     good = All-head (λ (s : TrackState). IsGood table s) u us good;
-    unmarked = All-head (λ (s : TrackState). AllUnmarked (items_of s.cells)) u us unmarked;
+    unlinked = All-head (λ (s : TrackState). AllUnlinked (items_of s.cells)) u us unlinked;
     next = omega (arith, rises.1, k.0.next);
+    next_link = omega (arith, rises.2, k.0.next_link);
   },
-  kept_after table most ns ts us k.1 (All-tail (λ (s : TrackState). IsGood table s) u us good) (All-tail (λ (s : TrackState). AllUnmarked (items_of s.cells)) u us unmarked) rises.2,
+  kept_after table most ns ts us k.1 (All-tail (λ (s : TrackState). IsGood table s) u us good) (All-tail (λ (s : TrackState). AllUnlinked (items_of s.cells)) u us unlinked) rises.3,
 )
 
 -- put back into the room
