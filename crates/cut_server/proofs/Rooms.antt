@@ -4,7 +4,7 @@ use Rattle.std.proofs.Math.ListN.{set, length-set}
 use Rattle.std.proofs.lemmas.Bool.Decides.{nat_tests}
 use Rattle.std.proofs.lemmas.Option.{slice_get-get_or}
 use Rattle.std.proofs.lemmas.List.{append-nil, drop_more}
-use Rattle.edit_insert.specs.TrackSets.{has_track}
+use Rattle.composables.specs.TrackSets.{has_track}
 use Rattle.call_text.proofs.TrackSets.{tracks_after, after_next, after_last}
 use Rattle.std.proofs.lemmas.List.Elements.{All-nil, All-cons, All-head, All-tail}
 use Rattle.composables.specs.declared.media.Table.{Table}
@@ -14,7 +14,7 @@ use Rattle.composables.specs.declared.refusals.Done.{Done}
 use Rattle.composables.specs.Good.{IsGood, AllUnlinked}
 use Rattle.composables.specs.Items.{items_of}
 use Rattle.composables.specs.TrackState.{TrackState}
-use Rattle.edit_insert.specs.Answers.{NextRises}
+use Rattle.composables.specs.Answers.{NextRises}
 use Rattle.edit_apply.specs.declared.asks.Call.{Call}
 use Rattle.edit_apply.specs.declared.asks.Ask.{Ask}
 use Rattle.edit_apply.specs.declared.asks.AskRefusal.{AskRefusal}

@@ -2,7 +2,7 @@
 use Rattle.std.proofs.Common.{◌≡◌, ◌≢◌, ℕ, zero, suc, ◌+◌, ◌-◌, ◌<◌, ◌≤◌, Bool, true, false, eqb, ◌||◌, ◌&&◌, not, List, [], ◌∷◌, Option, Some, None, refl, sym, ap, ◌∙◌, arith, nat_eq, nat_lt, if◌then◌else◌}
 use Rattle.std.proofs.lemmas.Bool.{eq-eqb, eqb-true}
 use Rattle.std.specs.List.{list_any}
-use Rattle.edit_insert.specs.TrackSets.{has_track, tracks_from, tracks_in}
+use Rattle.composables.specs.TrackSets.{has_track, tracks_from, tracks_in}
 use Rattle.edit_apply.specs.Apply.{first_absent}
 
 any_step : (c : Bool) (test : ℕ → Bool) (a : ℕ) (rest : List ℕ) → list_any test (if c then a ∷ rest else rest) ≡ (c && test a || list_any test rest)

@@ -20,14 +20,14 @@ use Rattle.composables.specs.Views.{gap_views}
 use Rattle.edit_splice.specs.Laws.{IsWithinLimits}
 use Rattle.edit_splice.specs.Splicing.{spliced_track}
 use Rattle.edit_insert.specs.declared.shifting.Shift.{Shift}
-use Rattle.edit_insert.specs.Answers.{Answers, unless}
-use Rattle.edit_insert.specs.Limits.{too_long, too_many, within_limits}
+use Rattle.composables.specs.Answers.{Answers, unless}
+use Rattle.composables.specs.Limits.{too_long, too_many, within_limits}
 use Rattle.edit_insert.specs.Moves.{IsShiftOf, all_moved, moved, put_views}
-use Rattle.edit_insert.specs.OwnTracks.{for_own, track_numbered, with_track}
+use Rattle.composables.specs.OwnTracks.{for_own, track_numbered, with_track}
 use Rattle.edit_insert.specs.PutIn.{new_len, new_views, padded_track}
-use Rattle.edit_insert.specs.Shifts.{shifted, shifted_along, shifted_track}
+use Rattle.edit_splice.specs.Shifts.{shifted, shifted_along, shifted_track}
 use Rattle.edit_insert.specs.Standing.{EachStaysGood, StaysGood}
-use Rattle.edit_insert.specs.TrackSets.{has_track, tracks_from, tracks_in}
+use Rattle.composables.specs.TrackSets.{has_track, tracks_from, tracks_in}
 use Rattle.edit_insert.proofs.Firsts.{few-all, short-all}
 use Rattle.edit_insert.proofs.Moving.{put-own, put-other}
 use Rattle.edit_insert.proofs.Padding.{padded-put, padded-reaches}

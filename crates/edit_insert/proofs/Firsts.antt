@@ -12,7 +12,7 @@ use Rattle.edit_splice.specs.Splicing.{HasRoom}
 use Rattle.std.proofs.lemmas.List.Elements.{All-cons}
 use Rattle.edit_insert.proofs.Standing.{all_none}
 use Rattle.edit_insert.specs.declared.shifting.Shift.{Shift}
-use Rattle.edit_insert.specs.Limits.{too_long, too_many}
+use Rattle.composables.specs.Limits.{too_long, too_many}
 use Rattle.edit_insert.specs.Moves.{HasRooms, all_moved, moved}
 
 pub drop-here : (ts : List TrackState) (i : ℕ) (t : TrackState) → i < length ts → t ≡ get_or ts i t → drop i ts ≡ t ∷ drop (i + 1) ts

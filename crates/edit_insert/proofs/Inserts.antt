@@ -20,15 +20,15 @@ use Rattle.composables.specs.TrackFacts.{IsKept}
 use Rattle.composables.specs.TrackState.{TrackState}
 use Rattle.composables.specs.Views.{clip_view, gap_views}
 use Rattle.edit_insert.specs.declared.shifting.Shift.{Shift}
-use Rattle.edit_insert.specs.Answers.{unless}
+use Rattle.composables.specs.Answers.{unless}
 use Rattle.edit_insert.specs.Edits.{extract_named, extracted, for_range, insert_named, inserted}
-use Rattle.edit_insert.specs.Limits.{within_limits}
+use Rattle.composables.specs.Limits.{within_limits}
 use Rattle.edit_insert.specs.Moves.{IsShiftOf, all_moved, put_views}
-use Rattle.edit_insert.specs.OwnTracks.{track_numbered, with_track}
+use Rattle.composables.specs.OwnTracks.{track_numbered, with_track}
 use Rattle.edit_insert.specs.PutIn.{new_views, padded_track}
-use Rattle.edit_insert.specs.Shifts.{shift_of}
+use Rattle.edit_splice.specs.Shifts.{shift_of}
 use Rattle.edit_insert.specs.Sources.{source_refusal}
-use Rattle.edit_insert.specs.TrackSets.{tracks_in}
+use Rattle.composables.specs.TrackSets.{tracks_in}
 use Rattle.edit_insert.proofs.Bridging.{Rise, extract-moved, for-found, insert-moved, is-numbered, is-shift, only-one, put-shift, tracks-rise}
 use Rattle.edit_insert.proofs.Put.{Clip, PutIn, put-clip, put-only}
 use Rattle.edit_insert.proofs.Removals.{range-within}

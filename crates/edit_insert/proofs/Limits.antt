@@ -8,8 +8,8 @@ use Rattle.composables.specs.declared.TheConstants.{MAX_FRAMES, MAX_ITEMS}
 use Rattle.composables.specs.Items.{items_of}
 use Rattle.composables.specs.TrackState.{TrackState}
 use Rattle.edit_splice.specs.Laws.{IsWithinLimits}
-use Rattle.edit_insert.specs.Answers.{unless}
-use Rattle.edit_insert.specs.Limits.{track_within_limits}
+use Rattle.composables.specs.Answers.{unless}
+use Rattle.composables.specs.Limits.{track_within_limits}
 
 pub within-done : (u : TrackState) (done : Done) (n : TrackState) (d : Done) → track_within_limits u done ≡ Ok (n, d) → (n ≡ u) × (d ≡ done) × IsWithinLimits u
 within-done u done n d = by (ltb MAX_FRAMES (length u.cells)) (ltb MAX_ITEMS (length (items_of u.cells))) refl refl where

@@ -15,9 +15,9 @@ use Rattle.composables.specs.TrackState.{TrackState}
 use Rattle.composables.specs.Views.{clip_view, gap_views}
 use Rattle.edit_splice.specs.Splicing.{spliced_track}
 use Rattle.edit_splice.proofs.Outcomes.{length-spliced_track}
-use Rattle.edit_insert.specs.Answers.{Answers, unless}
+use Rattle.composables.specs.Answers.{Answers, unless}
 use Rattle.edit_insert.specs.Edits.{overwrite_track, overwritten}
-use Rattle.edit_insert.specs.Limits.{track_within_limits}
+use Rattle.composables.specs.Limits.{track_within_limits}
 use Rattle.edit_insert.specs.PutIn.{new_views}
 use Rattle.edit_insert.specs.Sources.{source_refusal}
 use Rattle.edit_insert.proofs.Moving.{frames-put}

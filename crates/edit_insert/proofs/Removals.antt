@@ -20,9 +20,9 @@ use Rattle.composables.specs.TrackState.{TrackState}
 use Rattle.composables.specs.Views.{gap_views}
 use Rattle.composables.proofs.Joining.{length-cells_of}
 use Rattle.edit_splice.specs.Splicing.{spliced_track}
-use Rattle.edit_insert.specs.Answers.{Answers}
+use Rattle.composables.specs.Answers.{Answers}
 use Rattle.edit_insert.specs.Edits.{for_range, remove_track, slice_track}
-use Rattle.edit_insert.specs.Limits.{track_within_limits}
+use Rattle.composables.specs.Limits.{track_within_limits}
 use Rattle.edit_insert.specs.Standing.{StaysGood}
 use Rattle.edit_insert.proofs.Put.{put-gap}
 use Rattle.edit_insert.proofs.Standing.{stays-placed, stays-refused}

@@ -15,8 +15,8 @@ use Rattle.edit_splice.specs.Laws.{IsWithinLimits}
 use Rattle.edit_splice.specs.Splicing.{spliced_track}
 use Rattle.edit_splice.proofs.Goodness.{good-spliced}
 use Rattle.edit_splice.proofs.Outcomes.{next-bounds, unlinked-spliced}
-use Rattle.edit_insert.specs.Answers.{Answers, NextRises}
-use Rattle.edit_insert.specs.Limits.{track_within_limits}
+use Rattle.composables.specs.Answers.{Answers, NextRises}
+use Rattle.composables.specs.Limits.{track_within_limits}
 use Rattle.edit_insert.specs.Standing.{StaysGood, EachStaysGood}
 use Rattle.edit_insert.proofs.Limits.{within-done}
 use Rattle.edit_insert.proofs.Put.{PutIn}

@@ -13,16 +13,16 @@ use Rattle.composables.specs.Items.{cells_of, items_of, marked, view_cells}
 use Rattle.composables.specs.TrackFacts.{IsKept}
 use Rattle.composables.specs.TrackState.{TrackState, next_past_all}
 use Rattle.composables.specs.Joined.{frames_in}
-use Rattle.edit_insert.specs.Links.{cells_from, cells_before, each_split, link_before, link_outside, links_in, links_split, same_link, with_link, with_link_of}
-use Rattle.edit_insert.specs.Shifts.{after_shift, shift_of, shift_refusal, shifted, shifted_along}
+use Rattle.composables.specs.Links.{cells_from, cells_before, each_split, link_before, link_outside, links_in, links_split, same_link, with_link, with_link_of}
+use Rattle.edit_splice.specs.Shifts.{after_shift, shift_of, shift_refusal, shifted, shifted_along}
 use Rattle.frame_meaning.specs.Splice.{Rule, kept_or_dropped, renumbered, split_item, with_marks}
 use Rattle.composables.specs.declared.media.Table.{Table}
 use Rattle.composables.specs.declared.refusals.Done.{Done}
 use Rattle.composables.specs.Views.{gap_view, gap_views}
 use Rattle.edit_splice.specs.Splicing.{spliced_track}
-use Rattle.edit_insert.specs.Answers.{unless}
-use Rattle.edit_insert.specs.Limits.{within_limits}
-use Rattle.edit_insert.specs.OwnTracks.{track_numbered, with_track}
+use Rattle.composables.specs.Answers.{unless}
+use Rattle.composables.specs.Limits.{within_limits}
+use Rattle.composables.specs.OwnTracks.{track_numbered, with_track}
 use Rattle.edit_insert.specs.PutIn.{padded_track}
 use Rattle.edit_insert.proofs.Standing.{all_head, all_tail}
 

@@ -7,7 +7,6 @@
 mod few;
 mod inserting;
 mod overwriting;
-mod owning;
 mod placing;
 mod removing;
 mod shifting;

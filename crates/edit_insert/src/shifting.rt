@@ -3,8 +3,8 @@ ghost use Rattle.std.specs.Prelude.{◌≡◌, ◌+◌, ◌*◌, ◌-◌, ◌<�
 ghost use Rattle.composables.specs.declared.refusals.Refusal.TheVariants.{TooLong, TooManyItems};
 ghost use Rattle.composables.specs.Items.{items_of};
 ghost use Rattle.edit_splice.specs.Splicing.{HasRoom};
-ghost use Rattle.edit_insert.specs.Answers.{Answers};
-ghost use Rattle.edit_insert.specs.Limits.{too_long, too_many, within_limits};
+ghost use Rattle.composables.specs.Answers.{Answers};
+ghost use Rattle.composables.specs.Limits.{too_long, too_many, within_limits};
 ghost use Rattle.edit_insert.specs.PutIn.{new_len};
 ghost use Rattle.edit_insert.specs.Moves.{HasRooms, IsShiftOf, all_moved, moved, put_views};
 

@@ -5,7 +5,7 @@ ghost use Rattle.composables.specs.Good.{IsGood, AllUnlinked};
 ghost use Rattle.composables.specs.Items.{items_of};
 ghost use Rattle.composables.specs.Roomy.{IsRoomy};
 ghost use Rattle.composables.specs.TrackState.{TrackState};
-ghost use Rattle.edit_insert.specs.TrackSets.{tracks_in};
+ghost use Rattle.composables.specs.TrackSets.{tracks_in};
 
 use crate::{extract, insert, overwrite, remove, slice};
 use composables::{

@@ -5,7 +5,7 @@ use Rattle.composables.specs.declared.refusals.Refusal.{Refusal}
 use Rattle.composables.specs.Good.{IsGood}
 use Rattle.composables.specs.Ranges.{range_of}
 use Rattle.composables.specs.TrackState.{TrackState}
-use Rattle.edit_insert.specs.Answers.{Answers}
+use Rattle.composables.specs.Answers.{Answers}
 use Rattle.edit_insert.specs.Sources.{source_refusal}
 use Rattle.edit_insert.proofs.Bridging.{each-shift}
 use Rattle.edit_insert.proofs.Inserts.{IsOwn, all-shifts, extract-found, extract-missing, extract-put, insert-allowed, insert-put, insert-refused, is-own, no_track, own-here, own-there, shift_at, shift_out}

@@ -2,7 +2,7 @@ use Rattle.std.proofs.Common.{◌≡◌, All, map}
 use Rattle.composables.specs.Good.{IsGood, AllUnlinked}
 use Rattle.composables.specs.Items.{items_of}
 use Rattle.composables.specs.TrackState.{TrackState}
-use Rattle.edit_insert.specs.TrackSets.{tracks_in}
+use Rattle.composables.specs.TrackSets.{tracks_in}
 use Rattle.edit_insert.proofs.tests.shift_all_three.Given as goal
 
 abbrev pub invariant-loop-edit : goal.invariant-loop-edit

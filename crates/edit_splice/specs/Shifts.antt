@@ -6,9 +6,9 @@ use Rattle.composables.specs.declared.refusals.Refusal.{Refusal}
 use Rattle.composables.specs.Joined.{frames_in}
 use Rattle.composables.specs.TrackState.{TrackState}
 use Rattle.edit_splice.specs.Splicing.{spliced_track}
-use Rattle.edit_insert.specs.Answers.{Applied, unless}
-use Rattle.edit_insert.specs.Limits.{within_limits}
-use Rattle.edit_insert.specs.Links.{cells_from, link_outside, links_in, links_split}
+use Rattle.composables.specs.Answers.{Applied, unless}
+use Rattle.composables.specs.Limits.{within_limits}
+use Rattle.composables.specs.Links.{cells_from, link_outside, links_in, links_split}
 use Rattle.composables.specs.Views.{gap_views}
 
 -- another track than the call's own: x and y are cut to its length, and as many dark frames are put in where x is

@@ -7,7 +7,7 @@ use Rattle.frame_meaning.specs.declared.cells.Link.{Link}
 use Rattle.composables.specs.declared.refusals.Refusal.{Refusal}
 use Rattle.composables.specs.declared.refusals.Refusal.TheVariants.{LinkOutside}
 use Rattle.composables.specs.TrackState.{TrackState}
-use Rattle.edit_insert.specs.TrackSets.{tracks_in}
+use Rattle.composables.specs.TrackSets.{tracks_in}
 
 -- links are told apart, and ordered, by home and then number
 abbrev pub same_link : Link → Link → Bool

@@ -1,6 +1,6 @@
 use Rattle.std.proofs.Common.{◌≡◌, sym, ◌∙◌, ap}
-use Rattle.edit_insert.proofs.Numbered.{numbered-here}
-use Rattle.edit_insert.proofs.owning.own_index.Goals as goal
+use Rattle.composables.proofs.Numbered.{numbered-here}
+use Rattle.composables.proofs.named_tracks.own_index.Goals as goal
 
 pub returns-then-number-clause-found : goal.returns-then-number-clause-found
 returns-then-number-clause-found c =

@@ -4,7 +4,7 @@ use Rattle.composables.specs.declared.refusals.Done.{Done}
 use Rattle.composables.specs.declared.refusals.Refusal.{Refusal}
 use Rattle.composables.specs.declared.refusals.Refusal.TheVariants.{NoTrack}
 use Rattle.composables.specs.TrackState.{TrackState}
-use Rattle.edit_insert.specs.Answers.{Applied}
+use Rattle.composables.specs.Answers.{Applied}
 
 -- the track with this number
 abbrev pub track_numbered : ℕ → List TrackState → Option TrackState

@@ -6,7 +6,7 @@ use Rattle.composables.specs.declared.refusals.Refusal.TheVariants.{TooLong, Too
 use Rattle.composables.specs.declared.TheConstants.{MAX_FRAMES, MAX_ITEMS}
 use Rattle.composables.specs.Items.{items_of}
 use Rattle.composables.specs.TrackState.{TrackState}
-use Rattle.edit_insert.specs.Answers.{Applied, unless}
+use Rattle.composables.specs.Answers.{Applied, unless}
 
 -- the first of these tracks that is too long
 abbrev pub too_long : List TrackState → Option Refusal

@@ -4,7 +4,7 @@ use Rattle.std.proofs.lemmas.Bool.{eq-eqb, eqb-true, eqb-false}
 use Rattle.std.proofs.lemmas.Option.{slice_get_read}
 use Rattle.std.proofs.Math.Seq.{drop-cons}
 use Rattle.composables.specs.TrackState.{TrackState}
-use Rattle.edit_insert.specs.OwnTracks.{track_numbered}
+use Rattle.composables.specs.OwnTracks.{track_numbered}
 
 pub numbered-here : (n : ℕ) (ts : List TrackState) (i : ℕ) (t : TrackState) → i < length ts → t ≡ get_or ts i t → t.number ≡ n → track_numbered n (drop i ts) ≡ slice_get ts i
 numbered-here n ts i t h is e =
