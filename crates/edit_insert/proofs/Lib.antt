@@ -15,3 +15,4 @@ pub mod Firsts
 pub mod PartMoved
 pub mod Bridging
 pub mod Inserts
+pub mod TestTracks
