@@ -14,3 +14,4 @@ pub mod Firsts
 pub mod PartMoved
 pub mod Bridging
 pub mod Inserts
+pub mod TestTracks

@@ -450,6 +450,14 @@ fn take(track: u32, item: u32) -> OnThree {
     })
 }
 
+fn must_be_of_three(rt: &impl Abort, tracks: u32, track: u32)
+    ensures tracks { tracks ≡ 7 }
+    ensures track { track < 3 }
+{
+    assert!(rt; tracks == 7);
+    assert!(rt; track < 3);
+}
+
 fn shift_three<L: Ledger>(
     rt: &impl Abort,
     alloc: Global,
@@ -468,11 +476,11 @@ fn shift_three<L: Ledger>(
     assert!(rt; all_roomy(named));
     match edit {
         OnThree::In(call) => {
-            assert!(rt; call.tracks == 7 && call.track < 3);
+            must_be_of_three(rt, call.tracks, call.track);
             insert(alloc, table, named, call, steps)
         }
         OnThree::Out(call) => {
-            assert!(rt; call.tracks == 7 && call.track < 3);
+            must_be_of_three(rt, call.tracks, call.track);
             extract(alloc, table, named, call, steps)
         }
     }
