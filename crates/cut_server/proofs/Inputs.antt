@@ -100,7 +100,7 @@ pub ends_all : (a b c : SessionState) (old now new : Outside) (pending : InputLi
     → SessionEnds (ServesTo a c) old new Ended
 ends_all a b c old now new pending got chunk n s k none_read end quiet g =
     let lines = serves_lines a c _ _ (AreSent old.taken new.taken) (lines_at_end got pending s.waits)
-        (serves_more a b c (ended (Some []) got) (last_line pending) old.taken now.taken new.taken s.serves g) in (
+    (serves_more a b c (ended (Some []) got) (last_line pending) old.taken now.taken new.taken s.serves g) in (
       (k.reads ∙ s.quiet.0, quiet ∙ s.quiet.1),
       got_end old.left now.left new.left got chunk n (λ gave left. (left ≡ []) × (length gave ≤ most_input) × ServesTo a c (lines_of gave) (AreSent old.taken new.taken))
           s.gives k.gives none_read end (λ left none. (none, s.within, lines)),

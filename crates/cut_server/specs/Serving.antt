@@ -45,4 +45,4 @@ module _ (Answers : List InputLine → (List (List ℕ) → Type 0) → Type 0) 
   -- the lines that ended among the first 64 MiB; the read that passed them was the last
   SessionEnds TooMuchInput = NoFault old new
       × Got old new (λ got left. (most_input < length got) × (length got ≤ most_input + most_read)
-          × Answers (ended (Some []) (take most_input got)) (AreSent old.taken new.taken))
+      × Answers (ended (Some []) (take most_input got)) (AreSent old.taken new.taken))

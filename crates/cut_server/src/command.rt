@@ -6,7 +6,9 @@ use line_words::{Words, number};
 
 /// The least and the most tracks, and the most reels, of a plain room.
 const LEAST_TRACKS: u32 = 1;
+
 const MOST_TRACKS: u32 = 16;
+
 const MOST_REELS: u32 = 999;
 
 /// What the program is asked for.

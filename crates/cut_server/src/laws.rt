@@ -10,8 +10,7 @@ ghost use Rattle.cut_server.specs.Commands.{least_tracks, most_tracks, most_reel
 /// those of the list.
 pub fn transcripts_stay()
     ensures { TranscriptsStay }
-{
-}
+{}
 
 /// The limits: 64 MiB of input, at most 8,192 bytes a read, 100,000 entries, 1 to 16 tracks and up to 999 reels.
 pub fn limits_are_these()
@@ -21,5 +20,4 @@ pub fn limits_are_these()
     ensures least_tracks { least_tracks ≡ 1 }
     ensures most_tracks { most_tracks ≡ 16 }
     ensures reels { most_reels ≡ 999 }
-{
-}
+{}

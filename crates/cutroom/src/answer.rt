@@ -11,12 +11,7 @@ use std::alloc::Global;
 
 /// Answers `--help` and `--version` by the notice that they ask for, and does what other words ask for. It answers the
 /// status that the program ends with.
-pub fn answer<S: Source, K: Sink>(
-    alloc: Global,
-    words: &Words,
-    input: &mut S,
-    output: &mut K,
-) -> u8
+pub fn answer<S: Source, K: Sink>(alloc: Global, words: &Words, input: &mut S, output: &mut K) -> u8
     ensures { ProgramEnds words.now
         (outside (S.left input.old) (S.read_faults input.old) (K.taken output.old) (K.write_faults output.old))
         (outside (S.left input.new) (S.read_faults input.new) (K.taken output.new) (K.write_faults output.new))

@@ -1,5 +1,5 @@
 // The words of the command line.
-ghost use Rattle.std.specs.Prelude.{◌≡◌, map, drop, string_bytes, IfOk};
+ghost use Rattle.std.specs.Prelude.{◌≡◌, [], map, drop, string_bytes, IfOk, IfErr};
 ghost use Rattle.std.specs.Vec.Iter.{into_iter_items};
 
 use line_words::{Memory, Words};
@@ -16,9 +16,9 @@ pub fn command_words(rt: &(impl Env + AllocGlobal), alloc: Global) -> Result<Wor
 /// The words that a command line gives. An argument that is not UTF-8 is a word of no command, so a command line that has
 /// one gives no words at all, which no command has either.
 pub fn words_given(alloc: Global, given: io::Result<Args>) -> Result<Words, Memory>
-    ensures words { (arguments : Args) → given ≡ Ok arguments
-        → IfOk result (λ words. words ≡ map string_bytes (drop 1 (into_iter_items arguments))) }
-    ensures none { (error : Error) → given ≡ Err error → IfOk result (λ words. words ≡ []) }
+    ensures words { IfOk given (λ arguments. IfOk result (λ words.
+        words ≡ map string_bytes (drop 1 (into_iter_items arguments)))) }
+    ensures none { IfErr given (λ _. IfOk result (λ words. words ≡ [])) }
 {
     match given {
         Ok(arguments) => words_after_the_name(alloc, arguments),

@@ -79,7 +79,14 @@ fn words_are_answered_once(rt: HostRuntime) -> Result<(), Memory> {
         (&["--version"], &[1], &[], 0, VERSION, false),
         (&["--version"], &[], &[1], 2, "", true),
         (&["run"], &[1], &[], 3, "refused words\n", false),
-        (&["run", "1", "0"], &[], &[], 0, "point 0\njournal 0\n", false),
+        (
+            &["run", "1", "0"],
+            &[],
+            &[],
+            0,
+            "point 0\njournal 0\n",
+            false,
+        ),
         (&["run", "1", "0"], &[1], &[], 1, "", true),
         (&["run", "1", "0"], &[], &[1], 2, "", true),
     ];
