@@ -9,7 +9,7 @@ use Rattle.std.proofs.lemmas.List.Elements.{All-nil, All-cons}
 use Rattle.std.proofs.lemmas.Nat.{and_mask, mod-pow-add, mod_below, pow-add, div-mul-add}
 use Rattle.std.proofs.Math.Pow.{pow_mono}
 use Rattle.std.proofs.lemmas.Bool.{cases_lt}
-use Rattle.edit_insert.specs.TrackSets.{has_track, tracks_from, tracks_in}
+use Rattle.composables.specs.TrackSets.{has_track, tracks_from, tracks_in}
 use Rattle.std.proofs.lemmas.List.{append-nil}
 use Rattle.call_text.specs.CallTexts.{numbers_after, tracks_text}
 use Rattle.call_text.proofs.ListWords.{set_within}

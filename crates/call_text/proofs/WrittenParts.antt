@@ -19,7 +19,7 @@ use Rattle.frame_meaning.specs.declared.cells.What.TheVariants.{Media, Nest}
 use Rattle.call_text.specs.CallTexts.{what_text, numbers_after, tracks_text, IsSmallWhat}
 use Rattle.call_text.specs.Spelling.{is_comma}
 use Rattle.call_text.specs.Table.{IsThing, AreNumerals, IsTracks}
-use Rattle.edit_insert.specs.TrackSets.{tracks_in}
+use Rattle.composables.specs.TrackSets.{tracks_in}
 use Rattle.call_text.proofs.TrackSets.{rising, tracks_in_below, tracks_in_count}
 
 -- a word that is read as a number is spelled as one

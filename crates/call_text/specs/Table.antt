@@ -7,7 +7,7 @@ use Rattle.line_words.specs.declared.TheConstants.{MAX_LINE}
 use Rattle.line_words.specs.declared.numbers.NumberFault.TheVariants.{NotANumber}
 use Rattle.frame_meaning.specs.declared.cells.What.{What}
 use Rattle.frame_meaning.specs.declared.cells.What.TheVariants.{Media, Nest}
-use Rattle.edit_insert.specs.TrackSets.{tracks_in}
+use Rattle.composables.specs.TrackSets.{tracks_in}
 use Rattle.edit_apply.specs.declared.asks.Call.{Call}
 use Rattle.edit_apply.specs.declared.asks.Call.TheVariants as call
 use Rattle.edit_apply.specs.declared.asks.Ask.TheVariants as ask

@@ -1,10 +1,9 @@
 // Calls as text.
-ghost use Rattle.std.specs.Prelude.{◌≡◌, ◌<◌, ◌++◌, IfOk, OnOk};
-ghost use Rattle.edit_insert.specs.TrackSets.{has_track};
+ghost use Rattle.std.specs.Prelude.{◌≡◌, ◌++◌, IfOk, OnOk};
 ghost use Rattle.call_text.specs.CallTexts.{call_text_of, frames_text, tracks_text};
 
 use crate::bytes::{put, put_number, put_what};
-use composables::Memory;
+use composables::{Memory, has_track};
 use edit_apply::Call;
 use frame_meaning::What;
 use std::alloc::Global;
@@ -73,11 +72,4 @@ fn put_tracks(out: &mut Vec<u8>, first: &[u8], tracks: u32) -> Result<(), Memory
         }
     }
     Ok(())
-}
-
-fn has_track(tracks: u32, track: u32) -> bool
-    requires { track < 32 }
-    ensures { result ≡ has_track tracks track }
-{
-    (tracks >> track) & 1 == 1
 }

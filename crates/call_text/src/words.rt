@@ -52,14 +52,14 @@ pub(crate) fn line_words(line: &[u8]) -> Option<LineWords<'_>>
 {
     let mut words = [&line[..0]; MOST_WORDS];
     let mut count = 0;
-    let mut at = 0;
-    while let Some((start, end)) = next_word(line, at) {
+    let mut rest = line;
+    while let Some((start, end)) = next_word(rest, 0) {
         if count == MOST_WORDS {
             return None;
         }
-        words[count] = &line[start..end];
+        words[count] = &rest[start..end];
         count += 1;
-        at = end;
+        rest = &rest[end..];
     }
     Some(LineWords { words, count })
 }

@@ -6,3 +6,4 @@ pub mod Spans
 pub mod Changing
 pub mod Finding
 pub mod MarkStanding
+pub mod Numbered

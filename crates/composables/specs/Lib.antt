@@ -14,3 +14,8 @@ pub mod SpareInside
 pub mod Ranges
 pub mod Changes
 pub mod Standing
+pub mod Answers
+pub mod Limits
+pub mod OwnTracks
+pub mod TrackSets
+pub mod Links

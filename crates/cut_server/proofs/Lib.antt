@@ -5,3 +5,4 @@ pub mod Serves
 pub mod Inputs
 pub mod Openings
 pub mod Telling
+pub mod Replying

@@ -72,8 +72,9 @@ empty_is table n most = record {
     frames = omega arith;
     items = omega arith;
   };
-  unmarked = tt;
+  unlinked = tt;
   next = omega arith;
+  next_link = omega arith;
 }
 
 pub empty_are : (table : Table) (a n most : ℕ) → AreTracksOf table a most (map empty_track (range_with_len a n))

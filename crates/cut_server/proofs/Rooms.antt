@@ -1,17 +1,20 @@
 -- The tracks of a room, and an edit that is done on those that it names.
-use Rattle.std.proofs.Common.{◌≡◌, ℕ, zero, suc, ◌+◌, ◌<◌, ◌≤◌, Bool, true, false, cond, nat_lt, List, [], ◌∷◌, ◌++◌, length, Option, Some, None, Result, Ok, Err, refl, sym, ap, ◌∙◌, arith, All, slice_get, get_or, subst, map, option_map}
+use Rattle.std.proofs.Common.{append_assoc, drop, ◌≡◌, ℕ, zero, suc, ◌+◌, ◌<◌, ◌≤◌, Bool, true, false, cond, nat_lt, List, [], ◌∷◌, ◌++◌, length, Option, Some, None, Result, Ok, Err, refl, sym, ap, ◌∙◌, arith, All, slice_get, get_or, subst, map, option_map}
 use Rattle.std.proofs.Math.ListN.{set, length-set}
 use Rattle.std.proofs.lemmas.Bool.Decides.{nat_tests}
 use Rattle.std.proofs.lemmas.Option.{slice_get-get_or}
+use Rattle.std.proofs.lemmas.List.{append-nil, drop_more}
+use Rattle.composables.specs.TrackSets.{has_track}
+use Rattle.call_text.proofs.TrackSets.{tracks_after, after_next, after_last}
 use Rattle.std.proofs.lemmas.List.Elements.{All-nil, All-cons, All-head, All-tail}
 use Rattle.composables.specs.declared.media.Table.{Table}
 use Rattle.composables.specs.declared.refusals.Refusal.{Refusal}
 use Rattle.composables.specs.declared.refusals.Refusal.TheVariants as refusal_of
 use Rattle.composables.specs.declared.refusals.Done.{Done}
-use Rattle.composables.specs.Good.{IsGood, AllUnmarked}
+use Rattle.composables.specs.Good.{IsGood, AllUnlinked}
 use Rattle.composables.specs.Items.{items_of}
 use Rattle.composables.specs.TrackState.{TrackState}
-use Rattle.edit_insert.specs.Answers.{NextRises}
+use Rattle.composables.specs.Answers.{NextRises}
 use Rattle.edit_apply.specs.declared.asks.Call.{Call}
 use Rattle.edit_apply.specs.declared.asks.Ask.{Ask}
 use Rattle.edit_apply.specs.declared.asks.AskRefusal.{AskRefusal}
@@ -19,9 +22,11 @@ use Rattle.edit_apply.specs.declared.asks.AskRefusal.TheVariants.{NoTrack}
 use Rattle.edit_apply.specs.See.{ask_part_of, seen_in, seen_on, seen_at, seen_if, track_asked}
 use Rattle.edit_apply.specs.Apply.{applied, applied_on, names_of, own_of, own_outside, first_of, refuse_names_of, first_absent, picked, put_back, on_whole, unless_refused}
 use Rattle.cut_server.specs.Tracks.{IsTrackOf, AreTracksOf, AreKept}
+use Rattle.cut_server.specs.Editing.{Changes}
+use Rattle.cut_server.specs.declared.edits.Edited.{Edited}
 
 pub later_track : (table : Table) (n most more : ℕ) (t : TrackState) → most ≤ more → IsTrackOf table n most t → IsTrackOf table n more t
-later_track table n most more t le k = record { number_is = k.number_is; good = k.good; unmarked = k.unmarked; next = omega (arith, k.next, le) }
+later_track table n most more t le k = record { number_is = k.number_is; good = k.good; unlinked = k.unlinked; next = omega (arith, k.next, le); next_link = omega (arith, k.next_link, le) }
 
 pub later_tracks : (table : Table) (n most more : ℕ) (ts : List TrackState) → most ≤ more → AreTracksOf table n most ts → AreTracksOf table n more ts
 later_tracks table n most more [] le k = tt
@@ -48,6 +53,35 @@ at_number table n most (t ∷ ts) (suc i) h k =
 
 picked_cons : (tracks : List TrackState) (n : ℕ) (ns : List ℕ) (t : TrackState) → slice_get tracks n ≡ Some t → picked tracks (n ∷ ns) ≡ t ∷ picked tracks ns
 picked_cons tracks n ns t at = rw at refl
+
+-- one more copy
+pub picked_more : (tracks : List TrackState) (parts more : List TrackState) (names : List ℕ) (i n d : ℕ) (t u : TrackState) (all : List TrackState) → i < length names → n ≡ get_or names i d → n < length tracks → t ≡ get_or tracks n u
+    → more ≡ parts ++ t ∷ [] → parts ++ picked tracks (drop i names) ≡ all → more ++ picked tracks (drop (i + 1) names) ≡ all
+picked_more tracks parts more names i n d t u all h is within at pushed so_far =
+    let next : drop i names ≡ n ∷ drop (i + 1) names = drop_more names i d h ∙ ap (λ m. m ∷ drop (i + 1) names) (sym is) in
+    let found : slice_get tracks n ≡ Some t = slice_get-get_or tracks n u within ∙ ap Some (sym at) in
+    ap (λ ts. ts ++ picked tracks (drop (i + 1) names)) pushed ∙ (append_assoc parts (t ∷ []) (picked tracks (drop (i + 1) names))
+    ∙ (ap (λ ts. parts ++ ts) (sym (picked_cons tracks n (drop (i + 1) names) t found)) ∙ (ap (λ ns. parts ++ picked tracks ns) (sym next) ∙ so_far)))
+
+-- the tracks of a set, while they are listed
+if_has : (b : Bool) (t : ℕ) (ts : List ℕ) → b ≡ true → cond b (t ∷ ts) ts ≡ t ∷ ts
+if_has true t ts e = refl
+if_has false t ts e = cc
+
+if_lacks : (b : Bool) (t : ℕ) (ts : List ℕ) → b ≡ false → cond b (t ∷ ts) ts ≡ ts
+if_lacks true t ts e = cc
+if_lacks false t ts e = refl
+
+pub listed_with : (names more : List ℕ) (s t : ℕ) (all : List ℕ) → t < 32 → has_track s t ≡ true → more ≡ names ++ t ∷ [] → names ++ tracks_after s t ≡ all → more ++ tracks_after s (t + 1) ≡ all
+listed_with names more s t all low has pushed so_far =
+    ap (λ ns. ns ++ tracks_after s (t + 1)) pushed ∙ (append_assoc names (t ∷ []) (tracks_after s (t + 1))
+    ∙ (ap (λ ns. names ++ ns) (sym (after_next s t low ∙ if_has (has_track s t) t (tracks_after s (t + 1)) has)) ∙ so_far))
+
+pub listed_without : (names : List ℕ) (s t : ℕ) (all : List ℕ) → t < 32 → has_track s t ≡ false → names ++ tracks_after s t ≡ all → names ++ tracks_after s (t + 1) ≡ all
+listed_without names s t all low not so_far = ap (λ ns. names ++ ns) (sym (after_next s t low ∙ if_lacks (has_track s t) t (tracks_after s (t + 1)) not)) ∙ so_far
+
+pub listed_all : (names : List ℕ) (s t : ℕ) (all : List ℕ) → t ≡ 32 → names ++ tracks_after s t ≡ all → names ≡ all
+listed_all names s t all last so_far = sym (append-nil names) ∙ (ap (λ ns. names ++ ns) (sym (after_last s t last)) ∙ so_far)
 
 -- the named tracks, as the session keeps them
 pub picked_kept : (table : Table) (most : ℕ) (tracks : List TrackState) (names : List ℕ) → AreTracksOf table 0 most tracks → All (λ n. n < length tracks) names → AreKept table most names (picked tracks names)
@@ -76,21 +110,22 @@ kept_all table most (n ∷ ns) [] P f k = absurd k
 kept_all table most (n ∷ ns) (t ∷ ts) P f k = All-cons P t ts (f n t k.0) (kept_all table most ns ts P f k.1)
 
 -- the named tracks after an edit
-pub kept_after : (table : Table) (most : ℕ) (names : List ℕ) (old new : List TrackState) → AreKept table most names old → All (λ (t : TrackState). IsGood table t) new → All (λ (t : TrackState). AllUnmarked (items_of t.cells)) new → NextRises 2 old new
+pub kept_after : (table : Table) (most : ℕ) (names : List ℕ) (old new : List TrackState) → AreKept table most names old → All (λ (t : TrackState). IsGood table t) new → All (λ (t : TrackState). AllUnlinked (items_of t.cells)) new → NextRises 2 old new
     → AreKept table (most + 2) names new
-kept_after table most [] [] [] k good unmarked rises = tt
-kept_after table most [] [] (u ∷ us) k good unmarked rises = absurd rises
-kept_after table most [] (t ∷ ts) us k good unmarked rises = absurd k
-kept_after table most (n ∷ ns) [] us k good unmarked rises = absurd k
-kept_after table most (n ∷ ns) (t ∷ ts) [] k good unmarked rises = absurd rises
-kept_after table most (n ∷ ns) (t ∷ ts) (u ∷ us) k good unmarked rises = (
+kept_after table most [] [] [] k good unlinked rises = tt
+kept_after table most [] [] (u ∷ us) k good unlinked rises = absurd rises
+kept_after table most [] (t ∷ ts) us k good unlinked rises = absurd k
+kept_after table most (n ∷ ns) [] us k good unlinked rises = absurd k
+kept_after table most (n ∷ ns) (t ∷ ts) [] k good unlinked rises = absurd rises
+kept_after table most (n ∷ ns) (t ∷ ts) (u ∷ us) k good unlinked rises = (
   record {
     number_is = rises.0 ∙ k.0.number_is;
     good = All-head (λ (s : TrackState). IsGood table s) u us good;
-    unmarked = All-head (λ (s : TrackState). AllUnmarked (items_of s.cells)) u us unmarked;
+    unlinked = All-head (λ (s : TrackState). AllUnlinked (items_of s.cells)) u us unlinked;
     next = omega (arith, rises.1, k.0.next);
+    next_link = omega (arith, rises.2, k.0.next_link);
   },
-  kept_after table most ns ts us k.1 (All-tail (λ (s : TrackState). IsGood table s) u us good) (All-tail (λ (s : TrackState). AllUnmarked (items_of s.cells)) u us unmarked) rises.2,
+  kept_after table most ns ts us k.1 (All-tail (λ (s : TrackState). IsGood table s) u us good) (All-tail (λ (s : TrackState). AllUnlinked (items_of s.cells)) u us unlinked) rises.3,
 )
 
 -- put back into the room
@@ -176,3 +211,13 @@ asked_in table q n h = asked_by table q n (nat_lt (track_asked q) (length table.
 -- what one track shows is what the room shows of it
 pub seen_one : (table : Table) (tracks : List TrackState) (q : Ask) (n : ℕ) (t : TrackState) → ask_part_of table q ≡ Ok n → slice_get tracks n ≡ Some t → seen_in table tracks q ≡ seen_on t q
 seen_one table tracks q n t asked at = ap (λ r. seen_if r tracks q) asked ∙ ap (λ o. seen_at o q) at
+
+-- an edit on copies of the named tracks is that edit of the room
+pub changed : (table : Table) (tracks : List TrackState) (most : ℕ) (c : Call) (e : Edited) → AreTracksOf table 0 most tracks → refuse_names_of table c ≡ None → e.names.items ≡ names_of c → All (λ n. n < length tracks) (names_of c)
+    → applied_on table (picked tracks (names_of c)) c ≡ Ok (e.parts.items, e.done) → AreKept table (most + 2) (names_of c) e.parts.items → Changes table tracks most c e
+changed table tracks most c e k none named below is kept = record {
+  within = subst (All (λ n. n < length tracks)) (sym named) below;
+  as_many = kept_length table (most + 2) (names_of c) e.parts.items kept ∙ sym (ap length named);
+  applies = rw named (applied_done table tracks c e.parts.items e.done none is);
+  are_tracks = rw named (put_kept table (most + 2) tracks (names_of c) e.parts.items (later_tracks table 0 most (most + 2) tracks (omega arith) k) kept);
+}

@@ -1,7 +1,7 @@
 // An edit on copies of the tracks that it names, which counts no steps.
 ghost use Rattle.std.specs.Prelude.{◌≡◌, ◌+◌, ◌*◌, ◌<◌, ◌≤◌, ◌^◌, [], All, None, IfOk, OnOk, length};
-ghost use Rattle.edit_insert.specs.Answers.{Answers};
-ghost use Rattle.edit_insert.specs.TrackSets.{has_track, tracks_in};
+ghost use Rattle.composables.specs.Answers.{Answers};
+ghost use Rattle.composables.specs.TrackSets.{has_track, tracks_in};
 ghost use Rattle.edit_apply.specs.Apply.{names_of, refuse_names_of, applied_on, picked, put_back};
 ghost use Rattle.cut_server.specs.Tracks.{AreTracksOf, AreKept};
 ghost use Rattle.cut_server.specs.Editing.{Tries};

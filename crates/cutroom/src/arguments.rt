@@ -8,10 +8,19 @@ use std::env::{self, Args};
 use std::io;
 use std::rt::Env;
 
-/// The arguments of the program after its name. An argument that is not UTF-8 is a word of no command, so a command line
-/// that has one gives no words at all, which no command has either.
+/// The arguments of the program after its name.
 pub fn command_words(rt: &(impl Env + AllocGlobal), alloc: Global) -> Result<Words, Memory> {
-    match env::args(rt) {
+    words_given(alloc, env::args(rt))
+}
+
+/// The words that a command line gives. An argument that is not UTF-8 is a word of no command, so a command line that has
+/// one gives no words at all, which no command has either.
+pub fn words_given(alloc: Global, given: io::Result<Args>) -> Result<Words, Memory>
+    ensures words { (arguments : Args) → given ≡ Ok arguments
+        → IfOk result (λ words. words ≡ map string_bytes (drop 1 (into_iter_items arguments))) }
+    ensures none { (error : Error) → given ≡ Err error → IfOk result (λ words. words ≡ []) }
+{
+    match given {
         Ok(arguments) => words_after_the_name(alloc, arguments),
         Err(error) if error.kind() == io::ErrorKind::OutOfMemory => Err(Memory),
         Err(_) => Ok(Words::new(alloc)),

@@ -1,17 +1,17 @@
-//! The program of the cutting room. It hands its arguments, its standard input and its standard output to the server,
-//! and ends with the status that the server answers. `--help` and `--version` it answers by itself.
+//! The program of the cutting room. It hands its arguments, its standard input and its standard output to `answer`, puts
+//! a line on standard error where the status does not say enough, and ends with the status.
 #![tactic(auto)]
 
+mod answer;
 mod arguments;
 mod notice;
 #[cfg(test)]
 mod tests;
 
+use answer::{answer, complaint};
 use arguments::command_words;
-use cut_server::cut_main;
 use line_words::Memory;
-use notice::Notice;
-use room_ports::{StdSink, StdSource};
+use room_ports::{StdSink, StdSource, put};
 use std::process::ExitCode;
 
 /// The status of a program that found no memory for its words, or was given more words than a list of them takes.
@@ -23,10 +23,9 @@ fn main(rt: HostRuntime) -> ExitCode {
         Ok(words) => words,
         Err(Memory) => return ExitCode::from(NO_WORDS),
     };
+    let mut input = StdSource::new(rt.stdin());
     let mut output = StdSink::new(rt.stdout());
-    let status = match Notice::asked_by(&words) {
-        Some(notice) => notice.tell(&mut output),
-        None => cut_main(alloc, &words, &mut StdSource::new(rt.stdin()), &mut output),
-    };
+    let status = answer(alloc, &words, &mut input, &mut output);
+    let _ = put(&mut StdSink::new(rt.stderr()), complaint(status).as_bytes());
     ExitCode::from(status)
 }

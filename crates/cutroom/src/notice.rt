@@ -1,8 +1,9 @@
 // What the program tells of itself.
-ghost use Rattle.std.specs.Prelude.{◌≡◌, ◌≢◌, ◌↔◌, ◌≤◌, ◌⊎◌, ◌∷◌, [], Some, codes};
+ghost use Rattle.std.specs.Prelude.{◌≡◌, ◌≤◌, ◌⊎◌};
 ghost use Rattle.room_ports.specs.Bytes.{Takes, TakesFront};
 ghost use Rattle.room_ports.specs.Counts.{HasRisen};
 ghost use Rattle.cutroom.specs.Notices.{text_of};
+ghost use Rattle.cutroom.specs.Answers.{notice_of};
 
 use line_words::Words;
 use room_ports::{Failed, Sink, put};
@@ -41,8 +42,7 @@ impl Notice {
     #[tactic(auto, using(crate::proofs::Lone::lone))]
     /// The notice that a command line asks for by its only word, `--help` or `--version`.
     pub fn asked_by(words: &Words) -> Option<Notice>
-        ensures help { (result ≡ Some Notice.Help) ↔ (words.now ≡ codes "--help" ∷ []) }
-        ensures version { (result ≡ Some Notice.Version) ↔ (words.now ≡ codes "--version" ∷ []) }
+        ensures { result ≡ notice_of words.now }
     {
         if words.count() != 1 {
             return None;
@@ -69,7 +69,7 @@ impl Notice {
         ensures told { result ≡ 0 → Takes (K.taken output.old) (K.taken output.new) (text_of self) }
         ensures front { result ≡ 2 → TakesFront (K.taken output.old) (K.taken output.new) (text_of self) }
         ensures cause { result ≡ 2 → HasRisen (K.write_faults output.old) (K.write_faults output.new) }
-        ensures count { K.write_faults output.old ≤ K.write_faults output.new }
+        ensures quiet { result ≡ 0 → K.write_faults output.new ≡ K.write_faults output.old }
     {
         match put(output, self.text().as_bytes()) {
             Ok(()) => WRITTEN,

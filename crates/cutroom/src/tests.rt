@@ -1,8 +1,9 @@
 // What the program tells of itself, and to whom.
+use crate::answer::{answer, complaint};
 use crate::arguments::words_after_the_name;
-use crate::notice::{HELP, Notice};
+use crate::notice::{HELP, Notice, VERSION};
 use line_words::{Memory, Words};
-use room_ports::MemSink;
+use room_ports::{MemSink, MemSource};
 use std::alloc::Global;
 
 fn words_in(alloc: Global, texts: &[&str]) -> Result<Words, Memory> {
@@ -65,6 +66,33 @@ fn the_first_argument_is_no_word(rt: HostRuntime) -> Result<(), Memory> {
         assert_eq!(rt; words.word(0), "run");
         assert_eq!(rt; words.word(1), "");
         assert_eq!(rt; words.word(2), "cutroom");
+    }
+    Ok(())
+}
+
+// The status, what was written, and whether standard error is told something.
+#[test]
+fn words_are_answered_once(rt: HostRuntime) -> Result<(), Memory> {
+    let alloc = rt.alloc();
+    let cases: [(&[&str], &[u32], &[u32], u8, &str, bool); 7] = [
+        (&["--help"], &[1], &[], 0, HELP, false),
+        (&["--version"], &[1], &[], 0, VERSION, false),
+        (&["--version"], &[], &[1], 2, "", true),
+        (&["run"], &[1], &[], 3, "refused words\n", false),
+        (&["run", "1", "0"], &[], &[], 0, "point 0\njournal 0\n", false),
+        (&["run", "1", "0"], &[1], &[], 1, "", true),
+        (&["run", "1", "0"], &[], &[1], 2, "", true),
+    ];
+    for (texts, reads, writes, status, text, complains) in cases {
+        let words = words_in(alloc, texts)?;
+        let mut pieces = Vec::new(alloc);
+        pieces.push(b"point\n".to_vec(alloc)?)?;
+        let mut input = MemSource::new(pieces, reads.to_vec(alloc)?);
+        let mut output = MemSink::new(alloc, writes.to_vec(alloc)?);
+        let ended = answer(alloc, &words, &mut input, &mut output);
+        assert_eq!(rt; ended, status, "{texts:?}");
+        assert!(rt; output.bytes() == Some(text.as_bytes()), "{texts:?}");
+        assert!(rt; complaint(ended).is_empty() != complains, "{texts:?}");
     }
     Ok(())
 }

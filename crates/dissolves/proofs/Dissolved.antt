@@ -21,7 +21,7 @@ use Rattle.composables.specs.Joined.{frames_in}
 use Rattle.composables.specs.TrackFacts.{EachHolds, HasSource, first_mark, left_reach, right_reach}
 use Rattle.composables.proofs.Joining.{length-view_cells, length-cells_of}
 use Rattle.dissolves.specs.Pieces.{later_frame, frames_from}
-use Rattle.dissolves.specs.Parts.{earlier_side, first_of, item_before, mark_of, head_frames, mix_before, tail_frames, own_frames, item_frames, frames_shown, HoldsBefore, EachBetween}
+use Rattle.dissolves.specs.Parts.{earlier_side, first_of, item_before, head_frames, mix_before, tail_frames, own_frames, item_frames, frames_shown, HoldsBefore, EachBetween}
 use Rattle.dissolves.proofs.Whole.{mark-first, each_numbered, between_all, unmarked_reach}
 use Rattle.dissolves.proofs.Behind.{frame-zero, frame-twice, side-zero, side-twice}
 

@@ -31,7 +31,7 @@ use Rattle.composables.proofs.Frames.{frames_in-append}
 use Rattle.dissolves.specs.Pieces.{SideReaches}
 use Rattle.dissolves.specs.declared.cuts.Cut.{Cut}
 use Rattle.dissolves.specs.Cuts.{IsCutAt, dissolve_refusal, has_frames, is_nest, lie_in, room_left, room_refusal, room_right}
-use Rattle.dissolves.specs.Answers.{unless}
+use Rattle.composables.specs.Answers.{unless}
 use Rattle.dissolves.specs.Marking.{dissolve_on, mark_asked, mark_at_place, marked_track, undissolve_on, undissolve_refusal}
 use Rattle.dissolves.proofs.AtCuts.{filled_each, mark_there, refusal_is, sides_of, tight_items, Sides}
 

@@ -7,8 +7,8 @@ use Rattle.composables.specs.declared.refusals.EditFault.{EditFault}
 use Rattle.composables.specs.declared.refusals.EditFault.TheVariants.{Refused, Memory}
 use Rattle.composables.specs.TrackState.{TrackState}
 use Rattle.composables.proofs.Joining.{eqb-refl}
-use Rattle.dissolves.specs.Answers.{Answers, NextRises}
-use Rattle.dissolves.specs.OwnTracks.{on_own, among_named, with_track}
+use Rattle.composables.specs.Answers.{Answers, NextRises}
+use Rattle.composables.specs.OwnTracks.{on_own, among_named, with_track}
 
 -- the only one of some tracks
 pub record IsAlone (n : ℕ) (ts : List TrackState) (t : TrackState) : Type 0 where

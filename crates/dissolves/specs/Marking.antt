@@ -11,8 +11,8 @@ use Rattle.composables.specs.declared.refusals.Done.TheVariants.{Plain}
 use Rattle.composables.specs.declared.refusals.Refusal.{Refusal}
 use Rattle.composables.specs.declared.refusals.Refusal.TheVariants.{NotACut}
 use Rattle.composables.specs.TrackState.{TrackState}
-use Rattle.dissolves.specs.Answers.{Applied, unless}
-use Rattle.dissolves.specs.OwnTracks.{on_own}
+use Rattle.composables.specs.Answers.{Applied, unless}
+use Rattle.composables.specs.OwnTracks.{on_own}
 use Rattle.dissolves.specs.Cuts.{dissolve_refusal}
 
 -- the cells with this mark at a place

@@ -2,7 +2,7 @@
 use Rattle.std.proofs.Common.{◌≡◌, ◌≢◌, ℕ, zero, suc, ◌+◌, ◌-◌, ◌<◌, ◌≤◌, Bool, true, false, eqb, ◌||◌, ◌&&◌, not, List, [], ◌∷◌, Option, Some, None, refl, sym, ap, ◌∙◌, arith, nat_eq, nat_lt, if◌then◌else◌}
 use Rattle.std.proofs.lemmas.Bool.{eq-eqb, eqb-true}
 use Rattle.std.specs.List.{list_any}
-use Rattle.edit_insert.specs.TrackSets.{has_track, tracks_from, tracks_in}
+use Rattle.composables.specs.TrackSets.{has_track, tracks_from, tracks_in}
 use Rattle.edit_apply.specs.Apply.{first_absent}
 
 any_step : (c : Bool) (test : ℕ → Bool) (a : ℕ) (rest : List ℕ) → list_any test (if c then a ∷ rest else rest) ≡ (c && test a || list_any test rest)
@@ -31,17 +31,17 @@ pub none_before : (s t a n : ℕ) → t < a → list_any (nat_eq t) (tracks_from
 none_before s t a zero h = refl
 none_before s t a (suc n) h =
     any_step (has_track s a) (nat_eq t) a (tracks_from s (suc a) n)
-  ∙ ap (λ (b : Bool). has_track s a && b || list_any (nat_eq t) (tracks_from s (suc a) n)) (differ t a (λ e. omega (arith, e, h)))
-  ∙ and_false (has_track s a) _
-  ∙ none_before s t (suc a) n (omega (arith, h))
+    ∙ ap (λ (b : Bool). has_track s a && b || list_any (nat_eq t) (tracks_from s (suc a) n)) (differ t a (λ e. omega (arith, e, h)))
+    ∙ and_false (has_track s a) _
+    ∙ none_before s t (suc a) n (omega (arith, h))
 
 none_past : (s t a n : ℕ) → a + n ≤ t → list_any (nat_eq t) (tracks_from s a n) ≡ false
 none_past s t a zero h = refl
 none_past s t a (suc n) h =
     any_step (has_track s a) (nat_eq t) a (tracks_from s (suc a) n)
-  ∙ ap (λ (b : Bool). has_track s a && b || list_any (nat_eq t) (tracks_from s (suc a) n)) (differ t a (λ e. omega (arith, e, h)))
-  ∙ and_false (has_track s a) _
-  ∙ none_past s t (suc a) n (omega (arith, h))
+    ∙ ap (λ (b : Bool). has_track s a && b || list_any (nat_eq t) (tracks_from s (suc a) n)) (differ t a (λ e. omega (arith, e, h)))
+    ∙ and_false (has_track s a) _
+    ∙ none_past s t (suc a) n (omega (arith, h))
 
 among : (s t a n : ℕ) → a ≤ t → t < a + n → list_any (nat_eq t) (tracks_from s a n) ≡ has_track s t
 among s t a zero h k = absurd (omega (arith, h, k))
@@ -49,13 +49,13 @@ among s t a (suc n) h k = any_step (has_track s a) (nat_eq t) a (tracks_from s (
   by : (b : Bool) → eqb t a ≡ b → (suc a ≤ t → list_any (nat_eq t) (tracks_from s (suc a) n) ≡ has_track s t) → (has_track s a && eqb t a || list_any (nat_eq t) (tracks_from s (suc a) n)) ≡ has_track s t
   by true e later =
       ap (λ (b : Bool). has_track s a && b || list_any (nat_eq t) (tracks_from s (suc a) n)) e
-    ∙ ap (λ (r : Bool). has_track s a && true || r) (none_before s t (suc a) n (let q : t ≡ a = eqb-true t a e in omega (arith, q)))
-    ∙ and_true (has_track s a)
-    ∙ ap (has_track s) (sym (eqb-true t a e))
+      ∙ ap (λ (r : Bool). has_track s a && true || r) (none_before s t (suc a) n (let q : t ≡ a = eqb-true t a e in omega (arith, q)))
+      ∙ and_true (has_track s a)
+      ∙ ap (has_track s) (sym (eqb-true t a e))
   by false e later =
       ap (λ (b : Bool). has_track s a && b || list_any (nat_eq t) (tracks_from s (suc a) n)) e
-    ∙ and_false (has_track s a) _
-    ∙ later (let q : t ≢ a = (λ x. true_false (sym (eq-eqb t a x) ∙ e)) in omega (arith, q, h))
+      ∙ and_false (has_track s a) _
+      ∙ later (let q : t ≢ a = (λ x. true_false (sym (eq-eqb t a x) ∙ e)) in omega (arith, q, h))
 
 pub of_set : (s t : ℕ) → t < 32 → has_track s t ≡ list_any (nat_eq t) (tracks_in s)
 unfolding tracks_in

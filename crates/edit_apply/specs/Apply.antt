@@ -6,9 +6,9 @@ use Rattle.composables.specs.declared.media.Table.{Table}
 use Rattle.composables.specs.declared.refusals.Refusal.{Refusal}
 use Rattle.composables.specs.declared.refusals.Refusal.TheVariants.{NoTrack}
 use Rattle.composables.specs.TrackState.{TrackState}
-use Rattle.edit_insert.specs.Answers.{Applied}
+use Rattle.composables.specs.Answers.{Applied}
 use Rattle.edit_insert.specs.Edits.{extract_named, insert_named, overwrite_named, remove_named, slice_named}
-use Rattle.edit_insert.specs.TrackSets.{tracks_in}
+use Rattle.composables.specs.TrackSets.{tracks_in}
 use Rattle.edit_apply.specs.declared.asks.Call.{Call}
 use Rattle.edit_apply.specs.declared.asks.Call.TheVariants as call
 use Rattle.edit_apply.specs.declared.asks.NamedTracks.{NamedTracks}

@@ -3,14 +3,14 @@ ghost use Rattle.std.specs.Prelude.{◌≡◌, ◌+◌, ◌*◌, ◌<◌, ◌≤
 ghost use Rattle.composables.specs.Good.{IsGood, AllUnlinked};
 ghost use Rattle.composables.specs.Items.{items_of};
 ghost use Rattle.composables.specs.Roomy.{IsRoomy};
-ghost use Rattle.edit_insert.specs.Answers.{Answers, NextRises};
+ghost use Rattle.composables.specs.Answers.{Answers, NextRises};
 ghost use Rattle.std.specs.List.{list_any};
-ghost use Rattle.edit_insert.specs.TrackSets.{has_track, tracks_in};
+ghost use Rattle.composables.specs.TrackSets.{has_track, tracks_in};
 ghost use Rattle.edit_apply.specs.Apply.{first_absent, named_by, wrong_track_in};
 
 use crate::sights::view;
 use crate::{Ask, AskRefusal, Call, NamedTracks, Seen};
-use composables::{Done, EditFault, Listed, Memory, Refusal, Table, Track};
+use composables::{Done, EditFault, Listed, Memory, Refusal, Table, Track, has_track};
 use edit_insert::{extract, insert, overwrite, remove, slice};
 use std::alloc::Global;
 use std::sync::ledger::Ledger;
@@ -160,10 +160,18 @@ fn wrong_track(count: usize, named: NamedTracks) -> Option<u32>
     ensures { result ≡ wrong_track_in count named }
 {
     match named {
-        NamedTracks::One(track) => if is_below(track, count) { None } else { Some(track) },
+        NamedTracks::One(track) => if is_below(track, count) {
+            None
+        } else {
+            Some(track)
+        },
         NamedTracks::Many { tracks, own } => match first_absent(count, tracks) {
             Some(track) => Some(track),
-            None => if is_among(tracks, own) { None } else { Some(own) },
+            None => if is_among(tracks, own) {
+                None
+            } else {
+                Some(own)
+            },
         },
     }
 }
@@ -191,11 +199,4 @@ fn is_among(tracks: u32, track: u32) -> bool
     ensures { result ≡ list_any (nat_eq track) (tracks_in tracks) }
 {
     track < 32 && has_track(tracks, track)
-}
-
-fn has_track(tracks: u32, track: u32) -> bool
-    requires { track < 32 }
-    ensures { result ≡ has_track tracks track }
-{
-    (tracks >> track) & 1 == 1
 }

@@ -1,21 +1,29 @@
-// What an editor says of the tracks of a small room, by worked examples.
+// What an editor says and does to the tracks of a small room, by worked examples.
 
 use crate::{Ask, AskRefusal, Call, Editor};
-use composables::{Kind, Listed, Memory, Overwrite, Reels, Refusal, Table};
+use composables::{
+    Extract, Insert, Kind, Listed, Media, Memory, Overwrite, Reels, Refusal, Remove, Slice, Table,
+};
 use frame_meaning::What;
 use std::alloc::Global;
 use std::test::Fail;
 
-// Two tracks, and nothing to put on them.
+// Two tracks, and media 0 with the frames [0, 86400).
 fn two_tracks(alloc: Global) -> Result<Editor, Memory> {
     let mut kinds = Listed::new(alloc);
     kinds.push(Kind::Video)?;
     kinds.push(Kind::Audio)?;
+    let mut media = Listed::new(alloc);
+    media.push(Media {
+        reel: 0,
+        from: 0,
+        to: 86_400,
+    })?;
     Ok(Editor {
         table: Table {
             kinds,
             reels: Reels::new(alloc),
-            media: Listed::new(alloc),
+            media,
             nests: Listed::new(alloc),
         },
     })
@@ -31,8 +39,19 @@ fn overwrite_on(track: u32) -> Call {
     })
 }
 
+fn insert_on(tracks: u32, track: u32) -> Call {
+    Call::Insert(Insert {
+        tracks,
+        track,
+        at: 0,
+        what: What::Media(0),
+        from: 0,
+        len: 1,
+    })
+}
+
 #[test]
-fn a_call_names_its_track(rt: HostRuntime) -> Result<(), Fail> {
+fn a_call_names_its_tracks(rt: HostRuntime) -> Result<(), Fail> {
     let editor = two_tracks(rt.alloc())?;
     for (track, set) in [
         (0u32, 1u32),
@@ -42,6 +61,46 @@ fn a_call_names_its_track(rt: HostRuntime) -> Result<(), Fail> {
         (4_294_967_295, 0),
     ] {
         assert_eq!(rt; editor.names(&overwrite_on(track)), set);
+        assert_eq!(rt; editor.names(&Call::Remove(Remove { track, item: 0 })), set);
+        assert_eq!(rt; editor.names(&Call::Slice(Slice { track, at: 0 })), set);
+    }
+    for tracks in [0u32, 1, 5, 4_294_967_295] {
+        assert_eq!(rt; editor.names(&insert_on(tracks, 0)), tracks);
+        let extract = Call::Extract(Extract {
+            tracks,
+            track: 9,
+            item: 0,
+        });
+        assert_eq!(rt; editor.names(&extract), tracks);
+    }
+    Ok(())
+}
+
+#[test]
+fn the_first_wrong_track_is_told(rt: HostRuntime) -> Result<(), Fail> {
+    let editor = two_tracks(rt.alloc())?;
+    for (tracks, track, wrong) in [
+        (1u32, 0u32, None),
+        (3, 1, None),
+        (3, 0, None),
+        (2, 0, Some(0u32)),
+        (1, 1, Some(1)),
+        (3, 2, Some(2)),
+        (3, 32, Some(32)),
+        (0, 1, Some(1)),
+        (5, 0, Some(2)),
+        (12, 0, Some(2)),
+        (2_147_483_648, 0, Some(31)),
+    ] {
+        let refusal = match wrong {
+            Some(n) => Some(Refusal::NoTrack(n)),
+            None => None,
+        };
+        assert_eq!(rt;
+            editor.refuse_names(&insert_on(tracks, track)),
+            refusal,
+            "{tracks} {track}"
+        );
     }
     Ok(())
 }

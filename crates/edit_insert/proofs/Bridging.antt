@@ -20,14 +20,14 @@ use Rattle.composables.specs.Views.{gap_views}
 use Rattle.edit_splice.specs.Laws.{IsWithinLimits}
 use Rattle.edit_splice.specs.Splicing.{spliced_track}
 use Rattle.edit_insert.specs.declared.shifting.Shift.{Shift}
-use Rattle.edit_insert.specs.Answers.{Answers, unless}
-use Rattle.edit_insert.specs.Limits.{too_long, too_many, within_limits}
+use Rattle.composables.specs.Answers.{Answers, unless}
+use Rattle.composables.specs.Limits.{too_long, too_many, within_limits}
 use Rattle.edit_insert.specs.Moves.{IsShiftOf, all_moved, moved, put_views}
-use Rattle.edit_insert.specs.OwnTracks.{for_own, track_numbered, with_track}
+use Rattle.composables.specs.OwnTracks.{for_own, track_numbered, with_track}
 use Rattle.edit_insert.specs.PutIn.{new_len, new_views, padded_track}
-use Rattle.edit_insert.specs.Shifts.{shifted, shifted_along, shifted_track}
+use Rattle.edit_splice.specs.Shifts.{shifted, shifted_along, shifted_track}
 use Rattle.edit_insert.specs.Standing.{EachStaysGood, StaysGood}
-use Rattle.edit_insert.specs.TrackSets.{has_track, tracks_from, tracks_in}
+use Rattle.composables.specs.TrackSets.{has_track, tracks_from, tracks_in}
 use Rattle.edit_insert.proofs.Firsts.{few-all, short-all}
 use Rattle.edit_insert.proofs.Moving.{put-own, put-other}
 use Rattle.edit_insert.proofs.Padding.{padded-put, padded-reaches}
@@ -76,19 +76,19 @@ others : (n : ℕ) (ts : List TrackState) → Above n (numbers_of ts) → All (�
 others n [] a = all_none (λ (t : TrackState). t.number ≢ n)
 others n (t ∷ ts) a = All-cons (λ (t : TrackState). t.number ≢ n) t ts (λ e. omega (arith, e, a.0)) (others n ts a.1)
 
-
 pub only-one : (n : ℕ) (ts : List TrackState) (own : TrackState) → Rise (numbers_of ts) → track_numbered n ts ≡ Some own → All (λ (t : TrackState). t.number ≡ n → t ≡ own) ts
 only-one n [] own r e = all_none (λ (t : TrackState). t.number ≡ n → t ≡ own)
 only-one n (t ∷ ts) own r e = by (eqb t.number n) refl e (only-one n ts own r.1) where
   P : TrackState → Type 0
   P t = t.number ≡ n → t ≡ own
+
   by : (b : Bool) → eqb t.number n ≡ b → cond b (Some t) (track_numbered n ts) ≡ Some own
-    → (track_numbered n ts ≡ Some own → All (λ (t : TrackState). t.number ≡ n → t ≡ own) ts) → All (λ (t : TrackState). t.number ≡ n → t ≡ own) (t ∷ ts)
+      → (track_numbered n ts ≡ Some own → All (λ (t : TrackState). t.number ≡ n → t ≡ own) ts) → All (λ (t : TrackState). t.number ≡ n → t ≡ own) (t ∷ ts)
   by true f k later =
       let here : t ≡ own = ap (λ (o : Option TrackState). unwrap_or o t) k in
       let number : t.number ≡ n = eqb-true t.number n f in
       All-cons (λ (t : TrackState). t.number ≡ n → t ≡ own) t ts (λ e. here)
-        (λ j d lt e. absurd (others n ts (subst (λ (m : ℕ). Above m (numbers_of ts)) number r.0) j d lt e))
+      (λ j d lt e. absurd (others n ts (subst (λ (m : ℕ). Above m (numbers_of ts)) number r.0) j d lt e))
   by false f k later = All-cons (λ (t : TrackState). t.number ≡ n → t ≡ own) t ts (λ e. absurd (not_both (eqb t.number n) f (eq-eqb t.number n e))) (later k) where
     not_both : (b : Bool) → b ≡ false → b ≡ true → ⊥
     not_both true p q = Prim.grind (arith, p)
@@ -102,22 +102,24 @@ other_moved s t n = along ∙ sym (ap (λ (vs : List ItemView). spliced_track t 
     by : (b : Bool) → eqb t.number s.own ≡ b → b ≡ false
     by true e = absurd (n (eqb-true t.number s.own e))
     by false e = refl
+
   frames : (o : Option ItemView) → frames_in (new_views o) ≡ new_len o
   frames None = refl
   frames (Some v) = omega arith
+
   along : shifted_track s.own s.x s.y (new_views s.new) t ≡ spliced_track t (min s.x (length t.cells)) (min s.y (length t.cells)) (cond (ltb s.x (length t.cells)) (gap_views (new_len s.new)) [])
   along =
       ap (λ (b : Bool). cond b (spliced_track t s.x s.y (new_views s.new)) (shifted_along t s.x s.y (frames_in (new_views s.new)))) not_own
-    ∙ ap (λ (k : ℕ). shifted_along t s.x s.y k) (frames s.new)
+      ∙ ap (λ (k : ℕ). shifted_along t s.x s.y k) (frames s.new)
 
 -- on the own track, which an insert pads
 padded_moved : (s : Shift) (t : TrackState) → IsKept t → t.number ≡ s.own → s.y ≡ s.x → shifted_track s.own s.x s.y (new_views s.new) (padded_track t s.x) ≡ moved s t
 padded_moved s t kept e f =
     ap (λ (b : Bool). cond b (spliced_track (padded_track t s.x) s.x s.y (new_views s.new)) (shifted_along (padded_track t s.x) s.x s.y (frames_in (new_views s.new)))) (eq-eqb t.number s.own e)
-  ∙ ap (λ (y : ℕ). spliced_track (padded_track t s.x) s.x y (new_views s.new)) (f ∙ padded-reaches t s.x)
-  ∙ padded-put t s.x s.x (new_views s.new) kept (omega arith)
-  ∙ ap (λ (y : ℕ). spliced_track t (min s.x (length t.cells)) (min y (length t.cells)) (gap_views (s.x - length t.cells) ++ new_views s.new)) (sym f)
-  ∙ sym (ap (λ (vs : List ItemView). spliced_track t (min s.x (length t.cells)) (min s.y (length t.cells)) vs) (put-own s t e))
+    ∙ ap (λ (y : ℕ). spliced_track (padded_track t s.x) s.x y (new_views s.new)) (f ∙ padded-reaches t s.x)
+    ∙ padded-put t s.x s.x (new_views s.new) kept (omega arith)
+    ∙ ap (λ (y : ℕ). spliced_track t (min s.x (length t.cells)) (min y (length t.cells)) (gap_views (s.x - length t.cells) ++ new_views s.new)) (sym f)
+    ∙ sym (ap (λ (vs : List ItemView). spliced_track t (min s.x (length t.cells)) (min s.y (length t.cells)) vs) (put-own s t e))
 
 -- and which an extract finds long enough
 own_moved : (s : Shift) (t : TrackState) → t.number ≡ s.own → s.x ≤ length t.cells → s.y ≤ length t.cells → shifted_track s.own s.x s.y (new_views s.new) t ≡ moved s t
@@ -134,7 +136,7 @@ rest_moved : (s : Shift) (ts : List TrackState) → All (λ (t : TrackState). t.
 rest_moved s [] h = refl
 rest_moved s (t ∷ ts) h =
     ap (λ (u : TrackState). u ∷ shifted s.own s.x s.y (new_views s.new) ts) (other_moved s t (all_head (λ (t : TrackState). t.number ≢ s.own) t ts h))
-  ∙ ap (λ (us : List TrackState). moved s t ∷ us) (rest_moved s ts (all_tail (λ (t : TrackState). t.number ≢ s.own) t ts h))
+    ∙ ap (λ (us : List TrackState). moved s t ∷ us) (rest_moved s ts (all_tail (λ (t : TrackState). t.number ≢ s.own) t ts h))
 
 neq_from : (a b : ℕ) → eqb a b ≡ false → a ≢ b
 neq_from a b f e = true_not (sym (eq-eqb a b e) ∙ f) where
@@ -146,8 +148,8 @@ pub insert-moved : (s : Shift) (ts : List TrackState) (own : TrackState) → Ris
 insert-moved s [] own r e kept f = refl
 insert-moved s (t ∷ ts) own r e kept f = by (eqb t.number s.own) refl e (λ k. insert-moved s ts own r.1 k kept f) where
   by : (b : Bool) → eqb t.number s.own ≡ b → cond b (Some t) (track_numbered s.own ts) ≡ Some own
-    → (track_numbered s.own ts ≡ Some own → shifted s.own s.x s.y (new_views s.new) (with_track ts (padded_track own s.x)) ≡ all_moved s ts)
-    → shifted s.own s.x s.y (new_views s.new) (cond (eqb t.number own.number) (padded_track own s.x ∷ ts) (t ∷ with_track ts (padded_track own s.x))) ≡ all_moved s (t ∷ ts)
+      → (track_numbered s.own ts ≡ Some own → shifted s.own s.x s.y (new_views s.new) (with_track ts (padded_track own s.x)) ≡ all_moved s ts)
+      → shifted s.own s.x s.y (new_views s.new) (cond (eqb t.number own.number) (padded_track own s.x ∷ ts) (t ∷ with_track ts (padded_track own s.x))) ≡ all_moved s (t ∷ ts)
   by true g k later =
       let here : t ≡ own = ap (λ (o : Option TrackState). unwrap_or o t) k in
       let number : t.number ≡ s.own = eqb-true t.number s.own g in
@@ -169,9 +171,9 @@ extract-moved s (t ∷ ts) h =
     let here = all_head (λ (t : TrackState). t.number ≡ s.own → (s.x ≤ length t.cells) × (s.y ≤ length t.cells)) t ts h in
     ap (λ (u : TrackState). u ∷ shifted s.own s.x s.y (new_views s.new) ts) (by (eqb t.number s.own) refl here)
     ∙ ap (λ (us : List TrackState). moved s t ∷ us) (extract-moved s ts (all_tail (λ (t : TrackState). t.number ≡ s.own → (s.x ≤ length t.cells) × (s.y ≤ length t.cells)) t ts h)) where
-  by : (b : Bool) → eqb t.number s.own ≡ b → (t.number ≡ s.own → (s.x ≤ length t.cells) × (s.y ≤ length t.cells)) → shifted_track s.own s.x s.y (new_views s.new) t ≡ moved s t
-  by true e here = own_moved s t (eqb-true t.number s.own e) (here (eqb-true t.number s.own e)).0 (here (eqb-true t.number s.own e)).1
-  by false e here = other_moved s t (neq_from t.number s.own e)
+      by : (b : Bool) → eqb t.number s.own ≡ b → (t.number ≡ s.own → (s.x ≤ length t.cells) × (s.y ≤ length t.cells)) → shifted_track s.own s.x s.y (new_views s.new) t ≡ moved s t
+      by true e here = own_moved s t (eqb-true t.number s.own e) (here (eqb-true t.number s.own e)).0 (here (eqb-true t.number s.own e)).1
+      by false e here = other_moved s t (neq_from t.number s.own e)
 
 -- what is put into each track
 pub put-shift : (table : Table) (s : Shift) (t : TrackState) → (t.number ≡ s.own → PutIn table t (gap_views (s.x - length t.cells) ++ new_views s.new)) → PutIn table t (put_views s t)
@@ -187,12 +189,13 @@ is-shift table s t g r p = record { kept = g.kept; roomy = r; frames = g.frames;
 each_moved : (table : Table) (s : Shift) (ts : List TrackState) → s.x ≤ s.y → All (IsGood table) ts → All (λ (t : TrackState). PutIn table t (put_views s t)) ts
     → All (λ (t : TrackState). length (moved s t).cells ≤ MAX_FRAMES) ts → All (λ (t : TrackState). length (items_of (moved s t).cells) ≤ MAX_ITEMS) ts → EachStaysGood table ts (all_moved s ts)
 each_moved table s [] le g p a b = tt
-each_moved table s (t ∷ ts) le g p a b =
-    ( stays-spliced table t (min s.x (length t.cells)) (min s.y (length t.cells)) (put_views s t) (all_head (IsGood table) t ts g) (omega (arith, le)) (omega arith)
-        (all_head (λ (t : TrackState). PutIn table t (put_views s t)) t ts p)
-        (record { frames = all_head (λ (t : TrackState). length (moved s t).cells ≤ MAX_FRAMES) t ts a; items = all_head (λ (t : TrackState). length (items_of (moved s t).cells) ≤ MAX_ITEMS) t ts b })
-    , each_moved table s ts le (all_tail (IsGood table) t ts g) (all_tail (λ (t : TrackState). PutIn table t (put_views s t)) t ts p)
-        (all_tail (λ (t : TrackState). length (moved s t).cells ≤ MAX_FRAMES) t ts a) (all_tail (λ (t : TrackState). length (items_of (moved s t).cells) ≤ MAX_ITEMS) t ts b))
+each_moved table s (t ∷ ts) le g p a b = (
+  stays-spliced table t (min s.x (length t.cells)) (min s.y (length t.cells)) (put_views s t) (all_head (IsGood table) t ts g) (omega (arith, le)) (omega arith)
+      (all_head (λ (t : TrackState). PutIn table t (put_views s t)) t ts p)
+      (record { frames = all_head (λ (t : TrackState). length (moved s t).cells ≤ MAX_FRAMES) t ts a; items = all_head (λ (t : TrackState). length (items_of (moved s t).cells) ≤ MAX_ITEMS) t ts b }),
+  each_moved table s ts le (all_tail (IsGood table) t ts g) (all_tail (λ (t : TrackState). PutIn table t (put_views s t)) t ts p)
+      (all_tail (λ (t : TrackState). length (moved s t).cells ≤ MAX_FRAMES) t ts a) (all_tail (λ (t : TrackState). length (items_of (moved s t).cells) ≤ MAX_ITEMS) t ts b),
+)
 
 record AreDone (us : List TrackState) (done : Done) (new : List TrackState) (d : Done) : Type 0 where
   same : new ≡ us

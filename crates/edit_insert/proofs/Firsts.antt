@@ -12,7 +12,7 @@ use Rattle.edit_splice.specs.Splicing.{HasRoom}
 use Rattle.std.proofs.lemmas.List.Elements.{All-cons}
 use Rattle.edit_insert.proofs.Standing.{all_none}
 use Rattle.edit_insert.specs.declared.shifting.Shift.{Shift}
-use Rattle.edit_insert.specs.Limits.{too_long, too_many}
+use Rattle.composables.specs.Limits.{too_long, too_many}
 use Rattle.edit_insert.specs.Moves.{HasRooms, all_moved, moved}
 
 pub drop-here : (ts : List TrackState) (i : ℕ) (t : TrackState) → i < length ts → t ≡ get_or ts i t → drop i ts ≡ t ∷ drop (i + 1) ts
@@ -24,13 +24,13 @@ pub long-passed : (s : Shift) (ts : List TrackState) (i : ℕ) (t : TrackState) 
     → too_long (all_moved s (drop i ts)) ≡ too_long (all_moved s (drop (i + 1) ts))
 long-passed s ts i t h is short =
     ap (λ (l : List TrackState). too_long (all_moved s l)) (drop-here ts i t h is)
-  ∙ ap (λ (b : Bool). cond b (Some (TooLong t.number)) (too_long (all_moved s (drop (i + 1) ts)))) (le-ltb MAX_FRAMES (length (moved s t).cells) short)
+    ∙ ap (λ (b : Bool). cond b (Some (TooLong t.number)) (too_long (all_moved s (drop (i + 1) ts)))) (le-ltb MAX_FRAMES (length (moved s t).cells) short)
 
 pub long-found : (s : Shift) (ts : List TrackState) (i : ℕ) (t : TrackState) → i < length ts → t ≡ get_or ts i t → MAX_FRAMES < length (moved s t).cells
     → too_long (all_moved s (drop i ts)) ≡ Some (TooLong t.number)
 long-found s ts i t h is long =
     ap (λ (l : List TrackState). too_long (all_moved s l)) (drop-here ts i t h is)
-  ∙ ap (λ (b : Bool). cond b (Some (TooLong t.number)) (too_long (all_moved s (drop (i + 1) ts)))) (lt-ltb MAX_FRAMES (length (moved s t).cells) long)
+    ∙ ap (λ (b : Bool). cond b (Some (TooLong t.number)) (too_long (all_moved s (drop (i + 1) ts)))) (lt-ltb MAX_FRAMES (length (moved s t).cells) long)
 
 pub long-none : (s : Shift) (ts : List TrackState) (i : ℕ) → length ts ≤ i → too_long (all_moved s (drop i ts)) ≡ None
 long-none s ts i h = ap (λ (l : List TrackState). too_long (all_moved s l)) (drop_all i ts h)
@@ -39,13 +39,13 @@ pub many-passed : (s : Shift) (ts : List TrackState) (i : ℕ) (t : TrackState) 
     → too_many (all_moved s (drop i ts)) ≡ too_many (all_moved s (drop (i + 1) ts))
 many-passed s ts i t h is few =
     ap (λ (l : List TrackState). too_many (all_moved s l)) (drop-here ts i t h is)
-  ∙ ap (λ (b : Bool). cond b (Some (TooManyItems t.number)) (too_many (all_moved s (drop (i + 1) ts)))) (le-ltb MAX_ITEMS (length (items_of (moved s t).cells)) few)
+    ∙ ap (λ (b : Bool). cond b (Some (TooManyItems t.number)) (too_many (all_moved s (drop (i + 1) ts)))) (le-ltb MAX_ITEMS (length (items_of (moved s t).cells)) few)
 
 pub many-found : (s : Shift) (ts : List TrackState) (i : ℕ) (t : TrackState) → i < length ts → t ≡ get_or ts i t → MAX_ITEMS < length (items_of (moved s t).cells)
     → too_many (all_moved s (drop i ts)) ≡ Some (TooManyItems t.number)
 many-found s ts i t h is many =
     ap (λ (l : List TrackState). too_many (all_moved s l)) (drop-here ts i t h is)
-  ∙ ap (λ (b : Bool). cond b (Some (TooManyItems t.number)) (too_many (all_moved s (drop (i + 1) ts)))) (lt-ltb MAX_ITEMS (length (items_of (moved s t).cells)) many)
+    ∙ ap (λ (b : Bool). cond b (Some (TooManyItems t.number)) (too_many (all_moved s (drop (i + 1) ts)))) (lt-ltb MAX_ITEMS (length (items_of (moved s t).cells)) many)
 
 pub many-none : (s : Shift) (ts : List TrackState) (i : ℕ) → length ts ≤ i → too_many (all_moved s (drop i ts)) ≡ None
 many-none s ts i h = ap (λ (l : List TrackState). too_many (all_moved s l)) (drop_all i ts h)
@@ -83,8 +83,8 @@ pub short-all : (s : Shift) (ts : List TrackState) → too_long (all_moved s ts)
 short-all s [] e = all_none (λ (t : TrackState). length (moved s t).cells ≤ MAX_FRAMES)
 short-all s (t ∷ ts) e = by (ltb MAX_FRAMES (length (moved s t).cells)) refl e (short-all s ts) where
   by : (b : Bool) → ltb MAX_FRAMES (length (moved s t).cells) ≡ b → cond b (Some (TooLong t.number)) (too_long (all_moved s ts)) ≡ None
-    → (too_long (all_moved s ts) ≡ None → All (λ (t : TrackState). length (moved s t).cells ≤ MAX_FRAMES) ts)
-    → All (λ (t : TrackState). length (moved s t).cells ≤ MAX_FRAMES) (t ∷ ts)
+      → (too_long (all_moved s ts) ≡ None → All (λ (t : TrackState). length (moved s t).cells ≤ MAX_FRAMES) ts)
+      → All (λ (t : TrackState). length (moved s t).cells ≤ MAX_FRAMES) (t ∷ ts)
   by true f e later = absurd (Prim.grind (arith, e))
   by false f e later = All-cons (λ (t : TrackState). length (moved s t).cells ≤ MAX_FRAMES) t ts (ltb-false MAX_FRAMES (length (moved s t).cells) f) (later e)
 
@@ -92,7 +92,7 @@ pub few-all : (s : Shift) (ts : List TrackState) → too_many (all_moved s ts) �
 few-all s [] e = all_none (λ (t : TrackState). length (items_of (moved s t).cells) ≤ MAX_ITEMS)
 few-all s (t ∷ ts) e = by (ltb MAX_ITEMS (length (items_of (moved s t).cells))) refl e (few-all s ts) where
   by : (b : Bool) → ltb MAX_ITEMS (length (items_of (moved s t).cells)) ≡ b → cond b (Some (TooManyItems t.number)) (too_many (all_moved s ts)) ≡ None
-    → (too_many (all_moved s ts) ≡ None → All (λ (t : TrackState). length (items_of (moved s t).cells) ≤ MAX_ITEMS) ts)
-    → All (λ (t : TrackState). length (items_of (moved s t).cells) ≤ MAX_ITEMS) (t ∷ ts)
+      → (too_many (all_moved s ts) ≡ None → All (λ (t : TrackState). length (items_of (moved s t).cells) ≤ MAX_ITEMS) ts)
+      → All (λ (t : TrackState). length (items_of (moved s t).cells) ≤ MAX_ITEMS) (t ∷ ts)
   by true f e later = absurd (Prim.grind (arith, e))
   by false f e later = All-cons (λ (t : TrackState). length (items_of (moved s t).cells) ≤ MAX_ITEMS) t ts (ltb-false MAX_ITEMS (length (items_of (moved s t).cells)) f) (later e)

@@ -20,15 +20,15 @@ use Rattle.composables.specs.TrackFacts.{IsKept}
 use Rattle.composables.specs.TrackState.{TrackState}
 use Rattle.composables.specs.Views.{clip_view, gap_views}
 use Rattle.edit_insert.specs.declared.shifting.Shift.{Shift}
-use Rattle.edit_insert.specs.Answers.{unless}
+use Rattle.composables.specs.Answers.{unless}
 use Rattle.edit_insert.specs.Edits.{extract_named, extracted, for_range, insert_named, inserted}
-use Rattle.edit_insert.specs.Limits.{within_limits}
+use Rattle.composables.specs.Limits.{within_limits}
 use Rattle.edit_insert.specs.Moves.{IsShiftOf, all_moved, put_views}
-use Rattle.edit_insert.specs.OwnTracks.{track_numbered, with_track}
+use Rattle.composables.specs.OwnTracks.{track_numbered, with_track}
 use Rattle.edit_insert.specs.PutIn.{new_views, padded_track}
-use Rattle.edit_insert.specs.Shifts.{shift_of}
+use Rattle.edit_splice.specs.Shifts.{shift_of}
 use Rattle.edit_insert.specs.Sources.{source_refusal}
-use Rattle.edit_insert.specs.TrackSets.{tracks_in}
+use Rattle.composables.specs.TrackSets.{tracks_in}
 use Rattle.edit_insert.proofs.Bridging.{Rise, extract-moved, for-found, insert-moved, is-numbered, is-shift, only-one, put-shift, tracks-rise}
 use Rattle.edit_insert.proofs.Put.{Clip, PutIn, put-clip, put-only}
 use Rattle.edit_insert.proofs.Removals.{range-within}
@@ -59,8 +59,8 @@ pub insert-refused : (table : Table) (c : Insert) (ts : List TrackState) (own : 
     → insert_named table ts c ≡ Err why
 insert-refused table c ts own why o e =
     for-found c.track (inserted table c ts) ts own o.found
-  ∙ ap (λ (r : Option Refusal). unless r (shift_of c.track c.at c.at (clip_view own.next_item c.what c.from c.len ∷ []) (Item own.next_item) (with_track ts (padded_track own c.at))))
-      (ap (λ (n : ℕ). source_refusal table n c.what c.from c.len) o.number ∙ e)
+    ∙ ap (λ (r : Option Refusal). unless r (shift_of c.track c.at c.at (clip_view own.next_item c.what c.from c.len ∷ []) (Item own.next_item) (with_track ts (padded_track own c.at))))
+    (ap (λ (n : ℕ). source_refusal table n c.what c.from c.len) o.number ∙ e)
 
 abbrev pub shift_at : Insert → ItemView → Shift
 shift_at c v = record { own = c.track; x = c.at; y = c.at; new = Some v }
@@ -70,14 +70,14 @@ pub insert-allowed : (table : Table) (c : Insert) (tracks : ℕ) (ts : List Trac
     → insert_named table ts c ≡ within_limits (all_moved (shift_at c v) ts) (Item number)
 insert-allowed table c tracks ts own v number o e numbers kept bare f g =
     for-found c.track (inserted table c ts) ts own o.found
-  ∙ ap (λ (r : Option Refusal). unless r (shift_of c.track c.at c.at (clip_view own.next_item c.what c.from c.len ∷ []) (Item own.next_item) (with_track ts (padded_track own c.at))))
-      (ap (λ (n : ℕ). source_refusal table n c.what c.from c.len) o.number ∙ e)
-  ∙ shift-free c.track c.at c.at (clip_view own.next_item c.what c.from c.len ∷ []) (Item own.next_item) (with_track ts (padded_track own c.at)) (refl, tt)
-      (bare-padded ts own c.at (bare-numbered c.track ts own o.found bare) bare)
-  ∙ ap (λ (us : List TrackState). within_limits us (Item own.next_item))
-      (insert-moved (shift_at c (clip_view own.next_item c.what c.from c.len)) ts own (subst Rise (sym numbers) (tracks-rise tracks)) o.found kept refl)
-  ∙ sym (ap (λ (w : ItemView). within_limits (all_moved (shift_at c w) ts) (Item number)) (g ∙ ap (λ (n : ℕ). clip_view n c.what c.from c.len) f)
-  ∙ ap (λ (n : ℕ). within_limits (all_moved (shift_at c (clip_view own.next_item c.what c.from c.len)) ts) (Item n)) f)
+    ∙ ap (λ (r : Option Refusal). unless r (shift_of c.track c.at c.at (clip_view own.next_item c.what c.from c.len ∷ []) (Item own.next_item) (with_track ts (padded_track own c.at))))
+    (ap (λ (n : ℕ). source_refusal table n c.what c.from c.len) o.number ∙ e)
+    ∙ shift-free c.track c.at c.at (clip_view own.next_item c.what c.from c.len ∷ []) (Item own.next_item) (with_track ts (padded_track own c.at)) (refl, tt)
+    (bare-padded ts own c.at (bare-numbered c.track ts own o.found bare) bare)
+    ∙ ap (λ (us : List TrackState). within_limits us (Item own.next_item))
+    (insert-moved (shift_at c (clip_view own.next_item c.what c.from c.len)) ts own (subst Rise (sym numbers) (tracks-rise tracks)) o.found kept refl)
+    ∙ sym (ap (λ (w : ItemView). within_limits (all_moved (shift_at c w) ts) (Item number)) (g ∙ ap (λ (n : ℕ). clip_view n c.what c.from c.len) f)
+    ∙ ap (λ (n : ℕ). within_limits (all_moved (shift_at c (clip_view own.next_item c.what c.from c.len)) ts) (Item n)) f)
 
 pub insert-put : (table : Table) (c : Insert) (ts : List TrackState) (own : TrackState) (v : ItemView) (number : ℕ) → IsOwn c.track ts own → Clip table c.what c.from c.len
     → number ≡ own.next_item → v ≡ clip_view number c.what c.from c.len → All (λ (t : TrackState). PutIn table t (put_views (shift_at c v) t)) ts
@@ -86,7 +86,7 @@ insert-put table c ts own v number o clip f g k d lt = put-shift table (shift_at
   on_own e =
       let here : get_or ts k d ≡ own = o.only k d lt e in
       subst (λ (w : ItemView). PutIn table (get_or ts k d) (gap_views (c.at - length (get_or ts k d).cells) ++ new_views (Some w))) (sym g)
-        (put-clip table (get_or ts k d) (c.at - length (get_or ts k d).cells) number c.what c.from c.len (f ∙ ap (λ (t : TrackState). t.next_item) (sym here)) clip)
+      (put-clip table (get_or ts k d) (c.at - length (get_or ts k d).cells) number c.what c.from c.len (f ∙ ap (λ (t : TrackState). t.next_item) (sym here)) clip)
 
 abbrev pub shift_out : Extract → ℕ → ℕ → Shift
 shift_out c x y = record { own = c.track; x = x; y = y; new = None }
@@ -94,20 +94,20 @@ shift_out c x y = record { own = c.track; x = x; y = y; new = None }
 pub extract-missing : (c : Extract) (ts : List TrackState) (own : TrackState) → IsOwn c.track ts own → range_of own.cells c.item ≡ None → extract_named ts c ≡ Err NoItem
 extract-missing c ts own o e =
     for-found c.track (extracted c ts) ts own o.found
-  ∙ ap (λ (r : Option (ℕ × ℕ)). for_range (λ x y. shift_of c.track x y [] Plain ts) r) e
+    ∙ ap (λ (r : Option (ℕ × ℕ)). for_range (λ x y. shift_of c.track x y [] Plain ts) r) e
 
 pub extract-found : (c : Extract) (ts : List TrackState) (own : TrackState) (x y : ℕ) → IsOwn c.track ts own → range_of own.cells c.item ≡ Some (x, y) → IsKept own → Bare ts
     → extract_named ts c ≡ within_limits (all_moved (shift_out c x y) ts) Plain
 extract-found c ts own x y o e kept bare =
     for-found c.track (extracted c ts) ts own o.found
-  ∙ ap (λ (r : Option (ℕ × ℕ)). for_range (λ x y. shift_of c.track x y [] Plain ts) r) e
-  ∙ shift-free c.track x y [] Plain ts tt bare
-  ∙ ap (λ (us : List TrackState). within_limits us Plain) (extract-moved (shift_out c x y) ts long) where
-  long : All (λ (t : TrackState). t.number ≡ c.track → (x ≤ length t.cells) × (y ≤ length t.cells)) ts
-  long k d lt n =
-      let h : (x ≤ y) × (y ≤ length own.cells) = range-within own c.item x y kept e in
-      let l : length (get_or ts k d).cells ≡ length own.cells = ap (λ (t : TrackState). length t.cells) (o.only k d lt n) in
-      (omega (arith, h.0, h.1, l), omega (arith, h.1, l))
+    ∙ ap (λ (r : Option (ℕ × ℕ)). for_range (λ x y. shift_of c.track x y [] Plain ts) r) e
+    ∙ shift-free c.track x y [] Plain ts tt bare
+    ∙ ap (λ (us : List TrackState). within_limits us Plain) (extract-moved (shift_out c x y) ts long) where
+      long : All (λ (t : TrackState). t.number ≡ c.track → (x ≤ length t.cells) × (y ≤ length t.cells)) ts
+      long k d lt n =
+          let h : (x ≤ y) × (y ≤ length own.cells) = range-within own c.item x y kept e in
+          let l : length (get_or ts k d).cells ≡ length own.cells = ap (λ (t : TrackState). length t.cells) (o.only k d lt n) in
+          (omega (arith, h.0, h.1, l), omega (arith, h.1, l))
 
 pub extract-put : (table : Table) (c : Extract) (ts : List TrackState) (x y : ℕ) → All (λ (t : TrackState). PutIn table t (put_views (shift_out c x y) t)) ts
 extract-put table c ts x y k d lt = put-shift table (shift_out c x y) (get_or ts k d) (λ e. put-only table (get_or ts k d) (x - length (get_or ts k d).cells))
@@ -121,7 +121,7 @@ named_found : (n : ℕ) (ts : List TrackState) → list_any (nat_eq n) (map (λ 
 named_found n [] e f = Prim.grind (arith, e)
 named_found n (t ∷ ts) e f = by (eqb t.number n) (eqb n t.number) refl refl e f (named_found n ts) where
   by : (a b : Bool) → eqb t.number n ≡ a → eqb n t.number ≡ b → (b || list_any (nat_eq n) (map (λ (t : TrackState). t.number) ts)) ≡ true → cond a (Some t) (track_numbered n ts) ≡ None
-    → (list_any (nat_eq n) (map (λ (t : TrackState). t.number) ts) ≡ true → track_numbered n ts ≡ None → ⊥) → ⊥
+      → (list_any (nat_eq n) (map (λ (t : TrackState). t.number) ts) ≡ true → track_numbered n ts ≡ None → ⊥) → ⊥
   by true b g h e f later = Prim.grind (arith, f)
   by false true g h e f later =
       let same : t.number ≡ n = sym (eqb-true n t.number h) in

@@ -3,7 +3,6 @@ pub mod Limits
 pub mod Put
 pub mod Standing
 pub mod Unlinked
-pub mod Numbered
 pub mod Moving
 pub mod OneTrack
 pub mod OverPlaces

@@ -64,7 +64,7 @@ pub kept-put : (s : Shift) (t : TrackState) (x y : ℕ) (views : List ItemView) 
     → x ≡ min s.x (length t.cells) → y ≡ min s.y (length t.cells) → views ≡ put_views s t → IsKept (spliced_track t x y views)
 kept-put s t x y views le f short e h k =
     kept_spliced t x y views f.kept (omega (arith, e, h, le)) (omega (arith, h)) (subst (AreNew t.next_item) (sym k) f.new)
-      (omega (arith, length-moved s t le, short, f.frames, ap frames_in k, le))
+    (omega (arith, length-moved s t le, short, f.frames, ap frames_in k, le))
 
 pub kept-moved : (s : Shift) (t : TrackState) → s.x ≤ s.y → IsShiftOf s t → length (moved s t).cells ≤ MAX_FRAMES → IsKept (moved s t)
 kept-moved s t le f short = kept-put s t (min s.x (length t.cells)) (min s.y (length t.cells)) (put_views s t) le f short refl refl refl

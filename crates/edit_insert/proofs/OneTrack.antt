@@ -7,8 +7,8 @@ use Rattle.composables.specs.declared.refusals.EditFault.{EditFault}
 use Rattle.composables.specs.declared.refusals.EditFault.TheVariants.{Refused, Memory}
 use Rattle.composables.specs.declared.refusals.Refusal.{Refusal}
 use Rattle.composables.specs.TrackState.{TrackState}
-use Rattle.edit_insert.specs.Answers.{Answers, Applied}
-use Rattle.edit_insert.specs.OwnTracks.{among_named, on_own, track_numbered}
+use Rattle.composables.specs.Answers.{Answers, Applied}
+use Rattle.composables.specs.OwnTracks.{among_named, on_own, track_numbered}
 use Rattle.edit_insert.specs.Standing.{StaysGood, EachStaysGood}
 
 -- it is found

@@ -15,9 +15,9 @@ use Rattle.composables.specs.TrackState.{TrackState}
 use Rattle.composables.specs.Views.{clip_view, gap_views}
 use Rattle.edit_splice.specs.Splicing.{spliced_track}
 use Rattle.edit_splice.proofs.Outcomes.{length-spliced_track}
-use Rattle.edit_insert.specs.Answers.{Answers, unless}
+use Rattle.composables.specs.Answers.{Answers, unless}
 use Rattle.edit_insert.specs.Edits.{overwrite_track, overwritten}
-use Rattle.edit_insert.specs.Limits.{track_within_limits}
+use Rattle.composables.specs.Limits.{track_within_limits}
 use Rattle.edit_insert.specs.PutIn.{new_views}
 use Rattle.edit_insert.specs.Sources.{source_refusal}
 use Rattle.edit_insert.proofs.Moving.{frames-put}
@@ -30,9 +30,12 @@ over-put t at what from len kept = padded-put t at (at + len) (clip_view t.next_
 pub over-length : (t : TrackState) (at : ℕ) (what : What) (from len : ℕ) → IsKept t
     → length (overwritten t at what from len).cells ≡ min at (length t.cells) + (at - length t.cells + len) + (length t.cells - min (at + len) (length t.cells))
 over-length t at what from len kept =
-    omega (arith, ap (λ (u : TrackState). length u.cells) (over-put t at what from len kept),
+    omega (
+      arith,
+      ap (λ (u : TrackState). length u.cells) (over-put t at what from len kept),
       length-spliced_track t (min at (length t.cells)) (min (at + len) (length t.cells)) (gap_views (at - length t.cells) ++ new_views (Some (clip_view t.next_item what from len))) (omega arith) (omega arith),
-      frames-put (at - length t.cells) (Some (clip_view t.next_item what from len)))
+      frames-put (at - length t.cells) (Some (clip_view t.next_item what from len)),
+    )
 
 pub over-allowed : (table : Table) (c : Overwrite) (t : TrackState) → source_refusal table t.number c.what c.from c.len ≡ None
     → overwrite_track table c t ≡ track_within_limits (overwritten t c.at c.what c.from c.len) (Item t.next_item)
@@ -48,16 +51,16 @@ pub over-parts : (table : Table) (c : Overwrite) (t : TrackState) (x y number : 
     → overwrite_track table c t ≡ track_within_limits (spliced_track t x y items) (Item number)
 over-parts table c t x y number items none kept e f h k =
     over-allowed table c t none
-  ∙ ap (λ (u : TrackState). track_within_limits u (Item t.next_item)) (over-put t c.at c.what c.from c.len kept)
-  ∙ sym (ap (λ (n : ℕ). track_within_limits (spliced_track t n y items) (Item number)) e
-  ∙ ap (λ (n : ℕ). track_within_limits (spliced_track t (min c.at (length t.cells)) n items) (Item number)) f
-  ∙ ap (λ (vs : List ItemView). track_within_limits (spliced_track t (min c.at (length t.cells)) (min (c.at + c.len) (length t.cells)) vs) (Item number)) k
-  ∙ ap (λ (n : ℕ). track_within_limits (spliced_track t (min c.at (length t.cells)) (min (c.at + c.len) (length t.cells)) (gap_views (c.at - length t.cells) ++ new_views (Some (clip_view t.next_item c.what c.from c.len)))) (Item n)) h)
+    ∙ ap (λ (u : TrackState). track_within_limits u (Item t.next_item)) (over-put t c.at c.what c.from c.len kept)
+    ∙ sym (ap (λ (n : ℕ). track_within_limits (spliced_track t n y items) (Item number)) e
+    ∙ ap (λ (n : ℕ). track_within_limits (spliced_track t (min c.at (length t.cells)) n items) (Item number)) f
+    ∙ ap (λ (vs : List ItemView). track_within_limits (spliced_track t (min c.at (length t.cells)) (min (c.at + c.len) (length t.cells)) vs) (Item number)) k
+    ∙ ap (λ (n : ℕ). track_within_limits (spliced_track t (min c.at (length t.cells)) (min (c.at + c.len) (length t.cells)) (gap_views (c.at - length t.cells) ++ new_views (Some (clip_view t.next_item c.what c.from c.len)))) (Item n)) h)
 
 pub items-told : (at len gap number : ℕ) (what : What) (from next frames : ℕ) (v : ItemView) (items : List ItemView)
     → items ≡ gap_views gap ++ new_views (Some v) → gap ≡ at - frames → v ≡ clip_view number what from len → number ≡ next
     → items ≡ gap_views (at - frames) ++ new_views (Some (clip_view next what from len))
 items-told at len gap number what from next frames v items e f h k =
     e ∙ ap (λ (n : ℕ). gap_views n ++ new_views (Some v)) f
-  ∙ ap (λ (w : ItemView). gap_views (at - frames) ++ new_views (Some w)) h
-  ∙ ap (λ (n : ℕ). gap_views (at - frames) ++ new_views (Some (clip_view n what from len))) k
+    ∙ ap (λ (w : ItemView). gap_views (at - frames) ++ new_views (Some w)) h
+    ∙ ap (λ (n : ℕ). gap_views (at - frames) ++ new_views (Some (clip_view n what from len))) k

@@ -37,39 +37,43 @@ dark_before n room = by (eqb n 0) where
   by true = refl
   by false =
       ap (before_splice room) (append-nil (view_cells (gap_view n)))
-    ∙ before-view room (gap_view n)
-    ∙ sym (append-nil (view_cells (gap_view n)))
+      ∙ before-view room (gap_view n)
+      ∙ sym (append-nil (view_cells (gap_view n)))
 
 -- no item stands on both sides of the end
 no_split : (cs : List Cell) (x y : ℕ) → length cs ≤ y → split_item cs x y ≡ None
 no_split cs x y h =
     ap (λ (b : Bool). cond ((ltb 0 x && b) && belong (cell_at cs (x - 1)) (cell_at cs y)) (cell_at cs y).item None) (le-ltb y (length cs) h)
-  ∙ by (ltb 0 x) where
-  by : (b : Bool) → cond ((b && false) && belong (cell_at cs (x - 1)) (cell_at cs y)) (cell_at cs y).item None ≡ None
-  by true = refl
-  by false = refl
+    ∙ by (ltb 0 x) where
+      by : (b : Bool) → cond ((b && false) && belong (cell_at cs (x - 1)) (cell_at cs y)) (cell_at cs y).item None ≡ None
+      by true = refl
+      by false = refl
 
 -- what is put at the end of cells with a gap behind them
 at_end : (vs : List ItemView) (cs : List Cell) (gap x : ℕ) (ms : List Cell) (fresh : ℕ) → cs ≡ cells_of vs → EachHolds vs → x ≡ length cs + gap
     → spliced kept_or_dropped (cs ++ cells_of (gap_views gap)) x x ms fresh ≡ cs ++ cells_of (gap_views gap) ++ ms
 at_end vs cs gap x ms fresh e holds len =
     spliced-steps all x x ms fresh (omega arith)
-  ∙ ap (λ ds. before_splice x ds ++ ms ++ map (renumbered (split_item all x x) fresh) (behind_splice 0 (drop x all))) (take_all x all (omega (arith, all_len)))
-  ∙ ap (λ ds. before_splice x all ++ ms ++ map (renumbered (split_item all x x) fresh) (behind_splice 0 ds)) (drop_all x all (omega (arith, all_len)))
-  ∙ append-nil (before_splice x all ++ ms)
-  ∙ ap (λ ds. ds ++ ms) front where
-  dark : List Cell
-  dark = cells_of (gap_views gap)
-  all : List Cell
-  all = cs ++ dark
-  all_len : length all ≡ x
-  all_len = omega (arith, length-append cs dark, length-cells_of (gap_views gap), frames-gap gap, len)
-  in_front : before_splice x (cells_of vs ++ dark) ≡ cells_of vs ++ dark
-  in_front =
-      before-kept vs [] dark x (subst EachHolds (sym (append-nil vs)) holds) (let l : length cs ≡ length (cells_of vs) = ap length e in omega (arith, l, length-cells_of vs, len))
-    ∙ ap (λ ds. cells_of vs ++ ds) (dark_before gap (x - frames_in vs))
-  front : before_splice x all ≡ all
-  front = subst (λ ds. before_splice x (ds ++ dark) ≡ ds ++ dark) (sym e) in_front
+    ∙ ap (λ ds. before_splice x ds ++ ms ++ map (renumbered (split_item all x x) fresh) (behind_splice 0 (drop x all))) (take_all x all (omega (arith, all_len)))
+    ∙ ap (λ ds. before_splice x all ++ ms ++ map (renumbered (split_item all x x) fresh) (behind_splice 0 ds)) (drop_all x all (omega (arith, all_len)))
+    ∙ append-nil (before_splice x all ++ ms)
+    ∙ ap (λ ds. ds ++ ms) front where
+      dark : List Cell
+      dark = cells_of (gap_views gap)
+
+      all : List Cell
+      all = cs ++ dark
+
+      all_len : length all ≡ x
+      all_len = omega (arith, length-append cs dark, length-cells_of (gap_views gap), frames-gap gap, len)
+
+      in_front : before_splice x (cells_of vs ++ dark) ≡ cells_of vs ++ dark
+      in_front =
+          before-kept vs [] dark x (subst EachHolds (sym (append-nil vs)) holds) (let l : length cs ≡ length (cells_of vs) = ap length e in omega (arith, l, length-cells_of vs, len))
+          ∙ ap (λ ds. cells_of vs ++ ds) (dark_before gap (x - frames_in vs))
+
+      front : before_splice x all ≡ all
+      front = subst (λ ds. before_splice x (ds ++ dark) ≡ ds ++ dark) (sym e) in_front
 
 state_same : (t : TrackState) (cs ds : List Cell) (n m : ℕ) → cs ≡ ds → n ≡ m → record t { cells = cs; next_item = n } ≡ record t { cells = ds; next_item = m }
 state_same t cs ds n m e f = ap (λ (z : List Cell). record t { cells = z; next_item = n }) e ∙ ap (λ (z : ℕ). record t { cells = ds; next_item = z }) f
@@ -86,23 +90,29 @@ past_end : (t : TrackState) (at : ℕ) (views : List ItemView) → IsKept t → 
 past_end t at views kept h = state_same t _ _ _ _ cells_same next_same where
   gap : ℕ
   gap = at - length t.cells
+
   fresh : ℕ
   fresh = next_past_all t.next_item views
+
   fresh_put : ℕ
   fresh_put = next_past_all t.next_item (gap_views gap ++ views)
+
   left : spliced kept_or_dropped (t.cells ++ cells_of (gap_views gap)) at at (cells_of views) fresh ≡ t.cells ++ cells_of (gap_views gap) ++ cells_of views
   left = at_end (items_of t.cells) t.cells gap at (cells_of views) fresh (sym kept.whole) kept.each (omega (arith, h))
+
   right : spliced kept_or_dropped t.cells (length t.cells) (length t.cells) (cells_of (gap_views gap ++ views)) fresh_put ≡ t.cells ++ cells_of (gap_views gap ++ views)
   right =
       sym (ap (λ ds. spliced kept_or_dropped ds (length t.cells) (length t.cells) (cells_of (gap_views gap ++ views)) fresh_put) (append-nil t.cells))
-    ∙ at_end (items_of t.cells) t.cells 0 (length t.cells) (cells_of (gap_views gap ++ views)) fresh_put (sym kept.whole) kept.each (omega arith)
-    ∙ ap (λ ds. ds ++ cells_of (gap_views gap ++ views)) (append-nil t.cells)
+      ∙ at_end (items_of t.cells) t.cells 0 (length t.cells) (cells_of (gap_views gap ++ views)) fresh_put (sym kept.whole) kept.each (omega arith)
+      ∙ ap (λ ds. ds ++ cells_of (gap_views gap ++ views)) (append-nil t.cells)
+
   cells_same : (spliced_track (padded_track t at) at at views).cells ≡ (spliced_track t (length t.cells) (length t.cells) (gap_views gap ++ views)).cells
   cells_same = left ∙ append_assoc t.cells (cells_of (gap_views gap)) (cells_of views) ∙ sym (right ∙ ap (λ ds. t.cells ++ ds) (cells_of-append (gap_views gap) views))
+
   next_same : (spliced_track (padded_track t at) at at views).next_item ≡ (spliced_track t (length t.cells) (length t.cells) (gap_views gap ++ views)).next_item
   next_same =
       next_at_end (t.cells ++ cells_of (gap_views gap)) at at fresh (omega (arith, length-padded t at, h))
-    ∙ sym (next_at_end t.cells (length t.cells) (length t.cells) fresh_put (omega arith) ∙ no_numbers gap t.next_item views)
+      ∙ sym (next_at_end t.cells (length t.cells) (length t.cells) fresh_put (omega arith) ∙ no_numbers gap t.next_item views)
 
 -- a track that is long enough stays
 pub padded-same : (t : TrackState) (at : ℕ) → at ≤ length t.cells → padded_track t at ≡ t
@@ -116,8 +126,8 @@ pub padded-put : (t : TrackState) (at y : ℕ) (views : List ItemView) → IsKep
     ≡ spliced_track t (min at (length t.cells)) (min y (length t.cells)) (gap_views (at - length t.cells) ++ views)
 padded-put t at y views kept le = by (leb (length t.cells) at) refl where
   by : (b : Bool) → leb (length t.cells) at ≡ b
-    → spliced_track (padded_track t at) at (min y (length (padded_track t at).cells)) views
-    ≡ spliced_track t (min at (length t.cells)) (min y (length t.cells)) (gap_views (at - length t.cells) ++ views)
+      → spliced_track (padded_track t at) at (min y (length (padded_track t at).cells)) views
+      ≡ spliced_track t (min at (length t.cells)) (min y (length t.cells)) (gap_views (at - length t.cells) ++ views)
   by true e =
       let past : length t.cells ≤ at = leb-true (length t.cells) at e in
       let a : min y (length (padded_track t at).cells) ≡ at = omega (arith, length-padded t at, past, le) in

@@ -45,7 +45,7 @@ last-room us ss sp ts d e n within h =
     let one : length us ≡ length ss + 1 = omega (arith, n) in
     let more : take (length us) ts ≡ take (length ss) ts ++ get_or ts (length ss) d ∷ [] = ap (λ (k : ℕ). take k ts) one ∙ take_more ts (length ss) d inside in
     rooms-less ss (take (length ss) ts) sp (get_or ts (length ss) d) (omega (arith, length-take (length ss) ts, inside))
-      (subst (HasRooms (ss ++ sp ∷ [])) more (subst (λ (l : List SpareState). HasRooms l (take (length us) ts)) e h))
+    (subst (HasRooms (ss ++ sp ∷ [])) more (subst (λ (l : List SpareState). HasRooms l (take (length us) ts)) e h))
 
 -- the steps of one more
 pub size-more : (ts : List TrackState) (k : ℕ) (d : TrackState) → k < length ts → sum_by size_of (drop k ts) ≡ size_of (get_or ts k d) + sum_by size_of (drop (k + 1) ts)
@@ -72,9 +72,9 @@ last s us ss sp old now i t e f within m is =
       index = f;
       inside = inside;
       here =
-        is ∙ ap (λ (l : List TrackState). get_or l i t) (m ∙ ap (λ (k : ℕ). part_moved s k old) n)
-        ∙ ap (λ (k : ℕ). get_or (part_moved s (suc (length ss)) old) k t) f
-        ∙ part-get s (length ss) old t inside;
+          is ∙ ap (λ (l : List TrackState). get_or l i t) (m ∙ ap (λ (k : ℕ). part_moved s k old) n)
+          ∙ ap (λ (k : ℕ). get_or (part_moved s (suc (length ss)) old) k t) f
+          ∙ part-get s (length ss) old t inside;
     }
 
 pub last-moved : (s : Shift) (us ss : List SpareState) (old now : List TrackState) (i : ℕ) (t u : TrackState) → Last us ss old i t → now ≡ part_moved s (length us) old → u ≡ moved s t

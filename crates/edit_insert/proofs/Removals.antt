@@ -20,9 +20,9 @@ use Rattle.composables.specs.TrackState.{TrackState}
 use Rattle.composables.specs.Views.{gap_views}
 use Rattle.composables.proofs.Joining.{length-cells_of}
 use Rattle.edit_splice.specs.Splicing.{spliced_track}
-use Rattle.edit_insert.specs.Answers.{Answers}
+use Rattle.composables.specs.Answers.{Answers}
 use Rattle.edit_insert.specs.Edits.{for_range, remove_track, slice_track}
-use Rattle.edit_insert.specs.Limits.{track_within_limits}
+use Rattle.composables.specs.Limits.{track_within_limits}
 use Rattle.edit_insert.specs.Standing.{StaysGood}
 use Rattle.edit_insert.proofs.Put.{put-gap}
 use Rattle.edit_insert.proofs.Standing.{stays-placed, stays-refused}
@@ -40,8 +40,8 @@ unfolding first_of end_of
 range_within [] p i x y e = absurd (Prim.grind (arith, e))
 range_within (v ∷ vs) p i x y e = by (same_number v.item (Some i)) e (range_within vs (p + v.len) i x y) where
   by : (b : Bool) → cond b (Some (p, p + v.len)) (range_from (p + v.len) vs i) ≡ Some (x, y)
-    → (range_from (p + v.len) vs i ≡ Some (x, y) → (p + v.len ≤ x) × (x ≤ y) × (y ≤ p + v.len + frames_in vs))
-    → (p ≤ x) × (x ≤ y) × (y ≤ p + (v.len + frames_in vs))
+      → (range_from (p + v.len) vs i ≡ Some (x, y) → (p + v.len ≤ x) × (x ≤ y) × (y ≤ p + v.len + frames_in vs))
+      → (p ≤ x) × (x ≤ y) × (y ≤ p + (v.len + frames_in vs))
   by true e later =
       let a : p ≡ x = ap first_of e in
       let b : p + v.len ≡ y = ap end_of e in
@@ -59,7 +59,7 @@ range-within t i x y kept e =
 pub remove-stays : (table : Table) (c : Remove) (t u : TrackState) (result : Result Done EditFault) → IsGood table t → Answers (remove_track c t) t u result → StaysGood table t u
 remove-stays table c t u result g = by (range_of t.cells c.item) refl where
   by : (o : Option (ℕ × ℕ)) → range_of t.cells c.item ≡ o
-    → Answers (for_range (λ x y. track_within_limits (spliced_track t x y (gap_views (y - x))) Plain) o) t u result → StaysGood table t u
+      → Answers (for_range (λ x y. track_within_limits (spliced_track t x y (gap_views (y - x))) Plain) o) t u result → StaysGood table t u
   by None e a = stays-refused table t u NoItem result g a
   by (Some r) e a =
       let h : (r.0 ≤ r.1) × (r.1 ≤ length t.cells) = range-within t c.item r.0 r.1 g.kept e in
@@ -68,6 +68,6 @@ remove-stays table c t u result g = by (range_of t.cells c.item) refl where
 pub slice-stays : (table : Table) (c : Slice) (t u : TrackState) (result : Result Done EditFault) → IsGood table t → Answers (slice_track c t) t u result → StaysGood table t u
 slice-stays table c t u result g = by (ltb c.at (length t.cells)) refl where
   by : (b : Bool) → ltb c.at (length t.cells) ≡ b
-    → Answers (cond b (track_within_limits (spliced_track t c.at c.at []) Plain) (Err NoItem)) t u result → StaysGood table t u
+      → Answers (cond b (track_within_limits (spliced_track t c.at c.at []) Plain) (Err NoItem)) t u result → StaysGood table t u
   by true e a = stays-placed table t u c.at c.at [] Plain result g (omega arith) (omega (arith, ltb-true c.at (length t.cells) e)) (put-gap table t 0) a
   by false e a = stays-refused table t u NoItem result g a

@@ -15,7 +15,7 @@ lies None fits from len e = absurd (Prim.grind (arith, e))
 lies (Some (low, high)) false from len e = absurd (Prim.grind (arith, e))
 lies (Some (low, high)) true from len e = by (eqb len 0) (leb low from) (leb (from + len) high) refl refl e where
   by : (a b d : Bool) → leb low from ≡ b → leb (from + len) high ≡ d
-    → ◌≡◌ {A = Option Refusal} (cond a (Some EmptyRange) (cond (b && d) None (Some MediaEnds))) None → (low + 0 ≤ from) × (from + len + 0 ≤ high)
+      → ◌≡◌ {A = Option Refusal} (cond a (Some EmptyRange) (cond (b && d) None (Some MediaEnds))) None → (low + 0 ≤ from) × (from + len + 0 ≤ high)
   by true b d f g e = absurd (Prim.grind (arith, e))
   by false false d f g e = absurd (Prim.grind (arith, e))
   by false true false f g e = absurd (Prim.grind (arith, e))

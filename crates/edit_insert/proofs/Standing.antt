@@ -15,8 +15,8 @@ use Rattle.edit_splice.specs.Laws.{IsWithinLimits}
 use Rattle.edit_splice.specs.Splicing.{spliced_track}
 use Rattle.edit_splice.proofs.Goodness.{good-spliced}
 use Rattle.edit_splice.proofs.Outcomes.{next-bounds, unlinked-spliced}
-use Rattle.edit_insert.specs.Answers.{Answers, NextRises}
-use Rattle.edit_insert.specs.Limits.{track_within_limits}
+use Rattle.composables.specs.Answers.{Answers, NextRises}
+use Rattle.composables.specs.Limits.{track_within_limits}
 use Rattle.edit_insert.specs.Standing.{StaysGood, EachStaysGood}
 use Rattle.edit_insert.proofs.Limits.{within-done}
 use Rattle.edit_insert.proofs.Put.{PutIn}
@@ -91,4 +91,4 @@ each-unlinked table [] (u ∷ us) h a = absurd h
 each-unlinked table (t ∷ ts) [] h a = absurd h
 each-unlinked table (t ∷ ts) (u ∷ us) h a =
     All-cons (λ (t : TrackState). AllUnlinked (items_of t.cells)) u us (h.0.unlinked (all_head (λ (t : TrackState). AllUnlinked (items_of t.cells)) t ts a))
-      (each-unlinked table ts us h.1 (all_tail (λ (t : TrackState). AllUnlinked (items_of t.cells)) t ts a))
+    (each-unlinked table ts us h.1 (all_tail (λ (t : TrackState). AllUnlinked (items_of t.cells)) t ts a))

@@ -13,16 +13,16 @@ use Rattle.composables.specs.Items.{cells_of, items_of, marked, view_cells}
 use Rattle.composables.specs.TrackFacts.{IsKept}
 use Rattle.composables.specs.TrackState.{TrackState, next_past_all}
 use Rattle.composables.specs.Joined.{frames_in}
-use Rattle.edit_insert.specs.Links.{cells_from, cells_before, each_split, link_before, link_outside, links_in, links_split, same_link, with_link, with_link_of}
-use Rattle.edit_insert.specs.Shifts.{after_shift, shift_of, shift_refusal, shifted, shifted_along}
+use Rattle.composables.specs.Links.{cells_from, cells_before, each_split, link_before, link_outside, links_in, links_split, same_link, with_link, with_link_of}
+use Rattle.edit_splice.specs.Shifts.{after_shift, shift_of, shift_refusal, shifted, shifted_along}
 use Rattle.frame_meaning.specs.Splice.{Rule, kept_or_dropped, renumbered, split_item, with_marks}
 use Rattle.composables.specs.declared.media.Table.{Table}
 use Rattle.composables.specs.declared.refusals.Done.{Done}
 use Rattle.composables.specs.Views.{gap_view, gap_views}
 use Rattle.edit_splice.specs.Splicing.{spliced_track}
-use Rattle.edit_insert.specs.Answers.{unless}
-use Rattle.edit_insert.specs.Limits.{within_limits}
-use Rattle.edit_insert.specs.OwnTracks.{track_numbered, with_track}
+use Rattle.composables.specs.Answers.{unless}
+use Rattle.composables.specs.Limits.{within_limits}
+use Rattle.composables.specs.OwnTracks.{track_numbered, with_track}
 use Rattle.edit_insert.specs.PutIn.{padded_track}
 use Rattle.edit_insert.proofs.Standing.{all_head, all_tail}
 
@@ -98,8 +98,8 @@ spliced_none t x y views h k =
     let fresh : ℕ = next_past_all t.next_item views in
     let bare : links_in all ≡ [] = marks_none kept_or_dropped x y 0 t.cells h in
     append_none (take x all ++ cells_of views) (map (renumbered s fresh) (drop y all))
-      (append_none (take x all) (cells_of views) (take_none x all bare) (cells_none views k))
-      (numbers_none s fresh (drop y all) (drop_none y all bare))
+    (append_none (take x all) (cells_of views) (take_none x all bare) (cells_none views k))
+    (numbers_none s fresh (drop y all) (drop_none y all bare))
 
 -- no cell of these tracks has a link
 abbrev pub Bare : List TrackState → Type 0
@@ -115,9 +115,10 @@ bare_track t k u = subst (λ (cs : List Cell). links_in cs ≡ []) k.whole (cell
 
 pub bare-good : (table : Table) (ts : List TrackState) → All (IsGood table) ts → All (λ (t : TrackState). AllUnlinked (items_of t.cells)) ts → Bare ts
 bare-good table [] g u = tt
-bare-good table (t ∷ ts) g u =
-    ( bare_track t (all_head (IsGood table) t ts g).kept (all_head (λ (t : TrackState). AllUnlinked (items_of t.cells)) t ts u)
-    , bare-good table ts (all_tail (IsGood table) t ts g) (all_tail (λ (t : TrackState). AllUnlinked (items_of t.cells)) t ts u))
+bare-good table (t ∷ ts) g u = (
+  bare_track t (all_head (IsGood table) t ts g).kept (all_head (λ (t : TrackState). AllUnlinked (items_of t.cells)) t ts u),
+  bare-good table ts (all_tail (IsGood table) t ts g) (all_tail (λ (t : TrackState). AllUnlinked (items_of t.cells)) t ts u),
+)
 
 gap_unlinked : (n : ℕ) → AllUnlinked (gap_views n)
 gap_unlinked n = by (eqb n 0) where
@@ -171,4 +172,4 @@ pub shift-free : (own x y : ℕ) (views : List ItemView) (done : Done) (ts : Lis
     → shift_of own x y views done ts ≡ within_limits (shifted own x y views ts) done
 shift-free own x y views done ts u b =
     ap (λ (r : Option Refusal). unless r (within_limits (after_shift own x y views ts) done)) (none-refused x y (frames_in views) ts b)
-  ∙ ap (λ (us : List TrackState). within_limits us done) (none-split own x y views ts (bare-shifted own x y views ts u b))
+    ∙ ap (λ (us : List TrackState). within_limits us done) (none-split own x y views ts (bare-shifted own x y views ts u b))

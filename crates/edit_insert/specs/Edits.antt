@@ -15,11 +15,11 @@ use Rattle.composables.specs.declared.refusals.Refusal.{Refusal}
 use Rattle.composables.specs.declared.refusals.Refusal.TheVariants.{NoItem}
 use Rattle.composables.specs.TrackState.{TrackState}
 use Rattle.edit_splice.specs.Splicing.{spliced_track}
-use Rattle.edit_insert.specs.Answers.{Applied, unless}
-use Rattle.edit_insert.specs.Limits.{track_within_limits}
-use Rattle.edit_insert.specs.OwnTracks.{for_own, on_own, with_track}
+use Rattle.composables.specs.Answers.{Applied, unless}
+use Rattle.composables.specs.Limits.{track_within_limits}
+use Rattle.composables.specs.OwnTracks.{for_own, on_own, with_track}
 use Rattle.composables.specs.Ranges.{range_of}
-use Rattle.edit_insert.specs.Shifts.{shift_of}
+use Rattle.edit_splice.specs.Shifts.{shift_of}
 use Rattle.edit_insert.specs.Sources.{source_refusal}
 use Rattle.composables.specs.Views.{clip_view, gap_views}
 use Rattle.edit_insert.specs.PutIn.{padded_track}

@@ -1,11 +1,5 @@
-pub mod Answers
 pub mod Sources
-pub mod Limits
-pub mod OwnTracks
-pub mod TrackSets
 pub mod PutIn
-pub mod Links
-pub mod Shifts
 pub mod Moves
 pub mod Edits
 pub mod Standing

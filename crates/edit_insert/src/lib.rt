@@ -7,7 +7,6 @@
 mod few;
 mod inserting;
 mod overwriting;
-mod owning;
 mod placing;
 mod removing;
 mod shifting;
@@ -17,3 +16,6 @@ pub use inserting::{extract, insert};
 pub use overwriting::overwrite;
 pub use removing::{remove, slice};
 pub use shifting::{Shift, shift_tracks};
+
+#[cfg(test)]
+mod tests;

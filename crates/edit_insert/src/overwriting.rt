@@ -4,7 +4,7 @@ ghost use Rattle.composables.specs.Good.{IsGood, AllUnlinked};
 ghost use Rattle.composables.specs.Items.{items_of};
 ghost use Rattle.composables.specs.Roomy.{IsRoomy};
 ghost use Rattle.composables.specs.TrackState.{TrackState};
-ghost use Rattle.edit_insert.specs.Answers.{Answers, NextRises};
+ghost use Rattle.composables.specs.Answers.{Answers, NextRises};
 ghost use Rattle.edit_insert.specs.Edits.{overwrite_named, overwrite_track};
 ghost use Rattle.edit_insert.specs.Standing.{StaysGood};
 

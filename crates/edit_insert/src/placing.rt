@@ -6,8 +6,8 @@ ghost use Rattle.composables.specs.Roomy.{IsRoomy};
 ghost use Rattle.composables.specs.TrackFacts.{IsKept, NumbersBelow};
 ghost use Rattle.edit_splice.specs.NewItems.{AreNew};
 ghost use Rattle.edit_splice.specs.Splicing.{spliced_track};
-ghost use Rattle.edit_insert.specs.Answers.{Answers};
-ghost use Rattle.edit_insert.specs.Limits.{track_within_limits};
+ghost use Rattle.composables.specs.Answers.{Answers};
+ghost use Rattle.composables.specs.Limits.{track_within_limits};
 
 use composables::{Done, EditFault, ItemView, MAX_FRAMES, MAX_ITEMS, Refusal, Track};
 use edit_splice::{count_after, splice};

@@ -5,7 +5,7 @@ ghost use Rattle.composables.specs.Items.{items_of};
 ghost use Rattle.composables.specs.Roomy.{IsRoomy};
 ghost use Rattle.composables.specs.TrackFacts.{IsKept};
 ghost use Rattle.composables.specs.TrackState.{TrackState};
-ghost use Rattle.edit_insert.specs.Answers.{Answers, NextRises};
+ghost use Rattle.composables.specs.Answers.{Answers, NextRises};
 ghost use Rattle.edit_insert.specs.Edits.{remove_named, remove_track, slice_named, slice_track};
 
 use crate::few::Few;

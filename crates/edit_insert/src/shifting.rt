@@ -3,13 +3,15 @@ ghost use Rattle.std.specs.Prelude.{◌≡◌, ◌+◌, ◌*◌, ◌-◌, ◌<�
 ghost use Rattle.composables.specs.declared.refusals.Refusal.TheVariants.{TooLong, TooManyItems};
 ghost use Rattle.composables.specs.Items.{items_of};
 ghost use Rattle.edit_splice.specs.Splicing.{HasRoom};
-ghost use Rattle.edit_insert.specs.Answers.{Answers};
-ghost use Rattle.edit_insert.specs.Limits.{too_long, too_many, within_limits};
+ghost use Rattle.composables.specs.Answers.{Answers};
+ghost use Rattle.composables.specs.Limits.{too_long, too_many, within_limits};
 ghost use Rattle.edit_insert.specs.PutIn.{new_len};
 ghost use Rattle.edit_insert.specs.Moves.{HasRooms, IsShiftOf, all_moved, moved, put_views};
 
 use crate::few::Few;
-use composables::{Done, EditFault, ItemView, MAX_FRAMES, MAX_ITEMS, Memory, Refusal, Spare, Track};
+use composables::{
+    Done, EditFault, ItemView, MAX_FRAMES, MAX_ITEMS, Memory, Refusal, Spare, Track,
+};
 use edit_splice::{count_after, spare_for, splice_in};
 use std::alloc::Global;
 use std::sync::ledger::Ledger;
@@ -108,11 +110,7 @@ fn put_views(track: &Track, shift: &Shift) -> Few
     }
 }
 
-fn first_too_many<L: Ledger>(
-    named: &[Track],
-    shift: &Shift,
-    steps: &mut Steps<L>,
-) -> Option<u32>
+fn first_too_many<L: Ledger>(named: &[Track], shift: &Shift, steps: &mut Steps<L>) -> Option<u32>
     requires order { shift.now.x ≤ shift.now.y }
     requires fits { All (λ t. IsShiftOf shift.now t) named.now }
     requires short { All (λ t. length (moved shift.now t).cells ≤ MAX_FRAMES) named.now }
@@ -139,7 +137,13 @@ fn items_after<L: Ledger>(track: &Track, shift: &Shift, steps: &mut Steps<L>) ->
 {
     let length = track.length();
     let views = put_views(track, shift);
-    count_after(track, shift.x.min(length), shift.y.min(length), views.as_slice(), steps)
+    count_after(
+        track,
+        shift.x.min(length),
+        shift.y.min(length),
+        views.as_slice(),
+        steps,
+    )
 }
 
 // Memory for each track, to splice two items or gaps into it.

@@ -4,3 +4,4 @@ pub mod NewItems
 pub mod PutIn
 pub mod Laws
 pub mod Counting
+pub mod Shifts

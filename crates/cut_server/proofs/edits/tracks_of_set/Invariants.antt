@@ -1,5 +1,5 @@
 use Rattle.std.proofs.Common.{◌≡◌, ◌++◌}
-use Rattle.edit_insert.specs.TrackSets.{tracks_in}
+use Rattle.composables.specs.TrackSets.{tracks_in}
 use Rattle.call_text.proofs.TrackSets.{tracks_after}
 use Rattle.cut_server.proofs.edits.tracks_of_set.Given as goal
 

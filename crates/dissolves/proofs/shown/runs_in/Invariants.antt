@@ -1,4 +1,4 @@
-use Rattle.std.proofs.Common.{◌≡◌, ◌+◌, ◌-◌, ◌≤◌, length, drop}
+use Rattle.std.proofs.Common.{◌≡◌, ◌+◌, ◌-◌, length, drop}
 use Rattle.frame_meaning.specs.Render.{render}
 use Rattle.composables.specs.Items.{items_of}
 use Rattle.composables.specs.Joined.{frames_in}

@@ -1,5 +1,5 @@
 use Rattle.std.proofs.Common.{◌≡◌}
-use Rattle.edit_insert.specs.TrackSets.{tracks_in}
+use Rattle.composables.specs.TrackSets.{tracks_in}
 use Rattle.edit_apply.specs.Apply.{first_absent}
 use Rattle.edit_apply.proofs.Sets.{tracks_after}
 use Rattle.edit_apply.proofs.editor.first_absent.Given as goal

@@ -5,7 +5,7 @@ use Rattle.composables.specs.declared.refusals.Refusal.{Refusal}
 use Rattle.composables.specs.Good.{IsGood}
 use Rattle.composables.specs.Ranges.{range_of}
 use Rattle.composables.specs.TrackState.{TrackState}
-use Rattle.edit_insert.specs.Answers.{Answers}
+use Rattle.composables.specs.Answers.{Answers}
 use Rattle.edit_insert.specs.Sources.{source_refusal}
 use Rattle.edit_insert.proofs.Bridging.{each-shift}
 use Rattle.edit_insert.proofs.Inserts.{IsOwn, all-shifts, extract-found, extract-missing, extract-put, insert-allowed, insert-put, insert-refused, is-own, no_track, own-here, own-there, shift_at, shift_out}
@@ -18,8 +18,8 @@ use Rattle.edit_insert.proofs.inserting.extract_at.Goals as goal
 pub returns-in-Some-clause-answers : goal.returns-in-Some-clause-answers
 returns-in-Some-clause-answers g c =
     subst (λ (m : Result (List TrackState × Done) Refusal). Answers m c.args.named.now.items c.shift_tracks.new.named.items c.shift_tracks.result)
-      (sym (extract-found c.args.call.now c.args.named.now.items c.index.result.now c.in-Some.found.from c.in-Some.found.to (is-own c.args.call.now.track c.args.call.now.tracks c.args.index c.args.named.now.items c.index.result.now c.requires.named c.requires.found (own-here c.args.named.now.items c.args.index c.index.result.now c.requires.within c.index.ensures)) (c.in-Some.ensures.range) (subst (IsGood c.args.table.now) (sym c.index.ensures) (c.requires.good c.args.index c.index.result.now c.requires.within)).kept (bare-good c.args.table.now c.args.named.now.items c.requires.good c.requires.unlinked)))
-      c.shift_tracks.ensures.answers
+    (sym (extract-found c.args.call.now c.args.named.now.items c.index.result.now c.in-Some.found.from c.in-Some.found.to (is-own c.args.call.now.track c.args.call.now.tracks c.args.index c.args.named.now.items c.index.result.now c.requires.named c.requires.found (own-here c.args.named.now.items c.args.index c.index.result.now c.requires.within c.index.ensures)) (c.in-Some.ensures.range) (subst (IsGood c.args.table.now) (sym c.index.ensures) (c.requires.good c.args.index c.index.result.now c.requires.within)).kept (bare-good c.args.table.now c.args.named.now.items c.requires.good c.requires.unlinked)))
+    c.shift_tracks.ensures.answers
 
 pub shift_tracks-requires-clause-order : goal.shift_tracks-requires-clause-order
 shift_tracks-requires-clause-order g c = place-order c.index.result.now c.in-Some.found c.in-Some.ensures.found
@@ -27,8 +27,8 @@ shift_tracks-requires-clause-order g c = place-order c.index.result.now c.in-Som
 pub returns-in-Some-clause-good : goal.returns-in-Some-clause-good
 returns-in-Some-clause-good g c =
     each-shift c.args.table.now (shift_out c.args.call.now c.in-Some.found.from c.in-Some.found.to) c.args.named.now.items c.shift_tracks.new.named.items Plain c.shift_tracks.result
-      (place-order c.index.result.now c.in-Some.found c.in-Some.ensures.found) c.requires.good
-      (extract-put c.args.table.now c.args.call.now c.args.named.now.items c.in-Some.found.from c.in-Some.found.to) c.shift_tracks.ensures.answers
+    (place-order c.index.result.now c.in-Some.found c.in-Some.ensures.found) c.requires.good
+    (extract-put c.args.table.now c.args.call.now c.args.named.now.items c.in-Some.found.from c.in-Some.found.to) c.shift_tracks.ensures.answers
 
 pub returns-in-None-clause-answers : goal.returns-in-None-clause-answers
 returns-in-None-clause-answers g c = (extract-missing c.args.call.now c.args.named.now.items c.index.result.now (is-own c.args.call.now.track c.args.call.now.tracks c.args.index c.args.named.now.items c.index.result.now c.requires.named c.requires.found (own-here c.args.named.now.items c.args.index c.index.result.now c.requires.within c.index.ensures)) c.in-None.ensures.range, refl)
@@ -39,4 +39,4 @@ returns-in-None-clause-good g c = each-self c.args.table.now c.args.named.now.it
 pub shift_tracks-requires-clause-fits : goal.shift_tracks-requires-clause-fits
 shift_tracks-requires-clause-fits g c =
     all-shifts c.args.table.now (shift_out c.args.call.now c.in-Some.found.from c.in-Some.found.to) c.args.named.now.items c.requires.good c.requires.roomy
-      (extract-put c.args.table.now c.args.call.now c.args.named.now.items c.in-Some.found.from c.in-Some.found.to)
+    (extract-put c.args.table.now c.args.call.now c.args.named.now.items c.in-Some.found.from c.in-Some.found.to)

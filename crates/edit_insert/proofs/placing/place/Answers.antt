@@ -17,22 +17,23 @@ count_after-requires-clause-short g c =
 pub returns-then-count_after-gt-MAX_ITEMS-clause-answers :
     goal.returns-then-count_after-gt-MAX_ITEMS-clause-answers
 returns-then-count_after-gt-MAX_ITEMS-clause-answers g c =
-    let u : TrackState = spliced_track c.args.track.now c.args.x c.args.y c.args.items.now in
-    ( within-many u c.args.done
-        (omega (arith, length-spliced_track c.args.track.now c.args.x c.args.y c.args.items.now c.requires.order c.requires.within, c.requires.short))
-        (omega (arith, c.count_after.ensures.count, c.if-count_after-gt-MAX_ITEMS.true))
-      ∙ ap (λ n. Err (TooManyItems n)) (sym c.number.ensures)
-    , refl)
+    let u : TrackState = spliced_track c.args.track.now c.args.x c.args.y c.args.items.now in (
+      within-many u c.args.done
+          (omega (arith, length-spliced_track c.args.track.now c.args.x c.args.y c.args.items.now c.requires.order c.requires.within, c.requires.short))
+          (omega (arith, c.count_after.ensures.count, c.if-count_after-gt-MAX_ITEMS.true))
+          ∙ ap (λ n. Err (TooManyItems n)) (sym c.number.ensures),
+      refl,
+    )
 
 pub splice-requires-clause-kept : goal.splice-requires-clause-kept
 splice-requires-clause-kept g c =
     kept_spliced c.args.track.now c.args.x c.args.y c.args.items.now c.requires.kept c.requires.order c.requires.within c.requires.new
-      (omega (arith, c.requires.frames, c.requires.short, c.requires.order, c.requires.within))
+    (omega (arith, c.requires.frames, c.requires.short, c.requires.order, c.requires.within))
 
 pub returns-in-Ok-clause-answers : goal.returns-in-Ok-clause-answers
 returns-in-Ok-clause-answers g c =
     let u : TrackState = spliced_track c.args.track.now c.args.x c.args.y c.args.items.now in
     within-few u c.args.done
-      (omega (arith, length-spliced_track c.args.track.now c.args.x c.args.y c.args.items.now c.requires.order c.requires.within, c.requires.short))
-      (omega (arith, c.count_after.ensures.count, c.if-count_after-gt-MAX_ITEMS.false))
+    (omega (arith, length-spliced_track c.args.track.now c.args.x c.args.y c.args.items.now c.requires.order c.requires.within, c.requires.short))
+    (omega (arith, c.count_after.ensures.count, c.if-count_after-gt-MAX_ITEMS.false))
     ∙ ap (λ n. Ok (n, c.args.done)) (sym c.in-Ok.ensures.ok)

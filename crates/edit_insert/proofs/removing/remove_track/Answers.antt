@@ -15,5 +15,11 @@ place-requires-clause-within g c = place-within c.args.track.now c.in-Some.found
 
 pub place-requires-clause-short : goal.place-requires-clause-short
 place-requires-clause-short g c =
-    omega (arith, ap frames_in (c.as_slice.ensures ∙ c.of-items.ensures), frames-put (c.in-Some.found.to - c.in-Some.found.from) None,
-      place-order c.args.track.now c.in-Some.found c.in-Some.ensures.found, place-within c.args.track.now c.in-Some.found c.requires.kept c.in-Some.ensures.found, c.requires.frames)
+    omega (
+      arith,
+      ap frames_in (c.as_slice.ensures ∙ c.of-items.ensures),
+      frames-put (c.in-Some.found.to - c.in-Some.found.from) None,
+      place-order c.args.track.now c.in-Some.found c.in-Some.ensures.found,
+      place-within c.args.track.now c.in-Some.found c.requires.kept c.in-Some.ensures.found,
+      c.requires.frames,
+    )

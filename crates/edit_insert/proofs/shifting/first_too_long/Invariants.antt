@@ -1,5 +1,5 @@
 use Rattle.std.proofs.Common.{◌≡◌, drop}
-use Rattle.edit_insert.specs.Limits.{too_long}
+use Rattle.composables.specs.Limits.{too_long}
 use Rattle.edit_insert.specs.Moves.{all_moved}
 use Rattle.edit_insert.proofs.shifting.first_too_long.Given as goal
 

@@ -6,5 +6,10 @@ use Rattle.edit_insert.proofs.shifting.first_too_many.Goals as goal
 pub returns-then-items_after-gt-MAX_ITEMS-clause-most :
     goal.returns-then-items_after-gt-MAX_ITEMS-clause-most
 returns-then-items_after-gt-MAX_ITEMS-clause-most g c =
-    omega (arith, c.items_after.ensures.most, c.loop-track.invariant.most, ap size_of c.track-item.is,
-      sum_by_more_le size_of c.args.named.now c.loop-track.track-index c.track-item.result c.loop-track-test.true)
+    omega (
+      arith,
+      c.items_after.ensures.most,
+      c.loop-track.invariant.most,
+      ap size_of c.track-item.is,
+      sum_by_more_le size_of c.args.named.now c.loop-track.track-index c.track-item.result c.loop-track-test.true,
+    )

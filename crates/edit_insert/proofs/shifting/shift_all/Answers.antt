@@ -23,8 +23,16 @@ loop-spare-init g c =
 
 pub index_mut-requires : goal.index_mut-requires
 index_mut-requires g c =
-    omega (arith, c.len-index.ensures, c.pop.new.self.ok, c.loop-spare.named.ok, many-popped c.loop-spare.spares.items c.pop.new.self.items c.in-Some.spare c.in-Some.ensures.items, c.loop-spare.invariant.within,
-      ap length c.loop-spare.invariant.moved, part-length c.args.shift.now (length c.loop-spare.spares.items) c.args.named.now.items)
+    omega (
+      arith,
+      c.len-index.ensures,
+      c.pop.new.self.ok,
+      c.loop-spare.named.ok,
+      many-popped c.loop-spare.spares.items c.pop.new.self.items c.in-Some.spare c.in-Some.ensures.items,
+      c.loop-spare.invariant.within,
+      ap length c.loop-spare.invariant.moved,
+      part-length c.args.shift.now (length c.loop-spare.spares.items) c.args.named.now.items,
+    )
 
 pub shift_track-requires-clause-fits : goal.shift_track-requires-clause-fits
 shift_track-requires-clause-fits g c =
@@ -40,7 +48,7 @@ pub shift_track-requires-clause-room : goal.shift_track-requires-clause-room
 shift_track-requires-clause-room g c =
     let l = (last c.args.shift.now c.loop-spare.spares.items c.pop.new.self.items c.in-Some.spare c.args.named.now.items c.loop-spare.named.items c.len-index.result c.index_mut.result.now c.in-Some.ensures.items (omega (arith, c.len-index.ensures, c.pop.new.self.ok)) c.loop-spare.invariant.within c.loop-spare.invariant.moved c.index_mut.ensures.value) in
     subst (λ (t : TrackState). HasRoom c.in-Some.spare t 2) (sym l.here)
-      (last-room c.loop-spare.spares.items c.pop.new.self.items c.in-Some.spare c.args.named.now.items c.index_mut.result.now c.in-Some.ensures.items (omega (arith, l.many)) c.loop-spare.invariant.within c.loop-spare.invariant.rooms).1
+    (last-room c.loop-spare.spares.items c.pop.new.self.items c.in-Some.spare c.args.named.now.items c.index_mut.result.now c.in-Some.ensures.items (omega (arith, l.many)) c.loop-spare.invariant.within c.loop-spare.invariant.rooms).1
 
 pub loop-spare-preserved : goal.loop-spare-preserved
 loop-spare-preserved g c =
@@ -51,6 +59,12 @@ loop-spare-preserved g c =
       within = omega (arith, l.inside);
       least = omega (arith, c.loop-spare.invariant.least, c.shift_track.ensures.least);
       most =
-        omega (arith, c.loop-spare.invariant.most, c.shift_track.ensures.most, size-more c.args.named.now.items (length c.pop.new.self.items) c.index_mut.result.now l.inside, ap size_of l.here,
-          ap (λ (k : ℕ). sum_by size_of (drop k c.args.named.now.items)) l.many);
+          omega (
+            arith,
+            c.loop-spare.invariant.most,
+            c.shift_track.ensures.most,
+            size-more c.args.named.now.items (length c.pop.new.self.items) c.index_mut.result.now l.inside,
+            ap size_of l.here,
+            ap (λ (k : ℕ). sum_by size_of (drop k c.args.named.now.items)) l.many,
+          );
     }

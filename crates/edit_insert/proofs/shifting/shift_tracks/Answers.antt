@@ -2,7 +2,7 @@ use Rattle.std.proofs.Common.{◌≡◌, ◌≤◌, List, All, None, ap, sym, �
 use Rattle.composables.specs.declared.TheConstants.{MAX_FRAMES}
 use Rattle.composables.specs.declared.refusals.Refusal.TheVariants.{TooLong}
 use Rattle.composables.specs.TrackState.{TrackState}
-use Rattle.edit_insert.specs.Limits.{too_long}
+use Rattle.composables.specs.Limits.{too_long}
 use Rattle.edit_insert.specs.Moves.{all_moved, moved}
 use Rattle.edit_insert.proofs.Firsts.{short-all}
 use Rattle.edit_insert.proofs.shifting.shift_tracks.Goals as goal
@@ -10,9 +10,9 @@ use Rattle.edit_insert.proofs.shifting.shift_tracks.Goals as goal
 pub first_too_many-requires-clause-short : goal.first_too_many-requires-clause-short
 first_too_many-requires-clause-short g c =
     subst (λ (ts : List TrackState). All (λ (t : TrackState). length (moved c.args.shift.now t).cells ≤ MAX_FRAMES) ts) (c.deref.ensures.value ∙ sym c.deref-2.ensures.value)
-      (short-all c.args.shift.now c.deref.result.now (c.first_too_long.ensures ∙ ap (option_map TooLong) c.in-None.is))
+    (short-all c.args.shift.now c.deref.result.now (c.first_too_long.ensures ∙ ap (option_map TooLong) c.in-None.is))
 
 pub shift_all-requires-clause-short : goal.shift_all-requires-clause-short
 shift_all-requires-clause-short g c =
     subst (λ (ts : List TrackState). All (λ (t : TrackState). length (moved c.args.shift.now t).cells ≤ MAX_FRAMES) ts) c.deref.ensures.value
-      (short-all c.args.shift.now c.deref.result.now (c.first_too_long.ensures ∙ ap (option_map TooLong) c.in-None.is))
+    (short-all c.args.shift.now c.deref.result.now (c.first_too_long.ensures ∙ ap (option_map TooLong) c.in-None.is))

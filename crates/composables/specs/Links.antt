@@ -1,0 +1,93 @@
+-- Links of cells that are moved: each must have all of its tracks among the named, and is split where it has cells
+-- that stay.
+use Rattle.std.specs.Prelude.{ℕ, ◌+◌, Bool, ◌&&◌, ◌||◌, not, List, [], ◌∷◌, ◌++◌, Option, Some, None, map, take, drop, filter, nat_eq, nat_lt, if◌then◌else◌}
+use Rattle.std.specs.List.{flat_map, list_any}
+use Rattle.frame_meaning.specs.declared.cells.Cell.{Cell}
+use Rattle.frame_meaning.specs.declared.cells.Link.{Link}
+use Rattle.composables.specs.declared.refusals.Refusal.{Refusal}
+use Rattle.composables.specs.declared.refusals.Refusal.TheVariants.{LinkOutside}
+use Rattle.composables.specs.TrackState.{TrackState}
+use Rattle.composables.specs.TrackSets.{tracks_in}
+
+-- links are told apart, and ordered, by home and then number
+abbrev pub same_link : Link → Link → Bool
+same_link k l = nat_eq k.home l.home && nat_eq k.number l.number
+
+abbrev pub link_before : Link → Link → Bool
+link_before k l = nat_lt k.home l.home || (nat_eq k.home l.home && nat_lt k.number l.number)
+
+abbrev pub with_link : Link → List Link → List Link
+with_link l [] = l ∷ []
+with_link l (k ∷ ks) = if same_link l k then k ∷ ks else (if link_before l k then l ∷ k ∷ ks else k ∷ with_link l ks)
+
+abbrev pub with_link_of : Option Link → List Link → List Link
+with_link_of None ls = ls
+with_link_of (Some l) ls = with_link l ls
+
+-- the links of cells, in order and each once
+abbrev pub links_in : List Cell → List Link
+links_in [] = []
+links_in (c ∷ cs) = with_link_of c.link (links_in cs)
+
+-- the cells of these tracks from a place on, and before a place
+abbrev pub cells_from : ℕ → List TrackState → List Cell
+cells_from place tracks = flat_map (λ (t : TrackState). drop place t.cells) tracks
+
+abbrev pub cells_before : ℕ → List TrackState → List Cell
+cells_before place tracks = flat_map (λ (t : TrackState). take place t.cells) tracks
+
+abbrev pub is_named : List TrackState → ℕ → Bool
+is_named named n = list_any (λ (t : TrackState). nat_eq t.number n) named
+
+-- the first track of these that is not named
+abbrev pub first_unnamed : List TrackState → List ℕ → Option ℕ
+first_unnamed named [] = None
+first_unnamed named (n ∷ ns) = if is_named named n then first_unnamed named ns else Some n
+
+abbrev pub outside_or : Link → Option ℕ → Option Refusal → Option Refusal
+outside_or l None then_this = then_this
+outside_or l (Some n) then_this = Some (LinkOutside l.home l.number n)
+
+-- the first of these links that has a track which is not named, and its first such track
+abbrev pub link_outside : List TrackState → List Link → Option Refusal
+link_outside named [] = None
+link_outside named (l ∷ ls) = outside_or l (first_unnamed named (tracks_in l.tracks)) (link_outside named ls)
+
+-- the links that have cells both before x and from z on
+abbrev pub split_links : ℕ → ℕ → List TrackState → List Link
+split_links x z tracks = filter (λ (l : Link). list_any (same_link l) (links_in (cells_before x tracks))) (links_in (cells_from z tracks))
+
+-- the next link number of the track with this number
+abbrev pub next_link_at : ℕ → List TrackState → ℕ
+next_link_at home [] = 0
+next_link_at home (t ∷ ts) = if nat_eq t.number home then t.next_link else next_link_at home ts
+
+-- a cell of one link gets another
+abbrev pub relinked : Link → Link → Cell → Cell
+relinked old new c = by_link c.link where
+  by_link : Option Link → Cell
+  by_link None = c
+  by_link (Some l) = if same_link l old then record c { link = Some new } else c
+
+-- the cells of a link from z on take the next link number of its home
+abbrev pub link_split : ℕ → List TrackState → Link → List TrackState
+link_split z tracks l = map split tracks where
+  number : ℕ
+  number = next_link_at l.home tracks
+
+  next_of : TrackState → ℕ
+  next_of t = if nat_eq t.number l.home then number + 1 else t.next_link
+
+  split : TrackState → TrackState
+  split t = record t {
+    cells = take z t.cells ++ map (relinked l (record l { number = number })) (drop z t.cells);
+    next_link = next_of t;
+  }
+
+abbrev pub each_split : ℕ → List TrackState → List Link → List TrackState
+each_split z tracks [] = tracks
+each_split z tracks (l ∷ ls) = each_split z (link_split z tracks l) ls
+
+-- the tracks once the cells from z on are moved: each link that also has cells before x is split, in order
+abbrev pub links_split : ℕ → ℕ → List TrackState → List TrackState
+links_split x z tracks = each_split z tracks (split_links x z tracks)

@@ -1,0 +1,42 @@
+// What the program answers to its words.
+ghost use Rattle.std.specs.Prelude.{◌≡◌};
+ghost use Rattle.cut_server.specs.Outside.{outside};
+ghost use Rattle.cutroom.specs.Answers.{ProgramEnds, complaint_of};
+
+use crate::notice::Notice;
+use cut_server::cut_main;
+use line_words::Words;
+use room_ports::{Sink, Source};
+use std::alloc::Global;
+
+/// Answers `--help` and `--version` by the notice that they ask for, and does what other words ask for. It answers the
+/// status that the program ends with.
+pub fn answer<S: Source, K: Sink>(
+    alloc: Global,
+    words: &Words,
+    input: &mut S,
+    output: &mut K,
+) -> u8
+    ensures { ProgramEnds words.now
+        (outside (S.left input.old) (S.read_faults input.old) (K.taken output.old) (K.write_faults output.old))
+        (outside (S.left input.new) (S.read_faults input.new) (K.taken output.new) (K.write_faults output.new))
+        (input.new ≡ input.old) (output.new ≡ output.old) result }
+{
+    match Notice::asked_by(words) {
+        Some(notice) => notice.tell(output),
+        None => cut_main(alloc, words, input, output),
+    }
+}
+
+/// What is told on standard error of a fault that the status alone does not tell, or nothing.
+pub fn complaint(status: u8) -> &'static str
+    ensures { result.now ≡ complaint_of status }
+{
+    match status {
+        1 => "cutroom: standard input could not be read\n",
+        2 => "cutroom: standard output could not be written\n",
+        5 => "cutroom: the address could not be opened\n",
+        7 => "cutroom: the input has more than 64 MiB\n",
+        _ => "",
+    }
+}
