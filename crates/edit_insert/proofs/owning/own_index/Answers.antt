@@ -1,4 +1,4 @@
-use Rattle.std.proofs.Common.{◌≡◌, sym, ◌∙◌, ap}
+use Rattle.std.proofs.Common.{sym, ◌∙◌}
 use Rattle.edit_insert.proofs.Numbered.{numbered-here}
 use Rattle.edit_insert.proofs.owning.own_index.Goals as goal
 
