@@ -1,7 +1,6 @@
 -- A shift as it is meant, over the named tracks, and what the code does on each of them.
-use Rattle.std.proofs.Common.{◌≡◌, ◌≢◌, ℕ, zero, suc, ◌+◌, ◌-◌, ◌<◌, ◌≤◌, Bool, true, false, cond, eqb, ltb, List, [], ◌∷◌, ◌++◌, All, length, map, min, unwrap_or, Option, Some, None, Result, Ok, Err, refl, sym, ap, ◌∙◌, arith, subst, get_or, slice_get}
+use Rattle.std.proofs.Common.{◌≡◌, ◌≢◌, ℕ, zero, suc, ◌-◌, ◌<◌, ◌≤◌, Bool, true, false, cond, eqb, ltb, List, [], ◌∷◌, ◌++◌, All, length, map, min, unwrap_or, Option, Some, None, Result, Ok, Err, refl, sym, ap, ◌∙◌, arith, subst}
 use Rattle.std.proofs.lemmas.Bool.{eq-eqb, eqb-true}
-use Rattle.std.proofs.lemmas.List.{append-nil}
 use Rattle.std.proofs.lemmas.List.Elements.{All-cons}
 use Rattle.composables.specs.declared.items.ItemView.{ItemView}
 use Rattle.composables.specs.declared.media.Table.{Table}
@@ -10,14 +9,13 @@ use Rattle.composables.specs.declared.refusals.EditFault.{EditFault}
 use Rattle.composables.specs.declared.refusals.EditFault.TheVariants.{Refused, Memory}
 use Rattle.composables.specs.declared.refusals.Refusal.{Refusal}
 use Rattle.composables.specs.declared.TheConstants.{MAX_FRAMES, MAX_ITEMS}
-use Rattle.composables.specs.Good.{AllUnlinked, IsGood}
+use Rattle.composables.specs.Good.{IsGood}
 use Rattle.composables.specs.Items.{items_of}
 use Rattle.composables.specs.Joined.{frames_in}
 use Rattle.composables.specs.Roomy.{IsRoomy}
 use Rattle.composables.specs.TrackFacts.{IsKept}
 use Rattle.composables.specs.TrackState.{TrackState}
 use Rattle.composables.specs.Views.{gap_views}
-use Rattle.edit_splice.specs.Laws.{IsWithinLimits}
 use Rattle.edit_splice.specs.Splicing.{spliced_track}
 use Rattle.edit_insert.specs.declared.shifting.Shift.{Shift}
 use Rattle.composables.specs.Answers.{Answers, unless}
@@ -26,12 +24,12 @@ use Rattle.edit_insert.specs.Moves.{IsShiftOf, all_moved, moved, put_views}
 use Rattle.composables.specs.OwnTracks.{for_own, track_numbered, with_track}
 use Rattle.edit_insert.specs.PutIn.{new_len, new_views, padded_track}
 use Rattle.edit_splice.specs.Shifts.{shifted, shifted_along, shifted_track}
-use Rattle.edit_insert.specs.Standing.{EachStaysGood, StaysGood}
+use Rattle.edit_insert.specs.Standing.{EachStaysGood}
 use Rattle.composables.specs.TrackSets.{has_track, tracks_from, tracks_in}
 use Rattle.edit_insert.proofs.Firsts.{few-all, short-all}
 use Rattle.edit_insert.proofs.Moving.{put-own, put-other}
 use Rattle.edit_insert.proofs.Padding.{padded-put, padded-reaches}
-use Rattle.edit_insert.proofs.Put.{PutIn, put-gap, put-only}
+use Rattle.edit_insert.proofs.Put.{PutIn, put-gap}
 use Rattle.edit_insert.proofs.Standing.{all_head, all_none, all_tail, each-self, stays-spliced}
 
 -- numbers that rise

@@ -1,19 +1,16 @@
 -- Insert and extract as they are meant, and as shifts of all named tracks.
-use Rattle.std.proofs.Common.{◌≡◌, ◌≢◌, ℕ, zero, suc, ◌+◌, ◌-◌, ◌<◌, ◌≤◌, Bool, true, false, cond, eqb, ◌||◌, List, [], ◌∷◌, ◌++◌, All, length, map, min, Option, Some, None, Result, Ok, Err, refl, sym, ap, ◌∙◌, arith, subst, get_or, slice_get, nat_eq}
+use Rattle.std.proofs.Common.{◌≡◌, ℕ, ◌-◌, ◌<◌, ◌≤◌, Bool, true, false, cond, eqb, ◌||◌, List, [], ◌∷◌, ◌++◌, All, length, map, Option, Some, None, Err, refl, sym, ap, ◌∙◌, arith, subst, get_or, slice_get, nat_eq}
 use Rattle.std.specs.List.{list_any}
 use Rattle.std.proofs.lemmas.Bool.{eq-eqb, eqb-true}
 use Rattle.std.proofs.lemmas.Option.{slice_get-get_or, slice_get_read}
-use Rattle.frame_meaning.specs.declared.cells.What.{What}
 use Rattle.composables.specs.declared.calls.Extract.{Extract}
 use Rattle.composables.specs.declared.calls.Insert.{Insert}
 use Rattle.composables.specs.declared.items.ItemView.{ItemView}
 use Rattle.composables.specs.declared.media.Table.{Table}
-use Rattle.composables.specs.declared.refusals.Done.{Done}
 use Rattle.composables.specs.declared.refusals.Done.TheVariants.{Item, Plain}
 use Rattle.composables.specs.declared.refusals.Refusal.{Refusal}
 use Rattle.composables.specs.declared.refusals.Refusal.TheVariants.{NoItem}
-use Rattle.composables.specs.Good.{AllUnlinked, IsGood}
-use Rattle.composables.specs.Items.{items_of}
+use Rattle.composables.specs.Good.{IsGood}
 use Rattle.composables.specs.Ranges.{range_of}
 use Rattle.composables.specs.Roomy.{IsRoomy}
 use Rattle.composables.specs.TrackFacts.{IsKept}
@@ -32,7 +29,7 @@ use Rattle.composables.specs.TrackSets.{tracks_in}
 use Rattle.edit_insert.proofs.Bridging.{Rise, extract-moved, for-found, insert-moved, is-numbered, is-shift, only-one, put-shift, tracks-rise}
 use Rattle.edit_insert.proofs.Put.{Clip, PutIn, put-clip, put-only}
 use Rattle.edit_insert.proofs.Removals.{range-within}
-use Rattle.edit_insert.proofs.Unlinked.{Bare, bare-good, bare-numbered, bare-padded, shift-free}
+use Rattle.edit_insert.proofs.Unlinked.{Bare, bare-numbered, bare-padded, shift-free}
 
 abbrev pub no_track : TrackState
 no_track = record { number = 0; cells = []; next_item = 0; next_link = 0 }

@@ -1,8 +1,7 @@
 -- Tracks within their limits.
-use Rattle.std.proofs.Common.{◌≡◌, ℕ, ◌≤◌, ◌<◌, Bool, true, false, cond, ltb, List, [], ◌∷◌, length, Option, Some, None, Result, Ok, Err, refl, sym, ap, ◌∙◌, arith}
+use Rattle.std.proofs.Common.{◌≡◌, ◌≤◌, ◌<◌, Bool, true, false, cond, ltb, length, Some, None, Ok, Err, refl, ap, ◌∙◌, arith}
 use Rattle.std.proofs.lemmas.Bool.{ltb-false, le-ltb, lt-ltb}
 use Rattle.composables.specs.declared.refusals.Done.{Done}
-use Rattle.composables.specs.declared.refusals.Refusal.{Refusal}
 use Rattle.composables.specs.declared.refusals.Refusal.TheVariants.{TooLong, TooManyItems}
 use Rattle.composables.specs.declared.TheConstants.{MAX_FRAMES, MAX_ITEMS}
 use Rattle.composables.specs.Items.{items_of}

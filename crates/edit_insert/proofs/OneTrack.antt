@@ -1,5 +1,5 @@
 -- A call on one track, which is the only one named.
-use Rattle.std.proofs.Common.{◌≡◌, ℕ, zero, suc, Bool, true, false, cond, eqb, List, [], ◌∷◌, All, ◌<◌, length, map, set, Option, Some, None, Result, Ok, Err, refl, sym, ap, ◌∙◌, arith, subst, get_or}
+use Rattle.std.proofs.Common.{◌≡◌, ℕ, List, [], ◌∷◌, All, map, set, Result, Ok, Err, refl, sym, ap, ◌∙◌, arith, subst, get_or}
 use Rattle.std.proofs.lemmas.Bool.{eq-eqb}
 use Rattle.composables.specs.declared.media.Table.{Table}
 use Rattle.composables.specs.declared.refusals.Done.{Done}
@@ -7,8 +7,8 @@ use Rattle.composables.specs.declared.refusals.EditFault.{EditFault}
 use Rattle.composables.specs.declared.refusals.EditFault.TheVariants.{Refused, Memory}
 use Rattle.composables.specs.declared.refusals.Refusal.{Refusal}
 use Rattle.composables.specs.TrackState.{TrackState}
-use Rattle.composables.specs.Answers.{Answers, Applied}
-use Rattle.composables.specs.OwnTracks.{among_named, on_own, track_numbered}
+use Rattle.composables.specs.Answers.{Answers}
+use Rattle.composables.specs.OwnTracks.{among_named, on_own}
 use Rattle.edit_insert.specs.Standing.{StaysGood, EachStaysGood}
 
 -- it is found

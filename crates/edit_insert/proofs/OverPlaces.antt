@@ -1,21 +1,17 @@
 -- An overwrite is a splice of the track itself.
-use Rattle.std.proofs.Common.{◌≡◌, ℕ, ◌+◌, ◌-◌, ◌≤◌, ◌<◌, ◌++◌, List, [], ◌∷◌, length, min, Option, Some, None, Result, Err, refl, sym, ap, ◌∙◌, arith, subst}
+use Rattle.std.proofs.Common.{◌≡◌, ℕ, ◌+◌, ◌-◌, ◌++◌, List, [], ◌∷◌, length, min, Option, Some, None, Err, sym, ap, ◌∙◌, arith}
 use Rattle.frame_meaning.specs.declared.cells.What.{What}
 use Rattle.composables.specs.declared.calls.Overwrite.{Overwrite}
 use Rattle.composables.specs.declared.media.Table.{Table}
 use Rattle.composables.specs.declared.refusals.Done.TheVariants.{Item}
 use Rattle.composables.specs.declared.items.ItemView.{ItemView}
-use Rattle.composables.specs.declared.refusals.Done.{Done}
-use Rattle.composables.specs.declared.refusals.EditFault.{EditFault}
 use Rattle.composables.specs.declared.refusals.Refusal.{Refusal}
-use Rattle.composables.specs.Good.{IsGood}
-use Rattle.composables.specs.Joined.{frames_in}
 use Rattle.composables.specs.TrackFacts.{IsKept}
 use Rattle.composables.specs.TrackState.{TrackState}
 use Rattle.composables.specs.Views.{clip_view, gap_views}
 use Rattle.edit_splice.specs.Splicing.{spliced_track}
 use Rattle.edit_splice.proofs.Outcomes.{length-spliced_track}
-use Rattle.composables.specs.Answers.{Answers, unless}
+use Rattle.composables.specs.Answers.{unless}
 use Rattle.edit_insert.specs.Edits.{overwrite_track, overwritten}
 use Rattle.composables.specs.Limits.{track_within_limits}
 use Rattle.edit_insert.specs.PutIn.{new_views}

@@ -1,5 +1,5 @@
 -- A splice of a track that was made longer by dark frames is one of the track itself that puts these in too.
-use Rattle.std.proofs.Common.{◌≡◌, ℕ, zero, suc, ◌+◌, ◌-◌, ◌<◌, ◌≤◌, Bool, true, false, cond, eqb, leb, ltb, ◌&&◌, List, [], ◌∷◌, ◌++◌, length, map, min, Option, Some, None, refl, sym, ap, ◌∙◌, arith, subst, take, drop, append_assoc, length-append}
+use Rattle.std.proofs.Common.{◌≡◌, ℕ, ◌+◌, ◌-◌, ◌<◌, ◌≤◌, Bool, true, false, cond, eqb, leb, ltb, ◌&&◌, List, [], ◌∷◌, ◌++◌, length, map, min, None, refl, sym, ap, ◌∙◌, arith, subst, drop, append_assoc, length-append}
 use Rattle.std.proofs.lemmas.List.{take_all, drop_all, append-nil}
 use Rattle.std.proofs.lemmas.Bool.{eqb-true, le-ltb, leb-true, leb-false}
 use Rattle.frame_meaning.specs.declared.cells.Cell.{Cell}

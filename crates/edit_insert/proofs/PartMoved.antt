@@ -1,13 +1,13 @@
 -- The tracks while they are moved, the last first: all but the first k are.
-use Rattle.std.proofs.Common.{◌≡◌, ℕ, zero, suc, ◌+◌, ◌*◌, ◌<◌, ◌≤◌, List, [], ◌∷◌, ◌++◌, drop, take, length, set, get_or, sum_by, length-append, refl, sym, ap, ◌∙◌, arith, subst}
-use Rattle.std.proofs.lemmas.List.{length-take, take_all, take_more}
+use Rattle.std.proofs.Common.{◌≡◌, ℕ, zero, suc, ◌+◌, ◌<◌, ◌≤◌, List, [], ◌∷◌, ◌++◌, drop, take, length, set, get_or, sum_by, length-append, refl, ap, ◌∙◌, arith, subst}
+use Rattle.std.proofs.lemmas.List.{length-take, take_more}
 use Rattle.std.proofs.lemmas.List.Sums.{sum_by-take-drop, sum_by_more}
 use Rattle.composables.specs.SpareState.{SpareState}
 use Rattle.composables.specs.TrackState.{TrackState}
 use Rattle.edit_splice.specs.Splicing.{HasRoom}
 use Rattle.edit_insert.specs.declared.shifting.Shift.{Shift}
 use Rattle.edit_insert.specs.Moves.{HasRooms, all_moved, moved}
-use Rattle.edit_insert.proofs.Firsts.{rooms-less, rooms-many}
+use Rattle.edit_insert.proofs.Firsts.{rooms-less}
 use Rattle.edit_insert.proofs.Sizes.{size_of}
 
 abbrev pub part_moved : Shift → ℕ → List TrackState → List TrackState

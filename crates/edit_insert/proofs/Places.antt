@@ -1,10 +1,7 @@
 -- Where an item stands lies on its track.
-use Rattle.std.proofs.Common.{◌≡◌, ℕ, ◌+◌, ◌<◌, ◌≤◌, length, take, sym, ap, ◌∙◌, arith}
-use Rattle.frame_meaning.specs.declared.cells.Cell.{Cell}
-use Rattle.composables.specs.declared.items.ItemView.{ItemView}
+use Rattle.std.proofs.Common.{◌≡◌, ◌+◌, ◌≤◌, length, ap, arith}
 use Rattle.composables.specs.declared.items.Place.{Place}
 use Rattle.composables.specs.Items.{cells_of, items_of}
-use Rattle.composables.specs.Joined.{frames_in}
 use Rattle.composables.specs.Places.{IsPlaceOf}
 use Rattle.composables.specs.TrackFacts.{IsKept}
 use Rattle.composables.specs.TrackState.{TrackState}

@@ -1,17 +1,17 @@
 -- A gap and a new item may be put into any track.
-use Rattle.std.proofs.Common.{◌≡◌, ◌≢◌, ℕ, zero, suc, ◌+◌, ◌<◌, ◌≤◌, ◌^◌, Bool, true, false, cond, eqb, List, [], ◌∷◌, ◌++◌, length, Option, Some, None, IfSome, refl, sym, ap, ◌∙◌, arith, subst}
+use Rattle.std.proofs.Common.{◌≡◌, ◌≢◌, ℕ, ◌+◌, ◌<◌, ◌≤◌, ◌^◌, Bool, true, false, cond, eqb, List, [], ◌∷◌, ◌++◌, length, Some, None, refl, sym, arith, subst}
 use Rattle.std.proofs.lemmas.Bool.{eqb-false}
 use Rattle.std.proofs.lemmas.List.{append-nil}
 use Rattle.frame_meaning.specs.declared.cells.What.{What}
 use Rattle.composables.specs.declared.items.ItemView.{ItemView}
 use Rattle.composables.specs.declared.media.Table.{Table}
 use Rattle.composables.specs.Bounds.{bounds_of}
-use Rattle.composables.specs.Good.{AllUnlinked, EachLiesIn, LiesIn}
+use Rattle.composables.specs.Good.{AllUnlinked, LiesIn}
 use Rattle.composables.specs.Joined.{AllFilled}
 use Rattle.composables.specs.TrackFacts.{Holds, NumbersBelow}
 use Rattle.composables.specs.TrackState.{TrackState}
 use Rattle.composables.specs.Views.{clip_view, gap_view, gap_views}
-use Rattle.edit_splice.specs.NewItems.{AreNew, AreNewFor}
+use Rattle.edit_splice.specs.NewItems.{AreNewFor}
 use Rattle.edit_insert.specs.PutIn.{new_views}
 
 -- a new item holds its source frames

@@ -1,5 +1,5 @@
 -- What a remove and a slice leave of the facts on a track.
-use Rattle.std.proofs.Common.{◌≡◌, ℕ, zero, suc, ◌+◌, ◌-◌, ◌<◌, ◌≤◌, Bool, true, false, cond, ltb, List, [], ◌∷◌, length, Option, Some, None, Result, Ok, Err, refl, sym, ap, ◌∙◌, arith, subst}
+use Rattle.std.proofs.Common.{◌≡◌, ℕ, ◌+◌, ◌-◌, ◌≤◌, Bool, true, false, cond, ltb, List, [], ◌∷◌, length, Option, Some, None, Result, Err, refl, ap, arith}
 use Rattle.std.proofs.lemmas.Bool.{ltb-true}
 use Rattle.frame_meaning.specs.Cells.{same_number}
 use Rattle.composables.specs.declared.calls.Remove.{Remove}
@@ -9,7 +9,6 @@ use Rattle.composables.specs.declared.media.Table.{Table}
 use Rattle.composables.specs.declared.refusals.Done.{Done}
 use Rattle.composables.specs.declared.refusals.Done.TheVariants.{Plain}
 use Rattle.composables.specs.declared.refusals.EditFault.{EditFault}
-use Rattle.composables.specs.declared.refusals.Refusal.{Refusal}
 use Rattle.composables.specs.declared.refusals.Refusal.TheVariants.{NoItem}
 use Rattle.composables.specs.Good.{IsGood}
 use Rattle.composables.specs.Items.{cells_of, items_of}

@@ -1,5 +1,5 @@
 -- Source frames that are not refused lie in their thing's range.
-use Rattle.std.proofs.Common.{◌≡◌, ◌≢◌, ℕ, ◌+◌, ◌<◌, ◌≤◌, ◌^◌, Bool, true, false, cond, eqb, leb, ◌&&◌, Option, Some, None, IfNone, refl, sym, ap, ◌∙◌, arith, slice_get}
+use Rattle.std.proofs.Common.{◌≡◌, ℕ, ◌+◌, ◌<◌, ◌≤◌, ◌^◌, Bool, true, false, cond, eqb, leb, ◌&&◌, Option, Some, None, refl, arith, slice_get}
 use Rattle.std.proofs.lemmas.Bool.{leb-true}
 use Rattle.frame_meaning.specs.declared.cells.What.{What}
 use Rattle.composables.specs.declared.media.Table.{Table}

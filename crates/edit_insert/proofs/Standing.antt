@@ -1,5 +1,5 @@
 -- What an edit leaves of the facts on its tracks.
-use Rattle.std.proofs.Common.{◌≡◌, ℕ, zero, suc, ◌+◌, ◌-◌, ◌<◌, ◌≤◌, ◌^◌, List, [], ◌∷◌, ◌++◌, All, length, map, min, Option, Some, None, Result, Ok, Err, refl, sym, ap, ◌∙◌, arith, subst, get_or}
+use Rattle.std.proofs.Common.{◌≡◌, ℕ, suc, ◌+◌, ◌≤◌, List, [], ◌∷◌, All, length, map, Result, Ok, Err, refl, sym, ap, ◌∙◌, arith, subst}
 use Rattle.std.proofs.lemmas.List.Elements.{All-cons}
 use Rattle.composables.specs.declared.items.ItemView.{ItemView}
 use Rattle.composables.specs.declared.media.Table.{Table}
@@ -9,7 +9,6 @@ use Rattle.composables.specs.declared.refusals.EditFault.TheVariants.{Refused, M
 use Rattle.composables.specs.declared.refusals.Refusal.{Refusal}
 use Rattle.composables.specs.Good.{AllUnlinked, IsGood}
 use Rattle.composables.specs.Items.{items_of}
-use Rattle.composables.specs.Roomy.{IsRoomy}
 use Rattle.composables.specs.TrackState.{TrackState}
 use Rattle.edit_splice.specs.Laws.{IsWithinLimits}
 use Rattle.edit_splice.specs.Splicing.{spliced_track}

@@ -1,5 +1,5 @@
 -- Three tracks without frames, and their numbers, for the tests.
-use Rattle.std.proofs.Common.{◌≡◌, ℕ, zero, suc, ◌+◌, ◌<◌, ◌≤◌, true, false, Bool, eqb, List, [], ◌∷◌, ◌++◌, All, length, map, refl, sym, ap, ◌∙◌, arith, subst, get_or, nat_eq, leb}
+use Rattle.std.proofs.Common.{◌≡◌, ℕ, zero, suc, ◌+◌, ◌<◌, true, false, Bool, eqb, List, [], ◌∷◌, ◌++◌, All, length, map, refl, sym, ap, ◌∙◌, arith, subst, get_or, nat_eq}
 use Rattle.std.specs.List.{list_any}
 use Rattle.std.proofs.lemmas.Bool.{eqb-true, eqb-false}
 use Rattle.std.proofs.lemmas.List.{get_or_default}
@@ -8,7 +8,7 @@ use Rattle.composables.specs.declared.media.Table.{Table}
 use Rattle.composables.specs.Good.{IsGood}
 use Rattle.composables.specs.Roomy.{IsRoomy}
 use Rattle.composables.specs.TrackState.{TrackState}
-use Rattle.edit_insert.specs.TrackSets.{tracks_in}
+use Rattle.composables.specs.TrackSets.{tracks_in}
 use Rattle.edit_insert.proofs.Standing.{all_none}
 
 abbrev pub empty_track : ℕ → TrackState

@@ -1,6 +1,6 @@
 -- Tracks without links have none that an edit splits or refuses.
-use Rattle.std.proofs.Common.{◌≡◌, ℕ, zero, suc, ◌+◌, ◌-◌, Bool, true, false, cond, eqb, ltb, min, unwrap_or, List, [], ◌∷◌, ◌++◌, All, map, take, drop, filter, length, Option, Some, None, refl, sym, ap, ◌∙◌, arith, subst}
-use Rattle.std.specs.List.{flat_map, list_any}
+use Rattle.std.proofs.Common.{◌≡◌, ℕ, zero, suc, ◌+◌, ◌-◌, Bool, true, false, cond, eqb, ltb, min, unwrap_or, List, [], ◌∷◌, ◌++◌, All, map, take, drop, filter, length, Option, Some, None, refl, ap, ◌∙◌, arith, subst}
+use Rattle.std.specs.List.{list_any}
 use Rattle.frame_meaning.specs.declared.cells.Cell.{Cell}
 use Rattle.frame_meaning.specs.declared.cells.Link.{Link}
 use Rattle.frame_meaning.specs.declared.cells.What.{What}

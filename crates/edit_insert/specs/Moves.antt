@@ -1,6 +1,6 @@
 -- What a shift does on one track, of which it puts in place of the places [x, y), as far as the track has them, what
 -- is new to it.
-use Rattle.std.specs.Prelude.{ℕ, ◌+◌, ◌-◌, ◌≤◌, List, [], ◌∷◌, ◌++◌, Option, Some, None, map, min, nat_eq, nat_lt, length, if◌then◌else◌}
+use Rattle.std.specs.Prelude.{◌+◌, ◌-◌, ◌≤◌, List, [], ◌∷◌, ◌++◌, map, min, nat_eq, nat_lt, length, if◌then◌else◌}
 use Rattle.composables.specs.declared.items.ItemView.{ItemView}
 use Rattle.composables.specs.TrackState.{TrackState}
 use Rattle.composables.specs.declared.TheConstants.{MAX_FRAMES}

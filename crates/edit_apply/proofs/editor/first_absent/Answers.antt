@@ -1,4 +1,4 @@
-use Rattle.std.proofs.Common.{◌≡◌, ap, sym, ◌∙◌, arith}
+use Rattle.std.proofs.Common.{ap, sym, ◌∙◌, arith}
 use Rattle.edit_apply.specs.Apply.{first_absent}
 use Rattle.edit_apply.proofs.Sets.{at_start, passed, found, at_end}
 use Rattle.edit_apply.proofs.editor.first_absent.Goals as goal

@@ -1,5 +1,4 @@
-use Rattle.std.proofs.Common.{sym, ◌∙◌, arith, nat_lt, ◌≡◌, ◌≤◌, ℕ, false}
-use Rattle.std.proofs.lemmas.Bool.{ltb-false}
+use Rattle.std.proofs.Common.{sym, ◌∙◌, arith, nat_lt, ◌≡◌, false}
 use Rattle.edit_apply.proofs.Sets.{of_set, of_none}
 use Rattle.edit_apply.proofs.editor.is_among.Goals as goal
 

@@ -1,6 +1,5 @@
-use Rattle.std.proofs.Common.{◌≡◌, ℕ, List, refl, sym, ap, ◌∙◌, arith, None, length}
+use Rattle.std.proofs.Common.{◌≡◌, sym, ap, ◌∙◌, arith, None, length}
 use Rattle.std.proofs.lemmas.List.Sums.{get_or-le-sum_by}
-use Rattle.composables.specs.TrackState.{TrackState}
 use Rattle.composables.specs.OwnTracks.{track_numbered}
 use Rattle.edit_insert.proofs.Inserts.{named-found, no_track}
 use Rattle.edit_insert.proofs.Sizes.{size_of}

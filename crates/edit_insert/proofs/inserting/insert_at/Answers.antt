@@ -1,14 +1,12 @@
-use Rattle.std.proofs.Common.{◌≡◌, ℕ, List, All, Option, Some, None, Result, refl, sym, ap, ◌∙◌, arith, subst, option_map, length, map, get_or, slice_get}
+use Rattle.std.proofs.Common.{List, Result, refl, sym, ◌∙◌, arith, subst, get_or}
 use Rattle.composables.specs.declared.refusals.Done.{Done}
-use Rattle.composables.specs.declared.refusals.Done.TheVariants.{Item, Plain}
+use Rattle.composables.specs.declared.refusals.Done.TheVariants.{Item}
 use Rattle.composables.specs.declared.refusals.Refusal.{Refusal}
 use Rattle.composables.specs.Good.{IsGood}
-use Rattle.composables.specs.Ranges.{range_of}
 use Rattle.composables.specs.TrackState.{TrackState}
 use Rattle.composables.specs.Answers.{Answers}
-use Rattle.edit_insert.specs.Sources.{source_refusal}
 use Rattle.edit_insert.proofs.Bridging.{each-shift}
-use Rattle.edit_insert.proofs.Inserts.{IsOwn, all-shifts, extract-found, extract-missing, extract-put, insert-allowed, insert-put, insert-refused, is-own, no_track, own-here, own-there, shift_at, shift_out}
+use Rattle.edit_insert.proofs.Inserts.{all-shifts, insert-allowed, insert-put, insert-refused, is-own, no_track, own-here, own-there, shift_at}
 use Rattle.edit_insert.proofs.SourceRanges.{source-clip}
 use Rattle.edit_insert.proofs.Standing.{each-self}
 use Rattle.edit_insert.proofs.Unlinked.{bare-good}

@@ -1,4 +1,4 @@
-use Rattle.std.proofs.Common.{◌≡◌, ◌≢◌, ℕ, ◌+◌, ◌-◌, ◌<◌, ◌≤◌, length, ap, sym, ◌∙◌, arith, refl, None, Some, Err, Result, List, ◌++◌, subst, min}
+use Rattle.std.proofs.Common.{◌≡◌, ℕ, length, ap, sym, ◌∙◌, arith, refl, None, Some, Err, Result, ◌++◌, subst}
 use Rattle.composables.specs.declared.refusals.Refusal.TheVariants.{TooLong}
 use Rattle.composables.specs.declared.refusals.Done.TheVariants.{Item}
 use Rattle.composables.specs.declared.items.ItemView.{ItemView}

@@ -1,4 +1,4 @@
-use Rattle.std.proofs.Common.{◌≡◌, ◌+◌, ◌-◌, ◌<◌, ◌≤◌, length, ap, sym, ◌∙◌, arith, None}
+use Rattle.std.proofs.Common.{◌-◌, ap, ◌∙◌, arith, None}
 use Rattle.composables.specs.Joined.{frames_in}
 use Rattle.edit_insert.proofs.Moving.{frames-put}
 use Rattle.edit_insert.proofs.Places.{place-order, place-within}

@@ -1,5 +1,4 @@
-use Rattle.std.proofs.Common.{◌≡◌, ◌+◌, ◌*◌, ◌≤◌, drop, take, sum_by, length}
-use Rattle.composables.specs.Items.{items_of}
+use Rattle.std.proofs.Common.{◌≡◌, ◌+◌, ◌*◌, ◌≤◌, drop, take, sum_by}
 use Rattle.composables.specs.Limits.{too_many}
 use Rattle.edit_insert.specs.Moves.{all_moved}
 use Rattle.edit_insert.proofs.Sizes.{size_of}

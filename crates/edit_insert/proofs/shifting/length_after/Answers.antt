@@ -1,4 +1,4 @@
-use Rattle.std.proofs.Common.{◌≡◌, ◌≢◌, ◌+◌, ◌-◌, ◌<◌, ◌≤◌, length, ap, sym, ◌∙◌, arith}
+use Rattle.std.proofs.Common.{sym, ◌∙◌, arith}
 use Rattle.edit_insert.proofs.Moving.{length-own, length-along, length-none}
 use Rattle.edit_insert.proofs.shifting.length_after.Goals as goal
 

@@ -1,12 +1,11 @@
-use Rattle.std.proofs.Common.{◌≡◌, ◌≤◌, ◌+◌, ◌*◌, ℕ, ap, sym, ◌∙◌, arith, subst, length, take, drop, get_or, sum_by}
+use Rattle.std.proofs.Common.{◌≡◌, ◌≤◌, ℕ, ap, sym, arith, subst, length, drop, sum_by}
 use Rattle.std.proofs.lemmas.List.{take_all}
 use Rattle.composables.specs.TrackState.{TrackState}
-use Rattle.composables.specs.SpareState.{SpareState}
 use Rattle.composables.specs.declared.TheConstants.{MAX_FRAMES}
 use Rattle.edit_splice.specs.Splicing.{HasRoom}
 use Rattle.edit_insert.specs.Moves.{HasRooms, IsShiftOf, moved}
 use Rattle.edit_insert.proofs.Firsts.{rooms-many}
-use Rattle.edit_insert.proofs.PartMoved.{Last, last, last-moved, last-room, many-popped, part-all, part-length, size-more}
+use Rattle.edit_insert.proofs.PartMoved.{last, last-moved, last-room, many-popped, part-all, part-length, size-more}
 use Rattle.edit_insert.proofs.Sizes.{size_of}
 use Rattle.edit_insert.proofs.shifting.shift_all.Goals as goal
 

@@ -1,4 +1,4 @@
-use Rattle.std.proofs.Common.{◌≡◌, ◌≤◌, ◌∙◌, arith, length, min}
+use Rattle.std.proofs.Common.{◌∙◌, arith}
 use Rattle.edit_insert.proofs.Moving.{kept-put}
 use Rattle.edit_insert.proofs.shifting.shift_track.Goals as goal
 

@@ -1,9 +1,8 @@
-use Rattle.std.proofs.Common.{◌≡◌, ◌≤◌, List, All, None, ap, sym, ◌∙◌, option_map, subst, length}
+use Rattle.std.proofs.Common.{◌≤◌, List, All, ap, sym, ◌∙◌, option_map, subst, length}
 use Rattle.composables.specs.declared.TheConstants.{MAX_FRAMES}
 use Rattle.composables.specs.declared.refusals.Refusal.TheVariants.{TooLong}
 use Rattle.composables.specs.TrackState.{TrackState}
-use Rattle.composables.specs.Limits.{too_long}
-use Rattle.edit_insert.specs.Moves.{all_moved, moved}
+use Rattle.edit_insert.specs.Moves.{moved}
 use Rattle.edit_insert.proofs.Firsts.{short-all}
 use Rattle.edit_insert.proofs.shifting.shift_tracks.Goals as goal
 

@@ -1,4 +1,4 @@
-use Rattle.std.proofs.Common.{arith, ℕ, ◌<◌, ◌≤◌, ◌≡◌}
+use Rattle.std.proofs.Common.{arith}
 use Rattle.edit_insert.proofs.TestTracks.{one-more}
 use Rattle.edit_insert.proofs.tests.all_roomy.Goals as goal
 

@@ -1,4 +1,3 @@
-use Rattle.std.proofs.Common.{◌≡◌, List}
 use Rattle.edit_insert.proofs.TestTracks.{three-are, three-good, three-numbers}
 use Rattle.edit_insert.proofs.tests.play_three.Goals as goal
 
