@@ -279,11 +279,11 @@ fn a_journal_has_a_limit(rt: HostRuntime) -> Result<(), Fail> {
     lines.extend_from_slice(b"overwrite 0 0 @1 0 1\npoint\n")?;
     let (status, output) = ended(alloc, &["run", "1", "1"], &[&lines], &[], &[])?;
     assert_eq!(rt; status, 0);
-    // The replies `ok N item N` to the first 100,000 lines are 1,877,780 bytes.
+    // The replies `ok N item N` to the first 100,000 lines are 1,977,780 bytes.
     let wanted =
         b"ok 99999 item 99999\nno 100000 E15\nno 100000 E3\npoint 100000\njournal 100000\n0 1 overwrite 0 0 @0 0 1\n";
-    assert!(rt; output.len() > 1_877_760);
-    let (_, last) = output.as_slice().split_at(1_877_760);
+    assert!(rt; output.len() > 1_977_760);
+    let (_, last) = output.as_slice().split_at(1_977_760);
     assert!(rt; last.starts_with(wanted.as_slice()));
     Ok(())
 }
