@@ -1,10 +1,10 @@
 -- Frames of items and gaps that are put one after another.
-use Rattle.std.proofs.Common.{◌≡◌, ℕ, zero, suc, ◌+◌, ◌<◌, ◌≤◌, Bool, true, false, cond, List, [], ◌∷◌, ◌++◌, length, None, refl, sym, ap, ◌∙◌, arith, take, drop, get_or, add-one}
+use Rattle.std.proofs.Common.{◌≡◌, ℕ, zero, suc, ◌+◌, ◌<◌, ◌≤◌, Bool, true, false, cond, List, [], ◌∷◌, ◌++◌, length, None, refl, sym, ap, ◌∙◌, arith, take, drop, get_or, add-one, ◌-◌}
 use Rattle.std.proofs.Math.ListN.{set}
 use Rattle.frame_meaning.specs.Cells.{same_number}
 use Rattle.frame_meaning.specs.declared.frames.Side.TheVariants.{Dark}
 use Rattle.composables.specs.declared.items.ItemView.{ItemView}
-use Rattle.composables.specs.Joined.{with_view, push_view, frames_in}
+use Rattle.composables.specs.Joined.{with_view, joined, push_view, frames_in}
 
 pub frames_in-append : (xs ys : List ItemView) → frames_in (xs ++ ys) ≡ frames_in xs + frames_in ys
 frames_in-append [] ys = omega arith
@@ -32,6 +32,32 @@ pub drop_at : (xs : List ItemView) (i : ℕ) (d : ItemView) → i < length xs �
 drop_at [] i d h = absurd (omega arith)
 drop_at (x ∷ xs) zero d h = refl
 drop_at (x ∷ xs) (suc i) d h = drop_at xs i d (omega arith)
+
+frames_in-split : (n : ℕ) (xs : List ItemView) → frames_in (take n xs) + frames_in (drop n xs) ≡ frames_in xs
+frames_in-split zero xs = omega arith
+frames_in-split (suc n) [] = omega arith
+frames_in-split (suc n) (x ∷ xs) = omega (arith, frames_in-split n xs)
+
+-- those before an index, those up to another, and those from there on
+pub frames_in-between : (from to : ℕ) (xs : List ItemView) → from ≤ to
+    → frames_in (take from xs) + frames_in (take (to - from) (drop from xs)) + frames_in (drop to xs) ≡ frames_in xs
+frames_in-between zero to xs h = let e : to - 0 ≡ to = omega arith in rw e (omega (arith, frames_in-split to xs))
+frames_in-between (suc f) zero xs h = absurd (omega (arith, h))
+frames_in-between (suc f) (suc t) [] h = omega (arith, frames_in-take_le (suc t - suc f) [])
+frames_in-between (suc f) (suc t) (x ∷ xs) h =
+    let e : suc t - suc f ≡ t - f = omega arith in
+    rw e (omega (arith, frames_in-between f t xs (omega (arith, h))))
+
+frames_in-onto : (r : ItemView) (vs : List ItemView) → frames_in (with_view r vs) ≡ r.len + frames_in vs
+frames_in-onto r [] = omega arith
+frames_in-onto r (v ∷ vs) = by_test (same_number r.item v.item) where
+  by_test : (b : Bool) → frames_in (cond b (record r { len = r.len + v.len } ∷ vs) (r ∷ v ∷ vs)) ≡ r.len + frames_in (v ∷ vs)
+  by_test true = omega arith
+  by_test false = omega arith
+
+pub frames_in-joined : (vs : List ItemView) → frames_in (joined vs) ≡ frames_in vs
+frames_in-joined [] = refl
+frames_in-joined (v ∷ vs) = omega (arith, frames_in-onto v (joined vs), frames_in-joined vs)
 
 frames_in-with_view : (r v : ItemView) → frames_in (with_view r (v ∷ [])) ≡ r.len + v.len
 frames_in-with_view r v = by_test (same_number r.item v.item) where

@@ -1,5 +1,5 @@
 -- Items and gaps joined are those of their cells.
-use Rattle.std.proofs.Common.{◌≡◌, ℕ, zero, suc, ◌+◌, ◌<◌, ◌≤◌, Bool, true, false, cond, eqb, List, [], ◌∷◌, ◌++◌, length, Option, Some, None, refl, sym, ap, ◌∙◌, arith, take, drop, append_assoc}
+use Rattle.std.proofs.Common.{◌≡◌, ℕ, zero, suc, ◌+◌, ◌<◌, ◌≤◌, Bool, true, false, cond, eqb, List, [], ◌∷◌, ◌++◌, length, Option, Some, None, refl, sym, ap, ◌∙◌, arith, take, drop, get_or, append_assoc}
 use Rattle.std.proofs.lemmas.Grind.{flat_map-append}
 use Rattle.std.proofs.lemmas.List.{length-append, append-nil}
 use Rattle.std.proofs.lemmas.Bool.Decides.{nat_tests}
@@ -203,6 +203,48 @@ pushes-joined vs (w ∷ ws) =
 pub push-tight : (vs : List ItemView) (v : ItemView) → IsTight vs → push_view vs v ≡ joined (vs ++ v ∷ [])
 push-tight vs v t = ap (λ zs. push_view zs v) (sym (joined-tight vs t)) ∙ push-joined vs v
 
+-- what is put behind an item or gap with which it does not belong together
+length-with_view : (r : ItemView) (vs : List ItemView) → 0 < length (with_view r vs)
+length-with_view r [] = omega arith
+length-with_view r (v ∷ vs) = by_test (same_number r.item v.item) where
+  by_test : (b : Bool) → 0 < length (cond b (record r { len = r.len + v.len } ∷ vs) (r ∷ v ∷ vs))
+  by_test true = omega arith
+  by_test false = omega arith
+
+length-push : (zs : List ItemView) (v : ItemView) → 0 < length (push_view zs v)
+length-push [] v = omega arith
+length-push (r ∷ []) v = length-with_view r (v ∷ [])
+length-push (r ∷ s ∷ rs) v = omega arith
+
+push-behind : (r : ItemView) (zs : List ItemView) (v : ItemView) → 0 < length zs → push_view (r ∷ zs) v ≡ r ∷ push_view zs v
+push-behind r [] v h = absurd (omega (arith, h))
+push-behind r (z ∷ zs) v h = refl
+
+two_apart : (r c : ItemView) → same_number r.item c.item ≡ false → push_view (r ∷ []) c ≡ r ∷ c ∷ []
+two_apart r c e = ap (λ (b : Bool). cond b (record r { len = r.len + c.len } ∷ []) (r ∷ c ∷ [])) e
+
+push_apart : (zs : List ItemView) (v c : ItemView) → same_number v.item c.item ≡ false → push_view (push_view zs v) c ≡ push_view zs v ++ c ∷ []
+push_apart [] v c e = two_apart v c e
+push_apart (r ∷ []) v c e = by_test (same_number r.item v.item) refl where
+  by_test : (b : Bool) → same_number r.item v.item ≡ b
+      → push_view (cond b (record r { len = r.len + v.len } ∷ []) (r ∷ v ∷ [])) c ≡ cond b (record r { len = r.len + v.len } ∷ []) (r ∷ v ∷ []) ++ c ∷ []
+  by_test true same = two_apart (record r { len = r.len + v.len }) c (sym (same-along r.item v.item c.item same) ∙ e)
+  by_test false same = ap (λ zs. r ∷ zs) (two_apart v c e)
+push_apart (r ∷ s ∷ rs) v c e =
+    push-behind r (push_view (s ∷ rs) v) c (length-push (s ∷ rs) v) ∙ ap (λ zs. r ∷ zs) (push_apart (s ∷ rs) v c e)
+
+pushes_apart : (zs : List ItemView) (v : ItemView) (vs : List ItemView) → IsTight (v ∷ vs) → push_views (push_view zs v) vs ≡ push_view zs v ++ vs
+pushes_apart zs v [] t = sym (append-nil (push_view zs v))
+pushes_apart zs v (c ∷ cs) t =
+    pushes_apart (push_view zs v) c cs t.1
+    ∙ (ap (λ ys. ys ++ cs) (push_apart zs v c t.0) ∙ append_assoc (push_view zs v) (c ∷ []) cs)
+
+-- of those that are tight only the first can join what is before it
+pub pushed_tight : (zs ws after all : List ItemView) (d : ItemView) → 0 < length ws → IsTight ws → after ≡ push_view zs (get_or ws 0 d)
+    → all ≡ after ++ drop 1 ws → all ≡ push_views zs ws
+pushed_tight zs [] after all d h t first rest = absurd (omega (arith, h))
+pushed_tight zs (w ∷ ws) after all d h t first rest = rest ∙ (ap (λ ys. ys ++ ws) first ∙ sym (pushes_apart zs w ws t))
+
 pub filled-append : (vs ws : List ItemView) → AllFilled vs → AllFilled ws → AllFilled (vs ++ ws)
 filled-append [] ws f g = g
 filled-append (v ∷ vs) ws f g = (f.0, filled-append vs ws f.1 g)
@@ -220,8 +262,25 @@ filled-drop (suc n) (v ∷ vs) f = filled-drop n vs f.1
 pub cells_of-append : (vs ws : List ItemView) → cells_of (vs ++ ws) ≡ cells_of vs ++ cells_of ws
 cells_of-append vs ws = flat_map-append view_cells vs ws
 
-pub pushed_thrice : (zs bs cs ds f k fs ws ks : List ItemView) → zs ≡ [] → bs ≡ push_views zs f → cs ≡ push_views bs ws → ds ≡ push_views cs k → f ≡ fs → k ≡ ks → ds ≡ joined (fs ++ ws ++ ks)
-pushed_thrice zs bs cs ds f k fs ws ks none first second third front back =
-    let one : bs ≡ joined fs = first ∙ (ap (λ zs. push_views zs f) none ∙ (pushes-joined [] f ∙ ap joined front)) in
-    let two : cs ≡ joined (fs ++ ws) = second ∙ (ap (λ zs. push_views zs ws) one ∙ pushes-joined fs ws) in
-    third ∙ (ap (λ zs. push_views zs k) two ∙ (pushes-joined (fs ++ ws) k ∙ ap (λ zs. joined ((fs ++ ws) ++ zs)) back))
+pub laid_thrice : (zs bs cs ds fs ws ks : List ItemView) → zs ≡ [] → IsTight fs → bs ≡ zs ++ fs → cs ≡ push_views bs ws → ds ≡ push_views cs ks → ds ≡ joined (fs ++ ws ++ ks)
+laid_thrice zs bs cs ds fs ws ks none tight first second third =
+    let one : bs ≡ joined fs = first ∙ (ap (λ ys. ys ++ fs) none ∙ sym (joined-tight fs tight)) in
+    let two : cs ≡ joined (fs ++ ws) = second ∙ (ap (λ ys. push_views ys ws) one ∙ pushes-joined fs ws) in
+    third ∙ (ap (λ ys. push_views ys ks) two ∙ pushes-joined (fs ++ ws) ks)
+
+pub tight-take : (n : ℕ) (vs : List ItemView) → IsTight vs → IsTight (take n vs)
+tight-take zero vs t = tt
+tight-take (suc n) [] t = tt
+tight-take (suc n) (v ∷ []) t = lone n v where
+  lone : (n : ℕ) (v : ItemView) → IsTight (v ∷ take n [])
+  lone zero v = tt
+  lone (suc n) v = tt
+tight-take (suc zero) (v ∷ w ∷ ws) t = tt
+tight-take (suc (suc n)) (v ∷ w ∷ ws) t = (t.0, tight-take (suc n) (w ∷ ws) t.1)
+
+pub tight-drop : (n : ℕ) (vs : List ItemView) → IsTight vs → IsTight (drop n vs)
+tight-drop zero vs t = t
+tight-drop (suc n) [] t = tt
+tight-drop (suc zero) (v ∷ []) t = tt
+tight-drop (suc (suc n)) (v ∷ []) t = tt
+tight-drop (suc n) (v ∷ w ∷ ws) t = tight-drop n (w ∷ ws) t.1

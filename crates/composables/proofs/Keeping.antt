@@ -7,8 +7,8 @@ use Rattle.composables.specs.Items.{view_cells, cells_of, items_of}
 use Rattle.composables.specs.Joined.{joined, push_view, IsTight, AllFilled, frames_in}
 use Rattle.composables.specs.TrackState.{TrackState}
 use Rattle.composables.specs.TrackFacts.{IsKept}
-use Rattle.composables.proofs.Joining.{items_of-cells_of, length-cells_of, cells_of-append, tight-joined, filled-joined, filled-append, filled-take, filled-drop, push-tight}
-use Rattle.composables.proofs.Frames.{frames_in-append, frames_in-push}
+use Rattle.composables.proofs.Joining.{items_of-cells_of, items_of-tight, length-cells_of, cells_of-append, tight-joined, filled-joined, filled-append, filled-take, filled-drop, push-tight}
+use Rattle.composables.proofs.Frames.{frames_in-append, frames_in-push, frames_in-joined}
 
 pub same_state : (number link m n : ℕ) (cs ds : List Cell) → cs ≡ ds → m ≡ n
     → ◌≡◌ {A = TrackState} (record { number = number; cells = cs; next_item = m; next_link = link }) (record { number = number; cells = ds; next_item = n; next_link = link })
@@ -47,18 +47,32 @@ push_keeps xs zs v total s f t counted h is cells kept =
     kept
     (omega (arith, counted, length-cells_of xs, ap frames_in is, frames_in-push xs v))
 
-pub replace_cells : (items ws : List ItemView) (from to : ℕ) → cells_of (take from items ++ ws ++ drop to items) ≡ (cells_of (take from items) ++ cells_of ws) ++ cells_of (drop to items)
-replace_cells items ws from to = cells_of-append (take from items ++ ws) (drop to items) ∙ ap (λ cs. cs ++ cells_of (drop to items)) (cells_of-append (take from items) ws)
+-- the cells of a replaced track, by its items and gaps
+cells_replaced : (xs ws : List ItemView) (from to : ℕ) → AllFilled xs → IsTight xs
+    → (cells_of (take from (items_of (cells_of xs))) ++ cells_of ws) ++ cells_of (drop to (items_of (cells_of xs))) ≡ cells_of (take from xs ++ ws ++ drop to xs)
+cells_replaced xs ws from to f t =
+    ap (λ (zs : List ItemView). (cells_of (take from zs) ++ cells_of ws) ++ cells_of (drop to zs)) (items_of-tight xs f t)
+    ∙ (ap (λ cs. cs ++ cells_of (drop to xs)) (sym (cells_of-append (take from xs) ws)) ∙ sym (cells_of-append (take from xs ++ ws) (drop to xs)))
 
-pub replace_keeps : (xs zs ws : List ItemView) (from to total : ℕ) (s : TrackState) → AllFilled xs → AllFilled ws
-    → zs ≡ joined (take from xs ++ ws ++ drop to xs) → s.cells ≡ (cells_of (take from xs) ++ cells_of ws) ++ cells_of (drop to xs) → IsKept s → total ≡ frames_in zs → Keeps zs total s
-replace_keeps xs zs ws from to total s f g is cells kept counted =
+abbrev pub frames_around : List ItemView → List ItemView → ℕ → ℕ → ℕ
+frames_around xs ws from to = frames_in (take from xs) + frames_in ws + frames_in (drop to xs)
+
+frames_replaced : (xs ws : List ItemView) (from to : ℕ) → frames_in (take from xs ++ ws ++ drop to xs) ≡ frames_around xs ws from to
+frames_replaced xs ws from to = omega (arith, frames_in-append (take from xs ++ ws) (drop to xs), frames_in-append (take from xs) ws)
+
+pub replace_keeps : (xs zs ws : List ItemView) (from to total : ℕ) (s : TrackState) → AllFilled xs → IsTight xs → AllFilled ws
+    → zs ≡ joined (take from xs ++ ws ++ drop to xs)
+    → s.cells ≡ (cells_of (take from (items_of (cells_of xs))) ++ cells_of ws) ++ cells_of (drop to (items_of (cells_of xs)))
+    → IsKept s → total ≡ frames_around xs ws from to → Keeps zs total s
+replace_keeps xs zs ws from to total s f t g is cells kept counted =
     joined_keeps (take from xs ++ ws ++ drop to xs) zs total s
     (filled-append (take from xs ++ ws) (drop to xs) (filled-append (take from xs) ws (filled-take from xs f) g) (filled-drop to xs f))
-    is (replace_cells xs ws from to ∙ sym cells) kept counted
+    is (sym (cells ∙ cells_replaced xs ws from to f t)) kept
+    (omega (arith, counted, ap frames_in is, frames_in-joined (take from xs ++ ws ++ drop to xs), frames_replaced xs ws from to))
 
 -- the frames of all parts
-pub replace_frames : (xs ws : List ItemView) (from to : ℕ) (cs : List Cell) → cs ≡ (cells_of (take from xs) ++ cells_of ws) ++ cells_of (drop to xs)
-    → frames_in (take from xs) + frames_in ws + frames_in (drop to xs) ≡ length cs
-replace_frames xs ws from to cs e =
-    omega (arith, ap length (e ∙ sym (replace_cells xs ws from to)), length-cells_of (take from xs ++ ws ++ drop to xs), frames_in-append (take from xs ++ ws) (drop to xs), frames_in-append (take from xs) ws)
+pub replace_frames : (xs ws : List ItemView) (from to : ℕ) (cs : List Cell) → AllFilled xs → IsTight xs
+    → cs ≡ (cells_of (take from (items_of (cells_of xs))) ++ cells_of ws) ++ cells_of (drop to (items_of (cells_of xs)))
+    → frames_around xs ws from to ≡ length cs
+replace_frames xs ws from to cs f t e =
+    omega (arith, ap length (e ∙ cells_replaced xs ws from to f t), length-cells_of (take from xs ++ ws ++ drop to xs), frames_replaced xs ws from to)

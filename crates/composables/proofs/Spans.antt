@@ -9,6 +9,7 @@ use Rattle.frame_meaning.specs.declared.cells.Cell.{Cell}
 use Rattle.frame_meaning.specs.declared.frames.Side.{Side}
 use Rattle.frame_meaning.specs.declared.frames.Side.TheVariants.{Dark, Pic}
 use Rattle.frame_meaning.specs.Cells.{span, next_side, later_side}
+use Rattle.frame_meaning.specs.Numbered.{SideIsNumbered}
 use Rattle.composables.specs.declared.items.ItemView.{ItemView}
 use Rattle.composables.specs.Items.{marked, view_cells, cell_in, cells_of}
 use Rattle.composables.specs.TrackFacts.{HasSource, EachHolds}
@@ -75,13 +76,14 @@ view_more before after all xs i d h more so_far =
     ∙ (append_assoc before (view_cells (get_or xs i d)) (cells_of (drop (i + 1) xs))
     ∙ (ap (λ vs. before ++ cells_of vs) (sym (drop_more xs i d h)) ∙ so_far))
 
-source-less : (s : Side What) (len before after : ℕ) → HasSource s len before after → HasSource s len 0 0
+pub source-less : (s : Side What) (len before after : ℕ) → HasSource s len before after → HasSource s len 0 0
 source-less Dark len before after h = tt
 source-less (Pic w s) len before after h = let p : s + len + 0 ≤ 2 ^ 32 = omega (arith, h.1) in (omega arith, p)
 
-pub source-cut : (s : Side What) (len k : ℕ) → k < len → HasSource s len 0 0 → HasSource s (k + 1) 0 0
-source-cut Dark len k h p = tt
-source-cut (Pic w s) len k h p = let q : s + (k + 1) + 0 ≤ 2 ^ 32 = omega (arith, p.1) in (omega arith, q)
+-- a source frame within an item is a number of the program
+pub numbered-later : (s : Side What) (len k : ℕ) → k < len → HasSource s len 0 0 → SideIsNumbered (later_side s k)
+numbered-later Dark len k h p = tt
+numbered-later (Pic w s) len k h p = omega (arith, p.1)
 
 pub holds-source : (v : ItemView) (vs : List ItemView) → EachHolds (v ∷ vs) → HasSource v.first v.len 0 0
 holds-source v vs h = source-less v.first v.len _ _ h.0.source

@@ -1,9 +1,15 @@
 pub mod ReelNames
 pub mod Bounds
 pub mod Items
+pub mod Views
 pub mod TrackState
 pub mod TrackFacts
 pub mod Joined
 pub mod Places
 pub mod Good
 pub mod TrackInside
+pub mod Roomy
+pub mod SpareState
+pub mod SpareInside
+pub mod Ranges
+pub mod Changes

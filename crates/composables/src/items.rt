@@ -1,4 +1,8 @@
 // Items and gaps, and where they stand.
+ghost use Rattle.std.specs.Prelude.{◌≡◌, ◌<◌};
+ghost use Rattle.composables.specs.Views.{clip_view, first_view, gap_view, later_view};
+ghost use Rattle.composables.specs.Ranges.{offset_of};
+ghost use Rattle.composables.specs.TrackFacts.{HasSource};
 
 use frame_meaning::{Link, Mark, Side, What};
 
@@ -11,6 +15,65 @@ pub struct ItemView {
     pub len: u32,
     pub mark: Option<Mark>,
     pub link: Option<Link>,
+}
+
+impl ItemView {
+    /// A gap of this many frames.
+    pub fn gap(len: u32) -> ItemView
+        ensures { result ≡ gap_view len }
+    {
+        ItemView {
+            item: None,
+            first: Side::Dark,
+            len,
+            mark: None,
+            link: None,
+        }
+    }
+
+    /// An item with this number, which shows the source frames [from, from + len) of a thing.
+    pub fn clip(number: u32, what: What, from: u32, len: u32) -> ItemView
+        ensures { result ≡ clip_view number what from len }
+    {
+        ItemView {
+            item: Some(number),
+            first: Side::Pic { what, source: from },
+            len,
+            mark: None,
+            link: None,
+        }
+    }
+
+    /// Its first frames, this many.
+    pub fn first_frames(&self, len: u32) -> ItemView
+        ensures { result ≡ first_view self.now len }
+    {
+        ItemView { len, ..*self }
+    }
+
+    /// What is left without its first `by` frames, and without a dissolve before it.
+    pub fn later(&self, by: u32) -> ItemView
+        requires within { by < self.now.len }
+        requires source { HasSource self.now.first self.now.len 0 0 }
+        ensures { result ≡ later_view self.now by }
+    {
+        ItemView {
+            first: self.first.later(by),
+            len: self.len - by,
+            mark: None,
+            ..*self
+        }
+    }
+
+    /// Its record place less its source frame, where it stands at this record place; `None` of a gap.
+    pub fn offset(&self, from: u32) -> Option<i64>
+        ensures { result ≡ offset_of self.now.first from }
+    {
+        match self.first {
+            Side::Dark => None,
+            Side::Pic { source, .. } => Some(i64::from(from) - i64::from(source)),
+        }
+    }
 }
 
 /// Where an item or a gap stands on its track: its index, and its record frames [from, to).

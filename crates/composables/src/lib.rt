@@ -6,24 +6,34 @@
 #![tactic(auto)]
 
 mod calls;
+mod cells;
+mod facts;
 mod items;
+mod laying;
 mod lists;
 mod media;
+mod numbers;
+mod places;
 mod reel_table;
 mod refusals;
+mod spares;
 mod tracks;
 
 pub use calls::{
     Dissolve, End, Extract, Fill, FillLength, Insert, Link3, Numbers, Overwrite, Remove, Ripple,
     Roll, Slice, Slide, Slip, Trim, Undissolve, Unlink,
 };
+pub use facts::holds;
 pub use frame_meaning::Memory;
 pub use items::{ItemView, Place};
+pub use laying::push_item;
 pub use lists::Listed;
 pub use media::{Kind, Layer, Media, Nest, Table};
+pub use numbers::{number_past, number_past_all};
 pub use reel_table::Reels;
 pub use refusals::{Done, EditFault, Refusal, Which};
-pub use tracks::{Track, push_item};
+pub use spares::Spare;
+pub use tracks::Track;
 
 /// The most frames of a track.
 pub const MAX_FRAMES: u32 = 2_592_000;

@@ -1,5 +1,5 @@
 // A list that contracts see as its items.
-ghost use Rattle.std.specs.Prelude.{◌≡◌, ◌++◌, [], ◌∷◌, OnOk, OnErr};
+ghost use Rattle.std.specs.Prelude.{◌≡◌, ◌++◌, [], ◌∷◌, IfOk, OnOk, OnErr};
 
 use frame_meaning::Memory;
 use std::alloc::Global;
@@ -52,5 +52,16 @@ impl<T> Listed<T> {
     {
         self.items.push(item)?;
         Ok(())
+    }
+}
+
+impl<T: Copy> Listed<T> {
+    /// An equal list.
+    pub fn copy(&self, alloc: Global) -> Result<Listed<T>, Memory>
+        ensures { IfOk result (λ l. l ≡ self.now) }
+    {
+        Ok(Listed {
+            items: Vec::from_slice(alloc, &self.items)?,
+        })
     }
 }

@@ -1,6 +1,6 @@
 // The table of reels.
 ghost use Rattle.std.specs.Prelude.{◌≡◌, ◌<◌, ◌≤◌, [], length, Some, IfOk, OnOk, OnErr, IfSome, IfNone, slice_get};
-ghost use Rattle.composables.specs.ReelNames.{with_name};
+ghost use Rattle.composables.specs.ReelNames.{AreDistinct, with_name};
 
 use crate::Memory;
 use indexmap::IndexSet;
@@ -22,7 +22,9 @@ impl Model for Reels {
 
     ghost view = { λ r. map (λ s. string_bytes s) r.names.keys };
 
-    ghost invariant = { λ r. length r.names.keys < 2 ^ 32 };
+    ghost use Rattle.composables.specs.ReelNames.{AreDistinct};
+
+    ghost invariant = { λ r. (length r.names.keys < 2 ^ 32) × AreDistinct (map (λ s. string_bytes s) r.names.keys) };
 }
 
 impl Reels {
@@ -38,7 +40,8 @@ impl Reels {
 
     /// How many reels there are.
     pub fn count(&self) -> u32
-        ensures { result ≡ length self.now }
+        ensures count { result ≡ length self.now }
+        ensures distinct { AreDistinct self.now }
     {
         self.names.len() as u32
     }
@@ -66,5 +69,13 @@ impl Reels {
         let i = self.names.len() as u32;
         self.names.insert(text)?;
         Ok(i)
+    }
+
+    /// An equal table.
+    pub fn copy(&self, alloc: Global) -> Result<Reels, Memory>
+        ensures { IfOk result (λ r. r ≡ self.now) }
+    {
+        let names = self.names.clone()?;
+        Ok(Reels { alloc, names })
     }
 }

@@ -1,14 +1,14 @@
 // A track of items and gaps, which contracts see as its cells.
-ghost use Rattle.std.specs.Prelude.{◌≡◌, ◌+◌, ◌<◌, ◌≤◌, ◌^◌, ◌↔◌, ◌++◌, length, take, drop, slice_get, IfSome, IfOk, IsNone, OnOk, OnErr};
-ghost use Rattle.frame_meaning.specs.Cells.{later_side, same_number};
-ghost use Rattle.composables.specs.Items.{cell_in, cells_of, view_cells};
-ghost use Rattle.composables.specs.Joined.{joined, push_view, push_views, frames_in};
-ghost use Rattle.composables.specs.TrackState.{next_past, next_past_all};
-ghost use Rattle.composables.specs.TrackFacts.{EachHolds, HasSource, NumbersBelow};
-ghost use Rattle.composables.specs.Places.{StandsAt};
+ghost use Rattle.std.specs.Prelude.{◌≡◌, ◌+◌, ◌<◌, ◌≤◌, ◌^◌, length, take, drop, slice_get};
+ghost use Rattle.composables.specs.Joined.{frames_in};
+ghost use Rattle.composables.specs.Changes.{side_from};
 
-use crate::{ItemView, Memory, Place};
-use frame_meaning::{Cell, Side, What};
+use crate::cells::cells_in;
+use crate::laying::{lay_around, push_item};
+use crate::numbers::{number_past, number_past_all};
+use crate::places::{find_item, find_place};
+use crate::{ItemView, Memory, Place, Spare};
+use frame_meaning::{Cell, Link, Mark, Side, What};
 use std::alloc::Global;
 use std::marker::Model;
 use std::sync::ledger::Ledger;
@@ -38,10 +38,12 @@ impl Model for Track {
 }
 
 impl Track {
-    ghost use Rattle.std.specs.Prelude.{◌≡◌, ◌+◌, ◌<◌, ◌≤◌, ◌↔◌, [], length, slice_get, vec_len, IfSome, IfOk, IsNone, OnOk, OnErr};
+    ghost use Rattle.std.specs.Prelude.{◌≡◌, ◌+◌, ◌<◌, ◌≤◌, ◌↔◌, [], length, slice_get, vec_len, vec_capacity, option_map, IfSome, IfOk, IsNone, OnOk, OnErr};
     ghost use Rattle.composables.specs.Items.{items_of};
     ghost use Rattle.composables.specs.TrackState.{pushed, replaced};
-    ghost use Rattle.composables.specs.TrackFacts.{IsKept, NumbersBelow};
+    ghost use Rattle.composables.specs.TrackFacts.{IsKept, Lacks, NumbersBelow};
+    ghost use Rattle.composables.specs.Ranges.{range_of, HasNumber};
+    ghost use Rattle.composables.specs.Changes.{changed_track, with_link, with_mark, with_source};
     ghost use Rattle.composables.specs.Places.{IsPlaceOf};
     ghost use Rattle.composables.specs.Joined.{AllFilled};
 
@@ -121,6 +123,19 @@ impl Track {
         find_place(&self.items, at, steps)
     }
 
+    /// Where the item with this number stands, or `None` where the track has no such item.
+    pub fn item_by_id<L: Ledger>(&self, item: u32, steps: &mut Steps<L>) -> Option<Place>
+        ensures found { IfSome result (λ p. IsPlaceOf self.now.cells p) }
+        ensures number { IfSome result (λ p. HasNumber (items_of self.now.cells) p.index item) }
+        ensures range { range_of self.now.cells item ≡ option_map (λ p. (p.from, p.to)) result }
+        ensures none { IsNone result ↔ Lacks item (items_of self.now.cells) }
+        ensures least { steps.old + 1 ≤ steps.new }
+        ensures most { steps.new ≤ steps.old + length (items_of self.now.cells) + 64 }
+    {
+        steps.tick();
+        find_item(&self.items, item, steps)
+    }
+
     /// An equal track.
     pub fn copy(&self, alloc: Global) -> Result<Track, Memory>
         ensures { IfOk result (λ t. t ≡ self.now) }
@@ -170,11 +185,95 @@ impl Track {
         ensures most { steps.new ≤ steps.old + length (items_of self.old.cells) + 64 + vec_len items }
     {
         steps.tick();
-        let all = joined_around(self.alloc, &self.items, from, to, &items, steps)?;
-        self.next_item = number_past_all(self.next_item, &items);
-        self.total = frames_of(&all);
-        self.items = all;
+        let room = Vec::with_capacity(self.alloc, self.items.len() + items.len())?;
+        self.put(from, to, room, &items, steps);
         Ok(())
+    }
+
+    /// The same in memory that was taken beforehand, of what was laid in it. It can't fail.
+    pub fn replace_in<L: Ledger>(
+        &mut self,
+        from: u32,
+        to: u32,
+        spare: Spare,
+        steps: &mut Steps<L>,
+    )
+        requires order { from ≤ to }
+        requires within { to ≤ length (items_of self.old.cells) }
+        requires room { length (items_of self.old.cells) ≤ spare.count }
+        requires filled { AllFilled spare.laid }
+        requires numbers { NumbersBelow 4294967295 spare.laid }
+        requires kept { IsKept (replaced self.old from to spare.laid) }
+        ensures replaced { self.new ≡ replaced self.old from to spare.laid }
+        ensures least { steps.old + 1 ≤ steps.new }
+        ensures most { steps.new ≤ steps.old + length (items_of self.old.cells) + 64 + length spare.laid }
+    {
+        steps.tick();
+        let Spare { whole, middle, .. } = spare;
+        self.put(from, to, whole, &middle, steps);
+    }
+
+    // Puts these in place of the items and gaps from index `from` up to before `to`, in room for all.
+    fn put<L: Ledger>(
+        &mut self,
+        from: u32,
+        to: u32,
+        room: Vec<ItemView>,
+        middle: &[ItemView],
+        steps: &mut Steps<L>,
+    )
+        requires order { from ≤ to }
+        requires within { to ≤ length (items_of self.old.cells) }
+        requires empty { room.items ≡ [] }
+        requires room { length (items_of self.old.cells) + length middle.now ≤ vec_capacity room }
+        requires filled { AllFilled middle.now }
+        requires numbers { NumbersBelow 4294967295 middle.now }
+        requires kept { IsKept (replaced self.old from to middle.now) }
+        ensures replaced { self.new ≡ replaced self.old from to middle.now }
+        ensures least { steps.old ≤ steps.new }
+        ensures most { steps.new ≤ steps.old + length middle.now + 1 }
+    {
+        let total = frames_around(self.total, &self.items, from, to, middle);
+        let all = lay_around(room, &self.items, from, to, middle, steps);
+        self.next_item = number_past_all(self.next_item, middle);
+        self.total = total;
+        self.items = all;
+    }
+
+    /// Puts a dissolve at the cut before the item or gap with this index, or takes it away.
+    pub fn set_mark(&mut self, index: u32, mark: Option<Mark>)
+        requires within { index < length (items_of self.old.cells) }
+        requires kept { IsKept (changed_track self.old index (with_mark mark)) }
+        ensures { self.new ≡ changed_track self.old index (with_mark mark) }
+    {
+        self.items[index as usize].mark = mark;
+    }
+
+    /// Gives the item with this index a link, or takes it away.
+    pub fn set_link(&mut self, index: u32, link: Option<Link>)
+        requires within { index < length (items_of self.old.cells) }
+        requires kept { IsKept (changed_track self.old index (with_link link)) }
+        ensures { self.new ≡ changed_track self.old index (with_link link) }
+    {
+        self.items[index as usize].link = link;
+    }
+
+    /// Moves the source frames of the item with this index, so that it shows them from this one on.
+    pub fn set_source(&mut self, index: u32, source: u32)
+        requires within { index < length (items_of self.old.cells) }
+        requires kept { IsKept (changed_track self.old index (with_source source)) }
+        ensures { self.new ≡ changed_track self.old index (with_source source) }
+    {
+        let first = self.items[index as usize].first;
+        self.items[index as usize].first = side_from(first, source);
+    }
+
+    /// Raises the number that the next new link with this home gets.
+    pub fn set_next_link(&mut self, next: u32)
+        requires { self.old.next_link ≤ next }
+        ensures { self.new ≡ record self.old { next_link = next } }
+    {
+        self.next_link = next;
     }
 
     /// Its cells, one for each frame. It takes memory and time for each frame, and serves tests.
@@ -191,101 +290,27 @@ fn view_at(items: &[ItemView], index: u32) -> Option<ItemView>
     items.get(index as usize).copied()
 }
 
-// The items and gaps with these in place of those from index `from` up to before `to`. What belongs together and
-// meets becomes one.
-fn joined_around<L: Ledger>(
-    alloc: Global,
-    items: &[ItemView],
-    from: u32,
-    to: u32,
-    middle: &[ItemView],
-    steps: &mut Steps<L>,
-) -> Result<Vec<ItemView>, Memory>
+// What a side shows whose source frames begin at this one.
+fn side_from(side: Side<What>, source: u32) -> Side<What>
+    ensures { result ≡ side_from side source }
+{
+    match side {
+        Side::Dark => Side::Dark,
+        Side::Pic { what, .. } => Side::Pic { what, source },
+    }
+}
+
+// How many frames there are with these in place of those from index `from` up to before `to`.
+fn frames_around(total: u32, items: &[ItemView], from: u32, to: u32, middle: &[ItemView]) -> u32
     requires order { from ≤ to }
     requires within { to ≤ length items.now }
+    requires total { total ≡ frames_in items.now }
     requires frames { frames_in (take from items.now) + frames_in middle.now + frames_in (drop to items.now) < 2 ^ 32 }
-    ensures joined { IfOk result (λ all. all.items ≡ joined (take from items.now ++ middle.now ++ drop to items.now)) }
-    ensures frames { IfOk result (λ all. frames_in all.items ≡ frames_in (take from items.now) + frames_in middle.now + frames_in (drop to items.now)) }
-    ensures least { steps.old ≤ steps.new }
-    ensures most { steps.new ≤ steps.old + length items.now + length middle.now }
+    ensures { result ≡ frames_in (take from items.now) + frames_in middle.now + frames_in (drop to items.now) }
 {
-    let (front, _) = items.split_at(from as usize);
-    let (_, back) = items.split_at(to as usize);
-    let mut all = Vec::new(alloc);
-    push_items(front, &mut all, steps)?;
-    push_items(middle, &mut all, steps)?;
-    push_items(back, &mut all, steps)?;
-    Ok(all)
-}
-
-// The place of the item or gap that holds the place `at`.
-fn find_place<L: Ledger>(items: &[ItemView], at: u32, steps: &mut Steps<L>) -> Option<Place>
-    requires frames { frames_in items.now < 2 ^ 32 }
-    requires count { length items.now < 2 ^ 32 }
-    ensures found { IfSome result (λ p. StandsAt items.now p) }
-    ensures holds { IfSome result (λ p. (p.from ≤ at) × (at < p.to)) }
-    ensures none { IsNone result ↔ (frames_in items.now ≤ at) }
-    ensures least { steps.old ≤ steps.new }
-    ensures most { steps.new ≤ steps.old + length items.now }
-{
-    let mut from = 0;
-    for (index, view) in items.iter().enumerate() {
-        steps.tick();
-        let to = from + view.len;
-        if at < to {
-            return Some(Place {
-                index: index as u32,
-                from,
-                to,
-            });
-        }
-        from = to;
-    }
-    None
-}
-
-/// Puts an item or gap behind others. Two gaps that meet become one, and so do two parts of one item.
-pub fn push_item(items: &mut Vec<ItemView>, view: ItemView) -> Result<(), Memory>
-    requires { frames_in items.old.items + view.len < 2 ^ 32 }
-    ensures ok { OnOk result (items.new.items ≡ push_view items.old.items view) }
-    ensures err { OnErr result (items.new.items ≡ items.old.items) }
-{
-    let count = items.len();
-    if count > 0 && is_same(items[count - 1].item, view.item) {
-        items[count - 1].len += view.len;
-        return Ok(());
-    }
-    items.push(view)?;
-    Ok(())
-}
-
-// Whether two item numbers are one, or both are those of gaps.
-fn is_same(first: Option<u32>, second: Option<u32>) -> bool
-    ensures { result ≡ same_number first second }
-{
-    match (first, second) {
-        (None, None) => true,
-        (Some(i), Some(j)) => i == j,
-        _ => false,
-    }
-}
-
-fn push_items<L: Ledger>(
-    views: &[ItemView],
-    into: &mut Vec<ItemView>,
-    steps: &mut Steps<L>,
-) -> Result<(), Memory>
-    requires { frames_in into.old.items + frames_in views.now < 2 ^ 32 }
-    ensures ok { OnOk result (into.new.items ≡ push_views into.old.items views.now) }
-    ensures frames { OnOk result (frames_in into.new.items ≡ frames_in into.old.items + frames_in views.now) }
-    ensures least { steps.old ≤ steps.new }
-    ensures most { steps.new ≤ steps.old + length views.now }
-{
-    for view in views {
-        steps.tick();
-        push_item(into, *view)?;
-    }
-    Ok(())
+    let (_, behind) = items.split_at(from as usize);
+    let (gone, _) = behind.split_at((to - from) as usize);
+    total - frames_of(gone) + frames_of(middle)
 }
 
 fn frames_of(items: &[ItemView]) -> u32
@@ -297,72 +322,4 @@ fn frames_of(items: &[ItemView]) -> u32
         total += view.len;
     }
     total
-}
-
-fn number_past(next: u32, item: Option<u32>) -> u32
-    requires { IfSome item (λ i. i < 4294967295) }
-    ensures { result ≡ next_past next item }
-{
-    match item {
-        Some(i) => next.max(i + 1),
-        None => next,
-    }
-}
-
-fn number_past_all(next: u32, items: &[ItemView]) -> u32
-    requires { NumbersBelow 4294967295 items.now }
-    ensures { result ≡ next_past_all next items.now }
-{
-    let mut past = next;
-    for view in items {
-        past = number_past(past, view.item);
-    }
-    past
-}
-
-fn cells_in(alloc: Global, items: &[ItemView]) -> Result<Vec<Cell>, Memory>
-    requires { EachHolds items.now }
-    ensures { IfOk result (λ all. all.items ≡ cells_of items.now) }
-{
-    let mut all = Vec::new(alloc);
-    for view in items {
-        push_cells(&mut all, view)?;
-    }
-    Ok(all)
-}
-
-fn push_cells(into: &mut Vec<Cell>, view: &ItemView) -> Result<(), Memory>
-    requires { HasSource view.now.first view.now.len 0 0 }
-    ensures { OnOk result (into.new.items ≡ into.old.items ++ view_cells view.now) }
-{
-    for k in 0..view.len {
-        into.push(cell_of(view, k))?;
-    }
-    Ok(())
-}
-
-fn cell_of(view: &ItemView, k: u32) -> Cell
-    requires within { k < view.now.len }
-    requires source { HasSource view.now.first view.now.len 0 0 }
-    ensures { result ≡ cell_in view.now k }
-{
-    Cell {
-        item: view.item,
-        side: side_later(view.first, k),
-        mark: if k == 0 { view.mark } else { None },
-        link: view.link,
-    }
-}
-
-fn side_later(side: Side<What>, n: u32) -> Side<What>
-    requires { HasSource side (n + 1) 0 0 }
-    ensures { result ≡ later_side side n }
-{
-    match side {
-        Side::Dark => Side::Dark,
-        Side::Pic { what, source } => Side::Pic {
-            what,
-            source: source + n,
-        },
-    }
 }

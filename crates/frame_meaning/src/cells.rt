@@ -1,4 +1,6 @@
 // The cells of a track, one for each frame, with what each belongs to.
+ghost use Rattle.std.specs.Prelude.{◌≡◌};
+ghost use Rattle.frame_meaning.specs.Cells.{same_number};
 
 use crate::Side;
 
@@ -36,4 +38,15 @@ pub struct Cell {
     pub side: Side<What>,
     pub mark: Option<Mark>,
     pub link: Option<Link>,
+}
+
+/// Whether two item numbers are one, or both are those of gaps.
+pub fn same_item(first: Option<u32>, second: Option<u32>) -> bool
+    ensures { result ≡ same_number first second }
+{
+    match (first, second) {
+        (None, None) => true,
+        (Some(i), Some(j)) => i == j,
+        _ => false,
+    }
 }

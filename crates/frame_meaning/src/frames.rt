@@ -1,12 +1,30 @@
 // What a frame shows, and which frame goes on from which.
 ghost use Rattle.std.specs.Prelude.{◌≡◌};
 ghost use Rattle.frame_meaning.specs.Going.{frame_goes_on, side_goes_on};
+ghost use Rattle.frame_meaning.specs.Cells.{later_side};
+ghost use Rattle.frame_meaning.specs.Numbered.{SideIsNumbered};
 
 /// One of the two pictures of a mix, or all of a frame that is no mix: nothing, or a thing and its source frame.
 #[derive(Clone, Copy, Debug, PartialEq, Eq)]
 pub enum Side<W> {
     Dark,
     Pic { what: W, source: u32 },
+}
+
+impl<W> Side<W> {
+    /// What it shows `n` frames later, where its source frame is then a number of the program.
+    pub fn later(self, n: u32) -> Side<W>
+        requires { SideIsNumbered (later_side self n) }
+        ensures { result ≡ later_side self n }
+    {
+        match self {
+            Side::Dark => Side::Dark,
+            Side::Pic { what, source } => Side::Pic {
+                what,
+                source: source + n,
+            },
+        }
+    }
 }
 
 /// What is shown at a place: nothing, one picture, or a mix in which `right` has the weight `num` of `den`.

@@ -10,7 +10,7 @@ mod cells;
 mod frames;
 mod plain;
 
-pub use cells::{Cell, Link, Mark, What};
+pub use cells::{Cell, Link, Mark, What, same_item};
 pub use frames::{Frame, Run, Side, goes_on};
 pub use plain::{Memory, rendered, runs_of};
 
