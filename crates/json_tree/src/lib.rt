@@ -6,6 +6,7 @@
 mod document;
 mod laws;
 mod lookup;
+mod parts;
 mod tree;
 mod values;
 mod writable;
