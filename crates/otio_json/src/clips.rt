@@ -1,0 +1,279 @@
+// Clips: the frames that a clip shows, and its reel and media entry.
+ghost use Rattle.std.specs.Prelude.{◌≡◌, ◌+◌, ◌*◌, ◌<◌, ◌≤◌, ◌^◌, length, slice_get, unsigned_abs, IfOk, IfSome, OnOk, OnErr, option_map, Some};
+ghost use Rattle.json_tree.specs.Size.{tree_size};
+ghost use Rattle.json_tree.specs.View.{tree_of};
+ghost use Rattle.composables.specs.declared.media.Media.{Media};
+ghost use Rattle.otio_json.specs.Reading.{Reads, Gives};
+ghost use Rattle.otio_json.specs.SoundParts.{IsItemPart};
+ghost use Rattle.otio_json.specs.Times.{rate_pair};
+ghost use Rattle.otio_json.specs.Clips.{source_frames, source_read, clamped, in_media, available_read, reference_read, widened, clip_frames, reel_text, named_reel, same_media, entry_at, with_entry, entries, entered, clip_read};
+
+use crate::faults::{DocCode, DocFault, Fault};
+use crate::parts::{Part, frames_within, trim};
+use crate::times::{Span, moment};
+use crate::values::{expect, fault_at, given, needed};
+use composables::{Listed, Media, Memory, Table};
+use frame_meaning::{Side, What};
+use json_tree::{Json, Value};
+use ratio_time::{Rate, TimeRange};
+
+/// One more than the last source frame that a clip may have.
+pub(crate) const MOST_SOURCE: u32 = 16_777_216;
+
+/// The frames [source, source + len) that a clip shows, of the frames [from, to) that its media entry has.
+#[derive(Clone, Copy, Debug, PartialEq, Eq)]
+pub(crate) struct Frames {
+    pub(crate) source: u32,
+    pub(crate) len: u32,
+    pub(crate) from: u32,
+    pub(crate) to: u32,
+}
+
+// The source frames of a clip's range. A range without frames has none that could be past the limit.
+fn source_frames(span: &Span) -> Option<(u32, u32)>
+    requires near { unsigned_abs span.now.start ≤ 2147483647 }
+    requires short { span.now.len ≤ 2147483647 }
+    ensures frames { result ≡ source_frames span.now }
+    ensures within { IfSome result (λ f. f.0 + f.1 ≤ MOST_SOURCE) }
+{
+    if span.len == 0 {
+        return Some((0, 0));
+    }
+    frames_within(MOST_SOURCE, span)
+}
+
+#[tactic(auto, unfolding(crate::specs::Clips::source_read))]
+fn source(rate: &Rate, clip: &Json) -> Result<Option<(u32, u32)>, Fault>
+    ensures source { result ≡ source_read (rate_pair rate.now) (tree_of clip.now) }
+    ensures within { IfOk result (λ o. IfSome o (λ f. f.0 + f.1 ≤ MOST_SOURCE)) }
+{
+    match trim(rate, clip)? {
+        Some(span) => match source_frames(&span) {
+            Some(frames) => Ok(Some(frames)),
+            None => Err(Fault {
+                code: DocCode::O11,
+                at: span.at,
+            }),
+        },
+        None => Ok(None),
+    }
+}
+
+// A frame, or the nearest of the frames that a media entry may have.
+fn clamped(frame: i64) -> u32
+    ensures value { result ≡ clamped frame }
+    ensures within { result ≤ MOST_SOURCE }
+{
+    if frame <= 0 {
+        return 0;
+    }
+    if frame >= i64::from(MOST_SOURCE) {
+        return MOST_SOURCE;
+    }
+    frame as u32
+}
+
+// The frames [from, to) that a media entry may have, if there are any.
+fn in_media(from: i64, to: i64) -> Option<(u32, u32)>
+    ensures frames { result ≡ in_media from to }
+    ensures within { IfSome result (λ f. (f.0 < f.1) × (f.1 ≤ MOST_SOURCE)) }
+{
+    let first = clamped(from);
+    let end = clamped(to);
+    if first < end {
+        return Some((first, end));
+    }
+    None
+}
+
+#[tactic(auto, unfolding(crate::specs::Clips::available_read))]
+fn available(rate: &Rate, range: &Json) -> Result<Option<(u32, u32)>, Fault>
+    ensures frames { result ≡ available_read (rate_pair rate.now) (tree_of range.now) }
+    ensures within { IfOk result (λ o. IfSome o (λ f. (f.0 < f.1) × (f.1 ≤ MOST_SOURCE))) }
+{
+    expect(range, "TimeRange.1")?;
+    let start = moment(needed(range, "start_time")?)?;
+    let length = needed(range, "duration")?;
+    let duration = moment(length)?;
+    if duration.value.mantissa < 0 {
+        return Err(fault_at(DocCode::O14, length));
+    }
+    match (TimeRange { start, duration }).narrowed_at(rate) {
+        Ok((from, to)) => Ok(in_media(from, to)),
+        Err(_) => Err(fault_at(DocCode::O4, range)),
+    }
+}
+
+// The frames that a clip's media reference says to be there.
+#[tactic(auto, unfolding(crate::specs::Clips::reference_read))]
+fn reference(rate: &Rate, clip: &Json) -> Result<Option<(u32, u32)>, Fault>
+    ensures frames { result ≡ reference_read (rate_pair rate.now) (tree_of clip.now) }
+    ensures within { IfOk result (λ o. IfSome o (λ f. (f.0 < f.1) × (f.1 ≤ MOST_SOURCE))) }
+{
+    match given(clip, "media_reference") {
+        Some(reference) => match &reference.value {
+            Value::Object(_) => match given(reference, "available_range") {
+                Some(range) => available(rate, range),
+                None => Ok(None),
+            },
+            _ => Err(fault_at(DocCode::O3, reference)),
+        },
+        None => Ok(None),
+    }
+}
+
+// The least range that holds these frames and the available ones.
+fn widened(source: (u32, u32), available: (u32, u32)) -> (u32, u32)
+    requires { source.0 + source.1 ≤ MOST_SOURCE }
+    ensures { result ≡ widened source available }
+{
+    if source.1 == 0 {
+        return available;
+    }
+    (
+        available.0.min(source.0),
+        available.1.max(source.0 + source.1),
+    )
+}
+
+fn clip_frames(source: Option<(u32, u32)>, available: Option<(u32, u32)>) -> Option<Frames>
+    requires source { IfSome source (λ f. f.0 + f.1 ≤ MOST_SOURCE) }
+    requires available { IfSome available (λ f. (f.0 < f.1) × (f.1 ≤ MOST_SOURCE)) }
+    ensures frames { result ≡ clip_frames source available }
+    ensures short { IfSome result (λ f. f.len ≤ MOST_SOURCE) }
+    ensures within { IfSome result (λ f. 0 < f.len → (f.from ≤ f.source) × (f.source + f.len ≤ f.to)) }
+{
+    match (source, available) {
+        (Some(source), Some(available)) => {
+            let (from, to) = widened(source, available);
+            Some(Frames {
+                source: source.0,
+                len: source.1,
+                from,
+                to,
+            })
+        }
+        (Some(source), None) => Some(Frames {
+            source: source.0,
+            len: source.1,
+            from: 0,
+            to: MOST_SOURCE,
+        }),
+        (None, Some((from, to))) => Some(Frames {
+            source: from,
+            len: to - from,
+            from,
+            to,
+        }),
+        (None, None) => None,
+    }
+}
+
+// The reel that a clip's metadata name.
+fn named_reel(clip: &Json) -> Option<&str>
+    ensures { option_map (λ text. text.now) result ≡ named_reel (tree_of clip.now) }
+{
+    clip.member("metadata")?.member("cmx_3600")?.member("reel")?.text()
+}
+
+/// The name of a clip's reel.
+fn reel(clip: &Json) -> &str
+    ensures { result.now ≡ reel_text (tree_of clip.now) }
+{
+    match named_reel(clip) {
+        Some(reel) => return reel,
+        None => {}
+    }
+    match clip.member("name") {
+        Some(name) => match name.text() {
+            Some(name) => {
+                if name.is_empty() {
+                    return "AX";
+                }
+                name
+            }
+            None => "AX",
+        },
+        None => "AX",
+    }
+}
+
+fn same_media(first: &Media, second: &Media) -> bool
+    ensures { result ≡ same_media first.now second.now }
+{
+    first.reel == second.reel && first.from == second.from && first.to == second.to
+}
+
+// Where the entry stands, or how many there are where it does not.
+fn entry_at(media: &[Media], entry: &Media) -> usize
+    ensures value { result ≡ entry_at media.now entry.now }
+    ensures within { result ≤ length media.now }
+{
+    let mut at = 0;
+    for other in media {
+        if same_media(entry, other) {
+            return at;
+        }
+        at += 1;
+    }
+    at
+}
+
+// The number of an entry. One that is there keeps its number, another goes last.
+fn enter_media(media: &mut Listed<Media>, entry: Media) -> Result<u32, Memory>
+    requires { length media.old < 4294967295 }
+    ensures number { IfOk result (λ n. n ≡ entry_at media.old entry) }
+    ensures ok { OnOk result (media.new ≡ with_entry media.old entry) }
+{
+    let count = media.as_slice().len();
+    let at = entry_at(media.as_slice(), &entry);
+    if at == count {
+        media.push(entry)?;
+    }
+    Ok(at as u32)
+}
+
+/// The item of a clip on this reel, which is entered in the table.
+fn enter(table: &mut Table, reel: &str, frames: &Frames) -> Result<Part, Memory>
+    requires few { entries table.old + 2 < 2 ^ 32 }
+    requires within { 0 < frames.now.len → (frames.now.from ≤ frames.now.source) × (frames.now.source + frames.now.len ≤ frames.now.to) }
+    ensures ok { IfOk result (λ part. (part, table.new) ≡ entered table.old reel.now frames.now) }
+    ensures few { OnOk result (entries table.new ≤ entries table.old + 2) }
+    ensures short { IfOk result (λ part. part.len ≡ frames.now.len) }
+    ensures sound { IfOk result IsItemPart }
+{
+    let reel = table.reels.add(reel)?;
+    let entry = Media {
+        reel,
+        from: frames.from,
+        to: frames.to,
+    };
+    let number = enter_media(&mut table.media, entry)?;
+    Ok(Part {
+        first: Side::Pic {
+            what: What::Media(number),
+            source: frames.source,
+        },
+        len: u64::from(frames.len),
+        mark: None,
+        from: frames.from,
+        to: frames.to,
+    })
+}
+
+/// A clip's own part.
+#[tactic(auto, unfolding(crate::specs::Clips::clip_read))]
+pub(crate) fn clip(rate: &Rate, table: &mut Table, json: &Json) -> Result<Part, DocFault>
+    requires { entries table.old + 2 < 2 ^ 32 }
+    ensures read { Gives (λ part. (part, table.new)) result (clip_read (rate_pair rate.now) table.old (tree_of json.now)) }
+    ensures few { OnOk result (entries table.new ≤ entries table.old + 2) }
+    ensures short { IfOk result (λ part. part.len ≤ 2147483647) }
+    ensures sound { IfOk result IsItemPart }
+{
+    let source = source(rate, json)?;
+    let available = reference(rate, json)?;
+    match clip_frames(source, available) {
+        Some(frames) => Ok(enter(table, reel(json), &frames)?),
+        None => Err(fault_at(DocCode::O14, json).into()),
+    }
+}

@@ -1,0 +1,161 @@
+// A row: the items of a track, as far as they have been read.
+ghost use Rattle.std.specs.Prelude.{◌≡◌, ◌+◌, ◌<◌, ◌≤◌, ◌^◌, IfOk, OnOk};
+ghost use Rattle.json_tree.specs.View.{tree_of};
+ghost use Rattle.otio_json.specs.Reading.{Gives};
+ghost use Rattle.otio_json.specs.Times.{rate_pair};
+ghost use Rattle.otio_json.specs.Rows.{empty_row, joins, kept, waits, dissolve_before, row_with, row_end, row_frames, frames_in_all};
+ghost use Rattle.otio_json.specs.SoundParts.{AreSoundParts, IsItemPart};
+ghost use Rattle.otio_json.specs.SoundRows.{FitsBefore, IsSoundRow};
+
+use crate::faults::{DocCode, DocFault, Fault};
+use crate::parts::Part;
+use crate::transitions::{Waiting, dissolve_between, transition};
+use composables::Memory;
+use frame_meaning::Mark;
+use json_tree::Json;
+use ratio_time::Rate;
+use std::alloc::Global;
+use std::marker::Model;
+
+/// The items and gaps that are kept, but for the last one, which may still grow; the last one; the item that was read
+/// last, which is left out where it has no frames; and the transition that waits.
+#[derive(Drop)]
+pub(crate) struct Row {
+    pub(crate) done: Vec<Part>,
+    pub(crate) last: Option<Part>,
+    pub(crate) before: Option<Part>,
+    pub(crate) waiting: Option<Waiting>,
+}
+
+impl Model for Row {
+    ghost use Rattle.otio_json.specs.Rows.{RowState};
+
+    ghost Value = { RowState };
+
+    ghost use Rattle.otio_json.specs.RowInside.{row_of, IsRow};
+
+    ghost view = { row_of };
+
+    ghost invariant = { IsRow };
+}
+
+// Whether an item goes on from the one kept last, as a gap does from a gap.
+fn joins(last: Option<Part>, next: &Part) -> bool
+    ensures { result ≡ joins last next.now }
+{
+    match last {
+        Some(last) => last.is_gap() && next.is_gap(),
+        None => false,
+    }
+}
+
+impl Row {
+    pub(crate) fn new(alloc: Global) -> Row
+        ensures { result ≡ empty_row }
+    {
+        Row {
+            done: Vec::new(alloc),
+            last: None,
+            before: None,
+            waiting: None,
+        }
+    }
+
+    /// A transition waits for the item after it.
+    pub(crate) fn wait(&mut self, rate: &Rate, json: &Json)
+        ensures { self.new ≡ waits (rate_pair rate.now) self.old (tree_of json.now) }
+    {
+        match self.waiting {
+            Some(waiting) => {
+                self.waiting = Some(Waiting {
+                    crowded: true,
+                    ..waiting
+                });
+            }
+            None => {
+                self.waiting = Some(Waiting {
+                    at: json.at,
+                    offsets: transition(rate, json),
+                    crowded: false,
+                });
+            }
+        }
+    }
+
+    // The dissolve between the row so far and its next item.
+    fn dissolve_before(&self, next: &Part) -> Result<Option<Mark>, Fault>
+        requires { row_frames self.now < 2 ^ 63 }
+        ensures read { result ≡ dissolve_before self.now next.now }
+        ensures fits { IfOk result (λ mark. FitsBefore self.now next.now mark) }
+    {
+        match self.waiting {
+            Some(waiting) => dissolve_between(self.last, self.before, &waiting, next),
+            None => Ok(None),
+        }
+    }
+
+    // Keeps an item with the dissolve before it. One without frames is left out, and two gaps that meet are one.
+    fn keep(&mut self, next: &Part, mark: Option<Mark>) -> Result<(), Memory>
+        requires frames { row_frames self.old + next.now.len < 2 ^ 63 }
+        requires sound { IsItemPart next.now }
+        requires fits { FitsBefore self.old next.now mark }
+        ensures ok { OnOk result (self.new ≡ kept self.old next.now mark) }
+    {
+        self.before = Some(*next);
+        self.waiting = None;
+        if next.len == 0 {
+            return Ok(());
+        }
+        match self.last {
+            Some(last) => {
+                if last.is_gap() && next.is_gap() {
+                    self.last = Some(Part {
+                        len: last.len + next.len,
+                        ..last
+                    });
+                    return Ok(());
+                }
+                self.done.push(last)?;
+            }
+            None => {}
+        }
+        self.last = Some(Part { mark, ..*next });
+        Ok(())
+    }
+
+    /// The next item of the row.
+    pub(crate) fn add(&mut self, next: &Part) -> Result<(), DocFault>
+        requires short { next.now.len ≤ 2147483647 }
+        requires sound { IsItemPart next.now }
+        requires frames { row_frames self.old + 2 ^ 31 < 2 ^ 63 }
+        ensures read { Gives (λ _. self.new) result (row_with self.old next.now) }
+        ensures frames { OnOk result (row_frames self.new ≤ row_frames self.old + 2 ^ 31) }
+    {
+        let mark = self.dissolve_before(next)?;
+        self.keep(next, mark)?;
+        Ok(())
+    }
+
+    /// All that was kept, at the end of the list.
+    pub(crate) fn finish(self) -> Result<Vec<Part>, DocFault>
+        ensures read { Gives (λ parts. parts.items) result (row_end self) }
+        ensures frames { IfOk result (λ parts. frames_in_all parts.items ≡ row_frames self) }
+        ensures sound { IfOk result (λ parts. AreSoundParts parts.items) }
+    {
+        match self.waiting {
+            Some(waiting) => {
+                return Err(DocFault::Refused {
+                    code: DocCode::O8,
+                    at: waiting.at,
+                });
+            }
+            None => {}
+        }
+        let mut parts = self.done;
+        match self.last {
+            Some(last) => parts.push(last)?,
+            None => {}
+        }
+        Ok(parts)
+    }
+}
