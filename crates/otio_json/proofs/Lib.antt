@@ -1,1 +1,5 @@
 pub mod Plain
+pub mod RowFrames
+pub mod TimeLaws
+pub mod RowSound
+pub mod TrackSound

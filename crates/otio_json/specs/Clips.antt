@@ -1,6 +1,5 @@
 -- Clips: the frames that a clip shows, and its reel and media entry.
-use Rattle.std.specs.Prelude.{ℕ, zero, suc, ◌+◌, ◌-◌, ℤ, pos, ◌+ℤ◌, int_le, int_lt, nat_eq, nat_le, nat_lt, min, max, unsigned_abs, Bool, true, false, cond, ◌&&◌, List, [], ◌∷◌, ◌++◌, length, Option, Some, None, Result, Ok, Err, codes, bytes_eq, if◌then◌else◌}
-use Rattle.std.specs.List.{list_any}
+use Rattle.std.specs.Prelude.{ℕ, zero, suc, ◌+◌, ◌-◌, ℤ, pos, ◌+ℤ◌, int_le, int_lt, nat_eq, nat_le, nat_lt, eqb, position, min, max, unsigned_abs, Bool, true, false, cond, ◌&&◌, List, [], ◌∷◌, ◌++◌, length, Option, Some, None, Result, Ok, Err, codes, bytes_eq, if◌then◌else◌}
 use Rattle.ratio_time.specs.Division.{near_pair}
 use Rattle.frame_meaning.specs.declared.cells.What.TheVariants.{Media as MediaOf}
 use Rattle.frame_meaning.specs.declared.frames.Side.TheVariants.{Pic}
@@ -124,14 +123,22 @@ name_at [] name = 0
 name_at (n ∷ ns) name = if bytes_eq n name then 0 else suc (name_at ns name)
 
 abbrev pub same_media : Media → Media → Bool
-same_media a b = nat_eq a.reel b.reel && (nat_eq a.from b.from && nat_eq a.to b.to)
+same_media entry m = eqb m.reel entry.reel && (eqb m.from entry.from && eqb m.to entry.to)
 
-abbrev pub entry_at : List Media → Media → ℕ
-entry_at [] entry = 0
-entry_at (m ∷ ms) entry = if same_media entry m then 0 else suc (entry_at ms entry)
+abbrev pub number_or : Option ℕ → ℕ → ℕ
+number_or (Some i) count = i
+number_or None count = count
+
+-- where an entry stands, or where it goes
+abbrev pub entry_number : List Media → Media → ℕ
+entry_number media entry = number_or (position (same_media entry) media) (length media)
+
+abbrev pub unless_there : Option ℕ → List Media → Media → List Media
+unless_there (Some i) media entry = media
+unless_there None media entry = media ++ entry ∷ []
 
 abbrev pub with_entry : List Media → Media → List Media
-with_entry media entry = if list_any (same_media entry) media then media else media ++ entry ∷ []
+with_entry media entry = unless_there (position (same_media entry) media) media entry
 
 -- how many entries a table has
 abbrev pub entries : Table → ℕ
@@ -146,7 +153,7 @@ part_of number frames = record { first = Pic (MediaOf number) frames.source; len
 -- the item of a clip, and the table with its reel and its media entry
 abbrev pub entered : Table → List ℕ → Frames → Part × Table
 entered table reel frames = (
-  part_of (entry_at table.media (entry_of table reel frames)) frames,
+  part_of (entry_number table.media (entry_of table reel frames)) frames,
   record table { reels = with_name table.reels reel; media = with_entry table.media (entry_of table reel frames) })
 
 -- a clip's own part

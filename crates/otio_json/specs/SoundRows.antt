@@ -1,5 +1,5 @@
 -- What a row keeps, so that its items and gaps are those of a track.
-use Rattle.std.specs.Prelude.{◌≡◌, ◌+◌, ◌<◌, IsTrue, false, Option, Some, None, IfSome}
+use Rattle.std.specs.Prelude.{◌≡◌, ◌+◌, ◌<◌, IsTrue, false, List, [], Option, Some, None, IfSome}
 use Rattle.frame_meaning.specs.declared.cells.Mark.{Mark}
 use Rattle.otio_json.specs.declared.parts.Part.{Part}
 use Rattle.otio_json.specs.Parts.{is_gap, is_nest}
@@ -12,7 +12,13 @@ abbrev pub IsLast : Option Part → Part → Type 0
 IsLast None before = ⊥
 IsLast (Some last) before = (is_gap last ≡ is_gap before) × (is_nest last ≡ is_nest before)
 
+-- where none is kept last there are none
+abbrev pub IsStart : List Part → Option Part → Type 0
+IsStart done None = done ≡ []
+IsStart done (Some p) = Unit {0}
+
 pub record IsSoundRow (row : RowState) : Type 0 where
+  pub start : IsStart row.done row.last
   pub parts : AreSoundParts (all_kept row.done row.last)
   pub last : IfSome row.before (λ before. 0 < before.len → IsLast row.last before)
 

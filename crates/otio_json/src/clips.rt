@@ -1,12 +1,12 @@
 // Clips: the frames that a clip shows, and its reel and media entry.
-ghost use Rattle.std.specs.Prelude.{◌≡◌, ◌+◌, ◌*◌, ◌<◌, ◌≤◌, ◌^◌, length, slice_get, unsigned_abs, IfOk, IfSome, OnOk, OnErr, option_map, Some};
+ghost use Rattle.std.specs.Prelude.{◌≡◌, ◌+◌, ◌*◌, ◌<◌, ◌≤◌, ◌^◌, length, position, unsigned_abs, IfOk, IfSome, OnOk, OnErr, option_map, Some};
 ghost use Rattle.json_tree.specs.Size.{tree_size};
 ghost use Rattle.json_tree.specs.View.{tree_of};
 ghost use Rattle.composables.specs.declared.media.Media.{Media};
 ghost use Rattle.otio_json.specs.Reading.{Reads, Gives};
 ghost use Rattle.otio_json.specs.SoundParts.{IsItemPart};
 ghost use Rattle.otio_json.specs.Times.{rate_pair};
-ghost use Rattle.otio_json.specs.Clips.{source_frames, source_read, clamped, in_media, available_read, reference_read, widened, clip_frames, reel_text, named_reel, same_media, entry_at, with_entry, entries, entered, clip_read};
+ghost use Rattle.otio_json.specs.Clips.{source_frames, source_read, clamped, in_media, available_read, reference_read, widened, clip_frames, reel_text, named_reel, same_media, entry_number, with_entry, entries, entered, clip_read};
 
 use crate::faults::{DocCode, DocFault, Fault};
 use crate::parts::{Part, frames_within, trim};
@@ -198,39 +198,30 @@ fn reel(clip: &Json) -> &str
     }
 }
 
-fn same_media(first: &Media, second: &Media) -> bool
-    ensures { result ≡ same_media first.now second.now }
+// Where the entry stands.
+fn entry_at(media: &[Media], entry: &Media) -> Option<usize>
+    ensures place { result ≡ position (same_media entry.now) media.now }
+    ensures within { IfSome result (λ i. i < length media.now) }
 {
-    first.reel == second.reel && first.from == second.from && first.to == second.to
-}
-
-// Where the entry stands, or how many there are where it does not.
-fn entry_at(media: &[Media], entry: &Media) -> usize
-    ensures value { result ≡ entry_at media.now entry.now }
-    ensures within { result ≤ length media.now }
-{
-    let mut at = 0;
-    for other in media {
-        if same_media(entry, other) {
-            return at;
-        }
-        at += 1;
-    }
-    at
+    let Media { reel, from, to } = *entry;
+    media
+        .iter()
+        .position(|m| m.reel == reel && m.from == from && m.to == to)
 }
 
 // The number of an entry. One that is there keeps its number, another goes last.
 fn enter_media(media: &mut Listed<Media>, entry: Media) -> Result<u32, Memory>
     requires { length media.old < 4294967295 }
-    ensures number { IfOk result (λ n. n ≡ entry_at media.old entry) }
+    ensures number { IfOk result (λ n. n ≡ entry_number media.old entry) }
     ensures ok { OnOk result (media.new ≡ with_entry media.old entry) }
 {
-    let count = media.as_slice().len();
-    let at = entry_at(media.as_slice(), &entry);
-    if at == count {
-        media.push(entry)?;
+    match entry_at(media.as_slice(), &entry) {
+        Some(at) => return Ok(at as u32),
+        None => {}
     }
-    Ok(at as u32)
+    let number = media.as_slice().len() as u32;
+    media.push(entry)?;
+    Ok(number)
 }
 
 /// The item of a clip on this reel, which is entered in the table.

@@ -73,7 +73,7 @@ fn longest(layers: &[Layer]) -> u32
 {
     let mut most = 0;
     for layer in layers {
-        most = most.max(layer.to - layer.from);
+        most = most.max(layer.to.saturating_sub(layer.from));
     }
     most
 }

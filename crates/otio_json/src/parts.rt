@@ -3,7 +3,7 @@ ghost use Rattle.std.specs.Prelude.{◌≡◌, ◌≤◌, unsigned_abs, IfOk, If
 ghost use Rattle.json_tree.specs.Parts.{kind_in};
 ghost use Rattle.json_tree.specs.View.{tree_of};
 ghost use Rattle.otio_json.specs.Reading.{Reads};
-ghost use Rattle.otio_json.specs.Parts.{is_gap, is_nest, enabled_read, is_time_effect, no_time_effect, effects_read, head_read, trim_read, frames_within};
+ghost use Rattle.otio_json.specs.Parts.{begins, is_gap, is_nest, enabled_read, is_time_effect, no_time_effect, effects_read, head_read, trim_read, frames_within};
 ghost use Rattle.otio_json.specs.Times.{rate_pair};
 
 use crate::faults::{DocCode, Fault};
@@ -59,15 +59,21 @@ pub(crate) fn enabled(json: &Json) -> Result<(), Fault>
     }
 }
 
+fn begins(name: &str, front: &str) -> bool
+    ensures { result ≡ begins name.now front.now }
+{
+    name.starts_with(front)
+}
+
 fn is_time_effect(json: &Json) -> bool
     ensures { result ≡ is_time_effect (kind_in (tree_of json.now)) }
 {
     match json.member("OTIO_SCHEMA") {
         Some(member) => match member.text() {
             Some(name) => {
-                name.starts_with("LinearTimeWarp.")
-                    || name.starts_with("FreezeFrame.")
-                    || name.starts_with("TimeEffect.")
+                begins(name, "LinearTimeWarp.")
+                    || begins(name, "FreezeFrame.")
+                    || begins(name, "TimeEffect.")
             }
             None => false,
         },

@@ -1,9 +1,9 @@
 // A row: the items of a track, as far as they have been read.
-ghost use Rattle.std.specs.Prelude.{◌≡◌, ◌+◌, ◌<◌, ◌≤◌, ◌^◌, IfOk, OnOk};
+ghost use Rattle.std.specs.Prelude.{◌≡◌, ◌+◌, ◌<◌, ◌≤◌, ◌^◌, IfOk, IfSome, OnOk, OnErr};
 ghost use Rattle.json_tree.specs.View.{tree_of};
 ghost use Rattle.otio_json.specs.Reading.{Gives};
 ghost use Rattle.otio_json.specs.Times.{rate_pair};
-ghost use Rattle.otio_json.specs.Rows.{empty_row, joins, kept, waits, dissolve_before, row_with, row_end, row_frames, frames_in_all};
+ghost use Rattle.otio_json.specs.Rows.{all_kept, empty_row, joins, longer, kept, waits, dissolve_before, row_with, row_end, row_frames, frames_in_all};
 ghost use Rattle.otio_json.specs.SoundParts.{AreSoundParts, IsItemPart};
 ghost use Rattle.otio_json.specs.SoundRows.{FitsBefore, IsSoundRow};
 
@@ -47,6 +47,30 @@ fn joins(last: Option<Part>, next: &Part) -> bool
         Some(last) => last.is_gap() && next.is_gap(),
         None => false,
     }
+}
+
+// The item kept last, with so many frames more.
+fn longer(last: Option<Part>, frames: u64) -> Option<Part>
+    requires { IfSome last (λ p. p.len + frames < 2 ^ 64) }
+    ensures { result ≡ longer last frames }
+{
+    let last = last?;
+    Some(Part {
+        len: last.len + frames,
+        ..last
+    })
+}
+
+// Puts the item kept last behind the others.
+fn push_last(done: &mut Vec<Part>, last: Option<Part>) -> Result<(), Memory>
+    ensures ok { OnOk result (done.new.items ≡ all_kept done.old.items last) }
+    ensures err { OnErr result (done.new.items ≡ done.old.items) }
+{
+    match last {
+        Some(last) => done.push(last)?,
+        None => {}
+    }
+    Ok(())
 }
 
 impl Row {
@@ -101,25 +125,21 @@ impl Row {
         requires fits { FitsBefore self.old next.now mark }
         ensures ok { OnOk result (self.new ≡ kept self.old next.now mark) }
     {
-        self.before = Some(*next);
-        self.waiting = None;
         if next.len == 0 {
+            self.before = Some(*next);
+            self.waiting = None;
             return Ok(());
         }
-        match self.last {
-            Some(last) => {
-                if last.is_gap() && next.is_gap() {
-                    self.last = Some(Part {
-                        len: last.len + next.len,
-                        ..last
-                    });
-                    return Ok(());
-                }
-                self.done.push(last)?;
-            }
-            None => {}
+        if joins(self.last, next) {
+            self.last = longer(self.last, next.len);
+            self.before = Some(*next);
+            self.waiting = None;
+            return Ok(());
         }
+        push_last(&mut self.done, self.last)?;
         self.last = Some(Part { mark, ..*next });
+        self.before = Some(*next);
+        self.waiting = None;
         Ok(())
     }
 
@@ -152,10 +172,7 @@ impl Row {
             None => {}
         }
         let mut parts = self.done;
-        match self.last {
-            Some(last) => parts.push(last)?,
-            None => {}
-        }
+        push_last(&mut parts, self.last)?;
         Ok(parts)
     }
 }
