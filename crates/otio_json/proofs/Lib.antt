@@ -3,3 +3,4 @@ pub mod RowFrames
 pub mod TimeLaws
 pub mod RowSound
 pub mod TrackSound
+pub mod ReelLaws

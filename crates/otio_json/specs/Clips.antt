@@ -120,7 +120,7 @@ reel_text clip = reel_or_name (named_reel clip) (text_if (member_in (codes "name
 -- where a name stands, or how many there are
 abbrev pub name_at : List (List ℕ) → List ℕ → ℕ
 name_at [] name = 0
-name_at (n ∷ ns) name = if bytes_eq n name then 0 else suc (name_at ns name)
+name_at (n ∷ ns) name = if bytes_eq name n then 0 else suc (name_at ns name)
 
 abbrev pub same_media : Media → Media → Bool
 same_media entry m = eqb m.reel entry.reel && (eqb m.from entry.from && eqb m.to entry.to)

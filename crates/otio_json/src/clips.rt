@@ -2,20 +2,20 @@
 ghost use Rattle.std.specs.Prelude.{◌≡◌, ◌+◌, ◌*◌, ◌<◌, ◌≤◌, ◌^◌, length, position, unsigned_abs, IfOk, IfSome, OnOk, OnErr, option_map, Some};
 ghost use Rattle.json_tree.specs.Size.{tree_size};
 ghost use Rattle.json_tree.specs.View.{tree_of};
-ghost use Rattle.composables.specs.declared.media.Media.{Media};
+ghost use Rattle.composables.specs.ReelNames.{with_name};
 ghost use Rattle.otio_json.specs.Reading.{Reads, Gives};
 ghost use Rattle.otio_json.specs.SoundParts.{IsItemPart};
-ghost use Rattle.otio_json.specs.Times.{rate_pair};
-ghost use Rattle.otio_json.specs.Clips.{source_frames, source_read, clamped, in_media, available_read, reference_read, widened, clip_frames, reel_text, named_reel, same_media, entry_number, with_entry, entries, entered, clip_read};
+ghost use Rattle.otio_json.specs.Times.{moment_of, rate_pair};
+ghost use Rattle.otio_json.specs.Clips.{source_frames, source_read, clamped, in_media, media_if, narrowed, available_read, reference_read, widened, clip_frames, reel_text, named_reel, name_at, same_media, entry_number, with_entry, entries, entered, clip_read};
 
 use crate::faults::{DocCode, DocFault, Fault};
 use crate::parts::{Part, frames_within, trim};
 use crate::times::{Span, moment};
 use crate::values::{expect, fault_at, given, needed};
-use composables::{Listed, Media, Memory, Table};
+use composables::{Listed, Media, Memory, Reels, Table};
 use frame_meaning::{Side, What};
 use json_tree::{Json, Value};
-use ratio_time::{Rate, TimeRange};
+use ratio_time::{Rate, RationalTime, TimeRange};
 
 /// One more than the last source frame that a clip may have.
 pub(crate) const MOST_SOURCE: u32 = 16_777_216;
@@ -98,9 +98,31 @@ fn available(rate: &Rate, range: &Json) -> Result<Option<(u32, u32)>, Fault>
     if duration.value.mantissa < 0 {
         return Err(fault_at(DocCode::O14, length));
     }
-    match (TimeRange { start, duration }).narrowed_at(rate) {
-        Ok((from, to)) => Ok(in_media(from, to)),
-        Err(_) => Err(fault_at(DocCode::O4, range)),
+    media_frames(narrowed(start, duration, rate), range.at)
+}
+
+// The frames of a media entry in a range of whole frames, which stands at `at`.
+fn media_frames(frames: Option<(i64, i64)>, at: u32) -> Result<Option<(u32, u32)>, Fault>
+    ensures frames { result ≡ media_if frames at }
+    ensures within { IfOk result (λ o. IfSome o (λ f. (f.0 < f.1) × (f.1 ≤ MOST_SOURCE))) }
+{
+    match frames {
+        Some((from, to)) => Ok(in_media(from, to)),
+        None => Err(Fault {
+            code: DocCode::O4,
+            at,
+        }),
+    }
+}
+
+// The whole frames [from, to) of a range, unless they are too far from 0.
+fn narrowed(start: RationalTime, duration: RationalTime, rate: &Rate) -> Option<(i64, i64)>
+    ensures { result ≡ narrowed (moment_of start) (moment_of duration) (rate_pair rate.now) }
+{
+    let range = TimeRange { start, duration };
+    match range.narrowed_at(rate) {
+        Ok(frames) => Some(frames),
+        Err(_) => None,
     }
 }
 
@@ -224,16 +246,28 @@ fn enter_media(media: &mut Listed<Media>, entry: Media) -> Result<u32, Memory>
     Ok(number)
 }
 
+// The number of a reel. One that is there keeps its number, another goes last.
+fn enter_reel(reels: &mut Reels, name: &str) -> Result<u32, Memory>
+    requires { length reels.old < 4294967295 }
+    ensures number { IfOk result (λ n. n ≡ name_at reels.old name.now) }
+    ensures ok { OnOk result (reels.new ≡ with_name reels.old name.now) }
+{
+    let count = reels.count();
+    let number = reels.add(name)?;
+    prove!(number <= count);
+    Ok(number)
+}
+
 /// The item of a clip on this reel, which is entered in the table.
-fn enter(table: &mut Table, reel: &str, frames: &Frames) -> Result<Part, Memory>
+fn enter(table: &mut Table, reel: &str, frames: Frames) -> Result<Part, Memory>
     requires few { entries table.old + 2 < 2 ^ 32 }
-    requires within { 0 < frames.now.len → (frames.now.from ≤ frames.now.source) × (frames.now.source + frames.now.len ≤ frames.now.to) }
-    ensures ok { IfOk result (λ part. (part, table.new) ≡ entered table.old reel.now frames.now) }
+    requires within { 0 < frames.len → (frames.from ≤ frames.source) × (frames.source + frames.len ≤ frames.to) }
+    ensures ok { IfOk result (λ part. (part, table.new) ≡ entered table.old reel.now frames) }
     ensures few { OnOk result (entries table.new ≤ entries table.old + 2) }
-    ensures short { IfOk result (λ part. part.len ≡ frames.now.len) }
+    ensures short { IfOk result (λ part. part.len ≡ frames.len) }
     ensures sound { IfOk result IsItemPart }
 {
-    let reel = table.reels.add(reel)?;
+    let reel = enter_reel(&mut table.reels, reel)?;
     let entry = Media {
         reel,
         from: frames.from,
@@ -264,7 +298,7 @@ pub(crate) fn clip(rate: &Rate, table: &mut Table, json: &Json) -> Result<Part, 
     let source = source(rate, json)?;
     let available = reference(rate, json)?;
     match clip_frames(source, available) {
-        Some(frames) => Ok(enter(table, reel(json), &frames)?),
+        Some(frames) => Ok(enter(table, reel(json), frames)?),
         None => Err(fault_at(DocCode::O14, json).into()),
     }
 }
