@@ -4,3 +4,5 @@ pub mod TimeLaws
 pub mod RowSound
 pub mod TrackSound
 pub mod ReelLaws
+pub mod Nesting
+pub mod NestLaws

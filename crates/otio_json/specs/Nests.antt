@@ -214,11 +214,17 @@ levels_inside nesting t = levels_of_nesting nesting (place_of t)
 abbrev pub item_read : ℕ × ℕ → Nesting → Schema × ℕ → Table → Tree → Read (Part × Table)
 item_read rate nesting found table t = item_in rate (nests_in rate nesting) found.0 found.1 table t
 
-unfoldable pub nest_item_read : ℕ × ℕ → Nesting → Schema → Table → Tree → Read (Part × Table)
-nest_item_read rate nesting schema table t = nest_item_in rate (nests_in rate nesting) schema table t
-
 unfoldable pub nest_read : ℕ × ℕ → ℕ → Schema → Table → Tree → Read (Nest × Table)
 nest_read rate levels schema table t = nest_in rate (levels_in rate levels) schema table t
+
+unfoldable pub nest_item_read : ℕ × ℕ → Nesting → Schema → Table → Tree → Read (Part × Table)
+nest_item_read rate nesting schema table t = do
+  levels ← levels_inside nesting t
+  _ ← head_read t
+  trim ← trim_read rate t
+  nest ← nest_read rate levels schema table t
+  frames ← nest_frames nest.0.length trim
+  Ok (with_nest nest.1 nest.0 frames)
 
 abbrev pub one_layer_read : ℕ × ℕ → ℕ → Table → ℕ → List Tree → Read (List Layer × Table)
 one_layer_read rate levels table at children = one_layer_in rate (levels_in rate levels) table at children

@@ -99,10 +99,11 @@ fn item(
     table: &mut Table,
     json: &Json,
 ) -> Result<Part, DocFault>
-    requires { entries table.old + 2 * tree_size (tree_of json.now) < 2 ^ 32 }
+    requires few { entries table.old + 2 * tree_size (tree_of json.now) < 2 ^ 31 }
+    requires object { 0 < tree_size (tree_of json.now) }
     ensures read { Gives (λ part. (part, table.new)) result (item_read (rate_pair rate.now) nesting found table.old (tree_of json.now)) }
     ensures few { OnOk result (entries table.new ≤ entries table.old + 2 * tree_size (tree_of json.now)) }
-    ensures short { IfOk result (λ part. part.len ≤ 2147483647) }
+    ensures short { IfOk result (λ part. part.len < 2 ^ 32) }
     ensures sound { IfOk result IsItemPart }
 {
     let (schema, at) = found;
@@ -134,10 +135,10 @@ fn nest_item(
     table: &mut Table,
     json: &Json,
 ) -> Result<Part, DocFault>
-    requires { entries table.old + 2 * tree_size (tree_of json.now) < 2 ^ 32 }
+    requires { entries table.old + 2 * tree_size (tree_of json.now) < 2 ^ 31 }
     ensures read { Gives (λ part. (part, table.new)) result (nest_item_read (rate_pair rate.now) nesting schema table.old (tree_of json.now)) }
     ensures few { OnOk result (entries table.new ≤ entries table.old + 2 * tree_size (tree_of json.now)) }
-    ensures short { IfOk result (λ part. part.len ≤ 2147483647) }
+    ensures short { IfOk result (λ part. part.len < 2 ^ 32) }
     ensures sound { IfOk result IsItemPart }
 {
     let levels = levels_inside(nesting, json)?;
@@ -171,7 +172,7 @@ fn nest(
     table: &mut Table,
     json: &Json,
 ) -> Result<Nest, DocFault>
-    requires { entries table.old + 2 * tree_size (tree_of json.now) < 2 ^ 32 }
+    requires { entries table.old + 2 * tree_size (tree_of json.now) < 2 ^ 31 }
     ensures read { Gives (λ nest. (nest, table.new)) result (nest_read (rate_pair rate.now) levels schema table.old (tree_of json.now)) }
     ensures few { OnOk result (entries table.new + 2 ≤ entries table.old + 2 * tree_size (tree_of json.now)) }
 {
@@ -186,6 +187,7 @@ fn nest(
 
 // The layer of a track that is an item.
 #[cycle(nests)]
+#[tactic(auto, unfolding(crate::specs::Nests::track_read))]
 fn one_layer(
     alloc: Global,
     rate: &Rate,
@@ -194,7 +196,7 @@ fn one_layer(
     children: &[Json],
     at: u32,
 ) -> Result<Listed<Layer>, DocFault>
-    requires { entries table.old + 2 * items_size (map tree_of children.now) < 2 ^ 32 }
+    requires { entries table.old + 2 * items_size (map tree_of children.now) < 2 ^ 31 }
     ensures read { Gives (λ layers. (layers, table.new)) result (one_layer_read (rate_pair rate.now) levels table.old at (map tree_of children.now)) }
     ensures few { OnOk result (entries table.new ≤ entries table.old + 2 * items_size (map tree_of children.now)) }
 {
@@ -220,7 +222,7 @@ fn layers(
     table: &mut Table,
     children: &[Json],
 ) -> Result<Listed<Layer>, DocFault>
-    requires { entries table.old + 2 * items_size (map tree_of children.now) < 2 ^ 32 }
+    requires { entries table.old + 2 * items_size (map tree_of children.now) < 2 ^ 31 }
     ensures read { Gives (λ layers. (layers, table.new)) result (layers_read (rate_pair rate.now) levels table.old (map tree_of children.now)) }
     ensures few { OnOk result (entries table.new ≤ entries table.old + 2 * items_size (map tree_of children.now)) }
 {
@@ -235,7 +237,7 @@ fn layers(
 
 // A layer: a track, or a track of one item.
 #[cycle(nests)]
-#[tactic(auto, unfolding(crate::specs::Nests::layer_read))]
+#[tactic(auto, unfolding(crate::specs::Nests::layer_read, crate::specs::Nests::track_layer_read))]
 fn layer(
     alloc: Global,
     rate: &Rate,
@@ -244,8 +246,9 @@ fn layer(
     table: &mut Table,
     json: &Json,
 ) -> Result<Layer, DocFault>
-    requires { entries table.old + 2 * tree_size (tree_of json.now) < 2 ^ 32 }
+    requires { entries table.old + 2 * tree_size (tree_of json.now) < 2 ^ 31 }
     ensures read { Gives (λ layer. (layer, table.new)) result (layer_read (rate_pair rate.now) levels number table.old (tree_of json.now)) }
+    ensures object { IfOk result (λ _. 0 < tree_size (tree_of json.now)) }
     ensures few { OnOk result (entries table.new ≤ entries table.old + 2 * tree_size (tree_of json.now)) }
 {
     let found = schema_of(json)?;
@@ -260,7 +263,7 @@ fn layer(
 
 // A layer that is one item.
 fn item_layer(alloc: Global, number: u32, part: &Part, at: u32) -> Result<Layer, DocFault>
-    requires short { part.now.len ≤ 2147483647 }
+    requires short { part.now.len < 2 ^ 32 }
     requires sound { IsItemPart part.now }
     ensures { Gives (λ layer. layer) result (layer_of number part.now at) }
 {
@@ -272,7 +275,7 @@ fn item_layer(alloc: Global, number: u32, part: &Part, at: u32) -> Result<Layer,
 
 // A layer that is a track, shown through its `source_range`.
 #[cycle(nests)]
-#[tactic(auto, unfolding(crate::specs::Nests::track_layer_read))]
+#[tactic(auto, unfolding(crate::specs::Nests::track_layer_read, crate::specs::Nests::track_read))]
 fn track_layer(
     alloc: Global,
     rate: &Rate,
@@ -281,7 +284,7 @@ fn track_layer(
     table: &mut Table,
     json: &Json,
 ) -> Result<Layer, DocFault>
-    requires { entries table.old + 2 * tree_size (tree_of json.now) < 2 ^ 32 }
+    requires { entries table.old + 2 * tree_size (tree_of json.now) < 2 ^ 31 }
     ensures read { Gives (λ layer. (layer, table.new)) result (track_layer_read (rate_pair rate.now) levels number table.old (tree_of json.now)) }
     ensures few { OnOk result (entries table.new ≤ entries table.old + 2 * tree_size (tree_of json.now)) }
 {
@@ -309,7 +312,7 @@ pub(crate) fn track(
     children: &[Json],
     at: u32,
 ) -> Result<Track, DocFault>
-    requires { entries table.old + 2 * items_size (map tree_of children.now) < 2 ^ 32 }
+    requires { entries table.old + 2 * items_size (map tree_of children.now) < 2 ^ 31 }
     ensures read { Gives (λ track. (track, table.new)) result (track_read (rate_pair rate.now) nesting number table.old (map tree_of children.now) at) }
     ensures few { OnOk result (entries table.new ≤ entries table.old + 2 * items_size (map tree_of children.now)) }
 {
@@ -327,10 +330,10 @@ fn row(
     table: &mut Table,
     children: &[Json],
 ) -> Result<Row, DocFault>
-    requires { entries table.old + 2 * items_size (map tree_of children.now) < 2 ^ 32 }
+    requires { entries table.old + 2 * items_size (map tree_of children.now) < 2 ^ 31 }
     ensures read { Gives (λ row. (row, table.new)) result (row_read (rate_pair rate.now) nesting table.old (map tree_of children.now)) }
     ensures few { OnOk result (entries table.new ≤ entries table.old + 2 * items_size (map tree_of children.now)) }
-    ensures frames { IfOk result (λ row. row_frames row ≤ 2 ^ 31 * items_size (map tree_of children.now)) }
+    ensures frames { IfOk result (λ row. row_frames row ≤ 2 ^ 32 * items_size (map tree_of children.now)) }
 {
     let mut row = Row::new(alloc);
     for json in children {
@@ -350,11 +353,11 @@ fn child(
     table: &mut Table,
     json: &Json,
 ) -> Result<(), DocFault>
-    requires few { entries table.old + 2 * tree_size (tree_of json.now) < 2 ^ 32 }
-    requires frames { row_frames row.old + 2 ^ 31 < 2 ^ 63 }
+    requires few { entries table.old + 2 * tree_size (tree_of json.now) < 2 ^ 31 }
+    requires frames { row_frames row.old + 2 ^ 32 < 2 ^ 63 }
     ensures read { Gives (λ _. (row.new, table.new)) result (child_read (rate_pair rate.now) nesting (row.old, table.old) (tree_of json.now)) }
     ensures few { OnOk result (entries table.new ≤ entries table.old + 2 * tree_size (tree_of json.now)) }
-    ensures frames { OnOk result (row_frames row.new ≤ row_frames row.old + 2 ^ 31 * tree_size (tree_of json.now)) }
+    ensures frames { OnOk result (row_frames row.new ≤ row_frames row.old + 2 ^ 32 * tree_size (tree_of json.now)) }
 {
     let found = schema_of(json)?;
     match found.0 {

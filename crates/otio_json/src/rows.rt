@@ -145,11 +145,11 @@ impl Row {
 
     /// The next item of the row.
     pub(crate) fn add(&mut self, next: &Part) -> Result<(), DocFault>
-        requires short { next.now.len ≤ 2147483647 }
+        requires short { next.now.len < 2 ^ 32 }
         requires sound { IsItemPart next.now }
-        requires frames { row_frames self.old + 2 ^ 31 < 2 ^ 63 }
+        requires frames { row_frames self.old + 2 ^ 32 < 2 ^ 63 }
         ensures read { Gives (λ _. self.new) result (row_with self.old next.now) }
-        ensures frames { OnOk result (row_frames self.new ≤ row_frames self.old + 2 ^ 31) }
+        ensures frames { OnOk result (row_frames self.new ≤ row_frames self.old + 2 ^ 32) }
     {
         let mark = self.dissolve_before(next)?;
         self.keep(next, mark)?;

@@ -94,7 +94,7 @@ fn add_track(
     tracks: &mut Listed<Track>,
     json: &Json,
 ) -> Result<(), DocFault>
-    requires few { entries table.old + 2 * tree_size (tree_of json.now) < 2 ^ 32 }
+    requires few { entries table.old + 2 * tree_size (tree_of json.now) < 2 ^ 31 }
     requires count { length tracks.old < 2 ^ 32 }
     ensures read { Gives (λ _. (tracks.new, table.new)) result (next_track (rate_pair rate.now) (tracks.old, table.old) (tree_of json.now)) }
     ensures few { OnOk result (entries table.new ≤ entries table.old + 2 * tree_size (tree_of json.now)) }
@@ -116,7 +116,7 @@ fn add_tracks(
     table: &mut Table,
     children: &[Json],
 ) -> Result<Listed<Track>, DocFault>
-    requires few { entries table.old + 2 * items_size (map tree_of children.now) < 2 ^ 32 }
+    requires few { entries table.old + 2 * items_size (map tree_of children.now) < 2 ^ 31 }
     requires count { length children.now ≤ MAX_TRACKS }
     ensures { Gives (λ tracks. (tracks, table.new)) result (tracks_read (rate_pair rate.now) table.old (map tree_of children.now)) }
 {
@@ -140,7 +140,7 @@ fn empty_table(alloc: Global) -> Table
 
 #[tactic(auto, unfolding(crate::specs::Timelines::timeline_read))]
 fn timeline(alloc: Global, counting: &Counting, json: &Json) -> Result<Opening, DocFault>
-    requires { 2 * tree_size (tree_of json.now) < 2 ^ 32 }
+    requires { 2 * tree_size (tree_of json.now) < 2 ^ 31 }
     ensures { Gives (λ opening. opening) result (timeline_read counting.now (tree_of json.now)) }
 {
     let rate = counting.rate().rate();

@@ -107,7 +107,8 @@ fn schema_named(name: &str) -> Option<Schema>
 /// The member that names an object's schema.
 #[tactic(auto, unfolding(crate::specs::Values::schema_text))]
 fn schema_member(json: &Json) -> Result<&Json, Fault>
-    ensures { Reads (λ j. tree_of j.now) result (schema_text (tree_of json.now)) }
+    ensures member { Reads (λ j. tree_of j.now) result (schema_text (tree_of json.now)) }
+    ensures object { IfOk result (λ _. 0 < tree_size (tree_of json.now)) }
 {
     if !is_object(json) {
         return Err(fault_at(DocCode::O3, json));
@@ -118,7 +119,8 @@ fn schema_member(json: &Json) -> Result<&Json, Fault>
 /// The schema of a child, and the place of its text.
 #[tactic(auto, unfolding(crate::specs::Values::schema_read))]
 pub(crate) fn schema_of(json: &Json) -> Result<(Schema, u32), Fault>
-    ensures { result ≡ schema_read (tree_of json.now) }
+    ensures schema { result ≡ schema_read (tree_of json.now) }
+    ensures object { IfOk result (λ _. 0 < tree_size (tree_of json.now)) }
 {
     let member = schema_member(json)?;
     match schema_named(text(member)?) {
