@@ -116,7 +116,8 @@ fn item(
             head(json)?;
             Ok(gap(rate, json)?)
         }
-        Schema::Stack | Schema::Track => nest_item(alloc, rate, nesting, schema, table, json),
+        Schema::Stack => nest_item(alloc, rate, nesting, Schema::Stack, table, json),
+        Schema::Track => nest_item(alloc, rate, nesting, Schema::Track, table, json),
         Schema::Transition | Schema::Other => Err(DocFault::Refused {
             code: DocCode::O3,
             at,
