@@ -6,3 +6,4 @@ pub mod TrackSound
 pub mod ReelLaws
 pub mod Nesting
 pub mod NestLaws
+pub mod Growing

@@ -12,3 +12,6 @@ pub mod Building
 pub mod Nests
 pub mod Openings
 pub mod Timelines
+pub mod Texts
+pub mod TextInside
+pub mod Documents

@@ -11,14 +11,17 @@ mod nests;
 mod opening;
 mod parts;
 mod rows;
+mod text;
 mod timeline;
 mod times;
 mod transitions;
 mod values;
+mod writing;
 
 pub use faults::{DocCode, DocFault};
 pub use opening::Opening;
 pub use timeline::{MAX_NESTS, MAX_TRACKS, read_timeline};
+pub use writing::{WriteFault, write_timeline};
 
 
 

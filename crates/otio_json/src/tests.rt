@@ -1,7 +1,7 @@
 // Documents by example. A text is written short: ' stands for ", `time N` in angle brackets for a RationalTime of N
 // frames at 24, `range S N` for a TimeRange, and ^ for the place of the fault, which is left out of the text.
 
-use crate::{DocCode, DocFault, Opening, read_timeline};
+use crate::{DocCode, DocFault, Opening, read_timeline, write_timeline};
 use composables::{Kind, Layer, Media, Track};
 use frame_meaning::{Mark, Side, What};
 use std::alloc::Global;
@@ -286,5 +286,45 @@ fn the_first_fault_of_an_item(rt: HostRuntime) -> Result<(), Fail> {
         let (found, place) = fault(alloc, whole.as_str())?;
         assert_eq!(rt; found, Some((code, place)), "{text}");
     }
+    Ok(())
+}
+
+fn text_of(alloc: Global, opening: &Opening) -> Result<Vec<u8>, Fail> {
+    Ok(write_timeline(
+        alloc,
+        &opening.table,
+        opening.tracks.as_slice(),
+        &opening.counting,
+        opening.start,
+    )?)
+}
+
+const PLAIN: &str = "{\"OTIO_SCHEMA\":\"Timeline.1\",\"name\":\"\",\"metadata\":{},\"global_start_time\":{\"OTIO_SCHEMA\":\"RationalTime.1\",\"rate\":24.0,\"value\":0.0},\"tracks\":{\"OTIO_SCHEMA\":\"Stack.1\",\"name\":\"tracks\",\"metadata\":{},\"source_range\":null,\"effects\":[],\"markers\":[],\"children\":[{\"OTIO_SCHEMA\":\"Track.1\",\"name\":\"\",\"metadata\":{},\"source_range\":null,\"effects\":[],\"markers\":[],\"kind\":\"Video\",\"children\":[]}]}}";
+
+#[test]
+fn a_plain_opening_is_written(rt: HostRuntime) -> Result<(), Fail> {
+    let alloc = rt.alloc();
+    let opening = Opening::plain(alloc, 1, 1)?;
+    let text = text_of(alloc, &opening)?;
+    assert_eq!(rt; text.as_slice(), PLAIN.as_bytes());
+    Ok(())
+}
+
+#[test]
+fn what_is_written_is_read_and_written_again(rt: HostRuntime) -> Result<(), Fail> {
+    let alloc = rt.alloc();
+    for children in ["~clip~", "~gap~,~clip~", "~nest~,~clip~,~n~~nest~,~clip~~m~"] {
+        let filled = filled(alloc, children)?;
+        let whole = of_children(alloc, filled.as_str())?;
+        let opening = opened(alloc, whole.as_str())?;
+        let text = text_of(alloc, &opening)?;
+        let again = read_timeline(alloc, &text, &at_24())?;
+        assert_eq!(rt; text_of(alloc, &again)?.as_slice(), text.as_slice(), "{children}");
+    }
+    let opening = opened(alloc, REALISTIC)?;
+    let text = text_of(alloc, &opening)?;
+    let again = read_timeline(alloc, &text, &at_24())?;
+    assert_eq!(rt; text_of(alloc, &again)?.as_slice(), text.as_slice());
+    assert_eq!(rt; again.tracks.as_slice()[0].item(1).unwrap().mark, Some(Mark { a: 1, b: 2 }));
     Ok(())
 }
