@@ -7,3 +7,4 @@ pub mod ReelLaws
 pub mod Nesting
 pub mod NestLaws
 pub mod Growing
+pub mod TextLaws

@@ -1,6 +1,6 @@
 -- The text of a document, in one line of JSON without blanks.
-use Rattle.std.specs.Prelude.{◌≡◌, ℕ, zero, suc, ◌+◌, ◌-◌, ◌<◌, ◌≤◌, nat_eq, Bool, ◌&&◌, List, [], ◌∷◌, ◌++◌, length, slice_get, Option, Some, None, Result, Ok, Err, codes, decimal, vec_len, if◌then◌else◌}
-use Rattle.std.specs.declared.vec.Vec.{Vec}
+use Rattle.std.specs.Prelude.{◌≡◌, ℕ, zero, suc, ◌+◌, ◌-◌, ◌<◌, ◌≤◌, nat_eq, Bool, ◌&&◌, List, [], ◌∷◌, ◌++◌, length, slice_get, Option, Some, None, Result, Ok, Err, codes, decimal, Vec, if◌then◌else◌}
+use Rattle.std.specs.Global.{Global}
 use Rattle.timecode12.specs.Numbers.{Counted}
 use Rattle.timecode12.specs.declared.rate.SequenceRate.{SequenceRate}
 use Rattle.timecode12.specs.declared.rate.SequenceRate.TheVariants.{F23976, F24, F25, F2997, F30}
@@ -22,6 +22,86 @@ use Rattle.json_tree.specs.Writing.{quoted}
 use Rattle.otio_json.specs.declared.writing.WriteFault.{WriteFault}
 use Rattle.otio_json.specs.declared.writing.WriteFault.TheVariants.{TooLarge, Memory}
 
+-- ---- the fixed parts
+
+abbrev pub time_open : List ℕ
+time_open = codes "{\"OTIO_SCHEMA\":\"RationalTime.1\",\"rate\":"
+
+abbrev pub time_value : List ℕ
+time_value = codes ",\"value\":"
+
+abbrev pub time_close : List ℕ
+time_close = codes ".0}"
+
+abbrev pub range_open : List ℕ
+range_open = codes "{\"OTIO_SCHEMA\":\"TimeRange.1\",\"duration\":"
+
+abbrev pub range_start : List ℕ
+range_start = codes ",\"start_time\":"
+
+abbrev pub gap_open : List ℕ
+gap_open = codes "{\"OTIO_SCHEMA\":\"Gap.1\",\"name\":\"\",\"metadata\":{},\"source_range\":"
+
+abbrev pub gap_close : List ℕ
+gap_close = codes ",\"effects\":[],\"markers\":[]}"
+
+abbrev pub clip_open : List ℕ
+clip_open = codes "{\"OTIO_SCHEMA\":\"Clip.1\",\"name\":"
+
+abbrev pub clip_reel : List ℕ
+clip_reel = codes ",\"metadata\":{\"cmx_3600\":{\"reel\":"
+
+abbrev pub clip_range : List ℕ
+clip_range = codes "}},\"source_range\":"
+
+abbrev pub clip_media : List ℕ
+clip_media = codes ",\"effects\":[],\"markers\":[],\"media_reference\":{\"OTIO_SCHEMA\":\"MissingReference.1\",\"name\":\"\",\"metadata\":{},\"available_range\":"
+
+abbrev pub clip_close : List ℕ
+clip_close = codes "}}"
+
+abbrev pub transition_open : List ℕ
+transition_open = codes "{\"OTIO_SCHEMA\":\"Transition.1\",\"name\":\"\",\"metadata\":{},\"transition_type\":\"SMPTE_Dissolve\",\"in_offset\":"
+
+abbrev pub transition_out : List ℕ
+transition_out = codes ",\"out_offset\":"
+
+abbrev pub nest_open : List ℕ
+nest_open = codes "{\"OTIO_SCHEMA\":\"Stack.1\",\"name\":\"\",\"metadata\":{},\"source_range\":"
+
+abbrev pub nest_children : List ℕ
+nest_children = codes ",\"effects\":[],\"markers\":[],\"children\":["
+
+abbrev pub layer_open : List ℕ
+layer_open = codes "{\"OTIO_SCHEMA\":\"Track.1\",\"name\":\"\",\"metadata\":{},\"source_range\":"
+
+abbrev pub layer_children : List ℕ
+layer_children = codes ",\"effects\":[],\"markers\":[],\"kind\":\"Video\",\"children\":["
+
+abbrev pub track_open : List ℕ
+track_open = codes "{\"OTIO_SCHEMA\":\"Track.1\",\"name\":\"\",\"metadata\":{},\"source_range\":null,\"effects\":[],\"markers\":[],\"kind\":"
+
+abbrev pub track_children : List ℕ
+track_children = codes ",\"children\":["
+
+abbrev pub children_close : List ℕ
+children_close = codes "]}"
+
+abbrev pub timeline_open : List ℕ
+timeline_open = codes "{\"OTIO_SCHEMA\":\"Timeline.1\",\"name\":\"\",\"metadata\":{},\"global_start_time\":"
+
+abbrev pub timeline_tracks : List ℕ
+timeline_tracks = codes ",\"tracks\":{\"OTIO_SCHEMA\":\"Stack.1\",\"name\":\"tracks\",\"metadata\":{},\"source_range\":null,\"effects\":[],\"markers\":[],\"children\":["
+
+abbrev pub timeline_close : List ℕ
+timeline_close = codes "]}}"
+
+abbrev pub brace : List ℕ
+brace = codes "}"
+
+abbrev pub comma : List ℕ
+comma = codes ","
+
 -- ---- times
 
 abbrev pub rate_text : SequenceRate → List ℕ
@@ -32,23 +112,23 @@ rate_text F2997 = codes "29.97"
 rate_text F30 = codes "30.0"
 
 unfoldable pub time_text : SequenceRate → ℕ → List ℕ
-time_text rate f = codes "{\"OTIO_SCHEMA\":\"RationalTime.1\",\"rate\":" ++ (rate_text rate ++ (codes ",\"value\":" ++ (decimal f ++ codes ".0}")))
+time_text rate f = time_open ++ (rate_text rate ++ (time_value ++ (decimal f ++ time_close)))
 
 unfoldable pub range_text : SequenceRate → ℕ → ℕ → List ℕ
-range_text rate from len = codes "{\"OTIO_SCHEMA\":\"TimeRange.1\",\"duration\":" ++ (time_text rate len ++ (codes ",\"start_time\":" ++ (time_text rate from ++ codes "}")))
+range_text rate from len = range_open ++ (time_text rate len ++ (range_start ++ (time_text rate from ++ brace)))
 
 -- ---- items without a nest, and transitions
 
 unfoldable pub gap_text : SequenceRate → ℕ → List ℕ
-gap_text rate len = codes "{\"OTIO_SCHEMA\":\"Gap.1\",\"name\":\"\",\"metadata\":{},\"source_range\":" ++ (range_text rate 0 len ++ codes ",\"effects\":[],\"markers\":[]}")
+gap_text rate len = gap_open ++ (range_text rate 0 len ++ gap_close)
 
 unfoldable pub clip_text : SequenceRate → List ℕ → ℕ → ℕ → Media → List ℕ
 clip_text rate reel source len m =
-    codes "{\"OTIO_SCHEMA\":\"Clip.1\",\"name\":" ++ (quoted reel
-    ++ (codes ",\"metadata\":{\"cmx_3600\":{\"reel\":" ++ (quoted reel
-    ++ (codes "}},\"source_range\":" ++ (range_text rate source len
-    ++ (codes ",\"effects\":[],\"markers\":[],\"media_reference\":{\"OTIO_SCHEMA\":\"MissingReference.1\",\"name\":\"\",\"metadata\":{},\"available_range\":"
-    ++ (range_text rate m.from (m.to - m.from) ++ codes "}}")))))))
+    clip_open ++ (quoted reel
+    ++ (clip_reel ++ (quoted reel
+    ++ (clip_range ++ (range_text rate source len
+    ++ (clip_media
+    ++ (range_text rate m.from (m.to - m.from) ++ clip_close)))))))
 
 abbrev pub text_or_none : Option (List ℕ) → List ℕ
 text_or_none None = []
@@ -67,36 +147,39 @@ clip_if table rate n source len = clip_of table.reels rate (slice_get table.medi
 
 unfoldable pub transition_text : SequenceRate → Mark → List ℕ
 transition_text rate m =
-    codes "{\"OTIO_SCHEMA\":\"Transition.1\",\"name\":\"\",\"metadata\":{},\"transition_type\":\"SMPTE_Dissolve\",\"in_offset\":" ++ (time_text rate m.a
-    ++ (codes ",\"out_offset\":" ++ (time_text rate m.b ++ codes "}")))
+    transition_open ++ (time_text rate m.a
+    ++ (transition_out ++ (time_text rate m.b ++ brace)))
 
 -- the transition at the cut before an item, behind a comma
 abbrev pub mark_text : SequenceRate → Option Mark → List ℕ
 mark_text rate None = []
-mark_text rate (Some m) = codes "," ++ transition_text rate m
+mark_text rate (Some m) = comma ++ transition_text rate m
 
 -- ---- items, where the layers of nest j are written as layers j
 
 abbrev pub nest_around : SequenceRate → ℕ → ℕ → List ℕ → List ℕ
 nest_around rate source len layers =
-    codes "{\"OTIO_SCHEMA\":\"Stack.1\",\"name\":\"\",\"metadata\":{},\"source_range\":" ++ (range_text rate source len
-    ++ (codes ",\"effects\":[],\"markers\":[],\"children\":[" ++ (layers ++ codes "]}")))
+    nest_open ++ (range_text rate source len
+    ++ (nest_children ++ (layers ++ children_close)))
 
 abbrev pub layer_range : SequenceRate → Layer → List ℕ
 layer_range rate l = if nat_eq l.from 0 && nat_eq l.to (length l.track.cells) then codes "null" else range_text rate l.from (l.to - l.from)
 
 module _ (table : Table) (rate : SequenceRate) (layers : ℕ → List ℕ) where
+  abbrev pub thing_in : What → ℕ → ℕ → List ℕ
+  thing_in (MediaOf m) source len = clip_if table rate m source len
+  thing_in (NestOf j) source len = nest_around rate source len (layers j)
+
   abbrev pub side_in : Side What → ℕ → List ℕ
   side_in Dark len = gap_text rate len
-  side_in (Pic (MediaOf m) source) len = clip_if table rate m source len
-  side_in (Pic (NestOf j) source) len = nest_around rate source len (layers j)
+  side_in (Pic what source) len = thing_in what source len
 
   abbrev pub item_in : ItemView → List ℕ
   item_in v = side_in v.first v.len
 
   abbrev pub later_items_in : List ItemView → List ℕ
   later_items_in [] = []
-  later_items_in (v ∷ vs) = mark_text rate v.mark ++ (codes "," ++ (item_in v ++ later_items_in vs))
+  later_items_in (v ∷ vs) = mark_text rate v.mark ++ (comma ++ (item_in v ++ later_items_in vs))
 
   -- items and transitions, parted by commas
   abbrev pub items_in : List ItemView → List ℕ
@@ -105,12 +188,12 @@ module _ (table : Table) (rate : SequenceRate) (layers : ℕ → List ℕ) where
 
   abbrev pub layer_in : Layer → List ℕ
   layer_in l =
-      codes "{\"OTIO_SCHEMA\":\"Track.1\",\"name\":\"\",\"metadata\":{},\"source_range\":" ++ (layer_range rate l
-      ++ (codes ",\"effects\":[],\"markers\":[],\"kind\":\"Video\",\"children\":[" ++ (items_in (items_of l.track.cells) ++ codes "]}")))
+      layer_open ++ (layer_range rate l
+      ++ (layer_children ++ (items_in (items_of l.track.cells) ++ children_close)))
 
   abbrev pub later_layers_in : List Layer → List ℕ
   later_layers_in [] = []
-  later_layers_in (l ∷ ls) = codes "," ++ (layer_in l ++ later_layers_in ls)
+  later_layers_in (l ∷ ls) = comma ++ (layer_in l ++ later_layers_in ls)
 
   abbrev pub layers_in : List Layer → List ℕ
   layers_in [] = []
@@ -128,6 +211,9 @@ nest_layers table rate (suc levels) j = layers_if table rate (nest_layers table 
 
 unfoldable pub nest_text : Table → SequenceRate → ℕ → ℕ → ℕ → ℕ → List ℕ
 nest_text table rate levels j source len = nest_around rate source len (nest_layers table rate levels j)
+
+unfoldable pub thing_text : Table → SequenceRate → ℕ → What → ℕ → ℕ → List ℕ
+thing_text table rate levels what source len = thing_in table rate (nest_layers table rate levels) what source len
 
 unfoldable pub item_text : Table → SequenceRate → ℕ → ItemView → List ℕ
 item_text table rate levels v = item_in table rate (nest_layers table rate levels) v
@@ -159,12 +245,12 @@ kind_at table i = slice_get table.kinds i
 
 unfoldable pub track_text : Table → SequenceRate → Option Kind → TrackState → List ℕ
 track_text table rate kind t =
-    codes "{\"OTIO_SCHEMA\":\"Track.1\",\"name\":\"\",\"metadata\":{},\"source_range\":null,\"effects\":[],\"markers\":[],\"kind\":" ++ (kind_text kind
-    ++ (codes ",\"children\":[" ++ (items_text table rate (length table.nests) t ++ codes "]}")))
+    track_open ++ (kind_text kind
+    ++ (track_children ++ (items_text table rate (length table.nests) t ++ children_close)))
 
 abbrev pub later_tracks : Table → SequenceRate → ℕ → List TrackState → List ℕ
 later_tracks table rate i [] = []
-later_tracks table rate i (t ∷ ts) = codes "," ++ (track_text table rate (kind_at table i) t ++ later_tracks table rate (i + 1) ts)
+later_tracks table rate i (t ∷ ts) = comma ++ (track_text table rate (kind_at table i) t ++ later_tracks table rate (i + 1) ts)
 
 abbrev pub tracks_text : Table → SequenceRate → List TrackState → List ℕ
 tracks_text table rate [] = []
@@ -174,12 +260,12 @@ tracks_text table rate (t ∷ ts) = track_text table rate (kind_at table 0) t ++
 
 unfoldable pub timeline_text : Table → List TrackState → Counted → ℕ → List ℕ
 timeline_text table tracks c start =
-    codes "{\"OTIO_SCHEMA\":\"Timeline.1\",\"name\":\"\",\"metadata\":{},\"global_start_time\":" ++ (time_text c.rate start
-    ++ (codes ",\"tracks\":{\"OTIO_SCHEMA\":\"Stack.1\",\"name\":\"tracks\",\"metadata\":{},\"source_range\":null,\"effects\":[],\"markers\":[],\"children\":["
-    ++ (tracks_text table c.rate tracks ++ codes "]}}")))
+    timeline_open ++ (time_text c.rate start
+    ++ (timeline_tracks
+    ++ (tracks_text table c.rate tracks ++ timeline_close)))
 
 -- the text, or that it is too long
-abbrev pub Writes : List ℕ → Result (Vec ℕ) WriteFault → Type 0
+abbrev pub Writes : List ℕ → Result (Vec ℕ Global) WriteFault → Type 0
 Writes text (Ok v) = (length text ≤ 33554432) × (v.items ≡ text)
 Writes text (Err TooLarge) = 33554432 < length text
 Writes text (Err Memory) = Unit {0}

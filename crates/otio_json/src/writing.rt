@@ -1,10 +1,11 @@
 // A cut as a document.
-ghost use Rattle.std.specs.Prelude.{◌≡◌, OnOk};
+ghost use Rattle.std.specs.Prelude.{◌≡◌, OnOk, option_map, slice_get};
 ghost use Rattle.otio_json.specs.Texts.{grown};
-ghost use Rattle.otio_json.specs.Documents.{rate_text, time_text, range_text, gap_text, reel_name, clip_text, clip_if, transition_text, mark_text, item_text, later_items, items_text, layer_range, layer_text, later_layers, layers_text, nest_layers, nest_text, kind_text, kind_at, track_text, later_tracks, tracks_text, timeline_text, Writes};
+ghost use Rattle.otio_json.specs.declared.writing.WriteFault.TheVariants as faults;
+ghost use Rattle.otio_json.specs.Documents.{rate_text, time_text, range_text, gap_text, reel_name, clip_text, clip_if, transition_text, mark_text, thing_text, item_text, later_items, items_text, layer_range, layer_text, later_layers, layers_text, nest_layers, nest_text, kind_text, kind_at, track_text, later_tracks, tracks_text, timeline_text, Writes};
 
 use crate::text::DocText;
-use composables::{ItemView, Kind, Layer, Media, Memory, Table, Track};
+use composables::{ItemView, Kind, Layer, Media, Memory, Nest, Table, Track};
 use frame_meaning::{Mark, Side, What};
 use std::alloc::Global;
 use timecode12::{Counting, SequenceRate};
@@ -19,6 +20,8 @@ pub enum WriteFault {
 }
 
 impl From<Memory> for WriteFault {
+    ghost from_gives = { λ _ e. e ≡ faults.Memory };
+
     fn from(_: Memory) -> WriteFault {
         WriteFault::Memory
     }
@@ -36,7 +39,7 @@ fn rate_bytes(rate: SequenceRate) -> &'static [u8]
     }
 }
 
-#[tactic(auto, using(crate::proofs::Growing::grown_twice, crate::proofs::Growing::grown_nothing))]
+#[tactic(auto, using(crate::proofs::Growing::grown_nothing))]
 fn put_time(out: &mut DocText, rate: SequenceRate, frames: u32) -> Result<(), Memory>
     ensures { OnOk result (out.new ≡ grown out.old (time_text rate frames)) }
 {
@@ -47,7 +50,7 @@ fn put_time(out: &mut DocText, rate: SequenceRate, frames: u32) -> Result<(), Me
     out.put(b".0}")
 }
 
-#[tactic(auto, using(crate::proofs::Growing::grown_twice, crate::proofs::Growing::grown_nothing))]
+#[tactic(auto, using(crate::proofs::Growing::grown_nothing))]
 fn put_range(out: &mut DocText, rate: SequenceRate, from: u32, len: u32) -> Result<(), Memory>
     ensures { OnOk result (out.new ≡ grown out.old (range_text rate from len)) }
 {
@@ -58,7 +61,7 @@ fn put_range(out: &mut DocText, rate: SequenceRate, from: u32, len: u32) -> Resu
     out.put(b"}")
 }
 
-#[tactic(auto, using(crate::proofs::Growing::grown_twice, crate::proofs::Growing::grown_nothing))]
+#[tactic(auto, using(crate::proofs::Growing::grown_nothing))]
 fn put_gap(out: &mut DocText, rate: SequenceRate, len: u32) -> Result<(), Memory>
     ensures { OnOk result (out.new ≡ grown out.old (gap_text rate len)) }
 {
@@ -76,7 +79,7 @@ fn reel_name(table: &Table, reel: u32) -> &str
     }
 }
 
-#[tactic(auto, using(crate::proofs::Growing::grown_twice, crate::proofs::Growing::grown_nothing))]
+#[tactic(auto, using(crate::proofs::Growing::grown_nothing))]
 fn put_clip(
     out: &mut DocText,
     rate: SequenceRate,
@@ -98,7 +101,7 @@ fn put_clip(
     out.put(b"}}")
 }
 
-#[tactic(auto, using(crate::proofs::Growing::grown_twice, crate::proofs::Growing::grown_nothing))]
+#[tactic(auto, using(crate::proofs::Growing::grown_nothing))]
 fn put_transition(out: &mut DocText, rate: SequenceRate, mark: Mark) -> Result<(), Memory>
     ensures { OnOk result (out.new ≡ grown out.old (transition_text rate mark)) }
 {
@@ -109,8 +112,20 @@ fn put_transition(out: &mut DocText, rate: SequenceRate, mark: Mark) -> Result<(
     out.put(b"}")
 }
 
+fn media_at(table: &Table, number: u32) -> Option<&Media>
+    ensures { option_map (λ m. m.now) result ≡ slice_get table.now.media number }
+{
+    table.media.as_slice().get(number as usize)
+}
+
+fn nest_at(table: &Table, number: u32) -> Option<&Nest>
+    ensures { option_map (λ n. n.now) result ≡ slice_get table.now.nests number }
+{
+    table.nests.as_slice().get(number as usize)
+}
+
 // A clip of a media entry, if the table has it.
-#[tactic(auto, using(crate::proofs::Growing::grown_twice, crate::proofs::Growing::grown_nothing))]
+#[tactic(auto, using(crate::proofs::Growing::grown_nothing))]
 fn put_media(
     out: &mut DocText,
     table: &Table,
@@ -121,14 +136,14 @@ fn put_media(
 ) -> Result<(), Memory>
     ensures { OnOk result (out.new ≡ grown out.old (clip_if table.now rate number source len)) }
 {
-    match table.media.as_slice().get(number as usize) {
+    match media_at(table, number) {
         Some(media) => put_clip(out, rate, reel_name(table, media.reel), source, len, media),
         None => Ok(()),
     }
 }
 
 // The transition at the cut before an item, with a comma before it.
-#[tactic(auto, using(crate::proofs::Growing::grown_twice, crate::proofs::Growing::grown_nothing))]
+#[tactic(auto, using(crate::proofs::Growing::grown_nothing))]
 fn put_mark(out: &mut DocText, rate: SequenceRate, mark: Option<Mark>) -> Result<(), Memory>
     ensures { OnOk result (out.new ≡ grown out.old (mark_text rate mark)) }
 {
@@ -142,7 +157,7 @@ fn put_mark(out: &mut DocText, rate: SequenceRate, mark: Option<Mark>) -> Result
 }
 
 #[cycle(put)]
-#[tactic(auto, using(crate::proofs::Growing::grown_twice, crate::proofs::Growing::grown_nothing))]
+#[tactic(auto, using(crate::proofs::Growing::grown_nothing))]
 fn put_item(
     out: &mut DocText,
     table: &Table,
@@ -157,19 +172,31 @@ fn put_item(
     }
     match view.first {
         Side::Dark => put_gap(out, rate, view.len),
-        Side::Pic {
-            what: What::Media(m),
-            source,
-        } => put_media(out, table, rate, m, source, view.len),
-        Side::Pic {
-            what: What::Nest(j),
-            source,
-        } => put_nest(out, table, rate, levels, j, source, view.len),
+        Side::Pic { what, source } => put_thing(out, table, rate, levels, what, source, view.len),
+    }
+}
+
+// An item that shows these frames of a thing.
+#[cycle(put)]
+fn put_thing(
+    out: &mut DocText,
+    table: &Table,
+    rate: SequenceRate,
+    levels: usize,
+    what: What,
+    source: u32,
+    len: u32,
+) -> Result<(), Memory>
+    ensures { OnOk result (out.new ≡ grown out.old (thing_text table.now rate levels what source len)) }
+{
+    match what {
+        What::Media(m) => put_media(out, table, rate, m, source, len),
+        What::Nest(j) => put_nest(out, table, rate, levels, j, source, len),
     }
 }
 
 #[cycle(put)]
-#[tactic(auto, using(crate::proofs::Growing::grown_twice, crate::proofs::Growing::grown_nothing))]
+#[tactic(auto, using(crate::proofs::Growing::grown_nothing))]
 fn put_nest(
     out: &mut DocText,
     table: &Table,
@@ -189,7 +216,7 @@ fn put_nest(
 }
 
 #[cycle(put)]
-#[tactic(auto, using(crate::proofs::Growing::grown_twice, crate::proofs::Growing::grown_nothing))]
+#[tactic(auto, using(crate::proofs::Growing::grown_nothing))]
 fn put_nest_layers(
     out: &mut DocText,
     table: &Table,
@@ -202,14 +229,14 @@ fn put_nest_layers(
     if levels == 0 {
         return Ok(());
     }
-    match table.nests.as_slice().get(number as usize) {
+    match nest_at(table, number) {
         Some(nest) => put_layers(out, table, rate, levels - 1, nest.layers.as_slice()),
         None => Ok(()),
     }
 }
 
 #[cycle(put)]
-#[tactic(auto, using(crate::proofs::Growing::grown_twice, crate::proofs::Growing::grown_nothing))]
+#[tactic(auto, using(crate::proofs::Growing::grown_nothing))]
 fn put_layers(
     out: &mut DocText,
     table: &Table,
@@ -229,7 +256,7 @@ fn put_layers(
 }
 
 #[cycle(put)]
-#[tactic(auto, using(crate::proofs::Growing::grown_twice, crate::proofs::Growing::grown_nothing))]
+#[tactic(auto, using(crate::proofs::Growing::grown_nothing))]
 fn put_other_layers(
     out: &mut DocText,
     table: &Table,
@@ -246,7 +273,7 @@ fn put_other_layers(
     Ok(())
 }
 
-#[tactic(auto, using(crate::proofs::Growing::grown_twice, crate::proofs::Growing::grown_nothing))]
+#[tactic(auto, using(crate::proofs::Growing::grown_nothing))]
 fn put_layer_range(out: &mut DocText, rate: SequenceRate, layer: &Layer) -> Result<(), Memory>
     ensures { OnOk result (out.new ≡ grown out.old (layer_range rate layer.now)) }
 {
@@ -257,7 +284,7 @@ fn put_layer_range(out: &mut DocText, rate: SequenceRate, layer: &Layer) -> Resu
 }
 
 #[cycle(put)]
-#[tactic(auto, using(crate::proofs::Growing::grown_twice, crate::proofs::Growing::grown_nothing))]
+#[tactic(auto, using(crate::proofs::Growing::grown_nothing))]
 fn put_layer(
     out: &mut DocText,
     table: &Table,
@@ -275,7 +302,7 @@ fn put_layer(
 }
 
 #[cycle(put)]
-#[tactic(auto, using(crate::proofs::Growing::grown_twice, crate::proofs::Growing::grown_nothing))]
+#[tactic(auto, using(crate::proofs::Growing::grown_nothing))]
 fn put_items(
     out: &mut DocText,
     table: &Table,
@@ -296,7 +323,7 @@ fn put_items(
 }
 
 #[cycle(put)]
-#[tactic(auto, using(crate::proofs::Growing::grown_twice, crate::proofs::Growing::grown_nothing))]
+#[tactic(auto, using(crate::proofs::Growing::grown_nothing))]
 fn put_other_items(
     out: &mut DocText,
     table: &Table,
@@ -324,7 +351,7 @@ fn kind_bytes(kind: Option<Kind>) -> &'static [u8]
 }
 
 // A track of the sequence.
-#[tactic(auto, using(crate::proofs::Growing::grown_twice, crate::proofs::Growing::grown_nothing))]
+#[tactic(auto, using(crate::proofs::Growing::grown_nothing))]
 fn put_track(
     out: &mut DocText,
     table: &Table,
@@ -341,7 +368,7 @@ fn put_track(
     out.put(b"]}")
 }
 
-#[tactic(auto, using(crate::proofs::Growing::grown_twice, crate::proofs::Growing::grown_nothing))]
+#[tactic(auto, using(crate::proofs::Growing::grown_nothing))]
 fn put_tracks(
     out: &mut DocText,
     table: &Table,
@@ -365,7 +392,7 @@ fn kind_at(table: &Table, index: usize) -> Option<Kind>
     table.kinds.as_slice().get(index).copied()
 }
 
-#[tactic(auto, using(crate::proofs::Growing::grown_twice, crate::proofs::Growing::grown_nothing))]
+#[tactic(auto, using(crate::proofs::Growing::grown_nothing))]
 fn put_other_tracks(
     out: &mut DocText,
     table: &Table,
@@ -381,7 +408,7 @@ fn put_other_tracks(
     Ok(())
 }
 
-#[tactic(auto, using(crate::proofs::Growing::grown_twice, crate::proofs::Growing::grown_nothing))]
+#[tactic(auto, using(crate::proofs::Growing::grown_nothing))]
 fn put_timeline(
     out: &mut DocText,
     table: &Table,
