@@ -12,66 +12,62 @@ const TIME: &str = "{\"OTIO_SCHEMA\":\"RationalTime.1\",\"rate\":24.0,\"value\":
 
 const RANGE: &str = "{\"OTIO_SCHEMA\":\"TimeRange.1\",\"start_time\":";
 
-// The number up to the next blank or `>`.
-fn word(text: &[u8]) -> usize {
-    let mut len = 0;
-    for byte in text {
-        if *byte == b' ' || *byte == b'>' {
-            return len;
+// A text in which ' stands for ".
+fn put_plain(out: &mut String, text: &str) -> Result<(), Fail> {
+    let mut first = true;
+    for part in text.split('\'') {
+        if !first {
+            out.push_str("\"")?;
         }
-        len += 1;
+        out.push_str(part)?;
+        first = false;
     }
-    len
-}
-
-fn put_time(out: &mut Vec<u8>, number: &[u8]) -> Result<(), Fail> {
-    out.extend_from_slice(TIME.as_bytes())?;
-    out.extend_from_slice(number)?;
-    out.push(b'}')?;
     Ok(())
 }
 
-// What stands in angle brackets, and how many bytes it takes.
-fn put_short(out: &mut Vec<u8>, text: &[u8]) -> Result<usize, Fail> {
-    let first = word(text);
-    let (_, rest) = text.split_at((first + 1).min(text.len()));
-    let second = word(rest);
-    let (number, after) = rest.split_at(second);
-    if text.first() == Some(&b't') {
-        put_time(out, number)?;
-        return Ok(first + 1 + second + 1);
+fn put_time(out: &mut String, number: &str) -> Result<(), Fail> {
+    out.push_str(TIME)?;
+    out.push_str(number)?;
+    out.push_str("}")?;
+    Ok(())
+}
+
+// `time N`, or `range S N`.
+fn put_short(out: &mut String, short: &str) -> Result<(), Fail> {
+    let mut words = short.split(' ');
+    let kind = words.next().unwrap_or("");
+    let first = words.next().unwrap_or("");
+    if kind == "time" {
+        return put_time(out, first);
     }
-    let (_, after) = after.split_at(1.min(after.len()));
-    let third = word(after);
-    let (length, _) = after.split_at(third);
-    out.extend_from_slice(RANGE.as_bytes())?;
-    put_time(out, number)?;
-    out.extend_from_slice(b",\"duration\":")?;
-    put_time(out, length)?;
-    out.push(b'}')?;
-    Ok(first + 1 + second + 1 + third + 1)
+    out.push_str(RANGE)?;
+    put_time(out, first)?;
+    out.push_str(",\"duration\":")?;
+    put_time(out, words.next().unwrap_or(""))?;
+    out.push_str("}")?;
+    Ok(())
+}
+
+fn put_piece(out: &mut String, piece: &str) -> Result<(), Fail> {
+    for part in piece.split('<') {
+        match part.split_once('>') {
+            Some((short, rest)) => {
+                put_short(out, short)?;
+                put_plain(out, rest)?;
+            }
+            None => put_plain(out, part)?,
+        }
+    }
+    Ok(())
 }
 
 // The text that is written short, and the place that is marked in it.
-fn written(alloc: Global, short: &str) -> Result<(Vec<u8>, u32), Fail> {
-    let mut out = Vec::new(alloc);
+fn written(alloc: Global, short: &str) -> Result<(String, u32), Fail> {
+    let mut out = String::new(alloc);
     let mut place = 0;
-    let mut skip = 0;
-    let bytes = short.as_bytes();
-    for i in 0..bytes.len() {
-        if skip > 0 {
-            skip -= 1;
-            continue;
-        }
-        match bytes[i] {
-            b'^' => place = out.len() as u32,
-            b'\'' => out.push(b'"')?,
-            b'<' => {
-                let (_, rest) = bytes.split_at(i + 1);
-                skip = put_short(&mut out, rest)?;
-            }
-            byte => out.push(byte)?,
-        }
+    for piece in short.split('^') {
+        place = u32::try_from(out.len()).unwrap_or(0);
+        put_piece(&mut out, piece)?;
     }
     Ok((out, place))
 }
@@ -82,7 +78,7 @@ fn at_24() -> Counting {
 
 fn opened(alloc: Global, short: &str) -> Result<Opening, Fail> {
     let (text, _) = written(alloc, short)?;
-    Ok(read_timeline(alloc, &text, &at_24())?)
+    Ok(read_timeline(alloc, text.as_bytes(), &at_24())?)
 }
 
 #[test]
@@ -181,7 +177,7 @@ fn of_children(alloc: Global, children: &str) -> Result<String, Fail> {
 // What reading says: no fault, or its code and place.
 fn fault(alloc: Global, short: &str) -> Result<(Option<(DocCode, u32)>, u32), Fail> {
     let (text, place) = written(alloc, short)?;
-    match read_timeline(alloc, &text, &at_24()) {
+    match read_timeline(alloc, text.as_bytes(), &at_24()) {
         Ok(_) => Ok((None, place)),
         Err(DocFault::Refused { code, at }) => Ok((Some((code, at)), place)),
         Err(DocFault::Memory) => Ok((None, u32::MAX)),
