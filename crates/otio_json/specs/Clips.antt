@@ -154,7 +154,8 @@ part_of number frames = record { first = Pic (MediaOf number) frames.source; len
 abbrev pub entered : Table → List ℕ → Frames → Part × Table
 entered table reel frames = (
   part_of (entry_number table.media (entry_of table reel frames)) frames,
-  record table { reels = with_name table.reels reel; media = with_entry table.media (entry_of table reel frames) })
+  record table { reels = with_name table.reels reel; media = with_entry table.media (entry_of table reel frames) },
+)
 
 -- a clip's own part
 unfoldable pub clip_read : ℕ × ℕ → Table → Tree → Read (Part × Table)

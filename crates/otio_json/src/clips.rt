@@ -195,7 +195,10 @@ fn clip_frames(source: Option<(u32, u32)>, available: Option<(u32, u32)>) -> Opt
 fn named_reel(clip: &Json) -> Option<&str>
     ensures { option_map (λ text. text.now) result ≡ named_reel (tree_of clip.now) }
 {
-    clip.member("metadata")?.member("cmx_3600")?.member("reel")?.text()
+    clip.member("metadata")?
+        .member("cmx_3600")?
+        .member("reel")?
+        .text()
 }
 
 /// The name of a clip's reel.

@@ -292,7 +292,15 @@ fn track_layer(
     head(json)?;
     let trim = trim(rate, json)?;
     let children = list(needed(json, "children")?)?;
-    let track = track(alloc, rate, Nesting::Levels(levels), number, table, children, json.at)?;
+    let track = track(
+        alloc,
+        rate,
+        Nesting::Levels(levels),
+        number,
+        table,
+        children,
+        json.at,
+    )?;
     let (from, len) = nest_frames(track.length(), trim)?;
     Ok(Layer {
         track,

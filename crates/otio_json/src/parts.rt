@@ -38,7 +38,10 @@ impl Part {
         ensures { result ≡ is_nest self.now }
     {
         match self.first {
-            Side::Pic { what: What::Nest(_), .. } => true,
+            Side::Pic {
+                what: What::Nest(_),
+                ..
+            } => true,
             _ => false,
         }
     }

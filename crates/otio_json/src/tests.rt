@@ -156,22 +156,39 @@ fn a_realistic_document(rt: HostRuntime) -> Result<(), Fail> {
     for (reel, name) in [(0, "TAPE1"), (1, "TAPE2"), (2, "GFX1")] {
         assert_eq!(rt; opening.table.reels.name(reel), Some(name));
     }
-    let media = [(0, 3500, 3800), (1, 0, 500), (2, 0, 16_777_216)]
-        .map(|(reel, from, to)| Media { reel, from, to });
+    let media = [(0, 3500, 3800), (1, 0, 500), (2, 0, 16_777_216)].map(|(reel, from, to)| Media {
+        reel,
+        from,
+        to,
+    });
     assert_eq!(rt; opening.table.media.as_slice(), media.as_slice());
     let tracks = opening.tracks.as_slice();
     assert_eq!(rt; tracks.len(), 4);
-    assert_eq!(rt; shown(alloc, &tracks[0])?.as_slice(), [(0, 3600, 48), (1, 100, 24)].as_slice());
-    assert_eq!(rt; shown(alloc, &tracks[1])?.as_slice(), [(99, 0, 60), (2, 0, 6)].as_slice());
-    assert_eq!(rt; shown(alloc, &tracks[2])?.as_slice(), [(0, 3600, 72)].as_slice());
-    assert_eq!(rt; shown(alloc, &tracks[3])?.as_slice(), [(99, 0, 48), (1, 100, 24)].as_slice());
+    assert_eq!(rt;
+        shown(alloc, &tracks[0])?.as_slice(),
+        [(0, 3600, 48), (1, 100, 24)].as_slice()
+    );
+    assert_eq!(rt;
+        shown(alloc, &tracks[1])?.as_slice(),
+        [(99, 0, 60), (2, 0, 6)].as_slice()
+    );
+    assert_eq!(rt;
+        shown(alloc, &tracks[2])?.as_slice(),
+        [(0, 3600, 72)].as_slice()
+    );
+    assert_eq!(rt;
+        shown(alloc, &tracks[3])?.as_slice(),
+        [(99, 0, 48), (1, 100, 24)].as_slice()
+    );
     assert_eq!(rt; tracks[0].item(1).unwrap().mark, Some(Mark { a: 1, b: 2 }));
     Ok(())
 }
 
 // A document of one video track with these children.
 fn of_children(alloc: Global, children: &str) -> Result<String, Fail> {
-    Ok(format!(in alloc; "{{'OTIO_SCHEMA':'Timeline.1','tracks':{{'OTIO_SCHEMA':'Stack.1','children':[{{'OTIO_SCHEMA':'Track.1','kind':'Video','children':[{children}]}}]}}}}")?)
+    Ok(format!(in alloc;
+        "{{'OTIO_SCHEMA':'Timeline.1','tracks':{{'OTIO_SCHEMA':'Stack.1','children':[{{'OTIO_SCHEMA':'Track.1','kind':'Video','children':[{children}]}}]}}}}"
+    )?)
 }
 
 // What reading says: no fault, or its code and place.
@@ -196,20 +213,62 @@ fn the_first_fault_of_a_document(rt: HostRuntime) -> Result<(), Fail> {
         (DocCode::O3, "{'OTIO_SCHEMA':^'Stack.1'}"),
         (DocCode::O2, "^{'OTIO_SCHEMA':'Timeline.1'}"),
         (DocCode::O3, "{'OTIO_SCHEMA':'Timeline.1','tracks':^null}"),
-        (DocCode::O3, "{'OTIO_SCHEMA':'Timeline.1','tracks':null,'global_start_time':^0}"),
-        (DocCode::O11, "{'OTIO_SCHEMA':'Timeline.1','global_start_time':^<time -1>}"),
-        (DocCode::O11, "{'OTIO_SCHEMA':'Timeline.1','global_start_time':^<time 2073600>}"),
-        (DocCode::O2, "^{'OTIO_SCHEMA':'Timeline.1','global_start_time':<time 2073599>}"),
-        (DocCode::O4, "{'OTIO_SCHEMA':'Timeline.1','global_start_time':^<time 0.5>}"),
-        (DocCode::O16, "{'OTIO_SCHEMA':'Timeline.1','tracks':{'OTIO_SCHEMA':'Stack.1','source_range':^1}}"),
-        (DocCode::O10, "{'OTIO_SCHEMA':'Timeline.1','tracks':{'OTIO_SCHEMA':'Stack.1','children':^[]}}"),
-        (DocCode::O10, "{'OTIO_SCHEMA':'Timeline.1','tracks':{'OTIO_SCHEMA':'Stack.1','children':^[1,1,1,1,1,1,1,1,1,1,1,1,1,1,1,1,1]}}"),
-        (DocCode::O3, "{'OTIO_SCHEMA':'Timeline.1','tracks':{'OTIO_SCHEMA':'Stack.1','children':[^1,1,1,1,1,1,1,1,1,1,1,1,1,1,1,1]}}"),
-        (DocCode::O7, "{'OTIO_SCHEMA':'Timeline.1','tracks':{'OTIO_SCHEMA':'Stack.1','children':[{'OTIO_SCHEMA':'Track.1','enabled':^false}]}}"),
-        (DocCode::O16, "{'OTIO_SCHEMA':'Timeline.1','tracks':{'OTIO_SCHEMA':'Stack.1','children':[{'OTIO_SCHEMA':'Track.1','source_range':^{}}]}}"),
-        (DocCode::O2, "{'OTIO_SCHEMA':'Timeline.1','tracks':{'OTIO_SCHEMA':'Stack.1','children':[^{'OTIO_SCHEMA':'Track.1'}]}}"),
-        (DocCode::O3, "{'OTIO_SCHEMA':'Timeline.1','tracks':{'OTIO_SCHEMA':'Stack.1','children':[{'OTIO_SCHEMA':'Track.1','kind':^'video'}]}}"),
-        (DocCode::O12, "{'OTIO_SCHEMA':'Timeline.1','tracks':{'OTIO_SCHEMA':'Stack.1','children':[{'OTIO_SCHEMA':'Track.1','kind':'Audio','children':[^{'OTIO_SCHEMA':'Stack.1','enabled':false}]}]}}"),
+        (
+            DocCode::O3,
+            "{'OTIO_SCHEMA':'Timeline.1','tracks':null,'global_start_time':^0}",
+        ),
+        (
+            DocCode::O11,
+            "{'OTIO_SCHEMA':'Timeline.1','global_start_time':^<time -1>}",
+        ),
+        (
+            DocCode::O11,
+            "{'OTIO_SCHEMA':'Timeline.1','global_start_time':^<time 2073600>}",
+        ),
+        (
+            DocCode::O2,
+            "^{'OTIO_SCHEMA':'Timeline.1','global_start_time':<time 2073599>}",
+        ),
+        (
+            DocCode::O4,
+            "{'OTIO_SCHEMA':'Timeline.1','global_start_time':^<time 0.5>}",
+        ),
+        (
+            DocCode::O16,
+            "{'OTIO_SCHEMA':'Timeline.1','tracks':{'OTIO_SCHEMA':'Stack.1','source_range':^1}}",
+        ),
+        (
+            DocCode::O10,
+            "{'OTIO_SCHEMA':'Timeline.1','tracks':{'OTIO_SCHEMA':'Stack.1','children':^[]}}",
+        ),
+        (
+            DocCode::O10,
+            "{'OTIO_SCHEMA':'Timeline.1','tracks':{'OTIO_SCHEMA':'Stack.1','children':^[1,1,1,1,1,1,1,1,1,1,1,1,1,1,1,1,1]}}",
+        ),
+        (
+            DocCode::O3,
+            "{'OTIO_SCHEMA':'Timeline.1','tracks':{'OTIO_SCHEMA':'Stack.1','children':[^1,1,1,1,1,1,1,1,1,1,1,1,1,1,1,1]}}",
+        ),
+        (
+            DocCode::O7,
+            "{'OTIO_SCHEMA':'Timeline.1','tracks':{'OTIO_SCHEMA':'Stack.1','children':[{'OTIO_SCHEMA':'Track.1','enabled':^false}]}}",
+        ),
+        (
+            DocCode::O16,
+            "{'OTIO_SCHEMA':'Timeline.1','tracks':{'OTIO_SCHEMA':'Stack.1','children':[{'OTIO_SCHEMA':'Track.1','source_range':^{}}]}}",
+        ),
+        (
+            DocCode::O2,
+            "{'OTIO_SCHEMA':'Timeline.1','tracks':{'OTIO_SCHEMA':'Stack.1','children':[^{'OTIO_SCHEMA':'Track.1'}]}}",
+        ),
+        (
+            DocCode::O3,
+            "{'OTIO_SCHEMA':'Timeline.1','tracks':{'OTIO_SCHEMA':'Stack.1','children':[{'OTIO_SCHEMA':'Track.1','kind':^'video'}]}}",
+        ),
+        (
+            DocCode::O12,
+            "{'OTIO_SCHEMA':'Timeline.1','tracks':{'OTIO_SCHEMA':'Stack.1','children':[{'OTIO_SCHEMA':'Track.1','kind':'Audio','children':[^{'OTIO_SCHEMA':'Stack.1','enabled':false}]}]}}",
+        ),
     ] {
         let (found, place) = fault(alloc, text)?;
         assert_eq!(rt; found, Some((code, place)), "{text}");
@@ -217,11 +276,13 @@ fn the_first_fault_of_a_document(rt: HostRuntime) -> Result<(), Fail> {
     Ok(())
 }
 
-const CLIP: &str = "{'OTIO_SCHEMA':'Clip.1','source_range':<range 10 20>,'media_reference':{'available_range':<range 0 100>}}";
+const CLIP: &str =
+    "{'OTIO_SCHEMA':'Clip.1','source_range':<range 10 20>,'media_reference':{'available_range':<range 0 100>}}";
 
 const GAP: &str = "{'OTIO_SCHEMA':'Gap.1','source_range':<range 0 3>}";
 
-const NEST: &str = "{'OTIO_SCHEMA':'Track.1','children':[{'OTIO_SCHEMA':'Gap.1','source_range':<range 0 3>}]}";
+const NEST: &str =
+    "{'OTIO_SCHEMA':'Track.1','children':[{'OTIO_SCHEMA':'Gap.1','source_range':<range 0 3>}]}";
 
 // Every `clip`, `gap` and `nest` between ~ stands for one, and `n` and `m` for what stands around a nest's layers.
 fn filled(alloc: Global, short: &str) -> Result<String, Fail> {
@@ -245,37 +306,109 @@ fn the_first_fault_of_an_item(rt: HostRuntime) -> Result<(), Fail> {
     for (code, text) in [
         (DocCode::O3, "{'OTIO_SCHEMA':^'Timeline.1'}"),
         (DocCode::O1, "{'OTIO_SCHEMA':^'Clip.2'}"),
-        (DocCode::O7, "{'OTIO_SCHEMA':'Clip.1','enabled':^false,'effects':1}"),
+        (
+            DocCode::O7,
+            "{'OTIO_SCHEMA':'Clip.1','enabled':^false,'effects':1}",
+        ),
         (DocCode::O3, "{'OTIO_SCHEMA':'Clip.1','enabled':^0}"),
         (DocCode::O3, "{'OTIO_SCHEMA':'Clip.1','effects':^{}}"),
-        (DocCode::O6, "{'OTIO_SCHEMA':'Clip.1','effects':[1,{},{'OTIO_SCHEMA':3},^{'OTIO_SCHEMA':'FreezeFrame.1'}]}"),
-        (DocCode::O14, "^{'OTIO_SCHEMA':'Clip.1','effects':[{'OTIO_SCHEMA':'Blur.1'}]}"),
+        (
+            DocCode::O6,
+            "{'OTIO_SCHEMA':'Clip.1','effects':[1,{},{'OTIO_SCHEMA':3},^{'OTIO_SCHEMA':'FreezeFrame.1'}]}",
+        ),
+        (
+            DocCode::O14,
+            "^{'OTIO_SCHEMA':'Clip.1','effects':[{'OTIO_SCHEMA':'Blur.1'}]}",
+        ),
         (DocCode::O14, "^{'OTIO_SCHEMA':'Gap.1'}"),
-        (DocCode::O14, "{'OTIO_SCHEMA':'Gap.1','source_range':{'OTIO_SCHEMA':'TimeRange.1','duration':^<time -1>}}"),
-        (DocCode::O4, "{'OTIO_SCHEMA':'Gap.1','source_range':{'OTIO_SCHEMA':'TimeRange.1','duration':^<time -0.5>}}"),
-        (DocCode::O11, "{'OTIO_SCHEMA':'Clip.1','source_range':^<range 16777215 2>,'media_reference':1}"),
-        (DocCode::O11, "{'OTIO_SCHEMA':'Clip.1','source_range':^<range -1 2>}"),
-        (DocCode::O3, "{'OTIO_SCHEMA':'Clip.1','source_range':<range 16777215 1>,'media_reference':^1}"),
-        (DocCode::O14, "{'OTIO_SCHEMA':'Clip.1','media_reference':{'available_range':{'OTIO_SCHEMA':'TimeRange.1','start_time':<time 0>,'duration':^<time -0.5>}}}"),
-        (DocCode::O4, "{'OTIO_SCHEMA':'Clip.1','media_reference':{'available_range':^<range 2147483647 1>}}"),
-        (DocCode::J3, "{'OTIO_SCHEMA':'Gap.1','source_range':{'OTIO_SCHEMA':'TimeRange.1','duration':{'OTIO_SCHEMA':'RationalTime.1','rate':24,'value':^1e99}}}"),
-        (DocCode::O5, "{'OTIO_SCHEMA':'Gap.1','source_range':{'OTIO_SCHEMA':'TimeRange.1','duration':{'OTIO_SCHEMA':'RationalTime.1','rate':^0}}}"),
-        (DocCode::O13, "~n~~n~~n~~n~~n~~n~~n~~n~^{'OTIO_SCHEMA':'Stack.1','children':[]}~m~~m~~m~~m~~m~~m~~m~~m~"),
-        (DocCode::O14, "{'OTIO_SCHEMA':'Stack.1','source_range':^<range 0 4>,'children':[~gap~]}"),
-        (DocCode::O14, "{'OTIO_SCHEMA':'Stack.1','children':[{'OTIO_SCHEMA':'Track.1','source_range':^<range 1 3>,'children':[~gap~]}]}"),
-        (DocCode::O3, "{'OTIO_SCHEMA':'Stack.1','children':[{'OTIO_SCHEMA':^'Transition.1'}]}"),
-        (DocCode::O11, "{'OTIO_SCHEMA':'Stack.1','children':[^{'OTIO_SCHEMA':'Gap.1','source_range':<range 0 2592001>}]}"),
+        (
+            DocCode::O14,
+            "{'OTIO_SCHEMA':'Gap.1','source_range':{'OTIO_SCHEMA':'TimeRange.1','duration':^<time -1>}}",
+        ),
+        (
+            DocCode::O4,
+            "{'OTIO_SCHEMA':'Gap.1','source_range':{'OTIO_SCHEMA':'TimeRange.1','duration':^<time -0.5>}}",
+        ),
+        (
+            DocCode::O11,
+            "{'OTIO_SCHEMA':'Clip.1','source_range':^<range 16777215 2>,'media_reference':1}",
+        ),
+        (
+            DocCode::O11,
+            "{'OTIO_SCHEMA':'Clip.1','source_range':^<range -1 2>}",
+        ),
+        (
+            DocCode::O3,
+            "{'OTIO_SCHEMA':'Clip.1','source_range':<range 16777215 1>,'media_reference':^1}",
+        ),
+        (
+            DocCode::O14,
+            "{'OTIO_SCHEMA':'Clip.1','media_reference':{'available_range':{'OTIO_SCHEMA':'TimeRange.1','start_time':<time 0>,'duration':^<time -0.5>}}}",
+        ),
+        (
+            DocCode::O4,
+            "{'OTIO_SCHEMA':'Clip.1','media_reference':{'available_range':^<range 2147483647 1>}}",
+        ),
+        (
+            DocCode::J3,
+            "{'OTIO_SCHEMA':'Gap.1','source_range':{'OTIO_SCHEMA':'TimeRange.1','duration':{'OTIO_SCHEMA':'RationalTime.1','rate':24,'value':^1e99}}}",
+        ),
+        (
+            DocCode::O5,
+            "{'OTIO_SCHEMA':'Gap.1','source_range':{'OTIO_SCHEMA':'TimeRange.1','duration':{'OTIO_SCHEMA':'RationalTime.1','rate':^0}}}",
+        ),
+        (
+            DocCode::O13,
+            "~n~~n~~n~~n~~n~~n~~n~~n~^{'OTIO_SCHEMA':'Stack.1','children':[]}~m~~m~~m~~m~~m~~m~~m~~m~",
+        ),
+        (
+            DocCode::O14,
+            "{'OTIO_SCHEMA':'Stack.1','source_range':^<range 0 4>,'children':[~gap~]}",
+        ),
+        (
+            DocCode::O14,
+            "{'OTIO_SCHEMA':'Stack.1','children':[{'OTIO_SCHEMA':'Track.1','source_range':^<range 1 3>,'children':[~gap~]}]}",
+        ),
+        (
+            DocCode::O3,
+            "{'OTIO_SCHEMA':'Stack.1','children':[{'OTIO_SCHEMA':^'Transition.1'}]}",
+        ),
+        (
+            DocCode::O11,
+            "{'OTIO_SCHEMA':'Stack.1','children':[^{'OTIO_SCHEMA':'Gap.1','source_range':<range 0 2592001>}]}",
+        ),
         (DocCode::O8, "^{'OTIO_SCHEMA':'Transition.1'},~clip~"),
         (DocCode::O8, "~clip~,^{'OTIO_SCHEMA':'Transition.1'}"),
-        (DocCode::O8, "~clip~,^{'OTIO_SCHEMA':'Transition.1'},{'OTIO_SCHEMA':'Transition.1'},~clip~"),
+        (
+            DocCode::O8,
+            "~clip~,^{'OTIO_SCHEMA':'Transition.1'},{'OTIO_SCHEMA':'Transition.1'},~clip~",
+        ),
         (DocCode::O8, "~gap~,^{'OTIO_SCHEMA':'Transition.1'},~gap~"),
-        (DocCode::O14, "{'OTIO_SCHEMA':'Transition.1'},^{'OTIO_SCHEMA':'Gap.1'}"),
-        (DocCode::O15, "~clip~,^{'OTIO_SCHEMA':'Transition.1'},~nest~"),
+        (
+            DocCode::O14,
+            "{'OTIO_SCHEMA':'Transition.1'},^{'OTIO_SCHEMA':'Gap.1'}",
+        ),
+        (
+            DocCode::O15,
+            "~clip~,^{'OTIO_SCHEMA':'Transition.1'},~nest~",
+        ),
         (DocCode::O2, "~clip~,^{'OTIO_SCHEMA':'Transition.1'},~clip~"),
-        (DocCode::O3, "~clip~,{'OTIO_SCHEMA':'Transition.1','transition_type':^'Wipe'},~clip~"),
-        (DocCode::O9, "~clip~,{'OTIO_SCHEMA':'Transition.1','transition_type':'SMPTE_Dissolve','in_offset':^<time -1>,'out_offset':<time -1>},~clip~"),
-        (DocCode::O9, "~clip~,^{'OTIO_SCHEMA':'Transition.1','transition_type':'SMPTE_Dissolve','in_offset':<time 11>,'out_offset':<time 0>},~clip~"),
-        (DocCode::O9, "~clip~,^{'OTIO_SCHEMA':'Transition.1','transition_type':'SMPTE_Dissolve','in_offset':<time 0>,'out_offset':<time 5>},~gap~,~gap~"),
+        (
+            DocCode::O3,
+            "~clip~,{'OTIO_SCHEMA':'Transition.1','transition_type':^'Wipe'},~clip~",
+        ),
+        (
+            DocCode::O9,
+            "~clip~,{'OTIO_SCHEMA':'Transition.1','transition_type':'SMPTE_Dissolve','in_offset':^<time -1>,'out_offset':<time -1>},~clip~",
+        ),
+        (
+            DocCode::O9,
+            "~clip~,^{'OTIO_SCHEMA':'Transition.1','transition_type':'SMPTE_Dissolve','in_offset':<time 11>,'out_offset':<time 0>},~clip~",
+        ),
+        (
+            DocCode::O9,
+            "~clip~,^{'OTIO_SCHEMA':'Transition.1','transition_type':'SMPTE_Dissolve','in_offset':<time 0>,'out_offset':<time 5>},~gap~,~gap~",
+        ),
     ] {
         let text = filled(alloc, text)?;
         let whole = of_children(alloc, text.as_str())?;
@@ -295,7 +428,8 @@ fn text_of(alloc: Global, opening: &Opening) -> Result<Vec<u8>, Fail> {
     )?)
 }
 
-const PLAIN: &str = "{\"OTIO_SCHEMA\":\"Timeline.1\",\"name\":\"\",\"metadata\":{},\"global_start_time\":{\"OTIO_SCHEMA\":\"RationalTime.1\",\"rate\":24.0,\"value\":0.0},\"tracks\":{\"OTIO_SCHEMA\":\"Stack.1\",\"name\":\"tracks\",\"metadata\":{},\"source_range\":null,\"effects\":[],\"markers\":[],\"children\":[{\"OTIO_SCHEMA\":\"Track.1\",\"name\":\"\",\"metadata\":{},\"source_range\":null,\"effects\":[],\"markers\":[],\"kind\":\"Video\",\"children\":[]}]}}";
+const PLAIN: &str =
+    "{\"OTIO_SCHEMA\":\"Timeline.1\",\"name\":\"\",\"metadata\":{},\"global_start_time\":{\"OTIO_SCHEMA\":\"RationalTime.1\",\"rate\":24.0,\"value\":0.0},\"tracks\":{\"OTIO_SCHEMA\":\"Stack.1\",\"name\":\"tracks\",\"metadata\":{},\"source_range\":null,\"effects\":[],\"markers\":[],\"children\":[{\"OTIO_SCHEMA\":\"Track.1\",\"name\":\"\",\"metadata\":{},\"source_range\":null,\"effects\":[],\"markers\":[],\"kind\":\"Video\",\"children\":[]}]}}";
 
 #[test]
 fn a_plain_opening_is_written(rt: HostRuntime) -> Result<(), Fail> {
@@ -309,18 +443,29 @@ fn a_plain_opening_is_written(rt: HostRuntime) -> Result<(), Fail> {
 #[test]
 fn what_is_written_is_read_and_written_again(rt: HostRuntime) -> Result<(), Fail> {
     let alloc = rt.alloc();
-    for children in ["~clip~", "~gap~,~clip~", "~nest~,~clip~,~n~~nest~,~clip~~m~"] {
+    for children in [
+        "~clip~",
+        "~gap~,~clip~",
+        "~nest~,~clip~,~n~~nest~,~clip~~m~",
+    ] {
         let filled = filled(alloc, children)?;
         let whole = of_children(alloc, filled.as_str())?;
         let opening = opened(alloc, whole.as_str())?;
         let text = text_of(alloc, &opening)?;
         let again = read_timeline(alloc, &text, &at_24())?;
-        assert_eq!(rt; text_of(alloc, &again)?.as_slice(), text.as_slice(), "{children}");
+        assert_eq!(rt;
+            text_of(alloc, &again)?.as_slice(),
+            text.as_slice(),
+            "{children}"
+        );
     }
     let opening = opened(alloc, REALISTIC)?;
     let text = text_of(alloc, &opening)?;
     let again = read_timeline(alloc, &text, &at_24())?;
     assert_eq!(rt; text_of(alloc, &again)?.as_slice(), text.as_slice());
-    assert_eq!(rt; again.tracks.as_slice()[0].item(1).unwrap().mark, Some(Mark { a: 1, b: 2 }));
+    assert_eq!(rt;
+        again.tracks.as_slice()[0].item(1).unwrap().mark,
+        Some(Mark { a: 1, b: 2 })
+    );
     Ok(())
 }

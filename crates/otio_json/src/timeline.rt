@@ -103,7 +103,15 @@ fn add_track(
     let kind = head_of_track(json)?;
     let children = list(needed(json, "children")?)?;
     let number = tracks.as_slice().len() as u32;
-    let track = track(alloc, rate, nesting_of(kind), number, table, children, json.at)?;
+    let track = track(
+        alloc,
+        rate,
+        nesting_of(kind),
+        number,
+        table,
+        children,
+        json.at,
+    )?;
     tracks.push(track)?;
     table.kinds.push(kind)?;
     Ok(())
@@ -190,11 +198,7 @@ fn tree(alloc: Global, bytes: &[u8]) -> Result<Json, DocFault>
 
 /// The opening that a document describes, or the first fault of the document with its place.
 #[tactic(auto, unfolding(crate::specs::Timelines::document_read))]
-pub fn read_timeline(
-    alloc: Global,
-    bytes: &[u8],
-    counting: &Counting,
-) -> Result<Opening, DocFault>
+pub fn read_timeline(alloc: Global, bytes: &[u8], counting: &Counting) -> Result<Opening, DocFault>
     ensures read { Gives (λ opening. opening) result (document_read counting.now bytes.now) }
 {
     let tree = tree(alloc, bytes)?;

@@ -7,7 +7,7 @@ ghost use Rattle.otio_json.specs.Times.{rate_pair, moment_of, numeral_read, rate
 use crate::faults::{DocCode, Fault};
 use crate::values::{expect, fault_at, needed};
 use json_tree::{Json, Value};
-use ratio_time::{Numeral, RationalTime, Rate, rate_of};
+use ratio_time::{Numeral, Rate, RationalTime, rate_of};
 
 /// A range of time in whole frames, and its place in the text.
 #[derive(Clone, Copy, Debug, PartialEq, Eq)]

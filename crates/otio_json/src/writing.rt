@@ -96,7 +96,9 @@ fn put_clip(
     out.put_quoted(reel)?;
     out.put(b"}},\"source_range\":")?;
     put_range(out, rate, source, len)?;
-    out.put(b",\"effects\":[],\"markers\":[],\"media_reference\":{\"OTIO_SCHEMA\":\"MissingReference.1\",\"name\":\"\",\"metadata\":{},\"available_range\":")?;
+    out.put(
+        b",\"effects\":[],\"markers\":[],\"media_reference\":{\"OTIO_SCHEMA\":\"MissingReference.1\",\"name\":\"\",\"metadata\":{},\"available_range\":",
+    )?;
     put_range(out, rate, media.from, media.to.saturating_sub(media.from))?;
     out.put(b"}}")
 }
@@ -105,7 +107,9 @@ fn put_clip(
 fn put_transition(out: &mut DocText, rate: SequenceRate, mark: Mark) -> Result<(), Memory>
     ensures { OnOk result (out.new ≡ grown out.old (transition_text rate mark)) }
 {
-    out.put(b"{\"OTIO_SCHEMA\":\"Transition.1\",\"name\":\"\",\"metadata\":{},\"transition_type\":\"SMPTE_Dissolve\",\"in_offset\":")?;
+    out.put(
+        b"{\"OTIO_SCHEMA\":\"Transition.1\",\"name\":\"\",\"metadata\":{},\"transition_type\":\"SMPTE_Dissolve\",\"in_offset\":",
+    )?;
     put_time(out, rate, mark.a)?;
     out.put(b",\"out_offset\":")?;
     put_time(out, rate, mark.b)?;
@@ -361,7 +365,9 @@ fn put_track(
 ) -> Result<(), Memory>
     ensures { OnOk result (out.new ≡ grown out.old (track_text table.now rate kind track.now)) }
 {
-    out.put(b"{\"OTIO_SCHEMA\":\"Track.1\",\"name\":\"\",\"metadata\":{},\"source_range\":null,\"effects\":[],\"markers\":[],\"kind\":")?;
+    out.put(
+        b"{\"OTIO_SCHEMA\":\"Track.1\",\"name\":\"\",\"metadata\":{},\"source_range\":null,\"effects\":[],\"markers\":[],\"kind\":",
+    )?;
     out.put(kind_bytes(kind))?;
     out.put(b",\"children\":[")?;
     put_items(out, table, rate, table.nests.as_slice().len(), track)?;
@@ -419,9 +425,13 @@ fn put_timeline(
     ensures { OnOk result (out.new ≡ grown out.old (timeline_text table.now tracks.now counting.now start)) }
 {
     let rate = counting.rate();
-    out.put(b"{\"OTIO_SCHEMA\":\"Timeline.1\",\"name\":\"\",\"metadata\":{},\"global_start_time\":")?;
+    out.put(
+        b"{\"OTIO_SCHEMA\":\"Timeline.1\",\"name\":\"\",\"metadata\":{},\"global_start_time\":",
+    )?;
     put_time(out, rate, start)?;
-    out.put(b",\"tracks\":{\"OTIO_SCHEMA\":\"Stack.1\",\"name\":\"tracks\",\"metadata\":{},\"source_range\":null,\"effects\":[],\"markers\":[],\"children\":[")?;
+    out.put(
+        b",\"tracks\":{\"OTIO_SCHEMA\":\"Stack.1\",\"name\":\"tracks\",\"metadata\":{},\"source_range\":null,\"effects\":[],\"markers\":[],\"children\":[",
+    )?;
     put_tracks(out, table, rate, tracks)?;
     out.put(b"]}}")
 }

@@ -24,14 +24,14 @@ layers-returns-in_err-layer-clause-read t c =
     let told = rw c.as_slice.ensures at c.in_err-layer.ensures.read in
     let step = next_layer (rate_pair c.args.rate.now) (levels_in (rate_pair c.args.rate.now) c.args.levels) in
     rw (p.1, p.2) (subst (λ r. Fails fault r) c.loop-json.invariant.read
-      (each_fails step (c.loop-json.layers, c.loop-json.table) c.args.children.now c.loop-json.json-index c.json-item.result fault c.loop-json-test.true c.json-item.is
-        (bind_fails fault (layer_in (rate_pair c.args.rate.now) (levels_in (rate_pair c.args.rate.now) c.args.levels) (length c.loop-json.layers) c.loop-json.table (tree_of c.json-item.result)) (λ layer. Ok (c.loop-json.layers ++ layer.0 ∷ [], layer.1)) told)))
+    (each_fails step (c.loop-json.layers, c.loop-json.table) c.args.children.now c.loop-json.json-index c.json-item.result fault c.loop-json-test.true c.json-item.is
+    (bind_fails fault (layer_in (rate_pair c.args.rate.now) (levels_in (rate_pair c.args.rate.now) c.args.levels) (length c.loop-json.layers) c.loop-json.table (tree_of c.json-item.result)) (λ layer. Ok (c.loop-json.layers ++ layer.0 ∷ [], layer.1)) told)))
 
 pub layers-loop-json-preserved : goal.layers-loop-json-preserved
 unfolding layer_read
 layers-loop-json-preserved t c = record {
   read = each_next (next_layer (rate_pair c.args.rate.now) (levels_in (rate_pair c.args.rate.now) c.args.levels)) (c.loop-json.layers, c.loop-json.table) (c.push.new.self, c.layer.new.table) c.args.children.now c.loop-json.json-index c.json-item.result c.loop-json-test.true c.json-item.is
-        (rw c.in_ok-push.ensures.ok (ap (λ r. r >>= λ layer. Ok (c.loop-json.layers ++ layer.0 ∷ [], layer.1)) (rw c.as_slice.ensures at c.in_ok-layer.ensures.read)))
+      (rw c.in_ok-push.ensures.ok (ap (λ r. r >>= λ layer. Ok (c.loop-json.layers ++ layer.0 ∷ [], layer.1)) (rw c.as_slice.ensures at c.in_ok-layer.ensures.read)))
       ∙ c.loop-json.invariant.read;
   few = omega (arith, c.loop-json.invariant.few, c.in_ok-layer.ensures.few, size_from c.args.children.now c.loop-json.json-index c.json-item.result c.loop-json-test.true c.json-item.is);
   count = omega (arith, c.loop-json.invariant.count, c.in_ok-layer.ensures.object, ap length c.in_ok-push.ensures.ok, length-append c.loop-json.layers (c.in_ok-layer.layer ∷ []), size_from c.args.children.now c.loop-json.json-index c.json-item.result c.loop-json-test.true c.json-item.is);
@@ -44,7 +44,7 @@ row-returns-in_err-child-clause-read t c =
     let fault = c.in_err-child.field-0.0 in
     let step = child_in (rate_pair c.args.rate.now) (nests_in (rate_pair c.args.rate.now) c.args.nesting) in
     rw (p.1, p.2) (subst (λ r. Fails fault r) c.loop-json.invariant.read
-      (each_fails step (c.loop-json.row, c.loop-json.table) c.args.children.now c.loop-json.json-index c.json-item.result fault c.loop-json-test.true c.json-item.is c.in_err-child.ensures.read))
+    (each_fails step (c.loop-json.row, c.loop-json.table) c.args.children.now c.loop-json.json-index c.json-item.result fault c.loop-json-test.true c.json-item.is c.in_err-child.ensures.read))
 
 pub row-loop-json-preserved : goal.row-loop-json-preserved
 unfolding child_read

@@ -35,9 +35,9 @@ put_items-returns t c =
     let same : xs ≡ items_of c.args.track.now.cells = c.as_slice.ensures.value ∙ c.in_ok-items.ensures in
     let text = ap (items_in c.args.table.now c.args.rate body) (sym same) ∙ first_items c.args.table.now c.args.rate body xs dark_view c.in-len1-up.len_at_least in
     subst (λ text. OnOk c.put_other_items.result (c.put_other_items.new.out ≡ grown c.args.out.now text)) (sym text)
-      (put2 c.put_other_items.result c.args.out.now c.put_item.new.out c.put_other_items.new.out
-        (item_text c.args.table.now c.args.rate c.args.levels (get_or xs 0 dark_view)) (later_items c.args.table.now c.args.rate c.args.levels (drop 1 xs))
-        c.in_ok-put_item-in-len1-up.ensures (subst (λ vs. OnOk c.put_other_items.result (c.put_other_items.new.out ≡ grown c.put_item.new.out (later_items c.args.table.now c.args.rate c.args.levels vs))) (all_behind xs) c.put_other_items.ensures))
+    (put2 c.put_other_items.result c.args.out.now c.put_item.new.out c.put_other_items.new.out
+    (item_text c.args.table.now c.args.rate c.args.levels (get_or xs 0 dark_view)) (later_items c.args.table.now c.args.rate c.args.levels (drop 1 xs))
+    c.in_ok-put_item-in-len1-up.ensures (subst (λ vs. OnOk c.put_other_items.result (c.put_other_items.new.out ≡ grown c.put_item.new.out (later_items c.args.table.now c.args.rate c.args.levels vs))) (all_behind xs) c.put_other_items.ensures))
 
 pub put_layer-returns : goal.put_layer-returns
 unfolding layer_text
@@ -52,9 +52,9 @@ put_layers-returns-in_ok-put_layer-in-len1-up t c =
     let body = nest_layers c.args.table.now c.args.rate c.args.levels in
     let text = first_layers c.args.table.now c.args.rate body c.args.layers.now c.first-item.result c.in-len1-up.len_at_least c.first-item.is in
     subst (λ text. OnOk c.put_other_layers.result (c.put_other_layers.new.out ≡ grown c.args.out.now text)) (sym text)
-      (put2 c.put_other_layers.result c.args.out.now c.put_layer.new.out c.put_other_layers.new.out
-        (layer_text c.args.table.now c.args.rate c.args.levels c.first-item.result) (later_layers c.args.table.now c.args.rate c.args.levels (drop 1 c.args.layers.now))
-        c.in_ok-put_layer-in-len1-up.ensures (subst (λ ls. OnOk c.put_other_layers.result (c.put_other_layers.new.out ≡ grown c.put_layer.new.out (later_layers c.args.table.now c.args.rate c.args.levels ls))) (all_behind c.args.layers.now) c.put_other_layers.ensures))
+    (put2 c.put_other_layers.result c.args.out.now c.put_layer.new.out c.put_other_layers.new.out
+    (layer_text c.args.table.now c.args.rate c.args.levels c.first-item.result) (later_layers c.args.table.now c.args.rate c.args.levels (drop 1 c.args.layers.now))
+    c.in_ok-put_layer-in-len1-up.ensures (subst (λ ls. OnOk c.put_other_layers.result (c.put_other_layers.new.out ≡ grown c.put_layer.new.out (later_layers c.args.table.now c.args.rate c.args.levels ls))) (all_behind c.args.layers.now) c.put_other_layers.ensures))
 
 pub put_nest-returns : goal.put_nest-returns
 unfolding nest_text
@@ -77,7 +77,7 @@ pub put_nest_layers-returns-in-None : goal.put_nest_layers-returns-in-None
 put_nest_layers-returns-in-None t c =
     let body = nest_layers c.args.table.now c.args.rate (c.args.levels - 1) in
     stays c.args.out.now (nest_layers c.args.table.now c.args.rate c.args.levels c.args.number)
-      (nest_inside c.args.table.now c.args.rate c.args.levels c.args.number (omega arith) ∙ ap (layers_if c.args.table.now c.args.rate body) (sym c.in-None.ensures))
+    (nest_inside c.args.table.now c.args.rate c.args.levels c.args.number (omega arith) ∙ ap (layers_if c.args.table.now c.args.rate body) (sym c.in-None.ensures))
 
 pub put_other_items-loop-view-preserved : goal.put_other_items-loop-view-preserved
 unfolding item_text
@@ -86,8 +86,8 @@ put_other_items-loop-view-preserved t c =
     let xs = c.args.others.now in
     let i = c.loop-view.view-index in
     three_more c.loop-view.out c.put_mark.new.out c.put.new.self c.put_item.new.out
-      (mark_text c.args.rate (get_or xs i dark_view).mark) comma (item_text c.args.table.now c.args.rate c.args.levels (get_or xs i dark_view)) (later_items c.args.table.now c.args.rate c.args.levels (drop (i + 1) xs))
-      c.in_ok-put_mark.ensures c.in_ok-put.ensures c.in_ok-put_item.ensures
+    (mark_text c.args.rate (get_or xs i dark_view).mark) comma (item_text c.args.table.now c.args.rate c.args.levels (get_or xs i dark_view)) (later_items c.args.table.now c.args.rate c.args.levels (drop (i + 1) xs))
+    c.in_ok-put_mark.ensures c.in_ok-put.ensures c.in_ok-put_item.ensures
     ∙ (ap (grown c.loop-view.out) (sym (next_items c.args.table.now c.args.rate body xs i dark_view c.loop-view-test.true)) ∙ c.loop-view.invariant)
 
 pub put_other_layers-loop-layer-preserved : goal.put_other_layers-loop-layer-preserved
@@ -97,6 +97,6 @@ put_other_layers-loop-layer-preserved t c =
     let xs = c.args.others.now in
     let i = c.loop-layer.layer-index in
     two_more c.loop-layer.out c.put.new.self c.put_layer.new.out
-      comma (layer_text c.args.table.now c.args.rate c.args.levels c.layer-item.result) (later_layers c.args.table.now c.args.rate c.args.levels (drop (i + 1) xs))
-      c.in_ok-put.ensures c.in_ok-put_layer.ensures
+    comma (layer_text c.args.table.now c.args.rate c.args.levels c.layer-item.result) (later_layers c.args.table.now c.args.rate c.args.levels (drop (i + 1) xs))
+    c.in_ok-put.ensures c.in_ok-put_layer.ensures
     ∙ (ap (grown c.loop-layer.out) (sym (next_layers c.args.table.now c.args.rate body xs i c.layer-item.result c.loop-layer-test.true c.layer-item.is)) ∙ c.loop-layer.invariant)

@@ -18,4 +18,4 @@ invariant_of-self-then-joins c =
 pub invariant_of-self-2 : goal.invariant_of-self-2
 invariant_of-self-2 c =
     rw c.in_ok-push_last.ensures.ok (keep_more (row_of c.self.inside) c.args.next.now c.args.mark None c.self.invariant (omega (arith, c.if-next-eq0.false)) c.requires.sound (sym c.joins.ensures ∙ c.if-joins.false)
-      (rw (← c.self.view_is) at c.requires.fits))
+    (rw (← c.self.view_is) at c.requires.fits))
