@@ -14,3 +14,5 @@ pub mod QuotedValues
 pub mod OneStop
 pub mod PlacedFaults
 pub mod OneFault
+pub mod Smaller
+pub mod FewValues

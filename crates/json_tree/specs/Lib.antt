@@ -9,3 +9,4 @@ pub mod Writing
 pub mod Grammar
 pub mod Sound
 pub mod Faults
+pub mod Parts

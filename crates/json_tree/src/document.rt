@@ -4,6 +4,7 @@ ghost use Rattle.json_tree.specs.Faults.{IsPlaced};
 ghost use Rattle.json_tree.specs.Grammar.{Spells};
 ghost use Rattle.json_tokens.specs.Reading.{Gives};
 ghost use Rattle.json_tree.specs.ReadingValues.{document_at};
+ghost use Rattle.json_tree.specs.Size.{tree_size};
 ghost use Rattle.json_tree.specs.Tree.{Tree};
 ghost use Rattle.json_tree.specs.View.{tree_of};
 
@@ -28,6 +29,8 @@ pub fn read(alloc: Global, bytes: &[u8]) -> Result<Json, JsonFault>
     // Where the fault stands: up to it the bytes are lawful, and with the byte there they are not. No bytes have two
     // faults: `bytes_have_one_fault`.
     ensures placed { IfErr result (λ fault. IsPlaced bytes.now fault) }
+    // It has at most as many lists and objects as the text has bytes.
+    ensures few { IfOk result (λ tree. tree_size (tree_of tree) ≤ length bytes.now) }
     // The same answers, by a reading from left to right that can be computed.
     ensures exact { Gives tree_of result (document_at bytes.now) }
 {

@@ -6,6 +6,7 @@
 mod document;
 mod laws;
 mod lookup;
+mod parts;
 mod tree;
 mod values;
 mod writable;
@@ -16,7 +17,7 @@ pub use json_tokens::{JsonFault, Memory, Text, numeral};
 pub use laws::bytes_have_one_fault;
 pub use tree::{Items, Json, Member, Members, Value};
 pub use writable::is_writable;
-pub use writing::write;
+pub use writing::{quote, write};
 
 #[cfg(test)]
 mod tests;

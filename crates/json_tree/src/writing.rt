@@ -134,6 +134,15 @@ fn put_text(out: &mut Vec<u8>, text: &[u8]) -> Result<(), Memory>
     Ok(())
 }
 
+/// The text in quotes, as `write` writes it.
+pub fn quote(alloc: Global, text: &str) -> Result<Vec<u8>, Memory>
+    ensures { IfOk result (λ v. v.items ≡ quoted text.now) }
+{
+    let mut out = Vec::new(alloc);
+    put_text(&mut out, text.as_bytes())?;
+    Ok(out)
+}
+
 fn put_escaped(out: &mut Vec<u8>, text: &[u8]) -> Result<(), Memory>
     ensures { OnOk result (out.new.items ≡ out.old.items ++ flat_map escaped text.now) }
 {

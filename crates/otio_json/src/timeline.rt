@@ -1,0 +1,206 @@
+// A whole timeline.
+ghost use Rattle.std.specs.Prelude.{◌≡◌, ◌+◌, ◌*◌, ◌<◌, ◌≤◌, ◌^◌, [], length, map, IfOk, IfSome, OnOk};
+ghost use Rattle.timecode12.specs.Numbers.{Counted};
+ghost use Rattle.json_tree.specs.Size.{tree_size, items_size};
+ghost use Rattle.json_tree.specs.View.{tree_of};
+ghost use Rattle.otio_json.specs.Reading.{Reads, Gives};
+ghost use Rattle.otio_json.specs.Times.{rate_pair};
+ghost use Rattle.otio_json.specs.Clips.{entries};
+ghost use Rattle.otio_json.specs.Timelines.{rate_counted, start_read, untrimmed, kind_read, nesting_of, empty_table, head_of_track, next_track, tracks_read, timeline_read, tree_read, doc_fault, document_read};
+
+use crate::faults::{DocCode, DocFault, Fault};
+use crate::nests::{Nesting, track};
+use crate::opening::Opening;
+use crate::parts::enabled;
+use crate::times::frame;
+use crate::values::{expect, fault_at, given, list, needed, text};
+use composables::{Kind, Listed, Reels, Table, Track};
+use json_tree::{Json, JsonFault, read};
+use ratio_time::Rate;
+use std::alloc::Global;
+use timecode12::Counting;
+
+/// The most tracks of a room.
+pub const MAX_TRACKS: u32 = 16;
+
+/// The most nests that stand in one another.
+pub const MAX_NESTS: u32 = 8;
+
+// The frame of the day at which the sequence starts.
+#[tactic(auto, unfolding(crate::specs::Timelines::start_read))]
+fn start(counting: &Counting, rate: &Rate, timeline: &Json) -> Result<u32, Fault>
+    ensures { result ≡ start_read counting.now (rate_pair rate.now) (tree_of timeline.now) }
+{
+    let time = match given(timeline, "global_start_time") {
+        Some(time) => time,
+        None => return Ok(0),
+    };
+    let start = frame(rate, time)?;
+    if start < 0 || start >= i64::from(counting.day()) {
+        return Err(fault_at(DocCode::O11, time));
+    }
+    Ok(start as u32)
+}
+
+// Refuses a stack or track that is trimmed.
+#[tactic(auto, unfolding(crate::specs::Timelines::untrimmed))]
+fn untrimmed(json: &Json) -> Result<(), Fault>
+    ensures { Reads (λ _. tt) result (untrimmed (tree_of json.now)) }
+{
+    match given(json, "source_range") {
+        Some(range) => Err(fault_at(DocCode::O16, range)),
+        None => Ok(()),
+    }
+}
+
+#[tactic(auto, unfolding(crate::specs::Timelines::kind_read))]
+fn kind(json: &Json) -> Result<Kind, Fault>
+    ensures { result ≡ kind_read (tree_of json.now) }
+{
+    let kind = needed(json, "kind")?;
+    match text(kind)? {
+        "Video" => Ok(Kind::Video),
+        "Audio" => Ok(Kind::Audio),
+        _ => Err(fault_at(DocCode::O3, kind)),
+    }
+}
+
+fn nesting_of(kind: Kind) -> Nesting
+    ensures { result ≡ nesting_of kind }
+{
+    match kind {
+        Kind::Video => Nesting::Levels(MAX_NESTS),
+        Kind::Audio => Nesting::Forbidden,
+    }
+}
+
+// What is looked at first in a track of the sequence.
+#[tactic(auto, unfolding(crate::specs::Timelines::head_of_track))]
+fn head_of_track(json: &Json) -> Result<Kind, Fault>
+    ensures { result ≡ head_of_track (tree_of json.now) }
+{
+    expect(json, "Track.1")?;
+    enabled(json)?;
+    untrimmed(json)?;
+    kind(json)
+}
+
+// A track more.
+#[tactic(auto, unfolding(crate::specs::Timelines::next_track))]
+fn add_track(
+    alloc: Global,
+    rate: &Rate,
+    table: &mut Table,
+    tracks: &mut Listed<Track>,
+    json: &Json,
+) -> Result<(), DocFault>
+    requires few { entries table.old + 2 * tree_size (tree_of json.now) < 2 ^ 31 }
+    requires count { length tracks.old < 2 ^ 32 }
+    ensures read { Gives (λ _. (tracks.new, table.new)) result (next_track (rate_pair rate.now) (tracks.old, table.old) (tree_of json.now)) }
+    ensures few { OnOk result (entries table.new ≤ entries table.old + 2 * tree_size (tree_of json.now)) }
+    ensures count { OnOk result (length tracks.new ≡ length tracks.old + 1) }
+{
+    let kind = head_of_track(json)?;
+    let children = list(needed(json, "children")?)?;
+    let number = tracks.as_slice().len() as u32;
+    let track = track(
+        alloc,
+        rate,
+        nesting_of(kind),
+        number,
+        table,
+        children,
+        json.at,
+    )?;
+    tracks.push(track)?;
+    table.kinds.push(kind)?;
+    Ok(())
+}
+
+// The tracks of the sequence, in order.
+fn add_tracks(
+    alloc: Global,
+    rate: &Rate,
+    table: &mut Table,
+    children: &[Json],
+) -> Result<Listed<Track>, DocFault>
+    requires few { entries table.old + 2 * items_size (map tree_of children.now) < 2 ^ 31 }
+    requires count { length children.now ≤ MAX_TRACKS }
+    ensures { Gives (λ tracks. (tracks, table.new)) result (tracks_read (rate_pair rate.now) table.old (map tree_of children.now)) }
+{
+    let mut tracks = Listed::new(alloc);
+    for json in children {
+        add_track(alloc, rate, table, &mut tracks, json)?;
+    }
+    Ok(tracks)
+}
+
+fn empty_table(alloc: Global) -> Table
+    ensures { result ≡ empty_table }
+{
+    Table {
+        kinds: Listed::new(alloc),
+        reels: Reels::new(alloc),
+        media: Listed::new(alloc),
+        nests: Listed::new(alloc),
+    }
+}
+
+#[tactic(auto, unfolding(crate::specs::Timelines::timeline_read))]
+fn timeline(alloc: Global, counting: &Counting, json: &Json) -> Result<Opening, DocFault>
+    requires { 2 * tree_size (tree_of json.now) < 2 ^ 31 }
+    ensures { Gives (λ opening. opening) result (timeline_read counting.now (tree_of json.now)) }
+{
+    let rate = counting.rate().rate();
+    expect(json, "Timeline.1")?;
+    let start = start(counting, &rate, json)?;
+    let stack = needed(json, "tracks")?;
+    expect(stack, "Stack.1")?;
+    untrimmed(stack)?;
+    let children = needed(stack, "children")?;
+    let items = list(children)?;
+    if items.is_empty() || items.len() > MAX_TRACKS as usize {
+        return Err(fault_at(DocCode::O10, children).into());
+    }
+    let mut table = empty_table(alloc);
+    let tracks = add_tracks(alloc, &rate, &mut table, items)?;
+    Ok(Opening {
+        table,
+        tracks,
+        counting: *counting,
+        start,
+    })
+}
+
+fn doc_fault(fault: JsonFault) -> DocFault
+    ensures { result ≡ doc_fault fault }
+{
+    let (code, at) = match fault {
+        JsonFault::Syntax(at) => (DocCode::J1, at),
+        JsonFault::Depth(at) => (DocCode::J2, at),
+        JsonFault::NotUtf8(at) => (DocCode::J4, at),
+        JsonFault::TooLarge => (DocCode::J5, 0),
+        JsonFault::Memory => return DocFault::Memory,
+    };
+    DocFault::Refused { code, at }
+}
+
+#[tactic(auto, unfolding(crate::specs::Timelines::tree_read))]
+fn tree(alloc: Global, bytes: &[u8]) -> Result<Json, DocFault>
+    ensures tree { Gives tree_of result (tree_read bytes.now) }
+    ensures few { IfOk result (λ tree. tree_size (tree_of tree) ≤ 33554432) }
+{
+    match read(alloc, bytes) {
+        Ok(tree) => Ok(tree),
+        Err(fault) => Err(doc_fault(fault)),
+    }
+}
+
+/// The opening that a document describes, or the first fault of the document with its place.
+#[tactic(auto, unfolding(crate::specs::Timelines::document_read))]
+pub fn read_timeline(alloc: Global, bytes: &[u8], counting: &Counting) -> Result<Opening, DocFault>
+    ensures read { Gives (λ opening. opening) result (document_read counting.now bytes.now) }
+{
+    let tree = tree(alloc, bytes)?;
+    timeline(alloc, counting, &tree)
+}
