@@ -257,7 +257,10 @@ fn long_input(alloc: Global, bytes: usize) -> Result<(u8, Vec<u8>), Fail> {
 fn an_input_may_have_64_mib(rt: HostRuntime) -> Result<(), Fail> {
     let (status, output) = long_input(rt.alloc(), 67_108_858)?;
     assert_eq!(rt; status, 0);
-    assert_eq!(rt; output.as_slice(), b"point 0\nbad B5\njournal 0\n".as_slice());
+    assert_eq!(rt;
+        output.as_slice(),
+        b"point 0\nbad B5\njournal 0\n".as_slice()
+    );
     Ok(())
 }
 

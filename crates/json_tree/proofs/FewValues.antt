@@ -41,8 +41,14 @@ module _ (Is : ℕ → List ℕ → Tree → Type 0) (small : Small tree_size Is
 
   named_small : Small member_size (IsMember Is)
   named_small at bytes m h =
-      omega (arith, ap length h.bytes_are, length-append h.before (h.quoted ++ (h.behind ++ 58 ∷ h.item)), length-append h.quoted (h.behind ++ 58 ∷ h.item),
-        length-append h.behind (58 ∷ h.item), item_small (at + length h.before + length h.quoted + length h.behind + 1) h.item m.1 h.value)
+      omega (
+        arith,
+        ap length h.bytes_are,
+        length-append h.before (h.quoted ++ (h.behind ++ 58 ∷ h.item)),
+        length-append h.quoted (h.behind ++ 58 ∷ h.item),
+        length-append h.behind (58 ∷ h.item),
+        item_small (at + length h.before + length h.quoted + length h.behind + 1) h.item m.1 h.value,
+      )
 
   kind_small : (Nested : Type 0) (at : ℕ) (bytes : List ℕ) (kind : Kind) → IsKind Nested Is at bytes kind → kind_size kind ≤ length bytes
   kind_small Nested at bytes Null h = omega arith
