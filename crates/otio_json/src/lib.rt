@@ -22,6 +22,3 @@ pub use faults::{DocCode, DocFault};
 pub use opening::Opening;
 pub use timeline::{MAX_NESTS, MAX_TRACKS, read_timeline};
 pub use writing::{WriteFault, write_timeline};
-
-#[cfg(test)]
-mod tests;
