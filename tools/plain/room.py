@@ -222,6 +222,7 @@ class Room:
         self.kinds, self.media, self.nests = list(kinds), list(media), list(nests)
         self.fps, self.drop, self.start = fps, drop, start
         self.tracks = [Track() for _ in kinds]
+        self.points = [list(self.tracks)]
         self.journal = []
         self.line = 0
 
@@ -542,6 +543,8 @@ class Room:
             call = self.read(line if last or not line.endswith(b"\r") else line[:-1])
             if call[0] == "point":
                 return f"point {point}"
+            if call[0] == "otio":
+                return self.document(call[1], point)
             if call[0] in ("view", "items"):
                 word, words = getattr(self, "ask_" + call[0])(*call[1:])
                 return " ".join([word, str(point), *words])
@@ -551,11 +554,20 @@ class Room:
             for t, track in named.items():
                 self.tracks[t] = track
             self.journal.append((self.line, call))
+            self.points.append(list(self.tracks))
             return f"ok {point}{words}"
         except Bad as bad:
             return f"bad {bad}"
         except Refused as refused:
             return f"no {point} {refused}"
+
+    def document(self, n, point):
+        if n > point:
+            raise Refused("V3")
+        written = documents.write(self, self.points[n])
+        if len(written.encode()) > documents.MOST_BYTES:
+            return f"no {n} V4"
+        return f"otio {n} {written}"
 
     def journal_text(self, station=0):
         lines = [f"journal {len(self.journal)}"]
@@ -668,6 +680,7 @@ ROWS = {
     b"view": [("track", "place", "place")],
     b"items": [("track",)],
     b"point": [()],
+    b"otio": [("number",)],
 }
 
 
@@ -681,3 +694,6 @@ def call_text(call):
     if call[0] == "fill":
         words = words[:5] + (["sequence"] if call[5] is None else ["source", call[5]])
     return " ".join(text(word) for word in words)
+
+
+import documents  # noqa: E402  (documents stand on the room, and the room writes them)
