@@ -579,7 +579,7 @@ class Walk:
             if frames < 0:
                 raise Fault("O9", offset.at)
         if a + b > 0:
-            if before.count == 0 or after.count == 0 or not self.has_room(row, after, a, b):
+            if after.count == 0 or not self.has_room(row, after, a, b):
                 raise Fault("O9", value.at)
             row.append((a, b))
 
@@ -592,10 +592,10 @@ class Walk:
             if isinstance(part, tuple):
                 used = part[1]
                 break
-            if part is not before and part.count and (part.shows is not None or before.shows is not None):
+            if part is not before and (before.shows is not None or part.shows is not None and part.count):
                 break
             count += part.count
-        if a + used > count or b > after.count:
+        if count == 0 or a + used > count or b > after.count:
             return False
         if before.shows is not None and before.source + before.count + b > self.media[before.shows[1]][2]:
             return False
