@@ -2,7 +2,7 @@
 use Rattle.std.proofs.Common.{◌≡◌, ℕ, zero, suc, ◌+◌, ◌<◌, ◌≤◌, List, [], ◌∷◌, ◌++◌, length, Option, Some, None, Result, Ok, Err, IsSome, All, take, drop, slice_get, get_or, refl, sym, ap, ◌∙◌, arith, subst, length-append}
 use Rattle.std.specs.List.{fold}
 use Rattle.std.proofs.lemmas.List.{take-append-drop}
-use Rattle.std.proofs.lemmas.List.Elements.{All-head, All-tail}
+use Rattle.std.proofs.lemmas.List.Elements.{All-nil, All-cons, All-head, All-tail}
 use Rattle.std.proofs.lemmas.List.Sums.{fold-append}
 use Rattle.room_core.specs.History.{after_entry, replay, state_in, RiseAfter, NumbersRise, most_entries, IsLegal}
 use Rattle.room_core.specs.Parts.{AreGood, numbers}
@@ -21,6 +21,20 @@ rise-more : {C : Type 0} (entries : List (Entry C)) (e : Entry C) → NumbersRis
 rise-more [] e h below = (tt, tt)
 rise-more (f ∷ fs) e h below =
     (rise_after-more f fs e h.0 (All-head (λ f. f.number < e.number) f fs below), rise-more fs e h.1 (All-tail (λ f. f.number < e.number) f fs below))
+
+-- an entry behind equal entries
+pub behind : {C : Type 0} (entries same after : List (Entry C)) (e : Entry C) → after ≡ same ++ e ∷ [] → same ≡ entries → after ≡ entries ++ e ∷ []
+behind entries same after e more is = subst (λ (es : List (Entry _)). after ≡ es ++ e ∷ []) is more
+
+one_more : {C : Type 0} (n : ℕ) (entries : List (Entry C)) (e : Entry C) → All (λ f. f.number < n) entries → e.number ≡ n → All (λ f. f.number < n + 1) (entries ++ e ∷ [])
+one_more n [] e below is = All-cons (λ f. f.number < n + 1) e [] (omega (arith, is)) (All-nil (λ f. f.number < n + 1))
+one_more n (f ∷ fs) e below is =
+    All-cons (λ g. g.number < n + 1) f (fs ++ e ∷ []) (omega (arith, All-head (λ g. g.number < n) f fs below)) (one_more n fs e (All-tail (λ g. g.number < n) f fs below) is)
+
+-- the numbers up to a new one
+pub below_next : {C : Type 0} (n : ℕ) (entries after : List (Entry C)) (e : Entry C) → All (λ f. f.number < n) entries → e.number ≡ n → after ≡ entries ++ e ∷ []
+    → All (λ f. f.number < n + 1) after
+below_next n entries after e below is more = subst (All (λ f. f.number < n + 1)) (sym more) (one_more n entries e below is)
 
 is_some : {A : Type 0} (o : Option A) (a : A) → o ≡ Some a → IsSome o
 is_some o a h = rw h refl

@@ -19,7 +19,7 @@ enum Told {
     Memory,
 }
 
-fn told(answer: Answer<Counters>) -> Told {
+fn edit_told(answer: Answer<Counters>) -> Told {
     match answer {
         Answer::Done { point, done } => Told::Done(point, done),
         Answer::Refused { point, refusal } => Told::Refused(point, refusal),
@@ -28,7 +28,7 @@ fn told(answer: Answer<Counters>) -> Told {
     }
 }
 
-fn seen(sight: Sight<Counters>) -> Told {
+fn sight_told(sight: Sight<Counters>) -> Told {
     match sight {
         Sight::Seen { point, seen } => Told::Seen(point, seen),
         Sight::Refused { point, refusal } => Told::Refused(point, refusal),
@@ -62,10 +62,10 @@ fn answered<L: Ledger>(
     let mut answers = Vec::new(alloc);
     for number in 0..6u32 {
         let answer = desk.edit(alloc, number, calls[number as usize], &mut steps);
-        answers.push(told(answer))?;
+        answers.push(edit_told(answer))?;
     }
     for counter in 0..4u32 {
-        answers.push(seen(desk.see(alloc, &counter)))?;
+        answers.push(sight_told(desk.see(alloc, &counter)))?;
     }
     Ok(answers)
 }
@@ -92,10 +92,10 @@ fn filled<L: Ledger>(
     let mut steps = Steps::<L>::new(blank);
     let mut last = Told::Memory;
     for number in 0..100_000u32 {
-        last = told(desk.edit(alloc, number, (1, 0), &mut steps));
+        last = edit_told(desk.edit(alloc, number, (1, 0), &mut steps));
     }
-    let more = told(desk.edit(alloc, 100_000, (2, 0), &mut steps));
-    let refused = told(desk.edit(alloc, 100_001, (1, 11), &mut steps));
+    let more = edit_told(desk.edit(alloc, 100_000, (2, 0), &mut steps));
+    let refused = edit_told(desk.edit(alloc, 100_001, (1, 11), &mut steps));
     (last, more, refused)
 }
 
