@@ -1,4 +1,4 @@
 pub mod Apply
+pub mod RoomTracks
 pub mod See
-pub mod Sights
-pub mod Named
+pub mod Faults
