@@ -1,7 +1,3 @@
 pub mod Sets
 pub mod SetNames
 pub mod Standing
-pub mod EditingNames
-pub mod Young
-pub mod Roominess
-pub mod Pushed

@@ -1,5 +1,5 @@
 -- The tracks of a set, as a set again.
-use Rattle.std.proofs.Common.{◌≡◌, ℕ, zero, suc, ◌+◌, ◌*◌, ◌/◌, ◌%◌, ◌^◌, ◌<◌, ◌≤◌, Bool, true, false, cond, List, [], ◌∷◌, refl, sym, ap, ◌∙◌, arith, eqb, nat_lt}
+use Rattle.std.proofs.Common.{◌≡◌, ℕ, zero, suc, ◌+◌, ◌*◌, ◌/◌, ◌%◌, ◌^◌, ◌<◌, ◌≤◌, Bool, true, false, cond, ◌∷◌, refl, sym, ap, ◌∙◌, arith, eqb, nat_lt}
 use Rattle.std.proofs.Math.Nat.{div-div-eq-div-mul, pow-suc, pow-succ'}
 use Rattle.std.specs.Int.Bits.{bit_and}
 use Rattle.std.proofs.lemmas.Bool.{eqb-false, eqb-true, lt-ltb}
@@ -32,30 +32,29 @@ bit_even s t e = even_of (s / 2 ^ t) (λ b. eqb-false (bit_and (s / 2 ^ t) 1) 1 
   even_of : (q : ℕ) → (q % 2 ≡ 1 → ⊥) → q ≡ 2 * (q / 2)
   even_of q b = omega (arith, b)
 
+fewer : (s t n : ℕ) → s / 2 ^ t < 2 ^ suc n → s / 2 ^ suc t < 2 ^ n
+fewer s t n few = below (s / 2 ^ t) (s / 2 ^ suc t) (2 ^ n) (2 ^ suc n) (half s t) (pow-succ' 2 n) few where
+  below : (q h m w : ℕ) → h ≡ q / 2 → w ≡ 2 * m → q < w → h < m
+  below q h m w e f lt = omega (arith, e, f, lt)
+
+none_left : (p q : ℕ) → q < 2 ^ 0 → 0 ≡ p * q
+none_left p q h = let z : q ≡ 0 = omega (arith, h) in omega (arith, ap (λ (k : ℕ). p * k) z)
+
+one_more : (b : Bool) (s t n : ℕ) → t < 32 → eqb (bit_and (s / 2 ^ t) 1) 1 ≡ b → set_of (tracks_from s (suc t) n) ≡ 2 ^ t * 2 * (s / 2 ^ t / 2)
+    → set_of (cond b (t ∷ tracks_from s (suc t) n) (tracks_from s (suc t) n)) ≡ 2 ^ t * (s / 2 ^ t)
+one_more true s t n within e later =
+    ap (λ (k : ℕ). k + set_of (tracks_from s (suc t) n)) (in_word t within)
+    ∙ ap (λ (k : ℕ). 2 ^ t + k) later
+    ∙ odd_left (2 ^ t) (s / 2 ^ t) (s / 2 ^ t / 2) (bit_odd s t e)
+one_more false s t n within e later = later ∙ even_left (2 ^ t) (s / 2 ^ t) (s / 2 ^ t / 2) (bit_even s t e)
+
 -- those from a track on
 set_from : (s t n : ℕ) → t + n ≤ 32 → s / 2 ^ t < 2 ^ n → set_of (tracks_from s t n) ≡ 2 ^ t * (s / 2 ^ t)
-set_from s t zero within few = none (2 ^ t) (s / 2 ^ t) few where
-  none : (p q : ℕ) → q < 2 ^ 0 → 0 ≡ p * q
-  none p q h = let z : q ≡ 0 = omega (arith, h) in omega (arith, ap (λ (k : ℕ). p * k) z)
+set_from s t zero within few = none_left (2 ^ t) (s / 2 ^ t) few
 set_from s t (suc n) within few =
-    by (has_track s t) refl where
-      fewer : s / 2 ^ suc t < 2 ^ n
-      fewer = below (s / 2 ^ t) (s / 2 ^ suc t) (2 ^ n) (2 ^ suc n) (half s t) (pow-succ' 2 n) few where
-        below : (q h m w : ℕ) → h ≡ q / 2 → w ≡ 2 * m → q < w → h < m
-        below q h m w e f lt = omega (arith, e, f, lt)
-
-      later : set_of (tracks_from s (suc t) n) ≡ 2 ^ t * 2 * (s / 2 ^ t / 2)
-      later =
-          set_from s (suc t) n (omega (arith, within)) fewer
-          ∙ ap (λ (k : ℕ). k * (s / 2 ^ suc t)) (pow-suc 2 t) ∙ ap (λ (k : ℕ). 2 ^ t * 2 * k) (half s t)
-
-      by : (b : Bool) → eqb (bit_and (s / 2 ^ t) 1) 1 ≡ b
-          → set_of (cond b (t ∷ tracks_from s (suc t) n) (tracks_from s (suc t) n)) ≡ 2 ^ t * (s / 2 ^ t)
-      by true e =
-          ap (λ (k : ℕ). k + set_of (tracks_from s (suc t) n)) (in_word t (omega (arith, within)))
-          ∙ ap (λ (k : ℕ). 2 ^ t + k) later
-          ∙ odd_left (2 ^ t) (s / 2 ^ t) (s / 2 ^ t / 2) (bit_odd s t e)
-      by false e = later ∙ even_left (2 ^ t) (s / 2 ^ t) (s / 2 ^ t / 2) (bit_even s t e)
+    one_more (has_track s t) s t n (omega (arith, within)) refl
+    (set_from s (suc t) n (omega (arith, within)) (fewer s t n few)
+    ∙ ap (λ (k : ℕ). k * (s / 2 ^ suc t)) (pow-suc 2 t) ∙ ap (λ (k : ℕ). 2 ^ t * 2 * k) (half s t))
 
 pub set-tracks : (s : ℕ) → s < 2 ^ 32 → set_of (tracks_in s) ≡ s
 unfolding tracks_in

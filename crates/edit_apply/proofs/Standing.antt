@@ -1,6 +1,5 @@
 -- Tracks of a room, as an object's parts and as an edit asks for them.
 use Rattle.std.proofs.Common.{◌≡◌, ℕ, List, [], ◌∷◌, All, map, Result, Ok, Err, refl, ap, ◌∙◌, arith}
-use Rattle.std.proofs.lemmas.List.Elements.{All-cons}
 use Rattle.composables.specs.declared.media.Table.{Table}
 use Rattle.composables.specs.declared.refusals.Done.{Done}
 use Rattle.composables.specs.declared.refusals.EditFault.{EditFault}
@@ -8,7 +7,7 @@ use Rattle.composables.specs.declared.refusals.EditFault.TheVariants as edit
 use Rattle.composables.specs.Answers.{Answers as EditAnswers, Applied}
 use Rattle.composables.specs.Good.{IsGood}
 use Rattle.composables.specs.TrackState.{TrackState}
-use Rattle.edit_insert.proofs.Standing.{all_head, all_none, all_tail}
+use Rattle.edit_insert.proofs.Standing.{all_head, all_tail}
 use Rattle.room_core.specs.Answers.{Answers}
 use Rattle.room_core.specs.Parts.{AreGood}
 use Rattle.edit_apply.specs.Faults.{answer_of}
@@ -21,19 +20,7 @@ tracks-named table (n ∷ ns) [] h = absurd h
 tracks-named table (n ∷ ns) (t ∷ ts) h =
     ap (λ (k : ℕ). k ∷ map (λ (t : TrackState). t.number) ts) h.0.number_is ∙ ap (λ (l : List ℕ). n ∷ l) (tracks-named table ns ts h.1)
 
-pub tracks-good : (table : Table) (ns : List ℕ) (ts : List TrackState) → AreGood (IsTrackOf table) ns ts → All (λ (t : TrackState). IsGood table t) ts
-tracks-good table [] [] h = all_none (IsGood table)
-tracks-good table [] (t ∷ ts) h = absurd h
-tracks-good table (n ∷ ns) [] h = absurd h
-tracks-good table (n ∷ ns) (t ∷ ts) h = All-cons (IsGood table) t ts h.0.good (tracks-good table ns ts h.1)
-
-pub tracks-unlinked : (table : Table) (ns : List ℕ) (ts : List TrackState) → AreGood (IsTrackOf table) ns ts → All IsUnlinked ts
-tracks-unlinked table [] [] h = all_none IsUnlinked
-tracks-unlinked table [] (t ∷ ts) h = absurd h
-tracks-unlinked table (n ∷ ns) [] h = absurd h
-tracks-unlinked table (n ∷ ns) (t ∷ ts) h = All-cons IsUnlinked t ts h.0.unlinked (tracks-unlinked table ns ts h.1)
-
--- and back
+-- and back: good, numbered and unlinked tracks are tracks of the room
 pub tracks-again : (table : Table) (ns : List ℕ) (ts : List TrackState) → map (λ (t : TrackState). t.number) ts ≡ ns
     → All (λ (t : TrackState). IsGood table t) ts → All IsUnlinked ts → AreGood (IsTrackOf table) ns ts
 tracks-again table [] [] e g u = tt

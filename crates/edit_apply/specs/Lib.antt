@@ -2,3 +2,6 @@ pub mod Apply
 pub mod RoomTracks
 pub mod See
 pub mod Faults
+pub mod NamingLaws
+pub mod YoungTracks
+pub mod RoomyLaws

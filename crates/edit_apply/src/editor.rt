@@ -3,9 +3,9 @@ ghost use Rattle.std.specs.Prelude.{length};
 ghost use Rattle.composables.specs.Items.{items_of};
 ghost use Rattle.composables.specs.Roomy.{IsRoomy};
 ghost use Rattle.edit_apply.specs.Apply.{editing, track_count};
-ghost use Rattle.edit_apply.proofs.EditingNames.{editing-named, editing-opens};
+ghost use Rattle.edit_apply.specs.NamingLaws.{editing-named, editing-opens};
 ghost use Rattle.edit_apply.specs.RoomTracks.{IsOpening, IsTrackOf};
-ghost use Rattle.edit_apply.proofs.Roominess.{editing-roomy};
+ghost use Rattle.edit_apply.specs.RoomyLaws.{editing-roomy};
 ghost use Rattle.edit_apply.specs.See.{ask_part_of, seen_on};
 
 use crate::edits::{answer_of, edit};

@@ -57,11 +57,7 @@ pub(crate) fn wrong_track(count: u32, named: NamedTracks) -> Option<u32>
     ensures { result ≡ wrong_track_in count named }
 {
     match named {
-        NamedTracks::One(track) => if track < count {
-            None
-        } else {
-            Some(track)
-        },
+        NamedTracks::One(track) => if track < count { None } else { Some(track) },
         NamedTracks::Many { tracks, own } => match first_absent(count, tracks) {
             Some(track) => Some(track),
             None => if is_among(tracks, own) {

@@ -1,18 +1,17 @@
--- All tracks that a history comes to have room among their numbers for one edit more.
-use Rattle.std.proofs.Common.{◌≡◌, ℕ, zero, suc, ◌+◌, ◌*◌, ◌^◌, ◌<◌, ◌≤◌, List, [], ◌∷◌, All, fold, length, Option, Some, None, IfSome, Result, Ok, Err, slice_get, slice_set, refl, sym, ap, ◌∙◌, arith, subst}
+-- The law of an editor as an object that all tracks of a history have room among their numbers for one edit more: each
+-- entry raises the next item number of a track by two at most.
+use Rattle.std.proofs.Common.{◌≡◌, ℕ, zero, suc, ◌+◌, ◌*◌, ◌^◌, ◌≤◌, List, [], ◌∷◌, All, fold, length, Option, Some, None, Result, Ok, Err, slice_set, refl, sym, ◌∙◌, arith, subst}
 use Rattle.std.proofs.lemmas.List.Elements.{All-cons}
 use Rattle.composables.specs.declared.media.Table.{Table}
-use Rattle.composables.specs.declared.refusals.Done.{Done}
 use Rattle.composables.specs.declared.refusals.Refusal.{Refusal}
 use Rattle.composables.specs.Answers.{Applied}
-use Rattle.composables.specs.Good.{AllUnlinked, IsGood}
-use Rattle.composables.specs.Items.{items_of}
+use Rattle.composables.specs.Good.{IsGood}
 use Rattle.composables.specs.Roomy.{IsRoomy}
 use Rattle.composables.specs.TrackState.{TrackState}
 use Rattle.edit_insert.proofs.Standing.{all_head, all_none, all_tail}
 use Rattle.edit_insert.proofs.Unlinked.{Bare, bare-good}
 use Rattle.room_core.specs.declared.entry.Entry.{Entry}
-use Rattle.room_core.specs.History.{IsLegal, after_entry, most_entries, replay, state_in}
+use Rattle.room_core.specs.History.{IsLegal, after_entry, replay, state_in}
 use Rattle.room_core.specs.Parts.{AreGood, numbers}
 use Rattle.room_core.specs.Whole.{on_whole, picked, put_back, unless_refused, whole}
 use Rattle.room_core.proofs.WholeParts.{roomy_picked}
@@ -20,8 +19,7 @@ use Rattle.edit_apply.specs.declared.asks.Call.{Call}
 use Rattle.edit_apply.specs.declared.asks.Call.TheVariants as call
 use Rattle.edit_apply.specs.Apply.{applied_on, editing, names_of, refuse_names_of, track_count}
 use Rattle.edit_apply.specs.RoomTracks.{IsOpening, IsTrackOf, IsUnlinked}
-use Rattle.edit_apply.proofs.Standing.{tracks-good, tracks-unlinked}
-use Rattle.edit_apply.proofs.Young.{AreYoung, IsYoung, all-more, young-extract, young-insert, young-overwrite, young-remove, young-slice}
+use Rattle.edit_apply.specs.YoungTracks.{AreYoung, IsYoung, all-more, young-extract, young-insert, young-overwrite, young-remove, young-slice}
 
 -- a call on the named tracks
 young_applied : (n : ℕ) (table : Table) (ts : List TrackState) (c : Call) → All (IsYoung n) ts → AreYoung (n + 2) (applied_on table ts c)
@@ -82,6 +80,18 @@ young_history n table ps qs (e ∷ es) h comes =
     young_next n table qs e es (whole (editing table) ps e.call) (λ ts y c. young_history (n + 2) table ts qs es y c) (young_call n table ps e.call h) comes
 
 -- an opening
+pub tracks-good : (table : Table) (ns : List ℕ) (ts : List TrackState) → AreGood (IsTrackOf table) ns ts → All (λ (t : TrackState). IsGood table t) ts
+tracks-good table [] [] h = all_none (IsGood table)
+tracks-good table [] (t ∷ ts) h = absurd h
+tracks-good table (n ∷ ns) [] h = absurd h
+tracks-good table (n ∷ ns) (t ∷ ts) h = All-cons (IsGood table) t ts h.0.good (tracks-good table ns ts h.1)
+
+pub tracks-unlinked : (table : Table) (ns : List ℕ) (ts : List TrackState) → AreGood (IsTrackOf table) ns ts → All IsUnlinked ts
+tracks-unlinked table [] [] h = all_none IsUnlinked
+tracks-unlinked table [] (t ∷ ts) h = absurd h
+tracks-unlinked table (n ∷ ns) [] h = absurd h
+tracks-unlinked table (n ∷ ns) (t ∷ ts) h = All-cons IsUnlinked t ts h.0.unlinked (tracks-unlinked table ns ts h.1)
+
 young_opening : (ts : List TrackState) → All (λ (t : TrackState). t.next_item ≤ 65536) ts → All (λ (t : TrackState). t.next_link ≡ 0) ts → Bare ts → All (IsYoung 65536) ts
 young_opening [] i l b = all_none (IsYoung 65536)
 young_opening (t ∷ ts) i l b =
@@ -95,6 +105,7 @@ roomy_young n (t ∷ ts) le h =
     let y = all_head (IsYoung n) t ts h in
     All-cons IsRoomy t ts (record { item = omega (arith, le, y.item); link = omega (arith, y.link) }) (roomy_young n ts le (all_tail (IsYoung n) t ts h))
 
+-- the tracks that a legal history comes to have room
 pub editing-roomy : (table : Table) (ps qs : List TrackState) (entries : List (Entry Call)) → IsOpening table ps → IsLegal (whole (editing table)) ps entries
     → replay (whole (editing table)) ps entries ≡ Some qs → All IsRoomy qs
 editing-roomy table ps qs entries opens legal comes =

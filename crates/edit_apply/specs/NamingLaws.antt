@@ -1,6 +1,5 @@
--- The tracks that a call names are in the room, in ascending order.
-use Rattle.std.proofs.Common.{◌≡◌, ℕ, zero, suc, ◌+◌, ◌<◌, ◌≤◌, Bool, true, false, cond, List, [], ◌∷◌, Option, Some, None, length, option_map, refl, arith, nat_eq, nat_lt}
-use Rattle.std.specs.List.{list_any}
+-- The laws of an editor as an object: what a call names, and what a room is opened with.
+use Rattle.std.proofs.Common.{◌≡◌, ℕ, zero, suc, ◌+◌, ◌<◌, ◌≤◌, Bool, true, false, cond, List, [], ◌∷◌, Option, Some, None, length, option_map, refl, arith, nat_lt}
 use Rattle.std.proofs.lemmas.Bool.Decides.{nat_tests}
 use Rattle.composables.specs.declared.media.Table.{Table}
 use Rattle.composables.specs.declared.refusals.Refusal.TheVariants.{NoTrack}
@@ -23,12 +22,12 @@ ascend_from : (s count t n least : ℕ) → least ≤ t → first_absent count (
 ascend_from s count t zero least le h = tt
 ascend_from s count t (suc n) least le h =
     by (has_track s t) h (ascend_from s count (suc t) n least (omega (arith, le))) (ascend_from s count (suc t) n (t + 1) (omega arith)) where
-  by : (b : Bool) → first_absent count (cond b (t ∷ tracks_from s (suc t) n) (tracks_from s (suc t) n)) ≡ None
-      → (first_absent count (tracks_from s (suc t) n) ≡ None → AscendBetween least count (tracks_from s (suc t) n))
-      → (first_absent count (tracks_from s (suc t) n) ≡ None → AscendBetween (t + 1) count (tracks_from s (suc t) n))
-      → AscendBetween least count (cond b (t ∷ tracks_from s (suc t) n) (tracks_from s (suc t) n))
-  by true h same later = let p = first_below count t (tracks_from s (suc t) n) h in (le, p.0, later p.1)
-  by false h same later = same h
+      by : (b : Bool) → first_absent count (cond b (t ∷ tracks_from s (suc t) n) (tracks_from s (suc t) n)) ≡ None
+          → (first_absent count (tracks_from s (suc t) n) ≡ None → AscendBetween least count (tracks_from s (suc t) n))
+          → (first_absent count (tracks_from s (suc t) n) ≡ None → AscendBetween (t + 1) count (tracks_from s (suc t) n))
+          → AscendBetween least count (cond b (t ∷ tracks_from s (suc t) n) (tracks_from s (suc t) n))
+      by true h same later = let p = first_below count t (tracks_from s (suc t) n) h in (le, p.0, later p.1)
+      by false h same later = same h
 
 ascend : (s count : ℕ) → first_absent count (tracks_in s) ≡ None → AscendBetween 0 count (tracks_in s)
 unfolding tracks_in
@@ -51,9 +50,11 @@ names_there count (Many tracks own) h =
     let p = none_of (first_absent count (tracks_in tracks)) (own_outside (tracks_in tracks) own) h in
     record { some = some_named (tracks_in tracks) own p.1; ascend = ascend tracks count p.0 }
 
+-- a call that is not refused for its names names tracks that are there, in ascending order
 pub editing-named : (table : Table) (c : Call) → (editing table).refuses c ≡ None → IsNaming (track_count table) ((editing table).names c)
 editing-named table c h = names_there (track_count table) (named_by c) h
 
+-- an opening has from 1 to 32 tracks, each good at its number
 pub editing-opens : (table : Table) (tracks : List TrackState) → IsOpening table tracks
     → (0 < track_count table) × (track_count table ≤ 32) × AreGood (IsTrackOf table) (numbers 0 (track_count table)) tracks
 editing-opens table tracks h = (omega (arith, h.some), omega arith, h.good)

@@ -1,9 +1,8 @@
 -- How far the numbers of tracks without links have risen: each call raises the next item number of a track by two at
 -- most, and no next link number.
-use Rattle.std.proofs.Common.{◌≡◌, ℕ, zero, suc, ◌+◌, ◌-◌, ◌*◌, ◌^◌, ◌<◌, ◌≤◌, Bool, true, false, cond, eqb, min, List, [], ◌∷◌, ◌++◌, All, fold, map, length, Option, Some, None, IfSome, Result, Ok, Err, slice_get, slice_set, refl, sym, ap, ◌∙◌, arith, subst, nat_lt}
+use Rattle.std.proofs.Common.{◌≡◌, ℕ, ◌+◌, ◌-◌, ◌≤◌, Bool, true, false, cond, eqb, min, List, [], ◌∷◌, All, length, Option, Some, None, IfSome, Result, Ok, Err, refl, sym, arith, subst, nat_lt}
 use Rattle.std.proofs.lemmas.Bool.{eq-eqb}
 use Rattle.std.proofs.lemmas.List.Elements.{All-cons}
-use Rattle.frame_meaning.specs.declared.cells.Cell.{Cell}
 use Rattle.frame_meaning.specs.declared.cells.What.{What}
 use Rattle.composables.specs.declared.calls.Overwrite.{Overwrite}
 use Rattle.composables.specs.declared.calls.Insert.{Insert}
@@ -17,14 +16,12 @@ use Rattle.composables.specs.declared.refusals.Done.TheVariants.{Item, Plain}
 use Rattle.composables.specs.declared.refusals.Refusal.{Refusal}
 use Rattle.composables.specs.declared.refusals.Refusal.TheVariants.{NoItem, NoTrack}
 use Rattle.composables.specs.Answers.{Applied, unless}
-use Rattle.composables.specs.Good.{AllUnlinked, IsGood}
-use Rattle.composables.specs.Items.{items_of}
+use Rattle.composables.specs.Good.{AllUnlinked}
 use Rattle.composables.specs.Joined.{frames_in}
-use Rattle.composables.specs.Limits.{too_long, too_many, track_within_limits, unless_over, within_limits}
+use Rattle.composables.specs.Limits.{too_long, too_many, track_within_limits, within_limits}
 use Rattle.composables.specs.Links.{links_in}
 use Rattle.composables.specs.OwnTracks.{among_named, for_own, on_own, track_numbered, with_track}
 use Rattle.composables.specs.Ranges.{range_of}
-use Rattle.composables.specs.Roomy.{IsRoomy}
 use Rattle.composables.specs.TrackFacts.{NumbersBelow}
 use Rattle.composables.specs.TrackState.{TrackState}
 use Rattle.composables.specs.Views.{clip_view, gap_view, gap_views}
@@ -97,7 +94,7 @@ pub young-padded : (n : ℕ) (t : TrackState) (at : ℕ) → IsYoung n t → IsY
 young-padded n t at h =
     let all : Bare (with_track (t ∷ []) (padded_track t at)) = bare-padded (t ∷ []) t at h.bare (h.bare, tt) in
     let bare : Bare (padded_track t at ∷ []) =
-        subst (λ (b : Bool). Bare (cond b (padded_track t at ∷ []) (t ∷ []))) (eq-eqb t.number t.number refl) all in
+    subst (λ (b : Bool). Bare (cond b (padded_track t at ∷ []) (t ∷ []))) (eq-eqb t.number t.number refl) all in
     record { item = h.item; link = h.link; bare = bare.0 }
 
 -- refusals
