@@ -1,7 +1,9 @@
 pub mod CallTexts
 pub mod Faults
+pub mod JournalFaults
 pub mod Journals
 pub mod Labels
+pub mod LooseEntries
 pub mod Meanings
 pub mod Reading
 pub mod Replies

@@ -9,8 +9,9 @@ mod answers;
 mod bytes;
 mod calls;
 mod commands;
-mod entries;
 mod journal;
+mod journal_fault;
+mod journal_reading;
 mod labels;
 mod laws;
 mod lines;
@@ -25,8 +26,9 @@ pub use answers::{Answer, Sight};
 pub use calls::call_text;
 pub use commands::Command;
 pub use composables::Memory;
-pub use entries::Entry;
 pub use journal::journal_text;
+pub use journal_fault::{JournalCode, JournalFault};
+pub use journal_reading::{LAST_STATION, MAX_JOURNAL, read_journal};
 pub use laws::{
     labels_name_places, lines_are_those_of_the_table, lines_have_one_meaning,
     written_calls_are_read,
@@ -35,6 +37,7 @@ pub use lines::{Line, LineFault};
 pub use parts::LAST_TRACK;
 pub use reading::read_line;
 pub use replies::{answer_text, fault_text, point_text};
+pub use room_core::Entry;
 pub use short_text::{MAX_SHORT, MAX_SHORT_LINE, Short};
 pub use sights::sight_text;
 
