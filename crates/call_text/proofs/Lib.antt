@@ -1,5 +1,8 @@
+pub mod EntryTexts
 pub mod FaultLaws
+pub mod JournalLaws
 pub mod LabelPlaces
+pub mod LateEntries
 pub mod ListWords
 pub mod Positions
 pub mod ReadParts

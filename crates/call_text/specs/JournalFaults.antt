@@ -24,7 +24,8 @@ HasNoCount text = (count : ℕ) (rest : List ℕ) → IsSmall count → text ≢
 
 -- no line of an entry stands at the front of the text
 abbrev pub HasNoEntry : List ℕ → Type 0
-HasNoEntry text = (entry : Entry Call) (rest : List ℕ) → HasLine entry → text ≢ entry_line entry ++ rest
+HasNoEntry text =
+    (entry : Entry Call) (rest : List ℕ) → HasLine entry → text ≢ entry_line entry ++ rest
 
 -- the line is no entry's
 abbrev pub IsNoEntry : List ℕ → Type 0
@@ -35,14 +36,16 @@ abbrev pub AreLines : List ℕ → List (Entry Call) → Type 0
 AreLines text entries = All HasLine entries × (text ≡ flat_map entry_line entries)
 
 -- the text begins with the lines of a count and of these entries, and goes on so
-pub record Begins (text : List ℕ) (count : ℕ) (entries : List (Entry Call)) (rest : List ℕ) : Type 0 where
+pub record Begins (text : List ℕ) (count : ℕ) (entries : List (Entry Call)) (rest : List ℕ)
+    : Type 0 where
   pub count : IsSmall count
   pub lines : All HasLine entries
   pub text : text ≡ count_line count ++ (flat_map entry_line entries ++ rest)
 
 -- the line behind these is none of an entry
 abbrev pub StopsBehind : List ℕ → ℕ → List (Entry Call) → List ℕ → Type 0
-StopsBehind text count entries rest = Begins text count entries rest × (0 < length rest) × HasNoEntry rest
+StopsBehind text count entries rest =
+    Begins text count entries rest × (0 < length rest) × HasNoEntry rest
 
 -- an entry of its station stands before it, and its number is not above that one's
 abbrev pub IsLate : List (Entry Call) → Entry Call → Type 0

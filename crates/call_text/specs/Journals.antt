@@ -11,7 +11,8 @@ use Rattle.call_text.specs.CallTexts.{call_text_of, IsSmall, IsWritten}
 -- an entry's line, without its line feed
 abbrev pub entry_text : Entry Call → List ℕ
 entry_text entry =
-    decimal entry.station ++ codes " " ++ decimal entry.number ++ codes " " ++ call_text_of entry.call
+    decimal entry.station ++ codes " " ++ decimal entry.number ++ codes " "
+    ++ call_text_of entry.call
 
 abbrev pub entry_line : Entry Call → List ℕ
 entry_line entry = entry_text entry ++ codes "\n"

@@ -1,6 +1,7 @@
 pub mod CallTexts
 pub mod Faults
 pub mod JournalFaults
+pub mod JournalMeanings
 pub mod Journals
 pub mod Labels
 pub mod LooseEntries

@@ -37,4 +37,6 @@ loose_entry place_at words = do
   station ← number_before words
   number ← number_before station.1
   call ← edit_in (line_of_words place_at number.1)
-  if nat_le station.0 LAST_STATION then Some (record { station = station.0; number = number.0; call = call }) else None
+  if nat_le station.0 LAST_STATION
+      then Some (record { station = station.0; number = number.0; call = call })
+      else None

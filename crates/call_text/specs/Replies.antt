@@ -38,9 +38,12 @@ refusal_text (NotACut place) = codes " E7 " ++ decimal place
 refusal_text (DissolveRoom Left) = codes " E8 left"
 refusal_text (DissolveRoom Right) = codes " E8 right"
 refusal_text (OffsetsDiffer first other) = codes " E9 " ++ offsets_text first other
-refusal_text (AlreadyLinked track item) = codes " E10 " ++ decimal track ++ codes " " ++ decimal item
-refusal_text (LinkOutside home number track) = codes " E11 " ++ link_text home number ++ codes " " ++ decimal track
-refusal_text (LinkBroken home number old new) = codes " E12 " ++ link_text home number ++ codes " " ++ offsets_text old new
+refusal_text (AlreadyLinked track item) =
+    codes " E10 " ++ decimal track ++ codes " " ++ decimal item
+refusal_text (LinkOutside home number track) =
+    codes " E11 " ++ link_text home number ++ codes " " ++ decimal track
+refusal_text (LinkBroken home number old new) =
+    codes " E12 " ++ link_text home number ++ codes " " ++ offsets_text old new
 refusal_text (TooLong track) = codes " E13 " ++ decimal track
 refusal_text (TooManyItems track) = codes " E14 " ++ decimal track
 

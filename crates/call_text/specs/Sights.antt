@@ -32,7 +32,9 @@ side_text (side.Pic what source) = picture_text what source
 abbrev pub frame_text : Frame What → List ℕ
 frame_text frame.Dark = codes " dark"
 frame_text (frame.Pic what source) = picture_text what source
-frame_text (frame.Mix left right num den) = codes " mix" ++ side_text left ++ side_text right ++ codes " " ++ decimal num ++ codes " " ++ decimal den
+frame_text (frame.Mix left right num den) =
+    codes " mix" ++ side_text left ++ side_text right
+    ++ codes " " ++ decimal num ++ codes " " ++ decimal den
 
 abbrev pub run_text : Run What → List ℕ
 run_text run = frame_text run.frame ++ codes " " ++ decimal run.len
@@ -53,7 +55,9 @@ item_link_text (Some link) = codes " link " ++ link_text link.home link.number
 
 -- the mark before it, its number, what it shows from which source frame on, its length, its link
 abbrev pub item_text : ItemView → List ℕ
-item_text view = mark_text view.mark ++ number_text view.item ++ side_text view.first ++ codes " " ++ decimal view.len ++ item_link_text view.link
+item_text view =
+    mark_text view.mark ++ number_text view.item ++ side_text view.first
+    ++ codes " " ++ decimal view.len ++ item_link_text view.link
 
 -- what was seen at a point
 abbrev pub seen_text : ℕ → Seen → List ℕ
@@ -68,5 +72,6 @@ ask_refusal_text (Range length) = codes " V2 " ++ decimal length
 -- the reply to a question
 abbrev pub sight_text_of : Sight → List ℕ
 sight_text_of (sight.Seen point seen) = seen_text point seen
-sight_text_of (sight.Refused point refusal) = codes "no " ++ decimal point ++ ask_refusal_text refusal
+sight_text_of (sight.Refused point refusal) =
+    codes "no " ++ decimal point ++ ask_refusal_text refusal
 sight_text_of sight.Memory = codes "memory"

@@ -34,11 +34,7 @@ pub fn read_line(
 }
 
 // The line that these bytes are, of any length.
-pub(crate) fn table_line(
-    line: &[u8],
-    counting: &Counting,
-    start: u32,
-) -> Result<Line, LineFault>
+pub(crate) fn table_line(line: &[u8], counting: &Counting, start: u32) -> Result<Line, LineFault>
     ensures read { result ≡ line_of_words (place_by counting.now start) (words_of line.now) }
     ensures written { IfOk result (λ read. NamesWritten read) }
 {

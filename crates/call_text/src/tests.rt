@@ -580,8 +580,16 @@ fn the_first_fault_of_a_journal_is_told(rt: HostRuntime) {
         (b"journal 1\n0 1 slice 32 10\n", JournalCode::H1, 2),
         (b"journal 1\n0 1 slice 0 00:00:00:10\n", JournalCode::H1, 2),
         (b"journal 1\n0 1 items 0\n", JournalCode::H1, 2),
-        (b"journal 3\n0 1 slice 0 1\n0 x slice 0 1\n", JournalCode::H1, 3),
-        (b"journal 2\n0 2 slice 0 1\n0 2 slice 0 1\n", JournalCode::H4, 3),
+        (
+            b"journal 3\n0 1 slice 0 1\n0 x slice 0 1\n",
+            JournalCode::H1,
+            3,
+        ),
+        (
+            b"journal 2\n0 2 slice 0 1\n0 2 slice 0 1\n",
+            JournalCode::H4,
+            3,
+        ),
         (
             b"journal 3\n0 2 slice 0 1\n1 1 slice 0 1\n0 1 slice 0 1\n",
             JournalCode::H4,
