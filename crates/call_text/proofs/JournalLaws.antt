@@ -21,7 +21,7 @@ none_in_nothing = λ e rest h same. never_empty (entry_text e) rest (same ∙ li
 begins_once : (text : List ℕ) (m n : ℕ) (es fs : List (Entry Call)) (x y : List ℕ) → Begins text m es x → Begins text n fs y
     → HasNoEntry x → HasNoEntry y → (m ≡ n) × (es ≡ fs) × (x ≡ y)
 begins_once text m n es fs x y h k s t =
-    let counts = count_once m n (flat_map entry_line es ++ x) (flat_map entry_line fs ++ y) h.count k.count (sym h.text ∙ k.text) in
+    let counts = count_once m n (flat_map entry_line es ++ x) (flat_map entry_line fs ++ y) h.small k.small (sym h.spelled ∙ k.spelled) in
     let lines = entries_once es fs x y h.lines k.lines s t counts.1 in
     (counts.0, lines.0, lines.1)
 
@@ -29,9 +29,9 @@ pub whole_begins : (text : List ℕ) (es : List (Entry Call)) → AreEntriesOf t
 whole_begins text es h =
     let within = h.0.within in
     record {
-      count = omega (arith, within);
+      small = omega (arith, within);
       lines = h.0.lines;
-      text = h.1 ∙ ap (λ lines. count_line (length es) ++ lines) (sym (append-nil (flat_map entry_line es)));
+      spelled = h.1 ∙ ap (λ lines. count_line (length es) ++ lines) (sym (append-nil (flat_map entry_line es)));
     }
 
 -- a late entry does not rise
@@ -43,7 +43,7 @@ late_falls (f ∷ fs) behind e rise (inl here) =
     omega (arith, above, low)
   where
     after : (gs behind : List (Entry Call)) (f e : Entry Call) → RiseAfter f (gs ++ e ∷ behind) → f.station ≡ e.station → f.number < e.number
-    after [] behind f e h same = h.0 same
+    after [] behind f e h same = h.0 (sym same)
     after (g ∷ gs) behind f e h same = after gs behind f e h.1 same
 late_falls (f ∷ fs) behind e rise (inr more) = late_falls fs behind e rise.1 more
 
@@ -79,7 +79,7 @@ one_journal text es fs h k =
 
 -- a text that begins with a count
 has_count : (text : List ℕ) (n : ℕ) (es : List (Entry Call)) (x : List ℕ) → HasNoCount text → Begins text n es x → ⊥
-has_count text n es x none h = none n (flat_map entry_line es ++ x) h.count h.text
+has_count text n es x none h = none n (flat_map entry_line es ++ x) h.small h.spelled
 
 -- a text that stops behind entries, and one that does not
 stops_whole : (text : List ℕ) (m n : ℕ) (es fs : List (Entry Call)) (x : List ℕ) → StopsBehind text m es x → Begins text n fs [] → ⊥

@@ -1,5 +1,5 @@
 -- The least number that the next entry of a station can bear.
-use Rattle.std.proofs.Common.{◌≡◌, ◌≢◌, ℕ, ◌+◌, ◌<◌, ◌≤◌, ◌⊎◌, List, [], ◌∷◌, ◌++◌, inl, inr, refl, arith}
+use Rattle.std.proofs.Common.{◌≡◌, ◌≢◌, ℕ, ◌+◌, ◌<◌, ◌≤◌, ◌⊎◌, List, [], ◌∷◌, ◌++◌, inl, inr, refl, sym, arith}
 use Rattle.edit_apply.specs.declared.asks.Call.{Call}
 use Rattle.room_core.specs.declared.entry.Entry.{Entry}
 use Rattle.room_core.specs.History.{RiseAfter, NumbersRise}
@@ -44,14 +44,14 @@ below_end [] e s n m h up here = (here, tt)
 below_end (f ∷ fs) e s n m h up here =
     (λ same. let low = h.0 same in omega (arith, low, up), below_end fs e s n m h.1 up here)
 
-rise_end : (before : List (Entry Call)) (f e : Entry Call) → RiseAfter f before → (f.station ≡ e.station → f.number < e.number) → RiseAfter f (before ++ e ∷ [])
+rise_end : (before : List (Entry Call)) (f e : Entry Call) → RiseAfter f before → (e.station ≡ f.station → f.number < e.number) → RiseAfter f (before ++ e ∷ [])
 rise_end [] f e h here = (here, tt)
 rise_end (g ∷ gs) f e h here = (h.0, rise_end gs f e h.1 here)
 
 pub rise_more : (before : List (Entry Call)) (e : Entry Call) (n : ℕ) → NumbersRise before → AreBelow before e.station n → n ≤ e.number → NumbersRise (before ++ e ∷ [])
 rise_more [] e n h below up = (tt, tt)
 rise_more (f ∷ fs) e n h below up =
-    (rise_end fs f e h.0 (λ same. let low = below.0 same in omega (arith, low, up)), rise_more fs e n h.1 below.1 up)
+    (rise_end fs f e h.0 (λ same. let low = below.0 (sym same) in omega (arith, low, up)), rise_more fs e n h.1 below.1 up)
 
 next_end : (before : List (Entry Call)) (e : Entry Call) (s n : ℕ) → e.station ≡ s → e.number + 1 ≡ n → IsNext (before ++ e ∷ []) s n
 next_end [] e s n same one = inl (same, one)

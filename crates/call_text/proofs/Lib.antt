@@ -1,6 +1,7 @@
 pub mod EntryTexts
 pub mod FaultLaws
 pub mod JournalLaws
+pub mod JournalSteps
 pub mod LabelPlaces
 pub mod LateEntries
 pub mod ListWords

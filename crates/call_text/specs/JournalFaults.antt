@@ -38,9 +38,9 @@ AreLines text entries = All HasLine entries × (text ≡ flat_map entry_line ent
 -- the text begins with the lines of a count and of these entries, and goes on so
 pub record Begins (text : List ℕ) (count : ℕ) (entries : List (Entry Call)) (rest : List ℕ)
     : Type 0 where
-  pub count : IsSmall count
+  pub small : IsSmall count
   pub lines : All HasLine entries
-  pub text : text ≡ count_line count ++ (flat_map entry_line entries ++ rest)
+  pub spelled : text ≡ count_line count ++ (flat_map entry_line entries ++ rest)
 
 -- the line behind these is none of an entry
 abbrev pub StopsBehind : List ℕ → ℕ → List (Entry Call) → List ℕ → Type 0

@@ -1,5 +1,5 @@
 // A journal read from its text.
-ghost use Rattle.std.specs.Prelude.{◌≡◌, ◌≢◌, ℕ, ◌+◌, ◌∷◌, ◌++◌, ◌≤◌, List, [], length, option_map, codes, decimal, IfErr, IfOk, IfSome, MatchOption, None, take, position};
+ghost use Rattle.std.specs.Prelude.{◌≡◌, ◌≢◌, ℕ, ◌+◌, ◌<◌, ◌∷◌, ◌++◌, ◌≤◌, List, [], length, option_map, codes, decimal, IfErr, IfOk, IfSome, MatchOption, None, take, position};
 ghost use Rattle.std.specs.List.{All, flat_map};
 ghost use Rattle.line_words.specs.Blanks.{words_of};
 ghost use Rattle.line_words.specs.Lines.{is_lf};
