@@ -1,10 +1,10 @@
 -- A journal that grows by an entry, and fronts of it.
-use Rattle.std.proofs.Common.{◌≡◌, ℕ, zero, suc, ◌+◌, ◌<◌, ◌≤◌, List, [], ◌∷◌, ◌++◌, length, Option, Some, None, Result, Ok, Err, IsSome, All, take, drop, slice_get, get_or, refl, sym, ap, ◌∙◌, arith, subst, length-append}
+use Rattle.std.proofs.Common.{◌≡◌, ℕ, zero, suc, ◌+◌, ◌<◌, List, [], ◌∷◌, ◌++◌, length, Option, Some, None, Result, Ok, IsSome, All, take, drop, slice_get, refl, sym, ap, ◌∙◌, arith, subst, length-append}
 use Rattle.std.specs.List.{fold}
 use Rattle.std.proofs.lemmas.List.{take-append-drop}
 use Rattle.std.proofs.lemmas.List.Elements.{All-nil, All-cons, All-head, All-tail}
 use Rattle.std.proofs.lemmas.List.Sums.{fold-append}
-use Rattle.room_core.specs.History.{after_entry, replay, state_in, RiseAfter, NumbersRise, most_entries, IsLegal}
+use Rattle.room_core.specs.History.{after_entry, replay, state_in, RiseAfter, NumbersRise, most_entries}
 use Rattle.room_core.specs.Parts.{AreGood, numbers}
 use Rattle.room_core.specs.Whole.{Meaning, whole}
 use Rattle.room_core.specs.declared.entry.Entry.{Entry}
@@ -56,7 +56,7 @@ pub stands_more : {P C D R : Type 0} (m : Meaning P C D R) (good : ℕ → P →
     → Stands m good count opens opening now after
 stands_more m good count opens opening parts now entries after e d s below few applies are_good is =
     let comes : replay (whole m) opening (entries ++ e ∷ []) ≡ Some now =
-      replay-more (whole m) opening entries e ∙ (ap (λ o. after_entry (whole m) o e) s.comes ∙ ap state_in applies) in
+    replay-more (whole m) opening entries e ∙ (ap (λ o. after_entry (whole m) o e) s.comes ∙ ap state_in applies) in
     rw is (record {
       opened = s.opened;
       legal = record { within = omega (arith, length-append entries (e ∷ []), few); applies = is_some _ now comes; rise = rise-more entries e s.legal.rise below };

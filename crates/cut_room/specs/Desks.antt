@@ -1,5 +1,5 @@
 -- A room of one station: what it keeps, and what its calls answer and leave.
-use Rattle.std.specs.Prelude.{◌≡◌, ℕ, ◌+◌, ◌<◌, ◌≤◌, List, [], ◌∷◌, ◌++◌, Vec, Option, Some, None, Result, Ok, Err, length, take, slice_get, option_map}
+use Rattle.std.specs.Prelude.{◌≡◌, ℕ, ◌<◌, ◌≤◌, List, [], ◌∷◌, ◌++◌, Vec, Option, Some, Result, Ok, Err, length, take, slice_get, option_map}
 use Rattle.std.specs.Global.{Global}
 use Rattle.room_core.specs.declared.entry.Entry.{Entry}
 use Rattle.room_core.specs.History.{replay, answer_in, IsLegal, most_entries}

@@ -81,11 +81,7 @@ fn answered_once(
 }
 
 // The answers to the last of 100,000 calls, to one call more, and to one that is refused.
-fn filled<L: Ledger>(
-    blank: Blank,
-    alloc: Global,
-    desk: &mut Desk<Counters>,
-) -> (Told, Told, Told)
+fn filled<L: Ledger>(blank: Blank, alloc: Global, desk: &mut Desk<Counters>) -> (Told, Told, Told)
     requires blank { (blank.name ≡ L.name) × (blank.parts ≡ L.parts) × (0 < blank.parts) }
     requires entries { desk.old.entries ≡ [] }
 {
@@ -140,8 +136,14 @@ fn answers_and_keeps_what_was_done(rt: HostRuntime) -> Result<(), Memory> {
     assert!(rt; desk.cut_at(alloc, 4).err() == Some(CutFault::NoPoint(3)));
     let entries = desk.close();
     assert_eq!(rt; entries.len(), 3);
-    for (entry, (number, call)) in entries.iter().zip([(0u32, (1u32, 5u32)), (2, (2, 4)), (4, (1, 0))]) {
-        assert_eq!(rt; (entry.station, entry.number, entry.call), (0, number, call));
+    for (entry, (number, call)) in entries
+        .iter()
+        .zip([(0u32, (1u32, 5u32)), (2, (2, 4)), (4, (1, 0))])
+    {
+        assert_eq!(rt;
+            (entry.station, entry.number, entry.call),
+            (0, number, call)
+        );
     }
     Ok(())
 }
@@ -151,7 +153,11 @@ fn a_journal_has_at_most_100000_entries(rt: HostRuntime) -> Result<(), Memory> {
     let alloc = rt.alloc();
     let mut desk = opened(alloc)?;
     let answers = filled_once(alloc, &mut desk);
-    let wanted = (Told::Done(99_999, 0), Told::Full(100_000), Told::Refused(100_000, 0));
+    let wanted = (
+        Told::Done(99_999, 0),
+        Told::Full(100_000),
+        Told::Refused(100_000, 0),
+    );
     assert!(rt; answers == wanted);
     assert_eq!(rt; desk.point(), 100_000);
     Ok(())

@@ -1,10 +1,10 @@
 -- Places out of which parts are taken, and into which they are put.
-use Rattle.std.proofs.Common.{append_assoc, drop, ◌≡◌, ◌≢◌, ℕ, zero, suc, ◌+◌, ◌<◌, ◌≤◌, List, [], ◌∷◌, ◌++◌, length, Option, Some, None, Result, Ok, Err, refl, sym, ap, ◌∙◌, arith, All, slice_get, slice_set, get_or, subst, map}
+use Rattle.std.proofs.Common.{append_assoc, drop, ◌≡◌, ◌≢◌, ℕ, zero, suc, ◌+◌, ◌<◌, ◌≤◌, List, [], ◌∷◌, ◌++◌, length, Option, Some, None, refl, sym, ap, ◌∙◌, arith, slice_get, slice_set, get_or, subst, map}
 use Rattle.std.proofs.Math.ListN.{length-set}
 use Rattle.std.proofs.lemmas.Option.{slice_get-get_or}
 use Rattle.std.proofs.lemmas.List.{drop_more, map-append, map-set}
 use Rattle.room_core.specs.Parts.{AscendBetween}
-use Rattle.room_core.specs.Whole.{picked, put_back, with_picked}
+use Rattle.room_core.specs.Whole.{picked, put_back}
 use Rattle.history_points.specs.Slots.{present, emptied, IsWhole}
 use Rattle.history_points.proofs.Sets.{lower}
 

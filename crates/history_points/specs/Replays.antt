@@ -1,5 +1,5 @@
 -- What a replay answers: the parts after the first entries of a list, or which entry is the first that does not apply.
-use Rattle.std.specs.Prelude.{◌≡◌, ℕ, ◌+◌, ◌<◌, List, Vec, Option, Some, None, Result, Ok, Err, IsSome, take}
+use Rattle.std.specs.Prelude.{◌≡◌, ℕ, ◌+◌, ◌<◌, List, Vec, Some, None, Result, Ok, Err, IsSome, take}
 use Rattle.std.specs.Global.{Global}
 use Rattle.room_core.specs.declared.entry.Entry.{Entry}
 use Rattle.room_core.specs.History.{replay}

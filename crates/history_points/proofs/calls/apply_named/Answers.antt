@@ -1,9 +1,9 @@
-use Rattle.std.proofs.Common.{◌≡◌, ◌+◌, ◌<◌, ◌≤◌, ℕ, [], Some, None, All, map, length, slice_get, List, ◌∷◌, ◌++◌, sym, ap, refl, ◌∙◌, arith, drop, get_or, subst}
+use Rattle.std.proofs.Common.{◌≡◌, ◌<◌, ℕ, Some, All, map, length, sym, ap, ◌∙◌, subst}
 use Rattle.room_core.specs.Answers.{Answers}
 use Rattle.room_core.specs.Parts.{AreGood, AscendBetween, numbers}
 use Rattle.room_core.specs.Whole.{picked, put_back, whole}
 use Rattle.room_core.proofs.WholeParts.{good_picked, roomy_picked, good_put_back}
-use Rattle.history_points.specs.Slots.{present, emptied, IsWhole}
+use Rattle.history_points.specs.Slots.{present, emptied}
 use Rattle.history_points.proofs.NamedCalls.{good-count, good-length, whole-length, all_below, length-emptied, answers_whole, now_filled, filled-whole, filled-present}
 use Rattle.history_points.proofs.calls.apply_named.Given as given
 use Rattle.history_points.proofs.calls.apply_named.Goals as goal

@@ -1,5 +1,5 @@
-use Rattle.std.proofs.Common.{◌≡◌, ◌+◌, ◌<◌, ◌≤◌, ℕ, [], Some, None, All, map, length, slice_get, List, ◌∷◌, ◌++◌, sym, ap, refl, ◌∙◌, arith, drop, get_or, subst}
-use Rattle.room_core.specs.Parts.{AreGood, AscendBetween, numbers}
+use Rattle.std.proofs.Common.{◌<◌, ℕ, All, length, sym, ap, ◌∙◌, subst}
+use Rattle.room_core.specs.Parts.{AreGood}
 use Rattle.room_core.specs.Whole.{picked}
 use Rattle.room_core.proofs.WholeParts.{good_picked, roomy_picked}
 use Rattle.history_points.proofs.NamedCalls.{good-count, all_below, tells_whole}

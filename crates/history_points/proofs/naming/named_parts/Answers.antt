@@ -1,8 +1,4 @@
-use Rattle.std.proofs.Common.{◌≡◌, ◌+◌, ◌<◌, ◌≤◌, ℕ, [], Some, None, All, map, length, slice_get, List, ◌∷◌, ◌++◌, sym, ap, refl, ◌∙◌, arith, drop, get_or, subst}
-use Rattle.std.proofs.Common.{IfOk, Result, Ok, Err, Vec, Global}
-use Rattle.room_core.specs.Parts.{AscendBetween}
-use Rattle.room_core.specs.Whole.{set_of}
-use Rattle.room_core.specs.declared.fault.Memory.{Memory}
+use Rattle.std.proofs.Common.{sym}
 use Rattle.history_points.proofs.Sets.{higher, of_names}
 use Rattle.history_points.proofs.naming.named_parts.Goals as goal
 

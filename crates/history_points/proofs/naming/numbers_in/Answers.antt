@@ -1,5 +1,5 @@
-use Rattle.std.proofs.Common.{◌≡◌, ◌<◌, ◌≤◌, ◌++◌, ◌∷◌, [], ℕ, List, arith, sym, ap, ◌∙◌}
-use Rattle.history_points.proofs.Sets.{Rest, rest_of_all, listed_next, passed_next, all_listed}
+use Rattle.std.proofs.Common.{arith}
+use Rattle.history_points.proofs.Sets.{rest_of_all, listed_next, passed_next, all_listed}
 use Rattle.history_points.proofs.naming.numbers_in.Goals as goal
 use Rattle.history_points.proofs.naming.numbers_in.Goals.{then-left-eq1+in_ok-push, else-left-eq1}
 

@@ -1,4 +1,4 @@
-use Rattle.std.proofs.Common.{◌≡◌, ◌+◌, ◌<◌, ◌≤◌, ℕ, [], Some, None, All, map, length, slice_get, List, ◌∷◌, ◌++◌, sym, ap, refl, ◌∙◌, arith, drop, get_or, subst}
+use Rattle.std.proofs.Common.{sym, ◌∙◌, arith}
 use Rattle.history_points.proofs.Slotted.{no_hole, one_taken}
 use Rattle.history_points.proofs.places.take_out.Goals as goal
 

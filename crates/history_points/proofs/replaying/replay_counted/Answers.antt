@@ -1,8 +1,7 @@
-use Rattle.std.proofs.Common.{◌≡◌, ◌≤◌, ◌<◌, length, ℕ, ◌+◌, List, All, take, sym, ap, ◌∙◌, arith}
+use Rattle.std.proofs.Common.{All, take, arith}
 use Rattle.std.proofs.lemmas.List.{length-take-le}
-use Rattle.room_core.specs.History.{most_entries}
 use Rattle.room_core.specs.Whole.{whole}
-use Rattle.history_points.proofs.Renumbered.{comes_to, replay_next}
+use Rattle.history_points.proofs.Renumbered.{comes_to}
 use Rattle.history_points.proofs.replaying.replay_counted.Goals as goal
 
 pub apply_in_place-requires-clause-roomy : goal.apply_in_place-requires-clause-roomy

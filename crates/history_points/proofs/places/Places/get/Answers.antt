@@ -1,5 +1,5 @@
-use Rattle.std.proofs.Common.{◌≡◌, ◌+◌, ◌<◌, ◌≤◌, ℕ, [], Some, None, All, map, length, slice_get, List, ◌∷◌, ◌++◌, sym, ap, refl, ◌∙◌, arith, drop, get_or, subst}
-use Rattle.history_points.proofs.Slotted.{standing, not_standing, stands_as}
+use Rattle.std.proofs.Common.{◌<◌, length, List, sym, ◌∙◌, subst}
+use Rattle.history_points.proofs.Slotted.{not_standing, stands_as}
 use Rattle.history_points.proofs.places.Places.get.Goals as goal
 
 pub unreachable-requires : goal.unreachable-requires

@@ -1,4 +1,4 @@
-use Rattle.std.proofs.Common.{◌≡◌, ◌+◌, ◌<◌, ◌≤◌, ℕ, [], Some, None, All, map, length, slice_get, List, ◌∷◌, ◌++◌, sym, ap, refl, ◌∙◌, arith, drop, get_or, subst}
+use Rattle.std.proofs.Common.{◌∷◌, ap, ◌∙◌}
 use Rattle.std.specs.Vec.Iter.{into_iter_items}
 use Rattle.history_points.proofs.Slotted.{no_hole_first}
 use Rattle.history_points.proofs.places.Places.into_vec.Goals as goal

@@ -1,4 +1,4 @@
-use Rattle.std.proofs.Common.{◌≡◌, ◌++◌, ◌∷◌, [], sym, ap, ◌∙◌, append_assoc, subst}
+use Rattle.std.proofs.Common.{◌++◌, ◌∷◌, [], sym, ap, ◌∙◌, append_assoc, subst}
 use Rattle.std.specs.Vec.Iter.{into_iter_items}
 use Rattle.history_points.specs.Slots.{present, IsWhole}
 use Rattle.history_points.proofs.Slotted.{present-more, whole-more}
