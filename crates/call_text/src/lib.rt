@@ -5,7 +5,6 @@
 //! defined case by case, in `specs/`.
 #![tactic(auto)]
 
-mod answers;
 mod bytes;
 mod calls;
 mod commands;
@@ -22,7 +21,6 @@ mod short_text;
 mod sights;
 mod words;
 
-pub use answers::{Answer, Sight};
 pub use calls::call_text;
 pub use commands::Command;
 pub use composables::Memory;

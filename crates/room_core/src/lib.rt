@@ -11,6 +11,3 @@ mod object;
 pub use entry::Entry;
 pub use fault::{Fault, Memory};
 pub use object::PartObject;
-
-#[cfg(test)]
-mod tests;

@@ -1,0 +1,43 @@
+// What a room answers, with the point of the answer in the journal. A point counts entries.
+ghost use Rattle.std.specs.Prelude.{◌≡◌};
+ghost use Rattle.cut_room.specs.declared.answers.CutFault.TheVariants.{Memory as NoMemory};
+
+use room_core::{Memory, PartObject};
+
+/// What an edit is answered.
+#[derive(Drop)]
+pub enum Answer<O: PartObject> {
+    /// The edit is the entry at the point, counted from 0.
+    Done { point: u32, done: O::Done },
+    /// The edit does not apply behind the entries before the point.
+    Refused { point: u32, refusal: O::Refusal },
+    /// The edit would be done, and the journal has its most entries, as many as the point says.
+    Full { point: u32 },
+    /// Want of memory; nothing has changed.
+    Memory,
+}
+
+/// What a question is answered. The point is the length of the journal when the part was looked at.
+#[derive(Drop)]
+pub enum Sight<O: PartObject> {
+    Seen { point: u32, seen: O::Seen },
+    Refused { point: u32, refusal: O::AskRefusal },
+    /// Want of memory.
+    Memory,
+}
+
+/// Why there is no cut.
+#[derive(Clone, Copy, Debug, PartialEq, Eq)]
+pub enum CutFault {
+    /// The journal has only so many entries.
+    NoPoint(u32),
+    Memory,
+}
+
+impl From<Memory> for CutFault {
+    ghost from_gives = { λ _ e. e ≡ NoMemory };
+
+    fn from(_: Memory) -> Self {
+        CutFault::Memory
+    }
+}

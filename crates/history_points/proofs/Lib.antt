@@ -1,0 +1,4 @@
+pub mod Sets
+pub mod Slotted
+pub mod NamedCalls
+pub mod Renumbered
