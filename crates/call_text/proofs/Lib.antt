@@ -1,5 +1,9 @@
+pub mod EntryTexts
 pub mod FaultLaws
+pub mod JournalLaws
+pub mod JournalSteps
 pub mod LabelPlaces
+pub mod LateEntries
 pub mod ListWords
 pub mod Positions
 pub mod ReadParts

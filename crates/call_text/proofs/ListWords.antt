@@ -1,9 +1,11 @@
 -- The words of a list, between its commas.
-use Rattle.std.proofs.Common.{◌≡◌, ℕ, suc, ◌+◌, ◌*◌, ◌%◌, ◌^◌, ◌<◌, ◌≤◌, Bool, true, false, List, [], ◌∷◌, Some, None, Result, Ok, length, take, drop, nat_lt, if◌then◌else◌, refl, sym, ap, ◌∙◌, arith}
-use Rattle.std.specs.List.{slice_split, position}
+use Rattle.std.proofs.Common.{◌≡◌, ℕ, suc, ◌+◌, ◌*◌, ◌%◌, ◌^◌, ◌<◌, ◌≤◌, Bool, true, false, List, [], ◌∷◌, Some, None, Result, Ok, length, get_or, take, drop, nat_lt, if◌then◌else◌, refl, sym, ap, ◌∙◌, arith}
+use Rattle.std.specs.List.{slice_split, position, All}
 use Rattle.std.proofs.Math.Nat.{mod-eq_of_lt, pow-suc}
 use Rattle.std.proofs.Math.Pow.{pow-lt, pow_mono}
 use Rattle.std.proofs.lemmas.Bool.{ltb-true, ltb-false, le-leb}
+use Rattle.std.proofs.lemmas.List.{get_or-take, length-take}
+use Rattle.std.proofs.lemmas.List.Quantifiers.{position-Some}
 use Rattle.std.proofs.lemmas.List.Sums.{fails_before_first}
 use Rattle.std.proofs.lemmas.List.Splits.{slice_split_first, slice_split_none}
 use Rattle.std.specs.List.{position_or_len}
@@ -27,6 +29,23 @@ pub split_none : (p : ℕ → Bool) (xs : List ℕ) → position p xs ≡ None �
 split_none p xs h =
     let past = ltb-false _ _ (place_none (nat_lt (position_or_len p xs) (length xs)) (position_or_len p xs) h) in
     slice_split_none p xs (λ k d inside. fails_before_first p xs k d (omega (arith, past, inside)))
+
+-- where nothing passes, and where something does
+pub none_passes : (p : ℕ → Bool) (xs : List ℕ) → position p xs ≡ None → All (λ x. p x ≡ false) xs
+none_passes p xs h =
+    let past = ltb-false _ _ (place_none (nat_lt (position_or_len p xs) (length xs)) (position_or_len p xs) h) in
+    λ k d inside. fails_before_first p xs k d (omega (arith, past, inside))
+
+pub first_passes : (p : ℕ → Bool) (xs : List ℕ) (i : ℕ) → position p xs ≡ Some i → (i < length xs) × (p (get_or xs i 0) ≡ true) × All (λ x. p x ≡ false) (take i xs)
+first_passes p xs i h =
+    let told = position-Some p xs i 0 h in
+    let inside = told.0 in
+    (inside, told.1, λ k d low. rest k d (omega (arith, low, inside, length-take i xs)))
+  where
+    rest : (k : ℕ) (d : ℕ) → k < i → p (get_or (take i xs) k d) ≡ false
+    rest k d low =
+        let told = position-Some p xs i d h in
+        rw get_or-take (told.2 k low)
 
 -- one track more: what is left to read, and that its set stays within its tracks
 pub next_track : (listed word : List ℕ) (rest : List (List ℕ)) (track least set : ℕ) (r : Result ℕ LineFault) → slice_split is_comma listed ≡ word ∷ rest → Ok track ≡ track_of word → least ≤ track

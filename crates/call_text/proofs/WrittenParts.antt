@@ -30,16 +30,16 @@ is_number-read false r n h = cc
 no_blank : (byte : ℕ) → is_ascii_digit byte ≡ true → is_blank byte ≡ false
 no_blank byte h = grind (arith, nat_tests)
 
-no_comma : (byte : ℕ) → is_ascii_digit byte ≡ true → is_comma byte ≡ false
+pub no_comma : (byte : ℕ) → is_ascii_digit byte ≡ true → is_comma byte ≡ false
 no_comma byte h = grind (arith, nat_tests)
 
-digits_fail : (p : ℕ → Bool) → ((byte : ℕ) → is_ascii_digit byte ≡ true → p byte ≡ false) → (word : List ℕ) → list_all is_ascii_digit word ≡ true → All (λ byte. p byte ≡ false) word
+pub digits_fail : (p : ℕ → Bool) → ((byte : ℕ) → is_ascii_digit byte ≡ true → p byte ≡ false) → (word : List ℕ) → list_all is_ascii_digit word ≡ true → All (λ byte. p byte ≡ false) word
 digits_fail p fails [] h = All-nil (λ byte. p byte ≡ false)
 digits_fail p fails (byte ∷ word) h =
     let both = and_parts (is_ascii_digit byte) (list_all is_ascii_digit word) h in
     All-cons (λ byte. p byte ≡ false) byte word (fails byte both.0) (digits_fail p fails word both.1)
 
-are_digits : (n : ℕ) → n < 2 ^ 32 → list_all is_ascii_digit (decimal n) ≡ true
+pub are_digits : (n : ℕ) → n < 2 ^ 32 → list_all is_ascii_digit (decimal n) ≡ true
 are_digits n h = (and_parts _ _ (is_number-read (is_number (decimal n)) _ n (number_of-decimal n h))).1
 
 not_blank : (b : Bool) → not b ≡ true → b ≡ false

@@ -33,11 +33,12 @@ call_text_of (call.Overwrite c) =
     codes "overwrite " ++ decimal c.track ++ codes " " ++ decimal c.at ++ codes " "
     ++ frames_text c.what c.from c.len
 call_text_of (call.Insert c) =
-    codes "insert " ++ tracks_text c.tracks ++ codes " " ++ decimal c.track ++ codes " " ++ decimal c.at
-    ++ codes " " ++ frames_text c.what c.from c.len
+    codes "insert " ++ tracks_text c.tracks ++ codes " " ++ decimal c.track ++ codes " "
+    ++ decimal c.at ++ codes " " ++ frames_text c.what c.from c.len
 call_text_of (call.Remove c) = codes "remove " ++ decimal c.track ++ codes " " ++ decimal c.item
 call_text_of (call.Extract c) =
-    codes "extract " ++ tracks_text c.tracks ++ codes " " ++ decimal c.track ++ codes " " ++ decimal c.item
+    codes "extract " ++ tracks_text c.tracks ++ codes " " ++ decimal c.track ++ codes " "
+    ++ decimal c.item
 call_text_of (call.Slice c) = codes "slice " ++ decimal c.track ++ codes " " ++ decimal c.at
 
 -- a number of 32 bits

@@ -8,11 +8,15 @@ use Rattle.timecode12.specs.Spelling.{text_of}
 
 -- two digits four times
 abbrev pub has_two_digits : Label → Bool
-has_two_digits label = (nat_lt label.hours 100 && nat_lt label.minutes 100) && (nat_lt label.seconds 100 && nat_lt label.frames 100)
+has_two_digits label =
+    (nat_lt label.hours 100 && nat_lt label.minutes 100)
+    && (nat_lt label.seconds 100 && nat_lt label.frames 100)
 
 -- the word writes the label, with `:` (58) or `;` (59) before its frames
 abbrev pub is_written : List ℕ → Label → Bool
-is_written word label = has_two_digits label && (bytes_eq word (text_of label 58) || bytes_eq word (text_of label 59))
+is_written word label =
+    has_two_digits label
+    && (bytes_eq word (text_of label 58) || bytes_eq word (text_of label 59))
 
 -- the frame of the day whose label the word writes, if there is one
 unfoldable pub frame_named : Counted → List ℕ → Option ℕ

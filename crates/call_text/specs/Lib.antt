@@ -1,7 +1,10 @@
 pub mod CallTexts
 pub mod Faults
+pub mod JournalFaults
+pub mod JournalMeanings
 pub mod Journals
 pub mod Labels
+pub mod LooseEntries
 pub mod Meanings
 pub mod Reading
 pub mod Replies

@@ -31,7 +31,8 @@ RefusedAsBad =
 abbrev pub HasMeaning : Type 0
 HasMeaning =
     (place_at : Naming) (bytes : List ℕ)
-    → ((line : Line) × IsLine place_at bytes line) ⊎ ((fault : LineFault) × IsBad place_at bytes fault)
+    → ((line : Line) × IsLine place_at bytes line)
+    ⊎ ((fault : LineFault) × IsBad place_at bytes fault)
 
 -- no bytes are two lines of the table
 abbrev pub IsOneLine : Type 0
@@ -55,7 +56,8 @@ IsNotBoth =
 abbrev pub LabelsNamePlaces : Type 0
 LabelsNamePlaces =
     (c : Counted) (start place : ℕ) (word : List ℕ)
-    → (place_by c start word ≡ Some place) ↔ ((l : Label) × Spells word l × IsLabelOf c (start + place) l)
+    → (place_by c start word ≡ Some place)
+    ↔ ((l : Label) × Spells word l × IsLabelOf c (start + place) l)
 
 -- the text of a call that a line can name is read again as that call
 abbrev pub WrittenIsRead : Type 0

@@ -28,7 +28,13 @@ overwrite_of place_at (track ∷ at ∷ what ∷ from ∷ len ∷ []) = do
   what ← what_of what
   from ← numeral_of from
   len ← numeral_of len
-  Ok (Edit (call.Overwrite (record { track = track; at = at; what = what; from = from; len = len })))
+  Ok (Edit (call.Overwrite (record {
+    track = track;
+    at = at;
+    what = what;
+    from = from;
+    len = len;
+  })))
 overwrite_of place_at words = Err B2
 
 -- insert TS T P WHAT FROM LEN
@@ -40,7 +46,14 @@ insert_of place_at (tracks ∷ track ∷ at ∷ what ∷ from ∷ len ∷ []) = 
   what ← what_of what
   from ← numeral_of from
   len ← numeral_of len
-  Ok (Edit (call.Insert (record { tracks = tracks; track = track; at = at; what = what; from = from; len = len })))
+  Ok (Edit (call.Insert (record {
+    tracks = tracks;
+    track = track;
+    at = at;
+    what = what;
+    from = from;
+    len = len;
+  })))
 insert_of place_at words = Err B2
 
 -- remove T I

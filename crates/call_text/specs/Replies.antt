@@ -6,8 +6,8 @@ use Rattle.composables.specs.declared.refusals.Done.TheVariants.{Plain, Item, By
 use Rattle.composables.specs.declared.refusals.Refusal.{Refusal}
 use Rattle.composables.specs.declared.refusals.Refusal.TheVariants.{NoTrack, NoItem, NoMedia, EmptyRange, MediaEnds, NotAGap, NotACut, DissolveRoom, OffsetsDiffer, AlreadyLinked, LinkOutside, LinkBroken, TooLong, TooManyItems}
 use Rattle.composables.specs.declared.refusals.Which.TheVariants.{Left, Right}
-use Rattle.call_text.specs.declared.answers.Answer.{Answer}
-use Rattle.call_text.specs.declared.answers.Answer.TheVariants as answer
+use Rattle.cut_room.specs.declared.answers.Answer.{Answer}
+use Rattle.cut_room.specs.declared.answers.Answer.TheVariants as answer
 use Rattle.call_text.specs.declared.lines.LineFault.{LineFault}
 use Rattle.call_text.specs.declared.lines.LineFault.TheVariants as line
 
@@ -38,18 +38,36 @@ refusal_text (NotACut place) = codes " E7 " ++ decimal place
 refusal_text (DissolveRoom Left) = codes " E8 left"
 refusal_text (DissolveRoom Right) = codes " E8 right"
 refusal_text (OffsetsDiffer first other) = codes " E9 " ++ offsets_text first other
-refusal_text (AlreadyLinked track item) = codes " E10 " ++ decimal track ++ codes " " ++ decimal item
-refusal_text (LinkOutside home number track) = codes " E11 " ++ link_text home number ++ codes " " ++ decimal track
-refusal_text (LinkBroken home number old new) = codes " E12 " ++ link_text home number ++ codes " " ++ offsets_text old new
+refusal_text (AlreadyLinked track item) =
+    codes " E10 " ++ decimal track ++ codes " " ++ decimal item
+refusal_text (LinkOutside home number track) =
+    codes " E11 " ++ link_text home number ++ codes " " ++ decimal track
+refusal_text (LinkBroken home number old new) =
+    codes " E12 " ++ link_text home number ++ codes " " ++ offsets_text old new
 refusal_text (TooLong track) = codes " E13 " ++ decimal track
 refusal_text (TooManyItems track) = codes " E14 " ++ decimal track
 
+-- the reply to an edit that is the entry at the point
+abbrev pub done_reply : ℕ → Done → List ℕ
+done_reply point done = codes "ok " ++ decimal point ++ done_text done
+
+-- the reply to an edit that does not apply behind so many entries
+abbrev pub refused_reply : ℕ → Refusal → List ℕ
+refused_reply point refusal = codes "no " ++ decimal point ++ refusal_text refusal
+
+-- the reply to an edit where the journal has its most entries
+abbrev pub full_reply : ℕ → List ℕ
+full_reply point = codes "no " ++ decimal point ++ codes " E15"
+
+abbrev pub memory_reply : List ℕ
+memory_reply = codes "memory"
+
 -- the reply to an edit
-abbrev pub answer_text_of : Answer → List ℕ
-answer_text_of (answer.Done point done) = codes "ok " ++ decimal point ++ done_text done
-answer_text_of (answer.Refused point refusal) = codes "no " ++ decimal point ++ refusal_text refusal
-answer_text_of (answer.Full point) = codes "no " ++ decimal point ++ codes " E15"
-answer_text_of answer.Memory = codes "memory"
+abbrev pub answer_text_of : {O P C A S Q : Type 0} → Answer O P C Done Refusal A S Q → List ℕ
+answer_text_of (answer.Done point done) = done_reply point done
+answer_text_of (answer.Refused point refusal) = refused_reply point refusal
+answer_text_of (answer.Full point) = full_reply point
+answer_text_of answer.Memory = memory_reply
 
 -- the reply to a line that is none of the table
 abbrev pub fault_of : LineFault → List ℕ

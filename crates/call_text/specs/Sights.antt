@@ -14,10 +14,10 @@ use Rattle.edit_apply.specs.declared.asks.Seen.{Seen}
 use Rattle.edit_apply.specs.declared.asks.Seen.TheVariants.{Runs, Items}
 use Rattle.edit_apply.specs.declared.asks.AskRefusal.{AskRefusal}
 use Rattle.edit_apply.specs.declared.asks.AskRefusal.TheVariants.{NoTrack, Range}
-use Rattle.call_text.specs.declared.answers.Sight.{Sight}
-use Rattle.call_text.specs.declared.answers.Sight.TheVariants as sight
+use Rattle.cut_room.specs.declared.answers.Sight.{Sight}
+use Rattle.cut_room.specs.declared.answers.Sight.TheVariants as sight
 use Rattle.call_text.specs.CallTexts.{what_text}
-use Rattle.call_text.specs.Replies.{link_text}
+use Rattle.call_text.specs.Replies.{link_text, memory_reply}
 
 -- a thing, and a source frame of it
 abbrev pub picture_text : What → ℕ → List ℕ
@@ -32,7 +32,9 @@ side_text (side.Pic what source) = picture_text what source
 abbrev pub frame_text : Frame What → List ℕ
 frame_text frame.Dark = codes " dark"
 frame_text (frame.Pic what source) = picture_text what source
-frame_text (frame.Mix left right num den) = codes " mix" ++ side_text left ++ side_text right ++ codes " " ++ decimal num ++ codes " " ++ decimal den
+frame_text (frame.Mix left right num den) =
+    codes " mix" ++ side_text left ++ side_text right
+    ++ codes " " ++ decimal num ++ codes " " ++ decimal den
 
 abbrev pub run_text : Run What → List ℕ
 run_text run = frame_text run.frame ++ codes " " ++ decimal run.len
@@ -53,7 +55,9 @@ item_link_text (Some link) = codes " link " ++ link_text link.home link.number
 
 -- the mark before it, its number, what it shows from which source frame on, its length, its link
 abbrev pub item_text : ItemView → List ℕ
-item_text view = mark_text view.mark ++ number_text view.item ++ side_text view.first ++ codes " " ++ decimal view.len ++ item_link_text view.link
+item_text view =
+    mark_text view.mark ++ number_text view.item ++ side_text view.first
+    ++ codes " " ++ decimal view.len ++ item_link_text view.link
 
 -- what was seen at a point
 abbrev pub seen_text : ℕ → Seen → List ℕ
@@ -65,8 +69,12 @@ abbrev pub ask_refusal_text : AskRefusal → List ℕ
 ask_refusal_text (NoTrack track) = codes " V1 " ++ decimal track
 ask_refusal_text (Range length) = codes " V2 " ++ decimal length
 
+-- the reply to a question that was refused at a point
+abbrev pub unseen_text : ℕ → AskRefusal → List ℕ
+unseen_text point refusal = codes "no " ++ decimal point ++ ask_refusal_text refusal
+
 -- the reply to a question
-abbrev pub sight_text_of : Sight → List ℕ
+abbrev pub sight_text_of : {O P C D R A : Type 0} → Sight O P C D R A Seen AskRefusal → List ℕ
 sight_text_of (sight.Seen point seen) = seen_text point seen
-sight_text_of (sight.Refused point refusal) = codes "no " ++ decimal point ++ ask_refusal_text refusal
-sight_text_of sight.Memory = codes "memory"
+sight_text_of (sight.Refused point refusal) = unseen_text point refusal
+sight_text_of sight.Memory = memory_reply

@@ -1,7 +1,7 @@
 // A journal as text.
 ghost use Rattle.std.specs.Prelude.{◌≡◌, ◌++◌, IfOk, OnOk};
 ghost use Rattle.std.specs.List.{flat_map};
-ghost use Rattle.call_text.specs.Journals.{entry_line, journal_text_of};
+ghost use Rattle.call_text.specs.Journals.{entry_line, entry_text, journal_text_of};
 
 use crate::Entry;
 use crate::bytes::{put, put_number};
@@ -29,9 +29,16 @@ pub fn journal_text(alloc: Global, entries: &[Entry<Call>]) -> Result<Vec<u8>, M
 fn put_entry(out: &mut Vec<u8>, entry: &Entry<Call>) -> Result<(), Memory>
     ensures { OnOk result (out.new.items ≡ out.old.items ++ entry_line entry.now) }
 {
+    put_entry_text(out, entry)?;
+    put(out, b"\n")
+}
+
+// The line of an entry, without its line feed.
+pub(crate) fn put_entry_text(out: &mut Vec<u8>, entry: &Entry<Call>) -> Result<(), Memory>
+    ensures { OnOk result (out.new.items ≡ out.old.items ++ entry_text entry.now) }
+{
     put_number(out, b"", entry.station)?;
     put_number(out, b" ", entry.number)?;
     put(out, b" ")?;
-    put_call(out, &entry.call)?;
-    put(out, b"\n")
+    put_call(out, &entry.call)
 }

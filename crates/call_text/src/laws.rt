@@ -1,4 +1,10 @@
 // What lines and calls as text are, whoever writes and reads them.
+ghost use Rattle.std.specs.Prelude.{◌≡◌};
+ghost use Rattle.room_core.specs.History.{most_entries};
+ghost use Rattle.call_text.specs.declared.parts.TheConstants.{LAST_TRACK};
+ghost use Rattle.call_text.specs.declared.journal_reading.TheConstants.{LAST_STATION, MAX_JOURNAL};
+ghost use Rattle.call_text.specs.declared.short_text.TheConstants.{MAX_SHORT, MAX_SHORT_LINE};
+ghost use Rattle.call_text.specs.JournalMeanings.{IsOneJournal, HasOneJournalFault, HasNoFault};
 ghost use Rattle.call_text.specs.Meanings.{ReadAsSpelled, RefusedAsBad, HasMeaning, IsOneLine, HasOneFault, IsNotBoth, LabelsNamePlaces, WrittenIsRead};
 
 /// What is read of a line is spelled there, word by word, and what is spelled there is read. A line that is refused is
@@ -24,4 +30,22 @@ pub fn labels_name_places()
 /// The text of a call that a line can name is read again as that call, whatever labels name.
 pub fn written_calls_are_read()
     ensures { WrittenIsRead }
+{}
+
+/// The limits: tracks up to 31 in a line, stations up to 15 and 100,000 entries in a journal, whose text has at most 64
+/// MiB, and short texts of at most 128 bytes, 129 with the line feed.
+pub fn limits_are_these()
+    ensures track { LAST_TRACK ≡ 31 }
+    ensures station { LAST_STATION ≡ 15 }
+    ensures entries { most_entries ≡ 100000 }
+    ensures journal { MAX_JOURNAL ≡ 67108864 }
+    ensures short { MAX_SHORT ≡ 128 }
+    ensures short_line { MAX_SHORT_LINE ≡ 129 }
+{}
+
+/// A text is that of one journal, or has one fault, and never both.
+pub fn journals_have_one_reading()
+    ensures one_journal { IsOneJournal }
+    ensures one_fault { HasOneJournalFault }
+    ensures not_both { HasNoFault }
 {}

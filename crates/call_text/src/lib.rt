@@ -5,12 +5,12 @@
 //! defined case by case, in `specs/`.
 #![tactic(auto)]
 
-mod answers;
 mod bytes;
 mod calls;
 mod commands;
-mod entries;
 mod journal;
+mod journal_fault;
+mod journal_reading;
 mod labels;
 mod laws;
 mod lines;
@@ -21,20 +21,21 @@ mod short_text;
 mod sights;
 mod words;
 
-pub use answers::{Answer, Sight};
 pub use calls::call_text;
 pub use commands::Command;
 pub use composables::Memory;
-pub use entries::Entry;
 pub use journal::journal_text;
+pub use journal_fault::{JournalCode, JournalFault};
+pub use journal_reading::{LAST_STATION, MAX_JOURNAL, read_journal};
 pub use laws::{
-    labels_name_places, lines_are_those_of_the_table, lines_have_one_meaning,
+    journals_have_one_reading, labels_name_places, limits_are_these, lines_are_those_of_the_table, lines_have_one_meaning,
     written_calls_are_read,
 };
 pub use lines::{Line, LineFault};
 pub use parts::LAST_TRACK;
 pub use reading::read_line;
 pub use replies::{answer_text, fault_text, point_text};
+pub use room_core::Entry;
 pub use short_text::{MAX_SHORT, MAX_SHORT_LINE, Short};
 pub use sights::sight_text;
 

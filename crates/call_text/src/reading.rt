@@ -3,7 +3,7 @@ ghost use Rattle.std.specs.Prelude.{◌≡◌, IfOk};
 ghost use Rattle.line_words.specs.Blanks.{words_of};
 ghost use Rattle.call_text.specs.CallTexts.{NamesWritten};
 ghost use Rattle.call_text.specs.Labels.{place_by};
-ghost use Rattle.call_text.specs.Reading.{overwrite_of, insert_of, remove_of, extract_of, slice_of, view_of, items_of, point_of, row_of, line_of, texts_of};
+ghost use Rattle.call_text.specs.Reading.{overwrite_of, insert_of, remove_of, extract_of, slice_of, view_of, items_of, point_of, row_of, line_of, line_of_words, texts_of};
 
 use crate::parts::{numeral, place, track, tracks, what};
 use crate::words::{first_word, line_words};
@@ -30,6 +30,14 @@ pub fn read_line(
     if line.len() > MAX_LINE {
         return Err(LineFault::B5);
     }
+    table_line(line, counting, start)
+}
+
+// The line that these bytes are, of any length.
+pub(crate) fn table_line(line: &[u8], counting: &Counting, start: u32) -> Result<Line, LineFault>
+    ensures read { result ≡ line_of_words (place_by counting.now start) (words_of line.now) }
+    ensures written { IfOk result (λ read. NamesWritten read) }
+{
     let (first, rest) = first_word(line)?;
     match Command::of_word(first) {
         Some(command) => row(command, rest, counting, start),

@@ -2,7 +2,8 @@ use super::*;
 use composables::{
     Done, Extract, Insert, ItemView, Listed, Overwrite, Refusal, Remove, Slice, Which,
 };
-use edit_apply::{Ask, AskRefusal, Call, Seen};
+use cut_room::{Answer, Sight};
+use edit_apply::{Ask, AskRefusal, Call, Editor, Seen};
 use frame_meaning::{Frame, Link, Mark, Run, Side, What};
 use std::alloc::Global;
 use std::test::Fail;
@@ -444,7 +445,7 @@ fn items_are_replied(rt: HostRuntime) -> Result<(), Fail> {
 
 #[test]
 fn refused_questions_are_replied(rt: HostRuntime) -> Result<(), Fail> {
-    let table: [(Sight, &[u8]); 3] = [
+    let table: [(Sight<Editor>, &[u8]); 3] = [
         (
             Sight::Refused {
                 point: 3,
@@ -544,4 +545,77 @@ fn written_calls_come_back(rt: HostRuntime) -> Result<(), Fail> {
         );
     }
     Ok(())
+}
+
+// A text, and the code and line of its fault.
+type Refused = (&'static [u8], JournalCode, u32);
+
+#[test]
+fn the_first_fault_of_a_journal_is_told(rt: HostRuntime) {
+    let table: [Refused; 31] = [
+        (b"", JournalCode::H1, 1),
+        (b"\n", JournalCode::H1, 1),
+        (b"journal 0", JournalCode::H1, 1),
+        (b"journal 0\r\n", JournalCode::H1, 1),
+        (b"journal\n", JournalCode::H1, 1),
+        (b"journal  0\n", JournalCode::H1, 1),
+        (b" journal 0\n", JournalCode::H1, 1),
+        (b"journal 0 \n", JournalCode::H1, 1),
+        (b"journal 00\n", JournalCode::H1, 1),
+        (b"journal x\n", JournalCode::H1, 1),
+        (b"journal 4294967296\n", JournalCode::H1, 1),
+        (b"Journal 0\n", JournalCode::H1, 1),
+        (b"journal 0\n\n", JournalCode::H1, 2),
+        (b"journal 4294967295\n", JournalCode::H2, 1),
+        (b"journal 1\n", JournalCode::H2, 1),
+        (b"journal 2\n0 1 slice 0 10\n", JournalCode::H2, 1),
+        (b"journal 0\n0 1 slice 0 10\n", JournalCode::H2, 1),
+        (b"journal 1\n0 1 slice 0 10", JournalCode::H1, 2),
+        (b"journal 1\n0 1 slice 00 10\n", JournalCode::H1, 2),
+        (b"journal 1\n00 1 slice 0 10\n", JournalCode::H1, 2),
+        (b"journal 1\n16 1 slice 0 10\n", JournalCode::H1, 2),
+        (b"journal 1\n0 01 slice 0 10\n", JournalCode::H1, 2),
+        (b"journal 1\n0 4294967296 slice 0 10\n", JournalCode::H1, 2),
+        (b"journal 1\n0 1  slice 0 10\n", JournalCode::H1, 2),
+        (b"journal 1\n0 1 slice\t0 10\n", JournalCode::H1, 2),
+        (b"journal 1\n0 1 slice 32 10\n", JournalCode::H1, 2),
+        (b"journal 1\n0 1 slice 0 00:00:00:10\n", JournalCode::H1, 2),
+        (b"journal 1\n0 1 items 0\n", JournalCode::H1, 2),
+        (
+            b"journal 3\n0 1 slice 0 1\n0 x slice 0 1\n",
+            JournalCode::H1,
+            3,
+        ),
+        (
+            b"journal 2\n0 2 slice 0 1\n0 2 slice 0 1\n",
+            JournalCode::H4,
+            3,
+        ),
+        (
+            b"journal 3\n0 2 slice 0 1\n1 1 slice 0 1\n0 1 slice 0 1\n",
+            JournalCode::H4,
+            4,
+        ),
+    ];
+    for (row, (text, code, number)) in table.into_iter().enumerate() {
+        assert_eq!(rt;
+            read_journal(rt.alloc(), text),
+            Err(JournalFault::Refused { code, number }),
+            "row {row}"
+        );
+    }
+}
+
+#[test]
+fn written_journals_are_read(rt: HostRuntime) {
+    let table: [&[u8]; 3] = [
+        b"journal 0\n",
+        b"journal 1\n15 0 remove 31 4294967295\n",
+        b"journal 3\n0 1 overwrite 1 20 @3 400 5000\n15 70 insert 0,2 2 24 #7 5 6\n0 2 extract 1,2 1 3\n",
+    ];
+    for (row, text) in table.into_iter().enumerate() {
+        let entries = read_journal(rt.alloc(), text).unwrap_or(Vec::new(rt.alloc()));
+        let again = journal_text(rt.alloc(), &entries).unwrap_or(Vec::new(rt.alloc()));
+        assert_eq!(rt; again.as_slice(), text, "row {row}");
+    }
 }

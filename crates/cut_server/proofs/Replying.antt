@@ -1,7 +1,7 @@
 -- What an edit did to a session is what its reply says.
 use Rattle.std.proofs.Common.{◌≡◌, ℕ, inl, inr, List, [], ◌∷◌, ◌++◌, length, refl, sym, ap, ◌∙◌, subst}
 use Rattle.edit_apply.specs.declared.asks.Call.{Call}
-use Rattle.call_text.specs.declared.entries.Entry.{Entry}
+use Rattle.room_core.specs.declared.entry.Entry.{Entry}
 use Rattle.call_text.specs.declared.answers.Answer.{Answer}
 use Rattle.call_text.specs.declared.answers.Answer.TheVariants as answer
 use Rattle.call_text.specs.CallTexts.{IsWritten}

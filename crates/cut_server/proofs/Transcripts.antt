@@ -5,7 +5,7 @@ use Rattle.std.proofs.lemmas.List.{append-nil, length-append, take-append-le}
 use Rattle.std.proofs.lemmas.List.Sums.{fold-append}
 use Rattle.std.proofs.Math.Seq.{take-length}
 use Rattle.line_words.specs.Lines.{Line as InputLine}
-use Rattle.call_text.specs.declared.entries.Entry.{Entry}
+use Rattle.room_core.specs.declared.entry.Entry.{Entry}
 use Rattle.cut_server.specs.History.{most_entries, replay, after_entry, answer_in, own_entries}
 use Rattle.cut_server.specs.Longer.{TranscriptsStay}
 use Rattle.cut_server.specs.Rooms.{room_of}

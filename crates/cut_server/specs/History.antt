@@ -1,7 +1,7 @@
 -- The journal as a history: entries in the order in which they were committed, and the state that they come to. For
 -- any kind of state and call: what a call does is a function handed in.
 use Rattle.std.specs.Prelude.{◌≡◌, ℕ, ◌<◌, ◌≤◌, List, [], ◌∷◌, Option, Some, None, Result, Ok, Err, IsSome, length, fold, ◌==◌, if◌then◌else◌}
-use Rattle.call_text.specs.declared.entries.Entry.{Entry}
+use Rattle.room_core.specs.declared.entry.Entry.{Entry}
 
 -- the state that a call leaves, where it applies
 abbrev pub state_in : {S D R : Type 0} → Result (S × D) R → Option S

@@ -12,7 +12,7 @@ use Rattle.edit_apply.specs.declared.asks.Seen.{Seen}
 use Rattle.edit_apply.specs.declared.asks.AskRefusal.{AskRefusal}
 use Rattle.edit_apply.specs.Apply.{applied}
 use Rattle.edit_apply.specs.See.{seen_in}
-use Rattle.call_text.specs.declared.entries.Entry.{Entry}
+use Rattle.room_core.specs.declared.entry.Entry.{Entry}
 use Rattle.call_text.specs.declared.lines.Line.{Line}
 use Rattle.call_text.specs.declared.lines.Line.TheVariants.{Edit, Ask as AskOf, Point as PointOf}
 use Rattle.call_text.specs.declared.lines.LineFault.{LineFault}

@@ -1,7 +1,7 @@
 -- A session that has answered some lines: what has held since it began.
 use Rattle.std.specs.Prelude.{◌≡◌, ℕ, ◌+◌, ◌<◌, ◌≤◌, List, [], ◌∷◌, ◌++◌, Some, length}
 use Rattle.line_words.specs.Lines.{Line as InputLine}
-use Rattle.call_text.specs.declared.entries.Entry.{Entry}
+use Rattle.room_core.specs.declared.entry.Entry.{Entry}
 use Rattle.cut_server.specs.History.{most_entries, replay, NumbersRise, AreOfStations}
 use Rattle.cut_server.specs.Transcript.{Kind, Rows, points_from}
 use Rattle.cut_server.specs.Rooms.{Opening, AreWritten, room_of}

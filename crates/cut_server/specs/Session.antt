@@ -4,7 +4,7 @@ use Rattle.line_words.specs.Lines.{Line as InputLine}
 use Rattle.composables.specs.TrackState.{TrackState}
 use Rattle.edit_apply.specs.declared.asks.Call.{Call}
 use Rattle.edit_apply.specs.declared.asks.Ask.{Ask}
-use Rattle.call_text.specs.declared.entries.Entry.{Entry}
+use Rattle.room_core.specs.declared.entry.Entry.{Entry}
 use Rattle.call_text.specs.declared.short_text.Short.{Short}
 use Rattle.cut_server.specs.History.{answer_in, most_entries}
 use Rattle.cut_server.specs.Transcript.{Wish, Do, See, Point, Bad, Kind}

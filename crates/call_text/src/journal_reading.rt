@@ -1,0 +1,251 @@
+// A journal read from its text.
+ghost use Rattle.std.specs.Prelude.{◌≡◌, ◌≢◌, ℕ, ◌+◌, ◌<◌, ◌∷◌, ◌++◌, ◌≤◌, List, [], length, option_map, codes, decimal, IfErr, IfOk, IfSome, MatchOption, None, take, position};
+ghost use Rattle.std.specs.List.{All, flat_map};
+ghost use Rattle.line_words.specs.Blanks.{words_of};
+ghost use Rattle.line_words.specs.Lines.{is_lf};
+ghost use Rattle.room_core.specs.History.{NumbersRise};
+ghost use Rattle.call_text.specs.CallTexts.{IsSmall, IsWritten};
+ghost use Rattle.call_text.specs.Journals.{count_line, count_text, entry_line, entry_text, HasLine};
+ghost use Rattle.call_text.specs.JournalFaults.{HasNoLineFeed, HasNoCount, HasNoEntry, IsNoEntry, AreLines, StopsFor, IsFirstLate, AreEntriesOf, IsRefusedFor};
+ghost use Rattle.call_text.specs.Labels.{place_by};
+ghost use Rattle.call_text.specs.LooseEntries.{number_before, edit_in, loose_entry};
+ghost use Rattle.call_text.specs.Reading.{line_of_words};
+
+use crate::journal::put_entry_text;
+use crate::reading::table_line;
+use crate::words::first_word;
+use crate::{Entry, JournalCode, JournalFault, Line};
+use composables::Memory;
+use edit_apply::Call;
+use itoa::Buffer;
+use line_words::number;
+use std::alloc::Global;
+use timecode12::{Counting, SequenceRate};
+
+/// The most bytes of a text that is read: 64 MiB.
+pub const MAX_JOURNAL: usize = 67_108_864;
+
+/// The greatest number of a station.
+pub const LAST_STATION: u32 = 15;
+
+/// How many stations there are at most.
+const STATIONS: usize = 16;
+
+/// The most entries of a journal.
+const MOST_ENTRIES: usize = 100_000;
+
+/// The entries of the journal whose text this is, or the first fault of the text.
+///
+/// The text is read only where it is exactly what `journal_text` writes: one space between words, numbers without leading
+/// zeros, places as numbers, a line feed behind each line.
+pub fn read_journal(alloc: Global, bytes: &[u8]) -> Result<Vec<Entry<Call>>, JournalFault>
+    requires { length bytes.now ≤ MAX_JOURNAL }
+    ensures read { IfOk result (λ entries. AreEntriesOf bytes.now entries.items) }
+    ensures refused { IfErr result (λ fault. IsRefusedFor bytes.now fault) }
+{
+    let (count, rest) = match first_count(bytes) {
+        Some(found) => found,
+        None => return Err(refused(JournalCode::H1, 0)),
+    };
+    let entries = entries_in(alloc, rest)?;
+    if count as usize != entries.len() || entries.len() > MOST_ENTRIES {
+        return Err(refused(JournalCode::H2, 0));
+    }
+    match first_late(&entries) {
+        Some(at) => Err(refused(JournalCode::H4, at + 1)),
+        None => Ok(entries),
+    }
+}
+
+// The fault behind so many lines.
+fn refused(code: JournalCode, lines: usize) -> JournalFault
+    requires { lines < u32.MAX }
+    ensures { result ≡ JournalFault.Refused code (lines + 1) }
+{
+    JournalFault::Refused {
+        code,
+        number: lines as u32 + 1,
+    }
+}
+
+// The count that the first line tells, and the text behind that line.
+fn first_count(text: &[u8]) -> Option<(u32, &[u8])>
+    ensures { MatchOption result (HasNoCount text.now)
+        (λ found. text.now ≡ count_line found.0 ++ found.1.now) }
+{
+    let (line, rest) = first_line(text)?;
+    let count = told_count(line)?;
+    Some((count, rest))
+}
+
+fn told_count(line: &[u8]) -> Option<u32>
+    ensures { MatchOption result ((count : ℕ) → IsSmall count → line.now ≢ count_text count)
+        (λ count. line.now ≡ count_text count) }
+{
+    let digits = line.strip_prefix(b"journal ".as_slice())?;
+    exact_number(digits)
+}
+
+// The number that a word is the decimal digits of, without leading zeros.
+fn exact_number(word: &[u8]) -> Option<u32>
+    ensures { MatchOption result ((n : ℕ) → IsSmall n → word.now ≢ decimal n)
+        (λ n. word.now ≡ decimal n) }
+{
+    let read = match number(word) {
+        Ok(read) => read,
+        Err(_) => return None,
+    };
+    let mut buffer = Buffer::new();
+    if buffer.format(read).as_bytes() == word {
+        Some(read)
+    } else {
+        None
+    }
+}
+
+// What stands before the first line feed of a text, and what stands behind it.
+fn first_line(text: &[u8]) -> Option<(&[u8], &[u8])>
+    ensures { MatchOption result (HasNoLineFeed text.now)
+        (λ cut. (text.now ≡ cut.0.now ++ 10 ∷ cut.1.now) × HasNoLineFeed cut.0.now) }
+{
+    let at = lf_at(text)?;
+    let (_, rest) = text.split_at(at + 1);
+    Some((&text[..at], rest))
+}
+
+fn lf_at(text: &[u8]) -> Option<usize>
+    ensures at { result ≡ position is_lf text.now }
+    ensures within { IfSome result (λ at. at < length text.now) }
+{
+    text.iter().position(|byte| *byte == b'\n')
+}
+
+// The entries whose lines a text is, one behind another, or the line that is none of an entry. The text stands behind
+// the line of the count.
+fn entries_in(alloc: Global, text: &[u8]) -> Result<Vec<Entry<Call>>, JournalFault>
+    requires { length text.now ≤ MAX_JOURNAL }
+    ensures read { IfOk result (λ entries. AreLines text.now entries.items) }
+    ensures refused { IfErr result (λ fault. StopsFor text.now fault) }
+{
+    let Some(counting) = Counting::new(SequenceRate::F24, false) else {
+        unreachable!()
+    };
+    let mut entries = Vec::new(alloc);
+    let mut scratch = Vec::new(alloc);
+    let mut rest = text;
+    while !rest.is_empty() {
+        match first_entry(&mut scratch, rest, &counting)? {
+            Some((entry, more)) => {
+                entries.push(entry)?;
+                rest = more;
+            }
+            None => return Err(refused(JournalCode::H1, entries.len() + 1)),
+        }
+    }
+    Ok(entries)
+}
+
+// The entry whose line stands at the front of a text, and the text behind that line. The scratch is overwritten.
+fn first_entry<'a>(
+    scratch: &mut Vec<u8>,
+    text: &'a [u8],
+    counting: &Counting,
+) -> Result<Option<(Entry<Call>, &'a [u8])>, Memory>
+    ensures { IfOk result (λ found. MatchOption found (HasNoEntry text.now)
+        (λ first. HasLine first.0 × (text.now ≡ entry_line first.0 ++ first.1.now))) }
+{
+    match first_line(text) {
+        Some((line, rest)) => match told_entry(scratch, line, counting)? {
+            Some(entry) => Ok(Some((entry, rest))),
+            None => Ok(None),
+        },
+        None => Ok(None),
+    }
+}
+
+// The entry whose text a line is: an entry is read however it is spelled, and its text is compared with the line.
+fn told_entry(
+    scratch: &mut Vec<u8>,
+    line: &[u8],
+    counting: &Counting,
+) -> Result<Option<Entry<Call>>, Memory>
+    ensures { IfOk result (λ found. MatchOption found (IsNoEntry line.now)
+        (λ entry. HasLine entry × (line.now ≡ entry_text entry))) }
+{
+    match loose_entry(line, counting) {
+        Some(entry) => {
+            scratch.clear();
+            put_entry_text(scratch, &entry)?;
+            if scratch.as_slice() == line {
+                Ok(Some(entry))
+            } else {
+                Ok(None)
+            }
+        }
+        None => Ok(None),
+    }
+}
+
+// The entry of a line's words.
+fn loose_entry(line: &[u8], counting: &Counting) -> Option<Entry<Call>>
+    ensures read { result ≡ loose_entry (place_by counting.now 0) (words_of line.now) }
+    ensures line { IfSome result (λ entry. HasLine entry) }
+{
+    let (station, rest) = first_number(line)?;
+    let (number, rest) = first_number(rest)?;
+    let call = edit_of(rest, counting)?;
+    if station > LAST_STATION {
+        return None;
+    }
+    Some(Entry {
+        station,
+        number,
+        call,
+    })
+}
+
+// The number that the first word of a line is, and the line behind it.
+fn first_number(line: &[u8]) -> Option<(u32, &[u8])>
+    ensures { option_map (λ found. (found.0, words_of found.1.now)) result
+        ≡ number_before (words_of line.now) }
+{
+    match first_word(line) {
+        Ok((word, rest)) => match number(word) {
+            Ok(first) => Some((first, rest)),
+            Err(_) => None,
+        },
+        Err(_) => None,
+    }
+}
+
+fn edit_of(line: &[u8], counting: &Counting) -> Option<Call>
+    ensures read { result ≡ edit_in (line_of_words (place_by counting.now 0) (words_of line.now)) }
+    ensures written { IfSome result (λ call. IsWritten call) }
+{
+    match table_line(line, counting, 0) {
+        Ok(Line::Edit(call)) => Some(call),
+        Ok(Line::Ask(_)) => None,
+        Ok(Line::Point) => None,
+        Err(_) => None,
+    }
+}
+
+// The place of the first entry whose number does not rise within its station.
+fn first_late(entries: &[Entry<Call>]) -> Option<usize>
+    requires { All HasLine entries.now }
+    ensures rise { result ≡ None → NumbersRise entries.now }
+    ensures late { IfSome result (λ at. IsFirstLate entries.now (take at entries.now)) }
+    ensures within { IfSome result (λ at. at < length entries.now) }
+{
+    // The least number that the next entry of each station can bear.
+    let mut least = [0_u64; STATIONS];
+    for (at, entry) in entries.iter().enumerate() {
+        let station = entry.station as usize;
+        let number = u64::from(entry.number);
+        if number < least[station] {
+            return Some(at);
+        }
+        least[station] = number + 1;
+    }
+    None
+}
