@@ -1,10 +1,10 @@
 pub mod Plain
-pub mod RowFrames
-pub mod TimeLaws
-pub mod RowSound
-pub mod TrackSound
-pub mod ReelLaws
 pub mod Nesting
 pub mod NestLaws
-pub mod Growing
-pub mod TextLaws
+pub mod Steps
+pub mod Growth
+pub mod SoundClips
+pub mod SoundTracks
+pub mod SoundNests
+pub mod SoundOpening
+pub mod SoundPlain

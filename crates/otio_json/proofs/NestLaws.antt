@@ -7,13 +7,13 @@ use Rattle.json_tree.specs.Size.{tree_size, items_size}
 use Rattle.json_tree.specs.View.{tree_of}
 use Rattle.json_tree.specs.declared.tree.Json.{Json}
 use Rattle.composables.specs.declared.media.Table.{Table}
-use Rattle.otio_json.specs.declared.faults.DocFault.{DocFault}
-use Rattle.otio_json.specs.declared.faults.DocFault.TheVariants.{Refused, Memory}
-use Rattle.otio_json.specs.declared.values.Schema.{Schema}
-use Rattle.otio_json.specs.declared.parts.Part.{Part}
+use Rattle.otio_tracks.specs.declared.faults.DocFault.{DocFault}
+use Rattle.otio_tracks.specs.declared.faults.DocFault.TheVariants.{Refused, Memory}
+use Rattle.otio_tracks.specs.declared.values.Schema.{Schema}
+use Rattle.otio_tracks.specs.declared.parts.Part.{Part}
 use Rattle.otio_json.specs.declared.nests.Nesting.{Nesting}
 use Rattle.otio_json.specs.declared.nests.Nesting.TheVariants.{Forbidden, Levels}
-use Rattle.otio_json.specs.Reading.{Read, Fails, each}
+use Rattle.otio_tracks.specs.Reading.{Read, Fails, each}
 use Rattle.otio_json.specs.Nests.{nest_item_in, nests_in, levels_in, levels_inside, nest_item_read, nest_read, nest_in}
 
 -- the children from an index on: the one there, and those behind it

@@ -10,21 +10,21 @@ use Rattle.composables.specs.TrackState.{TrackState}
 use Rattle.json_tokens.specs.Reading.{◌>>=◌}
 use Rattle.json_tree.specs.Tree.{Tree}
 use Rattle.json_tree.specs.Parts.{place_of}
-use Rattle.otio_json.specs.declared.faults.DocCode.{DocCode}
-use Rattle.otio_json.specs.declared.faults.DocCode.TheVariants.{O3, O12, O13, O14}
-use Rattle.otio_json.specs.declared.values.Schema.{Schema}
-use Rattle.otio_json.specs.declared.values.Schema.TheVariants.{Clip, Gap, Stack, Track, Transition, Other}
-use Rattle.otio_json.specs.declared.times.Span.{Span}
-use Rattle.otio_json.specs.declared.parts.Part.{Part}
+use Rattle.otio_tracks.specs.declared.faults.DocCode.{DocCode}
+use Rattle.otio_tracks.specs.declared.faults.DocCode.TheVariants.{O3, O12, O13, O14}
+use Rattle.otio_tracks.specs.declared.values.Schema.{Schema}
+use Rattle.otio_tracks.specs.declared.values.Schema.TheVariants.{Clip, Gap, Stack, Track, Transition, Other}
+use Rattle.otio_tracks.specs.declared.times.Span.{Span}
+use Rattle.otio_tracks.specs.declared.parts.Part.{Part}
 use Rattle.otio_json.specs.declared.nests.Nesting.{Nesting}
 use Rattle.otio_json.specs.declared.nests.Nesting.TheVariants.{Forbidden, Levels}
-use Rattle.otio_json.specs.Reading.{Read, refuse, or_refuse, each}
-use Rattle.otio_json.specs.Values.{given, needed, list_read, schema_read}
-use Rattle.otio_json.specs.Times.{gap_read}
-use Rattle.otio_json.specs.Parts.{head_read, trim_read, frames_within}
-use Rattle.otio_json.specs.Clips.{clip_read}
-use Rattle.otio_json.specs.Rows.{RowState, empty_row, waits, row_with, row_end}
-use Rattle.otio_json.specs.Building.{track_fit}
+use Rattle.otio_tracks.specs.Reading.{Read, refuse, or_refuse, each}
+use Rattle.otio_tracks.specs.Values.{given, needed, list_read, schema_read}
+use Rattle.otio_tracks.specs.Times.{gap_read}
+use Rattle.otio_tracks.specs.Parts.{head_read, trim_read, frames_within}
+use Rattle.otio_tracks.specs.Clips.{clip_read}
+use Rattle.otio_tracks.specs.Rows.{RowState, empty_row, waits, row_with, row_end}
+use Rattle.otio_tracks.specs.Building.{track_fit}
 
 -- ---- gaps
 

@@ -12,16 +12,16 @@ use Rattle.json_tokens.specs.declared.fault.JsonFault.TheVariants.{Syntax, Depth
 use Rattle.json_tree.specs.ReadingValues.{document_at}
 use Rattle.json_tree.specs.Tree.{Tree}
 use Rattle.json_tree.specs.Parts.{place_of}
-use Rattle.otio_json.specs.declared.faults.DocCode.TheVariants.{J1, J2, J4, J5, O3, O10, O11, O16}
-use Rattle.otio_json.specs.declared.faults.DocFault.{DocFault}
-use Rattle.otio_json.specs.declared.faults.DocFault.TheVariants.{Refused, Memory as NoMemory}
+use Rattle.otio_tracks.specs.declared.faults.DocCode.TheVariants.{J1, J2, J4, J5, O3, O10, O11, O16}
+use Rattle.otio_tracks.specs.declared.faults.DocFault.{DocFault}
+use Rattle.otio_tracks.specs.declared.faults.DocFault.TheVariants.{Refused, Memory as NoMemory}
 use Rattle.otio_json.specs.declared.nests.Nesting.{Nesting}
 use Rattle.otio_json.specs.declared.nests.Nesting.TheVariants.{Forbidden, Levels}
 use Rattle.otio_json.specs.declared.opening.Opening.{Opening}
-use Rattle.otio_json.specs.Reading.{Read, refuse, each}
-use Rattle.otio_json.specs.Values.{given, needed, text_read, list_read, expected}
-use Rattle.otio_json.specs.Times.{frame_read}
-use Rattle.otio_json.specs.Parts.{enabled_read}
+use Rattle.otio_tracks.specs.Reading.{Read, refuse, each}
+use Rattle.otio_tracks.specs.Values.{given, needed, text_read, list_read, expected}
+use Rattle.otio_tracks.specs.Times.{frame_read}
+use Rattle.otio_tracks.specs.Parts.{enabled_read}
 use Rattle.otio_json.specs.Nests.{track_read}
 
 abbrev pub rate_counted : Counted → ℕ × ℕ

@@ -4,21 +4,14 @@
 //! first fault of the document with its place.
 #![tactic(auto)]
 
-mod building;
-mod clips;
-mod faults;
 mod nests;
 mod opening;
-mod parts;
-mod rows;
-mod text;
 mod timeline;
-mod times;
-mod transitions;
-mod values;
-mod writing;
 
-pub use faults::{DocCode, DocFault};
 pub use opening::Opening;
+pub use otio_text::{WriteFault, write_timeline};
+pub use otio_tracks::{DocCode, DocFault};
 pub use timeline::{MAX_NESTS, MAX_TRACKS, read_timeline};
-pub use writing::{WriteFault, write_timeline};
+
+#[cfg(test)]
+mod tests;

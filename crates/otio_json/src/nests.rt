@@ -2,23 +2,20 @@
 ghost use Rattle.std.specs.Prelude.{◌≡◌, ◌+◌, ◌*◌, ◌<◌, ◌≤◌, ◌^◌, [], ◌∷◌, length, map, IfOk, IfSome, OnOk, unsigned_abs};
 ghost use Rattle.json_tree.specs.Size.{tree_size, items_size};
 ghost use Rattle.json_tree.specs.View.{tree_of};
-ghost use Rattle.otio_json.specs.Reading.{Reads, Gives, each};
-ghost use Rattle.otio_json.specs.Rows.{row_frames};
-ghost use Rattle.otio_json.specs.SoundParts.{IsItemPart};
-ghost use Rattle.otio_json.specs.Times.{rate_pair};
-ghost use Rattle.otio_json.specs.Clips.{entries};
+ghost use Rattle.otio_tracks.specs.Reading.{Reads, Gives, each};
+ghost use Rattle.otio_tracks.specs.Rows.{row_frames};
+ghost use Rattle.otio_tracks.specs.SoundParts.{IsItemPart};
+ghost use Rattle.otio_tracks.specs.Times.{rate_pair};
+ghost use Rattle.otio_tracks.specs.Clips.{entries};
 ghost use Rattle.otio_json.specs.Nests.{gap_part_read, item_read, child_read, row_read, track_read, layer_of, one_layer_read, layer_read, track_layer_read, layers_read, longest, nest_frames, levels_inside, nest_read, nest_item_read, whole_layer};
 
-use crate::building::track_of;
-use crate::clips::clip;
-use crate::faults::{DocCode, DocFault, Fault};
-use crate::parts::{Part, frames_within, head, trim};
-use crate::rows::Row;
-use crate::times::{Span, gap_length};
-use crate::values::{Schema, fault_at, given, list, needed, schema_of};
 use composables::{Layer, Listed, Nest, Table, Track};
 use frame_meaning::{Side, What};
 use json_tree::Json;
+use otio_tracks::{
+    DocCode, DocFault, Fault, Part, Row, Schema, Span, clip, fault_at, frames_within, gap_length,
+    given, head, list, needed, schema_of, track_of, trim,
+};
 use ratio_time::Rate;
 use std::alloc::Global;
 

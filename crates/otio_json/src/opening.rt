@@ -25,13 +25,15 @@ pub struct Opening {
 impl Opening {
     ghost use Rattle.std.specs.Prelude.{◌≡◌, ◌≤◌, IfOk};
     ghost use Rattle.otio_json.specs.Openings.{plain_opening};
+    ghost use Rattle.otio_json.specs.Soundness.{IsSoundOpening};
 
     /// Empty video tracks, 24 frames a second without drop-frame, start 0; media m is reel m, named `R` and m in
     /// decimal, with its first 86,400 frames.
     pub fn plain(alloc: Global, tracks: u32, reels: u32) -> Result<Opening, Memory>
         requires tracks { tracks ≤ 16 }
         requires reels { reels ≤ 999 }
-        ensures { IfOk result (λ opening. opening ≡ plain_opening tracks reels) }
+        ensures plain { IfOk result (λ opening. opening ≡ plain_opening tracks reels) }
+        ensures sound { IfOk result IsSoundOpening }
     {
         let table = plain(alloc, tracks, reels)?;
         let tracks = empty_tracks(alloc, tracks)?;

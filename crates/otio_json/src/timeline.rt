@@ -3,19 +3,19 @@ ghost use Rattle.std.specs.Prelude.{◌≡◌, ◌+◌, ◌*◌, ◌<◌, ◌≤
 ghost use Rattle.timecode12.specs.Numbers.{Counted};
 ghost use Rattle.json_tree.specs.Size.{tree_size, items_size};
 ghost use Rattle.json_tree.specs.View.{tree_of};
-ghost use Rattle.otio_json.specs.Reading.{Reads, Gives};
-ghost use Rattle.otio_json.specs.Times.{rate_pair};
-ghost use Rattle.otio_json.specs.Clips.{entries};
+ghost use Rattle.otio_tracks.specs.Reading.{Reads, Gives};
+ghost use Rattle.otio_tracks.specs.Times.{rate_pair};
+ghost use Rattle.otio_tracks.specs.Clips.{entries};
+ghost use Rattle.otio_json.specs.Soundness.{IsSoundOpening};
 ghost use Rattle.otio_json.specs.Timelines.{rate_counted, start_read, untrimmed, kind_read, nesting_of, empty_table, head_of_track, next_track, tracks_read, timeline_read, tree_read, doc_fault, document_read};
 
-use crate::faults::{DocCode, DocFault, Fault};
 use crate::nests::{Nesting, track};
 use crate::opening::Opening;
-use crate::parts::enabled;
-use crate::times::frame;
-use crate::values::{expect, fault_at, given, list, needed, text};
 use composables::{Kind, Listed, Reels, Table, Track};
 use json_tree::{Json, JsonFault, read};
+use otio_tracks::{
+    DocCode, DocFault, Fault, enabled, expect, fault_at, frame, given, list, needed, text,
+};
 use ratio_time::Rate;
 use std::alloc::Global;
 use timecode12::Counting;
@@ -200,6 +200,8 @@ fn tree(alloc: Global, bytes: &[u8]) -> Result<Json, DocFault>
 #[tactic(auto, unfolding(crate::specs::Timelines::document_read))]
 pub fn read_timeline(alloc: Global, bytes: &[u8], counting: &Counting) -> Result<Opening, DocFault>
     ensures read { Gives (λ opening. opening) result (document_read counting.now bytes.now) }
+    ensures sound { IfOk result IsSoundOpening }
+    ensures some { IfOk result (λ opening. 0 < length opening.tracks) }
 {
     let tree = tree(alloc, bytes)?;
     timeline(alloc, counting, &tree)

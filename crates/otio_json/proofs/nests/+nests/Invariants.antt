@@ -1,10 +1,10 @@
 use Rattle.std.proofs.Common.{◌≡◌, ◌+◌, ◌*◌, ◌≤◌, length, drop, map}
 use Rattle.json_tree.specs.Size.{items_size}
 use Rattle.json_tree.specs.View.{tree_of}
-use Rattle.otio_json.specs.Reading.{each}
-use Rattle.otio_json.specs.Times.{rate_pair}
-use Rattle.otio_json.specs.Clips.{entries}
-use Rattle.otio_json.specs.Rows.{row_frames}
+use Rattle.otio_tracks.specs.Reading.{each}
+use Rattle.otio_tracks.specs.Times.{rate_pair}
+use Rattle.otio_tracks.specs.Clips.{entries}
+use Rattle.otio_tracks.specs.Rows.{row_frames}
 use Rattle.otio_json.specs.Nests.{levels_in, nests_in, next_layer, layers_read, child_in, row_read}
 use Rattle.otio_json.proofs.Nesting.{levels_of}
 use Rattle.otio_json.proofs.nests.+nests.Given as goal

@@ -1,9 +1,9 @@
 use Rattle.std.proofs.Common.{◌≡◌, ◌+◌, ◌*◌, ◌≤◌, length, drop, map}
 use Rattle.json_tree.specs.Size.{items_size}
 use Rattle.json_tree.specs.View.{tree_of}
-use Rattle.otio_json.specs.Reading.{each}
-use Rattle.otio_json.specs.Times.{rate_pair}
-use Rattle.otio_json.specs.Clips.{entries}
+use Rattle.otio_tracks.specs.Reading.{each}
+use Rattle.otio_tracks.specs.Times.{rate_pair}
+use Rattle.otio_tracks.specs.Clips.{entries}
 use Rattle.otio_json.specs.Timelines.{next_track, tracks_read}
 use Rattle.otio_json.proofs.timeline.add_tracks.Given as goal
 

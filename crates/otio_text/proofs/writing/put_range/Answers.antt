@@ -1,0 +1,10 @@
+use Rattle.otio_text.specs.Documents.{range_open, time_text, range_start, brace, range_text}
+use Rattle.otio_text.proofs.Growing.{put5}
+use Rattle.otio_text.proofs.writing.put_range.Goals as goal
+
+pub returns : goal.returns
+unfolding range_text
+returns c = put5 c.put-3.result
+    c.args.out.now c.put.new.self c.put_time.new.out c.put-2.new.self c.put_time-2.new.out c.put-3.new.self
+    range_open (time_text c.args.rate c.args.len) range_start (time_text c.args.rate c.args.from) brace
+    c.in_ok-put.ensures c.in_ok-put_time.ensures c.in_ok-put-2.ensures c.in_ok-put_time-2.ensures c.put-3.ensures

@@ -1,0 +1,5 @@
+pub mod RowFrames
+pub mod TimeLaws
+pub mod RowSound
+pub mod TrackSound
+pub mod ReelLaws

@@ -1,0 +1,11 @@
+pub mod Reading
+pub mod Values
+pub mod Times
+pub mod Parts
+pub mod Clips
+pub mod Transitions
+pub mod Rows
+pub mod SoundParts
+pub mod SoundRows
+pub mod RowInside
+pub mod Building

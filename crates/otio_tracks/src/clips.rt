@@ -1,0 +1,307 @@
+// Clips: the frames that a clip shows, and its reel and media entry.
+ghost use Rattle.std.specs.Prelude.{◌≡◌, ◌+◌, ◌*◌, ◌<◌, ◌≤◌, ◌^◌, length, position, unsigned_abs, IfOk, IfSome, OnOk, OnErr, option_map, Some};
+ghost use Rattle.json_tree.specs.Size.{tree_size};
+ghost use Rattle.json_tree.specs.View.{tree_of};
+ghost use Rattle.composables.specs.ReelNames.{with_name};
+ghost use Rattle.otio_tracks.specs.Reading.{Reads, Gives};
+ghost use Rattle.otio_tracks.specs.SoundParts.{IsItemPart};
+ghost use Rattle.otio_tracks.specs.Times.{moment_of, rate_pair};
+ghost use Rattle.otio_tracks.specs.Clips.{source_frames, source_read, clamped, in_media, media_if, narrowed, available_read, reference_read, widened, clip_frames, reel_text, named_reel, name_at, same_media, entry_number, with_entry, entries, entered, clip_read};
+
+use crate::faults::{DocCode, DocFault, Fault};
+use crate::parts::{Part, frames_within, trim};
+use crate::times::{Span, moment};
+use crate::values::{expect, fault_at, given, needed};
+use composables::{Listed, Media, Memory, Reels, Table};
+use frame_meaning::{Side, What};
+use json_tree::{Json, Value};
+use ratio_time::{Rate, RationalTime, TimeRange};
+
+/// One more than the last source frame that a clip may have.
+const MOST_SOURCE: u32 = 16_777_216;
+
+/// The frames [source, source + len) that a clip shows, of the frames [from, to) that its media entry has.
+#[derive(Clone, Copy, Debug, PartialEq, Eq)]
+pub struct Frames {
+    pub source: u32,
+    pub len: u32,
+    pub from: u32,
+    pub to: u32,
+}
+
+// The source frames of a clip's range. A range without frames has none that could be past the limit.
+fn source_frames(span: &Span) -> Option<(u32, u32)>
+    requires near { unsigned_abs span.now.start ≤ 2147483647 }
+    requires short { span.now.len ≤ 2147483647 }
+    ensures frames { result ≡ source_frames span.now }
+    ensures within { IfSome result (λ f. f.0 + f.1 ≤ MOST_SOURCE) }
+{
+    if span.len == 0 {
+        return Some((0, 0));
+    }
+    frames_within(MOST_SOURCE, span)
+}
+
+#[tactic(auto, unfolding(crate::specs::Clips::source_read))]
+fn source(rate: &Rate, clip: &Json) -> Result<Option<(u32, u32)>, Fault>
+    ensures source { result ≡ source_read (rate_pair rate.now) (tree_of clip.now) }
+    ensures within { IfOk result (λ o. IfSome o (λ f. f.0 + f.1 ≤ MOST_SOURCE)) }
+{
+    match trim(rate, clip)? {
+        Some(span) => match source_frames(&span) {
+            Some(frames) => Ok(Some(frames)),
+            None => Err(Fault {
+                code: DocCode::O11,
+                at: span.at,
+            }),
+        },
+        None => Ok(None),
+    }
+}
+
+// A frame, or the nearest of the frames that a media entry may have.
+fn clamped(frame: i64) -> u32
+    ensures value { result ≡ clamped frame }
+    ensures within { result ≤ MOST_SOURCE }
+{
+    if frame <= 0 {
+        return 0;
+    }
+    if frame >= i64::from(MOST_SOURCE) {
+        return MOST_SOURCE;
+    }
+    frame as u32
+}
+
+// The frames [from, to) that a media entry may have, if there are any.
+fn in_media(from: i64, to: i64) -> Option<(u32, u32)>
+    ensures frames { result ≡ in_media from to }
+    ensures within { IfSome result (λ f. (f.0 < f.1) × (f.1 ≤ MOST_SOURCE)) }
+{
+    let first = clamped(from);
+    let end = clamped(to);
+    if first < end {
+        return Some((first, end));
+    }
+    None
+}
+
+#[tactic(auto, unfolding(crate::specs::Clips::available_read))]
+fn available(rate: &Rate, range: &Json) -> Result<Option<(u32, u32)>, Fault>
+    ensures frames { result ≡ available_read (rate_pair rate.now) (tree_of range.now) }
+    ensures within { IfOk result (λ o. IfSome o (λ f. (f.0 < f.1) × (f.1 ≤ MOST_SOURCE))) }
+{
+    expect(range, "TimeRange.1")?;
+    let start = moment(needed(range, "start_time")?)?;
+    let length = needed(range, "duration")?;
+    let duration = moment(length)?;
+    if duration.value.mantissa < 0 {
+        return Err(fault_at(DocCode::O14, length));
+    }
+    media_frames(narrowed(start, duration, rate), range.at)
+}
+
+// The frames of a media entry in a range of whole frames, which stands at `at`.
+fn media_frames(frames: Option<(i64, i64)>, at: u32) -> Result<Option<(u32, u32)>, Fault>
+    ensures frames { result ≡ media_if frames at }
+    ensures within { IfOk result (λ o. IfSome o (λ f. (f.0 < f.1) × (f.1 ≤ MOST_SOURCE))) }
+{
+    match frames {
+        Some((from, to)) => Ok(in_media(from, to)),
+        None => Err(Fault {
+            code: DocCode::O4,
+            at,
+        }),
+    }
+}
+
+// The whole frames [from, to) of a range, unless they are too far from 0.
+fn narrowed(start: RationalTime, duration: RationalTime, rate: &Rate) -> Option<(i64, i64)>
+    ensures { result ≡ narrowed (moment_of start) (moment_of duration) (rate_pair rate.now) }
+{
+    let range = TimeRange { start, duration };
+    match range.narrowed_at(rate) {
+        Ok(frames) => Some(frames),
+        Err(_) => None,
+    }
+}
+
+// The frames that a clip's media reference says to be there.
+#[tactic(auto, unfolding(crate::specs::Clips::reference_read))]
+fn reference(rate: &Rate, clip: &Json) -> Result<Option<(u32, u32)>, Fault>
+    ensures frames { result ≡ reference_read (rate_pair rate.now) (tree_of clip.now) }
+    ensures within { IfOk result (λ o. IfSome o (λ f. (f.0 < f.1) × (f.1 ≤ MOST_SOURCE))) }
+{
+    match given(clip, "media_reference") {
+        Some(reference) => match &reference.value {
+            Value::Object(_) => match given(reference, "available_range") {
+                Some(range) => available(rate, range),
+                None => Ok(None),
+            },
+            _ => Err(fault_at(DocCode::O3, reference)),
+        },
+        None => Ok(None),
+    }
+}
+
+// The least range that holds these frames and the available ones.
+fn widened(source: (u32, u32), available: (u32, u32)) -> (u32, u32)
+    requires { source.0 + source.1 ≤ MOST_SOURCE }
+    ensures { result ≡ widened source available }
+{
+    if source.1 == 0 {
+        return available;
+    }
+    (
+        available.0.min(source.0),
+        available.1.max(source.0 + source.1),
+    )
+}
+
+fn clip_frames(source: Option<(u32, u32)>, available: Option<(u32, u32)>) -> Option<Frames>
+    requires source { IfSome source (λ f. f.0 + f.1 ≤ MOST_SOURCE) }
+    requires available { IfSome available (λ f. (f.0 < f.1) × (f.1 ≤ MOST_SOURCE)) }
+    ensures frames { result ≡ clip_frames source available }
+    ensures short { IfSome result (λ f. f.len ≤ MOST_SOURCE) }
+    ensures within { IfSome result (λ f. 0 < f.len → (f.from ≤ f.source) × (f.source + f.len ≤ f.to)) }
+{
+    match (source, available) {
+        (Some(source), Some(available)) => {
+            let (from, to) = widened(source, available);
+            Some(Frames {
+                source: source.0,
+                len: source.1,
+                from,
+                to,
+            })
+        }
+        (Some(source), None) => Some(Frames {
+            source: source.0,
+            len: source.1,
+            from: 0,
+            to: MOST_SOURCE,
+        }),
+        (None, Some((from, to))) => Some(Frames {
+            source: from,
+            len: to - from,
+            from,
+            to,
+        }),
+        (None, None) => None,
+    }
+}
+
+// The reel that a clip's metadata name.
+fn named_reel(clip: &Json) -> Option<&str>
+    ensures { option_map (λ text. text.now) result ≡ named_reel (tree_of clip.now) }
+{
+    clip.member("metadata")?
+        .member("cmx_3600")?
+        .member("reel")?
+        .text()
+}
+
+/// The name of a clip's reel.
+fn reel(clip: &Json) -> &str
+    ensures { result.now ≡ reel_text (tree_of clip.now) }
+{
+    match named_reel(clip) {
+        Some(reel) => return reel,
+        None => {}
+    }
+    match clip.member("name") {
+        Some(name) => match name.text() {
+            Some(name) => {
+                if name.is_empty() {
+                    return "AX";
+                }
+                name
+            }
+            None => "AX",
+        },
+        None => "AX",
+    }
+}
+
+// Where the entry stands.
+fn entry_at(media: &[Media], entry: &Media) -> Option<usize>
+    ensures place { result ≡ position (same_media entry.now) media.now }
+    ensures within { IfSome result (λ i. i < length media.now) }
+{
+    let Media { reel, from, to } = *entry;
+    media
+        .iter()
+        .position(|m| m.reel == reel && m.from == from && m.to == to)
+}
+
+// The number of an entry. One that is there keeps its number, another goes last.
+fn enter_media(media: &mut Listed<Media>, entry: Media) -> Result<u32, Memory>
+    requires { length media.old < 4294967295 }
+    ensures number { IfOk result (λ n. n ≡ entry_number media.old entry) }
+    ensures ok { OnOk result (media.new ≡ with_entry media.old entry) }
+{
+    match entry_at(media.as_slice(), &entry) {
+        Some(at) => return Ok(at as u32),
+        None => {}
+    }
+    let number = media.as_slice().len() as u32;
+    media.push(entry)?;
+    Ok(number)
+}
+
+// The number of a reel. One that is there keeps its number, another goes last.
+fn enter_reel(reels: &mut Reels, name: &str) -> Result<u32, Memory>
+    requires { length reels.old < 4294967295 }
+    ensures number { IfOk result (λ n. n ≡ name_at reels.old name.now) }
+    ensures ok { OnOk result (reels.new ≡ with_name reels.old name.now) }
+{
+    let count = reels.count();
+    let number = reels.add(name)?;
+    prove!(number <= count);
+    Ok(number)
+}
+
+/// The item of a clip on this reel, which is entered in the table.
+fn enter(table: &mut Table, reel: &str, frames: Frames) -> Result<Part, Memory>
+    requires few { entries table.old + 2 < 2 ^ 32 }
+    requires within { 0 < frames.len → (frames.from ≤ frames.source) × (frames.source + frames.len ≤ frames.to) }
+    ensures ok { IfOk result (λ part. (part, table.new) ≡ entered table.old reel.now frames) }
+    ensures few { OnOk result (entries table.new ≤ entries table.old + 2) }
+    ensures short { IfOk result (λ part. part.len ≡ frames.len) }
+    ensures sound { IfOk result IsItemPart }
+{
+    let reel = enter_reel(&mut table.reels, reel)?;
+    let entry = Media {
+        reel,
+        from: frames.from,
+        to: frames.to,
+    };
+    let number = enter_media(&mut table.media, entry)?;
+    Ok(Part {
+        first: Side::Pic {
+            what: What::Media(number),
+            source: frames.source,
+        },
+        len: u64::from(frames.len),
+        mark: None,
+        from: frames.from,
+        to: frames.to,
+    })
+}
+
+/// A clip's own part.
+#[tactic(auto, unfolding(crate::specs::Clips::clip_read))]
+pub fn clip(rate: &Rate, table: &mut Table, json: &Json) -> Result<Part, DocFault>
+    requires { entries table.old + 2 < 2 ^ 32 }
+    ensures read { Gives (λ part. (part, table.new)) result (clip_read (rate_pair rate.now) table.old (tree_of json.now)) }
+    ensures few { OnOk result (entries table.new ≤ entries table.old + 2) }
+    ensures short { IfOk result (λ part. part.len ≤ 2147483647) }
+    ensures sound { IfOk result IsItemPart }
+{
+    let source = source(rate, json)?;
+    let available = reference(rate, json)?;
+    match clip_frames(source, available) {
+        Some(frames) => Ok(enter(table, reel(json), frames)?),
+        None => Err(fault_at(DocCode::O14, json).into()),
+    }
+}
