@@ -1,0 +1,4 @@
+pub mod Greatest
+pub mod Clamping
+pub mod Used
+pub mod Spots

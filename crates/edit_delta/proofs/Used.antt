@@ -1,0 +1,108 @@
+-- What is used of a delta, by its way; and facts of one track among the named.
+use Rattle.std.proofs.Common.{◌≡◌, ℕ, zero, suc, ◌<◌, ◌≤◌, ◌^◌, Bool, true, false, leb, min, ◌&&◌, ℤ, pos, neg_ℤ, nat_abs, List, [], ◌∷◌, All, map, set, get_or, Result, Ok, Err, refl, sym, ap, ◌∙◌, arith, subst, w32, SFits}
+use Rattle.std.proofs.lemmas.Bool.{eq-eqb, leb-true, leb-false, le-leb, lt-leb}
+use Rattle.std.specs.Int.Signed.{nat_abs-le}
+use Rattle.composables.specs.declared.media.Table.{Table}
+use Rattle.composables.specs.declared.refusals.Done.{Done}
+use Rattle.composables.specs.declared.refusals.Done.TheVariants.{By}
+use Rattle.composables.specs.declared.refusals.Refusal.{Refusal}
+use Rattle.composables.specs.declared.refusals.EditFault.{EditFault}
+use Rattle.composables.specs.declared.refusals.EditFault.TheVariants.{Refused, Memory}
+use Rattle.composables.specs.Answers.{Answers, NextRises}
+use Rattle.composables.specs.Limits.{track_within_limits}
+use Rattle.composables.specs.OwnTracks.{among_named, on_own}
+use Rattle.composables.specs.TrackState.{TrackState}
+use Rattle.edit_delta.specs.declared.deltas.Way.TheVariants.{Later, Earlier}
+use Rattle.edit_delta.specs.Nearest.{AreUpTo, by_sign, lies_within, nearest}
+use Rattle.edit_delta.specs.Using.{IsWayOf, StaysGood, used_on}
+use Rattle.edit_delta.proofs.Greatest.{earlier-end, later-end, nearest-ends}
+
+pub used-none : (t : TrackState) (moved : ℤ → TrackState) (d : ℤ) → d ≡ pos 0 → used_on t moved d ≡ Ok (t, By (pos 0))
+used-none t moved d e = ap (used_on t moved) e
+
+pub used-later : (t : TrackState) (f g : ℕ → TrackState) (d : ℤ) (n : ℕ) → 0 < n → d ≡ pos n → used_on t (by_sign f g) d ≡ track_within_limits (f n) (By d)
+used-later t f g d zero h e = absurd (omega (arith, h))
+used-later t f g d (suc n) h e = ap (used_on t (by_sign f g)) e ∙ ap (λ (z : ℤ). track_within_limits (f (suc n)) (By z)) (sym e)
+
+pub used-earlier : (t : TrackState) (f g : ℕ → TrackState) (d : ℤ) (n : ℕ) → 0 < n → d ≡ neg_ℤ (pos n) → used_on t (by_sign f g) d ≡ track_within_limits (g n) (By d)
+used-earlier t f g d zero h e = absurd (omega (arith, h))
+used-earlier t f g d (suc n) h e = ap (used_on t (by_sign f g)) e ∙ ap (λ (z : ℤ). track_within_limits (g (suc n)) (By z)) (sym e)
+
+-- what is meant by a delta, where what is allowed ends so
+small_by : (by : ℤ) → SFits w32 by → nat_abs by < 2 ^ 32
+small_by by fits = let h = nat_abs-le by fits.sfits in omega (arith, h)
+
+used_is : (F G : ℕ → Bool) (e l : ℕ) (by d : ℤ) → SFits w32 by → AreUpTo F l → AreUpTo G e → d ≡ nearest (lies_within e l) by → nearest (by_sign F G) by ≡ d
+used_is F G e l by d fits a b is = nearest-ends F G e l by (small_by by fits) a b ∙ sym is
+
+pub still-means : (t : TrackState) (f g : ℕ → TrackState) (F G : ℕ → Bool) (e l : ℕ) (by d : ℤ) → SFits w32 by → AreUpTo F l → AreUpTo G e → d ≡ nearest (lies_within e l) by → d ≡ pos 0
+    → used_on t (by_sign f g) (nearest (by_sign F G) by) ≡ Ok (t, By (pos 0))
+still-means t f g F G e l by d fits a b is none = used-none t (by_sign f g) (nearest (by_sign F G) by) (used_is F G e l by d fits a b is ∙ none)
+
+pub later-means : (t : TrackState) (f g : ℕ → TrackState) (F G : ℕ → Bool) (e l n : ℕ) (by d : ℤ) → SFits w32 by → AreUpTo F l → AreUpTo G e → d ≡ nearest (lies_within e l) by → IsWayOf d (Later n)
+    → used_on t (by_sign f g) (nearest (by_sign F G) by) ≡ track_within_limits (f n) (By d)
+later-means t f g F G e l n by d fits a b is way =
+    ap (used_on t (by_sign f g)) (used_is F G e l by d fits a b is) ∙ used-later t f g d n way.0 way.1
+
+pub earlier-means : (t : TrackState) (f g : ℕ → TrackState) (F G : ℕ → Bool) (e l n : ℕ) (by d : ℤ) → SFits w32 by → AreUpTo F l → AreUpTo G e → d ≡ nearest (lies_within e l) by → IsWayOf d (Earlier n)
+    → used_on t (by_sign f g) (nearest (by_sign F G) by) ≡ track_within_limits (g n) (By d)
+earlier-means t f g F G e l n by d fits a b is way =
+    ap (used_on t (by_sign f g)) (used_is F G e l by d fits a b is) ∙ used-earlier t f g d n way.0 way.1
+
+pub later-most : (e l n : ℕ) (by d : ℤ) → d ≡ nearest (lies_within e l) by → IsWayOf d (Later n) → n ≤ l
+later-most e l n by d is way = later-end e l n by d is way.0 way.1
+
+pub earlier-most : (e l n : ℕ) (by d : ℤ) → d ≡ nearest (lies_within e l) by → IsWayOf d (Earlier n) → n ≤ e
+earlier-most e l n by d is way = earlier-end e l n by d is way.0 way.1
+
+-- two ends of which the nearer one holds
+both_le : (n a b : ℕ) → leb n a && leb n b ≡ leb n (min a b)
+both_le n a b = by (leb n a) (leb n b) refl refl where
+  by : (p q : Bool) → leb n a ≡ p → leb n b ≡ q → p && q ≡ leb n (min a b)
+  by true true e f = sym (le-leb n (min a b) (omega (arith, leb-true n a e, leb-true n b f)))
+  by true false e f = sym (lt-leb n (min a b) (omega (arith, leb-false n b f)))
+  by false true e f = sym (lt-leb n (min a b) (omega (arith, leb-false n a e)))
+  by false false e f = sym (lt-leb n (min a b) (omega (arith, leb-false n a e)))
+
+pub up-both : (f g : ℕ → Bool) (a b m : ℕ) → m ≡ min a b → AreUpTo f a → AreUpTo g b → AreUpTo (λ n. f n && g n) m
+up-both f g a b m e h k n small = ap (λ (p : Bool). p && g n) (h n small) ∙ (ap (λ (q : Bool). leb n a && q) (k n small) ∙ (both_le n a b ∙ ap (leb n) (sym e)))
+
+-- the only one of the named
+pub record IsOnly (n : ℕ) (ts : List TrackState) (t : TrackState) : Type 0 where
+  pub all : ts ≡ t ∷ []
+  pub number : t.number ≡ n
+
+pub only : (n : ℕ) (ts : List TrackState) (t : TrackState) → map (λ (t : TrackState). t.number) ts ≡ n ∷ [] → t ≡ get_or ts 0 t → IsOnly n ts t
+only n [] t h is = absurd cc
+only n (x ∷ []) t h is = let e : x.number ≡ n = cc in record { all = ap (λ (u : TrackState). u ∷ []) (sym is); number = ap (λ (u : TrackState). u.number) is ∙ e }
+only n (x ∷ y ∷ ys) t h is = absurd cc
+
+on_it : (n : ℕ) (f : TrackState → Result (TrackState × Done) Refusal) (t : TrackState) → t.number ≡ n → on_own n f (t ∷ []) ≡ among_named (t ∷ []) (f t)
+on_it n f t e = rw (eq-eqb t.number n e) refl
+
+answers_it : (n : ℕ) (f : TrackState → Result (TrackState × Done) Refusal) (t u : TrackState) (result : Result Done EditFault) → t.number ≡ n → u.number ≡ t.number → Answers (f t) t u result
+    → Answers (on_own n f (t ∷ [])) (t ∷ []) (u ∷ []) result
+answers_it n f t u (Ok done) e k a = on_it n f t e ∙ (ap (among_named (t ∷ [])) a ∙ ap (λ (us : List TrackState). Ok (us, done)) (rw (k, eq-eqb t.number t.number refl) refl))
+answers_it n f t u (Err (Refused why)) e k a = (on_it n f t e ∙ ap (among_named (t ∷ [])) a.0, ap (λ (x : TrackState). x ∷ []) a.1)
+answers_it n f t u (Err Memory) e k a = ap (λ (x : TrackState). x ∷ []) a
+
+pub answers-only : (n : ℕ) (f : TrackState → Result (TrackState × Done) Refusal) (ts : List TrackState) (t u : TrackState) (result : Result Done EditFault) → IsOnly n ts t → u.number ≡ t.number
+    → Answers (f t) t u result → Answers (on_own n f ts) ts (set ts 0 u) result
+answers-only n f ts t u result o k a =
+    subst (λ (xs : List TrackState). Answers (on_own n f xs) xs (set xs 0 u) result) (sym o.all) (answers_it n f t u result o.number k a)
+
+pub holds-only : (P : TrackState → Type 0) (n : ℕ) (ts : List TrackState) (t : TrackState) → IsOnly n ts t → All P ts → P t
+holds-only P n ts t o h = subst (All P) o.all h 0 t (omega arith)
+
+all_it : (P : TrackState → Type 0) (u : TrackState) → P u → All P (u ∷ [])
+all_it P u h zero d lt = h
+all_it P u h (suc k) d lt = absurd (omega (arith, lt))
+
+pub all-only : (P : TrackState → Type 0) (n : ℕ) (ts : List TrackState) (t u : TrackState) → IsOnly n ts t → P u → All P (set ts 0 u)
+all-only P n ts t u o h = subst (λ (xs : List TrackState). All P (set xs 0 u)) (sym o.all) (all_it P u h)
+
+pub numbers-only : (n : ℕ) (ts : List TrackState) (t u : TrackState) → IsOnly n ts t → u.number ≡ t.number → map (λ (t : TrackState). t.number) (set ts 0 u) ≡ n ∷ []
+numbers-only n ts t u o k = subst (λ (xs : List TrackState). map (λ (t : TrackState). t.number) (set xs 0 u) ≡ n ∷ []) (sym o.all) (ap (λ (m : ℕ). m ∷ []) (k ∙ o.number))
+
+pub rises-only : (table : Table) (n : ℕ) (ts : List TrackState) (t u : TrackState) → IsOnly n ts t → StaysGood table t u → NextRises 1 ts (set ts 0 u)
+rises-only table n ts t u o s = subst (λ (xs : List TrackState). NextRises 1 xs (set xs 0 u)) (sym o.all) (s.number, s.item, s.link, tt)
