@@ -1,4 +1,6 @@
 pub mod Greatest
 pub mod Clamping
-pub mod Used
+pub mod Answered
 pub mod Spots
+pub mod Bounded
+pub mod Pieces

@@ -39,3 +39,7 @@ going_on c n = record { item = c.item; first = next_side c.side; len = n; mark =
 -- n frames by which it reaches back before it
 abbrev pub reaching_back : Cell → ℕ → ItemView
 reaching_back c n = record { item = c.item; first = earlier_side c.side n; len = n; mark = None; link = c.link }
+
+-- an item or gap on [x, y) keeps a cell where it gives up n of them
+abbrev pub keeps_a_cell : ℕ → ℕ → ℕ → Bool
+keeps_a_cell x y n = nat_lt (x + n) y

@@ -1,5 +1,6 @@
 -- An edit by a delta. Where the delta used is 0 the track is unchanged, and the edit is done all the same.
 use Rattle.std.specs.Prelude.{◌≡◌, ℕ, zero, suc, ◌+◌, ◌≤◌, ◌<◌, neg_ℤ, ℤ, pos, negsuc, Option, Some, None, Result, Ok, Err}
+use Rattle.edit_delta.specs.declared.deltas.Used.{Used}
 use Rattle.edit_delta.specs.declared.deltas.Way.{Way}
 use Rattle.edit_delta.specs.declared.deltas.Way.TheVariants.{Still, Later, Earlier}
 use Rattle.composables.specs.declared.media.Table.{Table}
@@ -23,6 +24,11 @@ abbrev pub IsWayOf : ℤ → Way → Type 0
 IsWayOf d Still = d ≡ pos 0
 IsWayOf d (Later n) = (0 < n) × (d ≡ pos n)
 IsWayOf d (Earlier n) = (0 < n) × (d ≡ neg_ℤ (pos n))
+
+-- the delta that is used, by its way, and the answer
+pub record IsUsed (d : ℤ) (u : Used) : Type 0 where
+  pub way : IsWayOf d u.way
+  pub done : u.done ≡ By d
 
 -- what is meant on the record frames [x, y) of an item, which must be there
 abbrev pub on_range : {A : Type 0} → (ℕ → ℕ → Result A Refusal) → Option (ℕ × ℕ) → Result A Refusal

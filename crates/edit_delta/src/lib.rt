@@ -7,10 +7,12 @@
 
 mod deltas;
 mod laws;
+mod placing;
 mod reaching;
 
-pub use deltas::{Way, nearest_within, way_of};
+pub use deltas::{Used, Way, nearest_within, used_within, way_of};
 pub use laws::a_set_of_deltas_has_one_nearest;
+pub use placing::place_parts;
 pub use reaching::{frames_after, frames_before, going_on, reaching_back};
 
 #[cfg(test)]
