@@ -15,9 +15,10 @@ use Rattle.composables.specs.OwnTracks.{among_named, on_own}
 use Rattle.composables.specs.TrackState.{TrackState}
 use Rattle.edit_delta.specs.declared.deltas.Used.{Used}
 use Rattle.edit_delta.specs.declared.deltas.Way.{Way}
-use Rattle.edit_delta.specs.declared.deltas.Way.TheVariants.{Later, Earlier}
+use Rattle.edit_delta.specs.declared.deltas.Way.TheVariants.{Still, Later, Earlier}
 use Rattle.edit_delta.specs.Nearest.{AreUpTo, by_sign, lies_within, nearest}
-use Rattle.edit_delta.specs.Using.{IsUsed, IsWayOf, StaysGood, used_on}
+use Rattle.edit_delta.specs.Using.{IsUsed, IsWayOf, used_on}
+use Rattle.edit_splice.specs.Standing.{StaysGood}
 use Rattle.edit_delta.proofs.Greatest.{earlier-end, later-end, nearest-ends}
 
 used-none : (t : TrackState) (moved : ℤ → TrackState) (d : ℤ) → d ≡ pos 0 → used_on t moved d ≡ Ok (t, By d)
@@ -90,43 +91,3 @@ both_le n a b = by (leb n a) (leb n b) refl refl where
 
 pub up-both : (f g : ℕ → Bool) (a b m : ℕ) → m ≡ min a b → AreUpTo f a → AreUpTo g b → AreUpTo (λ n. f n && g n) m
 up-both f g a b m e h k n small = ap (λ (p : Bool). p && g n) (h n small) ∙ (ap (λ (q : Bool). leb n a && q) (k n small) ∙ (both_le n a b ∙ ap (leb n) (sym e)))
-
--- the only one of the named
-pub record IsOnly (n : ℕ) (ts : List TrackState) (t : TrackState) : Type 0 where
-  pub all : ts ≡ t ∷ []
-  pub number : t.number ≡ n
-
-pub only : (n : ℕ) (ts : List TrackState) (t : TrackState) → map (λ (t : TrackState). t.number) ts ≡ n ∷ [] → t ≡ get_or ts 0 t → IsOnly n ts t
-only n [] t h is = absurd cc
-only n (x ∷ []) t h is = let e : x.number ≡ n = cc in record { all = ap (λ (u : TrackState). u ∷ []) (sym is); number = ap (λ (u : TrackState). u.number) is ∙ e }
-only n (x ∷ y ∷ ys) t h is = absurd cc
-
-on_it : (n : ℕ) (f : TrackState → Result (TrackState × Done) Refusal) (t : TrackState) → t.number ≡ n → on_own n f (t ∷ []) ≡ among_named (t ∷ []) (f t)
-on_it n f t e = rw (eq-eqb t.number n e) refl
-
-answers_it : (n : ℕ) (f : TrackState → Result (TrackState × Done) Refusal) (t u : TrackState) (result : Result Done EditFault) → t.number ≡ n → u.number ≡ t.number → Answers (f t) t u result
-    → Answers (on_own n f (t ∷ [])) (t ∷ []) (u ∷ []) result
-answers_it n f t u (Ok done) e k a = on_it n f t e ∙ (ap (among_named (t ∷ [])) a ∙ ap (λ (us : List TrackState). Ok (us, done)) (rw (k, eq-eqb t.number t.number refl) refl))
-answers_it n f t u (Err (Refused why)) e k a = (on_it n f t e ∙ ap (among_named (t ∷ [])) a.0, ap (λ (x : TrackState). x ∷ []) a.1)
-answers_it n f t u (Err Memory) e k a = ap (λ (x : TrackState). x ∷ []) a
-
-pub answers-only : (n : ℕ) (f : TrackState → Result (TrackState × Done) Refusal) (ts : List TrackState) (t u : TrackState) (result : Result Done EditFault) → IsOnly n ts t → u.number ≡ t.number
-    → Answers (f t) t u result → Answers (on_own n f ts) ts (set ts 0 u) result
-answers-only n f ts t u result o k a =
-    subst (λ (xs : List TrackState). Answers (on_own n f xs) xs (set xs 0 u) result) (sym o.all) (answers_it n f t u result o.number k a)
-
-pub holds-only : (P : TrackState → Type 0) (n : ℕ) (ts : List TrackState) (t : TrackState) → IsOnly n ts t → All P ts → P t
-holds-only P n ts t o h = subst (All P) o.all h 0 t (omega arith)
-
-all_it : (P : TrackState → Type 0) (u : TrackState) → P u → All P (u ∷ [])
-all_it P u h zero d lt = h
-all_it P u h (suc k) d lt = absurd (omega (arith, lt))
-
-pub all-only : (P : TrackState → Type 0) (n : ℕ) (ts : List TrackState) (t u : TrackState) → IsOnly n ts t → P u → All P (set ts 0 u)
-all-only P n ts t u o h = subst (λ (xs : List TrackState). All P (set xs 0 u)) (sym o.all) (all_it P u h)
-
-pub numbers-only : (n : ℕ) (ts : List TrackState) (t u : TrackState) → IsOnly n ts t → u.number ≡ t.number → map (λ (t : TrackState). t.number) (set ts 0 u) ≡ n ∷ []
-numbers-only n ts t u o k = subst (λ (xs : List TrackState). map (λ (t : TrackState). t.number) (set xs 0 u) ≡ n ∷ []) (sym o.all) (ap (λ (m : ℕ). m ∷ []) (k ∙ o.number))
-
-pub rises-only : (table : Table) (n : ℕ) (ts : List TrackState) (t u : TrackState) → IsOnly n ts t → StaysGood table t u → NextRises 1 ts (set ts 0 u)
-rises-only table n ts t u o s = subst (λ (xs : List TrackState). NextRises 1 xs (set xs 0 u)) (sym o.all) (s.number, s.item, s.link, tt)

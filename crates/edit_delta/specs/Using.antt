@@ -3,13 +3,10 @@ use Rattle.std.specs.Prelude.{◌≡◌, ℕ, zero, suc, ◌+◌, ◌≤◌, ◌
 use Rattle.edit_delta.specs.declared.deltas.Used.{Used}
 use Rattle.edit_delta.specs.declared.deltas.Way.{Way}
 use Rattle.edit_delta.specs.declared.deltas.Way.TheVariants.{Still, Later, Earlier}
-use Rattle.composables.specs.declared.media.Table.{Table}
 use Rattle.composables.specs.declared.refusals.Done.{Done}
 use Rattle.composables.specs.declared.refusals.Done.TheVariants.{By}
 use Rattle.composables.specs.declared.refusals.Refusal.{Refusal}
 use Rattle.composables.specs.declared.refusals.Refusal.TheVariants.{NoItem}
-use Rattle.composables.specs.Good.{AllUnlinked, IsGood}
-use Rattle.composables.specs.Items.{items_of}
 use Rattle.composables.specs.Limits.{track_within_limits}
 use Rattle.composables.specs.TrackState.{TrackState}
 
@@ -34,12 +31,3 @@ pub record IsUsed (d : ℤ) (u : Used) : Type 0 where
 abbrev pub on_range : {A : Type 0} → (ℕ → ℕ → Result A Refusal) → Option (ℕ × ℕ) → Result A Refusal
 on_range meant None = Err NoItem
 on_range meant (Some (x, y)) = meant x y
-
--- a track after an edit is good in the table and has its number; its next item number has risen by one at most, and
--- its next link number is as it was; without links it has none
-pub record StaysGood (table : Table) (old new : TrackState) : Type 0 where
-  pub good : IsGood table new
-  pub number : new.number ≡ old.number
-  pub item : new.next_item ≤ old.next_item + 1
-  pub link : new.next_link ≡ old.next_link
-  pub unlinked : AllUnlinked (items_of old.cells) → AllUnlinked (items_of new.cells)

@@ -6,8 +6,8 @@ ghost use Rattle.composables.specs.Items.{items_of};
 ghost use Rattle.composables.specs.Limits.{track_within_limits};
 ghost use Rattle.composables.specs.Roomy.{IsRoomy};
 ghost use Rattle.edit_splice.specs.Splicing.{spliced_track};
+ghost use Rattle.edit_splice.specs.Standing.{StaysGood};
 ghost use Rattle.edit_delta.specs.Parts.{AreParts};
-ghost use Rattle.edit_delta.specs.Using.{StaysGood};
 
 use composables::{Done, EditFault, ItemView, MAX_ITEMS, Refusal, Table, Track};
 use edit_splice::{count_after, splice};

@@ -4,7 +4,10 @@ use Rattle.edit_splice.specs.Splicing.{spliced_track}
 use Rattle.composables.specs.declared.TheConstants.{MAX_FRAMES}
 use Rattle.composables.specs.declared.refusals.Refusal.TheVariants.{TooManyItems}
 use Rattle.composables.specs.TrackState.{TrackState}
-use Rattle.edit_delta.proofs.Bounded.{below-more, parts-kept, stays-parts, stays-self, within-few, within-many}
+use Rattle.std.proofs.Common.{subst}
+use Rattle.edit_splice.specs.Standing.{StaysGood}
+use Rattle.edit_splice.proofs.Limits.{within-few, within-many}
+use Rattle.edit_delta.proofs.Bounded.{below-more, parts-kept, stays-spliced}
 use Rattle.edit_delta.proofs.placing.place_parts.Goals as goal
 
 pub count_after-requires-clause-numbers : goal.count_after-requires-clause-numbers
@@ -42,3 +45,11 @@ returns-in-Ok-clause-answers g c =
     (omega (arith, length-spliced_track c.args.track.now c.args.x c.args.y c.args.parts.now c.requires.parts.order c.requires.parts.within, c.requires.parts.short))
     (omega (arith, c.count_after.ensures.count, c.if-count_after-gt-MAX_ITEMS.false))
     ∙ ap (λ n. Ok (n, c.args.done)) (sym c.in-Ok.ensures.ok)
+
+pub returns-in-Ok-clause-good : goal.returns-in-Ok-clause-good
+returns-in-Ok-clause-good g c =
+    subst (StaysGood c.args.table.now c.args.track.now) (sym c.in-Ok.ensures.ok)
+    (stays-spliced c.args.table.now c.args.track.now c.args.x c.args.y c.args.parts.now c.requires.good c.requires.parts (record {
+      frames = omega (arith, length-spliced_track c.args.track.now c.args.x c.args.y c.args.parts.now c.requires.parts.order c.requires.parts.within, c.requires.parts.short);
+      items = omega (arith, c.count_after.ensures.count, c.if-count_after-gt-MAX_ITEMS.false);
+    }))
