@@ -68,17 +68,19 @@ earlier-means t f g F G n by u is e =
     used-earlier t f g d n way.0 way.1 ∙ ap (track_within_limits (g n)) (sym is.used.done)
 
 -- its frames
-pub later-most : (e l n : ℕ) (by : ℤ) (u : Used) → IsUsed (nearest (lies_within e l) by) u → u.way ≡ Later n → (0 < n) × (n ≤ l)
+pub later-most : (e l n : ℕ) (by : ℤ) (u : Used) → IsUsed (nearest (lies_within e l) (to_z w32 (of_z w32 by))) u → u.way ≡ Later n → (0 < n) × (n ≤ l)
 later-most e l n by u is w =
-    let d = nearest (lies_within e l) by in
+    let asked = to_z w32 (of_z w32 by) in
+    let d = nearest (lies_within e l) asked in
     let way : IsWayOf d (Later n) = way-is d u (Later n) is w in
-    (way.0, later-end e l n by d refl way.0 way.1)
+    (way.0, later-end e l n asked d refl way.0 way.1)
 
-pub earlier-most : (e l n : ℕ) (by : ℤ) (u : Used) → IsUsed (nearest (lies_within e l) by) u → u.way ≡ Earlier n → (0 < n) × (n ≤ e)
+pub earlier-most : (e l n : ℕ) (by : ℤ) (u : Used) → IsUsed (nearest (lies_within e l) (to_z w32 (of_z w32 by))) u → u.way ≡ Earlier n → (0 < n) × (n ≤ e)
 earlier-most e l n by u is w =
-    let d = nearest (lies_within e l) by in
+    let asked = to_z w32 (of_z w32 by) in
+    let d = nearest (lies_within e l) asked in
     let way : IsWayOf d (Earlier n) = way-is d u (Earlier n) is w in
-    (way.0, earlier-end e l n by d refl way.0 way.1)
+    (way.0, earlier-end e l n asked d refl way.0 way.1)
 
 -- two ends of which the nearer one holds
 both_le : (n a b : ℕ) → leb n a && leb n b ≡ leb n (min a b)
