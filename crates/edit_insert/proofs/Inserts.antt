@@ -16,20 +16,20 @@ use Rattle.composables.specs.Roomy.{IsRoomy}
 use Rattle.composables.specs.TrackFacts.{IsKept}
 use Rattle.composables.specs.TrackState.{TrackState}
 use Rattle.composables.specs.Views.{clip_view, gap_views}
-use Rattle.edit_insert.specs.declared.shifting.Shift.{Shift}
+use Rattle.edit_splice.specs.declared.shifting.Shift.{Shift}
 use Rattle.composables.specs.Answers.{unless}
 use Rattle.edit_insert.specs.Edits.{extract_named, extracted, for_range, insert_named, inserted}
 use Rattle.composables.specs.Limits.{within_limits}
-use Rattle.edit_insert.specs.Moves.{IsShiftOf, all_moved, put_views}
+use Rattle.edit_splice.specs.Moves.{IsShiftOf, all_moved, put_views}
 use Rattle.composables.specs.OwnTracks.{track_numbered, with_track}
-use Rattle.edit_insert.specs.PutIn.{new_views, padded_track}
+use Rattle.edit_splice.specs.Padding.{new_views, padded_track}
 use Rattle.edit_splice.specs.Shifts.{shift_of}
 use Rattle.edit_insert.specs.Sources.{source_refusal}
 use Rattle.composables.specs.TrackSets.{tracks_in}
-use Rattle.edit_insert.proofs.Bridging.{Rise, extract-moved, for-found, insert-moved, is-numbered, is-shift, only-one, put-shift, tracks-rise}
-use Rattle.edit_insert.proofs.Put.{Clip, PutIn, put-clip, put-only}
+use Rattle.edit_splice.proofs.Bridging.{Rise, extract-moved, for-found, insert-moved, is-numbered, is-shift, only-one, put-shift, tracks-rise}
+use Rattle.edit_splice.proofs.Put.{Clip, PutIn, put-clip, put-only}
 use Rattle.edit_insert.proofs.Removals.{range-within}
-use Rattle.edit_insert.proofs.Unlinked.{Bare, bare-numbered, bare-padded, shift-free}
+use Rattle.edit_splice.proofs.Unlinked.{Bare, bare-numbered, bare-padded, shift-free}
 
 abbrev pub no_track : TrackState
 no_track = record { number = 0; cells = []; next_item = 0; next_link = 0 }

@@ -1,17 +1,5 @@
-pub mod Padding
-pub mod Limits
-pub mod Put
-pub mod Standing
-pub mod Unlinked
-pub mod Moving
-pub mod OneTrack
 pub mod OverPlaces
-pub mod Places
 pub mod SourceRanges
 pub mod Removals
-pub mod Sizes
-pub mod Firsts
-pub mod PartMoved
-pub mod Bridging
 pub mod Inserts
 pub mod TestTracks

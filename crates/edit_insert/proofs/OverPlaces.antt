@@ -14,10 +14,10 @@ use Rattle.edit_splice.proofs.Outcomes.{length-spliced_track}
 use Rattle.composables.specs.Answers.{unless}
 use Rattle.edit_insert.specs.Edits.{overwrite_track, overwritten}
 use Rattle.composables.specs.Limits.{track_within_limits}
-use Rattle.edit_insert.specs.PutIn.{new_views}
+use Rattle.edit_splice.specs.Padding.{new_views}
 use Rattle.edit_insert.specs.Sources.{source_refusal}
-use Rattle.edit_insert.proofs.Moving.{frames-put}
-use Rattle.edit_insert.proofs.Padding.{padded-put}
+use Rattle.edit_splice.proofs.Moving.{frames-put}
+use Rattle.edit_splice.proofs.Padding.{padded-put}
 
 pub over-put : (t : TrackState) (at : ℕ) (what : What) (from len : ℕ) → IsKept t
     → overwritten t at what from len ≡ spliced_track t (min at (length t.cells)) (min (at + len) (length t.cells)) (gap_views (at - length t.cells) ++ new_views (Some (clip_view t.next_item what from len)))

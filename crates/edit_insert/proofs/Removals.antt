@@ -22,9 +22,9 @@ use Rattle.edit_splice.specs.Splicing.{spliced_track}
 use Rattle.composables.specs.Answers.{Answers}
 use Rattle.edit_insert.specs.Edits.{for_range, remove_track, slice_track}
 use Rattle.composables.specs.Limits.{track_within_limits}
-use Rattle.edit_insert.specs.Standing.{StaysGood}
-use Rattle.edit_insert.proofs.Put.{put-gap}
-use Rattle.edit_insert.proofs.Standing.{stays-placed, stays-refused}
+use Rattle.edit_splice.specs.Standing.{StaysGood}
+use Rattle.edit_splice.proofs.Put.{put-gap}
+use Rattle.edit_splice.proofs.Standing.{stays-placed, stays-refused}
 
 first_of : Option (ℕ × ℕ) → ℕ
 first_of None = 0

@@ -8,7 +8,7 @@ use Rattle.composables.specs.declared.refusals.Refusal.TheVariants.{EmptyRange, 
 use Rattle.composables.specs.Bounds.{bounds_of}
 use Rattle.composables.specs.Good.{LiesIn}
 use Rattle.edit_insert.specs.Sources.{refusal_in, source_refusal, suits}
-use Rattle.edit_insert.proofs.Put.{Clip}
+use Rattle.edit_splice.proofs.Put.{Clip}
 
 lies : (o : Option (ℕ × ℕ)) (fits : Bool) (from len : ℕ) → refusal_in o fits from len ≡ None → LiesIn o from len 0 0
 lies None fits from len e = absurd (Prim.grind (arith, e))

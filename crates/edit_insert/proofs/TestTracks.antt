@@ -9,7 +9,7 @@ use Rattle.composables.specs.Good.{IsGood}
 use Rattle.composables.specs.Roomy.{IsRoomy}
 use Rattle.composables.specs.TrackState.{TrackState}
 use Rattle.composables.specs.TrackSets.{tracks_in}
-use Rattle.edit_insert.proofs.Standing.{all_none}
+use Rattle.edit_splice.proofs.Standing.{all_none}
 
 abbrev pub empty_track : ℕ → TrackState
 empty_track n = record { number = n; cells = []; next_item = 0; next_link = 0 }

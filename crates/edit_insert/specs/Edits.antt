@@ -22,7 +22,7 @@ use Rattle.composables.specs.Ranges.{range_of}
 use Rattle.edit_splice.specs.Shifts.{shift_of}
 use Rattle.edit_insert.specs.Sources.{source_refusal}
 use Rattle.composables.specs.Views.{clip_view, gap_views}
-use Rattle.edit_insert.specs.PutIn.{padded_track}
+use Rattle.edit_splice.specs.Padding.{padded_track}
 
 -- the track with a new item over the places [at, at + len), cut to its length
 abbrev pub overwritten : TrackState → ℕ → What → ℕ → ℕ → TrackState

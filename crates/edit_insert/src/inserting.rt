@@ -9,12 +9,12 @@ ghost use Rattle.composables.specs.TrackState.{TrackState};
 ghost use Rattle.composables.specs.Answers.{Answers, NextRises};
 ghost use Rattle.edit_insert.specs.Edits.{extract_named, insert_named};
 ghost use Rattle.composables.specs.OwnTracks.{track_numbered};
-ghost use Rattle.edit_insert.specs.Standing.{EachStaysGood};
+ghost use Rattle.edit_splice.specs.Standing.{EachStaysGood};
 ghost use Rattle.composables.specs.TrackSets.{tracks_in};
 
-use crate::shifting::{Shift, shift_tracks};
 use crate::sources::source_refusal;
 use composables::{Done, EditFault, Extract, Insert, ItemView, Refusal, Table, Track, own_index};
+use edit_splice::{Shift, shift_tracks};
 use std::alloc::Global;
 use std::sync::ledger::Ledger;
 use step_count::Steps;

@@ -4,18 +4,14 @@
 //! cells; after a refusal, and for want of memory, all tracks are as they were.
 #![tactic(auto)]
 
-mod few;
 mod inserting;
 mod overwriting;
-mod placing;
 mod removing;
-mod shifting;
 mod sources;
 
 pub use inserting::{extract, insert};
 pub use overwriting::overwrite;
 pub use removing::{remove, slice};
-pub use shifting::{Shift, shift_tracks};
 
 #[cfg(test)]
 mod tests;

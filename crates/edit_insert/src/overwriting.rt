@@ -6,12 +6,11 @@ ghost use Rattle.composables.specs.Roomy.{IsRoomy};
 ghost use Rattle.composables.specs.TrackState.{TrackState};
 ghost use Rattle.composables.specs.Answers.{Answers, NextRises};
 ghost use Rattle.edit_insert.specs.Edits.{overwrite_named, overwrite_track};
-ghost use Rattle.edit_insert.specs.Standing.{StaysGood};
+ghost use Rattle.edit_splice.specs.Standing.{StaysGood};
 
-use crate::few::Few;
-use crate::placing::place;
 use crate::sources::source_refusal;
 use composables::{Done, EditFault, ItemView, MAX_FRAMES, Overwrite, Refusal, Table, Track};
+use edit_splice::{Few, place};
 use std::alloc::Global;
 use std::sync::ledger::Ledger;
 use step_count::Steps;

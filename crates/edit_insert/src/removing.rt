@@ -8,9 +8,8 @@ ghost use Rattle.composables.specs.TrackState.{TrackState};
 ghost use Rattle.composables.specs.Answers.{Answers, NextRises};
 ghost use Rattle.edit_insert.specs.Edits.{remove_named, remove_track, slice_named, slice_track};
 
-use crate::few::Few;
-use crate::placing::place;
 use composables::{Done, EditFault, MAX_FRAMES, Refusal, Remove, Slice, Table, Track};
+use edit_splice::{Few, place};
 use std::alloc::Global;
 use std::sync::ledger::Ledger;
 use step_count::Steps;

@@ -5,3 +5,6 @@ pub mod PutIn
 pub mod Laws
 pub mod Counting
 pub mod Shifts
+pub mod Padding
+pub mod Moves
+pub mod Standing

@@ -4,20 +4,29 @@
 //! number that goes with them; for want of memory it is as it was. `splice_in` does the same in memory that was taken
 //! before, so that several tracks are spliced whole or not at all, and `count_after` tells beforehand how many items
 //! and gaps there will be. They work on the few items at the two ends of the range. The laws say what may be put in.
+//!
+//! Edits stand on `place`, a splice of one track within its limits, and on `shift_tracks`, a splice of several tracks by
+//! which what is behind it moves on each: it changes all of them or none.
 #![tactic(auto)]
 
 mod counting;
+mod few;
 mod laws;
 mod parts;
+mod placing;
 mod seams;
+mod shifting;
 mod splicing;
 
 pub use counting::count_after;
+pub use few::Few;
 pub use laws::{
     a_good_track_stays_good, a_good_track_takes_parts, a_place_lies_in_one_footprint_at_most,
     a_spliced_track_is_as_long_as_its_parts, an_unlinked_track_stays_unlinked,
     each_cell_has_its_place, new_items_may_be_put_in, next_numbers_rise_by_the_new_items,
 };
+pub use placing::place;
+pub use shifting::{Shift, shift_tracks};
 pub use splicing::{spare_for, splice, splice_in};
 
 #[cfg(test)]

@@ -5,11 +5,11 @@ use Rattle.composables.specs.declared.refusals.Refusal.{Refusal}
 use Rattle.composables.specs.Good.{IsGood}
 use Rattle.composables.specs.TrackState.{TrackState}
 use Rattle.composables.specs.Answers.{Answers}
-use Rattle.edit_insert.proofs.Bridging.{each-shift}
+use Rattle.edit_splice.proofs.Bridging.{each-shift}
 use Rattle.edit_insert.proofs.Inserts.{all-shifts, extract-found, extract-missing, extract-put, is-own, own-here, shift_out}
-use Rattle.edit_insert.proofs.Places.{place-order}
-use Rattle.edit_insert.proofs.Standing.{each-self}
-use Rattle.edit_insert.proofs.Unlinked.{bare-good}
+use Rattle.edit_splice.proofs.Places.{place-order}
+use Rattle.edit_splice.proofs.Standing.{each-self}
+use Rattle.edit_splice.proofs.Unlinked.{bare-good}
 use Rattle.edit_insert.proofs.inserting.extract_at.Goals as goal
 
 pub returns-in-Some-clause-answers : goal.returns-in-Some-clause-answers

@@ -5,11 +5,11 @@ use Rattle.composables.specs.declared.refusals.Refusal.{Refusal}
 use Rattle.composables.specs.Good.{IsGood}
 use Rattle.composables.specs.TrackState.{TrackState}
 use Rattle.composables.specs.Answers.{Answers}
-use Rattle.edit_insert.proofs.Bridging.{each-shift}
+use Rattle.edit_splice.proofs.Bridging.{each-shift}
 use Rattle.edit_insert.proofs.Inserts.{all-shifts, insert-allowed, insert-put, insert-refused, is-own, no_track, own-here, own-there, shift_at}
 use Rattle.edit_insert.proofs.SourceRanges.{source-clip}
-use Rattle.edit_insert.proofs.Standing.{each-self}
-use Rattle.edit_insert.proofs.Unlinked.{bare-good}
+use Rattle.edit_splice.proofs.Standing.{each-self}
+use Rattle.edit_splice.proofs.Unlinked.{bare-good}
 use Rattle.edit_insert.proofs.inserting.insert_at.Goals as goal
 
 pub returns-clause-answers : goal.returns-clause-answers

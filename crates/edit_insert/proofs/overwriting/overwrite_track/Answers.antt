@@ -8,13 +8,13 @@ use Rattle.composables.specs.TrackState.{TrackState}
 use Rattle.composables.specs.Views.{gap_views}
 use Rattle.composables.specs.Answers.{Answers}
 use Rattle.edit_insert.specs.Edits.{overwritten}
-use Rattle.edit_insert.specs.PutIn.{new_views}
+use Rattle.edit_splice.specs.Padding.{new_views}
 use Rattle.edit_insert.specs.Sources.{source_refusal}
-use Rattle.edit_insert.proofs.Limits.{within-long}
+use Rattle.edit_splice.proofs.Limits.{within-long}
 use Rattle.edit_insert.proofs.OverPlaces.{items-told, over-length, over-allowed, over-parts}
-use Rattle.edit_insert.proofs.Put.{PutIn, put-clip}
+use Rattle.edit_splice.proofs.Put.{PutIn, put-clip}
 use Rattle.edit_insert.proofs.SourceRanges.{source-clip}
-use Rattle.edit_insert.proofs.Standing.{stays-placed, stays-self}
+use Rattle.edit_splice.proofs.Standing.{stays-placed, stays-self}
 use Rattle.edit_insert.proofs.overwriting.overwrite_track.Goals as goal
 
 pub returns-then-from-clause-answers : goal.returns-then-from-clause-answers

@@ -1,7 +1,7 @@
 use Rattle.std.proofs.Common.{◌-◌, ap, ◌∙◌, arith, None}
 use Rattle.composables.specs.Joined.{frames_in}
-use Rattle.edit_insert.proofs.Moving.{frames-put}
-use Rattle.edit_insert.proofs.Places.{place-order, place-within}
+use Rattle.edit_splice.proofs.Moving.{frames-put}
+use Rattle.edit_splice.proofs.Places.{place-order, place-within}
 use Rattle.edit_insert.proofs.removing.remove_track.Goals as goal
 
 pub overflow_sub-found : goal.overflow_sub-found

@@ -1,4 +1,4 @@
-use Rattle.edit_splice.proofs.Placing.{good-parts, new-parts}
+use Rattle.edit_splice.proofs.Allowed.{good-parts, new-parts}
 use Rattle.edit_splice.proofs.laws.a_good_track_takes_parts.Goals as goal
 
 pub returns-clause-parts : goal.returns-clause-parts

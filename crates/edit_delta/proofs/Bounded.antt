@@ -1,0 +1,45 @@
+-- What an edit that splices one track leaves of the facts on it.
+use Rattle.std.proofs.Common.{◌≡◌, ℕ, suc, ◌+◌, ◌-◌, ◌<◌, ◌≤◌, Bool, true, false, cond, ltb, List, [], ◌∷◌, length, Option, Some, None, IfSome, Result, Ok, Err, refl, sym, ap, ◌∙◌, arith, subst}
+use Rattle.std.proofs.lemmas.Bool.{ltb-false, le-ltb, lt-ltb}
+use Rattle.composables.specs.declared.items.ItemView.{ItemView}
+use Rattle.composables.specs.declared.media.Table.{Table}
+use Rattle.composables.specs.declared.refusals.Done.{Done}
+use Rattle.composables.specs.declared.refusals.EditFault.{EditFault}
+use Rattle.composables.specs.declared.refusals.EditFault.TheVariants.{Refused, Memory}
+use Rattle.composables.specs.declared.refusals.Refusal.{Refusal}
+use Rattle.composables.specs.declared.refusals.Refusal.TheVariants.{TooLong, TooManyItems}
+use Rattle.composables.specs.declared.TheConstants.{MAX_FRAMES, MAX_ITEMS}
+use Rattle.composables.specs.Answers.{Answers, unless}
+use Rattle.composables.specs.Good.{AllUnlinked, IsGood}
+use Rattle.composables.specs.Items.{items_of}
+use Rattle.composables.specs.Limits.{track_within_limits}
+use Rattle.composables.specs.TrackFacts.{IsKept, NumbersBelow}
+use Rattle.composables.specs.TrackState.{TrackState}
+use Rattle.edit_splice.specs.Standing.{StaysGood}
+use Rattle.edit_splice.specs.Laws.{IsWithinLimits}
+use Rattle.edit_delta.specs.Parts.{AreParts}
+use Rattle.edit_splice.specs.Splicing.{spliced_track}
+use Rattle.edit_splice.proofs.Outcomes.{next-bounds, unlinked-spliced}
+use Rattle.edit_splice.proofs.Allowed.{good-parts}
+
+if_more : (o : Option ℕ) (n m : ℕ) → n ≤ m → IfSome o (λ i. i < n) → IfSome o (λ i. i < m)
+if_more None n m le h = tt
+if_more (Some i) n m le h = omega (arith, le, h)
+
+pub below-more : (n m : ℕ) (vs : List ItemView) → n ≤ m → NumbersBelow n vs → NumbersBelow m vs
+below-more n m [] le h = tt
+below-more n m (v ∷ vs) le h = (if_more v.item n m le h.0, below-more n m vs le h.1)
+
+pub parts-kept : (table : Table) (t : TrackState) (x y : ℕ) (views : List ItemView) → IsGood table t → AreParts table t x y views → IsWithinLimits (spliced_track t x y views) → IsKept (spliced_track t x y views)
+parts-kept table t x y views g f limits = (good-parts table t x y views g f.order f.within f.may limits).kept
+
+pub stays-spliced : (table : Table) (t : TrackState) (x y : ℕ) (views : List ItemView) → IsGood table t → AreParts table t x y views → IsWithinLimits (spliced_track t x y views) → StaysGood table t (spliced_track t x y views)
+stays-spliced table t x y views g f limits =
+    let next : (spliced_track t x y views).next_item ≤ t.next_item + 0 + 1 = (next-bounds t x y 0 views (below-more t.next_item (t.next_item + 0) views (omega arith) f.numbers)).1 in
+    record {
+      good = good-parts table t x y views g f.order f.within f.may limits;
+      number = refl;
+      item = omega (arith, next);
+      link = refl;
+      unlinked = λ u. unlinked-spliced t x y views g.kept u (f.unlinked u);
+    }

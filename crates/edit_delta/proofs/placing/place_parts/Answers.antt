@@ -1,0 +1,55 @@
+use Rattle.std.proofs.Common.{◌≡◌, ◌+◌, ◌*◌, ◌-◌, ◌<◌, ◌≤◌, length, ap, sym, ◌∙◌, arith, refl, Ok, Err, ℕ}
+use Rattle.edit_splice.proofs.Outcomes.{length-spliced_track}
+use Rattle.edit_splice.specs.Splicing.{spliced_track}
+use Rattle.composables.specs.declared.TheConstants.{MAX_FRAMES}
+use Rattle.composables.specs.declared.refusals.Refusal.TheVariants.{TooManyItems}
+use Rattle.composables.specs.TrackState.{TrackState}
+use Rattle.std.proofs.Common.{subst}
+use Rattle.edit_splice.specs.Standing.{StaysGood}
+use Rattle.edit_splice.proofs.Limits.{within-few, within-many}
+use Rattle.edit_delta.proofs.Bounded.{below-more, parts-kept, stays-spliced}
+use Rattle.edit_delta.proofs.placing.place_parts.Goals as goal
+
+pub count_after-requires-clause-numbers : goal.count_after-requires-clause-numbers
+count_after-requires-clause-numbers g c = below-more c.args.track.now.next_item 4294967295 c.args.parts.now (omega (arith, c.requires.roomy.item)) c.requires.parts.numbers
+
+pub count_after-requires-clause-short : goal.count_after-requires-clause-short
+count_after-requires-clause-short g c =
+    omega (arith, length-spliced_track c.args.track.now c.args.x c.args.y c.args.parts.now c.requires.parts.order c.requires.parts.within, c.requires.parts.short)
+
+pub returns-then-count_after-gt-MAX_ITEMS-clause-answers :
+    goal.returns-then-count_after-gt-MAX_ITEMS-clause-answers
+returns-then-count_after-gt-MAX_ITEMS-clause-answers g c =
+    let u : TrackState = spliced_track c.args.track.now c.args.x c.args.y c.args.parts.now in (
+      within-many u c.args.done
+          (omega (arith, length-spliced_track c.args.track.now c.args.x c.args.y c.args.parts.now c.requires.parts.order c.requires.parts.within, c.requires.parts.short))
+          (omega (arith, c.count_after.ensures.count, c.if-count_after-gt-MAX_ITEMS.true))
+          ∙ ap (λ n. Err (TooManyItems n)) (sym c.number.ensures),
+      refl,
+    )
+
+pub splice-requires-clause-numbers : goal.splice-requires-clause-numbers
+splice-requires-clause-numbers g c = below-more c.args.track.now.next_item 4294967294 c.args.parts.now (omega (arith, c.requires.roomy.item)) c.requires.parts.numbers
+
+pub splice-requires-clause-kept : goal.splice-requires-clause-kept
+splice-requires-clause-kept g c =
+    parts-kept c.args.table.now c.args.track.now c.args.x c.args.y c.args.parts.now c.requires.good c.requires.parts (record {
+      frames = omega (arith, length-spliced_track c.args.track.now c.args.x c.args.y c.args.parts.now c.requires.parts.order c.requires.parts.within, c.requires.parts.short);
+      items = omega (arith, c.count_after.ensures.count, c.if-count_after-gt-MAX_ITEMS.false);
+    })
+
+pub returns-in-Ok-clause-answers : goal.returns-in-Ok-clause-answers
+returns-in-Ok-clause-answers g c =
+    let u : TrackState = spliced_track c.args.track.now c.args.x c.args.y c.args.parts.now in
+    within-few u c.args.done
+    (omega (arith, length-spliced_track c.args.track.now c.args.x c.args.y c.args.parts.now c.requires.parts.order c.requires.parts.within, c.requires.parts.short))
+    (omega (arith, c.count_after.ensures.count, c.if-count_after-gt-MAX_ITEMS.false))
+    ∙ ap (λ n. Ok (n, c.args.done)) (sym c.in-Ok.ensures.ok)
+
+pub returns-in-Ok-clause-good : goal.returns-in-Ok-clause-good
+returns-in-Ok-clause-good g c =
+    subst (StaysGood c.args.table.now c.args.track.now) (sym c.in-Ok.ensures.ok)
+    (stays-spliced c.args.table.now c.args.track.now c.args.x c.args.y c.args.parts.now c.requires.good c.requires.parts (record {
+      frames = omega (arith, length-spliced_track c.args.track.now c.args.x c.args.y c.args.parts.now c.requires.parts.order c.requires.parts.within, c.requires.parts.short);
+      items = omega (arith, c.count_after.ensures.count, c.if-count_after-gt-MAX_ITEMS.false);
+    }))

@@ -1,0 +1,4 @@
+pub mod Nearest
+pub mod Reaching
+pub mod Using
+pub mod Parts

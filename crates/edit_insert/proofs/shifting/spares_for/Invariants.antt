@@ -1,6 +1,0 @@
-use Rattle.std.proofs.Common.{take}
-use Rattle.edit_insert.specs.Moves.{HasRooms}
-use Rattle.edit_insert.proofs.shifting.spares_for.Given as goal
-
-abbrev pub invariant-loop-track : goal.invariant-loop-track
-invariant-loop-track l = HasRooms l.spares.items (take l.track-index l.named)

@@ -1,0 +1,36 @@
+use Rattle.std.proofs.Common.{ap, sym, ◌∙◌, arith, refl, Ok, Err}
+use Rattle.edit_splice.proofs.Keeping.{kept_spliced}
+use Rattle.edit_splice.proofs.Outcomes.{length-spliced_track}
+use Rattle.edit_splice.specs.Splicing.{spliced_track}
+use Rattle.composables.specs.declared.refusals.Refusal.TheVariants.{TooManyItems}
+use Rattle.composables.specs.TrackState.{TrackState}
+use Rattle.edit_splice.proofs.Limits.{within-few, within-many}
+use Rattle.edit_splice.proofs.placing.place.Goals as goal
+
+pub count_after-requires-clause-short : goal.count_after-requires-clause-short
+count_after-requires-clause-short g c =
+    omega (arith, length-spliced_track c.args.track.now c.args.x c.args.y c.args.items.now c.requires.order c.requires.within, c.requires.short)
+
+pub returns-then-count_after-gt-MAX_ITEMS-clause-answers :
+    goal.returns-then-count_after-gt-MAX_ITEMS-clause-answers
+returns-then-count_after-gt-MAX_ITEMS-clause-answers g c =
+    let u : TrackState = spliced_track c.args.track.now c.args.x c.args.y c.args.items.now in (
+      within-many u c.args.done
+          (omega (arith, length-spliced_track c.args.track.now c.args.x c.args.y c.args.items.now c.requires.order c.requires.within, c.requires.short))
+          (omega (arith, c.count_after.ensures.count, c.if-count_after-gt-MAX_ITEMS.true))
+          ∙ ap (λ n. Err (TooManyItems n)) (sym c.number.ensures),
+      refl,
+    )
+
+pub splice-requires-clause-kept : goal.splice-requires-clause-kept
+splice-requires-clause-kept g c =
+    kept_spliced c.args.track.now c.args.x c.args.y c.args.items.now c.requires.kept c.requires.order c.requires.within c.requires.new
+    (omega (arith, c.requires.frames, c.requires.short, c.requires.order, c.requires.within))
+
+pub returns-in-Ok-clause-answers : goal.returns-in-Ok-clause-answers
+returns-in-Ok-clause-answers g c =
+    let u : TrackState = spliced_track c.args.track.now c.args.x c.args.y c.args.items.now in
+    within-few u c.args.done
+    (omega (arith, length-spliced_track c.args.track.now c.args.x c.args.y c.args.items.now c.requires.order c.requires.within, c.requires.short))
+    (omega (arith, c.count_after.ensures.count, c.if-count_after-gt-MAX_ITEMS.false))
+    ∙ ap (λ n. Ok (n, c.args.done)) (sym c.in-Ok.ensures.ok)

@@ -1,0 +1,51 @@
+// Items in place of a range of one track, within its limits.
+ghost use Rattle.std.specs.Prelude.{◌≡◌, ◌+◌, ◌*◌, ◌-◌, ◌<◌, ◌≤◌, length};
+ghost use Rattle.composables.specs.Items.{items_of};
+ghost use Rattle.composables.specs.Joined.{frames_in};
+ghost use Rattle.composables.specs.Roomy.{IsRoomy};
+ghost use Rattle.composables.specs.TrackFacts.{IsKept, NumbersBelow};
+ghost use Rattle.edit_splice.specs.NewItems.{AreNew};
+ghost use Rattle.edit_splice.specs.Splicing.{spliced_track};
+ghost use Rattle.composables.specs.Answers.{Answers};
+ghost use Rattle.composables.specs.Limits.{track_within_limits};
+
+use crate::counting::count_after;
+use crate::splicing::splice;
+use composables::{Done, EditFault, ItemView, MAX_FRAMES, MAX_ITEMS, Refusal, Track};
+use std::alloc::Global;
+use std::sync::ledger::Ledger;
+use step_count::Steps;
+
+/// Puts at most two new items and gaps in place of the record frames [x, y) of a track, which is not too long with them.
+/// It answers `done`, or `TooManyItems` where the track would have too many items and gaps; then, and for want of memory,
+/// the track is as it was.
+pub fn place<L: Ledger>(
+    alloc: Global,
+    track: &mut Track,
+    x: u32,
+    y: u32,
+    items: &[ItemView],
+    done: Done,
+    steps: &mut Steps<L>,
+) -> Result<Done, EditFault>
+    requires order { x ≤ y }
+    requires within { y ≤ length track.old.cells }
+    requires kept { IsKept track.old }
+    requires roomy { IsRoomy track.old }
+    requires frames { length track.old.cells ≤ MAX_FRAMES }
+    requires few { length items.now ≤ 2 }
+    requires new { AreNew track.old.next_item items.now }
+    requires numbers { NumbersBelow (track.old.next_item + 1) items.now }
+    requires short { x + frames_in items.now + (length track.old.cells - y) ≤ MAX_FRAMES }
+    ensures answers { Answers (track_within_limits (spliced_track track.old x y items.now) done) track.old track.new result }
+    ensures least { steps.old ≤ steps.new }
+    ensures most { steps.new ≤ steps.old + 16 * (length (items_of track.old.cells) + 64) }
+{
+    if count_after(track, x, y, items, steps) > MAX_ITEMS {
+        return Err(EditFault::Refused(Refusal::TooManyItems(track.number())));
+    }
+    match splice(alloc, track, x, y, items, steps) {
+        Ok(()) => Ok(done),
+        Err(_) => Err(EditFault::Memory),
+    }
+}

@@ -1,0 +1,203 @@
+// A shift of several tracks: something new in place of their places [x, y), by which what is behind them moves.
+ghost use Rattle.std.specs.Prelude.{◌≡◌, ◌+◌, ◌*◌, ◌-◌, ◌<◌, ◌≤◌, All, IfOk, length, option_map, sum_by};
+ghost use Rattle.composables.specs.declared.refusals.Refusal.TheVariants.{TooLong, TooManyItems};
+ghost use Rattle.composables.specs.Items.{items_of};
+ghost use Rattle.edit_splice.specs.Splicing.{HasRoom};
+ghost use Rattle.composables.specs.Answers.{Answers};
+ghost use Rattle.composables.specs.Limits.{too_long, too_many, within_limits};
+ghost use Rattle.edit_splice.specs.Padding.{new_len};
+ghost use Rattle.edit_splice.specs.Moves.{HasRooms, IsShiftOf, all_moved, moved, put_views};
+
+use crate::counting::count_after;
+use crate::few::Few;
+use crate::splicing::{spare_for, splice_in};
+use composables::{
+    Done, EditFault, ItemView, MAX_FRAMES, MAX_ITEMS, Memory, Refusal, Spare, Track,
+};
+use std::alloc::Global;
+use std::sync::ledger::Ledger;
+use step_count::Steps;
+
+/// What is put in place of the record frames [x, y): `new` on the track `own`, which grows by dark frames up to x where
+/// it is shorter; on each other track, as far as it has these places, as many dark frames as `new` has.
+#[derive(Clone, Copy)]
+pub struct Shift {
+    pub own: u32,
+    pub x: u32,
+    pub y: u32,
+    pub new: Option<ItemView>,
+}
+
+/// Shifts all these tracks, or none: the first that would be too long, and else the first that would have too many
+/// items and gaps, is told, and want of memory, before any of them is changed.
+pub fn shift_tracks<L: Ledger>(
+    alloc: Global,
+    named: &mut Vec<Track>,
+    shift: &Shift,
+    done: Done,
+    steps: &mut Steps<L>,
+) -> Result<Done, EditFault>
+    requires order { shift.now.x ≤ shift.now.y }
+    requires fits { All (λ t. IsShiftOf shift.now t) named.old.items }
+    ensures answers { Answers (within_limits (all_moved shift.now named.old.items) done) named.old.items named.new.items result }
+    ensures least { steps.old ≤ steps.new }
+    ensures most { steps.new ≤ steps.old + 16 * sum_by (λ t. length (items_of t.cells) + 64) named.old.items }
+{
+    match first_too_long(named, shift) {
+        Some(track) => return Err(EditFault::Refused(Refusal::TooLong(track))),
+        None => {}
+    }
+    match first_too_many(named, shift, steps) {
+        Some(track) => return Err(EditFault::Refused(Refusal::TooManyItems(track))),
+        None => {}
+    }
+    match spares_for(alloc, named) {
+        Ok(spares) => {
+            shift_all(named, shift, spares, steps);
+            Ok(done)
+        }
+        Err(_) => Err(EditFault::Memory),
+    }
+}
+
+fn first_too_long(named: &[Track], shift: &Shift) -> Option<u32>
+    requires order { shift.now.x ≤ shift.now.y }
+    ensures { too_long (all_moved shift.now named.now) ≡ option_map TooLong result }
+{
+    for track in named {
+        if length_after(track, shift) > u64::from(MAX_FRAMES) {
+            return Some(track.number());
+        }
+    }
+    None
+}
+
+// The length of a track after the shift.
+fn length_after(track: &Track, shift: &Shift) -> u64
+    requires order { shift.now.x ≤ shift.now.y }
+    ensures { result ≡ length (moved shift.now track.now).cells }
+{
+    let length = track.length();
+    let stays = u64::from(shift.x.min(length)) + u64::from(length - shift.y.min(length));
+    if track.number() == shift.own {
+        stays + u64::from(shift.x.saturating_sub(length)) + u64::from(len_of(shift.new))
+    } else if shift.x < length {
+        stays + u64::from(len_of(shift.new))
+    } else {
+        stays
+    }
+}
+
+fn len_of(new: Option<ItemView>) -> u32
+    ensures { result ≡ new_len new }
+{
+    match new {
+        Some(view) => view.len,
+        None => 0,
+    }
+}
+
+// What is put into a track.
+fn put_views(track: &Track, shift: &Shift) -> Few
+    ensures { result ≡ put_views shift.now track.now }
+{
+    let length = track.length();
+    if track.number() == shift.own {
+        Few::of(shift.x.saturating_sub(length), shift.new)
+    } else if shift.x < length {
+        Few::of(len_of(shift.new), None)
+    } else {
+        Few::of(0, None)
+    }
+}
+
+fn first_too_many<L: Ledger>(named: &[Track], shift: &Shift, steps: &mut Steps<L>) -> Option<u32>
+    requires order { shift.now.x ≤ shift.now.y }
+    requires fits { All (λ t. IsShiftOf shift.now t) named.now }
+    requires short { All (λ t. length (moved shift.now t).cells ≤ MAX_FRAMES) named.now }
+    ensures found { too_many (all_moved shift.now named.now) ≡ option_map TooManyItems result }
+    ensures least { steps.old ≤ steps.new }
+    ensures most { steps.new ≤ steps.old + 6 * sum_by (λ t. length (items_of t.cells) + 64) named.now }
+{
+    for track in named {
+        if items_after(track, shift, steps) > MAX_ITEMS {
+            return Some(track.number());
+        }
+    }
+    None
+}
+
+// How many items and gaps a track has after the shift.
+fn items_after<L: Ledger>(track: &Track, shift: &Shift, steps: &mut Steps<L>) -> u32
+    requires order { shift.now.x ≤ shift.now.y }
+    requires fits { IsShiftOf shift.now track.now }
+    requires short { length (moved shift.now track.now).cells ≤ MAX_FRAMES }
+    ensures count { result ≡ length (items_of (moved shift.now track.now).cells) }
+    ensures least { steps.old ≤ steps.new }
+    ensures most { steps.new ≤ steps.old + 6 * (length (items_of track.now.cells) + 64) }
+{
+    let length = track.length();
+    let views = put_views(track, shift);
+    count_after(
+        track,
+        shift.x.min(length),
+        shift.y.min(length),
+        views.as_slice(),
+        steps,
+    )
+}
+
+// Memory for each track, to splice two items or gaps into it.
+fn spares_for(alloc: Global, named: &[Track]) -> Result<Vec<Spare>, Memory>
+    ensures { IfOk result (λ spares. HasRooms spares.items named.now) }
+{
+    let mut spares = Vec::new(alloc);
+    for track in named {
+        let spare = spare_for(alloc, track, 2)?;
+        spares.push(spare)?;
+    }
+    Ok(spares)
+}
+
+// Shifts each track in its memory, the last first.
+fn shift_all<L: Ledger>(
+    named: &mut Vec<Track>,
+    shift: &Shift,
+    spares: Vec<Spare>,
+    steps: &mut Steps<L>,
+)
+    requires order { shift.now.x ≤ shift.now.y }
+    requires fits { All (λ t. IsShiftOf shift.now t) named.old.items }
+    requires short { All (λ t. length (moved shift.now t).cells ≤ MAX_FRAMES) named.old.items }
+    requires rooms { HasRooms spares.items named.old.items }
+    ensures moved { named.new.items ≡ all_moved shift.now named.old.items }
+    ensures least { steps.old ≤ steps.new }
+    ensures most { steps.new ≤ steps.old + 8 * sum_by (λ t. length (items_of t.cells) + 64) named.old.items }
+{
+    let mut spares = spares;
+    while let Some(spare) = spares.pop() {
+        let index = spares.len();
+        shift_track(&mut named[index], shift, spare, steps);
+    }
+}
+
+fn shift_track<L: Ledger>(track: &mut Track, shift: &Shift, spare: Spare, steps: &mut Steps<L>)
+    requires order { shift.now.x ≤ shift.now.y }
+    requires fits { IsShiftOf shift.now track.old }
+    requires short { length (moved shift.now track.old).cells ≤ MAX_FRAMES }
+    requires room { HasRoom spare track.old 2 }
+    ensures moved { track.new ≡ moved shift.now track.old }
+    ensures least { steps.old ≤ steps.new }
+    ensures most { steps.new ≤ steps.old + 8 * (length (items_of track.old.cells) + 64) }
+{
+    let length = track.length();
+    let views = put_views(track, shift);
+    splice_in(
+        track,
+        shift.x.min(length),
+        shift.y.min(length),
+        views.as_slice(),
+        spare,
+        steps,
+    );
+}

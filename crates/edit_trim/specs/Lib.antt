@@ -1,0 +1,2 @@
+pub mod Darkness
+pub mod Trimming

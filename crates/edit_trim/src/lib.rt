@@ -1,0 +1,14 @@
+//! The edits that move an end of an item, or its source frames, and leave all other items where they are.
+//!
+//! The main contract is that each call leaves on its tracks, and answers, exactly what its meaning says as a list of
+//! cells, by the delta that is used: the nearest to the one asked for of those that its limits allow. After a refusal,
+//! and for want of memory, all tracks are as they were.
+#![tactic(auto)]
+
+mod darkness;
+mod trimming;
+
+pub use trimming::trim;
+
+#[cfg(test)]
+mod tests;

@@ -1,0 +1,1 @@
+// Trims of small tracks.
