@@ -1,5 +1,5 @@
 -- How the frames of a sequence are numbered, after SMPTE ST 12-1.
-use Rattle.std.specs.Prelude.{ℕ, Bool}
+use Rattle.std.specs.Prelude.{ℕ, Bool, ◌&&◌, List, [], ◌∷◌, Option, Some, None, nat_eq, if◌then◌else◌}
 use Rattle.timecode12.specs.declared.rate.SequenceRate.{SequenceRate}
 use Rattle.timecode12.specs.declared.rate.SequenceRate.TheVariants.{F23976, F24, F25, F2997, F30}
 
@@ -17,6 +17,15 @@ rate_den F24 = 1
 rate_den F25 = 1
 rate_den F2997 = 1001
 rate_den F30 = 1
+
+-- the first of these rates that is num/den
+abbrev pub rate_among : List SequenceRate → ℕ → ℕ → Option SequenceRate
+rate_among [] num den = None
+rate_among (r ∷ rs) num den = if nat_eq num (rate_num r) && nat_eq den (rate_den r) then Some r else rate_among rs num den
+
+-- the rate of a sequence that is num/den
+abbrev pub sequence_rate : ℕ → ℕ → Option SequenceRate
+sequence_rate = rate_among (F23976 ∷ F24 ∷ F25 ∷ F2997 ∷ F30 ∷ [])
 
 -- how many frame numbers a second has
 abbrev pub numbers_a_second : SequenceRate → ℕ

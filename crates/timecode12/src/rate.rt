@@ -1,6 +1,6 @@
 // The rates of a sequence.
 ghost use Rattle.std.specs.Prelude.{◌≡◌};
-ghost use Rattle.timecode12.specs.Numbers.{rate_num, rate_den, numbers_a_second};
+ghost use Rattle.timecode12.specs.Numbers.{rate_num, rate_den, sequence_rate, numbers_a_second};
 
 use ratio_time::Rate;
 
@@ -20,6 +20,20 @@ pub enum SequenceRate {
 }
 
 impl SequenceRate {
+    /// The rate of a sequence that has so many frames a second, or `None` where no sequence has.
+    pub fn of(rate: &Rate) -> Option<SequenceRate>
+        ensures { result ≡ sequence_rate rate.now.num rate.now.den }
+    {
+        match (rate.num, rate.den) {
+            (24_000, 1_001) => Some(SequenceRate::F23976),
+            (24, 1) => Some(SequenceRate::F24),
+            (25, 1) => Some(SequenceRate::F25),
+            (30_000, 1_001) => Some(SequenceRate::F2997),
+            (30, 1) => Some(SequenceRate::F30),
+            _ => None,
+        }
+    }
+
     /// The exact rate.
     pub fn rate(self) -> Rate
         ensures num { result.num ≡ rate_num self }

@@ -68,6 +68,7 @@ fn rates_are_exact(rt: HostRuntime) {
         (SequenceRate::F30, 30, 1),
     ] {
         assert_eq!(rt; (rate.rate().num, rate.rate().den), (num, den), "{rate:?}");
+        assert_eq!(rt; SequenceRate::of(&rate.rate()), Some(rate), "{rate:?}");
         assert_eq!(rt;
             Counting::new(rate, true).is_some(),
             rate == SequenceRate::F2997,
