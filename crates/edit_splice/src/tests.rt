@@ -15,7 +15,7 @@ use std::test::Fail;
 use step_count::Steps;
 
 fn dark(len: u32) -> ItemView
-    ensures { result ≡ record { item = None; first = Side.Dark; len = len; mark = None; link = None } }
+    ensures { result ≡ gap_view len }
 {
     ItemView {
         item: None,
@@ -27,7 +27,7 @@ fn dark(len: u32) -> ItemView
 }
 
 fn item(number: u32, source: u32, len: u32) -> ItemView
-    ensures { result ≡ record { item = Some number; first = Side.Pic (What.Media 0) source; len = len; mark = None; link = None } }
+    ensures { result ≡ clip_view number (What.Media 0) source len }
 {
     ItemView {
         item: Some(number),
