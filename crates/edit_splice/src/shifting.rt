@@ -151,9 +151,9 @@ fn items_after<L: Ledger>(track: &Track, shift: &Shift, steps: &mut Steps<L>) ->
 }
 
 // Memory for each track, to splice two items or gaps into it.
-fn spares_for(alloc: Global, named: &mut [Track]) -> Result<Vec<Spare>, Memory>
-    ensures rooms { IfOk result (λ spares. HasRooms spares.items named.old) }
-    ensures same { named.new ≡ named.old }
+fn spares_for(alloc: Global, named: &mut Vec<Track>) -> Result<Vec<Spare>, Memory>
+    ensures rooms { IfOk result (λ spares. HasRooms spares.items named.old.items) }
+    ensures same { named.new.items ≡ named.old.items }
 {
     let mut spares = Vec::new(alloc);
     for index in 0..named.len() {
@@ -163,11 +163,11 @@ fn spares_for(alloc: Global, named: &mut [Track]) -> Result<Vec<Spare>, Memory>
     Ok(spares)
 }
 
-fn spare_at(alloc: Global, named: &mut [Track], index: usize) -> Result<Spare, Memory>
-    requires { index < length named.old }
+fn spare_at(alloc: Global, named: &mut Vec<Track>, index: usize) -> Result<Spare, Memory>
+    requires { index < length named.old.items }
     ensures room { IfOk result
-        (λ s. (t : TrackState) → HasRoom s (slice_index_or named.old index t) 2) }
-    ensures same { named.new ≡ named.old }
+        (λ s. (t : TrackState) → HasRoom s (slice_index_or named.old.items index t) 2) }
+    ensures same { named.new.items ≡ named.old.items }
 {
     spare_for(alloc, &mut named[index], 2)
 }

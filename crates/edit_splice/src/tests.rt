@@ -2,6 +2,7 @@
 ghost use Rattle.std.specs.Prelude.{◌≡◌, ◌<◌, ◌≤◌, IfOk, length};
 ghost use Rattle.composables.specs.Joined.{frames_in};
 ghost use Rattle.composables.specs.TrackFacts.{NumbersBelow};
+ghost use Rattle.composables.specs.Views.{clip_view, gap_view};
 ghost use Rattle.edit_splice.specs.NewItems.{AreNew};
 
 use crate::{count_after, spare_for, splice, splice_in};
