@@ -4,7 +4,7 @@ use Rattle.std.proofs.lemmas.List.{append-nil}
 use Rattle.frame_meaning.specs.declared.cells.Cell.{Cell}
 use Rattle.composables.specs.declared.items.ItemView.{ItemView}
 use Rattle.composables.specs.Items.{view_cells, cells_of, items_of}
-use Rattle.composables.specs.Joined.{joined, push_view, IsTight, AllFilled, frames_in}
+use Rattle.composables.specs.Joined.{joined, push_view, IsTight, AllFilled, frames_around, frames_in}
 use Rattle.composables.specs.TrackState.{TrackState}
 use Rattle.composables.specs.TrackFacts.{IsKept}
 use Rattle.composables.proofs.Joining.{items_of-cells_of, items_of-tight, length-cells_of, cells_of-append, tight-joined, filled-joined, filled-append, filled-take, filled-drop, push-tight}
@@ -53,9 +53,6 @@ cells_replaced : (xs ws : List ItemView) (from to : ℕ) → AllFilled xs → Is
 cells_replaced xs ws from to f t =
     ap (λ (zs : List ItemView). (cells_of (take from zs) ++ cells_of ws) ++ cells_of (drop to zs)) (items_of-tight xs f t)
     ∙ (ap (λ cs. cs ++ cells_of (drop to xs)) (sym (cells_of-append (take from xs) ws)) ∙ sym (cells_of-append (take from xs ++ ws) (drop to xs)))
-
-abbrev pub frames_around : List ItemView → List ItemView → ℕ → ℕ → ℕ
-frames_around xs ws from to = frames_in (take from xs) + frames_in ws + frames_in (drop to xs)
 
 frames_replaced : (xs ws : List ItemView) (from to : ℕ) → frames_in (take from xs ++ ws ++ drop to xs) ≡ frames_around xs ws from to
 frames_replaced xs ws from to = omega (arith, frames_in-append (take from xs ++ ws) (drop to xs), frames_in-append (take from xs) ws)

@@ -1,5 +1,5 @@
 -- Items and gaps put one after another, where those that belong together become one.
-use Rattle.std.specs.Prelude.{◌≡◌, ℕ, ◌+◌, ◌<◌, false, List, [], ◌∷◌, if◌then◌else◌}
+use Rattle.std.specs.Prelude.{◌≡◌, ℕ, ◌+◌, ◌<◌, false, List, [], ◌∷◌, ◌++◌, take, drop, if◌then◌else◌}
 use Rattle.frame_meaning.specs.Cells.{same_number}
 use Rattle.composables.specs.declared.items.ItemView.{ItemView}
 
@@ -37,3 +37,10 @@ AllFilled (v ∷ vs) = (0 < v.len) × AllFilled vs
 abbrev pub frames_in : List ItemView → ℕ
 frames_in [] = 0
 frames_in (v ∷ vs) = v.len + frames_in vs
+
+-- these items and gaps with others in place of those from index from up to before to, and how many frames they have
+abbrev pub around : List ItemView → List ItemView → ℕ → ℕ → List ItemView
+around views middle from to = take from views ++ middle ++ drop to views
+
+abbrev pub frames_around : List ItemView → List ItemView → ℕ → ℕ → ℕ
+frames_around views middle from to = frames_in (take from views) + frames_in middle + frames_in (drop to views)

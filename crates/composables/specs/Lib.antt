@@ -4,6 +4,7 @@ pub mod Items
 pub mod Views
 pub mod TrackState
 pub mod TrackFacts
+pub mod Sizes
 pub mod Joined
 pub mod Places
 pub mod Good

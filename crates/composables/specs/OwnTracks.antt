@@ -1,10 +1,14 @@
 -- The own track of a call among the tracks that it names.
-use Rattle.std.specs.Prelude.{ℕ, List, [], ◌∷◌, Option, Some, None, Result, Ok, Err, nat_eq, slice_get, if◌then◌else◌}
+use Rattle.std.specs.Prelude.{ℕ, List, [], ◌∷◌, Option, Some, None, Result, Ok, Err, map, nat_eq, slice_get, if◌then◌else◌}
 use Rattle.composables.specs.declared.refusals.Done.{Done}
 use Rattle.composables.specs.declared.refusals.Refusal.{Refusal}
 use Rattle.composables.specs.declared.refusals.Refusal.TheVariants.{NoTrack}
 use Rattle.composables.specs.TrackState.{TrackState}
 use Rattle.composables.specs.Answers.{Applied}
+
+-- the numbers of these tracks, in order
+abbrev pub numbers_of : List TrackState → List ℕ
+numbers_of tracks = map (λ (t : TrackState). t.number) tracks
 
 -- the track with this number
 abbrev pub track_numbered : ℕ → List TrackState → Option TrackState

@@ -1,6 +1,6 @@
 // Items and gaps put one behind another. What belongs together and meets becomes one.
 ghost use Rattle.std.specs.Prelude.{◌≡◌, ◌+◌, ◌<◌, ◌≤◌, ◌^◌, ◌++◌, [], length, take, drop, vec_len, vec_capacity, OnOk, OnErr};
-ghost use Rattle.composables.specs.Joined.{joined, push_view, push_views, frames_in, IsTight};
+ghost use Rattle.composables.specs.Joined.{around, frames_around, frames_in, joined, push_view, push_views, IsTight};
 
 use crate::{ItemView, Memory};
 use frame_meaning::same_item;
@@ -46,10 +46,10 @@ pub fn lay_around<L: Ledger>(
     requires order { from ≤ to }
     requires within { to ≤ length items.now }
     requires tight { IsTight items.now }
-    requires frames { frames_in (take from items.now) + frames_in middle.now + frames_in (drop to items.now) < 2 ^ 32 }
+    requires frames { frames_around items.now middle.now from to < 2 ^ 32 }
     requires empty { room.items ≡ [] }
     requires room { length items.now + length middle.now ≤ vec_capacity room }
-    ensures joined { result.items ≡ joined (take from items.now ++ middle.now ++ drop to items.now) }
+    ensures joined { result.items ≡ joined (around items.now middle.now from to) }
     ensures least { steps.old ≤ steps.new }
     ensures most { steps.new ≤ steps.old + length middle.now + 1 }
 {

@@ -28,7 +28,7 @@ pub use calls::{
 pub use facts::holds;
 pub use frame_meaning::Memory;
 pub use items::{ItemView, Place};
-pub use laws::{a_dissolve_may_stand_at_a_cut, a_place_lies_in_one_item};
+pub use laws::{a_dissolve_may_stand_at_a_cut, a_place_lies_in_one_item, limits_are_these};
 pub use lists::Listed;
 pub use media::{Kind, Layer, Media, Nest, Table};
 pub use named_tracks::{has_track, own_index};

@@ -24,7 +24,8 @@ impl Model for Reels {
 
     ghost use Rattle.composables.specs.ReelNames.{AreDistinct};
 
-    ghost invariant = { λ r. (length r.names.keys < 2 ^ 32) × AreDistinct (map (λ s. string_bytes s) r.names.keys) };
+    ghost invariant = { λ r. (length r.names.keys < 2 ^ 32)
+        × AreDistinct (map (λ s. string_bytes s) r.names.keys) };
 }
 
 impl Reels {

@@ -1,5 +1,6 @@
 // Memory taken beforehand, so that a change of a track can't fail.
-ghost use Rattle.std.specs.Prelude.{◌≡◌, ◌<◌, ◌++◌, [], ◌∷◌, length, IfOk};
+ghost use Rattle.std.specs.Prelude.{◌≡◌, ◌<◌, ◌≤◌, ◌++◌, [], ◌∷◌, length, vec_capacity, IfOk};
+ghost use Rattle.composables.specs.SpareState.{spare_for};
 
 use crate::{ItemView, Memory};
 use std::alloc::Global;
@@ -29,12 +30,18 @@ impl Model for Spare {
 }
 
 impl Spare {
-    /// Memory for a track of `count` items and gaps, and `more` to put in.
-    pub fn new(alloc: Global, count: u32, more: u32) -> Result<Spare, Memory>
-        ensures { IfOk result (λ s. s ≡ record { laid = []; count = count; more = more }) }
+    // Memory for a track of `count` items and gaps, and `more` to put in, made of memory that was used before.
+    pub(crate) fn of(
+        alloc: Global,
+        whole: Vec<ItemView>,
+        middle: Vec<ItemView>,
+        count: u32,
+        more: u32,
+    ) -> Result<Spare, Memory>
+        ensures { IfOk result (λ s. s ≡ spare_for count more) }
     {
-        let whole = Vec::with_capacity(alloc, count as usize + more as usize)?;
-        let middle = Vec::with_capacity(alloc, more as usize)?;
+        let whole = room_for(alloc, whole, count as usize + more as usize)?;
+        let middle = room_for(alloc, middle, more as usize)?;
         Ok(Spare {
             whole,
             middle,
@@ -50,4 +57,23 @@ impl Spare {
     {
         self.middle.push_reserved(view);
     }
+}
+
+/// Empty memory for `count` items and gaps: this one, made larger where it is too small for them. Where it is more than
+/// four times too large it is given back.
+pub(crate) fn room_for(
+    alloc: Global,
+    used: Vec<ItemView>,
+    count: usize,
+) -> Result<Vec<ItemView>, Memory>
+    ensures empty { IfOk result (λ room. room.items ≡ []) }
+    ensures room { IfOk result (λ room. count ≤ vec_capacity room) }
+{
+    if used.capacity() / 4 > count {
+        return Ok(Vec::with_capacity(alloc, count)?);
+    }
+    let mut room = used;
+    room.clear();
+    room.reserve(count)?;
+    Ok(room)
 }

@@ -4,7 +4,8 @@ ghost use Rattle.composables.specs.Items.{cells_of};
 ghost use Rattle.composables.specs.Views.{clip_view, gap_view};
 
 use crate::{
-    ItemView, Kind, Layer, Listed, Media, Memory, Nest, Place, Reels, Spare, Table, Track, holds,
+    ItemView, Kind, Layer, Listed, Media, Memory, Nest, Place, Reels, Table, Track, holds,
+    limits_are_these,
 };
 use frame_meaning::{Link, Mark, Side, What};
 use std::alloc::Global;
@@ -18,7 +19,12 @@ const REEL: What = What::Media(0);
 
 // Two items that meet, five frames in all.
 fn two_items(alloc: Global) -> Result<Track, Memory>
-    ensures { IfOk result (λ t. t ≡ record { number = 3; cells = cells_of (clip_view 0 (What.Media 0) 50 3 ∷ clip_view 1 (What.Media 0) 7 2 ∷ []); next_item = 2; next_link = 0 }) }
+    ensures { IfOk result (λ t. t ≡ record {
+      number = 3;
+      cells = cells_of (clip_view 0 (What.Media 0) 50 3 ∷ clip_view 1 (What.Media 0) 7 2 ∷ []);
+      next_item = 2;
+      next_link = 0;
+    }) }
 {
     let mut track = Track::empty(alloc, 3);
     track.push(ItemView::clip(0, REEL, 50, 3))?;
@@ -28,7 +34,13 @@ fn two_items(alloc: Global) -> Result<Track, Memory>
 
 // An item, a gap and an item.
 fn item_gap_item(alloc: Global) -> Result<Track, Memory>
-    ensures { IfOk result (λ t. t ≡ record { number = 3; cells = cells_of (clip_view 0 (What.Media 0) 50 3 ∷ gap_view 2 ∷ clip_view 1 (What.Media 0) 7 2 ∷ []); next_item = 2; next_link = 0 }) }
+    ensures { IfOk result (λ t. t ≡ record {
+      number = 3;
+      cells = cells_of (clip_view 0 (What.Media 0) 50 3 ∷ gap_view 2
+          ∷ clip_view 1 (What.Media 0) 7 2 ∷ []);
+      next_item = 2;
+      next_link = 0;
+    }) }
 {
     let mut track = Track::empty(alloc, 3);
     track.push(ItemView::clip(0, REEL, 50, 3))?;
@@ -46,7 +58,7 @@ fn with_more<L: Ledger>(
 {
     let mut steps = Steps::<L>::new(blank);
     let mut before = item_gap_item(alloc)?;
-    let mut spare = Spare::new(alloc, 3, 2)?;
+    let mut spare = before.take_spare(alloc, 2)?;
     spare.push(ItemView::clip(5, REEL, 20, 1));
     spare.push(ItemView::gap(4));
     before.replace_in(1, 1, spare, &mut steps);
@@ -242,4 +254,9 @@ fn parts_and_offsets_of_an_item(rt: HostRuntime) {
     assert_eq!(rt; item.first_frames(2), ItemView { len: 2, ..item });
     assert_eq!(rt; item.offset(1), Some(-3));
     assert_eq!(rt; ItemView::gap(5).offset(1), None);
+}
+
+#[test]
+fn the_limits_are_told() {
+    limits_are_these();
 }

@@ -1,20 +1,23 @@
 // A track of items and gaps, which contracts see as its cells.
 ghost use Rattle.std.specs.Prelude.{◌≡◌, ◌+◌, ◌<◌, ◌≤◌, ◌^◌, length, take, drop, slice_get};
-ghost use Rattle.composables.specs.Joined.{frames_in};
+ghost use Rattle.composables.specs.Joined.{frames_around, frames_in};
 ghost use Rattle.composables.specs.Changes.{side_from};
 
 use crate::cells::cells_in;
 use crate::laying::{lay_around, push_item};
 use crate::numbers::{number_past, number_past_all};
 use crate::places::{find_item, find_place};
+use crate::spares::room_for;
 use crate::{ItemView, Memory, Place, Spare};
 use frame_meaning::{Cell, Link, Mark, Side, What};
 use std::alloc::Global;
 use std::marker::Model;
+use std::mem;
 use std::sync::ledger::Ledger;
 use step_count::Steps;
 
-/// A track. Contracts see its number, its cells, one for each record frame, and its next item and link numbers.
+/// A track. Contracts see its number, its cells, one for each record frame, and its next item and link numbers. It keeps
+/// the memory of its last change for the next.
 #[derive(Drop)]
 pub struct Track {
     alloc: Global,
@@ -23,6 +26,8 @@ pub struct Track {
     next_item: u32,
     next_link: u32,
     total: u32,
+    whole: Vec<ItemView>,
+    middle: Vec<ItemView>,
 }
 
 impl Model for Track {
@@ -40,6 +45,8 @@ impl Model for Track {
 impl Track {
     ghost use Rattle.std.specs.Prelude.{◌≡◌, ◌+◌, ◌<◌, ◌≤◌, ◌↔◌, [], length, slice_get, vec_len, vec_capacity, option_map, IfSome, IfOk, IsNone, OnOk, OnErr};
     ghost use Rattle.composables.specs.Items.{items_of};
+    ghost use Rattle.composables.specs.Sizes.{size_of};
+    ghost use Rattle.composables.specs.SpareState.{spare_for};
     ghost use Rattle.composables.specs.TrackState.{pushed, replaced};
     ghost use Rattle.composables.specs.TrackFacts.{IsKept, Lacks, NumbersBelow};
     ghost use Rattle.composables.specs.Ranges.{range_of, HasNumber};
@@ -58,6 +65,8 @@ impl Track {
             next_item: 0,
             next_link: 0,
             total: 0,
+            whole: Vec::new(alloc),
+            middle: Vec::new(alloc),
         }
     }
 
@@ -136,7 +145,7 @@ impl Track {
         find_item(&self.items, item, steps)
     }
 
-    /// An equal track.
+    /// An equal track, without memory for its next change.
     pub fn copy(&self, alloc: Global) -> Result<Track, Memory>
         ensures { IfOk result (λ t. t ≡ self.now) }
     {
@@ -148,6 +157,8 @@ impl Track {
             next_item: self.next_item,
             next_link: self.next_link,
             total: self.total,
+            whole: Vec::new(alloc),
+            middle: Vec::new(alloc),
         })
     }
 
@@ -182,12 +193,26 @@ impl Track {
         ensures ok { OnOk result (self.new ≡ replaced self.old from to items.items) }
         ensures err { OnErr result (self.new ≡ self.old) }
         ensures least { steps.old + 1 ≤ steps.new }
-        ensures most { steps.new ≤ steps.old + length (items_of self.old.cells) + 64 + vec_len items }
+        ensures most { steps.new ≤ steps.old + size_of self.old + vec_len items }
     {
         steps.tick();
-        let room = Vec::with_capacity(self.alloc, self.items.len() + items.len())?;
+        let used = mem::replace(&mut self.whole, Vec::new(self.alloc));
+        let room = room_for(self.alloc, used, self.items.len() + items.len())?;
         self.put(from, to, room, &items, steps);
         Ok(())
+    }
+
+    /// Memory for a change of the track that puts in so many items and gaps. Where there is none the track is as it was.
+    /// A change gives it back to the track for the next one, so that changes of a track that has stopped growing take no
+    /// more; the track keeps at most four times what its last change asked for.
+    pub fn take_spare(&mut self, alloc: Global, more: u32) -> Result<Spare, Memory>
+        ensures spare { IfOk result (λ s. s ≡ spare_for (length (items_of self.old.cells)) more) }
+        ensures same { self.new ≡ self.old }
+    {
+        let count = self.count();
+        let whole = mem::replace(&mut self.whole, Vec::new(alloc));
+        let middle = mem::replace(&mut self.middle, Vec::new(alloc));
+        Spare::of(alloc, whole, middle, count, more)
     }
 
     /// The same in memory that was taken beforehand, of what was laid in it. It can't fail.
@@ -200,11 +225,12 @@ impl Track {
         requires kept { IsKept (replaced self.old from to spare.laid) }
         ensures replaced { self.new ≡ replaced self.old from to spare.laid }
         ensures least { steps.old + 1 ≤ steps.new }
-        ensures most { steps.new ≤ steps.old + length (items_of self.old.cells) + 64 + length spare.laid }
+        ensures most { steps.new ≤ steps.old + size_of self.old + length spare.laid }
     {
         steps.tick();
         let Spare { whole, middle, .. } = spare;
         self.put(from, to, whole, &middle, steps);
+        self.middle = middle;
     }
 
     // Puts these in place of the items and gaps from index `from` up to before `to`, in room for all.
@@ -231,7 +257,7 @@ impl Track {
         let all = lay_around(room, &self.items, from, to, middle, steps);
         self.next_item = number_past_all(self.next_item, middle);
         self.total = total;
-        self.items = all;
+        self.whole = mem::replace(&mut self.items, all);
     }
 
     /// Puts a dissolve at the cut before the item or gap with this index, or takes it away.
@@ -299,8 +325,8 @@ fn frames_around(total: u32, items: &[ItemView], from: u32, to: u32, middle: &[I
     requires order { from ≤ to }
     requires within { to ≤ length items.now }
     requires total { total ≡ frames_in items.now }
-    requires frames { frames_in (take from items.now) + frames_in middle.now + frames_in (drop to items.now) < 2 ^ 32 }
-    ensures { result ≡ frames_in (take from items.now) + frames_in middle.now + frames_in (drop to items.now) }
+    requires frames { frames_around items.now middle.now from to < 2 ^ 32 }
+    ensures { result ≡ frames_around items.now middle.now from to }
 {
     let (_, behind) = items.split_at(from as usize);
     let (gone, _) = behind.split_at((to - from) as usize);

@@ -1,14 +1,13 @@
 // Insert and extract: what is put into one track and taken out of it, and moves all that is behind it on each named
 // track.
-ghost use Rattle.std.specs.Prelude.{◌≡◌, ◌+◌, ◌*◌, ◌<◌, ◌≤◌, All, length, map, nat_eq, slice_get, sum_by, true};
+ghost use Rattle.std.specs.Prelude.{◌≡◌, ◌+◌, ◌*◌, ◌<◌, ◌≤◌, All, length, nat_eq, slice_get, true};
 ghost use Rattle.std.specs.List.{list_any};
-ghost use Rattle.composables.specs.Good.{IsGood, AllUnlinked};
-ghost use Rattle.composables.specs.Items.{items_of};
+ghost use Rattle.composables.specs.Good.{AreUnlinked, IsGood};
 ghost use Rattle.composables.specs.Roomy.{IsRoomy};
-ghost use Rattle.composables.specs.TrackState.{TrackState};
+ghost use Rattle.composables.specs.Sizes.{sizes_of};
 ghost use Rattle.composables.specs.Answers.{Answers, NextRises};
 ghost use Rattle.edit_insert.specs.Edits.{extract_named, insert_named};
-ghost use Rattle.composables.specs.OwnTracks.{track_numbered};
+ghost use Rattle.composables.specs.OwnTracks.{numbers_of, track_numbered};
 ghost use Rattle.edit_splice.specs.Standing.{EachStaysGood};
 ghost use Rattle.composables.specs.TrackSets.{tracks_in};
 
@@ -32,21 +31,22 @@ pub fn insert<L: Ledger>(
     call: &Insert,
     steps: &mut Steps<L>,
 ) -> Result<Done, EditFault>
-    requires named { map (λ (t : TrackState). t.number) named.old.items ≡ tracks_in call.now.tracks }
+    requires named { numbers_of named.old.items ≡ tracks_in call.now.tracks }
     requires own { list_any (nat_eq call.now.track) (tracks_in call.now.tracks) ≡ true }
     requires good { All (λ t. IsGood table.now t) named.old.items }
     requires roomy { All (λ t. IsRoomy t) named.old.items }
-    requires unlinked { All (λ t. AllUnlinked (items_of t.cells)) named.old.items }
+    requires unlinked { AreUnlinked named.old.items }
 
-    ensures answers { Answers (insert_named table.now named.old.items call.now) named.old.items named.new.items result }
+    ensures answers { Answers (insert_named table.now named.old.items call.now)
+        named.old.items named.new.items result }
 
-    ensures named { map (λ (t : TrackState). t.number) named.new.items ≡ tracks_in call.now.tracks }
+    ensures named { numbers_of named.new.items ≡ tracks_in call.now.tracks }
     ensures good { All (λ t. IsGood table.now t) named.new.items }
-    ensures unlinked { All (λ t. AllUnlinked (items_of t.cells)) named.new.items }
+    ensures unlinked { AreUnlinked named.new.items }
     ensures numbers { NextRises 2 named.old.items named.new.items }
 
     ensures least { steps.old + 1 ≤ steps.new }
-    ensures most { steps.new ≤ steps.old + 32 * sum_by (λ t. length (items_of t.cells) + 64) named.old.items }
+    ensures most { steps.new ≤ steps.old + 32 * sizes_of named.old.items }
 {
     steps.tick();
     match own_index(named, call.track) {
@@ -65,15 +65,17 @@ fn insert_at<L: Ledger>(
     steps: &mut Steps<L>,
 ) -> Result<Done, EditFault>
     requires within { index < length named.old.items }
-    requires found { track_numbered call.now.track named.old.items ≡ slice_get named.old.items index }
-    requires named { map (λ (t : TrackState). t.number) named.old.items ≡ tracks_in call.now.tracks }
+    requires found { track_numbered call.now.track named.old.items
+        ≡ slice_get named.old.items index }
+    requires named { numbers_of named.old.items ≡ tracks_in call.now.tracks }
     requires good { All (λ t. IsGood table.now t) named.old.items }
     requires roomy { All (λ t. IsRoomy t) named.old.items }
-    requires unlinked { All (λ t. AllUnlinked (items_of t.cells)) named.old.items }
-    ensures answers { Answers (insert_named table.now named.old.items call.now) named.old.items named.new.items result }
+    requires unlinked { AreUnlinked named.old.items }
+    ensures answers { Answers (insert_named table.now named.old.items call.now)
+        named.old.items named.new.items result }
     ensures good { EachStaysGood table.now named.old.items named.new.items }
     ensures least { steps.old ≤ steps.new }
-    ensures most { steps.new ≤ steps.old + 16 * sum_by (λ t. length (items_of t.cells) + 64) named.old.items }
+    ensures most { steps.new ≤ steps.old + 16 * sizes_of named.old.items }
 {
     match source_refusal(table, call.track, call.what, call.from, call.len) {
         Some(refusal) => return Err(EditFault::Refused(refusal)),
@@ -98,21 +100,22 @@ pub fn extract<L: Ledger>(
     call: &Extract,
     steps: &mut Steps<L>,
 ) -> Result<Done, EditFault>
-    requires named { map (λ (t : TrackState). t.number) named.old.items ≡ tracks_in call.now.tracks }
+    requires named { numbers_of named.old.items ≡ tracks_in call.now.tracks }
     requires own { list_any (nat_eq call.now.track) (tracks_in call.now.tracks) ≡ true }
     requires good { All (λ t. IsGood table.now t) named.old.items }
     requires roomy { All (λ t. IsRoomy t) named.old.items }
-    requires unlinked { All (λ t. AllUnlinked (items_of t.cells)) named.old.items }
+    requires unlinked { AreUnlinked named.old.items }
 
-    ensures answers { Answers (extract_named named.old.items call.now) named.old.items named.new.items result }
+    ensures answers { Answers (extract_named named.old.items call.now)
+        named.old.items named.new.items result }
 
-    ensures named { map (λ (t : TrackState). t.number) named.new.items ≡ tracks_in call.now.tracks }
+    ensures named { numbers_of named.new.items ≡ tracks_in call.now.tracks }
     ensures good { All (λ t. IsGood table.now t) named.new.items }
-    ensures unlinked { All (λ t. AllUnlinked (items_of t.cells)) named.new.items }
+    ensures unlinked { AreUnlinked named.new.items }
     ensures numbers { NextRises 2 named.old.items named.new.items }
 
     ensures least { steps.old + 1 ≤ steps.new }
-    ensures most { steps.new ≤ steps.old + 32 * sum_by (λ t. length (items_of t.cells) + 64) named.old.items }
+    ensures most { steps.new ≤ steps.old + 32 * sizes_of named.old.items }
 {
     steps.tick();
     match own_index(named, call.track) {
@@ -130,15 +133,17 @@ fn extract_at<L: Ledger>(
     steps: &mut Steps<L>,
 ) -> Result<Done, EditFault>
     requires within { index < length named.old.items }
-    requires found { track_numbered call.now.track named.old.items ≡ slice_get named.old.items index }
-    requires named { map (λ (t : TrackState). t.number) named.old.items ≡ tracks_in call.now.tracks }
+    requires found { track_numbered call.now.track named.old.items
+        ≡ slice_get named.old.items index }
+    requires named { numbers_of named.old.items ≡ tracks_in call.now.tracks }
     requires good { All (λ t. IsGood table.now t) named.old.items }
     requires roomy { All (λ t. IsRoomy t) named.old.items }
-    requires unlinked { All (λ t. AllUnlinked (items_of t.cells)) named.old.items }
-    ensures answers { Answers (extract_named named.old.items call.now) named.old.items named.new.items result }
+    requires unlinked { AreUnlinked named.old.items }
+    ensures answers { Answers (extract_named named.old.items call.now)
+        named.old.items named.new.items result }
     ensures good { EachStaysGood table.now named.old.items named.new.items }
     ensures least { steps.old ≤ steps.new }
-    ensures most { steps.new ≤ steps.old + 20 * sum_by (λ t. length (items_of t.cells) + 64) named.old.items }
+    ensures most { steps.new ≤ steps.old + 20 * sizes_of named.old.items }
 {
     match named[index].item_by_id(call.item, steps) {
         Some(found) => {

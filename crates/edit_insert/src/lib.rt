@@ -14,4 +14,6 @@ pub use overwriting::overwrite;
 pub use removing::{remove, slice};
 
 #[cfg(test)]
+mod plain;
+#[cfg(test)]
 mod tests;

@@ -1,9 +1,9 @@
 // Overwrite: a new item over places of a track.
-ghost use Rattle.std.specs.Prelude.{◌≡◌, ◌+◌, ◌*◌, ◌<◌, ◌≤◌, [], ◌∷◌, All, length, map, sum_by};
-ghost use Rattle.composables.specs.Good.{IsGood, AllUnlinked};
-ghost use Rattle.composables.specs.Items.{items_of};
+ghost use Rattle.std.specs.Prelude.{◌≡◌, ◌+◌, ◌*◌, ◌<◌, ◌≤◌, [], ◌∷◌, All, length};
+ghost use Rattle.composables.specs.Good.{AreUnlinked, IsGood};
+ghost use Rattle.composables.specs.OwnTracks.{numbers_of};
 ghost use Rattle.composables.specs.Roomy.{IsRoomy};
-ghost use Rattle.composables.specs.TrackState.{TrackState};
+ghost use Rattle.composables.specs.Sizes.{size_of, sizes_of};
 ghost use Rattle.composables.specs.Answers.{Answers, NextRises};
 ghost use Rattle.edit_insert.specs.Edits.{overwrite_named, overwrite_track};
 ghost use Rattle.edit_splice.specs.Standing.{StaysGood};
@@ -28,19 +28,20 @@ pub fn overwrite<L: Ledger>(
     call: &Overwrite,
     steps: &mut Steps<L>,
 ) -> Result<Done, EditFault>
-    requires named { map (λ (t : TrackState). t.number) named.old.items ≡ call.now.track ∷ [] }
+    requires named { numbers_of named.old.items ≡ call.now.track ∷ [] }
     requires good { All (λ t. IsGood table.now t) named.old.items }
     requires roomy { All (λ t. IsRoomy t) named.old.items }
 
-    ensures answers { Answers (overwrite_named table.now named.old.items call.now) named.old.items named.new.items result }
+    ensures answers { Answers (overwrite_named table.now named.old.items call.now)
+        named.old.items named.new.items result }
 
-    ensures named { map (λ (t : TrackState). t.number) named.new.items ≡ call.now.track ∷ [] }
+    ensures named { numbers_of named.new.items ≡ call.now.track ∷ [] }
     ensures good { All (λ t. IsGood table.now t) named.new.items }
-    ensures unlinked { All (λ t. AllUnlinked (items_of t.cells)) named.old.items → All (λ t. AllUnlinked (items_of t.cells)) named.new.items }
+    ensures unlinked { AreUnlinked named.old.items → AreUnlinked named.new.items }
     ensures numbers { NextRises 2 named.old.items named.new.items }
 
     ensures least { steps.old + 1 ≤ steps.new }
-    ensures most { steps.new ≤ steps.old + 32 * sum_by (λ t. length (items_of t.cells) + 64) named.old.items }
+    ensures most { steps.new ≤ steps.old + 32 * sizes_of named.old.items }
 {
     steps.tick();
     overwrite_track(alloc, table, &mut named[0], call, steps)
@@ -56,10 +57,11 @@ fn overwrite_track<L: Ledger>(
 ) -> Result<Done, EditFault>
     requires good { IsGood table.now track.old }
     requires roomy { IsRoomy track.old }
-    ensures answers { Answers (overwrite_track table.now call.now track.old) track.old track.new result }
+    ensures answers { Answers (overwrite_track table.now call.now track.old)
+        track.old track.new result }
     ensures good { StaysGood table.now track.old track.new }
     ensures least { steps.old ≤ steps.new }
-    ensures most { steps.new ≤ steps.old + 16 * (length (items_of track.old.cells) + 64) }
+    ensures most { steps.new ≤ steps.old + 16 * size_of track.old }
 {
     match source_refusal(table, track.number(), call.what, call.from, call.len) {
         Some(refusal) => return Err(EditFault::Refused(refusal)),

@@ -1,10 +1,10 @@
 // Remove and slice: what is put into a track without a new item.
-ghost use Rattle.std.specs.Prelude.{◌≡◌, ◌+◌, ◌*◌, ◌<◌, ◌≤◌, [], ◌∷◌, All, length, map, sum_by};
-ghost use Rattle.composables.specs.Good.{IsGood, AllUnlinked};
-ghost use Rattle.composables.specs.Items.{items_of};
+ghost use Rattle.std.specs.Prelude.{◌≡◌, ◌+◌, ◌*◌, ◌<◌, ◌≤◌, [], ◌∷◌, All, length};
+ghost use Rattle.composables.specs.Good.{AreUnlinked, IsGood};
+ghost use Rattle.composables.specs.OwnTracks.{numbers_of};
 ghost use Rattle.composables.specs.Roomy.{IsRoomy};
+ghost use Rattle.composables.specs.Sizes.{size_of, sizes_of};
 ghost use Rattle.composables.specs.TrackFacts.{IsKept};
-ghost use Rattle.composables.specs.TrackState.{TrackState};
 ghost use Rattle.composables.specs.Answers.{Answers, NextRises};
 ghost use Rattle.edit_insert.specs.Edits.{remove_named, remove_track, slice_named, slice_track};
 
@@ -23,19 +23,20 @@ pub fn remove<L: Ledger>(
     call: &Remove,
     steps: &mut Steps<L>,
 ) -> Result<Done, EditFault>
-    requires named { map (λ (t : TrackState). t.number) named.old.items ≡ call.now.track ∷ [] }
+    requires named { numbers_of named.old.items ≡ call.now.track ∷ [] }
     requires good { All (λ t. IsGood table.now t) named.old.items }
     requires roomy { All (λ t. IsRoomy t) named.old.items }
 
-    ensures answers { Answers (remove_named named.old.items call.now) named.old.items named.new.items result }
+    ensures answers { Answers (remove_named named.old.items call.now)
+        named.old.items named.new.items result }
 
-    ensures named { map (λ (t : TrackState). t.number) named.new.items ≡ call.now.track ∷ [] }
+    ensures named { numbers_of named.new.items ≡ call.now.track ∷ [] }
     ensures good { All (λ t. IsGood table.now t) named.new.items }
-    ensures unlinked { All (λ t. AllUnlinked (items_of t.cells)) named.old.items → All (λ t. AllUnlinked (items_of t.cells)) named.new.items }
+    ensures unlinked { AreUnlinked named.old.items → AreUnlinked named.new.items }
     ensures numbers { NextRises 2 named.old.items named.new.items }
 
     ensures least { steps.old + 1 ≤ steps.new }
-    ensures most { steps.new ≤ steps.old + 32 * sum_by (λ t. length (items_of t.cells) + 64) named.old.items }
+    ensures most { steps.new ≤ steps.old + 32 * sizes_of named.old.items }
 {
     steps.tick();
     remove_track(alloc, &mut named[0], call, steps)
@@ -53,7 +54,7 @@ fn remove_track<L: Ledger>(
     requires roomy { IsRoomy track.old }
     ensures answers { Answers (remove_track call.now track.old) track.old track.new result }
     ensures least { steps.old ≤ steps.new }
-    ensures most { steps.new ≤ steps.old + 20 * (length (items_of track.old.cells) + 64) }
+    ensures most { steps.new ≤ steps.old + 20 * size_of track.old }
 {
     match track.item_by_id(call.item, steps) {
         Some(found) => {
@@ -81,19 +82,20 @@ pub fn slice<L: Ledger>(
     call: &Slice,
     steps: &mut Steps<L>,
 ) -> Result<Done, EditFault>
-    requires named { map (λ (t : TrackState). t.number) named.old.items ≡ call.now.track ∷ [] }
+    requires named { numbers_of named.old.items ≡ call.now.track ∷ [] }
     requires good { All (λ t. IsGood table.now t) named.old.items }
     requires roomy { All (λ t. IsRoomy t) named.old.items }
 
-    ensures answers { Answers (slice_named named.old.items call.now) named.old.items named.new.items result }
+    ensures answers { Answers (slice_named named.old.items call.now)
+        named.old.items named.new.items result }
 
-    ensures named { map (λ (t : TrackState). t.number) named.new.items ≡ call.now.track ∷ [] }
+    ensures named { numbers_of named.new.items ≡ call.now.track ∷ [] }
     ensures good { All (λ t. IsGood table.now t) named.new.items }
-    ensures unlinked { All (λ t. AllUnlinked (items_of t.cells)) named.old.items → All (λ t. AllUnlinked (items_of t.cells)) named.new.items }
+    ensures unlinked { AreUnlinked named.old.items → AreUnlinked named.new.items }
     ensures numbers { NextRises 2 named.old.items named.new.items }
 
     ensures least { steps.old + 1 ≤ steps.new }
-    ensures most { steps.new ≤ steps.old + 32 * sum_by (λ t. length (items_of t.cells) + 64) named.old.items }
+    ensures most { steps.new ≤ steps.old + 32 * sizes_of named.old.items }
 {
     steps.tick();
     slice_track(alloc, &mut named[0], call, steps)
@@ -111,7 +113,7 @@ fn slice_track<L: Ledger>(
     requires roomy { IsRoomy track.old }
     ensures answers { Answers (slice_track call.now track.old) track.old track.new result }
     ensures least { steps.old ≤ steps.new }
-    ensures most { steps.new ≤ steps.old + 20 * (length (items_of track.old.cells) + 64) }
+    ensures most { steps.new ≤ steps.old + 20 * size_of track.old }
 {
     if call.at >= track.length() {
         return Err(EditFault::Refused(Refusal::NoItem));

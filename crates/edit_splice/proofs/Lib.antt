@@ -29,7 +29,6 @@ pub mod Unlinked
 pub mod Moving
 pub mod OneTrack
 pub mod Places
-pub mod Sizes
 pub mod Firsts
 pub mod PartMoved
 pub mod Bridging

@@ -8,7 +8,7 @@ use Rattle.edit_splice.specs.Splicing.{HasRoom}
 use Rattle.edit_splice.specs.declared.shifting.Shift.{Shift}
 use Rattle.edit_splice.specs.Moves.{HasRooms, all_moved, moved}
 use Rattle.edit_splice.proofs.Firsts.{rooms-less}
-use Rattle.edit_splice.proofs.Sizes.{size_of}
+use Rattle.composables.specs.Sizes.{size_of}
 
 abbrev pub part_moved : Shift → ℕ → List TrackState → List TrackState
 part_moved s zero ts = all_moved s ts

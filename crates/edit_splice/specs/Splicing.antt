@@ -1,8 +1,11 @@
 -- What a splice leaves of a track.
-use Rattle.std.specs.Prelude.{◌≡◌, ℕ, ◌+◌, ◌≤◌, List, [], length}
+use Rattle.std.specs.Prelude.{◌≡◌, ℕ, ◌+◌, ◌≤◌, List, [], Result, length}
 use Rattle.frame_meaning.specs.Splice.{kept_or_dropped, spliced, next_after_splice}
 use Rattle.composables.specs.declared.items.ItemView.{ItemView}
+use Rattle.composables.specs.declared.refusals.Done.{Done}
+use Rattle.composables.specs.declared.refusals.Refusal.{Refusal}
 use Rattle.composables.specs.Items.{cells_of, items_of}
+use Rattle.composables.specs.Limits.{track_within_limits}
 use Rattle.composables.specs.SpareState.{SpareState}
 use Rattle.composables.specs.TrackState.{TrackState, next_past_all}
 
@@ -15,6 +18,10 @@ spliced_track t x y views = after (next_past_all t.next_item views) where
     cells = spliced kept_or_dropped t.cells x y (cells_of views) fresh;
     next_item = next_after_splice t.cells x y fresh;
   }
+
+-- the same of a splice by an edit, which answers this where the track keeps its limits
+abbrev pub placed : TrackState → ℕ → ℕ → List ItemView → Done → Result (TrackState × Done) Refusal
+placed t x y views done = track_within_limits (spliced_track t x y views) done
 
 -- spare memory in which this track can be laid out anew with n more items put in, and the parts of those at the ends of
 -- the range: one before it, and two behind it

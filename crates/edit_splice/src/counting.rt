@@ -3,6 +3,7 @@ ghost use Rattle.std.specs.Prelude.{◌≡◌, ◌+◌, ◌*◌, ◌<◌, ◌≤
 ghost use Rattle.std.specs.Option.{option_to_list};
 ghost use Rattle.composables.specs.Items.{items_of};
 ghost use Rattle.composables.specs.Joined.{AllFilled};
+ghost use Rattle.composables.specs.Sizes.{size_of};
 ghost use Rattle.composables.specs.TrackFacts.{NumbersBelow};
 ghost use Rattle.edit_splice.specs.Counting.{back_number, begun, belongs, count_by, count_past, number_of, numbers};
 ghost use Rattle.edit_splice.specs.Splicing.{spliced_track};
@@ -32,7 +33,7 @@ pub fn count_after<L: Ledger>(
     ensures count { result ≡ length (items_of (spliced_track track.now x y items.now).cells) }
 
     ensures least { steps.old ≤ steps.new }
-    ensures most { steps.new ≤ steps.old + 2 * (length (items_of track.now.cells) + 64) + length items.now }
+    ensures most { steps.new ≤ steps.old + 2 * size_of track.now + length items.now }
 {
     let _ = track.length(); // its clause says what the track keeps
     let seams = seams_of(track, x, y, steps);

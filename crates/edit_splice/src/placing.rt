@@ -1,13 +1,12 @@
 // Items in place of a range of one track, within its limits.
 ghost use Rattle.std.specs.Prelude.{◌≡◌, ◌+◌, ◌*◌, ◌-◌, ◌<◌, ◌≤◌, length};
-ghost use Rattle.composables.specs.Items.{items_of};
+ghost use Rattle.composables.specs.Sizes.{size_of};
 ghost use Rattle.composables.specs.Joined.{frames_in};
 ghost use Rattle.composables.specs.Roomy.{IsRoomy};
 ghost use Rattle.composables.specs.TrackFacts.{IsKept, NumbersBelow};
 ghost use Rattle.edit_splice.specs.NewItems.{AreNew};
-ghost use Rattle.edit_splice.specs.Splicing.{spliced_track};
+ghost use Rattle.edit_splice.specs.Splicing.{placed};
 ghost use Rattle.composables.specs.Answers.{Answers};
-ghost use Rattle.composables.specs.Limits.{track_within_limits};
 
 use crate::counting::count_after;
 use crate::splicing::splice;
@@ -37,9 +36,9 @@ pub fn place<L: Ledger>(
     requires new { AreNew track.old.next_item items.now }
     requires numbers { NumbersBelow (track.old.next_item + 1) items.now }
     requires short { x + frames_in items.now + (length track.old.cells - y) ≤ MAX_FRAMES }
-    ensures answers { Answers (track_within_limits (spliced_track track.old x y items.now) done) track.old track.new result }
+    ensures answers { Answers (placed track.old x y items.now done) track.old track.new result }
     ensures least { steps.old ≤ steps.new }
-    ensures most { steps.new ≤ steps.old + 16 * (length (items_of track.old.cells) + 64) }
+    ensures most { steps.new ≤ steps.old + 16 * size_of track.old }
 {
     if count_after(track, x, y, items, steps) > MAX_ITEMS {
         return Err(EditFault::Refused(Refusal::TooManyItems(track.number())));

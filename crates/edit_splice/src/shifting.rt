@@ -1,7 +1,9 @@
 // A shift of several tracks: something new in place of their places [x, y), by which what is behind them moves.
-ghost use Rattle.std.specs.Prelude.{◌≡◌, ◌+◌, ◌*◌, ◌-◌, ◌<◌, ◌≤◌, All, IfOk, length, option_map, sum_by};
+ghost use Rattle.std.specs.Prelude.{◌≡◌, ◌+◌, ◌*◌, ◌-◌, ◌<◌, ◌≤◌, All, IfOk, length, option_map, slice_index_or};
 ghost use Rattle.composables.specs.declared.refusals.Refusal.TheVariants.{TooLong, TooManyItems};
 ghost use Rattle.composables.specs.Items.{items_of};
+ghost use Rattle.composables.specs.TrackState.{TrackState};
+ghost use Rattle.composables.specs.Sizes.{size_of, sizes_of};
 ghost use Rattle.edit_splice.specs.Splicing.{HasRoom};
 ghost use Rattle.composables.specs.Answers.{Answers};
 ghost use Rattle.composables.specs.Limits.{too_long, too_many, within_limits};
@@ -39,9 +41,10 @@ pub fn shift_tracks<L: Ledger>(
 ) -> Result<Done, EditFault>
     requires order { shift.now.x ≤ shift.now.y }
     requires fits { All (λ t. IsShiftOf shift.now t) named.old.items }
-    ensures answers { Answers (within_limits (all_moved shift.now named.old.items) done) named.old.items named.new.items result }
+    ensures answers { Answers (within_limits (all_moved shift.now named.old.items) done)
+        named.old.items named.new.items result }
     ensures least { steps.old ≤ steps.new }
-    ensures most { steps.new ≤ steps.old + 16 * sum_by (λ t. length (items_of t.cells) + 64) named.old.items }
+    ensures most { steps.new ≤ steps.old + 16 * sizes_of named.old.items }
 {
     match first_too_long(named, shift) {
         Some(track) => return Err(EditFault::Refused(Refusal::TooLong(track))),
@@ -117,7 +120,7 @@ fn first_too_many<L: Ledger>(named: &[Track], shift: &Shift, steps: &mut Steps<L
     requires short { All (λ t. length (moved shift.now t).cells ≤ MAX_FRAMES) named.now }
     ensures found { too_many (all_moved shift.now named.now) ≡ option_map TooManyItems result }
     ensures least { steps.old ≤ steps.new }
-    ensures most { steps.new ≤ steps.old + 6 * sum_by (λ t. length (items_of t.cells) + 64) named.now }
+    ensures most { steps.new ≤ steps.old + 6 * sizes_of named.now }
 {
     for track in named {
         if items_after(track, shift, steps) > MAX_ITEMS {
@@ -134,7 +137,7 @@ fn items_after<L: Ledger>(track: &Track, shift: &Shift, steps: &mut Steps<L>) ->
     requires short { length (moved shift.now track.now).cells ≤ MAX_FRAMES }
     ensures count { result ≡ length (items_of (moved shift.now track.now).cells) }
     ensures least { steps.old ≤ steps.new }
-    ensures most { steps.new ≤ steps.old + 6 * (length (items_of track.now.cells) + 64) }
+    ensures most { steps.new ≤ steps.old + 6 * size_of track.now }
 {
     let length = track.length();
     let views = put_views(track, shift);
@@ -148,15 +151,25 @@ fn items_after<L: Ledger>(track: &Track, shift: &Shift, steps: &mut Steps<L>) ->
 }
 
 // Memory for each track, to splice two items or gaps into it.
-fn spares_for(alloc: Global, named: &[Track]) -> Result<Vec<Spare>, Memory>
-    ensures { IfOk result (λ spares. HasRooms spares.items named.now) }
+fn spares_for(alloc: Global, named: &mut Vec<Track>) -> Result<Vec<Spare>, Memory>
+    ensures rooms { IfOk result (λ spares. HasRooms spares.items named.old.items) }
+    ensures same { named.new.items ≡ named.old.items }
 {
     let mut spares = Vec::new(alloc);
-    for track in named {
-        let spare = spare_for(alloc, track, 2)?;
+    for index in 0..named.len() {
+        let spare = spare_at(alloc, named, index)?;
         spares.push(spare)?;
     }
     Ok(spares)
+}
+
+fn spare_at(alloc: Global, named: &mut Vec<Track>, index: usize) -> Result<Spare, Memory>
+    requires { index < length named.old.items }
+    ensures room { IfOk result
+        (λ s. (t : TrackState) → HasRoom s (slice_index_or named.old.items index t) 2) }
+    ensures same { named.new.items ≡ named.old.items }
+{
+    spare_for(alloc, &mut named[index], 2)
 }
 
 // Shifts each track in its memory, the last first.
@@ -172,7 +185,7 @@ fn shift_all<L: Ledger>(
     requires rooms { HasRooms spares.items named.old.items }
     ensures moved { named.new.items ≡ all_moved shift.now named.old.items }
     ensures least { steps.old ≤ steps.new }
-    ensures most { steps.new ≤ steps.old + 8 * sum_by (λ t. length (items_of t.cells) + 64) named.old.items }
+    ensures most { steps.new ≤ steps.old + 8 * sizes_of named.old.items }
 {
     let mut spares = spares;
     while let Some(spare) = spares.pop() {
@@ -188,7 +201,7 @@ fn shift_track<L: Ledger>(track: &mut Track, shift: &Shift, spare: Spare, steps:
     requires room { HasRoom spare track.old 2 }
     ensures moved { track.new ≡ moved shift.now track.old }
     ensures least { steps.old ≤ steps.new }
-    ensures most { steps.new ≤ steps.old + 8 * (length (items_of track.old.cells) + 64) }
+    ensures most { steps.new ≤ steps.old + 8 * size_of track.old }
 {
     let length = track.length();
     let views = put_views(track, shift);

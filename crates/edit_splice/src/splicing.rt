@@ -1,6 +1,6 @@
 // Splice: items in place of a range of a track.
 ghost use Rattle.std.specs.Prelude.{◌≡◌, ◌+◌, ◌*◌, ◌<◌, ◌≤◌, IfOk, OnOk, OnErr, length};
-ghost use Rattle.composables.specs.Items.{items_of};
+ghost use Rattle.composables.specs.Sizes.{size_of};
 ghost use Rattle.composables.specs.Joined.{AllFilled};
 ghost use Rattle.composables.specs.TrackFacts.{IsKept, NumbersBelow};
 ghost use Rattle.edit_splice.specs.Splicing.{HasRoom, spliced_track};
@@ -38,7 +38,7 @@ pub fn splice<L: Ledger>(
     ensures err { OnErr result (track.new ≡ track.old) }
 
     ensures least { steps.old + 1 ≤ steps.new }
-    ensures most { steps.new ≤ steps.old + 6 * (length (items_of track.old.cells) + 64) + length items.now }
+    ensures most { steps.new ≤ steps.old + 6 * size_of track.old + length items.now }
 {
     steps.tick();
     let spare = spare_for(alloc, track, items.len() as u32)?;
@@ -46,12 +46,14 @@ pub fn splice<L: Ledger>(
     Ok(())
 }
 
-/// Memory for a splice of a track that puts in so many items and gaps.
-pub fn spare_for(alloc: Global, track: &Track, items: u32) -> Result<Spare, Memory>
-    ensures { IfOk result (λ spare. HasRoom spare track.now items) }
+/// Memory for a splice of a track that puts in so many items and gaps. The track is as it was; `splice_in` gives it the
+/// memory back for its next splice.
+pub fn spare_for(alloc: Global, track: &mut Track, items: u32) -> Result<Spare, Memory>
+    ensures room { IfOk result (λ spare. HasRoom spare track.old items) }
+    ensures same { track.new ≡ track.old }
 {
     match items.checked_add(3) {
-        Some(more) => Spare::new(alloc, track.count(), more),
+        Some(more) => track.take_spare(alloc, more),
         None => Err(Memory),
     }
 }
@@ -77,7 +79,7 @@ pub fn splice_in<L: Ledger>(
     ensures spliced { track.new ≡ spliced_track track.old x y items.now }
 
     ensures least { steps.old + 1 ≤ steps.new }
-    ensures most { steps.new + 1 ≤ steps.old + 6 * (length (items_of track.old.cells) + 64) + length items.now }
+    ensures most { steps.new + 1 ≤ steps.old + 6 * size_of track.old + length items.now }
 {
     let _ = track.length(); // its clause says what the track keeps
     let seams = seams_of(track, x, y, steps);

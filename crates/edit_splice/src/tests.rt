@@ -2,6 +2,7 @@
 ghost use Rattle.std.specs.Prelude.{◌≡◌, ◌<◌, ◌≤◌, IfOk, length};
 ghost use Rattle.composables.specs.Joined.{frames_in};
 ghost use Rattle.composables.specs.TrackFacts.{NumbersBelow};
+ghost use Rattle.composables.specs.Views.{clip_view, gap_view};
 ghost use Rattle.edit_splice.specs.NewItems.{AreNew};
 
 use crate::{count_after, spare_for, splice, splice_in};
@@ -15,7 +16,7 @@ use std::test::Fail;
 use step_count::Steps;
 
 fn dark(len: u32) -> ItemView
-    ensures { result ≡ record { item = None; first = Side.Dark; len = len; mark = None; link = None } }
+    ensures { result ≡ gap_view len }
 {
     ItemView {
         item: None,
@@ -27,7 +28,7 @@ fn dark(len: u32) -> ItemView
 }
 
 fn item(number: u32, source: u32, len: u32) -> ItemView
-    ensures { result ≡ record { item = Some number; first = Side.Pic (What.Media 0) source; len = len; mark = None; link = None } }
+    ensures { result ≡ clip_view number (What.Media 0) source len }
 {
     ItemView {
         item: Some(number),

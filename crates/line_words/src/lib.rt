@@ -19,7 +19,8 @@ mod reader;
 pub use fault::Memory;
 pub use laws::{
     lines_are_the_same_in_any_pieces, lines_stand_between_line_feeds,
-    one_carriage_return_is_dropped, words_stand_between_blanks, written_numbers_are_read,
+    one_carriage_return_is_dropped, the_limit_is_this, words_stand_between_blanks,
+    written_numbers_are_read,
 };
 pub use line::{Fed, LineEnd};
 pub use list::Words;

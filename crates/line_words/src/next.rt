@@ -11,7 +11,8 @@ pub fn next_word(line: &[u8], from: usize) -> Option<(usize, usize)>
     ensures word { IfSome result (λ w. IsNextWord line.now from w.0 w.1) }
     ensures none { (result ≡ None) ↔ NoneBegins line.now from (length line.now) }
     ensures words { MatchOption result (words_from line.now from ≡ [])
-        (λ w. words_from line.now from ≡ slice_range line.now w.0 w.1 ∷ words_of (drop w.1 line.now)) }
+        (λ w. words_from line.now from
+            ≡ slice_range line.now w.0 w.1 ∷ words_of (drop w.1 line.now)) }
 {
     let start = blanks_end(line, begun_end(line, from));
     if start >= line.len() {
@@ -26,7 +27,8 @@ fn begun_end(line: &[u8], from: usize) -> usize
     ensures first { from ≡ 0 → result ≡ 0 }
     ensures begins { from ≤ result + 1 }
     ensures none { NoneBegins line.now from result }
-    ensures blank { 0 < from → result < length line.now → is_blank (slice_index line.now result) ≡ true }
+    ensures blank { 0 < from → result < length line.now
+        → is_blank (slice_index line.now result) ≡ true }
     ensures words { words_of (drop result line.now) ≡ words_from line.now from }
 {
     match from {

@@ -54,7 +54,8 @@ fn are_digits(word: &[u8]) -> bool
 // The value of digits, where it is below 2^32.
 fn small_value(digits: &[u8]) -> Option<u32>
     requires { list_all is_ascii_digit digits.now ≡ true }
-    ensures { result ≡ (if nat_lt (value_of digits.now) (2 ^ 32) then Some (value_of digits.now) else None) }
+    ensures { result
+        ≡ (if nat_lt (value_of digits.now) (2 ^ 32) then Some (value_of digits.now) else None) }
 {
     let mut value = 0;
     for digit in digits {

@@ -24,7 +24,10 @@ impl Model for LineReader {
 
     ghost Value = { Reading };
 
-    ghost view = { λ r. record { pending = if r.is_too_long then None else Some r.pending; last = r.last } };
+    ghost view = { λ r. record {
+      pending = if r.is_too_long then None else Some r.pending;
+      last = r.last;
+    } };
 
     ghost invariant = { λ r. length r.pending ≤ MAX_LINE };
 }
@@ -46,16 +49,19 @@ impl LineReader {
     ///
     /// `line` tells how the line ended that the line feed ends. The bytes that were not taken are to be fed next.
     pub fn feed(&mut self, piece: &[u8]) -> Fed
-        ensures taken { MatchOption (position is_lf piece.now) (result.taken ≡ length piece.now) (λ at. result.taken ≡ at + 1) }
+        ensures taken { MatchOption (position is_lf piece.now)
+            (result.taken ≡ length piece.now) (λ at. result.taken ≡ at + 1) }
         ensures within { result.taken ≤ length piece.now }
         ensures some { 0 < length piece.now → 0 < result.taken }
 
         ensures line { IsSome result.line ↔ IsSome (position is_lf piece.now) }
-        ensures lines { lines_told result.line self.new.last ≡ ended self.old.pending (take result.taken piece.now) }
+        ensures lines { lines_told result.line self.new.last
+            ≡ ended self.old.pending (take result.taken piece.now) }
         ensures too_long { result.line ≡ Some LineEnd.TooLong → self.new.last ≡ [] }
         ensures last { IfNone result.line (self.new.last ≡ self.old.last) }
 
-        ensures pending { self.new.pending ≡ pending_after self.old.pending (take result.taken piece.now) }
+        ensures pending { self.new.pending
+            ≡ pending_after self.old.pending (take result.taken piece.now) }
     {
         // What is pending is no longer than a line, which a read of a field tells the proof.
         let _ = &self.pending;

@@ -5,7 +5,10 @@ ghost use Rattle.line_words.specs.Lines.{last_line, lines_of};
 ghost use Rattle.line_words.specs.Pieces.{ended, pending_after, lines_in_pieces};
 ghost use Rattle.line_words.specs.Told.{lines_told};
 
-use crate::{Fed, LineEnd, LineReader, MAX_LINE, NumberFault, Words, next_word, number, signed};
+use crate::{
+    Fed, LineEnd, LineReader, MAX_LINE, NumberFault, Words, next_word, number, signed,
+    the_limit_is_this,
+};
 use std::alloc::{AllocError, Global};
 use std::test::Fail;
 
@@ -45,7 +48,8 @@ fn keep_lines(
 ) -> Result<(), AllocError>
     ensures lines { OnOk result (map (option_map (λ l. l.items)) lines.new.items
         ≡ map (option_map (λ l. l.items)) lines.old.items ++ ended reader.old.pending piece.now) }
-    ensures pending { OnOk result (reader.new.pending ≡ pending_after reader.old.pending piece.now) }
+    ensures pending { OnOk result
+        (reader.new.pending ≡ pending_after reader.old.pending piece.now) }
 {
     let mut at = 0;
     while at < piece.len() {
@@ -59,7 +63,8 @@ fn keep_lines(
 
 // The lines of a text that comes in pieces, as a reader tells them.
 fn kept_lines(alloc: Global, pieces: &[&[u8]]) -> Result<Vec<Kept>, AllocError>
-    ensures { IfOk result (λ lines. map (option_map (λ l. l.items)) lines.items ≡ lines_of (concat (map (λ piece. piece.now) pieces.now))) }
+    ensures { IfOk result (λ lines. map (option_map (λ l. l.items)) lines.items
+        ≡ lines_of (concat (map (λ piece. piece.now) pieces.now))) }
 {
     let mut reader = LineReader::new();
     let mut lines = Vec::new(alloc);
@@ -294,4 +299,9 @@ fn words_stand_in_their_order(rt: HostRuntime) -> Result<(), Fail> {
     assert_eq!(rt; words.word(1), "");
     assert_eq!(rt; words.word(2), "2");
     Ok(())
+}
+
+#[test]
+fn the_limit_is_told() {
+    the_limit_is_this();
 }

@@ -1,6 +1,6 @@
 use Rattle.std.proofs.Common.{ap, arith}
 use Rattle.std.proofs.lemmas.List.Sums.{sum_by_more_le}
-use Rattle.edit_splice.proofs.Sizes.{size_of}
+use Rattle.composables.specs.Sizes.{size_of}
 use Rattle.edit_splice.proofs.shifting.first_too_many.Goals as goal
 
 pub returns-then-items_after-gt-MAX_ITEMS-clause-most :

@@ -1,7 +1,7 @@
 use Rattle.std.proofs.Common.{◌≡◌, ◌+◌, ◌*◌, ◌≤◌, drop, take, sum_by}
 use Rattle.composables.specs.Limits.{too_many}
 use Rattle.edit_splice.specs.Moves.{all_moved}
-use Rattle.edit_splice.proofs.Sizes.{size_of}
+use Rattle.composables.specs.Sizes.{size_of}
 use Rattle.edit_splice.proofs.shifting.first_too_many.Given as goal
 
 abbrev pub invariant-loop-track : goal.invariant-loop-track

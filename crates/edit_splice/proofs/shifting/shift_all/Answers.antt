@@ -6,7 +6,7 @@ use Rattle.edit_splice.specs.Splicing.{HasRoom}
 use Rattle.edit_splice.specs.Moves.{HasRooms, IsShiftOf, moved}
 use Rattle.edit_splice.proofs.Firsts.{rooms-many}
 use Rattle.edit_splice.proofs.PartMoved.{last, last-moved, last-room, many-popped, part-all, part-length, size-more}
-use Rattle.edit_splice.proofs.Sizes.{size_of}
+use Rattle.composables.specs.Sizes.{size_of}
 use Rattle.edit_splice.proofs.shifting.shift_all.Goals as goal
 
 pub loop-spare-init : goal.loop-spare-init

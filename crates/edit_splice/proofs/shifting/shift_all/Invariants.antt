@@ -1,7 +1,7 @@
 use Rattle.std.proofs.Common.{◌≡◌, ◌+◌, ◌*◌, ◌≤◌, drop, take, sum_by, length}
 use Rattle.edit_splice.specs.Moves.{HasRooms}
 use Rattle.edit_splice.proofs.PartMoved.{part_moved}
-use Rattle.edit_splice.proofs.Sizes.{size_of}
+use Rattle.composables.specs.Sizes.{size_of}
 use Rattle.edit_splice.proofs.shifting.shift_all.Given as goal
 
 abbrev pub invariant-loop-spare : goal.invariant-loop-spare

@@ -13,5 +13,5 @@ first_too_many-requires-clause-short g c =
 
 pub shift_all-requires-clause-short : goal.shift_all-requires-clause-short
 shift_all-requires-clause-short g c =
-    subst (λ (ts : List TrackState). All (λ (t : TrackState). length (moved c.args.shift.now t).cells ≤ MAX_FRAMES) ts) c.deref.ensures.value
+    subst (λ (ts : List TrackState). All (λ (t : TrackState). length (moved c.args.shift.now t).cells ≤ MAX_FRAMES) ts) (c.deref.ensures.value ∙ sym c.spares_for.ensures.same)
     (short-all c.args.shift.now c.deref.result.now (c.first_too_long.ensures ∙ ap (option_map TooLong) c.in-None.is))

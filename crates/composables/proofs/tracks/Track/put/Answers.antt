@@ -1,4 +1,6 @@
-use Rattle.std.proofs.Common.{length, arith, ap, refl, ◌∙◌}
+use Rattle.std.proofs.Common.{length, arith, ap, refl, ◌∙◌, Vec}
+use Rattle.std.specs.declared.alloc.Global.{Global}
+use Rattle.composables.specs.declared.items.ItemView.{ItemView}
 use Rattle.composables.specs.TrackState.{replaced}
 use Rattle.composables.specs.TrackInside.{state_of}
 use Rattle.composables.proofs.Joining.{items_of-tight, length-cells_of}
@@ -41,9 +43,10 @@ invariant_of-self g c =
     let xs = t.items.items in
     let ws = c.args.middle.now in
     let kept = rw (← c.self.view_is) at c.requires.kept in
-    let is = rw c.deref-2.ensures.value at c.lay_around-all.ensures.joined in
+    let laid = rw c.deref-2.ensures.value at c.lay_around-all.ensures.joined in
+    let is = ap (λ (v : Vec ItemView Global). v.items) c.replace.ensures.after ∙ laid in
     let counted = rw c.deref.ensures.value at c.frames_around-total.ensures in
-    let k = replace_keeps xs c.lay_around-all.result.items ws c.args.from c.args.to c.frames_around-total.result (replaced (state_of t) c.args.from c.args.to ws) v.filled v.tight c.requires.filled is refl kept counted in
+    let k = replace_keeps xs c.replace.new.dest.items ws c.args.from c.args.to c.frames_around-total.result (replaced (state_of t) c.args.from c.args.to ws) v.filled v.tight c.requires.filled is refl kept counted in
     record {
       tight = k.tight;
       filled = k.filled;
@@ -58,7 +61,8 @@ returns-clause-replaced g c =
     let xs = t.items.items in
     let ws = c.args.middle.now in
     let kept = rw (← c.self.view_is) at c.requires.kept in
-    let is = rw c.deref-2.ensures.value at c.lay_around-all.ensures.joined in
+    let laid = rw c.deref-2.ensures.value at c.lay_around-all.ensures.joined in
+    let is = ap (λ (v : Vec ItemView Global). v.items) c.replace.ensures.after ∙ laid in
     let counted = rw c.deref.ensures.value at c.frames_around-total.ensures in
-    let k = replace_keeps xs c.lay_around-all.result.items ws c.args.from c.args.to c.frames_around-total.result (replaced (state_of t) c.args.from c.args.to ws) v.filled v.tight c.requires.filled is refl kept counted in
+    let k = replace_keeps xs c.replace.new.dest.items ws c.args.from c.args.to c.frames_around-total.result (replaced (state_of t) c.args.from c.args.to ws) v.filled v.tight c.requires.filled is refl kept counted in
     rw (← c.self.view_is) (same_state t.number t.next_link _ _ _ _ k.cells c.number_past_all-self-inside.ensures)
