@@ -106,14 +106,16 @@ nest_read_sound table nest k frames le h n w =
     let grown = with_sound table nest k le h n in
     let own : IsSoundNest new k nest = nest_kept table new grown.keeps k nest n in
     let short : nest.length ≤ 2592000 = omega (arith, n.as_long, longest_by table k 0 nest.layers (omega arith) n.layers) in
-    let last : slice_get new.nests (length table.nests) ≡ Some nest = get_last table.nests nest in
-    (grown, record {
-      item = λ more. (omega arith, omega (arith, w), omega (arith, short));
-      placed = record {
-        bounds = ap (option_map (λ (e : Nest). (0, e.length))) last;
-        deep = (nest, last, All-weaker (IsSoundLayer new k) (λ (l : Layer). EachHas (IsDeep new.nests k) (items_of l.track.cells)) (λ l s. s.track.deep) nest.layers own.layers);
-      };
-    })
+    let last : slice_get new.nests (length table.nests) ≡ Some nest = get_last table.nests nest in (
+      grown,
+      record {
+        item = λ more. (omega arith, omega (arith, w), omega (arith, short));
+        placed = record {
+          bounds = ap (option_map (λ (e : Nest). (0, e.length))) last;
+          deep = (nest, last, All-weaker (IsSoundLayer new k) (λ (l : Layer). EachHas (IsDeep new.nests k) (items_of l.track.cells)) (λ l s. s.track.deep) nest.layers own.layers);
+        };
+      },
+    )
 
 own_then : (rate : ℕ × ℕ) (inner : Result Inner DocCode) (levels : ℕ) (at : ℕ) → InnerIs inner levels → IfOk (allowed inner at) (λ own. InnerIs (Ok own) levels)
 own_then rate (Ok own) levels at h = h
@@ -218,10 +220,11 @@ module _ (rate : ℕ × ℕ) (inner : Result Inner DocCode) (levels : ℕ) (own_
 
   next_sound : (table : Table) (s : List Layer × Table) (t : Tree) → LayersFrom table levels s → IfOk (next_layer rate inner s t) (LayersFrom table levels)
   next_sound table s t h =
-      after (layer_in rate inner (length s.0) s.1 t) _ (LayerFrom s.1 levels) (LayersFrom table levels) (past (schema_read t) _ _ (λ found. layer_sound found (length s.0) s.1 t h.0.sound)) (λ layer l.
-      (grown_on table s.1 layer.1 h.0 l.0,
-      All-append (IsSoundLayer layer.1 levels) s.0 (layer.0 ∷ []) (All-weaker (IsSoundLayer s.1 levels) (IsSoundLayer layer.1 levels) (layer_kept s.1 layer.1 l.0.keeps levels) s.0 h.1)
-      (All-cons (IsSoundLayer layer.1 levels) layer.0 [] l.1 (All-nil (IsSoundLayer layer.1 levels)))))
+      after (layer_in rate inner (length s.0) s.1 t) _ (LayerFrom s.1 levels) (LayersFrom table levels) (past (schema_read t) _ _ (λ found. layer_sound found (length s.0) s.1 t h.0.sound)) (λ layer l. (
+        grown_on table s.1 layer.1 h.0 l.0,
+        All-append (IsSoundLayer layer.1 levels) s.0 (layer.0 ∷ []) (All-weaker (IsSoundLayer s.1 levels) (IsSoundLayer layer.1 levels) (layer_kept s.1 layer.1 l.0.keeps levels) s.0 h.1)
+            (All-cons (IsSoundLayer layer.1 levels) layer.0 [] l.1 (All-nil (IsSoundLayer layer.1 levels))),
+      ))
 
   layers_sound : (table : Table) (children : List Tree) → IsSoundTable table → IfOk (layers_in rate inner table children) (LayersFrom table levels)
   layers_sound table children h = each_keeps (next_layer rate inner) (LayersFrom table levels) (next_sound table) ([], table) children (grown_self table h, All-nil (IsSoundLayer table levels))

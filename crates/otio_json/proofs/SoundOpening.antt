@@ -112,7 +112,7 @@ one_more s a track h r = record {
       let read : IsReadTrack track.1 (levels_of_kind a) track.0 = subst (λ m. IsReadTrack track.1 m track.0) (same_levels a) r.1.read in
       let before : AreTracksFrom track.1 0 track.1.kinds s.0 = subst (λ ks. AreTracksFrom track.1 0 ks s.0) (sym r.0.kinds) (tracks_kept s.1 track.1 r.0.keeps 0 s.1.kinds s.0 h.tracks) in
       tracks_kept track.1 (with_kind track.1 a) (with_kind_keeps track.1 a) 0 (track.1.kinds ++ a ∷ []) (s.0 ++ track.0 ∷ [])
-          (track_more track.1 0 track.1.kinds s.0 a track.0 before (omega (arith, r.1.numbered)) read);
+      (track_more track.1 0 track.1.kinds s.0 a track.0 before (omega (arith, r.1.numbered)) read);
 }
 
 -- and how many they are
@@ -143,11 +143,11 @@ sequence_sound rate children at = tested (nat_lt 0 (length children) && nat_le (
     let p = and_parts (nat_lt 0 (length children)) (nat_le (length children) 16) e in
     weaker (tracks_read rate empty_table children) (AreSo (length children)) AreTracks (all_sound rate children ([], empty_table) (length children) nothing_yet (omega arith)) (λ s h.
     (h.0, omega (arith, h.1, nat_lt_true 0 (length children) p.0), omega (arith, h.1, nat_le_true (length children) 16 p.1)))) where
-  nat_lt_true : (a b : ℕ) → nat_lt a b ≡ true → a < b
-  nat_lt_true a b t = grind arith
+      nat_lt_true : (a b : ℕ) → nat_lt a b ≡ true → a < b
+      nat_lt_true a b t = grind arith
 
-  nat_le_true : (a b : ℕ) → nat_le a b ≡ true → a ≤ b
-  nat_le_true a b t = grind arith
+      nat_le_true : (a b : ℕ) → nat_le a b ≡ true → a ≤ b
+      nat_le_true a b t = grind arith
 
 -- ---- the opening
 

@@ -89,8 +89,8 @@ unfolding track_fit
 fit_by table levels number ps at h p = tested (nat_le (frames_in_all ps) 2592000 && nat_le (length ps) 65536) (Ok (track_made number ps)) O11 at (IsNumbered table levels number) (λ e.
     let q = and_parts (nat_le (frames_in_all ps) 2592000) (nat_le (length ps) 65536) e in
     record { read = made_read table levels number ps h p (nat_le_true (frames_in_all ps) 2592000 q.0) (nat_le_true (length ps) 65536 q.1); numbered = refl }) where
-  nat_le_true : (a b : ℕ) → nat_le a b ≡ true → a ≤ b
-  nat_le_true a b t = grind arith
+      nat_le_true : (a b : ℕ) → nat_le a b ≡ true → a ≤ b
+      nat_le_true a b t = grind arith
 
 -- ---- rows
 
