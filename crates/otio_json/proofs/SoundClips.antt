@@ -1,5 +1,5 @@
 -- What is entered for a clip is sound.
-use Rattle.std.proofs.Common.{◌≡◌, ℕ, zero, suc, ◌+◌, ◌-◌, ◌<◌, ◌≤◌, ℤ, pos, int_le, nat_eq, nat_lt, nat_le, eqb, min, max, unsigned_abs, Bool, true, false, cond, ◌&&◌, ◌||◌, List, [], ◌∷◌, ◌++◌, length, slice_get, get_or, position, Option, Some, None, IfSome, option_map, Result, Ok, Err, IfOk, refl, sym, ap, ◌∙◌, arith, subst, if◌then◌else◌}
+use Rattle.std.proofs.Common.{◌≡◌, ℕ, zero, suc, ◌+◌, ◌-◌, ◌<◌, ◌≤◌, ℤ, pos, int_le, int_lt, codes, nat_eq, nat_lt, nat_le, eqb, min, max, unsigned_abs, Bool, true, false, cond, ◌&&◌, ◌||◌, List, [], ◌∷◌, ◌++◌, length, slice_get, get_or, position, Option, Some, None, IfSome, option_map, Result, Ok, Err, IfOk, refl, sym, ap, ◌∙◌, arith, subst, if◌then◌else◌}
 use Rattle.std.specs.List.{All, list_any}
 use Rattle.std.specs.Str.{bytes_eq}
 use Rattle.std.proofs.lemmas.Bool.{eqb-true}
@@ -14,15 +14,15 @@ use Rattle.composables.specs.Bounds.{bounds_of}
 use Rattle.composables.specs.ReelNames.{with_name}
 use Rattle.json_tokens.specs.Reading.{◌>>=◌}
 use Rattle.json_tree.specs.Tree.{Tree}
-use Rattle.json_tree.specs.Parts.{kind_in}
+use Rattle.json_tree.specs.Parts.{kind_in, place_of}
 use Rattle.otio_tracks.specs.declared.clips.Frames.{Frames}
 use Rattle.otio_tracks.specs.declared.times.Span.{Span}
 use Rattle.otio_tracks.specs.declared.parts.Part.{Part}
 use Rattle.otio_tracks.specs.declared.faults.DocCode.TheVariants.{O3, O4, O11, O14}
 use Rattle.otio_tracks.specs.Reading.{Read, refuse, or_refuse}
-use Rattle.otio_tracks.specs.Values.{is_object, given}
+use Rattle.otio_tracks.specs.Values.{is_object, given, needed, expected}
 use Rattle.otio_tracks.specs.Parts.{frames_within, trim_read}
-use Rattle.otio_tracks.specs.Times.{Moment}
+use Rattle.otio_tracks.specs.Times.{Moment, moment_read}
 use Rattle.otio_tracks.specs.Clips.{source_frames, source_if, source_read, clamped, in_media, media_if, available_read, available_if, reference_if, reference_read, narrowed, widened, frames_of, clip_frames, reel_text, name_at, same_media, number_or, entry_number, unless_there, with_entry, entry_of, part_of, entered, clip_read}
 use Rattle.otio_tracks.specs.SoundParts.{IsItemPart}
 use Rattle.otio_tracks.proofs.ReelLaws.{place_le}
@@ -82,8 +82,12 @@ refused_by false r f P g h = h
 available_in : (rate : ℕ × ℕ) (range : Tree) → IfOk (available_read rate range) (λ m. IfSome m InMedia)
 unfolding available_read
 available_in rate range =
-    past _ _ _ (λ x. past _ _ _ (λ start_text. past _ _ _ (λ start. past _ _ _ (λ length_text. past _ _ _ (λ duration.
-    refused_by _ _ _ _ tt (media_then (narrowed start duration rate) _))))))
+    past (expected (codes "TimeRange.1") range) _ _ (λ x.
+    past (needed (codes "start_time") range) _ _ (λ start_text.
+    past (moment_read start_text) _ _ (λ start.
+    past (needed (codes "duration") range) _ _ (λ length_text.
+    past (moment_read length_text) _ _ (λ duration.
+    refused_by (int_lt duration.value.0 (pos 0)) (media_if (narrowed start duration rate) (place_of range)) (refuse O14 (place_of length_text)) (λ m. IfSome m InMedia) tt (media_then (narrowed start duration rate) (place_of range)))))))
 
 available_then : (rate : ℕ × ℕ) (o : Option Tree) → IfOk (available_if rate o) (λ m. IfSome m InMedia)
 available_then rate None = tt
@@ -91,16 +95,16 @@ available_then rate (Some t) = available_in rate t
 
 reference_then : (rate : ℕ × ℕ) (o : Option Tree) → IfOk (reference_if rate o) (λ m. IfSome m InMedia)
 reference_then rate None = tt
-reference_then rate (Some t) = tested (is_object (kind_in t)) (available_if rate (given _ t)) O3 _ (λ m. IfSome m InMedia) (λ e. available_then rate (given _ t))
+reference_then rate (Some t) = tested (is_object (kind_in t)) (available_if rate (given (codes "available_range") t)) O3 (place_of t) (λ m. IfSome m InMedia) (λ e. available_then rate (given (codes "available_range") t))
 
 reference_in : (rate : ℕ × ℕ) (clip : Tree) → IfOk (reference_read rate clip) (λ m. IfSome m InMedia)
 unfolding reference_read
-reference_in rate clip = reference_then rate (given _ clip)
+reference_in rate clip = reference_then rate (given (codes "media_reference") clip)
 
-record AreFrames (f : Frames) : Type 0 where
-  some : f.from < f.to
-  most : f.to ≤ 16777216
-  holds : 0 < f.len → (f.from ≤ f.source) × (f.source + f.len ≤ f.to)
+pub record AreFrames (f : Frames) : Type 0 where
+  pub some : f.from < f.to
+  pub most : f.to ≤ 16777216
+  pub holds : 0 < f.len → (f.from ≤ f.source) × (f.source + f.len ≤ f.to)
 
 widened_by : (s m : ℕ × ℕ) (b : Bool) → nat_eq s.1 0 ≡ b → InSource s → InMedia m → AreFrames (frames_of s (if b then m else (min m.0 s.0, max m.1 (s.0 + s.1))))
 widened_by s m true e hs hm = record { some = hm.0; most = hm.1; holds = λ more. absurd (omega (arith, nat_eq_true s.1 e, more)) } where
@@ -151,13 +155,13 @@ same_range e m h =
     let q = and_parts (eqb m.from e.from) (eqb m.to e.to) p.1 in
     ap (λ a. (a, m.to)) (eqb-true m.from e.from q.0) ∙ ap (λ b. (e.from, b)) (eqb-true m.to e.to q.1)
 
-entry_bounds : (media : List Media) (e : Media) → option_map (λ (m : Media). (m.from, m.to)) (slice_get (with_entry media e) (entry_number media e)) ≡ Some (e.from, e.to)
+entry_bounds : (media : List Media) (e : Media) → option_map {U = ℕ × ℕ} (λ (m : Media). (m.from, m.to)) (slice_get (with_entry media e) (entry_number media e)) ≡ Some (e.from, e.to)
 entry_bounds media e = by_place (position (same_media e) media) refl where
-  by_place : (o : Option ℕ) → position (same_media e) media ≡ o → option_map (λ (m : Media). (m.from, m.to)) (slice_get (unless_there o media e) (number_or o (length media))) ≡ Some (e.from, e.to)
+  by_place : (o : Option ℕ) → position (same_media e) media ≡ o → option_map {U = ℕ × ℕ} (λ (m : Media). (m.from, m.to)) (slice_get (unless_there o media e) (number_or o (length media))) ≡ Some (e.from, e.to)
   by_place (Some i) h =
       let p = position-Some (same_media e) media i e h in
-      ap (option_map (λ (m : Media). (m.from, m.to))) (slice_get-get_or media i e p.0) ∙ ap Some (same_range e (get_or media i e) p.1)
-  by_place None h = ap (option_map (λ (m : Media). (m.from, m.to))) (get_last media e)
+      ap (option_map {U = ℕ × ℕ} (λ (m : Media). (m.from, m.to))) (slice_get-get_or media i e p.0) ∙ ap Some (same_range e (get_or media i e) p.1)
+  by_place None h = ap (option_map {U = ℕ × ℕ} (λ (m : Media). (m.from, m.to))) (get_last media e)
 
 all_with_entry : (P : Media → Type 0) (media : List Media) (e : Media) → All P media → P e → All P (with_entry media e)
 all_with_entry P media e h new = by_place (position (same_media e) media) where
@@ -215,5 +219,5 @@ unfolding clip_read
 clip_sound rate table levels clip h =
     after (source_read rate clip) _ (λ s. IfSome s InSource) (ReadFrom table levels) (source_in rate clip) (λ s hs.
     after (reference_read rate clip) _ (λ m. IfSome m InMedia) (ReadFrom table levels) (reference_in rate clip) (λ m hm.
-    after (or_refuse (clip_frames s m) O14 _) _ AreFrames (ReadFrom table levels) (chosen (clip_frames s m) O14 _ AreFrames (frames_in s m hs hm)) (λ f hf.
+    after (or_refuse (clip_frames s m) O14 (place_of clip)) _ AreFrames (ReadFrom table levels) (chosen (clip_frames s m) O14 (place_of clip) AreFrames (frames_in s m hs hm)) (λ f hf.
     entered_read table levels (reel_text clip) f hf h)))

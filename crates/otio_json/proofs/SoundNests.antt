@@ -1,5 +1,5 @@
 -- Tracks, layers and nests that are read are sound.
-use Rattle.std.proofs.Common.{◌≡◌, ℕ, zero, suc, ◌+◌, ◌-◌, ◌<◌, ◌≤◌, ◌^◌, max, int_le, nat_le, unsigned_abs, pos, Bool, true, false, ◌&&◌, List, [], ◌∷◌, ◌++◌, length, slice_get, option_map, Option, Some, None, IfSome, Result, Ok, Err, IfOk, refl, sym, ap, ◌∙◌, arith, subst, if◌then◌else◌}
+use Rattle.std.proofs.Common.{◌≡◌, ℕ, zero, suc, ◌+◌, ◌-◌, ◌<◌, ◌≤◌, ◌^◌, max, int_le, codes, nat_le, unsigned_abs, pos, Bool, true, false, ◌&&◌, List, [], ◌∷◌, ◌++◌, length, slice_get, option_map, Option, Some, None, IfSome, Result, Ok, Err, IfOk, refl, sym, ap, ◌∙◌, arith, subst, if◌then◌else◌}
 use Rattle.std.specs.List.{All}
 use Rattle.std.proofs.lemmas.List.{length-append}
 use Rattle.std.proofs.lemmas.List.Elements.{All-append, All-weaker, All-cons, All-nil, All-head, All-tail}
@@ -13,6 +13,7 @@ use Rattle.composables.specs.Items.{items_of}
 use Rattle.composables.specs.TrackState.{TrackState}
 use Rattle.json_tokens.specs.Reading.{◌>>=◌}
 use Rattle.json_tree.specs.Tree.{Tree}
+use Rattle.json_tree.specs.Parts.{place_of}
 use Rattle.otio_tracks.specs.declared.faults.DocCode.{DocCode}
 use Rattle.otio_tracks.specs.declared.faults.DocCode.TheVariants.{O12, O13, O14}
 use Rattle.otio_tracks.specs.declared.values.Schema.{Schema}
@@ -20,8 +21,10 @@ use Rattle.otio_tracks.specs.declared.values.Schema.TheVariants.{Clip, Gap, Stac
 use Rattle.otio_tracks.specs.declared.times.Span.{Span}
 use Rattle.otio_tracks.specs.declared.parts.Part.{Part}
 use Rattle.otio_tracks.specs.Reading.{Read, refuse, or_refuse, each}
-use Rattle.otio_tracks.specs.Parts.{frames_within}
-use Rattle.otio_tracks.specs.Rows.{RowState, empty_row, waits, row_with, row_end}
+use Rattle.otio_tracks.specs.Values.{given, needed, list_read, schema_read}
+use Rattle.otio_tracks.specs.Times.{gap_read}
+use Rattle.otio_tracks.specs.Parts.{head_read, trim_read, frames_within}
+use Rattle.otio_tracks.specs.Rows.{RowState, empty_row, waiting_with, waits, row_with, row_end}
 use Rattle.otio_tracks.specs.Building.{track_fit}
 use Rattle.otio_tracks.specs.SoundParts.{SideLies}
 use Rattle.otio_json.specs.declared.nests.Nesting.{Nesting}
@@ -58,9 +61,9 @@ trimmed_sound table levels t trim h =
 -- a layer that is one item
 item_sound : (table : Table) (levels number : ℕ) (p : Part) (at : ℕ) → IsRead table levels p → IfOk (layer_of number p at) (IsSoundLayer table levels)
 item_sound table levels number p at h =
-    after (row_with empty_row p) _ (IsReadRow table levels) (IsSoundLayer table levels) (row_more table levels empty_row p (empty_row_read table levels) h) (λ row r.
-    after (row_end row) _ (AreRead table levels) (IsSoundLayer table levels) (row_parts table levels row r) (λ ps a.
-    after (track_fit number ps at) _ (IsNumbered table levels number) (IsSoundLayer table levels) (fit_by table levels number ps at a.0 a.1) (λ t n.
+    after (row_with empty_row p) (λ row. row_end row >>= λ parts. track_fit number parts at >>= λ track. Ok (whole_layer track)) (IsReadRow table levels) (IsSoundLayer table levels) (row_more table levels empty_row p (empty_row_read table levels) h) (λ row r.
+    after (row_end row) (λ parts. track_fit number parts at >>= λ track. Ok (whole_layer track)) (AreRead table levels) (IsSoundLayer table levels) (row_parts table levels row r) (λ ps a.
+    after (track_fit number ps at) (λ track. Ok (whole_layer track)) (IsNumbered table levels number) (IsSoundLayer table levels) (fit_by table levels number ps at a.0 a.1) (λ t n.
     whole_sound table levels t n.read)))
 
 -- ---- what stands in a nest is read so
@@ -103,14 +106,16 @@ nest_read_sound table nest k frames le h n w =
     let grown = with_sound table nest k le h n in
     let own : IsSoundNest new k nest = nest_kept table new grown.keeps k nest n in
     let short : nest.length ≤ 2592000 = omega (arith, n.as_long, longest_by table k 0 nest.layers (omega arith) n.layers) in
-    let last : slice_get new.nests (length table.nests) ≡ Some nest = get_last table.nests nest in
-    (grown, record {
-      item = λ more. (omega arith, omega (arith, w), omega (arith, short));
-      placed = record {
-        bounds = ap (option_map (λ (e : Nest). (0, e.length))) last;
-        deep = (nest, last, All-weaker (IsSoundLayer new k) (λ (l : Layer). EachHas (IsDeep new.nests k) (items_of l.track.cells)) (λ l s. s.track.deep) nest.layers own.layers);
-      };
-    })
+    let last : slice_get new.nests (length table.nests) ≡ Some nest = get_last table.nests nest in (
+      grown,
+      record {
+        item = λ more. (omega arith, omega (arith, w), omega (arith, short));
+        placed = record {
+          bounds = ap (option_map (λ (e : Nest). (0, e.length))) last;
+          deep = (nest, last, All-weaker (IsSoundLayer new k) (λ (l : Layer). EachHas (IsDeep new.nests k) (items_of l.track.cells)) (λ l s. s.track.deep) nest.layers own.layers);
+        };
+      },
+    )
 
 own_then : (rate : ℕ × ℕ) (inner : Result Inner DocCode) (levels : ℕ) (at : ℕ) → InnerIs inner levels → IfOk (allowed inner at) (λ own. InnerIs (Ok own) levels)
 own_then rate (Ok own) levels at h = h
@@ -118,11 +123,11 @@ own_then rate (Err code) levels at h = tt
 
 gap_then : (rate : ℕ × ℕ) (at : ℕ) (o : Option Tree) → IfOk (gap_if rate at o) (λ p. p.first ≡ Dark)
 gap_then rate at None = tt
-gap_then rate at (Some t) = past _ _ _ (λ len. refl)
+gap_then rate at (Some t) = past (gap_read rate t) _ _ (λ len. refl)
 
 gap_sound : (rate : ℕ × ℕ) (t : Tree) → IfOk (gap_part_read rate t) (λ p. p.first ≡ Dark)
 unfolding gap_part_read
-gap_sound rate t = gap_then rate _ _
+gap_sound rate t = gap_then rate (place_of t) (given (codes "source_range") t)
 
 dark_read : (table : Table) (levels : ℕ) (p : Part) → p.first ≡ Dark → IsRead table levels p
 dark_read table levels p e = record {
@@ -151,16 +156,16 @@ TrackFrom table levels number s = Grown table s.1 × IsNumbered s.1 levels numbe
 module _ (rate : ℕ × ℕ) (inner : Result Inner DocCode) (levels : ℕ) (own_is : InnerIs inner levels) where
   nest_item_sound : (schema : Schema) (table : Table) (t : Tree) → IsSoundTable table → IfOk (nest_item_in rate inner schema table t) (ReadFrom table levels)
   nest_item_sound schema table t h =
-      after (allowed inner _) _ (λ own. InnerIs (Ok own) levels) (ReadFrom table levels) (own_then rate inner levels _ own_is) (λ own k.
-      past _ _ _ (λ x. past _ _ _ (λ trim.
+      after (allowed inner (place_of t)) _ (λ own. InnerIs (Ok own) levels) (ReadFrom table levels) (own_then rate inner levels (place_of t) own_is) (λ own k.
+      past (head_read t) _ _ (λ x. past (trim_read rate t) _ _ (λ trim.
       after (own schema table t) _ (λ r. Grown table r.1 × IsSoundNest r.1 k.0 r.0) (ReadFrom table levels) (k.3 schema table t h) (λ nest n.
       after (nest_frames nest.0.length trim) _ (λ f. f.0 + f.1 ≤ nest.0.length) (ReadFrom table levels) (shown_within nest.0.length trim) (λ f w.
       grown_placed table nest.1 levels (with_nest nest.1 nest.0 f) n.0 (subst (λ m. ReadFrom nest.1 m (with_nest nest.1 nest.0 f)) (sym k.1) (nest_read_sound nest.1 nest.0 k.0 f k.2 n.0.sound n.1 w)))))))
 
   item_in_sound : (schema : Schema) (at : ℕ) (table : Table) (t : Tree) → IsSoundTable table → IfOk (item_in rate inner schema at table t) (ReadFrom table levels)
-  item_in_sound Clip at table t h = past _ _ _ (λ x. clip_sound rate table levels t h)
+  item_in_sound Clip at table t h = past (head_read t) _ _ (λ x. clip_sound rate table levels t h)
   item_in_sound Gap at table t h =
-      past _ _ _ (λ x. after (gap_part_read rate t) _ (λ p. p.first ≡ Dark) (ReadFrom table levels) (gap_sound rate t) (λ p e.
+      past (head_read t) _ _ (λ x. after (gap_part_read rate t) _ (λ p. p.first ≡ Dark) (ReadFrom table levels) (gap_sound rate t) (λ p e.
       (grown_self table h, dark_read table levels p e)))
   item_in_sound Stack at table t h = nest_item_sound Stack table t h
   item_in_sound Track at table t h = nest_item_sound Track table t h
@@ -174,7 +179,7 @@ module _ (rate : ℕ × ℕ) (inner : Result Inner DocCode) (levels : ℕ) (own_
       (grown_on table s.1 item.1 h.0 r.0, k)))
 
   child_sound : (table : Table) (found : Schema × ℕ) (s : RowState × Table) (t : Tree) → RowFrom table levels s → IfOk (child_by rate inner found s t) (RowFrom table levels)
-  child_sound table (Transition, at) s t h = (h.0, waiting_row s.1 levels s.0 _ h.1)
+  child_sound table (Transition, at) s t h = (h.0, waiting_row s.1 levels s.0 (Some (waiting_with rate s.0.waiting t)) h.1)
   child_sound table (Clip, at) s t h = add_sound table (Clip, at) s t h
   child_sound table (Gap, at) s t h = add_sound table (Gap, at) s t h
   child_sound table (Stack, at) s t h = add_sound table (Stack, at) s t h
@@ -183,7 +188,7 @@ module _ (rate : ℕ × ℕ) (inner : Result Inner DocCode) (levels : ℕ) (own_
 
   row_sound : (table : Table) (children : List Tree) → IsSoundTable table → IfOk (row_in rate inner table children) (RowFrom table levels)
   row_sound table children h =
-      each_keeps (child_in rate inner) (RowFrom table levels) (λ s t k. past _ _ _ (λ found. child_sound table found s t k)) (empty_row, table) children (grown_self table h, empty_row_read table levels)
+      each_keeps (child_in rate inner) (RowFrom table levels) (λ s t k. past (schema_read t) _ _ (λ found. child_sound table found s t k)) (empty_row, table) children (grown_self table h, empty_row_read table levels)
 
   track_sound : (number : ℕ) (table : Table) (children : List Tree) (at : ℕ) → IsSoundTable table → IfOk (track_in rate inner number table children at) (TrackFrom table levels number)
   track_sound number table children at h =
@@ -194,15 +199,15 @@ module _ (rate : ℕ × ℕ) (inner : Result Inner DocCode) (levels : ℕ) (own_
 
   track_layer_sound : (number : ℕ) (table : Table) (t : Tree) → IsSoundTable table → IfOk (track_layer_in rate inner number table t) (LayerFrom table levels)
   track_layer_sound number table t h =
-      past _ _ _ (λ x. past _ _ _ (λ trim. past _ _ _ (λ children_text. past _ _ _ (λ children.
-      after (track_in rate inner number table children _) _ (TrackFrom table levels number) (LayerFrom table levels) (track_sound number table children _ h) (λ track n.
+      past (head_read t) _ _ (λ x. past (trim_read rate t) _ _ (λ trim. past (needed (codes "children") t) _ _ (λ children_text. past (list_read children_text) _ _ (λ children.
+      after (track_in rate inner number table children (place_of t)) _ (TrackFrom table levels number) (LayerFrom table levels) (track_sound number table children (place_of t) h) (λ track n.
       after (trimmed_layer track.0 trim) _ (IsSoundLayer track.1 levels) (LayerFrom table levels) (trimmed_sound track.1 levels track.0 trim n.1.read) (λ layer l.
       (n.0, l)))))))
 
   item_layer_sound : (found : Schema × ℕ) (number : ℕ) (table : Table) (t : Tree) → IsSoundTable table → IfOk (item_layer_in rate inner found number table t) (LayerFrom table levels)
   item_layer_sound found number table t h =
       after (item_in rate inner found.0 found.1 table t) _ (ReadFrom table levels) (LayerFrom table levels) (item_in_sound found.0 found.1 table t h) (λ item r.
-      after (layer_of number item.0 _) _ (IsSoundLayer item.1 levels) (LayerFrom table levels) (item_sound item.1 levels number item.0 _ r.1) (λ layer l.
+      after (layer_of number item.0 (place_of t)) _ (IsSoundLayer item.1 levels) (LayerFrom table levels) (item_sound item.1 levels number item.0 (place_of t) r.1) (λ layer l.
       (r.0, l)))
 
   layer_sound : (found : Schema × ℕ) (number : ℕ) (table : Table) (t : Tree) → IsSoundTable table → IfOk (layer_by rate inner found number table t) (LayerFrom table levels)
@@ -215,10 +220,11 @@ module _ (rate : ℕ × ℕ) (inner : Result Inner DocCode) (levels : ℕ) (own_
 
   next_sound : (table : Table) (s : List Layer × Table) (t : Tree) → LayersFrom table levels s → IfOk (next_layer rate inner s t) (LayersFrom table levels)
   next_sound table s t h =
-      after (layer_in rate inner (length s.0) s.1 t) _ (LayerFrom s.1 levels) (LayersFrom table levels) (past _ _ _ (λ found. layer_sound found (length s.0) s.1 t h.0.sound)) (λ layer l.
-      (grown_on table s.1 layer.1 h.0 l.0,
-      All-append (IsSoundLayer layer.1 levels) s.0 (layer.0 ∷ []) (All-weaker (IsSoundLayer s.1 levels) (IsSoundLayer layer.1 levels) (layer_kept s.1 layer.1 l.0.keeps levels) s.0 h.1)
-      (All-cons (IsSoundLayer layer.1 levels) layer.0 [] l.1 (All-nil (IsSoundLayer layer.1 levels)))))
+      after (layer_in rate inner (length s.0) s.1 t) _ (LayerFrom s.1 levels) (LayersFrom table levels) (past (schema_read t) _ _ (λ found. layer_sound found (length s.0) s.1 t h.0.sound)) (λ layer l. (
+        grown_on table s.1 layer.1 h.0 l.0,
+        All-append (IsSoundLayer layer.1 levels) s.0 (layer.0 ∷ []) (All-weaker (IsSoundLayer s.1 levels) (IsSoundLayer layer.1 levels) (layer_kept s.1 layer.1 l.0.keeps levels) s.0 h.1)
+            (All-cons (IsSoundLayer layer.1 levels) layer.0 [] l.1 (All-nil (IsSoundLayer layer.1 levels))),
+      ))
 
   layers_sound : (table : Table) (children : List Tree) → IsSoundTable table → IfOk (layers_in rate inner table children) (LayersFrom table levels)
   layers_sound table children h = each_keeps (next_layer rate inner) (LayersFrom table levels) (next_sound table) ([], table) children (grown_self table h, All-nil (IsSoundLayer table levels))
@@ -238,8 +244,8 @@ module _ (rate : ℕ × ℕ) (inner : Result Inner DocCode) (levels : ℕ) (own_
 
   own_sound : OwnIs (nest_in rate inner) levels
   own_sound schema table t h =
-      past _ _ _ (λ children_text. past _ _ _ (λ children.
-      after (layers_by rate inner schema table _ children) _ (LayersFrom table levels) (λ r. Grown table r.1 × IsSoundNest r.1 levels r.0) (by_schema schema table _ children h) (λ layers l.
+      past (needed (codes "children") t) _ _ (λ children_text. past (list_read children_text) _ _ (λ children.
+      after (layers_by rate inner schema table (place_of t) children) _ (LayersFrom table levels) (λ r. Grown table r.1 × IsSoundNest r.1 levels r.0) (by_schema schema table (place_of t) children h) (λ layers l.
       (l.0, record { layers = l.1; as_long = refl }))))
 
 -- ---- nests in one another

@@ -1,5 +1,5 @@
 -- What a document opens is sound.
-use Rattle.std.proofs.Common.{◌≡◌, ℕ, zero, suc, ◌+◌, ◌*◌, ◌<◌, ◌≤◌, nat_lt, nat_le, int_lt, pos, unsigned_abs, Bool, true, false, ◌&&◌, List, [], ◌∷◌, ◌++◌, length, Option, Some, None, Result, Ok, Err, IfOk, refl, sym, ap, ◌∙◌, arith, subst, if◌then◌else◌}
+use Rattle.std.proofs.Common.{◌≡◌, ℕ, zero, suc, ◌+◌, ◌*◌, ◌<◌, ◌≤◌, nat_lt, nat_le, codes, int_lt, pos, unsigned_abs, Bool, true, false, ◌&&◌, List, [], ◌∷◌, ◌++◌, length, Option, Some, None, Result, Ok, Err, IfOk, refl, sym, ap, ◌∙◌, arith, subst, if◌then◌else◌}
 use Rattle.std.specs.List.{All}
 use Rattle.std.proofs.lemmas.List.{length-append}
 use Rattle.std.proofs.lemmas.List.Elements.{All-weaker, All-nil}
@@ -21,10 +21,11 @@ use Rattle.otio_tracks.specs.declared.faults.DocCode.TheVariants.{O10, O11}
 use Rattle.otio_tracks.specs.declared.faults.DocFault.{DocFault}
 use Rattle.otio_tracks.specs.declared.faults.DocFault.TheVariants.{Refused, Memory}
 use Rattle.otio_tracks.specs.Reading.{Read, Gives, refuse, each}
+use Rattle.otio_tracks.specs.Values.{given, needed, list_read, expected}
 use Rattle.otio_tracks.specs.Times.{frame_read}
 use Rattle.otio_json.specs.declared.opening.Opening.{Opening}
 use Rattle.otio_json.specs.Nests.{track_read}
-use Rattle.otio_json.specs.Timelines.{in_day, start_if, start_read, rate_counted, nesting_of, head_of_track, with_kind, next_track, tracks_read, empty_table, opened, sequence_read, timeline_read, tree_read, document_read}
+use Rattle.otio_json.specs.Timelines.{in_day, untrimmed, start_if, start_read, rate_counted, nesting_of, head_of_track, with_kind, next_track, tracks_read, empty_table, opened, sequence_read, timeline_read, tree_read, document_read}
 use Rattle.otio_json.specs.Soundness.{IsReadTrack, IsSoundMedia, IsSoundNest, IsSoundTable, levels_of_kind, AreTracksFrom, IsSoundOpening}
 use Rattle.otio_json.proofs.Growth.{Keeps, track_kept, nest_kept, media_kept, Grown, grown_self}
 use Rattle.otio_json.proofs.SoundTracks.{IsNumbered}
@@ -35,7 +36,7 @@ use Rattle.otio_json.proofs.Steps.{after, past, tested, weaker, and_parts}
 -- ---- the start
 
 start_by : (c : Counted) (n at : ℕ) (low high : Bool) → nat_lt n (length (day_of c)) ≡ high
-    → IfOk {A = ℕ} (if low then refuse O11 at else if high then Ok n else refuse O11 at) (λ s. s < length (day_of c))
+    → IfOk {T = ℕ} (if low then refuse O11 at else if high then Ok n else refuse O11 at) (λ s. s < length (day_of c))
 start_by c n at true high e = tt
 start_by c n at false true e = nat_lt_true n (length (day_of c)) e where
   nat_lt_true : (a b : ℕ) → nat_lt a b ≡ true → a < b
@@ -64,7 +65,7 @@ start_then c rate (Some t) = past (frame_read rate t) _ _ (λ start. start_by c 
 
 start_in : (c : Counted) (rate : ℕ × ℕ) (t : Tree) → IfOk (start_read c rate t) (λ s. s < length (day_of c))
 unfolding start_read
-start_in c rate t = start_then c rate _
+start_in c rate t = start_then c rate (given (codes "global_start_time") t)
 
 -- ---- the tracks
 
@@ -111,7 +112,7 @@ one_more s a track h r = record {
       let read : IsReadTrack track.1 (levels_of_kind a) track.0 = subst (λ m. IsReadTrack track.1 m track.0) (same_levels a) r.1.read in
       let before : AreTracksFrom track.1 0 track.1.kinds s.0 = subst (λ ks. AreTracksFrom track.1 0 ks s.0) (sym r.0.kinds) (tracks_kept s.1 track.1 r.0.keeps 0 s.1.kinds s.0 h.tracks) in
       tracks_kept track.1 (with_kind track.1 a) (with_kind_keeps track.1 a) 0 (track.1.kinds ++ a ∷ []) (s.0 ++ track.0 ∷ [])
-          (track_more track.1 0 track.1.kinds s.0 a track.0 before (omega (arith, r.1.number)) read);
+      (track_more track.1 0 track.1.kinds s.0 a track.0 before (omega (arith, r.1.numbered)) read);
 }
 
 -- and how many they are
@@ -121,7 +122,7 @@ AreSo count s = AreSoFar s × (length s.0 ≡ count)
 next_sound : (rate : ℕ × ℕ) (s : List TrackState × Table) (t : Tree) → AreSoFar s → IfOk (next_track rate s t) (AreSo (length s.0 + 1))
 unfolding next_track
 next_sound rate s t h =
-    past _ _ _ (λ a. past _ _ _ (λ children_text. past _ _ _ (λ children.
+    past (head_of_track t) _ _ (λ a. past (needed (codes "children") t) _ _ (λ children_text. past (list_read children_text) _ _ (λ children.
     after (track_read rate (nesting_of a) (length s.0) s.1 children (place_of t)) _ (TrackFrom s.1 (levels_of (nesting_of a)) (length s.0)) (AreSo (length s.0 + 1)) (track_read_sound rate (nesting_of a) (length s.0) s.1 children (place_of t) (levels_le a) h.table) (λ track r.
     (one_more s a track h r, omega (arith, length-append s.0 (track.0 ∷ [])))))))
 
@@ -142,11 +143,11 @@ sequence_sound rate children at = tested (nat_lt 0 (length children) && nat_le (
     let p = and_parts (nat_lt 0 (length children)) (nat_le (length children) 16) e in
     weaker (tracks_read rate empty_table children) (AreSo (length children)) AreTracks (all_sound rate children ([], empty_table) (length children) nothing_yet (omega arith)) (λ s h.
     (h.0, omega (arith, h.1, nat_lt_true 0 (length children) p.0), omega (arith, h.1, nat_le_true (length children) 16 p.1)))) where
-  nat_lt_true : (a b : ℕ) → nat_lt a b ≡ true → a < b
-  nat_lt_true a b t = grind arith
+      nat_lt_true : (a b : ℕ) → nat_lt a b ≡ true → a < b
+      nat_lt_true a b t = grind arith
 
-  nat_le_true : (a b : ℕ) → nat_le a b ≡ true → a ≤ b
-  nat_le_true a b t = grind arith
+      nat_le_true : (a b : ℕ) → nat_le a b ≡ true → a ≤ b
+      nat_le_true a b t = grind arith
 
 -- ---- the opening
 
@@ -156,8 +157,8 @@ IsOpened o = IsSoundOpening o × (0 < length o.tracks)
 timeline_opened : (c : Counted) (t : Tree) → IfOk (timeline_read c t) IsOpened
 unfolding timeline_read
 timeline_opened c t =
-    past _ _ _ (λ x. after (start_read c (rate_counted c) t) _ (λ s. s < length (day_of c)) IsOpened (start_in c (rate_counted c) t) (λ start low.
-    past _ _ _ (λ stack. past _ _ _ (λ y. past _ _ _ (λ z. past _ _ _ (λ children_text. past _ _ _ (λ children.
+    past (expected (codes "Timeline.1") t) _ _ (λ x. after (start_read c (rate_counted c) t) _ (λ s. s < length (day_of c)) IsOpened (start_in c (rate_counted c) t) (λ start low.
+    past (needed (codes "tracks") t) _ _ (λ stack. past (expected (codes "Stack.1") stack) _ _ (λ y. past (untrimmed stack) _ _ (λ z. past (needed (codes "children") stack) _ _ (λ children_text. past (list_read children_text) _ _ (λ children.
     after (sequence_read (rate_counted c) children (place_of children_text)) _ AreTracks IsOpened (sequence_sound (rate_counted c) children (place_of children_text)) (λ s h.
     (record { table = h.0.table; tracks = h.0.tracks; few = h.2; start = low }, h.1)))))))))
 

@@ -82,15 +82,15 @@ made_read table levels number ps h p frames items =
 -- a track of this number
 pub record IsNumbered (table : Table) (levels number : ℕ) (t : TrackState) : Type 0 where
   pub read : IsReadTrack table levels t
-  pub number : t.number ≡ number
+  pub numbered : t.number ≡ number
 
 pub fit_by : (table : Table) (levels number : ℕ) (ps : List Part) (at : ℕ) → AreSoundParts ps → All (IsPlaced table levels) ps → IfOk (track_fit number ps at) (IsNumbered table levels number)
 unfolding track_fit
 fit_by table levels number ps at h p = tested (nat_le (frames_in_all ps) 2592000 && nat_le (length ps) 65536) (Ok (track_made number ps)) O11 at (IsNumbered table levels number) (λ e.
     let q = and_parts (nat_le (frames_in_all ps) 2592000) (nat_le (length ps) 65536) e in
-    record { read = made_read table levels number ps h p (nat_le_true (frames_in_all ps) 2592000 q.0) (nat_le_true (length ps) 65536 q.1); number = refl }) where
-  nat_le_true : (a b : ℕ) → nat_le a b ≡ true → a ≤ b
-  nat_le_true a b t = grind arith
+    record { read = made_read table levels number ps h p (nat_le_true (frames_in_all ps) 2592000 q.0) (nat_le_true (length ps) 65536 q.1); numbered = refl }) where
+      nat_le_true : (a b : ℕ) → nat_le a b ≡ true → a ≤ b
+      nat_le_true a b t = grind arith
 
 -- ---- rows
 

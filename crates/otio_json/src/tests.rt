@@ -74,14 +74,10 @@ O9 !#,^{%,'in_offset':<1>,'out_offset':<0>},=,~?
 opens !#,=,{%,'in_offset':<0>,'out_offset':<0>},#?";
 
 /// Each row: a document, and what it opens: the start, the kinds, the reels, the media and the items of each track.
-const OPENED: &str = "{@'Timeline.1','global_start_time':<86400.0>,'tracks':$+*}
-86400; Video;;;;
-{@'Timeline.1','metadata':{'made':'a'},'name':'reel one','global_start_time':<86400.0>,'tracks':{@'Stack.1','name':'tracks','source_range':null,'effects':[],'markers':[],'metadata':{},'children':[{@'Track.1','name':'V1','kind':'Video','source_range':null,'effects':[],'markers':[],'children':[{@'Clip.1','name':'shot a','enabled':true,'effects':[],'markers':[{@'Marker.2','name':'look'}],'metadata':{'cmx_3600':{'reel':'TAPE1'}},'source_range':(3600.0;48.0),'media_reference':{@'ExternalReference.1','target_url':'a.mov','available_range':(3500.0;300.0)}},{%,'name':'','metadata':{},'in_offset':<1.0>,'out_offset':<2.0>},{@'Clip.1','name':'shot b','metadata':{'cmx_3600':{'reel':'TAPE2'}},'source_range':(100.0;24.0),'media_reference':{@'ExternalReference.1','target_url':'b.mov','available_range':(0.0;500.0)}}]},{@'Track.1','name':'V2','kind':'Video','source_range':null,'children':[{@'Gap.1','source_range':(0.0;60.0)},{@'Clip.1','name':'GFX1','source_range':(0.0;6.0),'media_reference':{@'MissingReference.1','available_range':null}}]},{@'Track.1','name':'A1','kind':'Audio','source_range':null,'children':[{@'Clip.1','name':'sound a','metadata':{'cmx_3600':{'reel':'TAPE1'}},'source_range':{@'TimeRange.1','duration':{@'RationalTime.1','rate':48000.0,'value':144000.0},'start_time':{@'RationalTime.1','rate':48000.0,'value':7200000.0}},'media_reference':{@'ExternalReference.1','target_url':'a.mov','available_range':(3500.0;300.0)}}]},{@'Track.1','name':'A2','kind':'Audio','source_range':null,'children':[{@'Gap.1','source_range':(0.0;48.0)},{@'Clip.1','name':'sound b','metadata':{'cmx_3600':{'reel':'TAPE2'}},'source_range':(100.0;24.0),'media_reference':{@'ExternalReference.1','target_url':'b.mov','available_range':(0.0;500.0)}}]}]}}
-86400; Video Video Audio Audio; TAPE1 TAPE2 GFX1; 0:3500-3800 1:0-500 2:0-16777216; @0:3600+48 mix1+2 @1:100+24; gap+60 @2:0+6; @0:3600+72; gap+48 @1:100+24;
-!#,#,=,~,=,~?
-0; Video; AX; 0:0-100; @0:10+20 @0:10+20 gap+6;
-!$~,#*,{@'Track.1','source_range':(1;2),'children':[$#*,~]}?
-0; Video; AX; 0:0-100; #0:0+20 #2:1+2;";
+const OPENED: &str = "{@'Timeline.1','global_start_time':<86400.0>,'tracks':$+*} opens 86400; Video;;;;
+{@'Timeline.1','metadata':{'made':'a'},'name':'reel one','global_start_time':<86400.0>,'tracks':{@'Stack.1','name':'tracks','source_range':null,'effects':[],'markers':[],'metadata':{},'children':[{@'Track.1','name':'V1','kind':'Video','source_range':null,'effects':[],'markers':[],'children':[{@'Clip.1','name':'shot a','enabled':true,'effects':[],'markers':[{@'Marker.2','name':'look'}],'metadata':{'cmx_3600':{'reel':'TAPE1'}},'source_range':(3600.0;48.0),'media_reference':{@'ExternalReference.1','target_url':'a.mov','available_range':(3500.0;300.0)}},{%,'name':'','metadata':{},'in_offset':<1.0>,'out_offset':<2.0>},{@'Clip.1','name':'shot b','metadata':{'cmx_3600':{'reel':'TAPE2'}},'source_range':(100.0;24.0),'media_reference':{@'ExternalReference.1','target_url':'b.mov','available_range':(0.0;500.0)}}]},{@'Track.1','name':'V2','kind':'Video','source_range':null,'children':[{@'Gap.1','source_range':(0.0;60.0)},{@'Clip.1','name':'GFX1','source_range':(0.0;6.0),'media_reference':{@'MissingReference.1','available_range':null}}]},{@'Track.1','name':'A1','kind':'Audio','source_range':null,'children':[{@'Clip.1','name':'sound a','metadata':{'cmx_3600':{'reel':'TAPE1'}},'source_range':{@'TimeRange.1','duration':{@'RationalTime.1','rate':48000.0,'value':144000.0},'start_time':{@'RationalTime.1','rate':48000.0,'value':7200000.0}},'media_reference':{@'ExternalReference.1','target_url':'a.mov','available_range':(3500.0;300.0)}}]},{@'Track.1','name':'A2','kind':'Audio','source_range':null,'children':[{@'Gap.1','source_range':(0.0;48.0)},{@'Clip.1','name':'sound b','metadata':{'cmx_3600':{'reel':'TAPE2'}},'source_range':(100.0;24.0),'media_reference':{@'ExternalReference.1','target_url':'b.mov','available_range':(0.0;500.0)}}]}]}} opens 86400; Video Video Audio Audio; TAPE1 TAPE2 GFX1; 0:3500-3800 1:0-500 2:0-16777216; @0:3600+48 mix1+2 @1:100+24; gap+60 @2:0+6; @0:3600+72; gap+48 @1:100+24;
+!#,#,=,~,=,~? opens 0; Video; AX; 0:0-100; @0:10+20 @0:10+20 gap+6;
+!$~,#*,{@'Track.1','source_range':(1;2),'children':[$#*,~]}? opens 0; Video; AX; 0:0-100; #0:0+20 #2:1+2;";
 
 /// Documents that are written, read again and written again.
 const WRITTEN: &str = "!#?
@@ -242,13 +238,16 @@ fn told(alloc: Global, opening: &Opening) -> Result<String, Fail> {
 #[test]
 fn what_a_document_opens(rt: HostRuntime) -> Result<(), Fail> {
     let alloc = rt.alloc();
-    let mut rows = OPENED.lines();
-    for short in OPENED.lines().step_by(2) {
-        let text = written(alloc, short)?;
-        let opening = read_timeline(alloc, text.as_bytes(), &at_24())?;
-        let _ = rows.next();
-        let told = told(alloc, &opening)?;
-        assert_eq!(rt; Some(told.as_str()), rows.next(), "{short}");
+    for row in OPENED.lines() {
+        match row.split_once(" opens ") {
+            Some((short, wanted)) => {
+                let text = written(alloc, short)?;
+                let opening = read_timeline(alloc, text.as_bytes(), &at_24())?;
+                let told = told(alloc, &opening)?;
+                assert_eq!(rt; told.as_str(), wanted, "{short}");
+            }
+            None => {}
+        }
     }
     Ok(())
 }
