@@ -1,5 +1,5 @@
 // A journal of registers: each part is a number, and a call writes a number into a part.
-ghost use Rattle.std.specs.Prelude.{◌≡◌, ◌<◌, ◌≤◌, IfSome, ℕ, List, None, Some, Ok, Err, nat_lt, if◌then◌else◌};
+ghost use Rattle.std.specs.Prelude.{◌≡◌, ◌<◌, ◌≤◌, IfOk, ℕ, List, None, Some, Ok, Err, nat_lt, if◌then◌else◌};
 ghost use Rattle.edit_journal.specs.Registers.{registers, is_any, CanOpen};
 ghost use Rattle.edit_journal.specs.RegisterLaws.{registers-named};
 ghost use Rattle.edit_journal.specs.Turns.{IsJournal, HasNames, last_of};
@@ -192,7 +192,7 @@ fn last_of_each<J: Naming<Registers, u32>>(
 
 // What was answered to four writes and two copies, the last number of station 1, and the journal's entries.
 #[derive(Drop)]
-struct Told {
+struct Outcome {
     places: [Option<u32>; 4],
     first_two: Vec<Written>,
     too_many: Option<CopyFault>,
@@ -206,7 +206,7 @@ fn told<J: Naming<Registers, u32>, R: Wait>(
     alloc: Global,
     object: &Registers,
     blank: Blank<Registers>,
-) -> Option<Told>
+) -> Option<Outcome>
     requires table { J.table ≡ blank.table }
     requires opening { J.opening ≡ blank.opening }
     requires stations { J.stations ≡ blank.stations }
@@ -227,7 +227,7 @@ fn told<J: Naming<Registers, u32>, R: Wait>(
     let last = one.last();
     passes.push(zero).ok()?;
     passes.push(one).ok()?;
-    Some(Told {
+    Some(Outcome {
         places: [first, second, third, fourth],
         first_two,
         too_many,
@@ -261,24 +261,32 @@ fn filled<J: Naming<Registers, u32>, R: Wait>(
 }
 
 // A blank for two registers, or one.
-fn blank_of(alloc: Global, count: u32) -> Option<(Registers, Blank<Registers>)>
+fn blank_of(alloc: Global, count: u32) -> Result<(Registers, Blank<Registers>), Memory>
     requires { (0 < count) × (count ≤ 32) }
-    ensures { IfSome result (λ r. (ps : List ℕ) × (r.1.opening ≡ Some (r.0, ps))) }
+    ensures { IfOk result (λ r. (ps : List ℕ) × (r.1.opening ≡ Some (r.0, ps))) }
 {
+    let parts = Vec::from_elem(alloc, 0, count as usize)?;
     let object = Registers { count };
     let beginning = Beginning {
         object,
-        parts: Vec::from_elem(alloc, 0, count as usize).ok()?,
+        parts,
         part_count: count,
         station_count: count,
     };
-    Some((object, Blank::new(alloc, &beginning).ok()?))
+    let blank = Blank::new(alloc, &beginning);
+    let Beginning {
+        object,
+        parts: _,
+        part_count: _,
+        station_count: _,
+    } = beginning;
+    Ok((object, blank?))
 }
 
 #[test]
 fn entries_stand_in_the_order_of_the_turns(rt: HostRuntime) -> Result<(), Fail> {
     let alloc = rt.alloc();
-    let (object, blank) = blank_of(alloc, 2).ok_or("a blank")?;
+    let (object, blank) = blank_of(alloc, 2).ok().ok_or("a blank")?;
     let told = told::<Brand, _>(&rt, alloc, &object, blank).ok_or("an answer")?;
     assert!(rt; told.places == [Some(0), Some(1), Some(2), Some(3)]);
     assert_eq!(rt; told.last, 3);
@@ -309,7 +317,7 @@ fn entries_stand_in_the_order_of_the_turns(rt: HostRuntime) -> Result<(), Fail> 
 #[test]
 fn a_full_journal_takes_no_entry(rt: HostRuntime) -> Result<(), Fail> {
     let alloc = rt.alloc();
-    let (object, blank) = blank_of(alloc, 1).ok_or("a blank")?;
+    let (object, blank) = blank_of(alloc, 1).ok().ok_or("a blank")?;
     let places = filled::<Brand, _>(&rt, alloc, &object, blank).ok_or("places")?;
     assert!(rt; places == [Some(99_999), None]);
     Ok(())

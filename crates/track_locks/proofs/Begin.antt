@@ -1,0 +1,104 @@
+-- The homes of a new room.
+use Rattle.std.proofs.Common.{◌≡◌, ℕ, zero, suc, ◌+◌, ◌<◌, ◌≤◌, List, [], ◌∷◌, ◌++◌, length, map, drop, take, get_or, All, Option, Some, None, IsSome, slice_get, slice_set, refl, sym, ap, ◌∙◌, subst, arith}
+use Rattle.std.proofs.lemmas.List.{length-append, map-append}
+use Rattle.std.proofs.Math.Seq.{get_or-append_seam}
+use Rattle.room_core.specs.declared.entry.Entry.{Entry}
+use Rattle.room_core.specs.History.{IsLegal}
+use Rattle.room_core.specs.Parts.{AreGood, numbers}
+use Rattle.room_core.specs.Whole.{Meaning, whole}
+use Rattle.edit_journal.specs.Seats.{Opening}
+use Rattle.edit_journal.specs.Turns.{Known, AreFresh}
+use Rattle.track_locks.specs.Homes.{IsHome}
+
+pub at_drop : {A : Type 0} (xs : List A) (k : ℕ) (x : A) (rest : List A) → drop k xs ≡ x ∷ rest → slice_get xs k ≡ Some x
+at_drop [] zero x rest h = absurd (Prim.grind (arith, h))
+at_drop [] (suc k) x rest h = absurd (Prim.grind (arith, h))
+at_drop (y ∷ xs) zero x rest h = Prim.grind (arith, h)
+at_drop (y ∷ xs) (suc k) x rest h = at_drop xs k x rest h
+
+pub after_drop : {A : Type 0} (xs : List A) (k : ℕ) (x : A) (rest : List A) → drop k xs ≡ x ∷ rest → rest ≡ drop (suc k) xs
+after_drop [] zero x rest h = absurd (Prim.grind (arith, h))
+after_drop [] (suc k) x rest h = absurd (Prim.grind (arith, h))
+after_drop (y ∷ xs) zero x rest h = Prim.grind (arith, h)
+after_drop (y ∷ xs) (suc k) x rest h = after_drop xs k x rest h
+
+pub none_after : {A : Type 0} (xs : List A) (k : ℕ) → drop k xs ≡ [] → length xs ≤ k
+none_after [] k h = omega arith
+none_after (y ∷ xs) zero h = absurd (Prim.grind (arith, h))
+none_after (y ∷ xs) (suc k) h = let r = none_after xs k h in omega (arith, r)
+
+pub good_length : {P : Type 0} (good : ℕ → P → Type 0) (from count : ℕ) (ps : List P) → AreGood good (numbers from count) ps → length ps ≡ count
+good_length good from zero [] h = omega arith
+good_length good from zero (p ∷ ps) h = absurd h
+good_length good from (suc count) [] h = absurd h
+good_length good from (suc count) (p ∷ ps) h = let r = good_length good (from + 1) count ps h.1 in omega (arith, r)
+
+numbers_length : (from count : ℕ) → length (numbers from count) ≡ count
+numbers_length from zero = omega arith
+numbers_length from (suc count) = let r = numbers_length (from + 1) count in omega (arith, r)
+
+numbers_at : (from count k d : ℕ) → k < count → get_or (numbers from count) k d ≡ from + k
+numbers_at from zero k d lt = absurd (omega (arith, lt))
+numbers_at from (suc count) zero d lt = omega arith
+numbers_at from (suc count) (suc k) d lt = let r = numbers_at (from + 1) count k d (omega (arith, lt)) in omega (arith, r)
+
+map_length : {A B : Type 0} (f : A → B) (xs : List A) → length (map f xs) ≡ length xs
+map_length f [] = omega arith
+map_length f (x ∷ xs) = let r = map_length f xs in omega (arith, r)
+
+-- so many fresh tokens
+pub fresh_length : {O P C : Type 0} (o : Option (Opening O P)) (n : ℕ) (ts : List (Known O P C)) → AreFresh o n ts → length ts ≡ n
+fresh_length {O} {P} {C} o n ts h =
+    let a = map_length (λ (t : Known O P C). t.number) ts in
+    let b = ap length h.0 in
+    let d = numbers_length 0 n in
+    omega (arith, a, b, d)
+
+-- the token at a place of fresh ones has its number, and knows nothing yet
+pub fresh_at : {O P C : Type 0} (o : Option (Opening O P)) (n : ℕ) (ts ys : List (Known O P C)) (t : Known O P C) (rest : List (Known O P C))
+    → AreFresh o n ts → ys ++ t ∷ rest ≡ ts → (t.number ≡ length ys) × (t.opening ≡ o) × (t.entries ≡ []) × (length ys < n)
+fresh_at {O} {P} {C} o n ts ys t rest h is =
+    let F : Known O P C → Type 0 = λ t. (t.opening ≡ o) × (t.entries ≡ []) in
+    let f : Known O P C → ℕ = λ t. t.number in
+    let g : AreFresh o n (ys ++ t ∷ rest) = subst (λ (l : List (Known O P C)). AreFresh o n l) (sym is) h in
+    let count = fresh_length o n (ys ++ t ∷ rest) g in
+    let lt : length ys < length (ys ++ t ∷ rest) = omega (arith, length-append ys (t ∷ rest)) in
+    let inside : length ys < n = omega (arith, lt, count) in
+    let one = subst F (get_or-append_seam ys t rest t) (g.1 (length ys) t lt) in
+    let at : get_or (map f (ys ++ t ∷ rest)) (length (map f ys)) 0 ≡ f t = ap (λ l. get_or l (length (map f ys)) 0) (map-append f ys (t ∷ rest)) ∙ get_or-append_seam (map f ys) (f t) (map f rest) 0 in
+    let same : get_or (map f (ys ++ t ∷ rest)) (length ys) 0 ≡ f t = ap (λ k. get_or (map f (ys ++ t ∷ rest)) k 0) (sym (map_length f ys)) ∙ at in
+    let number = sym same ∙ (ap (λ l. get_or l (length ys) 0) g.0 ∙ numbers_at 0 n (length ys) 0 inside) in
+    (omega (arith, number), one.0, one.1, inside)
+
+-- a part of the opening, with a seat that knows no entry
+pub first_home : {O P C D R : Type 0} (meaning : O → Meaning P C D R) (opens : O → List P → Type 0) (o : Opening O P) (opening : Option (Opening O P)) (n : ℕ) (p : P) (entries : List (Entry C))
+    → opening ≡ Some o → opens o.0 o.1 → entries ≡ [] → slice_get o.1 n ≡ Some p → IsHome meaning opens opening n p 0 entries
+first_home {O} {P} {C} meaning opens o opening n p entries is can none at =
+    subst (λ (l : List (Entry C)). IsHome meaning opens opening n p 0 l) (sym none)
+    record {
+      history = (o, is, can, record { within = omega arith; applies = refl; rise = tt });
+      at = (o, is, o.1, refl, at);
+      counted = (o, is, omega arith);
+    }
+
+-- the elements up to one more
+pub take_more : {A : Type 0} (xs : List A) (i : ℕ) (d : A) → i < length xs → take (i + 1) xs ≡ take i xs ++ get_or xs i d ∷ []
+take_more {A} xs i d lt = let e : i + 1 ≡ suc i = omega arith in ap (λ k. take k xs) e ∙ by_suc xs i lt
+  where
+    by_suc : (xs : List A) (i : ℕ) → i < length xs → take (suc i) xs ≡ take i xs ++ get_or xs i d ∷ []
+    by_suc [] i lt = absurd (omega (arith, lt))
+    by_suc (x ∷ xs) zero lt = refl
+    by_suc (x ∷ xs) (suc i) lt = ap (λ l. x ∷ l) (by_suc xs i (omega (arith, lt)))
+
+-- one element more is raised
+pub raise_more : (vs : List ℕ) (i : ℕ) → i < length vs
+    → slice_set (map (λ v. v + 1) (take i vs) ++ drop i vs) i (get_or (map (λ v. v + 1) (take i vs) ++ drop i vs) i 0 + 1)
+    ≡ map (λ v. v + 1) (take (i + 1) vs) ++ drop (i + 1) vs
+raise_more vs i lt = let e : suc i ≡ i + 1 = omega arith in by_suc vs i lt ∙ ap (λ k. map (λ v. v + 1) (take k vs) ++ drop k vs) e
+  where
+    by_suc : (vs : List ℕ) (i : ℕ) → i < length vs
+        → slice_set (map (λ v. v + 1) (take i vs) ++ drop i vs) i (get_or (map (λ v. v + 1) (take i vs) ++ drop i vs) i 0 + 1)
+        ≡ map (λ v. v + 1) (take (suc i) vs) ++ drop (suc i) vs
+    by_suc [] i lt = absurd (omega (arith, lt))
+    by_suc (v ∷ vs) zero lt = refl
+    by_suc (v ∷ vs) (suc i) lt = ap (λ l. (v + 1) ∷ l) (by_suc vs i (omega (arith, lt)))
