@@ -1,17 +1,15 @@
 -- Tokens as they are given out at first, and taken back in the end.
-use Rattle.std.proofs.Common.{◌≡◌, ◌≢◌, ◌⊎◌, ℕ, zero, suc, ◌+◌, ◌<◌, ◌≤◌, List, [], ◌∷◌, ◌++◌, length, map, Bool, true, false, true≢false, refl, sym, ap, ◌∙◌, subst, ⊎_elim, inl, inr, arith, Option, Some, None, IsSome, All, cond, ◌==◌, eq-eqb, slice_get, replicate}
+use Rattle.std.proofs.Common.{◌≡◌, ◌⊎◌, ℕ, zero, suc, ◌+◌, ◌<◌, List, [], ◌∷◌, ◌++◌, map, Bool, true, false, true≢false, refl, sym, ap, ◌∙◌, subst, ⊎_elim, inl, inr, arith, Option, Some, All, cond, slice_get, replicate}
 use Rattle.std.proofs.lemmas.List.{map-append}
 use Rattle.std.proofs.lemmas.List.Elements.{All-append, All-cons, All-nil}
 use Rattle.std.proofs.lemmas.Bool.Decides.{nat_tests}
 use Rattle.room_core.specs.declared.entry.Entry.{Entry}
-use Rattle.room_core.specs.History.{IsLegal}
 use Rattle.room_core.specs.Parts.{numbers}
-use Rattle.room_core.specs.Whole.{Meaning, whole}
+use Rattle.room_core.specs.Whole.{Meaning}
 use Rattle.edit_journal.specs.declared.name.Name.{Name}
 use Rattle.edit_journal.specs.declared.name.Name.TheVariants.{Part, Station}
-use Rattle.edit_journal.specs.declared.view.View.{View}
 use Rattle.edit_journal.specs.Seats.{Opening, In, is_same, keeper, all_names, without}
-use Rattle.edit_journal.specs.Turns.{Known, Open, open_of, IsKeptLog, AreFresh, StandsIn, last_of}
+use Rattle.edit_journal.specs.Turns.{Known, open_of, IsKeptLog, AreFresh, StandsIn}
 use Rattle.edit_journal.proofs.Moves.{in_append}
 
 same_parts : (x name : Name) → is_same x name ≡ true → x ≡ name

@@ -1,17 +1,16 @@
 -- Each kind of step keeps the rule.
-use Rattle.std.proofs.Common.{◌≡◌, ◌≢◌, ◌⊎◌, ℕ, zero, suc, ◌+◌, ◌<◌, List, [], ◌∷◌, ◌++◌, length, set, filter, Bool, true, false, true≢false, refl, sym, ap, ◌∙◌, subst, ⊎_elim, inl, inr, arith, append_assoc, Option, Some, None, IsSome, cond, ◌==◌, eq-eqb}
-use Rattle.std.specs.Prelude.{slice_index, slice_set}
+use Rattle.std.proofs.Common.{◌≡◌, ◌≢◌, ◌⊎◌, ℕ, zero, suc, ◌+◌, List, [], ◌∷◌, ◌++◌, length, set, Bool, true, false, true≢false, refl, sym, ap, ◌∙◌, subst, ⊎_elim, inl, inr, arith, append_assoc, Option, Some, None, IsSome, cond, eq-eqb}
 use Rattle.std.proofs.lemmas.List.{length-append, append-nil}
 use Rattle.std.proofs.lemmas.List.Elements.{filter-append}
-use mathlib.Core.Option.{some, some-ne-none, some-injective, none}
+use mathlib.Core.Option.{some, some-ne-none, some-injective}
 use lib.ListN.{get_elem?}
-use Rattle.atomic_table.specs.Table.{State, Act, keeps, Allows, Splits, Joins, opening, step}
+use Rattle.atomic_table.specs.Table.{keeps, Allows, Splits, Joins, opening}
 use Rattle.atomic_table.proofs.Lists.{at_set, at_snoc, set_again}
 use Rattle.room_core.specs.declared.entry.Entry.{Entry}
 use Rattle.edit_journal.specs.declared.name.Name.{Name}
 use Rattle.edit_journal.specs.declared.name.Name.TheVariants.{Part, Station}
 use Rattle.edit_journal.specs.declared.view.View.{View}
-use Rattle.edit_journal.specs.Seats.{Opening, Begins, In, is_same, bears, proj, keeper, nobody, Agrees, Fits, Apart, Rule, Kept, Learns, without, forget, noted, listed, bearer, left_of, right_of, both_of, added}
+use Rattle.edit_journal.specs.Seats.{Opening, In, is_same, bears, proj, keeper, nobody, Agrees, Fits, Apart, Kept, Learns, without, forget, noted, left_of, right_of, both_of, added}
 
 off : {A : Type 0} → false ≡ true → A
 off e = absurd (true≢false (sym e))
@@ -62,8 +61,8 @@ learns : {O P C : Type 0} (names : O → C → List ℕ) (seat : ℕ) (opening :
 learns {O} {P} {C} names seat opening log by n v f is k = (
   is ∙ ap length (sym (f.keeps k).1),
   λ o x a l this inside.
-  let r = f.remembers x a l inside in
-  subst (λ (h : Opening O P × List (Entry C)). (a ≡ Some h.0) × Agrees (names h.0.0) h.1 x l) (λ i. (sym (f.same o this) i, sym (f.keeps k).1 i)) r,
+      let r = f.remembers x a l inside in
+      subst (λ (h : Opening O P × List (Entry C)). (a ≡ Some h.0) × Agrees (names h.0.0) h.1 x l) (λ i. (sym (f.same o this) i, sym (f.keeps k).1 i)) r,
 )
 
 -- a load

@@ -1,16 +1,16 @@
 -- What lies under the journal's lock stays as it has to be.
-use Rattle.std.proofs.Common.{◌≡◌, ◌≢◌, ◌⊎◌, ℕ, zero, suc, ◌+◌, ◌<◌, ◌≤◌, List, [], ◌∷◌, ◌++◌, length, Bool, true, false, true≢false, refl, sym, ap, ◌∙◌, subst, ⊎_elim, inl, inr, arith, Option, Some, None, IsSome, All, cond, ◌==◌, eq-eqb, slice_get, slice_set}
+use Rattle.std.proofs.Common.{◌≡◌, ℕ, zero, suc, ◌<◌, List, [], ◌∷◌, ◌++◌, length, true≢false, refl, sym, ap, ◌∙◌, subst, ⊎_elim, arith, Option, Some, IsSome, eq-eqb, slice_get, slice_set}
 use Rattle.std.proofs.lemmas.List.{length-append}
 use Rattle.std.proofs.lemmas.List.Elements.{All-append, All-cons, All-nil}
 use Rattle.room_core.specs.declared.entry.Entry.{Entry}
-use Rattle.room_core.specs.History.{replay, IsLegal}
+use Rattle.room_core.specs.History.{replay}
 use Rattle.room_core.specs.Whole.{Meaning, whole}
 use Rattle.room_core.proofs.Histories.{rise-more}
 use Rattle.edit_journal.specs.declared.name.Name.{Name}
 use Rattle.edit_journal.specs.declared.name.Name.TheVariants.{Part, Station}
 use Rattle.edit_journal.specs.declared.view.View.{View}
-use Rattle.edit_journal.specs.Seats.{Opening, In, Agrees, is_same, bears, bearer, both_of, left_of, right_of, added, without, forget}
-use Rattle.edit_journal.specs.Turns.{Open, open_of, IsJournal, IsKeptLog, AllAgree, HasNames, Applies, gathered, given, entered, last_of}
+use Rattle.edit_journal.specs.Seats.{Opening, In, is_same, bearer, both_of, left_of, added}
+use Rattle.edit_journal.specs.Turns.{Open, open_of, IsKeptLog, HasNames, Applies, gathered, last_of}
 use Rattle.edit_journal.proofs.Moves.{same_name, in_append, without_less}
 use Rattle.edit_journal.proofs.Lasts.{above_last, lasts-more}
 

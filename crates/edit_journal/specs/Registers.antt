@@ -1,5 +1,5 @@
 -- An object to try a journal on: registers. A call writes a number into one of them, and answers it.
-use Rattle.std.specs.Prelude.{◌≡◌, ℕ, ◌<◌, ◌≤◌, List, [], ◌∷◌, map, Option, Some, None, Ok, nat_lt, if◌then◌else◌}
+use Rattle.std.specs.Prelude.{ℕ, ◌<◌, ◌≤◌, List, [], ◌∷◌, map, Some, None, Ok, nat_lt, if◌then◌else◌}
 use Rattle.room_core.specs.Parts.{AreGood, numbers}
 use Rattle.room_core.specs.Whole.{Meaning}
 

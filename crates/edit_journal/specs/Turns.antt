@@ -1,5 +1,5 @@
 -- What tokens and a turn at the journal know, as the layers above see it.
-use Rattle.std.specs.Prelude.{◌≡◌, ◌<◌, ℕ, ◌+◌, max, List, [], ◌∷◌, ◌++◌, Option, Some, All, IsSome, true, slice_get, fold, map}
+use Rattle.std.specs.Prelude.{◌≡◌, ◌<◌, ℕ, max, List, [], ◌∷◌, ◌++◌, Option, Some, All, IsSome, true, slice_get, fold, map}
 use Rattle.atomic_table.specs.Seated.{TableId}
 use Rattle.room_core.specs.declared.entry.Entry.{Entry}
 use Rattle.room_core.specs.History.{replay, IsLegal}
@@ -7,7 +7,7 @@ use Rattle.room_core.specs.Parts.{numbers}
 use Rattle.room_core.specs.Projection.{of_station}
 use Rattle.room_core.specs.Whole.{Meaning, whole}
 use Rattle.edit_journal.specs.declared.name.Name.{Name}
-use Rattle.edit_journal.specs.declared.name.Name.TheVariants.{Part, Station}
+use Rattle.edit_journal.specs.declared.name.Name.TheVariants.{Station}
 use Rattle.edit_journal.specs.declared.view.View.{View}
 use Rattle.edit_journal.specs.Seats.{Opening, In, Agrees, bears, without, forget}
 

@@ -11,8 +11,13 @@ use room_core::{Entry, PartObject};
 use std::alloc::{AllocError, Global};
 use std::marker::Brand;
 
-pub type Words<O> =
-    Table<(), View<O, <O as PartObject>::Part, <O as PartObject>::Call>, Beginning<O>, Law, Global>;
+pub type Words<O> = Table<
+    (),
+    View<O, <O as PartObject>::Part, <O as PartObject>::Call>,
+    Beginning<O>,
+    Law,
+    Global,
+>;
 
 pub type Token<O> = Seat<(), View<O, <O as PartObject>::Part, <O as PartObject>::Call>>;
 

@@ -309,7 +309,10 @@ fn entries_stand_in_the_order_of_the_turns(rt: HostRuntime) -> Result<(), Fail> 
             call,
         };
         assert!(rt; told.all.get(place) == Some(&entry), "at {place}");
-        assert!(rt; place > 1 || told.first_two.get(place) == Some(&entry), "of two at {place}");
+        assert!(rt;
+            place > 1 || told.first_two.get(place) == Some(&entry),
+            "of two at {place}"
+        );
     }
     Ok(())
 }

@@ -116,7 +116,12 @@ impl<'a, O: PartObject, J: Naming<O, O::Part>> Turn<'a, O, J> {
     }
 
     /// The first n entries.
-    pub fn copy_to(&self, alloc: Global, object: &O, n: u32) -> Result<Vec<Entry<O::Call>>, CopyFault>
+    pub fn copy_to(
+        &self,
+        alloc: Global,
+        object: &O,
+        n: u32,
+    ) -> Result<Vec<Entry<O::Call>>, CopyFault>
         ensures ok { IfOk result (λ v. v.items ≡ take n self.now.journal.entries) }
         ensures within { OnOk result (n ≤ length self.now.journal.entries) }
         ensures no_point { IfErr result (λ f. SaysNoPoint f n (length self.now.journal.entries)) }

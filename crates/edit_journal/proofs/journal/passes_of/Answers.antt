@@ -1,6 +1,6 @@
 use Rattle.std.proofs.Common.{◌∙◌, arith}
-use Rattle.edit_journal.specs.declared.name.Name.TheVariants.{Part, Station}
-use Rattle.edit_journal.proofs.Fresh.{fresh_more, fresh_none, without_other, above_station, no_part}
+use Rattle.edit_journal.specs.declared.name.Name.TheVariants.{Station}
+use Rattle.edit_journal.proofs.Fresh.{fresh_more, fresh_none, without_other, above_station}
 use Rattle.edit_journal.proofs.journal.passes_of.Goals as goal
 
 pub give_pass-requires-clause-has : goal.give_pass-requires-clause-has

@@ -1,5 +1,5 @@
 use Rattle.std.proofs.Common.{◌≡◌, ◌<◌, ◌≤◌, ℕ, []}
-use Rattle.edit_journal.specs.declared.name.Name.TheVariants.{Part, Station}
+use Rattle.edit_journal.specs.declared.name.Name.TheVariants.{Station}
 use Rattle.edit_journal.specs.Seats.{In}
 use Rattle.edit_journal.specs.Turns.{AreFresh}
 use Rattle.edit_journal.proofs.journal.passes_of.Given as goal

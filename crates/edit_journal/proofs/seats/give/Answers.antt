@@ -1,4 +1,4 @@
-use Rattle.std.proofs.Common.{arith, Some}
+use Rattle.std.proofs.Common.{arith}
 use Rattle.edit_journal.proofs.Moves.{gives}
 use Rattle.edit_journal.proofs.seats.give.Goals as goal
 

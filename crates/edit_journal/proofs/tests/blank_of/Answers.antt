@@ -1,4 +1,3 @@
-use Rattle.std.proofs.Common.{sym, arith}
 use Rattle.edit_journal.specs.RegisterLaws.{zeros_open}
 use Rattle.edit_journal.proofs.tests.blank_of.Goals as goal
 

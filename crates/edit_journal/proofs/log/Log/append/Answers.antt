@@ -1,8 +1,5 @@
-use Rattle.std.proofs.Common.{◌≡◌, ◌∙◌, ap, sym, arith, ◌<◌, length, [], ◌∷◌, ◌++◌, Some, refl, ◌==◌}
-use Rattle.edit_journal.specs.declared.name.Name.TheVariants.{Part, Station}
-use Rattle.edit_journal.specs.Seats.{bearer}
-use Rattle.edit_journal.specs.Seats.{In}
-use Rattle.edit_journal.specs.Turns.{HasNames, Applies, last_of, open_of}
+use Rattle.std.proofs.Common.{◌∙◌, ap, sym, arith, ◌<◌, length, [], ◌∷◌, ◌++◌}
+use Rattle.edit_journal.specs.Turns.{last_of, open_of}
 use Rattle.edit_journal.proofs.Opens.{kept_added, has_station, inside}
 use Rattle.edit_journal.proofs.log.Log.append.Goals as goal
 

@@ -1,6 +1,5 @@
-use Rattle.std.proofs.Common.{◌≡◌, ◌∙◌, ap, sym, arith, [], ◌∷◌, ◌++◌, Some, refl, ◌==◌}
-use Rattle.edit_journal.specs.declared.name.Name.TheVariants.{Part, Station}
-use Rattle.edit_journal.specs.Seats.{bearer}
+use Rattle.std.proofs.Common.{◌∙◌, ap}
+use Rattle.edit_journal.specs.declared.name.Name.TheVariants.{Station}
 use Rattle.edit_journal.proofs.Opens.{at_gather, kept_pass}
 use Rattle.edit_journal.proofs.log.Log.gather_pass.Goals as goal
 

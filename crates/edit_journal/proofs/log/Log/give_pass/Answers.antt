@@ -1,5 +1,5 @@
-use Rattle.std.proofs.Common.{◌≡◌, ◌∙◌, ap, sym, arith, [], ◌∷◌, ◌++◌, Some, refl, ◌==◌}
-use Rattle.edit_journal.specs.declared.name.Name.TheVariants.{Part, Station}
+use Rattle.std.proofs.Common.{◌∙◌, ap, arith, [], ◌∷◌, refl}
+use Rattle.edit_journal.specs.declared.name.Name.TheVariants.{Station}
 use Rattle.edit_journal.specs.Seats.{bearer}
 use Rattle.std.proofs.lemmas.Option.{get_or_from_slice_get}
 use Rattle.edit_journal.specs.Turns.{last_of}

@@ -1,6 +1,5 @@
-use Rattle.std.proofs.Common.{◌≡◌, ◌∙◌, ap, sym, arith, [], ◌∷◌, ◌++◌, Some, refl, ◌==◌}
-use Rattle.edit_journal.specs.declared.name.Name.TheVariants.{Part, Station}
-use Rattle.edit_journal.specs.Seats.{bearer}
+use Rattle.std.proofs.Common.{◌∙◌, refl}
+use Rattle.edit_journal.specs.declared.name.Name.TheVariants.{Part}
 use Rattle.edit_journal.proofs.Opens.{kept_given}
 use Rattle.edit_journal.proofs.log.Log.give_seat.Goals as goal
 

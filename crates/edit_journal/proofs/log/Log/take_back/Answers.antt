@@ -1,6 +1,5 @@
-use Rattle.std.proofs.Common.{◌∙◌, ap, subst, ◌++◌}
+use Rattle.std.proofs.Common.{◌∙◌, ap}
 use Rattle.edit_journal.specs.declared.name.Name.TheVariants.{Station}
-use Rattle.edit_journal.specs.Seats.{In, Agrees}
 use Rattle.edit_journal.proofs.Fresh.{in_last}
 use Rattle.edit_journal.proofs.log.Log.take_back.Goals as goal
 
