@@ -1,14 +1,17 @@
 -- The homes of a new room.
-use Rattle.std.proofs.Common.{◌≡◌, ℕ, zero, suc, ◌+◌, ◌<◌, ◌≤◌, List, [], ◌∷◌, ◌++◌, length, map, drop, take, get_or, All, Option, Some, None, IsSome, slice_get, slice_set, refl, sym, ap, ◌∙◌, subst, arith}
-use Rattle.std.proofs.lemmas.List.{length-append, map-append}
+use Rattle.std.proofs.Common.{◌≡◌, ℕ, zero, suc, ◌+◌, ◌<◌, ◌≤◌, List, [], ◌∷◌, ◌++◌, length, map, drop, take, get_or, All, Bool, true, false, cond, ◌==◌, Option, Some, None, IsSome, slice_get, slice_set, refl, sym, ap, ◌∙◌, subst, arith}
+use Rattle.std.specs.List.{list_any}
+use Rattle.std.proofs.lemmas.List.{length-append, map-append, get_or_append_left}
 use Rattle.std.proofs.Math.Seq.{get_or-append_seam}
 use Rattle.room_core.specs.declared.entry.Entry.{Entry}
 use Rattle.room_core.specs.History.{IsLegal}
 use Rattle.room_core.specs.Parts.{AreGood, numbers}
+use Rattle.room_core.specs.Projection.{of_part}
 use Rattle.room_core.specs.Whole.{Meaning, whole}
 use Rattle.edit_journal.specs.Seats.{Opening}
 use Rattle.edit_journal.specs.Turns.{Known, AreFresh}
-use Rattle.track_locks.specs.Homes.{IsHome}
+use Rattle.track_locks.specs.Homes.{IsHome, AreHomes}
+use Rattle.track_locks.proofs.Stands.{one_at}
 
 pub at_drop : {A : Type 0} (xs : List A) (k : ℕ) (x : A) (rest : List A) → drop k xs ≡ x ∷ rest → slice_get xs k ≡ Some x
 at_drop [] zero x rest h = absurd (Prim.grind (arith, h))
@@ -102,3 +105,31 @@ raise_more vs i lt = let e : suc i ≡ i + 1 = omega arith in by_suc vs i lt ∙
     by_suc [] i lt = absurd (omega (arith, lt))
     by_suc (v ∷ vs) zero lt = refl
     by_suc (v ∷ vs) (suc i) lt = ap (λ l. (v + 1) ∷ l) (by_suc vs i (omega (arith, lt)))
+
+pub part_le : {C : Type 0} (names : C → List ℕ) (n : ℕ) (entries : List (Entry C)) → length (of_part names n entries) ≤ length entries
+part_le names n [] = omega arith
+part_le names n (e ∷ es) = kept_le (list_any (λ k. k == n) (names e.call)) e (of_part names n es) es (part_le names n es)
+  where
+    kept_le : {A : Type 0} (b : Bool) (x : A) (xs ys : List A) → length xs ≤ length ys → length (cond b (x ∷ xs) xs) ≤ length (x ∷ ys)
+    kept_le true x xs ys h = omega (arith, h)
+    kept_le false x xs ys h = omega (arith, h)
+
+map_at : (vs : List ℕ) (k d : ℕ) → k < length vs → slice_get (map (λ v. v + 1) vs) k ≡ Some (get_or vs k d + 1)
+map_at [] k d lt = absurd (omega (arith, lt))
+map_at (v ∷ vs) zero d lt = refl
+map_at (v ∷ vs) (suc k) d lt = map_at vs k d (omega (arith, lt))
+
+-- a version that counts one entry more is far from the greatest number
+pub few_versions : {O P C D R : Type 0} (meaning : O → Meaning P C D R) (opens : O → List P → Type 0) (opening : Option (Opening O P)) (ns : List ℕ) (ps : List P) (vs : List ℕ) (ss : List (Known O P C))
+    → AreHomes meaning opens opening ns ps (map (λ v. v + 1) vs) ss → All (λ v. v < 4294967295) vs
+few_versions {O} {P} {C} meaning opens opening ns ps vs ss h = λ k d lt.
+    let a = map_length (λ (v : ℕ). v + 1) vs in
+    let n = one_at ns k (omega (arith, lt, a, h.versions)) in
+    let p = one_at ps k (omega (arith, lt, a, h.versions, h.parts)) in
+    let s = one_at ss k (omega (arith, lt, a, h.versions, h.seats)) in
+    let one = h.each k n.0 p.0 (get_or vs k d + 1) s.0 n.1 p.1 (map_at vs k d lt) s.1 in
+    let c = one.home.counted in
+    omega (arith, c.2, part_le (meaning c.0.0).names n.0 s.0.entries, one.home.history.3.within)
+
+pub all_front : {A : Type 0} (P : A → Type 0) (xs : List A) (x : A) → All P (xs ++ x ∷ []) → All P xs
+all_front P xs x h = λ k d lt. subst P (get_or_append_left xs (x ∷ []) d k lt) (h k d (omega (arith, lt, length-append xs (x ∷ []))))

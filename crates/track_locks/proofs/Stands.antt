@@ -58,7 +58,7 @@ told_of {O} {P} {C} (t ∷ ss) before zero s h =
     (in_last (Part t.number, (t.opening, t.entries)) (all_gathered ss before).told)
 told_of (t ∷ ss) before (suc k) s h = in_left (Part s.number, (s.opening, s.entries)) (all_gathered ss before).told ((Part t.number, (t.opening, t.entries)) ∷ []) (told_of ss before k s h)
 
-one_at : {A : Type 0} (xs : List A) (k : ℕ) → k < length xs → (x : A) × (slice_get xs k ≡ Some x)
+pub one_at : {A : Type 0} (xs : List A) (k : ℕ) → k < length xs → (x : A) × (slice_get xs k ≡ Some x)
 one_at [] k lt = absurd (omega (arith, lt))
 one_at (x ∷ xs) zero lt = (x, refl)
 one_at (x ∷ xs) (suc k) lt = one_at xs k (omega (arith, lt))

@@ -19,7 +19,7 @@ loop-seat-preserved-in-Continue-1 g c =
     let i = c.loop-seat.invariant in
     let seat = c.in-Some.seat in
     let all = c.loop-seat.yielded in
-    let e : suc (vec_len c.loop-seat.places) ≡ vec_len c.push.new.self = omega (arith, c.in_ok-push.ensures.len) in
+    let e : suc (vec_len c.loop-seat.places) ≡ vec_len c.push.new.self = omega (arith, c.in_ok-push-in-Some-next.ensures.len) in
     record {
       left = after_drop c.args.parts.items (vec_len c.loop-seat.places) c.in-Some-next.part (into_iter_items c.next-in-loop-seat.new.self) (sym i.left ∙ c.in-Some-next.ensures.items) ∙ ap (λ k. drop k c.args.parts.items) e;
       given = omega (arith, length-append all (seat ∷ []), i.given, e);
@@ -31,7 +31,7 @@ loop-seat-preserved g c =
     let i = c.loop-seat.invariant in
     let is = ap (λ ps. c.loop-seat.yielded ++ ps) (sym c.in-Some.ensures.steps.0) ∙ i.so_far in
     let f = fresh_at g.J.Naming.opening (length c.args.parts.items) c.args.seats.items c.loop-seat.yielded c.in-Some.seat (into_iter_items c.next.new.self) c.requires.seats is in
-    let none = nil_from_length (into_iter_items c.loop-seat.left) (omega (arith, c.in-None.ensures.cases.0, c.loop-seat.left.rest.ok)) in
+    let none = nil_from_length (into_iter_items c.loop-seat.left) (omega (arith, c.in-None-next.ensures.cases.0, c.loop-seat.left.rest.ok)) in
     let past = none_after c.args.parts.items (vec_len c.loop-seat.places) (sym i.left ∙ none) in
     absurd (omega (arith, past, f.3, i.given))
 
