@@ -1,5 +1,5 @@
 -- What is held, one more or one less.
-use Rattle.std.proofs.Common.{◌≡◌, ◌≢◌, ◌⊎◌, ℕ, zero, suc, ◌+◌, ◌<◌, ◌≤◌, List, [], ◌∷◌, ◌++◌, length, map, Bool, true, false, cond, Option, Some, None, All, IsSome, slice_get, refl, sym, ap, ◌∙◌, subst, arith, ⊎_elim, inl, inr}
+use Rattle.std.proofs.Common.{◌≡◌, ◌≢◌, ◌⊎◌, ℕ, zero, suc, ◌+◌, ◌/◌, ◌%◌, ◌^◌, ◌==◌, eq-eqb, ◌<◌, ◌≤◌, List, [], ◌∷◌, ◌++◌, length, map, Bool, true, false, cond, Option, Some, None, All, IsSome, slice_get, refl, sym, ap, ◌∙◌, subst, arith, ⊎_elim, inl, inr}
 use Rattle.std.specs.List.{filter}
 use Rattle.std.proofs.lemmas.List.{length-append}
 use Rattle.std.proofs.lemmas.List.Elements.{All-cons, All-nil, All-weaker, filter-append}
@@ -11,7 +11,8 @@ use Rattle.edit_journal.specs.declared.name.Name.TheVariants.{Part, Station}
 use Rattle.edit_journal.specs.Seats.{Opening, In, without}
 use Rattle.edit_journal.specs.Turns.{Known, Open, gathered, given}
 use Rattle.edit_journal.proofs.Fresh.{without_other, above_part}
-use Rattle.track_locks.specs.Homes.{IsHeld, AreHomes, all_gathered, all_given, CanGive, has_bit, members}
+use Rattle.std.proofs.lemmas.Bool.Decides.{nat_tests}
+use Rattle.track_locks.specs.Homes.{IsHome, IsHeld, AreHomes, all_gathered, all_given, CanGive, has_bit, members}
 
 pub get_front : {A : Type 0} (xs : List A) (x y : A) (k : ℕ) → slice_get xs k ≡ Some y → slice_get (xs ++ x ∷ []) k ≡ Some y
 get_front [] x y k h = absurd (Prim.grind (arith, h))
@@ -161,3 +162,19 @@ members-more set n =
     let e : 0 + n ≡ n = omega arith in
     ap (λ l. filter (has_bit set) l) (sym (numbers-snoc 0 n) ∙ ap (λ k. numbers 0 n ++ k ∷ []) e)
     ∙ (filter-append (has_bit set) (numbers 0 n) (n ∷ []) ∙ sym (one_test (has_bit set n) n (members n set)))
+
+pub members_then : (set n : ℕ) → set / 2 ^ n % 2 ≡ 1 → members (n + 1) set ≡ members n set ++ n ∷ []
+members_then set n h = members-more set n ∙ ap (λ b. cond b (members n set ++ n ∷ []) (members n set)) (eq-eqb (set / 2 ^ n % 2) 1 h)
+
+no_bit : (a : ℕ) (b : Bool) → (a == 1) ≡ b → (a ≡ 1 → ⊥) → (a == 1) ≡ false
+no_bit a true is h = let one : a ≡ 1 = Prim.grind (arith, nat_tests, is) in absurd (h one)
+no_bit a false is h = is
+
+pub members_else : (set n : ℕ) → (set / 2 ^ n % 2 ≡ 1 → ⊥) → members (n + 1) set ≡ members n set
+members_else set n h = members-more set n ∙ ap (λ b. cond b (members n set ++ n ∷ []) (members n set)) (no_bit (set / 2 ^ n % 2) (set / 2 ^ n % 2 == 1) refl h)
+
+-- a home that was taken out
+pub held_home : {O P C D R : Type 0} (meaning : O → Meaning P C D R) (opens : O → List P → Type 0) (opening : Option (Opening O P)) (n : ℕ) (p : P) (v : ℕ) (s : Known O P C)
+    → s.number ≡ n → s.opening ≡ opening → IsHome meaning opens opening s.number p v s.entries → IsHeld meaning opens opening n p v s
+held_home {O} {P} {C} meaning opens opening n p v s is same h =
+    record { number_is = is; opening_is = same; home = subst (λ (m : ℕ). IsHome meaning opens opening m p v s.entries) is h }
