@@ -7,7 +7,7 @@ use Rattle.composables.specs.declared.refusals.EditFault.TheVariants as edit
 use Rattle.composables.specs.Answers.{Answers as EditAnswers, Applied}
 use Rattle.composables.specs.Good.{IsGood}
 use Rattle.composables.specs.TrackState.{TrackState}
-use Rattle.edit_insert.proofs.Standing.{all_head, all_tail}
+use Rattle.edit_splice.proofs.Standing.{all_head, all_tail}
 use Rattle.room_core.specs.Answers.{Answers}
 use Rattle.room_core.specs.Parts.{AreGood}
 use Rattle.edit_apply.specs.Faults.{answer_of}

@@ -8,8 +8,8 @@ use Rattle.composables.specs.Answers.{Applied}
 use Rattle.composables.specs.Good.{IsGood}
 use Rattle.composables.specs.Roomy.{IsRoomy}
 use Rattle.composables.specs.TrackState.{TrackState}
-use Rattle.edit_insert.proofs.Standing.{all_head, all_none, all_tail}
-use Rattle.edit_insert.proofs.Unlinked.{Bare, bare-good}
+use Rattle.edit_splice.proofs.Standing.{all_head, all_none, all_tail}
+use Rattle.edit_splice.proofs.Unlinked.{Bare, bare-good}
 use Rattle.room_core.specs.declared.entry.Entry.{Entry}
 use Rattle.room_core.specs.History.{IsLegal, after_entry, replay, state_in}
 use Rattle.room_core.specs.Parts.{AreGood, numbers}

@@ -29,11 +29,11 @@ use Rattle.edit_splice.specs.Shifts.{shift_of, shifted, shifted_along, shifted_t
 use Rattle.edit_splice.specs.Splicing.{spliced_track}
 use Rattle.edit_splice.proofs.Outcomes.{next-bounds}
 use Rattle.edit_insert.specs.Edits.{extract_named, extracted, for_range, insert_named, inserted, overwrite_named, overwrite_track, overwritten, remove_named, remove_track, slice_named, slice_track}
-use Rattle.edit_insert.specs.PutIn.{padded_track}
+use Rattle.edit_splice.specs.Padding.{padded_track}
 use Rattle.edit_insert.specs.Sources.{source_refusal}
-use Rattle.edit_insert.proofs.Bridging.{for-found}
-use Rattle.edit_insert.proofs.Standing.{all_head, all_none, all_tail}
-use Rattle.edit_insert.proofs.Unlinked.{Bare, bare-padded, bare-shifted, shift-free}
+use Rattle.edit_splice.proofs.Bridging.{for-found}
+use Rattle.edit_splice.proofs.Standing.{all_head, all_none, all_tail}
+use Rattle.edit_splice.proofs.Unlinked.{Bare, bare-padded, bare-shifted, shift-free}
 
 -- a track without links that has given away at most this many item numbers, and no link number
 pub record IsYoung (n : ℕ) (t : TrackState) : Type 0 where

@@ -1,0 +1,4 @@
+pub mod Moves
+pub mod Lasts
+pub mod Opens
+pub mod Fresh

@@ -1,0 +1,9 @@
+-- Why entries were not copied.
+use Rattle.std.specs.Prelude.{◌≡◌, ◌<◌, ℕ}
+use Rattle.edit_journal.specs.declared.log.CopyFault.{CopyFault}
+use Rattle.edit_journal.specs.declared.log.CopyFault.TheVariants.{NoPoint, Memory}
+
+-- there are fewer entries than n, and the fault says how many; want of memory says nothing of them
+abbrev pub SaysNoPoint : CopyFault → ℕ → ℕ → Type 0
+SaysNoPoint (NoPoint length) n count = (count < n) × (length ≡ count)
+SaysNoPoint Memory n count = Unit {0}

@@ -1,0 +1,3 @@
+pub mod Stands
+pub mod Several
+pub mod Begin

@@ -1,0 +1,10 @@
+use Rattle.std.proofs.Common.{◌≡◌, ◌++◌, drop, length, vec_len}
+use Rattle.std.specs.Vec.Iter.{into_iter_items}
+use Rattle.track_locks.proofs.tracks.Tracks.new.Given as goal
+
+abbrev pub invariant-loop-seat : goal.invariant-loop-seat
+invariant-loop-seat g l = record {
+  left : into_iter_items l.left ≡ drop (vec_len l.places) l.fn.parts.items;
+  given : length l.yielded ≡ vec_len l.places;
+  so_far : l.yielded ++ into_iter_items l.seat-iterator ≡ l.fn.seats.items;
+}

@@ -1,0 +1,78 @@
+// A home, and where it stays while nobody has it.
+ghost use Rattle.std.specs.Prelude.{◌≡◌};
+ghost use Rattle.track_locks.specs.Homes.{IsHome};
+
+use edit_journal::{Naming, PartSeat};
+use room_core::PartObject;
+use std::marker::{Model, PhantomData};
+use std::sync::{Condvar, Mutex, Wait};
+
+/// A part with its seat and its version, the number of entries that name it.
+#[derive(Drop)]
+pub struct Home<O: PartObject, J: Naming<O, O::Part>> {
+    pub(crate) part: O::Part,
+    pub(crate) seat: PartSeat<O, J>,
+    pub(crate) version: u32,
+}
+
+impl<O: PartObject, J: Naming<O, O::Part>> Model for Home<O, J> {
+    ghost use Rattle.std.specs.Prelude.{◌≡◌};
+    ghost use Rattle.track_locks.specs.Homes.{Homed, IsHome};
+
+    ghost Value = { Homed O.Part O.Call };
+
+    ghost view = { λ h. record { number = h.seat.number; part = h.part; version = h.version; entries = h.seat.entries } };
+
+    ghost invariant = { λ h. (h.seat.opening ≡ J.opening) × IsHome O.meaning O.opens J.opening h.seat.number h.part h.version h.seat.entries };
+}
+
+impl<O: PartObject, J: Naming<O, O::Part>> Home<O, J> {
+    pub fn number(&self) -> u32
+        ensures { result ≡ self.now.number }
+    {
+        self.seat.part()
+    }
+}
+
+// A lock: a home, or none while it is taken.
+#[derive(Drop)]
+pub struct Place<O: PartObject, J: Naming<O, O::Part>> {
+    home: Mutex<Option<Home<O, J>>>,
+    back: Condvar,
+}
+
+impl<O: PartObject, J: Naming<O, O::Part>> Place<O, J> {
+    pub fn new(home: Home<O, J>) -> Self {
+        Place {
+            home: Mutex::new(Some(home)),
+            back: Condvar::new(),
+        }
+    }
+
+    // Waits for the home with this number, and takes it out.
+    pub fn take<R: Wait>(&self, rt: &R, number: u32) -> Home<O, J>
+        ensures number { result.number ≡ number }
+    {
+        let mut guard = self.home.lock(rt);
+        for _ in rt.forever() {
+            match guard.take() {
+                Some(home) => {
+                    if home.number() == number {
+                        return home;
+                    }
+                    *guard = Some(home);
+                }
+                None => {}
+            }
+            guard = self.back.wait(rt, guard);
+        }
+        unreachable!()
+    }
+
+    // Puts a home in, and wakes one that waits.
+    pub fn give<R: Wait>(&self, rt: &R, home: Home<O, J>) {
+        let mut guard = self.home.lock(rt);
+        *guard = Some(home);
+        self.back.notify_one();
+    }
+}
