@@ -1,3 +1,4 @@
 pub mod Fronts
 pub mod Piecewise
 pub mod Risen
+pub mod Contents
