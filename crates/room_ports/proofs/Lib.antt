@@ -1,4 +1,3 @@
 pub mod Fronts
 pub mod Piecewise
 pub mod Risen
-pub mod Contents

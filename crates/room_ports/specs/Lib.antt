@@ -4,5 +4,3 @@ pub mod Calls
 pub mod Pieces
 pub mod Sides
 pub mod States
-pub mod Files
-pub mod FilesInside

@@ -26,11 +26,3 @@ kept room (Some bytes) piece = if nat_le (length bytes + length piece) room then
 pub record AdapterState (R : Type 0) : Type 0 where
   pub inner : R
   pub faults : ℕ
-
--- files over memory: what was written, or None where they tell nothing any more; how often reads and writes have
--- failed; and the calls that they have had
-pub record FilesState : Type 0 where
-  pub files : Option (List (List ℕ × List ℕ))
-  pub calls : Calls
-  pub read_faults : ℕ
-  pub write_faults : ℕ

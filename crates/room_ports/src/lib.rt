@@ -7,25 +7,20 @@
 
 mod calls;
 mod failed;
-mod files;
 pub mod laws;
 mod line;
-mod memory_files;
 mod pieces;
 mod ports;
 mod sink;
 mod source;
 mod standard;
-mod standard_files;
 #[cfg(test)]
 mod tests;
 
+pub use calls::FailingCalls;
 pub use failed::{Failed, Memory};
-pub use files::{FileFault, Files};
 pub use line::{MemLine, Pair};
-pub use memory_files::MemFiles;
 pub use ports::{Line, Sink, Source, put};
 pub use sink::{MemSink, SureSink};
 pub use source::{MemSource, SureSource};
 pub use standard::{StdSink, StdSource};
-pub use standard_files::StdFiles;

@@ -1,7 +1,7 @@
 use Rattle.std.proofs.Common.{ap, map, option_map}
-use Rattle.room_ports.specs.FilesInside.{named}
-use Rattle.room_ports.proofs.Contents.{keeps-whole, keeps-others, put-keeps}
-use Rattle.room_ports.proofs.memory_files.MemFilesFiles.write_file.Goals as goal
+use Rattle.room_files.specs.FilesInside.{named}
+use Rattle.room_files.proofs.Contents.{keeps-whole, keeps-others, put-keeps}
+use Rattle.room_files.proofs.memory_files.MemFilesFiles.write_file.Goals as goal
 
 pub returns-in-Ok-put-clause-holds : goal.returns-in-Ok-put-clause-holds
 returns-in-Ok-put-clause-holds c =

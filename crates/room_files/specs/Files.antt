@@ -2,8 +2,8 @@
 use Rattle.std.specs.Prelude.{◌≡◌, ◌≢◌, ℕ, ◌<◌, ◌++◌, List, [], ◌∷◌, Option, Some, None, Result, Ok, Err, Vec, ◌≤◌, length, IfSome, bytes_eq, if◌then◌else◌}
 use Rattle.std.specs.Option.{IsSomeAnd}
 use Rattle.std.specs.Global.{Global}
-use Rattle.room_ports.specs.declared.files.FileFault.{FileFault}
-use Rattle.room_ports.specs.declared.files.FileFault.TheVariants.{Failed, TooLarge, Memory}
+use Rattle.room_files.specs.declared.files.FileFault.{FileFault}
+use Rattle.room_files.specs.declared.files.FileFault.TheVariants.{Failed, TooLarge, Memory}
 use Rattle.room_ports.specs.Counts.{HasRisen}
 
 -- it is not told, there is no such file, or it holds these bytes

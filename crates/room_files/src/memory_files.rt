@@ -2,12 +2,13 @@
 ghost use Rattle.std.specs.Prelude.{◌≡◌, ◌≢◌, ◌≤◌, ◌↔◌, ◌⊎◌, [], Some, Err, ℕ, List, length, map, IfOk, IfErr, IsErr, OnOk, OnErr, option_map};
 ghost use Rattle.room_ports.specs.Calls.{FailsNext, no_calls, passed, failed};
 ghost use Rattle.room_ports.specs.Counts.{HasRisen, counted};
-ghost use Rattle.room_ports.specs.declared.files.FileFault.TheVariants as faults;
-ghost use Rattle.room_ports.specs.FilesInside.{named};
-ghost use Rattle.room_ports.specs.Files.{CountsRead, IsWhole, Keeps, OthersUnchanged, ReadsFile, Refuses, content_in, content_of, found_content, with_file, Missing};
+ghost use Rattle.room_files.specs.declared.files.FileFault.TheVariants as faults;
+ghost use Rattle.room_files.specs.FilesInside.{named};
+ghost use Rattle.room_files.specs.Files.{CountsRead, IsWhole, Keeps, OthersUnchanged, ReadsFile, Refuses, content_in, content_of, found_content, with_file, Missing};
 
-use crate::calls::FailingCalls;
-use crate::{Failed, FileFault, Files, Memory};
+
+use crate::{FileFault, Files};
+use room_ports::{Failed, FailingCalls, Memory};
 use std::alloc::Global;
 use std::marker::Model;
 
@@ -30,8 +31,8 @@ pub struct MemFiles {
 
 impl Model for MemFiles {
     ghost use Rattle.std.specs.Prelude.{map, option_map};
-    ghost use Rattle.room_ports.specs.States.{FilesState};
-    ghost use Rattle.room_ports.specs.FilesInside.{named};
+    ghost use Rattle.room_files.specs.States.{FilesState};
+    ghost use Rattle.room_files.specs.FilesInside.{named};
 
     ghost Value = { FilesState };
 

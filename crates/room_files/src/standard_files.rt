@@ -1,10 +1,11 @@
 // Files of the system, which tell nothing.
 ghost use Rattle.std.specs.Prelude.{◌≡◌, ◌≤◌, None, Err, length, IfOk, OnErr, OnOk};
 ghost use Rattle.room_ports.specs.Counts.{counted};
-ghost use Rattle.room_ports.specs.declared.files.FileFault.TheVariants as faults;
-ghost use Rattle.room_ports.specs.Files.{Content, Untold};
+ghost use Rattle.room_files.specs.declared.files.FileFault.TheVariants as faults;
+ghost use Rattle.room_files.specs.Files.{Content, Untold};
 
-use crate::{Failed, FileFault, Files};
+use crate::{FileFault, Files};
+use room_ports::Failed;
 use std::alloc::Global;
 use std::fs;
 use std::fs::File;

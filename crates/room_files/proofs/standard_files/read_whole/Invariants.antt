@@ -1,5 +1,5 @@
 use Rattle.std.proofs.Common.{◌≡◌, ◌+◌, ◌-◌, length, vec_len}
-use Rattle.room_ports.proofs.standard_files.read_whole.Given as goal
+use Rattle.room_files.proofs.standard_files.read_whole.Given as goal
 
 abbrev pub invariant-loop-piece : goal.invariant-loop-piece
 invariant-loop-piece g l = length l.piece ≡ 16384

@@ -1,10 +1,10 @@
 // Files, by their names.
 ghost use Rattle.std.specs.Prelude.{◌≡◌, ◌≤◌, List, ℕ, length, IfOk, IfErr, OnOk, OnErr};
 ghost use Rattle.room_ports.specs.Counts.{HasRisen};
-ghost use Rattle.room_ports.specs.declared.files.FileFault.TheVariants as faults;
-ghost use Rattle.room_ports.specs.Files.{Content, IsWhole, NoneChanged, OthersUnchanged, Refuses, CountsRead};
+ghost use Rattle.room_files.specs.declared.files.FileFault.TheVariants as faults;
+ghost use Rattle.room_files.specs.Files.{Content, IsWhole, NoneChanged, OthersUnchanged, Refuses, CountsRead};
 
-use crate::{Failed, Memory};
+use room_ports::{Failed, Memory};
 use std::alloc::{AllocError, AllocFailed, Global};
 
 /// Why a file was not read.
@@ -16,14 +16,6 @@ pub enum FileFault {
     TooLarge,
     /// There was not memory enough.
     Memory,
-}
-
-impl From<Failed> for FileFault {
-    ghost from_gives = { λ _ e. e ≡ faults.Failed };
-
-    fn from(_: Failed) -> FileFault {
-        FileFault::Failed
-    }
 }
 
 impl From<Memory> for FileFault {

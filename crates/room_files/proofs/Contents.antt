@@ -2,7 +2,7 @@
 use Rattle.std.proofs.Common.{◌≡◌, ◌≢◌, ℕ, Bool, true, false, List, [], ◌∷◌, ◌++◌, Option, Some, None, option_map, refl, sym, ap, ◌∙◌, subst, if◌then◌else◌}
 use Rattle.std.specs.Str.{bytes_eq}
 use Rattle.std.proofs.lemmas.Slice.Eq.{bytes_eq-Decides}
-use Rattle.room_ports.specs.Files.{Content, Untold, Missing, Bytes, IsWhole, IsUnchanged, OthersUnchanged, Keeps, or_earlier, content_in, content_of, with_file}
+use Rattle.room_files.specs.Files.{Content, Untold, Missing, Bytes, IsWhole, IsUnchanged, OthersUnchanged, Keeps, or_earlier, content_in, content_of, with_file}
 
 last_is : (fs : List (List ℕ × List ℕ)) (name bytes : List ℕ)
     → content_in (fs ++ (name, bytes) ∷ []) name ≡ Bytes bytes
