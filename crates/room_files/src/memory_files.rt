@@ -193,7 +193,7 @@ fn add(alloc: Global, files: &mut Vec<NamedFile>, name: &str, bytes: &[u8]) -> R
     Ok(())
 }
 
-fn copied(alloc: Global, bytes: &[u8]) -> Result<Vec<u8>, Memory>
+pub(crate) fn copied(alloc: Global, bytes: &[u8]) -> Result<Vec<u8>, Memory>
     ensures { IfOk result (λ v. v.items ≡ bytes.now) }
 {
     Ok(Vec::from_slice(alloc, bytes)?)

@@ -1,5 +1,5 @@
 -- What a hall tells after a change at one station.
-use Rattle.std.proofs.Common.{◌≡◌, ◌≢◌, ℕ, ◌<◌, List, Option, Some, true, true≢false, length, inl, inr, refl, sym, ap, ◌∙◌}
+use Rattle.std.proofs.Common.{◌≡◌, ◌≢◌, ℕ, ◌<◌, List, Option, Some, None, Bool, true, false, true≢false, length, inl, inr, refl, sym, ap, ◌∙◌}
 use Rattle.std.specs.Prelude.{slice_get, slice_set}
 use Rattle.std.proofs.lemmas.Option.{slice_get_past}
 use Rattle.std.proofs.lemmas.Bool.Decides.{leb_tells}
@@ -14,6 +14,20 @@ seated-within notes station seated = elim (leb_tells (length notes) station) [
   | inl h ↦ absurd (true≢false (sym seated ∙ ap (λ o. is_noted (noted o)) (slice_get_past notes station h.1)))
   | inr h ↦ h.1
 ]
+
+-- the note that was made
+pub noted-at : {T : Type 0} (notes after : List (Option T)) (note : T) (station : ℕ)
+    → after ≡ slice_set notes station (Some note) → station < length notes → note_of after station ≡ Some note
+noted-at notes after note station e within =
+    ap (λ ns. note_of ns station) e ∙ ap noted (get-same notes station (Some note) within)
+
+abbrev flag : Option Bool → Bool
+flag None = false
+flag (Some b) = b
+
+-- a note is not two
+pub not-both : (o : Option Bool) → o ≡ Some false → o ≡ Some true → ⊥
+not-both o e f = true≢false (ap flag (sym f ∙ e))
 
 module _ {L T : Type 0} (told : L → LineTold) where
   -- the station whose line was put there has it

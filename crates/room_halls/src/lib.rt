@@ -10,9 +10,15 @@ mod memory_hall;
 mod seats;
 mod sure_hall;
 mod sure_line;
+mod tcp_hall;
+mod tcp_line;
+#[cfg(test)]
+mod tests;
 
 pub use gate::{Gate, OpenGate};
 pub use hall::{Hall, HallFault};
 pub use memory_hall::MemHall;
 pub use sure_hall::SureHall;
 pub use sure_line::Pair2;
+pub use tcp_hall::TcpHall;
+pub use tcp_line::TcpLine;

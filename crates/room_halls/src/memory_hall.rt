@@ -1,10 +1,10 @@
 // A hall over memory.
-ghost use Rattle.std.specs.Prelude.{◌≡◌, ◌≤◌, ◌<◌, ◌↔◌, ◌⊎◌, ℕ, true, Err, IfOk, IsErr, OnOk, OnErr};
+ghost use Rattle.std.specs.Prelude.{◌≡◌, ◌≤◌, ◌<◌, ◌↔◌, ◌⊎◌, ℕ, true, Some, Err, IfOk, IsErr, OnOk, OnErr};
 ghost use Rattle.room_ports.specs.Calls.{FailsNext, no_calls, passed, failed};
 ghost use Rattle.room_ports.specs.Counts.{HasRisen, counted};
 ghost use Rattle.room_halls.specs.declared.hall.HallFault.TheVariants as faults;
 ghost use Rattle.room_halls.specs.Lines.{HasLine, mem_hall_tells, mem_line_told};
-ghost use Rattle.room_halls.specs.Stations.{CountsSeat, NoneMoves, OthersStay, line_told};
+ghost use Rattle.room_halls.specs.Stations.{CountsSeat, NoneMoves, OthersStay, note_of};
 
 use crate::seats::Seats;
 use crate::{Hall, HallFault};
@@ -85,6 +85,7 @@ impl Hall for MemHall {
             ↔ (FailsNext self.old.calls ⊎ (HasLine self.old station → ⊥)) }
         ensures listed { FailsNext self.old.calls → self.new.calls ≡ failed self.old.calls }
         ensures passed { FailsNext self.old.calls ⊎ (self.new.calls ≡ passed self.old.calls) }
+        ensures away { OnOk result (note_of self.new.away station ≡ Some true) }
         ensures stays { OnErr result (NoneMoves (mem_hall_tells self.old) (mem_hall_tells self.new)) }
 
         // What every hall promises.
@@ -112,6 +113,7 @@ impl Hall for MemHall {
 
     /// The line is the station's again.
     fn stand_up(&mut self, station: u32, line: MemLine)
+        requires { (mem_hall_tells self.old station).seated ≡ true }
         ensures back { HasLine self.new station }
         ensures calls { self.new.calls ≡ self.old.calls }
 

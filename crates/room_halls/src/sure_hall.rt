@@ -1,5 +1,7 @@
 // A hall over memory that never fails.
-ghost use Rattle.std.specs.Prelude.{◌≡◌, ◌≤◌, ◌<◌, ℕ, true, IfOk, IsOk, IsErr, OnOk, OnErr, slice_get, vec_len};
+ghost use Rattle.std.specs.Prelude.{◌≡◌, ◌≤◌, ◌<◌, ℕ, true, IfOk, IfErr, IsOk, OnOk, OnErr, slice_get, vec_len};
+ghost use Rattle.room_halls.specs.declared.hall.HallFault.TheVariants as faults;
+ghost use Rattle.room_halls.specs.Stations.{CountsSeat, NoneMoves, OthersStay};
 ghost use Rattle.room_halls.specs.Lines.{sure_hall_tells, sure_line_told, told_or_blank};
 
 use crate::seats::Seats;
@@ -48,11 +50,25 @@ impl Hall for SureHall {
 
     ghost faults = { λ _. 0 };
 
-    fn open(&mut self, _address: &str) -> Result<(), Failed> {
+    /// Opens, and nothing changes.
+    fn open(&mut self, _address: &str) -> Result<(), Failed>
+        ensures sure { IsOk result }
+        ensures stays { self.new ≡ self.old }
+    {
         Ok(())
     }
 
-    fn seat_station(&mut self, alloc: Global, station: u32) -> Result<Pair2, HallFault> {
+    /// Seats a station, whether it has a line or not. Where memory is refused nothing that is told changes.
+    fn seat_station(&mut self, alloc: Global, station: u32) -> Result<Pair2, HallFault>
+        ensures sure { IfErr result (λ e. e ≡ faults.Memory) }
+        ensures stays { OnErr result (NoneMoves (sure_hall_tells self.old) (sure_hall_tells self.new)) }
+
+        // What every hall promises.
+        ensures line { IfOk result (λ l. (sure_hall_tells self.old station).line ≡ sure_line_told l) }
+        ensures seated { OnOk result ((sure_hall_tells self.new station).seated ≡ true) }
+        ensures others { OnOk result (OthersStay station (sure_hall_tells self.old) (sure_hall_tells self.new)) }
+        ensures counts { CountsSeat result 0 0 }
+    {
         make_lines(alloc, &mut self.lines, station)?;
         self.seated.make_room(station)?;
         self.seated.set(station, ());
@@ -60,6 +76,7 @@ impl Hall for SureHall {
         Ok(mem::replace(place, blank_line(alloc)))
     }
 
+    /// The line is the station's again.
     fn stand_up(&mut self, station: u32, line: Pair2) {
         self.lines[station as usize] = line;
     }

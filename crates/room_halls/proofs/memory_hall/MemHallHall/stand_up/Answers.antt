@@ -1,6 +1,7 @@
 use Rattle.std.proofs.Common.{ap, arith, refl}
+use Rattle.std.proofs.lemmas.List.{length-set}
 use Rattle.room_halls.specs.Lines.{told_or_blank, mem_line_told}
-use Rattle.room_halls.proofs.Telling.{seated-within, tells-line, tells-seated, tells-others}
+use Rattle.room_halls.proofs.Telling.{seated-within, noted-at, not-both, tells-line, tells-seated, tells-others}
 use Rattle.room_halls.proofs.memory_hall.MemHallHall.stand_up.Goals as goal
 
 pub returns-clause-line : goal.returns-clause-line
@@ -17,3 +18,10 @@ returns-clause-seated c =
 pub returns-clause-others : goal.returns-clause-others
 returns-clause-others c = rw (← c.self.view_is)
     (tells-others mem_line_told c.self.inside.lines.items _ _ c.self.inside.away _ _ _ _ refl (λ s. refl) c.set.ensures)
+
+pub returns-clause-back : goal.returns-clause-back
+returns-clause-back c =
+    let within = seated-within c.self.inside.away c.args.station (rw (← c.self.view_is) at c.requires) in (
+      omega (arith, within, c.self.invariant, c.self.inside.lines.ok.0, length-set c.self.inside.lines.items c.args.station c.args.line),
+      not-both _ (noted-at c.self.inside.away c.set.new.self _ _ c.set.ensures within),
+    )
