@@ -17,6 +17,7 @@ mod standard;
 #[cfg(test)]
 mod tests;
 
+pub use calls::FailingCalls;
 pub use failed::{Failed, Memory};
 pub use line::{MemLine, Pair};
 pub use ports::{Line, Sink, Source, put};

@@ -1,5 +1,5 @@
 // Sinks over memory.
-ghost use Rattle.std.specs.Prelude.{◌≡◌, ◌≤◌, ◌<◌, ◌↔◌, [], length, take, vec_len, vec_capacity, Some, IfSome, IfOk, IsOk, IsErr, OnOk, OnErr};
+ghost use Rattle.std.specs.Prelude.{◌≡◌, ◌≤◌, ◌<◌, ◌↔◌, [], length, take, vec_len, vec_capacity, None, Some, IfSome, IfOk, IsOk, IsErr, OnOk, OnErr};
 ghost use Rattle.std.specs.Option.{option_copied, option_map};
 ghost use Rattle.room_ports.specs.Bytes.{Takes};
 ghost use Rattle.room_ports.specs.Calls.{no_calls, FailsNext, passed, failed};
@@ -113,6 +113,16 @@ impl SureSink {
             bytes: Some(bytes),
             room,
         })
+    }
+
+    /// A sink that takes everything and tells nothing.
+    pub fn untold() -> SureSink
+        ensures { result.bytes ≡ None }
+    {
+        SureSink {
+            bytes: None,
+            room: 0,
+        }
     }
 
     /// The bytes that it has taken; `None` once they are more than it has room for.

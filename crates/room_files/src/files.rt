@@ -1,0 +1,76 @@
+// Files, by their names.
+ghost use Rattle.std.specs.Prelude.{◌≡◌, ◌≤◌, List, ℕ, length, IfOk, IfErr, OnOk, OnErr};
+ghost use Rattle.room_ports.specs.Counts.{HasRisen};
+ghost use Rattle.room_files.specs.declared.files.FileFault.TheVariants as faults;
+ghost use Rattle.room_files.specs.Files.{Content, IsWhole, NoneChanged, OthersUnchanged, Refuses, CountsRead};
+
+use room_ports::{Failed, Memory};
+use std::alloc::{AllocError, AllocFailed, Global};
+
+/// Why a file was not read.
+#[derive(Clone, Copy, Debug, PartialEq, Eq)]
+pub enum FileFault {
+    /// The read failed, or there is no such file. The object has counted the fault.
+    Failed,
+    /// The file has more bytes than were asked for.
+    TooLarge,
+    /// There was not memory enough.
+    Memory,
+}
+
+impl From<Memory> for FileFault {
+    ghost from_gives = { λ _ e. e ≡ faults.Memory };
+
+    fn from(_: Memory) -> FileFault {
+        FileFault::Memory
+    }
+}
+
+impl From<AllocError> for FileFault {
+    ghost from_gives = { λ _ e. e ≡ faults.Memory };
+
+    fn from(_: AllocError) -> FileFault {
+        FileFault::Memory
+    }
+}
+
+impl<T: Drop> From<AllocFailed<T>> for FileFault {
+    ghost from_gives = { λ _ e. e ≡ faults.Memory };
+
+    fn from(_: AllocFailed<T>) -> FileFault {
+        FileFault::Memory
+    }
+}
+
+/// Files that stand outside. What they hold is told by some and not by others.
+pub trait Files {
+    /// What the file of a name holds, where it is told.
+    ghost file: { Self → List ℕ → Content };
+
+    /// How often a read has failed.
+    ghost read_faults: { Self → ℕ };
+
+    /// How often a write has failed.
+    ghost write_faults: { Self → ℕ };
+
+    /// All bytes of a file, which are at most `limit`. A file that is not there is a fault.
+    fn read_file(&mut self, alloc: Global, name: &str, limit: u32) -> Result<Vec<u8>, FileFault>
+        ensures whole { IfOk result (λ v. IsWhole (file self.old name.now) v.items) }
+        ensures within { IfOk result (λ v. length v.items ≤ limit) }
+        ensures refuses { IfErr result (λ e. Refuses e (file self.old name.now) limit) }
+
+        // A read changes no file, and no count but its own where it failed.
+        ensures same { NoneChanged (file self.old) (file self.new) }
+        ensures counts { CountsRead result (read_faults self.old) (read_faults self.new) }
+        ensures apart { write_faults self.new ≡ write_faults self.old };
+
+    /// Puts these bytes in place of what the file holds, which need not be there.
+    fn write_file(&mut self, name: &str, bytes: &[u8]) -> Result<(), Failed>
+        ensures holds { OnOk result (IsWhole (file self.new name.now) bytes.now) }
+
+        // A write changes no other file, and no count but its own where it failed.
+        ensures others { OthersUnchanged name.now (file self.old) (file self.new) }
+        ensures cause { OnErr result (HasRisen (write_faults self.old) (write_faults self.new)) }
+        ensures quiet { OnOk result (write_faults self.new ≡ write_faults self.old) }
+        ensures apart { read_faults self.new ≡ read_faults self.old };
+}

@@ -1,0 +1,17 @@
+//! Files that stand outside, as one trait, with files over memory and those of the system. A file is read whole or
+//! refused as too large; a write holds these bytes and nothing else, and changes no other file, where what files hold
+//! is told. A call answers `Failed` only where the count of its reads or of its writes rose.
+#![tactic(auto)]
+
+mod files;
+mod memory_files;
+mod standard_files;
+mod sure_files;
+#[cfg(test)]
+mod tests;
+mod written;
+
+pub use files::{FileFault, Files};
+pub use memory_files::MemFiles;
+pub use standard_files::StdFiles;
+pub use sure_files::SureFiles;

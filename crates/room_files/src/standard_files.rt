@@ -1,0 +1,95 @@
+// Files of the system, which tell nothing.
+ghost use Rattle.std.specs.Prelude.{◌≡◌, ◌≤◌, None, Err, length, IfOk, OnErr, OnOk};
+ghost use Rattle.room_ports.specs.Counts.{counted};
+ghost use Rattle.room_files.specs.declared.files.FileFault.TheVariants as faults;
+ghost use Rattle.room_files.specs.Files.{Content, Untold};
+
+use crate::{FileFault, Files};
+use room_ports::Failed;
+use std::alloc::Global;
+use std::fs;
+use std::fs::File;
+use std::io::Read;
+use std::rt::Files as System;
+
+/// The files of the system, by their paths. Each read and each write that fails is counted as a fault.
+#[derive(Drop)]
+pub struct StdFiles<'a, R: System> {
+    system: &'a R,
+    read_faults: u64,
+    write_faults: u64,
+}
+
+impl<'a, R: System> StdFiles<'a, R> {
+    /// The files of this system, without a fault so far.
+    pub fn new(system: &'a R) -> Self
+        ensures reads { ⟦<StdFiles<'a, R> as Files>⟧.read_faults result ≡ 0 }
+        ensures writes { ⟦<StdFiles<'a, R> as Files>⟧.write_faults result ≡ 0 }
+    {
+        StdFiles {
+            system,
+            read_faults: 0,
+            write_faults: 0,
+        }
+    }
+}
+
+impl<R: System> Files for StdFiles<'_, R> {
+    ghost file = { λ _ _. Untold };
+
+    ghost read_faults = { λ f. f.read_faults };
+
+    ghost write_faults = { λ f. f.write_faults };
+
+    /// Reads to the end of the file, or to the first byte that is too much.
+    fn read_file(&mut self, alloc: Global, name: &str, limit: u32) -> Result<Vec<u8>, FileFault> {
+        match read_whole(self.system, alloc, name, limit) {
+            Err(FileFault::Failed) => {
+                self.read_faults = self.read_faults.saturating_add(1);
+                Err(FileFault::Failed)
+            }
+            Err(fault) => Err(fault),
+            Ok(bytes) => Ok(bytes),
+        }
+    }
+
+    /// Makes the file, or empties it, and writes the bytes to it.
+    fn write_file(&mut self, name: &str, bytes: &[u8]) -> Result<(), Failed> {
+        match fs::write(self.system, name, bytes) {
+            Ok(()) => Ok(()),
+            Err(_) => {
+                self.write_faults = self.write_faults.saturating_add(1);
+                Err(Failed)
+            }
+        }
+    }
+}
+
+// The bytes of a file, or `Failed` where it can't be opened or a read of it fails.
+fn read_whole<R: System>(
+    system: &R,
+    alloc: Global,
+    name: &str,
+    limit: u32,
+) -> Result<Vec<u8>, FileFault>
+    ensures { IfOk result (λ v. length v.items ≤ limit) }
+{
+    let mut file = match File::open(system, name) {
+        Ok(file) => file,
+        Err(_) => return Err(FileFault::Failed),
+    };
+    let limit = limit as usize;
+    let mut bytes = Vec::new(alloc);
+    let mut piece = [0; 16384];
+    while bytes.len() <= limit {
+        let count = match file.read(&mut piece) {
+            Ok(count) => count,
+            Err(_) => return Err(FileFault::Failed),
+        };
+        if count == 0 {
+            return Ok(bytes);
+        }
+        bytes.extend_from_slice(&piece[..count])?;
+    }
+    Err(FileFault::TooLarge)
+}

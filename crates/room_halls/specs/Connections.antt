@@ -1,0 +1,18 @@
+-- What is told of lines over connections: their counts of faults, and no bytes.
+use Rattle.std.specs.Prelude.{ℕ, List, Option, Some, None}
+use Rattle.room_halls.specs.declared.tcp_line.LineFaults.{LineFaults}
+use Rattle.room_halls.specs.Stations.{LineTold, Station, line_told, station_told, note_of, is_noted}
+
+-- the counts of each station that was seated, and how often a call of the hall has failed
+pub record TcpHallState : Type 0 where
+  pub seated : List (Option LineFaults)
+  pub faults : ℕ
+
+-- a station that was not seated has no fault yet
+abbrev pub connection_told : Option LineFaults → LineTold
+connection_told None = line_told None None 0 0
+connection_told (Some faults) = line_told None None faults.reads faults.writes
+
+abbrev pub tcp_hall_tells : TcpHallState → ℕ → Station
+tcp_hall_tells hall station =
+    station_told (connection_told (note_of hall.seated station)) (is_noted (note_of hall.seated station))

@@ -1,0 +1,77 @@
+// A hall: a line for each station of a room.
+ghost use Rattle.std.specs.Prelude.{◌≡◌, ℕ, true, IfOk, OnOk, OnErr};
+ghost use Rattle.room_ports.specs.Counts.{HasRisen};
+ghost use Rattle.room_halls.specs.declared.hall.HallFault.TheVariants as faults;
+ghost use Rattle.room_halls.specs.Stations.{Station, CountsSeat, NoneMoves, OthersStay, line_told};
+
+use room_ports::{Failed, Line, Memory};
+use std::alloc::{AllocError, AllocFailed, Global};
+
+/// Why a station was not seated.
+#[derive(Clone, Copy, Debug, PartialEq, Eq)]
+pub enum HallFault {
+    /// No line came, or there is none for this station. The hall has counted the fault.
+    Failed,
+    /// There was not memory enough.
+    Memory,
+}
+
+impl From<Memory> for HallFault {
+    ghost from_gives = { λ _ e. e ≡ faults.Memory };
+
+    fn from(_: Memory) -> HallFault {
+        HallFault::Memory
+    }
+}
+
+impl From<AllocError> for HallFault {
+    ghost from_gives = { λ _ e. e ≡ faults.Memory };
+
+    fn from(_: AllocError) -> HallFault {
+        HallFault::Memory
+    }
+}
+
+impl<T: Drop> From<AllocFailed<T>> for HallFault {
+    ghost from_gives = { λ _ e. e ≡ faults.Memory };
+
+    fn from(_: AllocFailed<T>) -> HallFault {
+        HallFault::Memory
+    }
+}
+
+/// A line for each station, by the station's number from 0 on.
+pub trait Hall {
+    /// What a station speaks over.
+    type Line: Line + Send;
+
+    /// What is told of a station.
+    ghost told: { Self → ℕ → Station };
+
+    /// How often an `open` or a `seat_station` has failed.
+    ghost faults: { Self → ℕ };
+
+    /// Opens the hall at an address, as `localhost:7000`.
+    fn open(&mut self, address: &str) -> Result<(), Failed>
+        ensures same { OnOk result (NoneMoves (told self.old) (told self.new)) }
+        ensures cause { OnErr result (HasRisen (faults self.old) (faults self.new)) }
+        ensures quiet { OnOk result (faults self.new ≡ faults self.old) };
+
+    /// Hands out the line of a station. It may wait for one.
+    fn seat_station(&mut self, alloc: Global, station: u32) -> Result<Self::Line, HallFault>
+        // The line stands as the hall told of it.
+        ensures line { IfOk result (λ l. (told self.old station).line
+            ≡ line_told (Self.Line.left l) (Self.Line.taken l) (Self.Line.read_faults l) (Self.Line.write_faults l)) }
+        ensures seated { OnOk result ((told self.new station).seated ≡ true) }
+        ensures others { OnOk result (OthersStay station (told self.old) (told self.new)) }
+        ensures counts { CountsSeat result (faults self.old) (faults self.new) };
+
+    /// Takes the line of a station back that was seated, and keeps what it took, has left and counted.
+    fn stand_up(&mut self, station: u32, line: Self::Line)
+        requires { (told self.old station).seated ≡ true }
+        ensures line { (told self.new station).line
+            ≡ line_told (Self.Line.left line) (Self.Line.taken line) (Self.Line.read_faults line) (Self.Line.write_faults line) }
+        ensures seated { (told self.new station).seated ≡ true }
+        ensures others { OthersStay station (told self.old) (told self.new) }
+        ensures quiet { faults self.new ≡ faults self.old };
+}

@@ -1,0 +1,137 @@
+// A hall over memory.
+ghost use Rattle.std.specs.Prelude.{◌≡◌, ◌≤◌, ◌<◌, ◌↔◌, ◌⊎◌, ℕ, true, Some, Err, IfOk, IsErr, OnOk, OnErr};
+ghost use Rattle.room_ports.specs.Calls.{FailsNext, no_calls, passed, failed};
+ghost use Rattle.room_ports.specs.Counts.{HasRisen, counted};
+ghost use Rattle.room_halls.specs.declared.hall.HallFault.TheVariants as faults;
+ghost use Rattle.room_halls.specs.Lines.{HasLine, mem_hall_tells, mem_line_told};
+ghost use Rattle.room_halls.specs.Stations.{CountsSeat, NoneMoves, OthersStay, note_of};
+
+use crate::seats::Seats;
+use crate::{Hall, HallFault};
+use room_ports::{Failed, FailingCalls, MemLine, MemSink, MemSource};
+use std::alloc::Global;
+use std::marker::Model;
+use std::mem;
+
+/// A hall of lines over memory, which fails where it is told to.
+#[derive(Drop)]
+pub struct MemHall {
+    alloc: Global,
+    lines: Vec<MemLine>,
+    away: Seats<bool>,
+    calls: FailingCalls,
+    faults: u64,
+}
+
+impl Model for MemHall {
+    ghost use Rattle.std.specs.Prelude.{◌≤◌, length, vec_len};
+    ghost use Rattle.room_halls.specs.Lines.{HallState};
+
+    ghost Value = { HallState };
+
+    ghost view = { λ h. record { lines = h.lines.items; away = h.away; calls = h.calls; faults = h.faults } };
+
+    ghost invariant = { λ h. length h.away ≤ vec_len h.lines };
+}
+
+impl MemHall {
+    /// A hall that gives station s the line s of these. Its calls of `open` and `seat_station` are numbered from 1 in
+    /// one sequence, and those whose numbers are in `failing` fail.
+    pub fn new(alloc: Global, lines: Vec<MemLine>, failing: Vec<u32>) -> MemHall
+        ensures lines { result.lines ≡ lines.items }
+        ensures calls { result.calls ≡ no_calls failing.items }
+        ensures faults { ⟦<MemHall as Hall>⟧.faults result ≡ 0 }
+    {
+        MemHall {
+            alloc,
+            lines,
+            away: Seats::new(alloc),
+            calls: FailingCalls::new(failing),
+            faults: 0,
+        }
+    }
+}
+
+impl Hall for MemHall {
+    type Line = MemLine;
+
+    ghost told = { λ h s. mem_hall_tells h s };
+
+    ghost faults = { λ h. h.faults };
+
+    /// Fails exactly where the number of the call is listed.
+    fn open(&mut self, _address: &str) -> Result<(), Failed>
+        ensures fails { IsErr result ↔ FailsNext self.old.calls }
+        ensures passed { OnOk result (self.new.calls ≡ passed self.old.calls) }
+        ensures failed { OnErr result (self.new.calls ≡ failed self.old.calls) }
+        ensures stays { (self.new.lines ≡ self.old.lines) × (self.new.away ≡ self.old.away) }
+
+        // What every hall promises.
+        ensures cause { OnErr result (HasRisen self.old.faults self.new.faults) }
+        ensures quiet { OnOk result (self.new.faults ≡ self.old.faults) }
+    {
+        match self.calls.next() {
+            Ok(()) => Ok(()),
+            Err(_) => {
+                self.faults = self.faults.saturating_add(1);
+                Err(Failed)
+            }
+        }
+    }
+
+    /// Fails exactly where the number of the call is listed, or the station has no line or its line is away.
+    fn seat_station(&mut self, alloc: Global, station: u32) -> Result<MemLine, HallFault>
+        ensures fails { (result ≡ Err faults.Failed)
+            ↔ (FailsNext self.old.calls ⊎ (HasLine self.old station → ⊥)) }
+        ensures listed { FailsNext self.old.calls → self.new.calls ≡ failed self.old.calls }
+        ensures passed { FailsNext self.old.calls ⊎ (self.new.calls ≡ passed self.old.calls) }
+        ensures away { OnOk result (note_of self.new.away station ≡ Some true) }
+        ensures stays { OnErr result (NoneMoves (mem_hall_tells self.old) (mem_hall_tells self.new)) }
+
+        // What every hall promises.
+        ensures line { IfOk result (λ l. (mem_hall_tells self.old station).line ≡ mem_line_told l) }
+        ensures seated { OnOk result ((mem_hall_tells self.new station).seated ≡ true) }
+        ensures others { OnOk result (OthersStay station (mem_hall_tells self.old) (mem_hall_tells self.new)) }
+        ensures counts { CountsSeat result self.old.faults self.new.faults }
+    {
+        match self.calls.next() {
+            Ok(()) => {}
+            Err(_) => {
+                self.faults = self.faults.saturating_add(1);
+                return Err(HallFault::Failed);
+            }
+        }
+        if station as usize >= self.lines.len() || self.away.get(station) == Some(true) {
+            self.faults = self.faults.saturating_add(1);
+            return Err(HallFault::Failed);
+        }
+        self.away.make_room(station)?;
+        self.away.set(station, true);
+        let place = &mut self.lines[station as usize];
+        Ok(mem::replace(place, blank(alloc)))
+    }
+
+    /// The line is the station's again.
+    fn stand_up(&mut self, station: u32, line: MemLine)
+        requires { (mem_hall_tells self.old station).seated ≡ true }
+        ensures back { HasLine self.new station }
+        ensures calls { self.new.calls ≡ self.old.calls }
+
+        // What every hall promises.
+        ensures line { (mem_hall_tells self.new station).line ≡ mem_line_told line }
+        ensures seated { (mem_hall_tells self.new station).seated ≡ true }
+        ensures others { OthersStay station (mem_hall_tells self.old) (mem_hall_tells self.new) }
+        ensures quiet { self.new.faults ≡ self.old.faults }
+    {
+        self.away.set(station, false);
+        self.lines[station as usize] = line;
+    }
+}
+
+// What stands in the place of a line that is away.
+fn blank(alloc: Global) -> MemLine {
+    MemLine {
+        input: MemSource::new(Vec::new(alloc), Vec::new(alloc)),
+        output: MemSink::new(alloc, Vec::new(alloc)),
+    }
+}

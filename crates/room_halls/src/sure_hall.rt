@@ -1,0 +1,96 @@
+// A hall over memory that never fails.
+ghost use Rattle.std.specs.Prelude.{◌≡◌, ◌≤◌, ◌<◌, ℕ, true, IfOk, IfErr, IsOk, OnOk, OnErr, slice_get, vec_len};
+ghost use Rattle.room_halls.specs.declared.hall.HallFault.TheVariants as faults;
+ghost use Rattle.room_halls.specs.Stations.{CountsSeat, NoneMoves, OthersStay};
+ghost use Rattle.room_halls.specs.Lines.{sure_hall_tells, sure_line_told, told_or_blank};
+
+use crate::seats::Seats;
+use crate::sure_line::blank_line;
+use crate::{Hall, HallFault, Pair2};
+use room_ports::{Failed, Memory};
+use std::alloc::Global;
+use std::marker::Model;
+use std::mem;
+
+/// A hall of lines over memory that never fail. It never answers `Failed`: a station without a line gets one whose
+/// input is at its end and whose output tells nothing.
+#[derive(Drop)]
+pub struct SureHall {
+    lines: Vec<Pair2>,
+    seated: Seats<()>,
+}
+
+impl Model for SureHall {
+    ghost use Rattle.std.specs.Prelude.{◌≤◌, length, vec_len};
+    ghost use Rattle.room_halls.specs.Lines.{SureHallState};
+
+    ghost Value = { SureHallState };
+
+    ghost view = { λ h. record { lines = h.lines.items; seated = h.seated } };
+
+    ghost invariant = { λ h. length h.seated ≤ vec_len h.lines };
+}
+
+impl SureHall {
+    /// A hall that gives station s the line s of these.
+    pub fn new(alloc: Global, lines: Vec<Pair2>) -> SureHall
+        ensures { result.lines ≡ lines.items }
+    {
+        SureHall {
+            lines,
+            seated: Seats::new(alloc),
+        }
+    }
+}
+
+impl Hall for SureHall {
+    type Line = Pair2;
+
+    ghost told = { λ h s. sure_hall_tells h s };
+
+    ghost faults = { λ _. 0 };
+
+    /// Opens, and nothing changes.
+    fn open(&mut self, _address: &str) -> Result<(), Failed>
+        ensures sure { IsOk result }
+        ensures stays { self.new ≡ self.old }
+    {
+        Ok(())
+    }
+
+    /// Seats a station, whether it has a line or not. Where memory is refused nothing that is told changes.
+    fn seat_station(&mut self, alloc: Global, station: u32) -> Result<Pair2, HallFault>
+        ensures sure { IfErr result (λ e. e ≡ faults.Memory) }
+        ensures stays { OnErr result (NoneMoves (sure_hall_tells self.old) (sure_hall_tells self.new)) }
+
+        // What every hall promises.
+        ensures line { IfOk result (λ l. (sure_hall_tells self.old station).line ≡ sure_line_told l) }
+        ensures seated { OnOk result ((sure_hall_tells self.new station).seated ≡ true) }
+        ensures others { OnOk result (OthersStay station (sure_hall_tells self.old) (sure_hall_tells self.new)) }
+        ensures counts { CountsSeat result 0 0 }
+    {
+        make_lines(alloc, &mut self.lines, station)?;
+        self.seated.make_room(station)?;
+        self.seated.set(station, ());
+        let place = &mut self.lines[station as usize];
+        Ok(mem::replace(place, blank_line(alloc)))
+    }
+
+    /// The line is the station's again.
+    fn stand_up(&mut self, station: u32, line: Pair2) {
+        self.lines[station as usize] = line;
+    }
+}
+
+// Makes the lines of the stations up to this one that have none.
+fn make_lines(alloc: Global, lines: &mut Vec<Pair2>, station: u32) -> Result<(), Memory>
+    ensures room { OnOk result (station < vec_len lines.new) }
+    ensures grows { vec_len lines.old ≤ vec_len lines.new }
+    ensures same { (s : ℕ) → told_or_blank sure_line_told (slice_get lines.new.items s)
+        ≡ told_or_blank sure_line_told (slice_get lines.old.items s) }
+{
+    while lines.len() <= station as usize {
+        lines.push(blank_line(alloc))?;
+    }
+    Ok(())
+}

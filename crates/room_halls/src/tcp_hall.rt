@@ -1,0 +1,111 @@
+// A hall whose stations are connections over TCP.
+ghost use Rattle.std.specs.Prelude.{◌≡◌, ◌<◌, ◌≤◌, [], None, Some, length, refl, true, IfOk, OnOk, OnErr};
+ghost use Rattle.room_ports.specs.Counts.{HasRisen, counted};
+ghost use Rattle.room_halls.specs.Connections.{tcp_hall_tells};
+ghost use Rattle.room_halls.specs.Stations.{CountsSeat, NoneMoves, OthersStay, line_told};
+
+use crate::seats::Seats;
+use crate::tcp_line::{LineFaults, TcpLine};
+use crate::{Hall, HallFault};
+use room_ports::Failed;
+use std::alloc::Global;
+use std::io;
+use std::marker::Model;
+use std::net::{Net, SocketAddr, TcpListener, TcpStream};
+
+/// A hall that listens at an address. Each seat takes the next connection that comes, whoever makes it.
+#[derive(Drop)]
+pub struct TcpHall<'a, R: Net> {
+    net: &'a R,
+    listener: Option<TcpListener>,
+    seated: Seats<LineFaults>,
+    faults: u64,
+}
+
+impl<'a, R: Net> Model for TcpHall<'a, R> {
+    ghost use Rattle.room_halls.specs.Connections.{TcpHallState};
+
+    ghost Value = { TcpHallState };
+
+    ghost view = { λ h. record { seated = h.seated; faults = h.faults } };
+}
+
+impl<'a, R: Net<Listener = TcpListener, Stream = TcpStream>> TcpHall<'a, R> {
+    /// A hall that is not open yet, without a fault so far.
+    pub fn new(alloc: Global, net: &'a R) -> Self
+        ensures seated { result.seated ≡ [] }
+        ensures faults { result.faults ≡ 0 }
+    {
+        TcpHall {
+            net,
+            listener: None,
+            seated: Seats::new(alloc),
+            faults: 0,
+        }
+    }
+
+    /// The address at which it listens, with the port that the system gave where port 0 was asked for.
+    pub fn address(&self) -> Option<SocketAddr> {
+        match &self.listener {
+            Some(listener) => listener.local_addr().ok(),
+            None => None,
+        }
+    }
+}
+
+impl<R: Net<Listener = TcpListener, Stream = TcpStream>> Hall for TcpHall<'_, R> {
+    type Line = TcpLine;
+
+    ghost told = { λ h s. tcp_hall_tells h s };
+
+    ghost faults = { λ h. h.faults };
+
+    /// Listens at the address. It fails where the system refuses it.
+    fn open(&mut self, address: &str) -> Result<(), Failed> {
+        match TcpListener::bind(self.net, address) {
+            Ok(listener) => {
+                self.listener = Some(listener);
+                Ok(())
+            }
+            Err(_) => {
+                self.faults = self.faults.saturating_add(1);
+                Err(Failed)
+            }
+        }
+    }
+
+    /// Waits for the next connection, and sends what is written to it without delay. It fails where the hall is not
+    /// open or the system refuses it.
+    fn seat_station(&mut self, _alloc: Global, station: u32) -> Result<TcpLine, HallFault> {
+        self.seated.make_room(station)?;
+        let faults = match self.seated.get(station) {
+            Some(faults) => faults,
+            None => LineFaults::none(),
+        };
+        match next_connection(&self.listener) {
+            Ok(stream) => {
+                self.seated.set(station, faults);
+                Ok(TcpLine::new(stream, faults))
+            }
+            Err(_) => {
+                self.faults = self.faults.saturating_add(1);
+                Err(HallFault::Failed)
+            }
+        }
+    }
+
+    /// Keeps the line's counts and closes it.
+    fn stand_up(&mut self, station: u32, line: TcpLine) {
+        self.seated.set(station, line.faults());
+    }
+}
+
+// The next connection, which sends without delay.
+fn next_connection(listener: &Option<TcpListener>) -> io::Result<TcpStream> {
+    let Some(listener) = listener else {
+        return Err(io::Error::from(io::ErrorKind::NotConnected));
+    };
+    let (stream, _) = listener.accept()?;
+    stream.set_nodelay(true)?;
+    Ok(stream)
+}
