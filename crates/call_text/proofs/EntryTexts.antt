@@ -70,33 +70,33 @@ low t h = omega (arith, h)
 
 -- a text, a space, and more
 then_plain : (a b : List ℕ) → is_plain a ≡ true → is_plain b ≡ true → is_plain (a ++ codes " " ++ b) ≡ true
-then_plain a b h k = both_plain a (codes " " ++ b) h k
+then_plain a b h k = both_plain (a ++ codes " ") b (both_plain a (codes " ") h refl) k
 
 frames_plain : (what : What) (from len : ℕ) → IsSmallWhat what → from < 2 ^ 32 → len < 2 ^ 32 → is_plain (frames_text what from len) ≡ true
 frames_plain what from len w f n =
-    then_plain (what_text what) (decimal from ++ codes " " ++ decimal len) (what_plain what w)
-    (then_plain (decimal from) (decimal len) (number_plain from f) (number_plain len n))
+    then_plain (what_text what ++ codes " " ++ decimal from) (decimal len) (then_plain (what_text what) (decimal from) (what_plain what w) (number_plain from f)) (number_plain len n)
 
 call_plain : (c : Call) → IsWritten c → is_plain (call_text_of c) ≡ true
 call_plain (call.Overwrite c) (track, at, what, from, len) =
-    then_plain (decimal c.track) (decimal c.at ++ codes " " ++ frames_text c.what c.from c.len) (number_plain c.track (low c.track track))
-    (then_plain (decimal c.at) (frames_text c.what c.from c.len) (number_plain c.at at) (frames_plain c.what c.from c.len what from len))
+    let places = then_plain (codes "overwrite " ++ decimal c.track) (decimal c.at) (number_plain c.track (low c.track track)) (number_plain c.at at) in
+    then_plain (codes "overwrite " ++ decimal c.track ++ codes " " ++ decimal c.at) (frames_text c.what c.from c.len) places (frames_plain c.what c.from c.len what from len)
 call_plain (call.Insert c) (tracks, track, at, what, from, len) =
-    then_plain (tracks_text c.tracks) (decimal c.track ++ codes " " ++ decimal c.at ++ codes " " ++ frames_text c.what c.from c.len) (tracks_plain c.tracks)
-    (then_plain (decimal c.track) (decimal c.at ++ codes " " ++ frames_text c.what c.from c.len) (number_plain c.track (low c.track track))
-    (then_plain (decimal c.at) (frames_text c.what c.from c.len) (number_plain c.at at) (frames_plain c.what c.from c.len what from len)))
+    let own = then_plain (codes "insert " ++ tracks_text c.tracks) (decimal c.track) (tracks_plain c.tracks) (number_plain c.track (low c.track track)) in
+    let places = then_plain (codes "insert " ++ tracks_text c.tracks ++ codes " " ++ decimal c.track) (decimal c.at) own (number_plain c.at at) in
+    then_plain (codes "insert " ++ tracks_text c.tracks ++ codes " " ++ decimal c.track ++ codes " " ++ decimal c.at) (frames_text c.what c.from c.len) places
+    (frames_plain c.what c.from c.len what from len)
 call_plain (call.Remove c) (track, item) =
-    then_plain (decimal c.track) (decimal c.item) (number_plain c.track (low c.track track)) (number_plain c.item item)
+    then_plain (codes "remove " ++ decimal c.track) (decimal c.item) (number_plain c.track (low c.track track)) (number_plain c.item item)
 call_plain (call.Extract c) (tracks, track, item) =
-    then_plain (tracks_text c.tracks) (decimal c.track ++ codes " " ++ decimal c.item) (tracks_plain c.tracks)
-    (then_plain (decimal c.track) (decimal c.item) (number_plain c.track (low c.track track)) (number_plain c.item item))
+    let own = then_plain (codes "extract " ++ tracks_text c.tracks) (decimal c.track) (tracks_plain c.tracks) (number_plain c.track (low c.track track)) in
+    then_plain (codes "extract " ++ tracks_text c.tracks ++ codes " " ++ decimal c.track) (decimal c.item) own (number_plain c.item item)
 call_plain (call.Slice c) (track, at) =
-    then_plain (decimal c.track) (decimal c.at) (number_plain c.track (low c.track track)) (number_plain c.at at)
+    then_plain (codes "slice " ++ decimal c.track) (decimal c.at) (number_plain c.track (low c.track track)) (number_plain c.at at)
 
 pub entry_plain : (e : Entry Call) → HasLine e → is_plain (entry_text e) ≡ true
 entry_plain e h =
-    then_plain (decimal e.station) (decimal e.number ++ codes " " ++ call_text_of e.call) (number_plain e.station (omega (arith, h.station)))
-    (then_plain (decimal e.number) (call_text_of e.call) (number_plain e.number h.number) (call_plain e.call h.call))
+    let numbers = then_plain (decimal e.station) (decimal e.number) (number_plain e.station (omega (arith, h.station))) (number_plain e.number h.number) in
+    then_plain (decimal e.station ++ codes " " ++ decimal e.number) (call_text_of e.call) numbers (call_plain e.call h.call)
 
 pub count_plain : (n : ℕ) → n < 2 ^ 32 → is_plain (count_text n) ≡ true
 count_plain n h = number_plain n h
@@ -128,11 +128,15 @@ written_words place_at c h = elim (chosen (nat_le (length (call_text_of c)) 1024
   | inr long ↦ absurd (err_ok B5 (Edit c) long.1)
 ]
 
+entry_parts : (s n c : List ℕ) → s ++ codes " " ++ n ++ codes " " ++ c ≡ s ++ 32 ∷ (n ++ 32 ∷ c)
+entry_parts s n c = simp append_assoc refl
+
 entry_words : (e : Entry Call) → HasLine e → words_of (entry_text e) ≡ decimal e.station ∷ decimal e.number ∷ words_of (call_text_of e.call)
 entry_words e h =
+    let parts = ap words_of (entry_parts (decimal e.station) (decimal e.number) (call_text_of e.call)) in
     let station = words_of-word (decimal e.station) 32 (decimal e.number ++ 32 ∷ call_text_of e.call) (IsWord-decimal e.station (omega (arith, h.station))) refl in
     let number = words_of-word (decimal e.number) 32 (call_text_of e.call) (IsWord-decimal e.number h.number) refl in
-    station ∙ ap (λ words. decimal e.station ∷ words) number
+    parts ∙ station ∙ ap (λ words. decimal e.station ∷ words) number
 
 -- an entry is read from its text
 pub entry_told : (place_at : List ℕ → Option ℕ) (e : Entry Call) → HasLine e → loose_entry place_at (words_of (entry_text e)) ≡ Some e

@@ -1,10 +1,13 @@
 -- The steps of a reader of journals.
-use Rattle.std.proofs.Common.{◌≡◌, ◌≢◌, ℕ, ◌+◌, ◌<◌, ◌≤◌, ◌^◌, List, [], ◌∷◌, ◌++◌, Bool, true, false, not, ◌&&◌, Option, Some, None, Result, Ok, Err, length, get_or, take, drop, inl, inr, refl, sym, ap, ◌∙◌, arith, append_assoc, length-append, codes}
+use Rattle.std.proofs.Common.{◌≡◌, ◌≢◌, ℕ, ◌+◌, ◌<◌, ◌≤◌, ◌⊎◌, ◌^◌, List, [], ◌∷◌, ◌++◌, Bool, true, false, not, ◌&&◌, Option, Some, None, Result, Ok, Err, length, get_or, set, take, drop, inl, inr, refl, sym, ap, ◌∙◌, arith, append_assoc, length-append, codes}
 use Rattle.std.specs.Fmt.{decimal}
 use Rattle.std.specs.List.{flat_map, position, All}
 use Rattle.std.proofs.lemmas.Bool.Decides.{nat_tests}
-use Rattle.std.proofs.lemmas.List.{append-nil, take-append-drop, drop_more}
-use Rattle.std.proofs.lemmas.List.Elements.{All-head, All-tail, All-push}
+use Rattle.std.proofs.lemmas.List.{append-nil, take-append-drop, drop_more, take_more, get_or-set_same, get_or-set_other}
+use Rattle.std.proofs.lemmas.Bool.{cases_eq}
+use Rattle.std.proofs.lemmas.Slice.Eq.{bytes_eq-Decides}
+use Rattle.std.specs.Str.{bytes_eq}
+use Rattle.std.proofs.lemmas.List.Elements.{All-head, All-tail, All-get_or}
 use Rattle.std.proofs.lemmas.List.Folds.{list_all-append}
 use Rattle.std.proofs.lemmas.Grind.{flat_map-append}
 use Rattle.line_words.specs.Blanks.{words_of}
@@ -14,7 +17,7 @@ use Rattle.line_words.proofs.DigitLaws.{number_of-decimal}
 use Rattle.line_words.specs.declared.numbers.NumberFault.{NumberFault}
 use Rattle.edit_apply.specs.declared.asks.Call.{Call}
 use Rattle.room_core.specs.declared.entry.Entry.{Entry}
-use Rattle.room_core.specs.History.{most_entries}
+use Rattle.room_core.specs.History.{NumbersRise, most_entries}
 use Rattle.call_text.specs.declared.journal_fault.JournalCode.TheVariants.{H1, H2, H4}
 use Rattle.call_text.specs.declared.journal_fault.JournalFault.{JournalFault}
 use Rattle.call_text.specs.declared.journal_fault.JournalFault.TheVariants.{Refused, Memory}
@@ -22,6 +25,7 @@ use Rattle.call_text.specs.CallTexts.{IsSmall}
 use Rattle.call_text.specs.JournalFaults.{HasNoLineFeed, HasNoCount, HasNoEntry, IsNoEntry, AreLines, Begins, IsFaulty, StopsFor, IsFirstLate, AreEntriesOf, IsRefusedFor}
 use Rattle.call_text.specs.Journals.{entry_text, entry_line, count_text, count_line, journal_text_of, HasLine, HasText}
 use Rattle.call_text.specs.LooseEntries.{loose_entry}
+use Rattle.call_text.proofs.LateEntries.{IsLeast, is_late, rise_more, least_at, least_other}
 use Rattle.call_text.proofs.ListWords.{first_passes}
 use Rattle.call_text.proofs.EntryTexts.{is_plain, entry_plain, count_plain, cut_once, entry_told, line_parts}
 
@@ -130,6 +134,10 @@ begins_whole text rest count es small is h = record {
   spelled = is ∙ ap (λ r. count_line count ++ r) (h.1 ∙ sym (append-nil (flat_map entry_line es)));
 }
 
+pub wrong_told : (text rest : List ℕ) (count : ℕ) (es : List (Entry Call)) → IsSmall count → text ≡ count_line count ++ rest → AreLines rest es
+    → (count ≢ length es) ⊎ (most_entries < count) → IsFaulty text H2 (0 + 1)
+wrong_told text rest count es small is h wrong = (count, es, begins_whole text rest count es small is h, wrong, refl)
+
 pub whole_text : (text rest : List ℕ) (count : ℕ) (es : List (Entry Call)) → text ≡ count_line count ++ rest → AreLines rest es → count ≡ length es → text ≡ journal_text_of es
 whole_text text rest count es is h same = is ∙ ap (λ n. count_line n ++ rest) same ∙ ap (λ r. count_line (length es) ++ r) h.1
 
@@ -146,3 +154,40 @@ cut_at text i h =
     let first = first_passes is_lf text i h in
     let here = line_feed_at (get_or text i 0) first.1 in
     (sym (take-append-drop i text) ∙ ap (λ rest. take i text ++ rest) (drop_more text i 0 first.0) ∙ ap (λ byte. take i text ++ byte ∷ drop (i + 1) text) here, first.2)
+
+pub differ : (a b : List ℕ) → bytes_eq a b ≡ false → a ≡ b → ⊥
+differ a b h same = let test = (bytes_eq-Decides a b).1 same in absurd cc
+
+-- an entry whose number is below the least for its station, and one whose number is not
+module _ (es : List (Entry Call)) (i : ℕ) (d : Entry Call) (l : List ℕ) (number : ℕ) where
+  pub late_found : All HasLine es → i < length es → NumbersRise (take i es) → ((s : ℕ) → s < 16 → IsLeast (take i es) s (get_or l s 0))
+      → number ≡ (get_or es i d).number → number < get_or l (get_or es i d).station 0 → IsFirstLate es (take i es)
+  late_found lines inside rise least same low =
+      let station = (All-get_or HasLine es i d inside lines).station in
+      let here = least (get_or es i d).station (omega (arith, station)) in
+      record {
+        rise = rise;
+        late = (get_or es i d, drop (i + 1) es, at_place es i d inside, is_late (take i es) (get_or es i d) _ here (rw same at low));
+      }
+
+  pub rise_next : All HasLine es → i < length es → NumbersRise (take i es) → ((s : ℕ) → s < 16 → IsLeast (take i es) s (get_or l s 0))
+      → number ≡ (get_or es i d).number → get_or l (get_or es i d).station 0 ≤ number → NumbersRise (take (i + 1) es)
+  rise_next lines inside rise least same up =
+      let station = (All-get_or HasLine es i d inside lines).station in
+      let here = least (get_or es i d).station (omega (arith, station)) in
+      rw (take_more es i d inside) (rise_more (take i es) (get_or es i d) _ rise here.below (rw same at up))
+
+  pub least_next : All HasLine es → i < length es → length l ≡ 16 → ((s : ℕ) → s < 16 → IsLeast (take i es) s (get_or l s 0))
+      → number ≡ (get_or es i d).number → get_or l (get_or es i d).station 0 ≤ number
+      → (s : ℕ) → s < 16 → IsLeast (take (i + 1) es) s (get_or (set l (get_or es i d).station (number + 1)) s 0)
+  least_next lines inside slots least same up s small =
+      rw (take_more es i d inside) (by (cases_eq (get_or es i d).station s))
+    where
+      by : ((get_or es i d).station ≡ s) ⊎ ((get_or es i d).station ≡ s → ⊥) → IsLeast (take i es ++ get_or es i d ∷ []) s (get_or (set l (get_or es i d).station (number + 1)) s 0)
+      by (inl own) =
+          let held = get_or-set_same l s (number + 1) 0 (omega (arith, slots, small)) in
+          let here = least s small in
+          rw (own, held) (least_at (take i es) (get_or es i d) s (get_or l s 0) (number + 1) own here (rw own at (rw same at up)) (ap (λ n. n + 1) same))
+      by (inr other) =
+          let held = get_or-set_other l (get_or es i d).station s (number + 1) 0 (λ e. other (sym e)) in
+          rw held (least_other (take i es) (get_or es i d) s (get_or l s 0) (least s small) other)

@@ -62,12 +62,6 @@ next_more [] e s n h = absurd h
 next_more (f ∷ fs) e s n (inl here) = inl here
 next_more (f ∷ fs) e s n (inr more) = inr (next_more fs e s n more)
 
-pub least_own : (before : List (Entry Call)) (e : Entry Call) (n m : ℕ) → IsLeast before e.station n → n ≤ e.number → m ≡ e.number + 1 → IsLeast (before ++ e ∷ []) e.station m
-least_own before e n m h up one = record {
-  below = below_end before e e.station n m h.below (omega (arith, up, one)) (λ same. omega (arith, one));
-  next = inr (next_end before e e.station m refl (omega (arith, one)));
-}
-
 still_next : (before : List (Entry Call)) (e : Entry Call) (s n : ℕ) → (n ≡ 0) ⊎ IsNext before s n → (n ≡ 0) ⊎ IsNext (before ++ e ∷ []) s n
 still_next before e s n (inl none) = inl none
 still_next before e s n (inr next) = inr (next_more before e s n next)
@@ -76,4 +70,10 @@ pub least_other : (before : List (Entry Call)) (e : Entry Call) (s n : ℕ) → 
 least_other before e s n h other = record {
   below = below_end before e s n n h.below (omega arith) (λ same. absurd (other same));
   next = still_next before e s n h.next;
+}
+
+pub least_at : (before : List (Entry Call)) (e : Entry Call) (s n m : ℕ) → e.station ≡ s → IsLeast before s n → n ≤ e.number → m ≡ e.number + 1 → IsLeast (before ++ e ∷ []) s m
+least_at before e s n m same h up one = record {
+  below = below_end before e s n m h.below (omega (arith, up, one)) (λ again. omega (arith, one));
+  next = inr (next_end before e s m same (omega (arith, one)));
 }

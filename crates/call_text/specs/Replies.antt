@@ -6,6 +6,12 @@ use Rattle.composables.specs.declared.refusals.Done.TheVariants.{Plain, Item, By
 use Rattle.composables.specs.declared.refusals.Refusal.{Refusal}
 use Rattle.composables.specs.declared.refusals.Refusal.TheVariants.{NoTrack, NoItem, NoMedia, EmptyRange, MediaEnds, NotAGap, NotACut, DissolveRoom, OffsetsDiffer, AlreadyLinked, LinkOutside, LinkBroken, TooLong, TooManyItems}
 use Rattle.composables.specs.declared.refusals.Which.TheVariants.{Left, Right}
+use Rattle.composables.specs.TrackState.{TrackState}
+use Rattle.edit_apply.specs.declared.asks.Call.{Call}
+use Rattle.edit_apply.specs.declared.asks.Ask.{Ask}
+use Rattle.edit_apply.specs.declared.asks.Seen.{Seen}
+use Rattle.edit_apply.specs.declared.asks.AskRefusal.{AskRefusal}
+use Rattle.edit_apply.specs.declared.editor.Editor.{Editor}
 use Rattle.cut_room.specs.declared.answers.Answer.{Answer}
 use Rattle.cut_room.specs.declared.answers.Answer.TheVariants as answer
 use Rattle.call_text.specs.declared.lines.LineFault.{LineFault}
@@ -47,27 +53,16 @@ refusal_text (LinkBroken home number old new) =
 refusal_text (TooLong track) = codes " E13 " ++ decimal track
 refusal_text (TooManyItems track) = codes " E14 " ++ decimal track
 
--- the reply to an edit that is the entry at the point
-abbrev pub done_reply : ℕ → Done → List ℕ
-done_reply point done = codes "ok " ++ decimal point ++ done_text done
-
--- the reply to an edit that does not apply behind so many entries
-abbrev pub refused_reply : ℕ → Refusal → List ℕ
-refused_reply point refusal = codes "no " ++ decimal point ++ refusal_text refusal
-
--- the reply to an edit where the journal has its most entries
-abbrev pub full_reply : ℕ → List ℕ
-full_reply point = codes "no " ++ decimal point ++ codes " E15"
-
-abbrev pub memory_reply : List ℕ
-memory_reply = codes "memory"
+-- what an edit is answered in a room of tracks
+abbrev pub EditAnswer : Type 0
+EditAnswer = Answer Editor TrackState Call Done Refusal Ask Seen AskRefusal
 
 -- the reply to an edit
-abbrev pub answer_text_of : {O P C A S Q : Type 0} → Answer O P C Done Refusal A S Q → List ℕ
-answer_text_of (answer.Done point done) = done_reply point done
-answer_text_of (answer.Refused point refusal) = refused_reply point refusal
-answer_text_of (answer.Full point) = full_reply point
-answer_text_of answer.Memory = memory_reply
+abbrev pub answer_text_of : EditAnswer → List ℕ
+answer_text_of (answer.Done point done) = codes "ok " ++ decimal point ++ done_text done
+answer_text_of (answer.Refused point refusal) = codes "no " ++ decimal point ++ refusal_text refusal
+answer_text_of (answer.Full point) = codes "no " ++ decimal point ++ codes " E15"
+answer_text_of answer.Memory = codes "memory"
 
 -- the reply to a line that is none of the table
 abbrev pub fault_of : LineFault → List ℕ

@@ -154,11 +154,12 @@ fn first_entry<'a>(
     ensures { IfOk result (λ found. MatchOption found (HasNoEntry text.now)
         (λ first. HasLine first.0 × (text.now ≡ entry_line first.0 ++ first.1.now))) }
 {
-    match first_line(text) {
-        Some((line, rest)) => match told_entry(scratch, line, counting)? {
-            Some(entry) => Ok(Some((entry, rest))),
-            None => Ok(None),
-        },
+    let (line, rest) = match first_line(text) {
+        Some(cut) => cut,
+        None => return Ok(None),
+    };
+    match told_entry(scratch, line, counting)? {
+        Some(entry) => Ok(Some((entry, rest))),
         None => Ok(None),
     }
 }

@@ -28,8 +28,8 @@ pub use journal::journal_text;
 pub use journal_fault::{JournalCode, JournalFault};
 pub use journal_reading::{LAST_STATION, MAX_JOURNAL, read_journal};
 pub use laws::{
-    journals_have_one_reading, labels_name_places, limits_are_these, lines_are_those_of_the_table, lines_have_one_meaning,
-    written_calls_are_read,
+    journals_have_one_reading, labels_name_places, limits_are_these, lines_are_those_of_the_table,
+    lines_have_one_meaning, written_calls_are_read,
 };
 pub use lines::{Line, LineFault};
 pub use parts::LAST_TRACK;
