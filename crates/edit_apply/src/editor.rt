@@ -1,8 +1,8 @@
 // Every call on the tracks that it names, and every question to a track.
-ghost use Rattle.std.specs.Prelude.{◌≡◌, ◌+◌, ◌*◌, ◌<◌, ◌≤◌, ◌^◌, ◌&&◌, not, All, nat_eq, nat_lt};
-ghost use Rattle.composables.specs.Good.{AreUnlinked, IsGood};
+ghost use Rattle.std.specs.Prelude.{◌≡◌, ◌+◌, ◌*◌, ◌<◌, ◌≤◌, ◌^◌, ◌&&◌, not, All, length, nat_eq, nat_lt, sum_by};
+ghost use Rattle.composables.specs.Good.{IsGood, AllUnlinked};
+ghost use Rattle.composables.specs.Items.{items_of};
 ghost use Rattle.composables.specs.Roomy.{IsRoomy};
-ghost use Rattle.composables.specs.Sizes.{sizes_of};
 ghost use Rattle.composables.specs.Answers.{Answers, NextRises};
 ghost use Rattle.std.specs.List.{list_any};
 ghost use Rattle.composables.specs.TrackSets.{has_track, tracks_in};
@@ -101,18 +101,17 @@ impl Editor {
         requires named { AreNamed call.now parts.old.items }
         requires good { All (λ t. IsGood self.now.table t) parts.old.items }
         requires roomy { All IsRoomy parts.old.items }
-        requires unlinked { AreUnlinked parts.old.items }
+        requires unlinked { All (λ t. AllUnlinked (items_of t.cells)) parts.old.items }
 
-        ensures answers { Answers (applied_on self.now.table parts.old.items call.now)
-            parts.old.items parts.new.items result }
+        ensures answers { Answers (applied_on self.now.table parts.old.items call.now) parts.old.items parts.new.items result }
 
         ensures named { AreNamed call.now parts.new.items }
         ensures good { All (λ t. IsGood self.now.table t) parts.new.items }
-        ensures unlinked { AreUnlinked parts.new.items }
+        ensures unlinked { All (λ t. AllUnlinked (items_of t.cells)) parts.new.items }
         ensures numbers { NextRises 2 parts.old.items parts.new.items }
 
         ensures least { steps.old + 1 ≤ steps.new }
-        ensures most { steps.new ≤ steps.old + 32 * sizes_of parts.old.items }
+        ensures most { steps.new ≤ steps.old + 32 * sum_by (λ t. length (items_of t.cells) + 64) parts.old.items }
     {
         match call {
             Call::Overwrite(edit) => overwrite(alloc, &self.table, parts, edit, steps),
