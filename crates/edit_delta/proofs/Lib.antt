@@ -4,3 +4,4 @@ pub mod Answered
 pub mod Spots
 pub mod Bounded
 pub mod Pieces
+pub mod Own

@@ -161,7 +161,7 @@ gap-behind t i v w y n kept h none next short =
     (all_upto f v.len n (λ k lt. dark_there t i v y k kept h none lt) first)
 
 -- beyond the end of the track
-beyond : (cs : List Cell) (p : ℕ) → length cs ≤ p → cell_at cs p ≡ dark_cell
+pub beyond : (cs : List Cell) (p : ℕ) → length cs ≤ p → cell_at cs p ≡ dark_cell
 beyond [] p h = refl
 beyond (c ∷ cs) zero h = absurd (omega (arith, h))
 beyond (c ∷ cs) (suc p) h = beyond cs p (omega (arith, h))
@@ -253,15 +253,15 @@ pub found-last-behind : (t : TrackState) (p : Place) (v : ItemView) (n m : ℕ) 
 found-last-behind t p v n m kept stands read is short count le =
     last-behind t (p.index + 1) v p.to n kept (place_after t p v stands read) is (omega (arith, count, le)) (omega (arith, short, ends-within t p kept stands))
 
-none_past : (vs : List ItemView) (i : ℕ) → slice_get vs i ≡ None → length vs ≤ i
-none_past [] i e = omega arith
-none_past (v ∷ vs) zero e = absurd cc
-none_past (v ∷ vs) (suc i) e = omega (arith, none_past vs i e)
+pub none-past : (vs : List ItemView) (i : ℕ) → slice_get vs i ≡ None → length vs ≤ i
+none-past [] i e = omega arith
+none-past (v ∷ vs) zero e = absurd cc
+none-past (v ∷ vs) (suc i) e = omega (arith, none-past vs i e)
 
 pub found-end-behind : (t : TrackState) (p : Place) (n : ℕ) → IsKept t → StandsAt (items_of t.cells) p → slice_get (items_of t.cells) (p.index + 1) ≡ None → length t.cells ≤ MAX_FRAMES
     → dark_behind t.cells p.to n ≡ leb n (MAX_FRAMES - p.to)
 found-end-behind t p n kept stands none short =
-    let end : length t.cells ≡ p.to = length-frames t kept ∙ sym (stands.to ∙ ap frames_in (take_all (p.index + 1) (items_of t.cells) (none_past (items_of t.cells) (p.index + 1) none))) in
+    let end : length t.cells ≡ p.to = length-frames t kept ∙ sym (stands.to ∙ ap frames_in (take_all (p.index + 1) (items_of t.cells) (none-past (items_of t.cells) (p.index + 1) none))) in
     end-behind t p.to n (omega (arith, end)) (omega (arith, short, end))
 
 place_before : (t : TrackState) (p : Place) (v : ItemView) (k : ℕ) → StandsAt (items_of t.cells) p → p.index ≡ k + 1 → slice_get (items_of t.cells) k ≡ Some v → There t k v (p.from - v.len) × (v.len ≤ p.from)
@@ -297,4 +297,4 @@ pub found-gap-before : (t : TrackState) (p : Place) (v : ItemView) (n : ℕ) →
 found-gap-before t p v n kept stands some read none = gap_before_at t p v (p.index - 1) n kept stands (omega (arith, some)) read none
 
 pub found-there : (t : TrackState) (p : Place) → StandsAt (items_of t.cells) p → slice_get (items_of t.cells) (p.index - 1) ≡ None → ⊥
-found-there t p stands none = omega (arith, stands.index, none_past (items_of t.cells) (p.index - 1) none)
+found-there t p stands none = omega (arith, stands.index, none-past (items_of t.cells) (p.index - 1) none)

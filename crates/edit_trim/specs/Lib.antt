@@ -1,2 +1,4 @@
 pub mod Darkness
 pub mod Trimming
+pub mod Slipping
+pub mod Laid

@@ -6,8 +6,10 @@
 #![tactic(auto)]
 
 mod darkness;
+mod slipping;
 mod trimming;
 
+pub use slipping::slip;
 pub use trimming::trim;
 
 #[cfg(test)]

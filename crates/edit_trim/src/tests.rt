@@ -1,1 +1,4 @@
-// Trims of small tracks.
+// Small tracks, trimmed and slipped.
+
+mod edits;
+mod laying;

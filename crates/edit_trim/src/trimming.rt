@@ -108,7 +108,9 @@ fn trim_head<L: Ledger>(
         Way::Earlier(frames) => {
             let back = [reaching_back(view, frames)];
             let from = found.from - frames;
-            place_parts(alloc, table, track, from, found.from, &back, used.done, steps)
+            place_parts(
+                alloc, table, track, from, found.from, &back, used.done, steps,
+            )
         }
     }
 }

@@ -19,4 +19,3 @@ returns-in-Tail-clause-answers g c =
     let fits : SFits w32 c.args.call.now.by = search rules in
     subst (λ (m : Result (TrackState × Done) Refusal). Answers m c.args.track.now c.trim_tail.new.track c.trim_tail.result)
     (sym (track-means c.args.table.now c.args.call.now c.args.track.now c.item_by_id.result c.in-Some.found Tail fits c.item_by_id.ensures.range c.in-Some.is c.in-Tail.is)) c.trim_tail.ensures.answers
-

@@ -1,0 +1,168 @@
+// Slip: the source frames of an item moved, and nothing else.
+ghost use Rattle.std.specs.Prelude.{◌≡◌, ◌+◌, ◌-◌, ◌*◌, ◌<◌, ◌≤◌, All, Ok, Some, length, map, nat_eq, slice_get, sum_by, true};
+ghost use Rattle.std.specs.List.{list_any};
+ghost use Rattle.frame_meaning.specs.Cells.{later_side};
+ghost use Rattle.composables.specs.Answers.{Answers, NextRises};
+ghost use Rattle.composables.specs.Good.{IsGood, AllUnlinked, SideLiesIn};
+ghost use Rattle.composables.specs.Items.{items_of};
+ghost use Rattle.composables.specs.Places.{IsPlaceOf};
+ghost use Rattle.composables.specs.TrackFacts.{HasSource, left_reach, right_reach};
+ghost use Rattle.composables.specs.TrackSets.{tracks_in};
+ghost use Rattle.composables.specs.TrackState.{TrackState};
+ghost use Rattle.edit_delta.specs.Nearest.{AreUpTo};
+ghost use Rattle.edit_splice.specs.Standing.{StaysGood};
+ghost use Rattle.edit_trim.specs.Slipping.{mark_of, may_slip_earlier, may_slip_later, shows_from, slip_named, slip_range, slip_track};
+
+use composables::{Done, EditFault, ItemView, Place, Refusal, Slip, Table, Track, own_index};
+use edit_delta::{Way, used_within};
+use frame_meaning::{Mark, Side};
+use std::alloc::Global;
+use std::sync::ledger::Ledger;
+use step_count::Steps;
+
+/// Adds the delta used to the source frames of an item of its own track, which stays where it is. A dissolve at its ends
+/// stays, and the frames that it shows past the item stay in the thing's range too. It takes no memory.
+///
+/// It answers the delta used, or `NoItem` where its own track has no such item.
+pub fn slip<L: Ledger>(
+    _alloc: Global,
+    table: &Table,
+    named: &mut Vec<Track>,
+    call: &Slip,
+    steps: &mut Steps<L>,
+) -> Result<Done, EditFault>
+    requires named { map (λ (t : TrackState). t.number) named.old.items ≡ tracks_in call.now.tracks }
+    requires own { list_any (nat_eq call.now.track) (tracks_in call.now.tracks) ≡ true }
+    requires good { All (λ t. IsGood table.now t) named.old.items }
+    requires unlinked { All (λ t. AllUnlinked (items_of t.cells)) named.old.items }
+
+    ensures answers { Answers (slip_named table.now named.old.items call.now) named.old.items named.new.items result }
+
+    ensures named { map (λ (t : TrackState). t.number) named.new.items ≡ tracks_in call.now.tracks }
+    ensures good { All (λ t. IsGood table.now t) named.new.items }
+    ensures unlinked { All (λ t. AllUnlinked (items_of t.cells)) named.new.items }
+    ensures numbers { NextRises 2 named.old.items named.new.items }
+
+    ensures least { steps.old + 1 ≤ steps.new }
+    ensures most { steps.new ≤ steps.old + 32 * sum_by (λ t. length (items_of t.cells) + 64) named.old.items }
+{
+    steps.tick();
+    match own_index(named, call.track) {
+        Some(index) => slip_track(table, &mut named[index], call, steps),
+        None => unreachable!(),
+    }
+}
+
+// The same on the own track.
+fn slip_track<L: Ledger>(
+    table: &Table,
+    track: &mut Track,
+    call: &Slip,
+    steps: &mut Steps<L>,
+) -> Result<Done, EditFault>
+    requires good { IsGood table.now track.old }
+    ensures answers { Answers (slip_track table.now call.now track.old) track.old track.new result }
+    ensures good { StaysGood table.now track.old track.new }
+    ensures least { steps.old ≤ steps.new }
+    ensures most { steps.new ≤ steps.old + length (items_of track.old.cells) + 64 }
+{
+    let Some(found) = track.item_by_id(call.item, steps) else {
+        return Err(EditFault::Refused(Refusal::NoItem));
+    };
+    let Some(view) = track.item(found.index) else {
+        unreachable!()
+    };
+    let Side::Pic { source, .. } = view.first else {
+        unreachable!()
+    };
+    Ok(slip_item(table, track, found, &view, source, call.by))
+}
+
+// The same of the item at a place, whose source frames begin at this one.
+fn slip_item(
+    table: &Table,
+    track: &mut Track,
+    found: Place,
+    view: &ItemView,
+    source: u32,
+    by: i32,
+) -> Done
+    requires good { IsGood table.now track.old }
+    requires place { IsPlaceOf track.old.cells found }
+    requires view { slice_get (items_of track.old.cells) found.index ≡ Some view.now }
+    requires source { shows_from view.now.first source }
+    ensures meant { slip_range table.now track.old by found.from found.to ≡ Ok (track.new, result) }
+    ensures good { StaysGood table.now track.old track.new }
+{
+    let tail = mark_of(track.item(found.index + 1));
+    let used = used_within(by, room_earlier(table, view), room_later(table, view, tail));
+    match used.way {
+        Way::Still => used.done,
+        Way::Later(frames) => {
+            track.set_source(found.index, source + frames);
+            used.done
+        }
+        Way::Earlier(frames) => {
+            track.set_source(found.index, source - frames);
+            used.done
+        }
+    }
+}
+
+fn mark_of(view: Option<ItemView>) -> Option<Mark>
+    ensures { result ≡ mark_of view }
+{
+    match view {
+        Some(view) => view.mark,
+        None => None,
+    }
+}
+
+// How many source frames later an item may show its thing, with this dissolve at its tail.
+fn room_later(table: &Table, view: &ItemView, tail: Option<Mark>) -> u32
+    requires filled { 0 < view.now.len }
+    requires lies { SideLiesIn table.now view.now.first view.now.len 0 (right_reach tail) }
+    requires source { HasSource view.now.first view.now.len 0 (right_reach tail) }
+    ensures reach { AreUpTo (may_slip_later table.now (later_side view.now.first (view.now.len - 1)) tail) result }
+    ensures numbered { HasSource view.now.first view.now.len 0 (right_reach tail + result) }
+{
+    match view.first {
+        Side::Dark => u32::MAX,
+        Side::Pic { what, source } => match table.bounds(what) {
+            Some((_, to)) => to - source - view.len - right_reach(tail),
+            None => unreachable!(),
+        },
+    }
+}
+
+pub(crate) fn right_reach(mark: Option<Mark>) -> u32
+    ensures { result ≡ right_reach mark }
+{
+    match mark {
+        Some(mark) => mark.b,
+        None => 0,
+    }
+}
+
+// How many source frames earlier.
+fn room_earlier(table: &Table, view: &ItemView) -> u32
+    requires lies { SideLiesIn table.now view.now.first view.now.len (left_reach view.now.mark) 0 }
+    ensures { AreUpTo (may_slip_earlier table.now view.now.first view.now.mark) result }
+{
+    match view.first {
+        Side::Dark => u32::MAX,
+        Side::Pic { what, source } => match table.bounds(what) {
+            Some((from, _)) => source - from - left_reach(view.mark),
+            None => unreachable!(),
+        },
+    }
+}
+
+pub(crate) fn left_reach(mark: Option<Mark>) -> u32
+    ensures { result ≡ left_reach mark }
+{
+    match mark {
+        Some(mark) => mark.a,
+        None => 0,
+    }
+}
