@@ -5,6 +5,7 @@ ghost use Rattle.room_core.specs.Totals.{CanOpen};
 use crate::Tracks;
 use counters::Counters;
 use edit_journal::{Beginning, Blank, Journal, Naming};
+use room_core::Memory;
 use std::alloc::Global;
 use std::marker::Brand;
 use std::sync::Wait;
@@ -18,8 +19,8 @@ fn looked_at<J: Naming<Counters, u32>, R: Wait>(
     tracks: &Tracks<Counters, J>,
     object: &Counters,
     set: u32,
-) -> Option<Vec<u32>> {
-    let mut held = tracks.hold(rt, alloc, set).ok()?;
+) -> Result<Vec<u32>, Memory> {
+    let mut held = tracks.hold(rt, alloc, set)?;
     let parts = held.copy(alloc, object);
     let mut turn = journal.lock(rt);
     held.take_seats(&mut turn);
@@ -27,7 +28,7 @@ fn looked_at<J: Naming<Counters, u32>, R: Wait>(
     held.give_seats(&mut turn);
     turn.release();
     held.release(rt);
-    parts.ok()
+    parts
 }
 
 // The parts of three sets, one after another.
@@ -37,7 +38,7 @@ fn held_in_turn<J: Naming<Counters, u32>, R: Wait>(
     object: &Counters,
     parts: Vec<u32>,
     blank: Blank<Counters>,
-) -> Option<[Vec<u32>; 3]>
+) -> Result<[Vec<u32>; 3], Memory>
     requires table { J.table ≡ blank.table }
     requires opening { J.opening ≡ blank.opening }
     requires stations { J.stations ≡ blank.stations }
@@ -45,20 +46,21 @@ fn held_in_turn<J: Naming<Counters, u32>, R: Wait>(
     requires opens { CanOpen object.now.count object.now.most parts.items }
     requires count { blank.parts ≡ length parts.items }
 {
-    let (journal, seats, _) = Journal::<Counters, J>::open(alloc, blank).ok()?;
-    let tracks = Tracks::new(alloc, object, parts, seats).ok()?;
+    let (journal, seats, _) = Journal::<Counters, J>::open(alloc, blank)?;
+    let tracks = Tracks::new(alloc, object, parts, seats)?;
     let all = looked_at(rt, alloc, &journal, &tracks, object, 0b111)?;
     let some = looked_at(rt, alloc, &journal, &tracks, object, 0b101)?;
     let none = looked_at(rt, alloc, &journal, &tracks, object, 0b1000)?;
-    Some([all, some, none])
+    Ok([all, some, none])
 }
 
 // Three counters, at 5, 7 and 9.
-fn held_parts<R: Wait>(rt: &R, alloc: Global) -> Option<[Vec<u32>; 3]> {
+fn held_parts<R: Wait>(rt: &R, alloc: Global) -> Result<[Vec<u32>; 3], Memory> {
     let object = Counters { count: 3, most: 10 };
+    let parts = Vec::from_slice(alloc, &[5, 7, 9])?;
     let beginning = Beginning {
         object,
-        parts: Vec::from_slice(alloc, &[5, 7, 9]).ok()?,
+        parts,
         part_count: 3,
         station_count: 1,
     };
@@ -69,12 +71,12 @@ fn held_parts<R: Wait>(rt: &R, alloc: Global) -> Option<[Vec<u32>; 3]> {
         part_count: _,
         station_count: _,
     } = beginning;
-    held_in_turn::<Brand, R>(rt, alloc, &object, parts, blank.ok()?)
+    held_in_turn::<Brand, R>(rt, alloc, &object, parts, blank?)
 }
 
 #[test]
 fn a_part_that_was_put_back_is_found_again(rt: HostRuntime) -> Result<(), Fail> {
-    let [all, some, none] = held_parts(&rt, rt.alloc()).ok_or("parts")?;
+    let [all, some, none] = held_parts(&rt, rt.alloc()).ok().ok_or("parts")?;
     assert_eq!(rt; all.as_slice(), [5, 7, 9].as_slice());
     assert_eq!(rt; some.as_slice(), [5, 9].as_slice());
     assert!(rt; none.is_empty());
