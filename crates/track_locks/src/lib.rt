@@ -12,3 +12,6 @@ mod tracks;
 
 pub use held::Held;
 pub use tracks::Tracks;
+
+#[cfg(test)]
+mod tests;

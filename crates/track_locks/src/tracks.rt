@@ -1,5 +1,5 @@
 // The locks of all parts.
-ghost use Rattle.std.specs.Prelude.{◌≡◌, IfOk, Some, length};
+ghost use Rattle.std.specs.Prelude.{◌≡◌, ◌≤◌, IfOk, Some, length};
 ghost use Rattle.edit_journal.specs.Turns.{AreFresh};
 ghost use Rattle.track_locks.specs.Homes.{AreHomes, members};
 
@@ -67,6 +67,7 @@ impl<O: PartObject, J: Naming<O, O::Part>> Tracks<O, J> {
         set: u32,
     ) -> Result<Held<'_, O, J>, Memory>
         ensures numbers { IfOk result (λ h. h.numbers ≡ members self.now set) }
+        ensures few { IfOk result (λ h. length h.numbers ≤ 32) }
         ensures homes { IfOk result (λ h. AreHomes O.meaning O.opens J.opening h.numbers h.parts h.versions h.seats) }
     {
         let count = self.places.len();

@@ -1,6 +1,7 @@
 use Rattle.std.proofs.Common.{◌≡◌, ◌<◌, ◌≤◌, ◌+◌, ◌++◌, [], ◌∷◌, length, sym, subst, ap, ◌∙◌, arith}
 use Rattle.room_core.specs.Parts.{AscendBetween}
 use Rattle.track_locks.specs.Homes.{AreHomes, members, has_bit}
+use Rattle.track_locks.proofs.Stands.{members_few}
 use Rattle.track_locks.proofs.Several.{one_held, held_home, members_then, members_else, ascend_filter}
 use Rattle.track_locks.proofs.tracks.Tracks.hold.Goals as goal
 use Rattle.track_locks.proofs.tracks.Tracks.hold.Goals.{then-set-number-eq1, else-set-number-eq1}
@@ -58,3 +59,10 @@ pub returns-clause-numbers : goal.returns-clause-numbers
 returns-clause-numbers g c =
     let top : c.loop-number.number ≡ c.args.self.now = omega (arith, c.loop-number-test.false, c.loop-number.auto.number-end, c.deref-place-items.ensures.len, c.self.view_is) in
     c.loop-number.invariant.numbers ∙ ap (λ k. members k c.args.set) top
+
+pub returns-clause-few : goal.returns-clause-few
+returns-clause-few g c =
+    let top : c.loop-number.number ≡ c.args.self.now = omega (arith, c.loop-number-test.false, c.loop-number.auto.number-end, c.deref-place-items.ensures.len, c.self.view_is) in
+    let few = members_few (has_bit c.args.set) 0 c.loop-number.number in
+    let same = ap length c.loop-number.invariant.numbers in
+    omega (arith, few, same, top, c.self.invariant, c.self.view_is)
