@@ -1,4 +1,3 @@
 pub mod Files
 pub mod FilesInside
 pub mod States
-pub mod WrittenInside

@@ -13,7 +13,7 @@ pub get-other : {X : Type 0} (xs : List X) (i j : ℕ) (x : X) → j ≢ i → s
 get-other xs i j x ne = elim (leb_tells (length xs) j) [
   | inl h ↦ slice_get_past (slice_set xs i x) j (omega (arith, length-set xs i x, h.1)) ∙ sym (slice_get_past xs j h.1)
   | inr h ↦ slice_get-get_or (slice_set xs i x) j x (omega (arith, length-set xs i x, h.1))
-    ∙ (ap Some (get_or-set_other xs i j x x ne) ∙ sym (slice_get-get_or xs j x h.1))
+      ∙ (ap Some (get_or-set_other xs i j x x ne) ∙ sym (slice_get-get_or xs j x h.1))
 ]
 
 -- what is told of the place that was added is what was told where there was none

@@ -54,4 +54,4 @@ module _ {L T : Type 0} (told : L → LineTold) where
       ap (λ ls. station_told (told_or_blank told (slice_get ls other)) (is_noted (note_of now other))) e
       ∙ (ap (λ o. station_told (told_or_blank told o) (is_noted (note_of now other))) (get-other lines station other line apart)
       ∙ ap (λ n. station_told (told_or_blank told (slice_get lines other)) (is_noted n))
-        (ap (λ ns. note_of ns other) d ∙ (ap noted (get-other grown station other (Some note) apart) ∙ same other)))
+      (ap (λ ns. note_of ns other) d ∙ (ap noted (get-other grown station other (Some note) apart) ∙ same other)))

@@ -7,7 +7,7 @@ abbrev pub invariant-loop-alloc : goal.invariant-loop-alloc
 invariant-loop-alloc l = record {
   grows : vec_len l.fn.lines ≤ vec_len l.lines;
   same : (s : ℕ) → told_or_blank sure_line_told (slice_get l.lines.items s)
-    ≡ told_or_blank sure_line_told (slice_get l.fn.lines.items s);
+      ≡ told_or_blank sure_line_told (slice_get l.fn.lines.items s);
 }
 
 abbrev pub decreases-loop-alloc : goal.decreases-loop-alloc

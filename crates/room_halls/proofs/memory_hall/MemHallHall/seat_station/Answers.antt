@@ -7,7 +7,7 @@ use Rattle.room_halls.proofs.memory_hall.MemHallHall.seat_station.Goals as goal
 pub returns-clause-line : goal.returns-clause-line
 returns-clause-line c = rw (← c.self.view_is, c.replace.ensures.value) (ap (told_or_blank mem_line_told)
     (slice_get_read c.self.inside.lines.items _ c.args.station c.index_mut-place.result.now c.self.inside.lines.ok.0
-      (omega (arith, c.if-station-len.false, c.len.ensures)) c.index_mut-place.ensures.value))
+    (omega (arith, c.if-station-len.false, c.len.ensures)) c.index_mut-place.ensures.value))
 
 pub returns-clause-seated : goal.returns-clause-seated
 returns-clause-seated c =
