@@ -1,18 +1,20 @@
--- What a call leaves on the tracks of a room, and what it answers: a function of the table, the tracks that it names
--- and the call alone.
-use Rattle.std.specs.Prelude.{ℕ, ◌^◌, List, [], ◌∷◌, Option, Some, None, Ok, Err, length, nat_eq, nat_lt, option_map, slice_get, slice_set, if◌then◌else◌}
+-- What a call means on the tracks of a room: the tracks that it names, its refusal for them, and what it leaves on them
+-- and answers, a function of the table, the named tracks and the call alone.
+use Rattle.std.specs.Prelude.{ℕ, List, [], ◌∷◌, Option, Some, None, length, min, nat_eq, nat_lt, option_map, if◌then◌else◌}
 use Rattle.std.specs.List.{list_any}
 use Rattle.composables.specs.declared.media.Table.{Table}
+use Rattle.composables.specs.declared.refusals.Done.{Done}
 use Rattle.composables.specs.declared.refusals.Refusal.{Refusal}
 use Rattle.composables.specs.declared.refusals.Refusal.TheVariants.{NoTrack}
 use Rattle.composables.specs.TrackState.{TrackState}
 use Rattle.composables.specs.Answers.{Applied}
-use Rattle.edit_insert.specs.Edits.{extract_named, insert_named, overwrite_named, remove_named, slice_named}
 use Rattle.composables.specs.TrackSets.{tracks_in}
+use Rattle.edit_insert.specs.Edits.{extract_named, insert_named, overwrite_named, remove_named, slice_named}
+use Rattle.room_core.specs.Whole.{Meaning}
 use Rattle.edit_apply.specs.declared.asks.Call.{Call}
 use Rattle.edit_apply.specs.declared.asks.Call.TheVariants as call
-use Rattle.edit_apply.specs.declared.asks.NamedTracks.{NamedTracks}
-use Rattle.edit_apply.specs.declared.asks.NamedTracks.TheVariants.{One, Many}
+use Rattle.edit_apply.specs.declared.naming.NamedTracks.{NamedTracks}
+use Rattle.edit_apply.specs.declared.naming.NamedTracks.TheVariants.{One, Many}
 
 -- a call is for its one track, or for a set of tracks
 abbrev pub named_by : Call → NamedTracks
@@ -38,13 +40,9 @@ own_track (Many tracks own) = own
 abbrev pub own_of : Call → ℕ
 own_of c = own_track (named_by c)
 
-abbrev pub set_of : NamedTracks → ℕ
-set_of (One track) = if nat_lt track 32 then 2 ^ track else 0
-set_of (Many tracks own) = tracks
-
--- the set of the tracks that a call names, bit t for track t; one over 31 is in no set
-abbrev pub names_set_of : Call → ℕ
-names_set_of c = set_of (named_by c)
+-- how many tracks a room has: one for each kind of its table, and 32 at most
+abbrev pub track_count : Table → ℕ
+track_count table = min (length table.kinds) 32
 
 -- the first track of these that is not in a room of so many tracks
 abbrev pub first_absent : ℕ → List ℕ → Option ℕ
@@ -67,7 +65,7 @@ wrong_track_in count named =
 
 -- the refusal of a call for the tracks that it names
 abbrev pub refuse_names_of : Table → Call → Option Refusal
-refuse_names_of table c = option_map NoTrack (wrong_track_in (length table.kinds) (named_by c))
+refuse_names_of table c = option_map NoTrack (wrong_track_in (track_count table) (named_by c))
 
 -- on the named tracks alone
 abbrev pub applied_on : Table → List TrackState → Call → Applied
@@ -77,29 +75,10 @@ applied_on table named (call.Remove c) = remove_named named c
 applied_on table named (call.Extract c) = extract_named named c
 applied_on table named (call.Slice c) = slice_named named c
 
--- the tracks with these numbers
-abbrev pub picked : List TrackState → List ℕ → List TrackState
-picked tracks [] = []
-picked tracks (n ∷ ns) = with_picked (slice_get tracks n) (picked tracks ns) where
-  with_picked : Option TrackState → List TrackState → List TrackState
-  with_picked None ts = ts
-  with_picked (Some t) ts = t ∷ ts
-
--- the tracks with these in the places of those numbers
-abbrev pub put_back : List TrackState → List ℕ → List TrackState → List TrackState
-put_back tracks [] ts = tracks
-put_back tracks (n ∷ ns) [] = tracks
-put_back tracks (n ∷ ns) (t ∷ ts) = put_back (slice_set tracks n t) ns ts
-
-abbrev pub on_whole : List TrackState → List ℕ → Applied → Applied
-on_whole tracks names (Ok (ts, d)) = Ok (put_back tracks names ts, d)
-on_whole tracks names (Err r) = Err r
-
-abbrev pub unless_refused : Option Refusal → Applied → Applied
-unless_refused (Some r) then_so = Err r
-unless_refused None then_so = then_so
-
--- on all tracks of a room: those that the call does not name stay as they are
-abbrev pub applied : Table → List TrackState → Call → Applied
-applied table tracks c =
-    unless_refused (refuse_names_of table c) (on_whole tracks (names_of c) (applied_on table (picked tracks (names_of c)) c))
+-- what the calls of a room with this table mean
+abbrev pub editing : Table → Meaning TrackState Call Done Refusal
+editing table = record {
+  names = names_of;
+  refuses = refuse_names_of table;
+  applied = applied_on table;
+}

@@ -1,4 +1,7 @@
 pub mod Apply
+pub mod RoomTracks
 pub mod See
-pub mod Sights
-pub mod Named
+pub mod Faults
+pub mod NamingLaws
+pub mod YoungTracks
+pub mod RoomyLaws

@@ -12,14 +12,15 @@ use Rattle.edit_apply.specs.declared.asks.Seen.{Seen}
 use Rattle.edit_apply.specs.declared.asks.Seen.TheVariants as seen
 use Rattle.edit_apply.specs.declared.asks.AskRefusal.{AskRefusal}
 use Rattle.edit_apply.specs.declared.asks.AskRefusal.TheVariants.{NoTrack, Range}
+use Rattle.edit_apply.specs.Apply.{track_count}
 
 abbrev pub track_asked : Ask → ℕ
 track_asked (ask.View track a b) = track
 track_asked (ask.Items track) = track
 
--- the track that a question is for
+-- the track that a question is for, where it is in the room
 abbrev pub ask_part_of : Table → Ask → Result ℕ AskRefusal
-ask_part_of table q = if nat_lt (track_asked q) (length table.kinds) then Ok (track_asked q) else Err (NoTrack (track_asked q))
+ask_part_of table q = if nat_lt (track_asked q) (track_count table) then Ok (track_asked q) else Err (NoTrack (track_asked q))
 
 abbrev pub view_on : TrackState → ℕ → ℕ → Result Seen AskRefusal
 view_on t a b =
@@ -27,10 +28,13 @@ view_on t a b =
     then Ok (seen.Runs (runs same_what (take (b - a) (drop a (render t.cells)))))
     else Err (Range (length t.cells))
 
+abbrev pub items_on : TrackState → Result Seen AskRefusal
+items_on t = Ok (seen.Items (items_of t.cells))
+
 -- the frames shown in [a, b) as maximal runs, or the items and gaps
 abbrev pub seen_on : TrackState → Ask → Result Seen AskRefusal
 seen_on t (ask.View track a b) = view_on t a b
-seen_on t (ask.Items track) = Ok (seen.Items (items_of t.cells))
+seen_on t (ask.Items track) = items_on t
 
 abbrev pub seen_at : Option TrackState → Ask → Result Seen AskRefusal
 seen_at None q = Err (NoTrack (track_asked q))

@@ -13,13 +13,6 @@ pub enum Call {
     Slice(Slice),
 }
 
-/// The tracks that a call names: one, or the set `tracks`, in which bit t stands for track t, and the call's own track.
-#[derive(Clone, Copy, Debug, PartialEq, Eq)]
-pub enum NamedTracks {
-    One(u32),
-    Many { tracks: u32, own: u32 },
-}
-
 /// A question to a track: the frames shown in its places [a, b), or its items.
 #[derive(Clone, Copy, Debug, PartialEq, Eq)]
 pub enum Ask {

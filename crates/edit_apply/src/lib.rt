@@ -1,15 +1,17 @@
 //! One call on the tracks that it names: every edit, and every question to a track.
 //!
-//! The main contract is that of `Editor::apply`: what a call leaves on its tracks and what it answers is a function of
-//! the table, the named tracks and the call alone.
+//! The main contract is that `Editor` is a `PartObject`: what a call leaves on its tracks and what it answers is a
+//! function of the table, the named tracks and the call alone, and all tracks of a history have room for one edit more.
 #![tactic(auto)]
 
 mod asks;
 mod editor;
+mod edits;
+mod naming;
 mod sights;
 
-pub use asks::{Ask, AskRefusal, Call, NamedTracks, Seen};
-pub use editor::{Editor, SightFault, named_by};
+pub use asks::{Ask, AskRefusal, Call, Seen};
+pub use editor::Editor;
 
 #[cfg(test)]
 mod tests;

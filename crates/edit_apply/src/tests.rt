@@ -5,6 +5,7 @@ use composables::{
     Extract, Insert, Kind, Listed, Media, Memory, Overwrite, Reels, Refusal, Remove, Slice, Table,
 };
 use frame_meaning::What;
+use room_core::PartObject;
 use std::alloc::Global;
 use std::test::Fail;
 

@@ -1,6 +1,6 @@
 use Rattle.std.proofs.Common.{sym, ◌∙◌, arith, nat_lt, ◌≡◌, false}
 use Rattle.edit_apply.proofs.Sets.{of_set, of_none}
-use Rattle.edit_apply.proofs.editor.is_among.Goals as goal
+use Rattle.edit_apply.proofs.naming.is_among.Goals as goal
 
 pub returns-then-track-lt32 : goal.returns-then-track-lt32
 returns-then-track-lt32 c = c.has_track.ensures ∙ of_set c.args.tracks c.args.track c.if-track-lt32.true

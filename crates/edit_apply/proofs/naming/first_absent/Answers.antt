@@ -1,7 +1,7 @@
 use Rattle.std.proofs.Common.{ap, sym, ◌∙◌, arith}
 use Rattle.edit_apply.specs.Apply.{first_absent}
 use Rattle.edit_apply.proofs.Sets.{at_start, passed, found, at_end}
-use Rattle.edit_apply.proofs.editor.first_absent.Goals as goal
+use Rattle.edit_apply.proofs.naming.first_absent.Goals as goal
 
 pub loop-track-init : goal.loop-track-init
 loop-track-init c = ap (first_absent c.args.count) (at_start c.args.tracks)

@@ -1,0 +1,38 @@
+-- Tracks of a room, as an object's parts and as an edit asks for them.
+use Rattle.std.proofs.Common.{◌≡◌, ℕ, List, [], ◌∷◌, All, map, Result, Ok, Err, refl, ap, ◌∙◌, arith}
+use Rattle.composables.specs.declared.media.Table.{Table}
+use Rattle.composables.specs.declared.refusals.Done.{Done}
+use Rattle.composables.specs.declared.refusals.EditFault.{EditFault}
+use Rattle.composables.specs.declared.refusals.EditFault.TheVariants as edit
+use Rattle.composables.specs.Answers.{Answers as EditAnswers, Applied}
+use Rattle.composables.specs.Good.{IsGood}
+use Rattle.composables.specs.TrackState.{TrackState}
+use Rattle.edit_insert.proofs.Standing.{all_head, all_tail}
+use Rattle.room_core.specs.Answers.{Answers}
+use Rattle.room_core.specs.Parts.{AreGood}
+use Rattle.edit_apply.specs.Faults.{answer_of}
+use Rattle.edit_apply.specs.RoomTracks.{IsTrackOf, IsUnlinked}
+
+pub tracks-named : (table : Table) (ns : List ℕ) (ts : List TrackState) → AreGood (IsTrackOf table) ns ts → map (λ (t : TrackState). t.number) ts ≡ ns
+tracks-named table [] [] h = refl
+tracks-named table [] (t ∷ ts) h = absurd h
+tracks-named table (n ∷ ns) [] h = absurd h
+tracks-named table (n ∷ ns) (t ∷ ts) h =
+    ap (λ (k : ℕ). k ∷ map (λ (t : TrackState). t.number) ts) h.0.number_is ∙ ap (λ (l : List ℕ). n ∷ l) (tracks-named table ns ts h.1)
+
+-- and back: good, numbered and unlinked tracks are tracks of the room
+pub tracks-again : (table : Table) (ns : List ℕ) (ts : List TrackState) → map (λ (t : TrackState). t.number) ts ≡ ns
+    → All (λ (t : TrackState). IsGood table t) ts → All IsUnlinked ts → AreGood (IsTrackOf table) ns ts
+tracks-again table [] [] e g u = tt
+tracks-again table [] (t ∷ ts) e g u = absurd (Prim.grind (arith, e))
+tracks-again table (n ∷ ns) [] e g u = absurd (Prim.grind (arith, e))
+tracks-again table (n ∷ ns) (t ∷ ts) e g u = (
+  record { good = all_head (IsGood table) t ts g; number_is = Prim.grind (arith, e); unlinked = all_head IsUnlinked t ts u },
+  tracks-again table ns ts (Prim.grind (arith, e)) (all_tail (IsGood table) t ts g) (all_tail IsUnlinked t ts u),
+)
+
+-- an edit's answer is the object's
+pub edit-answers : (meant : Applied) (old new : List TrackState) (result : Result Done EditFault) → EditAnswers meant old new result → Answers meant old new (answer_of result)
+edit-answers meant old new (Ok d) h = h
+edit-answers meant old new (Err (edit.Refused why)) h = h
+edit-answers meant old new (Err edit.Memory) h = h

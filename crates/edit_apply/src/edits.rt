@@ -1,0 +1,62 @@
+// An edit on the tracks that its call names.
+ghost use Rattle.std.specs.Prelude.{◌≡◌, ◌+◌, ◌*◌, ◌≤◌, All, None, length, sum_by};
+ghost use Rattle.composables.specs.Answers.{Answers, NextRises};
+ghost use Rattle.composables.specs.Good.{IsGood};
+ghost use Rattle.composables.specs.Items.{items_of};
+ghost use Rattle.composables.specs.Roomy.{IsRoomy};
+ghost use Rattle.edit_apply.specs.Apply.{applied_on, refuse_names_of};
+ghost use Rattle.edit_apply.specs.Faults.{answer_of};
+ghost use Rattle.edit_apply.specs.RoomTracks.{AreNamed, IsUnlinked};
+
+use crate::Call;
+use composables::{Done, EditFault, Refusal, Table, Track};
+use edit_insert::{extract, insert, overwrite, remove, slice};
+use room_core::Fault;
+use std::alloc::Global;
+use std::sync::ledger::Ledger;
+use step_count::Steps;
+
+/// Does a call on the tracks that it names, handed in in ascending order, or refuses it by the first refusal that
+/// holds, or finds no memory. It changes nothing where it does not do the call.
+pub(crate) fn edit<L: Ledger>(
+    alloc: Global,
+    table: &Table,
+    parts: &mut Vec<Track>,
+    call: &Call,
+    steps: &mut Steps<L>,
+) -> Result<Done, EditFault>
+    requires names { refuse_names_of table.now call.now ≡ None }
+    requires named { AreNamed call.now parts.old.items }
+    requires good { All (λ t. IsGood table.now t) parts.old.items }
+    requires roomy { All IsRoomy parts.old.items }
+    requires unlinked { All IsUnlinked parts.old.items }
+
+    ensures answers { Answers (applied_on table.now parts.old.items call.now) parts.old.items parts.new.items result }
+
+    ensures named { AreNamed call.now parts.new.items }
+    ensures good { All (λ t. IsGood table.now t) parts.new.items }
+    ensures unlinked { All IsUnlinked parts.new.items }
+    ensures numbers { NextRises 2 parts.old.items parts.new.items }
+
+    ensures least { steps.old + 1 ≤ steps.new }
+    ensures most { steps.new ≤ steps.old + 32 * sum_by (λ t. length (items_of t.cells) + 64) parts.old.items }
+{
+    match call {
+        Call::Overwrite(edit) => overwrite(alloc, table, parts, edit, steps),
+        Call::Insert(edit) => insert(alloc, table, parts, edit, steps),
+        Call::Remove(edit) => remove(alloc, table, parts, edit, steps),
+        Call::Extract(edit) => extract(alloc, table, parts, edit, steps),
+        Call::Slice(edit) => slice(alloc, table, parts, edit, steps),
+    }
+}
+
+/// An edit's answer as that of an object.
+pub(crate) fn answer_of(answer: Result<Done, EditFault>) -> Result<Done, Fault<Refusal>>
+    ensures { result ≡ answer_of answer }
+{
+    match answer {
+        Ok(done) => Ok(done),
+        Err(EditFault::Refused(refusal)) => Err(Fault::Refused(refusal)),
+        Err(EditFault::Memory) => Err(Fault::Memory),
+    }
+}
