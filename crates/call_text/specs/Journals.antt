@@ -3,7 +3,7 @@
 use Rattle.std.specs.Prelude.{ℕ, List, ◌++◌, length, codes, decimal}
 use Rattle.std.specs.List.{flat_map}
 use Rattle.edit_apply.specs.declared.asks.Call.{Call}
-use Rattle.call_text.specs.declared.entries.Entry.{Entry}
+use Rattle.room_core.specs.declared.entry.Entry.{Entry}
 use Rattle.call_text.specs.CallTexts.{call_text_of}
 
 abbrev pub entry_line : Entry Call → List ℕ

@@ -6,8 +6,14 @@ use Rattle.composables.specs.declared.refusals.Done.TheVariants.{Plain, Item, By
 use Rattle.composables.specs.declared.refusals.Refusal.{Refusal}
 use Rattle.composables.specs.declared.refusals.Refusal.TheVariants.{NoTrack, NoItem, NoMedia, EmptyRange, MediaEnds, NotAGap, NotACut, DissolveRoom, OffsetsDiffer, AlreadyLinked, LinkOutside, LinkBroken, TooLong, TooManyItems}
 use Rattle.composables.specs.declared.refusals.Which.TheVariants.{Left, Right}
-use Rattle.call_text.specs.declared.answers.Answer.{Answer}
-use Rattle.call_text.specs.declared.answers.Answer.TheVariants as answer
+use Rattle.composables.specs.TrackState.{TrackState}
+use Rattle.edit_apply.specs.declared.asks.Call.{Call}
+use Rattle.edit_apply.specs.declared.asks.Ask.{Ask}
+use Rattle.edit_apply.specs.declared.asks.Seen.{Seen}
+use Rattle.edit_apply.specs.declared.asks.AskRefusal.{AskRefusal}
+use Rattle.edit_apply.specs.declared.editor.Editor.{Editor}
+use Rattle.cut_room.specs.declared.answers.Answer.{Answer}
+use Rattle.cut_room.specs.declared.answers.Answer.TheVariants as answer
 use Rattle.call_text.specs.declared.lines.LineFault.{LineFault}
 use Rattle.call_text.specs.declared.lines.LineFault.TheVariants as line
 
@@ -44,8 +50,12 @@ refusal_text (LinkBroken home number old new) = codes " E12 " ++ link_text home 
 refusal_text (TooLong track) = codes " E13 " ++ decimal track
 refusal_text (TooManyItems track) = codes " E14 " ++ decimal track
 
+-- what an edit is answered in a room of tracks
+abbrev pub EditAnswer : Type 0
+EditAnswer = Answer Editor TrackState Call Done Refusal Ask Seen AskRefusal
+
 -- the reply to an edit
-abbrev pub answer_text_of : Answer → List ℕ
+abbrev pub answer_text_of : EditAnswer → List ℕ
 answer_text_of (answer.Done point done) = codes "ok " ++ decimal point ++ done_text done
 answer_text_of (answer.Refused point refusal) = codes "no " ++ decimal point ++ refusal_text refusal
 answer_text_of (answer.Full point) = codes "no " ++ decimal point ++ codes " E15"

@@ -14,8 +14,14 @@ use Rattle.edit_apply.specs.declared.asks.Seen.{Seen}
 use Rattle.edit_apply.specs.declared.asks.Seen.TheVariants.{Runs, Items}
 use Rattle.edit_apply.specs.declared.asks.AskRefusal.{AskRefusal}
 use Rattle.edit_apply.specs.declared.asks.AskRefusal.TheVariants.{NoTrack, Range}
-use Rattle.call_text.specs.declared.answers.Sight.{Sight}
-use Rattle.call_text.specs.declared.answers.Sight.TheVariants as sight
+use Rattle.composables.specs.TrackState.{TrackState}
+use Rattle.composables.specs.declared.refusals.Done.{Done}
+use Rattle.composables.specs.declared.refusals.Refusal.{Refusal}
+use Rattle.edit_apply.specs.declared.asks.Call.{Call}
+use Rattle.edit_apply.specs.declared.asks.Ask.{Ask}
+use Rattle.edit_apply.specs.declared.editor.Editor.{Editor}
+use Rattle.cut_room.specs.declared.answers.Sight.{Sight}
+use Rattle.cut_room.specs.declared.answers.Sight.TheVariants as sight
 use Rattle.call_text.specs.CallTexts.{what_text}
 use Rattle.call_text.specs.Replies.{link_text}
 
@@ -65,8 +71,12 @@ abbrev pub ask_refusal_text : AskRefusal → List ℕ
 ask_refusal_text (NoTrack track) = codes " V1 " ++ decimal track
 ask_refusal_text (Range length) = codes " V2 " ++ decimal length
 
+-- what a question is answered in a room of tracks
+abbrev pub TrackSight : Type 0
+TrackSight = Sight Editor TrackState Call Done Refusal Ask Seen AskRefusal
+
 -- the reply to a question
-abbrev pub sight_text_of : Sight → List ℕ
+abbrev pub sight_text_of : TrackSight → List ℕ
 sight_text_of (sight.Seen point seen) = seen_text point seen
 sight_text_of (sight.Refused point refusal) = codes "no " ++ decimal point ++ ask_refusal_text refusal
 sight_text_of sight.Memory = codes "memory"

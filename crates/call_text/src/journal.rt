@@ -3,12 +3,12 @@ ghost use Rattle.std.specs.Prelude.{◌≡◌, ◌++◌, IfOk, OnOk};
 ghost use Rattle.std.specs.List.{flat_map};
 ghost use Rattle.call_text.specs.Journals.{entry_line, journal_text_of};
 
-use crate::Entry;
 use crate::bytes::{put, put_number};
 use crate::calls::put_call;
 use composables::Memory;
 use edit_apply::Call;
 use itoa::Buffer;
+use room_core::Entry;
 use std::alloc::Global;
 
 /// The text of a journal: a line with the count of its entries, and a line for each entry, in order. Each line ends with

@@ -5,11 +5,9 @@
 //! defined case by case, in `specs/`.
 #![tactic(auto)]
 
-mod answers;
 mod bytes;
 mod calls;
 mod commands;
-mod entries;
 mod journal;
 mod labels;
 mod laws;
@@ -21,11 +19,9 @@ mod short_text;
 mod sights;
 mod words;
 
-pub use answers::{Answer, Sight};
 pub use calls::call_text;
 pub use commands::Command;
 pub use composables::Memory;
-pub use entries::Entry;
 pub use journal::journal_text;
 pub use laws::{
     labels_name_places, lines_are_those_of_the_table, lines_have_one_meaning,

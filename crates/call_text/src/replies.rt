@@ -3,11 +3,13 @@ ghost use Rattle.std.specs.Prelude.{◌≡◌, ◌+◌, ◌≤◌, ◌++◌, len
 ghost use Rattle.std.specs.Fmt.{signed_decimal};
 ghost use Rattle.call_text.specs.Replies.{link_text, offsets_text, done_text, refusal_text, answer_text_of, fault_of};
 
-use crate::{Answer, LineFault, MAX_SHORT, Short};
+use crate::{LineFault, MAX_SHORT, Short};
 use composables::{Done, Refusal, Which};
+use cut_room::Answer;
+use edit_apply::Editor;
 
 /// The reply to an edit, without its line feed. It takes no memory.
-pub fn answer_text(answer: &Answer) -> Short
+pub fn answer_text(answer: &Answer<Editor>) -> Short
     ensures text { result ≡ answer_text_of answer.now }
     ensures short { length result ≤ MAX_SHORT }
 {

@@ -3,15 +3,15 @@ ghost use Rattle.std.specs.Prelude.{◌≡◌, ◌++◌, IfOk, OnOk};
 ghost use Rattle.std.specs.List.{flat_map};
 ghost use Rattle.call_text.specs.Sights.{side_text, frame_text, run_text, mark_text, number_text, item_link_text, item_text, picture_text, seen_text, ask_refusal_text, sight_text_of};
 
-use crate::Sight;
 use crate::bytes::{put, put_number, put_what};
 use composables::{ItemView, Memory};
-use edit_apply::{AskRefusal, Seen};
+use cut_room::Sight;
+use edit_apply::{AskRefusal, Editor, Seen};
 use frame_meaning::{Frame, Link, Mark, Run, Side, What};
 use std::alloc::Global;
 
 /// The reply to a question to a track, without its line feed.
-pub fn sight_text(alloc: Global, sight: &Sight) -> Result<Vec<u8>, Memory>
+pub fn sight_text(alloc: Global, sight: &Sight<Editor>) -> Result<Vec<u8>, Memory>
     ensures { IfOk result (λ text. text.items ≡ sight_text_of sight.now) }
 {
     let mut out = Vec::new(alloc);

@@ -2,8 +2,10 @@ use super::*;
 use composables::{
     Done, Extract, Insert, ItemView, Listed, Overwrite, Refusal, Remove, Slice, Which,
 };
-use edit_apply::{Ask, AskRefusal, Call, Seen};
+use cut_room::{Answer, Sight};
+use edit_apply::{Ask, AskRefusal, Call, Editor, Seen};
 use frame_meaning::{Frame, Link, Mark, Run, Side, What};
+use room_core::Entry;
 use std::alloc::Global;
 use std::test::Fail;
 use timecode12::{Counting, SequenceRate};
@@ -444,7 +446,7 @@ fn items_are_replied(rt: HostRuntime) -> Result<(), Fail> {
 
 #[test]
 fn refused_questions_are_replied(rt: HostRuntime) -> Result<(), Fail> {
-    let table: [(Sight, &[u8]); 3] = [
+    let table: [(Sight<Editor>, &[u8]); 3] = [
         (
             Sight::Refused {
                 point: 3,
