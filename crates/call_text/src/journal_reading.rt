@@ -71,7 +71,7 @@ fn refused(code: JournalCode, lines: usize) -> JournalFault
 // The count that the first line tells, and the text behind that line.
 fn first_count(text: &[u8]) -> Option<(u32, &[u8])>
     ensures { MatchOption result (HasNoCount text.now)
-        (λ found. text.now ≡ count_line found.0 ++ found.1.now) }
+        (λ found. IsSmall found.0 × (text.now ≡ count_line found.0 ++ found.1.now)) }
 {
     let (line, rest) = first_line(text)?;
     let count = told_count(line)?;

@@ -1,6 +1,5 @@
 pub mod Transcripts
 pub mod Serving
-pub mod Rooms
 pub mod Serves
 pub mod Inputs
 pub mod Openings

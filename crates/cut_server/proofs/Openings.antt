@@ -1,9 +1,10 @@
 -- Lists made by counting up, and the names of plain reels.
-use Rattle.std.proofs.Common.{◌≡◌, ℕ, zero, suc, ◌+◌, ◌<◌, ◌≤◌, ◌^◌, Bool, true, false, cond, ◌||◌, List, [], ◌∷◌, ◌++◌, length, map, Option, Some, Result, Ok, refl, sym, ap, ◌∙◌, arith, lit<}
+use Rattle.std.proofs.Common.{◌≡◌, ℕ, zero, suc, ◌+◌, ◌<◌, ◌≤◌, ◌^◌, Bool, true, false, cond, ◌||◌, List, [], ◌∷◌, ◌++◌, length, map, Option, Some, Result, Ok, All, refl, sym, ap, ◌∙◌, arith, lit<, subst}
 use Rattle.std.specs.Prelude.{codes, decimal}
 use Rattle.std.specs.List.{range_with_len, list_any}
 use Rattle.std.specs.Str.{bytes_eq}
 use Rattle.std.proofs.lemmas.List.{map-append}
+use Rattle.std.proofs.lemmas.List.Elements.{All-nil, All-cons}
 use Rattle.std.proofs.lemmas.Slice.Eq.{bytes_eq-Decides}
 use Rattle.line_words.specs.Digits.{number_of}
 use Rattle.line_words.specs.declared.numbers.NumberFault.{NumberFault}
@@ -11,8 +12,18 @@ use Rattle.line_words.proofs.DigitLaws.{number_of-decimal}
 use Rattle.composables.specs.ReelNames.{with_name}
 use Rattle.std.proofs.lemmas.List.FromFn.{length-map-range_with_len}
 use Rattle.composables.specs.declared.media.Table.{Table}
-use Rattle.cut_server.specs.Tracks.{IsTrackOf, AreTracksOf}
-use Rattle.cut_server.specs.Openings.{plain_reel, empty_track}
+use Rattle.composables.specs.declared.media.Kind.TheVariants.{Video}
+use Rattle.composables.specs.TrackState.{TrackState}
+use Rattle.timecode12.specs.declared.rate.SequenceRate.TheVariants.{F24}
+use Rattle.room_core.specs.Parts.{AreGood, numbers}
+use Rattle.edit_apply.specs.declared.editor.Editor.{Editor}
+use Rattle.edit_apply.specs.Apply.{track_count}
+use Rattle.edit_apply.specs.RoomTracks.{IsTrackOf, IsOpening}
+use Rattle.cut_room.specs.Desks.{IsOpened}
+use Rattle.cut_server.specs.Commands.{least_tracks, most_tracks}
+use Rattle.cut_server.specs.Openings.{plain_opening, plain_reel, plain_table, empty_track}
+use Rattle.cut_server.specs.Served.{IsFresh}
+use Rattle.cut_server.specs.SessionInside.{TrackDesk, session_at}
 
 range_push : (a n : ℕ) → range_with_len a (suc n) ≡ range_with_len a n ++ (a + n) ∷ []
 range_push a zero = let e : a ≡ a + 0 = omega arith in ap (λ m. m ∷ []) e
@@ -62,9 +73,8 @@ reel_more m old new name small is named made =
     made ∙ (ap (λ xs. with_name xs name) is ∙ (ap (with_name here) named ∙ (fresh ∙ sym (counted_more plain_reel m))))
 
 -- an empty track is good in any table
-empty_is : (table : Table) (n most : ℕ) → IsTrackOf table n most (empty_track n)
-empty_is table n most = record {
-  number_is = refl;
+empty_is : (table : Table) (n : ℕ) → IsTrackOf table n (empty_track n)
+empty_is table n = record {
   good = record {
     kept = record { whole = refl; not_before = refl; each = tt; apart = tt; below = tt; short = omega arith };
     ranges = tt;
@@ -72,14 +82,42 @@ empty_is table n most = record {
     frames = omega arith;
     items = omega arith;
   };
+  number_is = refl;
   unlinked = tt;
-  next = omega arith;
-  next_link = omega arith;
 }
 
-pub empty_are : (table : Table) (a n most : ℕ) → AreTracksOf table a most (map empty_track (range_with_len a n))
-empty_are table a zero most = tt
-empty_are table a (suc n) most = (empty_is table a most, empty_are table (a + 1) n most)
+empty_are : (table : Table) (a n : ℕ) → AreGood (IsTrackOf table) (numbers a n) (map empty_track (range_with_len a n))
+empty_are table a zero = tt
+empty_are table a (suc n) = (empty_is table a, empty_are table (a + 1) n)
 
-pub as_many : {A B : Type 0} (f : ℕ → A) (g : ℕ → B) (n : ℕ) → length (map f (range_with_len 0 n)) ≡ length (map g (range_with_len 0 n))
-as_many f g n = length-map-range_with_len f 0 n ∙ sym (length-map-range_with_len g 0 n)
+each_empty : (P : TrackState → Type 0) → ((n : ℕ) → P (empty_track n)) → (a n : ℕ) → All P (map empty_track (range_with_len a n))
+each_empty P h a zero = All-nil P
+each_empty P h a (suc n) = All-cons P (empty_track a) (map empty_track (range_with_len (a + 1) n)) (h a) (each_empty P h (a + 1) n)
+
+plain_opens : (tracks reels : ℕ) → least_tracks ≤ tracks → tracks ≤ most_tracks → IsOpening (plain_table tracks reels) (map empty_track (range_with_len 0 tracks))
+plain_opens tracks reels least most =
+    let kinds = length-map-range_with_len (λ _. Video) 0 tracks in
+    let count : tracks ≡ track_count (plain_table tracks reels) = omega (arith, kinds, most) in
+    record {
+      some = omega (arith, kinds, least);
+      most = omega (arith, kinds, most);
+      good = subst (λ n. AreGood (IsTrackOf (plain_table tracks reels)) (numbers 0 n) (map empty_track (range_with_len 0 tracks))) count (empty_are (plain_table tracks reels) 0 tracks);
+      items = each_empty (λ t. t.next_item ≤ 65536) (λ n. omega arith) 0 tracks;
+      links = each_empty (λ t. t.next_link ≡ 0) (λ n. refl) 0 tracks;
+    }
+
+-- a plain room can be opened
+pub opens : (table : Table) (parts : List TrackState) (tracks reels : ℕ) → least_tracks ≤ tracks → tracks ≤ most_tracks → table ≡ plain_table tracks reels
+    → parts ≡ map empty_track (range_with_len 0 tracks) → IsOpening table parts
+opens table parts tracks reels least most table_is parts_are = rw (table_is, parts_are) (plain_opens tracks reels least most)
+
+-- and has its table, its tracks and no entries
+pub fresh : (desk : TrackDesk) (editor : Editor) (parts : List TrackState) (tracks reels : ℕ) → IsOpened editor parts desk → editor.table ≡ plain_table tracks reels
+    → parts ≡ map empty_track (range_with_len 0 tracks)
+    → IsFresh (plain_opening tracks reels) (session_at desk (record { rate = F24; drop_frame = false }) 0 1)
+fresh desk editor parts tracks reels opened table_is parts_are = record {
+  setting = ap (λ (t : Table). record { table = t; counting = record { rate = F24; drop_frame = false }; start = 0 }) (ap (λ (e : Editor). e.table) opened.object_is ∙ table_is);
+  tracks = opened.parts_are ∙ parts_are;
+  journal = opened.no_entries;
+  line = refl;
+}

@@ -79,14 +79,18 @@ module _ {S C D R Q X Y : Type 0} (k : Kind S C D R Q X Y) (stations station : �
 pub serves_none : (s : SessionState) (t : Option (List ℕ)) → ServesTo s s [] (AreSent t t)
 serves_none s t = record { setting = refl; written = λ w. w; serves = λ o ls rs last w. ([], last, rw (append-nil, append-nil) w, takes-nothing t) }
 
-pub serves_one : (old mid new : SessionState) (l : InputLine) (reply : Reply) (Taken : List (List ℕ) → Type 0)
-    → Replies old mid (wish_in (meaning_of old.setting l)) reply → new.setting ≡ mid.setting → new.course ≡ past_line mid.course
-    → ((text : List ℕ) → IsReply reply text → Taken (text ∷ [])) → ServesTo old new (l ∷ []) Taken
-serves_one old mid new l reply Taken (text, is, r) same next taken = record {
-  setting = same ∙ r.setting;
-  written = λ w. subst (λ (s : Course (List TrackState) Call). AreWritten s.journal) (sym next) (r.written w);
-  serves = one_serves (room_of old.setting) 1 0 old.course mid.course new.course l text Taken (omega arith) r.step next (taken text is);
+pub serves_one : (old new : SessionState) (l : InputLine) (reply : Reply) (Taken : List (List ℕ) → Type 0)
+    → Replies old new (wish_in (meaning_of old.setting l)) reply → ((text : List ℕ) → IsReply reply text → Taken (text ∷ []))
+    → ServesTo old new (l ∷ []) Taken
+serves_one old new l reply Taken (text, is, r) taken = record {
+  setting = r.setting;
+  written = r.written;
+  serves = one_serves (room_of old.setting) 1 0 old.course r.answered new.course l text Taken (omega arith) r.step r.passed (taken text is);
 }
+
+-- the number of the next line
+pub next_number : (old new : SessionState) (l : InputLine) (reply : Reply) → Replies old new (wish_in (meaning_of old.setting l)) reply → new.course.line ≡ old.course.line + 1
+next_number old new l reply (text, is, r) = r.line
 
 serves_then : (a b c : SessionState) (xs ys : List InputLine) (P V W : List (List ℕ) → Type 0) → ((us vs : List (List ℕ)) → P us → V vs → W (us ++ vs))
     → ServesTo a b xs P → ServesTo b c ys V → ServesTo a c (xs ++ ys) W

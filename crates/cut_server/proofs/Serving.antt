@@ -4,7 +4,8 @@ use Rattle.std.specs.Prelude.{codes}
 use Rattle.std.proofs.lemmas.List.{append-nil, length-append}
 use Rattle.line_words.specs.Lines.{Line as InputLine}
 use Rattle.room_core.specs.declared.entry.Entry.{Entry}
-use Rattle.cut_server.specs.History.{most_entries, replay, after_entry, answer_in, state_in, RiseAfter, NumbersRise, AreOfStations, IsLegal}
+use Rattle.room_core.specs.History.{most_entries, replay, after_entry, answer_in, state_in, RiseAfter, NumbersRise, IsLegal}
+use Rattle.cut_server.specs.Stations.{AreOfStations}
 use Rattle.cut_server.specs.Transcript.{Wish, Do, See, Point, Bad, Kind, answer_at, sight_at, BearsNone, IsDone, IsRefused, IsFull, IsMemory, IsSeen, IsPoint, IsBad, Answered, Row, Transcript, points_from, sent}
 use Rattle.cut_server.specs.Session.{Course, past_line, Commits, Refuses, HasNoRoom, Says, Does, Step}
 use Rattle.cut_server.specs.Served.{OwnBefore, Served, Serves}

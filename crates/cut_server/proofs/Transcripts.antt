@@ -6,7 +6,8 @@ use Rattle.std.proofs.lemmas.List.Sums.{fold-append}
 use Rattle.std.proofs.Math.Seq.{take-length}
 use Rattle.line_words.specs.Lines.{Line as InputLine}
 use Rattle.room_core.specs.declared.entry.Entry.{Entry}
-use Rattle.cut_server.specs.History.{most_entries, replay, after_entry, answer_in, own_entries}
+use Rattle.room_core.specs.History.{most_entries, replay, after_entry, answer_in}
+use Rattle.room_core.specs.Projection.{of_station}
 use Rattle.cut_server.specs.Longer.{TranscriptsStay}
 use Rattle.cut_server.specs.Rooms.{room_of}
 use Rattle.cut_server.specs.Transcript.{Wish, Do, See, Point, Bad, Kind, state_at, answer_at, sight_at, BearsNone, IsDone, IsRefused, IsFull, IsMemory, IsSeen, IsPoint, IsBad, Answered, Row, Rows, points_from, Transcript, sent}
@@ -193,7 +194,7 @@ own_beside f true xs ys zs e = ap (λ es. f ∷ es) e
 own_beside f false xs ys zs e = e
 
 -- a list that has no entries of a station
-own_append : {C : Type 0} (station : ℕ) (h more : List (Entry C)) → own_entries station (h ++ more) ≡ own_entries station h ++ own_entries station more
+own_append : {C : Type 0} (station : ℕ) (h more : List (Entry C)) → of_station station (h ++ more) ≡ of_station station h ++ of_station station more
 own_append station [] more = refl
 own_append station (f ∷ fs) more = own_beside f (eqb f.station station) _ _ _ (own_append station fs more)
 
@@ -203,20 +204,20 @@ nothing_behind (x ∷ xs) ys e = nothing_behind xs ys (tails e) where
   tails : {A : Type 0} {x : A} {us vs : List A} → x ∷ us ≡ x ∷ vs → us ≡ vs
   tails h = cc
 
-not_own : {C : Type 0} (station n line : ℕ) (e : Entry C) (es : List (Entry C)) (b : Bool) → eqb e.station station ≡ b → cond b (e ∷ own_entries station es) (own_entries station es) ≡ []
-    → (own_entries station es ≡ [] → (points_from (n + 1) station es ≡ []) × OwnFrom station line es)
+not_own : {C : Type 0} (station n line : ℕ) (e : Entry C) (es : List (Entry C)) (b : Bool) → eqb e.station station ≡ b → cond b (e ∷ of_station station es) (of_station station es) ≡ []
+    → (of_station station es ≡ [] → (points_from (n + 1) station es ≡ []) × OwnFrom station line es)
     → (cond b (n ∷ points_from (n + 1) station es) (points_from (n + 1) station es) ≡ []) × ((e.station ≡ station → line ≤ e.number) × OwnFrom station line es)
 not_own station n line e es true is h rest = cc
 not_own station n line e es false is h rest = ((rest h).0, (λ same. absurd (grind (arith, is, same)), (rest h).1))
 
-no_own : {C : Type 0} (station n line : ℕ) (more : List (Entry C)) → own_entries station more ≡ [] → (points_from n station more ≡ []) × OwnFrom station line more
+no_own : {C : Type 0} (station n line : ℕ) (more : List (Entry C)) → of_station station more ≡ [] → (points_from n station more ≡ []) × OwnFrom station line more
 no_own station n line [] none = (refl, tt)
 no_own station n line (e ∷ es) none = not_own station n line e es (eqb e.station station) refl none (no_own station (n + 1) line es)
 
 pub transcript_more : {S C D R Q X Y : Type 0} (k : Kind S C D R Q X Y) (o : S) (h more : List (Entry C)) (station : ℕ) (lines : List InputLine) (replies : List (List ℕ))
-    → Transcript k o h station lines replies → length (h ++ more) ≤ most_entries → own_entries station (h ++ more) ≡ own_entries station h → Transcript k o (h ++ more) station lines replies
+    → Transcript k o h station lines replies → length (h ++ more) ≤ most_entries → of_station station (h ++ more) ≡ of_station station h → Transcript k o (h ++ more) station lines replies
 transcript_more k o h more station lines replies (last, rows) within same =
-    let none = nothing_behind (own_entries station h) (own_entries station more) (sym (own_append station h more) ∙ same) in
+    let none = nothing_behind (of_station station h) (of_station station more) (sym (own_append station h more) ∙ same) in
     let later = no_own station (0 + length h) (1 + length lines) more none in
     let points : points_from 0 station (h ++ more) ≡ points_from 0 station h =
     points_append 0 station h more ∙ (ap (λ ps. points_from 0 station h ++ ps) later.0 ∙ append-nil (points_from 0 station h)) in

@@ -37,4 +37,4 @@ command_of (first ∷ tracks ∷ reels ∷ more ∷ words) = None
 
 -- so many tracks and reels as a plain room may have
 abbrev pub HasBounds : Command → Type 0
-HasBounds (Run tracks reels) = (tracks ≤ most_tracks) × (reels ≤ most_reels)
+HasBounds (Run tracks reels) = (least_tracks ≤ tracks) × (tracks ≤ most_tracks) × (reels ≤ most_reels)

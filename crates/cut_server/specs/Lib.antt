@@ -1,11 +1,9 @@
-pub mod History
+pub mod Stations
 pub mod Transcript
 pub mod Rooms
 pub mod Longer
 pub mod Session
-pub mod Tracks
 pub mod SessionInside
-pub mod Editing
 pub mod Openings
 pub mod Commands
 pub mod Served

@@ -10,7 +10,7 @@ use Rattle.edit_apply.specs.declared.asks.Call.{Call}
 use Rattle.edit_apply.specs.declared.asks.Ask.{Ask}
 use Rattle.edit_apply.specs.declared.asks.Seen.{Seen}
 use Rattle.edit_apply.specs.declared.asks.AskRefusal.{AskRefusal}
-use Rattle.edit_apply.specs.Apply.{applied}
+use Rattle.edit_apply.specs.Apply.{editing}
 use Rattle.edit_apply.specs.See.{seen_in}
 use Rattle.room_core.specs.declared.entry.Entry.{Entry}
 use Rattle.call_text.specs.declared.lines.Line.{Line}
@@ -19,12 +19,13 @@ use Rattle.call_text.specs.declared.lines.LineFault.{LineFault}
 use Rattle.call_text.specs.declared.lines.LineFault.TheVariants.{B5}
 use Rattle.call_text.specs.Labels.{place_by}
 use Rattle.call_text.specs.Reading.{line_of}
-use Rattle.call_text.specs.declared.answers.Answer.TheVariants as answer
-use Rattle.call_text.specs.declared.answers.Sight.TheVariants as sight
+use Rattle.cut_room.specs.declared.answers.Answer.TheVariants as answer
+use Rattle.cut_room.specs.declared.answers.Sight.TheVariants as sight
 use Rattle.call_text.specs.CallTexts.{IsWritten}
 use Rattle.call_text.specs.Replies.{answer_text_of, fault_of}
 use Rattle.call_text.specs.Sights.{sight_text_of}
-use Rattle.cut_server.specs.History.{IsLegal, most_entries}
+use Rattle.room_core.specs.History.{IsLegal, most_entries}
+use Rattle.room_core.specs.Whole.{whole}
 use Rattle.cut_server.specs.Transcript.{Wish, Do, See, Point, Bad, Kind, Transcript}
 
 -- what stays as it is in a room: its table, how its frames are counted, and the frame at which its record starts
@@ -70,7 +71,7 @@ seen_of n (Err r) = sight_text_of (sight.Refused n r)
 
 abbrev pub room_of : Setting → Kind (List TrackState) Call Done Refusal Ask Seen AskRefusal
 room_of setting = record {
-  apply = applied setting.table;
+  apply = whole (editing setting.table);
   see = seen_in setting.table;
   wish = λ l. wish_in (meaning_of setting l);
   takes_memory = λ l. finds_memory (wish_in (meaning_of setting l));
@@ -84,7 +85,7 @@ abbrev pub RoomTranscript : Opening → History → ℕ → List InputLine → L
 RoomTranscript o h station lines replies = Transcript (room_of o.setting) o.tracks h station lines replies
 
 abbrev pub IsLegalIn : Opening → History → Type 0
-IsLegalIn o h = IsLegal (applied o.setting.table) o.tracks h
+IsLegalIn o h = IsLegal (whole (editing o.setting.table)) o.tracks h
 
 -- each entry's call can be written as a line, and read again
 abbrev pub AreWritten : History → Type 0

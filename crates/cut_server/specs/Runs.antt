@@ -10,7 +10,7 @@ use Rattle.cut_server.specs.declared.command.Command.TheVariants.{Run}
 use Rattle.cut_server.specs.declared.serve.End.TheVariants as end
 use Rattle.cut_server.specs.declared.status.Status.{Status}
 use Rattle.cut_server.specs.declared.status.Status.TheVariants.{Done, ReadFault, WriteFault, NoCommand, OutOfMemory, TooMuchInput}
-use Rattle.cut_server.specs.History.{AreOfStations}
+use Rattle.cut_server.specs.Stations.{AreOfStations}
 use Rattle.cut_server.specs.Openings.{plain_opening}
 use Rattle.cut_server.specs.Outside.{Outside, NoFault, WriteFailed, AtEnd, AreSent, TakesThenFront}
 use Rattle.cut_server.specs.Rooms.{Opening, History, AreWritten, IsLegalIn, RoomTranscript}

@@ -2,7 +2,8 @@
 use Rattle.std.specs.Prelude.{◌≡◌, ℕ, ◌+◌, ◌<◌, ◌≤◌, List, [], ◌∷◌, ◌++◌, Some, length}
 use Rattle.line_words.specs.Lines.{Line as InputLine}
 use Rattle.room_core.specs.declared.entry.Entry.{Entry}
-use Rattle.cut_server.specs.History.{most_entries, replay, NumbersRise, AreOfStations}
+use Rattle.room_core.specs.History.{most_entries, replay, NumbersRise}
+use Rattle.cut_server.specs.Stations.{AreOfStations}
 use Rattle.cut_server.specs.Transcript.{Kind, Rows, points_from}
 use Rattle.cut_server.specs.Rooms.{Opening, AreWritten, room_of}
 use Rattle.cut_server.specs.Session.{Course, SessionState}

@@ -6,11 +6,8 @@ use Rattle.edit_apply.specs.declared.asks.Call.{Call}
 use Rattle.edit_apply.specs.declared.asks.Ask.{Ask}
 use Rattle.room_core.specs.declared.entry.Entry.{Entry}
 use Rattle.call_text.specs.declared.short_text.Short.{Short}
-use Rattle.cut_server.specs.History.{answer_in, most_entries}
+use Rattle.room_core.specs.History.{answer_in, most_entries}
 use Rattle.cut_server.specs.Transcript.{Wish, Do, See, Point, Bad, Kind}
-use Rattle.edit_apply.specs.See.{seen_in}
-use Rattle.call_text.specs.declared.answers.Sight.{Sight}
-use Rattle.call_text.specs.declared.answers.Sight.TheVariants as sight
 use Rattle.cut_server.specs.Rooms.{Setting, AreWritten, room_of, finds_memory}
 use Rattle.cut_server.specs.declared.reply.Reply.{Reply}
 use Rattle.cut_server.specs.declared.reply.Reply.TheVariants as reply
@@ -71,20 +68,18 @@ abbrev pub IsReply : Reply → List ℕ → Type 0
 IsReply (reply.Short short) text = short ≡ text ++ codes "\n"
 IsReply (reply.Text bytes) text = bytes.items ≡ text ++ codes "\n"
 
--- a reply of this text to what a line asks for: the only station is number 0, and its entries can be written
+-- A reply of this text to what a line asks for, and then the line is past: the only station is number 0, and its entries
+-- can be written.
 pub record RepliesWith (old new : SessionState) (wish : Wish Call Ask) (text : List ℕ) : Type 0 where
   pub setting : new.setting ≡ old.setting
   pub written : AreWritten old.course.journal → AreWritten new.course.journal
-  pub step : Step (room_of old.setting) 0 old.course new.course text wish (finds_memory wish)
+  pub answered : Course (List TrackState) Call
+  pub step : Step (room_of old.setting) 0 old.course answered text wish (finds_memory wish)
+  pub passed : new.course ≡ past_line answered
+  pub line : new.course.line ≡ old.course.line + 1
 
 abbrev pub RepliesShort : SessionState → SessionState → Wish Call Ask → Short → Type 0
 RepliesShort old new wish text = RepliesWith old new wish text
 
 abbrev pub Replies : SessionState → SessionState → Wish Call Ask → Reply → Type 0
 Replies old new wish answer = (text : List ℕ) × IsReply answer text × RepliesWith old new wish text
-
--- what a question is answered, with the journal's length
-abbrev pub Sees : SessionState → Ask → Sight → Type 0
-Sees s q (sight.Seen n seen) = (n ≡ length s.course.journal) × (seen_in s.setting.table s.course.state q ≡ Ok seen)
-Sees s q (sight.Refused n why) = (n ≡ length s.course.journal) × (seen_in s.setting.table s.course.state q ≡ Err why)
-Sees s q sight.Memory = Unit {0}

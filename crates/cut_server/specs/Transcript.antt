@@ -3,7 +3,7 @@
 use Rattle.std.specs.Prelude.{◌≡◌, ◌≢◌, ℕ, ◌+◌, ◌≤◌, ◌⊎◌, Bool, IsTrue, List, [], ◌∷◌, ◌++◌, Option, Some, Result, Ok, Err, length, take, slice_get, codes, decimal, option_map, ◌==◌, if◌then◌else◌}
 use Rattle.line_words.specs.Lines.{Line as InputLine}
 use Rattle.room_core.specs.declared.entry.Entry.{Entry}
-use Rattle.cut_server.specs.History.{answer_in, replay, most_entries}
+use Rattle.room_core.specs.History.{answer_in, replay, most_entries}
 
 -- what a line asks for: a call, a question, the point, or nothing of the protocol, where this is its reply
 pub data Wish (C Q : Type 0) : Type 0 where

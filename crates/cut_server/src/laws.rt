@@ -1,7 +1,7 @@
 //! What holds of all histories of a room, and the numbers of the limits.
 ghost use Rattle.std.specs.Prelude.{◌≡◌, ◌<◌};
 ghost use Rattle.cut_server.specs.Longer.{TranscriptsStay};
-ghost use Rattle.cut_server.specs.History.{most_entries};
+ghost use Rattle.room_core.specs.History.{most_entries};
 ghost use Rattle.cut_server.specs.Outside.{most_input, most_read};
 ghost use Rattle.cut_server.specs.Commands.{least_tracks, most_tracks, most_reels};
 

@@ -5,7 +5,6 @@
 #![tactic(auto)]
 
 mod command;
-mod edits;
 pub mod laws;
 mod main_call;
 mod opening;

@@ -1,6 +1,6 @@
 // The call that the program makes.
 ghost use Rattle.std.specs.Prelude.{◌≡◌, ◌≤◌, None};
-ghost use Rattle.cut_server.specs.Commands.{command_of, most_reels};
+ghost use Rattle.cut_server.specs.Commands.{command_of, least_tracks, most_tracks, most_reels};
 ghost use Rattle.cut_server.specs.Openings.{plain_opening};
 ghost use Rattle.cut_server.specs.Outside.{outside};
 ghost use Rattle.cut_server.specs.Rooms.{Opening};
@@ -12,18 +12,20 @@ use crate::serve::{End, serve};
 use crate::session::Session;
 use crate::status::Status;
 use call_text::journal_text;
+use edit_apply::Call;
 use line_words::Words;
+use room_core::Entry;
 use room_ports::{Line, Pair, Sink, Source, put};
 use std::alloc::Global;
 
 // Puts the journal's text behind the replies.
-fn put_journal<L: Line>(alloc: Global, session: &Session, line: &mut L) -> Status
-    ensures ends { JournalEnds session.now.course.journal
+fn put_journal<L: Line>(alloc: Global, entries: &[Entry<Call>], line: &mut L) -> Status
+    ensures ends { JournalEnds entries.now
         (outside (L.left line.old) (L.read_faults line.old) (L.taken line.old) (L.write_faults line.old))
         (outside (L.left line.new) (L.read_faults line.new) (L.taken line.new) (L.write_faults line.new)) result }
     ensures lent { L.lent line.new ≡ L.lent line.old }
 {
-    let text = match journal_text(alloc, session.journal()) {
+    let text = match journal_text(alloc, entries) {
         Ok(text) => text,
         Err(_) => return Status::OutOfMemory,
     };
@@ -34,15 +36,16 @@ fn put_journal<L: Line>(alloc: Global, session: &Session, line: &mut L) -> Statu
 }
 
 // Serves the session of a room that has just been opened, and puts its journal's text behind the replies.
-fn run_session<L: Line>(alloc: Global, session: &mut Session, line: &mut L) -> Status
-    requires { session.old.course.line ≡ 1 }
-    ensures ends { (o : Opening) → IsFresh o session.old → RunEnds o
+fn run_session<L: Line>(alloc: Global, session: Session, line: &mut L) -> Status
+    requires { session.course.line ≡ 1 }
+    ensures ends { (o : Opening) → IsFresh o session → RunEnds o
         (outside (L.left line.old) (L.read_faults line.old) (L.taken line.old) (L.write_faults line.old))
         (outside (L.left line.new) (L.read_faults line.new) (L.taken line.new) (L.write_faults line.new)) ⊥ result }
     ensures lent { L.lent line.new ≡ L.lent line.old }
 {
-    match serve(session, line) {
-        End::Ended => put_journal(alloc, session, line),
+    let mut session = session;
+    match serve(&mut session, line) {
+        End::Ended => put_journal(alloc, &session.close(), line),
         End::ReadFault => Status::ReadFault,
         End::WriteFault => Status::WriteFault,
         End::TooMuchInput => Status::TooMuchInput,
@@ -52,12 +55,12 @@ fn run_session<L: Line>(alloc: Global, session: &mut Session, line: &mut L) -> S
 // The same over an input and an output that are lent.
 fn run_over<S: Source, K: Sink>(
     alloc: Global,
-    session: &mut Session,
+    session: Session,
     input: &mut S,
     output: &mut K,
 ) -> Status
-    requires { session.old.course.line ≡ 1 }
-    ensures { (o : Opening) → IsFresh o session.old → RunEnds o
+    requires { session.course.line ≡ 1 }
+    ensures { (o : Opening) → IsFresh o session → RunEnds o
         (outside (S.left input.old) (S.read_faults input.old) (K.taken output.old) (K.write_faults output.old))
         (outside (S.left input.new) (S.read_faults input.new) (K.taken output.new) (K.write_faults output.new)) ⊥ result }
 {
@@ -73,17 +76,19 @@ fn run<S: Source, K: Sink>(
     input: &mut S,
     output: &mut K,
 ) -> Status
-    requires { reels ≤ most_reels }
+    requires least { least_tracks ≤ tracks }
+    requires tracks { tracks ≤ most_tracks }
+    requires reels { reels ≤ most_reels }
     ensures { RunEnds (plain_opening tracks reels)
         (outside (S.left input.old) (S.read_faults input.old) (K.taken output.old) (K.write_faults output.old))
         (outside (S.left input.new) (S.read_faults input.new) (K.taken output.new) (K.write_faults output.new))
         ((input.new ≡ input.old) × (output.new ≡ output.old)) result }
 {
-    let mut session = match Session::plain(alloc, tracks, reels) {
+    let session = match Session::plain(alloc, tracks, reels) {
         Ok(session) => session,
         Err(_) => return Status::OutOfMemory,
     };
-    run_over(alloc, &mut session, input, output)
+    run_over(alloc, session, input, output)
 }
 
 // Refuses words that are no command.

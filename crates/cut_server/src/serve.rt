@@ -48,7 +48,6 @@ fn answer_line<K: Sink>(
     ensures apart { K.as_source output.new ≡ K.as_source output.old }
 {
     let reply = session.answer(end, text);
-    session.next_line();
     reply.send(output)
 }
 

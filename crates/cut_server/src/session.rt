@@ -1,39 +1,32 @@
 // The session of one station: its room, and the answer to each of its lines.
-ghost use Rattle.std.specs.Prelude.{◌≡◌, ◌++◌, ◌≤◌, ℕ, IfOk, codes, length};
+ghost use Rattle.std.specs.Prelude.{◌≡◌, ◌<◌, ◌+◌, ◌++◌, All, IfOk, codes};
 ghost use Rattle.call_text.specs.Sights.{sight_text_of};
-ghost use Rattle.edit_apply.specs.See.{seen_in};
-ghost use Rattle.edit_apply.specs.Sights.{Shows};
-ghost use Rattle.cut_server.specs.Tracks.{AreTracksOf};
+ghost use Rattle.cut_room.specs.Desks.{Edits};
+ghost use Rattle.edit_apply.specs.Apply.{editing};
 
-use crate::edits::{Edited, put_tracks, try_edit};
 use crate::opening::{empty_tracks, plain};
 use crate::reply::{Reply, ended};
 use call_text::{
-    Answer, Entry, Line, LineFault, Short, Sight, answer_text, fault_text, point_text, read_line,
-    sight_text,
+    Line, LineFault, Short, answer_text, fault_text, point_text, read_line, sight_text,
 };
-use composables::{EditFault, Memory, Track};
-use edit_apply::{Ask, Call, Editor, Seen, SightFault};
+use composables::Memory;
+use cut_room::{Answer, Desk, Sight};
+use edit_apply::{Ask, Call, Editor};
 use line_words::LineEnd;
+use room_core::Entry;
 use std::alloc::Global;
-use std::marker::Model;
+use std::marker::{Brand, Model};
+use std::sync::ledger::{Blank, Ledger};
+use step_count::Steps;
 use timecode12::{Counting, SequenceRate};
-
-/// The most entries of a journal.
-const MOST_ENTRIES: usize = 100_000;
-
-/// The number of the only station.
-const STATION: u32 = 0;
 
 /// A room with one station. Contracts see its setting, its tracks, its journal and the number of the next line.
 #[derive(Drop)]
 pub(crate) struct Session {
     alloc: Global,
-    editor: Editor,
+    desk: Desk<Editor>,
     counting: Counting,
     start: u32,
-    tracks: Vec<Track>,
-    journal: Vec<Entry<Call>>,
     line: u32,
 }
 
@@ -50,21 +43,22 @@ impl Model for Session {
 }
 
 impl Session {
-    ghost use Rattle.std.specs.Prelude.{◌≡◌, ◌+◌, ◌*◌, ◌<◌, ◌≤◌, ◌^◌, ◌++◌, [], List, ℕ, IfOk, Ok, codes, decimal, length};
+    ghost use Rattle.std.specs.Prelude.{◌≡◌, ◌+◌, ◌<◌, ◌≤◌, ◌^◌, ◌++◌, IfOk, codes, decimal, length};
     ghost use Rattle.line_words.specs.Told.{line_told};
-    ghost use Rattle.edit_apply.specs.See.{seen_in};
-    ghost use Rattle.edit_apply.specs.Sights.{Shows};
-    ghost use Rattle.cut_server.specs.Transcript.{Do, See};
-    ghost use Rattle.cut_server.specs.Rooms.{meaning_of, wish_in};
-    ghost use Rattle.cut_server.specs.Session.{past_line, Replies, RepliesShort, Sees};
-    ghost use Rattle.cut_server.specs.Editing.{Changes, Edits};
     ghost use Rattle.call_text.specs.CallTexts.{IsWritten, NamesWritten};
+    ghost use Rattle.call_text.specs.Replies.{fault_of};
+    ghost use Rattle.cut_server.specs.Commands.{least_tracks, most_tracks, most_reels};
     ghost use Rattle.cut_server.specs.Openings.{plain_opening};
+    ghost use Rattle.cut_server.specs.Rooms.{meaning_of, wish_in};
     ghost use Rattle.cut_server.specs.Served.{IsFresh};
+    ghost use Rattle.cut_server.specs.Session.{Replies, RepliesShort};
+    ghost use Rattle.cut_server.specs.Transcript.{Bad, Do, Point, See};
 
     /// A session in a plain room of so many tracks and reels, with an empty journal.
     pub(crate) fn plain(alloc: Global, tracks: u32, reels: u32) -> Result<Session, Memory>
-        requires { reels ≤ 999 }
+        requires least { least_tracks ≤ tracks }
+        requires tracks { tracks ≤ most_tracks }
+        requires reels { reels ≤ most_reels }
         ensures { IfOk result (λ s. IsFresh (plain_opening tracks reels) s) }
     {
         let table = plain(alloc, tracks, reels)?;
@@ -72,66 +66,23 @@ impl Session {
         let Some(counting) = Counting::new(SequenceRate::F24, false) else {
             unreachable!()
         };
-        Ok(Session {
-            alloc,
-            editor: Editor { table },
-            counting,
-            start: 0,
-            tracks,
-            journal: Vec::new(alloc),
-            line: 1,
-        })
+        match Desk::open(alloc, Editor { table }, tracks) {
+            Ok(desk) => Ok(Session {
+                alloc,
+                desk,
+                counting,
+                start: 0,
+                line: 1,
+            }),
+            Err(_) => Err(Memory),
+        }
     }
 
     /// The entries of the journal.
-    pub(crate) fn journal(&self) -> &[Entry<Call>]
-        ensures { result.now ≡ self.now.course.journal }
+    pub(crate) fn close(self) -> Vec<Entry<Call>>
+        ensures { result.items ≡ self.course.journal }
     {
-        &self.journal
-    }
-
-    /// Does an edit and puts it into the journal, or says why not.
-    fn edit(&mut self, call: Call) -> Answer
-        ensures { Edits self.old self.new call result }
-    {
-        let point = self.journal.len() as u32;
-        match try_edit(self.alloc, &self.editor, &self.tracks, &call, 2 * point) {
-            Ok(edited) => self.commit(call, edited),
-            Err(fault) => match fault {
-                EditFault::Refused(refusal) => Answer::Refused { point, refusal },
-                EditFault::Memory => Answer::Memory,
-            },
-        }
-    }
-
-    /// Puts an edit into the journal, and the tracks that it leaves into the room.
-    fn commit(&mut self, call: Call, edited: Edited) -> Answer
-        requires { Changes self.old.setting.table self.old.course.state (2 * length self.old.course.journal) call edited }
-        ensures { Edits self.old self.new call result }
-    {
-        let point = self.journal.len() as u32;
-        if self.journal.len() >= MOST_ENTRIES {
-            return Answer::Full { point };
-        }
-        let entry = Entry {
-            station: STATION,
-            number: self.line,
-            call,
-        };
-        match self.journal.push(entry) {
-            Ok(()) => {}
-            Err(_) => return Answer::Memory,
-        }
-        let Edited { names, parts, done } = edited;
-        put_tracks(&mut self.tracks, &names, parts);
-        Answer::Done { point, done }
-    }
-
-    /// What a question is answered by the tracks as they are.
-    fn see(&self, ask: &Ask) -> Result<Seen, SightFault>
-        ensures { Shows (seen_in self.now.setting.table self.now.course.state ask.now) result }
-    {
-        see_track(self.alloc, &self.editor, &self.tracks, ask)
+        self.desk.close()
     }
 
     /// What a line of the input says.
@@ -146,81 +97,90 @@ impl Session {
     }
 
     fn reply_to_edit(&mut self, call: Call) -> Short
-        requires { IsWritten call }
+        requires written { IsWritten call }
+        requires line { self.old.course.line + 1 < 2 ^ 32 }
         ensures replies { RepliesShort self.old self.new (Do call) result }
         ensures short { length result ≤ 128 }
     {
-        let answer = self.edit(call);
+        let answer = edit_uncounted(self.alloc, &mut self.desk, self.line, call);
+        self.line += 1;
         answer_text(&answer)
     }
 
-    /// What a question is answered, with the journal's length.
-    fn sight(&self, ask: &Ask) -> Sight
-        ensures { Sees self.now ask.now result }
+    fn reply_to_ask(&mut self, ask: &Ask) -> Reply
+        requires { self.old.course.line + 1 < 2 ^ 32 }
+        ensures { Replies self.old self.new (See ask.now) result }
     {
-        let point = self.journal.len() as u32;
-        match self.see(ask) {
-            Ok(seen) => Sight::Seen { point, seen },
-            Err(fault) => match fault {
-                SightFault::Refused(refusal) => Sight::Refused { point, refusal },
-                SightFault::Memory => Sight::Memory,
-            },
-        }
-    }
-
-    fn reply_to_ask(&self, ask: &Ask) -> Reply
-        ensures { Replies self.now self.now (See ask.now) result }
-    {
-        let sight = self.sight(ask);
+        let sight = self.desk.see(self.alloc, ask);
+        self.line += 1;
         match sight_line(self.alloc, &sight) {
             Ok(text) => Reply::Text(text),
             Err(_) => Reply::Short(ended(answer_text(&Answer::Memory))),
         }
     }
 
-    /// The next line has the next number.
-    pub(crate) fn next_line(&mut self)
+    fn reply_to_point(&mut self) -> Short
         requires { self.old.course.line + 1 < 2 ^ 32 }
-        ensures setting { self.new.setting ≡ self.old.setting }
-        ensures course { self.new.course ≡ past_line self.old.course }
+        ensures replies { RepliesShort self.old self.new Point result }
+        ensures short { length result ≤ 128 }
     {
         self.line += 1;
+        point_text(self.desk.point())
     }
 
-    /// Answers a line, and commits it where it is an edit that applies.
+    // The reply to a line that is none of the table.
+    fn reply_to_none(&mut self, fault: &LineFault) -> Short
+        requires { self.old.course.line + 1 < 2 ^ 32 }
+        ensures replies { RepliesShort self.old self.new (Bad (fault_of fault.now)) result }
+        ensures short { length result ≤ 128 }
+    {
+        self.line += 1;
+        fault_text(fault)
+    }
+
+    /// Answers a line, and commits it where it is an edit that applies. The next line has the next number.
     pub(crate) fn answer(&mut self, end: LineEnd, text: &[u8]) -> Reply
+        requires { self.old.course.line + 1 < 2 ^ 32 }
         ensures { Replies self.old self.new (wish_in (meaning_of self.old.setting (line_told end text.now))) result }
     {
         match self.said(end, text) {
             Ok(line) => match line {
                 Line::Edit(call) => Reply::Short(ended(self.reply_to_edit(call))),
                 Line::Ask(ask) => self.reply_to_ask(&ask),
-                Line::Point => Reply::Short(ended(point_text(self.journal.len() as u32))),
+                Line::Point => Reply::Short(ended(self.reply_to_point())),
             },
-            Err(fault) => Reply::Short(ended(fault_text(&fault))),
+            Err(fault) => Reply::Short(ended(self.reply_to_none(&fault))),
         }
     }
 }
 
-// What a question to one of these tracks is answered.
-fn see_track(
+fn edit_counted<L: Ledger>(
+    blank: Blank,
     alloc: Global,
-    editor: &Editor,
-    tracks: &[Track],
-    ask: &Ask,
-) -> Result<Seen, SightFault>
-    requires kinds { length tracks.now ≡ length editor.now.table.kinds }
-    requires tracks { (most : ℕ) × AreTracksOf editor.now.table 0 most tracks.now }
-    ensures { Shows (seen_in editor.now.table tracks.now ask.now) result }
+    desk: &mut Desk<Editor>,
+    number: u32,
+    call: Call,
+) -> Answer<Editor>
+    requires blank { (blank.name ≡ L.name) × (blank.parts ≡ L.parts) × (0 < blank.parts) }
+    requires number { All (λ e. e.number < number) desk.old.entries }
+    ensures edits { Edits (editing desk.old.object.table) number call desk.old desk.new result }
+    ensures numbers { All (λ e. e.number < number + 1) desk.new.entries }
 {
-    match editor.ask_part(ask) {
-        Ok(track) => editor.see(alloc, &tracks[track as usize], ask),
-        Err(refusal) => Err(SightFault::Refused(refusal)),
-    }
+    let mut steps = Steps::<L>::new(blank);
+    desk.edit(alloc, number, call, &mut steps)
+}
+
+// An edit of the room under a number, which counts no steps.
+fn edit_uncounted(alloc: Global, desk: &mut Desk<Editor>, number: u32, call: Call) -> Answer<Editor>
+    requires { All (λ e. e.number < number) desk.old.entries }
+    ensures edits { Edits (editing desk.old.object.table) number call desk.old desk.new result }
+    ensures numbers { All (λ e. e.number < number + 1) desk.new.entries }
+{
+    edit_counted::<Brand>(Blank::new(1), alloc, desk, number, call)
 }
 
 // The reply to a question, with its line feed.
-fn sight_line(alloc: Global, sight: &Sight) -> Result<Vec<u8>, Memory>
+fn sight_line(alloc: Global, sight: &Sight<Editor>) -> Result<Vec<u8>, Memory>
     ensures { IfOk result (λ text. text.items ≡ sight_text_of sight.now ++ codes "\n") }
 {
     let mut text = sight_text(alloc, sight)?;

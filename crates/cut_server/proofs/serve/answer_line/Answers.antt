@@ -1,6 +1,6 @@
 use Rattle.room_ports.specs.Bytes.{Takes, TakesFront}
 use Rattle.cut_server.specs.Outside.{AreSent, LastIsCut}
-use Rattle.cut_server.proofs.Serves.{serves_one, sent_one, cut_one, on_ok, on_err}
+use Rattle.cut_server.proofs.Serves.{serves_one, next_number, sent_one, cut_one, on_ok, on_err}
 use Rattle.cut_server.proofs.serve.answer_line.Goals as goal
 
 pub returns-clause-ok : goal.returns-clause-ok
@@ -8,13 +8,16 @@ returns-clause-ok g c =
     let t = g.K.Sink.taken c.args.output.now in
     let u = g.K.Sink.taken c.send.new.output in
     on_ok c.send.result _ _ c.send.ensures.ok
-    (λ taken. serves_one c.args.session.now c.answer-reply.new.self c.next_line.new.self _ c.answer-reply.result (AreSent t u)
-    c.answer-reply.ensures c.next_line.ensures.setting c.next_line.ensures.course (λ text is. sent_one t u text (taken text is)))
+    (λ taken. serves_one c.args.session.now c.answer-reply.new.self _ c.answer-reply.result (AreSent t u)
+    c.answer-reply.ensures (λ text is. sent_one t u text (taken text is)))
 
 pub returns-clause-err : goal.returns-clause-err
 returns-clause-err g c =
     let t = g.K.Sink.taken c.args.output.now in
     let u = g.K.Sink.taken c.send.new.output in
     on_err c.send.result _ _ c.send.ensures.err
-    (λ taken. serves_one c.args.session.now c.answer-reply.new.self c.next_line.new.self _ c.answer-reply.result (LastIsCut t u)
-    c.answer-reply.ensures c.next_line.ensures.setting c.next_line.ensures.course (λ text is. cut_one t u text (taken text is)))
+    (λ taken. serves_one c.args.session.now c.answer-reply.new.self _ c.answer-reply.result (LastIsCut t u)
+    c.answer-reply.ensures (λ text is. cut_one t u text (taken text is)))
+
+pub returns-clause-number : goal.returns-clause-number
+returns-clause-number g c = next_number c.args.session.now c.answer-reply.new.self _ c.answer-reply.result c.answer-reply.ensures
