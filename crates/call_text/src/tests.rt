@@ -547,6 +547,13 @@ fn written_calls_come_back(rt: HostRuntime) -> Result<(), Fail> {
     Ok(())
 }
 
+fn journal(alloc: Global, text: &[u8]) -> Option<Result<Vec<Entry<Call>>, JournalFault>> {
+    if text.len() > MAX_JOURNAL {
+        return None;
+    }
+    Some(read_journal(alloc, text))
+}
+
 // A text, and the code and line of its fault.
 type Refused = (&'static [u8], JournalCode, u32);
 
@@ -599,8 +606,8 @@ fn the_first_fault_of_a_journal_is_told(rt: HostRuntime) {
     ];
     for (row, (text, code, number)) in table.into_iter().enumerate() {
         assert_eq!(rt;
-            read_journal(rt.alloc(), text),
-            Err(JournalFault::Refused { code, number }),
+            journal(rt.alloc(), text),
+            Some(Err(JournalFault::Refused { code, number })),
             "row {row}"
         );
     }
