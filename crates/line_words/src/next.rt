@@ -12,7 +12,7 @@ pub fn next_word(line: &[u8], from: usize) -> Option<(usize, usize)>
     ensures none { (result ≡ None) ↔ NoneBegins line.now from (length line.now) }
     ensures words { MatchOption result (words_from line.now from ≡ [])
         (λ w. words_from line.now from
-            ≡ slice_range line.now w.0 w.1 ∷ words_of (drop w.1 line.now)) }
+        ≡ slice_range line.now w.0 w.1 ∷ words_of (drop w.1 line.now)) }
 {
     let start = blanks_end(line, begun_end(line, from));
     if start >= line.len() {
