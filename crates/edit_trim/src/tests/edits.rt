@@ -170,35 +170,31 @@ fn dissolve(a: u32, b: u32, view: ItemView) -> ItemView {
 #[test]
 fn an_end_is_trimmed_as_far_as_it_may_be(rt: HostRuntime) -> Result<(), Fail> {
     let table = table(rt.alloc())?;
-    let alone = [gap(3), clip(0, 1, 100, 5)];
-    let two = [gap(5), clip(0, 0, 10, 4), gap(2), clip(1, 1, 50, 5)];
-    let whole = [clip(0, 0, 8, 52)];
-    let mixed = [clip(0, 1, 20, 4), dissolve(1, 1, clip(1, 1, 50, 4))];
     for (views, item, edit, want, by) in [
         // over dark frames up to the track's start; down to one frame; past the track's end
         (
-            alone.as_slice(),
+            [gap(3), clip(0, 1, 100, 5)].as_slice(),
             0,
             Edit::Head(-10),
             [clip(0, 1, 97, 8)].as_slice(),
             -3,
         ),
         (
-            alone.as_slice(),
+            [gap(3), clip(0, 1, 100, 5)].as_slice(),
             0,
             Edit::Tail(-100),
             [gap(3), clip(0, 1, 100, 1), gap(4)].as_slice(),
             -4,
         ),
         (
-            alone.as_slice(),
+            [gap(3), clip(0, 1, 100, 5)].as_slice(),
             0,
             Edit::Tail(4),
             [gap(3), clip(0, 1, 100, 9)].as_slice(),
             4,
         ),
         (
-            alone.as_slice(),
+            [gap(3), clip(0, 1, 100, 5)].as_slice(),
             0,
             Edit::Head(10),
             [gap(7), clip(0, 1, 104, 1)].as_slice(),
@@ -206,47 +202,65 @@ fn an_end_is_trimmed_as_far_as_it_may_be(rt: HostRuntime) -> Result<(), Fail> {
         ),
         // to the first source frame; up to the next item; to the last source frame
         (
-            two.as_slice(),
+            [gap(5), clip(0, 0, 10, 4), gap(2), clip(1, 1, 50, 5)].as_slice(),
             0,
             Edit::Head(-5),
             [gap(3), clip(0, 0, 8, 6), gap(2), clip(1, 1, 50, 5)].as_slice(),
             -2,
         ),
         (
-            two.as_slice(),
+            [gap(5), clip(0, 0, 10, 4), gap(2), clip(1, 1, 50, 5)].as_slice(),
             0,
             Edit::Tail(9),
             [gap(5), clip(0, 0, 10, 6), clip(1, 1, 50, 5)].as_slice(),
             2,
         ),
         (
-            two.as_slice(),
+            [gap(5), clip(0, 0, 10, 4), gap(2), clip(1, 1, 50, 5)].as_slice(),
             1,
             Edit::Tail(i32::MAX),
             [gap(5), clip(0, 0, 10, 4), gap(2), clip(1, 1, 50, 86_350)].as_slice(),
             86_345,
         ),
         (
-            two.as_slice(),
+            [gap(5), clip(0, 0, 10, 4), gap(2), clip(1, 1, 50, 5)].as_slice(),
             0,
             Edit::Tail(i32::MIN),
             [gap(5), clip(0, 0, 10, 1), gap(5), clip(1, 1, 50, 5)].as_slice(),
             -3,
         ),
         // nothing changes
-        (two.as_slice(), 0, Edit::Head(0), two.as_slice(), 0),
-        (whole.as_slice(), 0, Edit::Tail(1), whole.as_slice(), 0),
-        (whole.as_slice(), 0, Edit::Head(-1), whole.as_slice(), 0),
+        (
+            [gap(5), clip(0, 0, 10, 4), gap(2), clip(1, 1, 50, 5)].as_slice(),
+            0,
+            Edit::Head(0),
+            [gap(5), clip(0, 0, 10, 4), gap(2), clip(1, 1, 50, 5)].as_slice(),
+            0,
+        ),
+        (
+            [clip(0, 0, 8, 52)].as_slice(),
+            0,
+            Edit::Tail(1),
+            [clip(0, 0, 8, 52)].as_slice(),
+            0,
+        ),
+        (
+            [clip(0, 0, 8, 52)].as_slice(),
+            0,
+            Edit::Head(-1),
+            [clip(0, 0, 8, 52)].as_slice(),
+            0,
+        ),
         // a dissolve is dropped at the end that moves, and stays elsewhere
         (
-            mixed.as_slice(),
+            [clip(0, 1, 20, 4), dissolve(1, 1, clip(1, 1, 50, 4))].as_slice(),
             1,
             Edit::Head(2),
             [clip(0, 1, 20, 4), gap(2), clip(1, 1, 52, 2)].as_slice(),
             2,
         ),
         (
-            mixed.as_slice(),
+            [clip(0, 1, 20, 4), dissolve(1, 1, clip(1, 1, 50, 4))].as_slice(),
             0,
             Edit::Head(1),
             [gap(1), clip(0, 1, 21, 3), dissolve(1, 1, clip(1, 1, 50, 4))].as_slice(),
@@ -263,21 +277,24 @@ fn an_end_is_trimmed_as_far_as_it_may_be(rt: HostRuntime) -> Result<(), Fail> {
 #[test]
 fn an_item_slips_within_its_thing(rt: HostRuntime) -> Result<(), Fail> {
     let table = table(rt.alloc())?;
-    let near = [clip(0, 1, 86_388, 5)];
-    let last = [clip(0, 1, 86_395, 5)];
     let second = clip(1, 1, 50, 4);
-    let mixed = [clip(0, 0, 10, 4), dissolve(2, 3, second)];
     for (views, item, by, want, used) in [
         (
-            near.as_slice(),
+            [clip(0, 1, 86_388, 5)].as_slice(),
             0,
             100,
             [clip(0, 1, 86_395, 5)].as_slice(),
             7,
         ),
-        (last.as_slice(), 0, 100, last.as_slice(), 0),
         (
-            last.as_slice(),
+            [clip(0, 1, 86_395, 5)].as_slice(),
+            0,
+            100,
+            [clip(0, 1, 86_395, 5)].as_slice(),
+            0,
+        ),
+        (
+            [clip(0, 1, 86_395, 5)].as_slice(),
             0,
             -5,
             [clip(0, 1, 86_390, 5)].as_slice(),
@@ -285,21 +302,21 @@ fn an_item_slips_within_its_thing(rt: HostRuntime) -> Result<(), Fail> {
         ),
         // the frames of a dissolve past the item's ends stay in the range too
         (
-            mixed.as_slice(),
+            [clip(0, 0, 10, 4), dissolve(2, 3, second)].as_slice(),
             0,
             i32::MAX,
             [clip(0, 0, 53, 4), dissolve(2, 3, second)].as_slice(),
             43,
         ),
         (
-            mixed.as_slice(),
+            [clip(0, 0, 10, 4), dissolve(2, 3, second)].as_slice(),
             0,
             -9,
             [clip(0, 0, 8, 4), dissolve(2, 3, second)].as_slice(),
             -2,
         ),
         (
-            mixed.as_slice(),
+            [clip(0, 0, 10, 4), dissolve(2, 3, second)].as_slice(),
             1,
             i32::MIN,
             [clip(0, 0, 10, 4), dissolve(2, 3, clip(1, 1, 2, 4))].as_slice(),
