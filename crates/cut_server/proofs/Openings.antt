@@ -14,16 +14,11 @@ use Rattle.std.proofs.lemmas.List.FromFn.{length-map-range_with_len}
 use Rattle.composables.specs.declared.media.Table.{Table}
 use Rattle.composables.specs.declared.media.Kind.TheVariants.{Video}
 use Rattle.composables.specs.TrackState.{TrackState}
-use Rattle.timecode12.specs.declared.rate.SequenceRate.TheVariants.{F24}
 use Rattle.room_core.specs.Parts.{AreGood, numbers}
-use Rattle.edit_apply.specs.declared.editor.Editor.{Editor}
 use Rattle.edit_apply.specs.Apply.{track_count}
 use Rattle.edit_apply.specs.RoomTracks.{IsTrackOf, IsOpening}
-use Rattle.cut_room.specs.Desks.{IsOpened}
 use Rattle.cut_server.specs.Commands.{least_tracks, most_tracks}
-use Rattle.cut_server.specs.Openings.{plain_opening, plain_reel, plain_table, empty_track}
-use Rattle.cut_server.specs.Served.{IsFresh}
-use Rattle.cut_server.specs.SessionInside.{TrackDesk, session_at}
+use Rattle.cut_server.specs.Openings.{plain_reel, plain_table, empty_track}
 
 range_push : (a n : ℕ) → range_with_len a (suc n) ≡ range_with_len a n ++ (a + n) ∷ []
 range_push a zero = let e : a ≡ a + 0 = omega arith in ap (λ m. m ∷ []) e
@@ -110,14 +105,3 @@ plain_opens tracks reels least most =
 pub opens : (table : Table) (parts : List TrackState) (tracks reels : ℕ) → least_tracks ≤ tracks → tracks ≤ most_tracks → table ≡ plain_table tracks reels
     → parts ≡ map empty_track (range_with_len 0 tracks) → IsOpening table parts
 opens table parts tracks reels least most table_is parts_are = rw (table_is, parts_are) (plain_opens tracks reels least most)
-
--- and has its table, its tracks and no entries
-pub fresh : (desk : TrackDesk) (editor : Editor) (parts : List TrackState) (tracks reels : ℕ) → IsOpened editor parts desk → editor.table ≡ plain_table tracks reels
-    → parts ≡ map empty_track (range_with_len 0 tracks)
-    → IsFresh (plain_opening tracks reels) (session_at desk (record { rate = F24; drop_frame = false }) 0 1)
-fresh desk editor parts tracks reels opened table_is parts_are = record {
-  setting = ap (λ (t : Table). record { table = t; counting = record { rate = F24; drop_frame = false }; start = 0 }) (ap (λ (e : Editor). e.table) opened.object_is ∙ table_is);
-  tracks = opened.parts_are ∙ parts_are;
-  journal = opened.no_entries;
-  line = refl;
-}

@@ -18,8 +18,9 @@ use Rattle.cut_room.specs.Desks.{Edits, Sees, told}
 use Rattle.call_text.specs.CallTexts.{IsWritten}
 use Rattle.call_text.specs.Replies.{EditAnswer, answer_text_of}
 use Rattle.call_text.specs.Sights.{TrackSight, sight_text_of}
+use Rattle.cut_server.specs.declared.reply.Reply.{Reply}
 use Rattle.cut_server.specs.Rooms.{History, Setting, AreWritten, finds_memory, room_of, seen_of}
-use Rattle.cut_server.specs.Session.{SessionState, RepliesWith, Step, past_line}
+use Rattle.cut_server.specs.Session.{IsSightReply, Replies, RepliesWith, Step}
 use Rattle.cut_server.specs.SessionInside.{TrackDesk, session_at}
 use Rattle.cut_server.specs.Transcript.{Wish, Do, See}
 
@@ -115,7 +116,10 @@ ask_replied desk counting start line q (sight.Refused n why) text e is =
     }))
 ask_replied desk counting start line q sight.Memory text e is = replied desk counting start line (See q) text (inr (refl, record { same = refl; reply_is = is }))
 
--- a question for whose reply there was no memory
-pub ask_forgone : (desk : TrackDesk) (counting : Counted) (start line : ℕ) (q : Ask) (text : List ℕ) → text ≡ codes "memory"
-    → RepliesWith (session_at desk counting start line) (session_at desk counting start (line + 1)) (See q) text
-ask_forgone desk counting start line q text is = replied desk counting start line (See q) text (inr (refl, record { same = refl; reply_is = is }))
+-- the reply to a question, or to one for whose reply there was no memory
+pub sight_replied : (desk : TrackDesk) (counting : Counted) (start line : ℕ) (q : Ask) (s : TrackSight) (reply : Reply)
+    → Sees (ask_part_of desk.object.table q) (λ t. seen_on t q) desk s → IsSightReply s reply
+    → Replies (session_at desk counting start line) (session_at desk counting start (line + 1)) (See q) reply
+sight_replied desk counting start line q s reply e (inl is) = (sight_text_of s, is, ask_replied desk counting start line q s (sight_text_of s) e refl)
+sight_replied desk counting start line q s reply e (inr is) =
+    (codes "memory", is, replied desk counting start line (See q) (codes "memory") (inr (refl, record { same = refl; reply_is = refl })))

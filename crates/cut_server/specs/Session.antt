@@ -6,6 +6,7 @@ use Rattle.edit_apply.specs.declared.asks.Call.{Call}
 use Rattle.edit_apply.specs.declared.asks.Ask.{Ask}
 use Rattle.room_core.specs.declared.entry.Entry.{Entry}
 use Rattle.call_text.specs.declared.short_text.Short.{Short}
+use Rattle.call_text.specs.Sights.{TrackSight, sight_text_of}
 use Rattle.room_core.specs.History.{answer_in, most_entries}
 use Rattle.cut_server.specs.Transcript.{Wish, Do, See, Point, Bad, Kind}
 use Rattle.cut_server.specs.Rooms.{Setting, AreWritten, room_of, finds_memory}
@@ -67,6 +68,10 @@ pub record SessionState : Type 0 where
 abbrev pub IsReply : Reply → List ℕ → Type 0
 IsReply (reply.Short short) text = short ≡ text ++ codes "\n"
 IsReply (reply.Text bytes) text = bytes.items ≡ text ++ codes "\n"
+
+-- what a question was answered, or that there was no memory to write it
+abbrev pub IsSightReply : TrackSight → Reply → Type 0
+IsSightReply sight answer = IsReply answer (sight_text_of sight) ⊎ IsReply answer (codes "memory")
 
 -- A reply of this text to what a line asks for, and then the line is past: the only station is number 0, and its entries
 -- can be written.

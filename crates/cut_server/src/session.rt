@@ -3,6 +3,7 @@ ghost use Rattle.std.specs.Prelude.{◌≡◌, ◌<◌, ◌+◌, ◌++◌, All, 
 ghost use Rattle.call_text.specs.Sights.{sight_text_of};
 ghost use Rattle.cut_room.specs.Desks.{Edits};
 ghost use Rattle.edit_apply.specs.Apply.{editing};
+ghost use Rattle.cut_server.specs.Session.{IsSightReply};
 
 use crate::opening::{empty_tracks, plain};
 use crate::reply::{Reply, ended};
@@ -113,10 +114,7 @@ impl Session {
     {
         let sight = self.desk.see(self.alloc, ask);
         self.line += 1;
-        match sight_line(self.alloc, &sight) {
-            Ok(text) => Reply::Text(text),
-            Err(_) => Reply::Short(ended(answer_text(&Answer::Memory))),
-        }
+        sight_reply(self.alloc, &sight)
     }
 
     fn reply_to_point(&mut self) -> Short
@@ -179,7 +177,17 @@ fn edit_uncounted(alloc: Global, desk: &mut Desk<Editor>, number: u32, call: Cal
     edit_counted::<Brand>(Blank::new(1), alloc, desk, number, call)
 }
 
-// The reply to a question, with its line feed.
+// The reply to a question, or to one for whose reply there is no memory.
+fn sight_reply(alloc: Global, sight: &Sight<Editor>) -> Reply
+    ensures { IsSightReply sight.now result }
+{
+    match sight_line(alloc, sight) {
+        Ok(text) => Reply::Text(text),
+        Err(_) => Reply::Short(ended(answer_text(&Answer::Memory))),
+    }
+}
+
+// The text of the reply to a question, with its line feed.
 fn sight_line(alloc: Global, sight: &Sight<Editor>) -> Result<Vec<u8>, Memory>
     ensures { IfOk result (λ text. text.items ≡ sight_text_of sight.now ++ codes "\n") }
 {

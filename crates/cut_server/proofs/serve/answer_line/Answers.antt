@@ -1,4 +1,5 @@
 use Rattle.room_ports.specs.Bytes.{Takes, TakesFront}
+use Rattle.line_words.specs.Told.{line_told}
 use Rattle.cut_server.specs.Outside.{AreSent, LastIsCut}
 use Rattle.cut_server.proofs.Serves.{serves_one, next_number, sent_one, cut_one, on_ok, on_err}
 use Rattle.cut_server.proofs.serve.answer_line.Goals as goal
@@ -20,4 +21,4 @@ returns-clause-err g c =
     c.answer-reply.ensures (λ text is. cut_one t u text (taken text is)))
 
 pub returns-clause-number : goal.returns-clause-number
-returns-clause-number g c = next_number c.args.session.now c.answer-reply.new.self _ c.answer-reply.result c.answer-reply.ensures
+returns-clause-number g c = next_number c.args.session.now c.answer-reply.new.self (line_told c.args.end c.args.text.now) c.answer-reply.result c.answer-reply.ensures
