@@ -3,4 +3,3 @@ pub mod SourceRanges
 pub mod Removals
 pub mod Inserts
 pub mod TestTracks
-pub mod TestDissolves

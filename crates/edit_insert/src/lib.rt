@@ -14,6 +14,4 @@ pub use overwriting::overwrite;
 pub use removing::{remove, slice};
 
 #[cfg(test)]
-mod plain;
-#[cfg(test)]
 mod tests;

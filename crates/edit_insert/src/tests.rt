@@ -1,23 +1,18 @@
 // Worked examples of each edit on one track and on three, and a plain program over cells to compare with.
-ghost use Rattle.std.specs.Prelude.{◌≡◌, ◌+◌, ◌<◌, ◌≤◌, [], ◌∷◌, All, IfOk, IsTrue, length};
+ghost use Rattle.std.specs.Prelude.{◌≡◌, ◌+◌, ◌<◌, ◌≤◌, [], ◌∷◌, All, IfOk, IsTrue, length, map};
 ghost use Rattle.composables.specs.Bounds.{bounds_of};
-ghost use Rattle.composables.specs.Good.{AllUnlinked, AreUnlinked, IsGood};
-ghost use Rattle.composables.specs.Items.{cells_of, items_of};
-ghost use Rattle.composables.specs.Changes.{with_mark};
-ghost use Rattle.composables.specs.Views.{clip_view, gap_view};
-ghost use Rattle.composables.specs.OwnTracks.{numbers_of};
+ghost use Rattle.composables.specs.Good.{IsGood, AllUnlinked};
+ghost use Rattle.composables.specs.Items.{items_of};
 ghost use Rattle.composables.specs.Roomy.{IsRoomy};
+ghost use Rattle.composables.specs.TrackState.{TrackState};
 ghost use Rattle.composables.specs.TrackSets.{tracks_in};
 
-use crate::plain::{
-    Change, changed, cut as cut_plainly, into, out as out_plainly, over as over_plainly, taken,
-};
 use crate::{extract, insert, overwrite, remove, slice};
 use composables::{
     Done, EditFault, Extract, Insert, ItemView, Kind, Listed, MAX_FRAMES, Media, Memory, Nest,
     Overwrite, Reels, Refusal, Remove, Slice, Table, Track,
 };
-use frame_meaning::{Cell, Mark, What};
+use frame_meaning::What;
 use std::alloc::Global;
 use std::marker::Brand;
 use std::process::Abort;
@@ -60,9 +55,7 @@ fn small_table(alloc: Global) -> Result<Table, Memory>
 #[derive(Clone, Copy, Debug, PartialEq, Eq)]
 enum OnOne {
     Over(Overwrite),
-    In(Insert),
     Out(Remove),
-    Take(Extract),
     Cut(Slice),
 }
 
@@ -107,16 +100,6 @@ fn all_roomy(named: &[Track]) -> bool
     true
 }
 
-fn must_be_alone(rt: &impl Abort, tracks: u32, track: u32, number: u32)
-    ensures tracks { tracks ≡ 1 }
-    ensures track { track ≡ 0 }
-    ensures number { number ≡ 0 }
-{
-    assert!(rt; tracks == 1);
-    assert!(rt; track == 0);
-    assert!(rt; number == 0);
-}
-
 fn edit_one<L: Ledger>(
     rt: &impl Abort,
     alloc: Global,
@@ -126,12 +109,12 @@ fn edit_one<L: Ledger>(
     number: u32,
     steps: &mut Steps<L>,
 ) -> Result<Done, EditFault>
-    requires named { numbers_of named.old.items ≡ number ∷ [] }
+    requires named { map (λ (t : TrackState). t.number) named.old.items ≡ number ∷ [] }
     requires good { All (λ t. IsGood table.now t) named.old.items }
-    requires unlinked { AreUnlinked named.old.items }
-    ensures named { numbers_of named.new.items ≡ number ∷ [] }
+    requires unlinked { All (λ t. AllUnlinked (items_of t.cells)) named.old.items }
+    ensures named { map (λ (t : TrackState). t.number) named.new.items ≡ number ∷ [] }
     ensures good { All (λ t. IsGood table.now t) named.new.items }
-    ensures unlinked { AreUnlinked named.new.items }
+    ensures unlinked { All (λ t. AllUnlinked (items_of t.cells)) named.new.items }
 {
     assert!(rt; all_roomy(named));
     match edit {
@@ -139,17 +122,9 @@ fn edit_one<L: Ledger>(
             assert!(rt; call.track == number);
             overwrite(alloc, table, named, call, steps)
         }
-        OnOne::In(call) => {
-            must_be_alone(rt, call.tracks, call.track, number);
-            insert(alloc, table, named, call, steps)
-        }
         OnOne::Out(call) => {
             assert!(rt; call.track == number);
             remove(alloc, table, named, call, steps)
-        }
-        OnOne::Take(call) => {
-            must_be_alone(rt, call.tracks, call.track, number);
-            extract(alloc, table, named, call, steps)
         }
         OnOne::Cut(call) => {
             assert!(rt; call.track == number);
@@ -168,12 +143,12 @@ fn edit_all<L: Ledger>(
     number: u32,
     steps: &mut Steps<L>,
 ) -> Result<Done, EditFault>
-    requires named { numbers_of named.old.items ≡ number ∷ [] }
+    requires named { map (λ (t : TrackState). t.number) named.old.items ≡ number ∷ [] }
     requires good { All (λ t. IsGood table.now t) named.old.items }
-    requires unlinked { AreUnlinked named.old.items }
-    ensures named { numbers_of named.new.items ≡ number ∷ [] }
+    requires unlinked { All (λ t. AllUnlinked (items_of t.cells)) named.old.items }
+    ensures named { map (λ (t : TrackState). t.number) named.new.items ≡ number ∷ [] }
     ensures good { All (λ t. IsGood table.now t) named.new.items }
-    ensures unlinked { AreUnlinked named.new.items }
+    ensures unlinked { All (λ t. AllUnlinked (items_of t.cells)) named.new.items }
 {
     let mut last = Ok(Done::Plain);
     for edit in edits {
@@ -187,7 +162,6 @@ fn edit_all<L: Ledger>(
 struct Played {
     items: Vec<ItemView>,
     next: u32,
-    cells: Vec<Cell>,
     last: Result<Done, EditFault>,
 }
 
@@ -212,7 +186,6 @@ fn play<L: Ledger>(
     Ok(Played {
         items: shown_items(alloc, &named[0])?,
         next: named[0].next_item(),
-        cells: named[0].cells(alloc)?,
         last,
     })
 }
@@ -329,95 +302,6 @@ fn each_edit_of_one_track_leaves_what_it_means(rt: HostRuntime) -> Result<(), Fa
         let played = play_from_empty(&rt, alloc, 0, edits)?;
         assert_eq!(rt; played.items.as_slice(), items, "row {row}");
         assert_eq!(rt; played.last, Ok(last), "row {row}");
-    }
-    Ok(())
-}
-
-// Items of four and three frames and a gap of three, with a dissolve at each cut.
-fn dissolved(alloc: Global) -> Result<Track, Memory>
-    ensures { IfOk result (λ t. t ≡ record {
-      number = 0;
-      cells = cells_of (clip_view 0 (What.Media 0) 50 4
-          ∷ with_mark (Some (record { a = 1; b = 1 })) (clip_view 1 (What.Media 0) 7 3)
-          ∷ with_mark (Some (record { a = 1; b = 2 })) (gap_view 3) ∷ []);
-      next_item = 2;
-      next_link = 0;
-    }) }
-{
-    let mut track = Track::empty(alloc, 0);
-    track.push(item(0, 50, 4))?;
-    track.push(ItemView {
-        mark: Some(Mark { a: 1, b: 1 }),
-        ..item(1, 7, 3)
-    })?;
-    track.push(ItemView {
-        mark: Some(Mark { a: 1, b: 2 }),
-        ..dark(3)
-    })?;
-    Ok(track)
-}
-
-// What an edit leaves of that track, and what the plain program says.
-fn both_ways(
-    rt: &impl Abort,
-    alloc: Global,
-    edit: &OnOne,
-) -> Result<(Vec<Cell>, Vec<Cell>), Memory> {
-    let table = small_table(alloc)?;
-    let track = dissolved(alloc)?;
-    let before = track.cells(alloc)?;
-    let played = play::<Brand>(rt, alloc, Blank::new(1), &table, track, 0, &[*edit])?;
-    let change = plain_change(&before, edit);
-    Ok((played.cells, changed(alloc, &before, &change)?))
-}
-
-fn plain_change(before: &[Cell], edit: &OnOne) -> Change {
-    match edit {
-        OnOne::Over(call) => over_plainly(call, 2),
-        OnOne::In(call) => into(call, 2),
-        OnOne::Out(call) => out_plainly(before, call, 2),
-        OnOne::Take(call) => taken(before, call, 2),
-        OnOne::Cut(call) => cut_plainly(call, 2),
-    }
-}
-
-fn put_alone(at: u32, len: u32) -> OnOne {
-    OnOne::In(Insert {
-        tracks: 1,
-        track: 0,
-        at,
-        what: What::Media(0),
-        from: 500,
-        len,
-    })
-}
-
-fn take_alone(item: u32) -> OnOne {
-    OnOne::Take(Extract {
-        tracks: 1,
-        track: 0,
-        item,
-    })
-}
-
-#[test]
-fn edits_of_a_track_with_dissolves_agree_with_a_plain_program(rt: HostRuntime) -> Result<(), Fail> {
-    let alloc = rt.alloc();
-    for edit in [out(0), out(1), take_alone(0), take_alone(1)] {
-        let (got, want) = both_ways(&rt, alloc, &edit)?;
-        assert_eq!(rt; got.as_slice(), want.as_slice(), "{edit:?}");
-    }
-    for at in 0..10 {
-        let (got, want) = both_ways(&rt, alloc, &cut(at))?;
-        assert_eq!(rt; got.as_slice(), want.as_slice(), "cut at {at}");
-    }
-    for at in 0..12 {
-        for len in 1..6 {
-            for edit in [over(at, 500, len), put_alone(at, len)] {
-                let (got, want) = both_ways(&rt, alloc, &edit)?;
-                assert_eq!(rt; got.as_slice(), want.as_slice(), "{edit:?}");
-            }
-        }
     }
     Ok(())
 }
@@ -582,12 +466,12 @@ fn shift_three<L: Ledger>(
     edit: &OnThree,
     steps: &mut Steps<L>,
 ) -> Result<Done, EditFault>
-    requires named { numbers_of named.old.items ≡ tracks_in 7 }
+    requires named { map (λ (t : TrackState). t.number) named.old.items ≡ tracks_in 7 }
     requires good { All (λ t. IsGood table.now t) named.old.items }
-    requires unlinked { AreUnlinked named.old.items }
-    ensures named { numbers_of named.new.items ≡ tracks_in 7 }
+    requires unlinked { All (λ t. AllUnlinked (items_of t.cells)) named.old.items }
+    ensures named { map (λ (t : TrackState). t.number) named.new.items ≡ tracks_in 7 }
     ensures good { All (λ t. IsGood table.now t) named.new.items }
-    ensures unlinked { AreUnlinked named.new.items }
+    ensures unlinked { All (λ t. AllUnlinked (items_of t.cells)) named.new.items }
 {
     assert!(rt; all_roomy(named));
     match edit {
@@ -611,9 +495,9 @@ fn shift_all_three<L: Ledger>(
     edits: &[OnThree],
 ) -> Result<Done, EditFault>
     requires blank { (blank.name ≡ L.name) × (blank.parts ≡ L.parts) × (0 < blank.parts) }
-    requires named { numbers_of named.old.items ≡ tracks_in 7 }
+    requires named { map (λ (t : TrackState). t.number) named.old.items ≡ tracks_in 7 }
     requires good { All (λ t. IsGood table.now t) named.old.items }
-    requires unlinked { AreUnlinked named.old.items }
+    requires unlinked { All (λ t. AllUnlinked (items_of t.cells)) named.old.items }
 {
     let mut steps = Steps::<L>::new(blank);
     let mut last = Ok(Done::Plain);

@@ -1,4 +1,4 @@
-use Rattle.std.proofs.Common.{◌≡◌, ◌<◌, List, [], ap, ◌∙◌, arith, get_or, length, subst}
+use Rattle.std.proofs.Common.{◌<◌, List, [], ◌∙◌, arith, get_or, length, subst}
 use Rattle.std.proofs.lemmas.List.{get_or_default}
 use Rattle.composables.specs.TrackState.{TrackState}
 use Rattle.edit_splice.specs.Splicing.{HasRoom}
