@@ -161,9 +161,12 @@ fn put_back<O: PartObject, J: Naming<O, O::Part>, R: Wait>(
     requires within { All (λ n. n < length places.now) numbers.items }
     requires homes { AreHomes O.meaning O.opens J.opening numbers.items parts.items versions.items seats.items }
 {
-    while let (Some(number), Some(part), Some(version), Some(seat)) =
-        (numbers.pop(), parts.pop(), versions.pop(), seats.pop())
-    {
+    while let (Some(number), Some(part), Some(version), Some(seat)) = (
+        numbers.pop(),
+        parts.pop(),
+        versions.pop(),
+        seats.pop(),
+    ) {
         let home = Home {
             part,
             seat,

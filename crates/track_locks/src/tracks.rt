@@ -60,12 +60,7 @@ impl<O: PartObject, J: Naming<O, O::Part>> Tracks<O, J> {
 
     /// Waits for the locks of the parts of a set, bit n for the part n, and takes them in ascending order. Its memory is
     /// taken before the first lock.
-    pub fn hold<R: Wait>(
-        &self,
-        rt: &R,
-        alloc: Global,
-        set: u32,
-    ) -> Result<Held<'_, O, J>, Memory>
+    pub fn hold<R: Wait>(&self, rt: &R, alloc: Global, set: u32) -> Result<Held<'_, O, J>, Memory>
         ensures numbers { IfOk result (λ h. h.numbers ≡ members self.now set) }
         ensures few { IfOk result (λ h. length h.numbers ≤ 32) }
         ensures homes { IfOk result (λ h. AreHomes O.meaning O.opens J.opening h.numbers h.parts h.versions h.seats) }

@@ -1,6 +1,6 @@
-use Rattle.std.proofs.Common.{◌≡◌, ◌<◌, ◌≤◌, ◌+◌, ◌++◌, [], ◌∷◌, length, sym, subst, ap, ◌∙◌, arith}
+use Rattle.std.proofs.Common.{◌≡◌, ◌++◌, [], ◌∷◌, length, sym, subst, ap, ◌∙◌, arith}
 use Rattle.room_core.specs.Parts.{AscendBetween}
-use Rattle.track_locks.specs.Homes.{AreHomes, members, has_bit}
+use Rattle.track_locks.specs.Homes.{members, has_bit}
 use Rattle.track_locks.proofs.Stands.{members_few}
 use Rattle.track_locks.proofs.Several.{one_held, held_home, members_then, members_else, ascend_filter}
 use Rattle.track_locks.proofs.tracks.Tracks.hold.Goals as goal
@@ -12,39 +12,39 @@ loop-number-preserved g c =
     let l = c.loop-number in
     let n = c.loop-number.number in
     elim c.if-set-number-eq1.branch [
-      then-set-number-eq1 w ↦
-        let h = w.part.inside in
-        let is = ap (λ h. h.number) w.part.view_is ∙ w.take.ensures.number in
-        let one = held_home g.O.PartObject.meaning g.O.PartObject.opens g.J.Naming.opening n h.part h.version h.seat is w.part.invariant.0 w.part.invariant.1 in
-        let a = w.push_reserved.ensures in
-        let b = w.push_reserved-then-set-number-eq1.ensures in
-        let d = w.push_reserved-then-set-number-eq1-2.ensures in
-        let e = w.push_reserved-then-set-number-eq1-3.ensures in
-        rw (w.numbers-is, w.parts-is, w.versions-is, w.seats-is) record {
-          numbers = a.items ∙ (ap (λ xs. xs ++ n ∷ []) i.numbers ∙ sym (members_then c.args.set n w.if-set-number-eq1.true));
-          homes = rw (a.items, b.items, d.items, e.items) (one_held g.O.PartObject.meaning g.O.PartObject.opens g.J.Naming.opening l.numbers.items l.parts.items l.versions.items l.seats.items n h.part h.version h.seat i.homes one);
-          count = omega (arith, a.len, i.count);
-          parts = omega (arith, a.len, b.len, i.parts);
-          versions = omega (arith, a.len, d.len, i.versions);
-          seats = omega (arith, a.len, e.len, i.seats);
-          room = a.capacity ∙ i.room;
-          parts_room = b.capacity ∙ i.parts_room;
-          versions_room = d.capacity ∙ i.versions_room;
-          seats_room = e.capacity ∙ i.seats_room;
-        }
-    | else-set-number-eq1 w ↦
-        rw (w.numbers-is, w.parts-is, w.versions-is, w.seats-is) record {
-          numbers = i.numbers ∙ sym (members_else c.args.set n w.if-set-number-eq1.false);
-          homes = i.homes;
-          count = omega (arith, i.count);
-          parts = i.parts;
-          versions = i.versions;
-          seats = i.seats;
-          room = i.room;
-          parts_room = i.parts_room;
-          versions_room = i.versions_room;
-          seats_room = i.seats_room;
-        }
+      | then-set-number-eq1 w ↦
+          let h = w.part.inside in
+          let is = ap (λ h. h.number) w.part.view_is ∙ w.take.ensures.number in
+          let one = held_home g.O.PartObject.meaning g.O.PartObject.opens g.J.Naming.opening n h.part h.version h.seat is w.part.invariant.0 w.part.invariant.1 in
+          let a = w.push_reserved.ensures in
+          let b = w.push_reserved-then-set-number-eq1.ensures in
+          let d = w.push_reserved-then-set-number-eq1-2.ensures in
+          let e = w.push_reserved-then-set-number-eq1-3.ensures in
+          rw (w.numbers-is, w.parts-is, w.versions-is, w.seats-is) record {
+            numbers = a.items ∙ (ap (λ xs. xs ++ n ∷ []) i.numbers ∙ sym (members_then c.args.set n w.if-set-number-eq1.true));
+            homes = rw (a.items, b.items, d.items, e.items) (one_held g.O.PartObject.meaning g.O.PartObject.opens g.J.Naming.opening l.numbers.items l.parts.items l.versions.items l.seats.items n h.part h.version h.seat i.homes one);
+            count = omega (arith, a.len, i.count);
+            parts = omega (arith, a.len, b.len, i.parts);
+            versions = omega (arith, a.len, d.len, i.versions);
+            seats = omega (arith, a.len, e.len, i.seats);
+            room = a.capacity ∙ i.room;
+            parts_room = b.capacity ∙ i.parts_room;
+            versions_room = d.capacity ∙ i.versions_room;
+            seats_room = e.capacity ∙ i.seats_room;
+          }
+      | else-set-number-eq1 w ↦
+          rw (w.numbers-is, w.parts-is, w.versions-is, w.seats-is) record {
+            numbers = i.numbers ∙ sym (members_else c.args.set n w.if-set-number-eq1.false);
+            homes = i.homes;
+            count = omega (arith, i.count);
+            parts = i.parts;
+            versions = i.versions;
+            seats = i.seats;
+            room = i.room;
+            parts_room = i.parts_room;
+            versions_room = i.versions_room;
+            seats_room = i.seats_room;
+          }
     ]
 
 pub invariant_of-result : goal.invariant_of-result
