@@ -1,13 +1,12 @@
 -- The homes of a new room.
-use Rattle.std.proofs.Common.{◌≡◌, ℕ, zero, suc, ◌+◌, ◌<◌, ◌≤◌, List, [], ◌∷◌, ◌++◌, length, map, drop, take, get_or, All, Bool, true, false, cond, ◌==◌, Option, Some, None, IsSome, slice_get, slice_set, refl, sym, ap, ◌∙◌, subst, arith}
+use Rattle.std.proofs.Common.{◌≡◌, ℕ, zero, suc, ◌+◌, ◌<◌, ◌≤◌, List, [], ◌∷◌, ◌++◌, length, map, drop, take, get_or, All, Bool, true, false, cond, ◌==◌, Option, Some, slice_get, slice_set, refl, sym, ap, ◌∙◌, subst, arith}
 use Rattle.std.specs.List.{list_any}
 use Rattle.std.proofs.lemmas.List.{length-append, map-append, get_or_append_left}
 use Rattle.std.proofs.Math.Seq.{get_or-append_seam}
 use Rattle.room_core.specs.declared.entry.Entry.{Entry}
-use Rattle.room_core.specs.History.{IsLegal}
 use Rattle.room_core.specs.Parts.{AreGood, numbers}
 use Rattle.room_core.specs.Projection.{of_part}
-use Rattle.room_core.specs.Whole.{Meaning, whole}
+use Rattle.room_core.specs.Whole.{Meaning}
 use Rattle.edit_journal.specs.Seats.{Opening}
 use Rattle.edit_journal.specs.Turns.{Known, AreFresh}
 use Rattle.track_locks.specs.Homes.{IsHome, AreHomes}

@@ -1,18 +1,17 @@
 -- What is held, one more or one less.
-use Rattle.std.proofs.Common.{◌≡◌, ◌≢◌, ◌⊎◌, ℕ, zero, suc, ◌+◌, ◌/◌, ◌%◌, ◌^◌, ◌==◌, eq-eqb, ◌<◌, ◌≤◌, List, [], ◌∷◌, ◌++◌, length, map, Bool, true, false, cond, Option, Some, None, All, IsSome, slice_get, refl, sym, ap, ◌∙◌, subst, arith, ⊎_elim, inl, inr}
+use Rattle.std.proofs.Common.{◌≡◌, ◌⊎◌, ℕ, zero, suc, ◌+◌, ◌/◌, ◌%◌, ◌^◌, ◌==◌, eq-eqb, ◌<◌, ◌≤◌, List, [], ◌∷◌, ◌++◌, length, Bool, true, false, cond, Option, Some, All, slice_get, refl, sym, ap, ◌∙◌, subst, arith, ⊎_elim, inl, inr}
 use Rattle.std.specs.List.{filter}
 use Rattle.std.proofs.lemmas.List.{length-append}
 use Rattle.std.proofs.lemmas.List.Elements.{All-cons, All-nil, All-weaker, filter-append}
-use Rattle.room_core.specs.declared.entry.Entry.{Entry}
 use Rattle.room_core.specs.Parts.{AscendBetween, numbers}
 use Rattle.room_core.specs.Whole.{Meaning}
 use Rattle.edit_journal.specs.declared.name.Name.{Name}
-use Rattle.edit_journal.specs.declared.name.Name.TheVariants.{Part, Station}
+use Rattle.edit_journal.specs.declared.name.Name.TheVariants.{Part}
 use Rattle.edit_journal.specs.Seats.{Opening, In, without}
-use Rattle.edit_journal.specs.Turns.{Known, Open, gathered, given}
+use Rattle.edit_journal.specs.Turns.{Known, Open, gathered}
 use Rattle.edit_journal.proofs.Fresh.{without_other, above_part}
 use Rattle.std.proofs.lemmas.Bool.Decides.{nat_tests}
-use Rattle.track_locks.specs.Homes.{IsHome, IsHeld, AreHomes, all_gathered, all_given, CanGive, has_bit, members}
+use Rattle.track_locks.specs.Homes.{IsHome, IsHeld, AreHomes, all_gathered, CanGive, has_bit, members}
 
 pub get_front : {A : Type 0} (xs : List A) (x y : A) (k : ℕ) → slice_get xs k ≡ Some y → slice_get (xs ++ x ∷ []) k ≡ Some y
 get_front [] x y k h = absurd (Prim.grind (arith, h))

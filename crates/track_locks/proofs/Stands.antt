@@ -1,5 +1,5 @@
 -- A held part stands for the whole journal.
-use Rattle.std.proofs.Common.{◌≡◌, ◌⊎◌, ℕ, zero, suc, ◌+◌, ◌<◌, ◌≤◌, List, [], ◌∷◌, ◌++◌, length, map, get_or, All, Bool, true, false, cond, Option, Some, None, IsSome, slice_get, refl, sym, ap, ◌∙◌, subst, arith, ⊎_elim, inl, inr}
+use Rattle.std.proofs.Common.{◌≡◌, ℕ, zero, suc, ◌+◌, ◌<◌, ◌≤◌, List, [], ◌∷◌, ◌++◌, length, map, get_or, All, Bool, true, false, cond, Option, Some, None, IsSome, slice_get, refl, sym, ap, ◌∙◌, subst, arith, ⊎_elim, inl, inr}
 use Rattle.std.specs.List.{filter}
 use Rattle.std.proofs.lemmas.Option.{get_or_from_slice_get}
 use Rattle.room_core.specs.declared.entry.Entry.{Entry}
@@ -8,7 +8,6 @@ use Rattle.room_core.specs.Parts.{numbers}
 use Rattle.room_core.specs.Projection.{of_part}
 use Rattle.room_core.specs.Whole.{Meaning, whole}
 use Rattle.room_core.proofs.WholeParts.{one_part}
-use Rattle.edit_journal.specs.declared.name.Name.{Name}
 use Rattle.edit_journal.specs.declared.name.Name.TheVariants.{Part}
 use Rattle.edit_journal.specs.Seats.{Opening, Agrees, In}
 use Rattle.edit_journal.specs.Turns.{Known, Open, IsJournal, AllAgree}

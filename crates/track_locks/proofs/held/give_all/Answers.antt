@@ -2,9 +2,8 @@ use Rattle.std.proofs.Common.{◌≡◌, ◌+◌, ◌++◌, [], ◌∷◌, suc, 
 use Rattle.std.proofs.Math.Seq.{drop-cons}
 use Rattle.std.proofs.lemmas.List.{map-append}
 use Rattle.std.proofs.lemmas.List.Elements.{All-append, All-cons, All-nil}
-use Rattle.edit_journal.specs.declared.name.Name.TheVariants.{Part}
 use Rattle.room_core.specs.declared.entry.Entry.{Entry}
-use Rattle.edit_journal.specs.Seats.{Opening, without}
+use Rattle.edit_journal.specs.Seats.{Opening}
 use Rattle.edit_journal.specs.Turns.{Known}
 use Rattle.track_locks.specs.Homes.{all_given, CanGive}
 use Rattle.track_locks.proofs.Begin.{take_more}

@@ -1,4 +1,4 @@
-use Rattle.std.proofs.Common.{◌≡◌, ◌+◌, ◌≤◌, All, map, length, take, drop, vec_len, vec_capacity}
+use Rattle.std.proofs.Common.{◌≡◌, ◌+◌, All, map, take, drop, vec_len, vec_capacity}
 use Rattle.track_locks.specs.Homes.{all_given, CanGive}
 use Rattle.track_locks.proofs.held.give_all.Given as goal
 

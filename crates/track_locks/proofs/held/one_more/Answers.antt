@@ -1,4 +1,3 @@
-use Rattle.std.proofs.Common.{◌+◌, ◌++◌, map, take, drop, slice_set, get_or, ap, sym, ◌∙◌, arith}
 use Rattle.track_locks.proofs.Begin.{raise_more}
 use Rattle.track_locks.proofs.held.one_more.Goals as goal
 

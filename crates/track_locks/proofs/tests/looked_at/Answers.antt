@@ -1,4 +1,4 @@
-use Rattle.std.proofs.Common.{◌≡◌, List, Option, All, sym, ap, ◌∙◌, subst}
+use Rattle.std.proofs.Common.{◌≡◌, List, Option, All, ap, ◌∙◌, subst}
 use Rattle.room_core.specs.declared.entry.Entry.{Entry}
 use Rattle.edit_journal.specs.Seats.{Opening}
 use Rattle.edit_journal.specs.Turns.{Known}

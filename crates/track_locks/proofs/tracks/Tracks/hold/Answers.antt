@@ -1,6 +1,6 @@
-use Rattle.std.proofs.Common.{◌≡◌, ◌<◌, ◌≤◌, ◌+◌, ◌++◌, [], ◌∷◌, length, sym, subst, ap, ◌∙◌, arith}
+use Rattle.std.proofs.Common.{◌≡◌, ◌++◌, [], ◌∷◌, length, sym, subst, ap, ◌∙◌, arith}
 use Rattle.room_core.specs.Parts.{AscendBetween}
-use Rattle.track_locks.specs.Homes.{AreHomes, members, has_bit}
+use Rattle.track_locks.specs.Homes.{members, has_bit}
 use Rattle.track_locks.proofs.Stands.{members_few}
 use Rattle.track_locks.proofs.Several.{one_held, held_home, members_then, members_else, ascend_filter}
 use Rattle.track_locks.proofs.tracks.Tracks.hold.Goals as goal

@@ -1,4 +1,4 @@
-use Rattle.std.proofs.Common.{◌≡◌, ◌<◌, ◌≤◌, ◌+◌, ◌++◌, [], ◌∷◌, suc, length, drop, vec_len, Option, Some, sym, ap, ◌∙◌, subst, arith, append_assoc, slice_get}
+use Rattle.std.proofs.Common.{◌≡◌, ◌++◌, [], ◌∷◌, suc, length, drop, vec_len, sym, ap, ◌∙◌, arith, append_assoc, slice_get}
 use Rattle.std.proofs.lemmas.List.{append-nil, nil_from_length, length-append}
 use Rattle.std.specs.Vec.Iter.{into_iter_items}
 use Rattle.track_locks.proofs.Begin.{at_drop, after_drop, none_after, good_length, fresh_length, fresh_at, first_home}
