@@ -1,5 +1,5 @@
 -- A text is that of one journal, or has one fault.
-use Rattle.std.proofs.Common.{◌≡◌, ◌≢◌, ℕ, ◌+◌, ◌<◌, ◌≤◌, ◌⊎◌, List, [], ◌∷◌, ◌++◌, length, inl, inr, refl, sym, ap, ◌∙◌, arith}
+use Rattle.std.proofs.Common.{◌≡◌, ◌≢◌, ℕ, ◌<◌, ◌≤◌, ◌⊎◌, List, [], ◌∷◌, ◌++◌, length, inl, inr, refl, sym, ap, ◌∙◌, arith}
 use Rattle.std.specs.List.{flat_map}
 use Rattle.std.proofs.lemmas.List.{append-nil}
 use Rattle.edit_apply.specs.declared.asks.Call.{Call}
@@ -8,7 +8,7 @@ use Rattle.room_core.specs.History.{RiseAfter, NumbersRise, most_entries}
 use Rattle.call_text.specs.declared.journal_fault.JournalCode.{JournalCode}
 use Rattle.call_text.specs.declared.journal_fault.JournalCode.TheVariants.{H1, H2, H4}
 use Rattle.call_text.specs.JournalFaults.{HasNoCount, HasNoEntry, Begins, StopsBehind, IsLate, IsFirstLate, IsFaulty, AreEntriesOf}
-use Rattle.call_text.specs.Journals.{entry_text, entry_line, count_line, HasLine}
+use Rattle.call_text.specs.Journals.{entry_text, entry_line, count_line}
 use Rattle.call_text.proofs.EntryTexts.{line_parts, count_once, entries_once}
 
 never_empty : (text rest : List ℕ) → [] ≡ text ++ 10 ∷ rest → ⊥

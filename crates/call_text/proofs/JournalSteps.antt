@@ -1,5 +1,5 @@
 -- The steps of a reader of journals.
-use Rattle.std.proofs.Common.{◌≡◌, ◌≢◌, ℕ, ◌+◌, ◌<◌, ◌≤◌, ◌⊎◌, ◌^◌, List, [], ◌∷◌, ◌++◌, Bool, true, false, not, ◌&&◌, Option, Some, None, Result, Ok, Err, length, get_or, set, take, drop, inl, inr, refl, sym, ap, ◌∙◌, arith, append_assoc, length-append, codes}
+use Rattle.std.proofs.Common.{◌≡◌, ◌≢◌, ℕ, ◌+◌, ◌<◌, ◌≤◌, ◌⊎◌, List, [], ◌∷◌, ◌++◌, Bool, true, false, not, ◌&&◌, Option, Some, None, Ok, Err, length, get_or, set, take, drop, inl, inr, refl, sym, ap, ◌∙◌, arith, append_assoc, length-append, codes}
 use Rattle.std.specs.Fmt.{decimal}
 use Rattle.std.specs.List.{flat_map, position, All}
 use Rattle.std.proofs.lemmas.Bool.Decides.{nat_tests}
@@ -8,7 +8,6 @@ use Rattle.std.proofs.lemmas.Bool.{cases_eq}
 use Rattle.std.proofs.lemmas.Slice.Eq.{bytes_eq-Decides}
 use Rattle.std.specs.Str.{bytes_eq}
 use Rattle.std.proofs.lemmas.List.Elements.{All-head, All-tail, All-get_or}
-use Rattle.std.proofs.lemmas.List.Folds.{list_all-append}
 use Rattle.std.proofs.lemmas.Grind.{flat_map-append}
 use Rattle.line_words.specs.Blanks.{words_of}
 use Rattle.line_words.specs.Digits.{number_of}
@@ -18,12 +17,12 @@ use Rattle.line_words.specs.declared.numbers.NumberFault.{NumberFault}
 use Rattle.edit_apply.specs.declared.asks.Call.{Call}
 use Rattle.room_core.specs.declared.entry.Entry.{Entry}
 use Rattle.room_core.specs.History.{NumbersRise, most_entries}
-use Rattle.call_text.specs.declared.journal_fault.JournalCode.TheVariants.{H1, H2, H4}
+use Rattle.call_text.specs.declared.journal_fault.JournalCode.TheVariants.{H2}
 use Rattle.call_text.specs.declared.journal_fault.JournalFault.{JournalFault}
 use Rattle.call_text.specs.declared.journal_fault.JournalFault.TheVariants.{Refused, Memory}
 use Rattle.call_text.specs.CallTexts.{IsSmall}
-use Rattle.call_text.specs.JournalFaults.{HasNoLineFeed, HasNoCount, HasNoEntry, IsNoEntry, AreLines, Begins, IsFaulty, StopsFor, IsFirstLate, AreEntriesOf, IsRefusedFor}
-use Rattle.call_text.specs.Journals.{entry_text, entry_line, count_text, count_line, journal_text_of, HasLine, HasText}
+use Rattle.call_text.specs.JournalFaults.{HasNoLineFeed, HasNoCount, HasNoEntry, IsNoEntry, AreLines, Begins, IsFaulty, StopsFor, IsFirstLate, IsRefusedFor}
+use Rattle.call_text.specs.Journals.{entry_text, entry_line, count_text, count_line, journal_text_of, HasLine}
 use Rattle.call_text.specs.LooseEntries.{loose_entry}
 use Rattle.call_text.proofs.LateEntries.{IsLeast, is_late, rise_more, least_at, least_other}
 use Rattle.call_text.proofs.ListWords.{first_passes}

@@ -1,4 +1,4 @@
-use Rattle.std.proofs.Common.{◌≡◌, ◌+◌, ◌++◌, length, ap, arith, rules, length-append}
+use Rattle.std.proofs.Common.{◌≡◌, ◌++◌, length, ap, arith, rules, length-append}
 use Rattle.std.proofs.lemmas.List.Elements.{All-push}
 use Rattle.call_text.specs.Journals.{entry_line, HasLine}
 use Rattle.call_text.proofs.JournalSteps.{one_more, shorter}
