@@ -14,7 +14,7 @@ mod writing;
 
 pub use document::{MOST_BYTES, MOST_LEVELS, read};
 pub use json_tokens::{JsonFault, Memory, Text, numeral};
-pub use laws::bytes_have_one_fault;
+pub use laws::{bytes_have_one_fault, limits_are_these};
 pub use tree::{Items, Json, Member, Members, Value};
 pub use writable::is_writable;
 pub use writing::{quote, write};

@@ -25,5 +25,5 @@ pub splice_in-requires-clause-numbers : goal.splice_in-requires-clause-numbers
 splice_in-requires-clause-numbers g c = below-weaker 100 4294967294 c.args.views.now (omega arith) c.requires.numbers
 
 pub splice_in-requires-clause-kept : goal.splice_in-requires-clause-kept
-splice_in-requires-clause-kept g c =
-    kept_put c.args.track.now c.args.x c.args.y 4 c.args.views.now c.length.ensures.kept c.requires.order c.requires.within c.requires.next c.requires.new c.requires.short c.requires.frames
+splice_in-requires-clause-kept g c = rw c.spare_for.ensures.same
+    (kept_put c.args.track.now c.args.x c.args.y 4 c.args.views.now c.length.ensures.kept c.requires.order c.requires.within c.requires.next c.requires.new c.requires.short c.requires.frames)
