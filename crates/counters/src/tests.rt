@@ -77,7 +77,11 @@ fn copies_are_equal<O: PartObject>(
 fn worked_run()
     ensures parts { (run (counters 3 10) (opened (0 ∷ 0 ∷ 0 ∷ [])) worked).parts ≡ 6 ∷ 6 ∷ 0 ∷ [] }
     ensures history { (run (counters 3 10) (opened (0 ∷ 0 ∷ 0 ∷ [])) worked).history
-        ≡ record { station = 7; number = 1; call = (1, 5) } ∷ record { station = 8; number = 1; call = (1, 1) } ∷ [] }
+        ≡ record { station = 7; number = 1; call = (1, 5) } ∷ record {
+          station = 8;
+          number = 1;
+          call = (1, 1);
+        } ∷ [] }
 {}
 
 #[test]
