@@ -43,6 +43,13 @@ impl<T> Listed<T> {
         self.items.as_slice()
     }
 
+    /// The items, in order, without the list.
+    pub fn into_vec(self) -> Vec<T>
+        ensures { result.items ≡ self }
+    {
+        self.items
+    }
+
     /// Adds an item at the end.
     pub fn push(&mut self, item: T) -> Result<(), Memory>
     where

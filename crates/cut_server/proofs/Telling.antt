@@ -12,7 +12,8 @@ use Rattle.cut_server.specs.declared.serve.End.TheVariants as end
 use Rattle.cut_server.specs.declared.status.Status.{Status}
 use Rattle.cut_server.specs.declared.status.Status.TheVariants.{Done, ReadFault, WriteFault, NoCommand, OutOfMemory, TooMuchInput}
 use Rattle.cut_server.specs.Outside.{Outside, outside, NoFault, WriteFailed, Got, AtEnd, AreSent}
-use Rattle.cut_server.specs.Rooms.{Opening, Setting, AreWritten, room_of, IsLegalIn, RoomTranscript}
+use Rattle.otio_json.specs.declared.opening.Opening.{Opening}
+use Rattle.cut_server.specs.Rooms.{Setting, AreWritten, room_of, setting_of, IsLegalIn, RoomTranscript}
 use Rattle.room_core.specs.History.{IsLegal}
 use Rattle.cut_server.specs.Transcript.{Transcript, sent}
 use Rattle.cut_server.specs.Session.{SessionState}

@@ -4,7 +4,6 @@ pub mod Rooms
 pub mod Longer
 pub mod Session
 pub mod SessionInside
-pub mod Openings
 pub mod Commands
 pub mod Served
 pub mod Outside

@@ -4,6 +4,8 @@ use Rattle.std.specs.Prelude.{◌≡◌, ℕ, ◌⊎◌, List, [], ◌++◌, Opt
 use Rattle.room_ports.specs.Bytes.{Takes, TakesFront}
 use Rattle.room_ports.specs.Counts.{HasRisen}
 use Rattle.line_words.specs.Lines.{Line as InputLine}
+use Rattle.otio_json.specs.Openings.{plain_opening}
+use Rattle.otio_json.specs.declared.opening.Opening.{Opening}
 use Rattle.call_text.specs.Journals.{journal_text_of}
 use Rattle.cut_server.specs.declared.command.Command.{Command}
 use Rattle.cut_server.specs.declared.command.Command.TheVariants.{Run}
@@ -11,9 +13,8 @@ use Rattle.cut_server.specs.declared.serve.End.TheVariants as end
 use Rattle.cut_server.specs.declared.status.Status.{Status}
 use Rattle.cut_server.specs.declared.status.Status.TheVariants.{Done, ReadFault, WriteFault, NoCommand, OutOfMemory, TooMuchInput}
 use Rattle.cut_server.specs.Stations.{AreOfStations}
-use Rattle.cut_server.specs.Openings.{plain_opening}
 use Rattle.cut_server.specs.Outside.{Outside, NoFault, WriteFailed, AtEnd, AreSent, TakesThenFront}
-use Rattle.cut_server.specs.Rooms.{Opening, History, AreWritten, IsLegalIn, RoomTranscript}
+use Rattle.cut_server.specs.Rooms.{History, AreWritten, IsLegalIn, RoomTranscript}
 use Rattle.cut_server.specs.Serving.{SessionEnds}
 use Rattle.cut_server.specs.Statuses.{number_of}
 use Rattle.cut_server.specs.Transcript.{sent}

@@ -7,7 +7,6 @@
 mod command;
 pub mod laws;
 mod main_call;
-mod opening;
 mod reply;
 mod serve;
 mod session;

@@ -1,9 +1,10 @@
 // The call that the program makes.
-ghost use Rattle.std.specs.Prelude.{◌≡◌, ◌≤◌, None};
+ghost use Rattle.std.specs.Prelude.{◌≡◌, ◌<◌, ◌≤◌, None, length};
 ghost use Rattle.cut_server.specs.Commands.{command_of, least_tracks, most_tracks, most_reels};
-ghost use Rattle.cut_server.specs.Openings.{plain_opening};
+ghost use Rattle.otio_json.specs.Openings.{plain_opening};
+ghost use Rattle.otio_json.specs.Soundness.{IsSoundOpening};
 ghost use Rattle.cut_server.specs.Outside.{outside};
-ghost use Rattle.cut_server.specs.Rooms.{Opening};
+ghost use Rattle.otio_json.specs.declared.opening.Opening.{Opening as OpeningOf};
 ghost use Rattle.cut_server.specs.Runs.{JournalEnds, RunEnds, RefusalEnds, CommandEnds, EndsWith};
 ghost use Rattle.cut_server.specs.Served.{IsFresh};
 
@@ -14,6 +15,7 @@ use crate::status::Status;
 use call_text::journal_text;
 use edit_apply::Call;
 use line_words::Words;
+use otio_json::Opening;
 use room_core::Entry;
 use room_ports::{Line, Pair, Sink, Source, put};
 use std::alloc::Global;
@@ -38,7 +40,7 @@ fn put_journal<L: Line>(alloc: Global, entries: &[Entry<Call>], line: &mut L) ->
 // Serves the session of a room that has just been opened, and puts its journal's text behind the replies.
 fn run_session<L: Line>(alloc: Global, session: Session, line: &mut L) -> Status
     requires { session.course.line ≡ 1 }
-    ensures ends { (o : Opening) → IsFresh o session → RunEnds o
+    ensures ends { (o : OpeningOf) → IsFresh o session → RunEnds o
         (outside (L.left line.old) (L.read_faults line.old) (L.taken line.old) (L.write_faults line.old))
         (outside (L.left line.new) (L.read_faults line.new) (L.taken line.new) (L.write_faults line.new)) ⊥ result }
     ensures lent { L.lent line.new ≡ L.lent line.old }
@@ -60,7 +62,7 @@ fn run_over<S: Source, K: Sink>(
     output: &mut K,
 ) -> Status
     requires { session.course.line ≡ 1 }
-    ensures { (o : Opening) → IsFresh o session → RunEnds o
+    ensures { (o : OpeningOf) → IsFresh o session → RunEnds o
         (outside (S.left input.old) (S.read_faults input.old) (K.taken output.old) (K.write_faults output.old))
         (outside (S.left input.new) (S.read_faults input.new) (K.taken output.new) (K.write_faults output.new)) ⊥ result }
 {
@@ -68,8 +70,29 @@ fn run_over<S: Source, K: Sink>(
     run_session(alloc, session, &mut line)
 }
 
+// A run of one station in a room that begins so.
+fn run_opened<S: Source, K: Sink>(
+    alloc: Global,
+    opening: Opening,
+    input: &mut S,
+    output: &mut K,
+) -> Status
+    requires sound { IsSoundOpening opening }
+    requires some { 0 < length opening.tracks }
+    ensures { RunEnds opening
+        (outside (S.left input.old) (S.read_faults input.old) (K.taken output.old) (K.write_faults output.old))
+        (outside (S.left input.new) (S.read_faults input.new) (K.taken output.new) (K.write_faults output.new))
+        ((input.new ≡ input.old) × (output.new ≡ output.old)) result }
+{
+    let session = match Session::opened(alloc, opening) {
+        Ok(session) => session,
+        Err(_) => return Status::OutOfMemory,
+    };
+    run_over(alloc, session, input, output)
+}
+
 // A run of one station in a plain room.
-fn run<S: Source, K: Sink>(
+fn run_plain<S: Source, K: Sink>(
     alloc: Global,
     tracks: u32,
     reels: u32,
@@ -84,11 +107,11 @@ fn run<S: Source, K: Sink>(
         (outside (S.left input.new) (S.read_faults input.new) (K.taken output.new) (K.write_faults output.new))
         ((input.new ≡ input.old) × (output.new ≡ output.old)) result }
 {
-    let session = match Session::plain(alloc, tracks, reels) {
-        Ok(session) => session,
+    let opening = match Opening::plain(alloc, tracks, reels) {
+        Ok(opening) => opening,
         Err(_) => return Status::OutOfMemory,
     };
-    run_over(alloc, session, input, output)
+    run_opened(alloc, opening, input, output)
 }
 
 // Refuses words that are no command.
@@ -115,7 +138,7 @@ fn do_command<S: Source, K: Sink>(
         (input.new ≡ input.old) (output.new ≡ output.old) result }
 {
     match command_in(words) {
-        Some(Command::Run { tracks, reels }) => run(alloc, tracks, reels, input, output),
+        Some(Command::Run { tracks, reels }) => run_plain(alloc, tracks, reels, input, output),
         None => refuse(output),
     }
 }

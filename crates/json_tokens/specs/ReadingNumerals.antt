@@ -100,3 +100,7 @@ numeral_at at bytes = numeral_from at bytes (spelling_at bytes)
 abbrev pub only : Take Digits → Option (ℤ × ℕ)
 only (Ok x) = if length x.1 == 0 then numeral_of_digits x.0 else None
 only (Err rest) = None
+
+-- the number that a whole text spells, if it can be kept
+abbrev pub numeral_in : List ℕ → Option (ℤ × ℕ)
+numeral_in text = only (spelling_at text)

@@ -2,7 +2,7 @@
 ghost use Rattle.std.specs.Prelude.{◌≡◌, ◌≢◌, ℕ, Some, ◌+◌, ◌*◌, ◌%◌, ◌<◌, ◌≤◌, ◌^◌, ◌==◌, if◌then◌else◌, length, take, drop, All, IfOk, IfErr, IfSome, IfNone, ℤ, Bool, true, false};
 ghost use Rattle.json_tokens.specs.Grammar.{IsNumber, IsKept};
 ghost use Rattle.json_tokens.specs.Reading.{Gives};
-ghost use Rattle.json_tokens.specs.ReadingNumerals.{digits_of, past_digits, digits_at, minus_at, whole_at, fraction_at, exponent_sign_at, power_at, exponent_at, spelling_at, numeral_at, numeral_of_digits, numeral_of_fraction, fraction, only, AreDigits};
+ghost use Rattle.json_tokens.specs.ReadingNumerals.{digits_of, past_digits, digits_at, minus_at, whole_at, fraction_at, exponent_sign_at, power_at, exponent_at, spelling_at, numeral_at, numeral_of_digits, numeral_of_fraction, fraction, numeral_in, AreDigits};
 ghost use Rattle.json_tokens.specs.Decimal.{Digits, number_from, number_of};
 ghost use Rattle.json_tokens.specs.Significant.{Holds, IsSize};
 ghost use Rattle.json_tokens.specs.Spelled.{digits_in, numeral_kept, Takes, HasDigits};
@@ -38,12 +38,15 @@ struct NoDigit<'a> {
 pub fn numeral(text: &[u8]) -> Option<Numeral>
     ensures found { IfSome result (λ n. (d : Digits) × IsNumber text.now d × IsKept d n.mantissa n.places) }
     ensures none { IfNone result ((d : Digits) (m : ℤ) (p : ℕ) → IsNumber text.now d → IsKept d m p → ⊥) }
+
+    // The same as a function, for definitions that compute.
+    ensures value { numeral_kept result ≡ numeral_in text.now }
 {
     whole_text(text)
 }
 
 fn whole_text(text: &[u8]) -> Option<Numeral>
-    ensures { numeral_kept result ≡ only (spelling_at text.now) }
+    ensures { numeral_kept result ≡ numeral_in text.now }
 {
     match take_spelling(text) {
         Ok((spelling, rest)) => {
