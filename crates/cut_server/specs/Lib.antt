@@ -5,6 +5,7 @@ pub mod Longer
 pub mod Session
 pub mod SessionInside
 pub mod Commands
+pub mod Documents
 pub mod Served
 pub mod Outside
 pub mod Serving

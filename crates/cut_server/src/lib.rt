@@ -5,6 +5,7 @@
 #![tactic(auto)]
 
 mod command;
+mod document;
 pub mod laws;
 mod main_call;
 mod reply;
