@@ -5,4 +5,5 @@ pub mod Inputs
 pub mod Openings
 pub mod Rates
 pub mod Telling
+pub mod DocumentRuns
 pub mod Replying

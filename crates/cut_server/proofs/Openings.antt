@@ -1,14 +1,17 @@
 -- A sound opening of a document or of a plain room is one that the history of a room can begin with.
-use Rattle.std.proofs.Common.{◌≡◌, ℕ, zero, suc, ◌+◌, ◌<◌, ◌≤◌, List, [], ◌∷◌, length, All, arith, subst}
+use Rattle.std.proofs.Common.{◌≡◌, ℕ, zero, suc, ◌+◌, ◌<◌, ◌≤◌, List, [], ◌∷◌, length, All, sym, arith, subst}
 use Rattle.std.proofs.lemmas.List.Elements.{All-nil, All-cons}
+use Rattle.std.proofs.lemmas.List.FromFn.{length-map-range_with_len}
 use Rattle.composables.specs.declared.media.Kind.{Kind}
 use Rattle.composables.specs.declared.media.Table.{Table}
 use Rattle.composables.specs.TrackState.{TrackState}
 use Rattle.otio_json.specs.declared.opening.Opening.{Opening}
+use Rattle.otio_json.specs.Openings.{plain_opening, empty_track}
 use Rattle.otio_json.specs.Soundness.{AreTracksFrom, IsReadTrack, IsSoundOpening, levels_of_kind}
 use Rattle.room_core.specs.Parts.{AreGood, numbers}
 use Rattle.edit_apply.specs.Apply.{track_count}
 use Rattle.edit_apply.specs.RoomTracks.{IsTrackOf, IsOpening}
+use Rattle.cut_server.specs.Commands.{least_tracks}
 
 -- as many tracks as kinds
 same_count : (table : Table) (n : ℕ) (kinds : List Kind) (ts : List TrackState) → AreTracksFrom table n kinds ts → length kinds ≡ length ts
@@ -49,3 +52,10 @@ sound_opens o sound some =
       items = each_read (λ t. t.next_item ≤ 65536) o.table (λ levels t h. h.next_item) 0 o.table.kinds o.tracks sound.tracks;
       links = each_read (λ t. t.next_link ≡ 0) o.table (λ levels t h. h.next_link) 0 o.table.kinds o.tracks sound.tracks;
     }
+
+-- a plain room has a track
+pub plain_some : (o : Opening) (tracks reels : ℕ) → least_tracks ≤ tracks → o ≡ plain_opening tracks reels → 0 < length o.tracks
+plain_some o tracks reels least is =
+    let count = length-map-range_with_len empty_track 0 tracks in
+    let some : 0 < length (plain_opening tracks reels).tracks = omega (arith, count, least) in
+    subst (λ (x : Opening). 0 < length x.tracks) (sym is) some

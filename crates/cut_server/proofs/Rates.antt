@@ -17,15 +17,9 @@ rate_is_meant n = refl
 pub no_number : (word : List ℕ) → None ≡ numeral_in word → None ≡ rate_of_word word
 no_number word e = ap (λ o. option_and_then sequence_of (option_and_then rate_meant o)) e
 
-number_told : (word : List ℕ) (n : Numeral) → Some (n.mantissa, n.places) ≡ numeral_in word → option_and_then sequence_of (rate_value n) ≡ rate_of_word word
+pub number_told : (word : List ℕ) (n : Numeral) → Some (n.mantissa, n.places) ≡ numeral_in word → option_and_then sequence_of (rate_value n) ≡ rate_of_word word
 number_told word n e =
     ap (option_and_then sequence_of) (rate_is_meant n) ∙ ap (λ o. option_and_then sequence_of (option_and_then rate_meant o)) e
-
-pub no_rate : (word : List ℕ) (n : Numeral) → Some (n.mantissa, n.places) ≡ numeral_in word → rate_value n ≡ None → None ≡ rate_of_word word
-no_rate word n e none = sym (ap (option_and_then sequence_of) none) ∙ number_told word n e
-
-pub rate_told : (word : List ℕ) (n : Numeral) (num den : ℕ) → Some (n.mantissa, n.places) ≡ numeral_in word → rate_value n ≡ Some (num, den) → sequence_rate num den ≡ rate_of_word word
-rate_told word n num den e is = sym (ap (option_and_then sequence_of) is) ∙ number_told word n e
 
 -- what a counting is asked for, and what it is
 same_counting : (c : Counted) (rate : SequenceRate) (drop : Bool) → c.rate ≡ rate → c.drop_frame ≡ drop → Some c ≡ Some (record { rate = rate; drop_frame = drop })

@@ -118,3 +118,7 @@ run_begun o old new U Refused h = absurd h
 run_begun o old new U OutOfMemory (inl h) = absurd h
 run_begun o old new U OutOfMemory (inr h) = inr h
 run_begun o old new U TooMuchInput h = h
+
+-- a run in the room that is opened so
+pub run_in : (o p : Opening) (old new : Outside) (Untouched : Type 0) (s : Status) → o ≡ p → RunEnds o old new Untouched s → RunEnds p old new Untouched s
+run_in o p old new U s is h = subst (λ (x : Opening). RunEnds x old new U s) is h

@@ -91,6 +91,17 @@ module _ (old new : Outside) (Unread : Type 0) where
   RefusalEnds OutOfMemory = ⊥
   RefusalEnds TooMuchInput = ⊥
 
+-- a refused document gets a line, which is put on the output or cut
+module _ (line : List ℕ) (old new : Outside) where
+  abbrev pub LineEnds : Status → Type 0
+  LineEnds Done = ⊥
+  LineEnds ReadFault = ⊥
+  LineEnds WriteFault = LineIsCut line old new
+  LineEnds NoCommand = ⊥
+  LineEnds Refused = LineIsPut line old new
+  LineEnds OutOfMemory = ⊥
+  LineEnds TooMuchInput = ⊥
+
 -- a run in the room of a document in the file of this name, whose frames are counted so
 module _ (name : List ℕ) (counting : Counted) (before after : FilesTold) (old new : Outside) (Unread Unwritten : Type 0) where
   -- the document describes an opening, of which the run is
@@ -100,23 +111,23 @@ module _ (name : List ℕ) (counting : Counted) (before after : FilesTold) (old 
     pub quiet : after.reads ≡ before.reads
     pub ends : RunEnds opening old new (Unread × Unwritten) status
 
-  -- the document has a first fault, of which the line is put on the output, or cut
-  pub record RefusesDocument (Line : List ℕ → Outside → Outside → Type 0) : Type 0 where
+  -- the document has a first fault, which the line tells, and the input was not looked at
+  pub record RefusesDocument (status : Status) : Type 0 where
     pub code : DocCode
     pub at : ℕ
     pub refused : IsRefusedAt counting (before.file name) code at
     pub quiet : after.reads ≡ before.reads
     pub unread : Unread
-    pub line : Line (refusal_line code at) old new
+    pub line : LineEnds (refusal_line code at) old new status
 
   -- no run was begun, and the input was not looked at
   abbrev pub EndsUnopened : Status → Type 0
   EndsUnopened Done = ⊥
   -- the file's read failed
   EndsUnopened ReadFault = HasRisen before.reads after.reads × Unread × Unwritten
-  EndsUnopened WriteFault = RefusesDocument LineIsCut
+  EndsUnopened WriteFault = RefusesDocument WriteFault
   EndsUnopened NoCommand = ⊥
-  EndsUnopened Refused = RefusesDocument LineIsPut
+  EndsUnopened Refused = RefusesDocument Refused
   EndsUnopened OutOfMemory = (after.reads ≡ before.reads) × Unread × Unwritten
   EndsUnopened TooMuchInput = ⊥
 

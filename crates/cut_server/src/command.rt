@@ -1,10 +1,11 @@
 // The words of the program's command line.
-ghost use Rattle.std.specs.Prelude.{◌≡◌, IfSome, option_map};
-ghost use Rattle.cut_server.specs.Commands.{command_of, plain_of, document_of, counting_of, rate_of_word, size_of, asked_by, HasBounds};
+ghost use Rattle.std.specs.Prelude.{◌≡◌, IfSome, option_and_then, option_map};
+ghost use Rattle.ratio_time.specs.Rates.{rate_value};
+ghost use Rattle.cut_server.specs.Commands.{command_of, plain_of, document_of, counting_of, rate_of_word, sequence_of, size_of, asked_by, HasBounds};
 
 use json_tree::numeral;
 use line_words::{Words, number};
-use ratio_time::rate_of;
+use ratio_time::{Numeral, rate_of};
 use timecode12::{Counting, SequenceRate};
 
 /// The least and the most tracks, and the most reels, of a plain room.
@@ -42,13 +43,24 @@ fn size(word: &str, least: u32, most: u32) -> Option<u32>
     }
 }
 
+// The rate of a sequence that a number stands for.
+fn sequence_rate(number: &Numeral) -> Option<SequenceRate>
+    ensures { result ≡ option_and_then sequence_of (rate_value number.now) }
+{
+    match rate_of(number) {
+        Some(rate) => SequenceRate::of(&rate),
+        None => None,
+    }
+}
+
 // The rate of a sequence that a word spells.
 fn rate(word: &str) -> Option<SequenceRate>
     ensures { result ≡ rate_of_word word.now }
 {
-    let number = numeral(word.as_bytes())?;
-    let rate = rate_of(&number)?;
-    SequenceRate::of(&rate)
+    match numeral(word.as_bytes()) {
+        Some(number) => sequence_rate(&number),
+        None => None,
+    }
 }
 
 // How frames are counted, by these words.
@@ -56,12 +68,11 @@ fn counting(rate_word: &str, drop_word: &str) -> Option<Counting>
     ensures { result ≡ counting_of rate_word.now drop_word.now }
 {
     let rate = rate(rate_word)?;
-    let drop = match drop_word {
-        "drop" => true,
-        "ndf" => false,
-        _ => return None,
-    };
-    Counting::new(rate, drop)
+    match drop_word {
+        "drop" => Counting::new(rate, true),
+        "ndf" => Counting::new(rate, false),
+        _ => None,
+    }
 }
 
 fn plain_room<'a>(tracks: &str, reels: &str) -> Option<Command<'a>>

@@ -55,32 +55,32 @@ pub(crate) fn open_document<F: Files>(
     }
 }
 
-fn code_text(code: DocCode) -> &'static [u8]
+fn code_text(code: DocCode) -> &'static str
     ensures text { result.now ≡ code_text code }
     ensures short { length result.now ≤ 3 }
 {
     match code {
-        DocCode::J1 => b"J1",
-        DocCode::J2 => b"J2",
-        DocCode::J3 => b"J3",
-        DocCode::J4 => b"J4",
-        DocCode::J5 => b"J5",
-        DocCode::O1 => b"O1",
-        DocCode::O2 => b"O2",
-        DocCode::O3 => b"O3",
-        DocCode::O4 => b"O4",
-        DocCode::O5 => b"O5",
-        DocCode::O6 => b"O6",
-        DocCode::O7 => b"O7",
-        DocCode::O8 => b"O8",
-        DocCode::O9 => b"O9",
-        DocCode::O10 => b"O10",
-        DocCode::O11 => b"O11",
-        DocCode::O12 => b"O12",
-        DocCode::O13 => b"O13",
-        DocCode::O14 => b"O14",
-        DocCode::O15 => b"O15",
-        DocCode::O16 => b"O16",
+        DocCode::J1 => "J1",
+        DocCode::J2 => "J2",
+        DocCode::J3 => "J3",
+        DocCode::J4 => "J4",
+        DocCode::J5 => "J5",
+        DocCode::O1 => "O1",
+        DocCode::O2 => "O2",
+        DocCode::O3 => "O3",
+        DocCode::O4 => "O4",
+        DocCode::O5 => "O5",
+        DocCode::O6 => "O6",
+        DocCode::O7 => "O7",
+        DocCode::O8 => "O8",
+        DocCode::O9 => "O9",
+        DocCode::O10 => "O10",
+        DocCode::O11 => "O11",
+        DocCode::O12 => "O12",
+        DocCode::O13 => "O13",
+        DocCode::O14 => "O14",
+        DocCode::O15 => "O15",
+        DocCode::O16 => "O16",
     }
 }
 
@@ -90,7 +90,7 @@ pub(crate) fn refusal_line(code: DocCode, at: u32) -> Short
 {
     let mut line = Short::new();
     line.push(b"refused ");
-    line.push(code_text(code));
+    line.push(code_text(code).as_bytes());
     line.push(b" ");
     line.push_number(at);
     line.push(b"\n");

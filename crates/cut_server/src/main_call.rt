@@ -5,9 +5,8 @@ ghost use Rattle.otio_json.specs.Openings.{plain_opening};
 ghost use Rattle.otio_json.specs.Soundness.{IsSoundOpening};
 ghost use Rattle.cut_server.specs.Outside.{outside};
 ghost use Rattle.otio_json.specs.declared.opening.Opening.{Opening as OpeningOf};
-ghost use Rattle.cut_server.specs.Documents.{IsRefusedAt, files_told, refusal_line};
-ghost use Rattle.cut_server.specs.Runs.{JournalEnds, RunEnds, RefusalEnds, LineIsPut, LineIsCut, DocumentEnds, CommandEnds, EndsWith};
-ghost use Rattle.cut_server.specs.declared.status.Status.TheVariants as statuses;
+ghost use Rattle.cut_server.specs.Documents.{files_told, refusal_line};
+ghost use Rattle.cut_server.specs.Runs.{JournalEnds, RunEnds, RefusalEnds, LineEnds, DocumentEnds, CommandEnds, EndsWith};
 ghost use Rattle.cut_server.specs.Served.{IsFresh};
 
 use crate::command::{Command, command_in};
@@ -121,11 +120,8 @@ fn run_plain<S: Source, K: Sink>(
 
 // Refuses a document.
 fn refuse_document<K: Sink>(code: DocCode, at: u32, output: &mut K) -> Status
-    ensures put { result ≡ statuses.Refused → LineIsPut (refusal_line code at) (outside None 0 (K.taken output.old) (K.write_faults output.old))
-        (outside None 0 (K.taken output.new) (K.write_faults output.new)) }
-    ensures cut { result ≡ statuses.WriteFault → LineIsCut (refusal_line code at) (outside None 0 (K.taken output.old) (K.write_faults output.old))
-        (outside None 0 (K.taken output.new) (K.write_faults output.new)) }
-    ensures either { (result ≡ statuses.Refused) ⊎ (result ≡ statuses.WriteFault) }
+    ensures { LineEnds (refusal_line code at) (outside None 0 (K.taken output.old) (K.write_faults output.old))
+        (outside None 0 (K.taken output.new) (K.write_faults output.new)) result }
 {
     match put(output, refusal_line(code, at).as_bytes()) {
         Ok(()) => Status::Refused,

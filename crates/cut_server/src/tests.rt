@@ -309,11 +309,13 @@ fn a_journal_has_a_limit(rt: HostRuntime) -> Result<(), Fail> {
 }
 
 /// A sequence of one track with five frames from the frame 100 of a tape on, which starts at 01:00:00:00.
-const DOCUMENT: &str = r#"{"OTIO_SCHEMA": "Timeline.1", "global_start_time":
-    {"OTIO_SCHEMA": "RationalTime.1", "rate": 24.0, "value": 86400}, "tracks": {"OTIO_SCHEMA": "Stack.1", "children": [
-    {"OTIO_SCHEMA": "Track.1", "kind": "Video", "children": [{"OTIO_SCHEMA": "Clip.1", "name": "A7", "source_range":
-    {"OTIO_SCHEMA": "TimeRange.1", "start_time": {"OTIO_SCHEMA": "RationalTime.1", "rate": 24.0, "value": 100.0},
-    "duration": {"OTIO_SCHEMA": "RationalTime.1", "rate": 24.0, "value": 5.0}}}]}]}}"#;
+const DOCUMENT: &str = "\
+{\"OTIO_SCHEMA\": \"Timeline.1\", \"global_start_time\": {\"OTIO_SCHEMA\": \"RationalTime.1\", \"rate\": \
+24.0, \"value\": 86400}, \"tracks\": {\"OTIO_SCHEMA\": \"Stack.1\", \"children\": [ {\"OTIO_SCHEMA\": \
+\"Track.1\", \"kind\": \"Video\", \"children\": [{\"OTIO_SCHEMA\": \"Clip.1\", \"name\": \"A7\", \
+\"source_range\": {\"OTIO_SCHEMA\": \"TimeRange.1\", \"start_time\": {\"OTIO_SCHEMA\": \
+\"RationalTime.1\", \"rate\": 24.0, \"value\": 100.0}, \"duration\": {\"OTIO_SCHEMA\": \
+\"RationalTime.1\", \"rate\": 24.0, \"value\": 5.0}}}]}]}}";
 
 // The status and the output of a run with these words, where the file `cut` holds this text and these calls fail.
 fn opened(
