@@ -5,6 +5,7 @@ use Rattle.room_ports.specs.Counts.{HasRisen}
 use Rattle.timecode12.specs.Numbers.{Counted}
 use Rattle.otio_tracks.specs.declared.faults.DocCode.{DocCode}
 use Rattle.otio_tracks.specs.declared.faults.DocCode.TheVariants.{J1, J2, J3, J4, J5, O1, O2, O3, O4, O5, O6, O7, O8, O9, O10, O11, O12, O13, O14, O15, O16}
+use Rattle.otio_tracks.specs.Reading.{refuse}
 use Rattle.otio_json.specs.Timelines.{document_read}
 use Rattle.otio_json.specs.declared.opening.Opening.{Opening}
 use Rattle.cut_server.specs.declared.document.DocumentFault.{DocumentFault}
@@ -32,7 +33,7 @@ module _ (counting : Counted) (content : Content) where
   -- its bytes have this fault first, at this place
   abbrev pub HasFault : DocCode → ℕ → Type 0
   HasFault code at = (bytes : List ℕ) × IsWhole content bytes × (length bytes ≤ most_document)
-      × (document_read counting bytes ≡ Err (record { code = code; at = at }))
+      × (document_read counting bytes ≡ refuse code at)
 
   -- a file of more than 32 MiB is not read
   abbrev pub IsTooLarge : DocCode → ℕ → Type 0
