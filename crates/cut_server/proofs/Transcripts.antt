@@ -224,7 +224,7 @@ transcript_more k o h more station lines replies (last, rows) within same =
     (last, subst (λ ps. Rows k o (h ++ more) station 1 0 lines replies last ps) (sym points) (rows_more k o h more station 1 0 lines replies last (points_from 0 station h) within later.1 rows))
 
 pub transcripts_stay : TranscriptsStay
-transcripts_stay o h more station lines replies told legal same = transcript_more (room_of o.setting) o.tracks h more station lines replies told legal.within same
+transcripts_stay o h more station lines replies told legal same = transcript_more (room_of (setting_of o)) o.tracks h more station lines replies told legal.within same
 
 -- a reply more
 pub sent_more : (rs : List (List ℕ)) (r : List ℕ) → sent (rs ++ r ∷ []) ≡ sent rs ++ (r ++ codes "\n")
