@@ -133,19 +133,19 @@ fn refuse_document<K: Sink>(code: DocCode, at: u32, output: &mut K) -> Status
 fn run_document<F: Files, S: Source, K: Sink>(
     alloc: Global,
     name: &str,
-    counting: &Counting,
+    counting: Counting,
     files: &mut F,
     input: &mut S,
     output: &mut K,
 ) -> Status
-    ensures { DocumentEnds name.now counting.now
+    ensures { DocumentEnds name.now counting
         (files_told (F.file files.old) (F.read_faults files.old) (F.write_faults files.old))
         (files_told (F.file files.new) (F.read_faults files.new) (F.write_faults files.new))
         (outside (S.left input.old) (S.read_faults input.old) (K.taken output.old) (K.write_faults output.old))
         (outside (S.left input.new) (S.read_faults input.new) (K.taken output.new) (K.write_faults output.new))
         (input.new ≡ input.old) (output.new ≡ output.old) result }
 {
-    match open_document(alloc, files, name, counting) {
+    match open_document(alloc, files, name, &counting) {
         Ok(opening) => run_opened(alloc, opening, input, output),
         Err(DocumentFault::ReadFault) => Status::ReadFault,
         Err(DocumentFault::Refused { code, at }) => refuse_document(code, at, output),
@@ -183,7 +183,7 @@ fn do_command<F: Files, S: Source, K: Sink>(
     match command_in(words) {
         Some(Command::Run { tracks, reels }) => run_plain(alloc, tracks, reels, input, output),
         Some(Command::RunDocument { document, counting }) => {
-            run_document(alloc, document, &counting, files, input, output)
+            run_document(alloc, document, counting, files, input, output)
         }
         None => refuse(output),
     }
