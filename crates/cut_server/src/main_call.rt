@@ -18,8 +18,8 @@ use call_text::journal_text;
 use edit_apply::Call;
 use line_words::Words;
 use otio_json::{DocCode, Opening};
-use room_files::Files;
 use room_core::Entry;
+use room_files::Files;
 use room_ports::{Line, Pair, Sink, Source, put};
 use std::alloc::Global;
 use timecode12::Counting;
@@ -133,19 +133,19 @@ fn refuse_document<K: Sink>(code: DocCode, at: u32, output: &mut K) -> Status
 fn run_document<F: Files, S: Source, K: Sink>(
     alloc: Global,
     name: &str,
-    counting: Counting,
+    counting: &Counting,
     files: &mut F,
     input: &mut S,
     output: &mut K,
 ) -> Status
-    ensures { DocumentEnds name.now counting
+    ensures { DocumentEnds name.now counting.now
         (files_told (F.file files.old) (F.read_faults files.old) (F.write_faults files.old))
         (files_told (F.file files.new) (F.read_faults files.new) (F.write_faults files.new))
         (outside (S.left input.old) (S.read_faults input.old) (K.taken output.old) (K.write_faults output.old))
         (outside (S.left input.new) (S.read_faults input.new) (K.taken output.new) (K.write_faults output.new))
         (input.new ≡ input.old) (output.new ≡ output.old) result }
 {
-    match open_document(alloc, files, name, &counting) {
+    match open_document(alloc, files, name, counting) {
         Ok(opening) => run_opened(alloc, opening, input, output),
         Err(DocumentFault::ReadFault) => Status::ReadFault,
         Err(DocumentFault::Refused { code, at }) => refuse_document(code, at, output),
@@ -180,8 +180,8 @@ fn do_command<F: Files, S: Source, K: Sink>(
         (outside (S.left input.new) (S.read_faults input.new) (K.taken output.new) (K.write_faults output.new))
         (input.new ≡ input.old) (output.new ≡ output.old) (command_of words.now) result }
 {
-    match command_in(words) {
-        Some(Command::Run { tracks, reels }) => run_plain(alloc, tracks, reels, input, output),
+    match &command_in(words) {
+        Some(Command::Run { tracks, reels }) => run_plain(alloc, *tracks, *reels, input, output),
         Some(Command::RunDocument { document, counting }) => {
             run_document(alloc, document, counting, files, input, output)
         }
