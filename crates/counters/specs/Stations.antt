@@ -8,3 +8,8 @@ abbrev pub event_of : Done → Event (ℕ × ℕ)
 event_of (done.Take station part) = Take station part
 event_of (done.Commit station number call) = Commit station number call
 event_of (done.Give station part) = Give station part
+
+abbrev pub IsCommit : Event (ℕ × ℕ) → Type 0
+IsCommit (Take station part) = ⊥
+IsCommit (Commit station number call) = Unit {0}
+IsCommit (Give station part) = ⊥

@@ -4,7 +4,7 @@ ghost use Rattle.std.specs.Prelude.{◌≡◌, ◌≤◌, ◌⊎◌, ℕ, [], �
 ghost use Rattle.room_core.specs.Machine.{Commit, committed, held_as, is_above, is_free, is_held_by, opened, step};
 ghost use Rattle.room_core.specs.Totals.{both_more, counters};
 ghost use Rattle.room_core.specs.Whole.{whole};
-ghost use Rattle.counters.specs.Stations.{event_of};
+ghost use Rattle.counters.specs.Stations.{event_of, IsCommit};
 
 use crate::Counters;
 use room_core::{Entry, Memory, PartObject};
@@ -170,11 +170,12 @@ impl Stations {
         Ok(())
     }
 
-    /// One event. One that is not lawful changes nothing.
+    /// One event. One that is not lawful changes nothing. Memory is wanted for a commit alone.
     pub fn step(&mut self, object: &Counters, event: Event) -> Result<(), Memory>
         ensures ok { OnOk result (self.new
             ≡ step (counters object.now.count object.now.most) self.old (event_of event)) }
         ensures err { OnErr result (self.new ≡ self.old) }
+        ensures memory { OnErr result (IsCommit (event_of event)) }
     {
         match event {
             Event::Take { station, part } => self.take(station, part),
