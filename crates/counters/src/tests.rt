@@ -11,6 +11,8 @@ use std::marker::Brand;
 use std::sync::ledger::{Blank, Ledger};
 use step_count::Steps;
 
+mod machine;
+
 // What a call answers, or what it refuses, and what it leaves on counter 0 and the other.
 type Called = (Result<u32, u32>, u32, u32);
 
