@@ -1,5 +1,5 @@
 -- Track 0 with items of one frame each, for the tests.
-use Rattle.std.proofs.Common.{◌≡◌, ℕ, zero, suc, ◌+◌, ◌<◌, ◌≤◌, ◌^◌, max, List, [], ◌∷◌, ◌++◌, length, None, Option, Some, ap, sym, ◌∙◌, arith, refl, subst}
+use Rattle.std.proofs.Common.{◌≡◌, ℕ, zero, suc, ◌+◌, ◌<◌, ◌≤◌, max, List, [], ◌∷◌, ◌++◌, length, None, Option, Some, ap, sym, ◌∙◌, arith, refl, subst}
 use Rattle.std.proofs.lemmas.Bool.{ne_eqb}
 use Rattle.std.proofs.lemmas.List.{append-nil}
 use Rattle.frame_meaning.specs.declared.cells.Cell.{Cell}
@@ -8,14 +8,14 @@ use Rattle.composables.specs.declared.items.ItemView.{ItemView}
 use Rattle.composables.specs.declared.media.Table.{Table}
 use Rattle.composables.specs.declared.TheConstants.{MAX_ITEMS}
 use Rattle.composables.specs.Bounds.{bounds_of}
-use Rattle.composables.specs.Good.{AllUnlinked, EachLiesIn, EachLinkOf, IsGood, LiesIn}
+use Rattle.composables.specs.Good.{AllUnlinked, EachLiesIn, EachLinkOf, LiesIn}
 use Rattle.composables.specs.Items.{cells_of, items_of, view_cells}
 use Rattle.composables.specs.Joined.{AllFilled, IsTight, frames_in}
 use Rattle.composables.specs.TrackFacts.{Apart, EachHolds, Holds, IsKept, Lacks, NumbersBelow, first_mark, right_reach}
 use Rattle.composables.specs.TrackState.{TrackState, pushed}
 use Rattle.composables.specs.Views.{clip_view}
 use Rattle.composables.proofs.Joining.{cells_of-append, items_of-tight, length-cells_of}
-use Rattle.edit_apply.specs.RoomTracks.{IsTrackOf, IsUnlinked}
+use Rattle.edit_apply.specs.RoomTracks.{IsTrackOf}
 
 abbrev pub frame_view : ℕ → ItemView
 frame_view k = clip_view k (Media 0) 0 1
