@@ -1,3 +1,4 @@
 pub mod Sets
 pub mod SetNames
 pub mod Standing
+pub mod Pushed

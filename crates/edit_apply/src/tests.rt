@@ -1,16 +1,29 @@
 // What an editor says and does to the tracks of a small room, by worked examples.
 
+ghost use Rattle.std.specs.Prelude.{◌≡◌, ◌<◌, ◌≤◌, [], ◌∷◌, IfOk};
+ghost use Rattle.composables.specs.Bounds.{bounds_of};
+ghost use Rattle.composables.specs.Views.{clip_view};
+ghost use Rattle.edit_apply.specs.Apply.{names_of};
+ghost use Rattle.edit_apply.specs.RoomTracks.{IsTrackOf};
+
 use crate::{Ask, AskRefusal, Call, Editor};
 use composables::{
-    Extract, Insert, Kind, Listed, Media, Memory, Overwrite, Reels, Refusal, Remove, Slice, Table,
+    Done, Extract, Insert, ItemView, Kind, Listed, MAX_ITEMS, Media, Memory, Overwrite, Reels,
+    Refusal, Remove, Slice, Table, Track,
 };
 use frame_meaning::What;
-use room_core::PartObject;
+use room_core::{Fault, PartObject};
 use std::alloc::Global;
+use std::marker::Brand;
+use std::process::Abort;
+use std::sync::ledger::{Blank, Ledger};
 use std::test::Fail;
+use step_count::Steps;
 
 // Two tracks, and media 0 with the frames [0, 86400).
-fn two_tracks(alloc: Global) -> Result<Editor, Memory> {
+fn two_tracks(alloc: Global) -> Result<Editor, Memory>
+    ensures { IfOk result (λ editor. bounds_of editor.table (What.Media 0) ≡ Some (0, 86400)) }
+{
     let mut kinds = Listed::new(alloc);
     kinds.push(Kind::Video)?;
     kinds.push(Kind::Audio)?;
@@ -130,6 +143,70 @@ fn a_track_of_no_room_is_refused(rt: HostRuntime) -> Result<(), Fail> {
             editor.ask_part(&Ask::View { track, a: 0, b: 0 }),
             Err(AskRefusal::NoTrack(track))
         );
+    }
+    Ok(())
+}
+
+fn one_frame(number: u32) -> ItemView
+    ensures { result ≡ clip_view number (What.Media 0) 0 1 }
+{
+    ItemView::clip(number, What::Media(0), 0, 1)
+}
+
+// Track 0 with this many items of one frame each.
+fn track_of_items(alloc: Global, table: &Table, count: u32) -> Result<Track, Memory>
+    requires media { bounds_of table.now (What.Media 0) ≡ Some (0, 86400) }
+    requires count { count ≤ MAX_ITEMS }
+    ensures { IfOk result (λ track. IsTrackOf table.now 0 track) }
+{
+    let mut track = Track::empty(alloc, 0);
+    for number in 0..count {
+        track.push(one_frame(number))?;
+    }
+    Ok(track)
+}
+
+fn apply_on_zero<L: Ledger>(
+    rt: &impl Abort,
+    alloc: Global,
+    blank: Blank,
+    editor: &Editor,
+    track: Track,
+    call: &Call,
+) -> Result<Result<Done, Fault<Refusal>>, Memory>
+    requires blank { (blank.name ≡ L.name) × (blank.parts ≡ L.parts) × (0 < blank.parts) }
+    requires names { names_of call.now ≡ 0 ∷ [] }
+    requires good { IsTrackOf editor.now.table 0 track }
+{
+    let mut steps = Steps::<L>::new(blank);
+    assert!(rt; track.next_item() <= 2_147_483_648);
+    assert!(rt; track.next_link() <= 2_147_483_648);
+    let mut parts = Vec::new(alloc);
+    parts.push(track)?;
+    match editor.refuse_names(call) {
+        None => Ok(editor.apply(alloc, &mut parts, call, &mut steps)),
+        Some(refusal) => Ok(Err(Fault::Refused(refusal))),
+    }
+}
+
+#[test]
+fn a_track_has_65536_items_at_most(rt: HostRuntime) -> Result<(), Fail> {
+    let alloc = rt.alloc();
+    let editor = two_tracks(alloc)?;
+    for (at, answer) in [
+        (65_536, Err(Fault::Refused(Refusal::TooManyItems(0)))),
+        (65_535, Ok(Done::Item(65_536))),
+    ] {
+        let track = track_of_items(alloc, &editor.table, MAX_ITEMS)?;
+        let call = Call::Overwrite(Overwrite {
+            track: 0,
+            at,
+            what: What::Media(0),
+            from: 9,
+            len: 1,
+        });
+        let last = apply_on_zero::<Brand>(&rt, alloc, Blank::new(1), &editor, track, &call)?;
+        assert_eq!(rt; last, answer);
     }
     Ok(())
 }
