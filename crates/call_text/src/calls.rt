@@ -47,6 +47,16 @@ pub(crate) fn put_call(out: &mut Vec<u8>, call: &Call) -> Result<(), Memory>
             put_number(out, b"slice ", edit.track)?;
             put_number(out, b" ", edit.at)
         }
+        Call::Dissolve(edit) => {
+            put_number(out, b"dissolve ", edit.track)?;
+            put_number(out, b" ", edit.at)?;
+            put_number(out, b" ", edit.a)?;
+            put_number(out, b" ", edit.b)
+        }
+        Call::Undissolve(edit) => {
+            put_number(out, b"undissolve ", edit.track)?;
+            put_number(out, b" ", edit.at)
+        }
     }
 }
 
