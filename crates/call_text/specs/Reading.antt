@@ -81,6 +81,24 @@ slice_of place_at (track ∷ at ∷ []) = do
   Ok (Edit (call.Slice (record { track = track; at = at })))
 slice_of place_at words = Err B2
 
+-- dissolve T P A B
+abbrev pub dissolve_of : Naming → List (List ℕ) → Result Line LineFault
+dissolve_of place_at (track ∷ at ∷ a ∷ b ∷ []) = do
+  track ← track_of track
+  at ← place_of place_at at
+  a ← numeral_of a
+  b ← numeral_of b
+  Ok (Edit (call.Dissolve (record { track = track; at = at; a = a; b = b })))
+dissolve_of place_at words = Err B2
+
+-- undissolve T P
+abbrev pub undissolve_of : Naming → List (List ℕ) → Result Line LineFault
+undissolve_of place_at (track ∷ at ∷ []) = do
+  track ← track_of track
+  at ← place_of place_at at
+  Ok (Edit (call.Undissolve (record { track = track; at = at })))
+undissolve_of place_at words = Err B2
+
 -- view T P P
 abbrev pub view_of : Naming → List (List ℕ) → Result Line LineFault
 view_of place_at (track ∷ from ∷ to ∷ []) = do
@@ -110,6 +128,8 @@ command_of word =
     else if bytes_eq word (codes "remove") then Some command.Remove
     else if bytes_eq word (codes "extract") then Some command.Extract
     else if bytes_eq word (codes "slice") then Some command.Slice
+    else if bytes_eq word (codes "dissolve") then Some command.Dissolve
+    else if bytes_eq word (codes "undissolve") then Some command.Undissolve
     else if bytes_eq word (codes "view") then Some command.View
     else if bytes_eq word (codes "items") then Some command.Items
     else if bytes_eq word (codes "point") then Some command.Point
@@ -122,6 +142,8 @@ row_of place_at command.Insert words = insert_of place_at words
 row_of place_at command.Remove words = remove_of words
 row_of place_at command.Extract words = extract_of words
 row_of place_at command.Slice words = slice_of place_at words
+row_of place_at command.Dissolve words = dissolve_of place_at words
+row_of place_at command.Undissolve words = undissolve_of place_at words
 row_of place_at command.View words = view_of place_at words
 row_of place_at command.Items words = items_of words
 row_of place_at command.Point words = point_of words

@@ -52,11 +52,14 @@ word_of command.Insert = codes "insert"
 word_of command.Remove = codes "remove"
 word_of command.Extract = codes "extract"
 word_of command.Slice = codes "slice"
+word_of command.Dissolve = codes "dissolve"
+word_of command.Undissolve = codes "undissolve"
 word_of command.View = codes "view"
 word_of command.Items = codes "items"
 word_of command.Point = codes "point"
 
 -- overwrite T P WHAT FROM LEN · insert TS T P WHAT FROM LEN · remove T I · extract TS T I · slice T P
+-- · dissolve T P A B · undissolve T P
 abbrev pub AreCall : Naming → List (List ℕ) → Call → Type 0
 AreCall place_at words (call.Overwrite c) =
     (track at what from len : List ℕ)
@@ -76,6 +79,12 @@ AreCall place_at words (call.Extract c) =
     × IsTracks tracks c.tracks × IsTrack track c.track × IsNumeral item c.item
 AreCall place_at words (call.Slice c) =
     (track at : List ℕ) × (words ≡ word_of command.Slice ∷ track ∷ at ∷ [])
+    × IsTrack track c.track × IsPlace place_at at c.at
+AreCall place_at words (call.Dissolve c) =
+    (track at a b : List ℕ) × (words ≡ word_of command.Dissolve ∷ track ∷ at ∷ a ∷ b ∷ [])
+    × IsTrack track c.track × IsPlace place_at at c.at × IsNumeral a c.a × IsNumeral b c.b
+AreCall place_at words (call.Undissolve c) =
+    (track at : List ℕ) × (words ≡ word_of command.Undissolve ∷ track ∷ at ∷ [])
     × IsTrack track c.track × IsPlace place_at at c.at
 
 -- a call · view T P P · items T · point

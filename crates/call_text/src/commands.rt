@@ -10,6 +10,8 @@ pub enum Command {
     Remove,
     Extract,
     Slice,
+    Dissolve,
+    Undissolve,
     View,
     Items,
     Point,
@@ -30,6 +32,10 @@ impl Command {
             Some(Command::Extract)
         } else if word == b"slice".as_slice() {
             Some(Command::Slice)
+        } else if word == b"dissolve".as_slice() {
+            Some(Command::Dissolve)
+        } else if word == b"undissolve".as_slice() {
+            Some(Command::Undissolve)
         } else if word == b"view".as_slice() {
             Some(Command::View)
         } else if word == b"items".as_slice() {
