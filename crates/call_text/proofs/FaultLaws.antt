@@ -347,6 +347,9 @@ row_error place_at command.Items (a ∷ []) = error_bind (track_of a) _ _ (λ tr
 row_error place_at command.Items (a ∷ b ∷ words) = refl
 row_error place_at command.Point [] = refl
 row_error place_at command.Point (a ∷ words) = refl
+row_error place_at command.Otio [] = refl
+row_error place_at command.Otio (a ∷ []) = error_bind (numeral_of a) _ _ (λ point. refl)
+row_error place_at command.Otio (a ∷ b ∷ words) = refl
 
 -- the whole line
 none_named : (first : List ℕ) → command_of first ≡ None → (k : Command) → first ≢ word_of k

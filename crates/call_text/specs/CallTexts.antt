@@ -7,7 +7,7 @@ use Rattle.composables.specs.TrackSets.{tracks_in}
 use Rattle.edit_apply.specs.declared.asks.Call.{Call}
 use Rattle.edit_apply.specs.declared.asks.Call.TheVariants as call
 use Rattle.call_text.specs.declared.lines.Line.{Line}
-use Rattle.call_text.specs.declared.lines.Line.TheVariants.{Edit, Ask, Point}
+use Rattle.call_text.specs.declared.lines.Line.TheVariants.{Edit, Ask, Point, Otio}
 use Rattle.call_text.specs.declared.parts.TheConstants.{LAST_TRACK}
 
 -- `@` and the number of a media entry, or `#` and the number of a nest
@@ -81,3 +81,4 @@ abbrev pub NamesWritten : Line → Type 0
 NamesWritten (Edit c) = IsWritten c
 NamesWritten (Ask q) = Unit {0}
 NamesWritten Point = Unit {0}
+NamesWritten (Otio n) = Unit {0}

@@ -37,6 +37,7 @@ rows_of command.Undissolve = (Track ∷ Place ∷ []) ∷ []
 rows_of command.View = (Track ∷ Place ∷ Place ∷ []) ∷ []
 rows_of command.Items = (Track ∷ []) ∷ []
 rows_of command.Point = [] ∷ []
+rows_of command.Otio = (Number ∷ []) ∷ []
 
 -- the word is not one or more decimal digits
 abbrev pub IsNoNumeral : List ℕ → Type 0

@@ -15,6 +15,7 @@ pub enum Command {
     View,
     Items,
     Point,
+    Otio,
 }
 
 impl Command {
@@ -42,6 +43,8 @@ impl Command {
             Some(Command::Items)
         } else if word == b"point".as_slice() {
             Some(Command::Point)
+        } else if word == b"otio".as_slice() {
+            Some(Command::Otio)
         } else {
             None
         }

@@ -3,7 +3,7 @@ ghost use Rattle.std.specs.Prelude.{◌≡◌, IfOk};
 ghost use Rattle.line_words.specs.Blanks.{words_of};
 ghost use Rattle.call_text.specs.CallTexts.{NamesWritten};
 ghost use Rattle.call_text.specs.Labels.{place_by};
-ghost use Rattle.call_text.specs.Reading.{overwrite_of, insert_of, remove_of, extract_of, slice_of, dissolve_of, undissolve_of, view_of, items_of, point_of, row_of, line_of, line_of_words, texts_of};
+ghost use Rattle.call_text.specs.Reading.{overwrite_of, insert_of, remove_of, extract_of, slice_of, dissolve_of, undissolve_of, view_of, items_of, point_of, otio_of, row_of, line_of, line_of_words, texts_of};
 
 use crate::parts::{numeral, place, track, tracks, what};
 use crate::words::{first_word, line_words};
@@ -66,6 +66,7 @@ fn row(command: Command, rest: &[u8], counting: &Counting, start: u32) -> Result
         Command::View => view(words, counting, start),
         Command::Items => items(words),
         Command::Point => point(words),
+        Command::Otio => otio(words),
     }
 }
 
@@ -238,6 +239,17 @@ fn point(words: &[&[u8]]) -> Result<Line, LineFault>
 {
     match words {
         [] => Ok(Line::Point),
+        _ => Err(LineFault::B2),
+    }
+}
+
+// otio N
+fn otio(words: &[&[u8]]) -> Result<Line, LineFault>
+    ensures read { result ≡ otio_of (texts_of words.now) }
+    ensures written { IfOk result (λ read. NamesWritten read) }
+{
+    match words {
+        [point] => Ok(Line::Otio(numeral(point)?)),
         _ => Err(LineFault::B2),
     }
 }

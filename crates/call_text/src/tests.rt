@@ -35,9 +35,10 @@ const TWO: Insert = Insert {
 
 #[test]
 fn lines_of_the_table_are_read(rt: HostRuntime) {
-    let table: [(&[u8], Line); 5] = [
+    let table: [(&[u8], Line); 6] = [
         (b"point", Line::Point),
         (b" \tpoint\t", Line::Point),
+        (b"otio 007", Line::Otio(7)),
         (b"items 0", Line::Ask(Ask::Items { track: 0 })),
         (b"items\t 031 ", Line::Ask(Ask::Items { track: 31 })),
         (
