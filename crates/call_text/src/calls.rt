@@ -2,8 +2,8 @@
 ghost use Rattle.std.specs.Prelude.{◌≡◌, ◌++◌, IfOk, OnOk};
 ghost use Rattle.call_text.specs.CallTexts.{call_text_of, frames_text, tracks_text};
 
-use crate::bytes::{put, put_number, put_what};
-use composables::{Memory, has_track};
+use crate::bytes::{put, put_end, put_number, put_signed, put_what};
+use composables::{Dissolve, Memory, Slip, Trim, has_track};
 use edit_apply::Call;
 use frame_meaning::What;
 use std::alloc::Global;
@@ -47,17 +47,42 @@ pub(crate) fn put_call(out: &mut Vec<u8>, call: &Call) -> Result<(), Memory>
             put_number(out, b"slice ", edit.track)?;
             put_number(out, b" ", edit.at)
         }
-        Call::Dissolve(edit) => {
-            put_number(out, b"dissolve ", edit.track)?;
-            put_number(out, b" ", edit.at)?;
-            put_number(out, b" ", edit.a)?;
-            put_number(out, b" ", edit.b)
-        }
+        Call::Dissolve(edit) => put_dissolve(out, edit),
         Call::Undissolve(edit) => {
             put_number(out, b"undissolve ", edit.track)?;
             put_number(out, b" ", edit.at)
         }
+        Call::Trim(edit) => put_trim(out, edit),
+        Call::Slip(edit) => put_slip(out, edit),
     }
+}
+
+fn put_dissolve(out: &mut Vec<u8>, edit: &Dissolve) -> Result<(), Memory>
+    ensures { OnOk result (out.new.items ≡ out.old.items ++ call_text_of (Call.Dissolve edit.now)) }
+{
+    put_number(out, b"dissolve ", edit.track)?;
+    put_number(out, b" ", edit.at)?;
+    put_number(out, b" ", edit.a)?;
+    put_number(out, b" ", edit.b)
+}
+
+fn put_trim(out: &mut Vec<u8>, edit: &Trim) -> Result<(), Memory>
+    ensures { OnOk result (out.new.items ≡ out.old.items ++ call_text_of (Call.Trim edit.now)) }
+{
+    put_number(out, b"trim ", edit.track)?;
+    put_number(out, b" ", edit.item)?;
+    put(out, b" ")?;
+    put_end(out, edit.end)?;
+    put_signed(out, b" ", edit.by)
+}
+
+fn put_slip(out: &mut Vec<u8>, edit: &Slip) -> Result<(), Memory>
+    ensures { OnOk result (out.new.items ≡ out.old.items ++ call_text_of (Call.Slip edit.now)) }
+{
+    put_tracks(out, b"slip ", edit.tracks)?;
+    put_number(out, b" ", edit.track)?;
+    put_number(out, b" ", edit.item)?;
+    put_signed(out, b" ", edit.by)
 }
 
 // A thing, a source frame of it, and a count of frames.
