@@ -555,7 +555,7 @@ fn a_journal_is_written(rt: HostRuntime) -> Result<(), Fail> {
 
 #[test]
 fn written_calls_come_back(rt: HostRuntime) -> Result<(), Fail> {
-    let table: [(&[u8], Call); 7] = [
+    let table: [(&[u8], Call); 11] = [
         (b"overwrite 1 20 @3 400 5000", Call::Overwrite(FOUR)),
         (
             b"overwrite 31 4294967295 #4294967295 4294967295 4294967295",
@@ -585,6 +585,37 @@ fn written_calls_come_back(rt: HostRuntime) -> Result<(), Fail> {
             }),
         ),
         (b"slice 3 10", Call::Slice(Slice { track: 3, at: 10 })),
+        (
+            b"dissolve 3 10 0 4294967295",
+            Call::Dissolve(Dissolve {
+                track: 3,
+                at: 10,
+                a: 0,
+                b: 4294967295,
+            }),
+        ),
+        (
+            b"undissolve 3 10",
+            Call::Undissolve(Undissolve { track: 3, at: 10 }),
+        ),
+        (
+            b"trim 3 10 tail 0",
+            Call::Trim(Trim {
+                track: 3,
+                item: 10,
+                end: End::Tail,
+                by: 0,
+            }),
+        ),
+        (
+            b"slip 3,31 31 10 -2147483648",
+            Call::Slip(Slip {
+                tracks: 2147483656,
+                track: 31,
+                item: 10,
+                by: -2147483648,
+            }),
+        ),
     ];
     for (row, (want, call)) in table.into_iter().enumerate() {
         let text = call_text(rt.alloc(), &call)?;
