@@ -31,6 +31,10 @@ tracks_text set = numbers_after [] (tracks_in set)
 abbrev pub frames_text : What → ℕ → ℕ → List ℕ
 frames_text what from len = what_text what ++ codes " " ++ decimal from ++ codes " " ++ decimal len
 
+-- a text, and two numbers with a space between
+abbrev pub numbers_text : List ℕ → ℕ → ℕ → List ℕ
+numbers_text lead first second = lead ++ decimal first ++ codes " " ++ decimal second
+
 abbrev pub call_text_of : Call → List ℕ
 call_text_of (call.Overwrite c) =
     codes "overwrite " ++ decimal c.track ++ codes " " ++ decimal c.at ++ codes " "
