@@ -1,5 +1,5 @@
 -- What is read of a line is spelled there, and what is spelled there is read.
-use Rattle.std.proofs.Common.{◌≡◌, ℕ, List, [], ◌∷◌, Option, Some, None, Ok, length, nat_le, inl, inr, refl, if◌then◌else◌}
+use Rattle.std.proofs.Common.{◌≡◌, ℕ, List, [], ◌∷◌, Option, Some, None, Ok, length, nat_le, inl, inr, refl, ap, if◌then◌else◌}
 use Rattle.std.proofs.lemmas.Bool.{leb-true, le-leb}
 use Rattle.std.proofs.lemmas.Slice.Eq.{bytes_eq-Decides}
 use Rattle.std.specs.Str.{bytes_eq}
@@ -11,10 +11,10 @@ use Rattle.call_text.specs.declared.lines.Line.TheVariants.{Edit, Ask, Point, Ot
 use Rattle.call_text.specs.declared.lines.LineFault.TheVariants.{B1, B2, B5}
 use Rattle.call_text.specs.declared.commands.Command.{Command}
 use Rattle.call_text.specs.declared.commands.Command.TheVariants as command
-use Rattle.call_text.specs.Spelling.{numeral_of, track_of, tracks_of, place_of, what_of}
-use Rattle.call_text.specs.Reading.{overwrite_of, insert_of, remove_of, extract_of, slice_of, dissolve_of, undissolve_of, view_of, items_of, point_of, otio_of, command_of, row_of, row_if, line_of_words, line_of}
+use Rattle.call_text.specs.Spelling.{numeral_of, delta_of, end_of, track_of, tracks_of, place_of, what_of}
+use Rattle.call_text.specs.Reading.{overwrite_of, insert_of, remove_of, extract_of, slice_of, dissolve_of, undissolve_of, trim_of, slip_of, view_of, items_of, point_of, otio_of, command_of, row_of, row_if, line_of_words, line_of}
 use Rattle.call_text.specs.Table.{AreWords, IsLine, word_of}
-use Rattle.call_text.proofs.ReadParts.{bind_ok, chosen, ok_same, err_ok, numeral_spelled, numeral_read, track_spelled, track_read, tracks_spelled, tracks_read, place_spelled, place_read, thing_spelled, thing_read}
+use Rattle.call_text.proofs.ReadParts.{bind_ok, chosen, ok_same, err_ok, numeral_spelled, numeral_read, delta_spelled, delta_read, end_spelled, end_read, track_spelled, track_read, tracks_spelled, tracks_read, place_spelled, place_read, thing_spelled, thing_read}
 
 some_same : {A : Type 0} (x y : A) → Some x ≡ Some y → x ≡ y
 some_same x y h = cc
@@ -34,10 +34,12 @@ command_spelled word k h = named word command.Overwrite k _
     (named word command.Slice k _
     (named word command.Dissolve k _
     (named word command.Undissolve k _
+    (named word command.Trim k _
+    (named word command.Slip k _
     (named word command.View k _
     (named word command.Items k _
     (named word command.Point k _
-    (named word command.Otio k None (λ none. absurd cc))))))))))) h
+    (named word command.Otio k None (λ none. absurd cc))))))))))))) h
 
 pub command_read : (k : Command) → command_of (word_of k) ≡ Some k
 command_read command.Overwrite = refl
@@ -47,6 +49,8 @@ command_read command.Extract = refl
 command_read command.Slice = refl
 command_read command.Dissolve = refl
 command_read command.Undissolve = refl
+command_read command.Trim = refl
+command_read command.Slip = refl
 command_read command.View = refl
 command_read command.Items = refl
 command_read command.Point = refl
@@ -178,6 +182,52 @@ undissolve_spelled place_at (a ∷ b ∷ []) line h =
     rw (← same) (a, b, refl, track_spelled a track.0 track.1, place_spelled place_at b at.0 at.1)
 undissolve_spelled place_at (a ∷ b ∷ c ∷ words) line h = absurd (err_ok B2 line h)
 
+trim_spelled : (place_at : List ℕ → Option ℕ) (words : List (List ℕ)) (line : Line) → trim_of words ≡ Ok line → AreWords place_at (word_of command.Trim ∷ words) line
+trim_spelled place_at [] line h = absurd (err_ok B2 line h)
+trim_spelled place_at (a ∷ []) line h = absurd (err_ok B2 line h)
+trim_spelled place_at (a ∷ b ∷ []) line h = absurd (err_ok B2 line h)
+trim_spelled place_at (a ∷ b ∷ c ∷ []) line h = absurd (err_ok B2 line h)
+trim_spelled place_at (a ∷ b ∷ c ∷ d ∷ []) line h =
+    let track = bind_ok (track_of a) _ line h in
+    let item = bind_ok (numeral_of b) _ line track.2 in
+    let end = bind_ok (end_of c) _ line item.2 in
+    let delta = bind_ok (delta_of d) _ line end.2 in
+    let same = ok_same (Edit (call.Trim (record { track = track.0; item = item.0; end = end.0; by = delta.0 }))) line delta.2 in
+    rw (← same) (
+      a,
+      b,
+      d,
+      ap (λ (w : List ℕ). word_of command.Trim ∷ a ∷ b ∷ w ∷ d ∷ []) (end_spelled c end.0 end.1),
+      track_spelled a track.0 track.1,
+      numeral_spelled b item.0 item.1,
+      delta_spelled d delta.0 delta.1,
+    )
+trim_spelled place_at (a ∷ b ∷ c ∷ d ∷ e ∷ words) line h = absurd (err_ok B2 line h)
+
+slip_spelled : (place_at : List ℕ → Option ℕ) (words : List (List ℕ)) (line : Line) → slip_of words ≡ Ok line → AreWords place_at (word_of command.Slip ∷ words) line
+slip_spelled place_at [] line h = absurd (err_ok B2 line h)
+slip_spelled place_at (a ∷ []) line h = absurd (err_ok B2 line h)
+slip_spelled place_at (a ∷ b ∷ []) line h = absurd (err_ok B2 line h)
+slip_spelled place_at (a ∷ b ∷ c ∷ []) line h = absurd (err_ok B2 line h)
+slip_spelled place_at (a ∷ b ∷ c ∷ d ∷ []) line h =
+    let tracks = bind_ok (tracks_of a) _ line h in
+    let track = bind_ok (track_of b) _ line tracks.2 in
+    let item = bind_ok (numeral_of c) _ line track.2 in
+    let delta = bind_ok (delta_of d) _ line item.2 in
+    let same = ok_same (Edit (call.Slip (record { tracks = tracks.0; track = track.0; item = item.0; by = delta.0 }))) line delta.2 in
+    rw (← same) (
+      a,
+      b,
+      c,
+      d,
+      refl,
+      tracks_spelled a tracks.0 tracks.1,
+      track_spelled b track.0 track.1,
+      numeral_spelled c item.0 item.1,
+      delta_spelled d delta.0 delta.1,
+    )
+slip_spelled place_at (a ∷ b ∷ c ∷ d ∷ e ∷ words) line h = absurd (err_ok B2 line h)
+
 view_spelled : (place_at : List ℕ → Option ℕ) (words : List (List ℕ)) (line : Line) → view_of place_at words ≡ Ok line → AreWords place_at (word_of command.View ∷ words) line
 view_spelled place_at [] line h = absurd (err_ok B2 line h)
 view_spelled place_at (a ∷ []) line h = absurd (err_ok B2 line h)
@@ -218,6 +268,8 @@ row_spelled place_at command.Extract words line h = extract_spelled place_at wor
 row_spelled place_at command.Slice words line h = slice_spelled place_at words line h
 row_spelled place_at command.Dissolve words line h = dissolve_spelled place_at words line h
 row_spelled place_at command.Undissolve words line h = undissolve_spelled place_at words line h
+row_spelled place_at command.Trim words line h = trim_spelled place_at words line h
+row_spelled place_at command.Slip words line h = slip_spelled place_at words line h
 row_spelled place_at command.View words line h = view_spelled place_at words line h
 row_spelled place_at command.Items words line h = items_spelled place_at words line h
 row_spelled place_at command.Point words line h = point_spelled place_at words line h
@@ -277,6 +329,18 @@ words_read place_at words (Edit (call.Undissolve c)) h =
     let track = track_read h.0 c.track h.3 in
     let at = place_read place_at h.1 c.at h.4 in
     rw (h.2, track, at) refl
+words_read place_at words (Edit (call.Trim c)) h =
+    let track = track_read h.0 c.track h.4 in
+    let item = numeral_read h.1 c.item h.5 in
+    let end = end_read c.end in
+    let delta = delta_read h.2 c.by h.6 in
+    rw (h.3, track, item, end, delta) refl
+words_read place_at words (Edit (call.Slip c)) h =
+    let tracks = tracks_read h.0 c.tracks h.5 in
+    let track = track_read h.1 c.track h.6 in
+    let item = numeral_read h.2 c.item h.7 in
+    let delta = delta_read h.3 c.by h.8 in
+    rw (h.4, tracks, track, item, delta) refl
 words_read place_at words (Ask (ask.View t p q)) h =
     let track = track_read h.0 t h.4 in
     let a = place_read place_at h.1 p h.5 in

@@ -1,17 +1,17 @@
 -- The text of a call is read again as that call.
 use Rattle.std.proofs.Common.{◌≡◌, ℕ, ◌+◌, ◌<◌, ◌≤◌, ◌^◌, List, [], ◌∷◌, ◌++◌, Option, Ok, length, inl, refl, ap, ◌∙◌, arith, append_assoc, length-append, codes}
-use Rattle.std.specs.Fmt.{decimal}
+use Rattle.std.specs.Fmt.{decimal, signed_decimal}
 use Rattle.line_words.specs.Blanks.{words_of, IsWord}
-use Rattle.line_words.proofs.DigitLaws.{number_of-decimal}
+use Rattle.line_words.proofs.DigitLaws.{number_of-decimal, signed_of-signed_decimal}
 use Rattle.line_words.proofs.WordLaws.{words_of-word, words_of-last}
 use Rattle.edit_apply.specs.declared.asks.Call.{Call}
 use Rattle.edit_apply.specs.declared.asks.Call.TheVariants as call
 use Rattle.call_text.specs.declared.lines.Line.TheVariants.{Edit}
 use Rattle.call_text.specs.CallTexts.{what_text, tracks_text, call_text_of, IsWritten}
 use Rattle.call_text.specs.Reading.{line_of}
-use Rattle.call_text.specs.Table.{AreCall}
+use Rattle.call_text.specs.Table.{AreCall, end_word}
 use Rattle.call_text.proofs.TableLaws.{line_read}
-use Rattle.call_text.proofs.WrittenParts.{length-decimal, IsWord-tested, IsWord-decimal, IsWord-what_text, length-what_text, IsThing-what_text, IsTracks-tracks_text, IsWord-tracks_text, length-tracks_text}
+use Rattle.call_text.proofs.WrittenParts.{IsWord-end, IsWord-signed, length-end, length-signed, length-decimal, IsWord-tested, IsWord-decimal, IsWord-what_text, length-what_text, IsThing-what_text, IsTracks-tracks_text, IsWord-tracks_text, length-tracks_text}
 
 -- words with one space between
 abbrev spaced : List ℕ → List (List ℕ) → List ℕ
@@ -207,3 +207,59 @@ written_call place_at (call.Undissolve c) (track, at) =
 
     length-all : (t a : List ℕ) → length (codes "undissolve " ++ t ++ codes " " ++ a) ≡ length t + length a + 12
     length-all t a = simp length-append (omega arith)
+written_call place_at (call.Trim c) (track, item, by) =
+    is_read place_at (call.Trim c) (codes "trim") (decimal c.track ∷ decimal c.item ∷ end_word c.end ∷ signed_decimal c.by ∷ [])
+    (regrouped (decimal c.track) (decimal c.item) (end_word c.end) (signed_decimal c.by))
+    (IsWord-tested (codes "trim") refl)
+    (IsWord-decimal c.track (low c.track track), (IsWord-decimal c.item item, (IsWord-end c.end, (IsWord-signed c.by by, tt))))
+    (omega (
+      arith,
+      length-all (decimal c.track) (decimal c.item) (end_word c.end) (signed_decimal c.by),
+      length-decimal c.track (low c.track track),
+      length-decimal c.item item,
+      length-end c.end,
+      length-signed c.by by,
+    )) (
+      decimal c.track,
+      decimal c.item,
+      signed_decimal c.by,
+      refl,
+      (number_of-decimal c.track (low c.track track), track),
+      number_of-decimal c.item item,
+      signed_of-signed_decimal c.by by,
+    )
+  where
+    regrouped : (t i e d : List ℕ) → codes "trim " ++ t ++ codes " " ++ i ++ codes " " ++ e ++ codes " " ++ d ≡ spaced (codes "trim") (t ∷ i ∷ e ∷ d ∷ [])
+    regrouped t i e d = simp append_assoc refl
+
+    length-all : (t i e d : List ℕ) → length (codes "trim " ++ t ++ codes " " ++ i ++ codes " " ++ e ++ codes " " ++ d) ≡ length t + length i + length e + length d + 8
+    length-all t i e d = simp length-append (omega arith)
+written_call place_at (call.Slip c) ((some, tracks), track, item, by) =
+    is_read place_at (call.Slip c) (codes "slip") (tracks_text c.tracks ∷ decimal c.track ∷ decimal c.item ∷ signed_decimal c.by ∷ [])
+    (regrouped (tracks_text c.tracks) (decimal c.track) (decimal c.item) (signed_decimal c.by))
+    (IsWord-tested (codes "slip") refl)
+    (IsWord-tracks_text c.tracks some tracks, (IsWord-decimal c.track (low c.track track), (IsWord-decimal c.item item, (IsWord-signed c.by by, tt))))
+    (omega (
+      arith,
+      length-all (tracks_text c.tracks) (decimal c.track) (decimal c.item) (signed_decimal c.by),
+      length-tracks_text c.tracks some tracks,
+      length-decimal c.track (low c.track track),
+      length-decimal c.item item,
+      length-signed c.by by,
+    )) (
+      tracks_text c.tracks,
+      decimal c.track,
+      decimal c.item,
+      signed_decimal c.by,
+      refl,
+      IsTracks-tracks_text c.tracks some tracks,
+      (number_of-decimal c.track (low c.track track), track),
+      number_of-decimal c.item item,
+      signed_of-signed_decimal c.by by,
+    )
+  where
+    regrouped : (s t i d : List ℕ) → codes "slip " ++ s ++ codes " " ++ t ++ codes " " ++ i ++ codes " " ++ d ≡ spaced (codes "slip") (s ∷ t ∷ i ∷ d ∷ [])
+    regrouped s t i d = simp append_assoc refl
+
+    length-all : (s t i d : List ℕ) → length (codes "slip " ++ s ++ codes " " ++ t ++ codes " " ++ i ++ codes " " ++ d) ≡ length s + length t + length i + length d + 8
+    length-all s t i d = simp length-append (omega arith)

@@ -1,6 +1,8 @@
 -- The text of a call: its line with one space between words, lists of tracks ascending, places as
 -- numbers, and numbers without leading zeros.
-use Rattle.std.specs.Prelude.{ℕ, ◌<◌, ◌≤◌, ◌^◌, List, [], ◌∷◌, ◌++◌, codes, decimal}
+use Rattle.std.specs.Prelude.{ℕ, ◌<◌, ◌≤◌, ◌^◌, List, [], ◌∷◌, ◌++◌, codes, decimal, FitsSigned}
+use Rattle.std.specs.Fmt.{signed_decimal}
+use Rattle.std.specs.Int.{w32}
 use Rattle.frame_meaning.specs.declared.cells.What.{What}
 use Rattle.frame_meaning.specs.declared.cells.What.TheVariants.{Media, Nest}
 use Rattle.composables.specs.TrackSets.{tracks_in}
@@ -9,6 +11,7 @@ use Rattle.edit_apply.specs.declared.asks.Call.TheVariants as call
 use Rattle.call_text.specs.declared.lines.Line.{Line}
 use Rattle.call_text.specs.declared.lines.Line.TheVariants.{Edit, Ask, Point, Otio}
 use Rattle.call_text.specs.declared.parts.TheConstants.{LAST_TRACK}
+use Rattle.call_text.specs.Table.{end_word}
 
 -- `@` and the number of a media entry, or `#` and the number of a nest
 abbrev pub what_text : What → List ℕ
@@ -49,6 +52,12 @@ call_text_of (call.Dissolve c) =
     ++ codes " " ++ decimal c.b
 call_text_of (call.Undissolve c) =
     codes "undissolve " ++ decimal c.track ++ codes " " ++ decimal c.at
+call_text_of (call.Trim c) =
+    codes "trim " ++ decimal c.track ++ codes " " ++ decimal c.item ++ codes " " ++ end_word c.end
+    ++ codes " " ++ signed_decimal c.by
+call_text_of (call.Slip c) =
+    codes "slip " ++ tracks_text c.tracks ++ codes " " ++ decimal c.track ++ codes " "
+    ++ decimal c.item ++ codes " " ++ signed_decimal c.by
 
 -- a number of 32 bits
 abbrev pub IsSmall : ℕ → Type 0
@@ -75,6 +84,9 @@ IsWritten (call.Extract c) = IsSomeTracks c.tracks × (c.track ≤ LAST_TRACK) �
 IsWritten (call.Slice c) = (c.track ≤ LAST_TRACK) × IsSmall c.at
 IsWritten (call.Dissolve c) = (c.track ≤ LAST_TRACK) × IsSmall c.at × IsSmall c.a × IsSmall c.b
 IsWritten (call.Undissolve c) = (c.track ≤ LAST_TRACK) × IsSmall c.at
+IsWritten (call.Trim c) = (c.track ≤ LAST_TRACK) × IsSmall c.item × FitsSigned w32 c.by
+IsWritten (call.Slip c) =
+    IsSomeTracks c.tracks × (c.track ≤ LAST_TRACK) × IsSmall c.item × FitsSigned w32 c.by
 
 -- the line is no edit, or an edit that can be written and read again
 abbrev pub NamesWritten : Line → Type 0

@@ -1,7 +1,7 @@
 -- The table of the lines that a station sends, and the first fault of a line that is none of them: B5
 -- more than 1,024 bytes; B2 no word; B1 a first word that is not in the table; B2 not as many words as
 -- the row has; then, word by word from the left, B3 a word that is not spelled so, B4 a number past its
--- bound, B6 a list of tracks that does not rise.
+-- bound, B6 a list of tracks that does not rise, B1 a word that is no end of an item.
 use Rattle.std.specs.Prelude.{ℕ, List, [], ◌∷◌, Option, Some, None, Result, Ok, Err, length, map, nat_le, codes, bytes_eq, if◌then◌else◌}
 use Rattle.std.specs.Borrow.{Bor}
 use Rattle.line_words.specs.Blanks.{words_of}
@@ -14,7 +14,7 @@ use Rattle.call_text.specs.declared.lines.LineFault.{LineFault}
 use Rattle.call_text.specs.declared.lines.LineFault.TheVariants.{B1, B2, B5}
 use Rattle.call_text.specs.declared.commands.Command.{Command}
 use Rattle.call_text.specs.declared.commands.Command.TheVariants as command
-use Rattle.call_text.specs.Spelling.{Naming, ◌>>=◌, numeral_of, track_of, tracks_of, place_of, what_of}
+use Rattle.call_text.specs.Spelling.{Naming, ◌>>=◌, numeral_of, delta_of, end_of, track_of, tracks_of, place_of, what_of}
 
 -- the bytes of words
 abbrev pub texts_of : List (Bor (List ℕ)) → List (List ℕ)
@@ -99,6 +99,26 @@ undissolve_of place_at (track ∷ at ∷ []) = do
   Ok (Edit (call.Undissolve (record { track = track; at = at })))
 undissolve_of place_at words = Err B2
 
+-- trim T I END D
+abbrev pub trim_of : List (List ℕ) → Result Line LineFault
+trim_of (track ∷ item ∷ end ∷ by ∷ []) = do
+  track ← track_of track
+  item ← numeral_of item
+  end ← end_of end
+  by ← delta_of by
+  Ok (Edit (call.Trim (record { track = track; item = item; end = end; by = by })))
+trim_of words = Err B2
+
+-- slip TS T I D
+abbrev pub slip_of : List (List ℕ) → Result Line LineFault
+slip_of (tracks ∷ track ∷ item ∷ by ∷ []) = do
+  tracks ← tracks_of tracks
+  track ← track_of track
+  item ← numeral_of item
+  by ← delta_of by
+  Ok (Edit (call.Slip (record { tracks = tracks; track = track; item = item; by = by })))
+slip_of words = Err B2
+
 -- view T P P
 abbrev pub view_of : Naming → List (List ℕ) → Result Line LineFault
 view_of place_at (track ∷ from ∷ to ∷ []) = do
@@ -137,6 +157,8 @@ command_of word =
     else if bytes_eq word (codes "slice") then Some command.Slice
     else if bytes_eq word (codes "dissolve") then Some command.Dissolve
     else if bytes_eq word (codes "undissolve") then Some command.Undissolve
+    else if bytes_eq word (codes "trim") then Some command.Trim
+    else if bytes_eq word (codes "slip") then Some command.Slip
     else if bytes_eq word (codes "view") then Some command.View
     else if bytes_eq word (codes "items") then Some command.Items
     else if bytes_eq word (codes "point") then Some command.Point
@@ -152,6 +174,8 @@ row_of place_at command.Extract words = extract_of words
 row_of place_at command.Slice words = slice_of place_at words
 row_of place_at command.Dissolve words = dissolve_of place_at words
 row_of place_at command.Undissolve words = undissolve_of place_at words
+row_of place_at command.Trim words = trim_of words
+row_of place_at command.Slip words = slip_of words
 row_of place_at command.View words = view_of place_at words
 row_of place_at command.Items words = items_of words
 row_of place_at command.Point words = point_of words

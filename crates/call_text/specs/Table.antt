@@ -1,12 +1,14 @@
 -- What the lines of the table are, word by word. place_at says which place a label names.
-use Rattle.std.specs.Prelude.{◌≡◌, ℕ, ◌^◌, ◌<◌, ◌≤◌, ◌⊎◌, List, [], ◌∷◌, ◌++◌, Some, Ok, Err, length, codes}
+use Rattle.std.specs.Prelude.{◌≡◌, ℕ, ℤ, ◌^◌, ◌<◌, ◌≤◌, ◌⊎◌, List, [], ◌∷◌, ◌++◌, Some, Ok, Err, length, codes}
 use Rattle.std.specs.List.{slice_split}
 use Rattle.line_words.specs.Blanks.{words_of}
-use Rattle.line_words.specs.Digits.{number_of}
+use Rattle.line_words.specs.Digits.{number_of, signed_of}
 use Rattle.line_words.specs.declared.TheConstants.{MAX_LINE}
 use Rattle.line_words.specs.declared.numbers.NumberFault.TheVariants.{NotANumber}
 use Rattle.frame_meaning.specs.declared.cells.What.{What}
 use Rattle.frame_meaning.specs.declared.cells.What.TheVariants.{Media, Nest}
+use Rattle.composables.specs.declared.calls.End.{End}
+use Rattle.composables.specs.declared.calls.End.TheVariants.{Head, Tail}
 use Rattle.composables.specs.TrackSets.{tracks_in}
 use Rattle.edit_apply.specs.declared.asks.Call.{Call}
 use Rattle.edit_apply.specs.declared.asks.Call.TheVariants as call
@@ -21,6 +23,15 @@ use Rattle.call_text.specs.Spelling.{Naming, is_comma}
 -- the word is this number, with leading zeros or without
 abbrev pub IsNumeral : List ℕ → ℕ → Type 0
 IsNumeral word n = number_of word ≡ Ok n
+
+-- the word is this number, with a `-` before its digits where it is negative
+abbrev pub IsDelta : List ℕ → ℤ → Type 0
+IsDelta word by = signed_of word ≡ Ok by
+
+-- the word of an end of an item
+abbrev pub end_word : End → List ℕ
+end_word Head = codes "head"
+end_word Tail = codes "tail"
 
 abbrev pub IsTrack : List ℕ → ℕ → Type 0
 IsTrack word track = IsNumeral word track × (track ≤ LAST_TRACK)
@@ -54,13 +65,15 @@ word_of command.Extract = codes "extract"
 word_of command.Slice = codes "slice"
 word_of command.Dissolve = codes "dissolve"
 word_of command.Undissolve = codes "undissolve"
+word_of command.Trim = codes "trim"
+word_of command.Slip = codes "slip"
 word_of command.View = codes "view"
 word_of command.Items = codes "items"
 word_of command.Point = codes "point"
 word_of command.Otio = codes "otio"
 
 -- overwrite T P WHAT FROM LEN · insert TS T P WHAT FROM LEN · remove T I · extract TS T I · slice T P
--- · dissolve T P A B · undissolve T P
+-- · dissolve T P A B · undissolve T P · trim T I END D · slip TS T I D
 abbrev pub AreCall : Naming → List (List ℕ) → Call → Type 0
 AreCall place_at words (call.Overwrite c) =
     (track at what from len : List ℕ)
@@ -87,6 +100,14 @@ AreCall place_at words (call.Dissolve c) =
 AreCall place_at words (call.Undissolve c) =
     (track at : List ℕ) × (words ≡ word_of command.Undissolve ∷ track ∷ at ∷ [])
     × IsTrack track c.track × IsPlace place_at at c.at
+AreCall place_at words (call.Trim c) =
+    (track item by : List ℕ)
+    × (words ≡ word_of command.Trim ∷ track ∷ item ∷ end_word c.end ∷ by ∷ [])
+    × IsTrack track c.track × IsNumeral item c.item × IsDelta by c.by
+AreCall place_at words (call.Slip c) =
+    (tracks track item by : List ℕ)
+    × (words ≡ word_of command.Slip ∷ tracks ∷ track ∷ item ∷ by ∷ [])
+    × IsTracks tracks c.tracks × IsTrack track c.track × IsNumeral item c.item × IsDelta by c.by
 
 -- a call · view T P P · items T · point · otio N
 abbrev pub AreWords : Naming → List (List ℕ) → Line → Type 0

@@ -2,8 +2,8 @@
 ghost use Rattle.std.specs.Prelude.{◌≡◌, ◌++◌, IfOk, OnOk};
 ghost use Rattle.call_text.specs.CallTexts.{call_text_of, frames_text, numbers_text, tracks_text};
 
-use crate::bytes::{put, put_number, put_what};
-use composables::{Memory, has_track};
+use crate::bytes::{put, put_end, put_number, put_signed, put_what};
+use composables::{Memory, Slip, Trim, has_track};
 use edit_apply::Call;
 use frame_meaning::What;
 use std::alloc::Global;
@@ -46,7 +46,27 @@ pub(crate) fn put_call(out: &mut Vec<u8>, call: &Call) -> Result<(), Memory>
             put_number(out, b" ", edit.b)
         }
         Call::Undissolve(edit) => put_numbers(out, b"undissolve ", edit.track, edit.at),
+        Call::Trim(edit) => put_trim(out, edit),
+        Call::Slip(edit) => put_slip(out, edit),
     }
+}
+
+fn put_trim(out: &mut Vec<u8>, edit: &Trim) -> Result<(), Memory>
+    ensures { OnOk result (out.new.items ≡ out.old.items ++ call_text_of (Call.Trim edit.now)) }
+{
+    put_numbers(out, b"trim ", edit.track, edit.item)?;
+    put(out, b" ")?;
+    put_end(out, edit.end)?;
+    put_signed(out, b" ", edit.by)
+}
+
+fn put_slip(out: &mut Vec<u8>, edit: &Slip) -> Result<(), Memory>
+    ensures { OnOk result (out.new.items ≡ out.old.items ++ call_text_of (Call.Slip edit.now)) }
+{
+    put_tracks(out, b"slip ", edit.tracks)?;
+    put_number(out, b" ", edit.track)?;
+    put_number(out, b" ", edit.item)?;
+    put_signed(out, b" ", edit.by)
 }
 
 // A text, and two numbers with a space between.

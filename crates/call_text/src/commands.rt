@@ -12,6 +12,8 @@ pub enum Command {
     Slice,
     Dissolve,
     Undissolve,
+    Trim,
+    Slip,
     View,
     Items,
     Point,
@@ -37,6 +39,10 @@ impl Command {
             Some(Command::Dissolve)
         } else if word == b"undissolve".as_slice() {
             Some(Command::Undissolve)
+        } else if word == b"trim".as_slice() {
+            Some(Command::Trim)
+        } else if word == b"slip".as_slice() {
+            Some(Command::Slip)
         } else if word == b"view".as_slice() {
             Some(Command::View)
         } else if word == b"items".as_slice() {

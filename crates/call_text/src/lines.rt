@@ -20,15 +20,15 @@ pub enum Line {
 /// are looked at from left to right.
 #[derive(Clone, Copy, Debug, PartialEq, Eq)]
 pub enum LineFault {
-    /// The first word is not in the table.
+    /// The first word is not in the table, or a word that must be `head` or `tail` is another.
     B1,
     /// The line has no word, or not as many as any row with its first word.
     B2,
-    /// A word is not spelled as its part of the row: a number that is not decimal digits, a thing without `@` or `#` and a
-    /// number, a list with a track that is no number, or a place that is no number and no label, or a label that the
-    /// counting does not have or that names a frame before the start.
+    /// A word is not spelled as its part of the row: a number that is not decimal digits, a delta that is not digits with
+    /// or without one `-`, a thing without `@` or `#` and a number, a list with a track that is no number, a place that is
+    /// no number and no label, or a label that the counting does not have or that names a frame before the start.
     B3,
-    /// A number is past its bound: a track over 31, or any number over 4,294,967,295.
+    /// A number is past its bound: a track over 31, any number over 4,294,967,295, or a delta outside of 32 bits.
     B4,
     /// The line has more than 1,024 bytes before its line feed, its carriage return counted.
     B5,

@@ -3,12 +3,12 @@ ghost use Rattle.std.specs.Prelude.{◌≡◌, IfOk};
 ghost use Rattle.line_words.specs.Blanks.{words_of};
 ghost use Rattle.call_text.specs.CallTexts.{NamesWritten};
 ghost use Rattle.call_text.specs.Labels.{place_by};
-ghost use Rattle.call_text.specs.Reading.{overwrite_of, insert_of, remove_of, extract_of, slice_of, dissolve_of, undissolve_of, view_of, items_of, point_of, otio_of, row_of, line_of, line_of_words, texts_of};
+ghost use Rattle.call_text.specs.Reading.{overwrite_of, insert_of, remove_of, extract_of, slice_of, dissolve_of, undissolve_of, trim_of, slip_of, view_of, items_of, point_of, otio_of, row_of, line_of, line_of_words, texts_of};
 
-use crate::parts::{numeral, place, track, tracks, what};
+use crate::parts::{delta, end, numeral, place, track, tracks, what};
 use crate::words::{first_word, line_words};
 use crate::{Command, Line, LineFault};
-use composables::{Dissolve, Extract, Insert, Overwrite, Remove, Slice, Undissolve};
+use composables::{Dissolve, Extract, Insert, Overwrite, Remove, Slice, Slip, Trim, Undissolve};
 use edit_apply::{Ask, Call};
 use line_words::MAX_LINE;
 use std::alloc::Global;
@@ -63,6 +63,8 @@ fn row(command: Command, rest: &[u8], counting: &Counting, start: u32) -> Result
         Command::Slice => slice(words, counting, start),
         Command::Dissolve => dissolve(words, counting, start),
         Command::Undissolve => undissolve(words, counting, start),
+        Command::Trim => trim(words),
+        Command::Slip => slip(words),
         Command::View => view(words, counting, start),
         Command::Items => items(words),
         Command::Point => point(words),
@@ -197,6 +199,50 @@ fn undissolve(words: &[&[u8]], counting: &Counting, start: u32) -> Result<Line, 
             let track = track(track_word)?;
             let at = place(at, counting, start)?;
             Ok(Line::Edit(Call::Undissolve(Undissolve { track, at })))
+        }
+        _ => Err(LineFault::B2),
+    }
+}
+
+// trim T I END D
+fn trim(words: &[&[u8]]) -> Result<Line, LineFault>
+    ensures read { result ≡ trim_of (texts_of words.now) }
+    ensures written { IfOk result (λ read. NamesWritten read) }
+{
+    match words {
+        [track_word, item, last, by] => {
+            let track = track(track_word)?;
+            let item = numeral(item)?;
+            let end = end(last)?;
+            let by = delta(by)?;
+            Ok(Line::Edit(Call::Trim(Trim {
+                track,
+                item,
+                end,
+                by,
+            })))
+        }
+        _ => Err(LineFault::B2),
+    }
+}
+
+// slip TS T I D
+fn slip(words: &[&[u8]]) -> Result<Line, LineFault>
+    ensures read { result ≡ slip_of (texts_of words.now) }
+    ensures written { IfOk result (λ read. NamesWritten read) }
+{
+    match words {
+        [list, track_word, item, by] => {
+            let tracks = tracks(list)?;
+            let track = track(track_word)?;
+            let item = numeral(item)?;
+            let by = delta(by)?;
+            Ok(Line::Edit(Call::Slip(Slip {
+                tracks,
+                track,
+                item,
+                by,
+            })))
         }
         _ => Err(LineFault::B2),
     }

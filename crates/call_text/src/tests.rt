@@ -1,7 +1,7 @@
 use super::*;
 use composables::{
-    Dissolve, Done, Extract, Insert, ItemView, Listed, Overwrite, Refusal, Remove, Slice,
-    Undissolve, Which,
+    Dissolve, Done, End, Extract, Insert, ItemView, Listed, Overwrite, Refusal, Remove, Slice,
+    Slip, Trim, Undissolve, Which,
 };
 use cut_room::{Answer, Sight};
 use edit_apply::{Ask, AskRefusal, Call, Editor, Seen};
@@ -57,7 +57,7 @@ fn lines_of_the_table_are_read(rt: HostRuntime) {
 
 #[test]
 fn edits_of_the_table_are_read(rt: HostRuntime) {
-    let table: [(&[u8], Call); 14] = [
+    let table: [(&[u8], Call); 17] = [
         (b"overwrite 1 20 @3 400 5000", Call::Overwrite(FOUR)),
         (b"overwrite 001 0020 @03 0400 005000", Call::Overwrite(FOUR)),
         (
@@ -118,6 +118,33 @@ fn edits_of_the_table_are_read(rt: HostRuntime) {
             Call::Undissolve(Undissolve { track: 1, at: 7 }),
         ),
         (
+            b"trim 1 7 head -3",
+            Call::Trim(Trim {
+                track: 1,
+                item: 7,
+                end: End::Head,
+                by: -3,
+            }),
+        ),
+        (
+            b"trim 1 7 tail 2147483647",
+            Call::Trim(Trim {
+                track: 1,
+                item: 7,
+                end: End::Tail,
+                by: 2_147_483_647,
+            }),
+        ),
+        (
+            b"slip 0,2 2 7 -2147483648",
+            Call::Slip(Slip {
+                tracks: 5,
+                track: 2,
+                item: 7,
+                by: -2_147_483_648,
+            }),
+        ),
+        (
             b"slice 1 00:00:01:01",
             Call::Slice(Slice { track: 1, at: 25 }),
         ),
@@ -133,7 +160,7 @@ fn edits_of_the_table_are_read(rt: HostRuntime) {
 
 #[test]
 fn the_first_fault_of_a_line_is_told(rt: HostRuntime) {
-    let table: [(&[u8], LineFault); 64] = [
+    let table: [(&[u8], LineFault); 70] = [
         (b"", LineFault::B2),
         (b" \t ", LineFault::B2),
         (b"jump", LineFault::B1),
@@ -198,6 +225,12 @@ fn the_first_fault_of_a_line_is_told(rt: HostRuntime) {
         (b"dissolve 0 0 x 4294967296", LineFault::B3),
         (b"dissolve 0 0 0 4294967296", LineFault::B4),
         (b"undissolve 0 0 0", LineFault::B2),
+        (b"trim 0 0 head", LineFault::B2),
+        (b"trim 0 0 Head x", LineFault::B1),
+        (b"trim 0 0 tail --1", LineFault::B3),
+        (b"trim 0 0 tail 2147483648", LineFault::B4),
+        (b"slip 0 0 0 -2147483649", LineFault::B4),
+        (b"slip 0 0 0 -", LineFault::B3),
     ];
     for (row, (line, want)) in table.into_iter().enumerate() {
         assert_eq!(rt; read(rt.alloc(), line), Some(Err(want)), "row {row}");
@@ -523,7 +556,7 @@ fn a_journal_is_written(rt: HostRuntime) -> Result<(), Fail> {
 
 #[test]
 fn written_calls_come_back(rt: HostRuntime) -> Result<(), Fail> {
-    let table: [(&[u8], Call); 9] = [
+    let table: [(&[u8], Call); 11] = [
         (b"overwrite 1 20 @3 400 5000", Call::Overwrite(FOUR)),
         (
             b"overwrite 31 4294967295 #4294967295 4294967295 4294967295",
@@ -565,6 +598,24 @@ fn written_calls_come_back(rt: HostRuntime) -> Result<(), Fail> {
         (
             b"undissolve 3 10",
             Call::Undissolve(Undissolve { track: 3, at: 10 }),
+        ),
+        (
+            b"trim 3 10 tail 0",
+            Call::Trim(Trim {
+                track: 3,
+                item: 10,
+                end: End::Tail,
+                by: 0,
+            }),
+        ),
+        (
+            b"slip 3,31 31 10 -2147483648",
+            Call::Slip(Slip {
+                tracks: 2147483656,
+                track: 31,
+                item: 10,
+                by: -2147483648,
+            }),
         ),
     ];
     for (row, (want, call)) in table.into_iter().enumerate() {

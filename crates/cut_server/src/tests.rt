@@ -122,6 +122,27 @@ fn dissolves_are_answered(rt: HostRuntime) -> Result<(), Fail> {
 }
 
 #[test]
+fn edits_by_a_delta_are_answered(rt: HostRuntime) -> Result<(), Fail> {
+    let alloc = rt.alloc();
+    let table: [(&[u8], &[u8]); 2] = [
+        (
+            b"overwrite 0 0 @0 86388 5\nslip 0 0 0 100\nslip 0 0 0 100\nslip 0 0 0 -5\nitems 0\nslip 0 1 0 1\nslip 2 2 0 1\n",
+            b"ok 0 item 0\nok 1 by 7\nok 2 by 0\nok 3 by -5\nitems 4 0 @0 86390 5\nno 4 E1 1\nno 4 E1 2\njournal 4\n0 1 overwrite 0 0 @0 86388 5\n0 2 slip 0 0 0 100\n0 3 slip 0 0 0 100\n0 4 slip 0 0 0 -5\n",
+        ),
+        (
+            b"overwrite 0 3 @0 100 5\ntrim 0 0 head -10\ntrim 0 0 tail -100\ntrim 0 0 tail 4\nitems 0\ntrim 0 1 tail 1\ntrim 0 0 Tail 1\ntrim 0 0 tail x\ntrim 0 0 tail 2147483648\n",
+            b"ok 0 item 0\nok 1 by -3\nok 2 by -7\nok 3 by 4\nitems 4 0 @0 97 5 dark 3\nno 4 E2\nbad B1\nbad B3\nbad B4\njournal 4\n0 1 overwrite 0 3 @0 100 5\n0 2 trim 0 0 head -10\n0 3 trim 0 0 tail -100\n0 4 trim 0 0 tail 4\n",
+        ),
+    ];
+    for (input, wanted) in table {
+        let (status, output) = ended(alloc, &["run", "2", "1"], &[input], &[], &[])?;
+        assert_eq!(rt; status, 0);
+        assert_eq!(rt; output.as_slice(), wanted);
+    }
+    Ok(())
+}
+
+#[test]
 fn pieces_make_no_difference(rt: HostRuntime) -> Result<(), Fail> {
     let alloc = rt.alloc();
     let text = b"overwrite 0 10 @0 100 5\r\nview 0 0 15";

@@ -1,7 +1,6 @@
 -- How far the numbers of tracks without links have risen: each call raises the next item number of a track by two at
 -- most, and no next link number.
-use Rattle.std.proofs.Common.{◌≡◌, ℕ, zero, suc, ◌+◌, ◌-◌, ◌≤◌, Bool, true, false, cond, eqb, min, List, [], ◌∷◌, All, length, Option, Some, None, IfSome, Result, Ok, Err, refl, sym, ap, ◌∙◌, arith, subst, nat_lt}
-use Rattle.std.proofs.lemmas.Bool.{eq-eqb}
+use Rattle.std.proofs.Common.{◌≡◌, ℕ, zero, suc, ℤ, pos, negsuc, ◌+◌, ◌-◌, ◌<◌, ◌≤◌, Bool, true, false, cond, eqb, min, List, [], ◌∷◌, All, length, Option, Some, None, IfSome, Result, Ok, Err, refl, sym, ◌∙◌, arith, subst, nat_lt}
 use Rattle.std.proofs.lemmas.List.Elements.{All-cons}
 use Rattle.frame_meaning.specs.declared.cells.What.{What}
 use Rattle.composables.specs.declared.calls.Overwrite.{Overwrite}
@@ -11,27 +10,35 @@ use Rattle.composables.specs.declared.calls.Extract.{Extract}
 use Rattle.composables.specs.declared.calls.Slice.{Slice}
 use Rattle.composables.specs.declared.calls.Dissolve.{Dissolve}
 use Rattle.composables.specs.declared.calls.Undissolve.{Undissolve}
+use Rattle.composables.specs.declared.calls.End.{End}
+use Rattle.composables.specs.declared.calls.End.TheVariants.{Head, Tail}
+use Rattle.composables.specs.declared.calls.Trim.{Trim}
+use Rattle.composables.specs.declared.calls.Slip.{Slip}
 use Rattle.composables.specs.declared.items.ItemView.{ItemView}
 use Rattle.composables.specs.declared.media.Table.{Table}
 use Rattle.composables.specs.declared.refusals.Done.{Done}
-use Rattle.composables.specs.declared.refusals.Done.TheVariants.{Item, Plain}
+use Rattle.composables.specs.declared.refusals.Done.TheVariants.{By, Item, Plain}
 use Rattle.composables.specs.declared.refusals.Refusal.{Refusal}
 use Rattle.composables.specs.declared.refusals.Refusal.TheVariants.{NoItem, NoTrack}
 use Rattle.composables.specs.Answers.{Applied, unless}
 use Rattle.composables.specs.Good.{AllUnlinked}
 use Rattle.composables.specs.Joined.{frames_in}
 use Rattle.composables.specs.Limits.{too_long, too_many, track_within_limits, within_limits}
-use Rattle.composables.specs.Links.{links_in, with_link_of}
+use Rattle.composables.specs.Items.{cells_of}
 use Rattle.composables.specs.OwnTracks.{among_named, for_own, on_own, track_numbered, with_track}
 use Rattle.composables.specs.Ranges.{range_of}
 use Rattle.composables.specs.TrackFacts.{NumbersBelow}
 use Rattle.composables.specs.TrackState.{TrackState}
 use Rattle.composables.specs.Views.{clip_view, gap_view, gap_views}
 use Rattle.frame_meaning.specs.declared.cells.Mark.{Mark}
-use Rattle.frame_meaning.specs.declared.cells.Cell.{Cell}
 use Rattle.frame_meaning.specs.Render.{cell_at}
 use Rattle.dissolves.specs.Cuts.{dissolve_refusal}
-use Rattle.dissolves.specs.Marking.{dissolve_named, dissolve_on, mark_asked, mark_at_place, marked_track, undissolve_named, undissolve_on, undissolve_refusal}
+use Rattle.dissolves.specs.Marking.{dissolve_named, dissolve_on, mark_asked, marked_track, undissolve_named, undissolve_on, undissolve_refusal}
+use Rattle.edit_delta.specs.Nearest.{nearest}
+use Rattle.edit_delta.specs.Reaching.{going_on, reaching_back}
+use Rattle.edit_delta.specs.Using.{on_range, used_on}
+use Rattle.edit_trim.specs.Slipping.{slip_allows, slip_named, slip_range, slip_track, slipped, slipped_by}
+use Rattle.edit_trim.specs.Trimming.{trim_allows, trim_end, trim_named, trim_track, trimmed}
 use Rattle.edit_splice.specs.Shifts.{shift_of, shifted, shifted_along, shifted_track}
 use Rattle.edit_splice.specs.Splicing.{spliced_track}
 use Rattle.edit_splice.proofs.Outcomes.{next-bounds}
@@ -40,23 +47,25 @@ use Rattle.edit_splice.specs.Padding.{padded_track}
 use Rattle.edit_insert.specs.Sources.{source_refusal}
 use Rattle.edit_splice.proofs.Bridging.{for-found}
 use Rattle.edit_splice.proofs.Standing.{all_head, all_none, all_tail}
-use Rattle.edit_splice.proofs.Unlinked.{Bare, bare-padded, bare-shifted, shift-free}
+use Rattle.edit_splice.proofs.Numbers.{if-weaker}
+use Rattle.edit_splice.proofs.Unlinked.{Bare, shift-free}
+use Rattle.edit_apply.specs.PlainCells.{ArePlain, IsPlain, plain-append, plain-at, plain-bare, plain-changed, plain-marked, plain-more, plain-spliced, plain-views}
 
 -- a track without links that has given away at most this many item numbers, and no link number
 pub record IsYoung (n : ℕ) (t : TrackState) : Type 0 where
   pub item : t.next_item ≤ n
   pub link : t.next_link ≡ 0
-  pub bare : links_in t.cells ≡ []
+  pub plain : ArePlain n t.cells
 
 pub young-more : (n m : ℕ) (t : TrackState) → n ≤ m → IsYoung n t → IsYoung m t
-young-more n m t le y = record { item = omega (arith, le, y.item); link = y.link; bare = y.bare }
+young-more n m t le y = record { item = omega (arith, le, y.item); link = y.link; plain = plain-more n m t.cells le y.plain }
 
 pub all-more : (n m : ℕ) (ts : List TrackState) → n ≤ m → All (IsYoung n) ts → All (IsYoung m) ts
 all-more n m ts le h k d lt = young-more n m _ le (h k d lt)
 
 pub all-bare : (n : ℕ) (ts : List TrackState) → All (IsYoung n) ts → Bare ts
 all-bare n [] h = tt
-all-bare n (t ∷ ts) h = ((all_head (IsYoung n) t ts h).bare, all-bare n ts (all_tail (IsYoung n) t ts h))
+all-bare n (t ∷ ts) h = (plain-bare n t.cells (all_head (IsYoung n) t ts h).plain, all-bare n ts (all_tail (IsYoung n) t ts h))
 
 -- what a call leaves, if it is done
 abbrev pub AreYoung : ℕ → Applied → Type 0
@@ -71,11 +80,6 @@ StaysYoung n (Err r) = Unit {0}
 young_views : (n m : ℕ) (views : List ItemView) → n ≡ m → NumbersBelow n views → NumbersBelow m views
 young_views n m views e h = subst (λ (k : ℕ). NumbersBelow k views) e h
 
-spliced_bare : (t : TrackState) (x y : ℕ) (views : List ItemView) → links_in t.cells ≡ [] → AllUnlinked views → links_in (spliced_track t x y views).cells ≡ []
-spliced_bare t x y views h u =
-    let all : Bare (shifted t.number x y views (t ∷ [])) = bare-shifted t.number x y views (t ∷ []) u (h, tt) in
-    subst (λ (b : Bool). links_in (cond b (spliced_track t x y views) (shifted_along t x y (frames_in views))).cells ≡ []) (eq-eqb t.number t.number refl) all.0
-
 pub young-spliced : (n : ℕ) (t : TrackState) (x y : ℕ) (views : List ItemView) → IsYoung n t → NumbersBelow (n + 1) views → AllUnlinked views
     → IsYoung (n + 2) (spliced_track t x y views)
 young-spliced n t x y views h below u =
@@ -83,7 +87,11 @@ young-spliced n t x y views h below u =
     let e : n + 1 ≡ t.next_item + more = omega (arith, h.item) in
     let next = next-bounds t x y more views (young_views (n + 1) (t.next_item + more) views e below) in
     let most : (spliced_track t x y views).next_item ≤ t.next_item + more + 1 = next.1 in
-    record { item = omega (arith, most, e); link = h.link; bare = spliced_bare t x y views h.bare u }
+    let up : n ≤ n + 1 = omega arith in
+    let low : t.next_item ≤ n + 1 = omega (arith, h.item) in
+    let plain = plain-spliced (n + 1) t x y views low (plain-more n (n + 1) t.cells up h.plain) below u in
+    let same : n + 1 + 1 ≡ n + 2 = omega arith in
+    record { item = omega (arith, most, e); link = h.link; plain = subst (λ (k : ℕ). ArePlain k (spliced_track t x y views).cells) same plain }
 
 gap_young : (n k : ℕ) → NumbersBelow n (gap_views k)
 gap_young n k = by (eqb k 0) where
@@ -98,11 +106,12 @@ gap_unlinked k = by (eqb k 0) where
   by false = (refl, tt)
 
 pub young-padded : (n : ℕ) (t : TrackState) (at : ℕ) → IsYoung n t → IsYoung n (padded_track t at)
-young-padded n t at h =
-    let all : Bare (with_track (t ∷ []) (padded_track t at)) = bare-padded (t ∷ []) t at h.bare (h.bare, tt) in
-    let bare : Bare (padded_track t at ∷ []) =
-    subst (λ (b : Bool). Bare (cond b (padded_track t at ∷ []) (t ∷ []))) (eq-eqb t.number t.number refl) all in
-    record { item = h.item; link = h.link; bare = bare.0 }
+young-padded n t at h = record {
+  item = h.item;
+  link = h.link;
+  plain = plain-append n t.cells (cells_of (gap_views (at - length t.cells))) h.plain
+  (plain-views n (gap_views (at - length t.cells)) (gap_young n (at - length t.cells)) (gap_unlinked (at - length t.cells)));
+}
 
 -- refusals
 unless_young : (n : ℕ) (why : Option Refusal) (meant : Applied) → AreYoung n meant → AreYoung n (unless why meant)
@@ -228,14 +237,13 @@ young-slice n ts c h = on-own-young n (n + 2) c.track (slice_track c) ts (omega 
     by true = within_stays (n + 2) (spliced_track t c.at c.at []) Plain (young-spliced n t c.at c.at [] y tt tt)
     by false = tt
 
--- a mark is no link
-marked_links : (cs : List Cell) (p : ℕ) (mark : Option Mark) → links_in (mark_at_place cs p mark) ≡ links_in cs
-marked_links [] p mark = refl
-marked_links (c ∷ cs) zero mark = refl
-marked_links (c ∷ cs) (suc p) mark = ap (with_link_of c.link) (marked_links cs p mark)
-
+-- a dissolve put or taken away
 young_marked : (n : ℕ) (t : TrackState) (p : ℕ) (mark : Option Mark) → IsYoung n t → IsYoung (n + 2) (marked_track t p mark)
-young_marked n t p mark y = record { item = omega (arith, y.item); link = y.link; bare = marked_links t.cells p mark ∙ y.bare }
+young_marked n t p mark y = record {
+  item = omega (arith, y.item);
+  link = y.link;
+  plain = plain-marked (n + 2) t.cells p mark (plain-more n (n + 2) t.cells (omega arith) y.plain);
+}
 
 pub young-dissolve : (n : ℕ) (table : Table) (ts : List TrackState) (c : Dissolve) → All (IsYoung n) ts → AreYoung (n + 2) (dissolve_named table ts c)
 young-dissolve n table ts c h = on-own-young n (n + 2) c.track (λ t. dissolve_on table t c) ts (omega arith) h each where
@@ -249,3 +257,56 @@ young-undissolve n ts c h = on-own-young n (n + 2) c.track (λ t. undissolve_on 
   each : (t : TrackState) → IsYoung n t → StaysYoung (n + 2) (undissolve_on t c)
   each t y =
       unless_stays (n + 2) (undissolve_refusal (cell_at t.cells c.at).mark c.at) (Ok (marked_track t c.at None, Plain)) (young_marked n t c.at None y)
+
+-- an edit by a delta
+on_range_stays : (m : ℕ) (meant : ℕ → ℕ → Result (TrackState × Done) Refusal) (range : Option (ℕ × ℕ)) → ((x y : ℕ) → StaysYoung m (meant x y))
+    → StaysYoung m (on_range meant range)
+on_range_stays m meant None h = tt
+on_range_stays m meant (Some (x, y)) h = h x y
+
+used_stays : (n : ℕ) (t : TrackState) (moved : ℤ → TrackState) (d : ℤ) → IsYoung n t → IsYoung (n + 2) (moved d) → StaysYoung (n + 2) (used_on t moved d)
+used_stays n t moved (pos zero) y h = young-more n (n + 2) t (omega arith) y
+used_stays n t moved (pos (suc k)) y h = within_stays (n + 2) (moved (pos (suc k))) (By (pos (suc k))) h
+used_stays n t moved (negsuc k) y h = within_stays (n + 2) (moved (negsuc k)) (By (negsuc k)) h
+
+-- a part of an item that goes on or reaches back, with the item's number
+part_young : (n : ℕ) (t : TrackState) (x y p : ℕ) (v : ItemView) → IsYoung n t → v.item ≡ (cell_at t.cells p).item → v.link ≡ (cell_at t.cells p).link
+    → IsYoung (n + 2) (spliced_track t x y (v ∷ []))
+part_young n t x y p v h item link =
+    let plain : IsPlain n (cell_at t.cells p) = plain-at n t.cells p h.plain in
+    let below : IfSome v.item (λ i. i < n) = subst (λ (o : Option ℕ). IfSome o (λ i. i < n)) (sym item) plain.0 in
+    young-spliced n t x y (v ∷ []) h (if-weaker v.item n (n + 1) (omega arith) below, tt) (link ∙ plain.1, tt)
+
+dark_young : (n : ℕ) (t : TrackState) (x y k : ℕ) → IsYoung n t → IsYoung (n + 2) (spliced_track t x y (gap_views k))
+dark_young n t x y k h = young-spliced n t x y (gap_views k) h (gap_young (n + 1) k) (gap_unlinked k)
+
+young_trimmed : (n : ℕ) (t : TrackState) (x y : ℕ) (end : End) (d : ℤ) → IsYoung n t → IsYoung (n + 2) (trimmed t x y end d)
+young_trimmed n t x y Head (pos k) h = dark_young n t x (x + k) k h
+young_trimmed n t x y Head (negsuc k) h = part_young n t (x - suc k) x x (reaching_back (cell_at t.cells x) (suc k)) h refl refl
+young_trimmed n t x y Tail (pos k) h = part_young n t y (min (y + k) (length t.cells)) (y - 1) (going_on (cell_at t.cells (y - 1)) k) h refl refl
+young_trimmed n t x y Tail (negsuc k) h = dark_young n t (y - suc k) y (suc k) h
+
+pub young-trim : (n : ℕ) (table : Table) (ts : List TrackState) (c : Trim) → All (IsYoung n) ts → AreYoung (n + 2) (trim_named table ts c)
+young-trim n table ts c h = on-own-young n (n + 2) c.track (trim_track table c) ts (omega arith) h each where
+  each : (t : TrackState) → IsYoung n t → StaysYoung (n + 2) (trim_track table c t)
+  each t y = on_range_stays (n + 2) (trim_end table t c.end c.by) (range_of t.cells c.item)
+      (λ a b. used_stays n t (trimmed t a b c.end) (nearest (trim_allows table t a b c.end) c.by) y
+      (young_trimmed n t a b c.end (nearest (trim_allows table t a b c.end) c.by) y))
+
+young_moved : (n : ℕ) (t : TrackState) (x y on back : ℕ) → IsYoung n t → IsYoung (n + 2) (slipped_by t x y on back)
+young_moved n t x y on back h = record {
+  item = omega (arith, h.item);
+  link = h.link;
+  plain = plain-changed (n + 2) x y on back t.cells (plain-more n (n + 2) t.cells (omega arith) h.plain);
+}
+
+young_slipped : (n : ℕ) (t : TrackState) (x y : ℕ) (d : ℤ) → IsYoung n t → IsYoung (n + 2) (slipped t x y d)
+young_slipped n t x y (pos k) h = young_moved n t x y k 0 h
+young_slipped n t x y (negsuc k) h = young_moved n t x y 0 (suc k) h
+
+pub young-slip : (n : ℕ) (table : Table) (ts : List TrackState) (c : Slip) → All (IsYoung n) ts → AreYoung (n + 2) (slip_named table ts c)
+young-slip n table ts c h = on-own-young n (n + 2) c.track (slip_track table c) ts (omega arith) h each where
+  each : (t : TrackState) → IsYoung n t → StaysYoung (n + 2) (slip_track table c t)
+  each t y = on_range_stays (n + 2) (slip_range table t c.by) (range_of t.cells c.item)
+      (λ a b. used_stays n t (slipped t a b) (nearest (slip_allows table t a b) c.by) y
+      (young_slipped n t a b (nearest (slip_allows table t a b) c.by) y))

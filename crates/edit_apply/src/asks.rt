@@ -1,7 +1,7 @@
 // Calls and questions as a station sends them, and what a question is answered.
 
 use composables::{
-    Dissolve, Extract, Insert, ItemView, Listed, Overwrite, Remove, Slice, Undissolve,
+    Dissolve, Extract, Insert, ItemView, Listed, Overwrite, Remove, Slice, Slip, Trim, Undissolve,
 };
 use frame_meaning::{Run, What};
 
@@ -15,6 +15,8 @@ pub enum Call {
     Slice(Slice),
     Dissolve(Dissolve),
     Undissolve(Undissolve),
+    Trim(Trim),
+    Slip(Slip),
 }
 
 /// A question to a track: the frames shown in its places [a, b), or its items.

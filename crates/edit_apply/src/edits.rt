@@ -12,6 +12,7 @@ use crate::Call;
 use composables::{Done, EditFault, Refusal, Table, Track};
 use dissolves::{dissolve, undissolve};
 use edit_insert::{extract, insert, overwrite, remove, slice};
+use edit_trim::{slip, trim};
 use room_core::Fault;
 use std::alloc::Global;
 use std::sync::ledger::Ledger;
@@ -49,6 +50,8 @@ pub(crate) fn edit<L: Ledger>(
         Call::Slice(edit) => slice(alloc, table, parts, edit, steps),
         Call::Dissolve(edit) => dissolve(alloc, table, parts, edit, steps),
         Call::Undissolve(edit) => undissolve(alloc, table, parts, edit, steps),
+        Call::Trim(edit) => trim(alloc, table, parts, edit, steps),
+        Call::Slip(edit) => slip(alloc, table, parts, edit, steps),
     }
 }
 

@@ -33,6 +33,11 @@ pub(crate) fn named_by(call: &Call) -> NamedTracks
         Call::Slice(edit) => NamedTracks::One(edit.track),
         Call::Dissolve(edit) => NamedTracks::One(edit.track),
         Call::Undissolve(edit) => NamedTracks::One(edit.track),
+        Call::Trim(edit) => NamedTracks::One(edit.track),
+        Call::Slip(edit) => NamedTracks::Many {
+            tracks: edit.tracks,
+            own: edit.track,
+        },
     }
 }
 

@@ -8,8 +8,8 @@ ghost use Rattle.edit_apply.specs.RoomTracks.{IsTrackOf};
 
 use crate::{Ask, AskRefusal, Call, Editor};
 use composables::{
-    Dissolve, Done, Extract, Insert, ItemView, Kind, Listed, MAX_ITEMS, Media, Memory, Overwrite,
-    Reels, Refusal, Remove, Slice, Table, Track, Undissolve,
+    Dissolve, Done, End, Extract, Insert, ItemView, Kind, Listed, MAX_ITEMS, Media, Memory,
+    Overwrite, Reels, Refusal, Remove, Slice, Slip, Table, Track, Trim, Undissolve,
 };
 use frame_meaning::What;
 use room_core::{Fault, PartObject};
@@ -88,6 +88,13 @@ fn a_call_names_its_tracks(rt: HostRuntime) -> Result<(), Fail> {
             b: 1,
         });
         assert_eq!(rt; editor.names(&dissolve), set);
+        let trim = Call::Trim(Trim {
+            track,
+            item: 0,
+            end: End::Head,
+            by: -1,
+        });
+        assert_eq!(rt; editor.names(&trim), set);
     }
     for tracks in [0u32, 1, 5, 4_294_967_295] {
         assert_eq!(rt; editor.names(&insert_on(tracks, 0)), tracks);
@@ -97,6 +104,13 @@ fn a_call_names_its_tracks(rt: HostRuntime) -> Result<(), Fail> {
             item: 0,
         });
         assert_eq!(rt; editor.names(&extract), tracks);
+        let slip = Call::Slip(Slip {
+            tracks,
+            track: 9,
+            item: 0,
+            by: 1,
+        });
+        assert_eq!(rt; editor.names(&slip), tracks);
     }
     Ok(())
 }
