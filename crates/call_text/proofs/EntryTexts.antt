@@ -17,13 +17,15 @@ use Rattle.frame_meaning.specs.declared.cells.What.{What}
 use Rattle.frame_meaning.specs.declared.cells.What.TheVariants.{Media, Nest}
 use Rattle.composables.specs.declared.calls.End.{End}
 use Rattle.composables.specs.declared.calls.End.TheVariants.{Head, Tail}
+use Rattle.composables.specs.declared.calls.FillLength.{FillLength}
+use Rattle.composables.specs.declared.calls.FillLength.TheVariants.{Source, Sequence}
 use Rattle.composables.specs.TrackSets.{tracks_in}
 use Rattle.edit_apply.specs.declared.asks.Call.{Call}
 use Rattle.edit_apply.specs.declared.asks.Call.TheVariants as call
 use Rattle.room_core.specs.declared.entry.Entry.{Entry}
 use Rattle.call_text.specs.declared.lines.Line.TheVariants.{Edit}
 use Rattle.call_text.specs.declared.lines.LineFault.TheVariants.{B5}
-use Rattle.call_text.specs.CallTexts.{what_text, numbers_after, tracks_text, frames_text, call_text_of, IsSmallWhat, IsWritten}
+use Rattle.call_text.specs.CallTexts.{what_text, numbers_after, tracks_text, frames_text, length_text, call_text_of, IsSmallWhat, IsSmallLength, IsWritten}
 use Rattle.call_text.specs.JournalFaults.{HasNoEntry}
 use Rattle.call_text.specs.Journals.{entry_text, entry_line, count_text, count_line, HasLine}
 use Rattle.call_text.specs.LooseEntries.{loose_entry}
@@ -66,6 +68,10 @@ both_plain a b h k = rw (list_all-append (λ byte. not (is_lf byte)) a b, h, k) 
 delta_plain : (z : ℤ) → FitsSigned w32 z → is_plain (signed_decimal z) ≡ true
 delta_plain (pos n) h = number_plain n (delta_small n h)
 delta_plain (negsuc n) h = both_plain (codes "-") (decimal (suc n)) refl (number_plain (suc n) (back_small n h))
+
+length_plain : (l : FillLength) → IsSmallLength l → is_plain (length_text l) ≡ true
+length_plain (Source n) h = both_plain (codes "source ") (decimal n) refl (number_plain n h)
+length_plain Sequence h = refl
 
 numbers_plain : (lead ns : List ℕ) → is_plain lead ≡ true → All (λ n. n < 32) ns → is_plain (numbers_after lead ns) ≡ true
 numbers_plain lead [] first h = refl
@@ -118,6 +124,21 @@ call_plain (call.Slip c) (tracks, track, item, by) =
     let own = then_plain (codes "slip " ++ tracks_text c.tracks) (decimal c.track) (tracks_plain c.tracks) (number_plain c.track (low c.track track)) in
     let items = then_plain (codes "slip " ++ tracks_text c.tracks ++ codes " " ++ decimal c.track) (decimal c.item) own (number_plain c.item item) in
     then_plain (codes "slip " ++ tracks_text c.tracks ++ codes " " ++ decimal c.track ++ codes " " ++ decimal c.item) (signed_decimal c.by) items (delta_plain c.by by)
+
+call_plain (call.Roll c) (track, at, by) =
+    let places = then_plain (codes "roll " ++ decimal c.track) (decimal c.at) (number_plain c.track (low c.track track)) (number_plain c.at at) in
+    then_plain (codes "roll " ++ decimal c.track ++ codes " " ++ decimal c.at) (signed_decimal c.by) places (delta_plain c.by by)
+call_plain (call.Slide c) (tracks, track, item, by) =
+    let own = then_plain (codes "slide " ++ tracks_text c.tracks) (decimal c.track) (tracks_plain c.tracks) (number_plain c.track (low c.track track)) in
+    let items = then_plain (codes "slide " ++ tracks_text c.tracks ++ codes " " ++ decimal c.track) (decimal c.item) own (number_plain c.item item) in
+    then_plain (codes "slide " ++ tracks_text c.tracks ++ codes " " ++ decimal c.track ++ codes " " ++ decimal c.item) (signed_decimal c.by) items (delta_plain c.by by)
+call_plain (call.Fill c) (track, at, what, from, len) =
+    let places = then_plain (codes "fill " ++ decimal c.track) (decimal c.at) (number_plain c.track (low c.track track)) (number_plain c.at at) in
+    let things = then_plain (codes "fill " ++ decimal c.track ++ codes " " ++ decimal c.at) (what_text c.what) places (what_plain c.what what) in
+    let sources =
+    then_plain (codes "fill " ++ decimal c.track ++ codes " " ++ decimal c.at ++ codes " " ++ what_text c.what) (decimal c.from) things (number_plain c.from from) in
+    then_plain (codes "fill " ++ decimal c.track ++ codes " " ++ decimal c.at ++ codes " " ++ what_text c.what ++ codes " " ++ decimal c.from) (length_text c.length) sources
+    (length_plain c.length len)
 
 pub entry_plain : (e : Entry Call) → HasLine e → is_plain (entry_text e) ≡ true
 entry_plain e h =

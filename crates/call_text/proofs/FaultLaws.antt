@@ -13,11 +13,11 @@ use Rattle.call_text.specs.declared.lines.LineFault.{LineFault}
 use Rattle.call_text.specs.declared.lines.LineFault.TheVariants.{B1, B2, B3, B4, B5, B6}
 use Rattle.call_text.specs.declared.commands.Command.{Command}
 use Rattle.call_text.specs.declared.commands.Command.TheVariants as command
-use Rattle.call_text.specs.Spelling.{◌>>=◌, number_or_fault, numeral_of, delta_of, end_of, track_of, is_comma, set_with, tracks_of, number_or_label, place_of, what_of}
-use Rattle.call_text.specs.Reading.{command_of, overwrite_of, insert_of, row_of, row_if, line_of_words, line_of}
+use Rattle.call_text.specs.Spelling.{◌>>=◌, number_or_fault, numeral_of, delta_of, end_of, given_of, track_of, is_comma, set_with, tracks_of, number_or_label, place_of, what_of}
+use Rattle.call_text.specs.Reading.{command_of, overwrite_of, insert_of, fill_of, row_of, row_if, line_of_words, line_of}
 use Rattle.call_text.specs.Table.{IsLine, end_word, word_of}
-use Rattle.call_text.specs.Faults.{Part, Tracks, Track, Place, Thing, Number, Ending, Delta, rows_of, IsNoNumeral, IsTooLarge, IsNoDelta, IsDeltaTooLarge, IsBadTrack, AreBadTracks, HasDigits, IsBadPart, IsPart, FirstIsBad, AreNoRow, AreBad, IsBad}
-use Rattle.call_text.proofs.ReadParts.{chosen, ok_same, err_ok, numeral_spelled, numeral_read, delta_spelled, delta_read, end_spelled, end_read, track_spelled, track_read, tracks_spelled, tracks_read, place_spelled, place_read, thing_spelled, thing_read}
+use Rattle.call_text.specs.Faults.{Part, Tracks, Track, Place, Thing, Number, Ending, Delta, Given, rows_of, IsNoNumeral, IsTooLarge, IsNoDelta, IsDeltaTooLarge, IsBadTrack, AreBadTracks, HasDigits, IsBadPart, IsPart, FirstIsBad, AreNoRow, AreBad, IsBad}
+use Rattle.call_text.proofs.ReadParts.{chosen, ok_same, err_ok, numeral_spelled, numeral_read, delta_spelled, delta_read, end_spelled, end_read, given_spelled, given_read, track_spelled, track_read, tracks_spelled, tracks_read, place_spelled, place_read, thing_spelled, thing_read}
 use Rattle.call_text.proofs.TableLaws.{command_spelled, command_read, line_spelled, line_read}
 
 -- the fault of what was not read
@@ -101,6 +101,20 @@ bad_end word e (none, is) = by (end_of word) refl
     by : (r : Result End LineFault) → end_of word ≡ r → end_of word ≡ Err e
     by (Ok end) read = absurd (none end (end_spelled word end read))
     by (Err f) read = let same = (end_bad word f read).1 in read ∙ ap Err (same ∙ sym is)
+
+-- a word that must be this one
+given_bad : (given word : List ℕ) (e : LineFault) → given_of given word ≡ Err e → (word ≢ given) × (e ≡ B1)
+given_bad given word e h = elim (chosen (bytes_eq word given) _ _ (Err e) h) [
+  | inl same ↦ absurd cc
+  | inr other ↦ (λ is. let read : Err e ≡ Ok tt = sym h ∙ given_read given word is in absurd cc, sym (err_same B1 e other.1))
+]
+
+bad_given : (given word : List ℕ) (e : LineFault) → (word ≢ given) × (e ≡ B1) → given_of given word ≡ Err e
+bad_given given word e (none, is) = by (given_of given word) refl
+  where
+    by : (r : Result (Unit {0}) LineFault) → given_of given word ≡ r → given_of given word ≡ Err e
+    by (Ok x) read = absurd (none (given_spelled given word x read))
+    by (Err f) read = let same = (given_bad given word f read).1 in read ∙ ap Err (same ∙ sym is)
 
 -- a track
 track_bad : (word : List ℕ) (e : LineFault) → track_of word ≡ Err e → IsBadTrack word e
@@ -224,6 +238,7 @@ part_error place_at Place word = error_of (place_of place_at word)
 part_error place_at Thing word = error_of (what_of word)
 part_error place_at Ending word = error_of (end_of word)
 part_error place_at Delta word = error_of (delta_of word)
+part_error place_at (Given given) word = error_of (given_of given word)
 
 part_bad : (place_at : List ℕ → Option ℕ) (part : Part) (word : List ℕ) (e : LineFault) → part_error place_at part word ≡ Some e → IsBadPart place_at part word e
 part_bad place_at Number word e h = numeral_bad word e (error_told (numeral_of word) e h)
@@ -233,6 +248,7 @@ part_bad place_at Place word e h = place_bad_of place_at word (number_of word) (
 part_bad place_at Thing word e h = thing_bad place_at word e (error_told (what_of word) e h)
 part_bad place_at Ending word e h = end_bad word e (error_told (end_of word) e h)
 part_bad place_at Delta word e h = delta_bad_of word (signed_of word) e refl (error_told (delta_of word) e h)
+part_bad place_at (Given given) word e h = given_bad given word e (error_told (given_of given word) e h)
 
 bad_part : (place_at : List ℕ → Option ℕ) (part : Part) (word : List ℕ) (e : LineFault) → IsBadPart place_at part word e → part_error place_at part word ≡ Some e
 bad_part place_at Number word e h = ap error_of (bad_numeral word e h)
@@ -242,6 +258,7 @@ bad_part place_at Place word e h = ap error_of (bad_place place_at word e h)
 bad_part place_at Thing word e h = ap error_of (bad_thing place_at word e h)
 bad_part place_at Ending word e h = ap error_of (bad_end word e h)
 bad_part place_at Delta word e h = ap error_of (bad_delta word e h)
+bad_part place_at (Given given) word e h = ap error_of (bad_given given word e h)
 
 part_right : (place_at : List ℕ → Option ℕ) (part : Part) (word : List ℕ) → part_error place_at part word ≡ None → IsPart place_at part word
 part_right place_at Number word h = let read = error_none (numeral_of word) h in (read.0, numeral_spelled word read.0 read.1)
@@ -251,6 +268,7 @@ part_right place_at Place word h = let read = error_none (place_of place_at word
 part_right place_at Thing word h = let read = error_none (what_of word) h in (read.0, thing_spelled word read.0 read.1)
 part_right place_at Ending word h = let read = error_none (end_of word) h in (read.0, end_spelled word read.0 read.1)
 part_right place_at Delta word h = let read = error_none (delta_of word) h in (read.0, delta_spelled word read.0 read.1)
+part_right place_at (Given given) word h = let read = error_none (given_of given word) h in given_spelled given word read.0 read.1
 
 right_part : (place_at : List ℕ → Option ℕ) (part : Part) (word : List ℕ) → IsPart place_at part word → part_error place_at part word ≡ None
 right_part place_at Number word h = error_read (numeral_of word) h.0 (numeral_read word h.0 h.1)
@@ -260,6 +278,7 @@ right_part place_at Place word h = error_read (place_of place_at word) h.0 (plac
 right_part place_at Thing word h = error_read (what_of word) h.0 (thing_read word h.0 h.1)
 right_part place_at Ending word h = error_read (end_of word) h.0 (ap end_of h.1 ∙ end_read h.0)
 right_part place_at Delta word h = error_read (delta_of word) h.0 (delta_read word h.0 h.1)
+right_part place_at (Given given) word h = error_read (given_of given word) tt (given_read given word h)
 
 -- the first fault of words as a row
 abbrev first_error : (List ℕ → Option ℕ) → List Part → List (List ℕ) → Option LineFault
@@ -352,6 +371,18 @@ insert_error place_at (a ∷ b ∷ c ∷ d ∷ e ∷ f ∷ []) =
     error_bind (tracks_of a) _ _ (λ tracks. error_bind (track_of b) _ _ (λ track. error_bind (place_of place_at c) _ _ (λ at. error_bind (what_of d) _ _ (λ what. error_bind (numeral_of e) _ _ (λ from. error_bind (numeral_of f) _ _ (λ len. refl))))))
 insert_error place_at (a ∷ b ∷ c ∷ d ∷ e ∷ f ∷ g ∷ words) = refl
 
+fill_error : (place_at : List ℕ → Option ℕ) (words : List (List ℕ)) → error_of (fill_of place_at words) ≡ rows_error place_at (rows_of command.Fill) words
+fill_error place_at [] = refl
+fill_error place_at (a ∷ []) = refl
+fill_error place_at (a ∷ b ∷ []) = refl
+fill_error place_at (a ∷ b ∷ c ∷ []) = refl
+fill_error place_at (a ∷ b ∷ c ∷ d ∷ []) = refl
+fill_error place_at (a ∷ b ∷ c ∷ d ∷ e ∷ []) =
+    error_bind (track_of a) _ _ (λ track. error_bind (place_of place_at b) _ _ (λ at. error_bind (what_of c) _ _ (λ what. error_bind (numeral_of d) _ _ (λ from. error_bind (given_of (codes "sequence") e) _ _ (λ how. refl)))))
+fill_error place_at (a ∷ b ∷ c ∷ d ∷ e ∷ f ∷ []) =
+    error_bind (track_of a) _ _ (λ track. error_bind (place_of place_at b) _ _ (λ at. error_bind (what_of c) _ _ (λ what. error_bind (numeral_of d) _ _ (λ from. error_bind (given_of (codes "source") e) _ _ (λ how. error_bind (numeral_of f) _ _ (λ len. refl))))))
+fill_error place_at (a ∷ b ∷ c ∷ d ∷ e ∷ f ∷ g ∷ words) = refl
+
 row_error : (place_at : List ℕ → Option ℕ) (k : Command) (words : List (List ℕ)) → error_of (row_of place_at k words) ≡ rows_error place_at (rows_of k) words
 row_error place_at command.Overwrite words = overwrite_error place_at words
 row_error place_at command.Insert words = insert_error place_at words
@@ -393,6 +424,19 @@ row_error place_at command.Slip (a ∷ b ∷ c ∷ []) = refl
 row_error place_at command.Slip (a ∷ b ∷ c ∷ d ∷ []) =
     error_bind (tracks_of a) _ _ (λ tracks. error_bind (track_of b) _ _ (λ track. error_bind (numeral_of c) _ _ (λ item. error_bind (delta_of d) _ _ (λ delta. refl))))
 row_error place_at command.Slip (a ∷ b ∷ c ∷ d ∷ e ∷ words) = refl
+row_error place_at command.Roll [] = refl
+row_error place_at command.Roll (a ∷ []) = refl
+row_error place_at command.Roll (a ∷ b ∷ []) = refl
+row_error place_at command.Roll (a ∷ b ∷ c ∷ []) = error_bind (track_of a) _ _ (λ track. error_bind (place_of place_at b) _ _ (λ at. error_bind (delta_of c) _ _ (λ delta. refl)))
+row_error place_at command.Roll (a ∷ b ∷ c ∷ d ∷ words) = refl
+row_error place_at command.Slide [] = refl
+row_error place_at command.Slide (a ∷ []) = refl
+row_error place_at command.Slide (a ∷ b ∷ []) = refl
+row_error place_at command.Slide (a ∷ b ∷ c ∷ []) = refl
+row_error place_at command.Slide (a ∷ b ∷ c ∷ d ∷ []) =
+    error_bind (tracks_of a) _ _ (λ tracks. error_bind (track_of b) _ _ (λ track. error_bind (numeral_of c) _ _ (λ item. error_bind (delta_of d) _ _ (λ delta. refl))))
+row_error place_at command.Slide (a ∷ b ∷ c ∷ d ∷ e ∷ words) = refl
+row_error place_at command.Fill words = fill_error place_at words
 row_error place_at command.View [] = refl
 row_error place_at command.View (a ∷ []) = refl
 row_error place_at command.View (a ∷ b ∷ []) = refl

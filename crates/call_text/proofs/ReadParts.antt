@@ -14,7 +14,7 @@ use Rattle.frame_meaning.specs.declared.cells.What.{What}
 use Rattle.frame_meaning.specs.declared.cells.What.TheVariants.{Media, Nest}
 use Rattle.call_text.specs.declared.lines.LineFault.{LineFault}
 use Rattle.call_text.specs.declared.lines.LineFault.TheVariants.{B1, B3, B4, B6}
-use Rattle.call_text.specs.Spelling.{◌>>=◌, number_or_fault, numeral_of, delta_of, end_of, track_of, is_comma, set_with, tracks_of, place_or_fault, number_or_label, place_of, what_of}
+use Rattle.call_text.specs.Spelling.{◌>>=◌, number_or_fault, numeral_of, delta_of, end_of, given_of, track_of, is_comma, set_with, tracks_of, place_or_fault, number_or_label, place_of, what_of}
 use Rattle.call_text.specs.Table.{IsDelta, IsNumeral, IsTrack, IsTracks, IsPlace, IsThing, end_word}
 use Rattle.call_text.proofs.TrackSets.{AreRising, rising, set_below, spells}
 
@@ -62,6 +62,15 @@ end_spelled word end h = elim (chosen (bytes_eq word (codes "head")) _ _ (Ok end
 pub end_read : (end : End) → end_of (end_word end) ≡ Ok end
 end_read Head = refl
 end_read Tail = refl
+
+pub given_spelled : (given word : List ℕ) (is : Unit {0}) → given_of given word ≡ Ok is → word ≡ given
+given_spelled given word is h = elim (chosen (bytes_eq word given) _ _ (Ok is) h) [
+  | inl same ↦ (bytes_eq-Decides word given).0 same.0
+  | inr other ↦ absurd (err_ok B1 is other.1)
+]
+
+pub given_read : (given word : List ℕ) → word ≡ given → given_of given word ≡ Ok tt
+given_read given word h = let same = (bytes_eq-Decides word given).1 h in rw same refl
 
 bounded : (b : Bool) (m n : ℕ) → (if b then Ok m else Err B4) ≡ Ok n → (b ≡ true) × (m ≡ n)
 bounded true m n h = (refl, cc)

@@ -5,6 +5,8 @@ use Rattle.std.specs.Fmt.{signed_decimal}
 use Rattle.std.specs.Int.{w32}
 use Rattle.frame_meaning.specs.declared.cells.What.{What}
 use Rattle.frame_meaning.specs.declared.cells.What.TheVariants.{Media, Nest}
+use Rattle.composables.specs.declared.calls.FillLength.{FillLength}
+use Rattle.composables.specs.declared.calls.FillLength.TheVariants.{Source, Sequence}
 use Rattle.composables.specs.TrackSets.{tracks_in}
 use Rattle.edit_apply.specs.declared.asks.Call.{Call}
 use Rattle.edit_apply.specs.declared.asks.Call.TheVariants as call
@@ -30,6 +32,11 @@ tracks_text set = numbers_after [] (tracks_in set)
 -- a thing, a source frame of it, and a count of frames
 abbrev pub frames_text : What → ℕ → ℕ → List ℕ
 frames_text what from len = what_text what ++ codes " " ++ decimal from ++ codes " " ++ decimal len
+
+-- how much is filled: so many source frames, or the whole gap
+abbrev pub length_text : FillLength → List ℕ
+length_text (Source len) = codes "source " ++ decimal len
+length_text Sequence = codes "sequence"
 
 -- a text, and two numbers with a space between
 abbrev pub numbers_text : List ℕ → ℕ → ℕ → List ℕ
@@ -58,6 +65,14 @@ call_text_of (call.Trim c) =
 call_text_of (call.Slip c) =
     codes "slip " ++ tracks_text c.tracks ++ codes " " ++ decimal c.track ++ codes " "
     ++ decimal c.item ++ codes " " ++ signed_decimal c.by
+call_text_of (call.Roll c) =
+    codes "roll " ++ decimal c.track ++ codes " " ++ decimal c.at ++ codes " " ++ signed_decimal c.by
+call_text_of (call.Slide c) =
+    codes "slide " ++ tracks_text c.tracks ++ codes " " ++ decimal c.track ++ codes " "
+    ++ decimal c.item ++ codes " " ++ signed_decimal c.by
+call_text_of (call.Fill c) =
+    codes "fill " ++ decimal c.track ++ codes " " ++ decimal c.at ++ codes " " ++ what_text c.what
+    ++ codes " " ++ decimal c.from ++ codes " " ++ length_text c.length
 
 -- a number of 32 bits
 abbrev pub IsSmall : ℕ → Type 0
@@ -66,6 +81,10 @@ IsSmall n = n < 2 ^ 32
 abbrev pub IsSmallWhat : What → Type 0
 IsSmallWhat (Media m) = IsSmall m
 IsSmallWhat (Nest n) = IsSmall n
+
+abbrev pub IsSmallLength : FillLength → Type 0
+IsSmallLength (Source len) = IsSmall len
+IsSmallLength Sequence = Unit {0}
 
 -- at least one track, and none over 31
 abbrev pub IsSomeTracks : ℕ → Type 0
@@ -87,6 +106,12 @@ IsWritten (call.Undissolve c) = (c.track ≤ LAST_TRACK) × IsSmall c.at
 IsWritten (call.Trim c) = (c.track ≤ LAST_TRACK) × IsSmall c.item × FitsSigned w32 c.by
 IsWritten (call.Slip c) =
     IsSomeTracks c.tracks × (c.track ≤ LAST_TRACK) × IsSmall c.item × FitsSigned w32 c.by
+IsWritten (call.Roll c) = (c.track ≤ LAST_TRACK) × IsSmall c.at × FitsSigned w32 c.by
+IsWritten (call.Slide c) =
+    IsSomeTracks c.tracks × (c.track ≤ LAST_TRACK) × IsSmall c.item × FitsSigned w32 c.by
+IsWritten (call.Fill c) =
+    (c.track ≤ LAST_TRACK) × IsSmall c.at
+    × IsSmallWhat c.what × IsSmall c.from × IsSmallLength c.length
 
 -- the line is no edit, or an edit that can be written and read again
 abbrev pub NamesWritten : Line → Type 0

@@ -1,7 +1,7 @@
 -- Why a line is none of the table. The first of these that holds: it is too long; it has no word; its
 -- first word is not in the table; no row of that word has so many words; and then, word by word from the
 -- left, a word is not spelled as its part of the row, or a number of it is past its bound, or its list
--- of tracks does not rise, or it is no end of an item.
+-- of tracks does not rise, or it must be another.
 use Rattle.std.specs.Prelude.{◌≡◌, ◌≢◌, ℕ, ℤ, ◌+◌, ◌<◌, ◌≤◌, ◌⊎◌, List, [], ◌∷◌, ◌++◌, None, Err, length, codes}
 use Rattle.std.specs.List.{slice_split}
 use Rattle.line_words.specs.Blanks.{words_of}
@@ -18,7 +18,7 @@ use Rattle.call_text.specs.declared.commands.Command.TheVariants as command
 use Rattle.call_text.specs.Spelling.{Naming, is_comma}
 use Rattle.call_text.specs.Table.{IsDelta, IsNumeral, IsTrack, IsTracks, IsPlace, IsThing, end_word, word_of}
 
--- what a word of a row is to be: TS, T, P, WHAT, a number (I, FROM, LEN, A, B), END, or D
+-- what a word of a row is to be: TS, T, P, WHAT, a number (I, FROM, LEN, A, B), END, D, or this word
 pub data Part : Type 0 where
   Tracks : Part
   Track : Part
@@ -27,6 +27,7 @@ pub data Part : Type 0 where
   Number : Part
   Ending : Part
   Delta : Part
+  Given : List ℕ → Part
 
 -- the rows that begin with a command's word, without it
 abbrev pub rows_of : Command → List (List Part)
@@ -39,6 +40,11 @@ rows_of command.Dissolve = (Track ∷ Place ∷ Number ∷ Number ∷ []) ∷ []
 rows_of command.Undissolve = (Track ∷ Place ∷ []) ∷ []
 rows_of command.Trim = (Track ∷ Number ∷ Ending ∷ Delta ∷ []) ∷ []
 rows_of command.Slip = (Tracks ∷ Track ∷ Number ∷ Delta ∷ []) ∷ []
+rows_of command.Roll = (Track ∷ Place ∷ Delta ∷ []) ∷ []
+rows_of command.Slide = (Tracks ∷ Track ∷ Number ∷ Delta ∷ []) ∷ []
+rows_of command.Fill =
+    (Track ∷ Place ∷ Thing ∷ Number ∷ Given (codes "sequence") ∷ [])
+    ∷ (Track ∷ Place ∷ Thing ∷ Number ∷ Given (codes "source") ∷ Number ∷ []) ∷ []
 rows_of command.View = (Track ∷ Place ∷ Place ∷ []) ∷ []
 rows_of command.Items = (Track ∷ []) ∷ []
 rows_of command.Point = [] ∷ []
@@ -93,6 +99,7 @@ IsBadPart place_at Thing word fault =
 IsBadPart place_at Ending word fault = ((end : End) → word ≢ end_word end) × (fault ≡ B1)
 IsBadPart place_at Delta word fault =
     (IsNoDelta word × (fault ≡ B3)) ⊎ (IsDeltaTooLarge word × (fault ≡ B4))
+IsBadPart place_at (Given given) word fault = (word ≢ given) × (fault ≡ B1)
 
 -- the word is spelled as this part, within its bounds
 abbrev pub IsPart : Naming → Part → List ℕ → Type 0
@@ -103,6 +110,7 @@ IsPart place_at Place word = (n : ℕ) × IsPlace place_at word n
 IsPart place_at Thing word = (w : What) × IsThing word w
 IsPart place_at Ending word = (end : End) × (word ≡ end_word end)
 IsPart place_at Delta word = (by : ℤ) × IsDelta word by
+IsPart place_at (Given given) word = word ≡ given
 
 -- the first word that is wrong, those before it being right
 abbrev pub FirstIsBad : Naming → List Part → List (List ℕ) → LineFault → Type 0

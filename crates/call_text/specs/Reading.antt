@@ -1,11 +1,12 @@
 -- The table of the lines that a station sends, and the first fault of a line that is none of them: B5
 -- more than 1,024 bytes; B2 no word; B1 a first word that is not in the table; B2 not as many words as
 -- the row has; then, word by word from the left, B3 a word that is not spelled so, B4 a number past its
--- bound, B6 a list of tracks that does not rise, B1 a word that is no end of an item.
+-- bound, B6 a list of tracks that does not rise, B1 a word that must be another.
 use Rattle.std.specs.Prelude.{ℕ, List, [], ◌∷◌, Option, Some, None, Result, Ok, Err, length, map, nat_le, codes, bytes_eq, if◌then◌else◌}
 use Rattle.std.specs.Borrow.{Bor}
 use Rattle.line_words.specs.Blanks.{words_of}
 use Rattle.line_words.specs.declared.TheConstants.{MAX_LINE}
+use Rattle.composables.specs.declared.calls.FillLength.TheVariants.{Source, Sequence}
 use Rattle.edit_apply.specs.declared.asks.Call.TheVariants as call
 use Rattle.edit_apply.specs.declared.asks.Ask.TheVariants as ask
 use Rattle.call_text.specs.declared.lines.Line.{Line}
@@ -14,7 +15,7 @@ use Rattle.call_text.specs.declared.lines.LineFault.{LineFault}
 use Rattle.call_text.specs.declared.lines.LineFault.TheVariants.{B1, B2, B5}
 use Rattle.call_text.specs.declared.commands.Command.{Command}
 use Rattle.call_text.specs.declared.commands.Command.TheVariants as command
-use Rattle.call_text.specs.Spelling.{Naming, ◌>>=◌, numeral_of, delta_of, end_of, track_of, tracks_of, place_of, what_of}
+use Rattle.call_text.specs.Spelling.{Naming, ◌>>=◌, numeral_of, delta_of, end_of, given_of, track_of, tracks_of, place_of, what_of}
 
 -- the bytes of words
 abbrev pub texts_of : List (Bor (List ℕ)) → List (List ℕ)
@@ -119,6 +120,56 @@ slip_of (tracks ∷ track ∷ item ∷ by ∷ []) = do
   Ok (Edit (call.Slip (record { tracks = tracks; track = track; item = item; by = by })))
 slip_of words = Err B2
 
+-- roll T P D
+abbrev pub roll_of : Naming → List (List ℕ) → Result Line LineFault
+roll_of place_at (track ∷ at ∷ by ∷ []) = do
+  track ← track_of track
+  at ← place_of place_at at
+  by ← delta_of by
+  Ok (Edit (call.Roll (record { track = track; at = at; by = by })))
+roll_of place_at words = Err B2
+
+-- slide TS T I D
+abbrev pub slide_of : List (List ℕ) → Result Line LineFault
+slide_of (tracks ∷ track ∷ item ∷ by ∷ []) = do
+  tracks ← tracks_of tracks
+  track ← track_of track
+  item ← numeral_of item
+  by ← delta_of by
+  Ok (Edit (call.Slide (record { tracks = tracks; track = track; item = item; by = by })))
+slide_of words = Err B2
+
+-- fill T P WHAT FROM sequence · fill T P WHAT FROM source LEN
+abbrev pub fill_of : Naming → List (List ℕ) → Result Line LineFault
+fill_of place_at (track ∷ at ∷ what ∷ from ∷ how ∷ []) = do
+  track ← track_of track
+  at ← place_of place_at at
+  what ← what_of what
+  from ← numeral_of from
+  how ← given_of (codes "sequence") how
+  Ok (Edit (call.Fill (record {
+    track = track;
+    at = at;
+    what = what;
+    from = from;
+    length = Sequence;
+  })))
+fill_of place_at (track ∷ at ∷ what ∷ from ∷ how ∷ len ∷ []) = do
+  track ← track_of track
+  at ← place_of place_at at
+  what ← what_of what
+  from ← numeral_of from
+  how ← given_of (codes "source") how
+  len ← numeral_of len
+  Ok (Edit (call.Fill (record {
+    track = track;
+    at = at;
+    what = what;
+    from = from;
+    length = Source len;
+  })))
+fill_of place_at words = Err B2
+
 -- view T P P
 abbrev pub view_of : Naming → List (List ℕ) → Result Line LineFault
 view_of place_at (track ∷ from ∷ to ∷ []) = do
@@ -159,6 +210,9 @@ command_of word =
     else if bytes_eq word (codes "undissolve") then Some command.Undissolve
     else if bytes_eq word (codes "trim") then Some command.Trim
     else if bytes_eq word (codes "slip") then Some command.Slip
+    else if bytes_eq word (codes "roll") then Some command.Roll
+    else if bytes_eq word (codes "slide") then Some command.Slide
+    else if bytes_eq word (codes "fill") then Some command.Fill
     else if bytes_eq word (codes "view") then Some command.View
     else if bytes_eq word (codes "items") then Some command.Items
     else if bytes_eq word (codes "point") then Some command.Point
@@ -176,6 +230,9 @@ row_of place_at command.Dissolve words = dissolve_of place_at words
 row_of place_at command.Undissolve words = undissolve_of place_at words
 row_of place_at command.Trim words = trim_of words
 row_of place_at command.Slip words = slip_of words
+row_of place_at command.Roll words = roll_of place_at words
+row_of place_at command.Slide words = slide_of words
+row_of place_at command.Fill words = fill_of place_at words
 row_of place_at command.View words = view_of place_at words
 row_of place_at command.Items words = items_of words
 row_of place_at command.Point words = point_of words

@@ -1,6 +1,6 @@
 -- How the parts of a line are spelled, each as what its word says, or why the word is wrong: B3 where
 -- it is not spelled so, B4 where a number is past its bound, B6 where a list of tracks does not rise,
--- B1 where a word that must be `head` or `tail` is another.
+-- B1 where a word that must be `head`, `tail`, `source` or `sequence` is another.
 -- This project's own protocol.
 use Rattle.std.specs.Prelude.{ℕ, ℤ, ◌+◌, ◌^◌, Bool, List, [], ◌∷◌, Option, Some, None, Result, Ok, Err, nat_le, ◌==◌, if◌then◌else◌, bytes_eq, codes}
 use Rattle.std.specs.List.{slice_split}
@@ -48,6 +48,10 @@ end_of word =
     if bytes_eq word (codes "head") then Ok Head
     else if bytes_eq word (codes "tail") then Ok Tail
     else Err B1
+
+-- a word that must be this one
+abbrev pub given_of : List ℕ → List ℕ → Result (Unit {0}) LineFault
+given_of given word = if bytes_eq word given then Ok tt else Err B1
 
 -- a track: a number, at most 31
 abbrev pub track_of : List ℕ → Result ℕ LineFault

@@ -9,6 +9,8 @@ use Rattle.frame_meaning.specs.declared.cells.What.{What}
 use Rattle.frame_meaning.specs.declared.cells.What.TheVariants.{Media, Nest}
 use Rattle.composables.specs.declared.calls.End.{End}
 use Rattle.composables.specs.declared.calls.End.TheVariants.{Head, Tail}
+use Rattle.composables.specs.declared.calls.FillLength.{FillLength}
+use Rattle.composables.specs.declared.calls.FillLength.TheVariants.{Source, Sequence}
 use Rattle.composables.specs.TrackSets.{tracks_in}
 use Rattle.edit_apply.specs.declared.asks.Call.{Call}
 use Rattle.edit_apply.specs.declared.asks.Call.TheVariants as call
@@ -56,6 +58,11 @@ abbrev pub IsThing : List ℕ → What → Type 0
 IsThing word (Media m) = (digits : List ℕ) × (word ≡ codes "@" ++ digits) × IsNumeral digits m
 IsThing word (Nest n) = (digits : List ℕ) × (word ≡ codes "#" ++ digits) × IsNumeral digits n
 
+-- the words are how much is filled: so many source frames, or the whole gap
+abbrev pub AreLength : List (List ℕ) → FillLength → Type 0
+AreLength words (Source n) = (len : List ℕ) × (words ≡ codes "source" ∷ len ∷ []) × IsNumeral len n
+AreLength words Sequence = words ≡ codes "sequence" ∷ []
+
 -- the first word of a command's lines
 abbrev pub word_of : Command → List ℕ
 word_of command.Overwrite = codes "overwrite"
@@ -67,13 +74,17 @@ word_of command.Dissolve = codes "dissolve"
 word_of command.Undissolve = codes "undissolve"
 word_of command.Trim = codes "trim"
 word_of command.Slip = codes "slip"
+word_of command.Roll = codes "roll"
+word_of command.Slide = codes "slide"
+word_of command.Fill = codes "fill"
 word_of command.View = codes "view"
 word_of command.Items = codes "items"
 word_of command.Point = codes "point"
 word_of command.Otio = codes "otio"
 
 -- overwrite T P WHAT FROM LEN · insert TS T P WHAT FROM LEN · remove T I · extract TS T I · slice T P
--- · dissolve T P A B · undissolve T P · trim T I END D · slip TS T I D
+-- · dissolve T P A B · undissolve T P · trim T I END D · slip TS T I D · roll T P D · slide TS T I D
+-- · fill T P WHAT FROM sequence · fill T P WHAT FROM source LEN
 abbrev pub AreCall : Naming → List (List ℕ) → Call → Type 0
 AreCall place_at words (call.Overwrite c) =
     (track at what from len : List ℕ)
@@ -108,6 +119,18 @@ AreCall place_at words (call.Slip c) =
     (tracks track item by : List ℕ)
     × (words ≡ word_of command.Slip ∷ tracks ∷ track ∷ item ∷ by ∷ [])
     × IsTracks tracks c.tracks × IsTrack track c.track × IsNumeral item c.item × IsDelta by c.by
+AreCall place_at words (call.Roll c) =
+    (track at by : List ℕ) × (words ≡ word_of command.Roll ∷ track ∷ at ∷ by ∷ [])
+    × IsTrack track c.track × IsPlace place_at at c.at × IsDelta by c.by
+AreCall place_at words (call.Slide c) =
+    (tracks track item by : List ℕ)
+    × (words ≡ word_of command.Slide ∷ tracks ∷ track ∷ item ∷ by ∷ [])
+    × IsTracks tracks c.tracks × IsTrack track c.track × IsNumeral item c.item × IsDelta by c.by
+AreCall place_at words (call.Fill c) =
+    (track at what from : List ℕ) (rest : List (List ℕ))
+    × (words ≡ word_of command.Fill ∷ track ∷ at ∷ what ∷ from ∷ rest)
+    × IsTrack track c.track × IsPlace place_at at c.at
+    × IsThing what c.what × IsNumeral from c.from × AreLength rest c.length
 
 -- a call · view T P P · items T · point · otio N
 abbrev pub AreWords : Naming → List (List ℕ) → Line → Type 0

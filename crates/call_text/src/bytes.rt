@@ -1,10 +1,10 @@
 // Texts that grow at their end, and take memory.
 ghost use Rattle.std.specs.Prelude.{◌≡◌, ◌++◌, decimal, OnOk};
 ghost use Rattle.std.specs.Fmt.{signed_decimal};
-ghost use Rattle.call_text.specs.CallTexts.{what_text};
+ghost use Rattle.call_text.specs.CallTexts.{length_text, what_text};
 ghost use Rattle.call_text.specs.Table.{end_word};
 
-use composables::End;
+use composables::{End, FillLength};
 use frame_meaning::{Memory, What};
 use itoa::Buffer;
 
@@ -40,6 +40,16 @@ pub(crate) fn put_end(out: &mut Vec<u8>, end: End) -> Result<(), Memory>
     match end {
         End::Head => put(out, b"head"),
         End::Tail => put(out, b"tail"),
+    }
+}
+
+// How much is filled.
+pub(crate) fn put_length(out: &mut Vec<u8>, length: FillLength) -> Result<(), Memory>
+    ensures { OnOk result (out.new.items ≡ out.old.items ++ length_text length) }
+{
+    match length {
+        FillLength::Source(len) => put_number(out, b"source ", len),
+        FillLength::Sequence => put(out, b"sequence"),
     }
 }
 

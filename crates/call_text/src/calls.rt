@@ -2,8 +2,8 @@
 ghost use Rattle.std.specs.Prelude.{◌≡◌, ◌++◌, IfOk, OnOk};
 ghost use Rattle.call_text.specs.CallTexts.{call_text_of, frames_text, numbers_text, tracks_text};
 
-use crate::bytes::{put, put_end, put_number, put_signed, put_what};
-use composables::{Memory, Slip, Trim, has_track};
+use crate::bytes::{put, put_end, put_length, put_number, put_signed, put_what};
+use composables::{Fill, Memory, Slide, Slip, Trim, has_track};
 use edit_apply::Call;
 use frame_meaning::What;
 use std::alloc::Global;
@@ -48,6 +48,12 @@ pub(crate) fn put_call(out: &mut Vec<u8>, call: &Call) -> Result<(), Memory>
         Call::Undissolve(edit) => put_numbers(out, b"undissolve ", edit.track, edit.at),
         Call::Trim(edit) => put_trim(out, edit),
         Call::Slip(edit) => put_slip(out, edit),
+        Call::Roll(edit) => {
+            put_numbers(out, b"roll ", edit.track, edit.at)?;
+            put_signed(out, b" ", edit.by)
+        }
+        Call::Slide(edit) => put_slide(out, edit),
+        Call::Fill(edit) => put_fill(out, edit),
     }
 }
 
@@ -67,6 +73,26 @@ fn put_slip(out: &mut Vec<u8>, edit: &Slip) -> Result<(), Memory>
     put_number(out, b" ", edit.track)?;
     put_number(out, b" ", edit.item)?;
     put_signed(out, b" ", edit.by)
+}
+
+fn put_slide(out: &mut Vec<u8>, edit: &Slide) -> Result<(), Memory>
+    ensures { OnOk result (out.new.items ≡ out.old.items ++ call_text_of (Call.Slide edit.now)) }
+{
+    put_tracks(out, b"slide ", edit.tracks)?;
+    put_number(out, b" ", edit.track)?;
+    put_number(out, b" ", edit.item)?;
+    put_signed(out, b" ", edit.by)
+}
+
+fn put_fill(out: &mut Vec<u8>, edit: &Fill) -> Result<(), Memory>
+    ensures { OnOk result (out.new.items ≡ out.old.items ++ call_text_of (Call.Fill edit.now)) }
+{
+    put_numbers(out, b"fill ", edit.track, edit.at)?;
+    put(out, b" ")?;
+    put_what(out, &edit.what)?;
+    put_number(out, b" ", edit.from)?;
+    put(out, b" ")?;
+    put_length(out, edit.length)
 }
 
 // A text, and two numbers with a space between.

@@ -14,6 +14,9 @@ pub enum Command {
     Undissolve,
     Trim,
     Slip,
+    Roll,
+    Slide,
+    Fill,
     View,
     Items,
     Point,
@@ -43,6 +46,12 @@ impl Command {
             Some(Command::Trim)
         } else if word == b"slip".as_slice() {
             Some(Command::Slip)
+        } else if word == b"roll".as_slice() {
+            Some(Command::Roll)
+        } else if word == b"slide".as_slice() {
+            Some(Command::Slide)
+        } else if word == b"fill".as_slice() {
+            Some(Command::Fill)
         } else if word == b"view".as_slice() {
             Some(Command::View)
         } else if word == b"items".as_slice() {

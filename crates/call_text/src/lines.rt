@@ -20,7 +20,7 @@ pub enum Line {
 /// are looked at from left to right.
 #[derive(Clone, Copy, Debug, PartialEq, Eq)]
 pub enum LineFault {
-    /// The first word is not in the table, or a word that must be `head` or `tail` is another.
+    /// The first word is not in the table, or a word that must be `head`, `tail`, `source` or `sequence` is another.
     B1,
     /// The line has no word, or not as many as any row with its first word.
     B2,

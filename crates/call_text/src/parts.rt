@@ -3,7 +3,7 @@ ghost use Rattle.std.specs.Prelude.{◌≡◌, ◌<◌, ◌≤◌, ◌∷◌, Fi
 ghost use Rattle.std.specs.Int.{w32};
 ghost use Rattle.std.specs.List.{slice_split};
 ghost use Rattle.call_text.specs.Labels.{place_by};
-ghost use Rattle.call_text.specs.Spelling.{numeral_of, delta_of, end_of, track_of, is_comma, listed_in, tracks_of, place_of, what_of};
+ghost use Rattle.call_text.specs.Spelling.{numeral_of, delta_of, end_of, given_of, track_of, is_comma, listed_in, tracks_of, place_of, what_of};
 
 use crate::LineFault;
 use crate::labels::label_place;
@@ -37,6 +37,17 @@ pub(crate) fn end(word: &[u8]) -> Result<End, LineFault>
         Ok(End::Head)
     } else if word == b"tail".as_slice() {
         Ok(End::Tail)
+    } else {
+        Err(LineFault::B1)
+    }
+}
+
+// A word that must be this one.
+pub(crate) fn given(word: &[u8], given: &[u8]) -> Result<(), LineFault>
+    ensures { result ≡ given_of given.now word.now }
+{
+    if word == given {
+        Ok(())
     } else {
         Err(LineFault::B1)
     }

@@ -11,6 +11,9 @@ use Rattle.composables.specs.Answers.{Applied}
 use Rattle.composables.specs.TrackSets.{tracks_in}
 use Rattle.dissolves.specs.Marking.{dissolve_named, undissolve_named}
 use Rattle.edit_insert.specs.Edits.{extract_named, insert_named, overwrite_named, remove_named, slice_named}
+use Rattle.edit_insert.specs.Fills.{fill_named}
+use Rattle.edit_roll.specs.Rolling.{roll_named}
+use Rattle.edit_roll.specs.Sliding.{slide_named}
 use Rattle.edit_trim.specs.Slipping.{slip_named}
 use Rattle.edit_trim.specs.Trimming.{trim_named}
 use Rattle.room_core.specs.Whole.{Meaning}
@@ -30,6 +33,9 @@ named_by (call.Dissolve c) = One c.track
 named_by (call.Undissolve c) = One c.track
 named_by (call.Trim c) = One c.track
 named_by (call.Slip c) = Many c.tracks c.track
+named_by (call.Roll c) = One c.track
+named_by (call.Slide c) = Many c.tracks c.track
+named_by (call.Fill c) = One c.track
 
 abbrev pub tracks_of : NamedTracks → List ℕ
 tracks_of (One track) = track ∷ []
@@ -85,6 +91,9 @@ applied_on table named (call.Dissolve c) = dissolve_named table named c
 applied_on table named (call.Undissolve c) = undissolve_named named c
 applied_on table named (call.Trim c) = trim_named table named c
 applied_on table named (call.Slip c) = slip_named table named c
+applied_on table named (call.Roll c) = roll_named table named c
+applied_on table named (call.Slide c) = slide_named table named c
+applied_on table named (call.Fill c) = fill_named table named c
 
 -- what the calls of a room with this table mean
 abbrev pub editing : Table → Meaning TrackState Call Done Refusal

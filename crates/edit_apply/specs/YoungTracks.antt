@@ -7,6 +7,9 @@ use Rattle.composables.specs.declared.calls.Overwrite.{Overwrite}
 use Rattle.composables.specs.declared.calls.Insert.{Insert}
 use Rattle.composables.specs.declared.calls.Remove.{Remove}
 use Rattle.composables.specs.declared.calls.Extract.{Extract}
+use Rattle.composables.specs.declared.calls.Fill.{Fill}
+use Rattle.composables.specs.declared.calls.Roll.{Roll}
+use Rattle.composables.specs.declared.calls.Slide.{Slide}
 use Rattle.composables.specs.declared.calls.Slice.{Slice}
 use Rattle.composables.specs.declared.calls.Dissolve.{Dissolve}
 use Rattle.composables.specs.declared.calls.Undissolve.{Undissolve}
@@ -19,14 +22,14 @@ use Rattle.composables.specs.declared.media.Table.{Table}
 use Rattle.composables.specs.declared.refusals.Done.{Done}
 use Rattle.composables.specs.declared.refusals.Done.TheVariants.{By, Item, Plain}
 use Rattle.composables.specs.declared.refusals.Refusal.{Refusal}
-use Rattle.composables.specs.declared.refusals.Refusal.TheVariants.{NoItem, NoTrack}
+use Rattle.composables.specs.declared.refusals.Refusal.TheVariants.{NoItem, NotACut, NoTrack}
 use Rattle.composables.specs.Answers.{Applied, unless}
 use Rattle.composables.specs.Good.{AllUnlinked}
 use Rattle.composables.specs.Joined.{frames_in}
 use Rattle.composables.specs.Limits.{too_long, too_many, track_within_limits, within_limits}
 use Rattle.composables.specs.Items.{cells_of}
 use Rattle.composables.specs.OwnTracks.{among_named, for_own, on_own, track_numbered, with_track}
-use Rattle.composables.specs.Ranges.{range_of}
+use Rattle.composables.specs.Ranges.{gap_at, is_cut, range_of}
 use Rattle.composables.specs.TrackFacts.{NumbersBelow}
 use Rattle.composables.specs.TrackState.{TrackState}
 use Rattle.composables.specs.Views.{clip_view, gap_view, gap_views}
@@ -39,6 +42,10 @@ use Rattle.edit_delta.specs.Reaching.{going_on, reaching_back}
 use Rattle.edit_delta.specs.Using.{on_range, used_on}
 use Rattle.edit_trim.specs.Slipping.{slip_allows, slip_named, slip_range, slip_track, slipped, slipped_by}
 use Rattle.edit_trim.specs.Trimming.{trim_allows, trim_end, trim_named, trim_track, trimmed}
+use Rattle.edit_insert.specs.Fills.{fill_at, fill_named, fill_track, filled, frames_asked}
+use Rattle.edit_roll.specs.Neighbours.{move_allows}
+use Rattle.edit_roll.specs.Rolling.{roll_cut, roll_named, roll_track, rolled}
+use Rattle.edit_roll.specs.Sliding.{bare_item, slid, slide_allows, slide_named, slide_range, slide_track}
 use Rattle.edit_splice.specs.Shifts.{shift_of, shifted, shifted_along, shifted_track}
 use Rattle.edit_splice.specs.Splicing.{spliced_track}
 use Rattle.edit_splice.proofs.Outcomes.{next-bounds}
@@ -277,6 +284,17 @@ part_young n t x y p v h item link =
     let below : IfSome v.item (λ i. i < n) = subst (λ (o : Option ℕ). IfSome o (λ i. i < n)) (sym item) plain.0 in
     young-spliced n t x y (v ∷ []) h (if-weaker v.item n (n + 1) (omega arith) below, tt) (link ∙ plain.1, tt)
 
+-- two parts side by side
+parts_young : (n : ℕ) (t : TrackState) (x y p q : ℕ) (v w : ItemView) → IsYoung n t
+    → v.item ≡ (cell_at t.cells p).item → v.link ≡ (cell_at t.cells p).link → w.item ≡ (cell_at t.cells q).item → w.link ≡ (cell_at t.cells q).link
+    → IsYoung (n + 2) (spliced_track t x y (v ∷ w ∷ []))
+parts_young n t x y p q v w h vi vl wi wl =
+    young-spliced n t x y (v ∷ w ∷ []) h (below v p vi, below w q wi, tt) (bare v p vl, bare w q wl, tt) where
+      below : (u : ItemView) (at : ℕ) → u.item ≡ (cell_at t.cells at).item → IfSome u.item (λ i. i < n + 1)
+      below u at e = if-weaker u.item n (n + 1) (omega arith) (subst (λ (o : Option ℕ). IfSome o (λ i. i < n)) (sym e) (plain-at n t.cells at h.plain).0)
+      bare : (u : ItemView) (at : ℕ) → u.link ≡ (cell_at t.cells at).link → u.link ≡ None
+      bare u at e = e ∙ (plain-at n t.cells at h.plain).1
+
 dark_young : (n : ℕ) (t : TrackState) (x y k : ℕ) → IsYoung n t → IsYoung (n + 2) (spliced_track t x y (gap_views k))
 dark_young n t x y k h = young-spliced n t x y (gap_views k) h (gap_young (n + 1) k) (gap_unlinked k)
 
@@ -310,3 +328,48 @@ young-slip n table ts c h = on-own-young n (n + 2) c.track (slip_track table c) 
   each t y = on_range_stays (n + 2) (slip_range table t c.by) (range_of t.cells c.item)
       (λ a b. used_stays n t (slipped t a b) (nearest (slip_allows table t a b) c.by) y
       (young_slipped n t a b (nearest (slip_allows table t a b) c.by) y))
+
+-- a cut, and an item between its neighbours
+young_rolled : (n : ℕ) (t : TrackState) (at : ℕ) (d : ℤ) → IsYoung n t → IsYoung (n + 2) (rolled t at d)
+young_rolled n t at (pos k) h = part_young n t at (at + k) (at - 1) (going_on (cell_at t.cells (at - 1)) k) h refl refl
+young_rolled n t at (negsuc k) h = part_young n t (at - suc k) at at (reaching_back (cell_at t.cells at) (suc k)) h refl refl
+
+pub young-roll : (n : ℕ) (table : Table) (ts : List TrackState) (c : Roll) → All (IsYoung n) ts → AreYoung (n + 2) (roll_named table ts c)
+young-roll n table ts c h = on-own-young n (n + 2) c.track (roll_track table c) ts (omega arith) h each where
+  each : (t : TrackState) → IsYoung n t → StaysYoung (n + 2) (roll_track table c t)
+  each t y = by (is_cut t.cells c.at) where
+    by : (b : Bool) → StaysYoung (n + 2) (cond b (roll_cut table t c.by c.at) (Err (NotACut c.at)))
+    by true =
+        used_stays n t (rolled t c.at) (nearest (move_allows table t c.at c.at) c.by) y
+        (young_rolled n t c.at (nearest (move_allows table t c.at c.at) c.by) y)
+    by false = tt
+
+young_slid : (n : ℕ) (t : TrackState) (x y : ℕ) (d : ℤ) → IsYoung n t → IsYoung (n + 2) (slid t x y d)
+young_slid n t x y (pos k) h =
+    parts_young n t x (y + k) (x - 1) x (going_on (cell_at t.cells (x - 1)) k) (bare_item (cell_at t.cells x) (y - x)) h refl refl refl refl
+young_slid n t x y (negsuc k) h =
+    parts_young n t (x - suc k) y x y (bare_item (cell_at t.cells x) (y - x)) (reaching_back (cell_at t.cells y) (suc k)) h refl refl refl refl
+
+pub young-slide : (n : ℕ) (table : Table) (ts : List TrackState) (c : Slide) → All (IsYoung n) ts → AreYoung (n + 2) (slide_named table ts c)
+young-slide n table ts c h = on-own-young n (n + 2) c.track (slide_track table c) ts (omega arith) h each where
+  each : (t : TrackState) → IsYoung n t → StaysYoung (n + 2) (slide_track table c t)
+  each t y = on_range_stays (n + 2) (slide_range table t c.by) (range_of t.cells c.item)
+      (λ a b. used_stays n t (slid t a b) (nearest (slide_allows table t a b) c.by) y
+      (young_slid n t a b (nearest (slide_allows table t a b) c.by) y))
+
+-- a new item in a gap
+young_filled : (n : ℕ) (t : TrackState) (c : Fill) (at len : ℕ) → IsYoung n t → StaysYoung (n + 2) (track_within_limits (filled t c at len) (Item t.next_item))
+young_filled n t c at len h =
+    within_stays (n + 2) (filled t c at len) (Item t.next_item)
+    (young-spliced n t at (at + len) (clip_view t.next_item c.what c.from len ∷ []) h (clip_below n t.next_item c.what c.from len h.item) (refl, tt))
+
+pub young-fill : (n : ℕ) (table : Table) (ts : List TrackState) (c : Fill) → All (IsYoung n) ts → AreYoung (n + 2) (fill_named table ts c)
+young-fill n table ts c h = on-own-young n (n + 2) c.track (fill_track table c) ts (omega arith) h each where
+  each : (t : TrackState) → IsYoung n t → StaysYoung (n + 2) (fill_track table c t)
+  each t y = by (gap_at t.cells c.at) where
+    by : (gap : Option (ℕ × ℕ)) → StaysYoung (n + 2) (fill_at table c t gap)
+    by None = tt
+    by (Some (a, b)) =
+        let asked : ℕ = frames_asked c.length (b - a) in
+        unless_stays (n + 2) (source_refusal table t.number c.what c.from asked) (track_within_limits (filled t c a (min asked (b - a))) (Item t.next_item))
+        (young_filled n t c a (min asked (b - a)) y)

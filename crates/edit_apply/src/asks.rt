@@ -1,7 +1,8 @@
 // Calls and questions as a station sends them, and what a question is answered.
 
 use composables::{
-    Dissolve, Extract, Insert, ItemView, Listed, Overwrite, Remove, Slice, Slip, Trim, Undissolve,
+    Dissolve, Extract, Fill, Insert, ItemView, Listed, Overwrite, Remove, Roll, Slice, Slide, Slip,
+    Trim, Undissolve,
 };
 use frame_meaning::{Run, What};
 
@@ -17,6 +18,9 @@ pub enum Call {
     Undissolve(Undissolve),
     Trim(Trim),
     Slip(Slip),
+    Roll(Roll),
+    Slide(Slide),
+    Fill(Fill),
 }
 
 /// A question to a track: the frames shown in its places [a, b), or its items.

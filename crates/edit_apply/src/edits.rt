@@ -11,7 +11,8 @@ ghost use Rattle.edit_apply.specs.RoomTracks.{AreNamed, IsUnlinked};
 use crate::Call;
 use composables::{Done, EditFault, Refusal, Table, Track};
 use dissolves::{dissolve, undissolve};
-use edit_insert::{extract, insert, overwrite, remove, slice};
+use edit_insert::{extract, fill, insert, overwrite, remove, slice};
+use edit_roll::{roll, slide};
 use edit_trim::{slip, trim};
 use room_core::Fault;
 use std::alloc::Global;
@@ -52,6 +53,9 @@ pub(crate) fn edit<L: Ledger>(
         Call::Undissolve(edit) => undissolve(alloc, table, parts, edit, steps),
         Call::Trim(edit) => trim(alloc, table, parts, edit, steps),
         Call::Slip(edit) => slip(alloc, table, parts, edit, steps),
+        Call::Roll(edit) => roll(alloc, table, parts, edit, steps),
+        Call::Slide(edit) => slide(alloc, table, parts, edit, steps),
+        Call::Fill(edit) => fill(alloc, table, parts, edit, steps),
     }
 }
 

@@ -38,6 +38,12 @@ pub(crate) fn named_by(call: &Call) -> NamedTracks
             tracks: edit.tracks,
             own: edit.track,
         },
+        Call::Roll(edit) => NamedTracks::One(edit.track),
+        Call::Slide(edit) => NamedTracks::Many {
+            tracks: edit.tracks,
+            own: edit.track,
+        },
+        Call::Fill(edit) => NamedTracks::One(edit.track),
     }
 }
 

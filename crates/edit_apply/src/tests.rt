@@ -8,8 +8,9 @@ ghost use Rattle.edit_apply.specs.RoomTracks.{IsTrackOf};
 
 use crate::{Ask, AskRefusal, Call, Editor};
 use composables::{
-    Dissolve, Done, End, Extract, Insert, ItemView, Kind, Listed, MAX_ITEMS, Media, Memory,
-    Overwrite, Reels, Refusal, Remove, Slice, Slip, Table, Track, Trim, Undissolve,
+    Dissolve, Done, End, Extract, Fill, FillLength, Insert, ItemView, Kind, Listed, MAX_ITEMS,
+    Media, Memory, Overwrite, Reels, Refusal, Remove, Roll, Slice, Slide, Slip, Table, Track, Trim,
+    Undissolve,
 };
 use frame_meaning::What;
 use room_core::{Fault, PartObject};
@@ -88,6 +89,20 @@ fn a_call_names_its_tracks(rt: HostRuntime) -> Result<(), Fail> {
             b: 1,
         });
         assert_eq!(rt; editor.names(&dissolve), set);
+        let roll = Call::Roll(Roll {
+            track,
+            at: 1,
+            by: -1,
+        });
+        assert_eq!(rt; editor.names(&roll), set);
+        let fill = Call::Fill(Fill {
+            track,
+            at: 1,
+            what: What::Media(0),
+            from: 0,
+            length: FillLength::Sequence,
+        });
+        assert_eq!(rt; editor.names(&fill), set);
         let trim = Call::Trim(Trim {
             track,
             item: 0,
@@ -104,6 +119,13 @@ fn a_call_names_its_tracks(rt: HostRuntime) -> Result<(), Fail> {
             item: 0,
         });
         assert_eq!(rt; editor.names(&extract), tracks);
+        let slide = Call::Slide(Slide {
+            tracks,
+            track: 9,
+            item: 0,
+            by: 1,
+        });
+        assert_eq!(rt; editor.names(&slide), tracks);
         let slip = Call::Slip(Slip {
             tracks,
             track: 9,
