@@ -1,7 +1,7 @@
 use super::*;
 use composables::{
-    Dissolve, Done, End, Extract, Insert, ItemView, Listed, Overwrite, Refusal, Remove, Slice,
-    Slip, Trim, Undissolve, Which,
+    Dissolve, Done, End, Extract, Fill, FillLength, Insert, ItemView, Listed, Overwrite, Refusal,
+    Remove, Roll, Slice, Slide, Slip, Trim, Undissolve, Which,
 };
 use cut_room::{Answer, Sight};
 use edit_apply::{Ask, AskRefusal, Call, Editor, Seen};
@@ -16,6 +16,14 @@ const FOUR: Overwrite = Overwrite {
     what: What::Media(3),
     from: 400,
     len: 5000,
+};
+
+const WHOLE: Fill = Fill {
+    track: 1,
+    at: 20,
+    what: What::Media(3),
+    from: 400,
+    length: FillLength::Sequence,
 };
 
 // Reads a line where 24 frames a second are counted from 0.
@@ -57,7 +65,7 @@ fn lines_of_the_table_are_read(rt: HostRuntime) {
 
 #[test]
 fn edits_of_the_table_are_read(rt: HostRuntime) {
-    let table: [(&[u8], Call); 17] = [
+    let table: [(&[u8], Call); 21] = [
         (b"overwrite 1 20 @3 400 5000", Call::Overwrite(FOUR)),
         (b"overwrite 001 0020 @03 0400 005000", Call::Overwrite(FOUR)),
         (
@@ -145,6 +153,31 @@ fn edits_of_the_table_are_read(rt: HostRuntime) {
             }),
         ),
         (
+            b"roll 1 7 -0",
+            Call::Roll(Roll {
+                track: 1,
+                at: 7,
+                by: 0,
+            }),
+        ),
+        (
+            b"slide 0,2 2 7 003",
+            Call::Slide(Slide {
+                tracks: 5,
+                track: 2,
+                item: 7,
+                by: 3,
+            }),
+        ),
+        (b"fill 1 20 @3 400 sequence", Call::Fill(WHOLE)),
+        (
+            b"fill 1 20 @3 400 source 5",
+            Call::Fill(Fill {
+                length: FillLength::Source(5),
+                ..WHOLE
+            }),
+        ),
+        (
             b"slice 1 00:00:01:01",
             Call::Slice(Slice { track: 1, at: 25 }),
         ),
@@ -160,7 +193,7 @@ fn edits_of_the_table_are_read(rt: HostRuntime) {
 
 #[test]
 fn the_first_fault_of_a_line_is_told(rt: HostRuntime) {
-    let table: [(&[u8], LineFault); 70] = [
+    let table: [(&[u8], LineFault); 82] = [
         (b"", LineFault::B2),
         (b" \t ", LineFault::B2),
         (b"jump", LineFault::B1),
@@ -231,6 +264,18 @@ fn the_first_fault_of_a_line_is_told(rt: HostRuntime) {
         (b"trim 0 0 tail 2147483648", LineFault::B4),
         (b"slip 0 0 0 -2147483649", LineFault::B4),
         (b"slip 0 0 0 -", LineFault::B3),
+        (b"otio", LineFault::B2),
+        (b"otio -1", LineFault::B3),
+        (b"roll 0 0", LineFault::B2),
+        (b"roll 0 4294967296 x", LineFault::B4),
+        (b"slide 0 0 0 1-", LineFault::B3),
+        (b"fill 0 0 @0 0", LineFault::B2),
+        (b"fill 0 0 @0 0 sequence 1 1", LineFault::B2),
+        (b"fill 0 0 @0 0 source", LineFault::B1),
+        (b"fill 0 0 @0 0 sequence x", LineFault::B1),
+        (b"fill 0 0 @0 x sequenc", LineFault::B3),
+        (b"fill 0 0 @0 0 source x", LineFault::B3),
+        (b"fill 0 0 @0 0 source 4294967296", LineFault::B4),
     ];
     for (row, (line, want)) in table.into_iter().enumerate() {
         assert_eq!(rt; read(rt.alloc(), line), Some(Err(want)), "row {row}");
@@ -556,7 +601,7 @@ fn a_journal_is_written(rt: HostRuntime) -> Result<(), Fail> {
 
 #[test]
 fn written_calls_come_back(rt: HostRuntime) -> Result<(), Fail> {
-    let table: [(&[u8], Call); 11] = [
+    let table: [(&[u8], Call); 15] = [
         (b"overwrite 1 20 @3 400 5000", Call::Overwrite(FOUR)),
         (
             b"overwrite 31 4294967295 #4294967295 4294967295 4294967295",
@@ -615,6 +660,31 @@ fn written_calls_come_back(rt: HostRuntime) -> Result<(), Fail> {
                 track: 31,
                 item: 10,
                 by: -2147483648,
+            }),
+        ),
+        (
+            b"roll 3 10 2147483647",
+            Call::Roll(Roll {
+                track: 3,
+                at: 10,
+                by: 2147483647,
+            }),
+        ),
+        (
+            b"slide 3 3 10 -1",
+            Call::Slide(Slide {
+                tracks: 8,
+                track: 3,
+                item: 10,
+                by: -1,
+            }),
+        ),
+        (b"fill 1 20 @3 400 sequence", Call::Fill(WHOLE)),
+        (
+            b"fill 1 20 @3 400 source 4294967295",
+            Call::Fill(Fill {
+                length: FillLength::Source(4294967295),
+                ..WHOLE
             }),
         ),
     ];
