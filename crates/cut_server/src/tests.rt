@@ -143,6 +143,31 @@ fn edits_by_a_delta_are_answered(rt: HostRuntime) -> Result<(), Fail> {
 }
 
 #[test]
+fn moved_cuts_and_filled_gaps_are_answered(rt: HostRuntime) -> Result<(), Fail> {
+    let alloc = rt.alloc();
+    let table: [(&[u8], &[u8]); 3] = [
+        (
+            b"overwrite 0 0 @0 0 5\noverwrite 0 5 @0 105 5\noverwrite 0 10 @0 210 5\nslide 0 0 1 2\nitems 0\nslide 0 0 1 -100\nitems 0\nslide 0 0 0 3\nslide 0 0 5 1\n",
+            b"ok 0 item 0\nok 1 item 1\nok 2 item 2\nok 3 by 2\nitems 4 0 @0 0 7 1 @0 105 5 2 @0 212 3\nok 4 by -6\nitems 5 0 @0 0 1 1 @0 105 5 2 @0 206 9\nok 5 by 0\nno 6 E2\njournal 6\n0 1 overwrite 0 0 @0 0 5\n0 2 overwrite 0 5 @0 105 5\n0 3 overwrite 0 10 @0 210 5\n0 4 slide 0 0 1 2\n0 6 slide 0 0 1 -100\n0 8 slide 0 0 0 3\n",
+        ),
+        (
+            b"overwrite 0 0 @0 100 5\noverwrite 0 5 @0 200 5\nroll 0 00:00:00:05 2\nroll 0 7 -100\nitems 0\nroll 0 4 1\nroll 0 0 1\nroll 0 1 -\nroll 0 1 -0\n",
+            b"ok 0 item 0\nok 1 item 1\nok 2 by 2\nok 3 by -6\nitems 4 0 @0 100 1 1 @0 196 9\nno 4 E7 4\nno 4 E7 0\nbad B3\nok 4 by 0\njournal 5\n0 1 overwrite 0 0 @0 100 5\n0 2 overwrite 0 5 @0 200 5\n0 3 roll 0 5 2\n0 4 roll 0 7 -100\n0 9 roll 0 1 0\n",
+        ),
+        (
+            b"overwrite 0 3 @0 100 5\nfill 0 0 @0 500 source 2\nfill 0 2 @0 600 sequence\nitems 0\nfill 0 3 @0 0 sequence\nfill 0 3 @0 86399 source 2\nfill 0 9 @1 0 sequence\nfill 0 0 @0 0 source\nfill 0 0 @0 0 sequence 1\n",
+            b"ok 0 item 0\nok 1 item 1\nok 2 item 2\nitems 3 1 @0 500 2 2 @0 600 1 0 @0 100 5\nno 3 E6 3\nno 3 E5\nno 3 E3\nbad B1\nbad B1\njournal 3\n0 1 overwrite 0 3 @0 100 5\n0 2 fill 0 0 @0 500 source 2\n0 3 fill 0 2 @0 600 sequence\n",
+        ),
+    ];
+    for (input, wanted) in table {
+        let (status, output) = ended(alloc, &["run", "1", "1"], &[input], &[], &[])?;
+        assert_eq!(rt; status, 0);
+        assert_eq!(rt; output.as_slice(), wanted);
+    }
+    Ok(())
+}
+
+#[test]
 fn pieces_make_no_difference(rt: HostRuntime) -> Result<(), Fail> {
     let alloc = rt.alloc();
     let text = b"overwrite 0 10 @0 100 5\r\nview 0 0 15";
