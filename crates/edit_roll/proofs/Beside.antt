@@ -187,7 +187,7 @@ no-sides t at kept stands none =
     ⊎_elim
     (λ (z : at.index ≡ 0). ap (λ (a : Bool). a && ltb at.to (length t.cells)) (le-ltb 0 at.from (omega (arith, stands.from, ap (λ (k : ℕ). frames_in (take k vs)) z))))
     (λ (le : length vs ≤ at.index + 1).
-        ap (λ (a : Bool). ltb 0 at.from && a) (le-ltb at.to (length t.cells) (omega (arith, length-frames t kept, stands.to, ap frames_in (take_all (at.index + 1) vs le)))) ∙ none_and (ltb 0 at.from))
+    ap (λ (a : Bool). ltb 0 at.from && a) (le-ltb at.to (length t.cells) (omega (arith, length-frames t kept, stands.to, ap frames_in (take_all (at.index + 1) vs le)))) ∙ none_and (ltb 0 at.from))
     none
 
 -- what holds of a thing that was found

@@ -102,15 +102,18 @@ lone_item (Some i) = tt
 
 pub bare-alone : (table : Table) (t : TrackState) (i : ℕ) (v : ItemView) (x y a b : ℕ) → IsGood table t → Spot table t i v x y → a ≤ x → y ≤ b → StandAlone table t a b (bare_view v ∷ [])
 bare-alone table t i v x y a b good s le ge = record {
-  each = (record {
-    filled = s.filled;
-    shows = shows_there (items_of t.cells) i v s.read good.kept.each;
-    mark_filled = tt;
-    room = omega arith;
-    source = s.source;
-    head_no_nest = tt;
-    tail_no_nest = tt;
-  }, tt);
+  each = (
+    record {
+      filled = s.filled;
+      shows = shows_there (items_of t.cells) i v s.read good.kept.each;
+      mark_filled = tt;
+      room = omega arith;
+      source = s.source;
+      head_no_nest = tt;
+      tail_no_nest = tt;
+    },
+    tt,
+  );
   first = refl;
   meet = (tt, tt);
   apart = (lone_item v.item, tt);

@@ -238,24 +238,44 @@ fn a_cut_beside_a_gap_is_rolled_alike(rt: HostRuntime) -> Result<(), Fail> {
 #[test]
 fn a_roll_drops_the_dissolve_at_its_cut(rt: HostRuntime) -> Result<(), Fail> {
     let table = table(rt.alloc())?;
-    let views = [clip(0, 1, 20, 6), dissolve(2, 2, clip(1, 1, 100, 6)), dissolve(1, 2, clip(2, 1, 200, 6)), dissolve(1, 1, clip(3, 1, 300, 6))];
+    let views = [
+        clip(0, 1, 20, 6),
+        dissolve(2, 2, clip(1, 1, 100, 6)),
+        dissolve(1, 2, clip(2, 1, 200, 6)),
+        dissolve(1, 1, clip(3, 1, 300, 6)),
+    ];
     for (edit, by, want, used) in [
         (
             Edit::Cut(12),
             1,
-            [clip(0, 1, 20, 6), dissolve(2, 2, clip(1, 1, 100, 7)), clip(2, 1, 201, 5), dissolve(1, 1, clip(3, 1, 300, 6))],
+            [
+                clip(0, 1, 20, 6),
+                dissolve(2, 2, clip(1, 1, 100, 7)),
+                clip(2, 1, 201, 5),
+                dissolve(1, 1, clip(3, 1, 300, 6)),
+            ],
             1,
         ),
         (
             Edit::Cut(12),
             0,
-            [clip(0, 1, 20, 6), dissolve(2, 2, clip(1, 1, 100, 6)), dissolve(1, 2, clip(2, 1, 200, 6)), dissolve(1, 1, clip(3, 1, 300, 6))],
+            [
+                clip(0, 1, 20, 6),
+                dissolve(2, 2, clip(1, 1, 100, 6)),
+                dissolve(1, 2, clip(2, 1, 200, 6)),
+                dissolve(1, 1, clip(3, 1, 300, 6)),
+            ],
             0,
         ),
         (
             Edit::Cut(6),
             5,
-            [clip(0, 1, 20, 11), clip(1, 1, 105, 1), dissolve(1, 2, clip(2, 1, 200, 6)), dissolve(1, 1, clip(3, 1, 300, 6))],
+            [
+                clip(0, 1, 20, 11),
+                clip(1, 1, 105, 1),
+                dissolve(1, 2, clip(2, 1, 200, 6)),
+                dissolve(1, 1, clip(3, 1, 300, 6)),
+            ],
             5,
         ),
     ] {
@@ -334,24 +354,44 @@ fn an_item_slides_between_gaps(rt: HostRuntime) -> Result<(), Fail> {
 #[test]
 fn a_slide_drops_the_dissolve_at_the_head(rt: HostRuntime) -> Result<(), Fail> {
     let table = table(rt.alloc())?;
-    let views = [clip(0, 1, 20, 6), dissolve(2, 2, clip(1, 1, 100, 6)), dissolve(1, 2, clip(2, 1, 200, 6)), dissolve(1, 1, clip(3, 1, 300, 6))];
+    let views = [
+        clip(0, 1, 20, 6),
+        dissolve(2, 2, clip(1, 1, 100, 6)),
+        dissolve(1, 2, clip(2, 1, 200, 6)),
+        dissolve(1, 1, clip(3, 1, 300, 6)),
+    ];
     for (edit, by, want, used) in [
         (
             Edit::Item(1),
             1,
-            [clip(0, 1, 20, 7), clip(1, 1, 100, 6), clip(2, 1, 201, 5), dissolve(1, 1, clip(3, 1, 300, 6))],
+            [
+                clip(0, 1, 20, 7),
+                clip(1, 1, 100, 6),
+                clip(2, 1, 201, 5),
+                dissolve(1, 1, clip(3, 1, 300, 6)),
+            ],
             1,
         ),
         (
             Edit::Item(2),
             -3,
-            [clip(0, 1, 20, 6), dissolve(2, 2, clip(1, 1, 100, 3)), clip(2, 1, 200, 6), clip(3, 1, 297, 9)],
+            [
+                clip(0, 1, 20, 6),
+                dissolve(2, 2, clip(1, 1, 100, 3)),
+                clip(2, 1, 200, 6),
+                clip(3, 1, 297, 9),
+            ],
             -3,
         ),
         (
             Edit::Item(1),
             0,
-            [clip(0, 1, 20, 6), dissolve(2, 2, clip(1, 1, 100, 6)), dissolve(1, 2, clip(2, 1, 200, 6)), dissolve(1, 1, clip(3, 1, 300, 6))],
+            [
+                clip(0, 1, 20, 6),
+                dissolve(2, 2, clip(1, 1, 100, 6)),
+                dissolve(1, 2, clip(2, 1, 200, 6)),
+                dissolve(1, 1, clip(3, 1, 300, 6)),
+            ],
             0,
         ),
     ] {

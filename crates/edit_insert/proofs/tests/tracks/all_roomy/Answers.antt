@@ -1,6 +1,6 @@
 use Rattle.std.proofs.Common.{arith}
 use Rattle.edit_insert.proofs.TestTracks.{one-more}
-use Rattle.edit_insert.proofs.tests.all_roomy.Goals as goal
+use Rattle.edit_insert.proofs.tests.tracks.all_roomy.Goals as goal
 
 pub loop-track-preserved : goal.loop-track-preserved
 loop-track-preserved c =

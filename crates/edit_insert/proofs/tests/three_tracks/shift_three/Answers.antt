@@ -1,5 +1,5 @@
 use Rattle.edit_insert.proofs.TestTracks.{one-of-three}
-use Rattle.edit_insert.proofs.tests.shift_three.Goals as goal
+use Rattle.edit_insert.proofs.tests.three_tracks.shift_three.Goals as goal
 
 pub insert-requires-clause-own : goal.insert-requires-clause-own
 insert-requires-clause-own g c = one-of-three c.in-In.call.tracks c.in-In.call.track c.must_be_of_three.ensures.tracks c.must_be_of_three.ensures.track

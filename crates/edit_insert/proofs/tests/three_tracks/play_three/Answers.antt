@@ -1,5 +1,5 @@
 use Rattle.edit_insert.proofs.TestTracks.{three-are, three-good, three-numbers}
-use Rattle.edit_insert.proofs.tests.play_three.Goals as goal
+use Rattle.edit_insert.proofs.tests.three_tracks.play_three.Goals as goal
 
 pub shift_all_three-last-requires-clause-named : goal.shift_all_three-last-requires-clause-named
 shift_all_three-last-requires-clause-named g c =
