@@ -289,7 +289,7 @@ parts_young : (n : ℕ) (t : TrackState) (x y p q : ℕ) (v w : ItemView) → Is
     → v.item ≡ (cell_at t.cells p).item → v.link ≡ (cell_at t.cells p).link → w.item ≡ (cell_at t.cells q).item → w.link ≡ (cell_at t.cells q).link
     → IsYoung (n + 2) (spliced_track t x y (v ∷ w ∷ []))
 parts_young n t x y p q v w h vi vl wi wl =
-    young-spliced n t x y (v ∷ w ∷ []) h (below v p vi, below w q wi, tt) (bare v p vl, bare w q wl, tt) where
+    young-spliced n t x y (v ∷ w ∷ []) h (below v p vi, (below w q wi, tt)) (bare v p vl, (bare w q wl, tt)) where
       below : (u : ItemView) (at : ℕ) → u.item ≡ (cell_at t.cells at).item → IfSome u.item (λ i. i < n + 1)
       below u at e = if-weaker u.item n (n + 1) (omega arith) (subst (λ (o : Option ℕ). IfSome o (λ i. i < n)) (sym e) (plain-at n t.cells at h.plain).0)
       bare : (u : ItemView) (at : ℕ) → u.link ≡ (cell_at t.cells at).link → u.link ≡ None
