@@ -127,7 +127,7 @@ AreCall place_at words (call.Slide c) =
     × (words ≡ word_of command.Slide ∷ tracks ∷ track ∷ item ∷ by ∷ [])
     × IsTracks tracks c.tracks × IsTrack track c.track × IsNumeral item c.item × IsDelta by c.by
 AreCall place_at words (call.Fill c) =
-    (track at what from : List ℕ) (rest : List (List ℕ))
+    (track at what from : List ℕ) × (rest : List (List ℕ))
     × (words ≡ word_of command.Fill ∷ track ∷ at ∷ what ∷ from ∷ rest)
     × IsTrack track c.track × IsPlace place_at at c.at
     × IsThing what c.what × IsNumeral from c.from × AreLength rest c.length
