@@ -318,9 +318,7 @@ fill_spelled place_at (a ∷ b ∷ c ∷ d ∷ e ∷ f ∷ []) line h =
       place_spelled place_at b at.0 at.1,
       thing_spelled c what.0 what.1,
       numeral_spelled d from.0 from.1,
-      f,
-      ap (λ (w : List ℕ). w ∷ f ∷ []) (given_spelled (codes "source") e how.0 how.1),
-      numeral_spelled f len.0 len.1,
+      (f, ap (λ (w : List ℕ). w ∷ f ∷ []) (given_spelled (codes "source") e how.0 how.1), numeral_spelled f len.0 len.1),
     )
 fill_spelled place_at (a ∷ b ∷ c ∷ d ∷ e ∷ f ∷ g ∷ words) line h = absurd (err_ok B2 line h)
 
