@@ -66,7 +66,8 @@ call_text_of (call.Slip c) =
     codes "slip " ++ tracks_text c.tracks ++ codes " " ++ decimal c.track ++ codes " "
     ++ decimal c.item ++ codes " " ++ signed_decimal c.by
 call_text_of (call.Roll c) =
-    codes "roll " ++ decimal c.track ++ codes " " ++ decimal c.at ++ codes " " ++ signed_decimal c.by
+    codes "roll " ++ decimal c.track ++ codes " " ++ decimal c.at ++ codes " "
+    ++ signed_decimal c.by
 call_text_of (call.Slide c) =
     codes "slide " ++ tracks_text c.tracks ++ codes " " ++ decimal c.track ++ codes " "
     ++ decimal c.item ++ codes " " ++ signed_decimal c.by

@@ -141,7 +141,8 @@ AreWords place_at words (Ask (ask.View track a b)) =
 AreWords place_at words (Ask (ask.Items track)) =
     (named : List ℕ) × (words ≡ word_of command.Items ∷ named ∷ []) × IsTrack named track
 AreWords place_at words Point = words ≡ word_of command.Point ∷ []
-AreWords place_at words (Otio n) = (named : List ℕ) × (words ≡ word_of command.Otio ∷ named ∷ []) × IsNumeral named n
+AreWords place_at words (Otio n) =
+    (named : List ℕ) × (words ≡ word_of command.Otio ∷ named ∷ []) × IsNumeral named n
 
 -- the bytes are this line
 pub record IsLine (place_at : Naming) (bytes : List ℕ) (line : Line) : Type 0 where
