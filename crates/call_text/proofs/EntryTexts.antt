@@ -124,7 +124,6 @@ call_plain (call.Slip c) (tracks, track, item, by) =
     let own = then_plain (codes "slip " ++ tracks_text c.tracks) (decimal c.track) (tracks_plain c.tracks) (number_plain c.track (low c.track track)) in
     let items = then_plain (codes "slip " ++ tracks_text c.tracks ++ codes " " ++ decimal c.track) (decimal c.item) own (number_plain c.item item) in
     then_plain (codes "slip " ++ tracks_text c.tracks ++ codes " " ++ decimal c.track ++ codes " " ++ decimal c.item) (signed_decimal c.by) items (delta_plain c.by by)
-
 call_plain (call.Roll c) (track, at, by) =
     let places = then_plain (codes "roll " ++ decimal c.track) (decimal c.at) (number_plain c.track (low c.track track)) (number_plain c.at at) in
     then_plain (codes "roll " ++ decimal c.track ++ codes " " ++ decimal c.at) (signed_decimal c.by) places (delta_plain c.by by)

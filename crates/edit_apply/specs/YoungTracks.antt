@@ -117,7 +117,7 @@ young-padded n t at h = record {
   item = h.item;
   link = h.link;
   plain = plain-append n t.cells (cells_of (gap_views (at - length t.cells))) h.plain
-  (plain-views n (gap_views (at - length t.cells)) (gap_young n (at - length t.cells)) (gap_unlinked (at - length t.cells)));
+      (plain-views n (gap_views (at - length t.cells)) (gap_young n (at - length t.cells)) (gap_unlinked (at - length t.cells)));
 }
 
 -- refusals
@@ -292,6 +292,7 @@ parts_young n t x y p q v w h vi vl wi wl =
     young-spliced n t x y (v ∷ w ∷ []) h (below v p vi, (below w q wi, tt)) (bare v p vl, (bare w q wl, tt)) where
       below : (u : ItemView) (at : ℕ) → u.item ≡ (cell_at t.cells at).item → IfSome u.item (λ i. i < n + 1)
       below u at e = if-weaker u.item n (n + 1) (omega arith) (subst (λ (o : Option ℕ). IfSome o (λ i. i < n)) (sym e) (plain-at n t.cells at h.plain).0)
+
       bare : (u : ItemView) (at : ℕ) → u.link ≡ (cell_at t.cells at).link → u.link ≡ None
       bare u at e = e ∙ (plain-at n t.cells at h.plain).1
 

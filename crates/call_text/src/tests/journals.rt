@@ -1,8 +1,13 @@
 // Journals, and the calls in them.
 
 use crate::tests::{FOUR, TWO, WHOLE};
-use crate::{Entry, JournalCode, JournalFault, Line, MAX_JOURNAL, call_text, journal_text, read_journal};
-use composables::{Dissolve, End, Extract, Fill, FillLength, Insert, Overwrite, Remove, Roll, Slice, Slide, Slip, Trim, Undissolve};
+use crate::{
+    Entry, JournalCode, JournalFault, Line, MAX_JOURNAL, call_text, journal_text, read_journal,
+};
+use composables::{
+    Dissolve, End, Extract, Fill, FillLength, Insert, Overwrite, Remove, Roll, Slice, Slide, Slip,
+    Trim, Undissolve,
+};
 use edit_apply::Call;
 use frame_meaning::What;
 use std::alloc::Global;

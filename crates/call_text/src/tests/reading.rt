@@ -2,7 +2,10 @@
 
 use crate::tests::{FOUR, TWO, WHOLE};
 use crate::{Line, LineFault, read_line};
-use composables::{Dissolve, End, Extract, Fill, FillLength, Insert, Overwrite, Remove, Roll, Slice, Slide, Slip, Trim, Undissolve};
+use composables::{
+    Dissolve, End, Extract, Fill, FillLength, Insert, Overwrite, Remove, Roll, Slice, Slide, Slip,
+    Trim, Undissolve,
+};
 use edit_apply::{Ask, Call};
 use frame_meaning::What;
 use std::alloc::Global;
