@@ -138,6 +138,13 @@ call_plain (call.Fill c) (track, at, what, from, len) =
     then_plain (codes "fill " ++ decimal c.track ++ codes " " ++ decimal c.at ++ codes " " ++ what_text c.what) (decimal c.from) things (number_plain c.from from) in
     then_plain (codes "fill " ++ decimal c.track ++ codes " " ++ decimal c.at ++ codes " " ++ what_text c.what ++ codes " " ++ decimal c.from) (length_text c.length) sources
     (length_plain c.length len)
+call_plain (call.Ripple c) (tracks, track, item, by) =
+    let own = then_plain (codes "ripple " ++ tracks_text c.tracks) (decimal c.track) (tracks_plain c.tracks) (number_plain c.track (low c.track track)) in
+    let items = then_plain (codes "ripple " ++ tracks_text c.tracks ++ codes " " ++ decimal c.track) (decimal c.item) own (number_plain c.item item) in
+    let ends =
+    then_plain (codes "ripple " ++ tracks_text c.tracks ++ codes " " ++ decimal c.track ++ codes " " ++ decimal c.item) (end_word c.end) items (end_plain c.end) in
+    then_plain (codes "ripple " ++ tracks_text c.tracks ++ codes " " ++ decimal c.track ++ codes " " ++ decimal c.item ++ codes " " ++ end_word c.end) (signed_decimal c.by) ends
+    (delta_plain c.by by)
 
 pub entry_plain : (e : Entry Call) → HasLine e → is_plain (entry_text e) ≡ true
 entry_plain e h =

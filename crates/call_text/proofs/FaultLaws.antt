@@ -437,6 +437,14 @@ row_error place_at command.Slide (a ∷ b ∷ c ∷ d ∷ []) =
     error_bind (tracks_of a) _ _ (λ tracks. error_bind (track_of b) _ _ (λ track. error_bind (numeral_of c) _ _ (λ item. error_bind (delta_of d) _ _ (λ delta. refl))))
 row_error place_at command.Slide (a ∷ b ∷ c ∷ d ∷ e ∷ words) = refl
 row_error place_at command.Fill words = fill_error place_at words
+row_error place_at command.Ripple [] = refl
+row_error place_at command.Ripple (a ∷ []) = refl
+row_error place_at command.Ripple (a ∷ b ∷ []) = refl
+row_error place_at command.Ripple (a ∷ b ∷ c ∷ []) = refl
+row_error place_at command.Ripple (a ∷ b ∷ c ∷ d ∷ []) = refl
+row_error place_at command.Ripple (a ∷ b ∷ c ∷ d ∷ e ∷ []) =
+    error_bind (tracks_of a) _ _ (λ tracks. error_bind (track_of b) _ _ (λ track. error_bind (numeral_of c) _ _ (λ item. error_bind (end_of d) _ _ (λ end. error_bind (delta_of e) _ _ (λ delta. refl)))))
+row_error place_at command.Ripple (a ∷ b ∷ c ∷ d ∷ e ∷ f ∷ words) = refl
 row_error place_at command.View [] = refl
 row_error place_at command.View (a ∷ []) = refl
 row_error place_at command.View (a ∷ b ∷ []) = refl

@@ -15,7 +15,7 @@ use Rattle.call_text.specs.declared.lines.LineFault.TheVariants.{B1, B2, B5}
 use Rattle.call_text.specs.declared.commands.Command.{Command}
 use Rattle.call_text.specs.declared.commands.Command.TheVariants as command
 use Rattle.call_text.specs.Spelling.{numeral_of, delta_of, end_of, given_of, track_of, tracks_of, place_of, what_of}
-use Rattle.call_text.specs.Reading.{overwrite_of, insert_of, remove_of, extract_of, slice_of, dissolve_of, undissolve_of, trim_of, slip_of, roll_of, slide_of, fill_of, view_of, items_of, point_of, otio_of, command_of, row_of, row_if, line_of_words, line_of}
+use Rattle.call_text.specs.Reading.{overwrite_of, insert_of, remove_of, extract_of, slice_of, dissolve_of, undissolve_of, trim_of, slip_of, roll_of, slide_of, fill_of, ripple_of, view_of, items_of, point_of, otio_of, command_of, row_of, row_if, line_of_words, line_of}
 use Rattle.call_text.specs.Table.{AreLength, AreWords, IsLine, word_of}
 use Rattle.call_text.proofs.ReadParts.{bind_ok, chosen, ok_same, err_ok, numeral_spelled, numeral_read, delta_spelled, delta_read, end_spelled, end_read, given_spelled, given_read, track_spelled, track_read, tracks_spelled, tracks_read, place_spelled, place_read, thing_spelled, thing_read}
 
@@ -42,10 +42,11 @@ command_spelled word k h = named word command.Overwrite k _
     (named word command.Roll k _
     (named word command.Slide k _
     (named word command.Fill k _
+    (named word command.Ripple k _
     (named word command.View k _
     (named word command.Items k _
     (named word command.Point k _
-    (named word command.Otio k None (λ none. absurd cc)))))))))))))))) h
+    (named word command.Otio k None (λ none. absurd cc))))))))))))))))) h
 
 pub command_read : (k : Command) → command_of (word_of k) ≡ Some k
 command_read command.Overwrite = refl
@@ -60,6 +61,7 @@ command_read command.Slip = refl
 command_read command.Roll = refl
 command_read command.Slide = refl
 command_read command.Fill = refl
+command_read command.Ripple = refl
 command_read command.View = refl
 command_read command.Items = refl
 command_read command.Point = refl
@@ -322,6 +324,32 @@ fill_spelled place_at (a ∷ b ∷ c ∷ d ∷ e ∷ f ∷ []) line h =
     )
 fill_spelled place_at (a ∷ b ∷ c ∷ d ∷ e ∷ f ∷ g ∷ words) line h = absurd (err_ok B2 line h)
 
+ripple_spelled : (place_at : List ℕ → Option ℕ) (words : List (List ℕ)) (line : Line) → ripple_of words ≡ Ok line → AreWords place_at (word_of command.Ripple ∷ words) line
+ripple_spelled place_at [] line h = absurd (err_ok B2 line h)
+ripple_spelled place_at (a ∷ []) line h = absurd (err_ok B2 line h)
+ripple_spelled place_at (a ∷ b ∷ []) line h = absurd (err_ok B2 line h)
+ripple_spelled place_at (a ∷ b ∷ c ∷ []) line h = absurd (err_ok B2 line h)
+ripple_spelled place_at (a ∷ b ∷ c ∷ d ∷ []) line h = absurd (err_ok B2 line h)
+ripple_spelled place_at (a ∷ b ∷ c ∷ d ∷ e ∷ []) line h =
+    let tracks = bind_ok (tracks_of a) _ line h in
+    let track = bind_ok (track_of b) _ line tracks.2 in
+    let item = bind_ok (numeral_of c) _ line track.2 in
+    let end = bind_ok (end_of d) _ line item.2 in
+    let delta = bind_ok (delta_of e) _ line end.2 in
+    let same = ok_same (Edit (call.Ripple (record { tracks = tracks.0; track = track.0; item = item.0; end = end.0; by = delta.0 }))) line delta.2 in
+    rw (← same) (
+      a,
+      b,
+      c,
+      e,
+      ap (λ (w : List ℕ). word_of command.Ripple ∷ a ∷ b ∷ c ∷ w ∷ e ∷ []) (end_spelled d end.0 end.1),
+      tracks_spelled a tracks.0 tracks.1,
+      track_spelled b track.0 track.1,
+      numeral_spelled c item.0 item.1,
+      delta_spelled e delta.0 delta.1,
+    )
+ripple_spelled place_at (a ∷ b ∷ c ∷ d ∷ e ∷ f ∷ words) line h = absurd (err_ok B2 line h)
+
 view_spelled : (place_at : List ℕ → Option ℕ) (words : List (List ℕ)) (line : Line) → view_of place_at words ≡ Ok line → AreWords place_at (word_of command.View ∷ words) line
 view_spelled place_at [] line h = absurd (err_ok B2 line h)
 view_spelled place_at (a ∷ []) line h = absurd (err_ok B2 line h)
@@ -367,6 +395,7 @@ row_spelled place_at command.Slip words line h = slip_spelled place_at words lin
 row_spelled place_at command.Roll words line h = roll_spelled place_at words line h
 row_spelled place_at command.Slide words line h = slide_spelled place_at words line h
 row_spelled place_at command.Fill words line h = fill_spelled place_at words line h
+row_spelled place_at command.Ripple words line h = ripple_spelled place_at words line h
 row_spelled place_at command.View words line h = view_spelled place_at words line h
 row_spelled place_at command.Items words line h = items_spelled place_at words line h
 row_spelled place_at command.Point words line h = point_spelled place_at words line h
@@ -463,6 +492,13 @@ words_read place_at words (Edit (call.Fill c)) h =
     let what = thing_read h.2 c.what h.8 in
     let from = numeral_read h.3 c.from h.9 in
     rw h.5 (fill_read place_at h.0 h.1 h.2 h.3 h.4 c.track c.at c.what c.from c.length track at what from h.10)
+words_read place_at words (Edit (call.Ripple c)) h =
+    let tracks = tracks_read h.0 c.tracks h.5 in
+    let track = track_read h.1 c.track h.6 in
+    let item = numeral_read h.2 c.item h.7 in
+    let end = end_read c.end in
+    let delta = delta_read h.3 c.by h.8 in
+    rw (h.4, tracks, track, item, end, delta) refl
 words_read place_at words (Ask (ask.View t p q)) h =
     let track = track_read h.0 t h.4 in
     let a = place_read place_at h.1 p h.5 in

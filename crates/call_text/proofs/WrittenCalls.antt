@@ -371,3 +371,33 @@ written_call place_at (call.Fill c) (track, at, what, from, len) =
   where
     length-all : (t a w f n : List ℕ) → length (codes "fill " ++ t ++ codes " " ++ a ++ codes " " ++ w ++ codes " " ++ f ++ codes " " ++ n) ≡ length t + length a + length w + length f + length n + 9
     length-all t a w f n = simp length-append (omega arith)
+written_call place_at (call.Ripple c) ((some, tracks), track, item, by) =
+    is_read place_at (call.Ripple c) (codes "ripple") (tracks_text c.tracks ∷ decimal c.track ∷ decimal c.item ∷ end_word c.end ∷ signed_decimal c.by ∷ [])
+    (regrouped (tracks_text c.tracks) (decimal c.track) (decimal c.item) (end_word c.end) (signed_decimal c.by))
+    (IsWord-tested (codes "ripple") refl)
+    (IsWord-tracks_text c.tracks some tracks, (IsWord-decimal c.track (low c.track track), (IsWord-decimal c.item item, (IsWord-end c.end, (IsWord-signed c.by by, tt)))))
+    (omega (
+      arith,
+      length-all (tracks_text c.tracks) (decimal c.track) (decimal c.item) (end_word c.end) (signed_decimal c.by),
+      length-tracks_text c.tracks some tracks,
+      length-decimal c.track (low c.track track),
+      length-decimal c.item item,
+      length-end c.end,
+      length-signed c.by by,
+    )) (
+      tracks_text c.tracks,
+      decimal c.track,
+      decimal c.item,
+      signed_decimal c.by,
+      refl,
+      IsTracks-tracks_text c.tracks some tracks,
+      (number_of-decimal c.track (low c.track track), track),
+      number_of-decimal c.item item,
+      signed_of-signed_decimal c.by by,
+    )
+  where
+    regrouped : (s t i e d : List ℕ) → codes "ripple " ++ s ++ codes " " ++ t ++ codes " " ++ i ++ codes " " ++ e ++ codes " " ++ d ≡ spaced (codes "ripple") (s ∷ t ∷ i ∷ e ∷ d ∷ [])
+    regrouped s t i e d = simp append_assoc refl
+
+    length-all : (s t i e d : List ℕ) → length (codes "ripple " ++ s ++ codes " " ++ t ++ codes " " ++ i ++ codes " " ++ e ++ codes " " ++ d) ≡ length s + length t + length i + length e + length d + 11
+    length-all s t i e d = simp length-append (omega arith)

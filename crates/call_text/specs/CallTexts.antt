@@ -74,6 +74,9 @@ call_text_of (call.Slide c) =
 call_text_of (call.Fill c) =
     codes "fill " ++ decimal c.track ++ codes " " ++ decimal c.at ++ codes " " ++ what_text c.what
     ++ codes " " ++ decimal c.from ++ codes " " ++ length_text c.length
+call_text_of (call.Ripple c) =
+    codes "ripple " ++ tracks_text c.tracks ++ codes " " ++ decimal c.track ++ codes " "
+    ++ decimal c.item ++ codes " " ++ end_word c.end ++ codes " " ++ signed_decimal c.by
 
 -- a number of 32 bits
 abbrev pub IsSmall : ℕ → Type 0
@@ -113,6 +116,8 @@ IsWritten (call.Slide c) =
 IsWritten (call.Fill c) =
     (c.track ≤ LAST_TRACK) × IsSmall c.at
     × IsSmallWhat c.what × IsSmall c.from × IsSmallLength c.length
+IsWritten (call.Ripple c) =
+    IsSomeTracks c.tracks × (c.track ≤ LAST_TRACK) × IsSmall c.item × FitsSigned w32 c.by
 
 -- the line is no edit, or an edit that can be written and read again
 abbrev pub NamesWritten : Line → Type 0

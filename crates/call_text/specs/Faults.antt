@@ -45,6 +45,7 @@ rows_of command.Slide = (Tracks ∷ Track ∷ Number ∷ Delta ∷ []) ∷ []
 rows_of command.Fill =
     (Track ∷ Place ∷ Thing ∷ Number ∷ Given (codes "sequence") ∷ [])
     ∷ (Track ∷ Place ∷ Thing ∷ Number ∷ Given (codes "source") ∷ Number ∷ []) ∷ []
+rows_of command.Ripple = (Tracks ∷ Track ∷ Number ∷ Ending ∷ Delta ∷ []) ∷ []
 rows_of command.View = (Track ∷ Place ∷ Place ∷ []) ∷ []
 rows_of command.Items = (Track ∷ []) ∷ []
 rows_of command.Point = [] ∷ []

@@ -170,6 +170,23 @@ fill_of place_at (track ∷ at ∷ what ∷ from ∷ how ∷ len ∷ []) = do
   })))
 fill_of place_at words = Err B2
 
+-- ripple TS T I END D
+abbrev pub ripple_of : List (List ℕ) → Result Line LineFault
+ripple_of (tracks ∷ track ∷ item ∷ end ∷ by ∷ []) = do
+  tracks ← tracks_of tracks
+  track ← track_of track
+  item ← numeral_of item
+  end ← end_of end
+  by ← delta_of by
+  Ok (Edit (call.Ripple (record {
+    tracks = tracks;
+    track = track;
+    item = item;
+    end = end;
+    by = by;
+  })))
+ripple_of words = Err B2
+
 -- view T P P
 abbrev pub view_of : Naming → List (List ℕ) → Result Line LineFault
 view_of place_at (track ∷ from ∷ to ∷ []) = do
@@ -213,6 +230,7 @@ command_of word =
     else if bytes_eq word (codes "roll") then Some command.Roll
     else if bytes_eq word (codes "slide") then Some command.Slide
     else if bytes_eq word (codes "fill") then Some command.Fill
+    else if bytes_eq word (codes "ripple") then Some command.Ripple
     else if bytes_eq word (codes "view") then Some command.View
     else if bytes_eq word (codes "items") then Some command.Items
     else if bytes_eq word (codes "point") then Some command.Point
@@ -233,6 +251,7 @@ row_of place_at command.Slip words = slip_of words
 row_of place_at command.Roll words = roll_of place_at words
 row_of place_at command.Slide words = slide_of words
 row_of place_at command.Fill words = fill_of place_at words
+row_of place_at command.Ripple words = ripple_of words
 row_of place_at command.View words = view_of place_at words
 row_of place_at command.Items words = items_of words
 row_of place_at command.Point words = point_of words

@@ -77,6 +77,7 @@ word_of command.Slip = codes "slip"
 word_of command.Roll = codes "roll"
 word_of command.Slide = codes "slide"
 word_of command.Fill = codes "fill"
+word_of command.Ripple = codes "ripple"
 word_of command.View = codes "view"
 word_of command.Items = codes "items"
 word_of command.Point = codes "point"
@@ -84,7 +85,7 @@ word_of command.Otio = codes "otio"
 
 -- overwrite T P WHAT FROM LEN · insert TS T P WHAT FROM LEN · remove T I · extract TS T I · slice T P
 -- · dissolve T P A B · undissolve T P · trim T I END D · slip TS T I D · roll T P D · slide TS T I D
--- · fill T P WHAT FROM sequence · fill T P WHAT FROM source LEN
+-- · fill T P WHAT FROM sequence · fill T P WHAT FROM source LEN · ripple TS T I END D
 abbrev pub AreCall : Naming → List (List ℕ) → Call → Type 0
 AreCall place_at words (call.Overwrite c) =
     (track at what from len : List ℕ)
@@ -131,6 +132,10 @@ AreCall place_at words (call.Fill c) =
     × (words ≡ word_of command.Fill ∷ track ∷ at ∷ what ∷ from ∷ rest)
     × IsTrack track c.track × IsPlace place_at at c.at
     × IsThing what c.what × IsNumeral from c.from × AreLength rest c.length
+AreCall place_at words (call.Ripple c) =
+    (tracks track item by : List ℕ)
+    × (words ≡ word_of command.Ripple ∷ tracks ∷ track ∷ item ∷ end_word c.end ∷ by ∷ [])
+    × IsTracks tracks c.tracks × IsTrack track c.track × IsNumeral item c.item × IsDelta by c.by
 
 -- a call · view T P P · items T · point · otio N
 abbrev pub AreWords : Naming → List (List ℕ) → Line → Type 0

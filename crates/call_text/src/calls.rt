@@ -3,7 +3,7 @@ ghost use Rattle.std.specs.Prelude.{◌≡◌, ◌++◌, IfOk, OnOk};
 ghost use Rattle.call_text.specs.CallTexts.{call_text_of, frames_text, numbers_text, tracks_text};
 
 use crate::bytes::{put, put_end, put_length, put_number, put_signed, put_what};
-use composables::{Fill, Memory, Slide, Slip, Trim, has_track};
+use composables::{Fill, Memory, Ripple, Slide, Slip, Trim, has_track};
 use edit_apply::Call;
 use frame_meaning::What;
 use std::alloc::Global;
@@ -54,6 +54,7 @@ pub(crate) fn put_call(out: &mut Vec<u8>, call: &Call) -> Result<(), Memory>
         }
         Call::Slide(edit) => put_slide(out, edit),
         Call::Fill(edit) => put_fill(out, edit),
+        Call::Ripple(edit) => put_ripple(out, edit),
     }
 }
 
@@ -72,6 +73,17 @@ fn put_slip(out: &mut Vec<u8>, edit: &Slip) -> Result<(), Memory>
     put_tracks(out, b"slip ", edit.tracks)?;
     put_number(out, b" ", edit.track)?;
     put_number(out, b" ", edit.item)?;
+    put_signed(out, b" ", edit.by)
+}
+
+fn put_ripple(out: &mut Vec<u8>, edit: &Ripple) -> Result<(), Memory>
+    ensures { OnOk result (out.new.items ≡ out.old.items ++ call_text_of (Call.Ripple edit.now)) }
+{
+    put_tracks(out, b"ripple ", edit.tracks)?;
+    put_number(out, b" ", edit.track)?;
+    put_number(out, b" ", edit.item)?;
+    put(out, b" ")?;
+    put_end(out, edit.end)?;
     put_signed(out, b" ", edit.by)
 }
 

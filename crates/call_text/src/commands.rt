@@ -17,6 +17,7 @@ pub enum Command {
     Roll,
     Slide,
     Fill,
+    Ripple,
     View,
     Items,
     Point,
@@ -52,6 +53,8 @@ impl Command {
             Some(Command::Slide)
         } else if word == b"fill".as_slice() {
             Some(Command::Fill)
+        } else if word == b"ripple".as_slice() {
+            Some(Command::Ripple)
         } else if word == b"view".as_slice() {
             Some(Command::View)
         } else if word == b"items".as_slice() {

@@ -3,14 +3,14 @@ ghost use Rattle.std.specs.Prelude.{◌≡◌, IfOk};
 ghost use Rattle.line_words.specs.Blanks.{words_of};
 ghost use Rattle.call_text.specs.CallTexts.{NamesWritten};
 ghost use Rattle.call_text.specs.Labels.{place_by};
-ghost use Rattle.call_text.specs.Reading.{overwrite_of, insert_of, remove_of, extract_of, slice_of, dissolve_of, undissolve_of, trim_of, slip_of, roll_of, slide_of, fill_of, view_of, items_of, point_of, otio_of, row_of, line_of, line_of_words, texts_of};
+ghost use Rattle.call_text.specs.Reading.{overwrite_of, insert_of, remove_of, extract_of, slice_of, dissolve_of, undissolve_of, trim_of, slip_of, roll_of, slide_of, fill_of, ripple_of, view_of, items_of, point_of, otio_of, row_of, line_of, line_of_words, texts_of};
 
 use crate::parts::{delta, end, given, numeral, place, track, tracks, what};
 use crate::words::{first_word, line_words};
 use crate::{Command, Line, LineFault};
 use composables::{
-    Dissolve, Extract, Fill, FillLength, Insert, Overwrite, Remove, Roll, Slice, Slide, Slip, Trim,
-    Undissolve,
+    Dissolve, Extract, Fill, FillLength, Insert, Overwrite, Remove, Ripple, Roll, Slice, Slide,
+    Slip, Trim, Undissolve,
 };
 use edit_apply::{Ask, Call};
 use line_words::MAX_LINE;
@@ -71,6 +71,7 @@ fn row(command: Command, rest: &[u8], counting: &Counting, start: u32) -> Result
         Command::Roll => roll(words, counting, start),
         Command::Slide => slide(words),
         Command::Fill => fill(words, counting, start),
+        Command::Ripple => ripple(words),
         Command::View => view(words, counting, start),
         Command::Items => items(words),
         Command::Point => point(words),
@@ -326,6 +327,30 @@ fn fill(words: &[&[u8]], counting: &Counting, start: u32) -> Result<Line, LineFa
                 what,
                 from,
                 length,
+            })))
+        }
+        _ => Err(LineFault::B2),
+    }
+}
+
+// ripple TS T I END D
+fn ripple(words: &[&[u8]]) -> Result<Line, LineFault>
+    ensures read { result ≡ ripple_of (texts_of words.now) }
+    ensures written { IfOk result (λ read. NamesWritten read) }
+{
+    match words {
+        [list, track_word, item, last, by] => {
+            let tracks = tracks(list)?;
+            let track = track(track_word)?;
+            let item = numeral(item)?;
+            let end = end(last)?;
+            let by = delta(by)?;
+            Ok(Line::Edit(Call::Ripple(Ripple {
+                tracks,
+                track,
+                item,
+                end,
+                by,
             })))
         }
         _ => Err(LineFault::B2),

@@ -168,6 +168,27 @@ fn moved_cuts_and_filled_gaps_are_answered(rt: HostRuntime) -> Result<(), Fail> 
 }
 
 #[test]
+fn ripples_are_answered(rt: HostRuntime) -> Result<(), Fail> {
+    let alloc = rt.alloc();
+    let table: [(&[u8], &[u8]); 2] = [
+        (
+            b"overwrite 0 3 @0 100 5\ntrim 0 0 head -10\ntrim 0 0 tail -100\ntrim 0 0 tail 4\nripple 0 0 0 head 2\nripple 0 0 0 tail 1\nitems 0\nroll 0 4 -10\nfill 0 3 @0 500 source 2\nfill 0 5 @0 600 sequence\nextract 0 0 1\nremove 0 0\nitems 0\n",
+            b"ok 0 item 0\nok 1 by -3\nok 2 by -7\nok 3 by 4\nok 4 by 2\nok 5 by 1\nitems 6 0 @0 99 4 dark 3\nok 6 by -3\nok 7 item 1\nok 8 item 2\nok 9\nok 10\nitems 11 dark 1 2 @0 600 4\njournal 11\n0 1 overwrite 0 3 @0 100 5\n0 2 trim 0 0 head -10\n0 3 trim 0 0 tail -100\n0 4 trim 0 0 tail 4\n0 5 ripple 0 0 0 head 2\n0 6 ripple 0 0 0 tail 1\n0 8 roll 0 4 -10\n0 9 fill 0 3 @0 500 source 2\n0 10 fill 0 5 @0 600 sequence\n0 11 extract 0 0 1\n0 12 remove 0 0\n",
+        ),
+        (
+            b"overwrite 0 0 @0 100 10\noverwrite 1 0 @0 100 10\nripple 0,1 0 0 tail 3\nitems 1\nripple 0,1 0 0 head -200\nripple 0,1 0 0 head 4\nitems 0\nitems 1\nripple 0 1 0 head 1\nripple 0 0 0 heads 1\n",
+            b"ok 0 item 0\nok 1 item 0\nok 2 by 3\nitems 3 0 @0 100 10\nok 3 by -100\nok 4 by 4\nitems 5 0 @0 4 109\nitems 5 dark 96 0 @0 100 10\nno 5 E1 1\nbad B1\njournal 5\n0 1 overwrite 0 0 @0 100 10\n0 2 overwrite 1 0 @0 100 10\n0 3 ripple 0,1 0 0 tail 3\n0 5 ripple 0,1 0 0 head -200\n0 6 ripple 0,1 0 0 head 4\n",
+        ),
+    ];
+    for (input, wanted) in table {
+        let (status, output) = ended(alloc, &["run", "2", "1"], &[input], &[], &[])?;
+        assert_eq!(rt; status, 0);
+        assert_eq!(rt; output.as_slice(), wanted);
+    }
+    Ok(())
+}
+
+#[test]
 fn pieces_make_no_difference(rt: HostRuntime) -> Result<(), Fail> {
     let alloc = rt.alloc();
     let text = b"overwrite 0 10 @0 100 5\r\nview 0 0 15";

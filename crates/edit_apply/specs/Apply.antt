@@ -14,6 +14,7 @@ use Rattle.edit_insert.specs.Edits.{extract_named, insert_named, overwrite_named
 use Rattle.edit_insert.specs.Fills.{fill_named}
 use Rattle.edit_roll.specs.Rolling.{roll_named}
 use Rattle.edit_roll.specs.Sliding.{slide_named}
+use Rattle.edit_trim.specs.Rippling.{ripple_named}
 use Rattle.edit_trim.specs.Slipping.{slip_named}
 use Rattle.edit_trim.specs.Trimming.{trim_named}
 use Rattle.room_core.specs.Whole.{Meaning}
@@ -36,6 +37,7 @@ named_by (call.Slip c) = Many c.tracks c.track
 named_by (call.Roll c) = One c.track
 named_by (call.Slide c) = Many c.tracks c.track
 named_by (call.Fill c) = One c.track
+named_by (call.Ripple c) = Many c.tracks c.track
 
 abbrev pub tracks_of : NamedTracks → List ℕ
 tracks_of (One track) = track ∷ []
@@ -94,6 +96,7 @@ applied_on table named (call.Slip c) = slip_named table named c
 applied_on table named (call.Roll c) = roll_named table named c
 applied_on table named (call.Slide c) = slide_named table named c
 applied_on table named (call.Fill c) = fill_named table named c
+applied_on table named (call.Ripple c) = ripple_named table named c
 
 -- what the calls of a room with this table mean
 abbrev pub editing : Table → Meaning TrackState Call Done Refusal

@@ -21,7 +21,7 @@ use Rattle.edit_apply.specs.declared.asks.Call.TheVariants as call
 use Rattle.edit_apply.specs.Apply.{applied_on, editing, names_of, refuse_names_of, track_count}
 use Rattle.edit_apply.specs.PlainCells.{ArePlain, plain-more, plain-views}
 use Rattle.edit_apply.specs.RoomTracks.{IsOpening, IsTrackOf, IsUnlinked}
-use Rattle.edit_apply.specs.YoungTracks.{AreYoung, IsYoung, all-more, young-dissolve, young-extract, young-fill, young-insert, young-overwrite, young-remove, young-roll, young-slice, young-slide, young-slip, young-trim, young-undissolve}
+use Rattle.edit_apply.specs.YoungTracks.{AreYoung, IsYoung, all-more, young-dissolve, young-extract, young-fill, young-insert, young-overwrite, young-remove, young-ripple, young-roll, young-slice, young-slide, young-slip, young-trim, young-undissolve}
 
 -- a call on the named tracks
 young_applied : (n : ℕ) (table : Table) (ts : List TrackState) (c : Call) → All (IsYoung n) ts → AreYoung (n + 2) (applied_on table ts c)
@@ -37,6 +37,7 @@ young_applied n table ts (call.Slip c) h = young-slip n table ts c h
 young_applied n table ts (call.Roll c) h = young-roll n table ts c h
 young_applied n table ts (call.Slide c) h = young-slide n table ts c h
 young_applied n table ts (call.Fill c) h = young-fill n table ts c h
+young_applied n table ts (call.Ripple c) h = young-ripple n table ts c h
 
 -- and on all
 set_young : (n : ℕ) (ts : List TrackState) (i : ℕ) (u : TrackState) → All (IsYoung n) ts → IsYoung n u → All (IsYoung n) (slice_set ts i u)

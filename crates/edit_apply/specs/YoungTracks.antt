@@ -8,6 +8,7 @@ use Rattle.composables.specs.declared.calls.Insert.{Insert}
 use Rattle.composables.specs.declared.calls.Remove.{Remove}
 use Rattle.composables.specs.declared.calls.Extract.{Extract}
 use Rattle.composables.specs.declared.calls.Fill.{Fill}
+use Rattle.composables.specs.declared.calls.Ripple.{Ripple}
 use Rattle.composables.specs.declared.calls.Roll.{Roll}
 use Rattle.composables.specs.declared.calls.Slide.{Slide}
 use Rattle.composables.specs.declared.calls.Slice.{Slice}
@@ -40,6 +41,7 @@ use Rattle.dissolves.specs.Marking.{dissolve_named, dissolve_on, mark_asked, mar
 use Rattle.edit_delta.specs.Nearest.{nearest}
 use Rattle.edit_delta.specs.Reaching.{going_on, reaching_back}
 use Rattle.edit_delta.specs.Using.{on_range, used_on}
+use Rattle.edit_trim.specs.Rippling.{ripple_allows, ripple_end, ripple_named, ripple_own, rippled, used_on_all}
 use Rattle.edit_trim.specs.Slipping.{slip_allows, slip_named, slip_range, slip_track, slipped, slipped_by}
 use Rattle.edit_trim.specs.Trimming.{trim_allows, trim_end, trim_named, trim_track, trimmed}
 use Rattle.edit_insert.specs.Fills.{fill_at, fill_named, fill_track, filled, frames_asked}
@@ -374,3 +376,35 @@ young-fill n table ts c h = on-own-young n (n + 2) c.track (fill_track table c) 
         let asked : ℕ = frames_asked c.length (b - a) in
         unless_stays (n + 2) (source_refusal table t.number c.what c.from asked) (track_within_limits (filled t c a (min asked (b - a))) (Item t.next_item))
         (young_filled n t c a (min asked (b - a)) y)
+
+-- an end of an item, and all behind it
+on_range_young : (m : ℕ) (meant : ℕ → ℕ → Applied) (range : Option (ℕ × ℕ)) → ((x y : ℕ) → AreYoung m (meant x y)) → AreYoung m (on_range meant range)
+on_range_young m meant None h = tt
+on_range_young m meant (Some (x, y)) h = h x y
+
+used_young : (n : ℕ) (ts : List TrackState) (moved : Done → ℤ → Applied) (d : ℤ) → All (IsYoung n) ts → AreYoung (n + 2) (moved (By d) d)
+    → AreYoung (n + 2) (used_on_all ts moved d)
+used_young n ts moved (pos zero) h m = all-more n (n + 2) ts (omega arith) h
+used_young n ts moved (pos (suc k)) h m = m
+used_young n ts moved (negsuc k) h m = m
+
+part_shifted : (n own x y p : ℕ) (t : TrackState) (v : ItemView) (done : Done) (ts : List TrackState) → All (IsYoung n) ts → IsYoung n t
+    → v.item ≡ (cell_at t.cells p).item → v.link ≡ (cell_at t.cells p).link → AreYoung (n + 2) (shift_of own x y (v ∷ []) done ts)
+part_shifted n own x y p t v done ts h young item link =
+    let plain : IsPlain n (cell_at t.cells p) = plain-at n t.cells p young.plain in
+    let below : IfSome v.item (λ i. i < n) = subst (λ (o : Option ℕ). IfSome o (λ i. i < n)) (sym item) plain.0 in
+    shift_young n own x y (v ∷ []) done ts h (if-weaker v.item n (n + 1) (omega arith) below, tt) (link ∙ plain.1, tt)
+
+young_rippled : (n own : ℕ) (ts : List TrackState) (t : TrackState) (x y : ℕ) (end : End) (done : Done) (d : ℤ) → All (IsYoung n) ts → IsYoung n t
+    → AreYoung (n + 2) (rippled own ts t x y end done d)
+young_rippled n own ts t x y Head done (pos k) h young = shift_young n own x (x + k) [] done ts h tt tt
+young_rippled n own ts t x y Head done (negsuc k) h young = part_shifted n own x x x t (reaching_back (cell_at t.cells x) (suc k)) done ts h young refl refl
+young_rippled n own ts t x y Tail done (pos k) h young = part_shifted n own y y (y - 1) t (going_on (cell_at t.cells (y - 1)) k) done ts h young refl refl
+young_rippled n own ts t x y Tail done (negsuc k) h young = shift_young n own (y - suc k) y [] done ts h tt tt
+
+pub young-ripple : (n : ℕ) (table : Table) (ts : List TrackState) (c : Ripple) → All (IsYoung n) ts → AreYoung (n + 2) (ripple_named table ts c)
+young-ripple n table ts c h = for_own_young n (n + 2) c.track (ripple_own table c ts) ts h each where
+  each : (t : TrackState) → IsYoung n t → AreYoung (n + 2) (ripple_own table c ts t)
+  each t young = on_range_young (n + 2) (ripple_end table c.track ts t c.end c.by) (range_of t.cells c.item)
+      (λ a b. used_young n ts (rippled c.track ts t a b c.end) (nearest (ripple_allows table c.track ts t a b c.end) c.by) h
+      (young_rippled n c.track ts t a b c.end (By (nearest (ripple_allows table c.track ts t a b c.end) c.by)) (nearest (ripple_allows table c.track ts t a b c.end) c.by) h young))

@@ -1,8 +1,8 @@
 // Calls and questions as a station sends them, and what a question is answered.
 
 use composables::{
-    Dissolve, Extract, Fill, Insert, ItemView, Listed, Overwrite, Remove, Roll, Slice, Slide, Slip,
-    Trim, Undissolve,
+    Dissolve, Extract, Fill, Insert, ItemView, Listed, Overwrite, Remove, Ripple, Roll, Slice,
+    Slide, Slip, Trim, Undissolve,
 };
 use frame_meaning::{Run, What};
 
@@ -21,6 +21,7 @@ pub enum Call {
     Roll(Roll),
     Slide(Slide),
     Fill(Fill),
+    Ripple(Ripple),
 }
 
 /// A question to a track: the frames shown in its places [a, b), or its items.

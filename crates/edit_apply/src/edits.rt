@@ -13,7 +13,7 @@ use composables::{Done, EditFault, Refusal, Table, Track};
 use dissolves::{dissolve, undissolve};
 use edit_insert::{extract, fill, insert, overwrite, remove, slice};
 use edit_roll::{roll, slide};
-use edit_trim::{slip, trim};
+use edit_trim::{ripple, slip, trim};
 use room_core::Fault;
 use std::alloc::Global;
 use std::sync::ledger::Ledger;
@@ -56,6 +56,7 @@ pub(crate) fn edit<L: Ledger>(
         Call::Roll(edit) => roll(alloc, table, parts, edit, steps),
         Call::Slide(edit) => slide(alloc, table, parts, edit, steps),
         Call::Fill(edit) => fill(alloc, table, parts, edit, steps),
+        Call::Ripple(edit) => ripple(alloc, table, parts, edit, steps),
     }
 }
 

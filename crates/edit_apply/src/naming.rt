@@ -44,6 +44,10 @@ pub(crate) fn named_by(call: &Call) -> NamedTracks
             own: edit.track,
         },
         Call::Fill(edit) => NamedTracks::One(edit.track),
+        Call::Ripple(edit) => NamedTracks::Many {
+            tracks: edit.tracks,
+            own: edit.track,
+        },
     }
 }
 

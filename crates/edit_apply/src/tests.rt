@@ -9,8 +9,8 @@ ghost use Rattle.edit_apply.specs.RoomTracks.{IsTrackOf};
 use crate::{Ask, AskRefusal, Call, Editor};
 use composables::{
     Dissolve, Done, End, Extract, Fill, FillLength, Insert, ItemView, Kind, Listed, MAX_ITEMS,
-    Media, Memory, Overwrite, Reels, Refusal, Remove, Roll, Slice, Slide, Slip, Table, Track, Trim,
-    Undissolve,
+    Media, Memory, Overwrite, Reels, Refusal, Remove, Ripple, Roll, Slice, Slide, Slip, Table,
+    Track, Trim, Undissolve,
 };
 use frame_meaning::What;
 use room_core::{Fault, PartObject};
@@ -119,6 +119,14 @@ fn a_call_names_its_tracks(rt: HostRuntime) -> Result<(), Fail> {
             item: 0,
         });
         assert_eq!(rt; editor.names(&extract), tracks);
+        let ripple = Call::Ripple(Ripple {
+            tracks,
+            track: 9,
+            item: 0,
+            end: End::Tail,
+            by: 1,
+        });
+        assert_eq!(rt; editor.names(&ripple), tracks);
         let slide = Call::Slide(Slide {
             tracks,
             track: 9,

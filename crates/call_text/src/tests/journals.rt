@@ -5,8 +5,8 @@ use crate::{
     Entry, JournalCode, JournalFault, Line, MAX_JOURNAL, call_text, journal_text, read_journal,
 };
 use composables::{
-    Dissolve, End, Extract, Fill, FillLength, Insert, Overwrite, Remove, Roll, Slice, Slide, Slip,
-    Trim, Undissolve,
+    Dissolve, End, Extract, Fill, FillLength, Insert, Overwrite, Remove, Ripple, Roll, Slice,
+    Slide, Slip, Trim, Undissolve,
 };
 use edit_apply::Call;
 use frame_meaning::What;
@@ -55,7 +55,7 @@ fn a_journal_is_written(rt: HostRuntime) -> Result<(), Fail> {
 
 #[test]
 fn written_calls_come_back(rt: HostRuntime) -> Result<(), Fail> {
-    let table: [(&[u8], Call); 15] = [
+    let table: [(&[u8], Call); 16] = [
         (b"overwrite 1 20 @3 400 5000", Call::Overwrite(FOUR)),
         (
             b"overwrite 31 4294967295 #4294967295 4294967295 4294967295",
@@ -139,6 +139,16 @@ fn written_calls_come_back(rt: HostRuntime) -> Result<(), Fail> {
             Call::Fill(Fill {
                 length: FillLength::Source(4294967295),
                 ..WHOLE
+            }),
+        ),
+        (
+            b"ripple 0,3 3 10 head -1",
+            Call::Ripple(Ripple {
+                tracks: 9,
+                track: 3,
+                item: 10,
+                end: End::Head,
+                by: -1,
             }),
         ),
     ];

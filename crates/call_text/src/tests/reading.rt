@@ -3,8 +3,8 @@
 use crate::tests::{FOUR, TWO, WHOLE};
 use crate::{Line, LineFault, read_line};
 use composables::{
-    Dissolve, End, Extract, Fill, FillLength, Insert, Overwrite, Remove, Roll, Slice, Slide, Slip,
-    Trim, Undissolve,
+    Dissolve, End, Extract, Fill, FillLength, Insert, Overwrite, Remove, Ripple, Roll, Slice,
+    Slide, Slip, Trim, Undissolve,
 };
 use edit_apply::{Ask, Call};
 use frame_meaning::What;
@@ -42,7 +42,7 @@ fn lines_of_the_table_are_read(rt: HostRuntime) {
 
 #[test]
 fn edits_of_the_table_are_read(rt: HostRuntime) {
-    let table: [(&[u8], Call); 21] = [
+    let table: [(&[u8], Call); 22] = [
         (b"overwrite 1 20 @3 400 5000", Call::Overwrite(FOUR)),
         (b"overwrite 001 0020 @03 0400 005000", Call::Overwrite(FOUR)),
         (
@@ -155,6 +155,16 @@ fn edits_of_the_table_are_read(rt: HostRuntime) {
             }),
         ),
         (
+            b"ripple 0,2 2 7 tail -1",
+            Call::Ripple(Ripple {
+                tracks: 5,
+                track: 2,
+                item: 7,
+                end: End::Tail,
+                by: -1,
+            }),
+        ),
+        (
             b"slice 1 00:00:01:01",
             Call::Slice(Slice { track: 1, at: 25 }),
         ),
@@ -170,7 +180,7 @@ fn edits_of_the_table_are_read(rt: HostRuntime) {
 
 #[test]
 fn the_first_fault_of_a_line_is_told(rt: HostRuntime) {
-    let table: [(&[u8], LineFault); 82] = [
+    let table: [(&[u8], LineFault); 84] = [
         (b"", LineFault::B2),
         (b" \t ", LineFault::B2),
         (b"jump", LineFault::B1),
@@ -253,6 +263,8 @@ fn the_first_fault_of_a_line_is_told(rt: HostRuntime) {
         (b"fill 0 0 @0 x sequenc", LineFault::B3),
         (b"fill 0 0 @0 0 source x", LineFault::B3),
         (b"fill 0 0 @0 0 source 4294967296", LineFault::B4),
+        (b"ripple 0 0 0 head", LineFault::B2),
+        (b"ripple 0 0 0 tai x", LineFault::B1),
     ];
     for (row, (line, want)) in table.into_iter().enumerate() {
         assert_eq!(rt; read(rt.alloc(), line), Some(Err(want)), "row {row}");
