@@ -114,6 +114,98 @@ fn lines_are_answered(rt: HostRuntime) -> Result<(), Fail> {
 }
 
 #[test]
+fn dissolves_are_answered(rt: HostRuntime) -> Result<(), Fail> {
+    let alloc = rt.alloc();
+    let table: [(&[u8], &[u8]); 3] = [
+        (
+            b"overwrite 0 0 @0 100 10\noverwrite 0 10 @0 200 10\ndissolve 0 10 1 2\nview 0 0 20\nundissolve 0 10\nview 0 8 13\nundissolve 0 10\n",
+            b"ok 0 item 0\nok 1 item 1\nok 2\nseen 3 @0 100 9 mix @0 109 @0 199 1 4 3 @0 202 8\nok 3\nseen 4 @0 108 2 @0 200 3\nno 4 E7 10\njournal 4\n0 1 overwrite 0 0 @0 100 10\n0 2 overwrite 0 10 @0 200 10\n0 3 dissolve 0 10 1 2\n0 5 undissolve 0 10\n",
+        ),
+        (
+            b"overwrite 0 0 @0 100 10\noverwrite 0 10 @0 200 10\ndissolve 0 00:00:00:10 1 2\nslice 0 12\nitems 0\nslice 0 11\nitems 0\n",
+            b"ok 0 item 0\nok 1 item 1\nok 2\nok 3\nitems 4 0 @0 100 10 mark 1 2 1 @0 200 2 2 @0 202 8\nok 4\nitems 5 0 @0 100 10 1 @0 200 1 3 @0 201 1 2 @0 202 8\njournal 5\n0 1 overwrite 0 0 @0 100 10\n0 2 overwrite 0 10 @0 200 10\n0 3 dissolve 0 10 1 2\n0 4 slice 0 12\n0 6 slice 0 11\n",
+        ),
+        (
+            b"overwrite 0 0 @0 100 10\noverwrite 0 10 @0 300 10\ndissolve 0 10 11 0\ndissolve 0 10 0 11\ndissolve 0 5 0 0\ndissolve 0 5 1 1\ndissolve 0 10 1\ndissolve 2 10 1 1\nundissolve 0 10\n",
+            b"ok 0 item 0\nok 1 item 1\nno 2 E8 left\nno 2 E8 right\nno 2 E4\nno 2 E7 5\nbad B2\nno 2 E1 2\nno 2 E7 10\njournal 2\n0 1 overwrite 0 0 @0 100 10\n0 2 overwrite 0 10 @0 300 10\n",
+        ),
+    ];
+    for (input, wanted) in table {
+        let (status, output) = ended(alloc, &["run", "2", "1"], &[input], &[], &[])?;
+        assert_eq!(rt; status, 0);
+        assert_eq!(rt; output.as_slice(), wanted);
+    }
+    Ok(())
+}
+
+#[test]
+fn edits_by_a_delta_are_answered(rt: HostRuntime) -> Result<(), Fail> {
+    let alloc = rt.alloc();
+    let table: [(&[u8], &[u8]); 2] = [
+        (
+            b"overwrite 0 0 @0 86388 5\nslip 0 0 0 100\nslip 0 0 0 100\nslip 0 0 0 -5\nitems 0\nslip 0 1 0 1\nslip 2 2 0 1\n",
+            b"ok 0 item 0\nok 1 by 7\nok 2 by 0\nok 3 by -5\nitems 4 0 @0 86390 5\nno 4 E1 1\nno 4 E1 2\njournal 4\n0 1 overwrite 0 0 @0 86388 5\n0 2 slip 0 0 0 100\n0 3 slip 0 0 0 100\n0 4 slip 0 0 0 -5\n",
+        ),
+        (
+            b"overwrite 0 3 @0 100 5\ntrim 0 0 head -10\ntrim 0 0 tail -100\ntrim 0 0 tail 4\nitems 0\ntrim 0 1 tail 1\ntrim 0 0 Tail 1\ntrim 0 0 tail x\ntrim 0 0 tail 2147483648\n",
+            b"ok 0 item 0\nok 1 by -3\nok 2 by -7\nok 3 by 4\nitems 4 0 @0 97 5 dark 3\nno 4 E2\nbad B1\nbad B3\nbad B4\njournal 4\n0 1 overwrite 0 3 @0 100 5\n0 2 trim 0 0 head -10\n0 3 trim 0 0 tail -100\n0 4 trim 0 0 tail 4\n",
+        ),
+    ];
+    for (input, wanted) in table {
+        let (status, output) = ended(alloc, &["run", "2", "1"], &[input], &[], &[])?;
+        assert_eq!(rt; status, 0);
+        assert_eq!(rt; output.as_slice(), wanted);
+    }
+    Ok(())
+}
+
+#[test]
+fn moved_cuts_and_filled_gaps_are_answered(rt: HostRuntime) -> Result<(), Fail> {
+    let alloc = rt.alloc();
+    let table: [(&[u8], &[u8]); 3] = [
+        (
+            b"overwrite 0 0 @0 0 5\noverwrite 0 5 @0 105 5\noverwrite 0 10 @0 210 5\nslide 0 0 1 2\nitems 0\nslide 0 0 1 -100\nitems 0\nslide 0 0 0 3\nslide 0 0 5 1\n",
+            b"ok 0 item 0\nok 1 item 1\nok 2 item 2\nok 3 by 2\nitems 4 0 @0 0 7 1 @0 105 5 2 @0 212 3\nok 4 by -6\nitems 5 0 @0 0 1 1 @0 105 5 2 @0 206 9\nok 5 by 0\nno 6 E2\njournal 6\n0 1 overwrite 0 0 @0 0 5\n0 2 overwrite 0 5 @0 105 5\n0 3 overwrite 0 10 @0 210 5\n0 4 slide 0 0 1 2\n0 6 slide 0 0 1 -100\n0 8 slide 0 0 0 3\n",
+        ),
+        (
+            b"overwrite 0 0 @0 100 5\noverwrite 0 5 @0 200 5\nroll 0 00:00:00:05 2\nroll 0 7 -100\nitems 0\nroll 0 4 1\nroll 0 0 1\nroll 0 1 -\nroll 0 1 -0\n",
+            b"ok 0 item 0\nok 1 item 1\nok 2 by 2\nok 3 by -6\nitems 4 0 @0 100 1 1 @0 196 9\nno 4 E7 4\nno 4 E7 0\nbad B3\nok 4 by 0\njournal 5\n0 1 overwrite 0 0 @0 100 5\n0 2 overwrite 0 5 @0 200 5\n0 3 roll 0 5 2\n0 4 roll 0 7 -100\n0 9 roll 0 1 0\n",
+        ),
+        (
+            b"overwrite 0 3 @0 100 5\nfill 0 0 @0 500 source 2\nfill 0 2 @0 600 sequence\nitems 0\nfill 0 3 @0 0 sequence\nfill 0 3 @0 86399 source 2\nfill 0 9 @1 0 sequence\nfill 0 0 @0 0 source\nfill 0 0 @0 0 sequence 1\n",
+            b"ok 0 item 0\nok 1 item 1\nok 2 item 2\nitems 3 1 @0 500 2 2 @0 600 1 0 @0 100 5\nno 3 E6 3\nno 3 E5\nno 3 E3\nbad B1\nbad B1\njournal 3\n0 1 overwrite 0 3 @0 100 5\n0 2 fill 0 0 @0 500 source 2\n0 3 fill 0 2 @0 600 sequence\n",
+        ),
+    ];
+    for (input, wanted) in table {
+        let (status, output) = ended(alloc, &["run", "1", "1"], &[input], &[], &[])?;
+        assert_eq!(rt; status, 0);
+        assert_eq!(rt; output.as_slice(), wanted);
+    }
+    Ok(())
+}
+
+#[test]
+fn ripples_are_answered(rt: HostRuntime) -> Result<(), Fail> {
+    let alloc = rt.alloc();
+    let table: [(&[u8], &[u8]); 2] = [
+        (
+            b"overwrite 0 3 @0 100 5\ntrim 0 0 head -10\ntrim 0 0 tail -100\ntrim 0 0 tail 4\nripple 0 0 0 head 2\nripple 0 0 0 tail 1\nitems 0\nroll 0 4 -10\nfill 0 3 @0 500 source 2\nfill 0 5 @0 600 sequence\nextract 0 0 1\nremove 0 0\nitems 0\n",
+            b"ok 0 item 0\nok 1 by -3\nok 2 by -7\nok 3 by 4\nok 4 by 2\nok 5 by 1\nitems 6 0 @0 99 4 dark 3\nok 6 by -3\nok 7 item 1\nok 8 item 2\nok 9\nok 10\nitems 11 dark 1 2 @0 600 4\njournal 11\n0 1 overwrite 0 3 @0 100 5\n0 2 trim 0 0 head -10\n0 3 trim 0 0 tail -100\n0 4 trim 0 0 tail 4\n0 5 ripple 0 0 0 head 2\n0 6 ripple 0 0 0 tail 1\n0 8 roll 0 4 -10\n0 9 fill 0 3 @0 500 source 2\n0 10 fill 0 5 @0 600 sequence\n0 11 extract 0 0 1\n0 12 remove 0 0\n",
+        ),
+        (
+            b"overwrite 0 0 @0 100 10\noverwrite 1 0 @0 100 10\nripple 0,1 0 0 tail 3\nitems 1\nripple 0,1 0 0 head -200\nripple 0,1 0 0 head 4\nitems 0\nitems 1\nripple 0 1 0 head 1\nripple 0 0 0 heads 1\n",
+            b"ok 0 item 0\nok 1 item 0\nok 2 by 3\nitems 3 0 @0 100 10\nok 3 by -100\nok 4 by 4\nitems 5 0 @0 4 109\nitems 5 dark 96 0 @0 100 10\nno 5 E1 1\nbad B1\njournal 5\n0 1 overwrite 0 0 @0 100 10\n0 2 overwrite 1 0 @0 100 10\n0 3 ripple 0,1 0 0 tail 3\n0 5 ripple 0,1 0 0 head -200\n0 6 ripple 0,1 0 0 head 4\n",
+        ),
+    ];
+    for (input, wanted) in table {
+        let (status, output) = ended(alloc, &["run", "2", "1"], &[input], &[], &[])?;
+        assert_eq!(rt; status, 0);
+        assert_eq!(rt; output.as_slice(), wanted);
+    }
+    Ok(())
+}
+
+#[test]
 fn pieces_make_no_difference(rt: HostRuntime) -> Result<(), Fail> {
     let alloc = rt.alloc();
     let text = b"overwrite 0 10 @0 100 5\r\nview 0 0 15";

@@ -1,0 +1,249 @@
+// Worked examples of insert and extract over three tracks.
+ghost use Rattle.std.specs.Prelude.{◌≡◌, ◌<◌, All};
+ghost use Rattle.composables.specs.Good.{AreUnlinked, IsGood};
+ghost use Rattle.composables.specs.OwnTracks.{numbers_of};
+ghost use Rattle.composables.specs.TrackSets.{tracks_in};
+
+use crate::tests::tracks::{all_roomy, dark, item, shown_items, small_table};
+use crate::{extract, insert};
+use composables::{Done, EditFault, Extract, Insert, Memory, Refusal, Table, Track};
+use frame_meaning::What;
+use std::alloc::Global;
+use std::marker::Brand;
+use std::process::Abort;
+use std::sync::ledger::{Blank, Ledger};
+use std::test::Fail;
+use step_count::Steps;
+
+// Inserts and extracts over the tracks 0, 1 and 2.
+#[derive(Clone, Copy, Debug, PartialEq, Eq)]
+enum OnThree {
+    In(Insert),
+    Out(Extract),
+}
+
+fn put(track: u32, at: u32, from: u32, len: u32) -> OnThree {
+    OnThree::In(Insert {
+        tracks: 7,
+        track,
+        at,
+        what: What::Media(0),
+        from,
+        len,
+    })
+}
+
+fn take(track: u32, item: u32) -> OnThree {
+    OnThree::Out(Extract {
+        tracks: 7,
+        track,
+        item,
+    })
+}
+
+fn must_be_of_three(rt: &impl Abort, tracks: u32, track: u32)
+    ensures tracks { tracks ≡ 7 }
+    ensures track { track < 3 }
+{
+    assert!(rt; tracks == 7);
+    assert!(rt; track < 3);
+}
+
+fn shift_three<L: Ledger>(
+    rt: &impl Abort,
+    alloc: Global,
+    table: &Table,
+    named: &mut Vec<Track>,
+    edit: &OnThree,
+    steps: &mut Steps<L>,
+) -> Result<Done, EditFault>
+    requires named { numbers_of named.old.items ≡ tracks_in 7 }
+    requires good { All (λ t. IsGood table.now t) named.old.items }
+    requires unlinked { AreUnlinked named.old.items }
+    ensures named { numbers_of named.new.items ≡ tracks_in 7 }
+    ensures good { All (λ t. IsGood table.now t) named.new.items }
+    ensures unlinked { AreUnlinked named.new.items }
+{
+    assert!(rt; all_roomy(named));
+    match edit {
+        OnThree::In(call) => {
+            must_be_of_three(rt, call.tracks, call.track);
+            insert(alloc, table, named, call, steps)
+        }
+        OnThree::Out(call) => {
+            must_be_of_three(rt, call.tracks, call.track);
+            extract(alloc, table, named, call, steps)
+        }
+    }
+}
+
+fn shift_all_three<L: Ledger>(
+    rt: &impl Abort,
+    alloc: Global,
+    blank: Blank,
+    table: &Table,
+    named: &mut Vec<Track>,
+    edits: &[OnThree],
+) -> Result<Done, EditFault>
+    requires blank { (blank.name ≡ L.name) × (blank.parts ≡ L.parts) × (0 < blank.parts) }
+    requires named { numbers_of named.old.items ≡ tracks_in 7 }
+    requires good { All (λ t. IsGood table.now t) named.old.items }
+    requires unlinked { AreUnlinked named.old.items }
+{
+    let mut steps = Steps::<L>::new(blank);
+    let mut last = Ok(Done::Plain);
+    for edit in edits {
+        last = shift_three(rt, alloc, table, named, edit, &mut steps);
+    }
+    last
+}
+
+// Three empty tracks, shifted one edit after another.
+fn play_three(
+    rt: &impl Abort,
+    alloc: Global,
+    edits: &[OnThree],
+) -> Result<(Vec<Track>, Result<Done, EditFault>), Memory> {
+    let table = small_table(alloc)?;
+    let mut named = Vec::new(alloc);
+    named.push(Track::empty(alloc, 0))?;
+    named.push(Track::empty(alloc, 1))?;
+    named.push(Track::empty(alloc, 2))?;
+    let last = shift_all_three::<Brand>(rt, alloc, Blank::new(1), &table, &mut named, edits);
+    Ok((named, last))
+}
+
+#[test]
+fn inserts_and_extracts_move_all_named_tracks(rt: HostRuntime) -> Result<(), Fail> {
+    let alloc = rt.alloc();
+    for (row, edits, first, second, third, last) in [
+        // one track alone has the places: pads, cuts, goes before
+        (
+            0u32,
+            [
+                put(0, 0, 0, 4),
+                put(0, 2, 50, 1),
+                put(0, 5, 60, 1),
+                put(0, 0, 70, 1),
+            ]
+            .as_slice(),
+            [
+                item(4, 70, 1),
+                item(0, 0, 2),
+                item(1, 50, 1),
+                item(2, 2, 2),
+                item(3, 60, 1),
+            ]
+            .as_slice(),
+            [].as_slice(),
+            [].as_slice(),
+            Ok(Done::Item(4)),
+        ),
+        (
+            1,
+            [put(1, 3, 0, 2)].as_slice(),
+            [].as_slice(),
+            [dark(3), item(0, 0, 2)].as_slice(),
+            [].as_slice(),
+            Ok(Done::Item(0)),
+        ),
+        // an item on another track is cut, a shorter track stays
+        (
+            2,
+            [put(0, 0, 0, 4), put(1, 4, 10, 4), put(0, 2, 50, 3)].as_slice(),
+            [item(0, 0, 2), item(1, 50, 3), item(2, 2, 2)].as_slice(),
+            [dark(7), item(0, 10, 4)].as_slice(),
+            [].as_slice(),
+            Ok(Done::Item(1)),
+        ),
+        (
+            3,
+            [
+                put(0, 0, 0, 4),
+                put(1, 4, 10, 4),
+                put(2, 9, 20, 1),
+                put(0, 5, 50, 3),
+            ]
+            .as_slice(),
+            [item(0, 0, 4), dark(1), item(1, 50, 3)].as_slice(),
+            [dark(4), item(0, 10, 1), dark(3), item(1, 11, 3)].as_slice(),
+            [dark(12), item(0, 20, 1)].as_slice(),
+            Ok(Done::Item(1)),
+        ),
+        // an extract takes the places from each track that has them
+        (
+            4,
+            [
+                put(0, 0, 0, 4),
+                put(1, 4, 10, 4),
+                put(0, 2, 50, 3),
+                take(0, 1),
+            ]
+            .as_slice(),
+            [item(0, 0, 2), item(2, 2, 2)].as_slice(),
+            [dark(4), item(0, 10, 4)].as_slice(),
+            [].as_slice(),
+            Ok(Done::Plain),
+        ),
+        (
+            5,
+            [put(0, 0, 0, 4), put(1, 6, 10, 4), take(1, 0)].as_slice(),
+            [item(0, 0, 4)].as_slice(),
+            [dark(6)].as_slice(),
+            [].as_slice(),
+            Ok(Done::Plain),
+        ),
+        // refusals change nothing
+        (
+            6,
+            [put(0, 0, 0, 4), take(1, 0)].as_slice(),
+            [item(0, 0, 4)].as_slice(),
+            [].as_slice(),
+            [].as_slice(),
+            Err(EditFault::Refused(Refusal::NoItem)),
+        ),
+        (
+            7,
+            [put(0, 0, 0, 4), put(1, 0, 0, 0)].as_slice(),
+            [item(0, 0, 4)].as_slice(),
+            [].as_slice(),
+            [].as_slice(),
+            Err(EditFault::Refused(Refusal::EmptyRange)),
+        ),
+        (
+            8,
+            [put(0, 0, 0, 4), put(1, 0, 86_399, 2)].as_slice(),
+            [item(0, 0, 4)].as_slice(),
+            [].as_slice(),
+            [].as_slice(),
+            Err(EditFault::Refused(Refusal::MediaEnds)),
+        ),
+        (
+            9,
+            [put(1, 2_591_999, 0, 1), put(2, 0, 0, 1)].as_slice(),
+            [].as_slice(),
+            [dark(2_591_999), item(0, 0, 1)].as_slice(),
+            [].as_slice(),
+            Err(EditFault::Refused(Refusal::TooLong(1))),
+        ),
+        (
+            10,
+            [put(2, 2_591_999, 0, 2)].as_slice(),
+            [].as_slice(),
+            [].as_slice(),
+            [].as_slice(),
+            Err(EditFault::Refused(Refusal::TooLong(2))),
+        ),
+    ] {
+        let (named, answer) = play_three(&rt, alloc, edits)?;
+        assert_eq!(rt; answer, last, "row {row}");
+        for (index, items) in [first, second, third].iter().enumerate() {
+            let shown = match named.get(index) {
+                Some(track) => shown_items(alloc, track)?,
+                None => Vec::new(alloc),
+            };
+            assert_eq!(rt; shown.as_slice(), *items, "row {row} track {index}");
+        }
+    }
+    Ok(())
+}

@@ -1,0 +1,5 @@
+pub mod Beside
+pub mod Moves
+pub mod Slides
+pub mod Laid
+pub mod Lengths

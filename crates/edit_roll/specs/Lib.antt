@@ -1,0 +1,5 @@
+pub mod Neighbours
+pub mod Rolling
+pub mod Sliding
+pub mod Laid
+pub mod Lengths

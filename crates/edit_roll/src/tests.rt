@@ -1,0 +1,4 @@
+// Small tracks, with cuts rolled and items slid.
+
+mod edits;
+mod laying;
