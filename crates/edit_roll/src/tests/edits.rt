@@ -145,7 +145,7 @@ fn plainly(alloc: Global, cells: &[Cell], edit: Edit, by: i32) -> Result<Played,
     };
     let answer = match refusal {
         Some(refusal) => Err(EditFault::Refused(refusal)),
-        None => Ok(Done::By(delta as i32)),
+        None => Ok(Done::By(i32::try_from(delta).unwrap_or(0))),
     };
     let cells = moved(alloc, cells, x, y, delta)?;
     Ok(Played { answer, cells })

@@ -27,7 +27,11 @@ pub fn range(cells: &[Cell], item: u32) -> (i64, i64) {
 }
 
 fn cell_at(cells: &[Cell], place: i64) -> Cell {
-    cells.get(place as usize).copied().unwrap_or(Cell {
+    let cell = match usize::try_from(place) {
+        Ok(place) => cells.get(place).copied(),
+        Err(_) => None,
+    };
+    cell.unwrap_or(Cell {
         item: None,
         side: Side::Dark,
         mark: None,
@@ -52,20 +56,20 @@ fn are_of_one(cells: &[Cell], from: i64, to: i64) -> bool {
     true
 }
 
-// The side by so many frames later, or earlier for a negative number.
+// The side by so many frames later, or earlier for a negative number, if its thing has that frame.
 fn moved_side(side: Side<What>, by: i64) -> Option<Side<What>> {
     match side {
         Side::Dark => Some(Side::Dark),
         Side::Pic { what, source } => {
             let (from, to) = frames_of(what);
-            let source = i64::from(source).saturating_add(by);
-            if source < from || to <= source {
+            let moved = i64::from(source).saturating_add(by);
+            if moved < from || to <= moved {
                 return None;
             }
-            Some(Side::Pic {
-                what,
-                source: source as u32,
-            })
+            match u32::try_from(moved) {
+                Ok(source) => Some(Side::Pic { what, source }),
+                Err(_) => None,
+            }
         }
     }
 }
