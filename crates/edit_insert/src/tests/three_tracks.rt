@@ -159,9 +159,28 @@ fn play_three(
     }))
 }
 
+// Whether edits of three tracks of so many frames leave these items and gaps, and the last is answered so.
+fn leave(
+    rt: &impl Abort,
+    alloc: Global,
+    lens: [u32; 3],
+    edits: &[OnThree],
+    items: [&[ItemView]; 3],
+    last: Result<Done, EditFault>,
+) -> Result<bool, Memory> {
+    let Some(played) = play_three(rt, alloc, lens, edits)? else {
+        return Ok(false);
+    };
+    Ok(
+        played.answer == last
+            && played.first.as_slice() == items[0]
+            && played.second.as_slice() == items[1]
+            && played.third.as_slice() == items[2],
+    )
+}
+
 #[test]
-fn inserts_and_extracts_move_all_named_tracks(rt: HostRuntime) -> Result<(), Fail> {
-    let alloc = rt.alloc();
+fn an_insert_moves_what_is_behind_its_place_on_each_track(rt: HostRuntime) -> Result<(), Fail> {
     for (row, edits, first, second, third, last) in [
         // one track alone has the places: pads, cuts, goes before
         (
@@ -216,9 +235,22 @@ fn inserts_and_extracts_move_all_named_tracks(rt: HostRuntime) -> Result<(), Fai
             [dark(12), item(0, 20, 1)].as_slice(),
             Ok(Done::Item(1)),
         ),
+    ] {
+        let items = [first, second, third];
+        assert!(rt;
+            leave(&rt, rt.alloc(), [0, 0, 0], edits, items, last)?,
+            "row {row}"
+        );
+    }
+    Ok(())
+}
+
+#[test]
+fn an_extract_takes_its_places_from_each_track(rt: HostRuntime) -> Result<(), Fail> {
+    for (row, edits, first, second, third, last) in [
         // an extract takes the places from each track that has them
         (
-            4,
+            0u32,
             [
                 put(0, 0, 0, 4),
                 put(1, 4, 10, 4),
@@ -232,16 +264,29 @@ fn inserts_and_extracts_move_all_named_tracks(rt: HostRuntime) -> Result<(), Fai
             Ok(Done::Plain),
         ),
         (
-            5,
+            1,
             [put(0, 0, 0, 4), put(1, 6, 10, 4), take(1, 0)].as_slice(),
             [item(0, 0, 4)].as_slice(),
             [dark(6)].as_slice(),
             [].as_slice(),
             Ok(Done::Plain),
         ),
+    ] {
+        let items = [first, second, third];
+        assert!(rt;
+            leave(&rt, rt.alloc(), [0, 0, 0], edits, items, last)?,
+            "row {row}"
+        );
+    }
+    Ok(())
+}
+
+#[test]
+fn a_refused_insert_or_extract_changes_nothing(rt: HostRuntime) -> Result<(), Fail> {
+    for (row, edits, first, second, third, last) in [
         // refusals change nothing
         (
-            6,
+            0u32,
             [put(0, 0, 0, 4), take(1, 0)].as_slice(),
             [item(0, 0, 4)].as_slice(),
             [].as_slice(),
@@ -249,7 +294,7 @@ fn inserts_and_extracts_move_all_named_tracks(rt: HostRuntime) -> Result<(), Fai
             Err(EditFault::Refused(Refusal::NoItem)),
         ),
         (
-            7,
+            1,
             [put(0, 0, 0, 4), put(1, 0, 0, 0)].as_slice(),
             [item(0, 0, 4)].as_slice(),
             [].as_slice(),
@@ -257,7 +302,7 @@ fn inserts_and_extracts_move_all_named_tracks(rt: HostRuntime) -> Result<(), Fai
             Err(EditFault::Refused(Refusal::EmptyRange)),
         ),
         (
-            8,
+            2,
             [put(0, 0, 0, 4), put(1, 0, 86_399, 2)].as_slice(),
             [item(0, 0, 4)].as_slice(),
             [].as_slice(),
@@ -265,7 +310,7 @@ fn inserts_and_extracts_move_all_named_tracks(rt: HostRuntime) -> Result<(), Fai
             Err(EditFault::Refused(Refusal::MediaEnds)),
         ),
         (
-            9,
+            3,
             [put(1, 2_591_999, 0, 1), put(2, 0, 0, 1)].as_slice(),
             [].as_slice(),
             [dark(2_591_999), item(0, 0, 1)].as_slice(),
@@ -273,7 +318,7 @@ fn inserts_and_extracts_move_all_named_tracks(rt: HostRuntime) -> Result<(), Fai
             Err(EditFault::Refused(Refusal::TooLong(1))),
         ),
         (
-            10,
+            4,
             [put(2, 2_591_999, 0, 2)].as_slice(),
             [].as_slice(),
             [].as_slice(),
@@ -281,11 +326,11 @@ fn inserts_and_extracts_move_all_named_tracks(rt: HostRuntime) -> Result<(), Fai
             Err(EditFault::Refused(Refusal::TooLong(2))),
         ),
     ] {
-        let played = play_three(&rt, alloc, [0, 0, 0], edits)?.ok_or("these can be laid")?;
-        assert_eq!(rt; played.answer, last, "row {row}");
-        assert_eq!(rt; played.first.as_slice(), first, "row {row} track 0");
-        assert_eq!(rt; played.second.as_slice(), second, "row {row} track 1");
-        assert_eq!(rt; played.third.as_slice(), third, "row {row} track 2");
+        let items = [first, second, third];
+        assert!(rt;
+            leave(&rt, rt.alloc(), [0, 0, 0], edits, items, last)?,
+            "row {row}"
+        );
     }
     Ok(())
 }
@@ -293,9 +338,8 @@ fn inserts_and_extracts_move_all_named_tracks(rt: HostRuntime) -> Result<(), Fai
 // Tracks 1 and 2 begin with items of two and five frames.
 #[test]
 fn a_track_that_ends_before_the_place_stays(rt: HostRuntime) -> Result<(), Fail> {
-    let alloc = rt.alloc();
     let [short, whole] = [item(0, 0, 2), item(0, 0, 5)];
-    for (row, edits, first, second, third) in [
+    for (row, edits, first, second, third, last) in [
         // within the third track, at its end
         (
             0u32,
@@ -303,6 +347,7 @@ fn a_track_that_ends_before_the_place_stays(rt: HostRuntime) -> Result<(), Fail>
             [item(0, 0, 4), item(1, 50, 3), item(2, 4, 5)].as_slice(),
             [short].as_slice(),
             [item(0, 0, 4), dark(3), item(1, 4, 1)].as_slice(),
+            Ok(Done::Item(1)),
         ),
         (
             1,
@@ -310,6 +355,7 @@ fn a_track_that_ends_before_the_place_stays(rt: HostRuntime) -> Result<(), Fail>
             [item(0, 0, 5), item(1, 50, 3), item(2, 5, 4)].as_slice(),
             [short].as_slice(),
             [whole].as_slice(),
+            Ok(Done::Item(1)),
         ),
         // the own track is the one that is shorter
         (
@@ -318,6 +364,7 @@ fn a_track_that_ends_before_the_place_stays(rt: HostRuntime) -> Result<(), Fail>
             [item(0, 0, 4), dark(3), item(1, 4, 5)].as_slice(),
             [short, dark(2), item(1, 50, 3)].as_slice(),
             [item(0, 0, 4), dark(3), item(1, 4, 1)].as_slice(),
+            Ok(Done::Item(1)),
         ),
         // an extract of what was put in, and of frames within which the third track ends
         (
@@ -326,6 +373,7 @@ fn a_track_that_ends_before_the_place_stays(rt: HostRuntime) -> Result<(), Fail>
             [item(0, 0, 3), item(2, 3, 6)].as_slice(),
             [short].as_slice(),
             [item(0, 0, 3), item(1, 3, 2)].as_slice(),
+            Ok(Done::Plain),
         ),
         (
             4,
@@ -333,6 +381,7 @@ fn a_track_that_ends_before_the_place_stays(rt: HostRuntime) -> Result<(), Fail>
             [item(0, 0, 3), dark(1)].as_slice(),
             [short, dark(1), item(1, 50, 1)].as_slice(),
             [item(0, 0, 3), dark(1)].as_slice(),
+            Ok(Done::Plain),
         ),
         (
             5,
@@ -340,12 +389,14 @@ fn a_track_that_ends_before_the_place_stays(rt: HostRuntime) -> Result<(), Fail>
             [].as_slice(),
             [].as_slice(),
             [].as_slice(),
+            Ok(Done::Plain),
         ),
     ] {
-        let played = play_three(&rt, alloc, [9, 2, 5], edits)?.ok_or("these can be laid")?;
-        assert_eq!(rt; played.first.as_slice(), first, "row {row} track 0");
-        assert_eq!(rt; played.second.as_slice(), second, "row {row} track 1");
-        assert_eq!(rt; played.third.as_slice(), third, "row {row} track 2");
+        let items = [first, second, third];
+        assert!(rt;
+            leave(&rt, rt.alloc(), [9, 2, 5], edits, items, last)?,
+            "row {row}"
+        );
     }
     Ok(())
 }
