@@ -1,5 +1,4 @@
 pub mod Beside
 pub mod Moves
 pub mod Slides
-pub mod Laid
 pub mod Lengths

@@ -1,4 +1,4 @@
-// Small tracks, with cuts rolled and items slid.
+// Cuts rolled and items slid, beside a plain program over cells.
 
 mod edits;
-mod laying;
+mod plain;

@@ -1,21 +1,19 @@
 // The edits of one track over dissolves, beside the plain program.
-ghost use Rattle.std.specs.Prelude.{◌≡◌, ◌<◌, [], ◌∷◌, All, IfOk, Some, ◌×◌};
-ghost use Rattle.frame_meaning.specs.declared.cells.What.TheVariants.{Media};
-ghost use Rattle.composables.specs.Changes.{with_mark};
+ghost use Rattle.std.specs.Prelude.{◌≡◌, ◌<◌, [], ◌∷◌, All, IfOk, IfSome};
 ghost use Rattle.composables.specs.Good.{AllUnlinked, AreUnlinked, IsGood};
-ghost use Rattle.composables.specs.Items.{cells_of, items_of};
+ghost use Rattle.composables.specs.Items.{items_of};
 ghost use Rattle.composables.specs.OwnTracks.{numbers_of};
 ghost use Rattle.composables.specs.Roomy.{IsRoomy};
-ghost use Rattle.composables.specs.Views.{clip_view, gap_view};
 
 use crate::tests::plain::plainly;
-use crate::tests::tracks::{dark, item, small_table};
+use crate::tests::tracks::small_table;
 use crate::{extract, fill, insert, overwrite, remove, slice};
 use composables::{
-    Done, EditFault, Extract, Fill, FillLength, Insert, ItemView, Memory, Overwrite, Remove, Slice,
-    Table, Track,
+    Done, EditFault, Extract, Fill, FillLength, Insert, Memory, Overwrite, Remove, Slice, Table,
+    Track,
 };
-use frame_meaning::{Cell, Mark, What};
+use frame_meaning::{Cell, What};
+use laid_tracks::{clip, dissolve, gap, laid_track};
 use std::alloc::Global;
 use std::marker::Brand;
 use std::sync::ledger::{Blank, Ledger};
@@ -35,27 +33,18 @@ pub enum Edit {
 }
 
 // Items of four and three frames and a gap of three, with a dissolve at each cut.
-fn dissolved(alloc: Global) -> Result<Track, Memory>
-    ensures { IfOk result (λ t. t ≡ record {
-      number = 0;
-      cells = cells_of (clip_view 0 (What.Media 0) 50 4
-          ∷ with_mark (Some (record { a = 1; b = 1 })) (clip_view 1 (What.Media 0) 7 3)
-          ∷ with_mark (Some (record { a = 1; b = 2 })) (gap_view 3) ∷ []);
-      next_item = 2;
-      next_link = 0;
-    }) }
+fn dissolved(alloc: Global, table: &Table) -> Result<Option<Track>, Memory>
+    ensures number { IfOk result (λ o. IfSome o (λ t. t.number ≡ 0)) }
+    ensures good { IfOk result (λ o. IfSome o (λ t. IsGood table.now t)) }
+    ensures roomy { IfOk result (λ o. IfSome o (λ t. IsRoomy t)) }
+    ensures unlinked { IfOk result (λ o. IfSome o (λ t. AllUnlinked (items_of t.cells))) }
 {
-    let mut track = Track::empty(alloc, 0);
-    track.push(item(0, 50, 4))?;
-    track.push(ItemView {
-        mark: Some(Mark { a: 1, b: 1 }),
-        ..item(1, 7, 3)
-    })?;
-    track.push(ItemView {
-        mark: Some(Mark { a: 1, b: 2 }),
-        ..dark(3)
-    })?;
-    Ok(track)
+    let views = [
+        clip(0, 0, 50, 4),
+        dissolve(1, 1, clip(1, 0, 7, 3)),
+        dissolve(1, 2, gap(3)),
+    ];
+    laid_track(alloc, table, 0, &views)
 }
 
 fn over(at: u32, len: u32) -> Overwrite
@@ -71,7 +60,8 @@ fn over(at: u32, len: u32) -> Overwrite
 }
 
 fn put(at: u32, len: u32) -> Insert
-    ensures { (result.tracks ≡ 1) × (result.track ≡ 0) }
+    ensures tracks { result.tracks ≡ 1 }
+    ensures track { result.track ≡ 0 }
 {
     Insert {
         tracks: 1,
@@ -152,7 +142,9 @@ fn edited<L: Ledger>(
 // Whether an edit of that track leaves what the plain program says.
 fn agrees(alloc: Global, edit: Edit) -> Result<bool, Memory> {
     let table = small_table(alloc)?;
-    let track = dissolved(alloc)?;
+    let Some(track) = dissolved(alloc, &table)? else {
+        return Ok(false);
+    };
     let before = track.cells(alloc)?;
     let after = edited::<Brand>(alloc, Blank::new(1), &table, track, edit)?;
     let want = plainly(alloc, &before, edit, 2)?;

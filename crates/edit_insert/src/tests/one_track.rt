@@ -173,9 +173,33 @@ fn play_from_empty(
     play::<Brand>(rt, alloc, Blank::new(1), &table, track, number, edits)
 }
 
+// Whether edits of a track without frames leave these items and gaps, and the last is answered so.
+fn leave(
+    rt: &impl Abort,
+    alloc: Global,
+    edits: &[OnOne],
+    items: &[ItemView],
+    last: Done,
+) -> Result<bool, Memory> {
+    let played = play_from_empty(rt, alloc, 0, edits)?;
+    Ok(played.last == Ok(last) && played.items.as_slice() == items)
+}
+
+// Whether an edit of a track of one item of four frames is refused so, and leaves it as it is.
+fn is_refused(
+    rt: &impl Abort,
+    alloc: Global,
+    number: u32,
+    edit: OnOne,
+    refusal: Refusal,
+) -> Result<bool, Memory> {
+    let played = play_from_empty(rt, alloc, number, &[over_on(number, 0, 0, 4), edit])?;
+    let stays = played.next == 1 && played.items.as_slice() == [item(0, 0, 4)].as_slice();
+    Ok(stays && played.last == Err(EditFault::Refused(refusal)))
+}
+
 #[test]
-fn each_edit_of_one_track_leaves_what_it_means(rt: HostRuntime) -> Result<(), Fail> {
-    let alloc = rt.alloc();
+fn an_overwrite_cuts_what_stands_at_its_ends(rt: HostRuntime) -> Result<(), Fail> {
     for (row, edits, items, last) in [
         // behind the end, right at it, past it
         (
@@ -227,41 +251,59 @@ fn each_edit_of_one_track_leaves_what_it_means(rt: HostRuntime) -> Result<(), Fa
             [item(0, 0, 2), item(3, 500, 5), item(2, 21, 2)].as_slice(),
             Done::Item(3),
         ),
+    ] {
+        assert!(rt; leave(&rt, rt.alloc(), edits, items, last)?, "row {row}");
+    }
+    Ok(())
+}
+
+#[test]
+fn what_is_removed_is_dark_and_a_slice_cuts(rt: HostRuntime) -> Result<(), Fail> {
+    for (row, edits, items, last) in [
         // remove: between items, beside a gap, at the end
         (
-            7,
+            0u32,
             [over(0, 0, 3), over(3, 10, 3), over(6, 20, 3), out(1)].as_slice(),
             [item(0, 0, 3), dark(3), item(2, 20, 3)].as_slice(),
             Done::Plain,
         ),
         (
-            8,
+            1,
             [over(2, 0, 3), over(5, 10, 3), out(0)].as_slice(),
             [dark(5), item(1, 10, 3)].as_slice(),
             Done::Plain,
         ),
         (
-            9,
+            2,
             [over(2, 0, 3), over(5, 10, 3), out(1)].as_slice(),
             [dark(2), item(0, 0, 3), dark(3)].as_slice(),
             Done::Plain,
         ),
         // slice: in an item, at its ends, in a gap
         (
-            10,
+            3,
             [over(2, 0, 3), cut(3)].as_slice(),
             [dark(2), item(0, 0, 1), item(1, 1, 2)].as_slice(),
             Done::Plain,
         ),
         (
-            11,
+            4,
             [over(2, 0, 3), cut(2), cut(1), cut(0), cut(4)].as_slice(),
             [dark(2), item(0, 0, 2), item(1, 2, 1)].as_slice(),
             Done::Plain,
         ),
+    ] {
+        assert!(rt; leave(&rt, rt.alloc(), edits, items, last)?, "row {row}");
+    }
+    Ok(())
+}
+
+#[test]
+fn a_fill_takes_of_its_gap_what_it_has_frames_for(rt: HostRuntime) -> Result<(), Fail> {
+    for (row, edits, items, last) in [
         // fill: fewer frames than the gap has, more, and all; from any place of it
         (
-            12,
+            0u32,
             [over(2, 0, 3), over(9, 10, 1), part(6, 500, 3)].as_slice(),
             [
                 dark(2),
@@ -274,34 +316,31 @@ fn each_edit_of_one_track_leaves_what_it_means(rt: HostRuntime) -> Result<(), Fa
             Done::Item(2),
         ),
         (
-            13,
+            1,
             [over(2, 0, 3), over(9, 10, 1), part(8, 500, 9)].as_slice(),
             [dark(2), item(0, 0, 3), item(2, 500, 4), item(1, 10, 1)].as_slice(),
             Done::Item(2),
         ),
         (
-            14,
+            2,
             [over(2, 0, 3), over(9, 10, 1), whole(5, 86_396)].as_slice(),
             [dark(2), item(0, 0, 3), item(2, 86_396, 4), item(1, 10, 1)].as_slice(),
             Done::Item(2),
         ),
         (
-            15,
+            3,
             [over(0, 0, 3), out(0), whole(2, 500)].as_slice(),
             [item(1, 500, 3)].as_slice(),
             Done::Item(1),
         ),
     ] {
-        let played = play_from_empty(&rt, alloc, 0, edits)?;
-        assert_eq!(rt; played.items.as_slice(), items, "row {row}");
-        assert_eq!(rt; played.last, Ok(last), "row {row}");
+        assert!(rt; leave(&rt, rt.alloc(), edits, items, last)?, "row {row}");
     }
     Ok(())
 }
 
 #[test]
-fn the_first_refusal_is_answered_and_the_track_stays(rt: HostRuntime) -> Result<(), Fail> {
-    let alloc = rt.alloc();
+fn the_first_refusal_of_an_overwrite_is_answered(rt: HostRuntime) -> Result<(), Fail> {
     let call = Overwrite {
         track: 0,
         at: MAX_FRAMES,
@@ -395,37 +434,56 @@ fn the_first_refusal_is_answered_and_the_track_stays(rt: HostRuntime) -> Result<
         ),
         (9, over(2_591_999, 0, 2), Refusal::TooLong(0)),
         (10, over(u32::MAX, 0, 1), Refusal::TooLong(0)),
-        (11, out(1), Refusal::NoItem),
-        (12, cut(4), Refusal::NoItem),
-        (13, cut(u32::MAX), Refusal::NoItem),
+    ] {
+        let number = if row == 2 { 1 } else { 0 };
+        assert!(rt;
+            is_refused(&rt, rt.alloc(), number, edit, refusal)?,
+            "row {row}"
+        );
+    }
+    Ok(())
+}
+
+#[test]
+fn what_is_no_item_is_neither_removed_nor_cut(rt: HostRuntime) -> Result<(), Fail> {
+    for (row, edit, refusal) in [
+        (0u32, out(1), Refusal::NoItem),
+        (1, cut(4), Refusal::NoItem),
+        (2, cut(u32::MAX), Refusal::NoItem),
+    ] {
+        assert!(rt; is_refused(&rt, rt.alloc(), 0, edit, refusal)?, "row {row}");
+    }
+    Ok(())
+}
+
+#[test]
+fn a_fill_asks_for_its_source_before_its_gap(rt: HostRuntime) -> Result<(), Fail> {
+    for (row, edit, refusal) in [
         // the source is asked for before the gap, and for a whole gap where there is one
-        (14, part(3, 90_000, 0), Refusal::EmptyRange),
-        (15, part(3, 86_399, 2), Refusal::MediaEnds),
-        (16, part(3, 86_399, 1), Refusal::NotAGap(3)),
-        (17, whole(3, 90_000), Refusal::NotAGap(3)),
-        (18, whole(u32::MAX, 0), Refusal::NotAGap(u32::MAX)),
+        (0u32, part(3, 90_000, 0), Refusal::EmptyRange),
+        (1, part(3, 86_399, 2), Refusal::MediaEnds),
+        (2, part(3, 86_399, 1), Refusal::NotAGap(3)),
+        (3, whole(3, 90_000), Refusal::NotAGap(3)),
+        (4, whole(u32::MAX, 0), Refusal::NotAGap(u32::MAX)),
         (
-            19,
+            5,
             fill_with(4, What::Media(2), 0, FillLength::Sequence),
             Refusal::NoMedia,
         ),
         (
-            20,
+            6,
             fill_with(4, What::Nest(1), 0, FillLength::Source(0)),
             Refusal::NoMedia,
         ),
     ] {
-        let number = if row == 2 { 1 } else { 0 };
-        let played = play_from_empty(&rt, alloc, number, &[over_on(number, 0, 0, 4), edit])?;
-        assert_eq!(rt; played.last, Err(EditFault::Refused(refusal)), "row {row}");
-        assert_eq!(rt;
-            played.items.as_slice(),
-            [item(0, 0, 4)].as_slice(),
-            "row {row}"
-        );
-        assert_eq!(rt; played.next, 1, "row {row}");
+        assert!(rt; is_refused(&rt, rt.alloc(), 0, edit, refusal)?, "row {row}");
     }
-    let longest = play_from_empty(&rt, alloc, 0, &[over(2_591_999, 0, 1)])?;
+    Ok(())
+}
+
+#[test]
+fn an_item_may_end_at_the_last_frame_of_a_track(rt: HostRuntime) -> Result<(), Fail> {
+    let longest = play_from_empty(&rt, rt.alloc(), 0, &[over(2_591_999, 0, 1)])?;
     assert_eq!(rt;
         longest.items.as_slice(),
         [dark(2_591_999), item(0, 0, 1)].as_slice()

@@ -114,7 +114,7 @@ fn before(cells: &[Cell], change: Change, place: usize) -> Cell {
 fn put(change: Change, k: usize) -> Cell {
     let shown = Side::Pic {
         what: What::Media(0),
-        source: (k as u32).saturating_add(500),
+        source: u32::try_from(k).unwrap_or(0).saturating_add(500),
     };
     Cell {
         item: change.number,

@@ -1,13 +1,15 @@
 // Worked examples of insert and extract over three tracks.
-ghost use Rattle.std.specs.Prelude.{◌≡◌, ◌<◌, All};
-ghost use Rattle.composables.specs.Good.{AreUnlinked, IsGood};
+ghost use Rattle.std.specs.Prelude.{◌≡◌, ◌<◌, All, IfOk, IfSome};
+ghost use Rattle.composables.specs.Good.{AllUnlinked, AreUnlinked, IsGood};
+ghost use Rattle.composables.specs.Items.{items_of};
 ghost use Rattle.composables.specs.OwnTracks.{numbers_of};
 ghost use Rattle.composables.specs.TrackSets.{tracks_in};
 
-use crate::tests::tracks::{all_roomy, dark, item, shown_items, small_table};
+use crate::tests::tracks::{all_roomy, dark, item, small_table};
 use crate::{extract, insert};
-use composables::{Done, EditFault, Extract, Insert, Memory, Refusal, Table, Track};
+use composables::{Done, EditFault, Extract, Insert, ItemView, Memory, Refusal, Table, Track};
 use frame_meaning::What;
+use laid_tracks::laid_track;
 use std::alloc::Global;
 use std::marker::Brand;
 use std::process::Abort;
@@ -98,24 +100,87 @@ fn shift_all_three<L: Ledger>(
     last
 }
 
-// Three empty tracks, shifted one edit after another.
+// A track of one item of so many frames, or of none.
+fn start(alloc: Global, table: &Table, number: u32, len: u32) -> Result<Option<Track>, Memory>
+    ensures number { IfOk result (λ o. IfSome o (λ t. t.number ≡ number)) }
+    ensures good { IfOk result (λ o. IfSome o (λ t. IsGood table.now t)) }
+    ensures unlinked { IfOk result (λ o. IfSome o (λ t. AllUnlinked (items_of t.cells))) }
+{
+    if len == 0 {
+        laid_track(alloc, table, number, &[])
+    } else {
+        laid_track(alloc, table, number, &[item(0, 0, len)])
+    }
+}
+
+// What edits leave of the three tracks, and what the last was answered.
+#[derive(Drop)]
+struct Played {
+    first: Vec<ItemView>,
+    second: Vec<ItemView>,
+    third: Vec<ItemView>,
+    answer: Result<Done, EditFault>,
+}
+
+fn shown(alloc: Global, named: &[Track], index: usize) -> Result<Vec<ItemView>, Memory> {
+    match named.get(index) {
+        Some(track) => track.items(alloc),
+        None => Ok(Vec::new(alloc)),
+    }
+}
+
+// Tracks of so many frames, shifted one edit after another.
 fn play_three(
     rt: &impl Abort,
     alloc: Global,
+    lens: [u32; 3],
     edits: &[OnThree],
-) -> Result<(Vec<Track>, Result<Done, EditFault>), Memory> {
+) -> Result<Option<Played>, Memory> {
     let table = small_table(alloc)?;
+    let Some(a) = start(alloc, &table, 0, lens[0])? else {
+        return Ok(None);
+    };
+    let Some(b) = start(alloc, &table, 1, lens[1])? else {
+        return Ok(None);
+    };
+    let Some(c) = start(alloc, &table, 2, lens[2])? else {
+        return Ok(None);
+    };
     let mut named = Vec::new(alloc);
-    named.push(Track::empty(alloc, 0))?;
-    named.push(Track::empty(alloc, 1))?;
-    named.push(Track::empty(alloc, 2))?;
-    let last = shift_all_three::<Brand>(rt, alloc, Blank::new(1), &table, &mut named, edits);
-    Ok((named, last))
+    named.push(a)?;
+    named.push(b)?;
+    named.push(c)?;
+    let answer = shift_all_three::<Brand>(rt, alloc, Blank::new(1), &table, &mut named, edits);
+    Ok(Some(Played {
+        first: shown(alloc, &named, 0)?,
+        second: shown(alloc, &named, 1)?,
+        third: shown(alloc, &named, 2)?,
+        answer,
+    }))
+}
+
+// Whether edits of three tracks of so many frames leave these items and gaps, and the last is answered so.
+fn leave(
+    rt: &impl Abort,
+    alloc: Global,
+    lens: [u32; 3],
+    edits: &[OnThree],
+    items: [&[ItemView]; 3],
+    last: Result<Done, EditFault>,
+) -> Result<bool, Memory> {
+    let Some(played) = play_three(rt, alloc, lens, edits)? else {
+        return Ok(false);
+    };
+    Ok(
+        played.answer == last
+            && played.first.as_slice() == items[0]
+            && played.second.as_slice() == items[1]
+            && played.third.as_slice() == items[2],
+    )
 }
 
 #[test]
-fn inserts_and_extracts_move_all_named_tracks(rt: HostRuntime) -> Result<(), Fail> {
-    let alloc = rt.alloc();
+fn an_insert_moves_what_is_behind_its_place_on_each_track(rt: HostRuntime) -> Result<(), Fail> {
     for (row, edits, first, second, third, last) in [
         // one track alone has the places: pads, cuts, goes before
         (
@@ -170,9 +235,22 @@ fn inserts_and_extracts_move_all_named_tracks(rt: HostRuntime) -> Result<(), Fai
             [dark(12), item(0, 20, 1)].as_slice(),
             Ok(Done::Item(1)),
         ),
+    ] {
+        let items = [first, second, third];
+        assert!(rt;
+            leave(&rt, rt.alloc(), [0, 0, 0], edits, items, last)?,
+            "row {row}"
+        );
+    }
+    Ok(())
+}
+
+#[test]
+fn an_extract_takes_its_places_from_each_track(rt: HostRuntime) -> Result<(), Fail> {
+    for (row, edits, first, second, third, last) in [
         // an extract takes the places from each track that has them
         (
-            4,
+            0u32,
             [
                 put(0, 0, 0, 4),
                 put(1, 4, 10, 4),
@@ -186,16 +264,29 @@ fn inserts_and_extracts_move_all_named_tracks(rt: HostRuntime) -> Result<(), Fai
             Ok(Done::Plain),
         ),
         (
-            5,
+            1,
             [put(0, 0, 0, 4), put(1, 6, 10, 4), take(1, 0)].as_slice(),
             [item(0, 0, 4)].as_slice(),
             [dark(6)].as_slice(),
             [].as_slice(),
             Ok(Done::Plain),
         ),
+    ] {
+        let items = [first, second, third];
+        assert!(rt;
+            leave(&rt, rt.alloc(), [0, 0, 0], edits, items, last)?,
+            "row {row}"
+        );
+    }
+    Ok(())
+}
+
+#[test]
+fn a_refused_insert_or_extract_changes_nothing(rt: HostRuntime) -> Result<(), Fail> {
+    for (row, edits, first, second, third, last) in [
         // refusals change nothing
         (
-            6,
+            0u32,
             [put(0, 0, 0, 4), take(1, 0)].as_slice(),
             [item(0, 0, 4)].as_slice(),
             [].as_slice(),
@@ -203,7 +294,7 @@ fn inserts_and_extracts_move_all_named_tracks(rt: HostRuntime) -> Result<(), Fai
             Err(EditFault::Refused(Refusal::NoItem)),
         ),
         (
-            7,
+            1,
             [put(0, 0, 0, 4), put(1, 0, 0, 0)].as_slice(),
             [item(0, 0, 4)].as_slice(),
             [].as_slice(),
@@ -211,7 +302,7 @@ fn inserts_and_extracts_move_all_named_tracks(rt: HostRuntime) -> Result<(), Fai
             Err(EditFault::Refused(Refusal::EmptyRange)),
         ),
         (
-            8,
+            2,
             [put(0, 0, 0, 4), put(1, 0, 86_399, 2)].as_slice(),
             [item(0, 0, 4)].as_slice(),
             [].as_slice(),
@@ -219,7 +310,7 @@ fn inserts_and_extracts_move_all_named_tracks(rt: HostRuntime) -> Result<(), Fai
             Err(EditFault::Refused(Refusal::MediaEnds)),
         ),
         (
-            9,
+            3,
             [put(1, 2_591_999, 0, 1), put(2, 0, 0, 1)].as_slice(),
             [].as_slice(),
             [dark(2_591_999), item(0, 0, 1)].as_slice(),
@@ -227,7 +318,7 @@ fn inserts_and_extracts_move_all_named_tracks(rt: HostRuntime) -> Result<(), Fai
             Err(EditFault::Refused(Refusal::TooLong(1))),
         ),
         (
-            10,
+            4,
             [put(2, 2_591_999, 0, 2)].as_slice(),
             [].as_slice(),
             [].as_slice(),
@@ -235,15 +326,77 @@ fn inserts_and_extracts_move_all_named_tracks(rt: HostRuntime) -> Result<(), Fai
             Err(EditFault::Refused(Refusal::TooLong(2))),
         ),
     ] {
-        let (named, answer) = play_three(&rt, alloc, edits)?;
-        assert_eq!(rt; answer, last, "row {row}");
-        for (index, items) in [first, second, third].iter().enumerate() {
-            let shown = match named.get(index) {
-                Some(track) => shown_items(alloc, track)?,
-                None => Vec::new(alloc),
-            };
-            assert_eq!(rt; shown.as_slice(), *items, "row {row} track {index}");
-        }
+        let items = [first, second, third];
+        assert!(rt;
+            leave(&rt, rt.alloc(), [0, 0, 0], edits, items, last)?,
+            "row {row}"
+        );
+    }
+    Ok(())
+}
+
+// Tracks 1 and 2 begin with items of two and five frames.
+#[test]
+fn a_track_that_ends_before_the_place_stays(rt: HostRuntime) -> Result<(), Fail> {
+    let [short, whole] = [item(0, 0, 2), item(0, 0, 5)];
+    for (row, edits, first, second, third, last) in [
+        // within the third track, at its end
+        (
+            0u32,
+            [put(0, 4, 50, 3)].as_slice(),
+            [item(0, 0, 4), item(1, 50, 3), item(2, 4, 5)].as_slice(),
+            [short].as_slice(),
+            [item(0, 0, 4), dark(3), item(1, 4, 1)].as_slice(),
+            Ok(Done::Item(1)),
+        ),
+        (
+            1,
+            [put(0, 5, 50, 3)].as_slice(),
+            [item(0, 0, 5), item(1, 50, 3), item(2, 5, 4)].as_slice(),
+            [short].as_slice(),
+            [whole].as_slice(),
+            Ok(Done::Item(1)),
+        ),
+        // the own track is the one that is shorter
+        (
+            2,
+            [put(1, 4, 50, 3)].as_slice(),
+            [item(0, 0, 4), dark(3), item(1, 4, 5)].as_slice(),
+            [short, dark(2), item(1, 50, 3)].as_slice(),
+            [item(0, 0, 4), dark(3), item(1, 4, 1)].as_slice(),
+            Ok(Done::Item(1)),
+        ),
+        // an extract of what was put in, and of frames within which the third track ends
+        (
+            3,
+            [put(0, 3, 50, 4), take(0, 1)].as_slice(),
+            [item(0, 0, 3), item(2, 3, 6)].as_slice(),
+            [short].as_slice(),
+            [item(0, 0, 3), item(1, 3, 2)].as_slice(),
+            Ok(Done::Plain),
+        ),
+        (
+            4,
+            [put(1, 3, 50, 1), take(0, 1)].as_slice(),
+            [item(0, 0, 3), dark(1)].as_slice(),
+            [short, dark(1), item(1, 50, 1)].as_slice(),
+            [item(0, 0, 3), dark(1)].as_slice(),
+            Ok(Done::Plain),
+        ),
+        (
+            5,
+            [take(0, 0)].as_slice(),
+            [].as_slice(),
+            [].as_slice(),
+            [].as_slice(),
+            Ok(Done::Plain),
+        ),
+    ] {
+        let items = [first, second, third];
+        assert!(rt;
+            leave(&rt, rt.alloc(), [9, 2, 5], edits, items, last)?,
+            "row {row}"
+        );
     }
     Ok(())
 }
