@@ -1,0 +1,21 @@
+use Rattle.std.proofs.Common.{◌≡◌, List, map, sym, ap, ◌∙◌, subst}
+use Rattle.flatten.specs.Nests.{frames_of_nests, nest_frames}
+use Rattle.flatten.specs.Strips.{AllFit, frames_of}
+use Rattle.flatten.proofs.Building.{fit_more, nest_lies, next_nest, strip_more}
+use Rattle.flatten.proofs.nests.nest_strips.Goals as goal
+
+pub nest_strip-requires-clause-layers : goal.nest_strip-requires-clause-layers
+nest_strip-requires-clause-layers c = nest_lies c.args.table.now.nests c.loop-nest.nest-index c.nest-item.result c.loop-nest-test.true c.nest-item.is c.requires
+
+pub loop-nest-preserved : goal.loop-nest-preserved
+loop-nest-preserved c =
+    let media = c.args.table.now.media in
+    let ns = c.args.table.now.nests in
+    let n = c.nest-item.result in
+    let pushed = c.in_ok-push.ensures.ok in
+    record {
+      all = fit_more c.loop-nest.all c.push.new.self c.in_ok-strip.strip pushed c.loop-nest.invariant.all c.in_ok-strip.ensures.fit;
+      same =
+          next_nest media ns c.loop-nest.nest-index n (map frames_of c.loop-nest.all) (map frames_of c.push.new.self) (frames_of_nests c.args.table.now) c.loop-nest-test.true c.nest-item.is
+          (strip_more c.loop-nest.all c.push.new.self c.in_ok-strip.strip (nest_frames media (map frames_of c.loop-nest.all) n) pushed c.in_ok-strip.ensures.are) c.loop-nest.invariant.same;
+    }

@@ -1,0 +1,4 @@
+pub mod Stacks
+pub mod Nests
+pub mod Channels
+pub mod Strips

@@ -1,0 +1,6 @@
+// Worked channels, and `flatten` against plain programs over frames.
+
+mod channels;
+mod laying;
+mod plain;
+mod tables;
