@@ -62,11 +62,13 @@ next_layer media nests ls i l done more meant h is pushed same =
     still_meant done more (map (layer_frames media nests) (drop (i + 1) ls)) meant (layer_frames media nests l) pushed
     (sym (ap (λ (ks : List Layer). done ++ map (layer_frames media nests) ks) (drop_read ls i l h is)) ∙ same)
 
-pub next_nest : (media : List Media) (ns : List Nest) (i : ℕ) (n : Nest) (done more meant : List (List (Frame ℕ))) → i < length ns → n ≡ get_or ns i n
+pub next_nest : (media : List Media) (now ns : List Nest) (i : ℕ) (n : Nest) (done more meant : List (List (Frame ℕ))) → now ≡ ns → i < length now → n ≡ get_or now i n
     → more ≡ done ++ nest_frames media done n ∷ [] → nests_behind media done (drop i ns) ≡ meant → nests_behind media more (drop (i + 1) ns) ≡ meant
-next_nest media ns i n done more meant h is pushed same =
+next_nest media now ns i n done more meant these h is pushed same =
     ap (λ (xs : List (List (Frame ℕ))). nests_behind media xs (drop (i + 1) ns)) pushed
-    ∙ (sym (ap (nests_behind media done) (drop_read ns i n h is)) ∙ same)
+    ∙ (ap (λ (ms : List Nest). nests_behind media (done ++ nest_frames media done n ∷ []) (drop (i + 1) ms)) (sym these)
+    ∙ (sym (ap (nests_behind media done) (drop_read now i n h is))
+    ∙ (ap (λ (ms : List Nest). nests_behind media done (drop i ms)) these ∙ same)))
 
 -- the tracks of a kind
 
@@ -109,13 +111,14 @@ whole_track cells n is =
 length_track : (media : List Media) (nests : List (List (Frame ℕ))) (t : TrackState) → length (track_frames media nests t) ≡ length t.cells
 length_track media nests t = length-map (render t.cells) (resolved media nests) ∙ length_render t.cells
 
+short_either : (b : Bool) (t : TrackState) (ts : List TrackState) → IsShort t → EachIsShort ts → EachIsShort (cond b (t ∷ ts) ts)
+short_either true t ts h e = (h, e)
+short_either false t ts h e = e
+
 kind_short : (kind : Kind) (ks : List Kind) (ts : List TrackState) → EachIsShort ts → EachIsShort (of_kind kind ks ts)
 kind_short kind [] ts e = tt
 kind_short kind (k ∷ ks) [] e = tt
-kind_short kind (k ∷ ks) (t ∷ ts) e = by_test (same_kind k kind) where
-  by_test : (b : Bool) → EachIsShort (cond b (t ∷ of_kind kind ks ts) (of_kind kind ks ts))
-  by_test true = (e.0, kind_short kind ks ts e.1)
-  by_test false = kind_short kind ks ts e.1
+kind_short kind (k ∷ ks) (t ∷ ts) e = short_either (same_kind k kind) t (of_kind kind ks ts) e.0 (kind_short kind ks ts e.1)
 
 tracks_below : (media : List Media) (nests : List (List (Frame ℕ))) (ts : List TrackState) → EachIsShort ts → AreBelow (2 ^ 32) (map (track_frames media nests) ts)
 tracks_below media nests [] e = tt
@@ -171,22 +174,22 @@ pub next_track : (kind : Kind) (table : Table) (nests : List (List (Frame ℕ)))
     → b ≡ is_of_kind kind (slice_get table.kinds i) → b ≡ true → more ≡ done ++ track_frames table.media nests t ∷ []
     → done ++ map (track_frames table.media nests) (of_kind kind (drop i table.kinds) (drop i ts)) ≡ meant
     → more ++ map (track_frames table.media nests) (of_kind kind (drop (i + 1) table.kinds) (drop (i + 1) ts)) ≡ meant
-next_track kind table nests ts i t b done more meant h is test yes pushed same =
+next_track kind table nests ts i t b done more meant h is test is_one pushed same =
     let past : i + 1 ≡ suc i = omega arith in
     let f : TrackState → List (Frame ℕ) = track_frames table.media nests in
     ap (λ (k : ℕ). more ++ map f (of_kind kind (drop k table.kinds) (drop k ts))) past
     ∙ still_meant done more (map f (of_kind kind (drop (suc i) table.kinds) (drop (suc i) ts))) meant (f t) pushed
-    (sym (ap (λ (us : List TrackState). done ++ map f us) (of_kind_more kind table.kinds ts i t h is (sym test ∙ yes))) ∙ same)
+    (sym (ap (λ (us : List TrackState). done ++ map f us) (of_kind_more kind table.kinds ts i t h is (sym test ∙ is_one))) ∙ same)
 
 pub other_track : (kind : Kind) (table : Table) (nests : List (List (Frame ℕ))) (ts : List TrackState) (i : ℕ) (b : Bool) (done meant : List (List (Frame ℕ))) → i < length ts
     → b ≡ is_of_kind kind (slice_get table.kinds i) → b ≡ false
     → done ++ map (track_frames table.media nests) (of_kind kind (drop i table.kinds) (drop i ts)) ≡ meant
     → done ++ map (track_frames table.media nests) (of_kind kind (drop (i + 1) table.kinds) (drop (i + 1) ts)) ≡ meant
-other_track kind table nests ts i b done meant h test no same =
+other_track kind table nests ts i b done meant h test is_none same =
     let past : i + 1 ≡ suc i = omega arith in
     let f : TrackState → List (Frame ℕ) = track_frames table.media nests in
     ap (λ (k : ℕ). done ++ map f (of_kind kind (drop k table.kinds) (drop k ts))) past
-    ∙ (sym (ap (λ (us : List TrackState). done ++ map f us) (of_kind_same kind table.kinds ts i h (sym test ∙ no))) ∙ same)
+    ∙ (sym (ap (λ (us : List TrackState). done ++ map f us) (of_kind_same kind table.kinds ts i h (sym test ∙ is_none))) ∙ same)
 
 pub last_track : (kind : Kind) (table : Table) (nests : List (List (Frame ℕ))) (ts : List TrackState) (i : ℕ) (done meant : List (List (Frame ℕ))) → length ts ≤ i
     → done ++ map (track_frames table.media nests) (of_kind kind (drop i table.kinds) (drop i ts)) ≡ meant → done ≡ meant
