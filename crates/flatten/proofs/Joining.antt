@@ -41,7 +41,7 @@ side_is_next (side.Pic v s) (side.Pic w t) h =
     let p = and_parts (eqb v w) (eqb t (s + 1)) h in
     ap (λ (x : ℕ). side.Pic x t) (sym (eqb-true v w p.0)) ∙ ap (λ (n : ℕ). side.Pic v n) (eqb-true t (s + 1) p.1)
 
-frame_is_next : (f g : Frame ℕ) → frame_goes_on nat_eq f g ≡ true → g ≡ next_frame f
+pub frame_is_next : (f g : Frame ℕ) → frame_goes_on nat_eq f g ≡ true → g ≡ next_frame f
 frame_is_next Dark Dark h = refl
 frame_is_next Dark (Pic w t) h = absurd cc
 frame_is_next Dark (Mix l r n d) h = absurd cc

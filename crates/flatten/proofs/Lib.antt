@@ -5,3 +5,7 @@ pub mod Over
 pub mod Stacking
 pub mod Resolving
 pub mod Building
+pub mod Segmenting
+pub mod LastSegment
+pub mod CutRuns
+pub mod RunsOfReels

@@ -6,12 +6,14 @@
 #![tactic(auto)]
 
 mod channels;
+mod cutting;
 mod joins;
 mod nests;
 mod stacks;
 mod strips;
 
 pub use channels::{Shown, flatten};
+pub use cutting::{Segment, SegmentFault, segments};
 
 #[cfg(test)]
 mod tests;

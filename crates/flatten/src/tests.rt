@@ -1,6 +1,6 @@
-// Worked channels, and `flatten` against plain programs over frames.
+// Worked channels, and their segments.
 
 mod channels;
+mod cutting;
 mod laying;
-mod plain;
 mod tables;

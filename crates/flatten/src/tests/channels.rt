@@ -1,10 +1,9 @@
-// Worked channels, and small tracks over one another, in nests and not, against the plain programs.
+// Worked channels.
 use crate::Shown;
 use crate::tests::laying::{clip, marked, nest};
-use crate::tests::plain::{are_runs_of, audio_frames, video_frames};
-use crate::tests::tables::{add_layer, shown, table_of, track};
-use composables::{ItemView, Kind, Listed, Memory, Nest, Table, Track};
-use frame_meaning::{Frame, Run};
+use crate::tests::tables::{add_layer, add_track, shown, table_of};
+use composables::{ItemView, Kind, Listed, Memory, Nest, Table};
+use frame_meaning::{Frame, Run, Side};
 use std::alloc::Global;
 use std::test::Fail;
 
@@ -15,37 +14,43 @@ fn pic(what: u32, source: u32, len: u32) -> Run<u32> {
     }
 }
 
-// Whether what is shown is what the plain programs show.
-fn is_right(alloc: Global, table: &Table, tracks: &[Track]) -> Result<bool, Memory> {
-    let Some(Shown { video, audio }) = shown(alloc, table, tracks)? else {
-        return Ok(false);
-    };
-    let frames = video_frames(alloc, table, tracks)?;
-    if !are_runs_of(alloc, video.as_slice(), &frames)? {
-        return Ok(false);
+fn dark(len: u32) -> Run<u32> {
+    Run {
+        frame: Frame::Dark,
+        len,
     }
-    let each = audio_frames(alloc, table, tracks)?;
-    for (index, channel) in audio.as_slice().iter().enumerate() {
-        match each.get(index) {
-            Some(frames) => {
-                if !are_runs_of(alloc, channel.as_slice(), frames)? {
-                    return Ok(false);
-                }
-            }
-            None => return Ok(false),
-        }
-    }
-    Ok(audio.as_slice().len() == each.len())
 }
 
-fn add_track(tracks: &mut Vec<Track>, alloc: Global, views: &[ItemView]) -> Result<(), Memory> {
-    match track(alloc, views)? {
-        Some(track) => {
-            tracks.push(track)?;
-            Ok(())
-        }
-        None => Ok(()),
+fn mix(left: Side<u32>, right: Side<u32>, den: u32, len: u32) -> Run<u32> {
+    Run {
+        frame: Frame::Mix {
+            left,
+            right,
+            num: 1,
+            den,
+        },
+        len,
     }
+}
+
+// The video channel of two tracks, the second over the first.
+fn stack_of(
+    alloc: Global,
+    table: &Table,
+    lower: &[ItemView],
+    upper: &[ItemView],
+) -> Result<Option<Listed<Run<u32>>>, Memory> {
+    let mut tracks = Vec::new(alloc);
+    add_track(&mut tracks, alloc, lower)?;
+    add_track(&mut tracks, alloc, upper)?;
+    match shown(alloc, table, &tracks)? {
+        Some(Shown { video, audio: _ }) => Ok(Some(video)),
+        None => Ok(None),
+    }
+}
+
+fn two_video_tracks(alloc: Global, nests: Listed<Nest>) -> Result<Table, Memory> {
+    table_of(alloc, &[Kind::Video, Kind::Video], nests)
 }
 
 #[test]
@@ -93,106 +98,99 @@ fn media_of_one_reel_go_on(rt: HostRuntime) -> Result<(), Fail> {
     Ok(())
 }
 
-// How many of these tracks are shown rightly over each of them, with the lower one as a track of its own and in a nest.
-fn right_stacks(alloc: Global, rows: &[[ItemView; 3]]) -> Result<u32, Memory> {
-    let mut right = 0;
-    for lower in rows {
-        for upper in rows {
-            for from in 0..3 {
-                if is_right_stack(alloc, lower, upper, from)? {
-                    right += 1;
-                }
-            }
-        }
-    }
-    Ok(right)
-}
-
-// The lower and the upper track; then a nest of both from a place of each on; and an audio track.
-fn is_right_stack(
-    alloc: Global,
-    lower: &[ItemView; 3],
-    upper: &[ItemView; 3],
-    from: u32,
-) -> Result<bool, Memory> {
-    let mut layers = Listed::new(alloc);
-    add_layer(&mut layers, alloc, lower, from, 5)?;
-    add_layer(&mut layers, alloc, upper, 0, 6 - from)?;
-    let mut nests = Listed::new(alloc);
-    nests.push(Nest {
-        layers,
-        length: 5 + from,
-    })?;
-    let kinds = [Kind::Video, Kind::Audio, Kind::Video, Kind::Video];
-    let table = table_of(alloc, &kinds, nests)?;
-    let mut tracks = Vec::new(alloc);
-    add_track(&mut tracks, alloc, lower)?;
-    add_track(&mut tracks, alloc, lower)?;
-    add_track(
-        &mut tracks,
-        alloc,
-        &[ItemView::gap(4), nest(0, 0, from, 5), nest(1, 7, 0, 2)],
-    )?;
-    add_track(&mut tracks, alloc, upper)?;
-    if tracks.len() != 4 {
-        return Ok(false);
-    }
-    is_right(alloc, &table, &tracks)
+#[test]
+fn a_mix_is_seen_through_a_dark_layer(rt: HostRuntime) -> Result<(), Fail> {
+    let table = two_video_tracks(rt.alloc(), Listed::new(rt.alloc()))?;
+    let lower = [clip(0, 0, 10, 4), marked(clip(1, 2, 50, 4), 1, 1)];
+    let upper = [ItemView::gap(4), clip(0, 4, 70, 1)];
+    let video = stack_of(rt.alloc(), &table, &lower, &upper)?.ok_or("these are short")?;
+    let left = Side::Pic {
+        what: 0,
+        source: 13,
+    };
+    let right = Side::Pic {
+        what: 1,
+        source: 49,
+    };
+    let want = [
+        pic(0, 10, 3),
+        mix(left, right, 3, 1),
+        pic(2, 70, 1),
+        pic(1, 51, 3),
+    ];
+    assert_eq!(rt; video.as_slice(), want.as_slice());
+    Ok(())
 }
 
 #[test]
-fn small_stacks_are_those_of_the_frames(rt: HostRuntime) -> Result<(), Fail> {
-    let rows = [
-        [clip(0, 0, 10, 2), clip(1, 1, 12, 3), clip(2, 2, 30, 4)],
-        [clip(0, 0, 10, 2), ItemView::gap(3), clip(1, 1, 15, 2)],
-        [
-            ItemView::gap(2),
-            marked(clip(0, 2, 20, 3), 1, 1),
-            ItemView::gap(3),
-        ],
-        [
-            clip(0, 4, 10, 3),
-            marked(clip(1, 5, 50, 3), 2, 1),
-            marked(clip(2, 0, 60, 2), 1, 1),
-        ],
-        [
-            ItemView::gap(1),
-            clip(0, 9, 10, 4),
-            marked(ItemView::gap(2), 2, 1),
-        ],
+fn a_mix_from_black_hides_what_lies_below(rt: HostRuntime) -> Result<(), Fail> {
+    let table = two_video_tracks(rt.alloc(), Listed::new(rt.alloc()))?;
+    let upper = [ItemView::gap(3), marked(clip(0, 2, 50, 3), 2, 1)];
+    let video = stack_of(rt.alloc(), &table, &[clip(0, 4, 70, 9)], &upper)?.ok_or(
+        "these are short",
+    )?;
+    let right = Side::Pic {
+        what: 1,
+        source: 48,
+    };
+    let want = [
+        pic(2, 70, 1),
+        mix(Side::Dark, right, 4, 3),
+        pic(1, 51, 2),
+        pic(2, 76, 3),
     ];
-    assert_eq!(rt; right_stacks(rt.alloc(), &rows)?, 75);
+    assert_eq!(rt; video.as_slice(), want.as_slice());
     Ok(())
+}
+
+#[test]
+fn a_nest_is_dark_where_its_layers_end(rt: HostRuntime) -> Result<(), Fail> {
+    let alloc = rt.alloc();
+    let mut layers = Listed::new(alloc);
+    add_layer(&mut layers, alloc, &[clip(0, 0, 10, 6)], 2, 5)?;
+    let mut nests = Listed::new(alloc);
+    nests.push(Nest { layers, length: 5 })?;
+    let table = two_video_tracks(alloc, nests)?;
+    let lower = [clip(0, 4, 70, 3)];
+    let video = stack_of(alloc, &table, &lower, &[nest(0, 0, 1, 5)])?.ok_or("the nest is sound")?;
+    let want = [pic(0, 13, 2), pic(2, 72, 1), dark(2)];
+    assert_eq!(rt; video.as_slice(), want.as_slice());
+    Ok(())
+}
+
+// Eight nests: the first shows one clip, and each other what the one before shows from its frame 2 on, and one frame
+// more.
+fn eight_nests(alloc: Global) -> Result<Listed<Nest>, Memory> {
+    let mut nests = Listed::new(alloc);
+    for j in 0..8 {
+        let mut layers = Listed::new(alloc);
+        let length = 20 - j;
+        if j == 0 {
+            add_layer(&mut layers, alloc, &[clip(0, 4, 50, 20)], 0, 20)?;
+        } else {
+            let views = [nest(0, j - 1, 2, length - 1), clip(1, 0, 10 * j, 1)];
+            add_layer(&mut layers, alloc, &views, 0, length)?;
+        }
+        nests.push(Nest { layers, length })?;
+    }
+    Ok(nests)
 }
 
 #[test]
 fn nests_stand_in_one_another(rt: HostRuntime) -> Result<(), Fail> {
     let alloc = rt.alloc();
-    let mut nests = Listed::new(alloc);
-    for j in 0..8 {
-        let mut layers = Listed::new(alloc);
-        if j > 0 {
-            add_layer(
-                &mut layers,
-                alloc,
-                &[clip(0, 0, j, 1), nest(1, j - 1, 1, 20)],
-                0,
-                21,
-            )?;
-        }
-        add_layer(
-            &mut layers,
-            alloc,
-            &[ItemView::gap(2 * j + 1), clip(0, 2, 10 * j, 2)],
-            0,
-            2 * j + 3,
-        )?;
-        nests.push(Nest { layers, length: 20 })?;
-    }
-    let table = table_of(alloc, &[Kind::Video], nests)?;
-    let mut tracks = Vec::new(alloc);
-    add_track(&mut tracks, alloc, &[nest(0, 7, 0, 20), nest(1, 3, 4, 30)])?;
-    assert_eq!(rt; tracks.len(), 1);
-    assert!(rt; is_right(alloc, &table, &tracks)?);
+    let table = two_video_tracks(alloc, eight_nests(alloc)?)?;
+    let video = stack_of(alloc, &table, &[nest(0, 7, 1, 12)], &[])?.ok_or("the nests are sound")?;
+    let want = [
+        pic(2, 65, 5),
+        pic(0, 10, 1),
+        pic(0, 20, 1),
+        pic(0, 30, 1),
+        pic(0, 40, 1),
+        pic(0, 50, 1),
+        pic(0, 60, 1),
+        pic(0, 70, 1),
+    ];
+    assert_eq!(rt; video.as_slice(), want.as_slice());
     Ok(())
 }

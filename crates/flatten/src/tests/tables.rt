@@ -29,8 +29,18 @@ pub fn table_of(alloc: Global, kinds: &[Kind], nests: Listed<Nest>) -> Result<Ta
     })
 }
 
-pub fn track(alloc: Global, views: &[ItemView]) -> Result<Option<Track>, Memory> {
+fn track(alloc: Global, views: &[ItemView]) -> Result<Option<Track>, Memory> {
     track_of(alloc, Vec::from_slice(alloc, views)?)
+}
+
+pub fn add_track(tracks: &mut Vec<Track>, alloc: Global, views: &[ItemView]) -> Result<(), Memory> {
+    match track(alloc, views)? {
+        Some(track) => {
+            tracks.push(track)?;
+            Ok(())
+        }
+        None => Ok(()),
+    }
 }
 
 // Adds the layer that shows the places [from, to) of a track of these, if they can be laid.
@@ -47,7 +57,7 @@ pub fn add_layer(
     }
 }
 
-// What the tracks show, or none where a layer of the table lies not in its track.
+// What the tracks show, or none where a layer of the table does not lie in its track.
 pub fn shown(alloc: Global, table: &Table, tracks: &[Track]) -> Result<Option<Shown>, Memory> {
     if !are_sound(table.nests.as_slice()) || !are_short(tracks) {
         return Ok(None);
@@ -55,7 +65,7 @@ pub fn shown(alloc: Global, table: &Table, tracks: &[Track]) -> Result<Option<Sh
     Ok(Some(flatten(alloc, table, tracks)?))
 }
 
-fn are_sound(nests: &[Nest]) -> bool
+pub fn are_sound(nests: &[Nest]) -> bool
     ensures { IsTrue result → AreSound nests.now }
 {
     for nest in nests {
@@ -78,7 +88,7 @@ fn lie_in_tracks(layers: &[Layer]) -> bool
     true
 }
 
-fn are_short(tracks: &[Track]) -> bool
+pub fn are_short(tracks: &[Track]) -> bool
     ensures { IsTrue result → EachIsShort tracks.now }
 {
     for track in tracks {
