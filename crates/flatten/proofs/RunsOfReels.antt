@@ -1,13 +1,18 @@
 -- The maximal runs of a channel are its frames.
-use Rattle.std.proofs.Common.{◌≡◌, ℕ, zero, suc, ◌+◌, ◌<◌, ◌≤◌, ◌^◌, Bool, true, false, cond, nat_eq, List, [], ◌∷◌, ◌++◌, length, refl, sym, ap, ◌∙◌, arith, subst}
+use Rattle.std.proofs.Common.{◌≡◌, ℕ, zero, suc, ◌+◌, ◌<◌, ◌≤◌, ◌^◌, Bool, true, false, cond, nat_eq, List, [], ◌∷◌, ◌++◌, map, length, refl, sym, ap, ◌∙◌, arith, subst}
 use Rattle.frame_meaning.specs.declared.frames.Frame.{Frame}
 use Rattle.frame_meaning.specs.declared.frames.Run.{Run}
 use Rattle.frame_meaning.specs.Going.{frame_goes_on}
 use Rattle.frame_meaning.specs.RunFrames.{next_frame, frames_from}
 use Rattle.frame_meaning.specs.Runs.{runs, with_frame}
-use Rattle.flatten.specs.Channels.{maximal_runs}
-use Rattle.flatten.specs.Segments.{AreFilled, CanBeCut}
-use Rattle.flatten.specs.Strips.{frames_of}
+use Rattle.composables.specs.declared.media.Kind.TheVariants.{Video, Audio}
+use Rattle.composables.specs.declared.media.Table.{Table}
+use Rattle.composables.specs.TrackState.{TrackState}
+use Rattle.flatten.specs.Channels.{EachIsShort, audio_frames, channels, maximal_runs, video_frames}
+use Rattle.flatten.specs.Nests.{frames_of_nests}
+use Rattle.flatten.specs.Segments.{AreFilled, CanBeCut, EachCanBeCut}
+use Rattle.flatten.specs.Strips.{AreBelow, frames_of}
+use Rattle.flatten.proofs.Building.{channels_below, video_short}
 use Rattle.flatten.proofs.Joining.{frame_is_next}
 
 filled_with : (f : Frame ℕ) (rs : List (Run ℕ)) → AreFilled rs → AreFilled (with_frame nat_eq f rs)
@@ -37,3 +42,16 @@ frames_runs (f ∷ fs) = frames_with f (maximal_runs fs) ∙ ap (λ (gs : List (
 
 pub can_be_cut : (rs : List (Run ℕ)) (fs : List (Frame ℕ)) → rs ≡ maximal_runs fs → length fs < 2 ^ 32 → CanBeCut rs
 can_be_cut rs fs is short = subst CanBeCut (sym is) (record { filled = filled_runs fs; short = omega (arith, ap length (frames_runs fs), short) })
+
+each_cut : (fss : List (List (Frame ℕ))) → AreBelow (2 ^ 32) fss → EachCanBeCut (map maximal_runs fss)
+each_cut [] h = tt
+each_cut (fs ∷ fss) h = (can_be_cut (maximal_runs fs) fs refl h.0, each_cut fss h.1)
+
+-- what a cut shows can be cut into segments
+
+pub video_cut : (table : Table) (ts : List TrackState) (rs : List (Run ℕ)) → EachIsShort ts → rs ≡ maximal_runs (video_frames table ts) → CanBeCut rs
+video_cut table ts rs e is =
+    can_be_cut rs (video_frames table ts) is (video_short (channels Video table ts) (video_frames table ts) refl (channels_below Video table (frames_of_nests table) ts e))
+
+pub audio_cut : (table : Table) (ts : List TrackState) (rss : List (List (Run ℕ))) → EachIsShort ts → rss ≡ map maximal_runs (audio_frames table ts) → EachCanBeCut rss
+audio_cut table ts rss e is = subst EachCanBeCut (sym is) (each_cut (audio_frames table ts) (channels_below Audio table (frames_of_nests table) ts e))

@@ -84,7 +84,7 @@ each_joined [] t h k = (k, tt)
 each_joined (s ∷ []) t h k = by_test (goes_on_in s t) where
   by_test : (b : Bool) → EachIsSegment (cond b (record s { len = s.len + t.len } ∷ []) (s ∷ t ∷ []))
   by_test true = (record { filled = omega (arith, h.0.filled); dissolve = longer_dissolve s.from s.frames s.len t.len h.0.dissolve }, tt)
-  by_test false = (h.0, k, tt)
+  by_test false = (h.0, (k, tt))
 each_joined (s ∷ u ∷ us) t h k = (h.0, each_joined (u ∷ us) t h.1 k)
 
 pub placed_joined : (at : ℕ) (ss : List Segment) (t : Segment) → ArePlaced at ss → t.at ≡ at + lens_of ss → ArePlaced at (joined ss t)
@@ -92,7 +92,7 @@ placed_joined at [] t h e = let here : t.at ≡ at = omega (arith, e) in (here, 
 placed_joined at (s ∷ []) t h e = by_test (goes_on_in s t) where
   by_test : (b : Bool) → ArePlaced at (cond b (record s { len = s.len + t.len } ∷ []) (s ∷ t ∷ []))
   by_test true = (h.0, tt)
-  by_test false = let here : t.at ≡ at + s.len = omega (arith, e) in (h.0, here, tt)
+  by_test false = let here : t.at ≡ at + s.len = omega (arith, e) in (h.0, (here, tt))
 placed_joined at (s ∷ u ∷ us) t h e =
     let here : t.at ≡ at + s.len + (u.len + lens_of us) = omega (arith, e) in
     (h.0, placed_joined (at + s.len) (u ∷ us) t h.1 here)
@@ -106,7 +106,7 @@ apart_joined (s ∷ []) t h = by_test (goes_on_in s t) refl where
 apart_joined (s ∷ u ∷ []) t h = by_test (goes_on_in u t) refl where
   by_test : (b : Bool) → goes_on_in u t ≡ b → AreApart (s ∷ cond b (record u { len = u.len + t.len } ∷ []) (u ∷ t ∷ []))
   by_test true g = (h.0, tt)
-  by_test false g = (h.0, g, tt)
+  by_test false g = (h.0, (g, tt))
 apart_joined (s ∷ u ∷ v ∷ vs) t h = (h.0, apart_joined (u ∷ v ∷ vs) t h.1)
 
 pub lens_joined : (ss : List Segment) (t : Segment) → lens_of (joined ss t) ≡ lens_of ss + t.len

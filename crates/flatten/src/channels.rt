@@ -2,6 +2,7 @@
 ghost use Rattle.std.specs.Prelude.{◌≡◌, ◌<◌, ◌^◌, IfOk, IsTrue, length, map, slice_get};
 ghost use Rattle.flatten.specs.Channels.{AreSound, EachIsShort, audio_frames, channels, is_of_kind, maximal_runs, video_frames};
 ghost use Rattle.flatten.specs.Nests.{frames_of_nests};
+ghost use Rattle.flatten.specs.Segments.{CanBeCut, EachCanBeCut};
 ghost use Rattle.flatten.specs.Strips.{AllFit, AreBelow, ShowEach, frames_of};
 
 use crate::joins::join_runs;
@@ -27,6 +28,8 @@ pub fn flatten(alloc: Global, table: &Table, tracks: &[Track]) -> Result<Shown, 
     requires tracks { EachIsShort tracks.now }
     ensures video { IfOk result (λ s. s.video ≡ maximal_runs (video_frames table.now tracks.now)) }
     ensures audio { IfOk result (λ s. s.audio ≡ map maximal_runs (audio_frames table.now tracks.now)) }
+    ensures video_cut { IfOk result (λ s. CanBeCut s.video) }
+    ensures audio_cut { IfOk result (λ s. EachCanBeCut s.audio) }
 {
     let nests = nest_strips(alloc, table)?;
     let video = video_runs(alloc, table, nests.as_slice(), tracks)?;

@@ -1,5 +1,5 @@
 // A channel cut into segments, as a decision list has them.
-ghost use Rattle.std.specs.Prelude.{◌≡◌, ◌+◌, ◌<◌, ◌^◌, true, false, IfErr, IfOk, OnOk, None};
+ghost use Rattle.std.specs.Prelude.{◌≡◌, ◌+◌, ◌<◌, ◌^◌, ◌==◌, true, false, IfErr, IfOk, OnOk, None};
 ghost use Rattle.flatten.specs.declared.cutting.SegmentFault.TheVariants.{PartialDissolve};
 ghost use Rattle.flatten.specs.Joined.{joined, lens_of, segment_of};
 ghost use Rattle.flatten.specs.Segments.{AreSegments, CanBeCut, IsPartialAt, first_partial, goes_on_in, is_whole};
@@ -120,7 +120,7 @@ fn join(all: &mut Vec<Segment>, segment: Segment) -> Result<(), NoMemory>
 fn goes_on_in(last: &Segment, next: &Segment) -> bool
     ensures { result ≡ goes_on_in last.now next.now }
 {
-    let more = u64::from(last.len.saturating_sub(1));
+    let more = last.len.saturating_sub(1);
     match (next.from, last.side, next.side) {
         (None, Side::Dark, Side::Dark) => true,
         (
@@ -130,7 +130,13 @@ fn goes_on_in(last: &Segment, next: &Segment) -> bool
                 source: first,
             },
             Side::Pic { what, source },
-        ) => reel == what && u64::from(source) == u64::from(first) + more + 1,
+        ) => reel == what && is_next(first, more, source),
         _ => false,
     }
+}
+
+fn is_next(first: u32, more: u32, after: u32) -> bool
+    ensures { result ≡ (after == first + more + 1) }
+{
+    u64::from(after) == u64::from(first) + u64::from(more) + 1
 }
