@@ -138,19 +138,28 @@ below_get (qs ∷ qss) (suc i) rs h is b = below_get qss i rs (omega arith) is b
 
 -- what is made of strips, one after another
 
-pub nest_meant : (media : List Media) (nests : List (List (Frame ℕ))) (n : Nest) (layers : List Layer) (strips channels : List (List (Run ℕ))) (below lower empty all : List (Run ℕ))
-    → layers ≡ n.layers → map frames_of strips ≡ map (layer_frames media nests) layers → channels ≡ strips → frames_of below ≡ laid_on [] (map frames_of channels) → lower ≡ below → empty ≡ []
-    → frames_of all ≡ frames_of empty ++ padded n.length (frames_of lower) → frames_of all ≡ nest_frames media nests n
-nest_meant media nests n layers strips channels below lower empty all ls shown cs laid low none added =
+pub nest_meant : (media : List Media) (nests : List (List (Frame ℕ))) (n : Nest) (layers : List Layer) (strips channels : List (List (Run ℕ))) (below lower : List (Run ℕ))
+    → layers ≡ n.layers → map frames_of strips ≡ map (layer_frames media nests) layers → channels ≡ strips → frames_of below ≡ laid_on [] (map frames_of channels) → lower ≡ below
+    → padded n.length (frames_of lower) ≡ nest_frames media nests n
+nest_meant media nests n layers strips channels below lower ls shown cs laid low =
     let frames : List (List (Frame ℕ)) = map (layer_frames media nests) n.layers in
     let under : frames_of lower ≡ laid_on [] frames =
     ap frames_of low
     ∙ (laid
     ∙ (ap (λ (rss : List (List (Run ℕ))). laid_on [] (map frames_of rss)) cs
     ∙ (ap (laid_on []) shown ∙ ap (λ (ks : List Layer). laid_on [] (map (layer_frames media nests) ks)) ls))) in
-    added
-    ∙ (ap (λ (rs : List (Run ℕ)). frames_of rs ++ padded n.length (frames_of lower)) none
-    ∙ (ap (padded n.length) under ∙ first_stacked n.length frames))
+    ap (padded n.length) under ∙ first_stacked n.length frames
+
+length-padded : (n : ℕ) (fs : List (Frame ℕ)) → length (padded n fs) ≡ n
+length-padded zero fs = refl
+length-padded (suc n) [] = ap suc (length-padded n [])
+length-padded (suc n) (f ∷ fs) = ap suc (length-padded n fs)
+
+pub added_to_none : (empty all : List (Run ℕ)) (fs : List (Frame ℕ)) → empty ≡ [] → frames_of all ≡ frames_of empty ++ fs → frames_of all ≡ fs
+added_to_none empty all fs none added = added ∙ ap (λ (rs : List (Run ℕ)). frames_of rs ++ fs) none
+
+pub length-added : (empty all : List (Run ℕ)) (n : ℕ) (fs : List (Frame ℕ)) → empty ≡ [] → frames_of all ≡ frames_of empty ++ padded n fs → length (frames_of all) ≡ n
+length-added empty all n fs none added = ap length (added_to_none empty all (padded n fs) none added) ∙ length-padded n fs
 
 pub video_meant : (fss : List (List (Frame ℕ))) (strips channels : List (List (Run ℕ))) (rs now : List (Run ℕ)) → map frames_of strips ≡ fss → channels ≡ strips → frames_of rs ≡ laid_on [] (map frames_of channels)
     → now ≡ rs → frames_of now ≡ stacked (longest fss) fss

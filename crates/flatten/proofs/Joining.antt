@@ -26,7 +26,7 @@ side_goes (side.Pic w s) = ap (λ (b : Bool). b && eqb (s + 1) (s + 1)) (eq-eqb 
 four : (a b c d : Bool) → a ≡ true → b ≡ true → c ≡ true → d ≡ true → (((a && b) && c) && d) ≡ true
 four a b c d p q r s = ap (λ (x : Bool). ((x && b) && c) && d) p ∙ (ap (λ (x : Bool). (x && c) && d) q ∙ (ap (λ (x : Bool). x && d) r ∙ s))
 
-frame_goes : (f : Frame ℕ) → frame_goes_on nat_eq f (next_frame f) ≡ true
+pub frame_goes : (f : Frame ℕ) → frame_goes_on nat_eq f (next_frame f) ≡ true
 frame_goes Dark = refl
 frame_goes (Pic w s) = ap (λ (b : Bool). b && eqb (s + 1) (s + 1)) (eq-eqb w w refl) ∙ eq-eqb (s + 1) (s + 1) refl
 frame_goes (Mix l r n d) =

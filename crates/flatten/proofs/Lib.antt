@@ -9,3 +9,5 @@ pub mod Segmenting
 pub mod LastSegment
 pub mod CutRuns
 pub mod RunsOfReels
+pub mod OneCutting
+pub mod Spots

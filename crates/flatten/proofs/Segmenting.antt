@@ -20,11 +20,11 @@ use Rattle.flatten.proofs.Moving.{length-from, then_next, two_runs}
 
 -- a segment that is made longer
 
-later_frame : (s : Side ℕ) (n : ℕ) → frame_of (later_side s n) ≡ moved_frame (frame_of s) n
+pub later_frame : (s : Side ℕ) (n : ℕ) → frame_of (later_side s n) ≡ moved_frame (frame_of s) n
 later_frame side.Dark n = refl
 later_frame (side.Pic w k) n = refl
 
-later_twice : (s : Side ℕ) (n len : ℕ) → n ≤ len → moved_frame (frame_of (later_side s n)) (len - n) ≡ moved_frame (frame_of s) len
+pub later_twice : (s : Side ℕ) (n len : ℕ) → n ≤ len → moved_frame (frame_of (later_side s n)) (len - n) ≡ moved_frame (frame_of s) len
 later_twice side.Dark n len h = refl
 later_twice (side.Pic w k) n len h = let e : k + n + (len - n) ≡ k + len = omega (arith, h) in ap (λ (m : ℕ). frame.Pic w m) e
 
@@ -119,7 +119,7 @@ lens_joined (s ∷ u ∷ us) t = omega (arith, lens_joined (u ∷ us) t)
 
 -- how many frames they have
 
-length_in : (from : Option (Side ℕ)) (n : ℕ) (s : Side ℕ) (len : ℕ) → HasDissolve from n len → length (frames_in from n s len) ≡ len
+pub length_in : (from : Option (Side ℕ)) (n : ℕ) (s : Side ℕ) (len : ℕ) → HasDissolve from n len → length (frames_in from n s len) ≡ len
 length_in None n s len h = length-from (frame_of s) len
 length_in (Some left) n s len h =
     let mixed : List (Frame ℕ) = frames_from (frame.Mix left s 1 (n + 1)) n in

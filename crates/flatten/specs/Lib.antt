@@ -4,3 +4,4 @@ pub mod Channels
 pub mod Strips
 pub mod Segments
 pub mod Joined
+pub mod Ends

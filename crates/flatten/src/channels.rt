@@ -5,6 +5,7 @@ ghost use Rattle.flatten.specs.Nests.{frames_of_nests};
 ghost use Rattle.flatten.specs.Segments.{CanBeCut, EachCanBeCut};
 ghost use Rattle.flatten.specs.Strips.{AllFit, AreBelow, ShowEach, frames_of};
 
+use crate::finding::Strip;
 use crate::joins::join_runs;
 use crate::nests::{nest_strips, strip_of};
 use crate::stacks::stack;
@@ -40,7 +41,7 @@ pub fn flatten(alloc: Global, table: &Table, tracks: &[Track]) -> Result<Shown, 
 fn video_runs(
     alloc: Global,
     table: &Table,
-    nests: &[Listed<Run<u32>>],
+    nests: &[Strip],
     tracks: &[Track],
 ) -> Result<Listed<Run<u32>>, Memory>
     requires nests { ShowEach nests.now (frames_of_nests table.now) }
@@ -55,7 +56,7 @@ fn video_runs(
 fn audio_runs(
     alloc: Global,
     table: &Table,
-    nests: &[Listed<Run<u32>>],
+    nests: &[Strip],
     tracks: &[Track],
 ) -> Result<Listed<Listed<Run<u32>>>, Memory>
     requires nests { ShowEach nests.now (frames_of_nests table.now) }
@@ -83,7 +84,7 @@ fn join_each(alloc: Global, strips: &[Listed<Run<u32>>]) -> Result<Listed<Listed
 fn kind_strips(
     alloc: Global,
     table: &Table,
-    nests: &[Listed<Run<u32>>],
+    nests: &[Strip],
     tracks: &[Track],
     kind: Kind,
 ) -> Result<Listed<Listed<Run<u32>>>, Memory>

@@ -7,13 +7,16 @@
 
 mod channels;
 mod cutting;
+mod finding;
 mod joins;
+mod laws;
 mod nests;
 mod stacks;
 mod strips;
 
 pub use channels::{Shown, flatten};
 pub use cutting::{Segment, SegmentFault, segments};
+pub use laws::a_channel_has_one_cutting;
 
 #[cfg(test)]
 mod tests;

@@ -8,15 +8,16 @@ ghost use Rattle.flatten.specs.Channels.{AreSound, EachLiesInTrack};
 ghost use Rattle.flatten.specs.Nests.{frames_of_nests, layer_frames, nest_frames, nest_in, reel_frame, reel_of, reel_side, resolved};
 ghost use Rattle.flatten.specs.Strips.{AllFit, AreFit, AreTrackRuns, IsTrackRun, Show, ShowEach, frames_of, padded};
 
+use crate::finding::Strip;
 use crate::stacks::stack;
-use crate::strips::{FIRST, add_padded, passed};
+use crate::strips::{FIRST, add_padded};
 use composables::{Layer, Listed, Media, Nest, Table, Track};
 use dissolves::runs_in;
 use frame_meaning::{Frame, Memory, Run, Side, What};
 use std::alloc::Global;
 
 /// What each nest of a table shows, in order.
-pub fn nest_strips(alloc: Global, table: &Table) -> Result<Listed<Listed<Run<u32>>>, Memory>
+pub fn nest_strips(alloc: Global, table: &Table) -> Result<Listed<Strip>, Memory>
     requires { AreSound table.now.nests }
     ensures { IfOk result (λ all. ShowEach all (frames_of_nests table.now)) }
 {
@@ -31,24 +32,33 @@ pub fn nest_strips(alloc: Global, table: &Table) -> Result<Listed<Listed<Run<u32
 fn nest_strip(
     alloc: Global,
     media: &[Media],
-    nests: &[Listed<Run<u32>>],
+    nests: &[Strip],
     nest: &Nest,
-) -> Result<Listed<Run<u32>>, Memory>
+) -> Result<Strip, Memory>
     requires fit { AllFit nests.now }
     requires layers { EachLiesInTrack nest.now.layers }
     ensures { IfOk result (λ all. Show all (nest_frames media.now (map frames_of nests.now) nest.now)) }
 {
     let layers = layer_strips(alloc, media, nests, nest.layers.as_slice())?;
     let stacked = stack(alloc, layers.as_slice())?;
+    padded_strip(alloc, stacked.as_slice(), nest.length)
+}
+
+// The first frames of these runs, with dark frames behind them where there are fewer.
+fn padded_strip(alloc: Global, runs: &[Run<u32>], length: u32) -> Result<Strip, Memory>
+    requires { AreFit runs.now }
+    ensures { IfOk result (λ strip. Show strip (padded length (frames_of runs.now))) }
+{
     let mut all = Listed::new(alloc);
-    add_padded(&mut all, stacked.as_slice(), FIRST, nest.length)?;
-    Ok(all)
+    add_padded(&mut all, runs, FIRST, length)?;
+    let strip = Strip::new(alloc, all)?;
+    Ok(strip)
 }
 
 fn layer_strips(
     alloc: Global,
     media: &[Media],
-    nests: &[Listed<Run<u32>>],
+    nests: &[Strip],
     layers: &[Layer],
 ) -> Result<Listed<Listed<Run<u32>>>, Memory>
     requires fit { AllFit nests.now }
@@ -67,7 +77,7 @@ fn layer_strips(
 pub fn strip_of(
     alloc: Global,
     media: &[Media],
-    nests: &[Listed<Run<u32>>],
+    nests: &[Strip],
     track: &Track,
     from: u32,
     to: u32,
@@ -86,7 +96,7 @@ pub fn strip_of(
 fn resolve_runs(
     alloc: Global,
     media: &[Media],
-    nests: &[Listed<Run<u32>>],
+    nests: &[Strip],
     runs: &[Run<What>],
 ) -> Result<Listed<Run<u32>>, Memory>
     requires fit { AllFit nests.now }
@@ -103,7 +113,7 @@ fn resolve_runs(
 fn add_resolved(
     all: &mut Listed<Run<u32>>,
     media: &[Media],
-    nests: &[Listed<Run<u32>>],
+    nests: &[Strip],
     run: Run<What>,
 ) -> Result<(), Memory>
     requires all { AreFit all.old }
@@ -128,10 +138,10 @@ fn add_resolved(
     }
 }
 
-// Adds so many frames of a nest from one on, and dark frames past its end.
+// Adds so many frames of a nest from one on, and dark frames past its end or where there is no such nest.
 fn add_nest(
     all: &mut Listed<Run<u32>>,
-    nests: &[Listed<Run<u32>>],
+    nests: &[Strip],
     nest: u32,
     source: u32,
     len: u32,
@@ -141,22 +151,35 @@ fn add_nest(
     ensures added { OnOk result (frames_of all.new ≡ frames_of all.old ++ padded len (drop source (slice_index_or (map frames_of nests.now) nest []))) }
     ensures all { OnOk result (AreFit all.new) }
 {
-    let strip = strip_at(nests, nest);
-    let spot = passed(strip, FIRST, source);
-    add_padded(all, strip, spot, len)?;
+    match nests.get(nest as usize) {
+        Some(strip) => add_from(all, strip, source, len),
+        None => add_dark(all, len),
+    }
+}
+
+fn add_from(
+    all: &mut Listed<Run<u32>>,
+    strip: &Strip,
+    source: u32,
+    len: u32,
+) -> Result<(), Memory>
+    requires all { AreFit all.old }
+    requires fit { AreFit strip.now }
+    ensures added { OnOk result (frames_of all.new ≡ frames_of all.old ++ padded len (drop source (frames_of strip.now))) }
+    ensures all { OnOk result (AreFit all.new) }
+{
+    let spot = strip.spot_at(source);
+    add_padded(all, strip.as_slice(), spot, len)?;
     Ok(())
 }
 
-// What the nest with this number shows, and nothing where there is none.
-fn strip_at(nests: &[Listed<Run<u32>>], nest: u32) -> &[Run<u32>]
-    requires { AllFit nests.now }
-    ensures frames { frames_of result.now ≡ slice_index_or (map frames_of nests.now) nest [] }
-    ensures fit { AreFit result.now }
+fn add_dark(all: &mut Listed<Run<u32>>, len: u32) -> Result<(), Memory>
+    requires { AreFit all.old }
+    ensures added { OnOk result (frames_of all.new ≡ frames_of all.old ++ padded len []) }
+    ensures all { OnOk result (AreFit all.new) }
 {
-    match nests.get(nest as usize) {
-        Some(strip) => strip.as_slice(),
-        None => &[],
-    }
+    add_padded(all, &[], FIRST, len)?;
+    Ok(())
 }
 
 // The nest that a frame is of, and its frame there, if the frame is of one.
