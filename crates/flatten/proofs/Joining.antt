@@ -1,5 +1,5 @@
 -- Runs joined where they go on.
-use Rattle.std.proofs.Common.{◌≡◌, ℕ, zero, suc, ◌+◌, ◌-◌, ◌<◌, ◌≤◌, Bool, true, false, cond, eqb, ◌&&◌, nat_eq, List, [], ◌∷◌, ◌++◌, Option, Some, None, length, get_or, drop, refl, sym, ap, ◌∙◌, arith, subst, append_assoc}
+use Rattle.std.proofs.Common.{◌≡◌, ℕ, zero, suc, ◌+◌, ◌-◌, ◌<◌, ◌≤◌, Bool, true, false, cond, eqb, ◌&&◌, nat_eq, List, [], ◌∷◌, ◌++◌, Option, Some, length, get_or, drop, refl, sym, ap, ◌∙◌, arith, subst, append_assoc}
 use Rattle.std.proofs.lemmas.Bool.{and_parts, eq-eqb, eqb-true}
 use Rattle.std.proofs.lemmas.List.{append-nil, length-append}
 use Rattle.frame_meaning.specs.declared.frames.Side.{Side}
@@ -13,7 +13,7 @@ use Rattle.frame_meaning.specs.RunFrames.{next_frame, frames_from, run_frames}
 use Rattle.frame_meaning.specs.Runs.{runs, with_frame}
 use Rattle.dissolves.specs.Pieces.{Reaches}
 use Rattle.flatten.specs.Channels.{maximal_runs}
-use Rattle.flatten.specs.Strips.{AreFit, IsFit, IsHeld, frames_of, held_frames, moved_frame}
+use Rattle.flatten.specs.Strips.{IsFit, IsHeld, frames_of, held_frames, moved_frame}
 use Rattle.flatten.proofs.Moving.{further, length-from, reaches_joined, same_frame, then_next, two_runs}
 use Rattle.flatten.proofs.Over.{drop_at}
 

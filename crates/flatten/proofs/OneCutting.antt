@@ -1,5 +1,5 @@
 -- A channel has one cutting into segments.
-use Rattle.std.proofs.Common.{◌≡◌, ℕ, zero, suc, ◌+◌, ◌-◌, ◌<◌, ◌≤◌, Bool, true, false, ltb, eqb, ◌&&◌, nat_eq, List, [], ◌∷◌, ◌++◌, Option, Some, None, length, get_or, refl, sym, ap, ◌∙◌, arith, subst, append_assoc}
+use Rattle.std.proofs.Common.{◌≡◌, ℕ, zero, suc, ◌+◌, ◌-◌, ◌<◌, ◌≤◌, Bool, true, false, ltb, nat_eq, List, [], ◌∷◌, ◌++◌, Option, Some, None, length, get_or, refl, sym, ap, ◌∙◌, arith, subst, append_assoc}
 use Rattle.std.proofs.lemmas.Bool.{ltb-true, ltb-false}
 use Rattle.std.proofs.lemmas.List.{append_cancel_left, length-append}
 use Rattle.std.specs.List.{flat_map}
@@ -15,7 +15,7 @@ use Rattle.flatten.specs.declared.cutting.Segment.{Segment}
 use Rattle.flatten.specs.Segments.{AreApart, ArePlaced, AreSegments, EachIsSegment, HasDissolve, IsSegment, first_shown, frames_in, goes_on_in, segment_frames}
 use Rattle.flatten.specs.Strips.{moved_frame}
 use Rattle.flatten.proofs.Joining.{frame_goes}
-use Rattle.flatten.proofs.Moving.{further, length-from, same_frame, then_next}
+use Rattle.flatten.proofs.Moving.{further, same_frame, then_next}
 use Rattle.flatten.proofs.Segmenting.{later_frame, later_twice, length_in}
 
 clash : {A : Type 0} → true ≡ false → A
@@ -91,6 +91,7 @@ not_longer s ss len rest h each apart has same = by_test (ltb s.len len) refl wh
   longer [] e a l eq =
       omega (arith, l, ap length eq, length-append (segment_frames s) [], length_one s h, length-append (frames_in s.from s.frames s.side len) rest, length_in s.from s.frames s.side len has)
   longer (u ∷ us) e a l eq = clash (sym (next_goes_on s u len (flat_map segment_frames us) rest h e.0 l eq) ∙ a.0)
+
   by_test : (b : Bool) → ltb s.len len ≡ b → len ≤ s.len
   by_test true t = longer ss each apart (ltb-true s.len len t) same
   by_test false t = ltb-false s.len len t

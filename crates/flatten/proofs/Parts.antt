@@ -1,16 +1,13 @@
 -- Runs from a spot on.
-use Rattle.std.proofs.Common.{◌≡◌, ℕ, zero, suc, ◌+◌, ◌-◌, ◌<◌, ◌≤◌, List, [], ◌∷◌, ◌++◌, Option, Some, None, length, get_or, drop, slice_get, refl, sym, ap, ◌∙◌, arith, subst, append_assoc}
+use Rattle.std.proofs.Common.{◌≡◌, ℕ, zero, suc, ◌+◌, ◌-◌, ◌<◌, ◌≤◌, List, [], ◌∷◌, ◌++◌, Option, Some, None, length, drop, slice_get, refl, sym, ap, ◌∙◌, arith, subst, append_assoc}
 use Rattle.std.proofs.lemmas.List.{append-nil, drop-drop}
-use Rattle.std.specs.List.{flat_map}
 use Rattle.std.proofs.lemmas.Grind.{flat_map-append}
 use Rattle.frame_meaning.specs.declared.frames.Frame.{Frame}
 use Rattle.frame_meaning.specs.declared.frames.Frame.TheVariants.{Dark}
 use Rattle.frame_meaning.specs.declared.frames.Run.{Run}
 use Rattle.frame_meaning.specs.RunFrames.{next_frame, frames_from, run_frames}
-use Rattle.dissolves.specs.Pieces.{Reaches}
-use Rattle.flatten.specs.declared.strips.Spot.{Spot}
-use Rattle.flatten.specs.Strips.{AreFit, BehindSome, IsFit, IsSpot, frames_of, left_from, moved_frame, padded}
-use Rattle.flatten.proofs.Moving.{drop_past, drop_within, front, length-from, reaches_less, reaches_moved}
+use Rattle.flatten.specs.Strips.{AreFit, BehindSome, IsFit, frames_of, moved_frame, padded}
+use Rattle.flatten.proofs.Moving.{drop_past, drop_within, front, length-from}
 
 pub frames_at : (rs : List (Run ℕ)) (i : ℕ) (r : Run ℕ) → slice_get rs i ≡ Some r → frames_of (drop i rs) ≡ run_frames r ++ frames_of (drop (suc i) rs)
 frames_at [] i r h = absurd cc

@@ -1,10 +1,10 @@
 -- The maximal runs of a channel are its frames.
-use Rattle.std.proofs.Common.{◌≡◌, ℕ, zero, suc, ◌+◌, ◌<◌, ◌≤◌, ◌^◌, Bool, true, false, cond, nat_eq, List, [], ◌∷◌, ◌++◌, map, length, refl, sym, ap, ◌∙◌, arith, subst}
+use Rattle.std.proofs.Common.{◌≡◌, ℕ, suc, ◌+◌, ◌<◌, ◌^◌, Bool, true, false, cond, nat_eq, List, [], ◌∷◌, ◌++◌, map, length, refl, sym, ap, ◌∙◌, arith, subst}
 use Rattle.frame_meaning.specs.declared.frames.Frame.{Frame}
 use Rattle.frame_meaning.specs.declared.frames.Run.{Run}
 use Rattle.frame_meaning.specs.Going.{frame_goes_on}
-use Rattle.frame_meaning.specs.RunFrames.{next_frame, frames_from}
-use Rattle.frame_meaning.specs.Runs.{runs, with_frame}
+use Rattle.frame_meaning.specs.RunFrames.{frames_from}
+use Rattle.frame_meaning.specs.Runs.{with_frame}
 use Rattle.composables.specs.declared.media.Kind.TheVariants.{Video, Audio}
 use Rattle.composables.specs.declared.media.Table.{Table}
 use Rattle.composables.specs.TrackState.{TrackState}

@@ -1,12 +1,12 @@
 -- A place found among the ends of runs.
-use Rattle.std.proofs.Common.{◌≡◌, ℕ, zero, suc, ◌+◌, ◌-◌, ◌<◌, ◌≤◌, ◌^◌, List, [], ◌∷◌, ◌++◌, Option, Some, None, length, get_or, drop, slice_get, slice_index_or, refl, sym, ap, ◌∙◌, arith, subst, append_assoc}
+use Rattle.std.proofs.Common.{◌≡◌, ℕ, zero, suc, ◌+◌, ◌-◌, ◌<◌, ◌≤◌, List, [], ◌∷◌, ◌++◌, Option, Some, None, length, get_or, drop, slice_get, slice_index_or, refl, sym, ap, ◌∙◌, arith, subst, append_assoc}
 use Rattle.std.proofs.lemmas.List.{append-nil, length-append}
 use Rattle.std.proofs.Math.ListN.{drop_of_length-le}
 use Rattle.frame_meaning.specs.declared.frames.Frame.{Frame}
 use Rattle.frame_meaning.specs.declared.frames.Run.{Run}
 use Rattle.frame_meaning.specs.RunFrames.{run_frames}
 use Rattle.flatten.specs.Ends.{begin_of, ends_of}
-use Rattle.flatten.specs.Strips.{AreFit, BehindSome, frames_of}
+use Rattle.flatten.specs.Strips.{BehindSome, frames_of}
 use Rattle.flatten.proofs.Moving.{drop_past, length-from}
 use Rattle.flatten.proofs.Over.{drop_at}
 
@@ -82,6 +82,7 @@ pub found_spot : (rs : List (Run ℕ)) (es : List ℕ) (place i used : ℕ) → 
 found_spot rs es place i used is found = by_run (slice_get rs i) refl where
   f : IsFound (ends_of 0 rs) place i used
   f = subst (λ (x : List ℕ). IsFound x place i used) is found
+
   by_run : (o : Option (Run ℕ)) → slice_get rs i ≡ o → BehindSome o used
   by_run None e = f.used_at_end (omega (arith, length_ends 0 rs, none_past rs i e))
   by_run (Some r) e =
@@ -94,6 +95,7 @@ pub found_frames : (rs : List (Run ℕ)) (es : List ℕ) (place i used : ℕ) �
 found_frames rs es place i used is found = by_run (slice_get rs i) refl where
   f : IsFound (ends_of 0 rs) place i used
   f = subst (λ (x : List ℕ). IsFound x place i used) is found
+
   by_run : (o : Option (Run ℕ)) → slice_get rs i ≡ o → drop used (frames_of (drop i rs)) ≡ drop place (frames_of rs)
   by_run None e =
       let left : ℕ = place - begin_of 0 (ends_of 0 rs) i in
@@ -121,8 +123,14 @@ pub frames_left : (at : ℕ) (rs : List (Run ℕ)) (i : ℕ) (d : Run ℕ) (all 
 frames_left at rs i d all h same =
     let r : Run ℕ = get_or rs i d in
     let past : i + 1 ≡ suc i = omega arith in
-    omega (arith, same, ap (λ (qs : List (Run ℕ)). length (frames_of qs)) (drop_at rs i d h), length-append (run_frames r) (frames_of (drop (suc i) rs)), length-from r.frame r.len,
-      ap (λ (k : ℕ). length (frames_of (drop k rs))) past)
+    omega (
+      arith,
+      same,
+      ap (λ (qs : List (Run ℕ)). length (frames_of qs)) (drop_at rs i d h),
+      length-append (run_frames r) (frames_of (drop (suc i) rs)),
+      length-from r.frame r.len,
+      ap (λ (k : ℕ). length (frames_of (drop k rs))) past,
+    )
 
 pub ends_last : (done : List ℕ) (at : ℕ) (rs : List (Run ℕ)) (i : ℕ) (meant : List ℕ) → length rs ≤ i → done ++ ends_of at (drop i rs) ≡ meant → done ≡ meant
 ends_last done at rs i meant h same =

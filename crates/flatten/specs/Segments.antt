@@ -3,7 +3,6 @@
 use Rattle.std.specs.Prelude.{◌≡◌, ℕ, ◌+◌, ◌-◌, ◌<◌, ◌≤◌, ◌^◌, Bool, true, false, ◌&&◌, ◌==◌, List, [], ◌∷◌, ◌++◌, Option, Some, None, nat_eq, length, if◌then◌else◌}
 use Rattle.std.specs.List.{flat_map}
 use Rattle.frame_meaning.specs.declared.frames.Side.{Side}
-use Rattle.frame_meaning.specs.declared.frames.Side.TheVariants as side
 use Rattle.frame_meaning.specs.declared.frames.Frame.{Frame}
 use Rattle.frame_meaning.specs.declared.frames.Frame.TheVariants as frame
 use Rattle.frame_meaning.specs.declared.frames.Run.{Run}

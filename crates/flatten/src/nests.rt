@@ -29,12 +29,7 @@ pub fn nest_strips(alloc: Global, table: &Table) -> Result<Listed<Strip>, Memory
     Ok(all)
 }
 
-fn nest_strip(
-    alloc: Global,
-    media: &[Media],
-    nests: &[Strip],
-    nest: &Nest,
-) -> Result<Strip, Memory>
+fn nest_strip(alloc: Global, media: &[Media], nests: &[Strip], nest: &Nest) -> Result<Strip, Memory>
     requires fit { AllFit nests.now }
     requires layers { EachLiesInTrack nest.now.layers }
     ensures { IfOk result (λ all. Show all (nest_frames media.now (map frames_of nests.now) nest.now)) }
@@ -157,12 +152,7 @@ fn add_nest(
     }
 }
 
-fn add_from(
-    all: &mut Listed<Run<u32>>,
-    strip: &Strip,
-    source: u32,
-    len: u32,
-) -> Result<(), Memory>
+fn add_from(all: &mut Listed<Run<u32>>, strip: &Strip, source: u32, len: u32) -> Result<(), Memory>
     requires all { AreFit all.old }
     requires fit { AreFit strip.now }
     ensures added { OnOk result (frames_of all.new ≡ frames_of all.old ++ padded len (drop source (frames_of strip.now))) }

@@ -1,4 +1,4 @@
-use Rattle.std.proofs.Common.{◌≡◌, ℕ, ◌+◌, ◌++◌, List, drop, map, sym, ap, ◌∙◌, subst}
+use Rattle.std.proofs.Common.{ℕ, ◌+◌, ◌++◌, List, drop, map, sym, ap, ◌∙◌, subst}
 use Rattle.frame_meaning.specs.declared.frames.Run.{Run}
 use Rattle.flatten.specs.Nests.{frames_of_nests, track_frames}
 use Rattle.flatten.specs.Strips.{AllFit, frames_of}

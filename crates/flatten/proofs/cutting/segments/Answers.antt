@@ -1,11 +1,10 @@
-use Rattle.std.proofs.Common.{◌≡◌, ℕ, ◌+◌, List, sym, ap, ◌∙◌, arith, subst}
+use Rattle.std.proofs.Common.{◌≡◌, ℕ, ◌+◌, sym, ap, arith, subst}
 use Rattle.frame_meaning.specs.declared.frames.Frame.TheVariants.{Dark}
 use Rattle.frame_meaning.specs.declared.frames.Run.{Run}
-use Rattle.flatten.specs.declared.cutting.Segment.{Segment}
 use Rattle.flatten.specs.Joined.{lens_of}
 use Rattle.flatten.specs.Segments.{AreApart, ArePlaced, EachIsSegment, first_partial}
 use Rattle.flatten.specs.Strips.{frames_of}
-use Rattle.flatten.proofs.CutRuns.{frames_end, frames_more_cut, partial_end, partial_here, partial_more, told, within}
+use Rattle.flatten.proofs.CutRuns.{frames_more_cut, partial_more, told, within}
 use Rattle.flatten.proofs.Segmenting.{apart_joined, each_joined, lens_joined, placed_joined}
 use Rattle.flatten.proofs.cutting.segments.Goals as goal
 

@@ -1,9 +1,9 @@
-use Rattle.std.proofs.Common.{◌≡◌, ℕ, ◌++◌, List, map, sym, ap, ◌∙◌, subst}
+use Rattle.std.proofs.Common.{ℕ, ◌++◌, List, map, sym, ap, ◌∙◌, subst}
 use Rattle.frame_meaning.specs.declared.frames.Frame.{Frame}
 use Rattle.frame_meaning.specs.declared.frames.Run.{Run}
 use Rattle.frame_meaning.specs.RunFrames.{frames_from}
 use Rattle.dissolves.specs.Pieces.{Reaches}
-use Rattle.flatten.specs.Strips.{IsFit, frames_of}
+use Rattle.flatten.specs.Strips.{frames_of}
 use Rattle.flatten.proofs.Parts.{frames_of-push, pushed_fit}
 use Rattle.flatten.proofs.Resolving.{frame_reaches, run_in_nest, run_of_reel}
 use Rattle.flatten.proofs.nests.add_resolved.Goals as goal

@@ -1,4 +1,4 @@
-use Rattle.std.proofs.Common.{◌≡◌, map, sym, ap, ◌∙◌, subst}
+use Rattle.std.proofs.Common.{map}
 use Rattle.flatten.specs.Nests.{layer_frames}
 use Rattle.flatten.specs.Strips.{frames_of}
 use Rattle.flatten.proofs.Building.{fit_more, layer_lies, next_layer, strip_more}

@@ -3,7 +3,7 @@ use Rattle.frame_meaning.specs.declared.frames.Run.{Run}
 use Rattle.composables.specs.declared.media.Media.{Media}
 use Rattle.flatten.specs.Channels.{AreSound}
 use Rattle.flatten.specs.Nests.{frames_of_nests, nest_frames}
-use Rattle.flatten.specs.Strips.{AllFit, frames_of}
+use Rattle.flatten.specs.Strips.{frames_of}
 use Rattle.flatten.proofs.Building.{fit_more, nest_lies, next_nest, strip_more}
 use Rattle.flatten.proofs.nests.nest_strips.Goals as goal
 

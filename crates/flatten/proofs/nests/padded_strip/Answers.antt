@@ -1,4 +1,4 @@
-use Rattle.std.proofs.Common.{◌≡◌, ℕ, List, sym, arith, subst}
+use Rattle.std.proofs.Common.{ℕ, List, sym, arith, subst}
 use Rattle.frame_meaning.specs.declared.frames.Run.{Run}
 use Rattle.flatten.specs.Strips.{Show, frames_of, padded}
 use Rattle.flatten.proofs.Building.{added_to_none, length-added}

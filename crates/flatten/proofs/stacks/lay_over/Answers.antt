@@ -1,4 +1,4 @@
-use Rattle.std.proofs.Common.{◌≡◌, ℕ, ◌++◌, List, sym, ap, subst}
+use Rattle.std.proofs.Common.{ℕ, ◌++◌, List, sym, ap, subst}
 use Rattle.frame_meaning.specs.declared.frames.Frame.TheVariants.{Dark}
 use Rattle.frame_meaning.specs.declared.frames.Run.{Run}
 use Rattle.flatten.specs.Strips.{AreFit, frames_of, laid_over}

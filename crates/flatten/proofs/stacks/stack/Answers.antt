@@ -1,4 +1,4 @@
-use Rattle.std.proofs.Common.{sym, ◌∙◌, subst}
+use Rattle.std.proofs.Common.{sym, subst}
 use Rattle.flatten.specs.Strips.{AreFit}
 use Rattle.flatten.proofs.Over.{each_fit}
 use Rattle.flatten.proofs.stacks.stack.Goals as goal

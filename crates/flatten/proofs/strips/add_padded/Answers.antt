@@ -1,8 +1,7 @@
 use Rattle.std.proofs.Common.{◌∙◌, arith, refl}
 use Rattle.frame_meaning.specs.declared.frames.Frame.TheVariants.{Dark}
-use Rattle.frame_meaning.specs.declared.frames.Run.{Run}
 use Rattle.flatten.specs.Strips.{left_from}
-use Rattle.flatten.proofs.Parts.{added_dark, added_part, pushed_fit, passed_none, passed_part}
+use Rattle.flatten.proofs.Parts.{added_dark, added_part, pushed_fit, passed_part}
 use Rattle.flatten.proofs.strips.add_padded.Goals as goal
 
 pub loop-left-smaller : goal.loop-left-smaller

@@ -3,7 +3,7 @@ use Rattle.frame_meaning.specs.declared.frames.Frame.{Frame}
 use Rattle.frame_meaning.specs.declared.frames.Run.{Run}
 use Rattle.frame_meaning.specs.RunFrames.{frames_from}
 use Rattle.dissolves.specs.Pieces.{Reaches}
-use Rattle.flatten.specs.Strips.{BehindSome, IsFit, frames_of, moved_frame}
+use Rattle.flatten.specs.Strips.{frames_of}
 use Rattle.flatten.proofs.Moving.{reaches_less, reaches_moved}
 use Rattle.flatten.proofs.Parts.{at_start, behind, fit_at, front_part, none_left, still_behind, whole_part}
 use Rattle.flatten.proofs.strips.part_at.Goals as goal
