@@ -15,6 +15,7 @@ use Rattle.edit_journal.specs.Seats.{Opening, Begins}
 use Rattle.edit_journal.specs.Turns.{Known, StandsIn, last_of}
 use Rattle.edit_journal.proofs.Lasts.{above_last}
 use Rattle.track_locks.specs.Homes.{IsAt, IsHistory, StandFor}
+use Rattle.track_locks.proofs.Several.{within}
 use Rattle.track_locks.proofs.Stands.{one_at}
 use Rattle.cut_room.specs.Desks.{told}
 use Rattle.cut_room.specs.Held.{ComesTo}
@@ -27,7 +28,7 @@ pub comes_to : {A : Type 0} (o : Option A) → IsSome o → (a : A) × (o ≡ So
 comes_to None h = absurd (Prim.grind (arith, h))
 comes_to (Some a) h = (a, refl)
 
-is_some : {A : Type 0} (o : Option A) (a : A) → o ≡ Some a → IsSome o
+pub is_some : {A : Type 0} (o : Option A) (a : A) → o ≡ Some a → IsSome o
 is_some o a h = rw h refl
 
 -- the history is legal for this opening
@@ -94,15 +95,10 @@ held_parts {O} {P} {C} meaning opens opening o entries ns ps vs is history stand
       now = now.0;
       comes = now.1;
       picked_is = parts_at now.0 ns ps parts (λ k n p a b.
-          let lt : k < length ps = in_range ps k p b in
+          let lt : k < length ps = within ps k p b in
           let v = one_at vs k (omega (arith, lt, parts, versions)) in
           stands_at meaning opening o entries now.0 n p is now.1 (stand k n p v.0 a b v.1).0);
     }
-  where
-    in_range : {A : Type 0} (xs : List A) (k : ℕ) (x : A) → slice_get xs k ≡ Some x → k < length xs
-    in_range [] k x h = absurd (Prim.grind (arith, h))
-    in_range (y ∷ xs) zero x h = omega arith
-    in_range (y ∷ xs) (suc k) x h = let r = in_range xs k x h in omega (arith, r)
 
 -- what a call answers on the parts that it names it answers on all
 pub done_whole : {P C D R : Type 0} (m : Meaning P C D R) (now ps ts : List P) (c : C) (ns : List ℕ) (d : D) → m.refuses c ≡ None → ns ≡ m.names c → picked now ns ≡ ps
@@ -222,3 +218,30 @@ committed {O} {P} {C} meaning opens opening o entries e before after point ns ps
       applies = all;
       own = ap (λ (l : List (Entry C)). of_station before.number l) same ∙ (own_more before.number entries e own ∙ ap (λ l. l ++ e ∷ []) (sym a.same));
     }
+
+one_picked : {P : Type 0} (o : Option P) (p : P) → with_picked o [] ≡ p ∷ [] → o ≡ Some p
+one_picked None p h = absurd (Prim.grind (arith, h))
+one_picked (Some q) p h = let same : q ≡ p = Prim.grind (arith, h) in ap Some same
+
+pub one_long : {A : Type 0} (xs : List A) → length xs ≡ 1 → (x : A) × (xs ≡ x ∷ [])
+one_long [] h = absurd (omega (arith, h))
+one_long (x ∷ []) h = (x, refl)
+one_long (x ∷ y ∷ ys) h = absurd (omega (arith, h))
+
+-- a question is answered from the part that is held for it
+pub sight_of : {O P C D R S Q : Type 0} (m : Meaning P C D R) (opening : List P) (asked : Result ℕ Q) (seen : P → Result S Q) (before after : Known O P C) (point n : ℕ)
+    (p : P) (answer : Result S Q) → IsAtPoint m opening before after point → ComesTo m opening after.entries (n ∷ []) (p ∷ []) → asked ≡ Ok n → seen p ≡ answer
+    → IsSight m opening asked seen before after point answer
+sight_of m opening asked seen before after point n p answer at comes part is = record {
+  at = at;
+  parts = comes.now;
+  comes = comes.comes;
+  told_is = ap (λ a. told a seen comes.now) part ∙ (ap (λ o. option_map seen o) (one_picked (slice_get comes.now n) p comes.picked_is) ∙ ap Some is);
+}
+
+-- and one about no part, by the object alone
+pub sight_of_none : {O P C D R S Q : Type 0} (m : Meaning P C D R) (opening : List P) (asked : Result ℕ Q) (seen : P → Result S Q) (before after : Known O P C) (point : ℕ) (r : Q)
+    → IsAtPoint m opening before after point → asked ≡ Err r → IsSight m opening asked seen before after point (Err r)
+sight_of_none m opening asked seen before after point r at none =
+    let now = comes_to (replay (whole m) opening after.entries) at.legal.applies in
+    record { at = at; parts = now.0; comes = now.1; told_is = ap (λ a. told a seen now.0) none }

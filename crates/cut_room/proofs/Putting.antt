@@ -7,17 +7,17 @@ use Rattle.std.proofs.lemmas.List.Elements.{filter-append}
 use Rattle.std.proofs.lemmas.Bool.Decides.{nat_tests}
 use Rattle.std.proofs.lemmas.Option.{get_or_from_slice_get}
 use Rattle.room_core.specs.declared.entry.Entry.{Entry}
-use Rattle.room_core.specs.History.{replay, IsLegal}
+use Rattle.room_core.specs.History.{replay, IsLegal, most_entries}
 use Rattle.room_core.specs.Parts.{AreGood, AscendBetween, numbers}
 use Rattle.room_core.specs.Projection.{of_part}
 use Rattle.room_core.specs.Whole.{Meaning, put_back, whole}
 use Rattle.edit_journal.specs.Seats.{Opening}
-use Rattle.edit_journal.specs.Turns.{Known}
+use Rattle.edit_journal.specs.Turns.{Known, last_of}
 use Rattle.track_locks.specs.Homes.{IsAt, IsVersion, IsHistory, IsHome, AreHomes, AreGoodAt, StandFor}
 use Rattle.track_locks.proofs.Several.{within}
 use Rattle.track_locks.proofs.Stands.{one_at, homes_again}
 use Rattle.cut_room.specs.Held.{ComesTo}
-use Rattle.cut_room.proofs.Passes.{stands_at}
+use Rattle.cut_room.proofs.Passes.{stands_at, done_whole, more_comes, legal_more, legal_of}
 
 get-set : {A : Type 0} (xs : List A) (n : ℕ) (x : A) → n < length xs → slice_get (slice_set xs n x) n ≡ Some x
 get-set [] n x lt = absurd (omega (arith, lt))
@@ -132,6 +132,20 @@ pub homes_back : {O P C D R : Type 0} (meaning : O → Meaning P C D R) (opens :
 homes_back meaning opens opening now_opening entries now_entries ns ps vs ss parts versions stand history same a b know =
     homes_again meaning opens opening entries ns ps vs ss parts versions stand history same (know_as ss now_opening opening now_entries entries a b know)
 
+-- the entry applies where its call was done on the parts that the journal comes to
+pub applies_there : {P C D R : Type 0} (m : Meaning P C D R) (opening : List P) (entries : List (Entry C)) (e : Entry C) (ns : List ℕ) (ps ts : List P) (d : D)
+    → ComesTo m opening entries ns ps → m.refuses e.call ≡ None → ns ≡ m.names e.call → m.applied ps e.call ≡ Ok (ts, d)
+    → (now : List P) × (replay (whole m) opening entries ≡ Some now) × (replay (whole m) opening (entries ++ e ∷ []) ≡ Some (put_back now ns ts))
+applies_there m opening entries e ns ps ts d comes none names done =
+    let all = done_whole m comes.now ps ts e.call ns d none names comes.picked_is done in
+    (comes.now, comes.comes, more_comes m opening comes.now (put_back comes.now ns ts) entries e d comes.comes all)
+
+pub history_more : {O P C D R : Type 0} (meaning : O → Meaning P C D R) (opens : O → List P → Type 0) (opening : Option (Opening O P)) (o : Opening O P) (entries : List (Entry C)) (e : Entry C) (now : List P)
+    → opening ≡ Some o → opens o.0 o.1 → IsHistory meaning opens opening entries → replay (whole (meaning o.0)) o.1 (entries ++ e ∷ []) ≡ Some now
+    → length entries < most_entries → last_of e.station entries < e.number → IsHistory meaning opens opening (entries ++ e ∷ [])
+history_more meaning opens opening o entries e now is can history more few above =
+    (o, is, can, legal_more (meaning o.0) o.1 now entries e (legal_of meaning opens opening o entries is history) more few above)
+
 -- what is good for the object is good for the opening's
 pub good_for : {O P : Type 0} (good : O → ℕ → P → Type 0) (opening : Option (Opening O P)) (o : Opening O P) (ns : List ℕ) (ps : List P) → opening ≡ Some o
     → AreGood (good o.0) ns ps → AreGoodAt good opening ns ps
@@ -154,6 +168,6 @@ roomy_homes {O} {P} {C} meaning opens roomy opening o ns ps vs ss is homes law =
     let first = one_opening opening home.history.0 o home.history.1 is in
     let legal : IsLegal (whole (meaning o.0)) o.1 s.0.entries = subst (λ (q : Opening O P). IsLegal (whole (meaning q.0)) q.1 s.0.entries) first home.history.3 in
     let one = law s.0.entries at.2 legal comes n.0 p.0 (within at.2 n.0 p.0 at.4) in
-    let here : get_or at.2 n.0 p.0 ≡ p.0 = get_or_from_slice_get at.2 n.0 p.0 p.0 at.4 in
-    let there : get_or ps k d ≡ p.0 = get_or_from_slice_get ps k p.0 d p.1 in
-    subst (roomy o.0) (here ∙ sym there) one
+    let first_is : get_or at.2 n.0 p.0 ≡ p.0 = get_or_from_slice_get at.2 n.0 p.0 p.0 at.4 in
+    let then_is : get_or ps k d ≡ p.0 = get_or_from_slice_get ps k p.0 d p.1 in
+    subst (roomy o.0) (first_is ∙ sym then_is) one

@@ -66,7 +66,7 @@ module _ {O P C D R : Type 0} (m : Meaning P C D R) (opening : List P) where
     pub done : D
     pub applies : whole m parts call ≡ Ok (now, done)
 
-  -- these parts are picked by their numbers from what the entries come to
+  -- a question is answered so by what all entries that the pass knows now come to
   pub record IsSight {S Q : Type 0} (asked : Result ℕ Q) (seen : P → Result S Q) (before after : Known O P C) (point : ℕ) (answer : Result S Q) : Type 0 where
     pub at : IsAtPoint before after point
     pub parts : List P

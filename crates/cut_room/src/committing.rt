@@ -47,6 +47,7 @@ pub fn append<O: PartObject, J: Naming<O, O::Part>>(
     requires above { last_of entry.station turn.old.journal.entries < entry.number }
     requires applies { Applies O.meaning turn.old.journal entry }
     ensures appends { Appends entry turn.old turn.new result }
+    ensures same { (turn.new.journal.names ≡ turn.old.journal.names) × (turn.new.journal.opening ≡ turn.old.journal.opening) }
     ensures tokens { turn.new.tokens ≡ turn.old.tokens }
 {
     match turn.reserve(alloc) {

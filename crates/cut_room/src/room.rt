@@ -244,7 +244,7 @@ impl<O: PartObject + Drop, J: Naming<O, O::Part>> Room<O, J> {
         requires good_now { AreGood (O.good self.now.0) held.numbers parts.items }
         ensures edited { Edited (O.meaning self.now.0) self.now.1 entry pass result.0 result.1 }
     {
-        let station = entry.station;
+        let station = pass.station();
         let mut turn = self.journal.lock(rt);
         gather(&mut turn, &mut held, pass);
         let appended = append(alloc, &mut turn, entry);
