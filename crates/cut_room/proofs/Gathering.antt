@@ -11,7 +11,7 @@ use Rattle.edit_journal.specs.Turns.{AtJournal, Known, Open, IsJournal, AllAgree
 use Rattle.edit_journal.proofs.Fresh.{without_other, no_part, in_last}
 use Rattle.track_locks.specs.Homes.{AreHomes, HeldParts, IsHistory, all_gathered, all_given}
 use Rattle.track_locks.proofs.Stands.{stand_for, gathered_names}
-use Rattle.cut_room.specs.Held.{IsGathered}
+use Rattle.cut_room.specs.Gathered.{IsGathered}
 
 in_left : {A : Type 0} (x : A) (xs ys : List A) → In x xs → In x (xs ++ ys)
 in_left x [] ys i = absurd i

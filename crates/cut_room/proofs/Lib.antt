@@ -3,3 +3,4 @@ pub mod Numbered
 pub mod Gathering
 pub mod Passes
 pub mod Putting
+pub mod Cuts

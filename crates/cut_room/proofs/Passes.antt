@@ -18,7 +18,7 @@ use Rattle.track_locks.specs.Homes.{IsAt, IsHistory, StandFor}
 use Rattle.track_locks.proofs.Several.{within}
 use Rattle.track_locks.proofs.Stands.{one_at}
 use Rattle.cut_room.specs.Desks.{told}
-use Rattle.cut_room.specs.Held.{ComesTo}
+use Rattle.cut_room.specs.Gathered.{ComesTo}
 use Rattle.cut_room.specs.Rooms.{GoesOn, Stays, IsAtPoint, IsCommitted, IsTurnedDown, FindsNoRoom, IsSight}
 
 one_opening : {A : Type 0} (o : Option A) (a b : A) → o ≡ Some a → o ≡ Some b → a ≡ b

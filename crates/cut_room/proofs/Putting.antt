@@ -16,7 +16,7 @@ use Rattle.edit_journal.specs.Turns.{Known, last_of}
 use Rattle.track_locks.specs.Homes.{IsAt, IsVersion, IsHistory, IsHome, AreHomes, AreGoodAt, StandFor}
 use Rattle.track_locks.proofs.Several.{within}
 use Rattle.track_locks.proofs.Stands.{one_at, homes_again}
-use Rattle.cut_room.specs.Held.{ComesTo}
+use Rattle.cut_room.specs.Gathered.{ComesTo}
 use Rattle.cut_room.proofs.Passes.{stands_at, done_whole, more_comes, legal_more, legal_of}
 
 get-set : {A : Type 0} (xs : List A) (n : ℕ) (x : A) → n < length xs → slice_get (slice_set xs n x) n ≡ Some x

@@ -1,3 +1,3 @@
 pub mod Desks
-pub mod Held
+pub mod Gathered
 pub mod Rooms

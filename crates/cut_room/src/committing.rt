@@ -4,7 +4,7 @@ ghost use Rattle.edit_journal.specs.declared.name.Name.TheVariants.{Part, Statio
 ghost use Rattle.edit_journal.specs.Seats.{In};
 ghost use Rattle.edit_journal.specs.Turns.{Applies, HasNames, last_of};
 ghost use Rattle.track_locks.specs.Homes.{AreHomes};
-ghost use Rattle.cut_room.specs.Held.{Appends, IsGathered};
+ghost use Rattle.cut_room.specs.Gathered.{Appends, IsGathered};
 
 use edit_journal::{Naming, Pass, Turn};
 use room_core::{Entry, PartObject};

@@ -1,13 +1,13 @@
 // A room of many stations: an object, the locks of its parts, and its journal.
-ghost use Rattle.std.specs.Prelude.{◌≡◌, ◌<◌, ◌≤◌, ◌+◌, ◌*◌, ℕ, List, None, Ok, All, IfOk, length, map, sum_by, take};
-ghost use Rattle.room_core.specs.History.{IsLegal, replay};
+ghost use Rattle.std.specs.Prelude.{◌≡◌, ◌<◌, ◌≤◌, ℕ, None, Some, Ok, All, IfOk, length, map};
+ghost use Rattle.room_core.specs.History.{IsLegal};
 ghost use Rattle.room_core.specs.Parts.{AreGood};
-ghost use Rattle.room_core.specs.Whole.{picked, whole};
+ghost use Rattle.room_core.specs.Whole.{whole};
 ghost use Rattle.edit_journal.specs.declared.name.Name.TheVariants.{Station};
 ghost use Rattle.edit_journal.specs.Seats.{Agrees, In};
 ghost use Rattle.edit_journal.specs.Turns.{AreFresh, last_of};
 ghost use Rattle.track_locks.specs.Homes.{AreGoodAt, AreHomes};
-ghost use Rattle.cut_room.specs.Held.{ComesTo};
+ghost use Rattle.cut_room.specs.Gathered.{ComesTo};
 ghost use Rattle.cut_room.specs.Rooms.{Edited, IsAtPoint, IsCut, Looked};
 
 use crate::committing::{Appended, append, gather, give_back};
@@ -44,8 +44,6 @@ impl<O: PartObject> Model for RoomBlank<O> {
 }
 
 impl<O: PartObject + Drop> RoomBlank<O> {
-    ghost use Rattle.std.specs.Prelude.{◌≡◌, ◌<◌, ◌≤◌, Some, IfOk};
-
     /// A room over these parts, for so many stations, that is not open yet.
     pub fn new(
         alloc: Global,
@@ -101,8 +99,6 @@ impl<O: PartObject, J: Naming<O, O::Part>> Model for Room<O, J> {
 }
 
 impl<O: PartObject + Drop, J: Naming<O, O::Part>> Room<O, J> {
-    ghost use Rattle.std.specs.Prelude.{◌≡◌, ◌<◌, ◌≤◌, ◌+◌, ◌*◌, ℕ, List, None, Ok, Some, All, IfOk, length, map, sum_by, take};
-
     /// Opens a room, with a pass for each station, in ascending order.
     pub fn open(
         alloc: Global,

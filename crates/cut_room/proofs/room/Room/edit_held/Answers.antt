@@ -6,7 +6,8 @@ use Rattle.cut_room.proofs.room.Room.edit_held.Goals as goal
 pub apply-requires-clause-good : goal.apply-requires-clause-good
 apply-requires-clause-good g c =
     let s = c.self.inside in
-    rw (c.in-Ok.ensures, ← (rw (← c.self.view_is) at c.requires.numbers)) (c.requires.good (s.object, s.opening.items) c.self.invariant.0)
+    let names = rw (← c.self.view_is) at c.requires.numbers in
+    rw (c.in-Ok.ensures, ← names) (c.requires.good (s.object, s.opening.items) c.self.invariant.0)
 
 pub apply-requires-clause-roomy : goal.apply-requires-clause-roomy
 apply-requires-clause-roomy g c =

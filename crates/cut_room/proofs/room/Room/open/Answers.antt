@@ -2,4 +2,4 @@ use Rattle.std.proofs.Common.{sym, ap, ◌∙◌}
 use Rattle.cut_room.proofs.room.Room.open.Goals as goal
 
 pub new-requires-clause-opening : goal.new-requires-clause-opening
-new-requires-clause-opening g c = rw (← c.blank.view_is) at c.requires.opening ∙ c.blank.invariant.0
+new-requires-clause-opening g c = let o = rw (← c.blank.view_is) at c.requires.opening in o ∙ c.blank.invariant.0
