@@ -1,13 +1,15 @@
 -- A room of many stations: what the pass of a station knows before and after a call, and what the calls answer. A pass
 -- knows the entries that stood in the journal when the station last had an answer.
-use Rattle.std.specs.Prelude.{◌≡◌, ℕ, ◌<◌, ◌≤◌, List, [], ◌∷◌, ◌++◌, Vec, Some, Result, Ok, Err, length, take}
+use Rattle.std.specs.Prelude.{◌≡◌, ℕ, ◌+◌, ◌*◌, ◌<◌, ◌≤◌, List, [], ◌∷◌, ◌++◌, Vec, Some, Result, Ok, Err, length, take, sum_by}
 use Rattle.std.specs.Global.{Global}
 use Rattle.room_core.specs.declared.entry.Entry.{Entry}
 use Rattle.room_core.specs.History.{replay, IsLegal, most_entries}
 use Rattle.room_core.specs.Projection.{of_station}
-use Rattle.room_core.specs.Whole.{Meaning, whole}
+use Rattle.room_core.specs.Whole.{Meaning, picked, whole}
 use Rattle.edit_journal.specs.Seats.{Begins}
 use Rattle.edit_journal.specs.Turns.{Known}
+use Rattle.edit_journal.specs.declared.log.CopyFault.{CopyFault}
+use Rattle.edit_journal.specs.Faults.{SaysNoPoint}
 use Rattle.cut_room.specs.declared.answers.Answer.{Answer}
 use Rattle.cut_room.specs.declared.answers.Answer.TheVariants as answer
 use Rattle.cut_room.specs.declared.answers.Sight.{Sight}
@@ -80,11 +82,28 @@ Edited m opening entry before after (answer.Refused point refusal) = IsTurnedDow
 Edited m opening entry before after (answer.Full point) = FindsNoRoom m opening entry.call before after point
 Edited m opening entry before after answer.Memory = Stays m opening before after
 
+-- the entries that stood before the point of an edit's answer, of those that the pass knows then
+abbrev pub stood_before : {O P C D R A S Q : Type 0} → List (Entry C) → Answer O P C D R A S Q → List (Entry C)
+stood_before entries (answer.Done point done) = take point entries
+stood_before entries (answer.Refused point refusal) = entries
+stood_before entries (answer.Full point) = entries
+stood_before entries answer.Memory = entries
+
+-- a call takes steps by the sizes of the parts that it names, as these entries left them
+abbrev pub TakesAtMost : {P C D R : Type 0} → Meaning P C D R → List P → (P → ℕ) → C → List (Entry C) → ℕ → ℕ → Type 0
+TakesAtMost {P} m opening size call entries before after = (parts : List P) → replay (whole m) opening entries ≡ Some parts
+    → after ≤ before + 32 * sum_by (λ p. size p + 64) (picked parts (m.names call))
+
 -- what a question is answered
 abbrev pub Looked : {O P C D R A S Q : Type 0} → Meaning P C D R → List P → Result ℕ Q → (P → Result S Q) → Known O P C → Known O P C → Sight O P C D R A S Q → Type 0
 Looked m opening asked seen before after (sight.Seen point what) = IsSight m opening asked seen before after point (Ok what)
 Looked m opening asked seen before after (sight.Refused point refusal) = IsSight m opening asked seen before after point (Err refusal)
 Looked m opening asked seen before after sight.Memory = Stays m opening before after
+
+-- the first so many of these entries, or why they were not copied
+abbrev pub IsCopied : {C : Type 0} → ℕ → List (Entry C) → Result (Vec (Entry C) Global) CopyFault → Type 0
+IsCopied n entries (Ok copied) = (copied.items ≡ take n entries) × (n ≤ length entries)
+IsCopied n entries (Err f) = SaysNoPoint f n (length entries)
 
 -- the parts after so many of the entries that the pass knows now
 abbrev pub IsCut : {O P C D R : Type 0} → Meaning P C D R → List P → ℕ → Known O P C → Known O P C → Result (Vec P Global) CutFault → Type 0

@@ -1,14 +1,15 @@
 // A room of many stations: an object, the locks of its parts, and its journal.
-ghost use Rattle.std.specs.Prelude.{◌≡◌, ◌<◌, ◌≤◌, ℕ, None, Some, Ok, All, IfOk, length, map};
-ghost use Rattle.room_core.specs.History.{IsLegal};
-ghost use Rattle.room_core.specs.Parts.{AreGood};
+ghost use Rattle.std.specs.Prelude.{◌≡◌, ◌<◌, ◌≤◌, ℕ, None, Some, Ok, All, IfErr, IfOk, IsSome, length, map, take};
+ghost use Rattle.room_core.specs.History.{IsLegal, most_entries, replay};
+ghost use Rattle.room_core.specs.Parts.{AreGood, numbers};
 ghost use Rattle.room_core.specs.Whole.{whole};
 ghost use Rattle.edit_journal.specs.declared.name.Name.TheVariants.{Station};
 ghost use Rattle.edit_journal.specs.Seats.{Agrees, In};
 ghost use Rattle.edit_journal.specs.Turns.{AreFresh, last_of};
 ghost use Rattle.track_locks.specs.Homes.{AreGoodAt, AreHomes};
 ghost use Rattle.cut_room.specs.Gathered.{ComesTo};
-ghost use Rattle.cut_room.specs.Rooms.{Edited, IsAtPoint, IsCut, Looked};
+ghost use Rattle.cut_room.specs.declared.answers.CutFault.TheVariants.{Memory as NoMemory};
+ghost use Rattle.cut_room.specs.Rooms.{Edited, IsAtPoint, IsCopied, IsCut, Looked, TakesAtMost, stood_before};
 
 use crate::committing::{Appended, append, gather, give_back};
 use crate::{Answer, CutFault, Sight};
@@ -154,6 +155,7 @@ impl<O: PartObject + Drop, J: Naming<O, O::Part>> Room<O, J> {
     ) -> (Pass<O, J>, Answer<O>)
         requires number { last_of pass.number pass.entries < number }
         ensures edited { Edited (O.meaning self.now.0) self.now.1 (record { station = pass.number; number = number; call = call }) pass result.0 result.1 }
+        ensures most { TakesAtMost (O.meaning self.now.0) self.now.1 O.size call (stood_before result.0.entries result.1) steps.old steps.new }
     {
         match self.object.refuse_names(&call) {
             Some(refusal) => {
@@ -194,6 +196,7 @@ impl<O: PartObject + Drop, J: Naming<O, O::Part>> Room<O, J> {
         requires station { entry.station ≡ pass.number }
         requires number { last_of pass.number pass.entries < entry.number }
         ensures edited { Edited (O.meaning self.now.0) self.now.1 entry pass result.0 result.1 }
+        ensures most { TakesAtMost (O.meaning self.now.0) self.now.1 O.size entry.call (stood_before result.0.entries result.1) steps.old steps.new }
     {
         let mut parts = match held.copy(alloc, &self.object) {
             Ok(parts) => parts,
@@ -239,6 +242,7 @@ impl<O: PartObject + Drop, J: Naming<O, O::Part>> Room<O, J> {
         requires applies { (O.meaning self.now.0).applied held.parts entry.call ≡ Ok (parts.items, done) }
         requires good_now { AreGood (O.good self.now.0) held.numbers parts.items }
         ensures edited { Edited (O.meaning self.now.0) self.now.1 entry pass result.0 result.1 }
+        ensures parts { ComesTo (O.meaning self.now.0) self.now.1 (stood_before result.0.entries result.1) held.entry.numbers held.entry.parts }
     {
         let station = pass.station();
         let mut turn = self.journal.lock(rt);
@@ -275,7 +279,7 @@ impl<O: PartObject + Drop, J: Naming<O, O::Part>> Room<O, J> {
         requires good { AreGoodAt O.good J.opening held.numbers held.parts }
         requires few { length held.numbers ≤ 32 }
         ensures at { IsAtPoint (O.meaning self.now.0) self.now.1 pass result.0 result.1 }
-        ensures parts { ComesTo (O.meaning self.now.0) self.now.1 result.0.entries held.numbers held.parts }
+        ensures parts { ComesTo (O.meaning self.now.0) self.now.1 result.0.entries held.entry.numbers held.entry.parts }
     {
         let station = pass.station();
         let mut turn = self.journal.lock(rt);
@@ -319,6 +323,27 @@ impl<O: PartObject + Drop, J: Naming<O, O::Part>> Room<O, J> {
         }
     }
 
+    // The first `n` entries, as they stand at a look.
+    fn copied<R: Wait>(
+        &self,
+        rt: &R,
+        alloc: Global,
+        pass: Pass<O, J>,
+        n: u32,
+    ) -> (Pass<O, J>, Result<Vec<Entry<O::Call>>, CopyFault>)
+        ensures at { IsAtPoint (O.meaning self.now.0) self.now.1 pass result.0 (length result.0.entries) }
+        ensures copied { IsCopied n result.0.entries result.1 }
+    {
+        let station = pass.station();
+        let mut turn = self.journal.lock(rt);
+        turn.gather_pass(pass);
+        turn.look();
+        let entries = turn.copy_to(alloc, &self.object, n);
+        let pass = turn.give_pass(station);
+        turn.release();
+        (pass, entries)
+    }
+
     /// The parts after the first `n` entries.
     pub fn cut_at<R: Wait>(
         &self,
@@ -328,23 +353,36 @@ impl<O: PartObject + Drop, J: Naming<O, O::Part>> Room<O, J> {
         n: u32,
     ) -> (Pass<O, J>, Result<Vec<O::Part>, CutFault>)
         ensures cut { IsCut (O.meaning self.now.0) self.now.1 n pass result.0 result.1 }
+        ensures good { IfOk result.1 (λ parts. AreGood (O.good self.now.0) (numbers 0 (O.count self.now.0)) parts.items) }
     {
-        let station = pass.station();
-        let mut turn = self.journal.lock(rt);
-        turn.gather_pass(pass);
-        turn.look();
-        let entries = turn.copy_to(alloc, &self.object, n);
-        let pass = turn.give_pass(station);
-        turn.release();
-        let entries = match entries {
-            Ok(entries) => entries,
-            Err(CopyFault::NoPoint(length)) => return (pass, Err(CutFault::NoPoint(length))),
-            Err(CopyFault::Memory) => return (pass, Err(CutFault::Memory)),
-        };
-        match replay(alloc, &self.object, &self.opening, &entries, n) {
-            Ok(parts) => (pass, Ok(parts)),
+        let (pass, entries) = self.copied(rt, alloc, pass, n);
+        match entries {
+            Ok(entries) => {
+                let parts = self.replayed(alloc, &entries, n);
+                (pass, parts)
+            }
+            Err(CopyFault::NoPoint(length)) => (pass, Err(CutFault::NoPoint(length))),
+            Err(CopyFault::Memory) => (pass, Err(CutFault::Memory)),
+        }
+    }
+
+    // What the first `n` of entries that apply come to.
+    fn replayed(
+        &self,
+        alloc: Global,
+        entries: &[Entry<O::Call>],
+        n: u32,
+    ) -> Result<Vec<O::Part>, CutFault>
+        requires within { (n ≤ length entries.now) × (n ≤ most_entries) }
+        requires applies { IsSome (replay (whole (O.meaning self.now.0)) self.now.1 entries.now) }
+        ensures good { IfOk result (λ parts. AreGood (O.good self.now.0) (numbers 0 (O.count self.now.0)) parts.items) }
+        ensures parts { IfOk result (λ ps. replay (whole (O.meaning self.now.0)) self.now.1 (take n entries.now) ≡ Some ps.items) }
+        ensures fault { IfErr result (λ f. f ≡ NoMemory) }
+    {
+        match replay(alloc, &self.object, &self.opening, entries, n) {
+            Ok(parts) => Ok(parts),
             Err(ReplayFault::Refused(_)) => unreachable!(),
-            Err(ReplayFault::Memory) => (pass, Err(CutFault::Memory)),
+            Err(ReplayFault::Memory) => Err(CutFault::Memory),
         }
     }
 

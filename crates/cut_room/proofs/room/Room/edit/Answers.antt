@@ -17,13 +17,11 @@ edit_held-requires-clause-numbers g c =
     (c.in-Ok.ensures.numbers
     ∙ members_of s.tracks c.names-set.result names (omega (arith, law.1, count)) (subst (λ k. AscendBetween 0 k names) count named.ascend) (sym c.names-set.ensures))
 
-pub returns-in-Some : goal.returns-in-Some
-returns-in-Some g c =
+pub returns-in-Some-clause-edited : goal.returns-in-Some-clause-edited
+returns-in-Some-clause-edited g c =
     let s = c.self.inside in
-    rw (← c.self.view_is) record {
-      edited = turned_down_first (g.O.PartObject.meaning s.object) s.opening.items c.args.call c.args.pass c.point.result.0 c.point.result.1 c.in-Some.refusal
-          (rw (← c.self.view_is) at c.point.ensures.at) (sym c.refuse_names.ensures ∙ c.in-Some.is);
-    }
+    rw (← c.self.view_is) (turned_down_first (g.O.PartObject.meaning s.object) s.opening.items c.args.call c.args.pass c.point-pass.result.0 c.point-pass.result.1 c.in-Some.refusal
+          (rw (← c.self.view_is) at c.point-pass.ensures.at) (sym c.refuse_names.ensures ∙ c.in-Some.is))
 
-pub returns-in-Err : goal.returns-in-Err
-returns-in-Err g c = record { edited = stays_same _ _ c.args.pass }
+pub returns-in-Err-clause-edited : goal.returns-in-Err-clause-edited
+returns-in-Err-clause-edited g c = stays_same _ _ c.args.pass

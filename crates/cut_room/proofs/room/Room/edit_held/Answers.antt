@@ -17,16 +17,14 @@ apply-requires-clause-roomy g c =
     (roomy_homes g.O.PartObject.meaning g.O.PartObject.opens g.O.PartObject.roomy g.J.Naming.opening (s.object, s.opening.items) h.numbers h.parts h.versions h.seats c.self.invariant.0 c.requires.homes
     (λ entries now legal comes. g.met.O.PartObject.stays_roomy s.object s.opening.items now entries c.self.invariant.1 legal comes))
 
-pub returns-in-Err : goal.returns-in-Err
-returns-in-Err g c = record { edited = stays_same _ _ c.args.pass }
+pub returns-in-Err-clause-edited : goal.returns-in-Err-clause-edited
+returns-in-Err-clause-edited g c = stays_same _ _ c.args.pass
 
-pub returns-in-Err-Refused : goal.returns-in-Err-Refused
-returns-in-Err-Refused g c =
+pub returns-in-Err-Refused-clause-edited : goal.returns-in-Err-Refused-clause-edited
+returns-in-Err-Refused-clause-edited g c =
     let s = c.self.inside in
     let h = c.args.held in
     let meant = rw c.in-Err-Refused.field-0-is at c.in-Err-Refused.ensures.meant in
-    rw (← c.self.view_is) record {
-      edited = turned_down (g.O.PartObject.meaning s.object) s.opening.items c.args.entry.call c.args.pass c.look.result.0 c.look.result.1 h.numbers h.parts c.in-Err-Refused.refusal
+    rw (← c.self.view_is) (turned_down (g.O.PartObject.meaning s.object) s.opening.items c.args.entry.call c.args.pass c.look.result.0 c.look.result.1 h.numbers h.parts c.in-Err-Refused.refusal
           (rw (← c.self.view_is) at c.look.ensures.at) (rw (← c.self.view_is) at c.look.ensures.parts)
-          (rw (← c.self.view_is) at c.requires.named) (rw (← c.self.view_is) at c.requires.numbers) (rw c.in-Ok.ensures at meant.0);
-    }
+          (rw (← c.self.view_is) at c.requires.named) (rw (← c.self.view_is) at c.requires.numbers) (rw c.in-Ok.ensures at meant.0))

@@ -12,8 +12,8 @@ give_back-pass-requires-clause-station g c = rw c.station-station.ensures.number
 pub give_back-pass-requires-clause-tokens : goal.give_back-pass-requires-clause-tokens
 give_back-pass-requires-clause-tokens g c = rw c.gather-point.ensures.seats c.gather-point.ensures.gathered.tokens
 
-pub release-requires-clause-homes : goal.release-requires-clause-homes
-release-requires-clause-homes g c =
+pub release-requires-2-clause-homes : goal.release-requires-2-clause-homes
+release-requires-2-clause-homes g c =
     let h = c.args.held in
     let all = c.gather-point.ensures.gathered in
     let back = c.give_back-pass.ensures in
@@ -23,8 +23,8 @@ release-requires-clause-homes g c =
     (homes_back g.O.PartObject.meaning g.O.PartObject.opens g.J.Naming.opening journal.opening journal.entries journal.entries h.numbers h.parts h.versions c.give_back-pass.new.held.seats
     c.requires.homes.parts c.requires.homes.versions all.parts_stand all.journal (back.seats ∙ ap (λ h. h.numbers) same) all.opening_is refl back.know)
 
-pub release-requires-clause-good : goal.release-requires-clause-good
-release-requires-clause-good g c =
+pub release-requires-2-clause-good : goal.release-requires-2-clause-good
+release-requires-2-clause-good g c =
     let back = c.give_back-pass.ensures in
     rw (back.same.0, back.same.1, c.gather-point.ensures.seats) c.requires.good
 
