@@ -1,12 +1,14 @@
 -- What a pass knows after a turn at the journal.
-use Rattle.std.proofs.Common.{◌≡◌, ℕ, zero, suc, ◌+◌, ◌<◌, ◌≤◌, List, [], ◌∷◌, ◌++◌, length, Bool, true, false, ◌==◌, cond, Option, Some, None, Result, Ok, Err, IsSome, slice_get, get_or, All, refl, sym, ap, ◌∙◌, subst, arith, option_map}
+use Rattle.std.proofs.Common.{◌≡◌, ℕ, zero, suc, ◌+◌, ◌<◌, ◌≤◌, List, [], ◌∷◌, ◌++◌, length, Bool, true, false, ◌==◌, cond, Option, Some, None, Result, Ok, Err, IsSome, slice_get, get_or, All, refl, sym, ap, ◌∙◌, subst, arith, option_map, take, sum_by, ◌*◌}
 use Rattle.std.specs.List.{filter}
 use Rattle.std.proofs.lemmas.List.{append-nil, length-append}
+use Rattle.std.proofs.Math.Seq.{take-append_seam}
 use Rattle.std.proofs.lemmas.List.Elements.{filter-append}
 use Rattle.std.proofs.lemmas.Bool.Decides.{nat_tests}
 use Rattle.std.proofs.lemmas.Option.{get_or_from_slice_get}
 use Rattle.room_core.specs.declared.entry.Entry.{Entry}
 use Rattle.room_core.specs.History.{after_entry, replay, state_in, IsLegal, most_entries}
+use Rattle.room_core.specs.Parts.{AreGood}
 use Rattle.room_core.specs.Projection.{of_station}
 use Rattle.room_core.specs.Whole.{Meaning, picked, with_picked, put_back, on_whole, unless_refused, whole}
 use Rattle.room_core.proofs.Histories.{replay-more, rise-more}
@@ -19,7 +21,7 @@ use Rattle.track_locks.proofs.Several.{within}
 use Rattle.track_locks.proofs.Stands.{one_at}
 use Rattle.cut_room.specs.Desks.{told}
 use Rattle.cut_room.specs.Gathered.{ComesTo}
-use Rattle.cut_room.specs.Rooms.{GoesOn, Stays, IsAtPoint, IsCommitted, IsTurnedDown, FindsNoRoom, IsSight}
+use Rattle.cut_room.specs.Rooms.{GoesOn, Stays, IsAtPoint, IsCommitted, IsTurnedDown, FindsNoRoom, IsSight, TakesAtMost}
 
 one_opening : {A : Type 0} (o : Option A) (a b : A) → o ≡ Some a → o ≡ Some b → a ≡ b
 one_opening o a b x y = let e : Some a ≡ Some b = sym x ∙ y in Prim.grind (arith, e)
@@ -223,10 +225,11 @@ one_picked : {P : Type 0} (o : Option P) (p : P) → with_picked o [] ≡ p ∷ 
 one_picked None p h = absurd (Prim.grind (arith, h))
 one_picked (Some q) p h = let same : q ≡ p = Prim.grind (arith, h) in ap Some same
 
-pub one_long : {A : Type 0} (xs : List A) → length xs ≡ 1 → (x : A) × (xs ≡ x ∷ [])
-one_long [] h = absurd (omega (arith, h))
-one_long (x ∷ []) h = (x, refl)
-one_long (x ∷ y ∷ ys) h = absurd (omega (arith, h))
+-- one good part
+pub one_good : {P : Type 0} (good : ℕ → P → Type 0) (n : ℕ) (ps : List P) → AreGood good (n ∷ []) ps → (p : P) × (ps ≡ p ∷ []) × good n p
+one_good good n [] h = absurd h
+one_good good n (p ∷ []) h = (p, refl, h.0)
+one_good good n (p ∷ q ∷ ps) h = absurd h.1
 
 -- a question is answered from the part that is held for it
 pub sight_of : {O P C D R S Q : Type 0} (m : Meaning P C D R) (opening : List P) (asked : Result ℕ Q) (seen : P → Result S Q) (before after : Known O P C) (point n : ℕ)
@@ -245,3 +248,17 @@ pub sight_of_none : {O P C D R S Q : Type 0} (m : Meaning P C D R) (opening : Li
 sight_of_none m opening asked seen before after point r at none =
     let now = comes_to (replay (whole m) opening after.entries) at.legal.applies in
     record { at = at; parts = now.0; comes = now.1; told_is = ap (λ a. told a seen now.0) none }
+
+-- before the point of an entry stand those that it was put behind
+pub behind_point : {C : Type 0} (entries after : List (Entry C)) (e : Entry C) (point : ℕ) → after ≡ entries ++ e ∷ [] → point ≡ length entries → take point after ≡ entries
+behind_point {C} entries after e point is count =
+    ap (λ n. take n after) count ∙ (ap (λ (l : List (Entry C)). take (length entries) l) is ∙ take-append_seam entries (e ∷ []))
+
+-- the steps on copies of the held parts are those on what the entries left
+pub steps_on : {P C D R : Type 0} (m : Meaning P C D R) (opening : List P) (size : P → ℕ) (call : C) (entries : List (Entry C)) (names : List ℕ) (ps copies : List P) (before after : ℕ)
+    → ComesTo m opening entries names ps → names ≡ m.names call → copies ≡ ps → after ≤ before + 32 * sum_by (λ p. size p + 64) copies
+    → TakesAtMost m opening size call entries before after
+steps_on {P} m opening size call entries names ps copies before after comes is same most now h =
+    let one = one_opening (replay (whole m) opening entries) comes.now now comes.comes h in
+    let are : copies ≡ picked now (m.names call) = same ∙ (sym comes.picked_is ∙ (ap (λ l. picked l names) one ∙ ap (λ n. picked now n) is)) in
+    subst (λ (l : List P). after ≤ before + 32 * sum_by (λ p. size p + 64) l) are most

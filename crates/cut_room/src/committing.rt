@@ -3,12 +3,13 @@ ghost use Rattle.std.specs.Prelude.{◌≡◌, ◌<◌, ◌≤◌, ◌+◌, [], 
 ghost use Rattle.edit_journal.specs.declared.name.Name.TheVariants.{Part, Station};
 ghost use Rattle.edit_journal.specs.Seats.{In};
 ghost use Rattle.edit_journal.specs.Turns.{Applies, HasNames, last_of};
-ghost use Rattle.track_locks.specs.Homes.{AreHomes};
+ghost use Rattle.track_locks.specs.Homes.{AreGoodAt, AreHomes};
 ghost use Rattle.cut_room.specs.Gathered.{Appends, IsGathered};
 
 use edit_journal::{Naming, Pass, Turn};
 use room_core::{Entry, PartObject};
 use std::alloc::Global;
+use std::sync::Wait;
 use track_locks::Held;
 
 // What became of an entry: it stands at a place, or the journal had no room, or there was no memory.
@@ -79,4 +80,17 @@ pub fn give_back<O: PartObject, J: Naming<O, O::Part>>(
 {
     held.give_seats(turn);
     turn.give_pass(station)
+}
+
+// Puts the parts that a committed call left in the places of those that are held, and everything back into its lock.
+pub fn settle<O: PartObject, J: Naming<O, O::Part>, R: Wait>(
+    rt: &R,
+    mut held: Held<'_, O, J>,
+    parts: Vec<O::Part>,
+)
+    requires homes { AreHomes O.meaning O.opens J.opening held.numbers parts.items (map (λ v. v + 1) held.versions) held.seats }
+    requires good { AreGoodAt O.good J.opening held.numbers parts.items }
+{
+    held.put(parts);
+    held.release(rt);
 }

@@ -14,6 +14,8 @@ pub use desk::Desk;
 pub use room::{Room, RoomBlank};
 
 #[cfg(test)]
+mod flag_tests;
+#[cfg(test)]
 mod room_tests;
 #[cfg(test)]
 mod tests;

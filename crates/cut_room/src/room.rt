@@ -1,5 +1,6 @@
 // A room of many stations: an object, the locks of its parts, and its journal.
-ghost use Rattle.std.specs.Prelude.{◌≡◌, ◌<◌, ◌≤◌, ℕ, None, Some, Ok, All, IfErr, IfOk, IsSome, length, map, take};
+ghost use Rattle.std.specs.Prelude.{◌≡◌, ◌<◌, ◌≤◌, [], ◌∷◌, ℕ, None, Some, Ok, All, IfErr, IfOk, IsSome, length, map, take};
+ghost use Rattle.room_core.specs.Answers.{Tells};
 ghost use Rattle.room_core.specs.History.{IsLegal, most_entries, replay};
 ghost use Rattle.room_core.specs.Parts.{AreGood, numbers};
 ghost use Rattle.room_core.specs.Whole.{whole};
@@ -11,7 +12,7 @@ ghost use Rattle.cut_room.specs.Gathered.{ComesTo};
 ghost use Rattle.cut_room.specs.declared.answers.CutFault.TheVariants.{Memory as NoMemory};
 ghost use Rattle.cut_room.specs.Rooms.{Edited, IsAtPoint, IsCopied, IsCut, Looked, TakesAtMost, stood_before};
 
-use crate::committing::{Appended, append, gather, give_back};
+use crate::committing::{Appended, append, gather, give_back, settle};
 use crate::{Answer, CutFault, Sight};
 use edit_journal::{Beginning, Blank, CopyFault, Journal, MOST_ENTRIES, Naming, Pass};
 use history_points::{ReplayFault, copy_parts, replay};
@@ -252,8 +253,7 @@ impl<O: PartObject + Drop, J: Naming<O, O::Part>> Room<O, J> {
         turn.release();
         match appended {
             Appended::At(point) => {
-                held.put(parts);
-                held.release(rt);
+                settle(rt, held, parts);
                 (pass, Answer::Done { point, done })
             }
             Appended::Full => {
@@ -307,20 +307,45 @@ impl<O: PartObject + Drop, J: Naming<O, O::Part>> Room<O, J> {
                 return (pass, Sight::Refused { point, refusal });
             }
         };
-        let held = match self.tracks.hold(rt, alloc, 1 << part) {
+        let held = match self.hold_one(rt, alloc, part) {
             Ok(held) => held,
             Err(Memory) => return (pass, Sight::Memory),
         };
         let copies = held.copy(alloc, &self.object);
         let (pass, point) = self.look(rt, held, pass);
-        match copies {
-            Ok(copies) => match self.object.see(alloc, &copies[0], ask) {
-                Ok(seen) => (pass, Sight::Seen { point, seen }),
-                Err(Fault::Refused(refusal)) => (pass, Sight::Refused { point, refusal }),
-                Err(Fault::Memory) => (pass, Sight::Memory),
-            },
-            Err(Memory) => (pass, Sight::Memory),
+        let copies = match copies {
+            Ok(copies) => copies,
+            Err(Memory) => return (pass, Sight::Memory),
+        };
+        match self.see_copy(alloc, &copies, ask) {
+            Ok(seen) => (pass, Sight::Seen { point, seen }),
+            Err(Fault::Refused(refusal)) => (pass, Sight::Refused { point, refusal }),
+            Err(Fault::Memory) => (pass, Sight::Memory),
         }
+    }
+
+    // Waits for the lock of one part, and takes it.
+    fn hold_one<R: Wait>(&self, rt: &R, alloc: Global, part: u32) -> Result<Held<'_, O, J>, Memory>
+        requires { part < O.count self.now.0 }
+        ensures numbers { IfOk result (λ h. h.numbers ≡ part ∷ []) }
+        ensures homes { IfOk result (λ h. AreHomes O.meaning O.opens J.opening h.numbers h.parts h.versions h.seats) }
+        ensures good { IfOk result (λ h. AreGoodAt O.good J.opening h.numbers h.parts) }
+    {
+        let held = self.tracks.hold(rt, alloc, 1 << part)?;
+        Ok(held)
+    }
+
+    // What a question is answered by a copy of the part that it is about.
+    fn see_copy(
+        &self,
+        alloc: Global,
+        copies: &[O::Part],
+        ask: &O::Ask,
+    ) -> Result<O::Seen, Fault<O::AskRefusal>>
+        requires { (n : ℕ) × (O.asked self.now.0 ask.now ≡ Ok n) × AreGood (O.good self.now.0) (n ∷ []) copies.now }
+        ensures { (p : O.Part) × (copies.now ≡ p ∷ []) × Tells (O.seen self.now.0 p ask.now) result }
+    {
+        self.object.see(alloc, &copies[0], ask)
     }
 
     // The first `n` entries, as they stand at a look.

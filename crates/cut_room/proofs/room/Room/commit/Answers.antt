@@ -53,8 +53,8 @@ give_back-pass-requires-clause-station g c = rw (c.append-appended.ensures.same.
 pub give_back-pass-requires-clause-tokens : goal.give_back-pass-requires-clause-tokens
 give_back-pass-requires-clause-tokens g c = rw (c.append-appended.ensures.tokens, c.gather.ensures.seats) c.gather.ensures.gathered.tokens
 
-pub put-requires : goal.put-requires
-put-requires g c =
+pub settle-requires-clause-homes : goal.settle-requires-clause-homes
+settle-requires-clause-homes g c =
     let s = c.self.inside in
     let h = c.args.held in
     let e = c.args.entry in
@@ -83,13 +83,10 @@ put-requires g c =
     h.numbers c.args.parts.items (map (λ v. v + 1) h.versions) c.give_back-pass.new.held.seats parts (length-map h.versions (λ v. v + 1) ∙ homes.versions) stand history
     (back.seats ∙ ap (λ h. h.numbers) same) (c.append-appended.ensures.same.1 ∙ all.opening_is) (ap (λ j. j.entries) added.0) back.know)
 
-pub release-requires-in-At-clause-homes : goal.release-requires-in-At-clause-homes
-release-requires-in-At-clause-homes g c = rw c.put.ensures (put-requires g c.before.before)
-
-pub release-requires-in-At-clause-good : goal.release-requires-in-At-clause-good
-release-requires-in-At-clause-good g c =
+pub settle-requires-clause-good : goal.settle-requires-clause-good
+settle-requires-clause-good g c =
     let s = c.self.inside in
-    rw (c.put.ensures, c.give_back-pass.ensures.same.0, c.gather.ensures.seats)
+    rw (c.give_back-pass.ensures.same.0, c.gather.ensures.seats)
     (good_for g.O.PartObject.good g.J.Naming.opening (s.object, s.opening.items) c.args.held.numbers c.args.parts.items c.self.invariant.0 (rw (← c.self.view_is) at c.requires.good_now))
 
 pub release-requires-in-Full-clause-homes : goal.release-requires-in-Full-clause-homes

@@ -10,5 +10,5 @@ unreachable-requires g c =
     let s = c.self.inside in
     let m = g.O.PartObject.meaning s.object in
     let now = comes_to (replay (whole m) s.opening.items c.args.entries.now) (rw (← c.self.view_is) at c.requires.applies) in
-    front_applies (whole m) s.opening.items now.0 c.args.entries.now (c.in-Err-Refused.field-0-0 + 1) now.1
-    (rw (c.deref.ensures.value, c.in-Err-Refused.field-0-is) at c.in-Err-Refused.ensures.replays).refused
+    front_applies (whole m) c.deref.result.now now.0 c.args.entries.now (c.in-Err-Refused.field-0-0 + 1) (rw c.deref.ensures.value now.1)
+    (rw c.in-Err-Refused.field-0-is at c.in-Err-Refused.ensures.replays).refused
