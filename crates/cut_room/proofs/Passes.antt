@@ -210,6 +210,8 @@ committed {O} {P} {C} meaning opens opening o entries e before after point ns ps
         legal = λ h. legal_now;
       };
       journal = entries;
+      met = a.front;
+      others = sym a.same;
       entries_are = same;
       point_is = count;
       later = let n = longer before.entries entries a.front.0 a.front.1 in omega (arith, n, count);

@@ -41,6 +41,8 @@ module _ {O P C D R : Type 0} (m : Meaning P C D R) (opening : List P) where
   pub record IsCommitted (entry : Entry C) (before after : Known O P C) (point : ℕ) (done : D) : Type 0 where
     pub goes_on : GoesOn before after
     pub journal : List (Entry C)
+    pub met : Begins journal before.entries
+    pub others : of_station before.number journal ≡ of_station before.number before.entries
     pub entries_are : after.entries ≡ journal ++ entry ∷ []
     pub point_is : point ≡ length journal
     pub later : length before.entries ≤ point

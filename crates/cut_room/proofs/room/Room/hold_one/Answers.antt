@@ -3,8 +3,8 @@ use Rattle.history_points.proofs.NamedCalls.{good-count}
 use Rattle.cut_room.proofs.Numbered.{members_of}
 use Rattle.cut_room.proofs.room.Room.hold_one.Goals as goal
 
-pub returns-in_ok-held-clause-numbers : goal.returns-in_ok-held-clause-numbers
-returns-in_ok-held-clause-numbers g c =
+pub returns-clause-numbers : goal.returns-clause-numbers
+returns-clause-numbers g c =
     let s = c.self.inside in
     let law = g.met.O.PartObject.opening s.object s.opening.items c.self.invariant.1 in
     let parts = good-count (g.O.PartObject.good s.object) (g.O.PartObject.count s.object) s.opening.items law.2 in
