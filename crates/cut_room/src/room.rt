@@ -3,7 +3,7 @@ ghost use Rattle.std.specs.Prelude.{◌≡◌, ◌<◌, ◌≤◌, [], ◌∷◌
 ghost use Rattle.room_core.specs.Answers.{Tells};
 ghost use Rattle.room_core.specs.History.{IsLegal, most_entries, replay};
 ghost use Rattle.room_core.specs.Parts.{AreGood, numbers};
-ghost use Rattle.room_core.specs.Whole.{whole};
+ghost use Rattle.room_core.specs.Whole.{set_of, whole};
 ghost use Rattle.edit_journal.specs.declared.name.Name.TheVariants.{Station};
 ghost use Rattle.edit_journal.specs.Seats.{Agrees, In};
 ghost use Rattle.edit_journal.specs.Turns.{AreFresh, last_of};
@@ -331,7 +331,7 @@ impl<O: PartObject + Drop, J: Naming<O, O::Part>> Room<O, J> {
         ensures homes { IfOk result (λ h. AreHomes O.meaning O.opens J.opening h.numbers h.parts h.versions h.seats) }
         ensures good { IfOk result (λ h. AreGoodAt O.good J.opening h.numbers h.parts) }
     {
-        let held = self.tracks.hold(rt, alloc, 1 << part)?;
+        let held = self.tracks.hold(rt, alloc, set_of_one(part))?;
         Ok(held)
     }
 
@@ -426,4 +426,11 @@ impl<O: PartObject + Drop, J: Naming<O, O::Part>> Room<O, J> {
         } = self;
         journal.close(passes)
     }
+}
+
+// The set of one part, bit n for the part n.
+fn set_of_one(part: u32) -> u32
+    ensures { result ≡ set_of (part ∷ []) }
+{
+    if part < 32 { 1 << part } else { 0 }
 }
