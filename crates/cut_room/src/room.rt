@@ -211,13 +211,12 @@ impl<O: PartObject + Drop, J: Naming<O, O::Part>> Room<O, J> {
                 gate.at_commit(entry.station);
                 self.commit(rt, alloc, held, parts, pass, entry, done)
             }
-            Err(Fault::Refused(refusal)) => {
+            Err(fault) => {
                 let (pass, point) = self.look(rt, held, pass);
-                (pass, Answer::Refused { point, refusal })
-            }
-            Err(Fault::Memory) => {
-                let (pass, _) = self.look(rt, held, pass);
-                (pass, Answer::Memory)
+                match fault {
+                    Fault::Refused(refusal) => (pass, Answer::Refused { point, refusal }),
+                    Fault::Memory => (pass, Answer::Memory),
+                }
             }
         }
     }
@@ -319,8 +318,10 @@ impl<O: PartObject + Drop, J: Naming<O, O::Part>> Room<O, J> {
         };
         match self.see_copy(alloc, &copies, ask) {
             Ok(seen) => (pass, Sight::Seen { point, seen }),
-            Err(Fault::Refused(refusal)) => (pass, Sight::Refused { point, refusal }),
-            Err(Fault::Memory) => (pass, Sight::Memory),
+            Err(fault) => match fault {
+                Fault::Refused(refusal) => (pass, Sight::Refused { point, refusal }),
+                Fault::Memory => (pass, Sight::Memory),
+            },
         }
     }
 

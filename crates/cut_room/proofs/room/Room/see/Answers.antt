@@ -23,14 +23,14 @@ returns-in-Ok-see_copy g c =
           (rw c.in-Ok-see_copy.is at see.2);
     }
 
-pub returns-in-Err-Refused : goal.returns-in-Err-Refused
-returns-in-Err-Refused g c =
+pub returns-in-Refused : goal.returns-in-Refused
+returns-in-Refused g c =
     let o = c.self.inside.object in
     let see = rw (← c.self.view_is) at c.see_copy.ensures in
     let parts = sym c.in-Ok-copies.ensures ∙ (sym c.deref.ensures.value ∙ see.1) in
     rw (← c.self.view_is) record {
       looked = sight_of (g.O.PartObject.meaning o) c.self.inside.opening.items (g.O.PartObject.asked o c.args.ask.now) (λ p. g.O.PartObject.seen o p c.args.ask.now)
-          c.args.pass c.look-pass.result.0 c.look-pass.result.1 c.in-Ok.part see.0 (Err c.in-Err-Refused.refusal)
+          c.args.pass c.look-pass.result.0 c.look-pass.result.1 c.in-Ok.part see.0 (Err c.in-Refused.refusal)
           (rw (← c.self.view_is) at c.look-pass.ensures.at) (rw (← c.self.view_is, c.in-Ok-hold_one.ensures.numbers, parts) at c.look-pass.ensures.parts) (sym c.ask_part.ensures.asked ∙ c.in-Ok.is)
-          (rw c.in-Err-Refused.field-0-is at see.2);
+          (rw (c.in-Err-fault.is, c.in-Refused.is) at see.2);
     }
