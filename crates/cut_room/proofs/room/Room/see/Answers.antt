@@ -32,5 +32,5 @@ returns-in-Refused g c =
       looked = sight_of (g.O.PartObject.meaning o) c.self.inside.opening.items (g.O.PartObject.asked o c.args.ask.now) (λ p. g.O.PartObject.seen o p c.args.ask.now)
           c.args.pass c.look-pass.result.0 c.look-pass.result.1 c.in-Ok.part see.0 (Err c.in-Refused.refusal)
           (rw (← c.self.view_is) at c.look-pass.ensures.at) (rw (← c.self.view_is, c.in-Ok-hold_one.ensures.numbers, parts) at c.look-pass.ensures.parts) (sym c.ask_part.ensures.asked ∙ c.in-Ok.is)
-          (rw (c.in-Err-fault.is, c.in-Refused.is) at see.2);
+          (rw (c.in-Err-see_copy.is, c.in-Refused.is) at see.2);
     }
