@@ -1,5 +1,6 @@
 // Two stations that edit two parts at the same time: a call on a part looks for one on the other that has begun.
-ghost use Rattle.std.specs.Prelude.{◌≡◌, ◌%◌, ◌<◌, Ok, None};
+ghost use Rattle.std.proofs.Common.{arith};
+ghost use Rattle.std.specs.Prelude.{◌≡◌, ◌%◌, ◌<◌, [], ◌∷◌, Ok, None};
 ghost use Rattle.room_core.specs.Parts.{AreGood, numbers};
 
 use crate::{Room, RoomBlank};
@@ -20,6 +21,7 @@ use step_count::Steps;
 const MOST_LOOKS: u32 = 200_000_000;
 
 // For each of two parts, whether a call on it has begun, and whether it saw that one on the other had.
+#[derive(Drop)]
 struct Flags {
     begun: [AtomicBool; 2],
     met: [AtomicBool; 2],
