@@ -40,7 +40,9 @@ fn add_run(
     requires held { IsHeld held }
     requires run { IsFit run }
     requires short { length (held_frames held) + run.len < 2 ^ 32 }
-    ensures added { IfOk result (λ r. (rest : List (Frame ℕ)) → all.new ++ maximal_runs (run_frames r ++ rest) ≡ all.old ++ maximal_runs (held_frames held ++ run_frames run ++ rest)) }
+    ensures added { IfOk result (λ r. (rest : List (Frame ℕ))
+        → all.new ++ maximal_runs (run_frames r ++ rest)
+        ≡ all.old ++ maximal_runs (held_frames held ++ run_frames run ++ rest)) }
     ensures fit { IfOk result (λ r. IsFit r) }
     ensures len { IfOk result (λ r. r.len ≤ length (held_frames held) + run.len) }
 {

@@ -47,7 +47,8 @@ pub fn part_at(runs: &[Run<u32>], spot: Spot, most: u32) -> Option<(Run<u32>, Sp
     requires fit { AreFit runs.now }
     requires spot { IsSpot runs.now spot }
     requires most { 0 < most }
-    ensures frames { IfSome result (λ p. left_from runs.now spot ≡ run_frames p.0 ++ left_from runs.now p.1) }
+    ensures frames { IfSome result (λ p. left_from runs.now spot
+        ≡ run_frames p.0 ++ left_from runs.now p.1) }
     ensures fit { IfSome result (λ p. IsFit p.0) }
     ensures spot { IfSome result (λ p. IsSpot runs.now p.1) }
     ensures most { IfSome result (λ p. p.0.len ≤ most) }
@@ -109,7 +110,8 @@ pub fn add_padded(
     requires all { AreFit all.old }
     requires fit { AreFit runs.now }
     requires spot { IsSpot runs.now spot }
-    ensures added { OnOk result (frames_of all.new ≡ frames_of all.old ++ padded n (left_from runs.now spot)) }
+    ensures added { OnOk result (frames_of all.new
+        ≡ frames_of all.old ++ padded n (left_from runs.now spot)) }
     ensures all { OnOk result (AreFit all.new) }
     ensures spot { IfOk result (λ s. IsSpot runs.now s) }
     ensures frames { IfOk result (λ s. left_from runs.now s ≡ drop n (left_from runs.now spot)) }
