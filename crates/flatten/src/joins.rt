@@ -5,7 +5,7 @@ ghost use Rattle.frame_meaning.specs.RunFrames.{run_frames};
 ghost use Rattle.flatten.specs.Channels.{maximal_runs};
 ghost use Rattle.flatten.specs.Strips.{AreFit, IsFit, IsHeld, frames_of, held_frames};
 
-use crate::strips::moved_frame;
+use crate::strips::later_frame;
 use composables::Listed;
 use frame_meaning::{Memory, Run, goes_on};
 use std::alloc::Global;
@@ -49,7 +49,7 @@ fn add_run(
     let Some(before) = held else {
         return Ok(run);
     };
-    let last = moved_frame(before.frame, before.len - 1);
+    let last = later_frame(before.frame, before.len - 1);
     if goes_on(&last, &run.frame) {
         return Ok(Run {
             frame: before.frame,

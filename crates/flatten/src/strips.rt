@@ -1,8 +1,8 @@
 // Runs of reels, taken from a spot on.
 ghost use Rattle.std.specs.Prelude.{◌≡◌, ◌+◌, ◌<◌, ◌≤◌, ◌++◌, IfSome, IsNone, OnOk, IfOk, [], drop, length, slice_get};
 ghost use Rattle.frame_meaning.specs.RunFrames.{run_frames};
-ghost use Rattle.dissolves.specs.Pieces.{Reaches};
-ghost use Rattle.flatten.specs.Strips.{AreFit, IsFit, IsSpot, frames_of, left_from, moved_frame, padded};
+ghost use Rattle.dissolves.specs.Pieces.{Reaches, later_frame};
+ghost use Rattle.flatten.specs.Strips.{AreFit, IsFit, IsSpot, frames_of, left_from, padded};
 
 use composables::Listed;
 use frame_meaning::{Frame, Memory, Run};
@@ -18,9 +18,9 @@ pub struct Spot {
 pub const FIRST: Spot = Spot { index: 0, used: 0 };
 
 /// The frame that goes on from a frame, that many frames later.
-pub fn moved_frame(frame: Frame<u32>, n: u32) -> Frame<u32>
+pub fn later_frame(frame: Frame<u32>, n: u32) -> Frame<u32>
     requires { Reaches frame (n + 1) }
-    ensures { result ≡ moved_frame frame n }
+    ensures { result ≡ later_frame frame n }
 {
     match frame {
         Frame::Dark => Frame::Dark,
@@ -55,7 +55,7 @@ pub fn part_at(runs: &[Run<u32>], spot: Spot, most: u32) -> Option<(Run<u32>, Sp
     ensures end { IsNone result → left_from runs.now spot ≡ [] }
 {
     let run = run_at(runs, spot.index)?;
-    let frame = moved_frame(run.frame, spot.used);
+    let frame = later_frame(run.frame, spot.used);
     let len = run.len - spot.used;
     if len <= most {
         let behind = Spot {
