@@ -1,6 +1,6 @@
 -- Runs as the code composes them: none is empty, the numbers of all their frames are below 2 ^ 32, and two that meet may
 -- go on, one from the other.
-use Rattle.std.specs.Prelude.{◌≡◌, ℕ, zero, suc, ◌+◌, ◌<◌, List, [], ◌∷◌, Option, Some, None, map, length, drop, slice_get}
+use Rattle.std.specs.Prelude.{◌≡◌, ℕ, zero, suc, ◌<◌, List, [], ◌∷◌, Option, Some, None, map, length, drop, slice_get}
 use Rattle.std.specs.List.{flat_map}
 use Rattle.frame_meaning.specs.declared.cells.What.{What}
 use Rattle.frame_meaning.specs.declared.frames.Frame.{Frame}
