@@ -11,9 +11,9 @@ use Rattle.frame_meaning.specs.Cells.{next_side}
 use Rattle.frame_meaning.specs.Going.{side_goes_on, frame_goes_on}
 use Rattle.frame_meaning.specs.RunFrames.{next_frame, frames_from, run_frames}
 use Rattle.frame_meaning.specs.Runs.{runs, with_frame}
-use Rattle.dissolves.specs.Pieces.{Reaches}
+use Rattle.dissolves.specs.Pieces.{Reaches, later_frame}
 use Rattle.flatten.specs.Channels.{maximal_runs}
-use Rattle.flatten.specs.Strips.{IsFit, IsHeld, frames_of, held_frames, moved_frame}
+use Rattle.flatten.specs.Strips.{IsFit, IsHeld, frames_of, held_frames}
 use Rattle.flatten.proofs.Moving.{further, length-from, reaches_joined, same_frame, then_next, two_runs}
 use Rattle.flatten.proofs.Over.{drop_at}
 
@@ -64,13 +64,13 @@ frame_is_next (Mix l r n d) (Mix l' r' n' d') h =
 -- the runs after one more run in front
 abbrev with_run : Run ℕ → List (Run ℕ) → List (Run ℕ)
 with_run r [] = r ∷ []
-with_run r (s ∷ ss) = cond (frame_goes_on nat_eq (moved_frame r.frame (r.len - 1)) s.frame) (record { frame = r.frame; len = r.len + s.len } ∷ ss) (r ∷ s ∷ ss)
+with_run r (s ∷ ss) = cond (frame_goes_on nat_eq (later_frame r.frame (r.len - 1)) s.frame) (record { frame = r.frame; len = r.len + s.len } ∷ ss) (r ∷ s ∷ ss)
 
 one_more : (f : Frame ℕ) (rs : List (Run ℕ)) → with_frame nat_eq f rs ≡ with_run (record { frame = f; len = 1 }) rs
 one_more f [] = refl
 one_more f (s ∷ ss) =
     let e : s.len + 1 ≡ 1 + s.len = omega arith in
-    let same : f ≡ moved_frame f (1 - 1) = sym (same_frame f) in
+    let same : f ≡ later_frame f (1 - 1) = sym (same_frame f) in
     ap (λ (k : ℕ). cond (frame_goes_on nat_eq f s.frame) (record { frame = f; len = k } ∷ ss) (record { frame = f; len = 1 } ∷ s ∷ ss)) e
     ∙ ap (λ (x : Frame ℕ). cond (frame_goes_on nat_eq x s.frame) (record { frame = f; len = 1 + s.len } ∷ ss) (record { frame = f; len = 1 } ∷ s ∷ ss)) same
 
@@ -82,8 +82,8 @@ longer f n [] = let e : suc n + 1 ≡ suc (suc n) = omega arith in onto f (suc n
 longer f n (s ∷ ss) =
     let x : suc n - 1 ≡ n = omega arith in
     let y : suc (suc n) - 1 ≡ suc n = omega arith in
-    let last : moved_frame (next_frame f) (suc n - 1) ≡ moved_frame f (suc (suc n) - 1) = ap (moved_frame (next_frame f)) x ∙ (further f n ∙ ap (moved_frame f) (sym y)) in
-    by_test (frame_goes_on nat_eq (moved_frame (next_frame f) (suc n - 1)) s.frame)
+    let last : later_frame (next_frame f) (suc n - 1) ≡ later_frame f (suc (suc n) - 1) = ap (later_frame (next_frame f)) x ∙ (further f n ∙ ap (later_frame f) (sym y)) in
+    by_test (frame_goes_on nat_eq (later_frame (next_frame f) (suc n - 1)) s.frame)
     ∙ ap (λ (g : Frame ℕ). cond (frame_goes_on nat_eq g s.frame) (record { frame = f; len = suc (suc n) + s.len } ∷ ss) (record { frame = f; len = suc (suc n) } ∷ s ∷ ss)) last where
       by_test : (b : Bool) → with_frame nat_eq f (cond b (record { frame = next_frame f; len = suc n + s.len } ∷ ss) (record { frame = next_frame f; len = suc n } ∷ s ∷ ss))
           ≡ cond b (record { frame = f; len = suc (suc n) + s.len } ∷ ss) (record { frame = f; len = suc (suc n) } ∷ s ∷ ss)
@@ -104,30 +104,30 @@ pub last_alone : (r : Run ℕ) → 0 < r.len → runs nat_eq (run_frames r) ≡ 
 last_alone r h = ap (runs nat_eq) (sym (append-nil (run_frames r))) ∙ runs_with r [] h
 
 -- a run that does not go on from another stays apart from it
-stays : (q r : Run ℕ) (rs : List (Run ℕ)) → frame_goes_on nat_eq (moved_frame q.frame (q.len - 1)) r.frame ≡ false → with_run q (with_run r rs) ≡ q ∷ with_run r rs
+stays : (q r : Run ℕ) (rs : List (Run ℕ)) → frame_goes_on nat_eq (later_frame q.frame (q.len - 1)) r.frame ≡ false → with_run q (with_run r rs) ≡ q ∷ with_run r rs
 stays q r [] h = ap (λ (b : Bool). cond b (record { frame = q.frame; len = q.len + r.len } ∷ []) (q ∷ r ∷ [])) h
-stays q r (s ∷ ss) h = by_test (frame_goes_on nat_eq (moved_frame r.frame (r.len - 1)) s.frame) where
+stays q r (s ∷ ss) h = by_test (frame_goes_on nat_eq (later_frame r.frame (r.len - 1)) s.frame) where
   by_test : (b : Bool) → with_run q (cond b (record { frame = r.frame; len = r.len + s.len } ∷ ss) (r ∷ s ∷ ss)) ≡ q ∷ cond b (record { frame = r.frame; len = r.len + s.len } ∷ ss) (r ∷ s ∷ ss)
   by_test true = ap (λ (b : Bool). cond b (record { frame = q.frame; len = q.len + (r.len + s.len) } ∷ ss) (q ∷ record { frame = r.frame; len = r.len + s.len } ∷ ss)) h
   by_test false = ap (λ (b : Bool). cond b (record { frame = q.frame; len = q.len + r.len } ∷ s ∷ ss) (q ∷ r ∷ s ∷ ss)) h
 
 -- one run more behind the one that is held
 
-pub follows : (q r : Run ℕ) → 0 < q.len → frame_goes_on nat_eq (moved_frame q.frame (q.len - 1)) r.frame ≡ true → r.frame ≡ moved_frame q.frame q.len
+pub follows : (q r : Run ℕ) → 0 < q.len → frame_goes_on nat_eq (later_frame q.frame (q.len - 1)) r.frame ≡ true → r.frame ≡ later_frame q.frame q.len
 follows q r h g =
     let e : suc (q.len - 1) ≡ q.len = omega arith in
-    frame_is_next (moved_frame q.frame (q.len - 1)) r.frame g ∙ (then_next q.frame (q.len - 1) ∙ ap (moved_frame q.frame) e)
+    frame_is_next (later_frame q.frame (q.len - 1)) r.frame g ∙ (then_next q.frame (q.len - 1) ∙ ap (later_frame q.frame) e)
 
-pub joined_frames : (q r : Run ℕ) (rest : List (Frame ℕ)) → r.frame ≡ moved_frame q.frame q.len → frames_from q.frame (q.len + r.len) ++ rest ≡ run_frames q ++ run_frames r ++ rest
+pub joined_frames : (q r : Run ℕ) (rest : List (Frame ℕ)) → r.frame ≡ later_frame q.frame q.len → frames_from q.frame (q.len + r.len) ++ rest ≡ run_frames q ++ run_frames r ++ rest
 joined_frames q r rest is = ap (λ (fs : List (Frame ℕ)). fs ++ rest) (two_runs q.frame r.frame q.len r.len is)
 
-pub joined_fit : (q r : Run ℕ) → IsFit q → IsFit r → r.frame ≡ moved_frame q.frame q.len → IsFit (record { frame = q.frame; len = q.len + r.len })
+pub joined_fit : (q r : Run ℕ) → IsFit q → IsFit r → r.frame ≡ later_frame q.frame q.len → IsFit (record { frame = q.frame; len = q.len + r.len })
 joined_fit q r f g is = record {
   filled = omega (arith, f.filled);
   reaches = reaches_joined q.frame q.len r.len (subst (λ (x : Frame ℕ). Reaches x r.len) is g.reaches);
 }
 
-pub apart : (all new : List (Run ℕ)) (q r : Run ℕ) (rest : List (Frame ℕ)) → new ≡ all ++ q ∷ [] → IsFit q → IsFit r → frame_goes_on nat_eq (moved_frame q.frame (q.len - 1)) r.frame ≡ false
+pub apart : (all new : List (Run ℕ)) (q r : Run ℕ) (rest : List (Frame ℕ)) → new ≡ all ++ q ∷ [] → IsFit q → IsFit r → frame_goes_on nat_eq (later_frame q.frame (q.len - 1)) r.frame ≡ false
     → new ++ maximal_runs (run_frames r ++ rest) ≡ all ++ maximal_runs (run_frames q ++ run_frames r ++ rest)
 apart all new q r rest pushed f g h =
     let behind : List (Run ℕ) = runs nat_eq (run_frames r ++ rest) in
@@ -154,8 +154,8 @@ pub length-more : (rs : List (Run ℕ)) (i : ℕ) (d : Run ℕ) → i < length r
 length-more rs i d h =
     omega (arith, ap length (frames_more rs i d h), length-append (run_frames (get_or rs i d)) (frames_of (drop (suc i) rs)), length-from (get_or rs i d).frame (get_or rs i d).len)
 
-pub tested : (q r : Run ℕ) (last : Frame ℕ) (b t : Bool) → b ≡ frame_goes_on nat_eq last r.frame → last ≡ moved_frame q.frame (q.len - 1) → b ≡ t
-    → frame_goes_on nat_eq (moved_frame q.frame (q.len - 1)) r.frame ≡ t
+pub tested : (q r : Run ℕ) (last : Frame ℕ) (b t : Bool) → b ≡ frame_goes_on nat_eq last r.frame → last ≡ later_frame q.frame (q.len - 1) → b ≡ t
+    → frame_goes_on nat_eq (later_frame q.frame (q.len - 1)) r.frame ≡ t
 tested q r last b t goes is test = ap (λ (f : Frame ℕ). frame_goes_on nat_eq f r.frame) (sym is) ∙ (sym goes ∙ test)
 
 pub join_more : (rs : List (Run ℕ)) (i : ℕ) (d : Run ℕ) (held : List (Frame ℕ)) → i < length rs

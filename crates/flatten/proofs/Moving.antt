@@ -6,14 +6,13 @@ use Rattle.frame_meaning.specs.declared.frames.Frame.{Frame}
 use Rattle.frame_meaning.specs.declared.frames.Frame.TheVariants.{Dark, Pic, Mix}
 use Rattle.frame_meaning.specs.Cells.{later_side, next_side}
 use Rattle.frame_meaning.specs.RunFrames.{next_frame, frames_from}
-use Rattle.dissolves.specs.Pieces.{Reaches, SideReaches}
-use Rattle.flatten.specs.Strips.{moved_frame}
+use Rattle.dissolves.specs.Pieces.{Reaches, SideReaches, later_frame}
 
 same_side : (s : Side ℕ) → later_side s 0 ≡ s
 same_side side.Dark = refl
 same_side (side.Pic w s) = let e : s + 0 ≡ s = omega arith in ap (λ (n : ℕ). side.Pic w n) e
 
-pub same_frame : (f : Frame ℕ) → moved_frame f 0 ≡ f
+pub same_frame : (f : Frame ℕ) → later_frame f 0 ≡ f
 same_frame Dark = refl
 same_frame (Pic w s) = let e : s + 0 ≡ s = omega arith in ap (λ (n : ℕ). Pic w n) e
 same_frame (Mix l r n d) =
@@ -25,7 +24,7 @@ side_further : (s : Side ℕ) (n : ℕ) → later_side (next_side s) n ≡ later
 side_further side.Dark n = refl
 side_further (side.Pic w s) n = let e : s + 1 + n ≡ s + suc n = omega arith in ap (λ (k : ℕ). side.Pic w k) e
 
-pub further : (f : Frame ℕ) (n : ℕ) → moved_frame (next_frame f) n ≡ moved_frame f (suc n)
+pub further : (f : Frame ℕ) (n : ℕ) → later_frame (next_frame f) n ≡ later_frame f (suc n)
 further Dark n = refl
 further (Pic w s) n = let e : s + 1 + n ≡ s + suc n = omega arith in ap (λ (k : ℕ). Pic w k) e
 further (Mix l r m d) n =
@@ -38,7 +37,7 @@ side_then_next : (s : Side ℕ) (n : ℕ) → next_side (later_side s n) ≡ lat
 side_then_next side.Dark n = refl
 side_then_next (side.Pic w s) n = let e : s + n + 1 ≡ s + suc n = omega arith in ap (λ (k : ℕ). side.Pic w k) e
 
-pub then_next : (f : Frame ℕ) (n : ℕ) → next_frame (moved_frame f n) ≡ moved_frame f (suc n)
+pub then_next : (f : Frame ℕ) (n : ℕ) → next_frame (later_frame f n) ≡ later_frame f (suc n)
 then_next Dark n = refl
 then_next (Pic w s) n = let e : s + n + 1 ≡ s + suc n = omega arith in ap (λ (k : ℕ). Pic w k) e
 then_next (Mix l r m d) n =
@@ -53,7 +52,7 @@ pub length-from : (f : Frame ℕ) (n : ℕ) → length (frames_from f n) ≡ n
 length-from f zero = refl
 length-from f (suc n) = ap suc (length-from (next_frame f) n)
 
-pub drop_within : (f : Frame ℕ) (k n : ℕ) (rest : List (Frame ℕ)) → k ≤ n → drop k (frames_from f n ++ rest) ≡ frames_from (moved_frame f k) (n - k) ++ rest
+pub drop_within : (f : Frame ℕ) (k n : ℕ) (rest : List (Frame ℕ)) → k ≤ n → drop k (frames_from f n ++ rest) ≡ frames_from (later_frame f k) (n - k) ++ rest
 drop_within f zero n rest h =
     let e : n ≡ n - 0 = omega arith in
     ap (λ (m : ℕ). frames_from f m ++ rest) e ∙ ap (λ (g : Frame ℕ). frames_from g (n - 0) ++ rest) (sym (same_frame f))
@@ -62,7 +61,7 @@ drop_within f (suc k) (suc n) rest h =
     let e : n - k ≡ suc n - suc k = omega arith in
     drop_within (next_frame f) k n rest (omega arith)
     ∙ (ap (λ (g : Frame ℕ). frames_from g (n - k) ++ rest) (further f k)
-    ∙ ap (λ (m : ℕ). frames_from (moved_frame f (suc k)) m ++ rest) e)
+    ∙ ap (λ (m : ℕ). frames_from (later_frame f (suc k)) m ++ rest) e)
 
 pub drop_past : (f : Frame ℕ) (k n : ℕ) (rest : List (Frame ℕ)) → k ≤ n → drop n (frames_from f k ++ rest) ≡ drop (n - k) rest
 drop_past f zero n rest h = let e : n ≡ n - 0 = omega arith in ap (λ (m : ℕ). drop m rest) e
@@ -76,9 +75,9 @@ front f zero n rest h = refl
 front f (suc k) zero rest h = absurd (omega arith)
 front f (suc k) (suc n) rest h = ap (λ (fs : List (Frame ℕ)). f ∷ fs) (front (next_frame f) k n rest (omega arith))
 
-pub two_runs : (f g : Frame ℕ) (m n : ℕ) → g ≡ moved_frame f m → frames_from f (m + n) ≡ frames_from f m ++ frames_from g n
+pub two_runs : (f g : Frame ℕ) (m n : ℕ) → g ≡ later_frame f m → frames_from f (m + n) ≡ frames_from f m ++ frames_from g n
 two_runs f g m n is = split f m n (m + n) refl ∙ ap (λ (h : Frame ℕ). frames_from f m ++ frames_from h n) (sym is) where
-  split : (f : Frame ℕ) (m n k : ℕ) → k ≡ m + n → frames_from f k ≡ frames_from f m ++ frames_from (moved_frame f m) n
+  split : (f : Frame ℕ) (m n k : ℕ) → k ≡ m + n → frames_from f k ≡ frames_from f m ++ frames_from (later_frame f m) n
   split f zero n k e = let x : k ≡ n = omega (arith, e) in ap (frames_from f) x ∙ ap (λ (h : Frame ℕ). frames_from h n) (sym (same_frame f))
   split f (suc m) n zero e = absurd (omega (arith, e))
   split f (suc m) n (suc k) e =
@@ -100,7 +99,7 @@ side_moved : (s : Side ℕ) (k m n : ℕ) → k + m ≤ n → SideReaches s n �
 side_moved side.Dark k m n h r = tt
 side_moved (side.Pic w s) k m n h r = omega (arith, r)
 
-pub reaches_moved : (f : Frame ℕ) (k m n : ℕ) → k + m ≤ n → Reaches f n → Reaches (moved_frame f k) m
+pub reaches_moved : (f : Frame ℕ) (k m n : ℕ) → k + m ≤ n → Reaches f n → Reaches (later_frame f k) m
 reaches_moved Dark k m n h r = tt
 reaches_moved (Pic w s) k m n h r = omega (arith, r)
 reaches_moved (Mix l q j d) k m n h r = let num : j + k + m ≤ 2 ^ 32 = omega (arith, r.2) in (side_moved l k m n h r.0, side_moved q k m n h r.1, num)
@@ -109,7 +108,7 @@ side_joined : (s : Side ℕ) (k m : ℕ) → SideReaches (later_side s k) m → 
 side_joined side.Dark k m r = tt
 side_joined (side.Pic w s) k m r = omega (arith, r)
 
-pub reaches_joined : (f : Frame ℕ) (k m : ℕ) → Reaches (moved_frame f k) m → Reaches f (k + m)
+pub reaches_joined : (f : Frame ℕ) (k m : ℕ) → Reaches (later_frame f k) m → Reaches f (k + m)
 reaches_joined Dark k m r = tt
 reaches_joined (Pic w s) k m r = omega (arith, r)
 reaches_joined (Mix l q j d) k m r = let num : j + (k + m) ≤ 2 ^ 32 = omega (arith, r.2) in (side_joined l k m r.0, side_joined q k m r.1, num)

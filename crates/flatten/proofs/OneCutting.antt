@@ -11,19 +11,19 @@ use Rattle.frame_meaning.specs.Cells.{later_side}
 use Rattle.frame_meaning.specs.Going.{frame_goes_on}
 use Rattle.frame_meaning.specs.Render.{frame_of}
 use Rattle.frame_meaning.specs.RunFrames.{next_frame, frames_from}
+use Rattle.dissolves.specs.Pieces.{later_frame}
 use Rattle.flatten.specs.declared.cutting.Segment.{Segment}
 use Rattle.flatten.specs.Segments.{AreApart, ArePlaced, AreSegments, EachIsSegment, HasDissolve, IsSegment, first_shown, frames_in, goes_on_in, segment_frames}
-use Rattle.flatten.specs.Strips.{moved_frame}
 use Rattle.flatten.proofs.Joining.{frame_goes}
 use Rattle.flatten.proofs.Moving.{further, same_frame, then_next}
-use Rattle.flatten.proofs.Segmenting.{later_frame, later_twice, length_in}
+use Rattle.flatten.proofs.Segmenting.{later_is, later_twice, length_in}
 
 clash : {A : Type 0} → true ≡ false → A
 clash h = absurd cc
 
 -- what stands at a place of frames
 
-get_from : (f : Frame ℕ) (n k : ℕ) (rest : List (Frame ℕ)) (d : Frame ℕ) → k < n → get_or (frames_from f n ++ rest) k d ≡ moved_frame f k
+get_from : (f : Frame ℕ) (n k : ℕ) (rest : List (Frame ℕ)) (d : Frame ℕ) → k < n → get_or (frames_from f n ++ rest) k d ≡ later_frame f k
 get_from f zero k rest d h = absurd (omega arith)
 get_from f (suc n) zero rest d h = sym (same_frame f)
 get_from f (suc n) (suc k) rest d h = get_from (next_frame f) n k rest d (omega arith) ∙ further f k
@@ -48,7 +48,7 @@ first_in (Some left) (suc n) s len rest d h k = refl
 -- a segment's side goes on past its length
 later_in : (from : Option (Side ℕ)) (n : ℕ) (s : Side ℕ) (k len : ℕ) (rest : List (Frame ℕ)) (d : Frame ℕ) → HasDissolve from n k → k < len
     → get_or (frames_in from n s len ++ rest) k d ≡ frame_of (later_side s k)
-later_in None n s k len rest d h l = get_from (frame_of s) len k rest d l ∙ sym (later_frame s k)
+later_in None n s k len rest d h l = get_from (frame_of s) len k rest d l ∙ sym (later_is s k)
 later_in (Some left) n s k len rest d h l =
     let mix : Frame ℕ = frame.Mix left s 1 (n + 1) in
     let behind : Frame ℕ = frame_of (later_side s n) in
@@ -56,14 +56,14 @@ later_in (Some left) n s k len rest d h l =
     ap (λ (fs : List (Frame ℕ)). get_or fs k d) (append_assoc (frames_from mix n) (frames_from behind (len - n)) rest)
     ∙ (get_past mix n k (frames_from behind (len - n) ++ rest) d h.1
     ∙ (get_from behind (len - n) (k - n) rest d less
-    ∙ (later_twice s n k h.1 ∙ sym (later_frame s k))))
+    ∙ (later_twice s n k h.1 ∙ sym (later_is s k))))
 
 goes_later : (s : Side ℕ) (len : ℕ) → 0 < len → frame_goes_on nat_eq (frame_of (later_side s (len - 1))) (frame_of (later_side s len)) ≡ true
 goes_later s len h =
     let e : suc (len - 1) ≡ len = omega (arith, h) in
     let last : Frame ℕ = frame_of (later_side s (len - 1)) in
     let next : next_frame last ≡ frame_of (later_side s len) =
-    ap next_frame (later_frame s (len - 1)) ∙ (then_next (frame_of s) (len - 1) ∙ (ap (moved_frame (frame_of s)) e ∙ sym (later_frame s len))) in
+    ap next_frame (later_is s (len - 1)) ∙ (then_next (frame_of s) (len - 1) ∙ (ap (later_frame (frame_of s)) e ∙ sym (later_is s len))) in
     ap (frame_goes_on nat_eq last) (sym next) ∙ frame_goes last
 
 -- none is longer than another that begins as it does

@@ -6,7 +6,8 @@ use Rattle.frame_meaning.specs.declared.frames.Frame.{Frame}
 use Rattle.frame_meaning.specs.declared.frames.Frame.TheVariants.{Dark}
 use Rattle.frame_meaning.specs.declared.frames.Run.{Run}
 use Rattle.frame_meaning.specs.RunFrames.{next_frame, frames_from, run_frames}
-use Rattle.flatten.specs.Strips.{AreFit, BehindSome, IsFit, frames_of, moved_frame, padded}
+use Rattle.dissolves.specs.Pieces.{later_frame}
+use Rattle.flatten.specs.Strips.{AreFit, BehindSome, IsFit, frames_of, padded}
 use Rattle.flatten.proofs.Moving.{drop_past, drop_within, front, length-from}
 
 pub frames_at : (rs : List (Run ℕ)) (i : ℕ) (r : Run ℕ) → slice_get rs i ≡ Some r → frames_of (drop i rs) ≡ run_frames r ++ frames_of (drop (suc i) rs)
@@ -44,17 +45,17 @@ pub none_left : (rs : List (Run ℕ)) (i used : ℕ) → slice_get rs i ≡ None
 none_left rs i used h = ap (drop used) (no_more rs i h) ∙ drop-none used
 
 pub whole_part : (rs : List (Run ℕ)) (i used : ℕ) (r : Run ℕ) → slice_get rs i ≡ Some r → used < r.len
-    → drop used (frames_of (drop i rs)) ≡ frames_from (moved_frame r.frame used) (r.len - used) ++ frames_of (drop (suc i) rs)
+    → drop used (frames_of (drop i rs)) ≡ frames_from (later_frame r.frame used) (r.len - used) ++ frames_of (drop (suc i) rs)
 whole_part rs i used r h b =
     ap (drop used) (frames_at rs i r h) ∙ drop_within r.frame used r.len (frames_of (drop (suc i) rs)) (omega (arith, b))
 
 pub front_part : (rs : List (Run ℕ)) (i used most : ℕ) (r : Run ℕ) → slice_get rs i ≡ Some r → used < r.len → most ≤ r.len - used
-    → drop used (frames_of (drop i rs)) ≡ frames_from (moved_frame r.frame used) most ++ drop (used + most) (frames_of (drop i rs))
+    → drop used (frames_of (drop i rs)) ≡ frames_from (later_frame r.frame used) most ++ drop (used + most) (frames_of (drop i rs))
 front_part rs i used most r h b m =
-    let all : drop used (frames_of (drop i rs)) ≡ frames_from (moved_frame r.frame used) (r.len - used) ++ frames_of (drop (suc i) rs) = whole_part rs i used r h b in
+    let all : drop used (frames_of (drop i rs)) ≡ frames_from (later_frame r.frame used) (r.len - used) ++ frames_of (drop (suc i) rs) = whole_part rs i used r h b in
     all
-    ∙ (front (moved_frame r.frame used) most (r.len - used) (frames_of (drop (suc i) rs)) m
-    ∙ ap (λ (fs : List (Frame ℕ)). frames_from (moved_frame r.frame used) most ++ fs)
+    ∙ (front (later_frame r.frame used) most (r.len - used) (frames_of (drop (suc i) rs)) m
+    ∙ ap (λ (fs : List (Frame ℕ)). frames_from (later_frame r.frame used) most ++ fs)
     (ap (drop most) (sym all) ∙ drop-drop most used (frames_of (drop i rs))))
 
 -- a part of some frames, of which n are to be passed or taken

@@ -11,24 +11,24 @@ use Rattle.frame_meaning.specs.Cells.{later_side}
 use Rattle.frame_meaning.specs.Going.{frame_goes_on}
 use Rattle.frame_meaning.specs.Render.{frame_of}
 use Rattle.frame_meaning.specs.RunFrames.{next_frame, frames_from}
+use Rattle.dissolves.specs.Pieces.{later_frame}
 use Rattle.flatten.specs.declared.cutting.Segment.{Segment}
 use Rattle.flatten.specs.Joined.{joined, lens_of, segment_of}
 use Rattle.flatten.specs.Segments.{AreApart, ArePlaced, EachIsSegment, HasDissolve, IsSegment, first_shown, frames_in, goes_on_in, is_whole, segment_frames}
-use Rattle.flatten.specs.Strips.{moved_frame}
 use Rattle.flatten.proofs.Joining.{frame_is_next}
 use Rattle.flatten.proofs.Moving.{length-from, then_next, two_runs}
 
 -- a segment that is made longer
 
-pub later_frame : (s : Side ℕ) (n : ℕ) → frame_of (later_side s n) ≡ moved_frame (frame_of s) n
-later_frame side.Dark n = refl
-later_frame (side.Pic w k) n = refl
+pub later_is : (s : Side ℕ) (n : ℕ) → frame_of (later_side s n) ≡ later_frame (frame_of s) n
+later_is side.Dark n = refl
+later_is (side.Pic w k) n = refl
 
-pub later_twice : (s : Side ℕ) (n len : ℕ) → n ≤ len → moved_frame (frame_of (later_side s n)) (len - n) ≡ moved_frame (frame_of s) len
+pub later_twice : (s : Side ℕ) (n len : ℕ) → n ≤ len → later_frame (frame_of (later_side s n)) (len - n) ≡ later_frame (frame_of s) len
 later_twice side.Dark n len h = refl
 later_twice (side.Pic w k) n len h = let e : k + n + (len - n) ≡ k + len = omega (arith, h) in ap (λ (m : ℕ). frame.Pic w m) e
 
-longer : (from : Option (Side ℕ)) (n : ℕ) (s t : Side ℕ) (len m : ℕ) → HasDissolve from n len → frame_of t ≡ moved_frame (frame_of s) len
+longer : (from : Option (Side ℕ)) (n : ℕ) (s t : Side ℕ) (len m : ℕ) → HasDissolve from n len → frame_of t ≡ later_frame (frame_of s) len
     → frames_in from n s (len + m) ≡ frames_in from n s len ++ frames_from (frame_of t) m
 longer None n s t len m h is = two_runs (frame_of s) (frame_of t) len m is
 longer (Some left) n s t len m h is =
@@ -45,13 +45,13 @@ no_mix side.Dark k (Some l) n t h = absurd cc
 no_mix (side.Pic w j) k (Some l) n t h = absurd cc
 
 go_on : (s : Side ℕ) (len : ℕ) (from : Option (Side ℕ)) (n : ℕ) (t : Side ℕ) → 0 < len → from ≡ None → frame_goes_on nat_eq (frame_of (later_side s (len - 1))) (first_shown from n t) ≡ true
-    → frame_of t ≡ moved_frame (frame_of s) len
+    → frame_of t ≡ later_frame (frame_of s) len
 go_on s len from n t h none goes =
     let e : suc (len - 1) ≡ len = omega (arith, h) in
     let last : Frame ℕ = frame_of (later_side s (len - 1)) in
     let g : frame_goes_on nat_eq last (frame_of t) ≡ true = sym (ap (λ (o : Option (Side ℕ)). frame_goes_on nat_eq last (first_shown o n t)) none) ∙ goes in
     frame_is_next last (frame_of t) g
-    ∙ (ap next_frame (later_frame s (len - 1)) ∙ (then_next (frame_of s) (len - 1) ∙ ap (moved_frame (frame_of s)) e))
+    ∙ (ap next_frame (later_is s (len - 1)) ∙ (then_next (frame_of s) (len - 1) ∙ ap (later_frame (frame_of s)) e))
 
 lengthened : (s t : Segment) → IsSegment s → goes_on_in s t ≡ true → segment_frames (record s { len = s.len + t.len }) ≡ segment_frames s ++ segment_frames t
 lengthened s t h goes =

@@ -1,12 +1,11 @@
 -- Runs as the code composes them: none is empty, the numbers of all their frames are below 2 ^ 32, and two that meet may
 -- go on, one from the other.
-use Rattle.std.specs.Prelude.{◌≡◌, ℕ, zero, suc, ◌+◌, ◌<◌, List, [], ◌∷◌, Option, Some, None, map, length, drop, slice_get}
+use Rattle.std.specs.Prelude.{◌≡◌, ℕ, zero, suc, ◌<◌, List, [], ◌∷◌, Option, Some, None, map, length, drop, slice_get}
 use Rattle.std.specs.List.{flat_map}
 use Rattle.frame_meaning.specs.declared.cells.What.{What}
 use Rattle.frame_meaning.specs.declared.frames.Frame.{Frame}
-use Rattle.frame_meaning.specs.declared.frames.Frame.TheVariants.{Dark, Pic, Mix}
+use Rattle.frame_meaning.specs.declared.frames.Frame.TheVariants.{Dark}
 use Rattle.frame_meaning.specs.declared.frames.Run.{Run}
-use Rattle.frame_meaning.specs.Cells.{later_side}
 use Rattle.frame_meaning.specs.RunFrames.{run_frames}
 use Rattle.dissolves.specs.Pieces.{Reaches}
 use Rattle.flatten.specs.declared.strips.Spot.{Spot}
@@ -59,12 +58,6 @@ pub record ShowEach (channels : List (List (Run ℕ))) (frames : List (List (Fra
 abbrev pub AreBelow : ℕ → List (List (Frame ℕ)) → Type 0
 AreBelow n [] = Unit {0}
 AreBelow n (frames ∷ others) = (length frames < n) × AreBelow n others
-
--- the frame that goes on from a frame, n frames later
-abbrev pub moved_frame : Frame ℕ → ℕ → Frame ℕ
-moved_frame Dark n = Dark
-moved_frame (Pic reel source) n = Pic reel (source + n)
-moved_frame (Mix left right num den) n = Mix (later_side left n) (later_side right n) (num + n) den
 
 -- a spot in runs: behind some frames of the run with an index, and at the start of it where there is none
 abbrev pub BehindSome : Option (Run ℕ) → ℕ → Type 0

@@ -22,8 +22,8 @@ pub struct Shown {
 }
 
 /// What these tracks show, where they are of the table's kinds in order. A nest shows what its layers show, and is dark
-/// past its length. Each layer of a nest lies in its track. It takes a few steps for each run that it composes, and
-/// none for a frame.
+/// past its length. Each layer of a nest lies in its track. It composes runs: it takes a few steps for each run of a
+/// layer or a track that lies on others, finds the first run of a nest's part by halving, and goes over no frame.
 pub fn flatten(alloc: Global, table: &Table, tracks: &[Track]) -> Result<Shown, Memory>
     requires layers { AreSound table.now.nests }
     requires tracks { EachIsShort tracks.now }

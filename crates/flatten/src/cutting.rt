@@ -65,7 +65,8 @@ pub fn segments(alloc: Global, runs: &[Run<u32>]) -> Result<Vec<Segment>, Segmen
 fn segment_of(run: Run<u32>, at: u32) -> Result<Segment, SegmentFault>
     ensures segment { IfOk result (λ s. s ≡ segment_of at run.frame run.len) }
     ensures whole { OnOk result (is_whole run.frame run.len ≡ true) }
-    ensures partial { IfErr result (λ fault. (fault ≡ PartialDissolve at) × (is_whole run.frame run.len ≡ false)) }
+    ensures partial { IfErr result (λ fault. (fault ≡ PartialDissolve at)
+        × (is_whole run.frame run.len ≡ false)) }
 {
     let len = run.len;
     match run.frame {

@@ -73,8 +73,10 @@ fn ends_of(alloc: Global, runs: &[Run<u32>]) -> Result<Listed<u32>, Memory>
 fn spot_in(ends: &[u32], place: u32) -> Spot
     ensures index { result.index ≤ length ends.now }
     ensures begun { begin_of 0 ends.now result.index ≤ place }
-    ensures behind { result.index < length ends.now → place < slice_index_or ends.now result.index 0 }
-    ensures used { result.index < length ends.now → begin_of 0 ends.now result.index + result.used ≡ place }
+    ensures behind { result.index < length ends.now
+        → place < slice_index_or ends.now result.index 0 }
+    ensures used { result.index < length ends.now
+        → begin_of 0 ends.now result.index + result.used ≡ place }
     ensures end { length ends.now ≤ result.index → result.used ≡ 0 }
 {
     let index = first_behind(ends, place);

@@ -5,7 +5,7 @@ ghost use Rattle.frame_meaning.specs.RunFrames.{run_frames};
 ghost use Rattle.flatten.specs.Channels.{maximal_runs};
 ghost use Rattle.flatten.specs.Strips.{AreFit, IsFit, IsHeld, frames_of, held_frames};
 
-use crate::strips::moved_frame;
+use crate::strips::later_frame;
 use composables::Listed;
 use frame_meaning::{Memory, Run, goes_on};
 use std::alloc::Global;
@@ -40,14 +40,16 @@ fn add_run(
     requires held { IsHeld held }
     requires run { IsFit run }
     requires short { length (held_frames held) + run.len < 2 ^ 32 }
-    ensures added { IfOk result (λ r. (rest : List (Frame ℕ)) → all.new ++ maximal_runs (run_frames r ++ rest) ≡ all.old ++ maximal_runs (held_frames held ++ run_frames run ++ rest)) }
+    ensures added { IfOk result (λ r. (rest : List (Frame ℕ))
+        → all.new ++ maximal_runs (run_frames r ++ rest)
+        ≡ all.old ++ maximal_runs (held_frames held ++ run_frames run ++ rest)) }
     ensures fit { IfOk result (λ r. IsFit r) }
     ensures len { IfOk result (λ r. r.len ≤ length (held_frames held) + run.len) }
 {
     let Some(before) = held else {
         return Ok(run);
     };
-    let last = moved_frame(before.frame, before.len - 1);
+    let last = later_frame(before.frame, before.len - 1);
     if goes_on(&last, &run.frame) {
         return Ok(Run {
             frame: before.frame,

@@ -6,5 +6,6 @@ ghost use Rattle.flatten.specs.Segments.{AreSegments};
 
 /// A channel is cut into segments in one way at most.
 pub fn a_channel_has_one_cutting()
-    ensures { (ss ts : List Segment) (frames : List (Frame ℕ)) → AreSegments ss frames → AreSegments ts frames → ss ≡ ts }
+    ensures { (ss ts : List Segment) (frames : List (Frame ℕ))
+        → AreSegments ss frames → AreSegments ts frames → ss ≡ ts }
 {}

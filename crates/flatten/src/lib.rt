@@ -2,7 +2,8 @@
 //! nests looked through.
 //!
 //! The main contract is that of `flatten`: the maximal runs of the frames of each channel, which are defined place by
-//! place. The code composes runs, track by track and nest by nest, and never goes over frames.
+//! place. The code composes runs, track by track and nest by nest, and never goes over frames. `segments` cuts a
+//! channel into what an edit decision list has as events.
 #![tactic(auto)]
 
 mod channels;

@@ -32,7 +32,8 @@ pub fn nest_strips(alloc: Global, table: &Table) -> Result<Listed<Strip>, Memory
 fn nest_strip(alloc: Global, media: &[Media], nests: &[Strip], nest: &Nest) -> Result<Strip, Memory>
     requires fit { AllFit nests.now }
     requires layers { EachLiesInTrack nest.now.layers }
-    ensures { IfOk result (λ all. Show all (nest_frames media.now (map frames_of nests.now) nest.now)) }
+    ensures { IfOk result (λ all. Show all
+        (nest_frames media.now (map frames_of nests.now) nest.now)) }
 {
     let layers = layer_strips(alloc, media, nests, nest.layers.as_slice())?;
     let stacked = stack(alloc, layers.as_slice())?;
@@ -58,7 +59,8 @@ fn layer_strips(
 ) -> Result<Listed<Listed<Run<u32>>>, Memory>
     requires fit { AllFit nests.now }
     requires layers { EachLiesInTrack layers.now }
-    ensures { IfOk result (λ all. ShowEach all (map (layer_frames media.now (map frames_of nests.now)) layers.now)) }
+    ensures { IfOk result (λ all. ShowEach all
+        (map (layer_frames media.now (map frames_of nests.now)) layers.now)) }
 {
     let mut all = Listed::new(alloc);
     for layer in layers {
@@ -81,7 +83,8 @@ pub fn strip_of(
     requires order { from ≤ to }
     requires within { to ≤ length track.now.cells }
     requires short { length track.now.cells < 4294967295 }
-    ensures { IfOk result (λ all. Show all (map (resolved media.now (map frames_of nests.now)) (cut from to (render track.now.cells)))) }
+    ensures { IfOk result (λ all. Show all (map (resolved media.now (map frames_of nests.now))
+        (cut from to (render track.now.cells)))) }
 {
     prove!(to <= track.length());
     let shown = runs_in(alloc, track, from, to)?;
@@ -96,7 +99,8 @@ fn resolve_runs(
 ) -> Result<Listed<Run<u32>>, Memory>
     requires fit { AllFit nests.now }
     requires runs { AreTrackRuns runs.now }
-    ensures { IfOk result (λ all. Show all (map (resolved media.now (map frames_of nests.now)) (flat_map run_frames runs.now))) }
+    ensures { IfOk result (λ all. Show all (map (resolved media.now (map frames_of nests.now))
+        (flat_map run_frames runs.now))) }
 {
     let mut all = Listed::new(alloc);
     for run in runs {
@@ -114,7 +118,8 @@ fn add_resolved(
     requires all { AreFit all.old }
     requires fit { AllFit nests.now }
     requires run { IsTrackRun run }
-    ensures added { OnOk result (frames_of all.new ≡ frames_of all.old ++ map (resolved media.now (map frames_of nests.now)) (run_frames run)) }
+    ensures added { OnOk result (frames_of all.new ≡ frames_of all.old
+        ++ map (resolved media.now (map frames_of nests.now)) (run_frames run)) }
     ensures all { OnOk result (AreFit all.new) }
 {
     match nest_in(run.frame) {
@@ -143,7 +148,8 @@ fn add_nest(
 ) -> Result<(), Memory>
     requires all { AreFit all.old }
     requires fit { AllFit nests.now }
-    ensures added { OnOk result (frames_of all.new ≡ frames_of all.old ++ padded len (drop source (slice_index_or (map frames_of nests.now) nest []))) }
+    ensures added { OnOk result (frames_of all.new ≡ frames_of all.old
+        ++ padded len (drop source (slice_index_or (map frames_of nests.now) nest []))) }
     ensures all { OnOk result (AreFit all.new) }
 {
     match nests.get(nest as usize) {
@@ -155,7 +161,8 @@ fn add_nest(
 fn add_from(all: &mut Listed<Run<u32>>, strip: &Strip, source: u32, len: u32) -> Result<(), Memory>
     requires all { AreFit all.old }
     requires fit { AreFit strip.now }
-    ensures added { OnOk result (frames_of all.new ≡ frames_of all.old ++ padded len (drop source (frames_of strip.now))) }
+    ensures added { OnOk result (frames_of all.new ≡ frames_of all.old
+        ++ padded len (drop source (frames_of strip.now))) }
     ensures all { OnOk result (AreFit all.new) }
 {
     let spot = strip.spot_at(source);

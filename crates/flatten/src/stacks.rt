@@ -28,7 +28,8 @@ fn lay_over(
 ) -> Result<Listed<Run<u32>>, Memory>
     requires upper { AreFit upper.now }
     requires lower { AreFit lower.now }
-    ensures { IfOk result (λ all. Show all (laid_over (frames_of upper.now) (frames_of lower.now))) }
+    ensures { IfOk result (λ all. Show all
+        (laid_over (frames_of upper.now) (frames_of lower.now))) }
 {
     let mut all = Listed::new(alloc);
     let mut spot = FIRST;
@@ -50,7 +51,9 @@ fn add_over(
     requires run { IsFit run }
     requires lower { AreFit lower.now }
     requires spot { IsSpot lower.now spot }
-    ensures added { IfOk result (λ s. (rest : List (Frame ℕ)) → frames_of all.new ++ laid_over rest (left_from lower.now s) ≡ frames_of all.old ++ laid_over (run_frames run ++ rest) (left_from lower.now spot)) }
+    ensures added { IfOk result (λ s. (rest : List (Frame ℕ))
+        → frames_of all.new ++ laid_over rest (left_from lower.now s)
+        ≡ frames_of all.old ++ laid_over (run_frames run ++ rest) (left_from lower.now spot)) }
     ensures all { OnOk result (AreFit all.new) }
     ensures spot { IfOk result (λ s. IsSpot lower.now s) }
 {

@@ -1,8 +1,8 @@
 // Runs of reels, taken from a spot on.
 ghost use Rattle.std.specs.Prelude.{◌≡◌, ◌+◌, ◌<◌, ◌≤◌, ◌++◌, IfSome, IsNone, OnOk, IfOk, [], drop, length, slice_get};
 ghost use Rattle.frame_meaning.specs.RunFrames.{run_frames};
-ghost use Rattle.dissolves.specs.Pieces.{Reaches};
-ghost use Rattle.flatten.specs.Strips.{AreFit, IsFit, IsSpot, frames_of, left_from, moved_frame, padded};
+ghost use Rattle.dissolves.specs.Pieces.{Reaches, later_frame};
+ghost use Rattle.flatten.specs.Strips.{AreFit, IsFit, IsSpot, frames_of, left_from, padded};
 
 use composables::Listed;
 use frame_meaning::{Frame, Memory, Run};
@@ -18,9 +18,9 @@ pub struct Spot {
 pub const FIRST: Spot = Spot { index: 0, used: 0 };
 
 /// The frame that goes on from a frame, that many frames later.
-pub fn moved_frame(frame: Frame<u32>, n: u32) -> Frame<u32>
+pub fn later_frame(frame: Frame<u32>, n: u32) -> Frame<u32>
     requires { Reaches frame (n + 1) }
-    ensures { result ≡ moved_frame frame n }
+    ensures { result ≡ later_frame frame n }
 {
     match frame {
         Frame::Dark => Frame::Dark,
@@ -47,14 +47,15 @@ pub fn part_at(runs: &[Run<u32>], spot: Spot, most: u32) -> Option<(Run<u32>, Sp
     requires fit { AreFit runs.now }
     requires spot { IsSpot runs.now spot }
     requires most { 0 < most }
-    ensures frames { IfSome result (λ p. left_from runs.now spot ≡ run_frames p.0 ++ left_from runs.now p.1) }
+    ensures frames { IfSome result (λ p. left_from runs.now spot
+        ≡ run_frames p.0 ++ left_from runs.now p.1) }
     ensures fit { IfSome result (λ p. IsFit p.0) }
     ensures spot { IfSome result (λ p. IsSpot runs.now p.1) }
     ensures most { IfSome result (λ p. p.0.len ≤ most) }
     ensures end { IsNone result → left_from runs.now spot ≡ [] }
 {
     let run = run_at(runs, spot.index)?;
-    let frame = moved_frame(run.frame, spot.used);
+    let frame = later_frame(run.frame, spot.used);
     let len = run.len - spot.used;
     if len <= most {
         let behind = Spot {
@@ -109,7 +110,8 @@ pub fn add_padded(
     requires all { AreFit all.old }
     requires fit { AreFit runs.now }
     requires spot { IsSpot runs.now spot }
-    ensures added { OnOk result (frames_of all.new ≡ frames_of all.old ++ padded n (left_from runs.now spot)) }
+    ensures added { OnOk result (frames_of all.new
+        ≡ frames_of all.old ++ padded n (left_from runs.now spot)) }
     ensures all { OnOk result (AreFit all.new) }
     ensures spot { IfOk result (λ s. IsSpot runs.now s) }
     ensures frames { IfOk result (λ s. left_from runs.now s ≡ drop n (left_from runs.now spot)) }

@@ -2,7 +2,7 @@
 use crate::Shown;
 use crate::tests::laying::{clip, marked, nest};
 use crate::tests::tables::{add_layer, add_track, shown, table_of};
-use composables::{ItemView, Kind, Listed, Memory, Nest, Table};
+use composables::{ItemView, Kind, Layer, Listed, Memory, Nest, Table};
 use frame_meaning::{Frame, Run, Side};
 use std::alloc::Global;
 use std::test::Fail;
@@ -33,6 +33,19 @@ fn mix(left: Side<u32>, right: Side<u32>, den: u32, len: u32) -> Run<u32> {
     }
 }
 
+// What two tracks show.
+fn shown_of(
+    alloc: Global,
+    table: &Table,
+    first: &[ItemView],
+    second: &[ItemView],
+) -> Result<Option<Shown>, Memory> {
+    let mut tracks = Vec::new(alloc);
+    add_track(&mut tracks, alloc, first)?;
+    add_track(&mut tracks, alloc, second)?;
+    shown(alloc, table, &tracks)
+}
+
 // The video channel of two tracks, the second over the first.
 fn stack_of(
     alloc: Global,
@@ -40,10 +53,7 @@ fn stack_of(
     lower: &[ItemView],
     upper: &[ItemView],
 ) -> Result<Option<Listed<Run<u32>>>, Memory> {
-    let mut tracks = Vec::new(alloc);
-    add_track(&mut tracks, alloc, lower)?;
-    add_track(&mut tracks, alloc, upper)?;
-    match shown(alloc, table, &tracks)? {
+    match shown_of(alloc, table, lower, upper)? {
         Some(Shown { video, audio: _ }) => Ok(Some(video)),
         None => Ok(None),
     }
@@ -53,24 +63,27 @@ fn two_video_tracks(alloc: Global, nests: Listed<Nest>) -> Result<Table, Memory>
     table_of(alloc, &[Kind::Video, Kind::Video], nests)
 }
 
+fn one_nest(alloc: Global, layers: Listed<Layer>, length: u32) -> Result<Listed<Nest>, Memory> {
+    let mut nests = Listed::new(alloc);
+    nests.push(Nest { layers, length })?;
+    Ok(nests)
+}
+
+fn two_layers(alloc: Global) -> Result<Listed<Layer>, Memory> {
+    let mut layers = Listed::new(alloc);
+    add_layer(&mut layers, alloc, &[clip(0, 0, 10, 6)], 0, 6)?;
+    let upper = [ItemView::gap(2), clip(0, 2, 50, 2)];
+    add_layer(&mut layers, alloc, &upper, 0, 4)?;
+    Ok(layers)
+}
+
 #[test]
 fn a_nest_shows_its_topmost_layer(rt: HostRuntime) -> Result<(), Fail> {
     let alloc = rt.alloc();
-    let mut layers = Listed::new(alloc);
-    add_layer(&mut layers, alloc, &[clip(0, 0, 10, 6)], 0, 6)?;
-    add_layer(
-        &mut layers,
-        alloc,
-        &[ItemView::gap(2), clip(0, 2, 50, 2)],
-        0,
-        4,
+    let table = two_video_tracks(alloc, one_nest(alloc, two_layers(alloc)?, 6)?)?;
+    let Shown { video, audio } = shown_of(alloc, &table, &[nest(0, 0, 1, 4)], &[])?.ok_or(
+        "the nest is sound",
     )?;
-    let mut nests = Listed::new(alloc);
-    nests.push(Nest { layers, length: 6 })?;
-    let table = table_of(alloc, &[Kind::Video], nests)?;
-    let mut tracks = Vec::new(alloc);
-    add_track(&mut tracks, alloc, &[nest(0, 0, 1, 4)])?;
-    let Shown { video, audio } = shown(alloc, &table, &tracks)?.ok_or("the nest is sound")?;
     let want = [pic(0, 11, 1), pic(1, 50, 2), pic(0, 14, 1)];
     assert_eq!(rt; video.as_slice(), want.as_slice());
     assert_eq!(rt; audio.as_slice().len(), 0);
@@ -81,14 +94,8 @@ fn a_nest_shows_its_topmost_layer(rt: HostRuntime) -> Result<(), Fail> {
 fn media_of_one_reel_go_on(rt: HostRuntime) -> Result<(), Fail> {
     let alloc = rt.alloc();
     let table = table_of(alloc, &[Kind::Audio, Kind::Video], Listed::new(alloc))?;
-    let mut tracks = Vec::new(alloc);
-    add_track(
-        &mut tracks,
-        alloc,
-        &[clip(0, 0, 10, 3), clip(1, 1, 13, 2), clip(2, 2, 15, 1)],
-    )?;
-    add_track(&mut tracks, alloc, &[])?;
-    let Shown { video, audio } = shown(alloc, &table, &tracks)?.ok_or("these are short")?;
+    let first = [clip(0, 0, 10, 3), clip(1, 1, 13, 2), clip(2, 2, 15, 1)];
+    let Shown { video, audio } = shown_of(alloc, &table, &first, &[])?.ok_or("these are short")?;
     assert_eq!(rt; video.as_slice().len(), 0);
     assert_eq!(rt; audio.as_slice().len(), 1);
     let want = [pic(0, 10, 5), pic(1, 15, 1)];
@@ -143,14 +150,16 @@ fn a_mix_from_black_hides_what_lies_below(rt: HostRuntime) -> Result<(), Fail> {
     Ok(())
 }
 
+fn short_layer(alloc: Global) -> Result<Listed<Layer>, Memory> {
+    let mut layers = Listed::new(alloc);
+    add_layer(&mut layers, alloc, &[clip(0, 0, 10, 6)], 2, 5)?;
+    Ok(layers)
+}
+
 #[test]
 fn a_nest_is_dark_where_its_layers_end(rt: HostRuntime) -> Result<(), Fail> {
     let alloc = rt.alloc();
-    let mut layers = Listed::new(alloc);
-    add_layer(&mut layers, alloc, &[clip(0, 0, 10, 6)], 2, 5)?;
-    let mut nests = Listed::new(alloc);
-    nests.push(Nest { layers, length: 5 })?;
-    let table = two_video_tracks(alloc, nests)?;
+    let table = two_video_tracks(alloc, one_nest(alloc, short_layer(alloc)?, 5)?)?;
     let lower = [clip(0, 4, 70, 3)];
     let video = stack_of(alloc, &table, &lower, &[nest(0, 0, 1, 5)])?.ok_or("the nest is sound")?;
     let want = [pic(0, 13, 2), pic(2, 72, 1), dark(2)];
@@ -163,17 +172,26 @@ fn a_nest_is_dark_where_its_layers_end(rt: HostRuntime) -> Result<(), Fail> {
 fn eight_nests(alloc: Global) -> Result<Listed<Nest>, Memory> {
     let mut nests = Listed::new(alloc);
     for j in 0..8 {
-        let mut layers = Listed::new(alloc);
-        let length = 20 - j;
-        if j == 0 {
-            add_layer(&mut layers, alloc, &[clip(0, 4, 50, 20)], 0, 20)?;
-        } else {
-            let views = [nest(0, j - 1, 2, length - 1), clip(1, 0, 10 * j, 1)];
-            add_layer(&mut layers, alloc, &views, 0, length)?;
-        }
-        nests.push(Nest { layers, length })?;
+        let layers = layer_of(alloc, j)?;
+        nests.push(Nest {
+            layers,
+            length: 20 - j,
+        })?;
     }
     Ok(nests)
+}
+
+fn layer_of(alloc: Global, j: u32) -> Result<Listed<Layer>, Memory> {
+    let mut layers = Listed::new(alloc);
+    if j == 0 {
+        add_layer(&mut layers, alloc, &[clip(0, 4, 50, 20)], 0, 20)?;
+        return Ok(layers);
+    }
+    let last = clip(1, 0, j.saturating_mul(10), 1);
+    let length = 20_u32.saturating_sub(j);
+    let views = [nest(0, j - 1, 2, length.saturating_sub(1)), last];
+    add_layer(&mut layers, alloc, &views, 0, length)?;
+    Ok(layers)
 }
 
 #[test]

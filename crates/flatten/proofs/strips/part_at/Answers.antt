@@ -8,8 +8,8 @@ use Rattle.flatten.proofs.Moving.{reaches_less, reaches_moved}
 use Rattle.flatten.proofs.Parts.{at_start, behind, fit_at, front_part, none_left, still_behind, whole_part}
 use Rattle.flatten.proofs.strips.part_at.Goals as goal
 
-pub moved_frame-frame-requires : goal.moved_frame-frame-requires
-moved_frame-frame-requires c =
+pub later_frame-frame-requires : goal.later_frame-frame-requires
+later_frame-frame-requires c =
     let rs = c.args.runs.now in
     let r = c.in_ok-run.run' in
     let is : slice_get rs c.args.spot.index ≡ Some r = sym c.run_at.ensures.run ∙ c.in_ok-run.was in
@@ -30,8 +30,8 @@ returns-then-len-most-clause-frames c =
     let is : slice_get rs i ≡ Some r = sym c.run_at.ensures.run ∙ c.in_ok-run.was in
     let past : drop (suc i) rs ≡ drop (i + 1) rs = rw add-one in
     whole_part rs i used r is (behind rs i used r c.requires.spot is)
-    ∙ (ap (λ (f : Frame ℕ). frames_from f (r.len - used) ++ frames_of (drop (suc i) rs)) (sym c.moved_frame-frame.ensures)
-    ∙ ap (λ (qs : List (Run ℕ)). frames_from c.moved_frame-frame.result (r.len - used) ++ frames_of qs) past)
+    ∙ (ap (λ (f : Frame ℕ). frames_from f (r.len - used) ++ frames_of (drop (suc i) rs)) (sym c.later_frame-frame.ensures)
+    ∙ ap (λ (qs : List (Run ℕ)). frames_from c.later_frame-frame.result (r.len - used) ++ frames_of qs) past)
 
 pub returns-then-len-most-clause-fit : goal.returns-then-len-most-clause-fit
 returns-then-len-most-clause-fit c =
@@ -43,7 +43,7 @@ returns-then-len-most-clause-fit c =
     let within = behind rs i used r c.requires.spot is in
     record {
       filled = omega (arith, within);
-      reaches = subst (λ (f : Frame ℕ). Reaches f (r.len - used)) (sym c.moved_frame-frame.ensures) (reaches_moved r.frame used (r.len - used) r.len (omega (arith, within)) (fit_at rs i r c.requires.fit is).reaches);
+      reaches = subst (λ (f : Frame ℕ). Reaches f (r.len - used)) (sym c.later_frame-frame.ensures) (reaches_moved r.frame used (r.len - used) r.len (omega (arith, within)) (fit_at rs i r c.requires.fit is).reaches);
     }
 
 pub returns-then-len-most-clause-spot : goal.returns-then-len-most-clause-spot
@@ -58,7 +58,7 @@ returns-clause-frames c =
     let r = c.in_ok-run.run' in
     let is : slice_get rs i ≡ Some r = sym c.run_at.ensures.run ∙ c.in_ok-run.was in
     front_part rs i used most r is (behind rs i used r c.requires.spot is) (omega (arith, c.if-len-most.false))
-    ∙ ap (λ (f : Frame ℕ). frames_from f most ++ drop (used + most) (frames_of (drop i rs))) (sym c.moved_frame-frame.ensures)
+    ∙ ap (λ (f : Frame ℕ). frames_from f most ++ drop (used + most) (frames_of (drop i rs))) (sym c.later_frame-frame.ensures)
 
 pub returns-clause-fit : goal.returns-clause-fit
 returns-clause-fit c =
@@ -69,7 +69,7 @@ returns-clause-fit c =
     let is : slice_get rs i ≡ Some r = sym c.run_at.ensures.run ∙ c.in_ok-run.was in
     record {
       filled = omega (arith, c.requires.most);
-      reaches = subst (λ (f : Frame ℕ). Reaches f c.args.most) (sym c.moved_frame-frame.ensures) (reaches_moved r.frame used c.args.most r.len (omega (arith, c.if-len-most.false)) (fit_at rs i r c.requires.fit is).reaches);
+      reaches = subst (λ (f : Frame ℕ). Reaches f c.args.most) (sym c.later_frame-frame.ensures) (reaches_moved r.frame used c.args.most r.len (omega (arith, c.if-len-most.false)) (fit_at rs i r c.requires.fit is).reaches);
     }
 
 pub returns-clause-spot : goal.returns-clause-spot
