@@ -1,2 +1,4 @@
 pub mod Decimals
 pub mod PartTexts
+pub mod Facts
+pub mod CutTexts
