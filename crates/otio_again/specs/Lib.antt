@@ -1,1 +1,2 @@
 pub mod CutTrees
+pub mod Meanings
