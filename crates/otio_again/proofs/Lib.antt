@@ -5,3 +5,10 @@ pub mod CutTexts
 pub mod Lawful
 pub mod CutLawful
 pub mod Spelled
+pub mod Walk
+pub mod TimesBack
+pub mod Extends
+pub mod RanksBack
+pub mod ItemsBack
+pub mod RowsBack
+pub mod TracksBack

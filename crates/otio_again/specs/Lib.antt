@@ -1,2 +1,3 @@
 pub mod CutTrees
+pub mod SameCut
 pub mod Meanings
