@@ -47,7 +47,7 @@ use Rattle.otio_again.proofs.Extends.{Extends, extends_self, entered_extends, en
 pub record IsItemTree (t range : Tree) : Type 0 where
   pub enabled : HasNo (codes "enabled") t
   pub effects : Has (codes "effects") t (list_tree [])
-  pub range : Has (codes "source_range") t range
+  pub ranged : Has (codes "source_range") t range
 
 pub head_back : (t range : Tree) (at : ℕ) → IsItemTree t range → head_read (placed at t) ≡ Ok tt
 unfolding head_read enabled_read effects_read
@@ -68,13 +68,13 @@ pub trim_back : (r : SequenceRate) (t : Tree) (from len at : ℕ) → IsItemTree
     → (q : ℕ) × (trim_read (pair_of r) (placed at t) ≡ Ok (Some (span_at q from len)))
 unfolding trim_read
 trim_back r t from len at h f l =
-    let g = given_back (codes "source_range") t (range_tree r from len) at h.range (range_some r from len) in
+    let g = given_back (codes "source_range") t (range_tree r from len) at h.ranged (range_some r from len) in
     let s = placed g.0 (range_tree r from len) in
     (place_of s, ap (trim_if (pair_of r)) g.1 ∙ goes (span_read (pair_of r) s) _ (span_at (place_of s) from len) _ (span_back r from len g.0 f l) refl)
 
 pub untrimmed_back : (rate : ℕ × ℕ) (t : Tree) (at : ℕ) → IsItemTree t (At 0 Null) → trim_read rate (placed at t) ≡ Ok None
 unfolding trim_read
-untrimmed_back rate t at h = ap (trim_if rate) (given_null (codes "source_range") t (At 0 Null) at h.range refl)
+untrimmed_back rate t at h = ap (trim_if rate) (given_null (codes "source_range") t (At 0 Null) at h.ranged refl)
 
 zero_le : (n : ℕ) → int_le (pos 0) (pos n) ≡ true
 zero_le n = le-leb 0 n (omega arith)
@@ -113,13 +113,13 @@ gap_is r len = record { object = refl; schema = refl }
 
 gap_has : (r : SequenceRate) (len : ℕ) → IsItemTree (gap_tree r len) (range_tree r 0 len)
 unfolding gap_tree
-gap_has r len = record { enabled = refl; effects = refl; range = refl }
+gap_has r len = record { enabled = refl; effects = refl; ranged = refl }
 
 gap_part_back : (r : SequenceRate) (len at : ℕ) → len ≤ 2147483647 → gap_part_read (pair_of r) (placed at (gap_tree r len)) ≡ Ok (gap_part len)
 unfolding gap_part_read
 gap_part_back r len at l =
     let t = placed at (gap_tree r len) in
-    let g = given_back (codes "source_range") (gap_tree r len) (range_tree r 0 len) at (gap_has r len).range (range_some r 0 len) in
+    let g = given_back (codes "source_range") (gap_tree r len) (range_tree r 0 len) at (gap_has r len).ranged (range_some r 0 len) in
     ap (gap_if (pair_of r) (place_of t)) g.1
     ∙ goes (gap_read (pair_of r) (placed g.0 (range_tree r 0 len))) _ len _ (gap_back r 0 len g.0 l) refl
 
@@ -152,7 +152,7 @@ clip_is r reel source len m = record { object = refl; schema = refl }
 
 clip_has : (r : SequenceRate) (reel : List ℕ) (source len : ℕ) (m : Media) → IsItemTree (clip_tree r reel source len m) (range_tree r source len)
 unfolding clip_tree
-clip_has r reel source len m = record { enabled = refl; effects = refl; range = refl }
+clip_has r reel source len m = record { enabled = refl; effects = refl; ranged = refl }
 
 clip_reference : (r : SequenceRate) (reel : List ℕ) (source len : ℕ) (m : Media) → Has (codes "media_reference") (clip_tree r reel source len m) (reference_of_range (range_tree r m.from (m.to - m.from)))
 unfolding clip_tree

@@ -12,3 +12,4 @@ pub mod RanksBack
 pub mod ItemsBack
 pub mod RowsBack
 pub mod TracksBack
+pub mod NestsBack

@@ -72,8 +72,8 @@ one_shows (Some i) b Dark y k l e h g = absurd h
 one_shows (Some i) b (Pic w s) y k l e h g = refl
 one_shows None (Some j) Dark Dark k l e h g = absurd g
 one_shows None (Some j) Dark (Pic w s) k l e h g = refl
-one_shows None (Some j) (Pic w s) y None e h g = absurd h
-one_shows None (Some j) (Pic w s) y (Some k) e h g = absurd h
+one_shows None (Some j) (Pic w s) y None l e h g = absurd h
+one_shows None (Some j) (Pic w s) y (Some k) l e h g = absurd h
 
 -- ---- room for a dissolve
 
@@ -101,9 +101,9 @@ reach_same (Some m) = refl
 
 -- the item kept last and the one that was read last are v
 pub record IsBehind (t u : Table) (levels : ℕ) (v : ItemView) (last before : Part) : Type 0 where
-  pub last : IsPartOf t u levels v last
+  pub kept_last : IsPartOf t u levels v last
   pub mark : last.mark ≡ v.mark
-  pub before : IsPartOf t u levels v before
+  pub read_last : IsPartOf t u levels v before
 
 part_on : (t a b : Table) (levels : ℕ) → Extends a b → (v : ItemView) (p : Part) → IsPartOf t a levels v p → IsPartOf t b levels v p
 part_on t a b levels h v p k = record {
@@ -118,14 +118,14 @@ and_all a b c d e f g h = λ i. e i && (f i && (g i && h i))
 room_back : (t u w : Table) (levels : ℕ) (v next : ItemView) (m : Mark) (tail : Option Mark) (last before part : Part) → next.mark ≡ Some m → IsShown t v (Some m) → IsShown t next tail
     → IsBehind t u levels v last before → IsPartOf t w levels next part → has_room last part m ≡ true
 room_back t u w levels v next m tail last before part mark hv hn k p =
-    let on = on_back (SameThing t u levels) t v.first last.first last.from last.to v.len (left_reach v.mark) m.b k.last.side k.last.bounds hv.lies in
+    let on = on_back (SameThing t u levels) t v.first last.first last.from last.to v.len (left_reach v.mark) m.b k.kept_last.side k.kept_last.bounds hv.lies in
     let lies : SideLiesIn t next.first next.len m.a (right_reach tail) = subst (λ (o : Option Mark). SideLiesIn t next.first next.len (left_reach o) (right_reach tail)) mark hn.lies in
     let back = on_back (SameThing t w levels) t next.first part.first part.from part.to next.len m.a (right_reach tail) p.side p.bounds lies in
-    let left : reach_of last.mark + m.a ≤ last.len = omega (arith, hv.holds.room, ap reach_of k.mark ∙ reach_same v.mark, k.last.len) in
+    let left : reach_of last.mark + m.a ≤ last.len = omega (arith, hv.holds.room, ap reach_of k.mark ∙ reach_same v.mark, k.kept_last.len) in
     let right : m.b ≤ part.len = omega (arith, hn.holds.room, ap right_reach mark, p.len) in
     and_all (nat_le (reach_of last.mark + m.a) last.len) (nat_le m.b part.len) (reaches_on last m.b) (reaches_back part m.a)
         (le-leb (reach_of last.mark + m.a) last.len left) (le-leb m.b part.len right)
-        (ap (λ (n : ℕ). side_reaches_on last.first n last.to m.b) k.last.len ∙ on.0) back.1
+        (ap (λ (n : ℕ). side_reaches_on last.first n last.to m.b) k.kept_last.len ∙ on.0) back.1
 
 -- ---- a dissolve
 
@@ -162,11 +162,11 @@ dissolve_known r t u w levels v next (Some m) tail last before part at mark apar
     let some : IsFilled (Some m) = subst IsFilled mark hn.holds.mark_filled in
     let head : IsNoNest next.first (Some m) = subst (IsNoNest next.first) mark hn.holds.head_no_nest in
     let dark = one_shows v.item next.item v.first next.first v.link next.link apart hv.holds.shows hn.holds.shows in
-    let gaps : is_gap before && is_gap part ≡ false = (λ i. same_dark (SameThing t u levels) v.first before.first k.before.side i && same_dark (SameThing t w levels) next.first part.first p.side i) ∙ dark in
-    let left : is_nest before ≡ false = same_nest t u levels v.first before.first k.before.side ∙ no_nest v.first m hv.holds.tail_no_nest in
+    let gaps : is_gap before && is_gap part ≡ false = (λ i. same_dark (SameThing t u levels) v.first before.first k.read_last.side i && same_dark (SameThing t w levels) next.first part.first p.side i) ∙ dark in
+    let left : is_nest before ≡ false = same_nest t u levels v.first before.first k.read_last.side ∙ no_nest v.first m hv.holds.tail_no_nest in
     let right : is_nest part ≡ false = same_nest t w levels next.first part.first p.side ∙ no_nest next.first m head in
     behind_known last before part m at gaps left right
-        (mark_known last before part m at some (omega (arith, k.before.len, hv.holds.filled)) (omega (arith, p.len, hn.holds.filled)) (room_back t u w levels v next m tail last before part mark hv hn k p))
+        (mark_known last before part m at some (omega (arith, k.read_last.len, hv.holds.filled)) (omega (arith, p.len, hn.holds.filled)) (room_back t u w levels v next m tail last before part mark hv hn k p))
 
 -- ---- one item more
 
@@ -245,7 +245,7 @@ module _ (r : SequenceRate) (inner : Result Inner DocCode) (t : Table) (levels :
       let row : RowState = record { done = done; last = Some last; before = Some before; waiting = waiting_of r mark place } in
       let after = row_of (done ++ last ∷ []) (with_mark c.part mark) c.part in
       let dark = one_shows v.item next.item v.first next.first v.link next.link apart hv.holds.shows hn.holds.shows in
-      let gaps : is_gap last && is_gap c.part ≡ false = (λ i. same_dark (SameThing t u levels) v.first last.first k.last.side i && same_dark (SameThing t c.table levels) next.first c.part.first c.is.side i) ∙ dark in
+      let gaps : is_gap last && is_gap c.part ≡ false = (λ i. same_dark (SameThing t u levels) v.first last.first k.kept_last.side i && same_dark (SameThing t c.table levels) next.first c.part.first c.is.side i) ∙ dark in
       let known = dissolve_known r t u c.table levels v next mark tail last before c.part place e apart hv hn k c.is in
       let put : row_with row c.part ≡ Ok after = kept_next done last before c.part (waiting_of r mark place) mark (omega (arith, c.is.len, hn.holds.filled)) gaps known in
       let one : child_in (pair_of r) inner (row, u) (placed q (item_tree t r tree next)) ≡ Ok (after, c.table) = c.read row ∙ ap (λ (x : Read RowState). x >>= λ n. Ok (n, c.table)) put in
@@ -318,7 +318,7 @@ module _ (r : SequenceRate) (inner : Result Inner DocCode) (t : Table) (levels :
   later_back (next ∷ vs) v done last before u at hv hs can tight k =
       item_step v next next.mark (first_mark vs) vs done last before u at refl tight.0 hv hs.0 k can.0
           (λ q c place. later_back vs next (done ++ last ∷ []) (with_mark c.part next.mark) c.part c.table place hs.0 hs.1 can.1 tight.1
-              (record { last = marked_part c.table next c.part next.mark c.is; mark = refl; before = c.is }))
+              (record { kept_last = marked_part c.table next c.part next.mark c.is; mark = refl; read_last = c.is }))
 
   pub row_back : (vs : List ItemView) (u : Table) (at : ℕ) → first_mark vs ≡ None → EachIsShown t vs → AllCan Can vs → IsTight vs → RowBack r inner t levels u vs (in_trees (placed_trees at (trees (item_trees t r tree vs))))
   row_back [] u at none hs can tight = record { next = empty_row; table = u; parts = []; read = refl; extends = extends_self u; all = refl; are = tt; no_more = refl }
@@ -330,7 +330,7 @@ module _ (r : SequenceRate) (inner : Result Inner DocCode) (t : Table) (levels :
       let one : child_in (pair_of r) inner (empty_row, u) item ≡ Ok (row, c.table) =
           c.read empty_row ∙ ap (λ (x : Read RowState). x >>= λ n. Ok (n, c.table)) (kept_first c.part (omega (arith, c.is.len, hs.0.holds.filled))) in
       let b = later_back vs v [] first c.part c.table (at + length (tree_text (item_tree t r tree v)) + 1) hs.0 hs.1 can.1 tight
-          (record { last = marked_part c.table v c.part None c.is; mark = sym none; before = c.is }) in
+          (record { kept_last = marked_part c.table v c.part None c.is; mark = sym none; read_last = c.is }) in
       record {
         next = b.next;
         table = b.table;

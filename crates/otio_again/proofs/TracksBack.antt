@@ -121,17 +121,19 @@ AllBelow seen n = (j : ℕ) → n ≤ j → list_any (nat_eq j) seen ≡ false
 below_more : (seen : List ℕ) (n : ℕ) → AllBelow seen n → AllBelow (seen ++ n ∷ []) (n + 1)
 below_more seen n b j le = not_in_more seen n j (b j (omega arith)) (λ e. omega arith)
 
+-- the numbers of the items behind one that is a gap, or is none
+made_by : (gap : Bool) (seen : List ℕ) (n : ℕ) (ps : List Part) → AllBelow seen n → ((next : ℕ) (more : List ℕ) → AllBelow more next → AreNew more (views_of next ps))
+    → IsNew seen (if gap then None else Some n) × AreNew (added seen (if gap then None else Some n)) (views_of (if gap then n else n + 1) ps)
+made_by true seen n ps b rest = (tt, rest n seen b)
+made_by false seen n ps b rest = (b n (omega arith), rest (n + 1) (seen ++ n ∷ []) (below_more seen n b))
+
 new_made : (t u : Table) (levels : ℕ) (vs : List ItemView) (ps : List Part) (n : ℕ) (seen : List ℕ) → AreParts t u levels vs ps → EachFilled vs → AllBelow seen n → AreNew seen (views_of n ps)
 new_made t u levels [] [] n seen h f b = tt
 new_made t u levels [] (p ∷ ps) n seen h f b = absurd h
 new_made t u levels (v ∷ vs) [] n seen h f b = absurd h
 new_made t u levels (v ∷ vs) (p ∷ ps) n seen h f b =
-    let rest = by_gap (is_gap p) in
+    let rest = made_by (is_gap p) seen n ps b (λ next more below. new_made t u levels vs ps next more h.2 f.1 below) in
     (omega (arith, h.0.len, f.0), rest.0, rest.1)
-  where
-    by_gap : (g : Bool) → IsNew seen (if g then None else Some n) × AreNew (added seen (if g then None else Some n)) (views_of (if g then n else n + 1) ps)
-    by_gap true = (tt, new_made t u levels vs ps n seen h.2 f.1 b)
-    by_gap false = (b n (omega arith), new_made t u levels vs ps (n + 1) (seen ++ n ∷ []) h.2 f.1 (below_more seen n b))
 
 each_filled : (vs : List ItemView) → EachHolds vs → EachFilled vs
 each_filled [] h = tt
