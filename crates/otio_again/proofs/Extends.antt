@@ -28,6 +28,25 @@ pub record Extends (old new : Table) : Type 0 where
   pub nests : (i : ℕ) (x : Nest) → slice_get old.nests i ≡ Some x → slice_get new.nests i ≡ Some x
   pub kinds : new.kinds ≡ old.kinds
 
+-- the same, whatever the kinds of tracks are
+pub record Keeps (old new : Table) : Type 0 where
+  pub reels : (i : ℕ) (x : List ℕ) → slice_get old.reels i ≡ Some x → slice_get new.reels i ≡ Some x
+  pub media : (i : ℕ) (x : Media) → slice_get old.media i ≡ Some x → slice_get new.media i ≡ Some x
+  pub nests : (i : ℕ) (x : Nest) → slice_get old.nests i ≡ Some x → slice_get new.nests i ≡ Some x
+
+pub keeps_self : (t : Table) → Keeps t t
+keeps_self t = record { reels = λ i x e. e; media = λ i x e. e; nests = λ i x e. e }
+
+pub keeps_on : (a b c : Table) → Keeps a b → Keeps b c → Keeps a c
+keeps_on a b c h k = record {
+  reels = λ i x e. k.reels i x (h.reels i x e);
+  media = λ i x e. k.media i x (h.media i x e);
+  nests = λ i x e. k.nests i x (h.nests i x e);
+}
+
+pub keeps_of : (a b : Table) → Extends a b → Keeps a b
+keeps_of a b h = record { reels = h.reels; media = h.media; nests = h.nests }
+
 pub extends_self : (t : Table) → Extends t t
 extends_self t = record { reels = λ i x e. e; media = λ i x e. e; nests = λ i x e. e; kinds = refl }
 
@@ -131,22 +150,25 @@ layers_on P Q f [] (k ∷ ks) h = h
 layers_on P Q f (l ∷ ls) [] h = h
 layers_on P Q f (l ∷ ls) (k ∷ ks) h = (layer_on P Q f l k h.0, layers_on P Q f ls ks h.1)
 
-entry_on : (t a b : Table) → Extends a b → (o : Option Media) (j : ℕ) (found : Option Media) → slice_get a.media j ≡ found → SameEntry t.reels a.reels o found → SameEntry t.reels b.reels o (slice_get b.media j)
+entry_on : (t a b : Table) → Keeps a b → (o : Option Media) (j : ℕ) (found : Option Media) → slice_get a.media j ≡ found → SameEntry t.reels a.reels o found → SameEntry t.reels b.reels o (slice_get b.media j)
 entry_on t a b h None j found e s = absurd s
 entry_on t a b h (Some m) j None e s = absurd s
 entry_on t a b h (Some m) j (Some n) e s =
     subst (λ (q : Option Media). SameEntry t.reels b.reels (Some m) q) (sym (h.media j n e)) (s.0, s.1, h.reels n.reel s.0 s.2, s.3, s.4)
 
-nest_on : (P Q : What → What → Type 0) → ((w x : What) → P w x → Q w x) → (a b : Table) → Extends a b → (o : Option Nest) (j : ℕ) (found : Option Nest) → slice_get a.nests j ≡ found → SameNest P o found → SameNest Q o (slice_get b.nests j)
+nest_on : (P Q : What → What → Type 0) → ((w x : What) → P w x → Q w x) → (a b : Table) → Keeps a b → (o : Option Nest) (j : ℕ) (found : Option Nest) → slice_get a.nests j ≡ found → SameNest P o found → SameNest Q o (slice_get b.nests j)
 nest_on P Q f a b h None j found e s = absurd s
 nest_on P Q f a b h (Some m) j None e s = absurd s
 nest_on P Q f a b h (Some m) j (Some n) e s =
     subst (λ (q : Option Nest). SameNest Q (Some m) q) (sym (h.nests j n e)) (s.0, layers_on P Q f m.layers n.layers s.1)
 
+pub thing_keeps : (t a b : Table) → Keeps a b → (levels : ℕ) (w x : What) → SameThing t a levels w x → SameThing t b levels w x
+thing_keeps t a b h levels (MediaOf i) (MediaOf j) s = entry_on t a b h (slice_get t.media i) j (slice_get a.media j) refl s
+thing_keeps t a b h levels (MediaOf i) (NestOf j) s = s
+thing_keeps t a b h levels (NestOf i) (MediaOf j) s = s
+thing_keeps t a b h zero (NestOf i) (NestOf j) s = s
+thing_keeps t a b h (suc levels) (NestOf i) (NestOf j) s =
+    nest_on (SameThing t a levels) (SameThing t b levels) (thing_keeps t a b h levels) a b h (slice_get t.nests i) j (slice_get a.nests j) refl s
+
 pub thing_on : (t a b : Table) → Extends a b → (levels : ℕ) (w x : What) → SameThing t a levels w x → SameThing t b levels w x
-thing_on t a b h levels (MediaOf i) (MediaOf j) s = entry_on t a b h (slice_get t.media i) j (slice_get a.media j) refl s
-thing_on t a b h levels (MediaOf i) (NestOf j) s = s
-thing_on t a b h levels (NestOf i) (MediaOf j) s = s
-thing_on t a b h zero (NestOf i) (NestOf j) s = s
-thing_on t a b h (suc levels) (NestOf i) (NestOf j) s =
-    nest_on (SameThing t a levels) (SameThing t b levels) (thing_on t a b h levels) a b h (slice_get t.nests i) j (slice_get a.nests j) refl s
+thing_on t a b h = thing_keeps t a b (keeps_of a b h)

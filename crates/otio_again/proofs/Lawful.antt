@@ -12,7 +12,7 @@ use Rattle.composables.specs.declared.media.Kind.{Kind as TrackKind}
 use Rattle.composables.specs.declared.media.Kind.TheVariants.{Video, Audio}
 use Rattle.json_tree.specs.Tree.{Tree, At, Null, trees}
 use Rattle.json_tree.specs.Sound.{IsSound, AreSound, is_writable, are_writable}
-use Rattle.otio_again.specs.CutTrees.{rate_tree, time_tree, range_tree, gap_of_range, gap_tree, clip_of_ranges, clip_tree, transition_of_times, transition_tree, nest_of_layers, layer_of_items, kind_name, track_of_items, timeline_of}
+use Rattle.otio_again.specs.CutTrees.{rate_tree, time_tree, range_tree, gap_of_range, gap_tree, clip_of_ranges, clip_tree, transition_of_times, transition_tree, nest_of_layers, layer_of_items, kind_name, track_of_items, stack_of_tracks, timeline_of}
 
 pub record IsLawful (levels : ℕ) (t : Tree) : Type 0 where
   pub writable : is_writable t levels ≡ true
@@ -211,7 +211,7 @@ track_lawful n kind items k = record {
 }
 
 pub timeline_lawful : (n : ℕ) (start : Tree) (tracks : List Tree) → IsLawful (suc (suc n)) start → AreLawful n tracks → IsLawful (suc (suc (suc n))) (timeline_of start tracks)
-unfolding timeline_of encode
+unfolding timeline_of stack_of_tracks encode
 timeline_lawful n start tracks h k = record {
   writable = rw (h.writable, k.writable) refl;
   sound = (

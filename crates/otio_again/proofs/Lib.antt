@@ -13,3 +13,7 @@ pub mod ItemsBack
 pub mod RowsBack
 pub mod TracksBack
 pub mod NestsBack
+pub mod Depth
+pub mod SequenceBack
+pub mod CutBack
+pub mod Examples

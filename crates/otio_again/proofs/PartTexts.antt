@@ -12,7 +12,7 @@ use Rattle.composables.specs.declared.media.Kind.TheVariants.{Video, Audio}
 use Rattle.json_tree.specs.Tree.{Tree, trees}
 use Rattle.json_tree.specs.Writing.{numeral_text, whole_text, digits_needed, escaped, quoted, joined, tree_text, trees_texts}
 use Rattle.otio_text.specs.Documents.{time_text, range_open, range_start, brace, range_text, gap_open, gap_close, gap_text, clip_open, clip_reel, clip_range, clip_media, clip_close, clip_text, transition_open, transition_out, transition_text, nest_open, nest_children, layer_open, layer_children, track_open, track_children, kind_text, children_close, timeline_open, timeline_tracks, timeline_close}
-use Rattle.otio_again.specs.CutTrees.{list_tree, time_tree, range_tree, gap_of_range, gap_tree, clip_of_ranges, clip_tree, transition_of_times, transition_tree, nest_of_layers, layer_of_items, kind_name, track_of_items, timeline_of}
+use Rattle.otio_again.specs.CutTrees.{list_tree, time_tree, range_tree, gap_of_range, gap_tree, clip_of_ranges, clip_tree, transition_of_times, transition_tree, nest_of_layers, layer_of_items, kind_name, track_of_items, stack_of_tracks, timeline_of}
 use Rattle.otio_again.proofs.Decimals.{numeral_is_decimal}
 
 -- ---- what stands between fixed texts, as the tree writes it and as the cut is written
@@ -101,5 +101,5 @@ track_written (Some Video) items = ap (λ (x : List ℕ). track_open ++ (kind_te
 track_written None items = ap (λ (x : List ℕ). track_open ++ (kind_text None ++ (track_children ++ x))) (list_shape (listed items) (codes "]") brace)
 
 pub timeline_written : (start : Tree) (tracks : List Tree) → tree_text (timeline_of start tracks) ≡ timeline_open ++ (tree_text start ++ (timeline_tracks ++ (listed tracks ++ timeline_close)))
-unfolding timeline_of
+unfolding timeline_of stack_of_tracks
 timeline_written start tracks = ap (λ (x : List ℕ). timeline_open ++ x) (timeline_shape (tree_text start) timeline_tracks (listed tracks) (codes "]") brace)

@@ -219,21 +219,24 @@ track_trees table rate i (t ∷ ts) = track_tree table rate (kind_at table i) t 
 
 -- ---- the timeline
 
+unfoldable pub stack_of_tracks : List Tree → Tree
+stack_of_tracks tracks = object (
+  schema (codes "Stack.1")
+  ∷ (codes "name", text_tree (codes "tracks"))
+  ∷ (codes "metadata", object [])
+  ∷ (codes "source_range", At 0 Null)
+  ∷ (codes "effects", list_tree [])
+  ∷ (codes "markers", list_tree [])
+  ∷ (codes "children", list_tree tracks)
+  ∷ [])
+
 unfoldable pub timeline_of : Tree → List Tree → Tree
 timeline_of start tracks = object (
   schema (codes "Timeline.1")
   ∷ (codes "name", text_tree [])
   ∷ (codes "metadata", object [])
   ∷ (codes "global_start_time", start)
-  ∷ (codes "tracks", object (
-    schema (codes "Stack.1")
-    ∷ (codes "name", text_tree (codes "tracks"))
-    ∷ (codes "metadata", object [])
-    ∷ (codes "source_range", At 0 Null)
-    ∷ (codes "effects", list_tree [])
-    ∷ (codes "markers", list_tree [])
-    ∷ (codes "children", list_tree tracks)
-    ∷ []))
+  ∷ (codes "tracks", stack_of_tracks tracks)
   ∷ [])
 
 abbrev pub timeline_tree : Table → List TrackState → Counted → ℕ → Tree
