@@ -1,40 +1,36 @@
 -- A cut that was written is read again as the same cut.
-use Rattle.std.proofs.Common.{◌≡◌, ℕ, zero, suc, ◌+◌, ◌^◌, ◌<◌, ◌≤◌, Bool, true, false, ◌&&◌, pos, List, [], ◌∷◌, ◌++◌, length, Option, Some, None, Result, Ok, Err, refl, sym, ap, subst, ◌∙◌, arith, if◌then◌else◌}
-use Rattle.std.specs.Prelude.{codes, nat_le, nat_lt}
+use Rattle.std.proofs.Common.{◌≡◌, ℕ, suc, ◌+◌, ◌^◌, ◌<◌, ◌≤◌, true, false, ◌&&◌, pos, List, [], ◌∷◌, length, Ok, refl, sym, ap, subst, ◌∙◌, arith, if◌then◌else◌}
+use Rattle.std.specs.Prelude.{codes}
 use Rattle.std.proofs.lemmas.Bool.{le-leb, lt-ltb}
 use Rattle.std.proofs.lemmas.List.{append-nil}
 use Rattle.timecode12.specs.Numbers.{Counted}
 use Rattle.timecode12.specs.declared.rate.SequenceRate.{SequenceRate}
 use Rattle.timecode12.specs.Labels.{day_of}
-use Rattle.composables.specs.declared.media.Kind.{Kind as TrackKind}
 use Rattle.composables.specs.declared.media.Table.{Table}
 use Rattle.composables.specs.TrackState.{TrackState}
-use Rattle.json_tokens.specs.Reading.{◌>>=◌}
-use Rattle.json_tokens.specs.declared.fault.JsonFault.{JsonFault}
-use Rattle.json_tree.specs.Tree.{Tree, At, Null, Trees, trees, in_trees}
+use Rattle.json_tree.specs.Tree.{Tree, At, Null, trees, in_trees}
 use Rattle.json_tree.specs.Parts.{place_of, kind_in}
-use Rattle.json_tree.specs.Grammar.{IsItem, SpellsAt, Spells}
+use Rattle.json_tree.specs.Grammar.{Spells}
 use Rattle.json_tree.specs.Sound.{IsSound, is_writable}
-use Rattle.json_tree.specs.ReadingValues.{document_at}
 use Rattle.json_tree.specs.Writing.{tree_text}
 use Rattle.json_tree.proofs.WriteLaws.{placed, placed_trees, tree_spelled}
 use Rattle.json_tree.proofs.AgainLaws.{document_again}
 use Rattle.otio_tracks.specs.declared.faults.DocCode.TheVariants.{O10, O11}
-use Rattle.otio_tracks.specs.Reading.{Read, refuse}
-use Rattle.otio_tracks.specs.Values.{is_null, given, needed, expected}
+use Rattle.otio_tracks.specs.Reading.{refuse}
+use Rattle.otio_tracks.specs.Values.{is_null, needed, expected}
 use Rattle.otio_tracks.specs.Times.{frame_read}
-use Rattle.otio_json.specs.Soundness.{IsSoundOpening, AreTracksFrom}
+use Rattle.otio_json.specs.Soundness.{IsSoundOpening}
 use Rattle.otio_json.specs.declared.opening.Opening.{Opening}
 use Rattle.otio_json.specs.Timelines.{rate_counted, in_day, start_if, start_read, untrimmed, tracks_read, empty_table, opened, sequence_read, timeline_read, json_read, tree_read, document_read}
-use Rattle.otio_again.specs.CutTrees.{list_tree, time_tree, stack_of_tracks, timeline_of, track_tree, track_trees, timeline_tree}
+use Rattle.otio_again.specs.CutTrees.{list_tree, time_tree, stack_of_tracks, timeline_of, track_trees}
 use Rattle.otio_again.specs.Meanings.{AreTexts, text_of_cut, tree_of_cut, WrittenIsReadAgain}
 use Rattle.otio_again.specs.SameCut.{SameCut}
 use Rattle.otio_again.proofs.CutTexts.{timeline_spelled}
 use Rattle.otio_again.proofs.CutLawful.{cut_lawful}
 use Rattle.otio_again.proofs.Spelled.{day_short, start_small}
 use Rattle.otio_again.proofs.Walk.{goes, Has, IsOf, needed_back, given_back, expected_back}
-use Rattle.otio_again.proofs.TimesBack.{pair_of, not_below, frame_back}
-use Rattle.otio_again.proofs.SequenceBack.{untrimmed_back, AllBack, AreKinds, some_kinds, tracks_back}
+use Rattle.otio_again.proofs.TimesBack.{not_below, frame_back}
+use Rattle.otio_again.proofs.SequenceBack.{untrimmed_back, some_kinds, tracks_back}
 
 -- ---- the text of a timeline
 
@@ -106,17 +102,18 @@ timeline_back o sound some at =
     let children = in_trees (placed_trees (ch.0 + 1) (trees tracks)) in
     let count = count_trees o.table r 0 (ch.0 + 1) o.tracks in
     let b = tracks_back r o.table sound.table 0 0 o.table.kinds o.tracks empty_table [] (ch.0 + 1) (some_kinds o.table) sound.tracks refl in
-    let new = opened c o.start (b.made, b.table) in
-    (new,
-    goes (expected (codes "Timeline.1") text) _ tt _ (expected_back (codes "Timeline.1") bare at (timeline_is time tracks))
-    (goes (start_read c (rate_counted c) text) _ o.start _ (start_back c o.start tracks at sound.start)
-    (goes (needed (codes "tracks") text) _ stack _ st.1
-    (goes (expected (codes "Stack.1") stack) _ tt _ (expected_back (codes "Stack.1") (stack_of_tracks tracks) st.0 (stack_is tracks))
-    (goes (untrimmed stack) _ tt _ (untrimmed_back (stack_of_tracks tracks) st.0 (stack_range tracks))
-    (goes (needed (codes "children") stack) _ (placed ch.0 (list_tree tracks)) _ ch.1
-    (goes (sequence_read (rate_counted c) children ch.0) _ (b.made, b.table) _
-        (sequence_known (rate_counted c) children ch.0 (omega (arith, count)) (omega (arith, count, sound.few)) ∙ b.read) refl)))))),
-    record { kinds = sym b.kinds; counting = refl; start = refl; tracks = b.same })
+    let new = opened c o.start (b.made, b.table) in (
+      new,
+      goes (expected (codes "Timeline.1") text) _ tt _ (expected_back (codes "Timeline.1") bare at (timeline_is time tracks))
+          (goes (start_read c (rate_counted c) text) _ o.start _ (start_back c o.start tracks at sound.start)
+          (goes (needed (codes "tracks") text) _ stack _ st.1
+          (goes (expected (codes "Stack.1") stack) _ tt _ (expected_back (codes "Stack.1") (stack_of_tracks tracks) st.0 (stack_is tracks))
+          (goes (untrimmed stack) _ tt _ (untrimmed_back (stack_of_tracks tracks) st.0 (stack_range tracks))
+          (goes (needed (codes "children") stack) _ (placed ch.0 (list_tree tracks)) _ ch.1
+          (goes (sequence_read (rate_counted c) children ch.0) _ (b.made, b.table) _
+          (sequence_known (rate_counted c) children ch.0 (omega (arith, count)) (omega (arith, count, sound.few)) ∙ b.read) refl)))))),
+      record { kinds = sym b.kinds; counting = refl; start = refl; tracks = b.same },
+    )
 
 -- the text spells the tree, with its places
 text_spelled : (t : Tree) → is_writable t 64 ≡ true → IsSound t → Spells 64 (tree_text t) (placed 0 t)

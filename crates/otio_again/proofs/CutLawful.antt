@@ -1,5 +1,5 @@
 -- The tree of a sound cut can be written.
-use Rattle.std.proofs.Common.{◌≡◌, ℕ, zero, suc, ◌+◌, ◌-◌, ◌^◌, ◌<◌, ◌≤◌, Bool, true, false, ◌&&◌, List, [], ◌∷◌, length, slice_get, Option, Some, None, IfSome, refl, sym, ap, subst, ◌∙◌, arith, if◌then◌else◌}
+use Rattle.std.proofs.Common.{◌≡◌, ℕ, zero, suc, ◌+◌, ◌-◌, ◌^◌, ◌<◌, ◌≤◌, Bool, true, false, ◌&&◌, List, [], ◌∷◌, length, slice_get, Option, Some, None, IfSome, refl, sym, subst, arith, if◌then◌else◌}
 use Rattle.std.specs.Prelude.{nat_eq}
 use Rattle.std.specs.List.{All}
 use Rattle.std.specs.Str.{IsUtf8}
@@ -22,12 +22,12 @@ use Rattle.composables.specs.Good.{LiesIn, SideLiesIn}
 use Rattle.composables.specs.Items.{items_of}
 use Rattle.composables.specs.TrackFacts.{left_reach, right_reach, first_mark, HasSource}
 use Rattle.composables.specs.TrackState.{TrackState}
-use Rattle.json_tree.specs.Tree.{Tree, At, Null, trees}
+use Rattle.json_tree.specs.Tree.{Tree, At, Null}
 use Rattle.otio_text.specs.Documents.{text_or_none, reel_name, kind_at}
 use Rattle.otio_json.specs.Soundness.{SideHas, EachHas, IsDeep, IsReadTrack, IsSoundLayer, IsSoundNest, IsSoundTable, levels_of_kind, AreTracksFrom, IsSoundOpening}
 use Rattle.otio_json.specs.declared.opening.Opening.{Opening}
 use Rattle.otio_json.proofs.Growth.{deep_more}
-use Rattle.otio_again.specs.CutTrees.{time_tree, range_tree, clip_tree_of, transition_tree, mark_trees, layer_range_tree, thing_tree, side_tree, item_tree, later_item_trees, item_trees, layer_tree, layer_trees, layer_trees_if, nest_trees, kind_name, track_tree, track_trees, timeline_tree}
+use Rattle.otio_again.specs.CutTrees.{time_tree, range_tree, clip_tree_of, transition_tree, mark_trees, layer_range_tree, thing_tree, side_tree, item_tree, later_item_trees, item_trees, layer_tree, layer_trees, layer_trees_if, nest_trees, track_tree, track_trees, timeline_tree}
 use Rattle.otio_again.proofs.Facts.{all_at, IsShown, EachIsShown, track_shown, shows_media, nest_if}
 use Rattle.otio_again.specs.Meanings.{AreTexts}
 use Rattle.otio_again.proofs.Lawful.{empty_utf8, IsLawful, AreLawful, null_lawful, none_lawful, more_lawful, time_lawful, range_lawful, gap_lawful, clip_lawful, transition_lawful, nest_lawful, layer_lawful, track_lawful, timeline_lawful}
@@ -71,7 +71,7 @@ module _ (table : Table) (rate : SequenceRate) (sound : IsSoundTable table) (tex
     thing_lawful (MediaOf i) s len before after small short h d =
         let k = shows_media table sound i s len before after h in
         subst (λ (o : Option Media). IsLawful (levels_for n m) (clip_tree_of table.reels rate o s len)) (sym k.there)
-            (clip_lawful (more_levels n m) rate (reel_name table.reels k.entry.reel) s len k.entry (reel_utf8 table.reels k.entry.reel texts) small short (omega (arith, k.sound.filled, k.sound.within)) (omega (arith, k.sound.within)))
+        (clip_lawful (more_levels n m) rate (reel_name table.reels k.entry.reel) s len k.entry (reel_utf8 table.reels k.entry.reel texts) small short (omega (arith, k.sound.filled, k.sound.within)) (omega (arith, k.sound.within)))
     thing_lawful (NestOf j) s len before after small short h d = nest_in n m j s len inside d small short
 
     side_lawful : (side : Side What) (len before after : ℕ) → len < 10 ^ 18 → HasSource side len before after → SideLiesIn table side len before after → SideHas (IsDeep table.nests n) side
@@ -88,7 +88,7 @@ module _ (table : Table) (rate : SequenceRate) (sound : IsSoundTable table) (tex
         let room = h.0.holds.room in
         let later = later_lawful vs (omega (arith, room, h.0.short)) h.1 d.1 in
         mark_lawful (suc (suc (more_levels n m))) rate v.mark (item_tree table rate tree v ∷ later_item_trees table rate tree vs) a (omega (arith, room, h.0.short))
-            (more_lawful (levels_for n m) (item_tree table rate tree v) (later_item_trees table rate tree vs) (item_lawful v (first_mark vs) h.0 d.0) later)
+        (more_lawful (levels_for n m) (item_tree table rate tree v) (later_item_trees table rate tree vs) (item_lawful v (first_mark vs) h.0 d.0) later)
 
     items_lawful : (vs : List ItemView) → EachIsShown table vs → EachHas (IsDeep table.nests n) vs → AreLawful (levels_for n m) (item_trees table rate tree vs)
     items_lawful [] h d = none_lawful (levels_for n m)
@@ -100,15 +100,15 @@ module _ (table : Table) (rate : SequenceRate) (sound : IsSoundTable table) (tex
     layer_in_lawful l h d =
         let frames = h.track.good.frames in
         layer_lawful (levels_for n m) (layer_range_tree rate l) (item_trees table rate tree (items_of l.track.cells))
-            (range_if (nat_eq l.from 0 && nat_eq l.to (length l.track.cells)) (suc (suc (suc (more_levels n m)))) rate l.from (l.to - l.from) (omega (arith, h.ordered, h.within, frames)) (omega (arith, h.within, frames)))
-            (items_lawful (items_of l.track.cells) (track_shown table l.track h.track.good) d)
+        (range_if (nat_eq l.from 0 && nat_eq l.to (length l.track.cells)) (suc (suc (suc (more_levels n m)))) rate l.from (l.to - l.from) (omega (arith, h.ordered, h.within, frames)) (omega (arith, h.within, frames)))
+        (items_lawful (items_of l.track.cells) (track_shown table l.track h.track.good) d)
 
     layers_lawful : (ls : List Layer) → All (IsSoundLayer table 7) ls → All (λ (l : Layer). EachHas (IsDeep table.nests n) (items_of l.track.cells)) ls → AreLawful (suc (suc (levels_for n m))) (layer_trees table rate tree ls)
     layers_lawful [] h d = none_lawful (suc (suc (levels_for n m)))
     layers_lawful (l ∷ ls) h d =
         more_lawful (suc (suc (levels_for n m))) (layer_tree table rate tree l) (layer_trees table rate tree ls)
-            (layer_in_lawful l (All-head (IsSoundLayer table 7) l ls h) (All-head (λ (k : Layer). EachHas (IsDeep table.nests n) (items_of k.track.cells)) l ls d))
-            (layers_lawful ls (All-tail (IsSoundLayer table 7) l ls h) (All-tail (λ (k : Layer). EachHas (IsDeep table.nests n) (items_of k.track.cells)) l ls d))
+        (layer_in_lawful l (All-head (IsSoundLayer table 7) l ls h) (All-head (λ (k : Layer). EachHas (IsDeep table.nests n) (items_of k.track.cells)) l ls d))
+        (layers_lawful ls (All-tail (IsSoundLayer table 7) l ls h) (All-tail (λ (k : Layer). EachHas (IsDeep table.nests n) (items_of k.track.cells)) l ls d))
 
 -- ---- nests
 
@@ -125,7 +125,7 @@ nests_lawful table rate sound texts (suc levels) n m j d =
     let inside = inside_of table inner rate sound texts (nests_lawful table rate sound texts levels) n m in
     let s : IsSoundNest table 7 d.0 = subst (λ (o : Option Nest). IfSome o (IsSoundNest table 7)) d.1 (nest_if table sound j) in
     subst (λ (o : Option Nest). AreLawful (suc (suc (levels_for n m))) (layer_trees_if table rate inner o)) (sym d.1)
-        (layers_lawful table rate sound texts inner n m inside d.0.layers s.layers d.2)
+    (layers_lawful table rate sound texts inner n m inside d.0.layers s.layers d.2)
 
 -- ---- the sequence
 
@@ -164,12 +164,12 @@ tracks_lawful table rate sound texts m i n ks [] h = none_lawful (suc (suc (leve
 tracks_lawful table rate sound texts m i n [] (t ∷ ts) h = absurd h
 tracks_lawful table rate sound texts m i n (k ∷ ks) (t ∷ ts) h =
     more_lawful (suc (suc (levels_for 8 m))) (track_tree table rate (kind_at table i) t) (track_trees table rate (i + 1) ts)
-        (track_in_lawful table rate sound texts (kind_at table i) 8 m t (at_most_eight table k t h.1))
-        (tracks_lawful table rate sound texts m (i + 1) (n + 1) ks ts h.2)
+    (track_in_lawful table rate sound texts (kind_at table i) 8 m t (at_most_eight table k t h.1))
+    (tracks_lawful table rate sound texts m (i + 1) (n + 1) ks ts h.2)
 
 pub cut_lawful : (o : Opening) → IsSoundOpening o → AreTexts o.table.reels → o.start < 10 ^ 18 → IsLawful 64 (timeline_tree o.table o.tracks o.counting o.start)
 cut_lawful o sound texts small =
     let rate = o.counting.rate in
     timeline_lawful (suc (suc (levels_for 8 23))) (time_tree rate o.start) (track_trees o.table rate 0 o.tracks)
-        (time_lawful (suc (suc (suc (levels_for 8 23)))) rate o.start small)
-        (tracks_lawful o.table rate sound.table texts 23 0 0 o.table.kinds o.tracks sound.tracks)
+    (time_lawful (suc (suc (suc (levels_for 8 23)))) rate o.start small)
+    (tracks_lawful o.table rate sound.table texts 23 0 0 o.table.kinds o.tracks sound.tracks)

@@ -3,7 +3,6 @@ use Rattle.std.proofs.Common.{◌≡◌, ℕ, zero, suc, ◌+◌, ◌-◌, ◌^�
 use Rattle.std.specs.Prelude.{codes, nat_eq}
 use Rattle.std.specs.List.{All}
 use Rattle.std.proofs.lemmas.List.Elements.{All-head, All-tail}
-use Rattle.timecode12.specs.Numbers.{Counted}
 use Rattle.timecode12.specs.declared.rate.SequenceRate.{SequenceRate}
 use Rattle.frame_meaning.specs.declared.cells.Mark.{Mark}
 use Rattle.frame_meaning.specs.declared.cells.What.{What}
@@ -22,11 +21,11 @@ use Rattle.composables.specs.Items.{items_of}
 use Rattle.composables.specs.TrackFacts.{left_reach, right_reach, first_mark, HasSource}
 use Rattle.composables.specs.TrackState.{TrackState}
 use Rattle.json_tree.specs.Tree.{Tree, At, Null, trees}
-use Rattle.json_tree.specs.Writing.{commas, joined, tree_text, trees_texts}
-use Rattle.otio_text.specs.Documents.{time_text, range_text, reel_name, clip_of, transition_text, mark_text, comma, nest_open, nest_children, layer_open, layer_children, layer_range, track_open, track_children, kind_text, kind_at, children_close, timeline_open, timeline_tracks, timeline_close, thing_in, side_in, item_in, later_items_in, items_in, layer_in, later_layers_in, layers_in, layers_if, nest_layers, track_text, later_tracks, tracks_text, timeline_text}
+use Rattle.json_tree.specs.Writing.{commas, tree_text, trees_texts}
+use Rattle.otio_text.specs.Documents.{range_text, reel_name, clip_of, mark_text, nest_open, nest_children, layer_open, layer_children, track_open, track_children, kind_text, kind_at, children_close, timeline_open, timeline_tracks, timeline_close, thing_in, side_in, item_in, later_items_in, items_in, layer_in, later_layers_in, layers_in, layers_if, nest_layers, track_text, later_tracks, tracks_text, timeline_text}
 use Rattle.otio_json.specs.Soundness.{IsReadTrack, IsSoundLayer, IsSoundNest, IsSoundTable, levels_of_kind, AreTracksFrom, IsSoundOpening}
 use Rattle.otio_json.specs.declared.opening.Opening.{Opening}
-use Rattle.otio_again.specs.CutTrees.{time_tree, range_tree, clip_tree_of, transition_tree, mark_trees, nest_of_layers, layer_of_items, layer_range_tree, thing_tree, side_tree, item_tree, later_item_trees, item_trees, layer_tree, layer_trees, layer_trees_if, nest_trees, kind_name, track_tree, track_trees, timeline_of, timeline_tree}
+use Rattle.otio_again.specs.CutTrees.{time_tree, range_tree, clip_tree_of, mark_trees, layer_range_tree, thing_tree, side_tree, item_tree, later_item_trees, item_trees, layer_tree, layer_trees, layer_trees_if, nest_trees, track_tree, track_trees, timeline_tree}
 use Rattle.otio_again.proofs.Facts.{IsShown, EachIsShown, track_shown, shows_media, nest_if}
 use Rattle.otio_again.proofs.PartTexts.{listed, time_spelled, range_spelled, gap_spelled, clip_spelled, transition_spelled, nest_written, layer_written, track_written, timeline_written}
 
@@ -50,7 +49,7 @@ module _ (table : Table) (rate : SequenceRate) (sound : IsSoundTable table) (tex
   thing_spelled (MediaOf m) s len before after small short h =
       let k = shows_media table sound m s len before after h in
       subst (λ (o : Option Media). tree_text (clip_tree_of table.reels rate o s len) ≡ clip_of table.reels rate o s len) (sym k.there)
-          (clip_spelled rate (reel_name table.reels k.entry.reel) s len k.entry small short (omega (arith, k.sound.filled, k.sound.within)) (omega (arith, k.sound.within)))
+      (clip_spelled rate (reel_name table.reels k.entry.reel) s len k.entry small short (omega (arith, k.sound.filled, k.sound.within)) (omega (arith, k.sound.within)))
   thing_spelled (NestOf j) s len before after small short h =
       nest_written (range_tree rate s len) (tree j)
       ∙ (λ i. nest_open ++ (range_spelled rate s len small short i ++ (nest_children ++ (same j i ++ children_close))))

@@ -1,9 +1,9 @@
 -- The canonical text of a whole number is its decimal digits.
-use Rattle.std.proofs.Common.{◌≡◌, ℕ, zero, suc, ◌+◌, ◌-◌, ◌*◌, ◌/◌, ◌%◌, ◌^◌, ◌≤◌, ◌<◌, pos, Bool, true, false, cond, ltb, List, [], ◌∷◌, ◌++◌, refl, sym, ap, subst, ◌∙◌, ◌⊎◌, inl, inr, arith}
+use Rattle.std.proofs.Common.{◌≡◌, ℕ, zero, suc, ◌+◌, ◌*◌, ◌/◌, ◌%◌, ◌^◌, ◌≤◌, ◌<◌, pos, Bool, true, false, cond, ltb, List, [], ◌∷◌, ◌++◌, refl, sym, ap, subst, ◌∙◌, ◌⊎◌, inl, inr, arith}
 use Rattle.std.specs.Prelude.{decimal}
 use Rattle.std.proofs.lemmas.Bool.{ltb-true, ltb-false}
-use Rattle.std.proofs.lemmas.Nat.{div-add-mod', div-mul-add, div_below, le-div, mod-mul-add, mod_below}
-use Rattle.std.proofs.Math.Nat.{mul_assoc, mul_comm, pow-suc}
+use Rattle.std.proofs.lemmas.Nat.{div-add-mod', div-mul-add, div_below, le-div, mod_below}
+use Rattle.std.proofs.Math.Nat.{mul_assoc, pow-suc}
 use Rattle.std.proofs.lemmas.Fmt.{decimal_digit, decimal_step}
 use Rattle.json_tree.specs.Writing.{last_digits, digits_needed, whole_text, numeral_text}
 
@@ -62,7 +62,7 @@ needed_from zero count n sum lt least =
 needed_from (suc more) count n sum lt least =
     let same : suc (suc count) ≡ suc count + 1 = omega arith in
     needed_if (ltb n (10 ^ suc count)) n more count refl (omega arith) least
-        (λ le. subst (λ (k : ℕ). last_digits n (digits_needed n more k) ≡ decimal n) same (needed_from more (suc count) n (omega arith) lt (inr le)))
+    (λ le. subst (λ (k : ℕ). last_digits n (digits_needed n more k) ≡ decimal n) same (needed_from more (suc count) n (omega arith) lt (inr le)))
 
 whole_is_decimal : (n : ℕ) → n < 10 ^ 18 → whole_text n ≡ decimal n
 unfolding whole_text

@@ -1,5 +1,5 @@
 -- No more nests stand in one another than there are: where some do, none stands in itself.
-use Rattle.std.proofs.Common.{◌≡◌, ℕ, zero, suc, ◌+◌, ◌<◌, ◌≤◌, min, nat_eq, Bool, true, false, List, [], ◌∷◌, length, slice_get, Option, Some, None, refl, sym, ap, subst, ◌∙◌, ◌⊎◌, inl, inr, arith, if◌then◌else◌}
+use Rattle.std.proofs.Common.{◌≡◌, ℕ, zero, suc, ◌+◌, ◌<◌, ◌≤◌, min, nat_eq, Bool, true, false, List, [], ◌∷◌, length, slice_get, Some, refl, ap, subst, ◌∙◌, ◌⊎◌, inl, inr, arith, if◌then◌else◌}
 use Rattle.std.specs.List.{All}
 use Rattle.std.proofs.lemmas.Bool.{eqb-true, eqb-false, cases_lt}
 use Rattle.std.proofs.lemmas.List.Elements.{All-head, All-tail, All-cons, All-nil}
@@ -13,7 +13,6 @@ use Rattle.composables.specs.declared.media.Layer.{Layer}
 use Rattle.composables.specs.declared.media.Nest.{Nest}
 use Rattle.composables.specs.Items.{items_of}
 use Rattle.otio_json.specs.Soundness.{SideHas, EachHas, IsDeep}
-use Rattle.otio_json.proofs.Growth.{deep_more}
 
 -- ---- how many numbers pass a test
 
@@ -79,7 +78,7 @@ module _ {R : Type 0} (P Q : What → Type 0) (f : (w : What) → P w → Q w �
   layers_or [] h = inl (All-nil (λ (l : Layer). EachHas Q (items_of l.track.cells)))
   layers_or (l ∷ ls) h =
       both (each_or (items_of l.track.cells) (All-head (λ (k : Layer). EachHas P (items_of k.track.cells)) l ls h))
-          (layers_or ls (All-tail (λ (k : Layer). EachHas P (items_of k.track.cells)) l ls h))
+      (layers_or ls (All-tail (λ (k : Layer). EachHas P (items_of k.track.cells)) l ls h))
     where
       both : EachHas Q (items_of l.track.cells) ⊎ R → All (λ (k : Layer). EachHas Q (items_of k.track.cells)) ls ⊎ R → All (λ (k : Layer). EachHas Q (items_of k.track.cells)) (l ∷ ls) ⊎ R
       both (inl a) (inl b) = inl (All-cons (λ (k : Layer). EachHas Q (items_of k.track.cells)) l ls a b)

@@ -1,5 +1,5 @@
 -- Two small cuts that are the same under other numbers, and one that is not.
-use Rattle.std.proofs.Common.{◌≡◌, ℕ, arith, List, [], ◌∷◌, Option, Some, None, refl}
+use Rattle.std.proofs.Common.{◌≡◌, ℕ, List, [], ◌∷◌, Option, Some, None, refl}
 use Rattle.std.specs.Prelude.{codes}
 use Rattle.frame_meaning.specs.declared.cells.Cell.{Cell}
 use Rattle.frame_meaning.specs.declared.cells.What.TheVariants.{Media as MediaOf}
@@ -37,10 +37,19 @@ same_example : SameCells (SameThing one_table other_table 8)
     (shown 0 0 5 ∷ shown 0 0 6 ∷ gap ∷ shown 1 1 3 ∷ [])
 unfolding shown gap one_table other_table
 same_example = record {
-  frames = (((codes "A", refl, refl, refl, refl), refl), refl,
-      (((codes "A", refl, refl, refl, refl), refl), refl,
-      (tt, refl,
-      (((codes "B", refl, refl, refl, refl), refl), refl, tt))));
+  frames = (
+    ((codes "A", refl, refl, refl, refl), refl),
+    refl,
+    (
+      ((codes "A", refl, refl, refl, refl), refl),
+      refl,
+      (
+        tt,
+        refl,
+        (((codes "B", refl, refl, refl, refl), refl), refl, tt),
+      ),
+    ),
+  );
   items = refl;
 }
 

@@ -1,5 +1,5 @@
 -- A table that was read further: what was an entry is one still, by the same number.
-use Rattle.std.proofs.Common.{◌≡◌, ℕ, zero, suc, ◌+◌, ◌<◌, ◌≤◌, eqb, position, Bool, true, false, ◌&&◌, ◌||◌, cond, List, [], ◌∷◌, ◌++◌, length, slice_get, get_or, Option, Some, None, IfSome, refl, sym, ap, subst, ◌∙◌, arith, if◌then◌else◌}
+use Rattle.std.proofs.Common.{◌≡◌, ℕ, zero, suc, eqb, position, Bool, true, false, ◌&&◌, ◌||◌, List, [], ◌∷◌, ◌++◌, length, slice_get, get_or, Option, Some, None, refl, sym, ap, subst, ◌∙◌, if◌then◌else◌}
 use Rattle.std.specs.List.{list_any}
 use Rattle.std.specs.Str.{bytes_eq}
 use Rattle.std.proofs.lemmas.Bool.{eqb-true, and_parts}
@@ -11,7 +11,6 @@ use Rattle.frame_meaning.specs.declared.cells.What.TheVariants.{Media as MediaOf
 use Rattle.frame_meaning.specs.declared.cells.Cell.{Cell}
 use Rattle.frame_meaning.specs.declared.frames.Side.{Side}
 use Rattle.frame_meaning.specs.declared.frames.Side.TheVariants.{Dark, Pic}
-use Rattle.composables.specs.declared.media.Kind.{Kind as TrackKind}
 use Rattle.composables.specs.declared.media.Table.{Table}
 use Rattle.composables.specs.declared.media.Media.{Media}
 use Rattle.composables.specs.declared.media.Layer.{Layer}

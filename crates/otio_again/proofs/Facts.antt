@@ -1,5 +1,5 @@
 -- What is known of the items and gaps of a sound cut, as writing and reading want it.
-use Rattle.std.proofs.Common.{◌≡◌, ℕ, ◌+◌, ◌<◌, ◌≤◌, List, [], ◌∷◌, length, slice_get, Option, Some, None, IfSome, option_map, refl, sym, ap, subst, ◌∙◌, arith}
+use Rattle.std.proofs.Common.{◌≡◌, ℕ, ◌+◌, ◌≤◌, List, [], ◌∷◌, length, slice_get, Option, Some, None, IfSome, option_map, refl, sym, ap, subst, ◌∙◌, arith}
 use Rattle.std.specs.List.{All}
 use Rattle.std.proofs.lemmas.List.Elements.{All-get_or}
 use Rattle.std.proofs.lemmas.Option.{slice_get_within, get_or_from_slice_get}
@@ -11,7 +11,7 @@ use Rattle.composables.specs.declared.media.Media.{Media}
 use Rattle.composables.specs.declared.media.Nest.{Nest}
 use Rattle.composables.specs.Bounds.{bounds_of}
 use Rattle.composables.specs.Good.{LiesIn, SideLiesIn, EachLiesIn, IsGood}
-use Rattle.composables.specs.Items.{items_of, cells_of}
+use Rattle.composables.specs.Items.{items_of}
 use Rattle.composables.specs.Joined.{frames_in}
 use Rattle.composables.specs.TrackFacts.{left_reach, right_reach, first_mark, Holds, EachHolds}
 use Rattle.composables.specs.TrackState.{TrackState}

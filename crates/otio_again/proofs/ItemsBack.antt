@@ -1,44 +1,42 @@
 -- Gaps, clips and transitions that were written are read again.
-use Rattle.std.proofs.Common.{◌≡◌, ℕ, zero, suc, ◌+◌, ◌-◌, ◌<◌, ◌≤◌, min, max, pos, int_le, unsigned_abs, nat_eq, Bool, true, false, ◌&&◌, List, [], ◌∷◌, ◌++◌, length, slice_get, get_or, Option, Some, None, option_map, Result, Ok, Err, refl, sym, ap, subst, ◌∙◌, arith, cond, if◌then◌else◌}
-use Rattle.std.specs.Prelude.{codes, nat_le}
+use Rattle.std.proofs.Common.{◌≡◌, ℕ, ◌+◌, ◌-◌, ◌<◌, ◌≤◌, min, max, pos, int_le, Bool, true, false, ◌&&◌, List, [], length, slice_get, get_or, Option, Some, None, option_map, Result, Ok, refl, sym, ap, subst, ◌∙◌, arith, if◌then◌else◌}
+use Rattle.std.specs.Prelude.{codes}
 use Rattle.std.proofs.lemmas.Bool.{le-leb, ne_eqb}
 use Rattle.std.proofs.lemmas.Option.{slice_get-get_or}
 use Rattle.timecode12.specs.declared.rate.SequenceRate.{SequenceRate}
 use Rattle.frame_meaning.specs.declared.cells.Mark.{Mark}
 use Rattle.frame_meaning.specs.declared.cells.What.{What}
-use Rattle.frame_meaning.specs.declared.cells.What.TheVariants.{Media as MediaOf, Nest as NestOf}
+use Rattle.frame_meaning.specs.declared.cells.What.TheVariants.{Media as MediaOf}
 use Rattle.frame_meaning.specs.declared.frames.Side.{Side}
 use Rattle.frame_meaning.specs.declared.frames.Side.TheVariants.{Dark, Pic}
 use Rattle.composables.specs.declared.media.Table.{Table}
 use Rattle.composables.specs.declared.media.Media.{Media}
 use Rattle.composables.specs.declared.items.ItemView.{ItemView}
-use Rattle.composables.specs.Bounds.{bounds_of}
 use Rattle.json_tokens.specs.Reading.{◌>>=◌}
-use Rattle.json_tree.specs.Tree.{Tree, At, Null, Text_of, List_of, no_trees, trees}
+use Rattle.json_tree.specs.Tree.{Tree, At, Null}
 use Rattle.json_tree.specs.Parts.{place_of, kind_in}
-use Rattle.json_tree.proofs.WriteLaws.{placed, placed_trees}
+use Rattle.json_tree.proofs.WriteLaws.{placed}
 use Rattle.otio_tracks.specs.declared.faults.DocCode.{DocCode}
-use Rattle.otio_tracks.specs.declared.faults.DocCode.TheVariants.{O3, O9, O11, O14}
+use Rattle.otio_tracks.specs.declared.faults.DocCode.TheVariants.{O3, O9, O11}
 use Rattle.otio_tracks.specs.declared.values.Schema.{Schema}
-use Rattle.otio_tracks.specs.declared.values.Schema.TheVariants.{Clip, Gap, Stack, Track, Transition, Other}
+use Rattle.otio_tracks.specs.declared.values.Schema.TheVariants.{Clip, Gap, Transition}
 use Rattle.otio_tracks.specs.declared.times.Span.{Span}
 use Rattle.otio_tracks.specs.declared.parts.Part.{Part}
 use Rattle.otio_tracks.specs.declared.clips.Frames.{Frames}
-use Rattle.otio_tracks.specs.Reading.{Read, refuse, or_refuse}
-use Rattle.otio_tracks.specs.Values.{is_null, is_object, unless_null, given, needed, text_read, list_read, schema_read}
+use Rattle.otio_tracks.specs.Reading.{refuse, or_refuse}
+use Rattle.otio_tracks.specs.Values.{is_null, given, needed, schema_read}
 use Rattle.otio_tracks.specs.Times.{frame_read, span_read, gap_read}
 use Rattle.otio_tracks.specs.Parts.{enabled_if, enabled_read, effects_if, effects_read, head_read, trim_if, trim_read, frames_within}
-use Rattle.otio_tracks.specs.Clips.{source_frames, source_if, source_read, available_if, available_read, reference_if, reference_read, widened, frames_of, clip_frames, reel_text, entry_number, entry_of, part_of, entered, clip_read}
+use Rattle.otio_tracks.specs.Clips.{source_frames, source_read, available_if, reference_if, reference_read, widened, frames_of, reel_text, entered, clip_read}
 use Rattle.otio_tracks.specs.Transitions.{offsets_if, offsets_read, transition_read}
 use Rattle.otio_tracks.specs.Rows.{RowState, row_with}
 use Rattle.otio_text.specs.Documents.{text_or_none, reel_name}
 use Rattle.otio_json.specs.Nests.{Inner, gap_part, gap_if, gap_part_read, item_in, add_item, child_by, child_in}
-use Rattle.otio_json.specs.Soundness.{IsSoundMedia, IsSoundTable}
 use Rattle.otio_json.proofs.Growth.{HasBounds}
-use Rattle.otio_again.specs.CutTrees.{list_tree, text_tree, time_tree, range_tree, gap_of_range, gap_tree, reference_of_range, clip_of_ranges, clip_tree, transition_of_times, transition_tree}
+use Rattle.otio_again.specs.CutTrees.{list_tree, text_tree, time_tree, range_tree, gap_tree, reference_of_range, clip_of_ranges, clip_tree, transition_tree}
 use Rattle.otio_again.specs.SameCut.{SameSide, SameThing}
 use Rattle.otio_again.proofs.Facts.{ShowsMedia}
-use Rattle.otio_again.proofs.Walk.{goes, Has, HasNo, IsOf, needed_back, given_back, given_null, given_none, text_back, list_back, object_back, schema_back}
+use Rattle.otio_again.proofs.Walk.{goes, Has, HasNo, IsOf, needed_back, given_back, given_null, given_none, object_back, schema_back}
 use Rattle.otio_again.proofs.TimesBack.{pair_of, not_below, frame_back, span_back, gap_back, available_back}
 use Rattle.otio_again.proofs.Extends.{Extends, extends_self, entered_extends, entered_same}
 
@@ -129,8 +127,8 @@ gap_child r inner t u levels v at dark short =
     let tree = placed at (gap_tree r v.len) in
     let s = schema_back (codes "Gap.1") (gap_tree r v.len) Gap at (gap_is r v.len) refl in
     let item : item_in (pair_of r) inner Gap s.0 u tree ≡ Ok (gap_part v.len, u) =
-        goes (head_read tree) _ tt _ (head_back (gap_tree r v.len) (range_tree r 0 v.len) at (gap_has r v.len))
-        (goes (gap_part_read (pair_of r) tree) _ (gap_part v.len) _ (gap_part_back r v.len at (omega arith)) refl) in
+    goes (head_read tree) _ tt _ (head_back (gap_tree r v.len) (range_tree r 0 v.len) at (gap_has r v.len))
+    (goes (gap_part_read (pair_of r) tree) _ (gap_part v.len) _ (gap_part_back r v.len at (omega arith)) refl) in
     record {
       part = gap_part v.len;
       table = u;
@@ -171,7 +169,7 @@ unfolding source_read
 source_back r reel source len m at some le =
     let t = trim_back r (clip_tree r reel source len m) source len at (clip_has r reel source len m) (omega arith) (omega arith) in
     let f : source_frames (span_at t.0 source len) ≡ Some (source, len) =
-        ap (λ (b : Bool). if b then Some (0, 0) else frames_within 16777216 (span_at t.0 source len)) (ne_eqb len 0 (λ e. omega arith)) ∙ within_back 16777216 source len t.0 le in
+    ap (λ (b : Bool). if b then Some (0, 0) else frames_within 16777216 (span_at t.0 source len)) (ne_eqb len 0 (λ e. omega arith)) ∙ within_back 16777216 source len t.0 le in
     goes (trim_read (pair_of r) (placed at (clip_tree r reel source len m))) _ (Some (span_at t.0 source len)) _ t.1
     (goes (or_refuse (source_frames (span_at t.0 source len)) O11 t.0) _ (source, len) _ (ap (λ (o : Option (ℕ × ℕ)). or_refuse o O11 t.0) f) refl)
 
@@ -225,8 +223,8 @@ clip_child r inner t u levels v m s before after at k pic some =
     let new = entered u reel shown in
     let sc = schema_back (codes "Clip.1") bare Clip at (clip_is r reel s v.len k.entry) refl in
     let item : item_in (pair_of r) inner Clip sc.0 u tree ≡ Ok new =
-        goes (head_read tree) _ tt _ (head_back bare (range_tree r s v.len) at (clip_has r reel s v.len k.entry))
-        (clip_back r reel s v.len k.entry u at some (omega (arith, k.from)) (omega (arith, k.to)) k.sound.within) in
+    goes (head_read tree) _ tt _ (head_back bare (range_tree r s v.len) at (clip_has r reel s v.len k.entry))
+    (clip_back r reel s v.len k.entry u at some (omega (arith, k.from)) (omega (arith, k.to)) k.sound.within) in
     let same = entered_same t u levels m k.entry reel shown k.there (reel_there t.reels k.entry.reel k.sound.reel) refl refl in
     record {
       part = new.0;

@@ -1,6 +1,6 @@
 -- The tree of a part can be written: it has no number that is too wide, few lists and objects in one another, and each
 -- text of it is UTF-8.
-use Rattle.std.proofs.Common.{◌≡◌, ℕ, suc, ◌+◌, ◌-◌, ◌^◌, ◌<◌, ◌≤◌, true, List, [], ◌∷◌, Option, Some, None, refl, arith}
+use Rattle.std.proofs.Common.{◌≡◌, ℕ, suc, ◌-◌, ◌^◌, ◌<◌, true, List, [], ◌∷◌, Option, Some, None, refl, arith}
 use Rattle.std.specs.Prelude.{codes}
 use Rattle.std.specs.Str.{IsUtf8}
 use lib.Utf8.{encode}
@@ -12,7 +12,7 @@ use Rattle.composables.specs.declared.media.Kind.{Kind as TrackKind}
 use Rattle.composables.specs.declared.media.Kind.TheVariants.{Video, Audio}
 use Rattle.json_tree.specs.Tree.{Tree, At, Null, trees}
 use Rattle.json_tree.specs.Sound.{IsSound, AreSound, is_writable, are_writable}
-use Rattle.otio_again.specs.CutTrees.{rate_tree, time_tree, range_tree, gap_of_range, gap_tree, clip_of_ranges, clip_tree, transition_of_times, transition_tree, nest_of_layers, layer_of_items, kind_name, track_of_items, stack_of_tracks, timeline_of}
+use Rattle.otio_again.specs.CutTrees.{rate_tree, time_tree, range_tree, gap_of_range, gap_tree, clip_of_ranges, clip_tree, transition_tree, nest_of_layers, layer_of_items, kind_name, track_of_items, stack_of_tracks, timeline_of}
 
 pub record IsLawful (levels : ℕ) (t : Tree) : Type 0 where
   pub writable : is_writable t levels ≡ true
@@ -70,9 +70,18 @@ children_utf8 = (codes "children", (refl, refl))
 time_sound : (r : SequenceRate) (f : ℕ) → f < 10 ^ 18 → IsSound (time_tree r f)
 unfolding time_tree encode
 time_sound r f lt = (
-  schema_utf8, (codes "RationalTime.1", (refl, refl)), (
-  (codes "rate", (refl, refl)), rate_sound r, (
-  (codes "value", (refl, refl)), (lt, omega arith, λ some. absurd (omega arith)), tt)))
+  schema_utf8,
+  (codes "RationalTime.1", (refl, refl)),
+  (
+    (codes "rate", (refl, refl)),
+    rate_sound r,
+    (
+      (codes "value", (refl, refl)),
+      (lt, omega arith, λ some. absurd (omega arith)),
+      tt,
+    ),
+  ),
+)
   where
     rate_sound : (r : SequenceRate) → IsSound (rate_tree r)
     rate_sound F23976 = (omega arith, omega arith, λ some e. omega arith)
@@ -97,9 +106,18 @@ unfolding range_tree encode
 range_lawful n r from len f l = record {
   writable = rw (time_writable n r len, time_writable n r from) refl;
   sound = (
-    schema_utf8, (codes "TimeRange.1", (refl, refl)), (
-    (codes "duration", (refl, refl)), time_sound r len l, (
-    (codes "start_time", (refl, refl)), time_sound r from f, tt)));
+    schema_utf8,
+    (codes "TimeRange.1", (refl, refl)),
+    (
+      (codes "duration", (refl, refl)),
+      time_sound r len l,
+      (
+        (codes "start_time", (refl, refl)),
+        time_sound r from f,
+        tt,
+      ),
+    ),
+  );
 }
 
 -- ---- items without a nest, and transitions
@@ -109,12 +127,30 @@ unfolding encode
 gap_of_lawful n range h = record {
   writable = rw h.writable refl;
   sound = (
-    schema_utf8, (codes "Gap.1", (refl, refl)), (
-    name_utf8, empty_utf8, (
-    metadata_utf8, tt, (
-    source_utf8, h.sound, (
-    effects_utf8, tt, (
-    markers_utf8, tt, tt))))));
+    schema_utf8,
+    (codes "Gap.1", (refl, refl)),
+    (
+      name_utf8,
+      empty_utf8,
+      (
+        metadata_utf8,
+        tt,
+        (
+          source_utf8,
+          h.sound,
+          (
+            effects_utf8,
+            tt,
+            (
+              markers_utf8,
+              tt,
+              tt,
+            ),
+          ),
+        ),
+      ),
+    ),
+  );
 }
 
 pub gap_lawful : (n : ℕ) (r : SequenceRate) (len : ℕ) → len < 10 ^ 18 → IsLawful (suc (suc (suc n))) (gap_tree r len)
@@ -126,17 +162,50 @@ unfolding encode
 clip_of_lawful n reel range there u h k = record {
   writable = rw (h.writable, k.writable) refl;
   sound = (
-    schema_utf8, (codes "Clip.1", (refl, refl)), (
-    name_utf8, u, (
-    metadata_utf8, ((codes "cmx_3600", (refl, refl)), ((codes "reel", (refl, refl)), u, tt), tt), (
-    source_utf8, h.sound, (
-    effects_utf8, tt, (
-    markers_utf8, tt, (
-    (codes "media_reference", (refl, refl)), (
-      schema_utf8, (codes "MissingReference.1", (refl, refl)), (
-      name_utf8, empty_utf8, (
-      metadata_utf8, tt, (
-      (codes "available_range", (refl, refl)), k.sound, tt)))), tt)))))));
+    schema_utf8,
+    (codes "Clip.1", (refl, refl)),
+    (
+      name_utf8,
+      u,
+      (
+        metadata_utf8,
+        ((codes "cmx_3600", (refl, refl)), ((codes "reel", (refl, refl)), u, tt), tt),
+        (
+          source_utf8,
+          h.sound,
+          (
+            effects_utf8,
+            tt,
+            (
+              markers_utf8,
+              tt,
+              (
+                (codes "media_reference", (refl, refl)),
+                (
+                  schema_utf8,
+                  (codes "MissingReference.1", (refl, refl)),
+                  (
+                    name_utf8,
+                    empty_utf8,
+                    (
+                      metadata_utf8,
+                      tt,
+                      (
+                        (codes "available_range", (refl, refl)),
+                        k.sound,
+                        tt,
+                      ),
+                    ),
+                  ),
+                ),
+                tt,
+              ),
+            ),
+          ),
+        ),
+      ),
+    ),
+  );
 }
 
 pub clip_lawful : (n : ℕ) (r : SequenceRate) (reel : List ℕ) (source len : ℕ) (m : Media) → IsUtf8 reel → source < 10 ^ 18 → len < 10 ^ 18 → m.from < 10 ^ 18 → m.to < 10 ^ 18
@@ -150,12 +219,30 @@ unfolding transition_tree encode
 transition_lawful n r m a b = record {
   writable = rw (time_writable n r m.a, time_writable n r m.b) refl;
   sound = (
-    schema_utf8, (codes "Transition.1", (refl, refl)), (
-    name_utf8, empty_utf8, (
-    metadata_utf8, tt, (
-    (codes "transition_type", (refl, refl)), (codes "SMPTE_Dissolve", (refl, refl)), (
-    (codes "in_offset", (refl, refl)), time_sound r m.a a, (
-    (codes "out_offset", (refl, refl)), time_sound r m.b b, tt))))));
+    schema_utf8,
+    (codes "Transition.1", (refl, refl)),
+    (
+      name_utf8,
+      empty_utf8,
+      (
+        metadata_utf8,
+        tt,
+        (
+          (codes "transition_type", (refl, refl)),
+          (codes "SMPTE_Dissolve", (refl, refl)),
+          (
+            (codes "in_offset", (refl, refl)),
+            time_sound r m.a a,
+            (
+              (codes "out_offset", (refl, refl)),
+              time_sound r m.b b,
+              tt,
+            ),
+          ),
+        ),
+      ),
+    ),
+  );
 }
 
 -- ---- nests, layers, tracks and the timeline
@@ -165,13 +252,34 @@ unfolding nest_of_layers encode
 nest_lawful n range layers h k = record {
   writable = rw (h.writable, k.writable) refl;
   sound = (
-    schema_utf8, (codes "Stack.1", (refl, refl)), (
-    name_utf8, empty_utf8, (
-    metadata_utf8, tt, (
-    source_utf8, h.sound, (
-    effects_utf8, tt, (
-    markers_utf8, tt, (
-    children_utf8, k.sound, tt)))))));
+    schema_utf8,
+    (codes "Stack.1", (refl, refl)),
+    (
+      name_utf8,
+      empty_utf8,
+      (
+        metadata_utf8,
+        tt,
+        (
+          source_utf8,
+          h.sound,
+          (
+            effects_utf8,
+            tt,
+            (
+              markers_utf8,
+              tt,
+              (
+                children_utf8,
+                k.sound,
+                tt,
+              ),
+            ),
+          ),
+        ),
+      ),
+    ),
+  );
 }
 
 pub layer_lawful : (n : ℕ) (range : Tree) (items : List Tree) → IsLawful (suc n) range → AreLawful n items → IsLawful (suc (suc n)) (layer_of_items range items)
@@ -179,14 +287,38 @@ unfolding layer_of_items encode
 layer_lawful n range items h k = record {
   writable = rw (h.writable, k.writable) refl;
   sound = (
-    schema_utf8, (codes "Track.1", (refl, refl)), (
-    name_utf8, empty_utf8, (
-    metadata_utf8, tt, (
-    source_utf8, h.sound, (
-    effects_utf8, tt, (
-    markers_utf8, tt, (
-    (codes "kind", (refl, refl)), (codes "Video", (refl, refl)), (
-    children_utf8, k.sound, tt))))))));
+    schema_utf8,
+    (codes "Track.1", (refl, refl)),
+    (
+      name_utf8,
+      empty_utf8,
+      (
+        metadata_utf8,
+        tt,
+        (
+          source_utf8,
+          h.sound,
+          (
+            effects_utf8,
+            tt,
+            (
+              markers_utf8,
+              tt,
+              (
+                (codes "kind", (refl, refl)),
+                (codes "Video", (refl, refl)),
+                (
+                  children_utf8,
+                  k.sound,
+                  tt,
+                ),
+              ),
+            ),
+          ),
+        ),
+      ),
+    ),
+  );
 }
 
 kind_utf8 : (kind : Option TrackKind) → IsUtf8 (kind_name kind)
@@ -200,14 +332,38 @@ unfolding track_of_items encode
 track_lawful n kind items k = record {
   writable = rw k.writable refl;
   sound = (
-    schema_utf8, (codes "Track.1", (refl, refl)), (
-    name_utf8, empty_utf8, (
-    metadata_utf8, tt, (
-    source_utf8, tt, (
-    effects_utf8, tt, (
-    markers_utf8, tt, (
-    (codes "kind", (refl, refl)), kind_utf8 kind, (
-    children_utf8, k.sound, tt))))))));
+    schema_utf8,
+    (codes "Track.1", (refl, refl)),
+    (
+      name_utf8,
+      empty_utf8,
+      (
+        metadata_utf8,
+        tt,
+        (
+          source_utf8,
+          tt,
+          (
+            effects_utf8,
+            tt,
+            (
+              markers_utf8,
+              tt,
+              (
+                (codes "kind", (refl, refl)),
+                kind_utf8 kind,
+                (
+                  children_utf8,
+                  k.sound,
+                  tt,
+                ),
+              ),
+            ),
+          ),
+        ),
+      ),
+    ),
+  );
 }
 
 pub timeline_lawful : (n : ℕ) (start : Tree) (tracks : List Tree) → IsLawful (suc (suc n)) start → AreLawful n tracks → IsLawful (suc (suc (suc n))) (timeline_of start tracks)
@@ -215,16 +371,52 @@ unfolding timeline_of stack_of_tracks encode
 timeline_lawful n start tracks h k = record {
   writable = rw (h.writable, k.writable) refl;
   sound = (
-    schema_utf8, (codes "Timeline.1", (refl, refl)), (
-    name_utf8, empty_utf8, (
-    metadata_utf8, tt, (
-    (codes "global_start_time", (refl, refl)), h.sound, (
-    (codes "tracks", (refl, refl)), (
-      schema_utf8, (codes "Stack.1", (refl, refl)), (
-      name_utf8, (codes "tracks", (refl, refl)), (
-      metadata_utf8, tt, (
-      source_utf8, tt, (
-      effects_utf8, tt, (
-      markers_utf8, tt, (
-      children_utf8, k.sound, tt))))))), tt)))));
+    schema_utf8,
+    (codes "Timeline.1", (refl, refl)),
+    (
+      name_utf8,
+      empty_utf8,
+      (
+        metadata_utf8,
+        tt,
+        (
+          (codes "global_start_time", (refl, refl)),
+          h.sound,
+          (
+            (codes "tracks", (refl, refl)),
+            (
+              schema_utf8,
+              (codes "Stack.1", (refl, refl)),
+              (
+                name_utf8,
+                (codes "tracks", (refl, refl)),
+                (
+                  metadata_utf8,
+                  tt,
+                  (
+                    source_utf8,
+                    tt,
+                    (
+                      effects_utf8,
+                      tt,
+                      (
+                        markers_utf8,
+                        tt,
+                        (
+                          children_utf8,
+                          k.sound,
+                          tt,
+                        ),
+                      ),
+                    ),
+                  ),
+                ),
+              ),
+            ),
+            tt,
+          ),
+        ),
+      ),
+    ),
+  );
 }

@@ -1,5 +1,5 @@
 -- Items of each kind that were written are read again, with the nests in one another.
-use Rattle.std.proofs.Common.{◌≡◌, ℕ, zero, suc, ◌+◌, ◌-◌, ◌<◌, ◌≤◌, max, nat_eq, Bool, true, false, ◌&&◌, List, [], ◌∷◌, ◌++◌, length, slice_get, Option, Some, None, option_map, Result, Ok, Err, refl, sym, ap, subst, ◌∙◌, append_assoc, arith, if◌then◌else◌}
+use Rattle.std.proofs.Common.{◌≡◌, ℕ, zero, suc, ◌+◌, ◌-◌, ◌≤◌, max, nat_eq, Bool, true, false, ◌&&◌, List, [], ◌∷◌, ◌++◌, length, slice_get, Option, Some, None, option_map, Result, Ok, refl, sym, ap, subst, ◌∙◌, append_assoc, arith, if◌then◌else◌}
 use Rattle.std.specs.Prelude.{codes}
 use Rattle.std.specs.List.{All}
 use Rattle.std.proofs.lemmas.Bool.{eqb-true, and_parts}
@@ -29,23 +29,21 @@ use Rattle.otio_tracks.specs.declared.faults.DocCode.{DocCode}
 use Rattle.otio_tracks.specs.declared.faults.DocCode.TheVariants.{O14}
 use Rattle.otio_tracks.specs.declared.values.Schema.TheVariants.{Stack, Track}
 use Rattle.otio_tracks.specs.declared.times.Span.{Span}
-use Rattle.otio_tracks.specs.declared.parts.Part.{Part}
 use Rattle.otio_tracks.specs.Reading.{Read, or_refuse, each}
-use Rattle.otio_tracks.specs.Values.{needed, list_read, schema_read}
-use Rattle.otio_tracks.specs.Parts.{head_read, trim_read, frames_within}
-use Rattle.otio_text.specs.Documents.{reel_name}
-use Rattle.otio_json.specs.Nests.{Inner, nest_frames, trimmed_layer, longest_from, longest, nest_of, nest_part, with_nest, item_in, track_in, track_layer_in, layer_in, next_layer, layers_in, nest_in, levels_in}
+use Rattle.otio_tracks.specs.Values.{needed, schema_read}
+use Rattle.otio_tracks.specs.Parts.{head_read, trim_read}
+use Rattle.otio_json.specs.Nests.{Inner, nest_frames, trimmed_layer, longest_from, nest_of, nest_part, item_in, track_in, track_layer_in, layer_in, next_layer, nest_in, levels_in}
 use Rattle.otio_json.specs.Soundness.{SideHas, EachHas, IsDeep, IsSoundLayer, IsSoundNest, IsSoundTable}
 use Rattle.otio_json.proofs.Growth.{get_last, HasBounds}
 use Rattle.otio_again.specs.CutTrees.{list_tree, range_tree, clip_tree_of, nest_of_layers, layer_of_items, layer_range_tree, side_tree, item_tree, item_trees, layer_tree, layer_trees, layer_trees_if, nest_trees}
 use Rattle.otio_again.specs.SameCut.{SameSide, SameLayer, SameLayers, SameNest, SameThing}
-use Rattle.otio_again.proofs.Facts.{IsShown, shows_media, ShowsNest, shows_nest, nest_if}
+use Rattle.otio_again.proofs.Facts.{IsShown, shows_media, ShowsNest, shows_nest}
 use Rattle.otio_again.proofs.Walk.{goes, Has, IsOf, needed_back, schema_back}
 use Rattle.otio_again.proofs.TimesBack.{pair_of}
 use Rattle.otio_again.proofs.Extends.{Extends, extends_self, extends_on, nest_extends, thing_on, cells_on, layers_on}
 use Rattle.otio_again.proofs.ItemsBack.{IsItemTree, head_back, span_at, trim_back, untrimmed_back, within_back, ChildBack, child_from, gap_child, clip_child}
 use Rattle.otio_again.proofs.RowsBack.{AllCan}
-use Rattle.otio_again.proofs.TracksBack.{TrackBack, track_back}
+use Rattle.otio_again.proofs.TracksBack.{track_back}
 
 -- ---- an item of each kind, where nests are read
 
@@ -69,7 +67,7 @@ item_child r inner t levels tree n sound nests v tail u at h d = by_side v.first
         let lies : SideLiesIn t (Pic (MediaOf m) s) v.len (left_reach v.mark) (right_reach tail) = subst (λ (x : Side What). SideLiesIn t x v.len (left_reach v.mark) (right_reach tail)) e h.lies in
         let shown = shows_media t sound m s v.len (left_reach v.mark) (right_reach tail) lies in
         subst (λ (o : Option Media). ChildBack (pair_of r) inner t u levels v (placed at (clip_tree_of t.reels r o s v.len))) (sym shown.there)
-            (clip_child r inner t u levels v m s (left_reach v.mark) (right_reach tail) at shown e h.holds.filled)
+        (clip_child r inner t u levels v m s (left_reach v.mark) (right_reach tail) at shown e h.holds.filled)
     by_side (Pic (NestOf j) s) e k = nests j s v tail u at h e k
 
 pub all_deep : (t : Table) (n : ℕ) (vs : List ItemView) → EachHas (IsDeep t.nests n) vs → AllCan (Deep t n) vs
@@ -123,9 +121,13 @@ trim_of r l items at false e ordered within short =
     record {
       trim = Some (span_at b.0 l.from (l.to - l.from));
       read = b.1;
-      frames = λ track long. (l.from, l.from + (l.to - l.from),
-          ap (λ (o : Option (ℕ × ℕ)). or_refuse o O14 b.0 >>= λ frames. Ok (record { track = track; from = frames.0; to = frames.0 + frames.1 })) (within_back (length track.cells) l.from (l.to - l.from) b.0 (omega arith)),
-          refl, omega arith);
+      frames = λ track long. (
+        l.from,
+        l.from + (l.to - l.from),
+        ap (λ (o : Option (ℕ × ℕ)). or_refuse o O14 b.0 >>= λ frames. Ok (record { track = track; from = frames.0; to = frames.0 + frames.1 })) (within_back (length track.cells) l.from (l.to - l.from) b.0 (omega arith)),
+        refl,
+        omega arith,
+      );
     }
 
 pub layer_back : (r : SequenceRate) (inner : Result Inner DocCode) (t : Table) (levels : ℕ) (tree : ℕ → List Tree) (n : ℕ) → IsSoundTable t → NestReads r inner t levels tree n
@@ -143,11 +145,11 @@ layer_back r inner t levels tree n sound nests l u number at h d =
     let track = track_back r inner t levels tree (Deep t n) (item_child r inner t levels tree n sound nests) u l.track number (c.0 + 1) (place_of text) h.track.good (all_deep t n vs d) in
     let f = trim.frames track.made track.long in
     let whole : track_layer_in (pair_of r) inner number u text ≡ Ok (record { track = track.made; from = f.0; to = f.1 }, track.table) =
-        goes (head_read text) _ tt _ (head_back bare range at (layer_has range items))
-        (goes (trim_read (pair_of r) text) _ trim.trim _ trim.read
-        (goes (needed (codes "children") text) _ (placed c.0 (list_tree items)) _ c.1
-        (goes (track_in (pair_of r) inner number u (in_trees (placed_trees (c.0 + 1) (trees items))) (place_of text)) _ (track.made, track.table) _ track.read
-        (goes (trimmed_layer track.made trim.trim) _ (record { track = track.made; from = f.0; to = f.1 }) _ f.2 refl)))) in
+    goes (head_read text) _ tt _ (head_back bare range at (layer_has range items))
+    (goes (trim_read (pair_of r) text) _ trim.trim _ trim.read
+    (goes (needed (codes "children") text) _ (placed c.0 (list_tree items)) _ c.1
+    (goes (track_in (pair_of r) inner number u (in_trees (placed_trees (c.0 + 1) (trees items))) (place_of text)) _ (track.made, track.table) _ track.read
+    (goes (trimmed_layer track.made trim.trim) _ (record { track = track.made; from = f.0; to = f.1 }) _ f.2 refl)))) in
     record {
       made = record { track = track.made; from = f.0; to = f.1 };
       table = track.table;
@@ -181,7 +183,7 @@ layers_back r inner t levels tree n sound nests (l ∷ ls) before u q h d =
     let one = layer_back r inner t levels tree n sound nests l u (length before) q (All-head (IsSoundLayer t 7) l ls h) (All-head Shallow l ls d) in
     let rest = layers_back r inner t levels tree n sound nests ls (before ++ one.made ∷ []) one.table (q + length (tree_text (layer_tree t r tree l)) + 1) (All-tail (IsSoundLayer t 7) l ls h) (All-tail Shallow l ls d) in
     let step : next_layer (pair_of r) inner (before, u) (placed q (layer_tree t r tree l)) ≡ Ok (before ++ one.made ∷ [], one.table) =
-        ap (λ (x : Read (Layer × Table)). x >>= λ layer. Ok (before ++ layer.0 ∷ [], layer.1)) one.read in
+    ap (λ (x : Read (Layer × Table)). x >>= λ layer. Ok (before ++ layer.0 ∷ [], layer.1)) one.read in
     record {
       made = one.made ∷ rest.made;
       table = rest.table;
@@ -261,18 +263,18 @@ nest_child r own t u levels j s v before after at layers k pic short small b =
     let sc = schema_back (codes "Stack.1") bare Stack at (nest_is range layers) refl in
     let trim = trim_back r bare s v.len at (nest_has range layers) small (omega arith) in
     let frames : nest_frames b.made.length (Some (span_at trim.0 s v.len)) ≡ Ok (s, v.len) =
-        ap (λ (o : Option (ℕ × ℕ)). or_refuse o O14 trim.0) (within_back b.made.length s v.len trim.0 (omega (arith, k.to, b.long))) in
+    ap (λ (o : Option (ℕ × ℕ)). or_refuse o O14 trim.0) (within_back b.made.length s v.len trim.0 (omega (arith, k.to, b.long))) in
     let item : item_in (pair_of r) (Ok own) Stack sc.0 u text ≡ Ok (part, new) =
-        goes (head_read text) _ tt _ (head_back bare range at (nest_has range layers))
-        (goes (trim_read (pair_of r) text) _ (Some (span_at trim.0 s v.len)) _ trim.1
-        (goes (own Stack u text) _ (b.made, b.table) _ b.read
-        (goes (nest_frames b.made.length (Some (span_at trim.0 s v.len))) _ (s, v.len) _ frames refl))) in
+    goes (head_read text) _ tt _ (head_back bare range at (nest_has range layers))
+    (goes (trim_read (pair_of r) text) _ (Some (span_at trim.0 s v.len)) _ trim.1
+    (goes (own Stack u text) _ (b.made, b.table) _ b.read
+    (goes (nest_frames b.made.length (Some (span_at trim.0 s v.len))) _ (s, v.len) _ frames refl))) in
     let more = nest_extends b.table b.made in
     let inside : SameNest (SameThing t new levels) (Some k.entry) (Some b.made) =
-        (b.long, layers_on (SameThing t b.table levels) (SameThing t new levels) (thing_on t b.table new more levels) k.entry.layers b.made.layers b.same) in
+    (b.long, layers_on (SameThing t b.table levels) (SameThing t new levels) (thing_on t b.table new more levels) k.entry.layers b.made.layers b.same) in
     let same : SameThing t new (suc levels) (NestOf j) (NestOf (length b.table.nests)) =
-        subst (λ (o : Option Nest). SameNest (SameThing t new levels) o (slice_get new.nests (length b.table.nests))) (sym k.there)
-        (subst (λ (o : Option Nest). SameNest (SameThing t new levels) (Some k.entry) o) (sym (get_last b.table.nests b.made)) inside) in
+    subst (λ (o : Option Nest). SameNest (SameThing t new levels) o (slice_get new.nests (length b.table.nests))) (sym k.there)
+    (subst (λ (o : Option Nest). SameNest (SameThing t new levels) (Some k.entry) o) (sym (get_last b.table.nests b.made)) inside) in
     record {
       part = part;
       table = new;
@@ -303,7 +305,7 @@ nests_read r t sound (suc n) (suc most) (suc levels) (suc fuel) a b c j s v tail
     let reads = nests_read r t sound n most levels fuel (omega (arith, a)) (omega (arith, b)) (omega (arith, c)) in
     let own = own_back r inner t levels tree n sound reads k.entry (range_tree r s v.len) u at k.sound deep in
     subst (λ (o : Option Nest). ChildBack (pair_of r) (Ok (nest_in (pair_of r) inner)) t u (suc levels) v (placed at (nest_of_layers (range_tree r s v.len) (layer_trees_if t r tree o)))) (sym k.there)
-        (nest_child r (nest_in (pair_of r) inner) t u levels j s v (left_reach v.mark) (right_reach tail) at (layer_trees t r tree k.entry.layers) k pic h.short (omega (arith, k.to, nest_short t k.entry k.sound)) own)
+    (nest_child r (nest_in (pair_of r) inner) t u levels j s v (left_reach v.mark) (right_reach tail) at (layer_trees t r tree k.entry.layers) k pic h.short (omega (arith, k.to, nest_short t k.entry k.sound)) own)
   where
     some_same : (x y : Nest) → Some x ≡ Some y → x ≡ y
     some_same x y e = cc

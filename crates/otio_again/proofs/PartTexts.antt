@@ -1,6 +1,6 @@
 -- The text of each part of a cut is that of its tree.
-use Rattle.std.proofs.Common.{◌≡◌, ℕ, ◌+◌, ◌-◌, ◌^◌, ◌<◌, pos, List, [], ◌∷◌, ◌++◌, Some, None, refl, sym, ap, ◌∙◌, append_assoc, arith}
-use Rattle.std.specs.Prelude.{codes, decimal, Option}
+use Rattle.std.proofs.Common.{◌≡◌, ℕ, ◌-◌, ◌^◌, ◌<◌, List, [], ◌∷◌, ◌++◌, Some, None, ap, ◌∙◌, append_assoc, arith}
+use Rattle.std.specs.Prelude.{codes, Option}
 use Rattle.std.specs.List.{flat_map}
 use Rattle.std.proofs.lemmas.List.{append-nil}
 use Rattle.timecode12.specs.declared.rate.SequenceRate.{SequenceRate}
@@ -12,7 +12,7 @@ use Rattle.composables.specs.declared.media.Kind.TheVariants.{Video, Audio}
 use Rattle.json_tree.specs.Tree.{Tree, trees}
 use Rattle.json_tree.specs.Writing.{numeral_text, whole_text, digits_needed, escaped, quoted, joined, tree_text, trees_texts}
 use Rattle.otio_text.specs.Documents.{time_text, range_open, range_start, brace, range_text, gap_open, gap_close, gap_text, clip_open, clip_reel, clip_range, clip_media, clip_close, clip_text, transition_open, transition_out, transition_text, nest_open, nest_children, layer_open, layer_children, track_open, track_children, kind_text, children_close, timeline_open, timeline_tracks, timeline_close}
-use Rattle.otio_again.specs.CutTrees.{list_tree, time_tree, range_tree, gap_of_range, gap_tree, clip_of_ranges, clip_tree, transition_of_times, transition_tree, nest_of_layers, layer_of_items, kind_name, track_of_items, stack_of_tracks, timeline_of}
+use Rattle.otio_again.specs.CutTrees.{time_tree, range_tree, gap_of_range, gap_tree, clip_of_ranges, clip_tree, transition_of_times, transition_tree, nest_of_layers, layer_of_items, kind_name, track_of_items, stack_of_tracks, timeline_of}
 use Rattle.otio_again.proofs.Decimals.{numeral_is_decimal}
 
 -- ---- what stands between fixed texts, as the tree writes it and as the cut is written
@@ -63,7 +63,7 @@ clip_written : (reel : List ℕ) (range there : Tree) → tree_text (clip_of_ran
     ≡ clip_open ++ (quoted reel ++ (clip_reel ++ (quoted reel ++ (clip_range ++ (tree_text range ++ (clip_media ++ (tree_text there ++ clip_close)))))))
 clip_written reel range there =
     ap (λ (x : List ℕ). clip_open ++ 34 ∷ x)
-        (clip_shape (flat_map escaped reel ++ 34 ∷ []) (codes ",\"metadata\":{\"cmx_3600\":{\"reel\":\"") brace (codes ",\"source_range\":") (tree_text range) clip_media (tree_text there))
+    (clip_shape (flat_map escaped reel ++ 34 ∷ []) (codes ",\"metadata\":{\"cmx_3600\":{\"reel\":\"") brace (codes ",\"source_range\":") (tree_text range) clip_media (tree_text there))
 
 pub clip_spelled : (r : SequenceRate) (reel : List ℕ) (source len : ℕ) (m : Media) → source < 10 ^ 18 → len < 10 ^ 18 → m.from < 10 ^ 18 → m.to < 10 ^ 18 → tree_text (clip_tree r reel source len m) ≡ clip_text r reel source len m
 unfolding clip_tree clip_text

@@ -1,7 +1,7 @@
 -- The ranks of the items of a track: one after another, whatever their numbers are.
-use Rattle.std.proofs.Common.{◌≡◌, ◌≢◌, ℕ, zero, suc, ◌+◌, ◌-◌, ◌<◌, ◌≤◌, nat_eq, Bool, true, false, ◌||◌, List, [], ◌∷◌, ◌++◌, length, replicate, Option, Some, None, IfSome, refl, sym, ap, subst, ◌∙◌, append_assoc, arith, if◌then◌else◌}
-use Rattle.std.specs.List.{list_any, flat_map}
-use Rattle.std.proofs.lemmas.Bool.{eqb-true, eq-eqb, ne_eqb, eqb-false}
+use Rattle.std.proofs.Common.{◌≡◌, ◌≢◌, ℕ, zero, suc, ◌+◌, ◌<◌, nat_eq, Bool, true, false, ◌||◌, List, [], ◌∷◌, ◌++◌, length, replicate, Option, Some, None, IfSome, refl, ap, ◌∙◌, arith, if◌then◌else◌}
+use Rattle.std.specs.List.{list_any}
+use Rattle.std.proofs.lemmas.Bool.{eq-eqb, ne_eqb}
 use Rattle.std.proofs.lemmas.List.{length-append}
 use Rattle.frame_meaning.specs.declared.cells.Cell.{Cell}
 use Rattle.frame_meaning.specs.declared.cells.Mark.{Mark}
@@ -10,9 +10,9 @@ use Rattle.frame_meaning.specs.declared.cells.What.{What}
 use Rattle.frame_meaning.specs.declared.frames.Side.{Side}
 use Rattle.frame_meaning.specs.Cells.{next_side, span}
 use Rattle.composables.specs.declared.items.ItemView.{ItemView}
-use Rattle.composables.specs.Items.{marked, view_cells, cells_of}
+use Rattle.composables.specs.Items.{marked, cells_of}
 use Rattle.composables.specs.TrackFacts.{Lacks, Apart}
-use Rattle.otio_again.specs.SameCut.{rank, rank_of, seen_with, ranks}
+use Rattle.otio_again.specs.SameCut.{rank, ranks}
 
 -- a number that is not there has the next rank
 rank_new : (seen : List ℕ) (i : ℕ) → list_any (nat_eq i) seen ≡ false → rank seen i ≡ length seen
@@ -107,7 +107,7 @@ ranks_are (v ∷ vs) seen h =
     ranks_marked v.mark (span v.item v.first v.link v.len) (cells_of vs) seen
     ∙ item_ranks v.item v.first v.link v.len seen (cells_of vs) h.0 h.1
     ∙ ap (λ (l : List (Option ℕ)). replicate v.len (rank_at (length seen) v.item) ++ l)
-        (ranks_are vs (added seen v.item) h.2 ∙ ap (λ (k : ℕ). view_ranks k vs) (past_added seen v.item))
+    (ranks_are vs (added seen v.item) h.2 ∙ ap (λ (k : ℕ). view_ranks k vs) (past_added seen v.item))
 
 -- ---- those of a track
 

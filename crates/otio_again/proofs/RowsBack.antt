@@ -1,6 +1,6 @@
 -- The items, gaps and dissolves of a track that was written are read again, one after another.
-use Rattle.std.proofs.Common.{◌≡◌, ℕ, zero, suc, ◌+◌, ◌-◌, ◌<◌, ◌≤◌, nat_eq, Bool, true, false, ◌&&◌, ◌||◌, List, [], ◌∷◌, ◌++◌, length, Option, Some, None, IfSome, Result, Ok, Err, refl, sym, ap, subst, ◌∙◌, append_assoc, arith, cond, if◌then◌else◌}
-use Rattle.std.specs.Prelude.{codes, nat_le, nat_lt}
+use Rattle.std.proofs.Common.{◌≡◌, ℕ, ◌+◌, ◌<◌, ◌≤◌, nat_eq, Bool, true, false, ◌&&◌, ◌||◌, List, [], ◌∷◌, ◌++◌, length, Option, Some, None, Result, Ok, refl, sym, ap, subst, ◌∙◌, append_assoc, arith, if◌then◌else◌}
+use Rattle.std.specs.Prelude.{nat_le, nat_lt}
 use Rattle.std.proofs.lemmas.Bool.{le-leb, lt-ltb, ne_eqb}
 use Rattle.std.proofs.lemmas.List.{append-nil}
 use Rattle.timecode12.specs.declared.rate.SequenceRate.{SequenceRate}
@@ -30,10 +30,9 @@ use Rattle.otio_tracks.specs.declared.transitions.Waiting.{Waiting}
 use Rattle.otio_tracks.specs.Reading.{Read, refuse, each}
 use Rattle.otio_tracks.specs.Values.{schema_read}
 use Rattle.otio_tracks.specs.Parts.{is_dark, shows_nest, is_gap, is_nest}
-use Rattle.otio_tracks.specs.Transitions.{right_reach as reach_of, side_reaches_back, side_reaches_on, reaches_back, reaches_on, has_room, has_room_behind, joins, has_frames, mark_between, dissolve_behind, dissolve_between, transition_read}
-use Rattle.otio_tracks.specs.Rows.{RowState, empty_row, waiting_with, waits, dissolve_if, dissolve_before, longer, all_kept, kept, row_with, ended, row_end}
-use Rattle.otio_json.specs.Nests.{Inner, child_by, child_in}
-use Rattle.otio_json.specs.Soundness.{SideHas, EachHas}
+use Rattle.otio_tracks.specs.Transitions.{right_reach as reach_of, side_reaches_back, side_reaches_on, reaches_back, reaches_on, has_room, joins, mark_between, dissolve_behind, dissolve_between}
+use Rattle.otio_tracks.specs.Rows.{RowState, empty_row, dissolve_if, dissolve_before, longer, all_kept, row_with}
+use Rattle.otio_json.specs.Nests.{Inner, child_in}
 use Rattle.otio_json.proofs.Growth.{HasBounds}
 use Rattle.otio_again.specs.CutTrees.{transition_tree, mark_trees, item_tree, later_item_trees, item_trees}
 use Rattle.otio_again.specs.SameCut.{SameSide, SameThing}
@@ -124,8 +123,8 @@ room_back t u w levels v next m tail last before part mark hv hn k p =
     let left : reach_of last.mark + m.a ≤ last.len = omega (arith, hv.holds.room, ap reach_of k.mark ∙ reach_same v.mark, k.kept_last.len) in
     let right : m.b ≤ part.len = omega (arith, hn.holds.room, ap right_reach mark, p.len) in
     and_all (nat_le (reach_of last.mark + m.a) last.len) (nat_le m.b part.len) (reaches_on last m.b) (reaches_back part m.a)
-        (le-leb (reach_of last.mark + m.a) last.len left) (le-leb m.b part.len right)
-        (ap (λ (n : ℕ). side_reaches_on last.first n last.to m.b) k.kept_last.len ∙ on.0) back.1
+    (le-leb (reach_of last.mark + m.a) last.len left) (le-leb m.b part.len right)
+    (ap (λ (n : ℕ). side_reaches_on last.first n last.to m.b) k.kept_last.len ∙ on.0) back.1
 
 -- ---- a dissolve
 
@@ -140,7 +139,7 @@ not_empty_mark true true m e f h = absurd (omega (arith, zero_of m.a e, zero_of 
 mark_known : (last before part : Part) (m : Mark) (at : ℕ) → 0 < m.a + m.b → 0 < before.len → 0 < part.len → has_room last part m ≡ true → mark_between (Some last) before part m at ≡ Ok (Some m)
 mark_known last before part m at some b p room =
     ap (λ (t : Bool). if t then Ok None else if ((nat_lt 0 before.len || joins (Some last) before) && nat_lt 0 part.len) && has_room last part m then Ok (Some m) else refuse O9 at)
-        (not_empty_mark (nat_eq m.a 0) (nat_eq m.b 0) m refl refl some)
+    (not_empty_mark (nat_eq m.a 0) (nat_eq m.b 0) m refl refl some)
     ∙ (λ i. if ((lt-ltb 0 before.len b i || joins (Some last) before) && lt-ltb 0 part.len p i) && room i then Ok (Some m) else refuse O9 at)
 
 behind_known : (last before part : Part) (m : Mark) (at : ℕ) → (is_gap before && is_gap part) ≡ false → is_nest before ≡ false → is_nest part ≡ false
@@ -166,7 +165,7 @@ dissolve_known r t u w levels v next (Some m) tail last before part at mark apar
     let left : is_nest before ≡ false = same_nest t u levels v.first before.first k.read_last.side ∙ no_nest v.first m hv.holds.tail_no_nest in
     let right : is_nest part ≡ false = same_nest t w levels next.first part.first p.side ∙ no_nest next.first m head in
     behind_known last before part m at gaps left right
-        (mark_known last before part m at some (omega (arith, k.read_last.len, hv.holds.filled)) (omega (arith, p.len, hn.holds.filled)) (room_back t u w levels v next m tail last before part mark hv hn k p))
+    (mark_known last before part m at some (omega (arith, k.read_last.len, hv.holds.filled)) (omega (arith, p.len, hn.holds.filled)) (room_back t u w levels v next m tail last before part mark hv hn k p))
 
 -- ---- one item more
 
@@ -185,8 +184,8 @@ kept_next done last before part waiting mark some apart known =
     let row : RowState = record { done = done; last = Some last; before = Some before; waiting = waiting } in
     goes (dissolve_before row part) _ mark _ known
     ((λ i. Ok (if ne_eqb part.len 0 (λ e. omega arith) i then record row { before = Some part; waiting = None }
-        else if apart i then record row { last = longer (Some last) part.len; before = Some part; waiting = None }
-        else row_of (done ++ last ∷ []) (with_mark part mark) part)))
+    else if apart i then record row { last = longer (Some last) part.len; before = Some part; waiting = None }
+    else row_of (done ++ last ∷ []) (with_mark part mark) part)))
 
 -- ---- all items behind one
 
@@ -265,17 +264,18 @@ module _ (r : SequenceRate) (inner : Result Inner DocCode) (t : Table) (levels :
       → (place : ℕ) × (child_in (pair_of r) inner (row_of done last before, u) (placed at (transition_tree r m)) ≡ Ok (record { done = done; last = Some last; before = Some before; waiting = waiting_of r (Some m) place }, u))
   waits_back m done last before u at a b =
       let tt_at = placed at (transition_tree r m) in
-      let s = transition_schema r m at in
-      (place_of tt_at,
-      goes (schema_read tt_at) _ (Transition, s.0) _ s.1
-      (ap (λ (x : Read Mark). Ok (record { done = done; last = Some last; before = Some before; waiting = Some (record { at = place_of tt_at; offsets = x; crowded = false }) }, u))
-          (transition_back r m at (omega arith) (omega arith))))
+      let s = transition_schema r m at in (
+        place_of tt_at,
+        goes (schema_read tt_at) _ (Transition, s.0) _ s.1
+            (ap (λ (x : Read Mark). Ok (record { done = done; last = Some last; before = Some before; waiting = Some (record { at = place_of tt_at; offsets = x; crowded = false }) }, u))
+            (transition_back r m at (omega arith) (omega arith))),
+      )
 
   -- a transition, if there is one, and the item behind it
   item_step : (v next : ItemView) (mark tail : Option Mark) (vs : List ItemView) (done : List Part) (last before : Part) (u : Table) (at : ℕ) → next.mark ≡ mark → same_number v.item next.item ≡ false
       → IsShown t v mark → IsShown t next tail → IsBehind t u levels v last before → Can next
       → ((q : ℕ) (c : ChildBack (pair_of r) inner t u levels next (placed q (item_tree t r tree next))) (place : ℕ)
-          → RestBack r inner t levels (done ++ last ∷ []) (with_mark c.part mark) (row_of (done ++ last ∷ []) (with_mark c.part mark) c.part) c.table vs (in_trees (placed_trees place (trees (later_item_trees t r tree vs)))))
+      → RestBack r inner t levels (done ++ last ∷ []) (with_mark c.part mark) (row_of (done ++ last ∷ []) (with_mark c.part mark) c.part) c.table vs (in_trees (placed_trees place (trees (later_item_trees t r tree vs)))))
       → RestBack r inner t levels done last (row_of done last before) u (next ∷ vs) (in_trees (placed_trees at (trees (mark_trees r mark (item_tree t r tree next ∷ later_item_trees t r tree vs)))))
   item_step v next None tail vs done last before u at e apart hv hn k can rest =
       let item = item_tree t r tree next in
@@ -317,8 +317,8 @@ module _ (r : SequenceRate) (inner : Result Inner DocCode) (t : Table) (levels :
   }
   later_back (next ∷ vs) v done last before u at hv hs can tight k =
       item_step v next next.mark (first_mark vs) vs done last before u at refl tight.0 hv hs.0 k can.0
-          (λ q c place. later_back vs next (done ++ last ∷ []) (with_mark c.part next.mark) c.part c.table place hs.0 hs.1 can.1 tight.1
-              (record { kept_last = marked_part c.table next c.part next.mark c.is; mark = refl; read_last = c.is }))
+      (λ q c place. later_back vs next (done ++ last ∷ []) (with_mark c.part next.mark) c.part c.table place hs.0 hs.1 can.1 tight.1
+      (record { kept_last = marked_part c.table next c.part next.mark c.is; mark = refl; read_last = c.is }))
 
   pub row_back : (vs : List ItemView) (u : Table) (at : ℕ) → first_mark vs ≡ None → EachIsShown t vs → AllCan Can vs → IsTight vs → RowBack r inner t levels u vs (in_trees (placed_trees at (trees (item_trees t r tree vs))))
   row_back [] u at none hs can tight = record { next = empty_row; table = u; parts = []; read = refl; extends = extends_self u; all = refl; are = tt; no_more = refl }
@@ -328,9 +328,9 @@ module _ (r : SequenceRate) (inner : Result Inner DocCode) (t : Table) (levels :
       let first = with_mark c.part None in
       let row = row_of [] first c.part in
       let one : child_in (pair_of r) inner (empty_row, u) item ≡ Ok (row, c.table) =
-          c.read empty_row ∙ ap (λ (x : Read RowState). x >>= λ n. Ok (n, c.table)) (kept_first c.part (omega (arith, c.is.len, hs.0.holds.filled))) in
+      c.read empty_row ∙ ap (λ (x : Read RowState). x >>= λ n. Ok (n, c.table)) (kept_first c.part (omega (arith, c.is.len, hs.0.holds.filled))) in
       let b = later_back vs v [] first c.part c.table (at + length (tree_text (item_tree t r tree v)) + 1) hs.0 hs.1 can.1 tight
-          (record { kept_last = marked_part c.table v c.part None c.is; mark = sym none; read_last = c.is }) in
+      (record { kept_last = marked_part c.table v c.part None c.is; mark = sym none; read_last = c.is }) in
       record {
         next = b.next;
         table = b.table;

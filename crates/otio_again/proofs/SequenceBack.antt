@@ -1,5 +1,5 @@
 -- The tracks of a sequence that was written are read again.
-use Rattle.std.proofs.Common.{◌≡◌, ℕ, zero, suc, ◌+◌, ◌-◌, ◌<◌, ◌≤◌, min, nat_eq, Bool, true, false, ◌&&◌, List, [], ◌∷◌, ◌++◌, length, slice_get, Option, Some, None, Result, Ok, Err, refl, sym, ap, subst, ◌∙◌, append_assoc, arith, if◌then◌else◌}
+use Rattle.std.proofs.Common.{◌≡◌, ℕ, suc, ◌+◌, min, List, [], ◌∷◌, ◌++◌, length, slice_get, Option, Some, Ok, refl, sym, ap, subst, ◌∙◌, append_assoc, arith}
 use Rattle.std.specs.Prelude.{codes}
 use Rattle.std.proofs.lemmas.List.{append-nil, length-append}
 use Rattle.timecode12.specs.declared.rate.SequenceRate.{SequenceRate}
@@ -18,17 +18,16 @@ use Rattle.json_tree.specs.Tree.{Tree, At, Null, trees, in_trees}
 use Rattle.json_tree.specs.Parts.{place_of}
 use Rattle.json_tree.specs.Writing.{tree_text}
 use Rattle.json_tree.proofs.WriteLaws.{placed, placed_trees}
-use Rattle.otio_tracks.specs.declared.faults.DocCode.{DocCode}
 use Rattle.otio_tracks.specs.Reading.{Read, each}
-use Rattle.otio_tracks.specs.Values.{given, needed, text_read, expected}
+use Rattle.otio_tracks.specs.Values.{given, needed, expected}
 use Rattle.otio_tracks.specs.Parts.{enabled_if, enabled_read}
 use Rattle.otio_text.specs.Documents.{kind_at}
-use Rattle.otio_json.specs.Nests.{Inner, nests_in, track_in, track_read}
+use Rattle.otio_json.specs.Nests.{nests_in, track_read}
 use Rattle.otio_json.specs.Soundness.{SideHas, EachHas, IsDeep, IsReadTrack, IsSoundTable, levels_of_kind, AreTracksFrom}
 use Rattle.otio_json.specs.Timelines.{untrimmed_if, untrimmed, kind_named, kind_read, nesting_of, head_of_track, with_kind, next_track}
-use Rattle.otio_again.specs.CutTrees.{text_tree, list_tree, item_tree, item_trees, nest_trees, kind_name, track_of_items, track_tree, track_trees}
+use Rattle.otio_again.specs.CutTrees.{text_tree, list_tree, item_trees, nest_trees, kind_name, track_of_items, track_tree, track_trees}
 use Rattle.otio_again.specs.SameCut.{SameCells, SameThing, SameTracks}
-use Rattle.otio_again.proofs.Walk.{goes, Has, HasNo, IsOf, needed_back, given_null, given_none, text_back, expected_back}
+use Rattle.otio_again.proofs.Walk.{goes, Has, HasNo, IsOf, needed_back, given_null, given_none, expected_back}
 use Rattle.otio_again.proofs.TimesBack.{pair_of}
 use Rattle.otio_again.proofs.Extends.{Keeps, keeps_of, keeps_on, keeps_self, thing_keeps, cells_on}
 use Rattle.otio_again.proofs.TracksBack.{TrackBack, track_back}
@@ -61,7 +60,7 @@ kind_track r t sound k u x number q at h =
     let tree = nest_trees t r (length t.nests) in
     let n = depth_of k t in
     track_back r inner t 8 tree (Deep t n) (item_child r inner t 8 tree n sound (kind_reads r t sound k)) u x number q at h.good
-        (all_deep t n (items_of x.cells) (least_deep t (levels_of_kind k) (items_of x.cells) h.deep))
+    (all_deep t n (items_of x.cells) (least_deep t (levels_of_kind k) (items_of x.cells) h.deep))
 
 -- ---- the text of a track
 
@@ -178,7 +177,7 @@ tracks_back r t sound i n [] (x ∷ xs) u before q kinds h e = absurd h
 tracks_back r t sound i n (k ∷ ks) [] u before q kinds h e = absurd h
 tracks_back r t sound i n (k ∷ ks) (x ∷ xs) u before q kinds h e =
     let one : NextBack r t u k x before (placed q (track_tree t r (kind_at t i) x)) =
-        subst (λ (o : Option TrackKind). NextBack r t u k x before (placed q (track_tree t r o x))) (sym kinds.0) (next_back r t sound k u x before q h.1) in
+    subst (λ (o : Option TrackKind). NextBack r t u k x before (placed q (track_tree t r o x))) (sym kinds.0) (next_back r t sound k u x before q h.1) in
     let place = q + length (tree_text (track_tree t r (kind_at t i) x)) + 1 in
     let rest = tracks_back r t sound (i + 1) (n + 1) ks xs one.table (before ++ one.made ∷ []) place kinds.1 h.2 (omega (arith, length-append before (one.made ∷ []))) in
     record {
@@ -197,6 +196,7 @@ some_kinds t = from_here t.kinds 0 (λ j k e. let here : j ≡ 0 + j = omega ari
     from_here : (ks : List TrackKind) (i : ℕ) → ((j : ℕ) (k : TrackKind) → slice_get ks j ≡ Some k → slice_get t.kinds (i + j) ≡ Some k) → AreKinds t i ks
     from_here [] i h = tt
     from_here (k ∷ ks) i h =
-        let here : i + 0 ≡ i = omega arith in
-        (subst (λ (m : ℕ). slice_get t.kinds m ≡ Some k) here (h 0 k refl),
-        from_here ks (i + 1) (λ j l e. let next : i + suc j ≡ i + 1 + j = omega arith in subst (λ (m : ℕ). slice_get t.kinds m ≡ Some l) next (h (suc j) l e)))
+        let here : i + 0 ≡ i = omega arith in (
+          subst (λ (m : ℕ). slice_get t.kinds m ≡ Some k) here (h 0 k refl),
+          from_here ks (i + 1) (λ j l e. let next : i + suc j ≡ i + 1 + j = omega arith in subst (λ (m : ℕ). slice_get t.kinds m ≡ Some l) next (h (suc j) l e)),
+        )

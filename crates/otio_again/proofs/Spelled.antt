@@ -1,5 +1,5 @@
 -- What is written of a sound cut is spelled by the grammar, and so it is read as a tree.
-use Rattle.std.proofs.Common.{◌≡◌, ℕ, ◌+◌, ◌-◌, ◌*◌, ◌^◌, ◌<◌, ◌≤◌, List, length, Result, Ok, refl, sym, ap, subst, ◌∙◌, arith}
+use Rattle.std.proofs.Common.{◌≡◌, ◌*◌, ◌^◌, ◌<◌, ◌≤◌, length, refl, sym, arith}
 use Rattle.timecode12.specs.Numbers.{numbers_a_second, Counted}
 use Rattle.timecode12.specs.declared.rate.SequenceRate.{SequenceRate}
 use Rattle.timecode12.specs.declared.rate.SequenceRate.TheVariants.{F23976, F24, F25, F2997, F30}
@@ -7,15 +7,10 @@ use Rattle.timecode12.specs.Labels.{day_of}
 use Rattle.timecode12.specs.Places.{hour}
 use Rattle.timecode12.proofs.Places.{dropped_by}
 use Rattle.timecode12.proofs.Told.{day_is}
-use Rattle.json_tree.specs.Sound.{SpellsAgain}
-use Rattle.json_tree.specs.Tree.{Tree}
-use Rattle.json_tree.specs.Grammar.{Spells}
-use Rattle.json_tree.specs.ReadingValues.{document_at}
-use Rattle.json_tree.specs.Writing.{tree_text}
 use Rattle.json_tree.proofs.WriteLaws.{spelled_again}
 use Rattle.otio_json.specs.Soundness.{IsSoundOpening}
 use Rattle.otio_json.specs.declared.opening.Opening.{Opening}
-use Rattle.otio_again.specs.Meanings.{AreTexts, text_of_cut, tree_of_cut, WrittenIsSpelled}
+use Rattle.otio_again.specs.Meanings.{text_of_cut, tree_of_cut, WrittenIsSpelled}
 use Rattle.otio_again.proofs.CutTexts.{timeline_spelled}
 use Rattle.otio_again.proofs.CutLawful.{cut_lawful}
 

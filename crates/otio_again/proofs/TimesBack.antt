@@ -1,8 +1,8 @@
 -- A time and a range that were written are read again.
-use Rattle.std.proofs.Common.{◌≡◌, ℕ, zero, suc, ◌+◌, ◌-◌, ◌*◌, ◌/◌, ◌^◌, ◌<◌, ◌≤◌, min, ℤ, pos, negsuc, neg_ℤ, ◌+ℤ◌, int_le, int_lt, unsigned_abs, Bool, true, false, cond, ◌&&◌, List, Option, Some, None, Result, Ok, Err, refl, sym, ap, subst, ◌∙◌, arith, if◌then◌else◌}
-use Rattle.std.specs.Prelude.{codes, nat_lt, nat_le, leb, ltb}
+use Rattle.std.proofs.Common.{◌≡◌, ℕ, zero, suc, ◌+◌, ◌-◌, ◌*◌, ◌/◌, ◌<◌, ◌≤◌, min, ℤ, pos, negsuc, neg_ℤ, ◌+ℤ◌, int_le, int_lt, Bool, true, false, cond, ◌&&◌, Option, Some, None, Result, Ok, Err, refl, sym, ap, subst, ◌∙◌, arith, if◌then◌else◌}
+use Rattle.std.specs.Prelude.{codes, nat_lt}
 use Rattle.std.specs.Int.{int_div_euclid}
-use Rattle.std.proofs.lemmas.Bool.{le-leb, lt-ltb, leb-true, leb-false, le-ltb}
+use Rattle.std.proofs.lemmas.Bool.{le-leb, lt-ltb, leb-true}
 use Rattle.std.proofs.lemmas.Nat.{div-mul-add}
 use Rattle.std.proofs.Math.Nat.{mul_comm, mul-add}
 use Rattle.timecode12.specs.declared.rate.SequenceRate.{SequenceRate}
@@ -10,18 +10,17 @@ use Rattle.timecode12.specs.declared.rate.SequenceRate.TheVariants.{F23976, F24,
 use Rattle.timecode12.specs.Numbers.{rate_num, rate_den}
 use Rattle.ratio_time.specs.declared.time.TimeFault.{TimeFault}
 use Rattle.ratio_time.specs.declared.time.TimeFault.TheVariants.{NotOnFrame, TooFar}
-use Rattle.ratio_time.specs.Division.{near_or_fault, near_pair, is_near}
-use Rattle.json_tree.specs.Tree.{Tree, At, Numeral_of}
+use Rattle.ratio_time.specs.Division.{near_or_fault, near_pair}
+use Rattle.json_tree.specs.Tree.{At, Numeral_of}
 use Rattle.json_tree.specs.Parts.{place_of}
 use Rattle.json_tree.proofs.WriteLaws.{placed}
 use Rattle.otio_tracks.specs.declared.faults.DocCode.TheVariants.{O14}
-use Rattle.otio_tracks.specs.declared.times.Span.{Span}
-use Rattle.otio_tracks.specs.Reading.{Read, refuse}
+use Rattle.otio_tracks.specs.Reading.{refuse}
 use Rattle.otio_tracks.specs.Values.{needed, expected}
-use Rattle.otio_tracks.specs.Times.{Moment, rate_meant, rate_read, numeral_read, moment_read, over_of, under_of, frame_below, frame_above, frame_at, on_frame, frame_read, not_negative, length_read, span_read, gap_read}
-use Rattle.otio_tracks.specs.Clips.{clamped, in_media, narrowed, media_if, narrowed_read, available_read}
+use Rattle.otio_tracks.specs.Times.{Moment, rate_meant, rate_read, moment_read, frame_below, frame_above, frame_at, on_frame, frame_read, length_read, span_read, gap_read}
+use Rattle.otio_tracks.specs.Clips.{clamped, in_media, narrowed, media_if, available_read}
 use Rattle.otio_again.specs.CutTrees.{rate_tree, time_tree, range_tree}
-use Rattle.otio_again.proofs.Walk.{goes, Has, IsOf, needed_back, numeral_back, expected_back}
+use Rattle.otio_again.proofs.Walk.{goes, Has, IsOf, needed_back, expected_back}
 
 abbrev pub pair_of : SequenceRate → ℕ × ℕ
 pair_of r = (rate_num r, rate_den r)

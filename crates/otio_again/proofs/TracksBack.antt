@@ -1,6 +1,5 @@
 -- A track that was written is read again as the same track.
-use Rattle.std.proofs.Common.{◌≡◌, ◌≢◌, ℕ, zero, suc, ◌+◌, ◌-◌, ◌<◌, ◌≤◌, nat_eq, Bool, true, false, ◌&&◌, List, [], ◌∷◌, ◌++◌, length, replicate, Option, Some, None, Result, Ok, Err, refl, sym, ap, subst, ◌∙◌, arith, if◌then◌else◌}
-use Rattle.std.specs.Prelude.{nat_le}
+use Rattle.std.proofs.Common.{◌≡◌, ℕ, zero, suc, ◌+◌, ◌≤◌, nat_eq, Bool, true, false, ◌&&◌, List, [], ◌∷◌, ◌++◌, length, replicate, Option, Some, None, Result, Ok, refl, sym, ap, subst, ◌∙◌, arith, if◌then◌else◌}
 use Rattle.std.specs.List.{list_any}
 use Rattle.std.proofs.lemmas.Bool.{le-leb}
 use Rattle.timecode12.specs.declared.rate.SequenceRate.{SequenceRate}
@@ -16,28 +15,27 @@ use Rattle.composables.specs.declared.items.ItemView.{ItemView}
 use Rattle.composables.specs.Good.{IsGood}
 use Rattle.composables.specs.Items.{marked, view_cells, cells_of, items_of}
 use Rattle.composables.specs.Joined.{IsTight, AllFilled, joined, frames_in}
-use Rattle.composables.specs.TrackFacts.{first_mark, Holds, EachHolds, ShowsAsItem}
+use Rattle.composables.specs.TrackFacts.{EachHolds, ShowsAsItem}
 use Rattle.composables.specs.TrackState.{TrackState}
 use Rattle.composables.proofs.Joining.{length-cells_of, items_of-cells_of, tight-joined}
-use Rattle.json_tokens.specs.Reading.{◌>>=◌}
 use Rattle.json_tree.specs.Tree.{Tree, trees, in_trees}
 use Rattle.json_tree.proofs.WriteLaws.{placed, placed_trees}
 use Rattle.otio_tracks.specs.declared.faults.DocCode.{DocCode}
 use Rattle.otio_tracks.specs.declared.faults.DocCode.TheVariants.{O11}
 use Rattle.otio_tracks.specs.declared.parts.Part.{Part}
-use Rattle.otio_tracks.specs.Reading.{Read, refuse}
+use Rattle.otio_tracks.specs.Reading.{refuse}
 use Rattle.otio_tracks.specs.Parts.{is_dark, is_gap}
-use Rattle.otio_tracks.specs.Rows.{RowState, ended, row_end, frames_in_all}
+use Rattle.otio_tracks.specs.Rows.{ended, row_end, frames_in_all}
 use Rattle.otio_tracks.specs.Building.{view_of, number_after, views_of, track_made, track_fit}
 use Rattle.otio_json.specs.Nests.{Inner, row_in, track_in}
 use Rattle.otio_again.specs.CutTrees.{item_tree, item_trees}
-use Rattle.otio_again.specs.SameCut.{ranks, SameSide, SameFrames, SameCells, SameThing}
+use Rattle.otio_again.specs.SameCut.{SameSide, SameFrames, SameCells, SameThing}
 use Rattle.otio_again.proofs.Facts.{IsShown, EachIsShown, track_shown, track_frames}
 use Rattle.otio_again.proofs.Walk.{goes}
 use Rattle.otio_again.proofs.TimesBack.{pair_of}
 use Rattle.otio_again.proofs.Extends.{Extends}
 use Rattle.otio_again.proofs.RanksBack.{IsNew, added, AreNew, rank_at, rank_past, view_ranks, ranks_are, none_seen, not_in_more, EachFilled, apart_new}
-use Rattle.otio_again.proofs.ItemsBack.{IsPartOf, ChildBack}
+use Rattle.otio_again.proofs.ItemsBack.{ChildBack}
 use Rattle.otio_again.proofs.RowsBack.{same_dark, AllCan, AreParts, RowBack, row_back}
 
 -- ---- frames
@@ -158,10 +156,10 @@ cells_made t u levels track ps g h =
     let of_cut = ranks_are vs [] (apart_new vs [] filled (none_seen vs) g.kept.apart) in
     let of_parts = ranks_are (views_of 0 ps) [] (new_made t u levels vs ps 0 [] h filled (λ j le. refl)) in
     subst (λ (cs : List Cell). SameCells (SameThing t u levels) cs (cells_of (views_of 0 ps))) g.kept.whole
-        (record {
-          frames = frames_made t u levels vs ps 0 h;
-          items = of_cut ∙ ranks_made t u levels vs ps 0 0 h (track_shown t track g) ∙ sym of_parts;
-        })
+    (record {
+      frames = frames_made t u levels vs ps 0 h;
+      items = of_cut ∙ ranks_made t u levels vs ps 0 0 h (track_shown t track g) ∙ sym of_parts;
+    })
 
 fit_back : (number : ℕ) (ps : List Part) (at : ℕ) → frames_in_all ps ≤ 2592000 → length ps ≤ 65536 → track_fit number ps at ≡ Ok (track_made number ps)
 unfolding track_fit
@@ -204,4 +202,4 @@ pub track_back : (r : SequenceRate) (inner : Result Inner DocCode) (t : Table) (
 track_back r inner t levels tree Can child u track number q at g can =
     let vs = items_of track.cells in
     track_from r inner t u levels track number (in_trees (placed_trees q (trees (item_trees t r tree vs)))) at g
-        (row_back r inner t levels tree Can child vs u q g.kept.not_before (track_shown t track g) can (tight_items track.cells vs refl g.kept.whole g.kept.each))
+    (row_back r inner t levels tree Can child vs u q g.kept.not_before (track_shown t track g) can (tight_items track.cells vs refl g.kept.whole g.kept.each))

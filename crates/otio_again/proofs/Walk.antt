@@ -1,15 +1,14 @@
 -- The walk over a tree with the places that it has in a text: what a value is does not hang on where it stands.
-use Rattle.std.proofs.Common.{◌≡◌, ℕ, ◌+◌, ℤ, Bool, true, false, List, [], ◌∷◌, ◌++◌, length, Option, Some, None, Result, Ok, Err, refl, sym, ap, subst, ◌∙◌, ◌⊎◌, inl, inr, cond, if◌then◌else◌}
+use Rattle.std.proofs.Common.{◌≡◌, ℕ, ◌+◌, ℤ, Bool, true, false, List, ◌∷◌, ◌++◌, length, Option, Some, None, Ok, refl, ap, ◌∙◌, ◌⊎◌, inl, inr, cond, if◌then◌else◌}
 use Rattle.std.specs.Prelude.{codes}
 use Rattle.std.specs.Option.{option_or}
 use Rattle.std.specs.Str.{bytes_eq}
 use Rattle.std.proofs.lemmas.Slice.Eq.{bytes_eq-Decides}
 use Rattle.json_tokens.specs.Reading.{◌>>=◌}
-use Rattle.json_tree.specs.Tree.{Tree, Kind, Trees, Members, At, Null, Bool_of, Numeral_of, Wide, Text_of, List_of, Object_of, no_trees, more_trees, no_members, more_members, in_trees, in_members, last_named}
+use Rattle.json_tree.specs.Tree.{Tree, Kind, Trees, Members, At, Null, Bool_of, Numeral_of, Wide, Text_of, List_of, Object_of, no_members, more_members, in_trees, in_members, last_named}
 use Rattle.json_tree.specs.Parts.{place_of, kind_in, member_in, items_in, text_in}
 use Rattle.json_tree.specs.Writing.{quoted, tree_text}
 use Rattle.json_tree.proofs.WriteLaws.{placed, placed_kind, placed_trees, placed_members}
-use Rattle.otio_tracks.specs.declared.faults.DocCode.{DocCode}
 use Rattle.otio_tracks.specs.declared.faults.DocCode.TheVariants.{O1, O2, O3}
 use Rattle.otio_tracks.specs.declared.values.Schema.{Schema}
 use Rattle.otio_tracks.specs.Reading.{Read, refuse, or_refuse}
@@ -163,7 +162,8 @@ expected_back name t at h =
 pub schema_back : (name : List ℕ) (t : Tree) (s : Schema) (at : ℕ) → IsOf name t → schema_named name ≡ Some s → (p : ℕ) × (schema_read (placed at t) ≡ Ok (s, p))
 unfolding schema_read
 schema_back name t s at h e =
-    let m = schema_text_back name t at h in
-    (m.0,
-    goes (schema_text (placed at t)) _ (placed m.0 (text_tree name)) _ m.1
-    (ap (λ (o : Option Schema). or_refuse o O1 m.0 >>= λ known. Ok (known, m.0)) e))
+    let m = schema_text_back name t at h in (
+      m.0,
+      goes (schema_text (placed at t)) _ (placed m.0 (text_tree name)) _ m.1
+          (ap (λ (o : Option Schema). or_refuse o O1 m.0 >>= λ known. Ok (known, m.0)) e),
+    )

@@ -45,52 +45,52 @@ rate_tree F30 = At 0 (Numeral_of (pos 30) 0)
 
 unfoldable pub time_tree : SequenceRate → ℕ → Tree
 time_tree rate f = object (
-  schema (codes "RationalTime.1")
-  ∷ (codes "rate", rate_tree rate)
-  ∷ (codes "value", At 0 (Numeral_of (pos f) 0))
-  ∷ [])
+    schema (codes "RationalTime.1")
+    ∷ (codes "rate", rate_tree rate)
+    ∷ (codes "value", At 0 (Numeral_of (pos f) 0))
+    ∷ [])
 
 unfoldable pub range_tree : SequenceRate → ℕ → ℕ → Tree
 range_tree rate from len = object (
-  schema (codes "TimeRange.1")
-  ∷ (codes "duration", time_tree rate len)
-  ∷ (codes "start_time", time_tree rate from)
-  ∷ [])
+    schema (codes "TimeRange.1")
+    ∷ (codes "duration", time_tree rate len)
+    ∷ (codes "start_time", time_tree rate from)
+    ∷ [])
 
 -- ---- items without a nest, and transitions
 
 -- an item or a gap that shows this range, before its own part
 abbrev pub gap_of_range : Tree → Tree
 gap_of_range range = object (
-  schema (codes "Gap.1")
-  ∷ (codes "name", text_tree [])
-  ∷ (codes "metadata", object [])
-  ∷ (codes "source_range", range)
-  ∷ (codes "effects", list_tree [])
-  ∷ (codes "markers", list_tree [])
-  ∷ [])
+    schema (codes "Gap.1")
+    ∷ (codes "name", text_tree [])
+    ∷ (codes "metadata", object [])
+    ∷ (codes "source_range", range)
+    ∷ (codes "effects", list_tree [])
+    ∷ (codes "markers", list_tree [])
+    ∷ [])
 
 unfoldable pub gap_tree : SequenceRate → ℕ → Tree
 gap_tree rate len = gap_of_range (range_tree rate 0 len)
 
 abbrev pub reference_of_range : Tree → Tree
 reference_of_range range = object (
-  schema (codes "MissingReference.1")
-  ∷ (codes "name", text_tree [])
-  ∷ (codes "metadata", object [])
-  ∷ (codes "available_range", range)
-  ∷ [])
+    schema (codes "MissingReference.1")
+    ∷ (codes "name", text_tree [])
+    ∷ (codes "metadata", object [])
+    ∷ (codes "available_range", range)
+    ∷ [])
 
 abbrev pub clip_of_ranges : List ℕ → Tree → Tree → Tree
 clip_of_ranges reel range there = object (
-  schema (codes "Clip.1")
-  ∷ (codes "name", text_tree reel)
-  ∷ (codes "metadata", object ((codes "cmx_3600", object ((codes "reel", text_tree reel) ∷ [])) ∷ []))
-  ∷ (codes "source_range", range)
-  ∷ (codes "effects", list_tree [])
-  ∷ (codes "markers", list_tree [])
-  ∷ (codes "media_reference", reference_of_range there)
-  ∷ [])
+    schema (codes "Clip.1")
+    ∷ (codes "name", text_tree reel)
+    ∷ (codes "metadata", object ((codes "cmx_3600", object ((codes "reel", text_tree reel) ∷ [])) ∷ []))
+    ∷ (codes "source_range", range)
+    ∷ (codes "effects", list_tree [])
+    ∷ (codes "markers", list_tree [])
+    ∷ (codes "media_reference", reference_of_range there)
+    ∷ [])
 
 unfoldable pub clip_tree : SequenceRate → List ℕ → ℕ → ℕ → Media → Tree
 clip_tree rate reel source len m = clip_of_ranges reel (range_tree rate source len) (range_tree rate m.from (m.to - m.from))
@@ -105,13 +105,13 @@ clip_tree_if table rate n source len = clip_tree_of table.reels rate (slice_get 
 
 abbrev pub transition_of_times : Tree → Tree → Tree
 transition_of_times before after = object (
-  schema (codes "Transition.1")
-  ∷ (codes "name", text_tree [])
-  ∷ (codes "metadata", object [])
-  ∷ (codes "transition_type", text_tree (codes "SMPTE_Dissolve"))
-  ∷ (codes "in_offset", before)
-  ∷ (codes "out_offset", after)
-  ∷ [])
+    schema (codes "Transition.1")
+    ∷ (codes "name", text_tree [])
+    ∷ (codes "metadata", object [])
+    ∷ (codes "transition_type", text_tree (codes "SMPTE_Dissolve"))
+    ∷ (codes "in_offset", before)
+    ∷ (codes "out_offset", after)
+    ∷ [])
 
 unfoldable pub transition_tree : SequenceRate → Mark → Tree
 transition_tree rate m = transition_of_times (time_tree rate m.a) (time_tree rate m.b)
@@ -125,26 +125,26 @@ mark_trees rate (Some m) ts = transition_tree rate m ∷ ts
 
 unfoldable pub nest_of_layers : Tree → List Tree → Tree
 nest_of_layers range layers = object (
-  schema (codes "Stack.1")
-  ∷ (codes "name", text_tree [])
-  ∷ (codes "metadata", object [])
-  ∷ (codes "source_range", range)
-  ∷ (codes "effects", list_tree [])
-  ∷ (codes "markers", list_tree [])
-  ∷ (codes "children", list_tree layers)
-  ∷ [])
+    schema (codes "Stack.1")
+    ∷ (codes "name", text_tree [])
+    ∷ (codes "metadata", object [])
+    ∷ (codes "source_range", range)
+    ∷ (codes "effects", list_tree [])
+    ∷ (codes "markers", list_tree [])
+    ∷ (codes "children", list_tree layers)
+    ∷ [])
 
 unfoldable pub layer_of_items : Tree → List Tree → Tree
 layer_of_items range items = object (
-  schema (codes "Track.1")
-  ∷ (codes "name", text_tree [])
-  ∷ (codes "metadata", object [])
-  ∷ (codes "source_range", range)
-  ∷ (codes "effects", list_tree [])
-  ∷ (codes "markers", list_tree [])
-  ∷ (codes "kind", text_tree (codes "Video"))
-  ∷ (codes "children", list_tree items)
-  ∷ [])
+    schema (codes "Track.1")
+    ∷ (codes "name", text_tree [])
+    ∷ (codes "metadata", object [])
+    ∷ (codes "source_range", range)
+    ∷ (codes "effects", list_tree [])
+    ∷ (codes "markers", list_tree [])
+    ∷ (codes "kind", text_tree (codes "Video"))
+    ∷ (codes "children", list_tree items)
+    ∷ [])
 
 -- the range that a layer shows of its track, and null where it shows all of it
 abbrev pub layer_range_tree : SequenceRate → Layer → Tree
@@ -198,15 +198,15 @@ kind_name None = codes "Video"
 
 unfoldable pub track_of_items : List ℕ → List Tree → Tree
 track_of_items kind items = object (
-  schema (codes "Track.1")
-  ∷ (codes "name", text_tree [])
-  ∷ (codes "metadata", object [])
-  ∷ (codes "source_range", At 0 Null)
-  ∷ (codes "effects", list_tree [])
-  ∷ (codes "markers", list_tree [])
-  ∷ (codes "kind", text_tree kind)
-  ∷ (codes "children", list_tree items)
-  ∷ [])
+    schema (codes "Track.1")
+    ∷ (codes "name", text_tree [])
+    ∷ (codes "metadata", object [])
+    ∷ (codes "source_range", At 0 Null)
+    ∷ (codes "effects", list_tree [])
+    ∷ (codes "markers", list_tree [])
+    ∷ (codes "kind", text_tree kind)
+    ∷ (codes "children", list_tree items)
+    ∷ [])
 
 abbrev pub track_tree : Table → SequenceRate → Option TrackKind → TrackState → Tree
 track_tree table rate kind t =
@@ -221,23 +221,23 @@ track_trees table rate i (t ∷ ts) = track_tree table rate (kind_at table i) t 
 
 unfoldable pub stack_of_tracks : List Tree → Tree
 stack_of_tracks tracks = object (
-  schema (codes "Stack.1")
-  ∷ (codes "name", text_tree (codes "tracks"))
-  ∷ (codes "metadata", object [])
-  ∷ (codes "source_range", At 0 Null)
-  ∷ (codes "effects", list_tree [])
-  ∷ (codes "markers", list_tree [])
-  ∷ (codes "children", list_tree tracks)
-  ∷ [])
+    schema (codes "Stack.1")
+    ∷ (codes "name", text_tree (codes "tracks"))
+    ∷ (codes "metadata", object [])
+    ∷ (codes "source_range", At 0 Null)
+    ∷ (codes "effects", list_tree [])
+    ∷ (codes "markers", list_tree [])
+    ∷ (codes "children", list_tree tracks)
+    ∷ [])
 
 unfoldable pub timeline_of : Tree → List Tree → Tree
 timeline_of start tracks = object (
-  schema (codes "Timeline.1")
-  ∷ (codes "name", text_tree [])
-  ∷ (codes "metadata", object [])
-  ∷ (codes "global_start_time", start)
-  ∷ (codes "tracks", stack_of_tracks tracks)
-  ∷ [])
+    schema (codes "Timeline.1")
+    ∷ (codes "name", text_tree [])
+    ∷ (codes "metadata", object [])
+    ∷ (codes "global_start_time", start)
+    ∷ (codes "tracks", stack_of_tracks tracks)
+    ∷ [])
 
 abbrev pub timeline_tree : Table → List TrackState → Counted → ℕ → Tree
 timeline_tree table tracks c start = timeline_of (time_tree c.rate start) (track_trees table c.rate 0 tracks)
