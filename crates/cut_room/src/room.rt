@@ -102,10 +102,7 @@ impl<O: PartObject, J: Naming<O, O::Part>> Model for Room<O, J> {
 
 impl<O: PartObject + Drop, J: Naming<O, O::Part>> Room<O, J> {
     /// Opens a room, with a pass for each station, in ascending order.
-    pub fn open(
-        alloc: Global,
-        blank: RoomBlank<O>,
-    ) -> Result<(Room<O, J>, Vec<Pass<O, J>>), Memory>
+    pub fn open(alloc: Global, blank: RoomBlank<O>) -> Result<(Room<O, J>, Vec<Pass<O, J>>), Memory>
         requires table { J.table ≡ blank.table }
         requires opening { J.opening ≡ blank.opening }
         requires stations { J.stations ≡ blank.stations }
@@ -268,12 +265,7 @@ impl<O: PartObject + Drop, J: Naming<O, O::Part>> Room<O, J> {
     }
 
     // Looks at the journal with a pass and what is held, and puts this back.
-    fn look<R: Wait>(
-        &self,
-        rt: &R,
-        mut held: Held<'_, O, J>,
-        pass: Pass<O, J>,
-    ) -> (Pass<O, J>, u32)
+    fn look<R: Wait>(&self, rt: &R, mut held: Held<'_, O, J>, pass: Pass<O, J>) -> (Pass<O, J>, u32)
         requires homes { AreHomes O.meaning O.opens J.opening held.numbers held.parts held.versions held.seats }
         requires good { AreGoodAt O.good J.opening held.numbers held.parts }
         requires few { length held.numbers ≤ 32 }

@@ -97,7 +97,11 @@ fn five_answered<J: Naming<Counters, u32>, R: Wait, L: Ledger>(
     })
 }
 
-fn five_answered_once<R: Wait>(rt: &R, alloc: Global, blank: RoomBlank<Counters>) -> Option<Outcome> {
+fn five_answered_once<R: Wait>(
+    rt: &R,
+    alloc: Global,
+    blank: RoomBlank<Counters>,
+) -> Option<Outcome> {
     five_answered::<Brand, R, Brand>(rt, alloc, blank, Blank::new(1))
 }
 

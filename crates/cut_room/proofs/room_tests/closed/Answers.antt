@@ -1,4 +1,4 @@
-use Rattle.std.proofs.Common.{◌≡◌, arith}
+use Rattle.std.proofs.Common.{arith}
 use Rattle.cut_room.proofs.Numbered.{in_numbers}
 use Rattle.cut_room.proofs.room_tests.closed.Goals as goal
 
