@@ -92,6 +92,12 @@ call_plain (call.Extract c) (tracks, track, item) =
     then_plain (codes "extract " ++ tracks_text c.tracks ++ codes " " ++ decimal c.track) (decimal c.item) own (number_plain c.item item)
 call_plain (call.Slice c) (track, at) =
     then_plain (codes "slice " ++ decimal c.track) (decimal c.at) (number_plain c.track (low c.track track)) (number_plain c.at at)
+call_plain (call.Dissolve c) (track, at, a, b) =
+    let places = then_plain (codes "dissolve " ++ decimal c.track) (decimal c.at) (number_plain c.track (low c.track track)) (number_plain c.at at) in
+    let before = then_plain (codes "dissolve " ++ decimal c.track ++ codes " " ++ decimal c.at) (decimal c.a) places (number_plain c.a a) in
+    then_plain (codes "dissolve " ++ decimal c.track ++ codes " " ++ decimal c.at ++ codes " " ++ decimal c.a) (decimal c.b) before (number_plain c.b b)
+call_plain (call.Undissolve c) (track, at) =
+    then_plain (codes "undissolve " ++ decimal c.track) (decimal c.at) (number_plain c.track (low c.track track)) (number_plain c.at at)
 
 pub entry_plain : (e : Entry Call) → HasLine e → is_plain (entry_text e) ≡ true
 entry_plain e h =

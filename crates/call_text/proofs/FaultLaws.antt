@@ -326,6 +326,17 @@ row_error place_at command.Slice [] = refl
 row_error place_at command.Slice (a ∷ []) = refl
 row_error place_at command.Slice (a ∷ b ∷ []) = error_bind (track_of a) _ _ (λ track. error_bind (place_of place_at b) _ _ (λ at. refl))
 row_error place_at command.Slice (a ∷ b ∷ c ∷ words) = refl
+row_error place_at command.Dissolve [] = refl
+row_error place_at command.Dissolve (a ∷ []) = refl
+row_error place_at command.Dissolve (a ∷ b ∷ []) = refl
+row_error place_at command.Dissolve (a ∷ b ∷ c ∷ []) = refl
+row_error place_at command.Dissolve (a ∷ b ∷ c ∷ d ∷ []) =
+    error_bind (track_of a) _ _ (λ track. error_bind (place_of place_at b) _ _ (λ at. error_bind (numeral_of c) _ _ (λ before. error_bind (numeral_of d) _ _ (λ after. refl))))
+row_error place_at command.Dissolve (a ∷ b ∷ c ∷ d ∷ e ∷ words) = refl
+row_error place_at command.Undissolve [] = refl
+row_error place_at command.Undissolve (a ∷ []) = refl
+row_error place_at command.Undissolve (a ∷ b ∷ []) = error_bind (track_of a) _ _ (λ track. error_bind (place_of place_at b) _ _ (λ at. refl))
+row_error place_at command.Undissolve (a ∷ b ∷ c ∷ words) = refl
 row_error place_at command.View [] = refl
 row_error place_at command.View (a ∷ []) = refl
 row_error place_at command.View (a ∷ b ∷ []) = refl
@@ -336,6 +347,9 @@ row_error place_at command.Items (a ∷ []) = error_bind (track_of a) _ _ (λ tr
 row_error place_at command.Items (a ∷ b ∷ words) = refl
 row_error place_at command.Point [] = refl
 row_error place_at command.Point (a ∷ words) = refl
+row_error place_at command.Otio [] = refl
+row_error place_at command.Otio (a ∷ []) = error_bind (numeral_of a) _ _ (λ point. refl)
+row_error place_at command.Otio (a ∷ b ∷ words) = refl
 
 -- the whole line
 none_named : (first : List ℕ) → command_of first ≡ None → (k : Command) → first ≢ word_of k

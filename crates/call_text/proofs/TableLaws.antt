@@ -7,12 +7,12 @@ use Rattle.line_words.specs.Blanks.{words_of}
 use Rattle.edit_apply.specs.declared.asks.Call.TheVariants as call
 use Rattle.edit_apply.specs.declared.asks.Ask.TheVariants as ask
 use Rattle.call_text.specs.declared.lines.Line.{Line}
-use Rattle.call_text.specs.declared.lines.Line.TheVariants.{Edit, Ask, Point}
+use Rattle.call_text.specs.declared.lines.Line.TheVariants.{Edit, Ask, Point, Otio}
 use Rattle.call_text.specs.declared.lines.LineFault.TheVariants.{B1, B2, B5}
 use Rattle.call_text.specs.declared.commands.Command.{Command}
 use Rattle.call_text.specs.declared.commands.Command.TheVariants as command
 use Rattle.call_text.specs.Spelling.{numeral_of, track_of, tracks_of, place_of, what_of}
-use Rattle.call_text.specs.Reading.{overwrite_of, insert_of, remove_of, extract_of, slice_of, view_of, items_of, point_of, command_of, row_of, row_if, line_of_words, line_of}
+use Rattle.call_text.specs.Reading.{overwrite_of, insert_of, remove_of, extract_of, slice_of, dissolve_of, undissolve_of, view_of, items_of, point_of, otio_of, command_of, row_of, row_if, line_of_words, line_of}
 use Rattle.call_text.specs.Table.{AreWords, IsLine, word_of}
 use Rattle.call_text.proofs.ReadParts.{bind_ok, chosen, ok_same, err_ok, numeral_spelled, numeral_read, track_spelled, track_read, tracks_spelled, tracks_read, place_spelled, place_read, thing_spelled, thing_read}
 
@@ -32,9 +32,12 @@ command_spelled word k h = named word command.Overwrite k _
     (named word command.Remove k _
     (named word command.Extract k _
     (named word command.Slice k _
+    (named word command.Dissolve k _
+    (named word command.Undissolve k _
     (named word command.View k _
     (named word command.Items k _
-    (named word command.Point k None (λ none. absurd cc)))))))) h
+    (named word command.Point k _
+    (named word command.Otio k None (λ none. absurd cc))))))))))) h
 
 pub command_read : (k : Command) → command_of (word_of k) ≡ Some k
 command_read command.Overwrite = refl
@@ -42,9 +45,12 @@ command_read command.Insert = refl
 command_read command.Remove = refl
 command_read command.Extract = refl
 command_read command.Slice = refl
+command_read command.Dissolve = refl
+command_read command.Undissolve = refl
 command_read command.View = refl
 command_read command.Items = refl
 command_read command.Point = refl
+command_read command.Otio = refl
 
 overwrite_spelled : (place_at : List ℕ → Option ℕ) (words : List (List ℕ)) (line : Line) → overwrite_of place_at words ≡ Ok line → AreWords place_at (word_of command.Overwrite ∷ words) line
 overwrite_spelled place_at [] line h = absurd (err_ok B2 line h)
@@ -138,6 +144,40 @@ slice_spelled place_at (a ∷ b ∷ []) line h =
     rw (← same) (a, b, refl, track_spelled a track.0 track.1, place_spelled place_at b at.0 at.1)
 slice_spelled place_at (a ∷ b ∷ c ∷ words) line h = absurd (err_ok B2 line h)
 
+dissolve_spelled : (place_at : List ℕ → Option ℕ) (words : List (List ℕ)) (line : Line) → dissolve_of place_at words ≡ Ok line → AreWords place_at (word_of command.Dissolve ∷ words) line
+dissolve_spelled place_at [] line h = absurd (err_ok B2 line h)
+dissolve_spelled place_at (a ∷ []) line h = absurd (err_ok B2 line h)
+dissolve_spelled place_at (a ∷ b ∷ []) line h = absurd (err_ok B2 line h)
+dissolve_spelled place_at (a ∷ b ∷ c ∷ []) line h = absurd (err_ok B2 line h)
+dissolve_spelled place_at (a ∷ b ∷ c ∷ d ∷ []) line h =
+    let track = bind_ok (track_of a) _ line h in
+    let at = bind_ok (place_of place_at b) _ line track.2 in
+    let before = bind_ok (numeral_of c) _ line at.2 in
+    let after = bind_ok (numeral_of d) _ line before.2 in
+    let same = ok_same (Edit (call.Dissolve (record { track = track.0; at = at.0; a = before.0; b = after.0 }))) line after.2 in
+    rw (← same) (
+      a,
+      b,
+      c,
+      d,
+      refl,
+      track_spelled a track.0 track.1,
+      place_spelled place_at b at.0 at.1,
+      numeral_spelled c before.0 before.1,
+      numeral_spelled d after.0 after.1,
+    )
+dissolve_spelled place_at (a ∷ b ∷ c ∷ d ∷ e ∷ words) line h = absurd (err_ok B2 line h)
+
+undissolve_spelled : (place_at : List ℕ → Option ℕ) (words : List (List ℕ)) (line : Line) → undissolve_of place_at words ≡ Ok line → AreWords place_at (word_of command.Undissolve ∷ words) line
+undissolve_spelled place_at [] line h = absurd (err_ok B2 line h)
+undissolve_spelled place_at (a ∷ []) line h = absurd (err_ok B2 line h)
+undissolve_spelled place_at (a ∷ b ∷ []) line h =
+    let track = bind_ok (track_of a) _ line h in
+    let at = bind_ok (place_of place_at b) _ line track.2 in
+    let same = ok_same (Edit (call.Undissolve (record { track = track.0; at = at.0 }))) line at.2 in
+    rw (← same) (a, b, refl, track_spelled a track.0 track.1, place_spelled place_at b at.0 at.1)
+undissolve_spelled place_at (a ∷ b ∷ c ∷ words) line h = absurd (err_ok B2 line h)
+
 view_spelled : (place_at : List ℕ → Option ℕ) (words : List (List ℕ)) (line : Line) → view_of place_at words ≡ Ok line → AreWords place_at (word_of command.View ∷ words) line
 view_spelled place_at [] line h = absurd (err_ok B2 line h)
 view_spelled place_at (a ∷ []) line h = absurd (err_ok B2 line h)
@@ -162,15 +202,26 @@ point_spelled : (place_at : List ℕ → Option ℕ) (words : List (List ℕ)) (
 point_spelled place_at [] line h = let same = ok_same Point line h in rw (← same) refl
 point_spelled place_at (a ∷ words) line h = absurd (err_ok B2 line h)
 
+otio_spelled : (place_at : List ℕ → Option ℕ) (words : List (List ℕ)) (line : Line) → otio_of words ≡ Ok line → AreWords place_at (word_of command.Otio ∷ words) line
+otio_spelled place_at [] line h = absurd (err_ok B2 line h)
+otio_spelled place_at (a ∷ []) line h =
+    let point = bind_ok (numeral_of a) _ line h in
+    let same = ok_same (Otio point.0) line point.2 in
+    rw (← same) (a, refl, numeral_spelled a point.0 point.1)
+otio_spelled place_at (a ∷ b ∷ words) line h = absurd (err_ok B2 line h)
+
 row_spelled : (place_at : List ℕ → Option ℕ) (k : Command) (words : List (List ℕ)) (line : Line) → row_of place_at k words ≡ Ok line → AreWords place_at (word_of k ∷ words) line
 row_spelled place_at command.Overwrite words line h = overwrite_spelled place_at words line h
 row_spelled place_at command.Insert words line h = insert_spelled place_at words line h
 row_spelled place_at command.Remove words line h = remove_spelled place_at words line h
 row_spelled place_at command.Extract words line h = extract_spelled place_at words line h
 row_spelled place_at command.Slice words line h = slice_spelled place_at words line h
+row_spelled place_at command.Dissolve words line h = dissolve_spelled place_at words line h
+row_spelled place_at command.Undissolve words line h = undissolve_spelled place_at words line h
 row_spelled place_at command.View words line h = view_spelled place_at words line h
 row_spelled place_at command.Items words line h = items_spelled place_at words line h
 row_spelled place_at command.Point words line h = point_spelled place_at words line h
+row_spelled place_at command.Otio words line h = otio_spelled place_at words line h
 
 if_spelled : (place_at : List ℕ → Option ℕ) (first : List ℕ) (o : Option Command) (words : List (List ℕ)) (line : Line)
     → command_of first ≡ o → row_if place_at o words ≡ Ok line → AreWords place_at (first ∷ words) line
@@ -216,6 +267,16 @@ words_read place_at words (Edit (call.Slice c)) h =
     let track = track_read h.0 c.track h.3 in
     let at = place_read place_at h.1 c.at h.4 in
     rw (h.2, track, at) refl
+words_read place_at words (Edit (call.Dissolve c)) h =
+    let track = track_read h.0 c.track h.5 in
+    let at = place_read place_at h.1 c.at h.6 in
+    let before = numeral_read h.2 c.a h.7 in
+    let after = numeral_read h.3 c.b h.8 in
+    rw (h.4, track, at, before, after) refl
+words_read place_at words (Edit (call.Undissolve c)) h =
+    let track = track_read h.0 c.track h.3 in
+    let at = place_read place_at h.1 c.at h.4 in
+    rw (h.2, track, at) refl
 words_read place_at words (Ask (ask.View t p q)) h =
     let track = track_read h.0 t h.4 in
     let a = place_read place_at h.1 p h.5 in
@@ -223,6 +284,7 @@ words_read place_at words (Ask (ask.View t p q)) h =
     rw (h.3, track, a, b) refl
 words_read place_at words (Ask (ask.Items t)) h = let track = track_read h.0 t h.2 in rw (h.1, track) refl
 words_read place_at words Point h = rw h refl
+words_read place_at words (Otio n) h = let point = numeral_read h.0 n h.2 in rw (h.1, point) refl
 
 pub line_read : (place_at : List ℕ → Option ℕ) (bytes : List ℕ) (line : Line) → IsLine place_at bytes line → line_of place_at bytes ≡ Ok line
 line_read place_at bytes line h = let short = le-leb (length bytes) 1024 h.short in rw short (words_read place_at (words_of bytes) line h.words)

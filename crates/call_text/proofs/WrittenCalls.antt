@@ -165,3 +165,45 @@ written_call place_at (call.Slice c) (track, at) =
 
     length-all : (t a : List ℕ) → length (codes "slice " ++ t ++ codes " " ++ a) ≡ length t + length a + 7
     length-all t a = simp length-append (omega arith)
+written_call place_at (call.Dissolve c) (track, at, a, b) =
+    is_read place_at (call.Dissolve c) (codes "dissolve") (decimal c.track ∷ decimal c.at ∷ decimal c.a ∷ decimal c.b ∷ [])
+    (regrouped (decimal c.track) (decimal c.at) (decimal c.a) (decimal c.b))
+    (IsWord-tested (codes "dissolve") refl)
+    (IsWord-decimal c.track (low c.track track), (IsWord-decimal c.at at, (IsWord-decimal c.a a, (IsWord-decimal c.b b, tt))))
+    (omega (
+      arith,
+      length-all (decimal c.track) (decimal c.at) (decimal c.a) (decimal c.b),
+      length-decimal c.track (low c.track track),
+      length-decimal c.at at,
+      length-decimal c.a a,
+      length-decimal c.b b,
+    )) (
+      decimal c.track,
+      decimal c.at,
+      decimal c.a,
+      decimal c.b,
+      refl,
+      (number_of-decimal c.track (low c.track track), track),
+      inl (number_of-decimal c.at at),
+      number_of-decimal c.a a,
+      number_of-decimal c.b b,
+    )
+  where
+    regrouped : (t p x y : List ℕ) → codes "dissolve " ++ t ++ codes " " ++ p ++ codes " " ++ x ++ codes " " ++ y ≡ spaced (codes "dissolve") (t ∷ p ∷ x ∷ y ∷ [])
+    regrouped t p x y = simp append_assoc refl
+
+    length-all : (t p x y : List ℕ) → length (codes "dissolve " ++ t ++ codes " " ++ p ++ codes " " ++ x ++ codes " " ++ y) ≡ length t + length p + length x + length y + 12
+    length-all t p x y = simp length-append (omega arith)
+written_call place_at (call.Undissolve c) (track, at) =
+    is_read place_at (call.Undissolve c) (codes "undissolve") (decimal c.track ∷ decimal c.at ∷ [])
+    (regrouped (decimal c.track) (decimal c.at))
+    (IsWord-tested (codes "undissolve") refl)
+    (IsWord-decimal c.track (low c.track track), (IsWord-decimal c.at at, tt))
+    (omega (arith, length-all (decimal c.track) (decimal c.at), length-decimal c.track (low c.track track), length-decimal c.at at))
+    (decimal c.track, decimal c.at, refl, (number_of-decimal c.track (low c.track track), track), inl (number_of-decimal c.at at))
+  where
+    regrouped : (t a : List ℕ) → codes "undissolve " ++ t ++ codes " " ++ a ≡ spaced (codes "undissolve") (t ∷ a ∷ [])
+    regrouped t a = simp append_assoc refl
+
+    length-all : (t a : List ℕ) → length (codes "undissolve " ++ t ++ codes " " ++ a) ≡ length t + length a + 12
+    length-all t a = simp length-append (omega arith)

@@ -7,7 +7,7 @@ use Rattle.composables.specs.TrackSets.{tracks_in}
 use Rattle.edit_apply.specs.declared.asks.Call.{Call}
 use Rattle.edit_apply.specs.declared.asks.Call.TheVariants as call
 use Rattle.call_text.specs.declared.lines.Line.{Line}
-use Rattle.call_text.specs.declared.lines.Line.TheVariants.{Edit, Ask, Point}
+use Rattle.call_text.specs.declared.lines.Line.TheVariants.{Edit, Ask, Point, Otio}
 use Rattle.call_text.specs.declared.parts.TheConstants.{LAST_TRACK}
 
 -- `@` and the number of a media entry, or `#` and the number of a nest
@@ -28,6 +28,10 @@ tracks_text set = numbers_after [] (tracks_in set)
 abbrev pub frames_text : What → ℕ → ℕ → List ℕ
 frames_text what from len = what_text what ++ codes " " ++ decimal from ++ codes " " ++ decimal len
 
+-- a text, and two numbers with a space between
+abbrev pub numbers_text : List ℕ → ℕ → ℕ → List ℕ
+numbers_text lead first second = lead ++ decimal first ++ codes " " ++ decimal second
+
 abbrev pub call_text_of : Call → List ℕ
 call_text_of (call.Overwrite c) =
     codes "overwrite " ++ decimal c.track ++ codes " " ++ decimal c.at ++ codes " "
@@ -40,6 +44,11 @@ call_text_of (call.Extract c) =
     codes "extract " ++ tracks_text c.tracks ++ codes " " ++ decimal c.track ++ codes " "
     ++ decimal c.item
 call_text_of (call.Slice c) = codes "slice " ++ decimal c.track ++ codes " " ++ decimal c.at
+call_text_of (call.Dissolve c) =
+    codes "dissolve " ++ decimal c.track ++ codes " " ++ decimal c.at ++ codes " " ++ decimal c.a
+    ++ codes " " ++ decimal c.b
+call_text_of (call.Undissolve c) =
+    codes "undissolve " ++ decimal c.track ++ codes " " ++ decimal c.at
 
 -- a number of 32 bits
 abbrev pub IsSmall : ℕ → Type 0
@@ -64,9 +73,12 @@ IsWritten (call.Insert c) =
 IsWritten (call.Remove c) = (c.track ≤ LAST_TRACK) × IsSmall c.item
 IsWritten (call.Extract c) = IsSomeTracks c.tracks × (c.track ≤ LAST_TRACK) × IsSmall c.item
 IsWritten (call.Slice c) = (c.track ≤ LAST_TRACK) × IsSmall c.at
+IsWritten (call.Dissolve c) = (c.track ≤ LAST_TRACK) × IsSmall c.at × IsSmall c.a × IsSmall c.b
+IsWritten (call.Undissolve c) = (c.track ≤ LAST_TRACK) × IsSmall c.at
 
 -- the line is no edit, or an edit that can be written and read again
 abbrev pub NamesWritten : Line → Type 0
 NamesWritten (Edit c) = IsWritten c
 NamesWritten (Ask q) = Unit {0}
 NamesWritten Point = Unit {0}
+NamesWritten (Otio n) = Unit {0}

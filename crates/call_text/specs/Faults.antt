@@ -32,9 +32,12 @@ rows_of command.Insert = (Tracks ∷ Track ∷ Place ∷ Thing ∷ Number ∷ Nu
 rows_of command.Remove = (Track ∷ Number ∷ []) ∷ []
 rows_of command.Extract = (Tracks ∷ Track ∷ Number ∷ []) ∷ []
 rows_of command.Slice = (Track ∷ Place ∷ []) ∷ []
+rows_of command.Dissolve = (Track ∷ Place ∷ Number ∷ Number ∷ []) ∷ []
+rows_of command.Undissolve = (Track ∷ Place ∷ []) ∷ []
 rows_of command.View = (Track ∷ Place ∷ Place ∷ []) ∷ []
 rows_of command.Items = (Track ∷ []) ∷ []
 rows_of command.Point = [] ∷ []
+rows_of command.Otio = (Number ∷ []) ∷ []
 
 -- the word is not one or more decimal digits
 abbrev pub IsNoNumeral : List ℕ → Type 0

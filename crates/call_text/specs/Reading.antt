@@ -9,7 +9,7 @@ use Rattle.line_words.specs.declared.TheConstants.{MAX_LINE}
 use Rattle.edit_apply.specs.declared.asks.Call.TheVariants as call
 use Rattle.edit_apply.specs.declared.asks.Ask.TheVariants as ask
 use Rattle.call_text.specs.declared.lines.Line.{Line}
-use Rattle.call_text.specs.declared.lines.Line.TheVariants.{Edit, Ask, Point}
+use Rattle.call_text.specs.declared.lines.Line.TheVariants.{Edit, Ask, Point, Otio}
 use Rattle.call_text.specs.declared.lines.LineFault.{LineFault}
 use Rattle.call_text.specs.declared.lines.LineFault.TheVariants.{B1, B2, B5}
 use Rattle.call_text.specs.declared.commands.Command.{Command}
@@ -81,6 +81,24 @@ slice_of place_at (track ∷ at ∷ []) = do
   Ok (Edit (call.Slice (record { track = track; at = at })))
 slice_of place_at words = Err B2
 
+-- dissolve T P A B
+abbrev pub dissolve_of : Naming → List (List ℕ) → Result Line LineFault
+dissolve_of place_at (track ∷ at ∷ a ∷ b ∷ []) = do
+  track ← track_of track
+  at ← place_of place_at at
+  a ← numeral_of a
+  b ← numeral_of b
+  Ok (Edit (call.Dissolve (record { track = track; at = at; a = a; b = b })))
+dissolve_of place_at words = Err B2
+
+-- undissolve T P
+abbrev pub undissolve_of : Naming → List (List ℕ) → Result Line LineFault
+undissolve_of place_at (track ∷ at ∷ []) = do
+  track ← track_of track
+  at ← place_of place_at at
+  Ok (Edit (call.Undissolve (record { track = track; at = at })))
+undissolve_of place_at words = Err B2
+
 -- view T P P
 abbrev pub view_of : Naming → List (List ℕ) → Result Line LineFault
 view_of place_at (track ∷ from ∷ to ∷ []) = do
@@ -102,6 +120,13 @@ abbrev pub point_of : List (List ℕ) → Result Line LineFault
 point_of [] = Ok Point
 point_of words = Err B2
 
+-- otio N
+abbrev pub otio_of : List (List ℕ) → Result Line LineFault
+otio_of (point ∷ []) = do
+  point ← numeral_of point
+  Ok (Otio point)
+otio_of words = Err B2
+
 -- the first words of the table
 abbrev pub command_of : List ℕ → Option Command
 command_of word =
@@ -110,9 +135,12 @@ command_of word =
     else if bytes_eq word (codes "remove") then Some command.Remove
     else if bytes_eq word (codes "extract") then Some command.Extract
     else if bytes_eq word (codes "slice") then Some command.Slice
+    else if bytes_eq word (codes "dissolve") then Some command.Dissolve
+    else if bytes_eq word (codes "undissolve") then Some command.Undissolve
     else if bytes_eq word (codes "view") then Some command.View
     else if bytes_eq word (codes "items") then Some command.Items
     else if bytes_eq word (codes "point") then Some command.Point
+    else if bytes_eq word (codes "otio") then Some command.Otio
     else None
 
 -- the words after the first, by the row of the first
@@ -122,9 +150,12 @@ row_of place_at command.Insert words = insert_of place_at words
 row_of place_at command.Remove words = remove_of words
 row_of place_at command.Extract words = extract_of words
 row_of place_at command.Slice words = slice_of place_at words
+row_of place_at command.Dissolve words = dissolve_of place_at words
+row_of place_at command.Undissolve words = undissolve_of place_at words
 row_of place_at command.View words = view_of place_at words
 row_of place_at command.Items words = items_of words
 row_of place_at command.Point words = point_of words
+row_of place_at command.Otio words = otio_of words
 
 abbrev pub row_if : Naming → Option Command → List (List ℕ) → Result Line LineFault
 row_if place_at None words = Err B1

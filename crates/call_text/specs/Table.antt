@@ -13,7 +13,7 @@ use Rattle.edit_apply.specs.declared.asks.Call.TheVariants as call
 use Rattle.edit_apply.specs.declared.asks.Ask.TheVariants as ask
 use Rattle.call_text.specs.declared.parts.TheConstants.{LAST_TRACK}
 use Rattle.call_text.specs.declared.lines.Line.{Line}
-use Rattle.call_text.specs.declared.lines.Line.TheVariants.{Edit, Ask, Point}
+use Rattle.call_text.specs.declared.lines.Line.TheVariants.{Edit, Ask, Point, Otio}
 use Rattle.call_text.specs.declared.commands.Command.{Command}
 use Rattle.call_text.specs.declared.commands.Command.TheVariants as command
 use Rattle.call_text.specs.Spelling.{Naming, is_comma}
@@ -52,11 +52,15 @@ word_of command.Insert = codes "insert"
 word_of command.Remove = codes "remove"
 word_of command.Extract = codes "extract"
 word_of command.Slice = codes "slice"
+word_of command.Dissolve = codes "dissolve"
+word_of command.Undissolve = codes "undissolve"
 word_of command.View = codes "view"
 word_of command.Items = codes "items"
 word_of command.Point = codes "point"
+word_of command.Otio = codes "otio"
 
 -- overwrite T P WHAT FROM LEN · insert TS T P WHAT FROM LEN · remove T I · extract TS T I · slice T P
+-- · dissolve T P A B · undissolve T P
 abbrev pub AreCall : Naming → List (List ℕ) → Call → Type 0
 AreCall place_at words (call.Overwrite c) =
     (track at what from len : List ℕ)
@@ -77,8 +81,14 @@ AreCall place_at words (call.Extract c) =
 AreCall place_at words (call.Slice c) =
     (track at : List ℕ) × (words ≡ word_of command.Slice ∷ track ∷ at ∷ [])
     × IsTrack track c.track × IsPlace place_at at c.at
+AreCall place_at words (call.Dissolve c) =
+    (track at a b : List ℕ) × (words ≡ word_of command.Dissolve ∷ track ∷ at ∷ a ∷ b ∷ [])
+    × IsTrack track c.track × IsPlace place_at at c.at × IsNumeral a c.a × IsNumeral b c.b
+AreCall place_at words (call.Undissolve c) =
+    (track at : List ℕ) × (words ≡ word_of command.Undissolve ∷ track ∷ at ∷ [])
+    × IsTrack track c.track × IsPlace place_at at c.at
 
--- a call · view T P P · items T · point
+-- a call · view T P P · items T · point · otio N
 abbrev pub AreWords : Naming → List (List ℕ) → Line → Type 0
 AreWords place_at words (Edit c) = AreCall place_at words c
 AreWords place_at words (Ask (ask.View track a b)) =
@@ -87,6 +97,7 @@ AreWords place_at words (Ask (ask.View track a b)) =
 AreWords place_at words (Ask (ask.Items track)) =
     (named : List ℕ) × (words ≡ word_of command.Items ∷ named ∷ []) × IsTrack named track
 AreWords place_at words Point = words ≡ word_of command.Point ∷ []
+AreWords place_at words (Otio n) = (named : List ℕ) × (words ≡ word_of command.Otio ∷ named ∷ []) × IsNumeral named n
 
 -- the bytes are this line
 pub record IsLine (place_at : Naming) (bytes : List ℕ) (line : Line) : Type 0 where

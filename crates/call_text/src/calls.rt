@@ -1,6 +1,6 @@
 // Calls as text.
 ghost use Rattle.std.specs.Prelude.{◌≡◌, ◌++◌, IfOk, OnOk};
-ghost use Rattle.call_text.specs.CallTexts.{call_text_of, frames_text, tracks_text};
+ghost use Rattle.call_text.specs.CallTexts.{call_text_of, frames_text, numbers_text, tracks_text};
 
 use crate::bytes::{put, put_number, put_what};
 use composables::{Memory, has_track};
@@ -22,8 +22,7 @@ pub(crate) fn put_call(out: &mut Vec<u8>, call: &Call) -> Result<(), Memory>
 {
     match call {
         Call::Overwrite(edit) => {
-            put_number(out, b"overwrite ", edit.track)?;
-            put_number(out, b" ", edit.at)?;
+            put_numbers(out, b"overwrite ", edit.track, edit.at)?;
             put(out, b" ")?;
             put_frames(out, &edit.what, edit.from, edit.len)
         }
@@ -34,20 +33,28 @@ pub(crate) fn put_call(out: &mut Vec<u8>, call: &Call) -> Result<(), Memory>
             put(out, b" ")?;
             put_frames(out, &edit.what, edit.from, edit.len)
         }
-        Call::Remove(edit) => {
-            put_number(out, b"remove ", edit.track)?;
-            put_number(out, b" ", edit.item)
-        }
+        Call::Remove(edit) => put_numbers(out, b"remove ", edit.track, edit.item),
         Call::Extract(edit) => {
             put_tracks(out, b"extract ", edit.tracks)?;
             put_number(out, b" ", edit.track)?;
             put_number(out, b" ", edit.item)
         }
-        Call::Slice(edit) => {
-            put_number(out, b"slice ", edit.track)?;
-            put_number(out, b" ", edit.at)
+        Call::Slice(edit) => put_numbers(out, b"slice ", edit.track, edit.at),
+        Call::Dissolve(edit) => {
+            put_numbers(out, b"dissolve ", edit.track, edit.at)?;
+            put_number(out, b" ", edit.a)?;
+            put_number(out, b" ", edit.b)
         }
+        Call::Undissolve(edit) => put_numbers(out, b"undissolve ", edit.track, edit.at),
     }
+}
+
+// A text, and two numbers with a space between.
+fn put_numbers(out: &mut Vec<u8>, lead: &[u8], first: u32, second: u32) -> Result<(), Memory>
+    ensures { OnOk result (out.new.items ≡ out.old.items ++ numbers_text lead.now first second) }
+{
+    put_number(out, lead, first)?;
+    put_number(out, b" ", second)
 }
 
 // A thing, a source frame of it, and a count of frames.

@@ -10,9 +10,12 @@ pub enum Command {
     Remove,
     Extract,
     Slice,
+    Dissolve,
+    Undissolve,
     View,
     Items,
     Point,
+    Otio,
 }
 
 impl Command {
@@ -30,12 +33,18 @@ impl Command {
             Some(Command::Extract)
         } else if word == b"slice".as_slice() {
             Some(Command::Slice)
+        } else if word == b"dissolve".as_slice() {
+            Some(Command::Dissolve)
+        } else if word == b"undissolve".as_slice() {
+            Some(Command::Undissolve)
         } else if word == b"view".as_slice() {
             Some(Command::View)
         } else if word == b"items".as_slice() {
             Some(Command::Items)
         } else if word == b"point".as_slice() {
             Some(Command::Point)
+        } else if word == b"otio".as_slice() {
+            Some(Command::Otio)
         } else {
             None
         }

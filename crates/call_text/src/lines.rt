@@ -6,12 +6,14 @@ ghost use Rattle.call_text.specs.Spelling.{number_fault};
 use edit_apply::{Ask, Call};
 use line_words::NumberFault;
 
-/// A line that a station sends: an edit, a question to a track, or the question how long the journal is.
+/// A line that a station sends: an edit, a question to a track, the question how long the journal is, or the wish for
+/// the document of the cut after so many entries.
 #[derive(Clone, Debug, PartialEq, Eq, Drop)]
 pub enum Line {
     Edit(Call),
     Ask(Ask),
     Point,
+    Otio(u32),
 }
 
 /// Why a line is none of the table: the first of these that holds, in the order of `specs/Faults.antt`, where the words

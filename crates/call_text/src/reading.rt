@@ -3,12 +3,12 @@ ghost use Rattle.std.specs.Prelude.{◌≡◌, IfOk};
 ghost use Rattle.line_words.specs.Blanks.{words_of};
 ghost use Rattle.call_text.specs.CallTexts.{NamesWritten};
 ghost use Rattle.call_text.specs.Labels.{place_by};
-ghost use Rattle.call_text.specs.Reading.{overwrite_of, insert_of, remove_of, extract_of, slice_of, view_of, items_of, point_of, row_of, line_of, line_of_words, texts_of};
+ghost use Rattle.call_text.specs.Reading.{overwrite_of, insert_of, remove_of, extract_of, slice_of, dissolve_of, undissolve_of, view_of, items_of, point_of, otio_of, row_of, line_of, line_of_words, texts_of};
 
 use crate::parts::{numeral, place, track, tracks, what};
 use crate::words::{first_word, line_words};
 use crate::{Command, Line, LineFault};
-use composables::{Extract, Insert, Overwrite, Remove, Slice};
+use composables::{Dissolve, Extract, Insert, Overwrite, Remove, Slice, Undissolve};
 use edit_apply::{Ask, Call};
 use line_words::MAX_LINE;
 use std::alloc::Global;
@@ -61,9 +61,12 @@ fn row(command: Command, rest: &[u8], counting: &Counting, start: u32) -> Result
         Command::Remove => remove(words),
         Command::Extract => extract(words),
         Command::Slice => slice(words, counting, start),
+        Command::Dissolve => dissolve(words, counting, start),
+        Command::Undissolve => undissolve(words, counting, start),
         Command::View => view(words, counting, start),
         Command::Items => items(words),
         Command::Point => point(words),
+        Command::Otio => otio(words),
     }
 }
 
@@ -167,6 +170,38 @@ fn slice(words: &[&[u8]], counting: &Counting, start: u32) -> Result<Line, LineF
     }
 }
 
+// dissolve T P A B
+fn dissolve(words: &[&[u8]], counting: &Counting, start: u32) -> Result<Line, LineFault>
+    ensures read { result ≡ dissolve_of (place_by counting.now start) (texts_of words.now) }
+    ensures written { IfOk result (λ read. NamesWritten read) }
+{
+    match words {
+        [track_word, at, before, after] => {
+            let track = track(track_word)?;
+            let at = place(at, counting, start)?;
+            let a = numeral(before)?;
+            let b = numeral(after)?;
+            Ok(Line::Edit(Call::Dissolve(Dissolve { track, at, a, b })))
+        }
+        _ => Err(LineFault::B2),
+    }
+}
+
+// undissolve T P
+fn undissolve(words: &[&[u8]], counting: &Counting, start: u32) -> Result<Line, LineFault>
+    ensures read { result ≡ undissolve_of (place_by counting.now start) (texts_of words.now) }
+    ensures written { IfOk result (λ read. NamesWritten read) }
+{
+    match words {
+        [track_word, at] => {
+            let track = track(track_word)?;
+            let at = place(at, counting, start)?;
+            Ok(Line::Edit(Call::Undissolve(Undissolve { track, at })))
+        }
+        _ => Err(LineFault::B2),
+    }
+}
+
 // view T P P
 fn view(words: &[&[u8]], counting: &Counting, start: u32) -> Result<Line, LineFault>
     ensures read { result ≡ view_of (place_by counting.now start) (texts_of words.now) }
@@ -204,6 +239,17 @@ fn point(words: &[&[u8]]) -> Result<Line, LineFault>
 {
     match words {
         [] => Ok(Line::Point),
+        _ => Err(LineFault::B2),
+    }
+}
+
+// otio N
+fn otio(words: &[&[u8]]) -> Result<Line, LineFault>
+    ensures read { result ≡ otio_of (texts_of words.now) }
+    ensures written { IfOk result (λ read. NamesWritten read) }
+{
+    match words {
+        [point] => Ok(Line::Otio(numeral(point)?)),
         _ => Err(LineFault::B2),
     }
 }

@@ -1,6 +1,7 @@
 use super::*;
 use composables::{
-    Done, Extract, Insert, ItemView, Listed, Overwrite, Refusal, Remove, Slice, Which,
+    Dissolve, Done, Extract, Insert, ItemView, Listed, Overwrite, Refusal, Remove, Slice,
+    Undissolve, Which,
 };
 use cut_room::{Answer, Sight};
 use edit_apply::{Ask, AskRefusal, Call, Editor, Seen};
@@ -34,9 +35,10 @@ const TWO: Insert = Insert {
 
 #[test]
 fn lines_of_the_table_are_read(rt: HostRuntime) {
-    let table: [(&[u8], Line); 5] = [
+    let table: [(&[u8], Line); 6] = [
         (b"point", Line::Point),
         (b" \tpoint\t", Line::Point),
+        (b"otio 007", Line::Otio(7)),
         (b"items 0", Line::Ask(Ask::Items { track: 0 })),
         (b"items\t 031 ", Line::Ask(Ask::Items { track: 31 })),
         (
@@ -55,7 +57,7 @@ fn lines_of_the_table_are_read(rt: HostRuntime) {
 
 #[test]
 fn edits_of_the_table_are_read(rt: HostRuntime) {
-    let table: [(&[u8], Call); 12] = [
+    let table: [(&[u8], Call); 14] = [
         (b"overwrite 1 20 @3 400 5000", Call::Overwrite(FOUR)),
         (b"overwrite 001 0020 @03 0400 005000", Call::Overwrite(FOUR)),
         (
@@ -103,6 +105,19 @@ fn edits_of_the_table_are_read(rt: HostRuntime) {
         ),
         (b"slice 1 7", Call::Slice(Slice { track: 1, at: 7 })),
         (
+            b"dissolve 1 00:00:01:01 3 4",
+            Call::Dissolve(Dissolve {
+                track: 1,
+                at: 25,
+                a: 3,
+                b: 4,
+            }),
+        ),
+        (
+            b"undissolve 1 7",
+            Call::Undissolve(Undissolve { track: 1, at: 7 }),
+        ),
+        (
             b"slice 1 00:00:01:01",
             Call::Slice(Slice { track: 1, at: 25 }),
         ),
@@ -118,7 +133,7 @@ fn edits_of_the_table_are_read(rt: HostRuntime) {
 
 #[test]
 fn the_first_fault_of_a_line_is_told(rt: HostRuntime) {
-    let table: [(&[u8], LineFault); 60] = [
+    let table: [(&[u8], LineFault); 64] = [
         (b"", LineFault::B2),
         (b" \t ", LineFault::B2),
         (b"jump", LineFault::B1),
@@ -179,6 +194,10 @@ fn the_first_fault_of_a_line_is_told(rt: HostRuntime) {
         (b"slice 0 0 0", LineFault::B2),
         (b"slice 0 4294967296", LineFault::B4),
         (b"slice x 4294967296", LineFault::B3),
+        (b"dissolve 0 0 0", LineFault::B2),
+        (b"dissolve 0 0 x 4294967296", LineFault::B3),
+        (b"dissolve 0 0 0 4294967296", LineFault::B4),
+        (b"undissolve 0 0 0", LineFault::B2),
     ];
     for (row, (line, want)) in table.into_iter().enumerate() {
         assert_eq!(rt; read(rt.alloc(), line), Some(Err(want)), "row {row}");
@@ -504,7 +523,7 @@ fn a_journal_is_written(rt: HostRuntime) -> Result<(), Fail> {
 
 #[test]
 fn written_calls_come_back(rt: HostRuntime) -> Result<(), Fail> {
-    let table: [(&[u8], Call); 7] = [
+    let table: [(&[u8], Call); 9] = [
         (b"overwrite 1 20 @3 400 5000", Call::Overwrite(FOUR)),
         (
             b"overwrite 31 4294967295 #4294967295 4294967295 4294967295",
@@ -534,6 +553,19 @@ fn written_calls_come_back(rt: HostRuntime) -> Result<(), Fail> {
             }),
         ),
         (b"slice 3 10", Call::Slice(Slice { track: 3, at: 10 })),
+        (
+            b"dissolve 3 10 0 4294967295",
+            Call::Dissolve(Dissolve {
+                track: 3,
+                at: 10,
+                a: 0,
+                b: 4294967295,
+            }),
+        ),
+        (
+            b"undissolve 3 10",
+            Call::Undissolve(Undissolve { track: 3, at: 10 }),
+        ),
     ];
     for (row, (want, call)) in table.into_iter().enumerate() {
         let text = call_text(rt.alloc(), &call)?;

@@ -15,9 +15,9 @@ use Rattle.edit_apply.specs.Apply.{editing}
 use Rattle.edit_apply.specs.See.{seen_in}
 use Rattle.room_core.specs.declared.entry.Entry.{Entry}
 use Rattle.call_text.specs.declared.lines.Line.{Line}
-use Rattle.call_text.specs.declared.lines.Line.TheVariants.{Edit, Ask as AskOf, Point as PointOf}
+use Rattle.call_text.specs.declared.lines.Line.TheVariants.{Edit, Ask as AskOf, Point as PointOf, Otio as OtioOf}
 use Rattle.call_text.specs.declared.lines.LineFault.{LineFault}
-use Rattle.call_text.specs.declared.lines.LineFault.TheVariants.{B5}
+use Rattle.call_text.specs.declared.lines.LineFault.TheVariants.{B1, B5}
 use Rattle.call_text.specs.Labels.{place_by}
 use Rattle.call_text.specs.Reading.{line_of}
 use Rattle.cut_room.specs.declared.answers.Answer.TheVariants as answer
@@ -47,10 +47,12 @@ abbrev pub meaning_of : Setting → InputLine → Result Line LineFault
 meaning_of setting None = Err B5
 meaning_of setting (Some bytes) = line_of (place_by setting.counting setting.start) bytes
 
+-- no document is written yet, so that such a line is refused as one of no row
 abbrev pub wish_in : Result Line LineFault → Wish Call Ask
 wish_in (Ok (Edit c)) = Do c
 wish_in (Ok (AskOf q)) = See q
 wish_in (Ok PointOf) = Point
+wish_in (Ok (OtioOf n)) = Bad (fault_of B1)
 wish_in (Err fault) = Bad (fault_of fault)
 
 -- an edit and a question may find no memory

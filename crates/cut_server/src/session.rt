@@ -145,6 +145,8 @@ impl Session {
                 Line::Edit(call) => Reply::Short(ended(self.reply_to_edit(call))),
                 Line::Ask(ask) => self.reply_to_ask(&ask),
                 Line::Point => Reply::Short(ended(self.reply_to_point())),
+                // no document is written yet
+                Line::Otio(_) => Reply::Short(ended(self.reply_to_none(&LineFault::B1))),
             },
             Err(fault) => Reply::Short(ended(self.reply_to_none(&fault))),
         }

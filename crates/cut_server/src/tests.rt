@@ -114,6 +114,31 @@ fn lines_are_answered(rt: HostRuntime) -> Result<(), Fail> {
 }
 
 #[test]
+fn dissolves_are_answered(rt: HostRuntime) -> Result<(), Fail> {
+    let alloc = rt.alloc();
+    let table: [(&[u8], &[u8]); 3] = [
+        (
+            b"overwrite 0 0 @0 100 10\noverwrite 0 10 @0 200 10\ndissolve 0 10 1 2\nview 0 0 20\nundissolve 0 10\nview 0 8 13\nundissolve 0 10\n",
+            b"ok 0 item 0\nok 1 item 1\nok 2\nseen 3 @0 100 9 mix @0 109 @0 199 1 4 3 @0 202 8\nok 3\nseen 4 @0 108 2 @0 200 3\nno 4 E7 10\njournal 4\n0 1 overwrite 0 0 @0 100 10\n0 2 overwrite 0 10 @0 200 10\n0 3 dissolve 0 10 1 2\n0 5 undissolve 0 10\n",
+        ),
+        (
+            b"overwrite 0 0 @0 100 10\noverwrite 0 10 @0 200 10\ndissolve 0 00:00:00:10 1 2\nslice 0 12\nitems 0\nslice 0 11\nitems 0\n",
+            b"ok 0 item 0\nok 1 item 1\nok 2\nok 3\nitems 4 0 @0 100 10 mark 1 2 1 @0 200 2 2 @0 202 8\nok 4\nitems 5 0 @0 100 10 1 @0 200 1 3 @0 201 1 2 @0 202 8\njournal 5\n0 1 overwrite 0 0 @0 100 10\n0 2 overwrite 0 10 @0 200 10\n0 3 dissolve 0 10 1 2\n0 4 slice 0 12\n0 6 slice 0 11\n",
+        ),
+        (
+            b"overwrite 0 0 @0 100 10\noverwrite 0 10 @0 300 10\ndissolve 0 10 11 0\ndissolve 0 10 0 11\ndissolve 0 5 0 0\ndissolve 0 5 1 1\ndissolve 0 10 1\ndissolve 2 10 1 1\nundissolve 0 10\n",
+            b"ok 0 item 0\nok 1 item 1\nno 2 E8 left\nno 2 E8 right\nno 2 E4\nno 2 E7 5\nbad B2\nno 2 E1 2\nno 2 E7 10\njournal 2\n0 1 overwrite 0 0 @0 100 10\n0 2 overwrite 0 10 @0 300 10\n",
+        ),
+    ];
+    for (input, wanted) in table {
+        let (status, output) = ended(alloc, &["run", "2", "1"], &[input], &[], &[])?;
+        assert_eq!(rt; status, 0);
+        assert_eq!(rt; output.as_slice(), wanted);
+    }
+    Ok(())
+}
+
+#[test]
 fn pieces_make_no_difference(rt: HostRuntime) -> Result<(), Fail> {
     let alloc = rt.alloc();
     let text = b"overwrite 0 10 @0 100 5\r\nview 0 0 15";

@@ -9,6 +9,7 @@ use Rattle.composables.specs.declared.refusals.Refusal.TheVariants.{NoTrack}
 use Rattle.composables.specs.TrackState.{TrackState}
 use Rattle.composables.specs.Answers.{Applied}
 use Rattle.composables.specs.TrackSets.{tracks_in}
+use Rattle.dissolves.specs.Marking.{dissolve_named, undissolve_named}
 use Rattle.edit_insert.specs.Edits.{extract_named, insert_named, overwrite_named, remove_named, slice_named}
 use Rattle.room_core.specs.Whole.{Meaning}
 use Rattle.edit_apply.specs.declared.asks.Call.{Call}
@@ -23,6 +24,8 @@ named_by (call.Insert c) = Many c.tracks c.track
 named_by (call.Remove c) = One c.track
 named_by (call.Extract c) = Many c.tracks c.track
 named_by (call.Slice c) = One c.track
+named_by (call.Dissolve c) = One c.track
+named_by (call.Undissolve c) = One c.track
 
 abbrev pub tracks_of : NamedTracks → List ℕ
 tracks_of (One track) = track ∷ []
@@ -74,6 +77,8 @@ applied_on table named (call.Insert c) = insert_named table named c
 applied_on table named (call.Remove c) = remove_named named c
 applied_on table named (call.Extract c) = extract_named named c
 applied_on table named (call.Slice c) = slice_named named c
+applied_on table named (call.Dissolve c) = dissolve_named table named c
+applied_on table named (call.Undissolve c) = undissolve_named named c
 
 -- what the calls of a room with this table mean
 abbrev pub editing : Table → Meaning TrackState Call Done Refusal

@@ -19,7 +19,7 @@ use Rattle.edit_apply.specs.declared.asks.Call.{Call}
 use Rattle.edit_apply.specs.declared.asks.Call.TheVariants as call
 use Rattle.edit_apply.specs.Apply.{applied_on, editing, names_of, refuse_names_of, track_count}
 use Rattle.edit_apply.specs.RoomTracks.{IsOpening, IsTrackOf, IsUnlinked}
-use Rattle.edit_apply.specs.YoungTracks.{AreYoung, IsYoung, all-more, young-extract, young-insert, young-overwrite, young-remove, young-slice}
+use Rattle.edit_apply.specs.YoungTracks.{AreYoung, IsYoung, all-more, young-dissolve, young-extract, young-insert, young-overwrite, young-remove, young-slice, young-undissolve}
 
 -- a call on the named tracks
 young_applied : (n : ℕ) (table : Table) (ts : List TrackState) (c : Call) → All (IsYoung n) ts → AreYoung (n + 2) (applied_on table ts c)
@@ -28,6 +28,8 @@ young_applied n table ts (call.Insert c) h = young-insert n table ts c h
 young_applied n table ts (call.Remove c) h = young-remove n ts c h
 young_applied n table ts (call.Extract c) h = young-extract n ts c h
 young_applied n table ts (call.Slice c) h = young-slice n ts c h
+young_applied n table ts (call.Dissolve c) h = young-dissolve n table ts c h
+young_applied n table ts (call.Undissolve c) h = young-undissolve n ts c h
 
 -- and on all
 set_young : (n : ℕ) (ts : List TrackState) (i : ℕ) (u : TrackState) → All (IsYoung n) ts → IsYoung n u → All (IsYoung n) (slice_set ts i u)

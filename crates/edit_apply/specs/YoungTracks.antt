@@ -1,6 +1,6 @@
 -- How far the numbers of tracks without links have risen: each call raises the next item number of a track by two at
 -- most, and no next link number.
-use Rattle.std.proofs.Common.{◌≡◌, ℕ, ◌+◌, ◌-◌, ◌≤◌, Bool, true, false, cond, eqb, min, List, [], ◌∷◌, All, length, Option, Some, None, IfSome, Result, Ok, Err, refl, sym, arith, subst, nat_lt}
+use Rattle.std.proofs.Common.{◌≡◌, ℕ, zero, suc, ◌+◌, ◌-◌, ◌≤◌, Bool, true, false, cond, eqb, min, List, [], ◌∷◌, All, length, Option, Some, None, IfSome, Result, Ok, Err, refl, sym, ap, ◌∙◌, arith, subst, nat_lt}
 use Rattle.std.proofs.lemmas.Bool.{eq-eqb}
 use Rattle.std.proofs.lemmas.List.Elements.{All-cons}
 use Rattle.frame_meaning.specs.declared.cells.What.{What}
@@ -9,6 +9,8 @@ use Rattle.composables.specs.declared.calls.Insert.{Insert}
 use Rattle.composables.specs.declared.calls.Remove.{Remove}
 use Rattle.composables.specs.declared.calls.Extract.{Extract}
 use Rattle.composables.specs.declared.calls.Slice.{Slice}
+use Rattle.composables.specs.declared.calls.Dissolve.{Dissolve}
+use Rattle.composables.specs.declared.calls.Undissolve.{Undissolve}
 use Rattle.composables.specs.declared.items.ItemView.{ItemView}
 use Rattle.composables.specs.declared.media.Table.{Table}
 use Rattle.composables.specs.declared.refusals.Done.{Done}
@@ -19,12 +21,17 @@ use Rattle.composables.specs.Answers.{Applied, unless}
 use Rattle.composables.specs.Good.{AllUnlinked}
 use Rattle.composables.specs.Joined.{frames_in}
 use Rattle.composables.specs.Limits.{too_long, too_many, track_within_limits, within_limits}
-use Rattle.composables.specs.Links.{links_in}
+use Rattle.composables.specs.Links.{links_in, with_link_of}
 use Rattle.composables.specs.OwnTracks.{among_named, for_own, on_own, track_numbered, with_track}
 use Rattle.composables.specs.Ranges.{range_of}
 use Rattle.composables.specs.TrackFacts.{NumbersBelow}
 use Rattle.composables.specs.TrackState.{TrackState}
 use Rattle.composables.specs.Views.{clip_view, gap_view, gap_views}
+use Rattle.frame_meaning.specs.declared.cells.Mark.{Mark}
+use Rattle.frame_meaning.specs.declared.cells.Cell.{Cell}
+use Rattle.frame_meaning.specs.Render.{cell_at}
+use Rattle.dissolves.specs.Cuts.{dissolve_refusal}
+use Rattle.dissolves.specs.Marking.{dissolve_named, dissolve_on, mark_asked, mark_at_place, marked_track, undissolve_named, undissolve_on, undissolve_refusal}
 use Rattle.edit_splice.specs.Shifts.{shift_of, shifted, shifted_along, shifted_track}
 use Rattle.edit_splice.specs.Splicing.{spliced_track}
 use Rattle.edit_splice.proofs.Outcomes.{next-bounds}
@@ -220,3 +227,25 @@ young-slice n ts c h = on-own-young n (n + 2) c.track (slice_track c) ts (omega 
     by : (b : Bool) → StaysYoung (n + 2) (cond b (track_within_limits (spliced_track t c.at c.at []) Plain) (Err NoItem))
     by true = within_stays (n + 2) (spliced_track t c.at c.at []) Plain (young-spliced n t c.at c.at [] y tt tt)
     by false = tt
+
+-- a mark is no link
+marked_links : (cs : List Cell) (p : ℕ) (mark : Option Mark) → links_in (mark_at_place cs p mark) ≡ links_in cs
+marked_links [] p mark = refl
+marked_links (c ∷ cs) zero mark = refl
+marked_links (c ∷ cs) (suc p) mark = ap (with_link_of c.link) (marked_links cs p mark)
+
+young_marked : (n : ℕ) (t : TrackState) (p : ℕ) (mark : Option Mark) → IsYoung n t → IsYoung (n + 2) (marked_track t p mark)
+young_marked n t p mark y = record { item = omega (arith, y.item); link = y.link; bare = marked_links t.cells p mark ∙ y.bare }
+
+pub young-dissolve : (n : ℕ) (table : Table) (ts : List TrackState) (c : Dissolve) → All (IsYoung n) ts → AreYoung (n + 2) (dissolve_named table ts c)
+young-dissolve n table ts c h = on-own-young n (n + 2) c.track (λ t. dissolve_on table t c) ts (omega arith) h each where
+  each : (t : TrackState) → IsYoung n t → StaysYoung (n + 2) (dissolve_on table t c)
+  each t y =
+      unless_stays (n + 2) (dissolve_refusal table t.cells c.at (mark_asked c)) (Ok (marked_track t c.at (Some (mark_asked c)), Plain))
+      (young_marked n t c.at (Some (mark_asked c)) y)
+
+pub young-undissolve : (n : ℕ) (ts : List TrackState) (c : Undissolve) → All (IsYoung n) ts → AreYoung (n + 2) (undissolve_named ts c)
+young-undissolve n ts c h = on-own-young n (n + 2) c.track (λ t. undissolve_on t c) ts (omega arith) h each where
+  each : (t : TrackState) → IsYoung n t → StaysYoung (n + 2) (undissolve_on t c)
+  each t y =
+      unless_stays (n + 2) (undissolve_refusal (cell_at t.cells c.at).mark c.at) (Ok (marked_track t c.at None, Plain)) (young_marked n t c.at None y)

@@ -1,6 +1,8 @@
 // Calls and questions as a station sends them, and what a question is answered.
 
-use composables::{Extract, Insert, ItemView, Listed, Overwrite, Remove, Slice};
+use composables::{
+    Dissolve, Extract, Insert, ItemView, Listed, Overwrite, Remove, Slice, Undissolve,
+};
 use frame_meaning::{Run, What};
 
 /// An edit.
@@ -11,6 +13,8 @@ pub enum Call {
     Remove(Remove),
     Extract(Extract),
     Slice(Slice),
+    Dissolve(Dissolve),
+    Undissolve(Undissolve),
 }
 
 /// A question to a track: the frames shown in its places [a, b), or its items.

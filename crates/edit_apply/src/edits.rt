@@ -1,6 +1,6 @@
 // An edit on the tracks that its call names.
 ghost use Rattle.std.specs.Prelude.{◌≡◌, ◌+◌, ◌*◌, ◌≤◌, All, None, length, sum_by};
-ghost use Rattle.composables.specs.Answers.{Answers, NextRises};
+ghost use Rattle.composables.specs.Answers.{Answers};
 ghost use Rattle.composables.specs.Good.{IsGood};
 ghost use Rattle.composables.specs.Items.{items_of};
 ghost use Rattle.composables.specs.Roomy.{IsRoomy};
@@ -10,6 +10,7 @@ ghost use Rattle.edit_apply.specs.RoomTracks.{AreNamed, IsUnlinked};
 
 use crate::Call;
 use composables::{Done, EditFault, Refusal, Table, Track};
+use dissolves::{dissolve, undissolve};
 use edit_insert::{extract, insert, overwrite, remove, slice};
 use room_core::Fault;
 use std::alloc::Global;
@@ -36,7 +37,6 @@ pub(crate) fn edit<L: Ledger>(
     ensures named { AreNamed call.now parts.new.items }
     ensures good { All (λ t. IsGood table.now t) parts.new.items }
     ensures unlinked { All IsUnlinked parts.new.items }
-    ensures numbers { NextRises 2 parts.old.items parts.new.items }
 
     ensures least { steps.old + 1 ≤ steps.new }
     ensures most { steps.new ≤ steps.old + 32 * sum_by (λ t. length (items_of t.cells) + 64) parts.old.items }
@@ -47,6 +47,8 @@ pub(crate) fn edit<L: Ledger>(
         Call::Remove(edit) => remove(alloc, table, parts, edit, steps),
         Call::Extract(edit) => extract(alloc, table, parts, edit, steps),
         Call::Slice(edit) => slice(alloc, table, parts, edit, steps),
+        Call::Dissolve(edit) => dissolve(alloc, table, parts, edit, steps),
+        Call::Undissolve(edit) => undissolve(alloc, table, parts, edit, steps),
     }
 }
 

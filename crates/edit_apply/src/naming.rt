@@ -31,6 +31,8 @@ pub(crate) fn named_by(call: &Call) -> NamedTracks
             own: edit.track,
         },
         Call::Slice(edit) => NamedTracks::One(edit.track),
+        Call::Dissolve(edit) => NamedTracks::One(edit.track),
+        Call::Undissolve(edit) => NamedTracks::One(edit.track),
     }
 }
 

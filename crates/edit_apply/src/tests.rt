@@ -8,8 +8,8 @@ ghost use Rattle.edit_apply.specs.RoomTracks.{IsTrackOf};
 
 use crate::{Ask, AskRefusal, Call, Editor};
 use composables::{
-    Done, Extract, Insert, ItemView, Kind, Listed, MAX_ITEMS, Media, Memory, Overwrite, Reels,
-    Refusal, Remove, Slice, Table, Track,
+    Dissolve, Done, Extract, Insert, ItemView, Kind, Listed, MAX_ITEMS, Media, Memory, Overwrite,
+    Reels, Refusal, Remove, Slice, Table, Track, Undissolve,
 };
 use frame_meaning::What;
 use room_core::{Fault, PartObject};
@@ -77,6 +77,17 @@ fn a_call_names_its_tracks(rt: HostRuntime) -> Result<(), Fail> {
         assert_eq!(rt; editor.names(&overwrite_on(track)), set);
         assert_eq!(rt; editor.names(&Call::Remove(Remove { track, item: 0 })), set);
         assert_eq!(rt; editor.names(&Call::Slice(Slice { track, at: 0 })), set);
+        assert_eq!(rt;
+            editor.names(&Call::Undissolve(Undissolve { track, at: 0 })),
+            set
+        );
+        let dissolve = Call::Dissolve(Dissolve {
+            track,
+            at: 0,
+            a: 1,
+            b: 1,
+        });
+        assert_eq!(rt; editor.names(&dissolve), set);
     }
     for tracks in [0u32, 1, 5, 4_294_967_295] {
         assert_eq!(rt; editor.names(&insert_on(tracks, 0)), tracks);
