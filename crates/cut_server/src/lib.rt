@@ -7,6 +7,7 @@
 
 mod command;
 mod document;
+mod document_reply;
 pub mod laws;
 mod main_call;
 mod reply;

@@ -457,3 +457,37 @@ fn a_document_has_a_limit(rt: HostRuntime) -> Result<(), Fail> {
     }
     Ok(())
 }
+
+/// The document of a cut of one empty track.
+const EMPTY: &str = r#"{"OTIO_SCHEMA":"Timeline.1","name":"","metadata":{},"global_start_time":{"OTIO_SCHEMA":"RationalTime.1","rate":24.0,"value":0.0},"tracks":{"OTIO_SCHEMA":"Stack.1","name":"tracks","metadata":{},"source_range":null,"effects":[],"markers":[],"children":[{"OTIO_SCHEMA":"Track.1","name":"","metadata":{},"source_range":null,"effects":[],"markers":[],"kind":"Video","children":[]}]}}"#;
+
+#[test]
+fn a_cut_is_written_at_any_point(rt: HostRuntime) -> Result<(), Fail> {
+    let alloc = rt.alloc();
+    let lines = b"otio 0\notio 1\noverwrite 0 0 @0 7 2\notio 00\notio\notio x\notio 4294967296\n";
+    let (status, output) = ended(alloc, &["run", "1", "1"], &[lines], &[], &[])?;
+    assert_eq!(rt; status, 0);
+    let wanted = format!(in alloc; "otio 0 {EMPTY}\nno 0 V3\nok 0 item 0\notio 0 {EMPTY}\nbad B2\nbad B3\nbad B4\njournal 1\n0 3 overwrite 0 0 @0 7 2\n")?;
+    assert_eq!(rt; output.as_slice(), wanted.as_bytes());
+    Ok(())
+}
+
+// What is written at the journal's length opens again as the same cut.
+#[test]
+fn what_is_written_opens_again(rt: HostRuntime) -> Result<(), Fail> {
+    let alloc = rt.alloc();
+    let (_, first) = ended(alloc, &["run", "1", "1"], &[b"overwrite 0 3 @0 7 2\notio 1\n"], &[], &[])?;
+    let text = first
+        .as_slice()
+        .strip_prefix(b"ok 0 item 0\notio 1 ".as_slice())
+        .ok_or("front")?
+        .strip_suffix(b"\njournal 1\n0 1 overwrite 0 3 @0 7 2\n".as_slice())
+        .ok_or("back")?;
+    let mut files = no_files(alloc);
+    files.put("cut", text)?;
+    let words = ["run", "cut", "24", "ndf"];
+    let (status, output) = ended_over(alloc, &words, &mut files, &[b"items 0\n"], &[], &[])?;
+    assert_eq!(rt; status, 0);
+    assert_eq!(rt; output.as_slice(), b"items 0 dark 3 0 @0 7 2\njournal 0\n".as_slice());
+    Ok(())
+}
