@@ -144,9 +144,12 @@ document_replied desk counting start line n tracks reply within state (inr is) =
 pub past_replied : (desk : TrackDesk) (counting : Counted) (start line n count : ℕ) (reply : Reply) → count ≡ length desk.entries → count < n
     → IsReply reply (no_point_reply count)
     → Replies (session_at desk counting start line) (session_at desk counting start (line + 1)) (Write n) reply
-past_replied desk counting start line n count reply counted past is =
-    (no_point_reply count, is, replied desk counting start line (Write n) (no_point_reply count)
-    (inl (inr (record { past = omega (arith, counted, past); same = refl; reply_is = ap no_point_reply counted }))))
+past_replied desk counting start line n count reply counted past is = (
+  no_point_reply count,
+  is,
+  replied desk counting start line (Write n) (no_point_reply count)
+      (inl (inr (record { past = omega (arith, counted, past); same = refl; reply_is = ap no_point_reply counted }))),
+)
 
 -- there was no memory for the cut
 pub memory_replied : (desk : TrackDesk) (counting : Counted) (start line n : ℕ) (reply : Reply) → IsReply reply (codes "memory")

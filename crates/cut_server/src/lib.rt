@@ -18,4 +18,6 @@ mod status;
 pub use main_call::cut_main;
 
 #[cfg(test)]
+mod document_tests;
+#[cfg(test)]
 mod tests;
