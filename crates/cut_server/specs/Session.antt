@@ -1,5 +1,5 @@
 -- What a session does for one line: it answers it, and at most commits one call.
-use Rattle.std.specs.Prelude.{◌≡◌, ℕ, ◌+◌, ◌<◌, ◌⊎◌, Bool, IsTrue, List, [], ◌∷◌, ◌++◌, Some, Ok, Err, length, take, codes, decimal}
+use Rattle.std.specs.Prelude.{◌≡◌, ℕ, ◌+◌, ◌<◌, ◌≤◌, ◌⊎◌, Bool, IsTrue, List, [], ◌∷◌, ◌++◌, Some, Ok, Err, length, take, codes, decimal}
 use Rattle.line_words.specs.Lines.{Line as InputLine}
 use Rattle.composables.specs.TrackState.{TrackState}
 use Rattle.edit_apply.specs.declared.asks.Call.{Call}

@@ -1,6 +1,6 @@
 -- What a station is told: one reply for each of its lines. Each reply but `bad` and `memory` names its point in the
 -- journal, and says what the entries before that point give.
-use Rattle.std.specs.Prelude.{◌≡◌, ◌≢◌, ℕ, ◌+◌, ◌≤◌, ◌⊎◌, Bool, IsTrue, List, [], ◌∷◌, ◌++◌, Option, Some, Result, Ok, Err, length, max, take, slice_get, codes, decimal, option_map, ◌==◌, if◌then◌else◌}
+use Rattle.std.specs.Prelude.{◌≡◌, ◌≢◌, ℕ, ◌+◌, ◌<◌, ◌≤◌, ◌⊎◌, Bool, IsTrue, List, [], ◌∷◌, ◌++◌, Option, Some, Result, Ok, Err, length, max, take, slice_get, codes, decimal, option_map, ◌==◌, if◌then◌else◌}
 use Rattle.line_words.specs.Lines.{Line as InputLine}
 use Rattle.room_core.specs.declared.entry.Entry.{Entry}
 use Rattle.room_core.specs.History.{answer_in, replay, most_entries}

@@ -133,13 +133,12 @@ impl Session {
     {
         self.line += 1;
         let table = &self.desk.object().table;
-        match self.desk.cut_at(self.alloc, n) {
-            Ok(tracks) => {
-                document_reply(self.alloc, n, table, &tracks, &self.counting, self.start)
-            }
-            Err(CutFault::NoPoint(length)) => no_point_reply(length),
-            Err(CutFault::Memory) => memory_reply(),
-        }
+        let tracks = match self.desk.cut_at(self.alloc, n) {
+            Ok(tracks) => tracks,
+            Err(CutFault::NoPoint(length)) => return no_point_reply(length),
+            Err(CutFault::Memory) => return memory_reply(),
+        };
+        document_reply(self.alloc, n, table, &tracks, &self.counting, self.start)
     }
 
     // The reply to a line that is none of the table.

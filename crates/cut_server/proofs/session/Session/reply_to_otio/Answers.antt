@@ -1,8 +1,8 @@
 use Rattle.cut_server.proofs.Replying.{document_replied, past_replied, memory_replied}
 use Rattle.cut_server.proofs.session.Session.reply_to_otio.Goals as goal
 
-pub returns-in-Ok : goal.returns-in-Ok
-returns-in-Ok c =
+pub returns : goal.returns
+returns c =
     let s = c.self.inside in
     rw (← c.self.view_is)
     (document_replied s.desk s.counting s.start s.line c.args.n c.in-Ok.tracks.items c.document_reply.result
