@@ -13,7 +13,8 @@ returns-in-Err-NoPoint c =
     let s = c.self.inside in
     let cuts = rw c.in-Err-NoPoint.field-0-is at c.in-Err-NoPoint.ensures.cuts in
     rw (← c.self.view_is)
-    (past_replied s.desk s.counting s.start s.line c.args.n c.in-Err-NoPoint.length c.no_point_reply.result cuts.0 cuts.1 c.no_point_reply.ensures)
+    (past_replied s.desk s.counting s.start s.line c.args.n c.in-Err-NoPoint.length c.no_point_reply.result cuts.0 cuts.1
+    (rw c.in-Err-NoPoint.field-0-is at c.no_point_reply.ensures))
 
 pub returns-in-Err-Memory : goal.returns-in-Err-Memory
 returns-in-Err-Memory c =
