@@ -22,7 +22,7 @@ fn no_files(alloc: Global) -> MemFiles {
 }
 
 // The status and the output of a run with these words, over these pieces of input and these calls that fail.
-fn ended(
+pub(crate) fn ended(
     alloc: Global,
     words: &[&str],
     pieces: &[&[u8]],
@@ -33,7 +33,7 @@ fn ended(
 }
 
 // The same over these files.
-fn ended_over(
+pub(crate) fn ended_over(
     alloc: Global,
     words: &[&str],
     files: &mut MemFiles,
@@ -400,127 +400,5 @@ fn a_journal_has_a_limit(rt: HostRuntime) -> Result<(), Fail> {
     assert!(rt; output.len() > 1_977_760);
     let (_, last) = output.as_slice().split_at(1_977_760);
     assert!(rt; last.starts_with(wanted.as_slice()));
-    Ok(())
-}
-
-/// A sequence of one track with five frames from the frame 100 of a tape on, which starts at 01:00:00:00.
-const DOCUMENT: &str = "\
-{\"OTIO_SCHEMA\": \"Timeline.1\", \"global_start_time\": {\"OTIO_SCHEMA\": \"RationalTime.1\", \"rate\": \
-24.0, \"value\": 86400}, \"tracks\": {\"OTIO_SCHEMA\": \"Stack.1\", \"children\": [ {\"OTIO_SCHEMA\": \
-\"Track.1\", \"kind\": \"Video\", \"children\": [{\"OTIO_SCHEMA\": \"Clip.1\", \"name\": \"A7\", \
-\"source_range\": {\"OTIO_SCHEMA\": \"TimeRange.1\", \"start_time\": {\"OTIO_SCHEMA\": \
-\"RationalTime.1\", \"rate\": 24.0, \"value\": 100.0}, \"duration\": {\"OTIO_SCHEMA\": \
-\"RationalTime.1\", \"rate\": 24.0, \"value\": 5.0}}}]}]}}";
-
-// The status and the output of a run with these words, where the file `cut` holds this text and these calls fail.
-fn opened(
-    alloc: Global,
-    words: &[&str],
-    text: &[u8],
-    fails: &[u32],
-    writes: &[u32],
-) -> Result<(u8, Vec<u8>), Fail> {
-    let mut files = MemFiles::new(alloc, fails.to_vec(alloc)?);
-    files.put("cut", text)?;
-    let lines = b"items 0\noverwrite 0 01:00:00:05 @0 103 1\n";
-    ended_over(alloc, words, &mut files, &[lines], &[], writes)
-}
-
-#[test]
-fn a_document_is_opened_or_refused(rt: HostRuntime) -> Result<(), Fail> {
-    let alloc = rt.alloc();
-    let whole = DOCUMENT.as_bytes();
-    let told = b"items 0 0 @0 100 5\nok 0 item 1\njournal 1\n0 2 overwrite 0 5 @0 103 1\n";
-    let table: [(&[&str], &[u8], &[u32], &[u32], u8, &[u8]); 13] = [
-        (&["run", "cut", "24", "ndf"], whole, &[], &[], 0, told),
-        (&["run", "cut", "2400e-2", "ndf"], whole, &[2], &[], 0, told),
-        (&["run", "cut", "24", "ndf"], whole, &[1], &[], 1, b""),
-        (&["run", "none.otio", "24", "ndf"], whole, &[], &[], 1, b""),
-        (
-            &["run", "cut", "24", "ndf"],
-            b"{",
-            &[],
-            &[],
-            4,
-            b"refused J1 1\n",
-        ),
-        (
-            &["run", "cut", "29.97", "drop"],
-            b"[]",
-            &[],
-            &[],
-            4,
-            b"refused O3 0\n",
-        ),
-        (
-            &["run", "cut", "23.98", "ndf"],
-            b"{}",
-            &[],
-            &[],
-            4,
-            b"refused O2 0\n",
-        ),
-        (&["run", "cut", "24", "ndf"], b"{", &[], &[1], 2, b""),
-        (
-            &["run", "cut", "24", "drop"],
-            whole,
-            &[],
-            &[],
-            3,
-            b"refused words\n",
-        ),
-        (
-            &["run", "cut", "24", "NDF"],
-            whole,
-            &[],
-            &[],
-            3,
-            b"refused words\n",
-        ),
-        (
-            &["run", "cut", "59.94", "ndf"],
-            whole,
-            &[],
-            &[],
-            3,
-            b"refused words\n",
-        ),
-        (
-            &["run", "cut", "24 ", "ndf"],
-            whole,
-            &[],
-            &[],
-            3,
-            b"refused words\n",
-        ),
-        (
-            &["run", "cut", "24", "ndf", "x"],
-            whole,
-            &[],
-            &[],
-            3,
-            b"refused words\n",
-        ),
-    ];
-    for (words, text, fails, writes, status, wanted) in table {
-        let (ended_with, output) = opened(alloc, words, text, fails, writes)?;
-        assert_eq!(rt; ended_with, status, "{words:?}");
-        assert_eq!(rt; output.as_slice(), wanted, "{words:?}");
-    }
-    Ok(())
-}
-
-#[test]
-fn a_document_has_a_limit(rt: HostRuntime) -> Result<(), Fail> {
-    let alloc = rt.alloc();
-    for (blanks, wanted) in [
-        (33_554_432usize, b"refused J1 33554432\n".as_slice()),
-        (33_554_433, b"refused J5 0\n".as_slice()),
-    ] {
-        let text = vec![in alloc; b' '; blanks]?;
-        let (status, output) = opened(alloc, &["run", "cut", "24", "ndf"], &text, &[], &[])?;
-        assert_eq!(rt; status, 4);
-        assert_eq!(rt; output.as_slice(), wanted);
-    }
     Ok(())
 }
