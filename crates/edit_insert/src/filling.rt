@@ -1,5 +1,6 @@
 // Fill: a new item in a gap of a track.
-ghost use Rattle.std.specs.Prelude.{◌≡◌, ◌+◌, ◌-◌, ◌*◌, ◌≤◌, [], ◌∷◌, All, IfSome, length, option_map, if◌then◌else◌};
+ghost use Rattle.std.specs.Prelude.{◌≡◌, ◌+◌, ◌-◌, ◌*◌, ◌≤◌, [], ◌∷◌, All, IfSome, length};
+ghost use Rattle.std.specs.Prelude.{if◌then◌else◌, option_map};
 ghost use Rattle.frame_meaning.specs.Cells.{same_number};
 ghost use Rattle.composables.specs.Answers.{Answers, NextRises};
 ghost use Rattle.composables.specs.Good.{AreUnlinked, IsGood};
@@ -10,7 +11,8 @@ ghost use Rattle.composables.specs.Ranges.{gap_at};
 ghost use Rattle.composables.specs.Roomy.{IsRoomy};
 ghost use Rattle.composables.specs.Sizes.{size_of, sizes_of};
 ghost use Rattle.composables.specs.TrackFacts.{IsKept};
-ghost use Rattle.edit_insert.specs.Fills.{fill_gap, fill_named, fill_track, frames_asked, refusal_without, why_no_gap};
+ghost use Rattle.edit_insert.specs.Fills.{fill_gap, fill_named, fill_track, frames_asked};
+ghost use Rattle.edit_insert.specs.Fills.{refusal_without, why_no_gap};
 ghost use Rattle.edit_splice.specs.Standing.{StaysGood};
 
 use crate::sources::{source_refusal, thing_refusal};

@@ -1,6 +1,6 @@
 -- The items or gaps beside record frames of a track that is good in a table, with their places; and where cuts stand.
-use Rattle.std.proofs.Common.{◌≡◌, ◌≢◌, ℕ, zero, suc, ◌+◌, ◌-◌, ◌<◌, ◌≤◌, Bool, true, false, not, cond, ◌&&◌, eqb, ltb, List, [], ◌∷◌, length, take, Option, Some, None, IfSome, get_or, slice_get, refl, sym, ap, ◌∙◌, arith, subst, ⊎_elim, ◌⊎◌, inl, inr}
-use Rattle.std.proofs.lemmas.Bool.{eq-eqb, lt-ltb, le-ltb, cases_lt}
+use Rattle.std.proofs.Common.{◌≡◌, ℕ, zero, suc, ◌+◌, ◌-◌, ◌<◌, ◌≤◌, Bool, true, false, not, cond, ◌&&◌, ltb, List, [], ◌∷◌, length, take, Option, Some, None, IfSome, get_or, slice_get, refl, sym, ap, ◌∙◌, arith, subst, ⊎_elim, ◌⊎◌}
+use Rattle.std.proofs.lemmas.Bool.{eq-eqb, lt-ltb, le-ltb}
 use Rattle.std.proofs.lemmas.List.{take_all}
 use Rattle.std.proofs.lemmas.Option.{slice_get_within, slice_get-get_or, get_or_from_slice_get}
 use Rattle.frame_meaning.specs.declared.cells.Cell.{Cell}
@@ -10,7 +10,7 @@ use Rattle.composables.specs.declared.items.ItemView.{ItemView}
 use Rattle.composables.specs.declared.items.Place.{Place}
 use Rattle.composables.specs.declared.media.Table.{Table}
 use Rattle.composables.specs.Good.{IsGood}
-use Rattle.composables.specs.Items.{cell_in, items_of}
+use Rattle.composables.specs.Items.{items_of}
 use Rattle.composables.specs.Joined.{AllFilled, IsTight, frames_in}
 use Rattle.composables.specs.Places.{StandsAt}
 use Rattle.composables.specs.Ranges.{is_cut}

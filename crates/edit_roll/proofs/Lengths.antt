@@ -1,7 +1,6 @@
 -- A roll and a slide leave the length of their track as it is.
-use Rattle.std.proofs.Common.{◌≡◌, ℕ, ◌+◌, ◌-◌, ◌≤◌, [], ◌∷◌, length, arith}
+use Rattle.std.proofs.Common.{◌+◌, ◌-◌, [], ◌∷◌, arith}
 use Rattle.frame_meaning.specs.Render.{cell_at}
-use Rattle.composables.specs.TrackState.{TrackState}
 use Rattle.edit_delta.specs.Reaching.{going_on, reaching_back}
 use Rattle.edit_splice.proofs.Outcomes.{length-spliced_track}
 use Rattle.edit_roll.specs.Lengths.{RollsKeepTheLength, SlidesKeepTheLength}

@@ -1,24 +1,19 @@
 -- The deltas that are allowed between two neighbours, and what is put in where one moves.
-use Rattle.std.proofs.Common.{◌≡◌, ℕ, zero, suc, ◌+◌, ◌-◌, ◌<◌, ◌≤◌, ◌^◌, Bool, true, false, cond, ◌&&◌, leb, ltb, min, ℤ, pos, negsuc, neg_ℤ, List, [], ◌∷◌, ◌++◌, length, take, slice_get, Option, Some, None, IfSome, Result, Ok, Err, refl, sym, ap, ◌∙◌, arith, subst, ⊎_elim, inl, inr, w32, SFits, to_z, of_z, option_map}
+use Rattle.std.proofs.Common.{◌≡◌, ℕ, suc, ◌+◌, ◌-◌, ◌<◌, ◌≤◌, ◌^◌, Bool, true, false, cond, ◌&&◌, ltb, min, ℤ, pos, negsuc, [], ◌∷◌, Ok, Err, refl, sym, ap, ◌∙◌, arith, subst, ⊎_elim, w32, SFits, to_z, of_z}
 use Rattle.std.proofs.lemmas.Int.{to_z-of_z}
-use Rattle.std.proofs.lemmas.Bool.{leb-true, le-leb, lt-leb, lt-ltb, le-ltb, cases_lt}
+use Rattle.std.proofs.lemmas.Bool.{le-leb, lt-leb, lt-ltb, le-ltb, cases_lt}
 use Rattle.frame_meaning.specs.declared.cells.Cell.{Cell}
 use Rattle.frame_meaning.specs.declared.cells.What.{What}
 use Rattle.frame_meaning.specs.declared.frames.Side.{Side}
 use Rattle.frame_meaning.specs.declared.frames.Side.TheVariants.{Dark, Pic}
-use Rattle.frame_meaning.specs.Cells.{later_side, next_side}
+use Rattle.frame_meaning.specs.Cells.{later_side}
 use Rattle.frame_meaning.specs.Render.{cell_at}
 use Rattle.composables.specs.declared.calls.Roll.{Roll}
 use Rattle.composables.specs.declared.items.ItemView.{ItemView}
-use Rattle.composables.specs.declared.items.Place.{Place}
 use Rattle.composables.specs.declared.media.Table.{Table}
-use Rattle.composables.specs.declared.refusals.Done.{Done}
-use Rattle.composables.specs.declared.refusals.Done.TheVariants.{By}
-use Rattle.composables.specs.declared.refusals.Refusal.{Refusal}
 use Rattle.composables.specs.declared.refusals.Refusal.TheVariants.{NotACut}
-use Rattle.composables.specs.declared.TheConstants.{MAX_FRAMES}
 use Rattle.composables.specs.Good.{IsGood}
-use Rattle.composables.specs.Items.{cell_in, items_of}
+use Rattle.composables.specs.Items.{cell_in}
 use Rattle.composables.specs.Ranges.{is_cut}
 use Rattle.composables.specs.Limits.{track_within_limits}
 use Rattle.composables.specs.TrackFacts.{HasSource}
@@ -26,19 +21,19 @@ use Rattle.composables.specs.TrackState.{TrackState}
 use Rattle.edit_delta.specs.declared.deltas.Used.{Used}
 use Rattle.edit_delta.specs.declared.deltas.Way.{Way}
 use Rattle.edit_delta.specs.declared.deltas.Way.TheVariants.{Earlier, Later, Still}
-use Rattle.edit_delta.specs.Nearest.{AreUpTo, LiesBetween, by_sign, lies_within, nearest}
+use Rattle.edit_delta.specs.Nearest.{AreUpTo, lies_within, nearest}
 use Rattle.edit_delta.specs.Parts.{AreParts}
-use Rattle.edit_delta.specs.Reaching.{going_on, has_after, has_before, keeps_a_cell, reaching_back}
-use Rattle.edit_delta.specs.Using.{IsUsed, IsWayOf, used_on}
-use Rattle.edit_delta.proofs.Answered.{IsUsedOf, earlier-means, earlier-most, later-means, later-most, still-means, up-both, used-of}
+use Rattle.edit_delta.specs.Reaching.{going_on, has_after, has_before, reaching_back}
+use Rattle.edit_delta.specs.Using.{IsUsed}
+use Rattle.edit_delta.proofs.Answered.{IsUsedOf, earlier-means, earlier-most, later-means, later-most, still-means, up-both}
 use Rattle.edit_delta.proofs.Greatest.{nearest-same}
 use Rattle.edit_delta.proofs.Pieces.{After, Before, after-of, back-parts, before-of, on-parts, up-true}
 use Rattle.edit_delta.proofs.Spots.{Spot, side-head, spot-head, spot-last}
 use Rattle.edit_splice.specs.Splicing.{spliced_track}
 use Rattle.edit_roll.specs.declared.neighbours.Sides.{Sides}
-use Rattle.edit_roll.specs.Neighbours.{FitsBetween, IsWhole, StandBeside, begin_at, end_at, fits_between, fits_earlier, fits_later, may_move_earlier, may_move_later, move_allows, range_at}
+use Rattle.edit_roll.specs.Neighbours.{FitsBetween, StandBeside, begin_at, end_at, fits_between, fits_earlier, fits_later, may_move_earlier, may_move_later, move_allows}
 use Rattle.edit_roll.specs.Rolling.{roll_cut, roll_track, rolled_earlier, rolled_later}
-use Rattle.edit_roll.proofs.Beside.{left-spot, range-of, right-spot, whole-of}
+use Rattle.edit_roll.proofs.Beside.{left-spot, range-of, right-spot}
 
 -- the ends of what is allowed
 up_keeps : (len : ℕ) → 0 < len → AreUpTo (λ n. ltb n len) (len - 1)

@@ -1,9 +1,8 @@
 -- An item that slides between its neighbours, and what is put in.
-use Rattle.std.proofs.Common.{◌≡◌, ℕ, zero, suc, ◌+◌, ◌-◌, ◌<◌, ◌≤◌, Bool, true, false, ◌&&◌, ℤ, pos, negsuc, neg_ℤ, List, [], ◌∷◌, ◌++◌, length, take, slice_get, Option, Some, None, IfSome, Result, Ok, Err, refl, sym, ap, ◌∙◌, arith, subst, inl, inr, ◌⊎◌, w32, SFits, to_z, of_z, option_map, cond}
+use Rattle.std.proofs.Common.{◌≡◌, ℕ, zero, suc, ◌+◌, ◌-◌, ◌<◌, ◌≤◌, Bool, true, false, ◌&&◌, ℤ, pos, negsuc, neg_ℤ, List, [], ◌∷◌, slice_get, Option, Some, None, IfSome, Ok, refl, sym, ap, ◌∙◌, arith, subst, inr, ◌⊎◌, w32, SFits, to_z, of_z, option_map, cond}
 use Rattle.std.proofs.lemmas.Int.{to_z-of_z}
 use Rattle.std.proofs.lemmas.Option.{slice_get_within}
 use Rattle.frame_meaning.specs.declared.cells.Cell.{Cell}
-use Rattle.frame_meaning.specs.declared.cells.Link.{Link}
 use Rattle.frame_meaning.specs.declared.cells.What.{What}
 use Rattle.frame_meaning.specs.declared.frames.Side.{Side}
 use Rattle.frame_meaning.specs.Cells.{later_side, next_side}
@@ -12,21 +11,15 @@ use Rattle.composables.specs.declared.calls.Slide.{Slide}
 use Rattle.composables.specs.declared.items.ItemView.{ItemView}
 use Rattle.composables.specs.declared.items.Place.{Place}
 use Rattle.composables.specs.declared.media.Table.{Table}
-use Rattle.composables.specs.declared.refusals.Done.{Done}
 use Rattle.composables.specs.declared.refusals.Done.TheVariants.{By}
-use Rattle.composables.specs.declared.refusals.Refusal.{Refusal}
-use Rattle.composables.specs.declared.refusals.Refusal.TheVariants.{NoItem}
-use Rattle.composables.specs.declared.TheConstants.{MAX_FRAMES}
-use Rattle.composables.specs.Good.{AllUnlinked, EachLinkOf, IsGood, IsLinkOf, SideLiesIn}
+use Rattle.composables.specs.Good.{EachLinkOf, IsGood, IsLinkOf, SideLiesIn}
 use Rattle.composables.specs.Items.{cell_in, items_of}
-use Rattle.composables.specs.Joined.{frames_in}
 use Rattle.composables.specs.Limits.{track_within_limits}
 use Rattle.composables.specs.Ranges.{range_of}
-use Rattle.composables.specs.TrackFacts.{EachHolds, HasSource, Holds, ShowsAsItem}
+use Rattle.composables.specs.TrackFacts.{EachHolds, HasSource, ShowsAsItem}
 use Rattle.composables.specs.TrackState.{TrackState}
 use Rattle.composables.proofs.Spans.{later-zero, next-later}
 use Rattle.edit_delta.specs.declared.deltas.Used.{Used}
-use Rattle.edit_delta.specs.declared.deltas.Way.{Way}
 use Rattle.edit_delta.specs.declared.deltas.Way.TheVariants.{Earlier, Later, Still}
 use Rattle.edit_delta.specs.Nearest.{by_sign, greatest, nearest}
 use Rattle.edit_delta.specs.Parts.{AreParts}
@@ -36,7 +29,7 @@ use Rattle.edit_delta.proofs.Answered.{IsUsedOf, earlier-means, later-means, sti
 use Rattle.edit_delta.proofs.Greatest.{nearest-same}
 use Rattle.edit_delta.proofs.Pieces.{After, Before}
 use Rattle.edit_delta.proofs.Spots.{Spot, side-head, spot-head, spot-last, unlinked-there}
-use Rattle.edit_splice.specs.PutIn.{going_on as goes, reaching_back as reaches, GoesOn, IsPart, MayBePutIn, ReachesBack, StandAlone, StandsWithin, TakesUp}
+use Rattle.edit_splice.specs.PutIn.{going_on as goes, reaching_back as reaches, GoesOn, ReachesBack, StandAlone, StandsWithin}
 use Rattle.edit_splice.specs.Splicing.{spliced_track}
 use Rattle.edit_roll.specs.Neighbours.{FitsBetween, fits_between, has_neighbours, may_move_earlier, may_move_later, move_allows}
 use Rattle.edit_roll.specs.Sliding.{bare_item, bare_view, slid_earlier, slid_later, slide_allows, slide_range, slide_track}

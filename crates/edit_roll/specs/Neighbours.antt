@@ -1,6 +1,6 @@
 -- The items or gaps beside record frames [x, y) of a track, and how far what stands between them may move: the one that
 -- it comes near keeps a frame, and the other grows by frames that its thing has.
-use Rattle.std.specs.Prelude.{◌≡◌, ℕ, ◌+◌, ◌-◌, ◌<◌, ◌≤◌, Bool, true, ◌&&◌, List, [], ◌∷◌, Some, nat_lt, length, take, slice_get, ℤ, if◌then◌else◌}
+use Rattle.std.specs.Prelude.{◌≡◌, ℕ, ◌+◌, ◌-◌, ◌<◌, Bool, true, ◌&&◌, List, [], ◌∷◌, Some, nat_lt, length, take, slice_get, ℤ, if◌then◌else◌}
 use Rattle.frame_meaning.specs.declared.cells.Cell.{Cell}
 use Rattle.frame_meaning.specs.Cells.{later_side}
 use Rattle.frame_meaning.specs.Render.{cell_at}

@@ -77,7 +77,8 @@ fn beside(track: &Track, from: u32, to: u32) -> Option<Sides>
 pub fn used_between(table: &Table, sides: &Sides, by: i32) -> Used
     requires left { IsWhole table.now sides.now.left }
     requires right { IsWhole table.now sides.now.right }
-    ensures used { IsUsed (nearest (fits_between table.now sides.now.left sides.now.right) by) result }
+    ensures used { IsUsed
+        (nearest (fits_between table.now sides.now.left sides.now.right) by) result }
     ensures fits { FitsBetween table.now sides.now.left sides.now.right result.way }
 {
     let later = (sides.right.len - 1).min(frames_after(table, &sides.left));

@@ -1,5 +1,5 @@
 -- A list of one track, number 0, and a call that names it alone.
-use Rattle.std.proofs.Common.{◌≡◌, ℕ, true, List, [], ◌∷◌, ◌++◌, map, nat_eq, refl, sym, ap, ◌∙◌}
+use Rattle.std.proofs.Common.{◌≡◌, ℕ, true, List, [], ◌∷◌, ◌++◌, map, nat_eq, sym, ap, ◌∙◌}
 use Rattle.std.specs.List.{list_any}
 use Rattle.composables.specs.OwnTracks.{numbers_of}
 use Rattle.composables.specs.TrackSets.{tracks_in}

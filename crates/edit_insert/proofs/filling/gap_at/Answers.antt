@@ -1,4 +1,4 @@
-use Rattle.std.proofs.Common.{◌≡◌, None, Some, refl, sym, ◌∙◌}
+use Rattle.std.proofs.Common.{None, refl, sym, ◌∙◌}
 use Rattle.frame_meaning.specs.Cells.{same_number}
 use Rattle.edit_insert.proofs.Filled.{found-gap, gap-stands, past-gap}
 use Rattle.edit_insert.proofs.filling.gap_at.Goals as goal

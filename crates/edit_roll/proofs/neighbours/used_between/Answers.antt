@@ -1,7 +1,6 @@
-use Rattle.std.proofs.Common.{◌≡◌, ◌-◌, ◌<◌, arith, ap, sym, ◌∙◌, min}
-use Rattle.edit_roll.specs.Neighbours.{fits_between, fits_earlier, fits_later}
+use Rattle.edit_roll.specs.Neighbours.{fits_earlier, fits_later}
 use Rattle.edit_roll.proofs.Moves.{earlier-up, fits-used, later-up}
-use Rattle.edit_delta.proofs.Answered.{IsUsedOf, used-of}
+use Rattle.edit_delta.proofs.Answered.{used-of}
 use Rattle.edit_roll.proofs.neighbours.used_between.Goals as goal
 
 pub frames_after-requires-clause-filled : goal.frames_after-requires-clause-filled

@@ -1,16 +1,14 @@
-use Rattle.std.proofs.Common.{◌≡◌, ◌+◌, ◌-◌, ◌<◌, ◌≤◌, ℕ, List, [], ◌∷◌, ap, sym, ◌∙◌, arith, subst, refl, Result}
-use Rattle.composables.specs.declared.items.ItemView.{ItemView}
+use Rattle.std.proofs.Common.{◌+◌, ◌-◌, sym, arith, subst, Result}
 use Rattle.composables.specs.declared.refusals.Done.{Done}
 use Rattle.composables.specs.declared.refusals.Refusal.{Refusal}
 use Rattle.composables.specs.Answers.{Answers}
 use Rattle.composables.specs.TrackState.{TrackState}
-use Rattle.edit_delta.specs.declared.deltas.Way.{Way}
 use Rattle.edit_delta.specs.declared.deltas.Way.TheVariants.{Earlier, Later}
 use Rattle.edit_delta.proofs.Pieces.{numbered-after}
 use Rattle.edit_splice.proofs.Standing.{stays-self}
 use Rattle.edit_roll.specs.Neighbours.{FitsBetween}
 use Rattle.edit_roll.proofs.Beside.{whole-of}
-use Rattle.edit_roll.proofs.Moves.{Around, after-fits, around-of, before-fits, moved-used, roll-back, roll-earlier, roll-later, roll-on, roll-still}
+use Rattle.edit_roll.proofs.Moves.{around-of, before-fits, moved-used, roll-back, roll-earlier, roll-later, roll-on, roll-still}
 use Rattle.edit_roll.proofs.rolling.roll_cut.Goals as goal
 
 pub used_between-used-requires-clause-left : goal.used_between-used-requires-clause-left

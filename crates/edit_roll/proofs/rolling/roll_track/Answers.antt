@@ -1,4 +1,4 @@
-use Rattle.std.proofs.Common.{◌≡◌, Result, sym, refl, subst, w32, SFits, rules}
+use Rattle.std.proofs.Common.{Result, sym, refl, subst, w32, SFits, rules}
 use Rattle.composables.specs.declared.refusals.Done.{Done}
 use Rattle.composables.specs.declared.refusals.Refusal.{Refusal}
 use Rattle.composables.specs.Answers.{Answers}

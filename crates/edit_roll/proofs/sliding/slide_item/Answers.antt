@@ -1,17 +1,15 @@
-use Rattle.std.proofs.Common.{◌≡◌, ◌+◌, ◌-◌, ◌<◌, ◌≤◌, ℕ, List, [], ◌∷◌, ap, sym, ◌∙◌, arith, subst, refl, Result}
-use Rattle.composables.specs.declared.items.ItemView.{ItemView}
+use Rattle.std.proofs.Common.{◌+◌, ◌-◌, sym, arith, subst, Result}
 use Rattle.composables.specs.declared.refusals.Done.{Done}
 use Rattle.composables.specs.declared.refusals.Refusal.{Refusal}
 use Rattle.composables.specs.Answers.{Answers}
 use Rattle.composables.specs.TrackState.{TrackState}
-use Rattle.edit_delta.specs.declared.deltas.Way.{Way}
 use Rattle.edit_delta.specs.declared.deltas.Way.TheVariants.{Earlier, Later}
 use Rattle.edit_delta.proofs.Pieces.{numbered-after}
 use Rattle.edit_splice.proofs.Standing.{stays-self}
 use Rattle.edit_roll.specs.Neighbours.{FitsBetween}
 use Rattle.edit_roll.proofs.Beside.{whole-of}
 use Rattle.edit_delta.proofs.Spots.{spot-at}
-use Rattle.edit_roll.proofs.Moves.{Around, after-fits, around-of, before-fits}
+use Rattle.edit_roll.proofs.Moves.{around-of, before-fits}
 use Rattle.edit_roll.proofs.Slides.{slide-back, slide-earlier, slide-later, slide-on, slide-still, slide-used}
 use Rattle.edit_roll.proofs.sliding.slide_item.Goals as goal
 
