@@ -123,7 +123,7 @@ fn five_stations_are_answered_by_one_journal(rt: HostRuntime) -> Result<(), Fail
     assert_eq!(rt; cut.as_slice(), [5, 5, 0].as_slice());
     assert!(rt; outcome.no_cut == Some(CutFault::NoPoint(2)));
     assert!(rt; outcome.point == 2);
-    assert_eq!(rt; outcome.lasts.as_slice(), [1, 2, 0, 0, 0].as_slice());
+    assert_eq!(rt; outcome.lasts.as_slice(), [1, 1, 0, 0, 0].as_slice());
     Ok(())
 }
 
