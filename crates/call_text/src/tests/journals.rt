@@ -1,6 +1,6 @@
 // Journals, and the calls in them.
 
-use crate::tests::{FOUR, TWO, WHOLE};
+use crate::tests::{FOUR, TWO, WHOLE, read};
 use crate::{
     Entry, JournalCode, JournalFault, Line, MAX_JOURNAL, call_text, journal_text, read_journal,
 };
@@ -163,6 +163,9 @@ fn written_calls_come_back(rt: HostRuntime) -> Result<(), Fail> {
     }
     Ok(())
 }
+
+// A text, and the code and line of its fault.
+type Refused = (&'static [u8], JournalCode, u32);
 
 #[test]
 fn the_first_fault_of_a_journal_is_told(rt: HostRuntime) {

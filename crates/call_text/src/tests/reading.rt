@@ -1,6 +1,6 @@
 // Lines that are read, and lines that are none.
 
-use crate::tests::{FOUR, TWO, WHOLE};
+use crate::tests::{FOUR, TWO, WHOLE, read};
 use crate::{Line, LineFault, read_line};
 use composables::{
     Dissolve, End, Extract, Fill, FillLength, Insert, Overwrite, Remove, Ripple, Roll, Slice,
@@ -8,15 +8,8 @@ use composables::{
 };
 use edit_apply::{Ask, Call};
 use frame_meaning::What;
-use std::alloc::Global;
 use std::test::Fail;
 use timecode12::{Counting, SequenceRate};
-
-// Reads a line where 24 frames a second are counted from 0.
-fn read(alloc: Global, line: &[u8]) -> Option<Result<Line, LineFault>> {
-    let film = Counting::new(SequenceRate::F24, false)?;
-    Some(read_line(alloc, line, &film, 0))
-}
 
 #[test]
 fn lines_of_the_table_are_read(rt: HostRuntime) {
@@ -270,6 +263,15 @@ fn the_first_fault_of_a_line_is_told(rt: HostRuntime) {
         assert_eq!(rt; read(rt.alloc(), line), Some(Err(want)), "row {row}");
     }
 }
+
+// A counting, the record frame of place 0, a word, and the place that it names.
+type Named = (
+    SequenceRate,
+    bool,
+    u32,
+    &'static [u8],
+    Result<u32, LineFault>,
+);
 
 #[test]
 fn labels_name_places_from_the_start(rt: HostRuntime) -> Result<(), Fail> {
