@@ -62,7 +62,7 @@ frame_is_next (Mix l r n d) (Mix l' r' n' d') h =
     ∙ ap (λ (x : ℕ). Mix (next_side l) (next_side r) x d) (eqb-true n' (n + 1) p.1)))
 
 -- the runs after one more run in front
-abbrev with_run : Run ℕ → List (Run ℕ) → List (Run ℕ)
+abbrev pub with_run : Run ℕ → List (Run ℕ) → List (Run ℕ)
 with_run r [] = r ∷ []
 with_run r (s ∷ ss) = cond (frame_goes_on nat_eq (later_frame r.frame (r.len - 1)) s.frame) (record { frame = r.frame; len = r.len + s.len } ∷ ss) (r ∷ s ∷ ss)
 
@@ -90,7 +90,7 @@ longer f n (s ∷ ss) =
       by_test true = let e : suc n + s.len + 1 ≡ suc (suc n) + s.len = omega arith in onto f (suc n + s.len) ss ∙ ap (λ (k : ℕ). record { frame = f; len = k } ∷ ss) e
       by_test false = let e : suc n + 1 ≡ suc (suc n) = omega arith in onto f (suc n) (s ∷ ss) ∙ ap (λ (k : ℕ). record { frame = f; len = k } ∷ s ∷ ss) e
 
-runs_front : (f : Frame ℕ) (n : ℕ) (fs : List (Frame ℕ)) → runs nat_eq (frames_from f (suc n) ++ fs) ≡ with_run (record { frame = f; len = suc n }) (runs nat_eq fs)
+pub runs_front : (f : Frame ℕ) (n : ℕ) (fs : List (Frame ℕ)) → runs nat_eq (frames_from f (suc n) ++ fs) ≡ with_run (record { frame = f; len = suc n }) (runs nat_eq fs)
 runs_front f zero fs = one_more f (runs nat_eq fs)
 runs_front f (suc n) fs = ap (with_frame nat_eq f) (runs_front (next_frame f) n fs) ∙ longer f n (runs nat_eq fs)
 

@@ -11,3 +11,4 @@ pub mod CutRuns
 pub mod RunsOfReels
 pub mod OneCutting
 pub mod Spots
+pub mod WholeRuns

@@ -17,7 +17,7 @@ mod strips;
 
 pub use channels::{Shown, flatten};
 pub use cutting::{Segment, SegmentFault, segments};
-pub use laws::a_channel_has_one_cutting;
+pub use laws::{a_channel_has_one_cutting, a_part_of_a_dissolve_has_no_cutting};
 
 #[cfg(test)]
 mod tests;
