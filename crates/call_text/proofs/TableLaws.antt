@@ -17,7 +17,7 @@ use Rattle.call_text.specs.declared.commands.Command.TheVariants as command
 use Rattle.call_text.specs.Spelling.{numeral_of, delta_of, end_of, given_of, track_of, tracks_of, place_of, what_of}
 use Rattle.call_text.specs.Reading.{overwrite_of, insert_of, remove_of, extract_of, slice_of, dissolve_of, undissolve_of, trim_of, slip_of, roll_of, slide_of, fill_of, ripple_of, view_of, items_of, point_of, otio_of, command_of, row_of, row_if, line_of_words, line_of}
 use Rattle.call_text.specs.Table.{AreLength, AreWords, IsLine, word_of}
-use Rattle.call_text.proofs.ReadParts.{bind_ok, chosen, ok_same, err_ok, numeral_spelled, numeral_read, delta_spelled, delta_read, end_spelled, end_read, given_spelled, given_read, track_spelled, track_read, tracks_spelled, tracks_read, place_spelled, place_read, thing_spelled, thing_read}
+use Rattle.call_text.proofs.ReadParts.{bind_ok, chosen, ok_same, err_ok, numeral_spelled, numeral_read, delta_spelled, delta_read, end_spelled, end_read, given_spelled, track_spelled, track_read, tracks_spelled, tracks_read, place_spelled, place_read, thing_spelled, thing_read}
 
 some_same : {A : Type 0} (x y : A) → Some x ≡ Some y → x ≡ y
 some_same x y h = cc
