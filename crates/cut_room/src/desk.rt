@@ -29,9 +29,15 @@ impl<O: PartObject> Model for Desk<O> {
 
     ghost Value = { DeskState O O.Part O.Call };
 
-    ghost view = { λ d. record { object = d.object; opening = d.opening.items; parts = d.parts; entries = d.entries.items } };
+    ghost view = { λ d. record {
+      object = d.object;
+      opening = d.opening.items;
+      parts = d.parts;
+      entries = d.entries.items;
+    } };
 
-    ghost invariant = { λ d. Stands (O.meaning d.object) (O.good d.object) (O.count d.object) (O.opens d.object)
+    ghost invariant = { λ d. Stands (O.meaning d.object) (O.good d.object) (O.count d.object)
+        (O.opens d.object)
         d.opening.items d.parts d.entries.items };
 }
 
@@ -69,7 +75,8 @@ impl<O: PartObject + Drop> Desk<O> {
         requires number { All (λ e. e.number < number) self.old.entries }
         ensures edits { Edits (O.meaning self.old.object) number call self.old self.new result }
         ensures numbers { All (λ e. e.number < number + 1) self.new.entries }
-        ensures most { steps.new ≤ steps.old + 32 * sum_by (λ p. O.size p + 64) (picked self.old.parts ((O.meaning self.old.object).names call)) }
+        ensures most { steps.new ≤ steps.old + 32 * sum_by
+            (λ p. O.size p + 64) (picked self.old.parts ((O.meaning self.old.object).names call)) }
     {
         let point = self.entries.len() as u32;
         if self.entries.len() >= MOST_ENTRIES {
@@ -97,7 +104,9 @@ impl<O: PartObject + Drop> Desk<O> {
     fn full<L: Ledger>(&self, alloc: Global, call: &O::Call, steps: &mut Steps<L>) -> Answer<O>
         requires { length self.now.entries ≡ most_entries }
         ensures edits { IsFull (O.meaning self.now.object) self.now call.now result }
-        ensures most { steps.new ≤ steps.old + 32 * sum_by (λ p. O.size p + 64) (picked self.now.parts ((O.meaning self.now.object).names call.now)) }
+        ensures most { steps.new ≤ steps.old + 32 * sum_by
+            (λ p. O.size p + 64) (picked self.now.parts
+            ((O.meaning self.now.object).names call.now)) }
     {
         let point = self.entries.len() as u32;
         match try_call(alloc, &self.object, &self.parts, call, steps) {
@@ -109,7 +118,8 @@ impl<O: PartObject + Drop> Desk<O> {
 
     /// What a question is answered by the parts as they are.
     pub fn see(&self, alloc: Global, ask: &O::Ask) -> Sight<O>
-        ensures { Sees (O.asked self.now.object ask.now) (λ p. O.seen self.now.object p ask.now) self.now result }
+        ensures { Sees (O.asked self.now.object ask.now)
+            (λ p. O.seen self.now.object p ask.now) self.now result }
     {
         let point = self.entries.len() as u32;
         let part = match self.object.ask_part(ask) {
@@ -140,7 +150,8 @@ impl<O: PartObject + Drop> Desk<O> {
     /// The parts after the first `n` entries.
     pub fn cut_at(&self, alloc: Global, n: u32) -> Result<Vec<O::Part>, CutFault>
         ensures cuts { Cuts (O.meaning self.now.object) self.now n result }
-        ensures good { IfOk result (λ parts. AreGood (O.good self.now.object) (numbers 0 (O.count self.now.object)) parts.items) }
+        ensures good { IfOk result (λ parts. AreGood (O.good self.now.object)
+            (numbers 0 (O.count self.now.object)) parts.items) }
     {
         let length = self.entries.len() as u32;
         if n > length {
@@ -157,7 +168,8 @@ impl<O: PartObject + Drop> Desk<O> {
     pub fn close(self) -> Vec<Entry<O::Call>>
         ensures entries { result.items ≡ self.entries }
         ensures legal { IsLegal (whole (O.meaning self.object)) self.opening result.items }
-        ensures comes { replay (whole (O.meaning self.object)) self.opening result.items ≡ Some self.parts }
+        ensures comes { replay (whole (O.meaning self.object)) self.opening result.items
+            ≡ Some self.parts }
     {
         self.entries
     }

@@ -49,7 +49,11 @@ impl PartObject for Pair {
 
     type AskRefusal = u32;
 
-    ghost meaning = { λ o. record { names = λ c. c % 2 ∷ []; refuses = λ c. None; applied = λ ps c. Ok (ps, 0) } };
+    ghost meaning = { λ o. record {
+      names = λ c. c % 2 ∷ [];
+      refuses = λ c. None;
+      applied = λ ps c. Ok (ps, 0);
+    } };
 
     ghost count = { λ o. 2 };
 
@@ -112,7 +116,10 @@ impl PartObject for Pair {
         Ok(*call)
     }
 
-    ghost named = { λ o c e. record { some = omega arith; ascend = (omega arith, omega arith, tt) } };
+    ghost named = { λ o c e. record {
+      some = omega arith;
+      ascend = (omega arith, omega arith, tt);
+    } };
 
     ghost opening = { λ o ps h. (omega arith, omega arith, h) };
 

@@ -21,7 +21,8 @@ pub(crate) fn document_reply(
     counting: &Counting,
     start: u32,
 ) -> Reply
-    ensures { IsReplyIfMemory (document_reply n (timeline_text table.now tracks.now counting.now start)) result }
+    ensures { IsReplyIfMemory (document_reply n
+        (timeline_text table.now tracks.now counting.now start)) result }
 {
     match write_timeline(alloc, table, tracks, counting, start) {
         Ok(text) => match document_line(alloc, n, &text) {
@@ -64,7 +65,8 @@ fn refused_at(point: u32, code: &[u8]) -> Short
 
 // `otio`, the point and the document, with the line feed.
 fn document_line(alloc: Global, point: u32, text: &[u8]) -> Result<Vec<u8>, Memory>
-    ensures { IfOk result (λ line. line.items ≡ (codes "otio " ++ decimal point ++ codes " " ++ text.now) ++ codes "\n") }
+    ensures { IfOk result (λ line. line.items ≡
+        (codes "otio " ++ decimal point ++ codes " " ++ text.now) ++ codes "\n") }
 {
     let mut front = Short::new();
     front.push(b"otio ");

@@ -27,8 +27,10 @@ use timecode12::Counting;
 // Puts the journal's text behind the replies.
 fn put_journal<L: Line>(alloc: Global, entries: &[Entry<Call>], line: &mut L) -> Status
     ensures ends { JournalEnds entries.now
-        (outside (L.left line.old) (L.read_faults line.old) (L.taken line.old) (L.write_faults line.old))
-        (outside (L.left line.new) (L.read_faults line.new) (L.taken line.new) (L.write_faults line.new)) result }
+        (outside (L.left line.old) (L.read_faults line.old) (L.taken line.old)
+        (L.write_faults line.old))
+        (outside (L.left line.new) (L.read_faults line.new) (L.taken line.new)
+        (L.write_faults line.new)) result }
     ensures lent { L.lent line.new ≡ L.lent line.old }
 {
     let text = match journal_text(alloc, entries) {
@@ -45,8 +47,10 @@ fn put_journal<L: Line>(alloc: Global, entries: &[Entry<Call>], line: &mut L) ->
 fn run_session<L: Line>(alloc: Global, session: Session, line: &mut L) -> Status
     requires { session.course.line ≡ 1 }
     ensures ends { (o : OpeningOf) → IsFresh o session → RunEnds o
-        (outside (L.left line.old) (L.read_faults line.old) (L.taken line.old) (L.write_faults line.old))
-        (outside (L.left line.new) (L.read_faults line.new) (L.taken line.new) (L.write_faults line.new)) ⊥ result }
+        (outside (L.left line.old) (L.read_faults line.old) (L.taken line.old)
+        (L.write_faults line.old))
+        (outside (L.left line.new) (L.read_faults line.new) (L.taken line.new)
+        (L.write_faults line.new)) ⊥ result }
     ensures lent { L.lent line.new ≡ L.lent line.old }
 {
     let mut session = session;
@@ -67,8 +71,10 @@ fn run_over<S: Source, K: Sink>(
 ) -> Status
     requires { session.course.line ≡ 1 }
     ensures { (o : OpeningOf) → IsFresh o session → RunEnds o
-        (outside (S.left input.old) (S.read_faults input.old) (K.taken output.old) (K.write_faults output.old))
-        (outside (S.left input.new) (S.read_faults input.new) (K.taken output.new) (K.write_faults output.new)) ⊥ result }
+        (outside (S.left input.old) (S.read_faults input.old) (K.taken output.old)
+        (K.write_faults output.old))
+        (outside (S.left input.new) (S.read_faults input.new) (K.taken output.new)
+        (K.write_faults output.new)) ⊥ result }
 {
     let mut line = Pair { input, output };
     run_session(alloc, session, &mut line)
@@ -84,8 +90,10 @@ fn run_opened<S: Source, K: Sink>(
     requires sound { IsSoundOpening opening }
     requires some { 0 < length opening.tracks }
     ensures { RunEnds opening
-        (outside (S.left input.old) (S.read_faults input.old) (K.taken output.old) (K.write_faults output.old))
-        (outside (S.left input.new) (S.read_faults input.new) (K.taken output.new) (K.write_faults output.new))
+        (outside (S.left input.old) (S.read_faults input.old) (K.taken output.old)
+        (K.write_faults output.old))
+        (outside (S.left input.new) (S.read_faults input.new) (K.taken output.new)
+        (K.write_faults output.new))
         ((input.new ≡ input.old) × (output.new ≡ output.old)) result }
 {
     let session = match Session::opened(alloc, opening) {
@@ -107,8 +115,10 @@ fn run_plain<S: Source, K: Sink>(
     requires tracks { tracks ≤ most_tracks }
     requires reels { reels ≤ most_reels }
     ensures { RunEnds (plain_opening tracks reels)
-        (outside (S.left input.old) (S.read_faults input.old) (K.taken output.old) (K.write_faults output.old))
-        (outside (S.left input.new) (S.read_faults input.new) (K.taken output.new) (K.write_faults output.new))
+        (outside (S.left input.old) (S.read_faults input.old) (K.taken output.old)
+        (K.write_faults output.old))
+        (outside (S.left input.new) (S.read_faults input.new) (K.taken output.new)
+        (K.write_faults output.new))
         ((input.new ≡ input.old) × (output.new ≡ output.old)) result }
 {
     let opening = match Opening::plain(alloc, tracks, reels) {
@@ -120,7 +130,8 @@ fn run_plain<S: Source, K: Sink>(
 
 // Refuses a document.
 fn refuse_document<K: Sink>(code: DocCode, at: u32, output: &mut K) -> Status
-    ensures { LineEnds (refusal_line code at) (outside None 0 (K.taken output.old) (K.write_faults output.old))
+    ensures { LineEnds (refusal_line code at) (outside None 0 (K.taken output.old)
+        (K.write_faults output.old))
         (outside None 0 (K.taken output.new) (K.write_faults output.new)) result }
 {
     match put(output, refusal_line(code, at).as_bytes()) {
@@ -141,8 +152,10 @@ fn run_document<F: Files, S: Source, K: Sink>(
     ensures { DocumentEnds name.now counting.now
         (files_told (F.file files.old) (F.read_faults files.old) (F.write_faults files.old))
         (files_told (F.file files.new) (F.read_faults files.new) (F.write_faults files.new))
-        (outside (S.left input.old) (S.read_faults input.old) (K.taken output.old) (K.write_faults output.old))
-        (outside (S.left input.new) (S.read_faults input.new) (K.taken output.new) (K.write_faults output.new))
+        (outside (S.left input.old) (S.read_faults input.old) (K.taken output.old)
+        (K.write_faults output.old))
+        (outside (S.left input.new) (S.read_faults input.new) (K.taken output.new)
+        (K.write_faults output.new))
         (input.new ≡ input.old) (output.new ≡ output.old) result }
 {
     match open_document(alloc, files, name, counting) {
@@ -176,8 +189,10 @@ fn do_command<F: Files, S: Source, K: Sink>(
         (files_told (F.file files.old) (F.read_faults files.old) (F.write_faults files.old))
         (files_told (F.file files.new) (F.read_faults files.new) (F.write_faults files.new))
         (files.new ≡ files.old)
-        (outside (S.left input.old) (S.read_faults input.old) (K.taken output.old) (K.write_faults output.old))
-        (outside (S.left input.new) (S.read_faults input.new) (K.taken output.new) (K.write_faults output.new))
+        (outside (S.left input.old) (S.read_faults input.old) (K.taken output.old)
+        (K.write_faults output.old))
+        (outside (S.left input.new) (S.read_faults input.new) (K.taken output.new)
+        (K.write_faults output.new))
         (input.new ≡ input.old) (output.new ≡ output.old) (command_of words.now) result }
 {
     match &command_in(words) {
@@ -220,8 +235,10 @@ pub fn cut_main<F: Files, S: Source, K: Sink>(
         (files_told (F.file files.old) (F.read_faults files.old) (F.write_faults files.old))
         (files_told (F.file files.new) (F.read_faults files.new) (F.write_faults files.new))
         (files.new ≡ files.old)
-        (outside (S.left input.old) (S.read_faults input.old) (K.taken output.old) (K.write_faults output.old))
-        (outside (S.left input.new) (S.read_faults input.new) (K.taken output.new) (K.write_faults output.new))
+        (outside (S.left input.old) (S.read_faults input.old) (K.taken output.old)
+        (K.write_faults output.old))
+        (outside (S.left input.new) (S.read_faults input.new) (K.taken output.new)
+        (K.write_faults output.new))
         (input.new ≡ input.old) (output.new ≡ output.old) (command_of words.now)) }
 {
     do_command(alloc, words, files, input, output).number()

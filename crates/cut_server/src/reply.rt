@@ -33,7 +33,8 @@ impl Reply {
             → Takes (K.taken output.old) (K.taken output.new) (text ++ codes "\n")) }
         ensures err { OnErr result ((text : List ℕ) → IsReply self.now text
             → TakesFront (K.taken output.old) (K.taken output.new) (text ++ codes "\n")) }
-        ensures cause { OnErr result (HasRisen (K.write_faults output.old) (K.write_faults output.new)) }
+        ensures cause { OnErr result (HasRisen (K.write_faults output.old)
+            (K.write_faults output.new)) }
         ensures quiet { OnOk result (K.write_faults output.new ≡ K.write_faults output.old) }
         ensures apart { K.as_source output.new ≡ K.as_source output.old }
     {

@@ -43,7 +43,8 @@ fn answer_line<K: Sink>(
         (LastIsCut (K.taken output.old) (K.taken output.new))) }
     ensures number { session.new.course.line ≡ session.old.course.line + 1 }
 
-    ensures cause { OnErr result (HasRisen (K.write_faults output.old) (K.write_faults output.new)) }
+    ensures cause { OnErr result (HasRisen (K.write_faults output.old)
+        (K.write_faults output.new)) }
     ensures quiet { OnOk result (K.write_faults output.new ≡ K.write_faults output.old) }
     ensures apart { K.as_source output.new ≡ K.as_source output.old }
 {
@@ -62,12 +63,16 @@ fn answer_piece<K: Sink>(
 
     ensures ok { OnOk result (ServesTo session.old session.new (ended reader.old.pending piece.now)
         (AreSent (K.taken output.old) (K.taken output.new))) }
-    ensures err { OnErr result ((lines : List InputLine) × StopsWithin reader.old.pending piece.now lines
-        × ServesTo session.old session.new lines (LastIsCut (K.taken output.old) (K.taken output.new))) }
-    ensures pending { OnOk result (reader.new.pending ≡ pending_after reader.old.pending piece.now) }
+    ensures err { OnErr result ((lines : List InputLine)
+        × StopsWithin reader.old.pending piece.now lines
+        × ServesTo session.old session.new lines
+        (LastIsCut (K.taken output.old) (K.taken output.new))) }
+    ensures pending { OnOk result (reader.new.pending
+        ≡ pending_after reader.old.pending piece.now) }
     ensures number { session.new.course.line ≤ session.old.course.line + length piece.now }
 
-    ensures cause { OnErr result (HasRisen (K.write_faults output.old) (K.write_faults output.new)) }
+    ensures cause { OnErr result (HasRisen (K.write_faults output.old)
+        (K.write_faults output.new)) }
     ensures quiet { OnOk result (K.write_faults output.new ≡ K.write_faults output.old) }
     ensures apart { K.as_source output.new ≡ K.as_source output.old }
 {
@@ -98,9 +103,11 @@ fn finish<K: Sink>(
     ensures ok { OnOk result (ServesTo session.old session.new (last_line reader.old.pending)
         (AreSent (K.taken output.old) (K.taken output.new))) }
     ensures err { OnErr result ((line : InputLine) × (last_line reader.old.pending ≡ line ∷ [])
-        × ServesTo session.old session.new (line ∷ []) (LastIsCut (K.taken output.old) (K.taken output.new))) }
+        × ServesTo session.old session.new (line ∷ [])
+        (LastIsCut (K.taken output.old) (K.taken output.new))) }
 
-    ensures cause { OnErr result (HasRisen (K.write_faults output.old) (K.write_faults output.new)) }
+    ensures cause { OnErr result (HasRisen (K.write_faults output.old)
+        (K.write_faults output.new)) }
     ensures quiet { OnOk result (K.write_faults output.new ≡ K.write_faults output.old) }
     ensures apart { K.as_source output.new ≡ K.as_source output.old }
 {
@@ -114,8 +121,10 @@ fn finish<K: Sink>(
 pub(crate) fn serve<L: Line>(session: &mut Session, line: &mut L) -> End
     requires { session.old.course.line ≡ 1 }
     ensures ends { SessionEnds (ServesTo session.old session.new)
-        (outside (L.left line.old) (L.read_faults line.old) (L.taken line.old) (L.write_faults line.old))
-        (outside (L.left line.new) (L.read_faults line.new) (L.taken line.new) (L.write_faults line.new)) result }
+        (outside (L.left line.old) (L.read_faults line.old) (L.taken line.old)
+        (L.write_faults line.old))
+        (outside (L.left line.new) (L.read_faults line.new) (L.taken line.new)
+        (L.write_faults line.new)) result }
     ensures lent { L.lent line.new ≡ L.lent line.old }
 {
     let mut reader = LineReader::new();

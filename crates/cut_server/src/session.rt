@@ -154,7 +154,8 @@ impl Session {
     /// Answers a line, and commits it where it is an edit that applies. The next line has the next number.
     pub(crate) fn answer(&mut self, end: LineEnd, text: &[u8]) -> Reply
         requires { self.old.course.line + 1 < 2 ^ 32 }
-        ensures { Replies self.old self.new (wish_in (meaning_of self.old.setting (line_told end text.now))) result }
+        ensures { Replies self.old self.new (wish_in
+            (meaning_of self.old.setting (line_told end text.now))) result }
     {
         match self.said(end, text) {
             Ok(line) => match line {

@@ -24,8 +24,10 @@ pub fn answer<F: Files, S: Source, K: Sink>(
         (files_told (F.file files.old) (F.read_faults files.old) (F.write_faults files.old))
         (files_told (F.file files.new) (F.read_faults files.new) (F.write_faults files.new))
         (files.new ≡ files.old)
-        (outside (S.left input.old) (S.read_faults input.old) (K.taken output.old) (K.write_faults output.old))
-        (outside (S.left input.new) (S.read_faults input.new) (K.taken output.new) (K.write_faults output.new))
+        (outside (S.left input.old) (S.read_faults input.old) (K.taken output.old)
+        (K.write_faults output.old))
+        (outside (S.left input.new) (S.read_faults input.new) (K.taken output.new)
+        (K.write_faults output.new))
         (input.new ≡ input.old) (output.new ≡ output.old) words.now result }
 {
     match Notice::asked_by(words) {

@@ -70,8 +70,10 @@ impl Notice {
     pub fn tell<K: Sink>(self, output: &mut K) -> u8
         ensures status { (result ≡ 0) ⊎ (result ≡ 2) }
         ensures told { result ≡ 0 → Takes (K.taken output.old) (K.taken output.new) (text_of self) }
-        ensures front { result ≡ 2 → TakesFront (K.taken output.old) (K.taken output.new) (text_of self) }
-        ensures cause { result ≡ 2 → HasRisen (K.write_faults output.old) (K.write_faults output.new) }
+        ensures front { result ≡ 2 → TakesFront (K.taken output.old) (K.taken output.new)
+            (text_of self) }
+        ensures cause { result ≡ 2 → HasRisen (K.write_faults output.old)
+            (K.write_faults output.new) }
         ensures quiet { result ≡ 0 → K.write_faults output.new ≡ K.write_faults output.old }
     {
         match put(output, self.text().as_bytes()) {

@@ -34,14 +34,16 @@ pub(crate) fn edit<L: Ledger>(
     requires roomy { All IsRoomy parts.old.items }
     requires unlinked { All IsUnlinked parts.old.items }
 
-    ensures answers { Answers (applied_on table.now parts.old.items call.now) parts.old.items parts.new.items result }
+    ensures answers { Answers (applied_on table.now parts.old.items call.now) parts.old.items
+        parts.new.items result }
 
     ensures named { AreNamed call.now parts.new.items }
     ensures good { All (λ t. IsGood table.now t) parts.new.items }
     ensures unlinked { All IsUnlinked parts.new.items }
 
     ensures least { steps.old + 1 ≤ steps.new }
-    ensures most { steps.new ≤ steps.old + 32 * sum_by (λ t. length (items_of t.cells) + 64) parts.old.items }
+    ensures most { steps.new ≤ steps.old + 32 * sum_by
+        (λ t. length (items_of t.cells) + 64) parts.old.items }
 {
     match call {
         Call::Overwrite(edit) => overwrite(alloc, table, parts, edit, steps),

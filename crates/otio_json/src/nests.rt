@@ -98,8 +98,10 @@ fn item(
 ) -> Result<Part, DocFault>
     requires few { entries table.old + 2 * tree_size (tree_of json.now) < 2 ^ 31 }
     requires object { 0 < tree_size (tree_of json.now) }
-    ensures read { Gives (λ part. (part, table.new)) result (item_read (rate_pair rate.now) nesting found table.old (tree_of json.now)) }
-    ensures few { OnOk result (entries table.new ≤ entries table.old + 2 * tree_size (tree_of json.now)) }
+    ensures read { Gives (λ part. (part, table.new)) result
+        (item_read (rate_pair rate.now) nesting found table.old (tree_of json.now)) }
+    ensures few { OnOk result (entries table.new
+        ≤ entries table.old + 2 * tree_size (tree_of json.now)) }
     ensures short { IfOk result (λ part. part.len < 2 ^ 32) }
     ensures sound { IfOk result IsItemPart }
 {
@@ -134,8 +136,10 @@ fn nest_item(
     json: &Json,
 ) -> Result<Part, DocFault>
     requires { entries table.old + 2 * tree_size (tree_of json.now) < 2 ^ 31 }
-    ensures read { Gives (λ part. (part, table.new)) result (nest_item_read (rate_pair rate.now) nesting schema table.old (tree_of json.now)) }
-    ensures few { OnOk result (entries table.new ≤ entries table.old + 2 * tree_size (tree_of json.now)) }
+    ensures read { Gives (λ part. (part, table.new)) result
+        (nest_item_read (rate_pair rate.now) nesting schema table.old (tree_of json.now)) }
+    ensures few { OnOk result (entries table.new
+        ≤ entries table.old + 2 * tree_size (tree_of json.now)) }
     ensures short { IfOk result (λ part. part.len < 2 ^ 32) }
     ensures sound { IfOk result IsItemPart }
 {
@@ -171,8 +175,10 @@ fn nest(
     json: &Json,
 ) -> Result<Nest, DocFault>
     requires { entries table.old + 2 * tree_size (tree_of json.now) < 2 ^ 31 }
-    ensures read { Gives (λ nest. (nest, table.new)) result (nest_read (rate_pair rate.now) levels schema table.old (tree_of json.now)) }
-    ensures few { OnOk result (entries table.new + 2 ≤ entries table.old + 2 * tree_size (tree_of json.now)) }
+    ensures read { Gives (λ nest. (nest, table.new)) result
+        (nest_read (rate_pair rate.now) levels schema table.old (tree_of json.now)) }
+    ensures few { OnOk result (entries table.new + 2
+        ≤ entries table.old + 2 * tree_size (tree_of json.now)) }
 {
     let children = list(needed(json, "children")?)?;
     let layers = match schema {
@@ -195,8 +201,10 @@ fn one_layer(
     at: u32,
 ) -> Result<Listed<Layer>, DocFault>
     requires { entries table.old + 2 * items_size (map tree_of children.now) < 2 ^ 31 }
-    ensures read { Gives (λ layers. (layers, table.new)) result (one_layer_read (rate_pair rate.now) levels table.old at (map tree_of children.now)) }
-    ensures few { OnOk result (entries table.new ≤ entries table.old + 2 * items_size (map tree_of children.now)) }
+    ensures read { Gives (λ layers. (layers, table.new)) result
+        (one_layer_read (rate_pair rate.now) levels table.old at (map tree_of children.now)) }
+    ensures few { OnOk result (entries table.new
+        ≤ entries table.old + 2 * items_size (map tree_of children.now)) }
 {
     let track = track(alloc, rate, Nesting::Levels(levels), 0, table, children, at)?;
     let mut layers = Listed::new(alloc);
@@ -221,8 +229,10 @@ fn layers(
     children: &[Json],
 ) -> Result<Listed<Layer>, DocFault>
     requires { entries table.old + 2 * items_size (map tree_of children.now) < 2 ^ 31 }
-    ensures read { Gives (λ layers. (layers, table.new)) result (layers_read (rate_pair rate.now) levels table.old (map tree_of children.now)) }
-    ensures few { OnOk result (entries table.new ≤ entries table.old + 2 * items_size (map tree_of children.now)) }
+    ensures read { Gives (λ layers. (layers, table.new)) result
+        (layers_read (rate_pair rate.now) levels table.old (map tree_of children.now)) }
+    ensures few { OnOk result (entries table.new
+        ≤ entries table.old + 2 * items_size (map tree_of children.now)) }
 {
     let mut layers = Listed::new(alloc);
     for json in children {
@@ -245,9 +255,11 @@ fn layer(
     json: &Json,
 ) -> Result<Layer, DocFault>
     requires { entries table.old + 2 * tree_size (tree_of json.now) < 2 ^ 31 }
-    ensures read { Gives (λ layer. (layer, table.new)) result (layer_read (rate_pair rate.now) levels number table.old (tree_of json.now)) }
+    ensures read { Gives (λ layer. (layer, table.new)) result
+        (layer_read (rate_pair rate.now) levels number table.old (tree_of json.now)) }
     ensures object { IfOk result (λ _. 0 < tree_size (tree_of json.now)) }
-    ensures few { OnOk result (entries table.new ≤ entries table.old + 2 * tree_size (tree_of json.now)) }
+    ensures few { OnOk result (entries table.new
+        ≤ entries table.old + 2 * tree_size (tree_of json.now)) }
 {
     let found = schema_of(json)?;
     match found.0 {
@@ -283,8 +295,10 @@ fn track_layer(
     json: &Json,
 ) -> Result<Layer, DocFault>
     requires { entries table.old + 2 * tree_size (tree_of json.now) < 2 ^ 31 }
-    ensures read { Gives (λ layer. (layer, table.new)) result (track_layer_read (rate_pair rate.now) levels number table.old (tree_of json.now)) }
-    ensures few { OnOk result (entries table.new ≤ entries table.old + 2 * tree_size (tree_of json.now)) }
+    ensures read { Gives (λ layer. (layer, table.new)) result
+        (track_layer_read (rate_pair rate.now) levels number table.old (tree_of json.now)) }
+    ensures few { OnOk result (entries table.new
+        ≤ entries table.old + 2 * tree_size (tree_of json.now)) }
 {
     head(json)?;
     let trim = trim(rate, json)?;
@@ -319,8 +333,10 @@ pub(crate) fn track(
     at: u32,
 ) -> Result<Track, DocFault>
     requires { entries table.old + 2 * items_size (map tree_of children.now) < 2 ^ 31 }
-    ensures read { Gives (λ track. (track, table.new)) result (track_read (rate_pair rate.now) nesting number table.old (map tree_of children.now) at) }
-    ensures few { OnOk result (entries table.new ≤ entries table.old + 2 * items_size (map tree_of children.now)) }
+    ensures read { Gives (λ track. (track, table.new)) result
+        (track_read (rate_pair rate.now) nesting number table.old (map tree_of children.now) at) }
+    ensures few { OnOk result (entries table.new
+        ≤ entries table.old + 2 * items_size (map tree_of children.now)) }
 {
     let row = row(alloc, rate, nesting, table, children)?;
     let parts = row.finish()?;
@@ -337,9 +353,12 @@ fn row(
     children: &[Json],
 ) -> Result<Row, DocFault>
     requires { entries table.old + 2 * items_size (map tree_of children.now) < 2 ^ 31 }
-    ensures read { Gives (λ row. (row, table.new)) result (row_read (rate_pair rate.now) nesting table.old (map tree_of children.now)) }
-    ensures few { OnOk result (entries table.new ≤ entries table.old + 2 * items_size (map tree_of children.now)) }
-    ensures frames { IfOk result (λ row. row_frames row ≤ 2 ^ 32 * items_size (map tree_of children.now)) }
+    ensures read { Gives (λ row. (row, table.new)) result
+        (row_read (rate_pair rate.now) nesting table.old (map tree_of children.now)) }
+    ensures few { OnOk result (entries table.new
+        ≤ entries table.old + 2 * items_size (map tree_of children.now)) }
+    ensures frames { IfOk result (λ row. row_frames row
+        ≤ 2 ^ 32 * items_size (map tree_of children.now)) }
 {
     let mut row = Row::new(alloc);
     for json in children {
@@ -361,9 +380,12 @@ fn child(
 ) -> Result<(), DocFault>
     requires few { entries table.old + 2 * tree_size (tree_of json.now) < 2 ^ 31 }
     requires frames { row_frames row.old + 2 ^ 32 < 2 ^ 63 }
-    ensures read { Gives (λ _. (row.new, table.new)) result (child_read (rate_pair rate.now) nesting (row.old, table.old) (tree_of json.now)) }
-    ensures few { OnOk result (entries table.new ≤ entries table.old + 2 * tree_size (tree_of json.now)) }
-    ensures frames { OnOk result (row_frames row.new ≤ row_frames row.old + 2 ^ 32 * tree_size (tree_of json.now)) }
+    ensures read { Gives (λ _. (row.new, table.new)) result
+        (child_read (rate_pair rate.now) nesting (row.old, table.old) (tree_of json.now)) }
+    ensures few { OnOk result (entries table.new
+        ≤ entries table.old + 2 * tree_size (tree_of json.now)) }
+    ensures frames { OnOk result (row_frames row.new
+        ≤ row_frames row.old + 2 ^ 32 * tree_size (tree_of json.now)) }
 {
     let found = schema_of(json)?;
     match found.0 {

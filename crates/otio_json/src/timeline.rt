@@ -96,8 +96,10 @@ fn add_track(
 ) -> Result<(), DocFault>
     requires few { entries table.old + 2 * tree_size (tree_of json.now) < 2 ^ 31 }
     requires count { length tracks.old < 2 ^ 32 }
-    ensures read { Gives (λ _. (tracks.new, table.new)) result (next_track (rate_pair rate.now) (tracks.old, table.old) (tree_of json.now)) }
-    ensures few { OnOk result (entries table.new ≤ entries table.old + 2 * tree_size (tree_of json.now)) }
+    ensures read { Gives (λ _. (tracks.new, table.new)) result
+        (next_track (rate_pair rate.now) (tracks.old, table.old) (tree_of json.now)) }
+    ensures few { OnOk result (entries table.new
+        ≤ entries table.old + 2 * tree_size (tree_of json.now)) }
     ensures count { OnOk result (length tracks.new ≡ length tracks.old + 1) }
 {
     let kind = head_of_track(json)?;
@@ -126,7 +128,8 @@ fn add_tracks(
 ) -> Result<Listed<Track>, DocFault>
     requires few { entries table.old + 2 * items_size (map tree_of children.now) < 2 ^ 31 }
     requires count { length children.now ≤ MAX_TRACKS }
-    ensures { Gives (λ tracks. (tracks, table.new)) result (tracks_read (rate_pair rate.now) table.old (map tree_of children.now)) }
+    ensures { Gives (λ tracks. (tracks, table.new)) result
+        (tracks_read (rate_pair rate.now) table.old (map tree_of children.now)) }
 {
     let mut tracks = Listed::new(alloc);
     for json in children {

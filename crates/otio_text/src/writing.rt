@@ -191,7 +191,8 @@ fn put_thing(
     source: u32,
     len: u32,
 ) -> Result<(), Memory>
-    ensures { OnOk result (out.new ≡ grown out.old (thing_text table.now rate levels what source len)) }
+    ensures { OnOk result (out.new ≡ grown out.old
+        (thing_text table.now rate levels what source len)) }
 {
     match what {
         What::Media(m) => put_media(out, table, rate, m, source, len),
@@ -210,7 +211,8 @@ fn put_nest(
     source: u32,
     len: u32,
 ) -> Result<(), Memory>
-    ensures { OnOk result (out.new ≡ grown out.old (nest_text table.now rate levels number source len)) }
+    ensures { OnOk result (out.new ≡ grown out.old
+        (nest_text table.now rate levels number source len)) }
 {
     out.put(b"{\"OTIO_SCHEMA\":\"Stack.1\",\"name\":\"\",\"metadata\":{},\"source_range\":")?;
     put_range(out, rate, source, len)?;
@@ -268,7 +270,8 @@ fn put_other_layers(
     levels: usize,
     others: &[Layer],
 ) -> Result<(), Memory>
-    ensures { OnOk result (out.new ≡ grown out.old (later_layers table.now rate levels others.now)) }
+    ensures { OnOk result (out.new ≡ grown out.old
+        (later_layers table.now rate levels others.now)) }
 {
     for layer in others {
         out.put(b",")?;
@@ -422,7 +425,8 @@ fn put_timeline(
     counting: &Counting,
     start: u32,
 ) -> Result<(), Memory>
-    ensures { OnOk result (out.new ≡ grown out.old (timeline_text table.now tracks.now counting.now start)) }
+    ensures { OnOk result (out.new ≡ grown out.old
+        (timeline_text table.now tracks.now counting.now start)) }
 {
     let rate = counting.rate();
     out.put(

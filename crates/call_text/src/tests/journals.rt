@@ -236,3 +236,29 @@ fn written_journals_are_read(rt: HostRuntime) {
         assert_eq!(rt; again.as_slice(), text, "row {row}");
     }
 }
+
+// The text of a journal of so many slices, all of one station.
+fn slices(alloc: Global, count: u32) -> Result<String, Fail> {
+    let mut text = format!(in alloc; "journal {count}\n")?;
+    for number in 0..count {
+        text.push_str(format!(in alloc; "0 {number} slice 0 0\n")?.as_str())?;
+    }
+    Ok(text)
+}
+
+#[test]
+fn a_full_journal_is_read_and_a_longer_one_is_not(rt: HostRuntime) -> Result<(), Fail> {
+    let text = slices(rt.alloc(), 100_000)?;
+    assert!(rt; text.len() <= MAX_JOURNAL);
+    let entries = read_journal(rt.alloc(), text.as_bytes()).unwrap_or(Vec::new(rt.alloc()));
+    assert_eq!(rt; entries.len(), 100_000);
+    let again = journal_text(rt.alloc(), &entries).unwrap_or(Vec::new(rt.alloc()));
+    assert!(rt; again.as_slice() == text.as_bytes());
+    let longer = slices(rt.alloc(), 100_001)?;
+    let refused = JournalFault::Refused {
+        code: JournalCode::H2,
+        number: 1,
+    };
+    assert_eq!(rt; journal(rt.alloc(), longer.as_bytes()), Some(Err(refused)));
+    Ok(())
+}
