@@ -1,6 +1,6 @@
 -- How far the numbers of tracks without links have risen: each call raises the next item number of a track by two at
 -- most, and no next link number.
-use Rattle.std.proofs.Common.{◌≡◌, ℕ, zero, suc, ℤ, pos, negsuc, ◌+◌, ◌-◌, ◌<◌, ◌≤◌, Bool, true, false, cond, eqb, min, List, [], ◌∷◌, All, length, Option, Some, None, IfSome, Result, Ok, Err, refl, sym, ◌∙◌, arith, subst, nat_lt}
+use Rattle.std.proofs.Common.{◌≡◌, ℕ, zero, suc, ℤ, pos, negsuc, ◌+◌, ◌-◌, ◌<◌, ◌≤◌, Bool, true, false, cond, eqb, min, List, [], ◌∷◌, All, length, Option, Some, None, IfSome, Result, Ok, Err, refl, sym, ◌∙◌, arith, subst, nat_lt, unwrap_or}
 use Rattle.std.proofs.lemmas.List.Elements.{All-cons}
 use Rattle.frame_meaning.specs.declared.cells.What.{What}
 use Rattle.composables.specs.declared.calls.Overwrite.{Overwrite}
@@ -41,7 +41,7 @@ use Rattle.dissolves.specs.Marking.{dissolve_named, dissolve_on, mark_asked, mar
 use Rattle.edit_delta.specs.Nearest.{nearest}
 use Rattle.edit_delta.specs.Reaching.{going_on, reaching_back}
 use Rattle.edit_delta.specs.Using.{on_range, used_on}
-use Rattle.edit_trim.specs.Rippling.{ripple_allows, ripple_end, ripple_named, ripple_own, rippled, used_on_all}
+use Rattle.edit_trim.specs.Rippling.{as_split, ripple_allows, ripple_end, ripple_named, ripple_own, rippled, used_on_all}
 use Rattle.edit_trim.specs.Slipping.{slip_allows, slip_named, slip_range, slip_track, slipped, slipped_by}
 use Rattle.edit_trim.specs.Trimming.{trim_allows, trim_end, trim_named, trim_track, trimmed}
 use Rattle.edit_insert.specs.Fills.{fill_at, fill_named, fill_track, filled, frames_asked}
@@ -57,7 +57,7 @@ use Rattle.edit_insert.specs.Sources.{source_refusal}
 use Rattle.edit_splice.proofs.Bridging.{for-found}
 use Rattle.edit_splice.proofs.Standing.{all_head, all_none, all_tail}
 use Rattle.edit_splice.proofs.Numbers.{if-weaker}
-use Rattle.edit_splice.proofs.Unlinked.{Bare, shift-free}
+use Rattle.edit_splice.proofs.Unlinked.{Bare, shift-free, split-free}
 use Rattle.edit_apply.specs.PlainCells.{ArePlain, IsPlain, plain-append, plain-at, plain-bare, plain-changed, plain-marked, plain-more, plain-spliced, plain-views}
 
 -- a track without links that has given away at most this many item numbers, and no link number
@@ -395,10 +395,19 @@ part_shifted n own x y p t v done ts h young item link =
     let below : IfSome v.item (λ i. i < n) = subst (λ (o : Option ℕ). IfSome o (λ i. i < n)) (sym item) plain.0 in
     shift_young n own x y (v ∷ []) done ts h (if-weaker v.item n (n + 1) (omega arith) below, tt) (link ∙ plain.1, tt)
 
+-- the track as its links are split
+young_split : (n place : ℕ) (ts : List TrackState) (t : TrackState) → All (IsYoung n) ts → IsYoung n t → IsYoung n (as_split place ts t)
+young_split n place ts t h young =
+    subst (λ (us : List TrackState). IsYoung n (unwrap_or (track_numbered t.number us) t)) (sym (split-free place place ts (all-bare n ts h)))
+    (by (track_numbered t.number ts) (numbered_young n t.number ts h)) where
+      by : (o : Option TrackState) → IfSome o (IsYoung n) → IsYoung n (unwrap_or o t)
+      by None y = young
+      by (Some u) y = y
+
 young_rippled : (n own : ℕ) (ts : List TrackState) (t : TrackState) (x y : ℕ) (end : End) (done : Done) (d : ℤ) → All (IsYoung n) ts → IsYoung n t
     → AreYoung (n + 2) (rippled own ts t x y end done d)
 young_rippled n own ts t x y Head done (pos k) h young = shift_young n own x (x + k) [] done ts h tt tt
-young_rippled n own ts t x y Head done (negsuc k) h young = part_shifted n own x x x t (reaching_back (cell_at t.cells x) (suc k)) done ts h young refl refl
+young_rippled n own ts t x y Head done (negsuc k) h young = part_shifted n own x x x (as_split x ts t) (reaching_back (cell_at (as_split x ts t).cells x) (suc k)) done ts h (young_split n x ts t h young) refl refl
 young_rippled n own ts t x y Tail done (pos k) h young = part_shifted n own y y (y - 1) t (going_on (cell_at t.cells (y - 1)) k) done ts h young refl refl
 young_rippled n own ts t x y Tail done (negsuc k) h young = shift_young n own (y - suc k) y [] done ts h tt tt
 
