@@ -1,10 +1,13 @@
 -- A ripple as it is meant, and as a shift of all named tracks.
-use Rattle.std.proofs.Common.{◌≡◌, ◌≢◌, ℕ, zero, suc, ◌+◌, ◌-◌, ◌<◌, ◌≤◌, ◌^◌, Bool, true, false, cond, eqb, leb, ltb, ◌&&◌, min, ℤ, pos, negsuc, neg_ℤ, nat_abs, List, [], ◌∷◌, ◌++◌, All, length, map, get_or, Option, Some, None, Result, Ok, Err, refl, sym, ap, ◌∙◌, arith, subst, w32, SFits, ⊎_elim}
-use Rattle.std.proofs.lemmas.Bool.{eq-eqb, eqb-true, lt-ltb, le-ltb, cases_lt}
+use Rattle.std.proofs.Common.{◌≡◌, ◌≢◌, ℕ, zero, suc, ◌+◌, ◌-◌, ◌<◌, ◌≤◌, ◌^◌, Bool, true, false, cond, eqb, leb, ltb, ◌&&◌, min, ℤ, pos, negsuc, neg_ℤ, nat_abs, List, [], ◌∷◌, ◌++◌, All, drop, length, map, get_or, Option, Some, None, Result, Ok, Err, refl, sym, ap, ◌∙◌, arith, subst, w32, SFits, to_z, of_z, ⊎_elim}
+use Rattle.std.proofs.lemmas.Bool.{eq-eqb, eqb-true, leb-false, leb-true, le-leb, le-ltb, lt-leb, lt-ltb, cases_lt}
+use Rattle.std.proofs.lemmas.List.{drop_all, drop_more}
+use Rattle.std.proofs.lemmas.Int.{to_z-of_z}
 use Rattle.std.specs.Int.Signed.{nat_abs-le}
 use Rattle.frame_meaning.specs.declared.cells.Cell.{Cell}
 use Rattle.frame_meaning.specs.declared.cells.What.{What}
 use Rattle.frame_meaning.specs.declared.frames.Side.{Side}
+use Rattle.frame_meaning.specs.declared.frames.Side.TheVariants.{Dark, Pic}
 use Rattle.frame_meaning.specs.Cells.{later_side}
 use Rattle.frame_meaning.specs.Render.{cell_at}
 use Rattle.composables.specs.declared.calls.End.TheVariants.{Head, Tail}
@@ -20,6 +23,7 @@ use Rattle.composables.specs.Answers.{Applied}
 use Rattle.composables.specs.Good.{AllUnlinked, IsGood}
 use Rattle.composables.specs.Items.{cell_in, items_of}
 use Rattle.composables.specs.Limits.{within_limits}
+use Rattle.composables.specs.TrackFacts.{HasSource}
 use Rattle.composables.specs.TrackState.{TrackState}
 use Rattle.edit_delta.specs.declared.deltas.Used.{Used}
 use Rattle.edit_delta.specs.declared.deltas.Way.{Way}
@@ -27,7 +31,9 @@ use Rattle.edit_delta.specs.declared.deltas.Way.TheVariants.{Earlier, Later, Sti
 use Rattle.edit_delta.specs.Nearest.{AreUpTo, by_sign, lies_within, nearest}
 use Rattle.edit_delta.specs.Reaching.{going_on, has_after, has_before, keeps_a_cell, reaching_back}
 use Rattle.edit_delta.specs.Using.{IsUsed, IsWayOf}
+use Rattle.edit_delta.proofs.Answered.{earlier-most, later-most, up-both}
 use Rattle.edit_delta.proofs.Greatest.{nearest-ends}
+use Rattle.edit_delta.proofs.Pieces.{before-of, numbered-after, up-true}
 use Rattle.edit_delta.proofs.Spots.{Spot, side-head, spot-head, spot-last}
 use Rattle.edit_splice.specs.declared.shifting.Shift.{Shift}
 use Rattle.edit_splice.specs.Moves.{all_moved}
@@ -36,7 +42,7 @@ use Rattle.edit_splice.specs.Shifts.{shift_of}
 use Rattle.edit_splice.proofs.Bridging.{extract-moved}
 use Rattle.edit_splice.proofs.Unlinked.{Bare, shift-free}
 use Rattle.edit_trim.specs.declared.rippling.Rippled.{Rippled}
-use Rattle.edit_trim.specs.Rippling.{IsRippled, have_room, ripple_allows, ripple_end, rippled, shift_by, used_on_all}
+use Rattle.edit_trim.specs.Rippling.{CanShift, EndFits, IsRippled, IsWhole, has_room, have_room, ripple_allows, ripple_end, rippled, shift_by, used_on_all}
 
 -- the room of the named tracks is what the code has found
 up_room : (own place : ℕ) (ts : List TrackState) (room m : ℕ) (f : ℕ → Bool) → AreUpTo (have_room own place ts) room → AreUpTo (λ n. leb n room && f n) m → AreUpTo (λ n. have_room own place ts n && f n) m
@@ -91,3 +97,108 @@ used_earlier ts f g d (suc n) h e = ap (used_on_all ts (λ done. by_sign (f done
 pub made : (s : Shift) (done : Done) (ts : List TrackState) → AllUnlinked (new_views s.new) → Bare ts → All (λ (t : TrackState). t.number ≡ s.own → (s.x ≤ length t.cells) × (s.y ≤ length t.cells)) ts
     → shift_of s.own s.x s.y (new_views s.new) done ts ≡ within_limits (all_moved s ts) done
 made s done ts bare_views bare long = shift-free s.own s.x s.y (new_views s.new) done ts bare_views bare ∙ ap (λ (us : List TrackState). within_limits us done) (extract-moved s ts long)
+
+-- the room of all named tracks, one after another
+and_true : (b : Bool) → b && true ≡ b
+and_true true = refl
+and_true false = refl
+
+pub room-all : (own place n : ℕ) (ts : List TrackState) → n < 2 ^ 32 → have_room own place ts n ≡ leb n 4294967295 && have_room own place ts n
+room-all own place n ts small = sym (ap (λ (b : Bool). b && have_room own place ts n) (le-leb n 4294967295 (omega (arith, small))))
+
+-- two bounds of which the nearer one holds
+both_le : (n a b : ℕ) (x : Bool) → leb n a && (leb n b && x) ≡ leb n (min a b) && x
+both_le n a b x = by (leb n a) (leb n b) refl refl where
+  by : (p q : Bool) → leb n a ≡ p → leb n b ≡ q → p && (q && x) ≡ leb n (min a b) && x
+  by true true e f = ap (λ (z : Bool). z && x) (sym (le-leb n (min a b) (omega (arith, leb-true n a e, leb-true n b f))))
+  by true false e f = ap (λ (z : Bool). z && x) (sym (lt-leb n (min a b) (omega (arith, leb-false n b f))))
+  by false true e f = ap (λ (z : Bool). z && x) (sym (lt-leb n (min a b) (omega (arith, leb-false n a e))))
+  by false false e f = ap (λ (z : Bool). z && x) (sym (lt-leb n (min a b) (omega (arith, leb-false n a e))))
+
+pub room-more : (own place room more m n : ℕ) (ts : List TrackState) (i : ℕ) (d : TrackState) → i < length ts → m ≡ min room more → has_room own place n (get_or ts i d) ≡ leb n more
+    → have_room own place ts n ≡ leb n room && have_room own place (drop i ts) n → have_room own place ts n ≡ leb n m && have_room own place (drop (i + 1) ts) n
+room-more own place room more m n ts i d lt is here so_far =
+    so_far
+    ∙ (ap (λ (us : List TrackState). leb n room && have_room own place us n) (drop_more ts i d lt)
+    ∙ (ap (λ (b : Bool). leb n room && (b && have_room own place (drop (i + 1) ts) n)) here
+    ∙ (both_le n room more (have_room own place (drop (i + 1) ts) n) ∙ ap (λ (k : ℕ). leb n k && have_room own place (drop (i + 1) ts) n) (sym is))))
+
+pub room-none : (own place room n : ℕ) (ts : List TrackState) (i : ℕ) → (i < length ts → ⊥) → have_room own place ts n ≡ leb n room && have_room own place (drop i ts) n → have_room own place ts n ≡ leb n room
+room-none own place room n ts i past so_far =
+    so_far ∙ (ap (λ (us : List TrackState). leb n room && have_room own place us n) (drop_all i ts (omega (arith, past))) ∙ and_true (leb n room))
+
+-- an end's delta fits, whichever way it goes
+up_less : (len : ℕ) → 0 < len → AreUpTo (λ n. ltb n len) (len - 1)
+up_less len f n small =
+    ⊎_elim
+    (λ (less : len - 1 < n). le-ltb n len (omega (arith, less)) ∙ sym (lt-leb n (len - 1) less))
+    (λ (le : n ≤ len - 1). lt-ltb n len (omega (arith, le, f)) ∙ sym (le-leb n (len - 1) le))
+    (cases_lt (len - 1) n)
+
+head_fits : (table : Table) (v : ItemView) (room reach earlier : ℕ) (by : ℤ) (u : Used) → 0 < v.len → AreUpTo (has_before table v.first) reach → reach < 2 ^ 32 → earlier ≡ min room reach
+    → IsUsed (nearest (lies_within earlier (v.len - 1)) (to_z w32 (of_z w32 by))) u → EndFits table Head v room u.way
+head_fits table v room reach earlier by u f a small e is = by_way u.way refl where
+  by_way : (w : Way) → u.way ≡ w → EndFits table Head v room w
+  by_way Still k = tt
+  by_way (Later n) k = let m = later-most earlier (v.len - 1) n by u is k in (m.0, omega (arith, m.1, f))
+  by_way (Earlier n) k = let m = earlier-most earlier (v.len - 1) n by u is k in (m.0, omega (arith, m.1, e), up-true (has_before table v.first) reach n a (omega (arith, m.1, e)) small)
+
+tail_fits : (table : Table) (v : ItemView) (room reach later : ℕ) (by : ℤ) (u : Used) → 0 < v.len → AreUpTo (has_after table (later_side v.first (v.len - 1))) reach → HasSource v.first v.len 0 reach → reach < 2 ^ 32
+    → later ≡ min room reach → IsUsed (nearest (lies_within (v.len - 1) later) (to_z w32 (of_z w32 by))) u → EndFits table Tail v room u.way
+tail_fits table v room reach later by u f a source small e is = by_way u.way refl where
+  less_source : (s : Side What) (len most n : ℕ) → n ≤ most → HasSource s len 0 most → HasSource s len 0 n
+  less_source Dark len most n le h = tt
+  less_source (Pic x s) len most n le h = (omega arith, omega (arith, le, h.1))
+
+  by_way : (w : Way) → u.way ≡ w → EndFits table Tail v room w
+  by_way Still k = tt
+  by_way (Later n) k =
+      let m = later-most (v.len - 1) later n by u is k in
+      let le : n ≤ reach = omega (arith, m.1, e) in
+      (m.0, omega (arith, m.1, e), up-true (has_after table (later_side v.first (v.len - 1))) reach n a le small, less_source v.first v.len reach n le source)
+  by_way (Earlier n) k = let m = earlier-most (v.len - 1) later n by u is k in (m.0, omega (arith, m.1, f))
+
+pub head-can : (table : Table) (p : Place) (v : ItemView) (room reach earlier : ℕ) (by : ℤ) (u : Used) → IsWhole table v → p.to ≡ p.from + v.len → p.to < 2 ^ 32 → AreUpTo (has_before table v.first) reach → reach < 2 ^ 32
+    → earlier ≡ min room reach → IsUsed (nearest (lies_within earlier (v.len - 1)) (to_z w32 (of_z w32 by))) u → CanShift Head p v u.way
+head-can table p v room reach earlier by u whole long places a small e is = by_way u.way (head_fits table v room reach earlier by u whole.filled a small e is) where
+  by_way : (w : Way) → EndFits table Head v room w → CanShift Head p v w
+  by_way Still f = tt
+  by_way (Later n) f = omega (arith, f.1, long, places)
+  by_way (Earlier n) f = (before-of table v.first v.len n f.2 whole.source whole.lies).source
+
+pub tail-can : (table : Table) (p : Place) (v : ItemView) (room reach later : ℕ) (by : ℤ) (u : Used) → IsWhole table v → p.to ≡ p.from + v.len → AreUpTo (has_after table (later_side v.first (v.len - 1))) reach → HasSource v.first v.len 0 reach
+    → reach < 2 ^ 32 → later ≡ min room reach → IsUsed (nearest (lies_within (v.len - 1) later) (to_z w32 (of_z w32 by))) u → CanShift Tail p v u.way
+tail-can table p v room reach later by u whole long a source small e is = by_way u.way (tail_fits table v room reach later by u whole.filled a source small e is) where
+  by_way : (w : Way) → EndFits table Tail v room w → CanShift Tail p v w
+  by_way Still f = tt
+  by_way (Later n) f = (whole.filled, numbered-after v.first v.len n n f.0 (omega arith) f.3)
+  by_way (Earlier n) f = omega (arith, f.1, long)
+
+pub head-rippled : (table : Table) (p : Place) (v : ItemView) (room reach earlier : ℕ) (c : Ripple) (u : Used) (r : Rippled) → IsWhole table v → SFits w32 c.by → AreUpTo (has_before table v.first) reach → reach < 2 ^ 32
+    → earlier ≡ min room reach → IsUsed (nearest (lies_within earlier (v.len - 1)) (to_z w32 (of_z w32 c.by))) u → r.shift ≡ shift_by c.track Head p v u.way → r.done ≡ u.done → IsRippled table Head p v room c r
+head-rippled table p v room reach earlier c u r whole fits a small e is shift done = record {
+  delta = u;
+  later = v.len - 1;
+  earlier = earlier;
+  ends_later = up_less v.len whole.filled;
+  ends_earlier = up-both (λ n. leb n room) (has_before table v.first) room reach earlier e (λ n small. refl) a;
+  used = subst (λ (z : ℤ). IsUsed (nearest (lies_within earlier (v.len - 1)) z) u) (to_z-of_z w32 c.by fits) is;
+  fits = head_fits table v room reach earlier c.by u whole.filled a small e is;
+  shift = shift;
+  done = done;
+}
+
+pub tail-rippled : (table : Table) (p : Place) (v : ItemView) (room reach later : ℕ) (c : Ripple) (u : Used) (r : Rippled) → IsWhole table v → SFits w32 c.by → AreUpTo (has_after table (later_side v.first (v.len - 1))) reach
+    → HasSource v.first v.len 0 reach → reach < 2 ^ 32 → later ≡ min room reach → IsUsed (nearest (lies_within (v.len - 1) later) (to_z w32 (of_z w32 c.by))) u → r.shift ≡ shift_by c.track Tail p v u.way → r.done ≡ u.done
+    → IsRippled table Tail p v room c r
+tail-rippled table p v room reach later c u r whole fits a source small e is shift done = record {
+  delta = u;
+  later = later;
+  earlier = v.len - 1;
+  ends_later = up-both (λ n. leb n room) (has_after table (later_side v.first (v.len - 1))) room reach later e (λ n small. refl) a;
+  ends_earlier = up_less v.len whole.filled;
+  used = subst (λ (z : ℤ). IsUsed (nearest (lies_within (v.len - 1) later) z) u) (to_z-of_z w32 c.by fits) is;
+  fits = tail_fits table v room reach later c.by u whole.filled a source small e is;
+  shift = shift;
+  done = done;
+}

@@ -1,5 +1,5 @@
 // Ripple: an end of an item moved, and all that is behind it.
-ghost use Rattle.std.specs.Prelude.{◌≡◌, ◌+◌, ◌-◌, ◌*◌, ◌<◌, ◌≤◌, All, Some, length, nat_eq, slice_get, slice_index_or, true};
+ghost use Rattle.std.specs.Prelude.{◌≡◌, ◌+◌, ◌-◌, ◌*◌, ◌<◌, ◌≤◌, ◌||◌, All, length, nat_eq, nat_lt, slice_get, true};
 ghost use Rattle.std.specs.List.{list_any};
 ghost use Rattle.composables.specs.declared.calls.End.TheVariants.{Head, Tail};
 ghost use Rattle.composables.specs.declared.TheConstants.{MAX_FRAMES};
@@ -11,7 +11,7 @@ ghost use Rattle.composables.specs.Sizes.{sizes_of};
 ghost use Rattle.composables.specs.TrackSets.{tracks_in};
 ghost use Rattle.edit_delta.specs.Nearest.{AreUpTo};
 ghost use Rattle.edit_splice.specs.Standing.{EachStaysGood};
-ghost use Rattle.edit_trim.specs.Rippling.{CanShift, IsRippled, IsWhole, have_room, ripple_named, shift_by};
+ghost use Rattle.edit_trim.specs.Rippling.{CanShift, IsRippled, IsWhole, has_room, have_room, ripple_named, shift_by};
 
 use composables::{
     Done, EditFault, End, ItemView, MAX_FRAMES, Place, Refusal, Ripple, Table, Track, own_index,
@@ -180,16 +180,32 @@ fn tail_shift(own: u32, found: Place, view: &ItemView, way: Way) -> Option<Shift
     }
 }
 
-// How many frames more each named track has room for at a place, where it grows there.
+// How many frames more each named track has room for at a place.
 fn room_at(named: &[Track], own: u32, place: u32) -> u32
     requires { All (λ t. length t.cells ≤ MAX_FRAMES) named.now }
     ensures { AreUpTo (have_room own place named.now) result }
 {
     let mut room = u32::MAX;
     for track in named {
-        if track.number() == own || place < track.length() {
-            room = room.min(MAX_FRAMES - track.length());
-        }
+        room = room.min(room_of(track, own, place));
     }
     room
+}
+
+// How many frames more a named track has room for at a place, where it grows there; else as many as there are numbers.
+fn room_of(track: &Track, own: u32, place: u32) -> u32
+    requires { length track.now.cells ≤ MAX_FRAMES }
+    ensures { AreUpTo (λ n. has_room own place n track.now) result }
+{
+    if grows_at(track, own, place) {
+        MAX_FRAMES - track.length()
+    } else {
+        u32::MAX
+    }
+}
+
+fn grows_at(track: &Track, own: u32, place: u32) -> bool
+    ensures { result ≡ (nat_eq track.now.number own || nat_lt place (length track.now.cells)) }
+{
+    track.number() == own || place < track.length()
 }
