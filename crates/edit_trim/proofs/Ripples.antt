@@ -10,6 +10,7 @@ use Rattle.frame_meaning.specs.declared.frames.Side.{Side}
 use Rattle.frame_meaning.specs.declared.frames.Side.TheVariants.{Dark, Pic}
 use Rattle.frame_meaning.specs.Cells.{later_side}
 use Rattle.frame_meaning.specs.Render.{cell_at}
+use Rattle.composables.specs.declared.calls.End.{End}
 use Rattle.composables.specs.declared.calls.End.TheVariants.{Head, Tail}
 use Rattle.composables.specs.declared.calls.Ripple.{Ripple}
 use Rattle.composables.specs.declared.items.ItemView.{ItemView}
@@ -202,3 +203,96 @@ tail-rippled table p v room reach later c u r whole fits a source small e is shi
   shift = shift;
   done = done;
 }
+
+-- a ripple is nothing, or its shift
+way_of_used : (d : ℤ) (u : Used) (w : Way) → IsUsed d u → u.way ≡ w → IsWayOf d w
+way_of_used d u w is e = subst (IsWayOf d) e is.way
+
+no_shift : (own : ℕ) (end : End) (p : Place) (v : ItemView) (w : Way) → shift_by own end p v w ≡ None → w ≡ Still
+no_shift own Head p v Still e = refl
+no_shift own Head p v (Later n) e = absurd cc
+no_shift own Head p v (Earlier n) e = absurd cc
+no_shift own Tail p v Still e = refl
+no_shift own Tail p v (Later n) e = absurd cc
+no_shift own Tail p v (Earlier n) e = absurd cc
+
+still_means : (table : Table) (ts : List TrackState) (t : TrackState) (end : End) (p : Place) (v : ItemView) (room : ℕ) (c : Ripple) (r : Rippled) → (is : IsRippled table end p v room c r)
+    → IsUsed (nearest (ripple_allows table c.track ts t p.from p.to end) c.by) is.delta → r.shift ≡ None → ripple_end table c.track ts t end c.by p.from p.to ≡ Ok (ts, r.done)
+still_means table ts t end p v room c r is used none =
+    let d = nearest (ripple_allows table c.track ts t p.from p.to end) c.by in
+    used_none ts (rippled c.track ts t p.from p.to end) d (way_of_used d is.delta Still used (no_shift c.track end p v is.delta.way (sym is.shift ∙ none)))
+    ∙ ap (λ (a : Done). Ok (ts, a)) (sym used.done ∙ sym is.done)
+
+abbrev pub HasPlaces : ℕ → ℕ → List TrackState → Type 0
+HasPlaces own y ts = All (λ (t : TrackState). t.number ≡ own → y ≤ length t.cells) ts
+
+places_of : (s : Shift) (own y : ℕ) (ts : List TrackState) → s.own ≡ own → s.x ≤ y → s.y ≤ y → HasPlaces own y ts → All (λ (t : TrackState). t.number ≡ s.own → (s.x ≤ length t.cells) × (s.y ≤ length t.cells)) ts
+places_of s own y ts e a b h k d lt n = let l : y ≤ length (get_or ts k d).cells = h k d lt (n ∙ e) in (omega (arith, a, l), omega (arith, b, l))
+
+tail_means : (table : Table) (ts : List TrackState) (t : TrackState) (i : ℕ) (v : ItemView) (p : Place) (room : ℕ) (c : Ripple) (r : Rippled) (s : Shift) → Spot table t i v p.from p.to → (is : IsRippled table Tail p v room c r)
+    → IsUsed (nearest (ripple_allows table c.track ts t p.from p.to Tail) c.by) is.delta → Bare ts → v.link ≡ None → HasPlaces c.track p.to ts → r.shift ≡ Some s
+    → ripple_end table c.track ts t Tail c.by p.from p.to ≡ within_limits (all_moved s ts) r.done
+tail_means table ts t i v p room c r s spot is used bare unlinked long some = by_way is.delta.way refl (sym is.shift ∙ some) where
+  d : ℤ
+  d = nearest (ripple_allows table c.track ts t p.from p.to Tail) c.by
+
+  on : Done → ℕ → Applied
+  on done n = shift_of c.track p.to p.to (going_on (cell_at t.cells (p.to - 1)) n ∷ []) done ts
+
+  back : Done → ℕ → Applied
+  back done n = shift_of c.track (p.to - n) p.to [] done ts
+
+  said : By d ≡ r.done
+  said = sym used.done ∙ sym is.done
+
+  by_way : (w : Way) → is.delta.way ≡ w → shift_by c.track Tail p v w ≡ Some s → ripple_end table c.track ts t Tail c.by p.from p.to ≡ within_limits (all_moved s ts) r.done
+  by_way Still k e = absurd cc
+  by_way (Later n) k e =
+      let m : Shift = record { own = c.track; x = p.to; y = p.to; new = Some (going_on (cell_in v (v.len - 1)) n) } in
+      let same : m ≡ s = cc in
+      let way = way_of_used d is.delta (Later n) used k in
+      used_later ts on back d n way.0 way.1
+      ∙ (ap (λ (g : ItemView). shift_of c.track p.to p.to (g ∷ []) (By d) ts) (ap (λ (x : Cell). going_on x n) (spot-last table t i v p.from p.to spot))
+      ∙ (made m (By d) ts (unlinked, tt) bare (places_of m c.track p.to ts refl (omega arith) (omega arith) long)
+      ∙ (ap (λ (z : Shift). within_limits (all_moved z ts) (By d)) same ∙ ap (within_limits (all_moved s ts)) said)))
+  by_way (Earlier n) k e =
+      let m : Shift = record { own = c.track; x = p.to - n; y = p.to; new = None } in
+      let same : m ≡ s = cc in
+      let way = way_of_used d is.delta (Earlier n) used k in
+      used_earlier ts on back d n way.0 way.1
+      ∙ (made m (By d) ts tt bare (places_of m c.track p.to ts refl (omega arith) (omega arith) long)
+      ∙ (ap (λ (z : Shift). within_limits (all_moved z ts) (By d)) same ∙ ap (within_limits (all_moved s ts)) said))
+
+head_means : (table : Table) (ts : List TrackState) (t : TrackState) (i : ℕ) (v : ItemView) (p : Place) (room : ℕ) (c : Ripple) (r : Rippled) (s : Shift) → Spot table t i v p.from p.to → (is : IsRippled table Head p v room c r)
+    → IsUsed (nearest (ripple_allows table c.track ts t p.from p.to Head) c.by) is.delta → Bare ts → v.link ≡ None → HasPlaces c.track p.to ts → r.shift ≡ Some s
+    → ripple_end table c.track ts t Head c.by p.from p.to ≡ within_limits (all_moved s ts) r.done
+head_means table ts t i v p room c r s spot is used bare unlinked long some = by_way is.delta.way refl is.fits (sym is.shift ∙ some) where
+  d : ℤ
+  d = nearest (ripple_allows table c.track ts t p.from p.to Head) c.by
+
+  out : Done → ℕ → Applied
+  out done n = shift_of c.track p.from (p.from + n) [] done ts
+
+  back : Done → ℕ → Applied
+  back done n = shift_of c.track p.from p.from (reaching_back (cell_at t.cells p.from) n ∷ []) done ts
+
+  said : By d ≡ r.done
+  said = sym used.done ∙ sym is.done
+
+  by_way : (w : Way) → is.delta.way ≡ w → EndFits table Head v room w → shift_by c.track Head p v w ≡ Some s → ripple_end table c.track ts t Head c.by p.from p.to ≡ within_limits (all_moved s ts) r.done
+  by_way Still k f e = absurd cc
+  by_way (Later n) k f e =
+      let m : Shift = record { own = c.track; x = p.from; y = p.from + n; new = None } in
+      let same : m ≡ s = cc in
+      let way = way_of_used d is.delta (Later n) used k in
+      used_later ts out back d n way.0 way.1
+      ∙ (made m (By d) ts tt bare (places_of m c.track p.to ts refl (omega (arith, spot.long)) (omega (arith, spot.long, f.1)) long)
+      ∙ (ap (λ (z : Shift). within_limits (all_moved z ts) (By d)) same ∙ ap (within_limits (all_moved s ts)) said))
+  by_way (Earlier n) k f e =
+      let m : Shift = record { own = c.track; x = p.from; y = p.from; new = Some (reaching_back (cell_in v 0) n) } in
+      let same : m ≡ s = cc in
+      let way = way_of_used d is.delta (Earlier n) used k in
+      used_earlier ts out back d n way.0 way.1
+      ∙ (ap (λ (g : ItemView). shift_of c.track p.from p.from (g ∷ []) (By d) ts) (ap (λ (x : Cell). reaching_back x n) (spot-head table t i v p.from p.to spot))
+      ∙ (made m (By d) ts (unlinked, tt) bare (places_of m c.track p.to ts refl (omega (arith, spot.long)) (omega (arith, spot.long)) long)
+      ∙ (ap (λ (z : Shift). within_limits (all_moved z ts) (By d)) same ∙ ap (within_limits (all_moved s ts)) said)))
