@@ -82,15 +82,22 @@ fn ripple_at<L: Ledger>(
     ensures least { steps.old ≤ steps.new }
     ensures most { steps.new ≤ steps.old + 24 * sizes_of named.old.items }
 {
-    let Some(found) = named[index].item_by_id(call.item, steps) else {
+    let track = &named[index];
+    let Some(found) = track.item_by_id(call.item, steps) else {
         return Err(EditFault::Refused(Refusal::NoItem));
     };
-    let Some(view) = named[index].item(found.index) else {
+    let Some(view) = track.item(found.index) else {
         unreachable!()
     };
     let rippled = match call.end {
-        End::Head => head_rippled(table, call, found, &view, room_at(named, call.track, found.from)),
-        End::Tail => tail_rippled(table, call, found, &view, room_at(named, call.track, found.to)),
+        End::Head => {
+            let room = room_at(named, call.track, found.from);
+            head_rippled(table, call, found, &view, room)
+        }
+        End::Tail => {
+            let room = room_at(named, call.track, found.to);
+            tail_rippled(table, call, found, &view, room)
+        }
     };
     match rippled.shift {
         Some(shift) => shift_tracks(alloc, named, &shift, rippled.done, steps),
