@@ -32,6 +32,9 @@ use Rattle.edit_splice.proofs.Moving.{put-other, put-own}
 use Rattle.edit_splice.proofs.Put.{PutIn, put-gap}
 use Rattle.edit_trim.specs.Rippling.{has_room, have_room}
 
+abbrev pub no_track : TrackState
+no_track = record { number = 0; cells = []; next_item = 0; next_link = 0 }
+
 none_alone : (table : Table) (t : TrackState) (x y : ℕ) → StandAlone table t x y []
 none_alone table t x y = record { each = tt; first = refl; meet = tt; apart = tt; free = tt; ranges = tt; links = tt }
 
