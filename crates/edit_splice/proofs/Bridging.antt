@@ -28,6 +28,7 @@ use Rattle.edit_splice.specs.Laws.{IsWithinLimits}
 use Rattle.edit_splice.specs.Standing.{EachStaysGood, StaysGood}
 use Rattle.composables.specs.TrackSets.{has_track, tracks_from, tracks_in}
 use Rattle.edit_splice.proofs.Firsts.{few-all, short-all}
+use Rattle.edit_splice.proofs.Meeting.{filled-each}
 use Rattle.edit_splice.proofs.Moving.{new-kept, put-own, put-other}
 use Rattle.edit_splice.proofs.Padding.{padded-put, padded-reaches}
 use Rattle.edit_splice.proofs.Put.{PutIn, put-gap}
@@ -183,7 +184,7 @@ put-shift table s t h = by (eqb t.number s.own) (ltb s.x (length t.cells)) refl 
   by false false e = put-gap table t 0
 
 pub is-shift : (table : Table) (s : Shift) (t : TrackState) → IsGood table t → IsRoomy t → PutIn table t (put_views s t) → IsShiftOf s t
-is-shift table s t g r p = record { kept = g.kept; roomy = r; frames = g.frames; stays = new-kept s t g.kept g.frames p.new.new; numbers = p.numbers }
+is-shift table s t g r p = record { kept = g.kept; roomy = r; frames = g.frames; stays = new-kept s t g.kept g.frames p.new.new; filled = filled-each (put_views s t) p.new.new.each; numbers = p.numbers }
 
 -- a track within its limits stays good where the shift is made on it
 abbrev pub StaysMoved : Table → Shift → TrackState → Type 0

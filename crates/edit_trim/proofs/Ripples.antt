@@ -216,7 +216,7 @@ no_shift own Tail p v Still e = refl
 no_shift own Tail p v (Later n) e = absurd cc
 no_shift own Tail p v (Earlier n) e = absurd cc
 
-still_means : (table : Table) (ts : List TrackState) (t : TrackState) (end : End) (p : Place) (v : ItemView) (room : ℕ) (c : Ripple) (r : Rippled) → (is : IsRippled table end p v room c r)
+pub still_means : (table : Table) (ts : List TrackState) (t : TrackState) (end : End) (p : Place) (v : ItemView) (room : ℕ) (c : Ripple) (r : Rippled) → (is : IsRippled table end p v room c r)
     → IsUsed (nearest (ripple_allows table c.track ts t p.from p.to end) c.by) is.delta → r.shift ≡ None → ripple_end table c.track ts t end c.by p.from p.to ≡ Ok (ts, r.done)
 still_means table ts t end p v room c r is used none =
     let d = nearest (ripple_allows table c.track ts t p.from p.to end) c.by in
@@ -229,7 +229,7 @@ HasPlaces own y ts = All (λ (t : TrackState). t.number ≡ own → y ≤ length
 places_of : (s : Shift) (own y : ℕ) (ts : List TrackState) → s.own ≡ own → s.x ≤ y → s.y ≤ y → HasPlaces own y ts → All (λ (t : TrackState). t.number ≡ s.own → (s.x ≤ length t.cells) × (s.y ≤ length t.cells)) ts
 places_of s own y ts e a b h k d lt n = let l : y ≤ length (get_or ts k d).cells = h k d lt (n ∙ e) in (omega (arith, a, l), omega (arith, b, l))
 
-tail_means : (table : Table) (ts : List TrackState) (t : TrackState) (i : ℕ) (v : ItemView) (p : Place) (room : ℕ) (c : Ripple) (r : Rippled) (s : Shift) → Spot table t i v p.from p.to → (is : IsRippled table Tail p v room c r)
+pub tail_means : (table : Table) (ts : List TrackState) (t : TrackState) (i : ℕ) (v : ItemView) (p : Place) (room : ℕ) (c : Ripple) (r : Rippled) (s : Shift) → Spot table t i v p.from p.to → (is : IsRippled table Tail p v room c r)
     → IsUsed (nearest (ripple_allows table c.track ts t p.from p.to Tail) c.by) is.delta → Bare ts → v.link ≡ None → HasPlaces c.track p.to ts → r.shift ≡ Some s
     → ripple_end table c.track ts t Tail c.by p.from p.to ≡ within_limits (all_moved s ts) r.done
 tail_means table ts t i v p room c r s spot is used bare unlinked long some = by_way is.delta.way refl (sym is.shift ∙ some) where
@@ -263,7 +263,7 @@ tail_means table ts t i v p room c r s spot is used bare unlinked long some = by
       ∙ (made m (By d) ts tt bare (places_of m c.track p.to ts refl (omega arith) (omega arith) long)
       ∙ (ap (λ (z : Shift). within_limits (all_moved z ts) (By d)) same ∙ ap (within_limits (all_moved s ts)) said))
 
-head_means : (table : Table) (ts : List TrackState) (t : TrackState) (i : ℕ) (v : ItemView) (p : Place) (room : ℕ) (c : Ripple) (r : Rippled) (s : Shift) → Spot table t i v p.from p.to → (is : IsRippled table Head p v room c r)
+pub head_means : (table : Table) (ts : List TrackState) (t : TrackState) (i : ℕ) (v : ItemView) (p : Place) (room : ℕ) (c : Ripple) (r : Rippled) (s : Shift) → Spot table t i v p.from p.to → (is : IsRippled table Head p v room c r)
     → IsUsed (nearest (ripple_allows table c.track ts t p.from p.to Head) c.by) is.delta → Bare ts → v.link ≡ None → HasPlaces c.track p.to ts → r.shift ≡ Some s
     → ripple_end table c.track ts t Head c.by p.from p.to ≡ within_limits (all_moved s ts) r.done
 head_means table ts t i v p room c r s spot is used bare unlinked long some = by_way is.delta.way refl is.fits (sym is.shift ∙ some) where

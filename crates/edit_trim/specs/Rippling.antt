@@ -120,3 +120,15 @@ pub record IsRippled (table : Table) (end : End) (p : Place) (v : ItemView) (roo
   pub fits : EndFits table end v room delta.way
   pub shift : r.shift ≡ shift_by c.track end p v delta.way
   pub done : r.done ≡ delta.done
+
+-- the place of an end of an item
+abbrev pub end_place : End → Place → ℕ
+end_place Head p = p.from
+end_place Tail p = p.to
+
+-- what a ripple of the item v at a place does among these tracks, which have room for so many frames
+pub record RipplesAmong (table : Table) (named : List TrackState) (c : Ripple) (p : Place) (v : ItemView) (r : Rippled) : Type 0 where
+  pub room : ℕ
+  pub small : room < 2 ^ 32
+  pub has : AreUpTo (have_room c.track (end_place c.end p) named) room
+  pub is : IsRippled table c.end p v room c r

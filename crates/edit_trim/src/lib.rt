@@ -6,9 +6,11 @@
 #![tactic(auto)]
 
 mod darkness;
+mod rippling;
 mod slipping;
 mod trimming;
 
+pub use rippling::ripple;
 pub use slipping::slip;
 pub use trimming::trim;
 

@@ -11,7 +11,7 @@ ghost use Rattle.composables.specs.Sizes.{sizes_of};
 ghost use Rattle.composables.specs.TrackSets.{tracks_in};
 ghost use Rattle.edit_delta.specs.Nearest.{AreUpTo};
 ghost use Rattle.edit_splice.specs.Standing.{EachStaysGood};
-ghost use Rattle.edit_trim.specs.Rippling.{CanShift, IsRippled, IsWhole, has_room, have_room, ripple_named, shift_by};
+ghost use Rattle.edit_trim.specs.Rippling.{CanShift, IsRippled, IsWhole, RipplesAmong, has_room, have_room, ripple_named, shift_by};
 
 use composables::{
     Done, EditFault, End, ItemView, MAX_FRAMES, Place, Refusal, Ripple, Table, Track, own_index,
@@ -82,23 +82,13 @@ fn ripple_at<L: Ledger>(
     ensures least { steps.old ≤ steps.new }
     ensures most { steps.new ≤ steps.old + 24 * sizes_of named.old.items }
 {
-    let track = &named[index];
-    let Some(found) = track.item_by_id(call.item, steps) else {
+    let Some(found) = named[index].item_by_id(call.item, steps) else {
         return Err(EditFault::Refused(Refusal::NoItem));
     };
-    let Some(view) = track.item(found.index) else {
+    let Some(view) = named[index].item(found.index) else {
         unreachable!()
     };
-    let rippled = match call.end {
-        End::Head => {
-            let room = room_at(named, call.track, found.from);
-            head_rippled(table, call, found, &view, room)
-        }
-        End::Tail => {
-            let room = room_at(named, call.track, found.to);
-            tail_rippled(table, call, found, &view, room)
-        }
-    };
+    let rippled = rippled_among(table, named, call, found, &view);
     match rippled.shift {
         Some(shift) => shift_tracks(alloc, named, &shift, rippled.done, steps),
         None => Ok(rippled.done),
@@ -109,6 +99,31 @@ fn ripple_at<L: Ledger>(
 pub struct Rippled {
     pub shift: Option<Shift>,
     pub done: Done,
+}
+
+// What the ripple of the item at a place does, as far as these tracks have room for it.
+fn rippled_among(
+    table: &Table,
+    named: &[Track],
+    call: &Ripple,
+    found: Place,
+    view: &ItemView,
+) -> Rippled
+    requires whole { IsWhole table.now view.now }
+    requires long { found.to ≡ found.from + view.now.len }
+    requires frames { All (λ t. length t.cells ≤ MAX_FRAMES) named.now }
+    ensures { RipplesAmong table.now named.now call.now found view.now result }
+{
+    match call.end {
+        End::Head => {
+            let room = room_at(named, call.track, found.from);
+            head_rippled(table, call, found, view, room)
+        }
+        End::Tail => {
+            let room = room_at(named, call.track, found.to);
+            tail_rippled(table, call, found, view, room)
+        }
+    }
 }
 
 // A ripple of the head of the item at a place, where the named tracks have room for so many frames more.

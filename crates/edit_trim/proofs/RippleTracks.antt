@@ -9,6 +9,7 @@ use Rattle.composables.specs.declared.media.Table.{Table}
 use Rattle.composables.specs.declared.TheConstants.{MAX_FRAMES}
 use Rattle.composables.specs.Good.{IsGood, SideLiesIn}
 use Rattle.composables.specs.Items.{cell_in, items_of}
+use Rattle.composables.specs.Joined.{AllFilled}
 use Rattle.composables.specs.Roomy.{IsRoomy}
 use Rattle.composables.specs.TrackFacts.{HasSource, IsKept, NumbersBelow}
 use Rattle.composables.specs.TrackState.{TrackState}
@@ -127,6 +128,7 @@ own-shift table s t good roomy number p =
       roomy = roomy;
       frames = good.frames;
       stays = λ le limits. subst IsKept (sym same) (parts-kept table t s.x s.y (new_views s.new) good p (subst IsWithinLimits same limits));
+      filled = subst AllFilled (sym (own_views s t number x)) p.filled;
       numbers = subst (NumbersBelow (t.next_item + 1)) (sym (own_views s t number x)) (below-more t.next_item (t.next_item + 1) (new_views s.new) (omega arith) p.numbers);
     }
 
