@@ -1,5 +1,5 @@
 -- The shift that a ripple makes, on all named tracks.
-use Rattle.std.proofs.Common.{◌≡◌, ℕ, ◌+◌, ◌-◌, ◌<◌, ◌≤◌, ◌^◌, List, [], ◌∷◌, All, length, get_or, Option, Some, None, Result, Ok, Err, refl, sym, ap, ◌∙◌, arith, subst, option_map, slice_get, w32, SFits}
+use Rattle.std.proofs.Common.{◌≡◌, ℕ, zero, suc, ◌+◌, ◌-◌, ◌<◌, ◌≤◌, ◌^◌, List, [], ◌∷◌, All, length, get_or, Option, Some, None, Result, Ok, Err, refl, sym, ap, ◌∙◌, arith, subst, option_map, slice_get, w32, SFits}
 use Rattle.composables.specs.declared.calls.End.{End}
 use Rattle.composables.specs.declared.calls.End.TheVariants.{Head, Tail}
 use Rattle.composables.specs.declared.calls.Ripple.{Ripple}
@@ -75,13 +75,13 @@ pub record IsReady (table : Table) (ts : List TrackState) (i : ℕ) (t : TrackSt
   pub fits : SFits w32 c.by
   pub among : RipplesAmong table ts c p v r
 
-own_good : (table : Table) (ts : List TrackState) (i : ℕ) (t : TrackState) (c : Ripple) → IsNamed c.track i ts t → All (IsGood table) ts → IsGood table t
-own_good table ts i t c o g = named-holds (IsGood table) c.track i ts t o g
+pub own-good : (table : Table) (ts : List TrackState) (i : ℕ) (t : TrackState) (c : Ripple) → IsNamed c.track i ts t → All (IsGood table) ts → IsGood table t
+own-good table ts i t c o g = named-holds (IsGood table) c.track i ts t o g
 
 pub ready-parts : (table : Table) (ts : List TrackState) (i : ℕ) (t : TrackState) (v : ItemView) (c : Ripple) (p : Place) (r : Rippled) (s : Shift) → IsReady table ts i t v c p r → r.shift ≡ Some s
     → AreParts table t s.x s.y (new_views s.new)
 ready-parts table ts i t v c p r s k some =
-    parts_of table ts t i p.index v p k.among.room c r s c.end (own_good table ts i t c k.own k.good) k.spot k.own.read k.own.number k.among.small k.among.has k.among.is some
+    parts_of table ts t i p.index v p k.among.room c r s c.end (own-good table ts i t c k.own k.good) k.spot k.own.read k.own.number k.among.small k.among.has k.among.is some
 
 own_of : (table : Table) (end : End) (p : Place) (v : ItemView) (room : ℕ) (c : Ripple) (r : Rippled) (s : Shift) → IsRippled table end p v room c r → r.shift ≡ Some s → s.own ≡ c.track
 own_of table end p v room c r s is some = by end is.delta.way (sym is.shift ∙ some) where
@@ -107,13 +107,13 @@ pub ready-fits : (table : Table) (ts : List TrackState) (i : ℕ) (t : TrackStat
 ready-fits table ts i t v c p r s k roomy some =
     let own = ready_own table ts i t v c p r s k some in
     all-shift table s ts t k.good roomy (subst (λ (n : ℕ). All (λ (u : TrackState). u.number ≡ n → u ≡ t) ts) (sym own) (ready_only table ts i t v c p r k))
-    (own-shift table s t (own_good table ts i t c k.own k.good) (named-holds (λ (t : TrackState). IsRoomy t) c.track i ts t k.own roomy) (k.own.number ∙ sym own) (ready-parts table ts i t v c p r s k some))
+    (own-shift table s t (own-good table ts i t c k.own k.good) (named-holds (λ (t : TrackState). IsRoomy t) c.track i ts t k.own roomy) (k.own.number ∙ sym own) (ready-parts table ts i t v c p r s k some))
 
 pub ready-stays : (table : Table) (ts : List TrackState) (i : ℕ) (t : TrackState) (v : ItemView) (c : Ripple) (p : Place) (r : Rippled) (s : Shift) → IsReady table ts i t v c p r → r.shift ≡ Some s → All (StaysMoved table s) ts
 ready-stays table ts i t v c p r s k some =
     let own = ready_own table ts i t v c p r s k some in
     all-stay table s ts t (ready-order table ts i t v c p r s k some) k.good (subst (λ (n : ℕ). All (λ (u : TrackState). u.number ≡ n → u ≡ t) ts) (sym own) (ready_only table ts i t v c p r k))
-    (own-stays table s t (own_good table ts i t c k.own k.good) (k.own.number ∙ sym own) (ready-parts table ts i t v c p r s k some))
+    (own-stays table s t (own-good table ts i t c k.own k.good) (k.own.number ∙ sym own) (ready-parts table ts i t v c p r s k some))
 
 -- what the ripple means is that shift
 means_end : (table : Table) (ts : List TrackState) (i : ℕ) (t : TrackState) (v : ItemView) (c : Ripple) (p : Place) (r : Rippled) → IsReady table ts i t v c p r
@@ -167,7 +167,7 @@ ready-at table ts i t v c p r found good bare own stands read range is fits amon
   good = good;
   bare = bare;
   own = own;
-  spot = spot-at table t p v (own_good table ts i t c own good) stands read;
+  spot = spot-at table t p v (own-good table ts i t c own good) stands read;
   range = range ∙ ap (option_map (λ (p : Place). (p.from, p.to))) is;
   fits = fits;
   among = among;
@@ -176,3 +176,11 @@ ready-at table ts i t v c p r found good bare own stands read range is fits amon
 -- an item at a place is whole
 pub whole-at : (table : Table) (t : TrackState) (p : Place) (v : ItemView) → IsGood table t → StandsAt (items_of t.cells) p → slice_get (items_of t.cells) p.index ≡ Some v → IsWhole table v
 whole-at table t p v good stands read = let s = spot-at table t p v good stands read in record { filled = s.filled; lies = s.lies; source = s.source }
+
+-- a place that was found has an item
+pub item-there : (t : TrackState) (p : Place) → StandsAt (items_of t.cells) p → slice_get (items_of t.cells) p.index ≡ None → ⊥
+item-there t p stands none = by (items_of t.cells) p.index stands.index none where
+  by : (vs : List ItemView) (k : ℕ) → k < length vs → slice_get vs k ≡ None → ⊥
+  by [] k h e = omega (arith, h)
+  by (w ∷ ws) zero h e = cc
+  by (w ∷ ws) (suc k) h e = by ws k (omega (arith, h)) e

@@ -116,15 +116,15 @@ both_le n a b x = by (leb n a) (leb n b) refl refl where
   by false true e f = ap (λ (z : Bool). z && x) (sym (lt-leb n (min a b) (omega (arith, leb-false n a e))))
   by false false e f = ap (λ (z : Bool). z && x) (sym (lt-leb n (min a b) (omega (arith, leb-false n a e))))
 
-pub room-more : (own place room more m n : ℕ) (ts : List TrackState) (i : ℕ) (d : TrackState) → i < length ts → m ≡ min room more → has_room own place n (get_or ts i d) ≡ leb n more
+pub room-more : (own place room more m n : ℕ) (ts : List TrackState) (i : ℕ) (t : TrackState) → i < length ts → t ≡ get_or ts i t → m ≡ min room more → has_room own place n t ≡ leb n more
     → have_room own place ts n ≡ leb n room && have_room own place (drop i ts) n → have_room own place ts n ≡ leb n m && have_room own place (drop (i + 1) ts) n
-room-more own place room more m n ts i d lt is here so_far =
+room-more own place room more m n ts i t lt at is here so_far =
     so_far
-    ∙ (ap (λ (us : List TrackState). leb n room && have_room own place us n) (drop_more ts i d lt)
+    ∙ (ap (λ (us : List TrackState). leb n room && have_room own place us n) (drop_more ts i t lt ∙ ap (λ (u : TrackState). u ∷ drop (i + 1) ts) (sym at))
     ∙ (ap (λ (b : Bool). leb n room && (b && have_room own place (drop (i + 1) ts) n)) here
     ∙ (both_le n room more (have_room own place (drop (i + 1) ts) n) ∙ ap (λ (k : ℕ). leb n k && have_room own place (drop (i + 1) ts) n) (sym is))))
 
-pub room-none : (own place room n : ℕ) (ts : List TrackState) (i : ℕ) → (i < length ts → ⊥) → have_room own place ts n ≡ leb n room && have_room own place (drop i ts) n → have_room own place ts n ≡ leb n room
+pub room-none : (own place room n : ℕ) (ts : List TrackState) (i : ℕ) → length ts ≤ i → have_room own place ts n ≡ leb n room && have_room own place (drop i ts) n → have_room own place ts n ≡ leb n room
 room-none own place room n ts i past so_far =
     so_far ∙ (ap (λ (us : List TrackState). leb n room && have_room own place us n) (drop_all i ts (omega (arith, past))) ∙ and_true (leb n room))
 

@@ -82,10 +82,11 @@ fn ripple_at<L: Ledger>(
     ensures least { steps.old ≤ steps.new }
     ensures most { steps.new ≤ steps.old + 24 * sizes_of named.old.items }
 {
-    let Some(found) = named[index].item_by_id(call.item, steps) else {
+    let track = &named[index];
+    let Some(found) = track.item_by_id(call.item, steps) else {
         return Err(EditFault::Refused(Refusal::NoItem));
     };
-    let Some(view) = named[index].item(found.index) else {
+    let Some(view) = track.item(found.index) else {
         unreachable!()
     };
     let rippled = rippled_among(table, named, call, found, &view);
@@ -96,6 +97,7 @@ fn ripple_at<L: Ledger>(
 }
 
 /// What a ripple does: this shift, or nothing where its delta is 0; and its answer.
+#[derive(Clone, Copy)]
 pub struct Rippled {
     pub shift: Option<Shift>,
     pub done: Done,

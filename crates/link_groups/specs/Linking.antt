@@ -1,5 +1,5 @@
 -- Items linked, and the link of an item taken away. Links are this project's own.
-use Rattle.std.specs.Prelude.{ℕ, ◌+◌, ℤ, pos, Bool, true, false, ◌&&◌, List, [], ◌∷◌, Option, Some, None, Result, Ok, Err, is_some, if◌then◌else◌}
+use Rattle.std.specs.Prelude.{◌≡◌, ◌≤◌, ℕ, ◌+◌, ℤ, pos, Bool, true, false, ◌&&◌, List, [], ◌∷◌, Option, Some, None, Result, Ok, Err, is_some, if◌then◌else◌}
 use Rattle.std.specs.Ordering.{int_eq}
 use Rattle.frame_meaning.specs.declared.cells.Link.{Link}
 use Rattle.composables.specs.declared.calls.Link3.{Link3}
@@ -57,7 +57,7 @@ other_offset first (t ∷ ts) (i ∷ is) =
 abbrev pub offsets_differ : List TrackState → List ℕ → Option Refusal
 offsets_differ [] is = None
 offsets_differ (t ∷ ts) [] = None
-offsets_differ (t ∷ ts) (i ∷ is) = other_offset (item_offset t i) ts is
+offsets_differ (t ∷ ts) (i ∷ is) = other_offset (item_offset t i) (t ∷ ts) (i ∷ is)
 
 -- an item has a link
 abbrev pub has_link : Option (ℕ × ItemView) → Bool
@@ -71,26 +71,45 @@ already_linked (t ∷ ts) [] = None
 already_linked (t ∷ ts) (i ∷ is) =
     if has_link (item_of t i) then Some (AlreadyLinked t.number i) else already_linked ts is
 
+-- the first of two refusals that may hold
+abbrev pub or_else : Option Refusal → Option Refusal → Option Refusal
+or_else None then_this = then_this
+or_else (Some why) then_this = Some why
+
+-- why these items of the named tracks can't be linked, if they can't
+abbrev pub link_refusal : List TrackState → List ℕ → Option Refusal
+link_refusal [] is = Some (NoTrack 0)
+link_refusal (t ∷ ts) is =
+    if are_there (t ∷ ts) is then or_else (offsets_differ (t ∷ ts) is) (already_linked (t ∷ ts) is) else Some NoItem
+
 -- the tracks with this link at each of these items
 abbrev pub all_linked : Link → List TrackState → List ℕ → List TrackState
 all_linked link [] is = []
 all_linked link (t ∷ ts) [] = t ∷ ts
 all_linked link (t ∷ ts) (i ∷ is) = linked_item t i (Some link) ∷ all_linked link ts is
 
--- the home has given its next link number away
+-- the home, which is the lowest track, has given its next link number away
 abbrev pub home_risen : List TrackState → List TrackState
 home_risen [] = []
 home_risen (t ∷ ts) = record t { next_link = t.next_link + 1 } ∷ ts
 
--- the link that the named tracks, of which the first is the lowest, get by a call
-abbrev pub new_link : TrackState → Link3 → Link
-new_link home c = record { home = home.number; number = home.next_link; tracks = c.tracks }
+-- the items get a new link, whose home is the lowest named track and whose tracks are the named ones
+abbrev pub new_link : TrackState → ℕ → Link
+new_link home tracks = record { home = home.number; number = home.next_link; tracks = tracks }
+
+abbrev pub linked : List TrackState → Link3 → Applied
+linked [] c = Err (NoTrack 0)
+linked (t ∷ ts) c =
+    Ok (home_risen (all_linked (new_link t c.tracks) (t ∷ ts) c.items), Linked t.number t.next_link)
 
 abbrev pub link_named : List TrackState → Link3 → Applied
-link_named [] c = Err (NoTrack 0)
-link_named (t ∷ ts) c =
-    if are_there (t ∷ ts) c.items
-    then unless (offsets_differ (t ∷ ts) c.items)
-      (unless (already_linked (t ∷ ts) c.items)
-        (Ok (home_risen (all_linked (new_link t c) (t ∷ ts) c.items), Linked t.number t.next_link)))
-    else Err NoItem
+link_named named c = unless (link_refusal named c.items) (linked named c)
+
+-- the tracks and their next item numbers are as they were; each next link number has risen by one at most
+abbrev pub NextLinkRises : List TrackState → List TrackState → Type 0
+NextLinkRises [] [] = Unit {0}
+NextLinkRises [] (u ∷ us) = ⊥
+NextLinkRises (t ∷ ts) [] = ⊥
+NextLinkRises (t ∷ ts) (u ∷ us) =
+    (u.number ≡ t.number) × (u.next_item ≡ t.next_item)
+    × (t.next_link ≤ u.next_link) × (u.next_link ≤ t.next_link + 1) × NextLinkRises ts us

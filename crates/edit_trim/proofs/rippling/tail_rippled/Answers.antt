@@ -1,4 +1,4 @@
-use Rattle.std.proofs.Common.{◌≡◌, refl}
+use Rattle.std.proofs.Common.{◌≡◌, ◌<◌, ◌^◌, refl, rules, w32, SFits}
 use Rattle.edit_trim.proofs.Ripples.{tail-can, tail-rippled}
 use Rattle.edit_trim.proofs.rippling.tail_rippled.Goals as goal
 
@@ -17,4 +17,5 @@ tail_shift-requires c =
 
 pub returns : goal.returns
 returns c =
-    tail-rippled c.args.table.now c.args.found c.args.view.now c.args.room c.frames_after.result c.min-later.result c.args.call.now c.used_within-used.result _ c.requires.whole c.ranges.call.by c.frames_after.ensures.reach c.frames_after.ensures.numbered c.frames_after.type_inv c.min-later.ensures c.used_within-used.ensures c.tail_shift.ensures refl
+    let fits : SFits w32 c.args.call.now.by = search rules in
+    tail-rippled c.args.table.now c.args.found c.args.view.now c.args.room c.frames_after.result c.min-later.result c.args.call.now c.used_within-used.result _ c.requires.whole fits c.frames_after.ensures.reach c.frames_after.ensures.numbered c.frames_after.type_inv c.min-later.ensures c.used_within-used.ensures c.tail_shift.ensures refl
