@@ -1,5 +1,5 @@
 -- The shift that a ripple makes, on all named tracks.
-use Rattle.std.proofs.Common.{◌≡◌, ℕ, zero, suc, ◌+◌, ◌-◌, ◌<◌, ◌≤◌, ◌^◌, List, [], ◌∷◌, All, length, get_or, Option, Some, None, Result, Ok, Err, refl, sym, ap, ◌∙◌, arith, subst, option_map, slice_get, w32, SFits}
+use Rattle.std.proofs.Common.{◌≡◌, ℕ, zero, suc, ◌+◌, ◌-◌, ◌<◌, ◌≤◌, ◌^◌, List, [], ◌∷◌, All, length, get_or, Option, Some, None, Result, Ok, Err, refl, sym, ap, ◌∙◌, arith, subst, option_map, slice_get}
 use Rattle.composables.specs.declared.calls.End.{End}
 use Rattle.composables.specs.declared.calls.End.TheVariants.{Head, Tail}
 use Rattle.composables.specs.declared.calls.Ripple.{Ripple}
@@ -72,7 +72,6 @@ pub record IsReady (table : Table) (ts : List TrackState) (i : ℕ) (t : TrackSt
   pub own : IsNamed c.track i ts t
   pub spot : Spot table t p.index v p.from p.to
   pub range : range_of t.cells c.item ≡ Some (p.from, p.to)
-  pub fits : SFits w32 c.by
   pub among : RipplesAmong table ts c p v r
 
 pub own-good : (table : Table) (ts : List TrackState) (i : ℕ) (t : TrackState) (c : Ripple) → IsNamed c.track i ts t → All (IsGood table) ts → IsGood table t
@@ -129,30 +128,30 @@ ready_places table ts i t v c p r k n d lt e =
 ready_bare : (table : Table) (ts : List TrackState) (i : ℕ) (t : TrackState) (v : ItemView) (c : Ripple) (p : Place) (r : Rippled) → IsReady table ts i t v c p r → v.link ≡ None
 ready_bare table ts i t v c p r k = unlinked-there (items_of t.cells) p.index v k.spot.read (named-holds (λ (u : TrackState). AllUnlinked (items_of u.cells)) c.track i ts t k.own k.bare)
 
-end_some : (table : Table) (ts : List TrackState) (t : TrackState) (v : ItemView) (p : Place) (room : ℕ) (c : Ripple) (r : Rippled) (s : Shift) (end : End) → Spot table t p.index v p.from p.to → SFits w32 c.by
+end_some : (table : Table) (ts : List TrackState) (t : TrackState) (v : ItemView) (p : Place) (room : ℕ) (c : Ripple) (r : Rippled) (s : Shift) (end : End) → Spot table t p.index v p.from p.to
     → AreUpTo (have_room c.track (end_place end p) ts) room → IsRippled table end p v room c r → Bare ts → v.link ≡ None → HasPlaces c.track p.to ts → r.shift ≡ Some s
     → ripple_end table c.track ts t end c.by p.from p.to ≡ within_limits (all_moved s ts) r.done
-end_some table ts t v p room c r s Head spot fits has is bare unlinked places some =
-    head_means table ts t p.index v p room c r s spot is (head-used table ts t p.index v p room c r spot fits has is) bare unlinked places some
-end_some table ts t v p room c r s Tail spot fits has is bare unlinked places some =
-    tail_means table ts t p.index v p room c r s spot is (tail-used table ts t p.index v p room c r spot fits has is) bare unlinked places some
+end_some table ts t v p room c r s Head spot has is bare unlinked places some =
+    head_means table ts t p.index v p room c r s spot is (head-used table ts t p.index v p room c r spot has is) bare unlinked places some
+end_some table ts t v p room c r s Tail spot has is bare unlinked places some =
+    tail_means table ts t p.index v p room c r s spot is (tail-used table ts t p.index v p room c r spot has is) bare unlinked places some
 
-end_none : (table : Table) (ts : List TrackState) (t : TrackState) (v : ItemView) (p : Place) (room : ℕ) (c : Ripple) (r : Rippled) (end : End) → Spot table t p.index v p.from p.to → SFits w32 c.by
+end_none : (table : Table) (ts : List TrackState) (t : TrackState) (v : ItemView) (p : Place) (room : ℕ) (c : Ripple) (r : Rippled) (end : End) → Spot table t p.index v p.from p.to
     → AreUpTo (have_room c.track (end_place end p) ts) room → IsRippled table end p v room c r → r.shift ≡ None → ripple_end table c.track ts t end c.by p.from p.to ≡ Ok (ts, r.done)
-end_none table ts t v p room c r Head spot fits has is none =
-    still_means table ts t Head p v room c r is (head-used table ts t p.index v p room c r spot fits has is) none
-end_none table ts t v p room c r Tail spot fits has is none =
-    still_means table ts t Tail p v room c r is (tail-used table ts t p.index v p room c r spot fits has is) none
+end_none table ts t v p room c r Head spot has is none =
+    still_means table ts t Head p v room c r is (head-used table ts t p.index v p room c r spot has is) none
+end_none table ts t v p room c r Tail spot has is none =
+    still_means table ts t Tail p v room c r is (tail-used table ts t p.index v p room c r spot has is) none
 
 pub ready-some : (table : Table) (ts : List TrackState) (i : ℕ) (t : TrackState) (v : ItemView) (c : Ripple) (p : Place) (r : Rippled) (s : Shift) → IsReady table ts i t v c p r → r.shift ≡ Some s
     → ripple_named table ts c ≡ within_limits (all_moved s ts) r.done
 ready-some table ts i t v c p r s k some =
     means_end table ts i t v c p r k
-    ∙ end_some table ts t v p k.among.room c r s c.end k.spot k.fits k.among.has k.among.is (bare-good table ts k.good k.bare) (ready_bare table ts i t v c p r k) (ready_places table ts i t v c p r k) some
+    ∙ end_some table ts t v p k.among.room c r s c.end k.spot k.among.has k.among.is (bare-good table ts k.good k.bare) (ready_bare table ts i t v c p r k) (ready_places table ts i t v c p r k) some
 
 pub ready-none : (table : Table) (ts : List TrackState) (i : ℕ) (t : TrackState) (v : ItemView) (c : Ripple) (p : Place) (r : Rippled) → IsReady table ts i t v c p r → r.shift ≡ None → ripple_named table ts c ≡ Ok (ts, r.done)
 ready-none table ts i t v c p r k none =
-    means_end table ts i t v c p r k ∙ end_none table ts t v p k.among.room c r c.end k.spot k.fits k.among.has k.among.is none
+    means_end table ts i t v c p r k ∙ end_none table ts t v p k.among.room c r c.end k.spot k.among.has k.among.is none
 
 -- an item that is not there
 pub ripple-missing : (table : Table) (ts : List TrackState) (i : ℕ) (t : TrackState) (c : Ripple) → IsNamed c.track i ts t → range_of t.cells c.item ≡ None → ripple_named table ts c ≡ Err NoItem
@@ -161,15 +160,14 @@ ripple-missing table ts i t c own e =
 
 -- the facts at a place that was found
 pub ready-at : (table : Table) (ts : List TrackState) (i : ℕ) (t : TrackState) (v : ItemView) (c : Ripple) (p : Place) (r : Rippled) (found : Option Place) → All (IsGood table) ts → AreUnlinked ts → IsNamed c.track i ts t
-    → StandsAt (items_of t.cells) p → slice_get (items_of t.cells) p.index ≡ Some v → range_of t.cells c.item ≡ option_map (λ (p : Place). (p.from, p.to)) found → found ≡ Some p → SFits w32 c.by
+    → StandsAt (items_of t.cells) p → slice_get (items_of t.cells) p.index ≡ Some v → range_of t.cells c.item ≡ option_map (λ (p : Place). (p.from, p.to)) found → found ≡ Some p
     → RipplesAmong table ts c p v r → IsReady table ts i t v c p r
-ready-at table ts i t v c p r found good bare own stands read range is fits among = record {
+ready-at table ts i t v c p r found good bare own stands read range is among = record {
   good = good;
   bare = bare;
   own = own;
   spot = spot-at table t p v (own-good table ts i t c own good) stands read;
   range = range ∙ ap (option_map (λ (p : Place). (p.from, p.to))) is;
-  fits = fits;
   among = among;
 }
 

@@ -62,25 +62,25 @@ up_keeps x y len m e h n small = keeps_same x y len n e ∙ h n small
 small_by : (by : ℤ) → SFits w32 by → nat_abs by < 2 ^ 32
 small_by by fits = let h = nat_abs-le by fits.sfits in omega (arith, h)
 
-pub head-used : (table : Table) (ts : List TrackState) (t : TrackState) (i : ℕ) (v : ItemView) (p : Place) (room : ℕ) (c : Ripple) (r : Rippled) → Spot table t i v p.from p.to → SFits w32 c.by
+pub head-used : (table : Table) (ts : List TrackState) (t : TrackState) (i : ℕ) (v : ItemView) (p : Place) (room : ℕ) (c : Ripple) (r : Rippled) → Spot table t i v p.from p.to
     → AreUpTo (have_room c.track p.from ts) room → (is : IsRippled table Head p v room c r) → IsUsed (nearest (ripple_allows table c.track ts t p.from p.to Head) c.by) is.delta
-head-used table ts t i v p room c r s fits room_is is =
+head-used table ts t i v p room c r s room_is is =
     let side : v.first ≡ (cell_at t.cells p.from).side = sym (ap (λ (d : Cell). d.side) (spot-head table t i v p.from p.to s) ∙ side-head v) in
     let earlier : AreUpTo (λ n. have_room c.track p.from ts n && has_before table (cell_at t.cells p.from).side n) is.earlier =
     up_room c.track p.from ts room is.earlier (has_before table (cell_at t.cells p.from).side) room_is (subst (λ (d : Side What). AreUpTo (λ n. leb n room && has_before table d n) is.earlier) side is.ends_earlier) in
     let later : AreUpTo (keeps_a_cell p.from p.to) is.later = up_keeps p.from p.to v.len is.later s.long is.ends_later in
     subst (λ (d : ℤ). IsUsed d is.delta)
-    (sym (nearest-ends (keeps_a_cell p.from p.to) (λ n. have_room c.track p.from ts n && has_before table (cell_at t.cells p.from).side n) is.earlier is.later c.by (small_by c.by fits) later earlier)) is.used
+    (sym (nearest-ends (keeps_a_cell p.from p.to) (λ n. have_room c.track p.from ts n && has_before table (cell_at t.cells p.from).side n) is.earlier is.later c.by is.asked later earlier)) is.used
 
-pub tail-used : (table : Table) (ts : List TrackState) (t : TrackState) (i : ℕ) (v : ItemView) (p : Place) (room : ℕ) (c : Ripple) (r : Rippled) → Spot table t i v p.from p.to → SFits w32 c.by
+pub tail-used : (table : Table) (ts : List TrackState) (t : TrackState) (i : ℕ) (v : ItemView) (p : Place) (room : ℕ) (c : Ripple) (r : Rippled) → Spot table t i v p.from p.to
     → AreUpTo (have_room c.track p.to ts) room → (is : IsRippled table Tail p v room c r) → IsUsed (nearest (ripple_allows table c.track ts t p.from p.to Tail) c.by) is.delta
-tail-used table ts t i v p room c r s fits room_is is =
+tail-used table ts t i v p room c r s room_is is =
     let side : later_side v.first (v.len - 1) ≡ (cell_at t.cells (p.to - 1)).side = sym (ap (λ (d : Cell). d.side) (spot-last table t i v p.from p.to s)) in
     let later : AreUpTo (λ n. have_room c.track p.to ts n && has_after table (cell_at t.cells (p.to - 1)).side n) is.later =
     up_room c.track p.to ts room is.later (has_after table (cell_at t.cells (p.to - 1)).side) room_is (subst (λ (d : Side What). AreUpTo (λ n. leb n room && has_after table d n) is.later) side is.ends_later) in
     let earlier : AreUpTo (keeps_a_cell p.from p.to) is.earlier = up_keeps p.from p.to v.len is.earlier s.long is.ends_earlier in
     subst (λ (d : ℤ). IsUsed d is.delta)
-    (sym (nearest-ends (λ n. have_room c.track p.to ts n && has_after table (cell_at t.cells (p.to - 1)).side n) (keeps_a_cell p.from p.to) is.earlier is.later c.by (small_by c.by fits) later earlier)) is.used
+    (sym (nearest-ends (λ n. have_room c.track p.to ts n && has_after table (cell_at t.cells (p.to - 1)).side n) (keeps_a_cell p.from p.to) is.earlier is.later c.by is.asked later earlier)) is.used
 
 -- by the way of the delta used
 used_none : (ts : List TrackState) (moved : Done → ℤ → Applied) (d : ℤ) → d ≡ pos 0 → used_on_all ts moved d ≡ Ok (ts, By d)
@@ -178,6 +178,7 @@ tail-can table p v room reach later by u whole long a source small e is = by_way
 pub head-rippled : (table : Table) (p : Place) (v : ItemView) (room reach earlier : ℕ) (c : Ripple) (u : Used) (r : Rippled) → IsWhole table v → SFits w32 c.by → AreUpTo (has_before table v.first) reach → reach < 2 ^ 32
     → earlier ≡ min room reach → IsUsed (nearest (lies_within earlier (v.len - 1)) (to_z w32 (of_z w32 c.by))) u → r.shift ≡ shift_by c.track Head p v u.way → r.done ≡ u.done → IsRippled table Head p v room c r
 head-rippled table p v room reach earlier c u r whole fits a small e is shift done = record {
+  asked = small_by c.by fits;
   delta = u;
   later = v.len - 1;
   earlier = earlier;
@@ -193,6 +194,7 @@ pub tail-rippled : (table : Table) (p : Place) (v : ItemView) (room reach later 
     → HasSource v.first v.len 0 reach → reach < 2 ^ 32 → later ≡ min room reach → IsUsed (nearest (lies_within (v.len - 1) later) (to_z w32 (of_z w32 c.by))) u → r.shift ≡ shift_by c.track Tail p v u.way → r.done ≡ u.done
     → IsRippled table Tail p v room c r
 tail-rippled table p v room reach later c u r whole fits a source small e is shift done = record {
+  asked = small_by c.by fits;
   delta = u;
   later = later;
   earlier = v.len - 1;

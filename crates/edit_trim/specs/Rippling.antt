@@ -1,6 +1,6 @@
 -- What a ripple means, as OpenTimelineIO's editAlgorithm names it; its limits and named tracks are this project's own. An
 -- end of the item moves, and all that is behind it comes as much later or earlier on all named tracks.
-use Rattle.std.specs.Prelude.{◌≡◌, ◌<◌, ◌≤◌, Some, None, ℕ, zero, suc, ◌+◌, ◌-◌, ◌^◌, ℤ, pos, negsuc, Bool, true, ◌&&◌, ◌||◌, List, [], ◌∷◌, Option, Result, Ok, nat_eq, nat_le, nat_lt, length, if◌then◌else◌}
+use Rattle.std.specs.Prelude.{◌≡◌, ◌<◌, ◌≤◌, Some, None, ℕ, zero, suc, ◌+◌, ◌-◌, ◌^◌, ℤ, pos, negsuc, nat_abs, Bool, true, ◌&&◌, ◌||◌, List, [], ◌∷◌, Option, Result, Ok, nat_eq, nat_le, nat_lt, length, if◌then◌else◌}
 use Rattle.frame_meaning.specs.Cells.{later_side}
 use Rattle.frame_meaning.specs.Numbered.{SideIsNumbered}
 use Rattle.frame_meaning.specs.Render.{cell_at}
@@ -111,6 +111,7 @@ EndFits table Tail v room (Earlier n) = (0 < n) × (n < v.len)
 
 -- what a ripple of an end of the item v at a place does, where the named tracks have room for so many frames
 pub record IsRippled (table : Table) (end : End) (p : Place) (v : ItemView) (room : ℕ) (c : Ripple) (r : Rippled) : Type 0 where
+  pub asked : nat_abs c.by < 2 ^ 32
   pub delta : Used
   pub later : ℕ
   pub earlier : ℕ

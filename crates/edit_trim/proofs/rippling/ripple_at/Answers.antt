@@ -1,4 +1,4 @@
-use Rattle.std.proofs.Common.{◌≡◌, List, Result, Some, None, ap, sym, ◌∙◌, subst, slice_get, w32, SFits, rules}
+use Rattle.std.proofs.Common.{◌≡◌, List, Result, sym, ◌∙◌, subst}
 use Rattle.composables.specs.declared.refusals.Done.{Done}
 use Rattle.composables.specs.declared.refusals.Refusal.{Refusal}
 use Rattle.composables.specs.Answers.{Answers}
@@ -32,48 +32,43 @@ rippled_among-rippled-requires-clause-long g c =
 
 pub shift_tracks-requires-clause-order : goal.shift_tracks-requires-clause-order
 shift_tracks-requires-clause-order g c =
-    let fits : SFits w32 c.args.call.now.by = search rules in
     let k = ready-at c.args.table.now c.args.named.now.items c.args.index c.index-track.result.now c.in-Some-item.view c.args.call.now c.in-Some.found c.rippled_among-rippled.result c.item_by_id.result c.requires.good c.requires.unlinked
     (is-named c.args.call.now.track c.args.call.now.tracks c.args.index c.args.named.now.items c.index-track.result.now c.requires.named c.requires.found c.requires.within c.index-track.ensures)
-    c.in-Some.ensures.found (sym c.item.ensures ∙ c.in-Some-item.is) c.item_by_id.ensures.range c.in-Some.is fits
+    c.in-Some.ensures.found (sym c.item.ensures ∙ c.in-Some-item.is) c.item_by_id.ensures.range c.in-Some.is
     (subst (λ (ts : List TrackState). RipplesAmong c.args.table.now ts c.args.call.now c.in-Some.found c.in-Some-item.view c.rippled_among-rippled.result) c.deref.ensures.value c.rippled_among-rippled.ensures) in
     ready-order c.args.table.now c.args.named.now.items c.args.index c.index-track.result.now c.in-Some-item.view c.args.call.now c.in-Some.found c.rippled_among-rippled.result c.in-Some-shift.shift k c.in-Some-shift.is
 
 pub shift_tracks-requires-clause-fits : goal.shift_tracks-requires-clause-fits
 shift_tracks-requires-clause-fits g c =
-    let fits : SFits w32 c.args.call.now.by = search rules in
     let k = ready-at c.args.table.now c.args.named.now.items c.args.index c.index-track.result.now c.in-Some-item.view c.args.call.now c.in-Some.found c.rippled_among-rippled.result c.item_by_id.result c.requires.good c.requires.unlinked
     (is-named c.args.call.now.track c.args.call.now.tracks c.args.index c.args.named.now.items c.index-track.result.now c.requires.named c.requires.found c.requires.within c.index-track.ensures)
-    c.in-Some.ensures.found (sym c.item.ensures ∙ c.in-Some-item.is) c.item_by_id.ensures.range c.in-Some.is fits
+    c.in-Some.ensures.found (sym c.item.ensures ∙ c.in-Some-item.is) c.item_by_id.ensures.range c.in-Some.is
     (subst (λ (ts : List TrackState). RipplesAmong c.args.table.now ts c.args.call.now c.in-Some.found c.in-Some-item.view c.rippled_among-rippled.result) c.deref.ensures.value c.rippled_among-rippled.ensures) in
     ready-fits c.args.table.now c.args.named.now.items c.args.index c.index-track.result.now c.in-Some-item.view c.args.call.now c.in-Some.found c.rippled_among-rippled.result c.in-Some-shift.shift k c.requires.roomy c.in-Some-shift.is
 
 pub returns-in-Some-shift-clause-answers : goal.returns-in-Some-shift-clause-answers
 returns-in-Some-shift-clause-answers g c =
-    let fits : SFits w32 c.args.call.now.by = search rules in
     let k = ready-at c.args.table.now c.args.named.now.items c.args.index c.index-track.result.now c.in-Some-item.view c.args.call.now c.in-Some.found c.rippled_among-rippled.result c.item_by_id.result c.requires.good c.requires.unlinked
     (is-named c.args.call.now.track c.args.call.now.tracks c.args.index c.args.named.now.items c.index-track.result.now c.requires.named c.requires.found c.requires.within c.index-track.ensures)
-    c.in-Some.ensures.found (sym c.item.ensures ∙ c.in-Some-item.is) c.item_by_id.ensures.range c.in-Some.is fits
+    c.in-Some.ensures.found (sym c.item.ensures ∙ c.in-Some-item.is) c.item_by_id.ensures.range c.in-Some.is
     (subst (λ (ts : List TrackState). RipplesAmong c.args.table.now ts c.args.call.now c.in-Some.found c.in-Some-item.view c.rippled_among-rippled.result) c.deref.ensures.value c.rippled_among-rippled.ensures) in
     subst (λ (m : Result (List TrackState × Done) Refusal). Answers m c.args.named.now.items c.shift_tracks.new.named.items c.shift_tracks.result)
     (sym (ready-some c.args.table.now c.args.named.now.items c.args.index c.index-track.result.now c.in-Some-item.view c.args.call.now c.in-Some.found c.rippled_among-rippled.result c.in-Some-shift.shift k c.in-Some-shift.is)) c.shift_tracks.ensures.answers
 
 pub returns-in-Some-shift-clause-good : goal.returns-in-Some-shift-clause-good
 returns-in-Some-shift-clause-good g c =
-    let fits : SFits w32 c.args.call.now.by = search rules in
     let k = ready-at c.args.table.now c.args.named.now.items c.args.index c.index-track.result.now c.in-Some-item.view c.args.call.now c.in-Some.found c.rippled_among-rippled.result c.item_by_id.result c.requires.good c.requires.unlinked
     (is-named c.args.call.now.track c.args.call.now.tracks c.args.index c.args.named.now.items c.index-track.result.now c.requires.named c.requires.found c.requires.within c.index-track.ensures)
-    c.in-Some.ensures.found (sym c.item.ensures ∙ c.in-Some-item.is) c.item_by_id.ensures.range c.in-Some.is fits
+    c.in-Some.ensures.found (sym c.item.ensures ∙ c.in-Some-item.is) c.item_by_id.ensures.range c.in-Some.is
     (subst (λ (ts : List TrackState). RipplesAmong c.args.table.now ts c.args.call.now c.in-Some.found c.in-Some-item.view c.rippled_among-rippled.result) c.deref.ensures.value c.rippled_among-rippled.ensures) in
     each-shifted c.args.table.now c.in-Some-shift.shift c.args.named.now.items c.shift_tracks.new.named.items c.rippled_among-rippled.result.done c.shift_tracks.result c.requires.good
     (ready-stays c.args.table.now c.args.named.now.items c.args.index c.index-track.result.now c.in-Some-item.view c.args.call.now c.in-Some.found c.rippled_among-rippled.result c.in-Some-shift.shift k c.in-Some-shift.is) c.shift_tracks.ensures.answers
 
 pub returns-in-None-clause-answers : goal.returns-in-None-clause-answers
 returns-in-None-clause-answers g c =
-    let fits : SFits w32 c.args.call.now.by = search rules in
     let k = ready-at c.args.table.now c.args.named.now.items c.args.index c.index-track.result.now c.in-Some-item.view c.args.call.now c.in-Some.found c.rippled_among-rippled.result c.item_by_id.result c.requires.good c.requires.unlinked
     (is-named c.args.call.now.track c.args.call.now.tracks c.args.index c.args.named.now.items c.index-track.result.now c.requires.named c.requires.found c.requires.within c.index-track.ensures)
-    c.in-Some.ensures.found (sym c.item.ensures ∙ c.in-Some-item.is) c.item_by_id.ensures.range c.in-Some.is fits
+    c.in-Some.ensures.found (sym c.item.ensures ∙ c.in-Some-item.is) c.item_by_id.ensures.range c.in-Some.is
     (subst (λ (ts : List TrackState). RipplesAmong c.args.table.now ts c.args.call.now c.in-Some.found c.in-Some-item.view c.rippled_among-rippled.result) c.deref.ensures.value c.rippled_among-rippled.ensures) in
     ready-none c.args.table.now c.args.named.now.items c.args.index c.index-track.result.now c.in-Some-item.view c.args.call.now c.in-Some.found c.rippled_among-rippled.result k c.in-None.is
 
