@@ -1,2 +1,4 @@
 pub mod Relinked
 pub mod Found
+pub mod Linked
+pub mod NamedSets

@@ -40,11 +40,7 @@ fn laid<L: Ledger>(
 }
 
 // A track of them, or none where they can't be laid.
-pub fn track_of(
-    alloc: Global,
-    number: u32,
-    items: Vec<ItemView>,
-) -> Result<Option<Track>, Memory> {
+pub fn track_of(alloc: Global, number: u32, items: Vec<ItemView>) -> Result<Option<Track>, Memory> {
     if !can_be_laid(&items) {
         return Ok(None);
     }

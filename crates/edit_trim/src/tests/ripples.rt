@@ -114,7 +114,14 @@ fn what_is_behind_an_end_moves_on_both_tracks(rt: HostRuntime) -> Result<(), Fai
             i32::MIN,
             -2,
             [gap(3), clip(0, 0, 8, 6), dissolve(1, 1, clip(1, 1, 50, 5))].as_slice(),
-            [clip(0, 1, 200, 3), gap(2), clip(2, 1, 203, 2), gap(2), clip(1, 1, 300, 4)].as_slice(),
+            [
+                clip(0, 1, 200, 3),
+                gap(2),
+                clip(2, 1, 203, 2),
+                gap(2),
+                clip(1, 1, 300, 4),
+            ]
+            .as_slice(),
         ),
         (
             0,
@@ -122,7 +129,14 @@ fn what_is_behind_an_end_moves_on_both_tracks(rt: HostRuntime) -> Result<(), Fai
             -1,
             -1,
             [gap(3), clip(0, 0, 9, 5), dissolve(1, 1, clip(1, 1, 50, 5))].as_slice(),
-            [clip(0, 1, 200, 3), gap(1), clip(2, 1, 203, 2), gap(2), clip(1, 1, 300, 4)].as_slice(),
+            [
+                clip(0, 1, 200, 3),
+                gap(1),
+                clip(2, 1, 203, 2),
+                gap(2),
+                clip(1, 1, 300, 4),
+            ]
+            .as_slice(),
         ),
         (
             0,
@@ -209,12 +223,18 @@ fn what_is_behind_an_end_moves_on_both_tracks(rt: HostRuntime) -> Result<(), Fai
             End::Tail,
             i32::MAX,
             86_345,
-            [gap(3), clip(0, 0, 10, 4), dissolve(1, 1, clip(1, 1, 50, 86_350))].as_slice(),
+            [
+                gap(3),
+                clip(0, 0, 10, 4),
+                dissolve(1, 1, clip(1, 1, 50, 86_350)),
+            ]
+            .as_slice(),
             [clip(0, 1, 200, 5), gap(2), clip(1, 1, 300, 4)].as_slice(),
         ),
     ] {
-        let played = tried(rt.alloc(), &table, &first, &second, item, end, by)?
-            .ok_or("these can be laid")?;
+        let played = tried(rt.alloc(), &table, &first, &second, item, end, by)?.ok_or(
+            "these can be laid",
+        )?;
         assert_eq!(rt; played.answer, Ok(Done::By(used)), "{item} {end:?} {by}");
         assert_eq!(rt; played.first.as_slice(), own, "{item} {end:?} {by}");
         assert_eq!(rt; played.second.as_slice(), other, "{item} {end:?} {by}");
@@ -258,8 +278,9 @@ fn no_named_track_becomes_too_long(rt: HostRuntime) -> Result<(), Fail> {
             995,
         ),
     ] {
-        let played = tried(rt.alloc(), &table, first, second, 0, End::Tail, by)?
-            .ok_or("these can be laid")?;
+        let played = tried(rt.alloc(), &table, first, second, 0, End::Tail, by)?.ok_or(
+            "these can be laid",
+        )?;
         assert_eq!(rt; played.answer, Ok(Done::By(used)), "{by} of {first:?}");
     }
     Ok(())
@@ -269,8 +290,9 @@ fn no_named_track_becomes_too_long(rt: HostRuntime) -> Result<(), Fail> {
 fn an_item_that_is_not_there_is_refused(rt: HostRuntime) -> Result<(), Fail> {
     let table = table(rt.alloc())?;
     let first = [gap(3), clip(0, 0, 10, 4)];
-    let played = tried(rt.alloc(), &table, &first, &first, 9, End::Head, 1)?
-        .ok_or("these can be laid")?;
+    let played = tried(rt.alloc(), &table, &first, &first, 9, End::Head, 1)?.ok_or(
+        "these can be laid",
+    )?;
     let refused = Err(EditFault::Refused(Refusal::NoItem));
     assert_eq!(rt; played.answer, refused);
     assert_eq!(rt; played.first.as_slice(), first.as_slice());
