@@ -44,8 +44,8 @@ pub found-none : (t : TrackState) (i : ℕ) → Lacks i (items_of t.cells) → i
 found-none t i h = from_none i 0 (items_of t.cells) h
 
 -- an item at an index is there
-pub stands-there : (vs : List ItemView) (p : Place) (v : Option ItemView) → StandsAt vs p → v ≡ slice_get vs p.index → v ≡ None → ⊥
-stands-there vs p v stands is none = by vs p.index stands.index (sym is ∙ none) where
+pub index-there : (vs : List ItemView) (k : ℕ) (o : Option ItemView) → k < length vs → o ≡ slice_get vs k → o ≡ None → ⊥
+index-there vs k o h is none = by vs k h (sym is ∙ none) where
   by : (vs : List ItemView) (k : ℕ) → k < length vs → slice_get vs k ≡ None → ⊥
   by [] k h e = omega (arith, h)
   by (w ∷ ws) zero h e = cc

@@ -2,3 +2,5 @@ pub mod Relinked
 pub mod Found
 pub mod Linked
 pub mod NamedSets
+pub mod Named
+pub mod TestTracks

@@ -1,5 +1,5 @@
 -- Items of several tracks linked, one track after another.
-use Rattle.std.proofs.Common.{◌≡◌, ℕ, zero, suc, ◌+◌, ◌<◌, ◌≤◌, ℤ, Bool, true, false, cond, ◌&&◌, List, [], ◌∷◌, All, drop, length, map, get_or, Option, Some, None, IfSome, is_some, refl, sym, ap, ◌∙◌, arith, subst, slice_get}
+use Rattle.std.proofs.Common.{◌≡◌, ℕ, zero, suc, ◌+◌, ◌<◌, ◌≤◌, ℤ, Bool, true, false, cond, ◌&&◌, List, [], ◌∷◌, All, drop, length, map, get_or, Option, Some, None, Ok, IfSome, is_some, refl, sym, ap, ◌∙◌, arith, subst, slice_get}
 use Rattle.std.proofs.Math.ListN.{set}
 use Rattle.std.proofs.lemmas.List.{drop_all, drop_more}
 use Rattle.std.proofs.lemmas.List.Elements.{All-cons}
@@ -9,14 +9,16 @@ use Rattle.frame_meaning.specs.Cells.{same_number}
 use Rattle.composables.specs.declared.items.ItemView.{ItemView}
 use Rattle.composables.specs.declared.media.Table.{Table}
 use Rattle.composables.specs.declared.refusals.Refusal.{Refusal}
-use Rattle.composables.specs.declared.refusals.Refusal.TheVariants.{AlreadyLinked, OffsetsDiffer}
+use Rattle.composables.specs.declared.calls.Link3.{Link3}
+use Rattle.composables.specs.declared.refusals.Done.TheVariants.{Linked}
+use Rattle.composables.specs.declared.refusals.Refusal.TheVariants.{AlreadyLinked, NoItem, NoTrack, OffsetsDiffer}
 use Rattle.composables.specs.Good.{IsGood, IsLinkOf}
 use Rattle.composables.specs.Items.{items_of}
 use Rattle.composables.specs.TrackFacts.{IsKept}
 use Rattle.composables.specs.TrackState.{TrackState}
 use Rattle.composables.proofs.Joining.{same-is}
 use Rattle.link_groups.specs.LinkedItems.{item_from, item_of, linked_item}
-use Rattle.link_groups.specs.Linking.{NextLinkRises, all_linked, already_linked, are_there, has_link, home_risen, item_offset, offsets_differ, other_offset}
+use Rattle.link_groups.specs.Linking.{NextLinkRises, all_linked, already_linked, are_there, has_link, home_risen, item_offset, link_refusal, linked, new_link, offsets_differ, or_else, other_offset}
 use Rattle.link_groups.proofs.Relinked.{relinked}
 
 -- what is left of two lists, one element on
@@ -199,3 +201,74 @@ rises-numbers [] (u ∷ us) r = absurd r
 rises-numbers (t ∷ ts) [] r = absurd r
 rises-numbers (t ∷ ts) (u ∷ us) r =
     ap (λ (n : ℕ). n ∷ map (λ (t : TrackState). t.number) us) r.0 ∙ ap (λ (ns : List ℕ). t.number ∷ ns) (rises-numbers ts us r.1.1.1.1)
+
+-- what a call leaves
+
+linked_risen : (l : Link) (x : TrackState) (xs : List TrackState) (is : List ℕ) (us : List TrackState) (u v : TrackState) → us ≡ all_linked l (x ∷ xs) is → u ≡ get_or us 0 u
+    → v ≡ record u { next_link = x.next_link + 1 } → home_risen (all_linked l (x ∷ xs) is) ≡ set us 0 v
+linked_risen l x xs [] us u v e at is =
+    let here : u ≡ x = at ∙ ap (λ (l : List TrackState). get_or l 0 u) e in
+    sym (ap (λ (l : List TrackState). set l 0 v) e ∙ ap (λ (w : TrackState). w ∷ xs) (is ∙ ap (λ (w : TrackState). record w { next_link = x.next_link + 1 }) here))
+linked_risen l x xs (i ∷ js) us u v e at is =
+    let y : TrackState = linked_item x i (Some l) in
+    let here : u ≡ y = at ∙ ap (λ (l : List TrackState). get_or l 0 u) e in
+    sym (ap (λ (l : List TrackState). set l 0 v) e ∙ ap (λ (w : TrackState). w ∷ all_linked l xs js) (is ∙ ap (λ (w : TrackState). record w { next_link = x.next_link + 1 }) here))
+
+pub linked-after : (c : Link3) (ts us : List TrackState) (t u v : TrackState) (made : Link) → 0 < length ts → t ≡ get_or ts 0 t → made ≡ new_link t c.tracks → us ≡ all_linked made ts c.items → u ≡ get_or us 0 u
+    → v ≡ record u { next_link = t.next_link + 1 } → linked ts c ≡ Ok (set us 0 v, Linked t.number t.next_link)
+linked-after c [] us t u v made some here of is at next = absurd (omega (arith, some))
+linked-after c (x ∷ xs) us t u v made some here of is at next =
+    let l : Link = new_link x c.tracks in
+    let same : made ≡ l = of ∙ ap (λ (y : TrackState). new_link y c.tracks) here in
+    let all : us ≡ all_linked l (x ∷ xs) c.items = is ∙ ap (λ (k : Link). all_linked k (x ∷ xs) c.items) same in
+    let after : v ≡ record u { next_link = x.next_link + 1 } = next ∙ ap (λ (y : TrackState). record u { next_link = y.next_link + 1 }) here in
+    ap (λ (ys : List TrackState). Ok (ys, Linked x.number x.next_link)) (linked_risen l x xs c.items us u v all at after)
+    ∙ ap (λ (y : TrackState). Ok (set us 0 v, Linked y.number y.next_link)) (sym here)
+
+pub linked-risen : (c : Link3) (ts us : List TrackState) (t u v : TrackState) (made : Link) → 0 < length ts → t ≡ get_or ts 0 t → us ≡ all_linked made ts c.items → u ≡ get_or us 0 u
+    → v ≡ record u { next_link = t.next_link + 1 } → home_risen (all_linked made ts c.items) ≡ set us 0 v
+linked-risen c [] us t u v made some here is at next = absurd (omega (arith, some))
+linked-risen c (x ∷ xs) us t u v made some here is at next =
+    linked_risen made x xs c.items us u v is at (next ∙ ap (λ (y : TrackState). record u { next_link = y.next_link + 1 }) here)
+
+-- why nothing is refused
+
+or_none : (a b : Option Refusal) → or_else a b ≡ None → a ≡ None
+or_none None b e = refl
+or_none (Some r) b e = absurd cc
+
+pub some-named : (ts : List TrackState) (is : List ℕ) → link_refusal ts is ≡ None → 0 < length ts
+some-named [] is e = absurd cc
+some-named (t ∷ ts) is e = omega arith
+
+pub all-there : (ts : List TrackState) (is : List ℕ) → link_refusal ts is ≡ None → are_there ts is ≡ true
+all-there [] is e = absurd cc
+all-there (t ∷ ts) is e = by (are_there (t ∷ ts) is) e where
+  by : (b : Bool) → cond b (or_else (offsets_differ (t ∷ ts) is) (already_linked (t ∷ ts) is)) (Some NoItem) ≡ None → b ≡ true
+  by true e = refl
+  by false e = absurd cc
+
+-- as the code looks for a refusal
+
+pub none-named : (ts : List TrackState) (is : List ℕ) → length ts ≡ 0 → link_refusal ts is ≡ Some (NoTrack 0)
+none-named [] is e = refl
+none-named (t ∷ ts) is e = absurd (omega (arith, e))
+
+pub some-missing : (ts : List TrackState) (is : List ℕ) → 0 < length ts → are_there ts is ≡ false → link_refusal ts is ≡ Some NoItem
+some-missing [] is some e = absurd (omega (arith, some))
+some-missing (t ∷ ts) is some e = ap (λ (b : Bool). cond b (or_else (offsets_differ (t ∷ ts) is) (already_linked (t ∷ ts) is)) (Some NoItem)) e
+
+pub refused-there : (ts : List TrackState) (is : List ℕ) (o : Option Refusal) → 0 < length ts → are_there ts is ≡ true → o ≡ offsets_differ ts is → link_refusal ts is ≡ or_else o (already_linked ts is)
+refused-there [] is o some e f = absurd (omega (arith, some))
+refused-there (t ∷ ts) is o some e f =
+    ap (λ (b : Bool). cond b (or_else (offsets_differ (t ∷ ts) is) (already_linked (t ∷ ts) is)) (Some NoItem)) e
+    ∙ ap (λ (p : Option Refusal). or_else p (already_linked (t ∷ ts) is)) (sym f)
+
+-- the first item's offset
+pub first-offset : (first : ℤ) (ts : List TrackState) (is : List ℕ) (t : TrackState) (i : ℕ) → 0 < length ts → 0 < length is → t ≡ get_or ts 0 t → i ≡ get_or is 0 i → first ≡ item_offset t i
+    → offsets_differ ts is ≡ other_offset first ts is
+first-offset first [] is t i some any e f g = absurd (omega (arith, some))
+first-offset first (x ∷ xs) [] t i some any e f g = absurd (omega (arith, any))
+first-offset first (x ∷ xs) (j ∷ js) t i some any e f g =
+    let same : item_offset x j ≡ first = sym (g ∙ (ap (λ (y : TrackState). item_offset y i) e ∙ ap (item_offset x) f)) in
+    ap (λ (n : ℤ). other_offset n (x ∷ xs) (j ∷ js)) same

@@ -1,5 +1,5 @@
 -- The least link that reaches a track which is not named, item by item and track by track.
-use Rattle.std.proofs.Common.{◌≡◌, ℕ, zero, suc, ◌+◌, ◌-◌, ◌<◌, ◌≤◌, ◌⊎◌, inl, inr, Bool, true, false, cond, eqb, ltb, not, ◌&&◌, ◌||◌, List, [], ◌∷◌, ◌++◌, drop, take, length, get_or, Option, Some, None, refl, sym, ap, ◌∙◌, arith, subst, nat_eq, slice_get, ⊎_elim, append_assoc}
+use Rattle.std.proofs.Common.{◌≡◌, ℕ, zero, suc, ◌+◌, ◌-◌, ◌<◌, ◌≤◌, ◌^◌, ◌⊎◌, inl, inr, Bool, true, false, cond, eqb, ltb, not, ◌&&◌, ◌||◌, List, [], ◌∷◌, ◌++◌, drop, take, length, get_or, Option, Some, None, refl, sym, ap, ◌∙◌, arith, subst, nat_eq, slice_get, ⊎_elim, append_assoc}
 use Rattle.std.proofs.lemmas.Bool.{eq-eqb, eqb-true, eqb-false, ltb-true, ltb-false, lt-ltb, le-ltb, cases_lt}
 use Rattle.std.proofs.lemmas.List.{append-nil, drop_all, drop-append-le, drop_more, take_more, take_all}
 use Rattle.std.proofs.lemmas.Option.{slice_get_within, get_or_from_slice_get}
@@ -15,10 +15,10 @@ use Rattle.composables.specs.declared.items.ItemView.{ItemView}
 use Rattle.composables.specs.Items.{cells_of, items_of, marked, view_cells}
 use Rattle.composables.specs.Joined.{frames_in}
 use Rattle.composables.specs.Links.{cells_from, first_unnamed, is_named, least_link, least_outside, link_before, outside}
-use Rattle.composables.specs.TrackFacts.{IsKept}
+use Rattle.composables.specs.TrackFacts.{EachHolds, IsKept}
 use Rattle.composables.specs.TrackSets.{has_track, tracks_from, tracks_in}
 use Rattle.composables.specs.TrackState.{TrackState}
-use Rattle.composables.proofs.Frames.{frames_in-append, no_view}
+use Rattle.composables.proofs.Frames.{frames_in-append, frames_in-take_le, no_view}
 use Rattle.composables.proofs.Joining.{cells_of-append, length-cells_of, length-view_cells}
 
 -- the order of links
@@ -259,3 +259,15 @@ found named s t h f =
 pub at-end : (named : List TrackState) (s t : ℕ) → t ≡ 32 → first_unnamed named (tracks_after s t) ≡ None
 unfolding tracks_after
 at-end named s t e = let z : 32 - t ≡ 0 = omega (arith, e) in ap (λ (k : ℕ). first_unnamed named (tracks_from s t k)) z
+
+-- an item or gap that is there has a frame
+pub filled-at : (vs : List ItemView) (i : ℕ) (v : ItemView) → slice_get vs i ≡ Some v → EachHolds vs → 0 < v.len
+filled-at [] i v e h = absurd (omega (arith, slice_get_within [] i v e))
+filled-at (w ∷ ws) zero v e h = let same : w ≡ v = cc in subst (λ (u : ItemView). 0 < u.len) same h.0.filled
+filled-at (w ∷ ws) (suc i) v e h = filled-at ws i v e h.1
+
+pub frames-within : (t : TrackState) (i : ℕ) → IsKept t → frames_in (take i (items_of t.cells)) < 2 ^ 32
+frames-within t i kept = omega (arith, frames_in-take_le i (items_of t.cells), length-cells_of (items_of t.cells), ap length kept.whole, kept.short)
+
+pub none-behind : (named : List TrackState) (y : ℕ) (t : TrackState) → length t.cells ≤ y → least_outside named (drop y t.cells) ≡ None
+none-behind named y t le = ap (least_outside named) (drop_all y t.cells le)

@@ -65,6 +65,9 @@ fn least_on<L: Ledger>(
     ensures from { steps.old ≤ steps.new }
     ensures most { steps.new ≤ steps.old + size_of track.now }
 {
+    if track.length() <= y {
+        return None;
+    }
     let mut least = None;
     let mut to: u64 = 0;
     for index in 0..track.count() {

@@ -1,7 +1,8 @@
 // The link of an item taken away.
 ghost use Rattle.std.specs.Prelude.{◌≡◌, ◌+◌, ◌≤◌, [], ◌∷◌, All};
 ghost use Rattle.composables.specs.Answers.{Answers, NextRises};
-ghost use Rattle.composables.specs.Good.{AreUnlinked, IsGood};
+ghost use Rattle.composables.specs.Good.{AllUnlinked, AreUnlinked, IsGood};
+ghost use Rattle.composables.specs.Items.{items_of};
 ghost use Rattle.composables.specs.OwnTracks.{numbers_of};
 ghost use Rattle.composables.specs.Sizes.{size_of, sizes_of};
 ghost use Rattle.link_groups.specs.Linking.{unlink_named, unlink_on};
@@ -47,7 +48,7 @@ fn unlink_track<L: Ledger>(
     requires good { IsGood table.now track.old }
     ensures answers { Answers (unlink_on call.now track.old) track.old track.new result }
     ensures good { IsGood table.now track.new }
-    ensures unlinked { AreUnlinked (track.old ∷ []) → AreUnlinked (track.new ∷ []) }
+    ensures unlinked { AllUnlinked (items_of track.old.cells) → AllUnlinked (items_of track.new.cells) }
     ensures numbers { NextRises 0 (track.old ∷ []) (track.new ∷ []) }
     ensures least { steps.old + 1 ≤ steps.new }
     ensures most { steps.new ≤ steps.old + size_of track.old }

@@ -102,15 +102,24 @@ fn tried(
     Ok(Some(played))
 }
 
-#[test]
-fn what_is_behind_an_end_moves_on_both_tracks(rt: HostRuntime) -> Result<(), Fail> {
-    let table = table(rt.alloc())?;
+// A ripple of the two tracks of these examples.
+fn rippled(
+    alloc: Global,
+    table: &Table,
+    item: u32,
+    end: End,
+    by: i32,
+) -> Result<Option<Both>, Memory> {
     let first = [gap(3), clip(0, 0, 10, 4), dissolve(1, 1, clip(1, 1, 50, 5))];
     let second = [clip(0, 1, 200, 5), gap(2), clip(1, 1, 300, 4)];
-    for (item, end, by, used, own, other) in [
+    tried(alloc, table, &first, &second, item, end, by)
+}
+
+#[test]
+fn a_head_moves_what_is_behind_it(rt: HostRuntime) -> Result<(), Fail> {
+    let table = table(rt.alloc())?;
+    for (by, used, own, other) in [
         (
-            0,
-            End::Head,
             i32::MIN,
             -2,
             [gap(3), clip(0, 0, 8, 6), dissolve(1, 1, clip(1, 1, 50, 5))].as_slice(),
@@ -124,125 +133,96 @@ fn what_is_behind_an_end_moves_on_both_tracks(rt: HostRuntime) -> Result<(), Fai
             .as_slice(),
         ),
         (
-            0,
-            End::Head,
-            -1,
-            -1,
-            [gap(3), clip(0, 0, 9, 5), dissolve(1, 1, clip(1, 1, 50, 5))].as_slice(),
-            [
-                clip(0, 1, 200, 3),
-                gap(1),
-                clip(2, 1, 203, 2),
-                gap(2),
-                clip(1, 1, 300, 4),
-            ]
-            .as_slice(),
-        ),
-        (
-            0,
-            End::Head,
-            0,
-            0,
-            [gap(3), clip(0, 0, 10, 4), dissolve(1, 1, clip(1, 1, 50, 5))].as_slice(),
-            [clip(0, 1, 200, 5), gap(2), clip(1, 1, 300, 4)].as_slice(),
-        ),
-        (
-            0,
-            End::Head,
             2,
             2,
             [gap(3), clip(0, 0, 12, 2), dissolve(1, 1, clip(1, 1, 50, 5))].as_slice(),
             [clip(0, 1, 200, 3), gap(2), clip(1, 1, 300, 4)].as_slice(),
         ),
+    ] {
+        let played = rippled(rt.alloc(), &table, 0, End::Head, by)?.ok_or("these can be laid")?;
+        assert_eq!(rt; played.answer, Ok(Done::By(used)), "{by}");
+        assert_eq!(rt; played.first.as_slice(), own, "{by}");
+        assert_eq!(rt; played.second.as_slice(), other, "{by}");
+    }
+    Ok(())
+}
+
+#[test]
+fn a_tail_moves_what_is_behind_it(rt: HostRuntime) -> Result<(), Fail> {
+    let table = table(rt.alloc())?;
+    for (by, used, own, other) in [
         (
-            0,
-            End::Head,
-            i32::MAX,
-            3,
-            [gap(3), clip(0, 0, 13, 1), dissolve(1, 1, clip(1, 1, 50, 5))].as_slice(),
-            [clip(0, 1, 200, 3), gap(1), clip(1, 1, 300, 4)].as_slice(),
-        ),
-        (
-            0,
-            End::Tail,
             i32::MIN,
             -3,
             [gap(3), clip(0, 0, 10, 1), clip(1, 1, 50, 5)].as_slice(),
             [clip(0, 1, 200, 4), clip(1, 1, 300, 4)].as_slice(),
         ),
         (
-            0,
-            End::Tail,
-            -1,
-            -1,
-            [gap(3), clip(0, 0, 10, 3), clip(1, 1, 50, 5)].as_slice(),
-            [clip(0, 1, 200, 5), gap(1), clip(1, 1, 300, 4)].as_slice(),
-        ),
-        (
-            0,
-            End::Tail,
-            2,
-            2,
-            [gap(3), clip(0, 0, 10, 6), clip(1, 1, 50, 5)].as_slice(),
-            [clip(0, 1, 200, 5), gap(4), clip(1, 1, 300, 4)].as_slice(),
-        ),
-        (
-            0,
-            End::Tail,
             i32::MAX,
             46,
             [gap(3), clip(0, 0, 10, 50), clip(1, 1, 50, 5)].as_slice(),
             [clip(0, 1, 200, 5), gap(48), clip(1, 1, 300, 4)].as_slice(),
         ),
+    ] {
+        let played = rippled(rt.alloc(), &table, 0, End::Tail, by)?.ok_or("these can be laid")?;
+        assert_eq!(rt; played.answer, Ok(Done::By(used)), "{by}");
+        assert_eq!(rt; played.first.as_slice(), own, "{by}");
+        assert_eq!(rt; played.second.as_slice(), other, "{by}");
+    }
+    Ok(())
+}
+
+#[test]
+fn a_head_at_a_dissolve_drops_it(rt: HostRuntime) -> Result<(), Fail> {
+    let table = table(rt.alloc())?;
+    for (by, used, own, other) in [
         (
-            1,
-            End::Head,
             i32::MIN,
             -50,
             [gap(3), clip(0, 0, 10, 4), clip(1, 1, 0, 55)].as_slice(),
             [clip(0, 1, 200, 5), gap(52), clip(1, 1, 300, 4)].as_slice(),
         ),
         (
-            1,
-            End::Head,
             2,
             2,
             [gap(3), clip(0, 0, 10, 4), clip(1, 1, 52, 3)].as_slice(),
             [clip(0, 1, 200, 5), gap(2), clip(1, 1, 302, 2)].as_slice(),
         ),
+    ] {
+        let played = rippled(rt.alloc(), &table, 1, End::Head, by)?.ok_or("these can be laid")?;
+        assert_eq!(rt; played.answer, Ok(Done::By(used)), "{by}");
+        assert_eq!(rt; played.first.as_slice(), own, "{by}");
+        assert_eq!(rt; played.second.as_slice(), other, "{by}");
+    }
+    Ok(())
+}
+
+#[test]
+fn a_last_tail_moves_the_end_of_its_track(rt: HostRuntime) -> Result<(), Fail> {
+    let table = table(rt.alloc())?;
+    for (by, used, own, other) in [
         (
-            1,
-            End::Tail,
             -2,
             -2,
             [gap(3), clip(0, 0, 10, 4), dissolve(1, 1, clip(1, 1, 50, 3))].as_slice(),
             [clip(0, 1, 200, 5), gap(2), clip(1, 1, 300, 3)].as_slice(),
         ),
         (
-            1,
-            End::Tail,
-            i32::MAX,
-            86_345,
-            [
-                gap(3),
-                clip(0, 0, 10, 4),
-                dissolve(1, 1, clip(1, 1, 50, 86_350)),
-            ]
-            .as_slice(),
+            0,
+            0,
+            [gap(3), clip(0, 0, 10, 4), dissolve(1, 1, clip(1, 1, 50, 5))].as_slice(),
             [clip(0, 1, 200, 5), gap(2), clip(1, 1, 300, 4)].as_slice(),
         ),
     ] {
-        let played = tried(rt.alloc(), &table, &first, &second, item, end, by)?.ok_or(
-            "these can be laid",
-        )?;
-        assert_eq!(rt; played.answer, Ok(Done::By(used)), "{item} {end:?} {by}");
-        assert_eq!(rt; played.first.as_slice(), own, "{item} {end:?} {by}");
-        assert_eq!(rt; played.second.as_slice(), other, "{item} {end:?} {by}");
+        let played = rippled(rt.alloc(), &table, 1, End::Tail, by)?.ok_or("these can be laid")?;
+        assert_eq!(rt; played.answer, Ok(Done::By(used)), "{by}");
+        assert_eq!(rt; played.first.as_slice(), own, "{by}");
+        assert_eq!(rt; played.second.as_slice(), other, "{by}");
     }
     Ok(())
 }
 
-// The tail of the item 0 of the first track is moved later.
+// The tail of the item of the first track is moved later.
 #[test]
 fn no_named_track_becomes_too_long(rt: HostRuntime) -> Result<(), Fail> {
     let table = table(rt.alloc())?;
@@ -264,12 +244,6 @@ fn no_named_track_becomes_too_long(rt: HostRuntime) -> Result<(), Fail> {
             [gap(2_591_990), clip(0, 1, 0, 10)].as_slice(),
             1,
             0,
-        ),
-        (
-            [gap(10), clip(0, 1, 100, 5)].as_slice(),
-            [gap(2_591_988), clip(0, 1, 0, 10)].as_slice(),
-            9,
-            2,
         ),
         (
             [gap(2_591_000), clip(0, 1, 100, 5)].as_slice(),
