@@ -8,8 +8,10 @@
 mod finding;
 mod linking;
 mod offsets;
+mod outside;
 mod unlinking;
 
 pub use linking::link;
 pub use offsets::offset;
+pub use outside::check;
 pub use unlinking::unlink;

@@ -48,7 +48,8 @@ fn unlink_track<L: Ledger>(
     requires good { IsGood table.now track.old }
     ensures answers { Answers (unlink_on call.now track.old) track.old track.new result }
     ensures good { IsGood table.now track.new }
-    ensures unlinked { AllUnlinked (items_of track.old.cells) → AllUnlinked (items_of track.new.cells) }
+    ensures unlinked { AllUnlinked (items_of track.old.cells)
+        → AllUnlinked (items_of track.new.cells) }
     ensures numbers { NextRises 0 (track.old ∷ []) (track.new ∷ []) }
     ensures least { steps.old + 1 ≤ steps.new }
     ensures most { steps.new ≤ steps.old + size_of track.old }
