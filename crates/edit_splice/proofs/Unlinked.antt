@@ -165,14 +165,14 @@ none-refused x y len ts h = by (eqb len (y - x)) where
   by true = refl
   by false = ap (outside_refusal ts) (outside_none ts (cells_from y ts) (from_none y ts h))
 
-none_split : (x z : ℕ) (ts : List TrackState) → Bare ts → links_split x z ts ≡ ts
-none_split x z ts h = ap (λ (ls : List Link). each_split z ts (filter (λ (l : Link). list_any (same_link l) (links_in (cells_before x ts))) ls)) (from_none z ts h)
+pub split-free : (x z : ℕ) (ts : List TrackState) → Bare ts → links_split x z ts ≡ ts
+split-free x z ts h = ap (λ (ls : List Link). each_split z ts (filter (λ (l : Link). list_any (same_link l) (links_in (cells_before x ts))) ls)) (from_none z ts h)
 
 pub none-split : (own x y : ℕ) (views : List ItemView) (ts : List TrackState) → Bare (shifted own x y views ts) → after_shift own x y views ts ≡ shifted own x y views ts
 none-split own x y views ts h = by (eqb (frames_in views) (y - x)) where
   by : (b : Bool) → cond b (shifted own x y views ts) (links_split x (x + frames_in views) (shifted own x y views ts)) ≡ shifted own x y views ts
   by true = refl
-  by false = none_split x (x + frames_in views) (shifted own x y views ts) h
+  by false = split-free x (x + frames_in views) (shifted own x y views ts) h
 
 pub shift-free : (own x y : ℕ) (views : List ItemView) (done : Done) (ts : List TrackState) → AllUnlinked views → Bare ts
     → shift_of own x y views done ts ≡ within_limits (shifted own x y views ts) done

@@ -3,5 +3,5 @@ pub mod Found
 pub mod Linked
 pub mod NamedSets
 pub mod Named
-pub mod Outside
+pub mod LeastLinks
 pub mod TestTracks

@@ -132,13 +132,13 @@ record IsAt (vs : List ItemView) (i : ℕ) (p : ℕ × ItemView) : Type 0 where
 
 at_from : (i x : ℕ) (vs : List ItemView) (p : ℕ × ItemView) → item_from x vs i ≡ Some p → IsAt vs i p
 at_from i x [] p e = absurd cc
-at_from i x (v ∷ vs) p e = by (same_number v.item (Some i)) refl e where
-  by : (b : Bool) → same_number v.item (Some i) ≡ b → cond b (Some (x, v)) (item_from (x + v.len) vs i) ≡ Some p → IsAt (v ∷ vs) i p
-  by true s e =
+at_from i x (v ∷ vs) p e = by (same_number v.item (Some i)) refl e (at_from i (x + v.len) vs p) where
+  by : (b : Bool) → same_number v.item (Some i) ≡ b → cond b (Some (x, v)) (item_from (x + v.len) vs i) ≡ Some p → (item_from (x + v.len) vs i ≡ Some p → IsAt vs i p) → IsAt (v ∷ vs) i p
+  by true s e later =
       let same : v ≡ p.1 = cc in
       record { index = 0; read = ap Some same; number = ap (λ (u : ItemView). u.item) (sym same) ∙ same-is v.item (Some i) s }
-  by false s e =
-      let h = at_from i (x + v.len) vs p e in
+  by false s e later =
+      let h = later e in
       record { index = suc h.index; read = h.read; number = h.number }
 
 good_linked : (table : Table) (t : TrackState) (i : ℕ) (made : Link) → IsGood table t → is_some (item_of t i) ≡ true → IsLinkOf t.number (Some made) → IsGood table (linked_item t i (Some made))
@@ -200,7 +200,7 @@ rises-numbers [] [] r = refl
 rises-numbers [] (u ∷ us) r = absurd r
 rises-numbers (t ∷ ts) [] r = absurd r
 rises-numbers (t ∷ ts) (u ∷ us) r =
-    ap (λ (n : ℕ). n ∷ map (λ (t : TrackState). t.number) us) r.0 ∙ ap (λ (ns : List ℕ). t.number ∷ ns) (rises-numbers ts us r.1.1.1.1)
+    ap (λ (n : ℕ). n ∷ map (λ (t : TrackState). t.number) us) r.0 ∙ ap (λ (ns : List ℕ). t.number ∷ ns) (rises-numbers ts us r.4)
 
 -- what a call leaves
 

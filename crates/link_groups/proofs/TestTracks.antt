@@ -27,15 +27,18 @@ kept_one n s len w some short =
     record {
       whole = ap cells_of same ∙ append-nil (view_cells v);
       not_before = rw same refl;
-      each = rw same (record {
-        filled = some;
-        shows = tt;
-        mark_filled = tt;
-        room = omega arith;
-        source = (omega arith, omega (arith, short));
-        head_no_nest = tt;
-        tail_no_nest = tt;
-      }, tt);
+      each = rw same (
+        record {
+          filled = some;
+          shows = tt;
+          mark_filled = tt;
+          room = omega arith;
+          source = (omega arith, omega (arith, short));
+          head_no_nest = tt;
+          tail_no_nest = tt;
+        },
+        tt,
+      );
       apart = rw same (tt, tt);
       below = rw same (omega arith, tt);
       short = omega (arith, length-view_cells v, short);

@@ -9,7 +9,7 @@ use std::sync::ledger::Ledger;
 use step_count::Steps;
 
 /// An item of a track: its index, the record frame at which it begins, and the item.
-#[derive(Clone, Copy, Debug, PartialEq, Eq)]
+#[derive(Clone, Copy)]
 pub struct Found {
     pub index: u32,
     pub from: u32,
@@ -24,7 +24,13 @@ pub fn item_on<L: Ledger>(track: &Track, item: u32, steps: &mut Steps<L>) -> Opt
     ensures least { steps.old + 1 ≤ steps.new }
     ensures most { steps.new ≤ steps.old + size_of track.now }
 {
-    let place = track.item_by_id(item, steps)?;
+    if track.length() == 0 {
+        steps.tick();
+        return None;
+    }
+    let Some(place) = track.item_by_id(item, steps) else {
+        return None;
+    };
     let Some(view) = track.item(place.index) else {
         unreachable!()
     };

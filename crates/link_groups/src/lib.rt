@@ -15,3 +15,6 @@ pub use linking::link;
 pub use offsets::offset;
 pub use outside::check;
 pub use unlinking::unlink;
+
+#[cfg(test)]
+mod tests;

@@ -64,11 +64,7 @@ pub fn link<L: Ledger>(
 }
 
 // Why these items can't be linked, if they can't.
-fn link_refusal<L: Ledger>(
-    named: &[Track],
-    items: &[u32],
-    steps: &mut Steps<L>,
-) -> Option<Refusal>
+fn link_refusal<L: Ledger>(named: &[Track], items: &[u32], steps: &mut Steps<L>) -> Option<Refusal>
     ensures refusal { result ≡ link_refusal named.now items.now }
     ensures least { steps.old ≤ steps.new }
     ensures most { steps.new ≤ steps.old + 4 * sizes_of named.now }

@@ -12,12 +12,7 @@ use step_count::Steps;
 
 /// Why a shift that moves what these tracks have from the record frame `y` on is refused for its links, if it is: the
 /// least of those links that has a track which is not named, by home and then number, and its first such track.
-pub fn check<L: Ledger>(
-    named: &[Track],
-    _x: u32,
-    y: u32,
-    steps: &mut Steps<L>,
-) -> Option<Refusal>
+pub fn check<L: Ledger>(named: &[Track], _x: u32, y: u32, steps: &mut Steps<L>) -> Option<Refusal>
     ensures refusal { result ≡ link_outside named.now (cells_from y named.now) }
     ensures least { steps.old ≤ steps.new }
     ensures most { steps.new ≤ steps.old + sizes_of named.now }
@@ -55,12 +50,7 @@ fn least_outside<L: Ledger>(named: &[Track], y: u32, steps: &mut Steps<L>) -> Op
 }
 
 // The same on one of the tracks.
-fn least_on<L: Ledger>(
-    named: &[Track],
-    track: &Track,
-    y: u32,
-    steps: &mut Steps<L>,
-) -> Option<Link>
+fn least_on<L: Ledger>(named: &[Track], track: &Track, y: u32, steps: &mut Steps<L>) -> Option<Link>
     ensures least { result ≡ least_outside named.now (drop y track.now.cells) }
     ensures from { steps.old ≤ steps.new }
     ensures most { steps.new ≤ steps.old + size_of track.now }
@@ -90,13 +80,7 @@ fn least_link(one: Option<Link>, other: Option<Link>) -> Option<Link>
         None => other,
         Some(l) => match other {
             None => one,
-            Some(m) => {
-                if link_before(m, l) {
-                    other
-                } else {
-                    one
-                }
-            }
+            Some(m) => { if link_before(m, l) { other } else { one } }
         },
     }
 }

@@ -43,12 +43,7 @@ fn table(alloc: Global) -> Result<Table, Memory> {
 }
 
 // A track of one item, which shows the thing from its first frame on; none where the thing has no such source frames.
-fn track_of(
-    alloc: Global,
-    table: &Table,
-    number: u32,
-    source: u32,
-) -> Result<Option<Track>, Memory>
+fn track_of(alloc: Global, table: &Table, number: u32, source: u32) -> Result<Option<Track>, Memory>
     ensures good { IfOk result (λ o. IfSome o (λ t. IsGood table.now t)) }
     ensures number { IfOk result (λ o. IfSome o (λ t. t.number ≡ number)) }
     ensures roomy { IfOk result (λ o. IfSome o (λ t. IsRoomy t)) }
@@ -155,7 +150,11 @@ fn items_of_one_offset_get_one_link(rt: HostRuntime) -> Result<(), Fail> {
 #[test]
 fn items_that_cannot_be_linked_are_refused(rt: HostRuntime) -> Result<(), Fail> {
     for (sources, items, why) in [
-        ((10, 20), [0, 0].as_slice(), Refusal::OffsetsDiffer(-10, -20)),
+        (
+            (10, 20),
+            [0, 0].as_slice(),
+            Refusal::OffsetsDiffer(-10, -20),
+        ),
         ((10, 10), [0].as_slice(), Refusal::NoItem),
         ((10, 10), [0, 0, 0].as_slice(), Refusal::NoItem),
         ((10, 20), [0, 1].as_slice(), Refusal::NoItem),

@@ -1,6 +1,6 @@
 use Rattle.std.proofs.Common.{ap, sym, ◌∙◌, arith}
 use Rattle.composables.specs.Links.{first_unnamed}
-use Rattle.link_groups.proofs.Outside.{at-end, at-start, found, passed}
+use Rattle.link_groups.proofs.LeastLinks.{at-end, at-start, found, passed}
 use Rattle.link_groups.proofs.outside.first_unnamed.Goals as goal
 
 pub loop-track-init : goal.loop-track-init

@@ -3,7 +3,7 @@ use Rattle.std.proofs.lemmas.List.Sums.{sum_by_more}
 use Rattle.frame_meaning.specs.declared.cells.Link.{Link}
 use Rattle.composables.specs.Links.{cells_from, least_link, least_outside}
 use Rattle.composables.specs.Sizes.{size_of}
-use Rattle.link_groups.proofs.Outside.{tracks-all, tracks-more}
+use Rattle.link_groups.proofs.LeastLinks.{tracks-all, tracks-more}
 use Rattle.link_groups.proofs.outside.least_outside.Goals as goal
 
 pub loop-track-preserved : goal.loop-track-preserved

@@ -171,6 +171,7 @@ drop_over y cs ds = ⊎_elim before behind (cases_lt (length cs) y) where
       let e : y ≡ length cs + (y - length cs) = omega (arith, less) in
       ap (λ (n : ℕ). drop n (cs ++ ds)) e
       ∙ (drop-append-add cs ds (y - length cs) ∙ ap (λ (l : List Cell). l ++ drop (y - length cs) ds) (sym (drop_all y cs (omega (arith, less)))))
+
   behind : y ≤ length cs → drop y (cs ++ ds) ≡ drop y cs ++ drop (y - length cs) ds
   behind le =
       let z : y - length cs ≡ 0 = omega (arith, le) in
