@@ -1,7 +1,6 @@
 -- The item that is found by its number.
 use Rattle.std.proofs.Common.{◌≡◌, ℕ, zero, suc, ◌+◌, ◌<◌, ◌≤◌, Bool, true, false, cond, List, [], ◌∷◌, length, take, Option, Some, None, IfSome, slice_get, refl, sym, ap, ◌∙◌, arith, subst}
 use Rattle.std.proofs.lemmas.Option.{slice_get_within}
-use Rattle.frame_meaning.specs.declared.cells.Cell.{Cell}
 use Rattle.frame_meaning.specs.Cells.{same_number}
 use Rattle.composables.specs.declared.items.ItemView.{ItemView}
 use Rattle.composables.specs.declared.items.Place.{Place}
@@ -51,9 +50,3 @@ index-there vs k o h is none = by vs k h (sym is ∙ none) where
   by [] k h e = omega (arith, h)
   by (w ∷ ws) zero h e = cc
   by (w ∷ ws) (suc k) h e = by ws k (omega (arith, h)) e
-
-pub found-empty : (t : TrackState) (i : ℕ) → length t.cells ≡ 0 → item_of t i ≡ None
-found-empty t i e = by t.cells e where
-  by : (cs : List Cell) → length cs ≡ 0 → item_from 0 (items_of cs) i ≡ None
-  by [] e = refl
-  by (c ∷ cs) e = absurd (omega (arith, e))

@@ -21,35 +21,6 @@ use Rattle.link_groups.specs.LinkedItems.{item_from, item_of, linked_item}
 use Rattle.link_groups.specs.Linking.{NextLinkRises, all_linked, already_linked, are_there, has_link, home_risen, item_offset, link_refusal, linked, new_link, offsets_differ, or_else, other_offset}
 use Rattle.link_groups.proofs.Relinked.{relinked}
 
--- what is left of two lists, one element on
-
-drop_both : {A : Type 0} (f : List TrackState → List ℕ → A) (ts : List TrackState) (is : List ℕ) (n : ℕ) (t : TrackState) (i : ℕ) → n < length ts → n < length is → t ≡ get_or ts n t → i ≡ get_or is n i
-    → f (drop n ts) (drop n is) ≡ f (t ∷ drop (n + 1) ts) (i ∷ drop (n + 1) is)
-drop_both f ts is n t i h k e g =
-    ap (λ (us : List TrackState). f us (drop n is)) (drop_more ts n t h ∙ ap (λ (u : TrackState). u ∷ drop (n + 1) ts) (sym e))
-    ∙ ap (λ (js : List ℕ). f (t ∷ drop (n + 1) ts) js) (drop_more is n i k ∙ ap (λ (j : ℕ). j ∷ drop (n + 1) is) (sym g))
-
-pub there-more : (ts : List TrackState) (is : List ℕ) (n : ℕ) (t : TrackState) (i : ℕ) → n < length ts → n < length is → t ≡ get_or ts n t → i ≡ get_or is n i
-    → are_there (drop n ts) (drop n is) ≡ (is_some (item_of t i) && are_there (drop (n + 1) ts) (drop (n + 1) is))
-there-more ts is n t i h k e g = drop_both are_there ts is n t i h k e g
-
-pub offset-more : (first : ℤ) (ts : List TrackState) (is : List ℕ) (n : ℕ) (t : TrackState) (i : ℕ) → n < length ts → n < length is → t ≡ get_or ts n t → i ≡ get_or is n i
-    → other_offset first (drop n ts) (drop n is) ≡ cond (int_eq (item_offset t i) first) (other_offset first (drop (n + 1) ts) (drop (n + 1) is)) (Some (OffsetsDiffer first (item_offset t i)))
-offset-more first ts is n t i h k e g = drop_both (other_offset first) ts is n t i h k e g
-
-pub linked-more : (ts : List TrackState) (is : List ℕ) (n : ℕ) (t : TrackState) (i : ℕ) → n < length ts → n < length is → t ≡ get_or ts n t → i ≡ get_or is n i
-    → already_linked (drop n ts) (drop n is) ≡ cond (has_link (item_of t i)) (Some (AlreadyLinked t.number i)) (already_linked (drop (n + 1) ts) (drop (n + 1) is))
-linked-more ts is n t i h k e g = drop_both already_linked ts is n t i h k e g
-
-pub there-end : (ts : List TrackState) (is : List ℕ) (n : ℕ) → length ts ≤ n → length is ≤ n → are_there (drop n ts) (drop n is) ≡ true
-there-end ts is n h k = ap (λ (us : List TrackState). are_there us (drop n is)) (drop_all n ts h) ∙ ap (are_there []) (drop_all n is k)
-
-pub offset-end : (first : ℤ) (ts : List TrackState) (is : List ℕ) (n : ℕ) → length ts ≤ n → other_offset first (drop n ts) (drop n is) ≡ None
-offset-end first ts is n h = ap (λ (us : List TrackState). other_offset first us (drop n is)) (drop_all n ts h)
-
-pub linked-end : (ts : List TrackState) (is : List ℕ) (n : ℕ) → length ts ≤ n → already_linked (drop n ts) (drop n is) ≡ None
-linked-end ts is n h = ap (λ (us : List TrackState). already_linked us (drop n is)) (drop_all n ts h)
-
 -- where there are more of one than of the other, or fewer, not all are there
 and_both : (a b : Bool) → a && b ≡ true → b ≡ true
 and_both true b e = e
@@ -105,14 +76,14 @@ part_set made zero (t ∷ ts) (i ∷ is) d j h k = refl
 part_set made (suc n) (t ∷ ts) (i ∷ is) d j h k =
     ap (λ (us : List TrackState). linked_item t i (Some made) ∷ us) (part_set made n ts is d j (omega (arith, h)) (omega (arith, k)))
 
-pub part-more : (made : Link) (n : ℕ) (ts us : List TrackState) (is : List ℕ) (t u : TrackState) (i : ℕ) → n < length ts → n < length is → us ≡ part_linked made n ts is → t ≡ get_or us n t → i ≡ get_or is n i
+pub part-more : (made : Link) (n : ℕ) (ts us : List TrackState) (is : List ℕ) (t u : TrackState) (i j : ℕ) → n < length ts → n < length is → us ≡ part_linked made n ts is → t ≡ get_or us n t → i ≡ get_or is n j
     → u ≡ linked_item t i (Some made) → set us n u ≡ part_linked made (n + 1) ts is
-part-more made n ts us is t u i h k e f g is_new =
+part-more made n ts us is t u i j h k e f g is_new =
     let there : t ≡ get_or ts n t = f ∙ (ap (λ (l : List TrackState). get_or l n t) e ∙ part-read made n ts is t) in
     let more : suc n ≡ n + 1 = omega arith in
     ap (λ (l : List TrackState). set l n u) e
-    ∙ (ap (set (part_linked made n ts is) n) (is_new ∙ (ap (λ (v : TrackState). linked_item v i (Some made)) there ∙ ap (λ (j : ℕ). linked_item (get_or ts n t) j (Some made)) g))
-    ∙ (part_set made n ts is t i h k ∙ ap (λ (m : ℕ). part_linked made m ts is) more))
+    ∙ (ap (set (part_linked made n ts is) n) (is_new ∙ (ap (λ (v : TrackState). linked_item v i (Some made)) there ∙ ap (λ (m : ℕ). linked_item (get_or ts n t) m (Some made)) g))
+    ∙ (part_set made n ts is t j h k ∙ ap (λ (m : ℕ). part_linked made m ts is) more))
 
 pub part-all : (made : Link) (n : ℕ) (ts : List TrackState) (is : List ℕ) → length ts ≡ length is → length is ≤ n → part_linked made n ts is ≡ all_linked made ts is
 part-all made zero [] [] e h = refl
@@ -214,28 +185,13 @@ linked_risen l x xs (i ∷ js) us u v e at is =
     let here : u ≡ y = at ∙ ap (λ (l : List TrackState). get_or l 0 u) e in
     sym (ap (λ (l : List TrackState). set l 0 v) e ∙ ap (λ (w : TrackState). w ∷ all_linked l xs js) (is ∙ ap (λ (w : TrackState). record w { next_link = x.next_link + 1 }) here))
 
-pub linked-after : (c : Link3) (ts us : List TrackState) (t u v : TrackState) (made : Link) → 0 < length ts → t ≡ get_or ts 0 t → made ≡ new_link t c.tracks → us ≡ all_linked made ts c.items → u ≡ get_or us 0 u
-    → v ≡ record u { next_link = t.next_link + 1 } → linked ts c ≡ Ok (set us 0 v, Linked t.number t.next_link)
-linked-after c [] us t u v made some here of is at next = absurd (omega (arith, some))
-linked-after c (x ∷ xs) us t u v made some here of is at next =
-    let l : Link = new_link x c.tracks in
-    let same : made ≡ l = of ∙ ap (λ (y : TrackState). new_link y c.tracks) here in
-    let all : us ≡ all_linked l (x ∷ xs) c.items = is ∙ ap (λ (k : Link). all_linked k (x ∷ xs) c.items) same in
-    let after : v ≡ record u { next_link = x.next_link + 1 } = next ∙ ap (λ (y : TrackState). record u { next_link = y.next_link + 1 }) here in
-    ap (λ (ys : List TrackState). Ok (ys, Linked x.number x.next_link)) (linked_risen l x xs c.items us u v all at after)
-    ∙ ap (λ (y : TrackState). Ok (set us 0 v, Linked y.number y.next_link)) (sym here)
-
-pub linked-risen : (c : Link3) (ts us : List TrackState) (t u v : TrackState) (made : Link) → 0 < length ts → t ≡ get_or ts 0 t → us ≡ all_linked made ts c.items → u ≡ get_or us 0 u
-    → v ≡ record u { next_link = t.next_link + 1 } → home_risen (all_linked made ts c.items) ≡ set us 0 v
-linked-risen c [] us t u v made some here is at next = absurd (omega (arith, some))
-linked-risen c (x ∷ xs) us t u v made some here is at next =
-    linked_risen made x xs c.items us u v is at (next ∙ ap (λ (y : TrackState). record u { next_link = y.next_link + 1 }) here)
+pub linked-risen : (is : List ℕ) (ts us : List TrackState) (t u v : TrackState) (made : Link) → 0 < length ts → t ≡ get_or ts 0 t → us ≡ all_linked made ts is → u ≡ get_or us 0 u
+    → v ≡ record u { next_link = t.next_link + 1 } → home_risen (all_linked made ts is) ≡ set us 0 v
+linked-risen is [] us t u v made some here all at next = absurd (omega (arith, some))
+linked-risen is (x ∷ xs) us t u v made some here all at next =
+    linked_risen made x xs is us u v all at (next ∙ ap (λ (y : TrackState). record u { next_link = y.next_link + 1 }) here)
 
 -- why nothing is refused
-
-or_none : (a b : Option Refusal) → or_else a b ≡ None → a ≡ None
-or_none None b e = refl
-or_none (Some r) b e = absurd cc
 
 pub some-named : (ts : List TrackState) (is : List ℕ) → link_refusal ts is ≡ None → 0 < length ts
 some-named [] is e = absurd cc
@@ -247,28 +203,3 @@ all-there (t ∷ ts) is e = by (are_there (t ∷ ts) is) e where
   by : (b : Bool) → cond b (or_else (offsets_differ (t ∷ ts) is) (already_linked (t ∷ ts) is)) (Some NoItem) ≡ None → b ≡ true
   by true e = refl
   by false e = absurd cc
-
--- as the code looks for a refusal
-
-pub none-named : (ts : List TrackState) (is : List ℕ) → length ts ≡ 0 → link_refusal ts is ≡ Some (NoTrack 0)
-none-named [] is e = refl
-none-named (t ∷ ts) is e = absurd (omega (arith, e))
-
-pub some-missing : (ts : List TrackState) (is : List ℕ) → 0 < length ts → are_there ts is ≡ false → link_refusal ts is ≡ Some NoItem
-some-missing [] is some e = absurd (omega (arith, some))
-some-missing (t ∷ ts) is some e = ap (λ (b : Bool). cond b (or_else (offsets_differ (t ∷ ts) is) (already_linked (t ∷ ts) is)) (Some NoItem)) e
-
-pub refused-there : (ts : List TrackState) (is : List ℕ) (o : Option Refusal) → 0 < length ts → are_there ts is ≡ true → o ≡ offsets_differ ts is → link_refusal ts is ≡ or_else o (already_linked ts is)
-refused-there [] is o some e f = absurd (omega (arith, some))
-refused-there (t ∷ ts) is o some e f =
-    ap (λ (b : Bool). cond b (or_else (offsets_differ (t ∷ ts) is) (already_linked (t ∷ ts) is)) (Some NoItem)) e
-    ∙ ap (λ (p : Option Refusal). or_else p (already_linked (t ∷ ts) is)) (sym f)
-
--- the first item's offset
-pub first-offset : (first : ℤ) (ts : List TrackState) (is : List ℕ) (t : TrackState) (i : ℕ) → 0 < length ts → 0 < length is → t ≡ get_or ts 0 t → i ≡ get_or is 0 i → first ≡ item_offset t i
-    → offsets_differ ts is ≡ other_offset first ts is
-first-offset first [] is t i some any e f g = absurd (omega (arith, some))
-first-offset first (x ∷ xs) [] t i some any e f g = absurd (omega (arith, any))
-first-offset first (x ∷ xs) (j ∷ js) t i some any e f g =
-    let same : item_offset x j ≡ first = sym (g ∙ (ap (λ (y : TrackState). item_offset y i) e ∙ ap (item_offset x) f)) in
-    ap (λ (n : ℤ). other_offset n (x ∷ xs) (j ∷ js)) same

@@ -51,8 +51,9 @@ pub fn link<L: Ledger>(
         Some(refusal) => return Err(EditFault::Refused(refusal)),
         None => {}
     }
-    let home = named[0].number();
-    let number = named[0].next_link();
+    let first = &named[0];
+    let home = first.number();
+    let number = first.next_link();
     let made = Link {
         home,
         number,

@@ -49,7 +49,10 @@ fn track_of(alloc: Global, table: &Table, number: u32, source: u32) -> Result<Op
     ensures roomy { IfOk result (λ o. IfSome o (λ t. IsRoomy t)) }
 {
     let view = ItemView::clip(0, What::Media(0), source, 5);
-    if source > 1_000 || !table.lies_in(view.first, view.len, 0, 0) {
+    if source > 1_000 {
+        return Ok(None);
+    }
+    if !table.lies_in(view.first, view.len, 0, 0) {
         return Ok(None);
     }
     let mut track = Track::empty(alloc, number);

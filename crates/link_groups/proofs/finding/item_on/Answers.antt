@@ -1,9 +1,6 @@
-use Rattle.std.proofs.Common.{◌≡◌, length, refl, sym, ◌∙◌, arith}
-use Rattle.link_groups.proofs.Found.{found-empty, found-none, found-there, index-there}
+use Rattle.std.proofs.Common.{refl, sym, ◌∙◌}
+use Rattle.link_groups.proofs.Found.{found-none, found-there, index-there}
 use Rattle.link_groups.proofs.finding.item_on.Goals as goal
-
-pub returns-then-length-clause-found : goal.returns-then-length-clause-found
-returns-then-length-clause-found g c = found-empty c.args.track.now c.args.item (omega (arith, c.length.ensures.value, c.if-length.true))
 
 pub returns-in_default-clause-found : goal.returns-in_default-clause-found
 returns-in_default-clause-found g c = found-none c.args.track.now c.args.item (c.in_default.ensures.none.0 refl)

@@ -5,7 +5,7 @@ use Rattle.link_groups.proofs.Linked.{not-there}
 use Rattle.link_groups.proofs.linking.are_there.Goals as goal
 
 pub returns-then-named-items-clause-there : goal.returns-then-named-items-clause-there
-returns-then-named-items-clause-there g c = ?
+returns-then-named-items-clause-there g c = sym (not-there c.args.named.now c.args.items.now c.if-named-items.true)
 
 pub returns-then-is_none-clause-most : goal.returns-then-is_none-clause-most
 returns-then-is_none-clause-most g c =

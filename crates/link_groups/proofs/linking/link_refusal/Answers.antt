@@ -6,4 +6,4 @@ pub offsets_differ-requires-clause-each : goal.offsets_differ-requires-clause-ea
 offsets_differ-requires-clause-each g c = as-many c.args.named.now c.args.items.now (sym c.are_there.ensures.there ∙ c.if-not-are_there.false)
 
 pub already_linked-requires : goal.already_linked-requires
-already_linked-requires g c = as-many c.args.named.now c.args.items.now (sym c.are_there.ensures.there ∙ c.if-not-are_there.false)
+already_linked-requires g c = record { each = as-many c.args.named.now c.args.items.now (sym c.are_there.ensures.there ∙ c.if-not-are_there.false) }
