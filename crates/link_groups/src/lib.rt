@@ -1,4 +1,4 @@
-//! Links of items: made, taken away, asked about where what is linked moves, and split where only a part of it does.
+//! Links of items: made, taken away, and asked about where what is linked moves.
 //!
 //! The main contracts are that `link` and `unlink` leave on the named tracks, and answer, exactly what their meaning says
 //! as a list of cells, and that `check` is the refusal of a shift for the links of what it moves. After a refusal all

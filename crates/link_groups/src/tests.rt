@@ -197,8 +197,8 @@ fn undo<L: Ledger>(
     named.push(track)?;
     let _ = link(alloc, table, &mut named, call, &mut steps);
     let linked = link_at(&named, 0);
-    let undone = Unlink { track: 0, item };
-    let answer = unlink(alloc, table, &mut named, &undone, &mut steps);
+    let asked = Unlink { track: 0, item };
+    let answer = unlink(alloc, table, &mut named, &asked, &mut steps);
     let unlinked = link_at(&named, 0);
     Ok(Undone {
         linked,
@@ -207,7 +207,7 @@ fn undo<L: Ledger>(
     })
 }
 
-fn undone(alloc: Global, item: u32) -> Result<Option<Undone>, Memory> {
+fn after_unlink(alloc: Global, item: u32) -> Result<Option<Undone>, Memory> {
     let table = table(alloc)?;
     let Some(track) = track_of(alloc, &table, 0, 10)? else {
         return Ok(None);
@@ -227,11 +227,11 @@ fn a_link_is_taken_away(rt: HostRuntime) -> Result<(), Fail> {
         number: 0,
         tracks: 1,
     });
-    let all = undone(rt.alloc(), 0)?.ok_or("there is such a track")?;
+    let all = after_unlink(rt.alloc(), 0)?.ok_or("there is such a track")?;
     assert_eq!(rt; all.linked, made);
     assert_eq!(rt; all.answer, Ok(Done::Plain));
     assert_eq!(rt; all.unlinked, None);
-    let none = undone(rt.alloc(), 7)?.ok_or("there is such a track")?;
+    let none = after_unlink(rt.alloc(), 7)?.ok_or("there is such a track")?;
     assert_eq!(rt; none.answer, Err(EditFault::Refused(Refusal::NoItem)));
     assert_eq!(rt; none.unlinked, made);
     Ok(())
