@@ -1,6 +1,6 @@
 -- Links of cells that are moved: each must have all of its tracks among the named, and is split where it has cells
 -- that stay.
-use Rattle.std.specs.Prelude.{ℕ, ◌+◌, Bool, ◌&&◌, ◌||◌, not, List, [], ◌∷◌, ◌++◌, Option, Some, None, map, take, drop, filter, nat_eq, nat_lt, if◌then◌else◌}
+use Rattle.std.specs.Prelude.{ℕ, ◌+◌, Bool, ◌&&◌, ◌||◌, not, List, [], ◌∷◌, ◌++◌, Option, Some, None, is_some, map, take, drop, filter, nat_eq, nat_lt, if◌then◌else◌}
 use Rattle.std.specs.List.{flat_map, list_any}
 use Rattle.frame_meaning.specs.declared.cells.Cell.{Cell}
 use Rattle.frame_meaning.specs.declared.cells.Link.{Link}
@@ -44,14 +44,34 @@ abbrev pub first_unnamed : List TrackState → List ℕ → Option ℕ
 first_unnamed named [] = None
 first_unnamed named (n ∷ ns) = if is_named named n then first_unnamed named ns else Some n
 
-abbrev pub outside_or : Link → Option ℕ → Option Refusal → Option Refusal
-outside_or l None then_this = then_this
-outside_or l (Some n) then_this = Some (LinkOutside l.home l.number n)
+-- a link that has a track which is not named
+abbrev pub outside : List TrackState → Option Link → Option Link
+outside named None = None
+outside named (Some l) = if is_some (first_unnamed named (tracks_in l.tracks)) then Some l else None
 
--- the first of these links that has a track which is not named, and its first such track
-abbrev pub link_outside : List TrackState → List Link → Option Refusal
-link_outside named [] = None
-link_outside named (l ∷ ls) = outside_or l (first_unnamed named (tracks_in l.tracks)) (link_outside named ls)
+-- the least of two links that may be there, and of equal ones the first
+abbrev pub least_link : Option Link → Option Link → Option Link
+least_link None m = m
+least_link (Some l) None = Some l
+least_link (Some l) (Some m) = if link_before m l then Some m else Some l
+
+-- the least link of these cells that has a track which is not named
+abbrev pub least_outside : List TrackState → List Cell → Option Link
+least_outside named [] = None
+least_outside named (c ∷ cs) = least_link (outside named c.link) (least_outside named cs)
+
+abbrev pub outside_at : Link → Option ℕ → Option Refusal
+outside_at l None = None
+outside_at l (Some n) = Some (LinkOutside l.home l.number n)
+
+-- the refusal of its first such track
+abbrev pub outside_refusal : List TrackState → Option Link → Option Refusal
+outside_refusal named None = None
+outside_refusal named (Some l) = outside_at l (first_unnamed named (tracks_in l.tracks))
+
+-- the least of the links of these cells that has a track which is not named, and its first such track
+abbrev pub link_outside : List TrackState → List Cell → Option Refusal
+link_outside named cells = outside_refusal named (least_outside named cells)
 
 -- the links that have cells both before x and from z on
 abbrev pub split_links : ℕ → ℕ → List TrackState → List Link

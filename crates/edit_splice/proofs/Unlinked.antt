@@ -13,7 +13,7 @@ use Rattle.composables.specs.Items.{cells_of, items_of, marked, view_cells}
 use Rattle.composables.specs.TrackFacts.{IsKept}
 use Rattle.composables.specs.TrackState.{TrackState, next_past_all}
 use Rattle.composables.specs.Joined.{frames_in}
-use Rattle.composables.specs.Links.{cells_from, cells_before, each_split, link_before, link_outside, links_in, links_split, same_link, with_link, with_link_of}
+use Rattle.composables.specs.Links.{cells_from, cells_before, each_split, link_before, least_link, least_outside, link_outside, links_in, links_split, outside, outside_refusal, same_link, with_link, with_link_of}
 use Rattle.edit_splice.specs.Shifts.{after_shift, shift_of, shift_refusal, shifted, shifted_along}
 use Rattle.frame_meaning.specs.Splice.{Rule, kept_or_dropped, renumbered, split_item, with_marks}
 use Rattle.composables.specs.declared.media.Table.{Table}
@@ -110,6 +110,12 @@ from_none : (place : ℕ) (ts : List TrackState) → Bare ts → links_in (cells
 from_none place [] h = refl
 from_none place (t ∷ ts) h = append_none (drop place t.cells) (cells_from place ts) (drop_none place t.cells h.0) (from_none place ts h.1)
 
+outside_none : (ts : List TrackState) (cs : List Cell) → links_in cs ≡ [] → least_outside ts cs ≡ None
+outside_none ts [] h = refl
+outside_none ts (c ∷ cs) h =
+    let p : (c.link ≡ None) × (links_in cs ≡ []) = first_none c.link (links_in cs) h in
+    ap (λ (o : Option Link). least_link (outside ts o) (least_outside ts cs)) p.0 ∙ outside_none ts cs p.1
+
 bare_track : (t : TrackState) → IsKept t → AllUnlinked (items_of t.cells) → links_in t.cells ≡ []
 bare_track t k u = subst (λ (cs : List Cell). links_in cs ≡ []) k.whole (cells_none (items_of t.cells) u)
 
@@ -155,18 +161,18 @@ bare-shifted own x y views (t ∷ ts) u b = (by (eqb t.number own), bare-shifted
 
 pub none-refused : (x y len : ℕ) (ts : List TrackState) → Bare ts → shift_refusal x y len ts ≡ None
 none-refused x y len ts h = by (eqb len (y - x)) where
-  by : (b : Bool) → cond b None (link_outside ts (links_in (cells_from y ts))) ≡ None
+  by : (b : Bool) → cond b None (link_outside ts (cells_from y ts)) ≡ None
   by true = refl
-  by false = ap (link_outside ts) (from_none y ts h)
+  by false = ap (outside_refusal ts) (outside_none ts (cells_from y ts) (from_none y ts h))
 
-none_split : (x z : ℕ) (ts : List TrackState) → Bare ts → links_split x z ts ≡ ts
-none_split x z ts h = ap (λ (ls : List Link). each_split z ts (filter (λ (l : Link). list_any (same_link l) (links_in (cells_before x ts))) ls)) (from_none z ts h)
+pub split-free : (x z : ℕ) (ts : List TrackState) → Bare ts → links_split x z ts ≡ ts
+split-free x z ts h = ap (λ (ls : List Link). each_split z ts (filter (λ (l : Link). list_any (same_link l) (links_in (cells_before x ts))) ls)) (from_none z ts h)
 
 pub none-split : (own x y : ℕ) (views : List ItemView) (ts : List TrackState) → Bare (shifted own x y views ts) → after_shift own x y views ts ≡ shifted own x y views ts
 none-split own x y views ts h = by (eqb (frames_in views) (y - x)) where
   by : (b : Bool) → cond b (shifted own x y views ts) (links_split x (x + frames_in views) (shifted own x y views ts)) ≡ shifted own x y views ts
   by true = refl
-  by false = none_split x (x + frames_in views) (shifted own x y views ts) h
+  by false = split-free x (x + frames_in views) (shifted own x y views ts) h
 
 pub shift-free : (own x y : ℕ) (views : List ItemView) (done : Done) (ts : List TrackState) → AllUnlinked views → Bare ts
     → shift_of own x y views done ts ≡ within_limits (shifted own x y views ts) done

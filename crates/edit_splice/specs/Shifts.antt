@@ -8,7 +8,7 @@ use Rattle.composables.specs.TrackState.{TrackState}
 use Rattle.edit_splice.specs.Splicing.{spliced_track}
 use Rattle.composables.specs.Answers.{Applied, unless}
 use Rattle.composables.specs.Limits.{within_limits}
-use Rattle.composables.specs.Links.{cells_from, link_outside, links_in, links_split}
+use Rattle.composables.specs.Links.{cells_from, link_outside, links_split}
 use Rattle.composables.specs.Views.{gap_views}
 
 -- another track than the call's own: x and y are cut to its length, and as many dark frames are put in where x is
@@ -26,7 +26,7 @@ shifted own x y views named = map (shifted_track own x y views) named
 
 -- the refusal of a shift that puts len frames in place of [x, y), for the links of what it moves
 abbrev pub shift_refusal : ℕ → ℕ → ℕ → List TrackState → Option Refusal
-shift_refusal x y len named = if nat_eq len (y - x) then None else link_outside named (links_in (cells_from y named))
+shift_refusal x y len named = if nat_eq len (y - x) then None else link_outside named (cells_from y named)
 
 -- the tracks after it: where it moves, links are split
 abbrev pub after_shift : ℕ → ℕ → ℕ → List ItemView → List TrackState → List TrackState

@@ -11,6 +11,7 @@ use Rattle.composables.specs.declared.TheConstants.{MAX_FRAMES}
 use Rattle.composables.specs.Good.{AllUnlinked, AreUnlinked, IsGood}
 use Rattle.composables.specs.Items.{cell_in, items_of}
 use Rattle.composables.specs.Limits.{within_limits}
+use Rattle.composables.specs.OwnTracks.{track_numbered}
 use Rattle.composables.specs.Places.{StandsAt}
 use Rattle.composables.specs.Ranges.{range_of}
 use Rattle.composables.specs.Roomy.{IsRoomy}
@@ -129,11 +130,11 @@ ready_bare : (table : Table) (ts : List TrackState) (i : ℕ) (t : TrackState) (
 ready_bare table ts i t v c p r k = unlinked-there (items_of t.cells) p.index v k.spot.read (named-holds (λ (u : TrackState). AllUnlinked (items_of u.cells)) c.track i ts t k.own k.bare)
 
 end_some : (table : Table) (ts : List TrackState) (t : TrackState) (v : ItemView) (p : Place) (room : ℕ) (c : Ripple) (r : Rippled) (s : Shift) (end : End) → Spot table t p.index v p.from p.to
-    → AreUpTo (have_room c.track (end_place end p) ts) room → IsRippled table end p v room c r → Bare ts → v.link ≡ None → HasPlaces c.track p.to ts → r.shift ≡ Some s
+    → AreUpTo (have_room c.track (end_place end p) ts) room → IsRippled table end p v room c r → Bare ts → track_numbered t.number ts ≡ Some t → v.link ≡ None → HasPlaces c.track p.to ts → r.shift ≡ Some s
     → ripple_end table c.track ts t end c.by p.from p.to ≡ within_limits (all_moved s ts) r.done
-end_some table ts t v p room c r s Head spot has is bare unlinked places some =
-    head_means table ts t p.index v p room c r s spot is (head-used table ts t p.index v p room c r spot has is) bare unlinked places some
-end_some table ts t v p room c r s Tail spot has is bare unlinked places some =
+end_some table ts t v p room c r s Head spot has is bare found unlinked places some =
+    head_means table ts t p.index v p room c r s spot is (head-used table ts t p.index v p room c r spot has is) bare found unlinked places some
+end_some table ts t v p room c r s Tail spot has is bare found unlinked places some =
     tail_means table ts t p.index v p room c r s spot is (tail-used table ts t p.index v p room c r spot has is) bare unlinked places some
 
 end_none : (table : Table) (ts : List TrackState) (t : TrackState) (v : ItemView) (p : Place) (room : ℕ) (c : Ripple) (r : Rippled) (end : End) → Spot table t p.index v p.from p.to
@@ -147,7 +148,7 @@ pub ready-some : (table : Table) (ts : List TrackState) (i : ℕ) (t : TrackStat
     → ripple_named table ts c ≡ within_limits (all_moved s ts) r.done
 ready-some table ts i t v c p r s k some =
     means_end table ts i t v c p r k
-    ∙ end_some table ts t v p k.among.room c r s c.end k.spot k.among.has k.among.is (bare-good table ts k.good k.bare) (ready_bare table ts i t v c p r k) (ready_places table ts i t v c p r k) some
+    ∙ end_some table ts t v p k.among.room c r s c.end k.spot k.among.has k.among.is (bare-good table ts k.good k.bare) (ap (λ (n : ℕ). track_numbered n ts) k.own.number ∙ k.own.found) (ready_bare table ts i t v c p r k) (ready_places table ts i t v c p r k) some
 
 pub ready-none : (table : Table) (ts : List TrackState) (i : ℕ) (t : TrackState) (v : ItemView) (c : Ripple) (p : Place) (r : Rippled) → IsReady table ts i t v c p r → r.shift ≡ None → ripple_named table ts c ≡ Ok (ts, r.done)
 ready-none table ts i t v c p r k none =

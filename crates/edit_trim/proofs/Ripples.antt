@@ -1,5 +1,5 @@
 -- A ripple as it is meant, and as a shift of all named tracks.
-use Rattle.std.proofs.Common.{◌≡◌, ◌≢◌, ℕ, zero, suc, ◌+◌, ◌-◌, ◌<◌, ◌≤◌, ◌^◌, Bool, true, false, cond, eqb, leb, ltb, ◌&&◌, min, ℤ, pos, negsuc, neg_ℤ, nat_abs, List, [], ◌∷◌, ◌++◌, All, drop, length, map, get_or, Option, Some, None, Result, Ok, Err, refl, sym, ap, ◌∙◌, arith, subst, w32, SFits, to_z, of_z, ⊎_elim}
+use Rattle.std.proofs.Common.{◌≡◌, ◌≢◌, ℕ, zero, suc, ◌+◌, ◌-◌, ◌<◌, ◌≤◌, ◌^◌, Bool, true, false, cond, eqb, leb, ltb, ◌&&◌, min, ℤ, pos, negsuc, neg_ℤ, nat_abs, List, [], ◌∷◌, ◌++◌, All, drop, length, map, get_or, Option, Some, None, Result, Ok, Err, refl, sym, ap, ◌∙◌, arith, subst, w32, SFits, to_z, of_z, unwrap_or, ⊎_elim}
 use Rattle.std.proofs.lemmas.Bool.{eq-eqb, eqb-true, leb-false, leb-true, le-leb, le-ltb, lt-leb, lt-ltb, cases_lt}
 use Rattle.std.proofs.lemmas.List.{drop_all, drop_more}
 use Rattle.std.proofs.lemmas.Int.{to_z-of_z}
@@ -24,6 +24,7 @@ use Rattle.composables.specs.Answers.{Applied}
 use Rattle.composables.specs.Good.{AllUnlinked, IsGood}
 use Rattle.composables.specs.Items.{cell_in, items_of}
 use Rattle.composables.specs.Limits.{within_limits}
+use Rattle.composables.specs.OwnTracks.{track_numbered}
 use Rattle.composables.specs.TrackFacts.{HasSource}
 use Rattle.composables.specs.TrackState.{TrackState}
 use Rattle.edit_delta.specs.declared.deltas.Used.{Used}
@@ -41,9 +42,9 @@ use Rattle.edit_splice.specs.Moves.{all_moved}
 use Rattle.edit_splice.specs.Padding.{new_views}
 use Rattle.edit_splice.specs.Shifts.{shift_of}
 use Rattle.edit_splice.proofs.Bridging.{extract-moved}
-use Rattle.edit_splice.proofs.Unlinked.{Bare, shift-free}
+use Rattle.edit_splice.proofs.Unlinked.{Bare, shift-free, split-free}
 use Rattle.edit_trim.specs.declared.rippling.Rippled.{Rippled}
-use Rattle.edit_trim.specs.Rippling.{CanShift, EndFits, IsRippled, IsWhole, has_room, have_room, ripple_allows, ripple_end, rippled, shift_by, used_on_all}
+use Rattle.edit_trim.specs.Rippling.{CanShift, EndFits, IsRippled, IsWhole, as_split, has_room, have_room, ripple_allows, ripple_end, rippled, shift_by, used_on_all}
 
 -- the room of the named tracks is what the code has found
 up_room : (own place : ℕ) (ts : List TrackState) (room m : ℕ) (f : ℕ → Bool) → AreUpTo (have_room own place ts) room → AreUpTo (λ n. leb n room && f n) m → AreUpTo (λ n. have_room own place ts n && f n) m
@@ -265,10 +266,15 @@ tail_means table ts t i v p room c r s spot is used bare unlinked long some = by
       ∙ (made m (By d) ts tt bare (places_of m c.track p.to ts refl (omega arith) (omega arith) long)
       ∙ (ap (λ (z : Shift). within_limits (all_moved z ts) (By d)) same ∙ ap (within_limits (all_moved s ts)) said))
 
+-- tracks without links have none to split
+bare_split : (place : ℕ) (ts : List TrackState) (t : TrackState) → Bare ts → track_numbered t.number ts ≡ Some t → as_split place ts t ≡ t
+bare_split place ts t bare found =
+    ap (λ (us : List TrackState). unwrap_or (track_numbered t.number us) t) (split-free place place ts bare) ∙ ap (λ (o : Option TrackState). unwrap_or o t) found
+
 pub head_means : (table : Table) (ts : List TrackState) (t : TrackState) (i : ℕ) (v : ItemView) (p : Place) (room : ℕ) (c : Ripple) (r : Rippled) (s : Shift) → Spot table t i v p.from p.to → (is : IsRippled table Head p v room c r)
-    → IsUsed (nearest (ripple_allows table c.track ts t p.from p.to Head) c.by) is.delta → Bare ts → v.link ≡ None → HasPlaces c.track p.to ts → r.shift ≡ Some s
+    → IsUsed (nearest (ripple_allows table c.track ts t p.from p.to Head) c.by) is.delta → Bare ts → track_numbered t.number ts ≡ Some t → v.link ≡ None → HasPlaces c.track p.to ts → r.shift ≡ Some s
     → ripple_end table c.track ts t Head c.by p.from p.to ≡ within_limits (all_moved s ts) r.done
-head_means table ts t i v p room c r s spot is used bare unlinked long some = by_way is.delta.way refl is.fits (sym is.shift ∙ some) where
+head_means table ts t i v p room c r s spot is used bare found unlinked long some = by_way is.delta.way refl is.fits (sym is.shift ∙ some) where
   d : ℤ
   d = nearest (ripple_allows table c.track ts t p.from p.to Head) c.by
 
@@ -276,7 +282,7 @@ head_means table ts t i v p room c r s spot is used bare unlinked long some = by
   out done n = shift_of c.track p.from (p.from + n) [] done ts
 
   back : Done → ℕ → Applied
-  back done n = shift_of c.track p.from p.from (reaching_back (cell_at t.cells p.from) n ∷ []) done ts
+  back done n = shift_of c.track p.from p.from (reaching_back (cell_at (as_split p.from ts t).cells p.from) n ∷ []) done ts
 
   said : By d ≡ r.done
   said = sym used.done ∙ sym is.done
@@ -295,6 +301,6 @@ head_means table ts t i v p room c r s spot is used bare unlinked long some = by
       let same : m ≡ s = cc in
       let way = way_of_used d is.delta (Earlier n) used k in
       used_earlier ts out back d n way.0 way.1
-      ∙ (ap (λ (g : ItemView). shift_of c.track p.from p.from (g ∷ []) (By d) ts) (ap (λ (x : Cell). reaching_back x n) (spot-head table t i v p.from p.to spot))
+      ∙ (ap (λ (g : ItemView). shift_of c.track p.from p.from (g ∷ []) (By d) ts) (ap (λ (u : TrackState). reaching_back (cell_at u.cells p.from) n) (bare_split p.from ts t bare found) ∙ ap (λ (x : Cell). reaching_back x n) (spot-head table t i v p.from p.to spot))
       ∙ (made m (By d) ts (unlinked, tt) bare (places_of m c.track p.to ts refl (omega (arith, spot.long)) (omega (arith, spot.long)) long)
       ∙ (ap (λ (z : Shift). within_limits (all_moved z ts) (By d)) same ∙ ap (within_limits (all_moved s ts)) said)))

@@ -1,6 +1,6 @@
 -- What a ripple means, as OpenTimelineIO's editAlgorithm names it; its limits and named tracks are this project's own. An
 -- end of the item moves, and all that is behind it comes as much later or earlier on all named tracks.
-use Rattle.std.specs.Prelude.{◌≡◌, ◌<◌, ◌≤◌, Some, None, ℕ, zero, suc, ◌+◌, ◌-◌, ◌^◌, ℤ, pos, negsuc, nat_abs, Bool, true, ◌&&◌, ◌||◌, List, [], ◌∷◌, Option, Result, Ok, nat_eq, nat_le, nat_lt, length, if◌then◌else◌}
+use Rattle.std.specs.Prelude.{◌≡◌, ◌<◌, ◌≤◌, Some, None, ℕ, zero, suc, ◌+◌, ◌-◌, ◌^◌, ℤ, pos, negsuc, nat_abs, Bool, true, ◌&&◌, ◌||◌, List, [], ◌∷◌, Option, Result, Ok, nat_eq, nat_le, nat_lt, length, unwrap_or, if◌then◌else◌}
 use Rattle.frame_meaning.specs.Cells.{later_side}
 use Rattle.frame_meaning.specs.Numbered.{SideIsNumbered}
 use Rattle.frame_meaning.specs.Render.{cell_at}
@@ -17,7 +17,8 @@ use Rattle.composables.specs.declared.items.Place.{Place}
 use Rattle.composables.specs.Items.{cell_in}
 use Rattle.composables.specs.Good.{SideLiesIn}
 use Rattle.composables.specs.TrackFacts.{HasSource}
-use Rattle.composables.specs.OwnTracks.{for_own}
+use Rattle.composables.specs.Links.{links_split}
+use Rattle.composables.specs.OwnTracks.{for_own, track_numbered}
 use Rattle.composables.specs.Ranges.{range_of}
 use Rattle.composables.specs.TrackState.{TrackState}
 use Rattle.edit_delta.specs.Nearest.{AreUpTo, by_sign, lies_within, nearest}
@@ -46,10 +47,15 @@ ripple_allows table own named t x y Head =
 ripple_allows table own named t x y Tail =
     by_sign (λ n. have_room own y named n && has_after table (cell_at t.cells (y - 1)).side n) (keeps_a_cell x y)
 
--- the shift by which the end comes n frames later, or earlier: it goes on or reaches back, or gives frames up
+-- the track t as a split leaves it of the links of what these tracks have from a place on
+abbrev pub as_split : ℕ → List TrackState → TrackState → TrackState
+as_split place named t = unwrap_or (track_numbered t.number (links_split place place named)) t
+
+-- the shift by which the end comes n frames later, or earlier: it goes on or reaches back, or gives frames up. Where it
+-- reaches back it does so with the link that its frames get, which are moved.
 abbrev pub rippled : ℕ → List TrackState → TrackState → ℕ → ℕ → End → Done → ℤ → Applied
 rippled own named t x y Head done =
-    by_sign (λ n. shift_of own x (x + n) [] done named) (λ n. shift_of own x x (reaching_back (cell_at t.cells x) n ∷ []) done named)
+    by_sign (λ n. shift_of own x (x + n) [] done named) (λ n. shift_of own x x (reaching_back (cell_at (as_split x named t).cells x) n ∷ []) done named)
 rippled own named t x y Tail done =
     by_sign (λ n. shift_of own y y (going_on (cell_at t.cells (y - 1)) n ∷ []) done named) (λ n. shift_of own (y - n) y [] done named)
 

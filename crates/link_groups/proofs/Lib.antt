@@ -1,0 +1,7 @@
+pub mod Relinked
+pub mod Found
+pub mod Linked
+pub mod NamedSets
+pub mod Named
+pub mod LeastLinks
+pub mod TestTracks

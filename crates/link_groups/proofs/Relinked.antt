@@ -1,0 +1,221 @@
+-- A track of which one item gets a link, or loses its own.
+use Rattle.std.proofs.Common.{◌≡◌, ◌≢◌, ℕ, zero, suc, ◌<◌, ◌≤◌, Bool, true, false, cond, List, [], ◌∷◌, ◌++◌, length, map, Option, Some, None, IfSome, slice_get, refl, sym, ap, ◌∙◌, arith, subst}
+use Rattle.std.proofs.lemmas.List.{map-append}
+use Rattle.std.proofs.lemmas.Option.{slice_get_within}
+use Rattle.frame_meaning.specs.declared.cells.Cell.{Cell}
+use Rattle.frame_meaning.specs.declared.cells.Link.{Link}
+use Rattle.frame_meaning.specs.declared.cells.Mark.{Mark}
+use Rattle.frame_meaning.specs.declared.cells.What.{What}
+use Rattle.frame_meaning.specs.declared.frames.Side.{Side}
+use Rattle.frame_meaning.specs.declared.frames.Side.TheVariants.{Dark, Pic}
+use Rattle.frame_meaning.specs.Cells.{next_side, same_number, span}
+use Rattle.composables.specs.declared.items.ItemView.{ItemView}
+use Rattle.composables.specs.declared.media.Table.{Table}
+use Rattle.composables.specs.Changes.{changed_at, changed_track, with_link}
+use Rattle.composables.specs.Good.{AllUnlinked, EachLiesIn, EachLinkOf, IsGood, IsLinkOf, SideLiesIn}
+use Rattle.composables.specs.Items.{cells_of, items_of, marked, view_cells}
+use Rattle.composables.specs.Joined.{AllFilled, IsTight, joined}
+use Rattle.composables.specs.TrackFacts.{Apart, EachHolds, Holds, IsKept, Lacks, NumbersBelow, ShowsAsItem, first_mark, left_reach, right_reach}
+use Rattle.composables.specs.TrackState.{TrackState}
+use Rattle.composables.proofs.Changing.{LeavesShape, filled-changed, frames_in-changed, tight-changed}
+use Rattle.composables.proofs.Joining.{items_of-cells_of, items_of-tight, length-cells_of, same-is, same-refl, tight-joined}
+use Rattle.link_groups.specs.LinkedItems.{linked_cell, linked_item}
+
+-- the cells of an item or gap
+
+span_other : (i : ℕ) (link : Option Link) (o : Option ℕ) (s : Side What) (l : Option Link) (n : ℕ) → same_number o (Some i) ≡ false → map (linked_cell i link) (span o s l n) ≡ span o s l n
+span_other i link o s l zero e = refl
+span_other i link o s l (suc n) e =
+    let c : Cell = record { item = o; side = s; mark = None; link = l } in
+    ap (λ (b : Bool). cond b (record c { link = link }) c ∷ map (linked_cell i link) (span o (next_side s) l n)) e
+    ∙ ap (λ (cs : List Cell). c ∷ cs) (span_other i link o (next_side s) l n e)
+
+span_linked : (i : ℕ) (link : Option Link) (o : Option ℕ) (s : Side What) (l : Option Link) (n : ℕ) → same_number o (Some i) ≡ true → map (linked_cell i link) (span o s l n) ≡ span o s link n
+span_linked i link o s l zero e = refl
+span_linked i link o s l (suc n) e =
+    let c : Cell = record { item = o; side = s; mark = None; link = l } in
+    ap (λ (b : Bool). cond b (record c { link = link }) c ∷ map (linked_cell i link) (span o (next_side s) l n)) e
+    ∙ ap (λ (cs : List Cell). record c { link = link } ∷ cs) (span_linked i link o (next_side s) l n e)
+
+marked_linked : (i : ℕ) (link : Option Link) (m : Option Mark) (cs : List Cell) → map (linked_cell i link) (marked m cs) ≡ marked m (map (linked_cell i link) cs)
+marked_linked i link m [] = refl
+marked_linked i link m (c ∷ cs) = ap (λ (d : Cell). d ∷ map (linked_cell i link) cs) (by (same_number c.item (Some i))) where
+  by : (b : Bool) → cond b (record (record c { mark = m }) { link = link }) (record c { mark = m }) ≡ record (cond b (record c { link = link }) c) { mark = m }
+  by true = refl
+  by false = refl
+
+view_other : (i : ℕ) (link : Option Link) (v : ItemView) → same_number v.item (Some i) ≡ false → map (linked_cell i link) (view_cells v) ≡ view_cells v
+view_other i link v e = marked_linked i link v.mark (span v.item v.first v.link v.len) ∙ ap (marked v.mark) (span_other i link v.item v.first v.link v.len e)
+
+view_linked : (i : ℕ) (link : Option Link) (v : ItemView) → same_number v.item (Some i) ≡ true → map (linked_cell i link) (view_cells v) ≡ view_cells (with_link link v)
+view_linked i link v e = marked_linked i link v.mark (span v.item v.first v.link v.len) ∙ ap (marked v.mark) (span_linked i link v.item v.first v.link v.len e)
+
+-- those of all
+
+pub not_same : (o : Option ℕ) (i : ℕ) → o ≢ Some i → same_number o (Some i) ≡ false
+not_same o i n = by (same_number o (Some i)) refl where
+  by : (b : Bool) → same_number o (Some i) ≡ b → b ≡ false
+  by true e = absurd (n (same-is o (Some i) e))
+  by false e = refl
+
+pub is_same : (o : Option ℕ) (i : ℕ) → o ≡ Some i → same_number o (Some i) ≡ true
+is_same o i e = ap (λ (p : Option ℕ). same_number p (Some i)) e ∙ same-refl (Some i)
+
+cells_other : (i : ℕ) (link : Option Link) (vs : List ItemView) → Lacks i vs → map (linked_cell i link) (cells_of vs) ≡ cells_of vs
+cells_other i link [] h = refl
+cells_other i link (v ∷ vs) h =
+    map-append (linked_cell i link) (view_cells v) (cells_of vs)
+    ∙ (ap (λ (cs : List Cell). cs ++ map (linked_cell i link) (cells_of vs)) (view_other i link v (not_same v.item i h.0))
+    ∙ ap (λ (cs : List Cell). view_cells v ++ cs) (cells_other i link vs h.1))
+
+pub lacks_there : (i : ℕ) (vs : List ItemView) (k : ℕ) (v : ItemView) → Lacks i vs → slice_get vs k ≡ Some v → v.item ≡ Some i → ⊥
+lacks_there i [] k v h e is = absurd (omega (arith, slice_get_within [] k v e))
+lacks_there i (w ∷ ws) zero v h e is = let same : w ≡ v = cc in h.0 (ap (λ (u : ItemView). u.item) same ∙ is)
+lacks_there i (w ∷ ws) (suc k) v h e is = lacks_there i ws k v h.1 e is
+
+pub lacks_of : (o : Option ℕ) (i : ℕ) (vs : List ItemView) → IfSome o (λ j. Lacks j vs) → o ≡ Some i → Lacks i vs
+lacks_of None i vs h e = absurd cc
+lacks_of (Some j) i vs h e = let same : j ≡ i = cc in subst (λ (n : ℕ). Lacks n vs) same h
+
+cells_linked : (i : ℕ) (link : Option Link) (vs : List ItemView) (k : ℕ) (v : ItemView) → Apart vs → slice_get vs k ≡ Some v → v.item ≡ Some i
+    → map (linked_cell i link) (cells_of vs) ≡ cells_of (changed_at (with_link link) k vs)
+cells_linked i link [] k v a e is = absurd (omega (arith, slice_get_within [] k v e))
+cells_linked i link (w ∷ ws) zero v a e is =
+    let same : w ≡ v = cc in
+    let number : w.item ≡ Some i = ap (λ (u : ItemView). u.item) same ∙ is in
+    map-append (linked_cell i link) (view_cells w) (cells_of ws)
+    ∙ (ap (λ (cs : List Cell). cs ++ map (linked_cell i link) (cells_of ws)) (view_linked i link w (is_same w.item i number))
+    ∙ ap (λ (cs : List Cell). view_cells (with_link link w) ++ cs) (cells_other i link ws (lacks_of w.item i ws a.0 number)))
+cells_linked i link (w ∷ ws) (suc k) v a e is =
+    let other : w.item ≢ Some i = λ n. lacks_there i ws k v (lacks_of w.item i ws a.0 n) e is in
+    map-append (linked_cell i link) (view_cells w) (cells_of ws)
+    ∙ (ap (λ (cs : List Cell). cs ++ map (linked_cell i link) (cells_of ws)) (view_other i link w (not_same w.item i other))
+    ∙ ap (λ (cs : List Cell). view_cells w ++ cs) (cells_linked i link ws k v a.1 e is))
+
+-- what stays as it was
+
+lacks_relinked : (n : ℕ) (link : Option Link) (k : ℕ) (vs : List ItemView) → Lacks n vs → Lacks n (changed_at (with_link link) k vs)
+lacks_relinked n link k [] l = tt
+lacks_relinked n link zero (v ∷ vs) l = l
+lacks_relinked n link (suc k) (v ∷ vs) l = (l.0, lacks_relinked n link k vs l.1)
+
+if_lacks : (o : Option ℕ) (link : Option Link) (k : ℕ) (vs : List ItemView) → IfSome o (λ n. Lacks n vs) → IfSome o (λ n. Lacks n (changed_at (with_link link) k vs))
+if_lacks None link k vs l = tt
+if_lacks (Some n) link k vs l = lacks_relinked n link k vs l
+
+apart_relinked : (link : Option Link) (k : ℕ) (vs : List ItemView) → Apart vs → Apart (changed_at (with_link link) k vs)
+apart_relinked link k [] a = tt
+apart_relinked link zero (v ∷ vs) a = a
+apart_relinked link (suc k) (v ∷ vs) a = (if_lacks v.item link k vs a.0, apart_relinked link k vs a.1)
+
+below_relinked : (next : ℕ) (link : Option Link) (k : ℕ) (vs : List ItemView) → NumbersBelow next vs → NumbersBelow next (changed_at (with_link link) k vs)
+below_relinked next link k [] b = tt
+below_relinked next link zero (v ∷ vs) b = b
+below_relinked next link (suc k) (v ∷ vs) b = (b.0, below_relinked next link k vs b.1)
+
+first_relinked : (link : Option Link) (k : ℕ) (vs : List ItemView) → first_mark (changed_at (with_link link) k vs) ≡ first_mark vs
+first_relinked link k [] = refl
+first_relinked link zero (v ∷ vs) = refl
+first_relinked link (suc k) (v ∷ vs) = refl
+
+ranges_relinked : (table : Table) (link : Option Link) (k : ℕ) (vs : List ItemView) → EachLiesIn table vs → EachLiesIn table (changed_at (with_link link) k vs)
+ranges_relinked table link k [] h = tt
+ranges_relinked table link zero (v ∷ vs) h = h
+ranges_relinked table link (suc k) (v ∷ vs) h =
+    (subst (λ (m : Option Mark). SideLiesIn table v.first v.len (left_reach v.mark) (right_reach m)) (sym (first_relinked link k vs)) h.0, ranges_relinked table link k vs h.1)
+
+length_relinked : (link : Option Link) (k : ℕ) (vs : List ItemView) → length (changed_at (with_link link) k vs) ≡ length vs
+length_relinked link k [] = refl
+length_relinked link zero (v ∷ vs) = refl
+length_relinked link (suc k) (v ∷ vs) = ap suc (length_relinked link k vs)
+
+-- an item with a number shows as one with any link
+shows_relinked : (o : Option ℕ) (d : Side What) (l link : Option Link) (i : ℕ) → o ≡ Some i → ShowsAsItem o d l → ShowsAsItem o d link
+shows_relinked None d l link i e h = absurd cc
+shows_relinked (Some j) Dark l link i e h = h
+shows_relinked (Some j) (Pic w s) l link i e h = tt
+
+holds_relinked : (v : ItemView) (tail : Option Mark) (link : Option Link) (i : ℕ) → v.item ≡ Some i → Holds v tail → Holds (with_link link v) tail
+holds_relinked v tail link i e h = record {
+  filled = h.filled;
+  shows = shows_relinked v.item v.first v.link link i e h.shows;
+  mark_filled = h.mark_filled;
+  room = h.room;
+  source = h.source;
+  head_no_nest = h.head_no_nest;
+  tail_no_nest = h.tail_no_nest;
+}
+
+each_relinked : (link : Option Link) (i : ℕ) (vs : List ItemView) (k : ℕ) (v : ItemView) → slice_get vs k ≡ Some v → v.item ≡ Some i → EachHolds vs → EachHolds (changed_at (with_link link) k vs)
+each_relinked link i [] k v e is h = absurd (omega (arith, slice_get_within [] k v e))
+each_relinked link i (w ∷ ws) zero v e is h =
+    let same : w ≡ v = cc in
+    (holds_relinked w (first_mark ws) link i (ap (λ (u : ItemView). u.item) same ∙ is) h.0, h.1)
+each_relinked link i (w ∷ ws) (suc k) v e is h =
+    (subst (Holds w) (sym (first_relinked link k ws)) h.0, each_relinked link i ws k v e is h.1)
+
+links_relinked : (n : ℕ) (link : Option Link) (k : ℕ) (vs : List ItemView) → IsLinkOf n link → EachLinkOf n vs → EachLinkOf n (changed_at (with_link link) k vs)
+links_relinked n link k [] of h = tt
+links_relinked n link zero (v ∷ vs) of h = (of, h.1)
+links_relinked n link (suc k) (v ∷ vs) of h = (h.0, links_relinked n link k vs of h.1)
+
+unlinked_relinked : (k : ℕ) (vs : List ItemView) → AllUnlinked vs → AllUnlinked (changed_at (with_link None) k vs)
+unlinked_relinked k [] h = tt
+unlinked_relinked zero (v ∷ vs) h = (refl, h.1)
+unlinked_relinked (suc k) (v ∷ vs) h = (h.0, unlinked_relinked k vs h.1)
+
+filled_of : (vs : List ItemView) → EachHolds vs → AllFilled vs
+filled_of [] e = tt
+filled_of (v ∷ vs) e = (e.0.filled, filled_of vs e.1)
+
+tight_of : (t : TrackState) → IsKept t → IsTight (items_of t.cells)
+tight_of t k =
+    let P : List ItemView → Type 0 = λ vs. IsTight vs in
+    let is : joined (items_of t.cells) ≡ items_of t.cells = sym (items_of-cells_of (items_of t.cells) (filled_of (items_of t.cells) k.each)) ∙ ap items_of k.whole in
+    subst P is (tight-joined (items_of t.cells))
+
+items_relinked : (t : TrackState) (link : Option Link) (k : ℕ) → IsKept t → items_of (changed_track t k (with_link link)).cells ≡ changed_at (with_link link) k (items_of t.cells)
+items_relinked t link k kept =
+    let shape : LeavesShape (with_link link) = record { item = λ v. refl; len = λ v. refl } in
+    items_of-tight (changed_at (with_link link) k (items_of t.cells))
+    (filled-changed (with_link link) shape k (items_of t.cells) (filled_of (items_of t.cells) kept.each))
+    (tight-changed (with_link link) shape k (items_of t.cells) (tight_of t kept))
+
+length_cells : (t : TrackState) (link : Option Link) (k : ℕ) → IsKept t → length (changed_track t k (with_link link)).cells ≡ length t.cells
+length_cells t link k kept =
+    let shape : LeavesShape (with_link link) = record { item = λ v. refl; len = λ v. refl } in
+    omega (arith, length-cells_of (changed_at (with_link link) k (items_of t.cells)), length-cells_of (items_of t.cells), frames_in-changed (with_link link) shape k (items_of t.cells), ap length kept.whole)
+
+-- one item of a good track is linked anew
+pub record IsRelinked (table : Table) (t : TrackState) (k i : ℕ) (link : Option Link) : Type 0 where
+  pub same : changed_track t k (with_link link) ≡ linked_item t i link
+  pub good : IsGood table (changed_track t k (with_link link))
+  pub unlinked : link ≡ None → AllUnlinked (items_of t.cells) → AllUnlinked (items_of (changed_track t k (with_link link)).cells)
+  pub items : length (items_of (changed_track t k (with_link link)).cells) ≡ length (items_of t.cells)
+
+pub relinked : (table : Table) (t : TrackState) (k i : ℕ) (v : ItemView) (link : Option Link) → IsGood table t → slice_get (items_of t.cells) k ≡ Some v → v.item ≡ Some i → IsLinkOf t.number link
+    → IsRelinked table t k i link
+relinked table t k i v link g e is of =
+    let kept = g.kept in
+    let vs = items_of t.cells in
+    let same = items_relinked t link k kept in
+    let long = length_cells t link k kept in
+    record {
+      same = ap (λ (cs : List Cell). record t { cells = cs }) (sym (cells_linked i link vs k v kept.apart e is) ∙ ap (map (linked_cell i link)) kept.whole);
+      good = record {
+        kept = record {
+          whole = ap cells_of same;
+          not_before = rw same (first_relinked link k vs ∙ kept.not_before);
+          each = rw same (each_relinked link i vs k v e is kept.each);
+          apart = rw same (apart_relinked link k vs kept.apart);
+          below = rw same (below_relinked t.next_item link k vs kept.below);
+          short = omega (arith, kept.short, long);
+        };
+        ranges = rw same (ranges_relinked table link k vs g.ranges);
+        links = rw same (links_relinked t.number link k vs of g.links);
+        frames = omega (arith, long, g.frames);
+        items = omega (arith, ap length same, length_relinked link k vs, g.items);
+      };
+      unlinked = λ n u. subst AllUnlinked (sym same) (subst (λ (l : Option Link). AllUnlinked (changed_at (with_link l) k vs)) (sym n) (unlinked_relinked k vs u));
+      items = ap length same ∙ length_relinked link k vs;
+    }

@@ -1,0 +1,41 @@
+use Rattle.std.proofs.Common.{◌≡◌, ◌+◌, ◌≤◌, ◌<◌, Option, Some, take, drop, slice_get, ap, sym, ◌∙◌, arith}
+use Rattle.frame_meaning.specs.declared.cells.Link.{Link}
+use Rattle.composables.specs.Items.{cells_of, items_of}
+use Rattle.composables.specs.Joined.{frames_in}
+use Rattle.composables.specs.Links.{least_link, least_outside}
+use Rattle.link_groups.proofs.LeastLinks.{filled-at, frames-more, frames-within, item-met, item-passed}
+use Rattle.link_groups.proofs.outside.least_on.Goals as goal
+use Rattle.link_groups.proofs.outside.least_on.Goals.{then-to-from, else-to-from}
+
+pub overflow_add-to : goal.overflow_add-to
+overflow_add-to g c = omega (arith, c.loop-index.invariant.to, frames-within c.args.track.now c.loop-index.index c.length.ensures.kept)
+
+pub loop-index-preserved : goal.loop-index-preserved
+loop-index-preserved g c =
+    let read : slice_get (items_of c.args.track.now.cells) c.loop-index.index ≡ Some c.in-Some.view = sym c.item.ensures ∙ c.in-Some.is in
+    let more = frames-more (items_of c.args.track.now.cells) c.loop-index.index c.in-Some.view read in
+    elim c.if-to-from.branch [
+      | then-to-from w ↦ record {
+        to = omega (arith, c.loop-index.invariant.to, c.from-to.ensures, more);
+        least =
+            w.least-is
+            ∙ (w.least_link-least.ensures
+            ∙ (ap (λ (o : Option Link). least_link o w.outside.result) c.loop-index.invariant.least
+            ∙ (ap (least_link (least_outside c.args.named.now (drop c.args.y (cells_of (take c.loop-index.index (items_of c.args.track.now.cells)))))) w.outside.ensures
+            ∙ sym (item-met c.args.named.now c.args.y c.loop-index.index (items_of c.args.track.now.cells) c.in-Some.view read
+            (omega (arith, w.if-to-from.true, c.from.ensures, c.loop-index.invariant.to, c.from-to.ensures, more))
+            (filled-at (items_of c.args.track.now.cells) c.loop-index.index c.in-Some.view read c.length.ensures.kept.each)))));
+        from = omega (arith, c.loop-index.invariant.from, c.tick.ensures);
+        most = omega (arith, c.loop-index.invariant.most, c.tick.ensures);
+      }
+      | else-to-from w ↦ record {
+        to = omega (arith, c.loop-index.invariant.to, c.from-to.ensures, more);
+        least =
+            w.least-is
+            ∙ (c.loop-index.invariant.least
+            ∙ sym (item-passed c.args.named.now c.args.y c.loop-index.index (items_of c.args.track.now.cells) c.in-Some.view read
+            (omega (arith, w.if-to-from.false, c.from.ensures, c.loop-index.invariant.to, c.from-to.ensures, more))));
+        from = omega (arith, c.loop-index.invariant.from, c.tick.ensures);
+        most = omega (arith, c.loop-index.invariant.most, c.tick.ensures);
+      }
+    ]

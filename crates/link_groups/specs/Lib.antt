@@ -1,0 +1,2 @@
+pub mod LinkedItems
+pub mod Linking

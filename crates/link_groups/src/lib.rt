@@ -1,0 +1,20 @@
+//! Links of items: made, taken away, and asked about where what is linked moves.
+//!
+//! The main contracts are that `link` and `unlink` leave on the named tracks, and answer, exactly what their meaning says
+//! as a list of cells, and that `check` is the refusal of a shift for the links of what it moves. After a refusal all
+//! tracks are as they were.
+#![tactic(auto)]
+
+mod finding;
+mod linking;
+mod offsets;
+mod outside;
+mod unlinking;
+
+pub use linking::link;
+pub use offsets::offset;
+pub use outside::check;
+pub use unlinking::unlink;
+
+#[cfg(test)]
+mod tests;

@@ -1,0 +1,138 @@
+// Links of what is moved that reach a track which is not named.
+ghost use Rattle.std.specs.Prelude.{◌≡◌, ◌+◌, ◌<◌, ◌≤◌, ◌&&◌, not, drop};
+ghost use Rattle.std.specs.List.{list_any};
+ghost use Rattle.composables.specs.Links.{cells_from, first_unnamed, is_named, least_link, least_outside, link_before, link_outside, outside, outside_refusal};
+ghost use Rattle.composables.specs.Sizes.{size_of, sizes_of};
+ghost use Rattle.composables.specs.TrackSets.{has_track, tracks_in};
+
+use composables::{Refusal, Track, has_track};
+use frame_meaning::Link;
+use std::sync::ledger::Ledger;
+use step_count::Steps;
+
+/// Why a shift that moves what these tracks have from the record frame `y` on is refused for its links, if it is: the
+/// least of those links that has a track which is not named, by home and then number, and its first such track.
+pub fn check<L: Ledger>(named: &[Track], _x: u32, y: u32, steps: &mut Steps<L>) -> Option<Refusal>
+    ensures refusal { result ≡ link_outside named.now (cells_from y named.now) }
+    ensures least { steps.old ≤ steps.new }
+    ensures most { steps.new ≤ steps.old + sizes_of named.now }
+{
+    let least = least_outside(named, y, steps);
+    outside_refusal(named, least)
+}
+
+fn outside_refusal(named: &[Track], link: Option<Link>) -> Option<Refusal>
+    ensures { result ≡ outside_refusal named.now link }
+{
+    match link {
+        Some(link) => match first_unnamed(named, link.tracks) {
+            Some(track) => Some(Refusal::LinkOutside {
+                home: link.home,
+                number: link.number,
+                track,
+            }),
+            None => None,
+        },
+        None => None,
+    }
+}
+
+fn least_outside<L: Ledger>(named: &[Track], y: u32, steps: &mut Steps<L>) -> Option<Link>
+    ensures least { result ≡ least_outside named.now (cells_from y named.now) }
+    ensures from { steps.old ≤ steps.new }
+    ensures most { steps.new ≤ steps.old + sizes_of named.now }
+{
+    let mut least = None;
+    for track in named {
+        least = least_link(least, least_on(named, track, y, steps));
+    }
+    least
+}
+
+// The same on one of the tracks.
+fn least_on<L: Ledger>(named: &[Track], track: &Track, y: u32, steps: &mut Steps<L>) -> Option<Link>
+    ensures least { result ≡ least_outside named.now (drop y track.now.cells) }
+    ensures from { steps.old ≤ steps.new }
+    ensures most { steps.new ≤ steps.old + size_of track.now }
+{
+    if track.length() <= y {
+        return None;
+    }
+    let mut least = None;
+    let mut to: u64 = 0;
+    for index in 0..track.count() {
+        steps.tick();
+        let Some(view) = track.item(index) else {
+            unreachable!()
+        };
+        to += u64::from(view.len);
+        if to > u64::from(y) {
+            least = least_link(least, outside(named, view.link));
+        }
+    }
+    least
+}
+
+fn least_link(one: Option<Link>, other: Option<Link>) -> Option<Link>
+    ensures { result ≡ least_link one other }
+{
+    match one {
+        None => other,
+        Some(l) => match other {
+            None => one,
+            Some(m) => { if link_before(m, l) { other } else { one } }
+        },
+    }
+}
+
+fn link_before(k: Link, l: Link) -> bool
+    ensures { result ≡ link_before k l }
+{
+    k.home < l.home || (k.home == l.home && k.number < l.number)
+}
+
+// The link, if it has a track which is not named.
+fn outside(named: &[Track], link: Option<Link>) -> Option<Link>
+    ensures { result ≡ outside named.now link }
+{
+    match link {
+        Some(l) => {
+            if first_unnamed(named, l.tracks).is_some() {
+                Some(l)
+            } else {
+                None
+            }
+        }
+        None => None,
+    }
+}
+
+// The first track of a set that is not named.
+fn first_unnamed(named: &[Track], tracks: u32) -> Option<u32>
+    ensures { result ≡ first_unnamed named.now (tracks_in tracks) }
+{
+    for track in 0..32 {
+        if is_unnamed(named, tracks, track) {
+            return Some(track);
+        }
+    }
+    None
+}
+
+fn is_unnamed(named: &[Track], tracks: u32, track: u32) -> bool
+    requires { track < 32 }
+    ensures { result ≡ (has_track tracks track && not (is_named named.now track)) }
+{
+    has_track(tracks, track) && !is_named(named, track)
+}
+
+fn is_named(named: &[Track], number: u32) -> bool
+    ensures { result ≡ is_named named.now number }
+{
+    for track in named {
+        if track.number() == number {
+            return true;
+        }
+    }
+    false
+}
