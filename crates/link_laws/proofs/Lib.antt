@@ -1,0 +1,4 @@
+pub mod Sights
+pub mod Tied
+pub mod Splices
+pub mod Edits

@@ -1,0 +1,14 @@
+use Rattle.link_laws.proofs.Edits.{dissolving-keeps, moving-keeps, putting-keeps, unlinking-keeps}
+use Rattle.link_laws.proofs.laws.together_law.Goals as goal
+
+pub returns-clause-putting_in : goal.returns-clause-putting_in
+returns-clause-putting_in c = putting-keeps
+
+pub returns-clause-moving_an_end : goal.returns-clause-moving_an_end
+returns-clause-moving_an_end c = moving-keeps
+
+pub returns-clause-dissolving : goal.returns-clause-dissolving
+returns-clause-dissolving c = dissolving-keeps
+
+pub returns-clause-unlinking : goal.returns-clause-unlinking
+returns-clause-unlinking c = unlinking-keeps

@@ -1,0 +1,3 @@
+pub mod Together
+pub mod Rooms
+pub mod Laws
