@@ -2,3 +2,4 @@ pub mod Sights
 pub mod Tied
 pub mod Splices
 pub mod Edits
+pub mod Linking

@@ -2,6 +2,7 @@
 use Rattle.composables.specs.declared.media.Table.{Table}
 use Rattle.composables.specs.declared.calls.Dissolve.{Dissolve}
 use Rattle.composables.specs.declared.calls.Fill.{Fill}
+use Rattle.composables.specs.declared.calls.Link3.{Link3}
 use Rattle.composables.specs.declared.calls.Overwrite.{Overwrite}
 use Rattle.composables.specs.declared.calls.Remove.{Remove}
 use Rattle.composables.specs.declared.calls.Roll.{Roll}
@@ -14,7 +15,7 @@ use Rattle.edit_insert.specs.Edits.{overwrite_named, remove_named, slice_named}
 use Rattle.edit_insert.specs.Fills.{fill_named}
 use Rattle.edit_roll.specs.Rolling.{roll_named}
 use Rattle.edit_trim.specs.Trimming.{trim_named}
-use Rattle.link_groups.specs.Linking.{unlink_named}
+use Rattle.link_groups.specs.Linking.{link_named, unlink_named}
 use Rattle.link_laws.specs.Rooms.{KeepsTogether}
 
 -- items put into one track, taken out of it, and cut in two
@@ -37,3 +38,7 @@ pub record DissolvingKeepsTogether : Type 0 where
 -- a link taken from an item
 abbrev pub UnlinkingKeepsTogether : Type 0
 UnlinkingKeepsTogether = (table : Table) (c : Unlink) → KeepsTogether table (λ named. unlink_named named c)
+
+-- items of one offset that get a new link
+abbrev pub LinkingKeepsTogether : Type 0
+LinkingKeepsTogether = (table : Table) (c : Link3) → KeepsTogether table (λ named. link_named named c)

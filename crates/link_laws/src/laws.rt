@@ -1,5 +1,5 @@
 // What is true of links under every edit.
-ghost use Rattle.link_laws.specs.Laws.{DissolvingKeepsTogether, MovingAnEndKeepsTogether, PuttingInKeepsTogether, UnlinkingKeepsTogether};
+ghost use Rattle.link_laws.specs.Laws.{DissolvingKeepsTogether, LinkingKeepsTogether, MovingAnEndKeepsTogether, PuttingInKeepsTogether, UnlinkingKeepsTogether};
 
 /// Where all tracks of a room are together they are so after each of these calls on the tracks that it names, and a
 /// refused call leaves them as they are: two frames of one link, on any tracks, have one set of tracks and one offset.
@@ -7,5 +7,6 @@ pub fn together_law()
     ensures putting_in { PuttingInKeepsTogether }
     ensures moving_an_end { MovingAnEndKeepsTogether }
     ensures dissolving { DissolvingKeepsTogether }
+    ensures linking { LinkingKeepsTogether }
     ensures unlinking { UnlinkingKeepsTogether }
 {}

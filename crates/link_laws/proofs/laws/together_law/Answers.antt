@@ -1,4 +1,5 @@
 use Rattle.link_laws.proofs.Edits.{dissolving-keeps, moving-keeps, putting-keeps, unlinking-keeps}
+use Rattle.link_laws.proofs.Linking.{linking-keeps}
 use Rattle.link_laws.proofs.laws.together_law.Goals as goal
 
 pub returns-clause-putting_in : goal.returns-clause-putting_in
@@ -12,3 +13,6 @@ returns-clause-dissolving c = dissolving-keeps
 
 pub returns-clause-unlinking : goal.returns-clause-unlinking
 returns-clause-unlinking c = unlinking-keeps
+
+pub returns-clause-linking : goal.returns-clause-linking
+returns-clause-linking c = linking-keeps
