@@ -3,3 +3,5 @@ pub mod Tied
 pub mod Splices
 pub mod Edits
 pub mod Linking
+pub mod LinkLists
+pub mod Splitting
