@@ -316,12 +316,12 @@ dissolving-keeps = record {
 
 unlinked_shows : (i p : ℕ) (cs : List Cell) (l : Link) (o : Option ℤ) → Shows p (map (linked_cell i None) cs) l o → Shows p cs l o
 unlinked_shows i p [] l o h = h
-unlinked_shows i p (c ∷ cs) l o h = by (same_number c.item (Some i)) h where
-  by : (b : Bool) → Shows p (cond b (record c { link = None }) c ∷ map (linked_cell i None) cs) l o → Shows p (c ∷ cs) l o
-  by true (inl k) = absurd (Prim.grind (arith, k.0))
-  by true (inr k) = inr (unlinked_shows i (p + 1) cs l o k)
-  by false (inl k) = inl k
-  by false (inr k) = inr (unlinked_shows i (p + 1) cs l o k)
+unlinked_shows i p (c ∷ cs) l o h = by (same_number c.item (Some i)) h (λ k. unlinked_shows i (p + 1) cs l o k) where
+  by : (b : Bool) → Shows p (cond b (record c { link = None }) c ∷ map (linked_cell i None) cs) l o → (Shows (p + 1) (map (linked_cell i None) cs) l o → Shows (p + 1) cs l o) → Shows p (c ∷ cs) l o
+  by true (inl k) later = absurd (Prim.grind (arith, k.0))
+  by true (inr k) later = inr (later k)
+  by false (inl k) later = inl k
+  by false (inr k) later = inr (later k)
 
 unlink_one : (table : Table) (c : Unlink) (t : TrackState) → IsGood table t → KeptOne t (unlink_on c t)
 unlink_one table c t g = by (item_of t c.item) where

@@ -1,5 +1,5 @@
 -- The links of cells as a list, those that a shift splits, and those of which all tracks are named.
-use Rattle.std.proofs.Common.{◌≡◌, ℕ, zero, suc, ◌+◌, ◌<◌, ◌≤◌, ◌/◌, ◌^◌, ◌⊎◌, inl, inr, ℤ, Bool, true, false, cond, eqb, ◌&&◌, ◌||◌, List, [], ◌∷◌, ◌++◌, take, drop, filter, is_some, Option, Some, None, refl, sym, ap, ◌∙◌, arith, subst, IsBitSet}
+use Rattle.std.proofs.Common.{◌≡◌, ℕ, zero, suc, ◌+◌, ◌<◌, ◌≤◌, ◌/◌, ◌^◌, ◌⊎◌, inl, inr, ⊎_elim, ℤ, Bool, true, false, cond, eqb, ◌&&◌, ◌||◌, List, [], ◌∷◌, ◌++◌, take, drop, filter, is_some, Option, Some, None, refl, sym, ap, ◌∙◌, arith, subst, IsBitSet}
 use Rattle.std.proofs.lemmas.Bool.{cases_lt, eq-eqb, eqb-true}
 use Rattle.std.proofs.lemmas.Nat.{bit_set_by_shift}
 use Rattle.std.specs.Int.Bits.{bit_and}
@@ -91,28 +91,28 @@ any_true l (k ∷ ks) (inr h) = ap (λ (b : Bool). same_link l k || b) (any_true
 
 same_new : (l : Link) (ls : List Link) → AnySame l (with_link l ls)
 same_new l [] = inl (refl, refl)
-same_new l (k ∷ ks) = by (same_link l k) (link_before l k) refl where
-  by : (a b : Bool) → same_link l k ≡ a → AnySame l (cond a (k ∷ ks) (cond b (l ∷ k ∷ ks) (k ∷ with_link l ks)))
-  by true b e = inl (is-same l k e)
-  by false true e = inl (refl, refl)
-  by false false e = inr (same_new l ks)
+same_new l (k ∷ ks) = by (same_link l k) (link_before l k) refl (same_new l ks) where
+  by : (a b : Bool) → same_link l k ≡ a → AnySame l (with_link l ks) → AnySame l (cond a (k ∷ ks) (cond b (l ∷ k ∷ ks) (k ∷ with_link l ks)))
+  by true b e later = inl (is-same l k e)
+  by false true e later = inl (refl, refl)
+  by false false e later = inr later
 
 same_old : (l m : Link) (ls : List Link) → AnySame l ls → AnySame l (with_link m ls)
 same_old l m [] h = absurd h
-same_old l m (k ∷ ks) h = by (same_link m k) (link_before m k) h where
-  by : (a b : Bool) → AnySame l (k ∷ ks) → AnySame l (cond a (k ∷ ks) (cond b (m ∷ k ∷ ks) (k ∷ with_link m ks)))
-  by true b h = h
-  by false true h = inr h
-  by false false (inl h) = inl h
-  by false false (inr h) = inr (same_old l m ks h)
+same_old l m (k ∷ ks) h = by (same_link m k) (link_before m k) h (λ g. same_old l m ks g) where
+  by : (a b : Bool) → AnySame l (k ∷ ks) → (AnySame l ks → AnySame l (with_link m ks)) → AnySame l (cond a (k ∷ ks) (cond b (m ∷ k ∷ ks) (k ∷ with_link m ks)))
+  by true b h later = h
+  by false true h later = inr h
+  by false false (inl h) later = inl h
+  by false false (inr h) later = inr (later h)
 
 pub in-links : (cs : List Cell) (l : Link) → Carries cs l → AnySame l (links_in cs)
 in-links [] l h = absurd h
 in-links (c ∷ cs) l (inl h) = subst (λ (o : Option Link). AnySame l (with_link_of o (links_in cs))) (sym h) (same_new l (links_in cs))
-in-links (c ∷ cs) l (inr h) = by c.link where
-  by : (o : Option Link) → AnySame l (with_link_of o (links_in cs))
-  by None = in-links cs l h
-  by (Some m) = same_old l m (links_in cs) (in-links cs l h)
+in-links (c ∷ cs) l (inr h) = by c.link (in-links cs l h) where
+  by : (o : Option Link) → AnySame l (links_in cs) → AnySame l (with_link_of o (links_in cs))
+  by None later = later
+  by (Some m) later = same_old l m (links_in cs) later
 
 -- what is true of each link
 abbrev pub AllLinks : (Link → Type 0) → List Link → Type 0
@@ -121,41 +121,38 @@ AllLinks P (l ∷ ls) = P l × AllLinks P ls
 
 all_with : (P : Link → Type 0) (l : Link) (ls : List Link) → P l → AllLinks P ls → AllLinks P (with_link l ls)
 all_with P l [] p h = (p, tt)
-all_with P l (k ∷ ks) p h = by (same_link l k) (link_before l k) where
-  by : (a b : Bool) → AllLinks P (cond a (k ∷ ks) (cond b (l ∷ k ∷ ks) (k ∷ with_link l ks)))
-  by true b = h
-  by false true = (p, h)
-  by false false = (h.0, all_with P l ks p h.1)
+all_with P l (k ∷ ks) p h = by (same_link l k) (link_before l k) (all_with P l ks p h.1) where
+  by : (a b : Bool) → AllLinks P (with_link l ks) → AllLinks P (cond a (k ∷ ks) (cond b (l ∷ k ∷ ks) (k ∷ with_link l ks)))
+  by true b later = h
+  by false true later = (p, h)
+  by false false later = (h.0, later)
 
 pub all-links : (P : Link → Type 0) (cs : List Cell) → ((l : Link) → Carries cs l → P l) → AllLinks P (links_in cs)
 all-links P [] h = tt
-all-links P (c ∷ cs) h = by c.link refl where
-  rest : AllLinks P (links_in cs)
-  rest = all-links P cs (λ l k. h l (inr k))
-
-  by : (o : Option Link) → c.link ≡ o → AllLinks P (with_link_of o (links_in cs))
-  by None e = rest
-  by (Some l) e = all_with P l (links_in cs) (h l (inl e)) rest
+all-links P (c ∷ cs) h = by c.link refl (all-links P cs (λ l k. h l (inr k))) where
+  by : (o : Option Link) → c.link ≡ o → AllLinks P (links_in cs) → AllLinks P (with_link_of o (links_in cs))
+  by None e rest = rest
+  by (Some l) e rest = all_with P l (links_in cs) (h l (inl e)) rest
 
 pub all-filter : (P : Link → Type 0) (f : Link → Bool) (ls : List Link) → AllLinks P ls → AllLinks P (filter f ls)
 all-filter P f [] h = tt
-all-filter P f (l ∷ ls) h = by (f l) where
-  by : (b : Bool) → AllLinks P (cond b (l ∷ filter f ls) (filter f ls))
-  by true = (h.0, all-filter P f ls h.1)
-  by false = all-filter P f ls h.1
+all-filter P f (l ∷ ls) h = by (f l) (all-filter P f ls h.1) where
+  by : (b : Bool) → AllLinks P (filter f ls) → AllLinks P (cond b (l ∷ filter f ls) (filter f ls))
+  by true rest = (h.0, rest)
+  by false rest = rest
 
 -- a link of both lists is in the first of them, filtered by the second
 pub same-filter : (l : Link) (ls bs : List Link) → AnySame l ls → AnySame l bs → AnySame l (filter (λ (k : Link). list_any (same_link k) bs) ls)
 same-filter l [] bs h g = absurd h
-same-filter l (k ∷ ks) bs h g = by (list_any (same_link k) bs) refl h where
-  by : (b : Bool) → list_any (same_link k) bs ≡ b → AnySame l (k ∷ ks)
+same-filter l (k ∷ ks) bs h g = by (list_any (same_link k) bs) refl h (λ s. same-filter l ks bs s g) where
+  by : (b : Bool) → list_any (same_link k) bs ≡ b → AnySame l (k ∷ ks) → (AnySame l ks → AnySame l (filter (λ (m : Link). list_any (same_link m) bs) ks))
       → AnySame l (cond b (k ∷ filter (λ (m : Link). list_any (same_link m) bs) ks) (filter (λ (m : Link). list_any (same_link m) bs) ks))
-  by true e (inl s) = inl s
-  by true e (inr s) = inr (same-filter l ks bs s g)
-  by false e (inl s) = absurd (differ (sym e ∙ any_true k bs (any-same l k bs s g))) where
+  by true e (inl s) later = inl s
+  by true e (inr s) later = inr (later s)
+  by false e (inl s) later = absurd (differ (sym e ∙ any_true k bs (any-same l k bs s g))) where
     differ : false ≡ true → ⊥
     differ z = cc
-  by false e (inr s) = same-filter l ks bs s g
+  by false e (inr s) later = later s
 
 -- where no refusal is told for the links of cells, all tracks of each are named
 
@@ -184,10 +181,8 @@ outside_some named (Some l) k e = by (is_some (first_unnamed named (tracks_in l.
 
 least_some : (named : List TrackState) (cs : List Cell) (k : Link) → least_outside named cs ≡ Some k → is_some (first_unnamed named (tracks_in k.tracks)) ≡ true
 least_some named [] k e = absurd cc
-least_some named (c ∷ cs) k e = by (least_one (outside named c.link) (least_outside named cs) k e) where
-  by : (outside named c.link ≡ Some k) ⊎ (least_outside named cs ≡ Some k) → is_some (first_unnamed named (tracks_in k.tracks)) ≡ true
-  by (inl f) = outside_some named c.link k f
-  by (inr f) = least_some named cs k f
+least_some named (c ∷ cs) k e =
+    ⊎_elim (λ f. outside_some named c.link k f) (λ f. least_some named cs k f) (least_one (outside named c.link) (least_outside named cs) k e)
 
 none_least : (named : List TrackState) (cs : List Cell) → link_outside named cs ≡ None → least_outside named cs ≡ None
 none_least named cs e = by (least_outside named cs) refl e where
@@ -215,23 +210,22 @@ has_bit set n h = eq-eqb (bit_and (set / 2 ^ n) 1) 1 ((bit_set_by_shift set n).1
 
 named_from : (named : List TrackState) (set t n k : ℕ) → first_unnamed named (tracks_from set t n) ≡ None → t ≤ k → k < t + n → has_track set k ≡ true → is_named named k ≡ true
 named_from named set t zero k e le lt h = absurd (omega (arith, le, lt))
-named_from named set t (suc n) k e le lt h = by (has_track set t) refl e where
-  later : first_unnamed named (tracks_from set (suc t) n) ≡ None → t < k → is_named named k ≡ true
-  later f less = named_from named set (suc t) n k f (omega (arith, less)) (omega (arith, lt)) h
+named_from named set t (suc n) k e le lt h =
+    by (has_track set t) refl e (λ f less. named_from named set (suc t) n k f (omega (arith, less)) (omega (arith, lt)) h) where
+      by : (b : Bool) → has_track set t ≡ b → first_unnamed named (cond b (t ∷ tracks_from set (suc t) n) (tracks_from set (suc t) n)) ≡ None
+          → (first_unnamed named (tracks_from set (suc t) n) ≡ None → t < k → is_named named k ≡ true) → is_named named k ≡ true
+      by true f g later = at (is_named named t) refl g (cases_lt t k) where
+        at : (c : Bool) → is_named named t ≡ c → cond c (first_unnamed named (tracks_from set (suc t) n)) (Some t) ≡ None → (t < k) ⊎ (k ≤ t) → is_named named k ≡ true
+        at true i g (inl less) = later g less
+        at true i g (inr more) = let same : t ≡ k = omega (arith, le, more) in ap (is_named named) (sym same) ∙ i
+        at false i g c = absurd cc
+      by false f g later = at (cases_lt t k) where
+        differ : false ≡ true → ⊥
+        differ z = cc
 
-  by : (b : Bool) → has_track set t ≡ b → first_unnamed named (cond b (t ∷ tracks_from set (suc t) n) (tracks_from set (suc t) n)) ≡ None → is_named named k ≡ true
-  by true f g = at (is_named named t) refl g (cases_lt t k) where
-    at : (c : Bool) → is_named named t ≡ c → cond c (first_unnamed named (tracks_from set (suc t) n)) (Some t) ≡ None → (t < k) ⊎ (k ≤ t) → is_named named k ≡ true
-    at true i g (inl less) = later g less
-    at true i g (inr more) = let same : t ≡ k = omega (arith, le, more) in ap (is_named named) (sym same) ∙ i
-    at false i g c = absurd cc
-  by false f g = at (cases_lt t k) where
-    differ : false ≡ true → ⊥
-    differ z = cc
-
-    at : (t < k) ⊎ (k ≤ t) → is_named named k ≡ true
-    at (inl less) = later g less
-    at (inr more) = let same : t ≡ k = omega (arith, le, more) in absurd (differ (sym f ∙ (ap (has_track set) same ∙ h)))
+        at : (t < k) ⊎ (k ≤ t) → is_named named k ≡ true
+        at (inl less) = later g less
+        at (inr more) = let same : t ≡ k = omega (arith, le, more) in absurd (differ (sym f ∙ (ap (has_track set) same ∙ h)))
 
 all_named : (named : List TrackState) (set k : ℕ) → first_unnamed named (tracks_in set) ≡ None → k < 32 → IsBitSet set k → is_named named k ≡ true
 unfolding tracks_in

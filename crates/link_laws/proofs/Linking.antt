@@ -69,10 +69,8 @@ has_view p v i o h = has_span p v.item v.first v.link v.len i o (has_marked p v.
 
 has_none : (p : ℕ) (vs : List ItemView) (i : ℕ) (o : Option ℤ) → Lacks i vs → Has p (cells_of vs) i o → ⊥
 has_none p [] i o l h = h
-has_none p (v ∷ vs) i o l h = by (has_append p (view_cells v) (cells_of vs) i o h) where
-  by : Has p (view_cells v) i o ⊎ Has (p + length (view_cells v)) (cells_of vs) i o → ⊥
-  by (inl a) = l.0 (same-is v.item (Some i) (has_view p v i o a).0)
-  by (inr b) = has_none (p + length (view_cells v)) vs i o l.1 b
+has_none p (v ∷ vs) i o l h =
+    ⊎_elim (λ a. l.0 (same-is v.item (Some i) (has_view p v i o a).0)) (λ b. has_none (p + length (view_cells v)) vs i o l.1 b) (has_append p (view_cells v) (cells_of vs) i o h)
 
 shown_is : (n : Option ℕ) (i : ℕ) (s : Side What) (l : Option Link) (p : ℕ) → n ≡ Some i → ShowsAsItem n s l → offset_of s p ≡ Some (shown_offset (offset_of s p))
 shown_is None i s l p e h = absurd cc
@@ -81,15 +79,15 @@ shown_is (Some j) i (Pic w f) l p e h = refl
 
 has_item : (p : ℕ) (vs : List ItemView) (i : ℕ) (o : Option ℤ) → Apart vs → EachHolds vs → Has p (cells_of vs) i o → o ≡ Some (found_offset (item_from p vs i))
 has_item p [] i o a e h = absurd h
-has_item p (v ∷ vs) i o a e h = by (same_number v.item (Some i)) refl (has_append p (view_cells v) (cells_of vs) i o h) where
+has_item p (v ∷ vs) i o a e h = by (same_number v.item (Some i)) refl (has_append p (view_cells v) (cells_of vs) i o h) (λ k. has_item (p + v.len) vs i o a.1 e.1 k) where
   by : (b : Bool) → same_number v.item (Some i) ≡ b → Has p (view_cells v) i o ⊎ Has (p + length (view_cells v)) (cells_of vs) i o
-      → o ≡ Some (found_offset (cond b (Some (p, v)) (item_from (p + v.len) vs i)))
-  by true f (inl k) = sym (has_view p v i o k).1 ∙ shown_is v.item i v.first v.link p (same-is v.item (Some i) f) e.0.shows
-  by true f (inr k) = absurd (has_none (p + length (view_cells v)) vs i o (lacks_of v.item i vs a.0 (same-is v.item (Some i) f)) k)
-  by false f (inl k) = absurd (differ (sym f ∙ (has_view p v i o k).0)) where
+      → (Has (p + v.len) (cells_of vs) i o → o ≡ Some (found_offset (item_from (p + v.len) vs i))) → o ≡ Some (found_offset (cond b (Some (p, v)) (item_from (p + v.len) vs i)))
+  by true f (inl k) later = sym (has_view p v i o k).1 ∙ shown_is v.item i v.first v.link p (same-is v.item (Some i) f) e.0.shows
+  by true f (inr k) later = absurd (has_none (p + length (view_cells v)) vs i o (lacks_of v.item i vs a.0 (same-is v.item (Some i) f)) k)
+  by false f (inl k) later = absurd (differ (sym f ∙ (has_view p v i o k).0)) where
     differ : false ≡ true → ⊥
     differ z = cc
-  by false f (inr k) = has_item (p + v.len) vs i o a.1 e.1 (has_at (p + length (view_cells v)) (p + v.len) (cells_of vs) i o (omega (arith, length-view_cells v)) k)
+  by false f (inr k) later = later (has_at (p + length (view_cells v)) (p + v.len) (cells_of vs) i o (omega (arith, length-view_cells v)) k)
 
 -- tracks that get a link
 
@@ -102,17 +100,17 @@ gains_self made off t = record { shows = λ l o h. inl h; next = omega arith }
 
 linked_shows : (made : Link) (i p : ℕ) (cs : List Cell) (l : Link) (o : Option ℤ) → Shows p (map (linked_cell i (Some made)) cs) l o → Shows p cs l o ⊎ ((l ≡ made) × Has p cs i o)
 linked_shows made i p [] l o h = absurd h
-linked_shows made i p (c ∷ cs) l o h = by (same_number c.item (Some i)) refl h where
-  later : Shows (p + 1) cs l o ⊎ ((l ≡ made) × Has (p + 1) cs i o) → Shows p (c ∷ cs) l o ⊎ ((l ≡ made) × Has p (c ∷ cs) i o)
-  later (inl a) = inl (inr a)
-  later (inr b) = inr (b.0, inr b.1)
+linked_shows made i p (c ∷ cs) l o h = by (same_number c.item (Some i)) refl h (λ k. linked_shows made i (p + 1) cs l o k) where
+  one : Shows (p + 1) cs l o ⊎ ((l ≡ made) × Has (p + 1) cs i o) → Shows p (c ∷ cs) l o ⊎ ((l ≡ made) × Has p (c ∷ cs) i o)
+  one (inl a) = inl (inr a)
+  one (inr b) = inr (b.0, inr b.1)
 
   by : (b : Bool) → same_number c.item (Some i) ≡ b → Shows p (cond b (record c { link = Some made }) c ∷ map (linked_cell i (Some made)) cs) l o
-      → Shows p (c ∷ cs) l o ⊎ ((l ≡ made) × Has p (c ∷ cs) i o)
-  by true f (inl k) = inr (sym (some-is made l k.0), inl (f, k.1))
-  by true f (inr k) = later (linked_shows made i (p + 1) cs l o k)
-  by false f (inl k) = inl (inl k)
-  by false f (inr k) = later (linked_shows made i (p + 1) cs l o k)
+      → (Shows (p + 1) (map (linked_cell i (Some made)) cs) l o → Shows (p + 1) cs l o ⊎ ((l ≡ made) × Has (p + 1) cs i o)) → Shows p (c ∷ cs) l o ⊎ ((l ≡ made) × Has p (c ∷ cs) i o)
+  by true f (inl k) later = inr (sym (some-is made l k.0), inl (f, k.1))
+  by true f (inr k) later = one (later k)
+  by false f (inl k) later = inl (inl k)
+  by false f (inr k) later = one (later k)
 
 item_gains : (table : Table) (made : Link) (off : ℤ) (t : TrackState) (i next : ℕ) → IsGood table t → item_offset t i ≡ off → t.next_link ≤ next
     → Gains made off t (record (linked_item t i (Some made)) { next_link = next })
@@ -130,13 +128,13 @@ all_gain table all made off (t ∷ ts) [] g a e = each_same (t ∷ ts) where
   each_same : (us : List TrackState) → Each (Gains made off) us us
   each_same [] = tt
   each_same (u ∷ us) = (refl, gains_self made off u, each_same us)
-all_gain table all made off (t ∷ ts) (i ∷ is) g a e = by (int_eq (item_offset t i) off) refl e where
+all_gain table all made off (t ∷ ts) (i ∷ is) g a e = by (int_eq (item_offset t i) off) refl e (λ k. all_gain table all made off ts is g a.1 k) where
   by : (b : Bool) → int_eq (item_offset t i) off ≡ b → cond b (other_offset off ts is) (Some (OffsetsDiffer off (item_offset t i))) ≡ None
-      → Each (Gains made off) (t ∷ ts) (linked_item t i (Some made) ∷ all_linked made ts is)
-  by true f k = (refl, item_gains table made off t i t.next_link (good_at t.number t a.0) ((Decides-int_eq (item_offset t i) off).0 f) (omega arith), all_gain table all made off ts is g a.1 k) where
+      → (other_offset off ts is ≡ None → Each (Gains made off) ts (all_linked made ts is)) → Each (Gains made off) (t ∷ ts) (linked_item t i (Some made) ∷ all_linked made ts is)
+  by true f k later = (refl, item_gains table made off t i t.next_link (good_at t.number t a.0) ((Decides-int_eq (item_offset t i) off).0 f) (omega arith), later k) where
     good_at : (n : ℕ) (u : TrackState) → track_numbered n all ≡ Some u → IsGood table u
     good_at n u h = (good-found table all n u g h).1
-  by false f k = absurd cc
+  by false f k later = absurd cc
 
 -- the home has given its next link number away
 
@@ -149,17 +147,17 @@ left_number news t = by (track_numbered t.number news) refl where
 pub numbered-left : (n : ℕ) (news ts : List TrackState) (t : TrackState) → track_numbered n ts ≡ Some t → track_numbered n (with_tracks ts news) ≡ Some (as_left news t)
 numbered-left n news [] t e = absurd cc
 numbered-left n news (u ∷ us) t e =
-    ap (λ (m : ℕ). cond (eqb m n) (Some (as_left news u)) (track_numbered n (with_tracks us news))) (left_number news u) ∙ by (eqb u.number n) e where
-      by : (b : Bool) → cond b (Some u) (track_numbered n us) ≡ Some t → cond b (Some (as_left news u)) (track_numbered n (with_tracks us news)) ≡ Some (as_left news t)
-      by true h = ap (λ (v : TrackState). Some (as_left news v)) (some-is u t h)
-      by false h = numbered-left n news us t h
+    ap (λ (m : ℕ). cond (eqb m n) (Some (as_left news u)) (track_numbered n (with_tracks us news))) (left_number news u) ∙ by (eqb u.number n) e (λ k. numbered-left n news us t k) where
+      by : (b : Bool) → cond b (Some u) (track_numbered n us) ≡ Some t → (track_numbered n us ≡ Some t → track_numbered n (with_tracks us news) ≡ Some (as_left news t)) → cond b (Some (as_left news u)) (track_numbered n (with_tracks us news)) ≡ Some (as_left news t)
+      by true h later = ap (λ (v : TrackState). Some (as_left news v)) (some-is u t h)
+      by false h later = later h
 
 pub next-numbered : (n : ℕ) (ts : List TrackState) (t : TrackState) → track_numbered n ts ≡ Some t → next_link_at n ts ≡ t.next_link
 next-numbered n [] t e = absurd cc
-next-numbered n (u ∷ us) t e = by (eqb u.number n) e where
-  by : (b : Bool) → cond b (Some u) (track_numbered n us) ≡ Some t → cond b u.next_link (next_link_at n us) ≡ t.next_link
-  by true h = ap (λ (v : TrackState). v.next_link) (some-is u t h)
-  by false h = next-numbered n us t h
+next-numbered n (u ∷ us) t e = by (eqb u.number n) e (λ k. next-numbered n us t k) where
+  by : (b : Bool) → cond b (Some u) (track_numbered n us) ≡ Some t → (track_numbered n us ≡ Some t → next_link_at n us ≡ t.next_link) → cond b u.next_link (next_link_at n us) ≡ t.next_link
+  by true h later = ap (λ (v : TrackState). v.next_link) (some-is u t h)
+  by false h later = later h
 
 -- all tracks of the room
 

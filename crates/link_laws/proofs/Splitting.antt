@@ -84,19 +84,19 @@ named_split z l n (t ∷ ts) h = ap (λ (b : Bool). eqb t.number h || b) (named_
 
 next_home : (z : ℕ) (l : Link) (n : ℕ) (ts : List TrackState) → is_named ts l.home ≡ true → next_link_at l.home (map (splitting z l n) ts) ≡ n + 1
 next_home z l n [] e = absurd cc
-next_home z l n (t ∷ ts) e = by (eqb t.number l.home) e where
-  by : (b : Bool) → b || is_named ts l.home ≡ true → cond b (cond b (n + 1) t.next_link) (next_link_at l.home (map (splitting z l n) ts)) ≡ n + 1
-  by true e = refl
-  by false e = next_home z l n ts e
+next_home z l n (t ∷ ts) e = by (eqb t.number l.home) e (λ k. next_home z l n ts k) where
+  by : (b : Bool) → b || is_named ts l.home ≡ true → (is_named ts l.home ≡ true → next_link_at l.home (map (splitting z l n) ts) ≡ n + 1) → cond b (cond b (n + 1) t.next_link) (next_link_at l.home (map (splitting z l n) ts)) ≡ n + 1
+  by true e later = refl
+  by false e later = later e
 
 next_other : (z : ℕ) (l : Link) (n : ℕ) (ts : List TrackState) (h : ℕ) → (h ≡ l.home → ⊥) → next_link_at h (map (splitting z l n) ts) ≡ next_link_at h ts
 next_other z l n [] h no = refl
-next_other z l n (t ∷ ts) h no = by (eqb t.number h) (eqb t.number l.home) refl refl where
-  by : (a b : Bool) → eqb t.number h ≡ a → eqb t.number l.home ≡ b
+next_other z l n (t ∷ ts) h no = by (eqb t.number h) (eqb t.number l.home) refl refl (next_other z l n ts h no) where
+  by : (a b : Bool) → eqb t.number h ≡ a → eqb t.number l.home ≡ b → next_link_at h (map (splitting z l n) ts) ≡ next_link_at h ts
       → cond a (cond b (n + 1) t.next_link) (next_link_at h (map (splitting z l n) ts)) ≡ cond a t.next_link (next_link_at h ts)
-  by true true e f = absurd (no (sym (eqb-true t.number h e) ∙ eqb-true t.number l.home f))
-  by true false e f = refl
-  by false b e f = next_other z l n ts h no
+  by true true e f later = absurd (no (sym (eqb-true t.number h e) ∙ eqb-true t.number l.home f))
+  by true false e f later = refl
+  by false b e f later = later
 
 next_up : (z : ℕ) (l : Link) (ts : List TrackState) (h : ℕ) → is_named ts l.home ≡ true → next_link_at h ts ≤ next_link_at h (map (splitting z l (next_link_at l.home ts)) ts)
 next_up z l ts h named = by (eqb h l.home) refl where

@@ -92,39 +92,40 @@ some-is {A} a b e = ap (λ (o : Option A). unwrap_or o a) e
 
 pub numbered-is : (n : ℕ) (ts : List TrackState) (t : TrackState) → track_numbered n ts ≡ Some t → t.number ≡ n
 numbered-is n [] t e = absurd cc
-numbered-is n (u ∷ us) t e = by (eqb u.number n) refl e where
-  by : (b : Bool) → eqb u.number n ≡ b → cond b (Some u) (track_numbered n us) ≡ Some t → t.number ≡ n
-  by true f h = ap (λ (v : TrackState). v.number) (sym (some-is u t h)) ∙ eqb-true u.number n f
-  by false f h = numbered-is n us t h
+numbered-is n (u ∷ us) t e = by (eqb u.number n) refl e (λ k. numbered-is n us t k) where
+  by : (b : Bool) → eqb u.number n ≡ b → cond b (Some u) (track_numbered n us) ≡ Some t → (track_numbered n us ≡ Some t → t.number ≡ n) → t.number ≡ n
+  by true f h later = ap (λ (v : TrackState). v.number) (sym (some-is u t h)) ∙ eqb-true u.number n f
+  by false f h later = later h
 
 pub among-numbered : (all ts : List TrackState) (n : ℕ) (t : TrackState) → AreAmong all ts → track_numbered n ts ≡ Some t → track_numbered n all ≡ Some t
 among-numbered all [] n t a e = absurd cc
-among-numbered all (u ∷ us) n t a e = by (eqb u.number n) refl e where
-  by : (b : Bool) → eqb u.number n ≡ b → cond b (Some u) (track_numbered n us) ≡ Some t → track_numbered n all ≡ Some t
-  by true f h = ap (λ (m : ℕ). track_numbered m all) (sym (eqb-true u.number n f)) ∙ (a.0 ∙ h)
-  by false f h = among-numbered all us n t a.1 h
+among-numbered all (u ∷ us) n t a e = by (eqb u.number n) refl e (λ k. among-numbered all us n t a.1 k) where
+  by : (b : Bool) → eqb u.number n ≡ b → cond b (Some u) (track_numbered n us) ≡ Some t → (track_numbered n us ≡ Some t → track_numbered n all ≡ Some t) → track_numbered n all ≡ Some t
+  by true f h later = ap (λ (m : ℕ). track_numbered m all) (sym (eqb-true u.number n f)) ∙ (a.0 ∙ h)
+  by false f h later = later h
 
 pub good-found : (table : Table) (ts : List TrackState) (n : ℕ) (t : TrackState) → AreTracks table ts → track_numbered n ts ≡ Some t → (t.number < 32) × IsGood table t
 good-found table [] n t a e = absurd cc
-good-found table (u ∷ us) n t a e = by (eqb u.number n) e where
-  by : (b : Bool) → cond b (Some u) (track_numbered n us) ≡ Some t → (t.number < 32) × IsGood table t
-  by true h = subst (λ (v : TrackState). (v.number < 32) × IsGood table v) (some-is u t h) (a.0, a.1)
-  by false h = good-found table us n t a.2 h
+good-found table (u ∷ us) n t a e = by (eqb u.number n) e (λ k. good-found table us n t a.2 k) where
+  by : (b : Bool) → cond b (Some u) (track_numbered n us) ≡ Some t → (track_numbered n us ≡ Some t → (t.number < 32) × IsGood table t) → (t.number < 32) × IsGood table t
+  by true h later = subst (λ (v : TrackState). (v.number < 32) × IsGood table v) (some-is u t h) (a.0, a.1)
+  by false h later = later h
 
 found_of : (R : TrackState → TrackState → Type 0) (n : ℕ) (ts us : List TrackState) (u : TrackState) → Each R ts us → track_numbered n us ≡ Some u
     → (t : TrackState) × (track_numbered n ts ≡ Some t) × R t u
 found_of R n [] [] u each e = absurd cc
 found_of R n [] (v ∷ vs) u each e = absurd each
 found_of R n (t ∷ ts) [] u each e = absurd each
-found_of R n (t ∷ ts) (v ∷ vs) u each e = by (eqb v.number n) refl e where
+found_of R n (t ∷ ts) (v ∷ vs) u each e = by (eqb v.number n) refl e (λ k. found_of R n ts vs u each.2 k) where
   head : (b : Bool) → eqb v.number n ≡ b → track_numbered n (t ∷ ts) ≡ cond b (Some t) (track_numbered n ts)
   head b f =
       ap (λ (m : ℕ). cond (eqb m n) (Some t) (track_numbered n ts)) (sym each.0)
       ∙ ap (λ (c : Bool). cond c (Some t) (track_numbered n ts)) f
 
-  by : (b : Bool) → eqb v.number n ≡ b → cond b (Some v) (track_numbered n vs) ≡ Some u → (s : TrackState) × (track_numbered n (t ∷ ts) ≡ Some s) × R s u
-  by true f h = (t, head true f, subst (R t) (some-is v u h) each.1)
-  by false f h = let r = found_of R n ts vs u each.2 h in (r.0, head false f ∙ r.1, r.2)
+  by : (b : Bool) → eqb v.number n ≡ b → cond b (Some v) (track_numbered n vs) ≡ Some u
+      → (track_numbered n vs ≡ Some u → (s : TrackState) × (track_numbered n ts ≡ Some s) × R s u) → (s : TrackState) × (track_numbered n (t ∷ ts) ≡ Some s) × R s u
+  by true f h later = (t, head true f, subst (R t) (some-is v u h) each.1)
+  by false f h later = let r = later h in (r.0, head false f ∙ r.1, r.2)
 
 pub as-left : (R : TrackState → TrackState → Type 0) → ((t : TrackState) → R t t) → (all named news : List TrackState) → AreAmong all named → Each R named news
     → (t : TrackState) → track_numbered t.number all ≡ Some t → ((as_left news t).number ≡ t.number) × R t (as_left news t)
@@ -147,10 +148,10 @@ each-left R self all named news (t ∷ ts) among each a =
 pub each-with : (R : TrackState → TrackState → Type 0) → ((t : TrackState) → R t t) → (ts : List TrackState) (t u : TrackState) → track_numbered u.number ts ≡ Some t
     → u.number ≡ t.number → R t u → Each R ts (with_track ts u)
 each-with R self [] t u e n r = absurd cc
-each-with R self (w ∷ ws) t u e n r = by (eqb w.number u.number) refl e where
-  by : (b : Bool) → eqb w.number u.number ≡ b → cond b (Some w) (track_numbered u.number ws) ≡ Some t → Each R (w ∷ ws) (cond b (u ∷ ws) (w ∷ with_track ws u))
-  by true f h = (sym (eqb-true w.number u.number f), subst (λ (s : TrackState). R s u) (sym (some-is w t h)) r, each-self R self ws)
-  by false f h = (refl, self w, each-with R self ws t u h n r)
+each-with R self (w ∷ ws) t u e n r = by (eqb w.number u.number) refl e (λ k. each-with R self ws t u k n r) where
+  by : (b : Bool) → eqb w.number u.number ≡ b → cond b (Some w) (track_numbered u.number ws) ≡ Some t → (track_numbered u.number ws ≡ Some t → Each R ws (with_track ws u)) → Each R (w ∷ ws) (cond b (u ∷ ws) (w ∷ with_track ws u))
+  by true f h later = (sym (eqb-true w.number u.number f), subst (λ (s : TrackState). R s u) (sym (some-is w t h)) r, each-self R self ws)
+  by false f h later = (refl, self w, later h)
 
 -- a track that has no link with an offset that it had not, and gives no link number again
 pub record Keeps (t u : TrackState) : Type 0 where
@@ -175,13 +176,10 @@ next-more home [] [] each = omega arith
 next-more home [] (u ∷ us) each = absurd each
 next-more home (t ∷ ts) [] each = absurd each
 next-more home (t ∷ ts) (u ∷ us) each =
-    subst (λ (m : ℕ). next_link_at home (t ∷ ts) ≤ cond (eqb m home) u.next_link (next_link_at home us)) (sym each.0) (by (eqb t.number home)) where
-      later : next_link_at home ts ≤ next_link_at home us
-      later = next-more home ts us each.2
-
-      by : (b : Bool) → cond b t.next_link (next_link_at home ts) ≤ cond b u.next_link (next_link_at home us)
-      by true = each.1
-      by false = later
+    subst (λ (m : ℕ). next_link_at home (t ∷ ts) ≤ cond (eqb m home) u.next_link (next_link_at home us)) (sym each.0) (by (eqb t.number home) (next-more home ts us each.2)) where
+      by : (b : Bool) → next_link_at home ts ≤ next_link_at home us → cond b t.next_link (next_link_at home ts) ≤ cond b u.next_link (next_link_at home us)
+      by true later = each.1
+      by false later = later
 
 each_next : (ts us : List TrackState) → Each Keeps ts us → Each (λ (t u : TrackState). t.next_link ≤ u.next_link) ts us
 each_next [] [] each = tt
