@@ -5,3 +5,4 @@ pub mod Edits
 pub mod Linking
 pub mod LinkLists
 pub mod Splitting
+pub mod Shifting

@@ -138,8 +138,8 @@ all_gain table all made off (t ∷ ts) (i ∷ is) g a e = by (int_eq (item_offse
 
 -- the home has given its next link number away
 
-left_number : (news : List TrackState) (t : TrackState) → (as_left news t).number ≡ t.number
-left_number news t = by (track_numbered t.number news) refl where
+pub left-number : (news : List TrackState) (t : TrackState) → (as_left news t).number ≡ t.number
+left-number news t = by (track_numbered t.number news) refl where
   by : (o : Option TrackState) → track_numbered t.number news ≡ o → (unwrap_or o t).number ≡ t.number
   by None e = refl
   by (Some u) e = numbered-is t.number news u e
@@ -147,7 +147,7 @@ left_number news t = by (track_numbered t.number news) refl where
 pub numbered-left : (n : ℕ) (news ts : List TrackState) (t : TrackState) → track_numbered n ts ≡ Some t → track_numbered n (with_tracks ts news) ≡ Some (as_left news t)
 numbered-left n news [] t e = absurd cc
 numbered-left n news (u ∷ us) t e =
-    ap (λ (m : ℕ). cond (eqb m n) (Some (as_left news u)) (track_numbered n (with_tracks us news))) (left_number news u) ∙ by (eqb u.number n) e (λ k. numbered-left n news us t k) where
+    ap (λ (m : ℕ). cond (eqb m n) (Some (as_left news u)) (track_numbered n (with_tracks us news))) (left-number news u) ∙ by (eqb u.number n) e (λ k. numbered-left n news us t k) where
       by : (b : Bool) → cond b (Some u) (track_numbered n us) ≡ Some t → (track_numbered n us ≡ Some t → track_numbered n (with_tracks us news) ≡ Some (as_left news t)) → cond b (Some (as_left news u)) (track_numbered n (with_tracks us news)) ≡ Some (as_left news t)
       by true h later = ap (λ (v : TrackState). Some (as_left news v)) (some-is u t h)
       by false h later = later h
