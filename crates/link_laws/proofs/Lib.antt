@@ -6,3 +6,4 @@ pub mod Linking
 pub mod LinkLists
 pub mod Splitting
 pub mod Shifting
+pub mod ShiftTracks
