@@ -54,7 +54,7 @@ use Rattle.edit_trim.specs.Trimming.{head_may_grow, trim_allows, trim_end, trim_
 use Rattle.link_groups.specs.LinkedItems.{item_of, linked_cell, linked_item}
 use Rattle.link_groups.specs.Linking.{unlink_on, where_there}
 use Rattle.link_laws.specs.Laws.{DissolvingKeepsTogether, MovingAnEndKeepsTogether, PuttingInKeepsTogether, UnlinkingKeepsTogether}
-use Rattle.link_laws.specs.Rooms.{AreAmong, IsRoom, KeepsTogether, LeavesTogether, with_tracks}
+use Rattle.link_laws.specs.Rooms.{AreAmong, AreNamed, IsRoom, KeepsTogether, LeavesTogether, with_tracks}
 use Rattle.link_laws.specs.Together.{Together}
 use Rattle.link_laws.proofs.Sights.{Alike, Shows, alike-self, shows-alike, shows-at}
 use Rattle.link_laws.proofs.Splices.{gap-bare, keeps-bare, keeps-padded, keeps-spliced, length-pad, seen-back, seen-on}
@@ -71,10 +71,10 @@ KeptAll ts (Ok (us, d)) = Each Keeps ts us
 KeptAll ts (Err r) = Unit {0}
 
 pub kept-law : (table : Table) (meant : List TrackState → Applied) → ((all named : List TrackState) → IsRoom table all → AreAmong all named → KeptAll named (meant named)) → KeepsTogether table meant
-kept-law table meant h all named room among g = by (meant named) (h all named room among) where
+kept-law table meant h all named room names g = by (meant named) (h all named room names.among) where
   by : (r : Applied) → KeptAll named r → LeavesTogether all r
   by (Ok (us, d)) k =
-      together-of (with_tracks all us) (kept-tied all (with_tracks all us) (each-left Keeps keeps-self all named us all among k room.apart) (tied-of all g))
+      together-of (with_tracks all us) (kept-tied all (with_tracks all us) (each-left Keeps keeps-self all named us all names.among k room.apart) (tied-of all g))
   by (Err r) k = tt
 
 pub not-found : (own : ℕ) (meant : TrackState → Applied) (ts : List TrackState) → track_numbered own ts ≡ None → for_own own meant ts ≡ Err (NoTrack own)

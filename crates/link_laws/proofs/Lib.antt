@@ -7,3 +7,4 @@ pub mod LinkLists
 pub mod Splitting
 pub mod Shifting
 pub mod ShiftTracks
+pub mod ShiftEdits

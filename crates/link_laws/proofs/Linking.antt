@@ -29,7 +29,7 @@ use Rattle.link_groups.specs.LinkedItems.{item_from, item_of, linked_cell, linke
 use Rattle.link_groups.specs.Linking.{all_linked, already_linked, are_there, found_offset, home_risen, item_offset, link_named, link_refusal, linked, new_link, offsets_differ, or_else, other_offset, shown_offset}
 use Rattle.link_groups.proofs.Relinked.{lacks_of, not_same}
 use Rattle.link_laws.specs.Laws.{LinkingKeepsTogether}
-use Rattle.link_laws.specs.Rooms.{AreAmong, AreTracks, IsRoom, KeepsTogether, LeavesTogether, as_left, with_tracks}
+use Rattle.link_laws.specs.Rooms.{AreAmong, AreNamed, AreTracks, IsRoom, KeepsTogether, LeavesTogether, as_left, with_tracks}
 use Rattle.link_laws.specs.Together.{Together}
 use Rattle.link_laws.proofs.Sights.{Shows, offset-next, shows-at}
 use Rattle.link_laws.proofs.Tied.{Each, IsTied, Sees, each-left, good-found, next-more, numbered-is, some-is, tied-of, together-of}
@@ -240,14 +240,14 @@ or_none : (a b : Option Refusal) → or_else a b ≡ None → a ≡ None
 or_none None b e = refl
 or_none (Some r) b e = absurd cc
 
-link_kept : (table : Table) (c : Link3) (all named : List TrackState) → IsRoom table all → AreAmong all named → Together all → LeavesTogether all (link_named named c)
-link_kept table c all [] room among g = tt
-link_kept table c all (t ∷ ts) room among g = by (are_there (t ∷ ts) c.items) (or_else (offsets_differ (t ∷ ts) c.items) (already_linked (t ∷ ts) c.items)) refl where
+link_kept : (table : Table) (c : Link3) (all named : List TrackState) → IsRoom table all → AreNamed all named → Together all → LeavesTogether all (link_named named c)
+link_kept table c all [] room names g = tt
+link_kept table c all (t ∷ ts) room names g = by (are_there (t ∷ ts) c.items) (or_else (offsets_differ (t ∷ ts) c.items) (already_linked (t ∷ ts) c.items)) refl where
   done : (is : List ℕ) → is ≡ c.items → offsets_differ (t ∷ ts) is ≡ None → LeavesTogether all (linked (t ∷ ts) c)
-  done [] e d = link_done table all t ts c start room among g (ap (other_offset start (t ∷ ts)) (sym e)) where
+  done [] e d = link_done table all t ts c start room names.among g (ap (other_offset start (t ∷ ts)) (sym e)) where
     start : ℤ
     start = item_offset t 0
-  done (i ∷ is) e d = link_done table all t ts c (item_offset t i) room among g (ap (other_offset (item_offset t i) (t ∷ ts)) (sym e) ∙ d)
+  done (i ∷ is) e d = link_done table all t ts c (item_offset t i) room names.among g (ap (other_offset (item_offset t i) (t ∷ ts)) (sym e) ∙ d)
 
   by : (b : Bool) (why : Option Refusal) → or_else (offsets_differ (t ∷ ts) c.items) (already_linked (t ∷ ts) c.items) ≡ why
       → LeavesTogether all (unless (cond b why (Some NoItem)) (linked (t ∷ ts) c))

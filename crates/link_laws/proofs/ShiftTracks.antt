@@ -138,15 +138,15 @@ abbrev pub HasPlace : ℕ → ℕ → List TrackState → Type 0
 HasPlace own x [] = Unit {0}
 HasPlace own x (t ∷ ts) = (t.number ≡ own → x ≤ length t.cells) × HasPlace own x ts
 
-shifts_one : (own x y : ℕ) (views : List ItemView) (Put : Link → Option ℤ → Type 0) (t : TrackState) → x ≤ y → (t.number ≡ own → x ≤ length t.cells)
+pub shifts-one : (own x y : ℕ) (views : List ItemView) (Put : Link → Option ℤ → Type 0) (t : TrackState) → x ≤ y → (t.number ≡ own → x ≤ length t.cells)
     → ((l : Link) (o : Option ℤ) → Shows x (cells_of views) l o → Put l o) → Shifts x y (x + frames_in views) Put t (shifted_track own x y views t)
-shifts_one own x y views Put t le has put = by (eqb t.number own) refl where
+shifts-one own x y views Put t le has put = by (eqb t.number own) refl where
   by : (b : Bool) → eqb t.number own ≡ b → Shifts x y (x + frames_in views) Put t (cond b (spliced_track t x y views) (shifted_along t x y (frames_in views)))
   by true e = shifts-in t x y y (x + frames_in views) views Put (has (eqb-true t.number own e)) refl refl put
   by false e = shifts_along t x y (frames_in views) Put le
 
-shifted_number : (own x y : ℕ) (views : List ItemView) (t : TrackState) → (shifted_track own x y views t).number ≡ t.number
-shifted_number own x y views t = by (eqb t.number own) where
+pub shifted-number : (own x y : ℕ) (views : List ItemView) (t : TrackState) → (shifted_track own x y views t).number ≡ t.number
+shifted-number own x y views t = by (eqb t.number own) where
   by : (b : Bool) → (cond b (spliced_track t x y views) (shifted_along t x y (frames_in views))).number ≡ t.number
   by true = refl
   by false = refl
@@ -155,7 +155,7 @@ pub shifts-each : (own x y : ℕ) (views : List ItemView) (Put : Link → Option
     → ((l : Link) (o : Option ℤ) → Shows x (cells_of views) l o → Put l o) → Each (Shifts x y (x + frames_in views) Put) ts (shifted own x y views ts)
 shifts-each own x y views Put [] le has put = tt
 shifts-each own x y views Put (t ∷ ts) le has put =
-    (shifted_number own x y views t, shifts_one own x y views Put t le has.0 put, shifts-each own x y views Put ts le has.1 put)
+    (shifted-number own x y views t, shifts-one own x y views Put t le has.0 put, shifts-each own x y views Put ts le has.1 put)
 
 pub has-place : (all : List TrackState) (own x : ℕ) (ts : List TrackState) (t : TrackState) → AreAmong all ts → track_numbered own all ≡ Some t → x ≤ length t.cells → HasPlace own x ts
 has-place all own x [] t a e le = tt

@@ -1,7 +1,9 @@
 -- What keeps the tracks of a room together: every edit of one track, and links made and taken away.
 use Rattle.composables.specs.declared.media.Table.{Table}
 use Rattle.composables.specs.declared.calls.Dissolve.{Dissolve}
+use Rattle.composables.specs.declared.calls.Extract.{Extract}
 use Rattle.composables.specs.declared.calls.Fill.{Fill}
+use Rattle.composables.specs.declared.calls.Insert.{Insert}
 use Rattle.composables.specs.declared.calls.Link3.{Link3}
 use Rattle.composables.specs.declared.calls.Overwrite.{Overwrite}
 use Rattle.composables.specs.declared.calls.Remove.{Remove}
@@ -11,7 +13,7 @@ use Rattle.composables.specs.declared.calls.Trim.{Trim}
 use Rattle.composables.specs.declared.calls.Undissolve.{Undissolve}
 use Rattle.composables.specs.declared.calls.Unlink.{Unlink}
 use Rattle.dissolves.specs.Marking.{dissolve_named, undissolve_named}
-use Rattle.edit_insert.specs.Edits.{overwrite_named, remove_named, slice_named}
+use Rattle.edit_insert.specs.Edits.{extract_named, insert_named, overwrite_named, remove_named, slice_named}
 use Rattle.edit_insert.specs.Fills.{fill_named}
 use Rattle.edit_roll.specs.Rolling.{roll_named}
 use Rattle.edit_trim.specs.Trimming.{trim_named}
@@ -24,6 +26,11 @@ pub record PuttingInKeepsTogether : Type 0 where
   pub fill : (table : Table) (c : Fill) → KeepsTogether table (λ named. fill_named table named c)
   pub remove : (table : Table) (c : Remove) → KeepsTogether table (λ named. remove_named named c)
   pub slice : (table : Table) (c : Slice) → KeepsTogether table (λ named. slice_named named c)
+
+-- items put into a track and taken out of it, where what is behind them moves on all named tracks, and links are split
+pub record ShiftingKeepsTogether : Type 0 where
+  pub insert : (table : Table) (c : Insert) → KeepsTogether table (λ named. insert_named table named c)
+  pub extract : (table : Table) (c : Extract) → KeepsTogether table (λ named. extract_named named c)
 
 -- an end of an item, and a cut, moved
 pub record MovingAnEndKeepsTogether : Type 0 where

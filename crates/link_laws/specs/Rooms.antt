@@ -1,5 +1,5 @@
 -- The tracks of a room, and those of them that a call has left anew.
-use Rattle.std.specs.Prelude.{◌≡◌, ◌<◌, ℕ, List, [], ◌∷◌, Some, Ok, Err, map, unwrap_or}
+use Rattle.std.specs.Prelude.{◌≡◌, ◌<◌, ◌≤◌, ◌+◌, ℕ, List, [], ◌∷◌, Some, Ok, Err, map, unwrap_or}
 use Rattle.composables.specs.declared.media.Table.{Table}
 use Rattle.composables.specs.Answers.{Applied}
 use Rattle.composables.specs.Good.{IsGood}
@@ -11,6 +11,16 @@ use Rattle.link_laws.specs.Together.{Together}
 abbrev pub AreAmong : List TrackState → List TrackState → Type 0
 AreAmong all [] = Unit {0}
 AreAmong all (t ∷ ts) = (track_numbered t.number all ≡ Some t) × AreAmong all ts
+
+-- their numbers rise, from this one on
+abbrev pub Ascend : ℕ → List TrackState → Type 0
+Ascend least [] = Unit {0}
+Ascend least (t ∷ ts) = (least ≤ t.number) × Ascend (t.number + 1) ts
+
+-- tracks of a room that a call names, in ascending order
+pub record AreNamed (all named : List TrackState) : Type 0 where
+  pub among : AreAmong all named
+  pub ascend : Ascend 0 named
 
 -- each is good in the table, and a set of tracks can name it
 abbrev pub AreTracks : Table → List TrackState → Type 0
@@ -36,5 +46,5 @@ LeavesTogether all (Err why) = Unit {0}
 
 -- what a call means for the tracks that it names keeps the tracks of a room together
 abbrev pub KeepsTogether : Table → (List TrackState → Applied) → Type 0
-KeepsTogether table meant = (all named : List TrackState) → IsRoom table all → AreAmong all named → Together all
+KeepsTogether table meant = (all named : List TrackState) → IsRoom table all → AreNamed all named → Together all
     → LeavesTogether all (meant named)

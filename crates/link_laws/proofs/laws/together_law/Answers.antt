@@ -1,5 +1,6 @@
 use Rattle.link_laws.proofs.Edits.{dissolving-keeps, moving-keeps, putting-keeps, unlinking-keeps}
 use Rattle.link_laws.proofs.Linking.{linking-keeps}
+use Rattle.link_laws.proofs.ShiftEdits.{shifting-keeps}
 use Rattle.link_laws.proofs.laws.together_law.Goals as goal
 
 pub returns-clause-putting_in : goal.returns-clause-putting_in
@@ -16,3 +17,6 @@ returns-clause-unlinking c = unlinking-keeps
 
 pub returns-clause-linking : goal.returns-clause-linking
 returns-clause-linking c = linking-keeps
+
+pub returns-clause-shifting : goal.returns-clause-shifting
+returns-clause-shifting c = shifting-keeps
