@@ -153,10 +153,10 @@ gap_within (v ∷ vs) p q x y e = by (nat_lt q v.len) (same_number v.item None) 
   by true false k later = absurd cc
   by false c k later = let r = later k in (omega (arith, r.0), omega (arith, r.1))
 
-and_both : (a b : Bool) → (a && b) ≡ true → (a ≡ true) × (b ≡ true)
-and_both true true h = (refl, refl)
-and_both true false h = absurd cc
-and_both false b h = absurd cc
+pub and-both : (a b : Bool) → (a && b) ≡ true → (a ≡ true) × (b ≡ true)
+and-both true true h = (refl, refl)
+and-both true false h = absurd cc
+and-both false b h = absurd cc
 
 -- items put in, taken out and cut in two
 
@@ -248,8 +248,8 @@ trim_kept : (table : Table) (t : TrackState) (x y : ℕ) (end : End) (d : ℤ) �
     → ((trimmed t x y end d).number ≡ t.number) × Keeps t (trimmed t x y end d)
 trim_kept table t x y Head (pos k) less within e = (refl, dark_kept t x (x + k) k (omega (arith, less, within)) refl)
 trim_kept table t x y Head (negsuc k) less within e =
-    let a = and_both (dark_before t.cells x (suc k)) (has_before table (cell_at t.cells x).side (suc k)) e in
-    let le = leb-true (suc k) x (and_both (nat_le (suc k) x) _ a.0).0 in
+    let a = and-both (dark_before t.cells x (suc k)) (has_before table (cell_at t.cells x).side (suc k)) e in
+    let le = leb-true (suc k) x (and-both (nat_le (suc k) x) _ a.0).0 in
     (refl, back_kept table t x (suc k) le (omega (arith, less, within)) a.1)
 trim_kept table t x y Tail (pos k) less within e = (refl, on_kept t y (min (y + k) (length t.cells)) k (omega (arith, less)) within (up_to y k (length t.cells)))
 trim_kept table t x y Tail (negsuc k) less within e =
@@ -268,7 +268,7 @@ roll_kept : (table : Table) (t : TrackState) (at : ℕ) (d : ℤ) → 0 < at →
     → ((rolled t at d).number ≡ t.number) × Keeps t (rolled t at d)
 roll_kept table t at (pos k) some within e = (refl, on_kept t at (at + k) k some within (inl refl))
 roll_kept table t at (negsuc k) some within e =
-    let a = and_both (keeps_a_cell (begin_at t.cells (at - 1)) at (suc k)) (has_before table (cell_at t.cells at).side (suc k)) e in
+    let a = and-both (keeps_a_cell (begin_at t.cells (at - 1)) at (suc k)) (has_before table (cell_at t.cells at).side (suc k)) e in
     let fits : begin_at t.cells (at - 1) + suc k < at = ltb-true (begin_at t.cells (at - 1) + suc k) at a.0 in
     (refl, back_kept table t at (suc k) (omega (arith, fits)) within a.1)
 
@@ -276,8 +276,8 @@ roll_one : (table : Table) (c : Roll) (t : TrackState) → IsGood table t → Ke
 roll_one table c t g = by (is_cut t.cells c.at) refl where
   by : (b : Bool) → is_cut t.cells c.at ≡ b → KeptOne t (cond b (roll_cut table t c.by c.at) (Err (NotACut c.at)))
   by true e =
-      let a = and_both (ltb 0 c.at && ltb c.at (length t.cells)) _ e in
-      let b = and_both (ltb 0 c.at) (ltb c.at (length t.cells)) a.0 in
+      let a = and-both (ltb 0 c.at && ltb c.at (length t.cells)) _ e in
+      let b = and-both (ltb 0 c.at) (ltb c.at (length t.cells)) a.0 in
       let within = ltb-true c.at (length t.cells) b.1 in
       used_kept t (rolled t c.at) (move_allows table t c.at c.at) c.by (λ d m. roll_kept table t c.at d (ltb-true 0 c.at b.0) (omega (arith, within)) m)
   by false e = tt

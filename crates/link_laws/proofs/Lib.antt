@@ -8,3 +8,5 @@ pub mod Splitting
 pub mod Shifting
 pub mod ShiftTracks
 pub mod ShiftEdits
+pub mod Reaching
+pub mod RippleLaw

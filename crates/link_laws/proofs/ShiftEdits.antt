@@ -1,5 +1,5 @@
 -- Edits that move what is behind them on all named tracks.
-use Rattle.std.proofs.Common.{◌≡◌, ℕ, zero, suc, ◌+◌, ◌-◌, ◌<◌, ◌≤◌, ◌⊎◌, inl, inr, ℤ, Bool, true, false, cond, eqb, ltb, nat_le, ◌&&◌, ◌||◌, List, [], ◌∷◌, ◌++◌, map, drop, length, Option, Some, None, Result, Ok, Err, refl, sym, ap, ◌∙◌, arith, subst, IsBitSet}
+use Rattle.std.proofs.Common.{◌≡◌, ℕ, zero, suc, ◌+◌, ◌-◌, ◌<◌, ◌≤◌, ◌⊎◌, inl, inr, ℤ, Bool, true, false, cond, eqb, ltb, nat_le, ◌&&◌, ◌||◌, List, [], ◌∷◌, ◌++◌, map, drop, length, slice_get, Option, Some, None, Result, Ok, Err, refl, sym, ap, ◌∙◌, arith, subst, IsBitSet}
 use Rattle.std.proofs.lemmas.Bool.{cases_lt, eqb-true}
 use Rattle.frame_meaning.specs.declared.cells.Cell.{Cell}
 use Rattle.frame_meaning.specs.declared.cells.Link.{Link}
@@ -123,7 +123,7 @@ extract_keeps table c all named t room names g e = by (range_of t.cells c.item) 
 
 source_some : (table : Table) (track : ℕ) (what : What) (from len : ℕ) → source_refusal table track what from len ≡ None → 0 < len
 source_some table track what from (suc n) e = omega arith
-source_some table track what from zero e = by (bounds_of table what) (suits _ what) e where
+source_some table track what from zero e = by (bounds_of table what) (suits (slice_get table.kinds track) what) e where
   by : (o : Option (ℕ × ℕ)) (b : Bool) → refusal_in o b from 0 ≡ None → 0 < 0
   by None b e = absurd cc
   by (Some (low, high)) true e = absurd cc

@@ -186,17 +186,17 @@ shows_marked p m (c ∷ cs) l o (inr h) = inr h
 pub shows-view : (p : ℕ) (v : ItemView) (l : Link) (o : Option ℤ) → Shows p (view_cells v) l o → (v.link ≡ Some l) × (offset_of v.first p ≡ o)
 shows-view p v l o h = shows_span p v.item v.first v.link v.len l o (shows_marked p v.mark (span v.item v.first v.link v.len) l o h)
 
-none_some : (l : Link) (o : Option Link) → o ≡ None → o ≡ Some l → ⊥
-none_some l o e f = Prim.grind (arith, e, f)
+pub none-some : (l : Link) (o : Option Link) → o ≡ None → o ≡ Some l → ⊥
+none-some l o e f = Prim.grind (arith, e, f)
 
 pub shows-none : (p : ℕ) (vs : List ItemView) (l : Link) (o : Option ℤ) → AllUnlinked vs → Shows p (cells_of vs) l o → ⊥
 shows-none p [] l o u h = h
 shows-none p (v ∷ vs) l o u h =
-    ⊎_elim (λ x. none_some l v.link u.0 (shows-view p v l o x).0) (λ y. shows-none (p + length (view_cells v)) vs l o u.1 y) (shows-append p (view_cells v) (cells_of vs) l o h)
+    ⊎_elim (λ x. none-some l v.link u.0 (shows-view p v l o x).0) (λ y. shows-none (p + length (view_cells v)) vs l o u.1 y) (shows-append p (view_cells v) (cells_of vs) l o h)
 
 -- a cell by its place
 shows_cell : (q p : ℕ) (cs : List Cell) (l : Link) → (cell_at cs p).link ≡ Some l → Shows q cs l (offset_of (cell_at cs p).side (q + p))
-shows_cell q p [] l e = absurd (none_some l None refl e)
+shows_cell q p [] l e = absurd (none-some l None refl e)
 shows_cell q zero (c ∷ cs) l e = let z : q ≡ q + 0 = omega arith in inl (e, ap (λ (n : ℕ). offset_of c.side n) z)
 shows_cell q (suc p) (c ∷ cs) l e =
     let z : q + 1 + p ≡ q + suc p = omega arith in

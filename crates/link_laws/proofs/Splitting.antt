@@ -31,8 +31,8 @@ splitting z l n t = record t {
   next_link = cond (eqb t.number l.home) (n + 1) t.next_link;
 }
 
-split_is : (z : ℕ) (ts : List TrackState) (l : Link) → link_split z ts l ≡ map (splitting z l (next_link_at l.home ts)) ts
-split_is z ts l = refl
+pub split-is : (z : ℕ) (ts : List TrackState) (l : Link) → link_split z ts l ≡ map (splitting z l (next_link_at l.home ts)) ts
+split-is z ts l = refl
 
 -- the link after a split, and the one before
 abbrev Relinks : Link → ℕ → Link → Link → Type 0
@@ -205,7 +205,7 @@ split_step Before z ts l ls inv = record { after = after; cross = cross; low = l
 pub all-split : (Before : Link → Option ℤ → Type 0) (z : ℕ) (ts : List TrackState) (ls : List Link) → Splits Before z ts ls → Splits Before z (each_split z ts ls) []
 all-split Before z ts [] inv = inv
 all-split Before z ts (l ∷ ls) inv =
-    all-split Before z (link_split z ts l) ls (subst (λ (us : List TrackState). Splits Before z us ls) (sym (split_is z ts l)) (split_step Before z ts l ls inv))
+    all-split Before z (link_split z ts l) ls (subst (λ (us : List TrackState). Splits Before z us ls) (sym (split-is z ts l)) (split_step Before z ts l ls inv))
 
 -- what stands before the place stays
 
@@ -231,4 +231,4 @@ pub splits-before : (z : ℕ) (ts : List TrackState) (ls : List Link) → Each (
 splits-before z ts [] = before_self z ts
 splits-before z ts (l ∷ ls) =
     before_then z ts (link_split z ts l) (each_split z (link_split z ts l) ls)
-    (subst (Each (SameBefore z) ts) (sym (split_is z ts l)) (split_before z l (next_link_at l.home ts) ts)) (splits-before z (link_split z ts l) ls)
+    (subst (Each (SameBefore z) ts) (sym (split-is z ts l)) (split_before z l (next_link_at l.home ts) ts)) (splits-before z (link_split z ts l) ls)

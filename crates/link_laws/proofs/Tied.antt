@@ -111,12 +111,12 @@ good-found table (u ∷ us) n t a e = by (eqb u.number n) e (λ k. good-found ta
   by true h later = subst (λ (v : TrackState). (v.number < 32) × IsGood table v) (some-is u t h) (a.0, a.1)
   by false h later = later h
 
-found_of : (R : TrackState → TrackState → Type 0) (n : ℕ) (ts us : List TrackState) (u : TrackState) → Each R ts us → track_numbered n us ≡ Some u
+pub found-of : (R : TrackState → TrackState → Type 0) (n : ℕ) (ts us : List TrackState) (u : TrackState) → Each R ts us → track_numbered n us ≡ Some u
     → (t : TrackState) × (track_numbered n ts ≡ Some t) × R t u
-found_of R n [] [] u each e = absurd cc
-found_of R n [] (v ∷ vs) u each e = absurd each
-found_of R n (t ∷ ts) [] u each e = absurd each
-found_of R n (t ∷ ts) (v ∷ vs) u each e = by (eqb v.number n) refl e (λ k. found_of R n ts vs u each.2 k) where
+found-of R n [] [] u each e = absurd cc
+found-of R n [] (v ∷ vs) u each e = absurd each
+found-of R n (t ∷ ts) [] u each e = absurd each
+found-of R n (t ∷ ts) (v ∷ vs) u each e = by (eqb v.number n) refl e (λ k. found-of R n ts vs u each.2 k) where
   head : (b : Bool) → eqb v.number n ≡ b → track_numbered n (t ∷ ts) ≡ cond b (Some t) (track_numbered n ts)
   head b f =
       ap (λ (m : ℕ). cond (eqb m n) (Some t) (track_numbered n ts)) (sym each.0)
@@ -133,7 +133,7 @@ as-left R self all named news among each t e = by (track_numbered t.number news)
   by : (o : Option TrackState) → track_numbered t.number news ≡ o → ((unwrap_or o t).number ≡ t.number) × R t (unwrap_or o t)
   by None f = (refl, self t)
   by (Some u) f =
-      let r = found_of R t.number named news u each f in
+      let r = found-of R t.number named news u each f in
       let same : r.0 ≡ t = some-is r.0 t (sym (among-numbered all named t.number r.0 among r.1) ∙ e) in
       (numbered-is t.number news u f, subst (λ (s : TrackState). R s u) same r.2)
 

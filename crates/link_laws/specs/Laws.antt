@@ -7,6 +7,7 @@ use Rattle.composables.specs.declared.calls.Insert.{Insert}
 use Rattle.composables.specs.declared.calls.Link3.{Link3}
 use Rattle.composables.specs.declared.calls.Overwrite.{Overwrite}
 use Rattle.composables.specs.declared.calls.Remove.{Remove}
+use Rattle.composables.specs.declared.calls.Ripple.{Ripple}
 use Rattle.composables.specs.declared.calls.Roll.{Roll}
 use Rattle.composables.specs.declared.calls.Slice.{Slice}
 use Rattle.composables.specs.declared.calls.Trim.{Trim}
@@ -16,6 +17,7 @@ use Rattle.dissolves.specs.Marking.{dissolve_named, undissolve_named}
 use Rattle.edit_insert.specs.Edits.{extract_named, insert_named, overwrite_named, remove_named, slice_named}
 use Rattle.edit_insert.specs.Fills.{fill_named}
 use Rattle.edit_roll.specs.Rolling.{roll_named}
+use Rattle.edit_trim.specs.Rippling.{ripple_named}
 use Rattle.edit_trim.specs.Trimming.{trim_named}
 use Rattle.link_groups.specs.Linking.{link_named, unlink_named}
 use Rattle.link_laws.specs.Rooms.{KeepsTogether}
@@ -31,6 +33,10 @@ pub record PuttingInKeepsTogether : Type 0 where
 pub record ShiftingKeepsTogether : Type 0 where
   pub insert : (table : Table) (c : Insert) → KeepsTogether table (λ named. insert_named table named c)
   pub extract : (table : Table) (c : Extract) → KeepsTogether table (λ named. extract_named named c)
+
+-- an end of an item moved, with what is behind it on all named tracks
+abbrev pub RippleKeepsTogether : Type 0
+RippleKeepsTogether = (table : Table) (c : Ripple) → KeepsTogether table (λ named. ripple_named table named c)
 
 -- an end of an item, and a cut, moved
 pub record MovingAnEndKeepsTogether : Type 0 where

@@ -1,5 +1,6 @@
 use Rattle.link_laws.proofs.Edits.{dissolving-keeps, moving-keeps, putting-keeps, unlinking-keeps}
 use Rattle.link_laws.proofs.Linking.{linking-keeps}
+use Rattle.link_laws.proofs.RippleLaw.{ripple-keeps}
 use Rattle.link_laws.proofs.ShiftEdits.{shifting-keeps}
 use Rattle.link_laws.proofs.laws.together_law.Goals as goal
 
@@ -20,3 +21,6 @@ returns-clause-linking c = linking-keeps
 
 pub returns-clause-shifting : goal.returns-clause-shifting
 returns-clause-shifting c = shifting-keeps
+
+pub returns-clause-ripple : goal.returns-clause-ripple
+returns-clause-ripple c = ripple-keeps
