@@ -42,11 +42,11 @@ links_alike (c ∷ cs) [] a = absurd a
 links_alike (c ∷ cs) (d ∷ ds) a =
     ap (λ (o : Option Link). with_link_of o (links_in cs)) a.0 ∙ ap (with_link_of d.link) (links_alike cs ds a.2)
 
-alike_append : (as bs cs ds : List Cell) → Alike as bs → Alike cs ds → Alike (as ++ cs) (bs ++ ds)
+alike_append : (xs ys cs ds : List Cell) → Alike xs ys → Alike cs ds → Alike (xs ++ cs) (ys ++ ds)
 alike_append [] [] cs ds h k = k
-alike_append [] (b ∷ bs) cs ds h k = absurd h
-alike_append (a ∷ as) [] cs ds h k = absurd h
-alike_append (a ∷ as) (b ∷ bs) cs ds h k = (h.0, h.1, alike_append as bs cs ds h.2 k)
+alike_append [] (y ∷ ys) cs ds h k = absurd h
+alike_append (x ∷ xs) [] cs ds h k = absurd h
+alike_append (x ∷ xs) (y ∷ ys) cs ds h k = (h.0, h.1, alike_append xs ys cs ds h.2 k)
 
 -- cells of one link and side are relinked alike
 

@@ -79,15 +79,15 @@ module _ (table : Table) (all named : List TrackState) (t : TrackState) (own : �
 
 rippled_keeps : (table : Table) (all named : List TrackState) (t : TrackState) (own x y : ℕ) (end : End) (done : Done) (d : ℤ) → IsRoom table all → AreNamed all named → Together all
     → track_numbered own named ≡ Some t → x < y → y ≤ length t.cells → ripple_allows table own named t x y end d ≡ true → (d ≡ pos 0 → ⊥) → LeavesTogether all (rippled own named t x y end done d)
-rippled_keeps table all named t own x y end done (pos zero) room names g e less within a no = absurd (no refl)
-rippled_keeps table all named t own x y Head done (pos (suc k)) room names g e less within a no =
+rippled_keeps table all named t own x y end done (pos zero) room names g e less within a differs = absurd (differs refl)
+rippled_keeps table all named t own x y Head done (pos (suc k)) room names g e less within a differs =
     nothing-each table all named t own x (x + suc k) done room names g e (omega arith) (omega (arith, less, within))
-rippled_keeps table all named t own x y Head done (negsuc k) room names g e less within a no =
+rippled_keeps table all named t own x y Head done (negsuc k) room names g e less within a differs =
     back_keeps table all named t own done room names g e x (suc k) (omega arith) (omega (arith, less, within))
     (and-both (have_room own x named (suc k)) (has_before table (cell_at t.cells x).side (suc k)) a).1
-rippled_keeps table all named t own x y Tail done (pos (suc k)) room names g e less within a no =
+rippled_keeps table all named t own x y Tail done (pos (suc k)) room names g e less within a differs =
     on_keeps table all named t own done room names g e y (suc k) (omega (arith, less)) (omega arith) within
-rippled_keeps table all named t own x y Tail done (negsuc k) room names g e less within a no =
+rippled_keeps table all named t own x y Tail done (negsuc k) room names g e less within a differs =
     let fits : x + suc k < y = ltb-true (x + suc k) y a in
     nothing-each table all named t own (y - suc k) y done room names g e (omega (arith, fits)) (omega (arith, within))
 
@@ -114,7 +114,7 @@ ripple_keeps table c all named t room names g e = by (range_of t.cells c.item) r
   by (Some (x, y)) f =
       let r = item-range table t c.item x y (room-good table all named c.track t room names.among e) f in
       used_keeps table all named (rippled c.track named t x y c.end) (ripple_allows table c.track named t x y c.end) c.by room names g
-      (λ done d a no. rippled_keeps table all named t c.track x y c.end done d room names g e r.0 r.1 a no)
+      (λ done d a differs. rippled_keeps table all named t c.track x y c.end done d room names g e r.0 r.1 a differs)
 
 pub ripple-keeps : RippleKeepsTogether
 ripple-keeps table c = own-room table c.track (ripple_own table c) (ripple_keeps table c)

@@ -61,9 +61,9 @@ own-room table own meant each all named room names g = by (track_numbered own na
 -- a shift that moves something
 
 not_eqb : (m n : ℕ) → (m ≡ n → ⊥) → eqb m n ≡ false
-not_eqb m n no = by (eqb m n) refl where
+not_eqb m n differs = by (eqb m n) refl where
   by : (b : Bool) → eqb m n ≡ b → b ≡ false
-  by true e = absurd (no (eqb-true m n e))
+  by true e = absurd (differs (eqb-true m n e))
   by false e = refl
 
 pub shift-law : (table : Table) (all named ts : List TrackState) (own x y : ℕ) (views : List ItemView) (done : Done) (Put : Link → Option ℤ → Type 0)
@@ -84,14 +84,14 @@ shift-law table all named ts own x y views done Put room among g moves each sees
       vs : List TrackState
       vs = links_split x z us
 
-      no : eqb (frames_in views) (y - x) ≡ false
-      no = not_eqb (frames_in views) (y - x) moves
+      differs : eqb (frames_in views) (y - x) ≡ false
+      differs = not_eqb (frames_in views) (y - x) moves
 
       split : after_shift own x y views ts ≡ vs
-      split = ap (λ (b : Bool). cond b us vs) no
+      split = ap (λ (b : Bool). cond b us vs) differs
 
       told : shift_refusal x y (frames_in views) ts ≡ None → link_outside ts (cells_from y ts) ≡ None
-      told e = sym (ap (λ (b : Bool). cond b None (link_outside ts (cells_from y ts))) no) ∙ e
+      told e = sym (ap (λ (b : Bool). cond b None (link_outside ts (cells_from y ts))) differs) ∙ e
 
       tied : shift_refusal x y (frames_in views) ts ≡ None → IsTied (with_tracks all vs)
       tied e =

@@ -1,4 +1,4 @@
--- Links are split one after another: what stood together before a place and from a place on stays so, and in the end no
+-- Links are split one after another: what stood together before a place and from a place on stays so, and in the end differs
 -- link is on both sides.
 use Rattle.std.proofs.Common.{◌≡◌, ℕ, zero, suc, ◌+◌, ◌<◌, ◌≤◌, ◌⊎◌, inl, inr, ℤ, Bool, true, false, cond, eqb, ◌||◌, List, [], ◌∷◌, ◌++◌, take, drop, map, Option, Some, None, refl, sym, ap, ◌∙◌, arith, subst}
 use Rattle.std.proofs.lemmas.Bool.{cases_lt, eq-eqb, eqb-true, eqb-false}
@@ -90,11 +90,11 @@ next_home z l n (t ∷ ts) e = by (eqb t.number l.home) e (λ k. next_home z l n
   by false e later = later e
 
 next_other : (z : ℕ) (l : Link) (n : ℕ) (ts : List TrackState) (h : ℕ) → (h ≡ l.home → ⊥) → next_link_at h (map (splitting z l n) ts) ≡ next_link_at h ts
-next_other z l n [] h no = refl
-next_other z l n (t ∷ ts) h no = by (eqb t.number h) (eqb t.number l.home) refl refl (next_other z l n ts h no) where
+next_other z l n [] h differs = refl
+next_other z l n (t ∷ ts) h differs = by (eqb t.number h) (eqb t.number l.home) refl refl (next_other z l n ts h differs) where
   by : (a b : Bool) → eqb t.number h ≡ a → eqb t.number l.home ≡ b → next_link_at h (map (splitting z l n) ts) ≡ next_link_at h ts
       → cond a (cond b (n + 1) t.next_link) (next_link_at h (map (splitting z l n) ts)) ≡ cond a t.next_link (next_link_at h ts)
-  by true true e f later = absurd (no (sym (eqb-true t.number h e) ∙ eqb-true t.number l.home f))
+  by true true e f later = absurd (differs (sym (eqb-true t.number h e) ∙ eqb-true t.number l.home f))
   by true false e f later = refl
   by false b e f later = later
 
@@ -143,7 +143,7 @@ split_step Before z ts l ls inv = record { after = after; cross = cross; low = l
   up : (h : ℕ) → next_link_at h ts ≤ next_link_at h us
   up h = next_up z l ts h home
 
-  -- no link that was there has the new number
+  -- differs link that was there has the new number
   apart : (k : Link) → k.number < next_link_at k.home ts → Same k (numbered_link l n) → ⊥
   apart k low same = omega (arith, low, ap (λ (h : ℕ). next_link_at h ts) same.0, same.1)
 
