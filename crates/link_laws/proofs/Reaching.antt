@@ -50,14 +50,13 @@ alike_append (x ∷ xs) (y ∷ ys) cs ds h k = (h.0, h.1, alike_append xs ys cs 
 
 -- cells of one link and side are relinked alike
 
-relinked_by : Link → Link → Option Link → Option Link
+abbrev relinked_by : Link → Link → Option Link → Option Link
 relinked_by old new None = None
 relinked_by old new (Some l) = cond (same_link l old) (Some new) (Some l)
 
 relinked_is : (old new : Link) (i : Option ℕ) (s : Side What) (m : Option Mark) (o : Option Link)
     → ((relinked old new (record { item = i; side = s; mark = m; link = o })).link ≡ relinked_by old new o)
     × ((relinked old new (record { item = i; side = s; mark = m; link = o })).side ≡ s)
-unfolding relinked_by
 relinked_is old new i s m None = (refl, refl)
 relinked_is old new i s m (Some l) = by (same_link l old) where
   c : Cell
@@ -104,9 +103,6 @@ follows_one x z n l t u e f = record {
   next = ap (λ (m : ℕ). cond (eqb m l.home) (n + 1) t.next_link) (sym e) ∙ ap (λ (m : ℕ). cond (eqb u.number l.home) (n + 1) m) f.next;
   cells = cells;
 } where
-  made : Cell → Cell
-  made = relinked l (numbered_link l n)
-
   cells : Alike (drop x (take x t.cells ++ map (relinked l (numbered_link l n)) (drop x t.cells))) (drop z (take z u.cells ++ map (relinked l (numbered_link l n)) (drop z u.cells)))
   cells =
       let a = alike_relinked l (numbered_link l n) (drop x t.cells) (drop z u.cells) f.cells in
@@ -387,7 +383,7 @@ reached table named t own x n l o e has before h = numbered_from own z vs after.
   at : offset_of (cell_at found.0.cells x).side z ≡ o
   at =
       ap (λ (u : TrackState). offset_of (cell_at u.cells x).side z) (sym is)
-      ∙ (let k : z ≡ x + n = omega arith in ap (offset_of (cell_at (as_split x named t).cells x).side) k ∙ put.1)
+      ∙ (let k : x + (n + 0) ≡ x + n = omega arith in ap (offset_of (cell_at (as_split x named t).cells x).side) k ∙ put.1)
 
   shown : Shows z (drop z after.0.cells) l o
   shown = shows-alike z (drop x found.0.cells) (drop z after.0.cells) l o after.2.cells (subst (λ (a : Option ℤ). Shows z (drop x found.0.cells) l a) at there)

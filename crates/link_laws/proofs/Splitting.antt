@@ -1,4 +1,4 @@
--- Links are split one after another: what stood together before a place and from a place on stays so, and in the end differs
+-- Links are split one after another: what stood together before a place and from a place on stays so, and in the end no
 -- link is on both sides.
 use Rattle.std.proofs.Common.{◌≡◌, ℕ, zero, suc, ◌+◌, ◌<◌, ◌≤◌, ◌⊎◌, inl, inr, ℤ, Bool, true, false, cond, eqb, ◌||◌, List, [], ◌∷◌, ◌++◌, take, drop, map, Option, Some, None, refl, sym, ap, ◌∙◌, arith, subst}
 use Rattle.std.proofs.lemmas.Bool.{cases_lt, eq-eqb, eqb-true, eqb-false}
@@ -143,7 +143,7 @@ split_step Before z ts l ls inv = record { after = after; cross = cross; low = l
   up : (h : ℕ) → next_link_at h ts ≤ next_link_at h us
   up h = next_up z l ts h home
 
-  -- differs link that was there has the new number
+  -- no link that was there has the new number
   apart : (k : Link) → k.number < next_link_at k.home ts → Same k (numbered_link l n) → ⊥
   apart k low same = omega (arith, low, ap (λ (h : ℕ). next_link_at h ts) same.0, same.1)
 
