@@ -160,9 +160,11 @@ padded_each at least views Put (w ∷ ws) t a e put = by (eqb w.number t.number)
       → Each R (w ∷ ws) (shifted t.number at at views (cond b (p ∷ ws) (w ∷ with_track ws p)))
   by true f k later =
       let same : w ≡ t = some-is w t k in
-      let n : w.number ≡ t.number = eqb-true w.number t.number f in
-      (shifted-number t.number at at views p ∙ sym n, subst (λ (v : TrackState). R v (shifted_track t.number at at views p)) (sym same) there,
-      shifts-each t.number at at views Put ws (omega arith) (none_place t.number at (w.number + 1) ws a.1 (omega (arith, n))) put)
+      let n : w.number ≡ t.number = eqb-true w.number t.number f in (
+        shifted-number t.number at at views p ∙ sym n,
+        subst (λ (v : TrackState). R v (shifted_track t.number at at views p)) (sym same) there,
+        shifts-each t.number at at views Put ws (omega arith) (none_place t.number at (w.number + 1) ws a.1 (omega (arith, n))) put,
+      )
   by false f k later =
       (shifted-number t.number at at views w, shifts-one t.number at at views Put w (omega arith) (λ n. absurd (differ n)) put, later k) where
         differ : w.number ≡ t.number → ⊥
