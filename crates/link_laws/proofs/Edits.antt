@@ -1,5 +1,5 @@
 -- Edits of one track, dissolves, and links taken away.
-use Rattle.std.proofs.Common.{◌≡◌, ℕ, zero, suc, ◌+◌, ◌-◌, ◌<◌, ◌≤◌, ◌⊎◌, inl, inr, ℤ, pos, negsuc, Bool, true, false, cond, eqb, ltb, nat_lt, nat_le, ◌&&◌, min, List, [], ◌∷◌, ◌++◌, map, length, unwrap_or, Option, Some, None, Result, Ok, Err, refl, sym, ap, ◌∙◌, arith, subst}
+use Rattle.std.proofs.Common.{◌≡◌, ℕ, zero, suc, ◌+◌, ◌-◌, ◌<◌, ◌≤◌, ◌⊎◌, inl, inr, ℤ, pos, negsuc, Bool, true, false, cond, ltb, nat_lt, nat_le, ◌&&◌, min, List, [], ◌∷◌, map, length, Option, Some, None, Result, Ok, Err, refl, sym, ap, ◌∙◌, arith, subst}
 use Rattle.std.proofs.lemmas.Bool.{cases_lt, leb-true, ltb-true}
 use Rattle.frame_meaning.specs.declared.cells.Cell.{Cell}
 use Rattle.frame_meaning.specs.declared.cells.Link.{Link}
@@ -24,11 +24,11 @@ use Rattle.composables.specs.declared.refusals.Done.TheVariants.{By, Item, Plain
 use Rattle.composables.specs.declared.refusals.Refusal.{Refusal}
 use Rattle.composables.specs.declared.refusals.Refusal.TheVariants.{NoItem, NotACut, NoTrack}
 use Rattle.composables.specs.Answers.{Applied, unless}
-use Rattle.composables.specs.Good.{AllUnlinked, IsGood}
-use Rattle.composables.specs.Items.{cells_of, items_of}
+use Rattle.composables.specs.Good.{IsGood}
+use Rattle.composables.specs.Items.{items_of}
 use Rattle.composables.specs.Joined.{frames_in}
 use Rattle.composables.specs.Limits.{too_long, too_many, track_within_limits}
-use Rattle.composables.specs.OwnTracks.{among_named, for_own, on_own, track_numbered, with_track}
+use Rattle.composables.specs.OwnTracks.{among_named, for_own, on_own, track_numbered}
 use Rattle.composables.specs.Ranges.{gap_at, gap_from, is_cut, range_from, range_of}
 use Rattle.composables.specs.TrackFacts.{EachHolds}
 use Rattle.composables.specs.TrackState.{TrackState}
@@ -43,20 +43,19 @@ use Rattle.edit_delta.proofs.Greatest.{is-nearest}
 use Rattle.edit_insert.specs.Edits.{for_range, overwrite_track, overwritten, remove_track, slice_track}
 use Rattle.edit_insert.specs.Fills.{fill_at, fill_track, filled, frames_asked}
 use Rattle.edit_insert.specs.Sources.{source_refusal}
-use Rattle.edit_roll.specs.Neighbours.{begin_at, may_move_earlier, move_allows}
+use Rattle.edit_roll.specs.Neighbours.{begin_at, move_allows}
 use Rattle.edit_roll.specs.Rolling.{roll_cut, roll_track, rolled}
 use Rattle.edit_splice.specs.Padding.{padded_track}
 use Rattle.edit_splice.specs.Splicing.{spliced_track}
 use Rattle.edit_splice.proofs.Bridging.{for-found}
 use Rattle.edit_splice.proofs.Padding.{frames-gap}
 use Rattle.edit_trim.specs.Darkness.{dark_before}
-use Rattle.edit_trim.specs.Trimming.{head_may_grow, trim_allows, trim_end, trim_track, trimmed}
+use Rattle.edit_trim.specs.Trimming.{trim_allows, trim_end, trim_track, trimmed}
 use Rattle.link_groups.specs.LinkedItems.{item_of, linked_cell, linked_item}
 use Rattle.link_groups.specs.Linking.{unlink_on, where_there}
 use Rattle.link_laws.specs.Laws.{DissolvingKeepsTogether, MovingAnEndKeepsTogether, PuttingInKeepsTogether, UnlinkingKeepsTogether}
-use Rattle.link_laws.specs.Rooms.{AreAmong, AreNamed, IsRoom, KeepsTogether, LeavesTogether, with_tracks}
-use Rattle.link_laws.specs.Together.{Together}
-use Rattle.link_laws.proofs.Sights.{Alike, Shows, alike-self, shows-alike, shows-at}
+use Rattle.link_laws.specs.Rooms.{AreAmong, IsRoom, KeepsTogether, LeavesTogether, with_tracks}
+use Rattle.link_laws.proofs.Sights.{Alike, Shows, alike-self, shows-alike}
 use Rattle.link_laws.proofs.Splices.{gap-bare, keeps-bare, keeps-padded, keeps-spliced, length-pad, seen-back, seen-on}
 use Rattle.link_laws.proofs.Tied.{Each, Keeps, among-numbered, each-left, each-with, good-found, kept-tied, keeps-self, keeps-then, numbered-is, tied-of, together-of}
 

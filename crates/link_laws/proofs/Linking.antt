@@ -1,6 +1,5 @@
 -- A link that is new, on items of one offset.
-use Rattle.std.proofs.Common.{◌≡◌, ◌≢◌, ℕ, zero, suc, ◌+◌, ◌<◌, ◌≤◌, ◌⊎◌, inl, inr, ⊎_elim, ℤ, Bool, true, false, cond, eqb, ◌&&◌, List, [], ◌∷◌, ◌++◌, map, length, is_some, unwrap_or, Option, Some, None, IfSome, Result, Ok, Err, refl, sym, ap, ◌∙◌, arith, subst}
-use Rattle.std.proofs.lemmas.Bool.{eqb-true}
+use Rattle.std.proofs.Common.{◌≡◌, ℕ, zero, suc, ◌+◌, ◌<◌, ◌≤◌, ◌⊎◌, inl, inr, ⊎_elim, ℤ, Bool, true, false, cond, eqb, List, [], ◌∷◌, ◌++◌, map, length, unwrap_or, Option, Some, None, refl, sym, ap, ◌∙◌, arith, subst}
 use Rattle.std.proofs.lemmas.Bool.Decides.{Decides-int_eq}
 use Rattle.std.specs.Ordering.{int_eq}
 use Rattle.frame_meaning.specs.declared.cells.Cell.{Cell}
@@ -13,10 +12,9 @@ use Rattle.frame_meaning.specs.Cells.{next_side, same_number, span}
 use Rattle.composables.specs.declared.calls.Link3.{Link3}
 use Rattle.composables.specs.declared.items.ItemView.{ItemView}
 use Rattle.composables.specs.declared.media.Table.{Table}
-use Rattle.composables.specs.declared.refusals.Done.{Done}
 use Rattle.composables.specs.declared.refusals.Refusal.{Refusal}
 use Rattle.composables.specs.declared.refusals.Refusal.TheVariants.{NoItem, OffsetsDiffer}
-use Rattle.composables.specs.Answers.{Applied, unless}
+use Rattle.composables.specs.Answers.{unless}
 use Rattle.composables.specs.Good.{IsGood}
 use Rattle.composables.specs.Items.{cells_of, items_of, marked, view_cells}
 use Rattle.composables.specs.Links.{next_link_at}
@@ -25,13 +23,13 @@ use Rattle.composables.specs.Ranges.{offset_of}
 use Rattle.composables.specs.TrackFacts.{Apart, EachHolds, Lacks, ShowsAsItem}
 use Rattle.composables.specs.TrackState.{TrackState}
 use Rattle.composables.proofs.Joining.{eqb-refl, length-view_cells, same-is}
-use Rattle.link_groups.specs.LinkedItems.{item_from, item_of, linked_cell, linked_item}
-use Rattle.link_groups.specs.Linking.{all_linked, already_linked, are_there, found_offset, home_risen, item_offset, link_named, link_refusal, linked, new_link, offsets_differ, or_else, other_offset, shown_offset}
-use Rattle.link_groups.proofs.Relinked.{lacks_of, not_same}
+use Rattle.link_groups.specs.LinkedItems.{item_from, linked_cell, linked_item}
+use Rattle.link_groups.specs.Linking.{all_linked, already_linked, are_there, found_offset, home_risen, item_offset, link_named, linked, new_link, offsets_differ, or_else, other_offset, shown_offset}
+use Rattle.link_groups.proofs.Relinked.{lacks_of}
 use Rattle.link_laws.specs.Laws.{LinkingKeepsTogether}
-use Rattle.link_laws.specs.Rooms.{AreAmong, AreNamed, AreTracks, IsRoom, KeepsTogether, LeavesTogether, as_left, with_tracks}
+use Rattle.link_laws.specs.Rooms.{AreAmong, AreNamed, AreTracks, IsRoom, LeavesTogether, as_left, with_tracks}
 use Rattle.link_laws.specs.Together.{Together}
-use Rattle.link_laws.proofs.Sights.{Shows, offset-next, shows-at}
+use Rattle.link_laws.proofs.Sights.{Shows, offset-next}
 use Rattle.link_laws.proofs.Tied.{Each, IsTied, Sees, each-left, good-found, next-more, numbered-is, some-is, tied-of, together-of}
 
 -- the offset of an item is that of each of its frames

@@ -1,8 +1,8 @@
 -- Where an item reaches back, its new frames have the link and the offset of its frames that are moved: links are split alike
 -- before the shift and after it.
-use Rattle.std.proofs.Common.{◌≡◌, ℕ, zero, suc, ◌+◌, ◌-◌, ◌<◌, ◌≤◌, ◌⊎◌, inl, inr, ℤ, Bool, true, false, cond, eqb, ltb, min, List, [], ◌∷◌, ◌++◌, take, drop, map, filter, length, unwrap_or, Option, Some, None, refl, sym, ap, ◌∙◌, arith, subst}
+use Rattle.std.proofs.Common.{◌≡◌, ℕ, zero, suc, ◌+◌, ◌<◌, ◌≤◌, ◌⊎◌, inl, inr, ℤ, Bool, true, false, cond, eqb, ltb, min, List, [], ◌∷◌, ◌++◌, take, drop, map, filter, length, unwrap_or, Option, Some, None, refl, sym, ap, ◌∙◌, arith, subst}
 use Rattle.std.proofs.lemmas.Bool.{cases_lt, eqb-true, ltb-false, ltb-true}
-use Rattle.std.proofs.lemmas.List.{append-nil, drop-append-le, drop_all, length-append, length-take, length-take-le, take-append-le, take_all, take_at}
+use Rattle.std.proofs.lemmas.List.{append-nil, drop-append-le, drop_all, length-append, length-take-le, take-append-le, take_all, take_at}
 use Rattle.std.specs.List.{list_any}
 use Rattle.frame_meaning.specs.declared.cells.Cell.{Cell}
 use Rattle.frame_meaning.specs.declared.cells.Link.{Link}
@@ -26,12 +26,11 @@ use Rattle.edit_splice.specs.Shifts.{shifted, shifted_along, shifted_track}
 use Rattle.edit_splice.specs.Splicing.{spliced_track}
 use Rattle.edit_splice.proofs.Padding.{frames-gap}
 use Rattle.edit_trim.specs.Rippling.{as_split}
-use Rattle.link_laws.proofs.Shifting.{named-found}
 use Rattle.link_laws.proofs.ShiftTracks.{HasPlace, shifted-number}
 use Rattle.link_laws.proofs.Sights.{Alike, Shows, alike-drop, alike-length, alike-marks, alike-numbers, alike-sym, alike-take, alike-then, none-some, shows-alike}
 use Rattle.link_laws.proofs.Splices.{shows-back}
 use Rattle.link_laws.proofs.Splitting.{SeesFrom, numbered_link, split-is, splitting}
-use Rattle.link_laws.proofs.Tied.{Each, found-of, numbered-is, some-is}
+use Rattle.link_laws.proofs.Tied.{Each, numbered-is, some-is}
 
 -- cells that are alike have one list of links
 

@@ -1,5 +1,5 @@
 -- A ripple: an end of an item moves, and all that is behind it, on all named tracks.
-use Rattle.std.proofs.Common.{◌≡◌, ℕ, zero, suc, ◌+◌, ◌-◌, ◌<◌, ◌≤◌, ◌⊎◌, inl, inr, ℤ, pos, negsuc, Bool, true, false, cond, eqb, ltb, ◌&&◌, List, [], ◌∷◌, take, length, Option, Some, None, Result, Ok, Err, refl, sym, ap, ◌∙◌, arith, subst}
+use Rattle.std.proofs.Common.{◌≡◌, ℕ, zero, suc, ◌+◌, ◌-◌, ◌<◌, ◌≤◌, ◌⊎◌, inl, inr, ℤ, pos, negsuc, Bool, true, false, cond, eqb, List, [], ◌∷◌, take, length, Option, Some, None, refl, sym, ap, ◌∙◌, arith, subst}
 use Rattle.std.proofs.lemmas.Bool.{ltb-true}
 use Rattle.std.proofs.lemmas.List.{get_or-take}
 use Rattle.frame_meaning.specs.declared.cells.Cell.{Cell}
@@ -9,14 +9,11 @@ use Rattle.frame_meaning.specs.Render.{cell_at}
 use Rattle.composables.specs.declared.calls.End.{End}
 use Rattle.composables.specs.declared.calls.End.TheVariants.{Head, Tail}
 use Rattle.composables.specs.declared.calls.Ripple.{Ripple}
-use Rattle.composables.specs.declared.items.ItemView.{ItemView}
 use Rattle.composables.specs.declared.media.Table.{Table}
 use Rattle.composables.specs.declared.refusals.Done.{Done}
 use Rattle.composables.specs.declared.refusals.Done.TheVariants.{By}
 use Rattle.composables.specs.Answers.{Applied}
 use Rattle.composables.specs.Items.{cells_of}
-use Rattle.composables.specs.Joined.{frames_in}
-use Rattle.composables.specs.Links.{links_split}
 use Rattle.composables.specs.OwnTracks.{track_numbered}
 use Rattle.composables.specs.Ranges.{offset_of, range_of}
 use Rattle.composables.specs.TrackState.{TrackState}
@@ -24,20 +21,19 @@ use Rattle.edit_delta.specs.Nearest.{nearest}
 use Rattle.edit_delta.specs.Reaching.{going_on, has_before, reaching_back}
 use Rattle.edit_delta.specs.Using.{on_range}
 use Rattle.edit_delta.proofs.Greatest.{is-nearest}
-use Rattle.edit_splice.specs.Shifts.{shift_of, shifted}
+use Rattle.edit_splice.specs.Shifts.{shift_of}
 use Rattle.edit_trim.specs.Rippling.{as_split, have_room, ripple_allows, ripple_end, ripple_own, rippled, used_on_all}
 use Rattle.link_laws.specs.Laws.{RippleKeepsTogether}
-use Rattle.link_laws.specs.Rooms.{AreAmong, AreNamed, IsRoom, LeavesTogether, with_tracks}
+use Rattle.link_laws.specs.Rooms.{AreNamed, IsRoom, LeavesTogether, with_tracks}
 use Rattle.link_laws.specs.Together.{Together}
 use Rattle.link_laws.proofs.Edits.{and-both, item-range, room-good}
 use Rattle.link_laws.proofs.Reaching.{reached}
 use Rattle.link_laws.proofs.Sights.{Shows, shows-cell}
 use Rattle.link_laws.proofs.ShiftEdits.{nothing-each, own-room, shift-law}
-use Rattle.link_laws.proofs.Shifting.{SeesBefore, Stays}
+use Rattle.link_laws.proofs.Shifting.{SeesBefore}
 use Rattle.link_laws.proofs.ShiftTracks.{HasPlace, has-place, shifts-each}
 use Rattle.link_laws.proofs.Splices.{shows-on}
-use Rattle.link_laws.proofs.Splitting.{SeesFrom}
-use Rattle.link_laws.proofs.Tied.{Each, Keeps, among-numbered, each-left, each-self, keeps-self, kept-tied, some-is, tied-of, together-of}
+use Rattle.link_laws.proofs.Tied.{Keeps, among-numbered, each-left, each-self, keeps-self, kept-tied, some-is, tied-of, together-of}
 
 numbered_before : (n x : ℕ) (ts : List TrackState) (t : TrackState) (l : Link) (o : Option ℤ) → track_numbered n ts ≡ Some t → Shows 0 (take x t.cells) l o → SeesBefore x ts l o
 numbered_before n x [] t l o e h = absurd cc

@@ -1,7 +1,6 @@
 -- Edits that move what is behind them on all named tracks.
-use Rattle.std.proofs.Common.{◌≡◌, ℕ, zero, suc, ◌+◌, ◌-◌, ◌<◌, ◌≤◌, ◌⊎◌, inl, inr, ℤ, Bool, true, false, cond, eqb, ltb, nat_le, ◌&&◌, ◌||◌, List, [], ◌∷◌, ◌++◌, map, drop, length, slice_get, Option, Some, None, Result, Ok, Err, refl, sym, ap, ◌∙◌, arith, subst, IsBitSet}
-use Rattle.std.proofs.lemmas.Bool.{cases_lt, eqb-true}
-use Rattle.frame_meaning.specs.declared.cells.Cell.{Cell}
+use Rattle.std.proofs.Common.{◌≡◌, ℕ, zero, suc, ◌+◌, ◌-◌, ◌<◌, ◌≤◌, ◌⊎◌, inl, inr, ℤ, Bool, true, false, cond, eqb, List, [], ◌∷◌, drop, length, slice_get, Option, Some, None, Ok, refl, sym, ap, ◌∙◌, arith, subst, IsBitSet}
+use Rattle.std.proofs.lemmas.Bool.{eqb-true}
 use Rattle.frame_meaning.specs.declared.cells.Link.{Link}
 use Rattle.frame_meaning.specs.declared.cells.What.{What}
 use Rattle.composables.specs.declared.calls.Extract.{Extract}
@@ -11,17 +10,16 @@ use Rattle.composables.specs.declared.media.Table.{Table}
 use Rattle.composables.specs.declared.refusals.Done.{Done}
 use Rattle.composables.specs.declared.refusals.Done.TheVariants.{Item, Plain}
 use Rattle.composables.specs.declared.refusals.Refusal.{Refusal}
-use Rattle.composables.specs.declared.refusals.Refusal.TheVariants.{EmptyRange, MediaEnds, NoMedia}
 use Rattle.composables.specs.Answers.{Applied, unless}
 use Rattle.composables.specs.Bounds.{bounds_of}
 use Rattle.composables.specs.Items.{cells_of}
 use Rattle.composables.specs.Joined.{frames_in}
 use Rattle.composables.specs.Limits.{too_long, too_many, within_limits}
-use Rattle.composables.specs.Links.{cells_from, each_split, is_named, link_outside, links_split, split_links}
+use Rattle.composables.specs.Links.{cells_from, is_named, link_outside, links_split, split_links}
 use Rattle.composables.specs.OwnTracks.{for_own, track_numbered, with_track}
 use Rattle.composables.specs.Ranges.{range_of}
 use Rattle.composables.specs.TrackState.{TrackState}
-use Rattle.composables.specs.Views.{clip_view, gap_views}
+use Rattle.composables.specs.Views.{clip_view}
 use Rattle.composables.proofs.Joining.{eqb-refl}
 use Rattle.edit_insert.specs.Edits.{extracted, for_range, inserted}
 use Rattle.edit_insert.specs.Sources.{refusal_in, source_refusal, suits}

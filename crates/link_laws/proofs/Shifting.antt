@@ -1,6 +1,6 @@
 -- A shift of all named tracks of a room: links that it splits, and those of which it moves all.
-use Rattle.std.proofs.Common.{◌≡◌, ℕ, zero, suc, ◌+◌, ◌-◌, ◌<◌, ◌≤◌, ◌⊎◌, inl, inr, ⊎_elim, ℤ, Bool, true, false, cond, eqb, ◌||◌, List, [], ◌∷◌, ◌++◌, take, drop, map, length, unwrap_or, Option, Some, None, refl, sym, ap, ◌∙◌, arith, subst, IsBitSet}
-use Rattle.std.proofs.lemmas.Bool.{eq-eqb, eqb-true}
+use Rattle.std.proofs.Common.{◌≡◌, ℕ, zero, suc, ◌+◌, ◌<◌, ◌⊎◌, inl, inr, ⊎_elim, ℤ, Bool, true, false, cond, eqb, ◌||◌, List, [], ◌∷◌, take, drop, length, unwrap_or, Option, Some, None, refl, sym, ap, ◌∙◌, arith, subst, IsBitSet}
+use Rattle.std.proofs.lemmas.Bool.{eqb-true}
 use Rattle.std.specs.List.{list_any}
 use Rattle.frame_meaning.specs.declared.cells.Cell.{Cell}
 use Rattle.frame_meaning.specs.declared.cells.Link.{Link}
@@ -12,11 +12,11 @@ use Rattle.composables.specs.Links.{cells_before, cells_from, is_named, links_in
 use Rattle.composables.specs.OwnTracks.{track_numbered}
 use Rattle.composables.specs.TrackState.{TrackState}
 use Rattle.link_laws.specs.Rooms.{AreAmong, AreTracks, as_left, with_tracks}
-use Rattle.link_laws.proofs.LinkLists.{AllLinks, AnySame, Carries, Same, all-filter, all-links, any-same, carries-append, carries-left, carries-right, carries-shows, in-links, same-filter, same-sym, shows-carries}
+use Rattle.link_laws.proofs.LinkLists.{AllLinks, AnySame, Carries, Same, all-filter, all-links, any-same, carries-append, carries-left, carries-right, carries-shows, in-links, same-filter, shows-carries}
 use Rattle.link_laws.proofs.Linking.{left-number, next-numbered, numbered-left}
 use Rattle.link_laws.proofs.Sights.{Shows, rebased, shows-append, shows-at, shows-drop, shows-take, shows-view}
 use Rattle.link_laws.proofs.Splitting.{MaySplit, SameBefore, SeesFrom, Splits}
-use Rattle.link_laws.proofs.Tied.{Each, IsTied, Sees, among-numbered, good-found, numbered-is, some-is}
+use Rattle.link_laws.proofs.Tied.{Each, IsTied, Sees, among-numbered, numbered-is, some-is}
 
 -- a track of which the places [x, y) are replaced, so that what stood from y on stands from z on, by its links and offsets:
 -- of what is put in it has those that Put tells
