@@ -10,3 +10,4 @@ pub mod ShiftTracks
 pub mod ShiftEdits
 pub mod Reaching
 pub mod RippleLaw
+pub mod Wholes

@@ -1,3 +1,4 @@
 pub mod Together
 pub mod Rooms
 pub mod Laws
+pub mod Wholes

@@ -1,4 +1,5 @@
 // What is true of links under every edit.
+ghost use Rattle.link_laws.specs.Wholes.{WholesKeepTogether};
 ghost use Rattle.link_laws.specs.Laws.{DissolvingKeepsTogether, LinkingKeepsTogether, MovingAnEndKeepsTogether, PuttingInKeepsTogether, RippleKeepsTogether, ShiftingKeepsTogether, UnlinkingKeepsTogether};
 
 /// Where all tracks of a room are together they are so after each of these calls on the tracks that it names, and a
@@ -11,4 +12,10 @@ pub fn together_law()
     ensures dissolving { DissolvingKeepsTogether }
     ensures linking { LinkingKeepsTogether }
     ensures unlinking { UnlinkingKeepsTogether }
+{}
+
+/// What keeps the tracks of a room together on the tracks that a call names does so on all tracks: the named ones are
+/// picked by their numbers, and what the call leaves is put back at these.
+pub fn wholes_law()
+    ensures { WholesKeepTogether }
 {}

@@ -5,4 +5,4 @@
 
 mod laws;
 
-pub use laws::together_law;
+pub use laws::{together_law, wholes_law};
