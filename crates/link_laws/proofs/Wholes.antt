@@ -1,10 +1,13 @@
 -- Named tracks picked by their numbers, and put back.
-use Rattle.std.proofs.Common.{◌≡◌, ℕ, zero, suc, ◌+◌, ◌<◌, ◌≤◌, ◌⊎◌, inl, inr, Bool, true, false, cond, eqb, List, [], ◌∷◌, drop, map, length, slice_get, slice_set, unwrap_or, Option, Some, None, Result, Ok, Err, refl, sym, ap, ◌∙◌, arith, subst}
+use Rattle.std.proofs.Common.{◌≡◌, ℕ, zero, suc, ◌+◌, ◌<◌, ◌≤◌, ◌⊎◌, inl, inr, ℤ, Bool, true, false, cond, eqb, List, [], ◌∷◌, drop, map, length, slice_get, slice_set, unwrap_or, Option, Some, None, Result, Ok, Err, refl, sym, ap, ◌∙◌, arith, subst}
 use Rattle.std.proofs.lemmas.Bool.{eqb-true}
 use Rattle.std.proofs.lemmas.Option.{slice_get_past}
+use Rattle.frame_meaning.specs.declared.cells.Cell.{Cell}
+use Rattle.frame_meaning.specs.declared.cells.Link.{Link}
 use Rattle.composables.specs.declared.media.Table.{Table}
 use Rattle.composables.specs.declared.refusals.Done.{Done}
 use Rattle.composables.specs.Answers.{Applied}
+use Rattle.composables.specs.Items.{items_of}
 use Rattle.composables.specs.OwnTracks.{numbers_of, track_numbered}
 use Rattle.composables.specs.TrackState.{TrackState}
 use Rattle.composables.proofs.Joining.{eqb-refl}
@@ -12,7 +15,9 @@ use Rattle.room_core.specs.Parts.{AscendBetween}
 use Rattle.room_core.specs.Whole.{on_whole, picked, put_back, with_picked}
 use Rattle.link_laws.specs.Rooms.{AreAmong, AreNamed, AreTracks, Ascend, IsRoom, KeepsTogether, LeavesTogether, as_left, with_tracks}
 use Rattle.link_laws.specs.Together.{Together}
-use Rattle.link_laws.specs.Wholes.{KeepsNumbers, Numbered, StayTogether, WholesKeepTogether}
+use Rattle.link_laws.proofs.Sights.{Shows, shows-none}
+use Rattle.link_laws.proofs.Tied.{Sees, together-of}
+use Rattle.link_laws.specs.Wholes.{AreBare, KeepsNumbers, Numbered, StayTogether, UnlinkedAreTogether, WholesKeepTogether}
 
 differ_eqb : (m n : ℕ) → (m ≡ n → ⊥) → eqb m n ≡ false
 differ_eqb m n apart = by (eqb m n) refl where
@@ -27,17 +32,19 @@ numbered_at from [] k t h e = absurd cc
 numbered_at from (u ∷ us) zero t h e =
     let same : u ≡ t = cc in
     let z : from ≡ from + 0 = omega arith in
-    let n : u.number ≡ from + 0 = h.0 ∙ z in
-    (ap (λ (v : TrackState). v.number) (sym same) ∙ n,
-    ap (λ (m : ℕ). cond (eqb m (from + 0)) (Some u) (track_numbered (from + 0) us)) n
-    ∙ (ap (λ (b : Bool). cond b (Some u) (track_numbered (from + 0) us)) (eqb-refl (from + 0)) ∙ ap Some same))
+    let n : u.number ≡ from + 0 = h.0 ∙ z in (
+      ap (λ (v : TrackState). v.number) (sym same) ∙ n,
+      ap (λ (m : ℕ). cond (eqb m (from + 0)) (Some u) (track_numbered (from + 0) us)) n
+          ∙ (ap (λ (b : Bool). cond b (Some u) (track_numbered (from + 0) us)) (eqb-refl (from + 0)) ∙ ap Some same),
+    )
 numbered_at from (u ∷ us) (suc k) t h e =
     let r = numbered_at (from + 1) us k t h.1 e in
     let z : from + 1 + k ≡ from + suc k = omega arith in
-    let apart : u.number ≡ from + suc k → ⊥ = λ n. omega (arith, n, h.0) in
-    (r.0 ∙ z,
-    ap (λ (b : Bool). cond b (Some u) (track_numbered (from + suc k) us)) (differ_eqb u.number (from + suc k) apart)
-    ∙ (ap (λ (m : ℕ). track_numbered m us) (sym z) ∙ r.1))
+    let apart : u.number ≡ from + suc k → ⊥ = λ n. omega (arith, n, h.0) in (
+      r.0 ∙ z,
+      ap (λ (b : Bool). cond b (Some u) (track_numbered (from + suc k) us)) (differ_eqb u.number (from + suc k) apart)
+          ∙ (ap (λ (m : ℕ). track_numbered m us) (sym z) ∙ r.1),
+    )
 
 at_place : (all : List TrackState) (n : ℕ) (t : TrackState) → Numbered 0 all → slice_get all n ≡ Some t → (t.number ≡ n) × (track_numbered t.number all ≡ Some t)
 at_place all n t h e =
@@ -79,10 +86,6 @@ ascend_picked all least (n ∷ ns) h a = by (slice_get all n) refl (ascend_picke
       (omega (arith, is, a.0), subst (λ (m : ℕ). Ascend (m + 1) (picked all ns)) (sym is) rest)
 
 -- what is put back stands at the numbers
-
--- none of these has the number
-Above : ℕ → List TrackState → Type 0
-Above n ts = (m : ℕ) → m ≤ n → track_numbered m ts ≡ None
 
 above_of : (least count : ℕ) (ts : List TrackState) → AscendBetween least count (numbers_of ts) → (m : ℕ) → m < least → track_numbered m ts ≡ None
 above_of least count [] a m lt = refl
@@ -156,3 +159,18 @@ wholes-keep table meant all names keeps order tracks ascend numbers g = by (mean
       let same : put_back all names us ≡ with_tracks all us = ap (λ (ns : List ℕ). put_back all ns us) (sym n) ∙ put-back 0 all us order asc in
       subst Together (sym same) l
   by (Err why) n l = tt
+
+-- tracks without links
+
+sees_none : (table : Table) (ts : List TrackState) (l : Link) (o : Option ℤ) → AreBare table ts → Sees ts l o → ⊥
+sees_none table [] l o a h = h
+sees_none table (t ∷ ts) l o a (inl h) =
+    shows-none 0 (items_of t.cells) l o a.1 (subst (λ (cs : List Cell). Shows 0 cs l o) (sym a.0.kept.whole) h)
+sees_none table (t ∷ ts) l o a (inr h) = sees_none table ts l o a.2 h
+
+pub unlinked-together : UnlinkedAreTogether
+unlinked-together table all bare =
+    together-of all (record {
+      one = λ k l a b s t h n. absurd (sees_none table all k a bare s);
+      below = λ l a s. absurd (sees_none table all l a bare s);
+    })

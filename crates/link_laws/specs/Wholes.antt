@@ -3,6 +3,8 @@ use Rattle.std.specs.Prelude.{◌≡◌, ◌+◌, ℕ, List, [], ◌∷◌, Resu
 use Rattle.composables.specs.declared.media.Table.{Table}
 use Rattle.composables.specs.declared.refusals.Done.{Done}
 use Rattle.composables.specs.Answers.{Applied}
+use Rattle.composables.specs.Good.{AllUnlinked, IsGood}
+use Rattle.composables.specs.Items.{items_of}
 use Rattle.composables.specs.OwnTracks.{numbers_of}
 use Rattle.composables.specs.TrackState.{TrackState}
 use Rattle.room_core.specs.Parts.{AscendBetween}
@@ -32,3 +34,11 @@ WholesKeepTogether = (table : Table) (meant : List TrackState → Applied) (all 
     → KeepsTogether table meant → Numbered 0 all → AreTracks table all → AscendBetween 0 (length all) names
     → KeepsNumbers names (meant (picked all names)) → Together all
     → StayTogether (on_whole all names (meant (picked all names)))
+
+-- tracks that are good in a table, and without links
+abbrev pub AreBare : Table → List TrackState → Type 0
+AreBare table [] = Unit {0}
+AreBare table (t ∷ ts) = IsGood table t × AllUnlinked (items_of t.cells) × AreBare table ts
+
+abbrev pub UnlinkedAreTogether : Type 0
+UnlinkedAreTogether = (table : Table) (all : List TrackState) → AreBare table all → Together all

@@ -1,5 +1,5 @@
-// What is true of links under every edit.
-ghost use Rattle.link_laws.specs.Wholes.{WholesKeepTogether};
+// What is true of links under the calls of a room.
+ghost use Rattle.link_laws.specs.Wholes.{UnlinkedAreTogether, WholesKeepTogether};
 ghost use Rattle.link_laws.specs.Laws.{DissolvingKeepsTogether, LinkingKeepsTogether, MovingAnEndKeepsTogether, PuttingInKeepsTogether, RippleKeepsTogether, ShiftingKeepsTogether, UnlinkingKeepsTogether};
 
 /// Where all tracks of a room are together they are so after each of these calls on the tracks that it names, and a
@@ -15,7 +15,8 @@ pub fn together_law()
 {}
 
 /// What keeps the tracks of a room together on the tracks that a call names does so on all tracks: the named ones are
-/// picked by their numbers, and what the call leaves is put back at these.
+/// picked by their numbers, and what the call leaves is put back at these. Tracks without links are together.
 pub fn wholes_law()
-    ensures { WholesKeepTogether }
+    ensures wholes { WholesKeepTogether }
+    ensures unlinked { UnlinkedAreTogether }
 {}
