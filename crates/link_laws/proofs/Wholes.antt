@@ -1,11 +1,9 @@
 -- Named tracks picked by their numbers, and put back.
-use Rattle.std.proofs.Common.{◌≡◌, ℕ, zero, suc, ◌+◌, ◌<◌, ◌≤◌, ◌⊎◌, inl, inr, ℤ, Bool, true, false, cond, eqb, List, [], ◌∷◌, drop, map, length, slice_get, slice_set, unwrap_or, Option, Some, None, Result, Ok, Err, refl, sym, ap, ◌∙◌, arith, subst}
+use Rattle.std.proofs.Common.{◌≡◌, ℕ, zero, suc, ◌+◌, ◌<◌, inl, inr, ℤ, Bool, true, false, cond, eqb, List, [], ◌∷◌, drop, length, slice_get, slice_set, unwrap_or, Option, Some, None, Ok, Err, refl, sym, ap, ◌∙◌, arith, subst}
 use Rattle.std.proofs.lemmas.Bool.{eqb-true}
-use Rattle.std.proofs.lemmas.Option.{slice_get_past}
 use Rattle.frame_meaning.specs.declared.cells.Cell.{Cell}
 use Rattle.frame_meaning.specs.declared.cells.Link.{Link}
 use Rattle.composables.specs.declared.media.Table.{Table}
-use Rattle.composables.specs.declared.refusals.Done.{Done}
 use Rattle.composables.specs.Answers.{Applied}
 use Rattle.composables.specs.Items.{items_of}
 use Rattle.composables.specs.OwnTracks.{numbers_of, track_numbered}
@@ -13,7 +11,7 @@ use Rattle.composables.specs.TrackState.{TrackState}
 use Rattle.composables.proofs.Joining.{eqb-refl}
 use Rattle.room_core.specs.Parts.{AscendBetween}
 use Rattle.room_core.specs.Whole.{on_whole, picked, put_back, with_picked}
-use Rattle.link_laws.specs.Rooms.{AreAmong, AreNamed, AreTracks, Ascend, IsRoom, KeepsTogether, LeavesTogether, as_left, with_tracks}
+use Rattle.link_laws.specs.Rooms.{AreAmong, AreNamed, Ascend, IsRoom, LeavesTogether, as_left, with_tracks}
 use Rattle.link_laws.specs.Together.{Together}
 use Rattle.link_laws.proofs.Sights.{Shows, shows-none}
 use Rattle.link_laws.proofs.Tied.{Sees, together-of}

@@ -1,7 +1,6 @@
 -- A call on named tracks as a call on all tracks of a room, where the track at each place has that number.
-use Rattle.std.specs.Prelude.{◌≡◌, ◌+◌, ℕ, List, [], ◌∷◌, Result, Ok, Err, length}
+use Rattle.std.specs.Prelude.{◌≡◌, ◌+◌, ℕ, List, [], ◌∷◌, Ok, Err, length}
 use Rattle.composables.specs.declared.media.Table.{Table}
-use Rattle.composables.specs.declared.refusals.Done.{Done}
 use Rattle.composables.specs.Answers.{Applied}
 use Rattle.composables.specs.Good.{AllUnlinked, IsGood}
 use Rattle.composables.specs.Items.{items_of}
