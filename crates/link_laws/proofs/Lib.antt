@@ -1,0 +1,13 @@
+pub mod Sights
+pub mod Tied
+pub mod Splices
+pub mod Edits
+pub mod Linking
+pub mod LinkLists
+pub mod Splitting
+pub mod Shifting
+pub mod ShiftTracks
+pub mod ShiftEdits
+pub mod Reaching
+pub mod RippleLaw
+pub mod Wholes

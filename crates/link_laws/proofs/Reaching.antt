@@ -1,0 +1,388 @@
+-- Where an item reaches back, its new frames have the link and the offset of its frames that are moved: links are split alike
+-- before the shift and after it.
+use Rattle.std.proofs.Common.{◌≡◌, ℕ, zero, suc, ◌+◌, ◌<◌, ◌≤◌, ◌⊎◌, inl, inr, ℤ, Bool, true, false, cond, eqb, ltb, min, List, [], ◌∷◌, ◌++◌, take, drop, map, filter, length, unwrap_or, Option, Some, None, refl, sym, ap, ◌∙◌, arith, subst}
+use Rattle.std.proofs.lemmas.Bool.{cases_lt, eqb-true, ltb-false, ltb-true}
+use Rattle.std.proofs.lemmas.List.{append-nil, drop-append-le, drop_all, length-append, length-take-le, take-append-le, take_all, take_at}
+use Rattle.std.specs.List.{list_any}
+use Rattle.frame_meaning.specs.declared.cells.Cell.{Cell}
+use Rattle.frame_meaning.specs.declared.cells.Link.{Link}
+use Rattle.frame_meaning.specs.declared.cells.Mark.{Mark}
+use Rattle.frame_meaning.specs.declared.cells.What.{What}
+use Rattle.frame_meaning.specs.declared.frames.Side.{Side}
+use Rattle.frame_meaning.specs.Render.{cell_at}
+use Rattle.frame_meaning.specs.Splice.{kept_or_dropped, renumbered, split_item, with_marks}
+use Rattle.composables.specs.declared.items.ItemView.{ItemView}
+use Rattle.composables.specs.declared.media.Table.{Table}
+use Rattle.composables.specs.Items.{cells_of}
+use Rattle.composables.specs.Joined.{frames_in}
+use Rattle.composables.specs.Links.{cells_before, cells_from, each_split, link_split, links_in, links_split, next_link_at, relinked, same_link, split_links, with_link_of}
+use Rattle.composables.specs.OwnTracks.{track_numbered}
+use Rattle.composables.specs.Ranges.{offset_of}
+use Rattle.composables.specs.TrackState.{TrackState, next_past_all}
+use Rattle.composables.specs.Views.{gap_views}
+use Rattle.composables.proofs.Joining.{length-cells_of}
+use Rattle.edit_delta.specs.Reaching.{has_before, reaching_back}
+use Rattle.edit_splice.specs.Shifts.{shifted, shifted_along, shifted_track}
+use Rattle.edit_splice.specs.Splicing.{spliced_track}
+use Rattle.edit_splice.proofs.Padding.{frames-gap}
+use Rattle.edit_trim.specs.Rippling.{as_split}
+use Rattle.link_laws.proofs.ShiftTracks.{HasPlace, shifted-number}
+use Rattle.link_laws.proofs.Sights.{Alike, Shows, alike-drop, alike-length, alike-marks, alike-numbers, alike-sym, alike-take, alike-then, none-some, shows-alike}
+use Rattle.link_laws.proofs.Splices.{shows-back}
+use Rattle.link_laws.proofs.Splitting.{SeesFrom, numbered_link, split-is, splitting}
+use Rattle.link_laws.proofs.Tied.{Each, numbered-is, some-is}
+
+-- cells that are alike have one list of links
+
+links_alike : (cs ds : List Cell) → Alike cs ds → links_in cs ≡ links_in ds
+links_alike [] [] a = refl
+links_alike [] (d ∷ ds) a = absurd a
+links_alike (c ∷ cs) [] a = absurd a
+links_alike (c ∷ cs) (d ∷ ds) a =
+    ap (λ (o : Option Link). with_link_of o (links_in cs)) a.0 ∙ ap (with_link_of d.link) (links_alike cs ds a.2)
+
+alike_append : (xs ys cs ds : List Cell) → Alike xs ys → Alike cs ds → Alike (xs ++ cs) (ys ++ ds)
+alike_append [] [] cs ds h k = k
+alike_append [] (y ∷ ys) cs ds h k = absurd h
+alike_append (x ∷ xs) [] cs ds h k = absurd h
+alike_append (x ∷ xs) (y ∷ ys) cs ds h k = (h.0, h.1, alike_append xs ys cs ds h.2 k)
+
+-- cells of one link and side are relinked alike
+
+abbrev relinked_by : Link → Link → Option Link → Option Link
+relinked_by old new None = None
+relinked_by old new (Some l) = cond (same_link l old) (Some new) (Some l)
+
+relinked_is : (old new : Link) (i : Option ℕ) (s : Side What) (m : Option Mark) (o : Option Link)
+    → ((relinked old new (record { item = i; side = s; mark = m; link = o })).link ≡ relinked_by old new o)
+    × ((relinked old new (record { item = i; side = s; mark = m; link = o })).side ≡ s)
+relinked_is old new i s m None = (refl, refl)
+relinked_is old new i s m (Some l) = by (same_link l old) where
+  c : Cell
+  c = record { item = i; side = s; mark = m; link = Some l }
+
+  by : (b : Bool) → ((cond b (record c { link = Some new }) c).link ≡ cond b (Some new) (Some l)) × ((cond b (record c { link = Some new }) c).side ≡ s)
+  by true = (refl, refl)
+  by false = (refl, refl)
+
+cell_relinked : (old new : Link) (c : Cell) → ((relinked old new c).link ≡ relinked_by old new c.link) × ((relinked old new c).side ≡ c.side)
+cell_relinked old new c = relinked_is old new c.item c.side c.mark c.link
+
+alike_relinked : (old new : Link) (cs ds : List Cell) → Alike cs ds → Alike (map (relinked old new) cs) (map (relinked old new) ds)
+alike_relinked old new [] [] a = tt
+alike_relinked old new [] (d ∷ ds) a = absurd a
+alike_relinked old new (c ∷ cs) [] a = absurd a
+alike_relinked old new (c ∷ cs) (d ∷ ds) a =
+    let x = cell_relinked old new c in
+    let y = cell_relinked old new d in
+    (x.0 ∙ (ap (relinked_by old new) a.0 ∙ sym y.0), x.1 ∙ (a.1 ∙ sym y.1), alike_relinked old new cs ds a.2)
+
+-- two states of the tracks that are alike from a place on, each from its own
+
+pub record Follows (x z : ℕ) (t u : TrackState) : Type 0 where
+  pub next : t.next_link ≡ u.next_link
+  pub cells : Alike (drop x t.cells) (drop z u.cells)
+
+split_drop : (z : ℕ) (f : Cell → Cell) (cs : List Cell) → drop z (take z cs ++ map f (drop z cs)) ≡ map f (drop z cs)
+split_drop zero f cs = refl
+split_drop (suc z) f [] = refl
+split_drop (suc z) f (c ∷ cs) = split_drop z f cs
+
+follows_next : (x z h : ℕ) (ts us : List TrackState) → Each (Follows x z) ts us → next_link_at h ts ≡ next_link_at h us
+follows_next x z h [] [] each = refl
+follows_next x z h [] (u ∷ us) each = absurd each
+follows_next x z h (t ∷ ts) [] each = absurd each
+follows_next x z h (t ∷ ts) (u ∷ us) each =
+    ap (λ (m : ℕ). cond (eqb m h) t.next_link (next_link_at h ts)) (sym each.0)
+    ∙ (ap (λ (m : ℕ). cond (eqb u.number h) m (next_link_at h ts)) each.1.next
+    ∙ ap (λ (m : ℕ). cond (eqb u.number h) u.next_link m) (follows_next x z h ts us each.2))
+
+follows_one : (x z n : ℕ) (l : Link) (t u : TrackState) → u.number ≡ t.number → Follows x z t u → Follows x z (splitting x l n t) (splitting z l n u)
+follows_one x z n l t u e f = record {
+  next = ap (λ (m : ℕ). cond (eqb m l.home) (n + 1) t.next_link) (sym e) ∙ ap (λ (m : ℕ). cond (eqb u.number l.home) (n + 1) m) f.next;
+  cells = cells;
+} where
+  cells : Alike (drop x (take x t.cells ++ map (relinked l (numbered_link l n)) (drop x t.cells))) (drop z (take z u.cells ++ map (relinked l (numbered_link l n)) (drop z u.cells)))
+  cells =
+      let a = alike_relinked l (numbered_link l n) (drop x t.cells) (drop z u.cells) f.cells in
+      subst (λ (cs : List Cell). Alike cs (drop z (take z u.cells ++ map (relinked l (numbered_link l n)) (drop z u.cells)))) (sym (split_drop x (relinked l (numbered_link l n)) t.cells))
+      (subst (Alike (map (relinked l (numbered_link l n)) (drop x t.cells))) (sym (split_drop z (relinked l (numbered_link l n)) u.cells)) a)
+
+follows_map : (x z n : ℕ) (l : Link) (ts us : List TrackState) → Each (Follows x z) ts us → Each (Follows x z) (map (splitting x l n) ts) (map (splitting z l n) us)
+follows_map x z n l [] [] each = tt
+follows_map x z n l [] (u ∷ us) each = absurd each
+follows_map x z n l (t ∷ ts) [] each = absurd each
+follows_map x z n l (t ∷ ts) (u ∷ us) each = (each.0, follows_one x z n l t u each.0 each.1, follows_map x z n l ts us each.2)
+
+follows_split : (x z : ℕ) (l : Link) (ts us : List TrackState) → Each (Follows x z) ts us → Each (Follows x z) (link_split x ts l) (link_split z us l)
+follows_split x z l ts us each =
+    let n = follows_next x z l.home ts us each in
+    let a : Each (Follows x z) (map (splitting x l (next_link_at l.home us)) ts) (map (splitting z l (next_link_at l.home us)) us) = follows_map x z (next_link_at l.home us) l ts us each in
+    let b : Each (Follows x z) (map (splitting x l (next_link_at l.home ts)) ts) (map (splitting z l (next_link_at l.home us)) us) =
+    subst (λ (m : ℕ). Each (Follows x z) (map (splitting x l m) ts) (map (splitting z l (next_link_at l.home us)) us)) (sym n) a in
+    subst (λ (vs : List TrackState). Each (Follows x z) vs (link_split z us l)) (sym (split-is x ts l))
+    (subst (Each (Follows x z) (map (splitting x l (next_link_at l.home ts)) ts)) (sym (split-is z us l)) b)
+
+follows_all : (x z : ℕ) (ls : List Link) (ts us : List TrackState) → Each (Follows x z) ts us → Each (Follows x z) (each_split x ts ls) (each_split z us ls)
+follows_all x z [] ts us each = each
+follows_all x z (l ∷ ls) ts us each = follows_all x z ls (link_split x ts l) (link_split z us l) (follows_split x z l ts us each)
+
+-- the same links are split
+
+abbrev pub Fronts : ℕ → TrackState → TrackState → Type 0
+Fronts x t u = Alike (take x t.cells) (take x u.cells)
+
+from_alike : (x z : ℕ) (ts us : List TrackState) → Each (Follows x z) ts us → Alike (cells_from x ts) (cells_from z us)
+from_alike x z [] [] each = tt
+from_alike x z [] (u ∷ us) each = absurd each
+from_alike x z (t ∷ ts) [] each = absurd each
+from_alike x z (t ∷ ts) (u ∷ us) each =
+    alike_append (drop x t.cells) (drop z u.cells) (cells_from x ts) (cells_from z us) each.1.cells (from_alike x z ts us each.2)
+
+before_alike : (x : ℕ) (ts us : List TrackState) → Each (Fronts x) ts us → Alike (cells_before x ts) (cells_before x us)
+before_alike x [] [] each = tt
+before_alike x [] (u ∷ us) each = absurd each
+before_alike x (t ∷ ts) [] each = absurd each
+before_alike x (t ∷ ts) (u ∷ us) each =
+    alike_append (take x t.cells) (take x u.cells) (cells_before x ts) (cells_before x us) each.1 (before_alike x ts us each.2)
+
+same_split : (x z : ℕ) (ts us : List TrackState) → Each (Follows x z) ts us → Each (Fronts x) ts us → split_links x x ts ≡ split_links x z us
+same_split x z ts us each fronts =
+    ap (λ (bs : List Link). filter (λ (l : Link). list_any (same_link l) bs) (links_in (cells_from x ts))) (links_alike (cells_before x ts) (cells_before x us) (before_alike x ts us fronts))
+    ∙ ap (filter (λ (l : Link). list_any (same_link l) (links_in (cells_before x us)))) (links_alike (cells_from x ts) (cells_from z us) (from_alike x z ts us each))
+
+pub follows-splits : (x z : ℕ) (ts us : List TrackState) → Each (Follows x z) ts us → Each (Fronts x) ts us → Each (Follows x z) (links_split x x ts) (links_split x z us)
+follows-splits x z ts us each fronts =
+    subst (λ (ls : List Link). Each (Follows x z) (links_split x x ts) (each_split z us ls)) (same_split x z ts us each fronts) (follows_all x z (split_links x x ts) ts us each)
+
+-- the tracks after the shift
+
+abbrev Parted : ℕ → ℕ → TrackState → TrackState → Type 0
+Parted x z t u = Alike (take x t.cells) (take x u.cells) × Alike (drop x t.cells) (drop z u.cells)
+
+parted_in : (t : TrackState) (x past z : ℕ) (views : List ItemView) → x ≤ length t.cells → drop past t.cells ≡ drop x t.cells → x + frames_in views ≡ z → Parted x z t (spliced_track t x past views)
+parted_in t x past z views le same sum = (fronts, behinds) where
+  all : List Cell
+  all = with_marks kept_or_dropped x past 0 t.cells
+
+  rest : List Cell
+  rest = drop past all
+
+  tail : List Cell
+  tail = map (renumbered (split_item t.cells x past) (next_past_all t.next_item views)) rest
+
+  front : List Cell
+  front = take x all
+
+  marks : Alike all t.cells
+  marks = alike-marks kept_or_dropped x past 0 t.cells
+
+  start : length front ≡ x
+  start = alike-length front (take x t.cells) (alike-take x all t.cells marks) ∙ length-take-le x t.cells le
+
+  till : length (front ++ cells_of views) ≡ z
+  till = omega (arith, length-append front (cells_of views), length-cells_of views, start, sum)
+
+  fronts : Alike (take x t.cells) (take x ((front ++ cells_of views) ++ tail))
+  fronts =
+      subst (Alike (take x t.cells)) (sym (take-append-le x (front ++ cells_of views) tail (omega (arith, till, sum)) ∙ take_at front (cells_of views) x start))
+      (alike-sym front (take x t.cells) (alike-take x all t.cells marks))
+
+  tails : Alike tail (drop past t.cells)
+  tails = alike-then tail rest (drop past t.cells) (alike-numbers (split_item t.cells x past) (next_past_all t.next_item views) rest) (alike-drop past all t.cells marks)
+
+  behinds : Alike (drop x t.cells) (drop z ((front ++ cells_of views) ++ tail))
+  behinds =
+      subst (Alike (drop x t.cells)) (sym (drop-append-le z (front ++ cells_of views) tail (omega (arith, till)) ∙ ap (λ (cs : List Cell). cs ++ tail) (drop_all z (front ++ cells_of views) (omega (arith, till)))))
+      (subst (λ (cs : List Cell). Alike cs tail) same (alike-sym tail (drop past t.cells) tails))
+
+parted_past : (t : TrackState) (x z k past : ℕ) → length t.cells ≤ x → x ≤ z → k ≡ length t.cells → length t.cells ≤ past → Parted x z t (spliced_track t k past [])
+parted_past t x z k past short le is beyond = (fronts, behinds) where
+  all : List Cell
+  all = with_marks kept_or_dropped k past 0 t.cells
+
+  marks : Alike all t.cells
+  marks = alike-marks kept_or_dropped k past 0 t.cells
+
+  long : length all ≡ length t.cells
+  long = alike-length all t.cells marks
+
+  whole : (spliced_track t k past []).cells ≡ all
+  whole =
+      ap (λ (cs : List Cell). (take k all ++ []) ++ map (renumbered (split_item t.cells k past) t.next_item) cs) (drop_all past all (omega (arith, long, beyond)))
+      ∙ (append-nil (take k all ++ []) ∙ (append-nil (take k all) ∙ take_all k all (omega (arith, long, is))))
+
+  fronts : Alike (take x t.cells) (take x (spliced_track t k past []).cells)
+  fronts = subst (λ (cs : List Cell). Alike (take x t.cells) (take x cs)) (sym whole) (alike-take x t.cells all (alike-sym all t.cells marks))
+
+  behinds : Alike (drop x t.cells) (drop z (spliced_track t k past []).cells)
+  behinds =
+      subst (λ (cs : List Cell). Alike cs (drop z (spliced_track t k past []).cells)) (sym (drop_all x t.cells short))
+      (subst (Alike []) (sym (ap (drop z) whole ∙ drop_all z all (omega (arith, long, short, le)))) tt)
+
+drop_least : (y : ℕ) (cs : List Cell) → drop (min y (length cs)) cs ≡ drop y cs
+drop_least y cs = by (cases_lt (length cs) y) where
+  by : (length cs < y) ⊎ (y ≤ length cs) → drop (min y (length cs)) cs ≡ drop y cs
+  by (inl less) = drop_all (min y (length cs)) cs (omega (arith, less)) ∙ sym (drop_all y cs (omega (arith, less)))
+  by (inr le) = let e : min y (length cs) ≡ y = omega (arith, le) in ap (λ (n : ℕ). drop n cs) e
+
+parted_along : (t : TrackState) (x n : ℕ) → Parted x (x + n) t (shifted_along t x x n)
+parted_along t x n = by (ltb x (length t.cells)) refl where
+  by : (b : Bool) → ltb x (length t.cells) ≡ b → Parted x (x + n) t (spliced_track t (min x (length t.cells)) (min x (length t.cells)) (cond b (gap_views n) []))
+  by true e =
+      let inside = ltb-true x (length t.cells) e in
+      let at : x ≡ min x (length t.cells) = omega (arith, inside) in
+      subst (λ (k : ℕ). Parted x (x + n) t (spliced_track t k (min x (length t.cells)) (gap_views n))) at
+      (parted_in t x (min x (length t.cells)) (x + n) (gap_views n) (omega (arith, inside)) (drop_least x t.cells) (omega (arith, frames-gap n)))
+  by false e =
+      let past = ltb-false x (length t.cells) e in
+      parted_past t x (x + n) (min x (length t.cells)) (min x (length t.cells)) (omega (arith, past)) (omega arith) (omega (arith, past)) (omega (arith, past))
+
+parted_one : (own x : ℕ) (views : List ItemView) (t : TrackState) → (t.number ≡ own → x ≤ length t.cells) → Parted x (x + frames_in views) t (shifted_track own x x views t)
+parted_one own x views t has = by (eqb t.number own) refl where
+  by : (b : Bool) → eqb t.number own ≡ b → Parted x (x + frames_in views) t (cond b (spliced_track t x x views) (shifted_along t x x (frames_in views)))
+  by true e = parted_in t x x (x + frames_in views) views (has (eqb-true t.number own e)) refl refl
+  by false e = parted_along t x (frames_in views)
+
+next_shifted : (own x : ℕ) (views : List ItemView) (t : TrackState) → t.next_link ≡ (shifted_track own x x views t).next_link
+next_shifted own x views t = by (eqb t.number own) where
+  by : (b : Bool) → t.next_link ≡ (cond b (spliced_track t x x views) (shifted_along t x x (frames_in views))).next_link
+  by true = refl
+  by false = refl
+
+follows_shifted : (own x : ℕ) (views : List ItemView) (ts : List TrackState) → HasPlace own x ts → Each (Follows x (x + frames_in views)) ts (shifted own x x views ts)
+follows_shifted own x views [] has = tt
+follows_shifted own x views (t ∷ ts) has =
+    (shifted-number own x x views t, record { next = next_shifted own x views t; cells = (parted_one own x views t has.0).1 }, follows_shifted own x views ts has.1)
+
+fronts_shifted : (own x : ℕ) (views : List ItemView) (ts : List TrackState) → HasPlace own x ts → Each (Fronts x) ts (shifted own x x views ts)
+fronts_shifted own x views [] has = tt
+fronts_shifted own x views (t ∷ ts) has =
+    (shifted-number own x x views t, (parted_one own x views t has.0).0, fronts_shifted own x views ts has.1)
+
+-- sides stay
+
+abbrev SameSides : List Cell → List Cell → Type 0
+SameSides [] [] = Unit {0}
+SameSides [] (d ∷ ds) = ⊥
+SameSides (c ∷ cs) [] = ⊥
+SameSides (c ∷ cs) (d ∷ ds) = (c.side ≡ d.side) × SameSides cs ds
+
+sides_self : (cs : List Cell) → SameSides cs cs
+sides_self [] = tt
+sides_self (c ∷ cs) = (refl, sides_self cs)
+
+sides_then : (bs cs ds : List Cell) → SameSides bs cs → SameSides cs ds → SameSides bs ds
+sides_then [] [] ds h k = k
+sides_then [] (c ∷ cs) ds h k = absurd h
+sides_then (b ∷ bs) [] ds h k = absurd h
+sides_then (b ∷ bs) (c ∷ cs) [] h k = absurd k
+sides_then (b ∷ bs) (c ∷ cs) (d ∷ ds) h k = (h.0 ∙ k.0, sides_then bs cs ds h.1 k.1)
+
+sides_split : (z : ℕ) (old new : Link) (cs : List Cell) → SameSides cs (take z cs ++ map (relinked old new) (drop z cs))
+sides_split zero old new [] = tt
+sides_split zero old new (c ∷ cs) = (sym (cell_relinked old new c).1, sides_split zero old new cs)
+sides_split (suc z) old new [] = tt
+sides_split (suc z) old new (c ∷ cs) = (refl, sides_split z old new cs)
+
+abbrev Shown : TrackState → TrackState → Type 0
+Shown t u = SameSides t.cells u.cells
+
+shown_map : (z n : ℕ) (l : Link) (ts : List TrackState) → Each Shown ts (map (splitting z l n) ts)
+shown_map z n l [] = tt
+shown_map z n l (t ∷ ts) = (refl, sides_split z l (numbered_link l n) t.cells, shown_map z n l ts)
+
+shown_self : (ts : List TrackState) → Each Shown ts ts
+shown_self [] = tt
+shown_self (t ∷ ts) = (refl, sides_self t.cells, shown_self ts)
+
+shown_then : (ts us vs : List TrackState) → Each Shown ts us → Each Shown us vs → Each Shown ts vs
+shown_then [] [] vs h g = g
+shown_then [] (u ∷ us) vs h g = absurd h
+shown_then (t ∷ ts) [] vs h g = absurd h
+shown_then (t ∷ ts) (u ∷ us) [] h g = absurd g
+shown_then (t ∷ ts) (u ∷ us) (v ∷ vs) h g = (g.0 ∙ h.0, sides_then t.cells u.cells v.cells h.1 g.1, shown_then ts us vs h.2 g.2)
+
+shown_all : (z : ℕ) (ls : List Link) (ts : List TrackState) → Each Shown ts (each_split z ts ls)
+shown_all z [] ts = shown_self ts
+shown_all z (l ∷ ls) ts =
+    shown_then ts (link_split z ts l) (each_split z (link_split z ts l) ls)
+    (subst (Each Shown ts) (sym (split-is z ts l)) (shown_map z (next_link_at l.home ts) l ts)) (shown_all z ls (link_split z ts l))
+
+sides_at : (cs ds : List Cell) (p : ℕ) → SameSides cs ds → (cell_at cs p).side ≡ (cell_at ds p).side
+sides_at [] [] p h = refl
+sides_at [] (d ∷ ds) p h = absurd h
+sides_at (c ∷ cs) [] p h = absurd h
+sides_at (c ∷ cs) (d ∷ ds) zero h = h.0
+sides_at (c ∷ cs) (d ∷ ds) (suc p) h = sides_at cs ds p h.1
+
+-- the new frames
+
+shows_from : (q x : ℕ) (cs : List Cell) (l : Link) → (cell_at cs x).link ≡ Some l → Shows q (drop x cs) l (offset_of (cell_at cs x).side q)
+shows_from q x [] l e = absurd (none-some l None refl e)
+shows_from q zero (c ∷ cs) l e = inl (e, refl)
+shows_from q (suc x) (c ∷ cs) l e = shows_from q x cs l e
+
+numbered_from : (n z : ℕ) (ts : List TrackState) (t : TrackState) (l : Link) (o : Option ℤ) → track_numbered n ts ≡ Some t → Shows z (drop z t.cells) l o → SeesFrom z ts l o
+numbered_from n z [] t l o e h = absurd cc
+numbered_from n z (u ∷ us) t l o e h = by (eqb u.number n) e (λ k. numbered_from n z us t l o k h) where
+  by : (b : Bool) → cond b (Some u) (track_numbered n us) ≡ Some t → (track_numbered n us ≡ Some t → SeesFrom z us l o) → SeesFrom z (u ∷ us) l o
+  by true k later = inl (subst (λ (v : TrackState). Shows z (drop z v.cells) l o) (sym (some-is u t k)) h)
+  by false k later = inr (later k)
+
+-- a track of the first is followed by one of the second
+following : (R : TrackState → TrackState → Type 0) (n : ℕ) (ts us : List TrackState) (t : TrackState) → Each R ts us → track_numbered n ts ≡ Some t → (u : TrackState) × (track_numbered n us ≡ Some u) × R t u
+following R n [] us t each e = absurd cc
+following R n (t ∷ ts) [] s each e = absurd each
+following R n (t ∷ ts) (u ∷ us) s each e = by (eqb t.number n) refl e (λ k. following R n ts us s each.2 k) where
+  head : (b : Bool) → eqb t.number n ≡ b → track_numbered n (u ∷ us) ≡ cond b (Some u) (track_numbered n us)
+  head b f = ap (λ (m : ℕ). cond (eqb m n) (Some u) (track_numbered n us)) each.0 ∙ ap (λ (c : Bool). cond c (Some u) (track_numbered n us)) f
+
+  by : (b : Bool) → eqb t.number n ≡ b → cond b (Some t) (track_numbered n ts) ≡ Some s → (track_numbered n ts ≡ Some s → (v : TrackState) × (track_numbered n us ≡ Some v) × R s v)
+      → (v : TrackState) × (track_numbered n (u ∷ us) ≡ Some v) × R s v
+  by true f k later = (u, head true f, subst (λ (w : TrackState). R w u) (some-is t s k) each.1)
+  by false f k later = let r = later k in (r.0, head false f ∙ r.1, r.2)
+
+pub reached : (table : Table) (named : List TrackState) (t : TrackState) (own x n : ℕ) (l : Link) (o : Option ℤ) → track_numbered own named ≡ Some t → HasPlace own x named
+    → has_before table (cell_at t.cells x).side n ≡ true
+    → Shows x (cells_of (reaching_back (cell_at (as_split x named t).cells x) n ∷ [])) l o
+    → SeesFrom (x + (n + 0)) (links_split x (x + (n + 0)) (shifted own x x (reaching_back (cell_at (as_split x named t).cells x) n ∷ []) named)) l o
+reached table named t own x n l o e has before h = numbered_from own z vs after.0 l o after.1 shown where
+  z : ℕ
+  z = x + (n + 0)
+
+  views : List ItemView
+  views = reaching_back (cell_at (as_split x named t).cells x) n ∷ []
+
+  ps : List TrackState
+  ps = links_split x x named
+
+  vs : List TrackState
+  vs = links_split x z (shifted own x x views named)
+
+  found : (u : TrackState) × (track_numbered own ps ≡ Some u) × Shown t u
+  found = following Shown own named ps t (shown_all x (split_links x x named) named) e
+
+  is : as_split x named t ≡ found.0
+  is =
+      ap (λ (m : ℕ). unwrap_or (track_numbered m ps) t) (numbered-is own named t e) ∙ ap (λ (p : Option TrackState). unwrap_or p t) found.1
+
+  side : (cell_at t.cells x).side ≡ (cell_at (as_split x named t).cells x).side
+  side = sides_at t.cells found.0.cells x found.2 ∙ ap (λ (u : TrackState). (cell_at u.cells x).side) (sym is)
+
+  put : ((cell_at (as_split x named t).cells x).link ≡ Some l) × (offset_of (cell_at (as_split x named t).cells x).side (x + n) ≡ o)
+  put = shows-back table (cell_at (as_split x named t).cells x) x n l o (ap (λ (s : Side What). has_before table s n) (sym side) ∙ before) h
+
+  after : (v : TrackState) × (track_numbered own vs ≡ Some v) × Follows x z found.0 v
+  after = following (Follows x z) own ps vs found.0 (follows-splits x z named (shifted own x x views named) (follows_shifted own x views named has) (fronts_shifted own x views named has)) found.1
+
+  there : Shows z (drop x found.0.cells) l (offset_of (cell_at found.0.cells x).side z)
+  there = shows_from z x found.0.cells l (ap (λ (u : TrackState). (cell_at u.cells x).link) (sym is) ∙ put.0)
+
+  at : offset_of (cell_at found.0.cells x).side z ≡ o
+  at =
+      ap (λ (u : TrackState). offset_of (cell_at u.cells x).side z) (sym is)
+      ∙ (let k : x + (n + 0) ≡ x + n = omega arith in ap (offset_of (cell_at (as_split x named t).cells x).side) k ∙ put.1)
+
+  shown : Shows z (drop z after.0.cells) l o
+  shown = shows-alike z (drop x found.0.cells) (drop z after.0.cells) l o after.2.cells (subst (λ (a : Option ℤ). Shows z (drop x found.0.cells) l a) at there)

@@ -1,0 +1,232 @@
+-- What a shift does to each track, by its links and offsets.
+use Rattle.std.proofs.Common.{◌≡◌, ℕ, zero, suc, ◌+◌, ◌-◌, ◌<◌, ◌≤◌, ◌⊎◌, inl, inr, ℤ, Bool, true, false, cond, eqb, ltb, min, List, [], ◌∷◌, ◌++◌, take, drop, map, length, Option, Some, refl, sym, ap, ◌∙◌, arith, subst}
+use Rattle.std.proofs.lemmas.Bool.{cases_lt, eqb-true, ltb-false, ltb-true}
+use Rattle.std.proofs.lemmas.List.{append-nil, drop-append-le, drop_all, length-append, length-take-le, take-append-le, take_all, take_at}
+use Rattle.frame_meaning.specs.declared.cells.Cell.{Cell}
+use Rattle.frame_meaning.specs.declared.cells.Link.{Link}
+use Rattle.frame_meaning.specs.Splice.{kept_or_dropped, renumbered, split_item, with_marks}
+use Rattle.composables.specs.declared.items.ItemView.{ItemView}
+use Rattle.composables.specs.Items.{cells_of}
+use Rattle.composables.specs.Joined.{frames_in}
+use Rattle.composables.specs.OwnTracks.{track_numbered}
+use Rattle.composables.specs.TrackState.{TrackState, next_past_all}
+use Rattle.composables.specs.Views.{gap_views}
+use Rattle.composables.proofs.Joining.{length-cells_of}
+use Rattle.edit_splice.specs.Padding.{padded_track}
+use Rattle.edit_splice.specs.Shifts.{shifted, shifted_along, shifted_track}
+use Rattle.edit_splice.specs.Splicing.{spliced_track}
+use Rattle.edit_splice.proofs.Padding.{frames-gap}
+use Rattle.link_laws.specs.Rooms.{AreAmong}
+use Rattle.link_laws.proofs.LinkLists.{Carries, carries-shows, shows-carries}
+use Rattle.link_laws.proofs.Shifting.{Shifts}
+use Rattle.link_laws.proofs.Sights.{Alike, Shows, alike-drop, alike-length, alike-marks, alike-numbers, alike-sym, alike-take, alike-then, rebased, shows-alike, shows-append, shows-at, shows-left, shows-moved, shows-none, shows-take}
+use Rattle.link_laws.proofs.Splices.{gap-bare}
+use Rattle.link_laws.proofs.Tied.{Each, some-is}
+
+-- a splice within a track
+
+pub shifts-in : (t : TrackState) (x y past z : ℕ) (views : List ItemView) (Put : Link → Option ℤ → Type 0) → x ≤ length t.cells → drop past t.cells ≡ drop y t.cells
+    → x + frames_in views ≡ z → ((l : Link) (o : Option ℤ) → Shows x (cells_of views) l o → Put l o) → Shifts x y z Put t (spliced_track t x past views)
+shifts-in t x y past z views Put le same sum put = record { low = low; high = high; back = back; next = refl } where
+  all : List Cell
+  all = with_marks kept_or_dropped x past 0 t.cells
+
+  rest : List Cell
+  rest = drop past all
+
+  tail : List Cell
+  tail = map (renumbered (split_item t.cells x past) (next_past_all t.next_item views)) rest
+
+  front : List Cell
+  front = take x all
+
+  marks : Alike all t.cells
+  marks = alike-marks kept_or_dropped x past 0 t.cells
+
+  fronts : Alike front (take x t.cells)
+  fronts = alike-take x all t.cells marks
+
+  tails : Alike tail (drop past t.cells)
+  tails = alike-then tail rest (drop past t.cells) (alike-numbers (split_item t.cells x past) (next_past_all t.next_item views) rest) (alike-drop past all t.cells marks)
+
+  start : length front ≡ x
+  start = alike-length front (take x t.cells) fronts ∙ length-take-le x t.cells le
+
+  till : length (front ++ cells_of views) ≡ z
+  till = omega (arith, length-append front (cells_of views), length-cells_of views, start, sum)
+
+  low : (l : Link) (o : Option ℤ) → Shows 0 (take z ((front ++ cells_of views) ++ tail)) l o → Shows 0 (take x t.cells) l o ⊎ Put l o
+  low l o h = by (shows-append 0 front (cells_of views) l o (subst (λ (cs : List Cell). Shows 0 cs l o) (take_at (front ++ cells_of views) tail z till) h)) where
+    by : Shows 0 front l o ⊎ Shows (0 + length front) (cells_of views) l o → Shows 0 (take x t.cells) l o ⊎ Put l o
+    by (inl a) = inl (shows-alike 0 front (take x t.cells) l o fronts a)
+    by (inr b) = inr (put l o (shows-at (0 + length front) x (cells_of views) l o (omega (arith, start)) b))
+
+  behind : drop z ((front ++ cells_of views) ++ tail) ≡ tail
+  behind =
+      drop-append-le z (front ++ cells_of views) tail (omega (arith, till))
+      ∙ ap (λ (cs : List Cell). cs ++ tail) (drop_all z (front ++ cells_of views) (omega (arith, till)))
+
+  high : (l : Link) (o : Option ℤ) → Shows z (drop z ((front ++ cells_of views) ++ tail)) l o → (b : Option ℤ) × Shows y (drop y t.cells) l b × (o ≡ rebased y z b)
+  high l o h =
+      shows-moved y z (drop y t.cells) l o
+      (subst (λ (cs : List Cell). Shows z cs l o) same (shows-alike z tail (drop past t.cells) l o tails (subst (λ (cs : List Cell). Shows z cs l o) behind h)))
+
+  first : take x ((front ++ cells_of views) ++ tail) ≡ front
+  first =
+      take-append-le x (front ++ cells_of views) tail (omega (arith, till, sum)) ∙ take_at front (cells_of views) x start
+
+  back : (l : Link) (o : Option ℤ) → Shows 0 (take x t.cells) l o → Shows 0 (take x ((front ++ cells_of views) ++ tail)) l o
+  back l o h = subst (λ (cs : List Cell). Shows 0 cs l o) (sym first) (shows-alike 0 (take x t.cells) front l o (alike-sym front (take x t.cells) fronts) h)
+
+-- a track that does not have the place
+
+shifts_past : (t : TrackState) (x y z k past : ℕ) (Put : Link → Option ℤ → Type 0) → length t.cells ≤ x → x ≤ z → k ≡ length t.cells → length t.cells ≤ past
+    → Shifts x y z Put t (spliced_track t k past [])
+shifts_past t x y z k past Put short le is beyond = record { low = low; high = high; back = back; next = refl } where
+  all : List Cell
+  all = with_marks kept_or_dropped k past 0 t.cells
+
+  marks : Alike all t.cells
+  marks = alike-marks kept_or_dropped k past 0 t.cells
+
+  long : length all ≡ length t.cells
+  long = alike-length all t.cells marks
+
+  whole : (spliced_track t k past []).cells ≡ all
+  whole =
+      ap (λ (cs : List Cell). (take k all ++ []) ++ map (renumbered (split_item t.cells k past) t.next_item) cs) (drop_all past all (omega (arith, long, beyond)))
+      ∙ (append-nil (take k all ++ []) ∙ (append-nil (take k all) ∙ take_all k all (omega (arith, long, is))))
+
+  low : (l : Link) (o : Option ℤ) → Shows 0 (take z (spliced_track t k past []).cells) l o → Shows 0 (take x t.cells) l o ⊎ Put l o
+  low l o h =
+      let shown = subst (λ (cs : List Cell). Shows 0 cs l o) whole (shows-take z 0 (spliced_track t k past []).cells l o h) in
+      inl (subst (λ (cs : List Cell). Shows 0 cs l o) (sym (take_all x t.cells short)) (shows-alike 0 all t.cells l o marks shown))
+
+  high : (l : Link) (o : Option ℤ) → Shows z (drop z (spliced_track t k past []).cells) l o → (b : Option ℤ) × Shows y (drop y t.cells) l b × (o ≡ rebased y z b)
+  high l o h =
+      absurd (subst (λ (cs : List Cell). Shows z cs l o) (ap (drop z) whole ∙ drop_all z all (omega (arith, long, short, le))) h)
+
+  back : (l : Link) (o : Option ℤ) → Shows 0 (take x t.cells) l o → Shows 0 (take x (spliced_track t k past []).cells) l o
+  back l o h =
+      let shown = shows-alike 0 t.cells all l o (alike-sym all t.cells marks) (shows-take x 0 t.cells l o h) in
+      subst (λ (cs : List Cell). Shows 0 cs l o) (sym (ap (take x) whole ∙ take_all x all (omega (arith, long, short)))) shown
+
+drop_least : (y : ℕ) (cs : List Cell) → drop (min y (length cs)) cs ≡ drop y cs
+drop_least y cs = by (cases_lt (length cs) y) where
+  by : (length cs < y) ⊎ (y ≤ length cs) → drop (min y (length cs)) cs ≡ drop y cs
+  by (inl less) = drop_all (min y (length cs)) cs (omega (arith, less)) ∙ sym (drop_all y cs (omega (arith, less)))
+  by (inr le) = let e : min y (length cs) ≡ y = omega (arith, le) in ap (λ (n : ℕ). drop n cs) e
+
+shifts_along : (t : TrackState) (x y n : ℕ) (Put : Link → Option ℤ → Type 0) → x ≤ y → Shifts x y (x + n) Put t (shifted_along t x y n)
+shifts_along t x y n Put le = by (ltb x (length t.cells)) refl where
+  by : (b : Bool) → ltb x (length t.cells) ≡ b → Shifts x y (x + n) Put t (spliced_track t (min x (length t.cells)) (min y (length t.cells)) (cond b (gap_views n) []))
+  by true e =
+      let inside = ltb-true x (length t.cells) e in
+      let at : x ≡ min x (length t.cells) = omega (arith, inside) in
+      subst (λ (k : ℕ). Shifts x y (x + n) Put t (spliced_track t k (min y (length t.cells)) (gap_views n))) at
+      (shifts-in t x y (min y (length t.cells)) (x + n) (gap_views n) Put (omega (arith, inside)) (drop_least y t.cells) (omega (arith, frames-gap n))
+      (λ l o h. absurd (shows-none x (gap_views n) l o (gap-bare n) h)))
+  by false e =
+      let past = ltb-false x (length t.cells) e in
+      shifts_past t x y (x + n) (min x (length t.cells)) (min y (length t.cells)) Put (omega (arith, past)) (omega arith) (omega (arith, past)) (omega (arith, past, le))
+
+-- all named tracks
+
+-- the own track has the place
+abbrev pub HasPlace : ℕ → ℕ → List TrackState → Type 0
+HasPlace own x [] = Unit {0}
+HasPlace own x (t ∷ ts) = (t.number ≡ own → x ≤ length t.cells) × HasPlace own x ts
+
+pub shifts-one : (own x y : ℕ) (views : List ItemView) (Put : Link → Option ℤ → Type 0) (t : TrackState) → x ≤ y → (t.number ≡ own → x ≤ length t.cells)
+    → ((l : Link) (o : Option ℤ) → Shows x (cells_of views) l o → Put l o) → Shifts x y (x + frames_in views) Put t (shifted_track own x y views t)
+shifts-one own x y views Put t le has put = by (eqb t.number own) refl where
+  by : (b : Bool) → eqb t.number own ≡ b → Shifts x y (x + frames_in views) Put t (cond b (spliced_track t x y views) (shifted_along t x y (frames_in views)))
+  by true e = shifts-in t x y y (x + frames_in views) views Put (has (eqb-true t.number own e)) refl refl put
+  by false e = shifts_along t x y (frames_in views) Put le
+
+pub shifted-number : (own x y : ℕ) (views : List ItemView) (t : TrackState) → (shifted_track own x y views t).number ≡ t.number
+shifted-number own x y views t = by (eqb t.number own) where
+  by : (b : Bool) → (cond b (spliced_track t x y views) (shifted_along t x y (frames_in views))).number ≡ t.number
+  by true = refl
+  by false = refl
+
+pub shifts-each : (own x y : ℕ) (views : List ItemView) (Put : Link → Option ℤ → Type 0) (ts : List TrackState) → x ≤ y → HasPlace own x ts
+    → ((l : Link) (o : Option ℤ) → Shows x (cells_of views) l o → Put l o) → Each (Shifts x y (x + frames_in views) Put) ts (shifted own x y views ts)
+shifts-each own x y views Put [] le has put = tt
+shifts-each own x y views Put (t ∷ ts) le has put =
+    (shifted-number own x y views t, shifts-one own x y views Put t le has.0 put, shifts-each own x y views Put ts le has.1 put)
+
+pub has-place : (all : List TrackState) (own x : ℕ) (ts : List TrackState) (t : TrackState) → AreAmong all ts → track_numbered own all ≡ Some t → x ≤ length t.cells → HasPlace own x ts
+has-place all own x [] t a e le = tt
+has-place all own x (u ∷ us) t a e le = (one, has-place all own x us t a.1 e le) where
+  one : u.number ≡ own → x ≤ length u.cells
+  one n =
+      let same : u ≡ t = some-is u t (sym a.0 ∙ (ap (λ (m : ℕ). track_numbered m all) n ∙ e)) in
+      subst (λ (v : TrackState). x ≤ length v.cells) (sym same) le
+
+-- a track that was made longer by dark frames
+
+take_more : (n p : ℕ) (cs ds : List Cell) (l : Link) (o : Option ℤ) → Shows p (take n (cs ++ ds)) l o → Shows p (take n cs) l o ⊎ Carries ds l
+take_more zero p cs ds l o h = absurd h
+take_more (suc n) p [] ds l o h = inr (shows-carries p ds l o (shows-take (suc n) p ds l o h))
+take_more (suc n) p (c ∷ cs) ds l o (inl h) = inl (inl h)
+take_more (suc n) p (c ∷ cs) ds l o (inr h) = by (take_more n (p + 1) cs ds l o h) where
+  by : Shows (p + 1) (take n cs) l o ⊎ Carries ds l → Shows p (c ∷ take n cs) l o ⊎ Carries ds l
+  by (inl a) = inl (inr a)
+  by (inr b) = inr b
+
+carries_drop : (n : ℕ) (ds : List Cell) (l : Link) → Carries (drop n ds) l → Carries ds l
+carries_drop zero ds l h = h
+carries_drop (suc n) [] l h = h
+carries_drop (suc n) (d ∷ ds) l h = inr (carries_drop n ds l h)
+
+drop_more : (n p : ℕ) (cs ds : List Cell) (l : Link) (o : Option ℤ) → Shows p (drop n (cs ++ ds)) l o → Shows p (drop n cs) l o ⊎ Carries ds l
+drop_more zero p cs ds l o h = by (shows-append p cs ds l o h) where
+  by : Shows p cs l o ⊎ Shows (p + length cs) ds l o → Shows p cs l o ⊎ Carries ds l
+  by (inl a) = inl a
+  by (inr b) = inr (shows-carries (p + length cs) ds l o b)
+drop_more (suc n) p [] ds l o h = inr (carries_drop (suc n) ds l (shows-carries p (drop (suc n) ds) l o h))
+drop_more (suc n) p (c ∷ cs) ds l o h = drop_more n p cs ds l o h
+
+take_left : (n p : ℕ) (cs ds : List Cell) (l : Link) (o : Option ℤ) → Shows p (take n cs) l o → Shows p (take n (cs ++ ds)) l o
+take_left zero p cs ds l o h = absurd h
+take_left (suc n) p [] ds l o h = absurd h
+take_left (suc n) p (c ∷ cs) ds l o (inl h) = inl h
+take_left (suc n) p (c ∷ cs) ds l o (inr h) = inr (take_left n (p + 1) cs ds l o h)
+
+drop_left : (n p : ℕ) (cs ds : List Cell) (l : Link) (o : Option ℤ) → Shows p (drop n cs) l o → Shows p (drop n (cs ++ ds)) l o
+drop_left zero p cs ds l o h = shows-left p cs ds l o h
+drop_left (suc n) p [] ds l o h = absurd h
+drop_left (suc n) p (c ∷ cs) ds l o h = drop_left n p cs ds l o h
+
+no_dark : (n : ℕ) (l : Link) → Carries (cells_of (gap_views n)) l → ⊥
+no_dark n l h = let r = carries-shows 0 (cells_of (gap_views n)) l h in shows-none 0 (gap_views n) l r.0 (gap-bare n) r.1
+
+pub shifts-padded : (t u : TrackState) (at x y z : ℕ) (Put : Link → Option ℤ → Type 0) → Shifts x y z Put (padded_track t at) u → Shifts x y z Put t u
+shifts-padded t u at x y z Put s = record { low = low; high = high; back = back; next = s.next } where
+  dark : List Cell
+  dark = cells_of (gap_views (at - length t.cells))
+
+  low : (l : Link) (o : Option ℤ) → Shows 0 (take z u.cells) l o → Shows 0 (take x t.cells) l o ⊎ Put l o
+  low l o h = by (s.low l o h) where
+    inner : Shows 0 (take x t.cells) l o ⊎ Carries dark l → Shows 0 (take x t.cells) l o ⊎ Put l o
+    inner (inl a) = inl a
+    inner (inr b) = absurd (no_dark (at - length t.cells) l b)
+
+    by : Shows 0 (take x (t.cells ++ dark)) l o ⊎ Put l o → Shows 0 (take x t.cells) l o ⊎ Put l o
+    by (inl a) = inner (take_more x 0 t.cells dark l o a)
+    by (inr p) = inr p
+
+  high : (l : Link) (o : Option ℤ) → Shows z (drop z u.cells) l o → (b : Option ℤ) × Shows y (drop y t.cells) l b × (o ≡ rebased y z b)
+  high l o h =
+      let r = s.high l o h in
+      by r.0 r.2 (drop_more y y t.cells dark l r.0 r.1) where
+        by : (b : Option ℤ) → o ≡ rebased y z b → Shows y (drop y t.cells) l b ⊎ Carries dark l → (b : Option ℤ) × Shows y (drop y t.cells) l b × (o ≡ rebased y z b)
+        by b e (inl a) = (b, a, e)
+        by b e (inr d) = absurd (no_dark (at - length t.cells) l d)
+
+  back : (l : Link) (o : Option ℤ) → Shows 0 (take x t.cells) l o → Shows 0 (take x u.cells) l o
+  back l o h = s.back l o (take_left x 0 t.cells dark l o h)
+
+pub padded-carries : (t : TrackState) (at y : ℕ) (l : Link) (o : Option ℤ) → Shows y (drop y t.cells) l o → Shows y (drop y (padded_track t at).cells) l o
+padded-carries t at y l o h = drop_left y y t.cells (cells_of (gap_views (at - length t.cells))) l o h

@@ -1,0 +1,4 @@
+pub mod Together
+pub mod Rooms
+pub mod Laws
+pub mod Wholes
