@@ -3,5 +3,7 @@ pub mod Serving
 pub mod Serves
 pub mod Inputs
 pub mod Openings
+pub mod Rates
 pub mod Telling
+pub mod DocumentRuns
 pub mod Replying

@@ -10,9 +10,10 @@ use Rattle.call_text.specs.Journals.{journal_text_of}
 use Rattle.cut_server.specs.declared.serve.End.{End}
 use Rattle.cut_server.specs.declared.serve.End.TheVariants as end
 use Rattle.cut_server.specs.declared.status.Status.{Status}
-use Rattle.cut_server.specs.declared.status.Status.TheVariants.{Done, ReadFault, WriteFault, NoCommand, OutOfMemory, TooMuchInput}
+use Rattle.cut_server.specs.declared.status.Status.TheVariants.{Done, ReadFault, WriteFault, NoCommand, Refused, OutOfMemory, TooMuchInput}
 use Rattle.cut_server.specs.Outside.{Outside, outside, NoFault, WriteFailed, Got, AtEnd, AreSent}
-use Rattle.cut_server.specs.Rooms.{Opening, Setting, AreWritten, room_of, IsLegalIn, RoomTranscript}
+use Rattle.otio_json.specs.declared.opening.Opening.{Opening}
+use Rattle.cut_server.specs.Rooms.{Setting, AreWritten, room_of, setting_of, IsLegalIn, RoomTranscript}
 use Rattle.room_core.specs.History.{IsLegal}
 use Rattle.cut_server.specs.Transcript.{Transcript, sent}
 use Rattle.cut_server.specs.Session.{SessionState}
@@ -103,6 +104,7 @@ run_ends o a b old mid new WriteFault f (quiet, h) (failed, same, takes) = inr (
       (λ ls g. let s = tells_by o a b ls (AreSent old.taken mid.taken) f g in (b.course.journal, s.0, s.1, takes-then_front old.taken mid.taken new.taken (sent s.0) (journal_text_of b.course.journal) s.2 takes)) h,
 )
 run_ends o a b old mid new NoCommand f ended journal = absurd journal
+run_ends o a b old mid new Refused f ended journal = absurd journal
 run_ends o a b old mid new OutOfMemory f ended same = inr (session_ends o a b old new end.Ended f (subst (λ (x : Outside). SessionEnds (ServesTo a b) old x end.Ended) (sym same) ended))
 run_ends o a b old mid new TooMuchInput f ended journal = absurd journal
 
@@ -112,6 +114,11 @@ run_begun o old new U Done h = h
 run_begun o old new U ReadFault h = h
 run_begun o old new U WriteFault h = h
 run_begun o old new U NoCommand h = absurd h
+run_begun o old new U Refused h = absurd h
 run_begun o old new U OutOfMemory (inl h) = absurd h
 run_begun o old new U OutOfMemory (inr h) = inr h
 run_begun o old new U TooMuchInput h = h
+
+-- a run in the room that is opened so
+pub run_in : (o p : Opening) (old new : Outside) (Untouched : Type 0) (s : Status) → o ≡ p → RunEnds o old new Untouched s → RunEnds p old new Untouched s
+run_in o p old new U s is h = subst (λ (x : Opening). RunEnds x old new U s) is h

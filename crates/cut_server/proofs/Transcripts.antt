@@ -9,7 +9,7 @@ use Rattle.room_core.specs.declared.entry.Entry.{Entry}
 use Rattle.room_core.specs.History.{most_entries, replay, after_entry, answer_in}
 use Rattle.room_core.specs.Projection.{of_station}
 use Rattle.cut_server.specs.Longer.{TranscriptsStay}
-use Rattle.cut_server.specs.Rooms.{room_of}
+use Rattle.cut_server.specs.Rooms.{room_of, setting_of}
 use Rattle.cut_server.specs.Transcript.{Wish, Do, See, Point, Bad, Kind, state_at, answer_at, sight_at, BearsNone, IsDone, IsRefused, IsFull, IsMemory, IsSeen, IsPoint, IsBad, Answered, Row, Rows, points_from, Transcript, sent}
 
 -- each of these entries that is of the station is of this line or a later one
@@ -224,7 +224,7 @@ transcript_more k o h more station lines replies (last, rows) within same =
     (last, subst (λ ps. Rows k o (h ++ more) station 1 0 lines replies last ps) (sym points) (rows_more k o h more station 1 0 lines replies last (points_from 0 station h) within later.1 rows))
 
 pub transcripts_stay : TranscriptsStay
-transcripts_stay o h more station lines replies told legal same = transcript_more (room_of o.setting) o.tracks h more station lines replies told legal.within same
+transcripts_stay o h more station lines replies told legal same = transcript_more (room_of (setting_of o)) o.tracks h more station lines replies told legal.within same
 
 -- a reply more
 pub sent_more : (rs : List (List ℕ)) (r : List ℕ) → sent (rs ++ r ∷ []) ≡ sent rs ++ (r ++ codes "\n")

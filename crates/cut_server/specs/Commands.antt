@@ -1,11 +1,26 @@
--- The words that the program takes: `run` TRACKS REELS, with TRACKS from 1 to 16 and REELS from 0 to 999.
-use Rattle.std.specs.Prelude.{ℕ, ◌≤◌, Bool, ◌&&◌, List, [], ◌∷◌, Option, Some, None, Result, Ok, Err, nat_le, codes, bytes_eq, if◌then◌else◌}
+-- The words that the program takes. `run` TRACKS REELS asks for one station in a plain room, with TRACKS from 1 to 16 and
+-- REELS from 0 to 999. `run` DOC RATE DROP asks for one in the room that a document describes: DOC names its file, RATE is
+-- a decimal number that stands for one of the five rates of a sequence, and DROP is `drop`, at 30000/1001 alone, or `ndf`.
+use Rattle.std.specs.Prelude.{ℕ, ◌≤◌, Bool, true, false, ◌&&◌, List, [], ◌∷◌, Option, Some, None, Result, Ok, Err, option_and_then, nat_le, codes, bytes_eq, if◌then◌else◌}
 use Rattle.line_words.specs.Digits.{number_of}
 use Rattle.line_words.specs.declared.numbers.NumberFault.{NumberFault}
+use Rattle.json_tokens.specs.ReadingNumerals.{numeral_in}
+use Rattle.otio_tracks.specs.Times.{rate_meant}
+use Rattle.timecode12.specs.Numbers.{Counted, sequence_rate}
+use Rattle.timecode12.specs.declared.rate.SequenceRate.{SequenceRate}
+use Rattle.timecode12.specs.declared.rate.SequenceRate.TheVariants.{F23976, F24, F25, F2997, F30}
 use Rattle.cut_server.specs.declared.command.Command.{Command}
-use Rattle.cut_server.specs.declared.command.Command.TheVariants.{Run}
+use Rattle.cut_server.specs.declared.command.Command.TheVariants as command
 
--- the least and the most tracks, and the most reels, of a plain room
+-- what the program is asked for: a station in a plain room of so many tracks and reels, or in the room of a document of
+-- this name, whose frames are counted so
+pub data Asked : Type 0 where
+  RunPlain : ℕ → ℕ → Asked
+  RunDocument : List ℕ → Counted → Asked
+
+-- ---- a plain room
+
+-- the least and the most tracks, and the most reels
 abbrev pub least_tracks : ℕ
 least_tracks = 1
 
@@ -23,18 +38,75 @@ size_in (Err fault) least most = None
 abbrev pub size_of : List ℕ → ℕ → ℕ → Option ℕ
 size_of word least most = size_in (number_of word) least most
 
-abbrev pub sizes_of : Option ℕ → Option ℕ → Option Command
+abbrev pub sizes_of : Option ℕ → Option ℕ → Option Asked
 sizes_of None reels = None
 sizes_of (Some tracks) None = None
-sizes_of (Some tracks) (Some reels) = Some (Run tracks reels)
+sizes_of (Some tracks) (Some reels) = Some (RunPlain tracks reels)
 
-abbrev pub command_of : List (List ℕ) → Option Command
+abbrev pub plain_of : List ℕ → List ℕ → Option Asked
+plain_of tracks reels = sizes_of (size_of tracks least_tracks most_tracks) (size_of reels 0 most_reels)
+
+-- ---- the room of a document
+
+abbrev pub sequence_of : ℕ × ℕ → Option SequenceRate
+sequence_of rate = sequence_rate rate.0 rate.1
+
+-- the rate of a sequence that a word spells
+abbrev pub rate_of_word : List ℕ → Option SequenceRate
+rate_of_word word = option_and_then sequence_of (option_and_then rate_meant (numeral_in word))
+
+abbrev pub drop_of_word : List ℕ → Option Bool
+drop_of_word word = if bytes_eq word (codes "drop") then Some true else if bytes_eq word (codes "ndf") then Some false else None
+
+-- drop-frame counting is at 30000/1001 alone
+abbrev pub drop_frame_at : SequenceRate → Option Counted
+drop_frame_at F23976 = None
+drop_frame_at F24 = None
+drop_frame_at F25 = None
+drop_frame_at F2997 = Some (record { rate = F2997; drop_frame = true })
+drop_frame_at F30 = None
+
+abbrev pub counted_by : SequenceRate → Bool → Option Counted
+counted_by rate true = drop_frame_at rate
+counted_by rate false = Some (record { rate = rate; drop_frame = false })
+
+abbrev pub counting_in : Option SequenceRate → Option Bool → Option Counted
+counting_in None drop = None
+counting_in (Some rate) None = None
+counting_in (Some rate) (Some drop) = counted_by rate drop
+
+-- how frames are counted, by these words
+abbrev pub counting_of : List ℕ → List ℕ → Option Counted
+counting_of rate drop = counting_in (rate_of_word rate) (drop_of_word drop)
+
+abbrev pub counted_so : List ℕ → Option Counted → Option Asked
+counted_so document None = None
+counted_so document (Some counting) = Some (RunDocument document counting)
+
+abbrev pub document_of : List ℕ → List ℕ → List ℕ → Option Asked
+document_of document rate drop = counted_so document (counting_of rate drop)
+
+-- ---- the table
+
+abbrev pub run_of : List (List ℕ) → Option Asked
+run_of [] = None
+run_of (a ∷ []) = None
+run_of (tracks ∷ reels ∷ []) = plain_of tracks reels
+run_of (document ∷ rate ∷ drop ∷ []) = document_of document rate drop
+run_of (a ∷ b ∷ c ∷ d ∷ words) = None
+
+-- what these words ask for
+abbrev pub command_of : List (List ℕ) → Option Asked
 command_of [] = None
-command_of (first ∷ []) = None
-command_of (first ∷ tracks ∷ []) = None
-command_of (first ∷ tracks ∷ reels ∷ []) = if bytes_eq first (codes "run") then sizes_of (size_of tracks least_tracks most_tracks) (size_of reels 0 most_reels) else None
-command_of (first ∷ tracks ∷ reels ∷ more ∷ words) = None
+command_of (first ∷ words) = if bytes_eq first (codes "run") then run_of words else None
+
+-- ---- a command as the code keeps it
+
+abbrev pub asked_by : Command → Asked
+asked_by (command.Run tracks reels) = RunPlain tracks reels
+asked_by (command.RunDocument document counting) = RunDocument document.now counting
 
 -- so many tracks and reels as a plain room may have
 abbrev pub HasBounds : Command → Type 0
-HasBounds (Run tracks reels) = (least_tracks ≤ tracks) × (tracks ≤ most_tracks) × (reels ≤ most_reels)
+HasBounds (command.Run tracks reels) = (least_tracks ≤ tracks) × (tracks ≤ most_tracks) × (reels ≤ most_reels)
+HasBounds (command.RunDocument document counting) = Unit {0}

@@ -4,8 +4,8 @@ pub mod Rooms
 pub mod Longer
 pub mod Session
 pub mod SessionInside
-pub mod Openings
 pub mod Commands
+pub mod Documents
 pub mod Served
 pub mod Outside
 pub mod Serving

@@ -2,7 +2,8 @@
 use Rattle.std.specs.Prelude.{◌≡◌, ℕ, List, ◌++◌}
 use Rattle.line_words.specs.Lines.{Line as InputLine}
 use Rattle.room_core.specs.Projection.{of_station}
-use Rattle.cut_server.specs.Rooms.{Opening, History, RoomTranscript, IsLegalIn}
+use Rattle.otio_json.specs.declared.opening.Opening.{Opening}
+use Rattle.cut_server.specs.Rooms.{History, RoomTranscript, IsLegalIn}
 
 -- A transcript over a list is one over every legal history that the list begins, and whose entries of this station are
 -- those of the list.

@@ -6,6 +6,7 @@ use Rattle.composables.specs.declared.media.Table.{Table}
 use Rattle.composables.specs.declared.refusals.Refusal.{Refusal}
 use Rattle.composables.specs.declared.refusals.Done.{Done}
 use Rattle.composables.specs.TrackState.{TrackState}
+use Rattle.otio_json.specs.declared.opening.Opening.{Opening}
 use Rattle.edit_apply.specs.declared.asks.Call.{Call}
 use Rattle.edit_apply.specs.declared.asks.Ask.{Ask}
 use Rattle.edit_apply.specs.declared.asks.Seen.{Seen}
@@ -34,10 +35,9 @@ pub record Setting : Type 0 where
   pub counting : Counted
   pub start : ℕ
 
--- what a room is opened from
-pub record Opening : Type 0 where
-  pub setting : Setting
-  pub tracks : List TrackState
+-- what stays as it is in a room that is opened so
+abbrev pub setting_of : Opening → Setting
+setting_of o = record { table = o.table; counting = o.counting; start = o.start }
 
 abbrev pub History : Type 0
 History = List (Entry Call)
@@ -82,10 +82,10 @@ room_of setting = record {
 
 -- the transcript of a station of a room
 abbrev pub RoomTranscript : Opening → History → ℕ → List InputLine → List (List ℕ) → Type 0
-RoomTranscript o h station lines replies = Transcript (room_of o.setting) o.tracks h station lines replies
+RoomTranscript o h station lines replies = Transcript (room_of (setting_of o)) o.tracks h station lines replies
 
 abbrev pub IsLegalIn : Opening → History → Type 0
-IsLegalIn o h = IsLegal (whole (editing o.setting.table)) o.tracks h
+IsLegalIn o h = IsLegal (whole (editing o.table)) o.tracks h
 
 -- each entry's call can be written as a line, and read again
 abbrev pub AreWritten : History → Type 0

@@ -4,16 +4,19 @@ use Rattle.std.specs.Prelude.{◌≡◌, ℕ, ◌⊎◌, List, [], ◌++◌, Opt
 use Rattle.room_ports.specs.Bytes.{Takes, TakesFront}
 use Rattle.room_ports.specs.Counts.{HasRisen}
 use Rattle.line_words.specs.Lines.{Line as InputLine}
+use Rattle.otio_tracks.specs.declared.faults.DocCode.{DocCode}
+use Rattle.otio_json.specs.Openings.{plain_opening}
+use Rattle.otio_json.specs.declared.opening.Opening.{Opening}
 use Rattle.call_text.specs.Journals.{journal_text_of}
-use Rattle.cut_server.specs.declared.command.Command.{Command}
-use Rattle.cut_server.specs.declared.command.Command.TheVariants.{Run}
+use Rattle.timecode12.specs.Numbers.{Counted}
+use Rattle.cut_server.specs.Commands.{Asked, RunPlain, RunDocument}
+use Rattle.cut_server.specs.Documents.{FilesTold, OnlyRead, Describes, IsRefusedAt, refusal_line}
 use Rattle.cut_server.specs.declared.serve.End.TheVariants as end
 use Rattle.cut_server.specs.declared.status.Status.{Status}
-use Rattle.cut_server.specs.declared.status.Status.TheVariants.{Done, ReadFault, WriteFault, NoCommand, OutOfMemory, TooMuchInput}
+use Rattle.cut_server.specs.declared.status.Status.TheVariants.{Done, ReadFault, WriteFault, NoCommand, Refused, OutOfMemory, TooMuchInput}
 use Rattle.cut_server.specs.Stations.{AreOfStations}
-use Rattle.cut_server.specs.Openings.{plain_opening}
 use Rattle.cut_server.specs.Outside.{Outside, NoFault, WriteFailed, AtEnd, AreSent, TakesThenFront}
-use Rattle.cut_server.specs.Rooms.{Opening, History, AreWritten, IsLegalIn, RoomTranscript}
+use Rattle.cut_server.specs.Rooms.{History, AreWritten, IsLegalIn, RoomTranscript}
 use Rattle.cut_server.specs.Serving.{SessionEnds}
 use Rattle.cut_server.specs.Statuses.{number_of}
 use Rattle.cut_server.specs.Transcript.{sent}
@@ -49,6 +52,7 @@ module _ (h : History) (old new : Outside) where
   JournalEnds ReadFault = ⊥
   JournalEnds WriteFault = WriteFailed old new × (new.left ≡ old.left) × TakesFront old.taken new.taken (journal_text_of h)
   JournalEnds NoCommand = ⊥
+  JournalEnds Refused = ⊥
   JournalEnds OutOfMemory = new ≡ old
   JournalEnds TooMuchInput = ⊥
 
@@ -63,25 +67,80 @@ module _ (o : Opening) (old new : Outside) (Untouched : Type 0) where
   RunEnds WriteFault = SessionEnds (Tells o) old new end.WriteFault
       ⊎ (WriteFailed old new × AtEnd old new (λ lines. TellsOne o lines (JournalIsCut old.taken new.taken)))
   RunEnds NoCommand = ⊥
+  RunEnds Refused = ⊥
   -- nothing was begun, or the input was read to its end and the output is all replies without the journal
   RunEnds OutOfMemory = Untouched ⊎ SessionEnds (Tells o) old new end.Ended
   -- the lines that ended among the first 64 MiB are answered
   RunEnds TooMuchInput = SessionEnds (Tells o) old new end.TooMuchInput
+
+-- a line of refusal was put on the output, or cut by a write that failed
+abbrev pub LineIsPut : List ℕ → Outside → Outside → Type 0
+LineIsPut line old new = (new.writes ≡ old.writes) × Takes old.taken new.taken line
+
+abbrev pub LineIsCut : List ℕ → Outside → Outside → Type 0
+LineIsCut line old new = HasRisen old.writes new.writes × TakesFront old.taken new.taken line
 
 -- words that are no command get a line of refusal, and the input is not looked at
 module _ (old new : Outside) (Unread : Type 0) where
   abbrev pub RefusalEnds : Status → Type 0
   RefusalEnds Done = ⊥
   RefusalEnds ReadFault = ⊥
-  RefusalEnds WriteFault = Unread × HasRisen old.writes new.writes × TakesFront old.taken new.taken (codes "refused words\n")
-  RefusalEnds NoCommand = Unread × (new.writes ≡ old.writes) × Takes old.taken new.taken (codes "refused words\n")
+  RefusalEnds WriteFault = Unread × LineIsCut (codes "refused words\n") old new
+  RefusalEnds NoCommand = Unread × LineIsPut (codes "refused words\n") old new
+  RefusalEnds Refused = ⊥
   RefusalEnds OutOfMemory = ⊥
   RefusalEnds TooMuchInput = ⊥
 
--- how the program ends, by the words that it was given
-abbrev pub CommandEnds : Option Command → Outside → Outside → Type 0 → Type 0 → Status → Type 0
-CommandEnds None old new Unread Unwritten status = RefusalEnds old new Unread status
-CommandEnds (Some (Run tracks reels)) old new Unread Unwritten status = RunEnds (plain_opening tracks reels) old new (Unread × Unwritten) status
+-- a refused document gets a line, which is put on the output or cut
+module _ (line : List ℕ) (old new : Outside) where
+  abbrev pub LineEnds : Status → Type 0
+  LineEnds Done = ⊥
+  LineEnds ReadFault = ⊥
+  LineEnds WriteFault = LineIsCut line old new
+  LineEnds NoCommand = ⊥
+  LineEnds Refused = LineIsPut line old new
+  LineEnds OutOfMemory = ⊥
+  LineEnds TooMuchInput = ⊥
+
+-- a run in the room of a document in the file of this name, whose frames are counted so
+module _ (name : List ℕ) (counting : Counted) (before after : FilesTold) (old new : Outside) (Unread Unwritten : Type 0) where
+  -- the document describes an opening, of which the run is
+  pub record RunsDocument (status : Status) : Type 0 where
+    pub opening : Opening
+    pub described : Describes counting (before.file name) opening
+    pub quiet : after.reads ≡ before.reads
+    pub ends : RunEnds opening old new (Unread × Unwritten) status
+
+  -- the document has a first fault, which the line tells, and the input was not looked at
+  pub record RefusesDocument (status : Status) : Type 0 where
+    pub code : DocCode
+    pub at : ℕ
+    pub refused : IsRefusedAt counting (before.file name) code at
+    pub quiet : after.reads ≡ before.reads
+    pub unread : Unread
+    pub line : LineEnds (refusal_line code at) old new status
+
+  -- no run was begun, and the input was not looked at
+  abbrev pub EndsUnopened : Status → Type 0
+  EndsUnopened Done = ⊥
+  -- the file's read failed
+  EndsUnopened ReadFault = HasRisen before.reads after.reads × Unread × Unwritten
+  EndsUnopened WriteFault = RefusesDocument WriteFault
+  EndsUnopened NoCommand = ⊥
+  EndsUnopened Refused = RefusesDocument Refused
+  EndsUnopened OutOfMemory = (after.reads ≡ before.reads) × Unread × Unwritten
+  EndsUnopened TooMuchInput = ⊥
+
+  abbrev pub DocumentEnds : Status → Type 0
+  DocumentEnds status = OnlyRead before after × (RunsDocument status ⊎ EndsUnopened status)
+
+-- how the program ends, by what it was asked for, where `Unfiled`, `Unread` and `Unwritten` say that the files, the input
+-- and the output are as they were
+module _ (before after : FilesTold) (Unfiled : Type 0) (old new : Outside) (Unread Unwritten : Type 0) where
+  abbrev pub CommandEnds : Option Asked → Status → Type 0
+  CommandEnds None status = Unfiled × RefusalEnds old new Unread status
+  CommandEnds (Some (RunPlain tracks reels)) status = Unfiled × RunEnds (plain_opening tracks reels) old new (Unread × Unwritten) status
+  CommandEnds (Some (RunDocument name counting)) status = DocumentEnds name counting before after old new Unread Unwritten status
 
 -- it ends with the number of a status that it may have
 abbrev pub EndsWith : ℕ → (Status → Type 0) → Type 0

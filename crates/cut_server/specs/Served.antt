@@ -5,7 +5,8 @@ use Rattle.room_core.specs.declared.entry.Entry.{Entry}
 use Rattle.room_core.specs.History.{most_entries, replay, NumbersRise}
 use Rattle.cut_server.specs.Stations.{AreOfStations}
 use Rattle.cut_server.specs.Transcript.{Kind, Rows, points_from}
-use Rattle.cut_server.specs.Rooms.{Opening, AreWritten, room_of}
+use Rattle.otio_json.specs.declared.opening.Opening.{Opening}
+use Rattle.cut_server.specs.Rooms.{AreWritten, room_of, setting_of}
 use Rattle.cut_server.specs.Session.{Course, SessionState}
 
 -- each entry of the station is of a line before this one
@@ -33,7 +34,7 @@ Serves {S} {C} {D} {R} {Q} {X} {Y} k stations station old new lines Taken =
 
 -- a session that has just been opened
 pub record IsFresh (o : Opening) (s : SessionState) : Type 0 where
-  pub setting : s.setting ≡ o.setting
+  pub setting : s.setting ≡ setting_of o
   pub tracks : s.course.state ≡ o.tracks
   pub journal : s.course.journal ≡ []
   pub line : s.course.line ≡ 1

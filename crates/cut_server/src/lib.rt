@@ -1,13 +1,14 @@
 //! The session of one station, and the call that the program makes.
 //!
 //! The main contract is that of `cut_main`: with status 0 the output is one reply to each line of the input, in whatever
-//! pieces it came, and then the text of a journal that is one legal serial history and tells every one of the replies.
+//! pieces it came, and then the text of a journal that is one legal serial history and tells every one of the replies. The
+//! history begins with a plain room, or with the room that a document describes.
 #![tactic(auto)]
 
 mod command;
+mod document;
 pub mod laws;
 mod main_call;
-mod opening;
 mod reply;
 mod serve;
 mod session;

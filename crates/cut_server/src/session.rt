@@ -5,7 +5,6 @@ ghost use Rattle.cut_room.specs.Desks.{Edits};
 ghost use Rattle.edit_apply.specs.Apply.{editing};
 ghost use Rattle.cut_server.specs.Session.{IsSightReply};
 
-use crate::opening::{empty_tracks, plain};
 use crate::reply::{Reply, ended};
 use call_text::{
     Line, LineFault, Short, answer_text, fault_text, point_text, read_line, sight_text,
@@ -14,12 +13,13 @@ use composables::Memory;
 use cut_room::{Answer, Desk, Sight};
 use edit_apply::{Ask, Call, Editor};
 use line_words::LineEnd;
+use otio_json::Opening;
 use room_core::Entry;
 use std::alloc::Global;
 use std::marker::{Brand, Model};
 use std::sync::ledger::{Blank, Ledger};
 use step_count::Steps;
-use timecode12::{Counting, SequenceRate};
+use timecode12::Counting;
 
 /// A room with one station. Contracts see its setting, its tracks, its journal and the number of the next line.
 #[derive(Drop)]
@@ -48,31 +48,30 @@ impl Session {
     ghost use Rattle.line_words.specs.Told.{line_told};
     ghost use Rattle.call_text.specs.CallTexts.{IsWritten, NamesWritten};
     ghost use Rattle.call_text.specs.Replies.{fault_of};
-    ghost use Rattle.cut_server.specs.Commands.{least_tracks, most_tracks, most_reels};
-    ghost use Rattle.cut_server.specs.Openings.{plain_opening};
+    ghost use Rattle.otio_json.specs.Soundness.{IsSoundOpening};
     ghost use Rattle.cut_server.specs.Rooms.{meaning_of, wish_in};
     ghost use Rattle.cut_server.specs.Served.{IsFresh};
     ghost use Rattle.cut_server.specs.Session.{Replies, RepliesShort};
     ghost use Rattle.cut_server.specs.Transcript.{Bad, Do, Point, See};
 
-    /// A session in a plain room of so many tracks and reels, with an empty journal.
-    pub(crate) fn plain(alloc: Global, tracks: u32, reels: u32) -> Result<Session, Memory>
-        requires least { least_tracks ≤ tracks }
-        requires tracks { tracks ≤ most_tracks }
-        requires reels { reels ≤ most_reels }
-        ensures { IfOk result (λ s. IsFresh (plain_opening tracks reels) s) }
+    /// A session in a room that begins so, with an empty journal.
+    pub(crate) fn opened(alloc: Global, opening: Opening) -> Result<Session, Memory>
+        requires sound { IsSoundOpening opening }
+        requires some { 0 < length opening.tracks }
+        ensures { IfOk result (λ s. IsFresh opening s) }
     {
-        let table = plain(alloc, tracks, reels)?;
-        let tracks = empty_tracks(alloc, tracks)?;
-        let Some(counting) = Counting::new(SequenceRate::F24, false) else {
-            unreachable!()
-        };
-        match Desk::open(alloc, Editor { table }, tracks) {
+        let Opening {
+            table,
+            tracks,
+            counting,
+            start,
+        } = opening;
+        match Desk::open(alloc, Editor { table }, tracks.into_vec()) {
             Ok(desk) => Ok(Session {
                 alloc,
                 desk,
                 counting,
-                start: 0,
+                start,
                 line: 1,
             }),
             Err(_) => Err(Memory),

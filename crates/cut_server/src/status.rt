@@ -7,12 +7,14 @@ ghost use Rattle.cut_server.specs.Statuses.{number_of};
 pub enum Status {
     /// 0: the input was read to its end, every line was answered, all was written.
     Done,
-    /// 1: a read failed.
+    /// 1: a read of the input or of a file failed.
     ReadFault,
     /// 2: a write failed.
     WriteFault,
     /// 3: the words are no command.
     NoCommand,
+    /// 4: the document is refused.
+    Refused,
     /// 6: there was no memory to begin with, or none for the journal's text.
     OutOfMemory,
     /// 7: the input gave more than 64 MiB.
@@ -29,6 +31,7 @@ impl Status {
             Status::ReadFault => 1,
             Status::WriteFault => 2,
             Status::NoCommand => 3,
+            Status::Refused => 4,
             Status::OutOfMemory => 6,
             Status::TooMuchInput => 7,
         }

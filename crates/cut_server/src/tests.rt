@@ -2,6 +2,7 @@
 
 use crate::cut_main;
 use line_words::Words;
+use room_files::MemFiles;
 use room_ports::{MemSink, MemSource};
 use std::alloc::Global;
 use std::test::Fail;
@@ -16,10 +17,26 @@ fn words_of(alloc: Global, texts: &[&str]) -> Result<Words, Fail> {
     Ok(words)
 }
 
+fn no_files(alloc: Global) -> MemFiles {
+    MemFiles::new(alloc, Vec::new(alloc))
+}
+
 // The status and the output of a run with these words, over these pieces of input and these calls that fail.
 fn ended(
     alloc: Global,
     words: &[&str],
+    pieces: &[&[u8]],
+    reads: &[u32],
+    writes: &[u32],
+) -> Result<(u8, Vec<u8>), Fail> {
+    ended_over(alloc, words, &mut no_files(alloc), pieces, reads, writes)
+}
+
+// The same over these files.
+fn ended_over(
+    alloc: Global,
+    words: &[&str],
+    files: &mut MemFiles,
     pieces: &[&[u8]],
     reads: &[u32],
     writes: &[u32],
@@ -31,7 +48,7 @@ fn ended(
     let mut input = MemSource::new(input, reads.to_vec(alloc)?);
     let mut output = MemSink::new(alloc, writes.to_vec(alloc)?);
     let words = words_of(alloc, words)?;
-    let status = cut_main(alloc, &words, &mut input, &mut output);
+    let status = cut_main(alloc, &words, files, &mut input, &mut output);
     let bytes = match output.bytes() {
         Some(bytes) => bytes.to_vec(alloc)?,
         None => Vec::new(alloc),
@@ -114,7 +131,7 @@ fn pieces_make_no_difference(rt: HostRuntime) -> Result<(), Fail> {
     let mut input = MemSource::new(bytes, Vec::new(alloc));
     let mut output = MemSink::new(alloc, Vec::new(alloc));
     let words = words_of(alloc, &["run", "2", "1"])?;
-    assert_eq!(rt; cut_main(alloc, &words, &mut input, &mut output), 0);
+    assert_eq!(rt; cut_main(alloc, &words, &mut no_files(alloc), &mut input, &mut output), 0);
     let told = output.bytes().ok_or("told")?;
     assert_eq!(rt; told, wanted.as_slice());
     Ok(())
@@ -248,7 +265,7 @@ fn long_input(alloc: Global, bytes: usize) -> Result<(u8, Vec<u8>), Fail> {
     let mut input = MemSource::new(pieces, Vec::new(alloc));
     let mut output = MemSink::new(alloc, Vec::new(alloc));
     let words = words_of(alloc, &["run", "1", "1"])?;
-    let status = cut_main(alloc, &words, &mut input, &mut output);
+    let status = cut_main(alloc, &words, &mut no_files(alloc), &mut input, &mut output);
     let told = output.bytes().ok_or("told")?;
     Ok((status, told.to_vec(alloc)?))
 }
@@ -288,5 +305,71 @@ fn a_journal_has_a_limit(rt: HostRuntime) -> Result<(), Fail> {
     assert!(rt; output.len() > 1_977_760);
     let (_, last) = output.as_slice().split_at(1_977_760);
     assert!(rt; last.starts_with(wanted.as_slice()));
+    Ok(())
+}
+
+/// A sequence of one track with five frames from the frame 100 of a tape on, which starts at 01:00:00:00.
+const DOCUMENT: &str = "\
+{\"OTIO_SCHEMA\": \"Timeline.1\", \"global_start_time\": {\"OTIO_SCHEMA\": \"RationalTime.1\", \"rate\": \
+24.0, \"value\": 86400}, \"tracks\": {\"OTIO_SCHEMA\": \"Stack.1\", \"children\": [ {\"OTIO_SCHEMA\": \
+\"Track.1\", \"kind\": \"Video\", \"children\": [{\"OTIO_SCHEMA\": \"Clip.1\", \"name\": \"A7\", \
+\"source_range\": {\"OTIO_SCHEMA\": \"TimeRange.1\", \"start_time\": {\"OTIO_SCHEMA\": \
+\"RationalTime.1\", \"rate\": 24.0, \"value\": 100.0}, \"duration\": {\"OTIO_SCHEMA\": \
+\"RationalTime.1\", \"rate\": 24.0, \"value\": 5.0}}}]}]}}";
+
+// The status and the output of a run with these words, where the file `cut` holds this text and these calls fail.
+fn opened(
+    alloc: Global,
+    words: &[&str],
+    text: &[u8],
+    fails: &[u32],
+    writes: &[u32],
+) -> Result<(u8, Vec<u8>), Fail> {
+    let mut files = MemFiles::new(alloc, fails.to_vec(alloc)?);
+    files.put("cut", text)?;
+    let lines = b"items 0\noverwrite 0 01:00:00:05 @0 103 1\n";
+    ended_over(alloc, words, &mut files, &[lines], &[], writes)
+}
+
+#[test]
+fn a_document_is_opened_or_refused(rt: HostRuntime) -> Result<(), Fail> {
+    let alloc = rt.alloc();
+    let whole = DOCUMENT.as_bytes();
+    let told = b"items 0 0 @0 100 5\nok 0 item 1\njournal 1\n0 2 overwrite 0 5 @0 103 1\n";
+    let table: [(&[&str], &[u8], &[u32], &[u32], u8, &[u8]); 13] = [
+        (&["run", "cut", "24", "ndf"], whole, &[], &[], 0, told),
+        (&["run", "cut", "2400e-2", "ndf"], whole, &[2], &[], 0, told),
+        (&["run", "cut", "24", "ndf"], whole, &[1], &[], 1, b""),
+        (&["run", "none.otio", "24", "ndf"], whole, &[], &[], 1, b""),
+        (&["run", "cut", "24", "ndf"], b"{", &[], &[], 4, b"refused J1 1\n"),
+        (&["run", "cut", "29.97", "drop"], b"[]", &[], &[], 4, b"refused O3 0\n"),
+        (&["run", "cut", "23.98", "ndf"], b"{}", &[], &[], 4, b"refused O2 0\n"),
+        (&["run", "cut", "24", "ndf"], b"{", &[], &[1], 2, b""),
+        (&["run", "cut", "24", "drop"], whole, &[], &[], 3, b"refused words\n"),
+        (&["run", "cut", "24", "NDF"], whole, &[], &[], 3, b"refused words\n"),
+        (&["run", "cut", "59.94", "ndf"], whole, &[], &[], 3, b"refused words\n"),
+        (&["run", "cut", "24 ", "ndf"], whole, &[], &[], 3, b"refused words\n"),
+        (&["run", "cut", "24", "ndf", "x"], whole, &[], &[], 3, b"refused words\n"),
+    ];
+    for (words, text, fails, writes, status, wanted) in table {
+        let (ended_with, output) = opened(alloc, words, text, fails, writes)?;
+        assert_eq!(rt; ended_with, status, "{words:?}");
+        assert_eq!(rt; output.as_slice(), wanted, "{words:?}");
+    }
+    Ok(())
+}
+
+#[test]
+fn a_document_has_a_limit(rt: HostRuntime) -> Result<(), Fail> {
+    let alloc = rt.alloc();
+    for (blanks, wanted) in [
+        (33_554_432usize, b"refused J1 33554432\n".as_slice()),
+        (33_554_433, b"refused J5 0\n".as_slice()),
+    ] {
+        let text = vec![in alloc; b' '; blanks]?;
+        let (status, output) = opened(alloc, &["run", "cut", "24", "ndf"], &text, &[], &[])?;
+        assert_eq!(rt; status, 4);
+        assert_eq!(rt; output.as_slice(), wanted);
+    }
     Ok(())
 }

@@ -1,5 +1,5 @@
-//! The program of the cutting room. It hands its arguments, its standard input and its standard output to `answer`, puts
-//! a line on standard error where the status does not say enough, and ends with the status.
+//! The program of the cutting room. It hands its arguments, the files of the system, its standard input and its standard
+//! output to `answer`, puts a line on standard error where the status does not say enough, and ends with the status.
 #![tactic(auto)]
 
 mod answer;
@@ -11,6 +11,7 @@ mod tests;
 use answer::{answer, complaint};
 use arguments::command_words;
 use line_words::Memory;
+use room_files::StdFiles;
 use room_ports::{StdSink, StdSource, put};
 use std::process::ExitCode;
 
@@ -23,9 +24,10 @@ fn main(rt: HostRuntime) -> ExitCode {
         Ok(words) => words,
         Err(Memory) => return ExitCode::from(NO_WORDS),
     };
+    let mut files = StdFiles::new(&rt);
     let mut input = StdSource::new(rt.stdin());
     let mut output = StdSink::new(rt.stdout());
-    let status = answer(alloc, &words, &mut input, &mut output);
+    let status = answer(alloc, &words, &mut files, &mut input, &mut output);
     let _ = put(&mut StdSink::new(rt.stderr()), complaint(status).as_bytes());
     ExitCode::from(status)
 }

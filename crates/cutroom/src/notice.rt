@@ -13,12 +13,15 @@ pub const HELP: &str = "\
 usage: cutroom COMMAND
 
 run TRACKS REELS   one station on an empty cut: lines from standard input; replies, then the journal, to standard output
+run DOC RATE DROP  the same on the cut that a document describes
 --help             this text
 --version          the version
 
-TRACKS is 1 to 16 and REELS is 0 to 999.
+TRACKS is 1 to 16 and REELS is 0 to 999. DOC is the path of an OpenTimelineIO file, RATE is its frames a second, one of
+23.976, 24, 25, 29.97 and 30, and DROP is ndf, or drop at 29.97.
 
-Example:
+Examples:
+  cutroom run cut.otio 24 ndf
   printf 'overwrite 0 10 @0 100 5\\nview 0 0 15\\n' | cutroom run 2 1
 ";
 

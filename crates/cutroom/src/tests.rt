@@ -3,6 +3,7 @@ use crate::answer::{answer, complaint};
 use crate::arguments::words_after_the_name;
 use crate::notice::{HELP, Notice, VERSION};
 use line_words::{Memory, Words};
+use room_files::MemFiles;
 use room_ports::{MemSink, MemSource};
 use std::alloc::Global;
 
@@ -74,11 +75,12 @@ fn the_first_argument_is_no_word(rt: HostRuntime) -> Result<(), Memory> {
 #[test]
 fn words_are_answered_once(rt: HostRuntime) -> Result<(), Memory> {
     let alloc = rt.alloc();
-    let cases: [(&[&str], &[u32], &[u32], u8, &str, bool); 7] = [
+    let cases: [(&[&str], &[u32], &[u32], u8, &str, bool); 8] = [
         (&["--help"], &[1], &[], 0, HELP, false),
         (&["--version"], &[1], &[], 0, VERSION, false),
         (&["--version"], &[], &[1], 2, "", true),
         (&["run"], &[1], &[], 3, "refused words\n", false),
+        (&["run", "none.otio", "24", "ndf"], &[], &[], 1, "", true),
         (
             &["run", "1", "0"],
             &[],
@@ -96,7 +98,8 @@ fn words_are_answered_once(rt: HostRuntime) -> Result<(), Memory> {
         pieces.push(b"point\n".to_vec(alloc)?)?;
         let mut input = MemSource::new(pieces, reads.to_vec(alloc)?);
         let mut output = MemSink::new(alloc, writes.to_vec(alloc)?);
-        let ended = answer(alloc, &words, &mut input, &mut output);
+        let mut files = MemFiles::new(alloc, Vec::new(alloc));
+        let ended = answer(alloc, &words, &mut files, &mut input, &mut output);
         assert_eq!(rt; ended, status, "{texts:?}");
         assert!(rt; output.bytes() == Some(text.as_bytes()), "{texts:?}");
         assert!(rt; complaint(ended).is_empty() != complains, "{texts:?}");

@@ -1,7 +1,0 @@
-use Rattle.std.proofs.Common.{refl}
-use Rattle.composables.specs.declared.media.Kind.TheVariants.{Video}
-use Rattle.cut_server.proofs.Openings.{counted_push}
-use Rattle.cut_server.proofs.opening.plain_kinds.Goals as goal
-
-pub loop-track-preserved : goal.loop-track-preserved
-loop-track-preserved c = counted_push (λ _. Video) c.loop-track.track c.loop-track.kinds c.push.new.self Video c.loop-track.invariant refl c.in_ok-push.ensures.ok

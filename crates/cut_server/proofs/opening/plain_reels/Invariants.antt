@@ -1,7 +1,0 @@
-use Rattle.std.proofs.Common.{◌≡◌, map}
-use Rattle.std.specs.List.{range_with_len}
-use Rattle.cut_server.specs.Openings.{plain_reel}
-use Rattle.cut_server.proofs.opening.plain_reels.Given as goal
-
-abbrev pub invariant-loop-reel : goal.invariant-loop-reel
-invariant-loop-reel l = l.reels ≡ map plain_reel (range_with_len 0 l.reel)
