@@ -194,11 +194,11 @@ own_beside f true xs ys zs e = ap (λ es. f ∷ es) e
 own_beside f false xs ys zs e = e
 
 -- a list that has no entries of a station
-own_append : {C : Type 0} (station : ℕ) (h more : List (Entry C)) → of_station station (h ++ more) ≡ of_station station h ++ of_station station more
+pub own_append : {C : Type 0} (station : ℕ) (h more : List (Entry C)) → of_station station (h ++ more) ≡ of_station station h ++ of_station station more
 own_append station [] more = refl
 own_append station (f ∷ fs) more = own_beside f (eqb f.station station) _ _ _ (own_append station fs more)
 
-nothing_behind : {A : Type 0} (xs ys : List A) → xs ++ ys ≡ xs → ys ≡ []
+pub nothing_behind : {A : Type 0} (xs ys : List A) → xs ++ ys ≡ xs → ys ≡ []
 nothing_behind [] ys e = e
 nothing_behind (x ∷ xs) ys e = nothing_behind xs ys (tails e) where
   tails : {A : Type 0} {x : A} {us vs : List A} → x ∷ us ≡ x ∷ vs → us ≡ vs
