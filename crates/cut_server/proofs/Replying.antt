@@ -27,8 +27,8 @@ use Rattle.call_text.specs.Sights.{TrackSight, sight_text_of}
 use Rattle.cut_server.specs.declared.reply.Reply.{Reply}
 use Rattle.cut_server.specs.Rooms.{History, Setting, AreWritten, finds_memory, room_of, seen_of}
 use Rattle.cut_server.specs.Session.{Course, Grows, IsSightReply, Replies, RepliesWith, Step}
-use Rattle.cut_server.specs.SessionInside.{IsSeated, TrackPass, TrackRoom, course_at, or_opening, session_at, setting_at, tracks_at}
-use Rattle.cut_server.specs.Transcript.{Wish, Do, See, Point}
+use Rattle.cut_server.specs.SessionInside.{IsSeated, IsSession, TrackPass, TrackRoom, course_at, or_opening, session_at, setting_at, tracks_at}
+use Rattle.cut_server.specs.Transcript.{Wish, Do, See, Point, Bad}
 use Rattle.cut_server.proofs.Transcripts.{nothing_behind, own_append}
 
 written_more : (h : History) (e : Entry Call) → IsWritten e.call → AreWritten h → AreWritten (h ++ e ∷ [])
@@ -87,13 +87,15 @@ replied room before after counting start line wish text seated stays step = reco
 }
 
 -- nothing happened
-pub unmoved : (room : TrackRoom) (pass : TrackPass) → Stays (editing room.0.table) room.1 pass pass
+unmoved : (room : TrackRoom) (pass : TrackPass) → Stays (editing room.0.table) room.1 pass pass
 unmoved room pass = record { goes_on = record { number_is = refl; opening_is = refl; front = ([], sym (append-nil pass.entries)); legal = λ h. h }; own = refl }
 
-pub unmoved_replied : (room : TrackRoom) (pass : TrackPass) (counting : Counted) (start line : ℕ) (wish : Wish Call Ask) (text : List ℕ) → IsSeated room line pass
-    → (let s = session_at room (Some pass) counting start line in Step (room_of s.setting) pass.number s.course s.course text wish (finds_memory wish))
-    → RepliesWith (session_at room (Some pass) counting start line) (session_at room (Some pass) counting start (line + 1)) wish text
-unmoved_replied room pass counting start line wish text seated step = replied room pass pass counting start line wish text seated (unmoved room pass) step
+-- the reply to a line that is none of the table
+pub bad_replied : (room : TrackRoom) (pass : Option TrackPass) (counting : Counted) (start line : ℕ) (fault text : List ℕ) → IsSession room line pass → text ≡ fault
+    → RepliesWith (session_at room pass counting start line) (session_at room pass counting start (line + 1)) (Bad fault) text
+bad_replied room None counting start line fault text seated is = absurd seated
+bad_replied room (Some pass) counting start line fault text seated is =
+    replied room pass pass counting start line (Bad fault) text seated (unmoved room pass) (inl (record { same = refl; reply_is = is }))
 
 -- the session can go on with its pass
 seated_stays : (room : TrackRoom) (before after : TrackPass) (line : ℕ) → IsSeated room line before → Stays (editing room.0.table) room.1 before after → IsSeated room (line + 1) after
@@ -102,8 +104,9 @@ seated_stays room before after line seated stays =
     ap (λ (n : ℕ). last_of n after.entries) stays.goes_on.number_is ∙ ap (λ (l : History). fold (λ m e. max m e.number) 0 l) stays.own in
     record { legal = stays.goes_on.legal seated.legal; before = omega (arith, last, seated.before) }
 
-pub seated_same : (room : TrackRoom) (pass : TrackPass) (line : ℕ) → IsSeated room line pass → IsSeated room (line + 1) pass
-seated_same room pass line seated = seated_stays room pass pass line seated (unmoved room pass)
+pub same_seated : (room : TrackRoom) (pass : Option TrackPass) (line : ℕ) → IsSession room line pass → IsSession room (line + 1) pass
+same_seated room None line seated = seated
+same_seated room (Some pass) line seated = seated_stays room pass pass line seated (unmoved room pass)
 
 module _ (room : TrackRoom) (before after : TrackPass) (counting : Counted) (start line : ℕ) (seated : IsSeated room line before) where
   pub edit_replied : (c : Call) (a : EditAnswer) (text : List ℕ) → IsWritten c

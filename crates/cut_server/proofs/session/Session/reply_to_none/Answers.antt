@@ -1,5 +1,10 @@
-use Rattle.cut_server.proofs.Replying.{unmoved_replied, seated_same}
+use Rattle.std.proofs.Common.{inl, refl}
+use Rattle.call_text.specs.Replies.{fault_of}
+use Rattle.cut_server.specs.Transcript.{Bad}
+use Rattle.cut_server.proofs.Replying.{bad_replied, same_seated}
 use Rattle.cut_server.proofs.session.Session.reply_to_none.Goals as goal
 
 pub returns-clause-replies : goal.returns-clause-replies
-returns-clause-replies g c = ?
+returns-clause-replies g c =
+    let s = c.self.inside in
+    rw (← c.self.view_is) (bad_replied s.room.now s.pass s.counting s.start s.line (fault_of c.args.fault.now) c.fault_text.result c.self.invariant c.fault_text.ensures.text)
