@@ -211,6 +211,7 @@ committed {O} {P} {C} meaning opens opening o entries e before after point ns ps
       };
       journal = entries;
       met = a.front;
+      legal = legal;
       others = sym a.same;
       entries_are = same;
       point_is = count;

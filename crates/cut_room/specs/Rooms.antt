@@ -42,6 +42,7 @@ module _ {O P C D R : Type 0} (m : Meaning P C D R) (opening : List P) where
     pub goes_on : GoesOn before after
     pub journal : List (Entry C)
     pub met : Begins journal before.entries
+    pub legal : IsLegal (whole m) opening journal
     pub others : of_station before.number journal ≡ of_station before.number before.entries
     pub entries_are : after.entries ≡ journal ++ entry ∷ []
     pub point_is : point ≡ length journal

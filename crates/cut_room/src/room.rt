@@ -3,7 +3,7 @@ ghost use Rattle.std.specs.Prelude.{◌≡◌, ◌<◌, ◌≤◌, [], ◌∷◌
 ghost use Rattle.room_core.specs.Answers.{Tells};
 ghost use Rattle.room_core.specs.History.{IsLegal, most_entries, replay};
 ghost use Rattle.room_core.specs.Parts.{AreGood, numbers};
-ghost use Rattle.room_core.specs.Whole.{whole};
+ghost use Rattle.room_core.specs.Whole.{set_of, whole};
 ghost use Rattle.edit_journal.specs.declared.name.Name.TheVariants.{Station};
 ghost use Rattle.edit_journal.specs.Seats.{Agrees, In};
 ghost use Rattle.edit_journal.specs.Turns.{AreFresh, last_of};
@@ -211,13 +211,12 @@ impl<O: PartObject + Drop, J: Naming<O, O::Part>> Room<O, J> {
                 gate.at_commit(entry.station);
                 self.commit(rt, alloc, held, parts, pass, entry, done)
             }
-            Err(Fault::Refused(refusal)) => {
+            Err(fault) => {
                 let (pass, point) = self.look(rt, held, pass);
-                (pass, Answer::Refused { point, refusal })
-            }
-            Err(Fault::Memory) => {
-                let (pass, _) = self.look(rt, held, pass);
-                (pass, Answer::Memory)
+                match fault {
+                    Fault::Refused(refusal) => (pass, Answer::Refused { point, refusal }),
+                    Fault::Memory => (pass, Answer::Memory),
+                }
             }
         }
     }
@@ -319,8 +318,10 @@ impl<O: PartObject + Drop, J: Naming<O, O::Part>> Room<O, J> {
         };
         match self.see_copy(alloc, &copies, ask) {
             Ok(seen) => (pass, Sight::Seen { point, seen }),
-            Err(Fault::Refused(refusal)) => (pass, Sight::Refused { point, refusal }),
-            Err(Fault::Memory) => (pass, Sight::Memory),
+            Err(fault) => match fault {
+                Fault::Refused(refusal) => (pass, Sight::Refused { point, refusal }),
+                Fault::Memory => (pass, Sight::Memory),
+            },
         }
     }
 
@@ -331,7 +332,7 @@ impl<O: PartObject + Drop, J: Naming<O, O::Part>> Room<O, J> {
         ensures homes { IfOk result (λ h. AreHomes O.meaning O.opens J.opening h.numbers h.parts h.versions h.seats) }
         ensures good { IfOk result (λ h. AreGoodAt O.good J.opening h.numbers h.parts) }
     {
-        let held = self.tracks.hold(rt, alloc, 1 << part)?;
+        let held = self.tracks.hold(rt, alloc, set_of_one(part))?;
         Ok(held)
     }
 
@@ -426,4 +427,11 @@ impl<O: PartObject + Drop, J: Naming<O, O::Part>> Room<O, J> {
         } = self;
         journal.close(passes)
     }
+}
+
+// The set of one part, bit n for the part n.
+fn set_of_one(part: u32) -> u32
+    ensures { result ≡ set_of (part ∷ []) }
+{
+    if part < 32 { 1 << part } else { 0 }
 }

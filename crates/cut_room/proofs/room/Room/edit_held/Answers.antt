@@ -20,11 +20,11 @@ apply-requires-clause-roomy g c =
 pub returns-in-Err-clause-edited : goal.returns-in-Err-clause-edited
 returns-in-Err-clause-edited g c = stays_same _ _ c.args.pass
 
-pub returns-in-Err-Refused-clause-edited : goal.returns-in-Err-Refused-clause-edited
-returns-in-Err-Refused-clause-edited g c =
+pub returns-in-Refused-clause-edited : goal.returns-in-Refused-clause-edited
+returns-in-Refused-clause-edited g c =
     let s = c.self.inside in
     let h = c.args.held in
-    let meant = rw c.in-Err-Refused.field-0-is at c.in-Err-Refused.ensures.meant in
-    rw (← c.self.view_is) (turned_down (g.O.PartObject.meaning s.object) s.opening.items c.args.entry.call c.args.pass c.look.result.0 c.look.result.1 h.numbers h.parts c.in-Err-Refused.refusal
-          (rw (← c.self.view_is) at c.look.ensures.at) (rw (← c.self.view_is) at c.look.ensures.parts)
+    let meant = rw c.in-Refused.is at c.in-Err-apply.ensures.meant in
+    rw (← c.self.view_is) (turned_down (g.O.PartObject.meaning s.object) s.opening.items c.args.entry.call c.args.pass c.look-pass.result.0 c.look-pass.result.1 h.numbers h.parts c.in-Refused.refusal
+          (rw (← c.self.view_is) at c.look-pass.ensures.at) (rw (← c.self.view_is) at c.look-pass.ensures.parts)
           (rw (← c.self.view_is) at c.requires.named) (rw (← c.self.view_is) at c.requires.numbers) (rw c.in-Ok.ensures at meant.0))

@@ -11,4 +11,4 @@ returns-clause-numbers g c =
     let count : g.O.PartObject.count s.object ≡ s.tracks = omega (arith, parts, c.self.invariant.2) in
     let there = rw (← c.self.view_is) at c.requires in
     c.in_ok-held.ensures.numbers
-    ∙ members_of s.tracks _ (c.args.part ∷ []) (omega (arith, law.1, count)) (omega arith, omega (arith, there, count), tt) ?
+    ∙ members_of s.tracks c.set_of_one.result (c.args.part ∷ []) (omega (arith, law.1, count)) (omega arith, omega (arith, there, count), tt) (sym c.set_of_one.ensures)
