@@ -1,5 +1,5 @@
 -- A session that begins, and a room that closes.
-use Rattle.std.proofs.Common.{◌≡◌, ℕ, ◌+◌, ◌<◌, List, [], ◌∷◌, ◌++◌, length, Option, Some, All, map, refl, sym, ap, ◌∙◌, arith, subst, ⊎_elim}
+use Rattle.std.proofs.Common.{◌≡◌, ℕ, ◌+◌, ◌<◌, List, [], ◌∷◌, ◌++◌, length, Option, Some, All, map, refl, sym, ap, ◌∙◌, arith, subst, ⊎_elim, inl}
 use Rattle.std.proofs.lemmas.List.Elements.{All-head, All-tail}
 use Rattle.timecode12.specs.Numbers.{Counted}
 use Rattle.composables.specs.TrackState.{TrackState}
@@ -7,6 +7,7 @@ use Rattle.edit_apply.specs.declared.asks.Call.{Call}
 use Rattle.edit_apply.specs.Apply.{editing}
 use Rattle.edit_journal.specs.declared.name.Name.TheVariants.{Station}
 use Rattle.edit_journal.specs.Seats.{Agrees, In}
+use Rattle.edit_journal.specs.Turns.{AreFresh}
 use Rattle.room_core.specs.declared.entry.Entry.{Entry}
 use Rattle.room_core.specs.History.{IsLegal}
 use Rattle.room_core.specs.Whole.{whole}
@@ -67,3 +68,13 @@ only passes last before numbers is = only_one before last (ap (map (λ (q : Trac
     only_one [] last e = (refl, Prim.grind (arith, e))
     only_one (p ∷ []) last e = let n = ap length e in absurd (omega (arith, n))
     only_one (p ∷ q ∷ ps) last e = let n = ap length e in absurd (omega (arith, n))
+
+pub only_fresh : (opening : Option TrackRoom) (passes : List TrackPass) (last : TrackPass) (before : List TrackPass) → AreFresh opening 1 passes → passes ≡ before ++ last ∷ []
+    → (last.opening ≡ opening) × (last.entries ≡ [])
+only_fresh opening passes last before fresh is =
+    let none = (only passes last before fresh.0 is).0 in
+    let one : passes ≡ last ∷ [] = is ∙ ap (λ (ps : List TrackPass). ps ++ last ∷ []) none in
+    All-head (λ t. (t.opening ≡ opening) × (t.entries ≡ [])) last [] (subst (λ (ps : List TrackPass). All (λ t. (t.opening ≡ opening) × (t.entries ≡ [])) ps) one fresh.1)
+
+pub has_zero : (s : ℕ) → s < 1 → In s (0 ∷ [])
+has_zero s low = inl (omega (arith, low))

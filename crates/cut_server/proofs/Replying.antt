@@ -115,8 +115,8 @@ module _ (room : TrackRoom) (before after : TrackPass) (counting : Counted) (sta
   edit_replied c (answer.Done n d) text w e is =
       let apply = whole (editing room.0.table) in
       let entry : Entry Call = record { station = before.number; number = line; call = c } in
-      let then : tracks_at room e.journal ≡ e.parts = tracks_are room e.journal e.parts e.comes in
-      let now : tracks_at room after.entries ≡ e.now =
+      let met_is : tracks_at room e.journal ≡ e.parts = tracks_are room e.journal e.parts e.comes in
+      let now_is : tracks_at room after.entries ≡ e.now =
       tracks_are room after.entries e.now
       (ap (λ (l : History). replay apply room.1 l) e.entries_are
       ∙ (fold-append (after_entry apply) (Some room.1) e.journal (entry ∷ []) ∙ (ap (λ (o : Option (List TrackState)). after_entry apply o entry) e.comes ∙ ap state_in e.applies))) in
@@ -130,7 +130,7 @@ module _ (room : TrackRoom) (before after : TrackPass) (counting : Counted) (sta
         step = inl (inl (
           d,
           record {
-            applies = rw (then, now) e.applies;
+            applies = rw (met_is, now_is) e.applies;
             journal = e.entries_are;
             room = omega (arith, e.point_is, e.room);
             line = refl;

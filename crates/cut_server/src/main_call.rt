@@ -215,6 +215,7 @@ fn run_document<R: Wait, G: Gate, F: Files, S: Source, K: Sink>(
     files: &mut F,
     input: &mut S,
     output: &mut K,
+    gate: &G,
 ) -> Status
     ensures { DocumentEnds name.now counting
         (files_told (F.file files.old) (F.read_faults files.old) (F.write_faults files.old))
@@ -263,7 +264,7 @@ fn do_command<R: Wait, G: Gate, F: Files, S: Source, K: Sink>(
     match command_in(words) {
         Some(Command::Run { tracks, reels }) => run_plain(rt, alloc, tracks, reels, input, output, gate),
         Some(Command::RunDocument { document, counting }) => {
-            run_document(alloc, document, counting, files, input, output)
+            run_document(rt, alloc, document, counting, files, input, output, gate)
         }
         None => refuse(output),
     }

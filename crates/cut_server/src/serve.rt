@@ -119,7 +119,10 @@ fn finish<R: Wait, G: Gate, J: Naming<Editor, Track>, K: Sink>(
 }
 
 /// Answers each line of an input, in order, until the input's end, a fault, or more than 64 MiB.
-pub(crate) fn serve<L: Line>(session: &mut Session<'_, R, G, J>, line: &mut L) -> End
+fn serve<R: Wait, G: Gate, J: Naming<Editor, Track>, L: Line>(
+    session: &mut Session<'_, R, G, J>,
+    line: &mut L,
+) -> End
     requires { session.old.course.line ≡ 1 }
     ensures ends { SessionEnds (ServesTo session.old session.new)
         (outside (L.left line.old) (L.read_faults line.old) (L.taken line.old) (L.write_faults line.old))
