@@ -23,9 +23,9 @@ use edit_apply::{Call, Editor};
 use edit_journal::{Naming, Pass};
 use line_words::Words;
 use otio_json::{DocCode, Opening};
+use room_core::Entry;
 use room_files::Files;
 use room_halls::Gate;
-use room_core::Entry;
 use room_ports::{Line, Pair, Sink, Source, put};
 use std::alloc::Global;
 use std::marker::Brand;
@@ -211,20 +211,20 @@ fn run_document<R: Wait, G: Gate, F: Files, S: Source, K: Sink>(
     rt: &R,
     alloc: Global,
     name: &str,
-    counting: Counting,
+    counting: &Counting,
     files: &mut F,
     input: &mut S,
     output: &mut K,
     gate: &G,
 ) -> Status
-    ensures { DocumentEnds name.now counting
+    ensures { DocumentEnds name.now counting.now
         (files_told (F.file files.old) (F.read_faults files.old) (F.write_faults files.old))
         (files_told (F.file files.new) (F.read_faults files.new) (F.write_faults files.new))
         (outside (S.left input.old) (S.read_faults input.old) (K.taken output.old) (K.write_faults output.old))
         (outside (S.left input.new) (S.read_faults input.new) (K.taken output.new) (K.write_faults output.new))
         (input.new ≡ input.old) (output.new ≡ output.old) result }
 {
-    match open_document(alloc, files, name, &counting) {
+    match open_document(alloc, files, name, counting) {
         Ok(opening) => run_opened(rt, alloc, opening, input, output, gate),
         Err(DocumentFault::ReadFault) => Status::ReadFault,
         Err(DocumentFault::Refused { code, at }) => refuse_document(code, at, output),
@@ -261,8 +261,10 @@ fn do_command<R: Wait, G: Gate, F: Files, S: Source, K: Sink>(
         (outside (S.left input.new) (S.read_faults input.new) (K.taken output.new) (K.write_faults output.new))
         (input.new ≡ input.old) (output.new ≡ output.old) (command_of words.now) result }
 {
-    match command_in(words) {
-        Some(Command::Run { tracks, reels }) => run_plain(rt, alloc, tracks, reels, input, output, gate),
+    match &command_in(words) {
+        Some(Command::Run { tracks, reels }) => {
+            run_plain(rt, alloc, *tracks, *reels, input, output, gate)
+        }
         Some(Command::RunDocument { document, counting }) => {
             run_document(rt, alloc, document, counting, files, input, output, gate)
         }
