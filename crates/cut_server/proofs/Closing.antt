@@ -78,3 +78,7 @@ only_fresh opening passes last before fresh is =
 
 pub has_zero : (s : ℕ) → s < 1 → In s (0 ∷ [])
 has_zero s low = inl (omega (arith, low))
+
+-- the room that was opened
+pub one_room : (named told : Option TrackRoom) (a b : TrackRoom) → named ≡ told → told ≡ Some a → named ≡ Some b → a ≡ b
+one_room named told a b same x y = let e : Some a ≡ Some b = sym x ∙ (sym same ∙ y) in Prim.grind (arith, e)

@@ -90,6 +90,10 @@ serves_one old new l reply Taken (text, is, r) taken = record {
   serves = one_serves (room_of old.setting) old.station old.course r.met r.answered new.course l text Taken r.grows r.step r.passed (taken text is);
 }
 
+-- the station
+pub same_station : (old new : SessionState) (l : InputLine) (reply : Reply) → Replies old new (wish_in (meaning_of old.setting l)) reply → new.station ≡ old.station
+same_station old new l reply (text, is, r) = r.station
+
 -- the number of the next line
 pub next_number : (old new : SessionState) (l : InputLine) (reply : Reply) → Replies old new (wish_in (meaning_of old.setting l)) reply → new.course.line ≡ old.course.line + 1
 next_number old new l reply (text, is, r) = r.line

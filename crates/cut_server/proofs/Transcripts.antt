@@ -210,7 +210,7 @@ not_own : {C : Type 0} (station n line : ℕ) (e : Entry C) (es : List (Entry C)
 not_own station n line e es true is h rest = cc
 not_own station n line e es false is h rest = ((rest h).0, (λ same. absurd (grind (arith, is, same)), (rest h).1))
 
-no_own : {C : Type 0} (station n line : ℕ) (more : List (Entry C)) → of_station station more ≡ [] → (points_from n station more ≡ []) × OwnFrom station line more
+pub no_own : {C : Type 0} (station n line : ℕ) (more : List (Entry C)) → of_station station more ≡ [] → (points_from n station more ≡ []) × OwnFrom station line more
 no_own station n line [] none = (refl, tt)
 no_own station n line (e ∷ es) none = not_own station n line e es (eqb e.station station) refl none (no_own station (n + 1) line es)
 

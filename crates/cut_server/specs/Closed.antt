@@ -7,9 +7,9 @@ use Rattle.cut_server.specs.Stations.{AreOfStations}
 
 -- The journal is a legal history of the opening, by these stations; what the station knew begins it, and it has no further
 -- entry of the station.
-pub record Closes (o : Opening) (stations station : ℕ) (known journal : History) : Type 0 where
-  pub legal : IsLegalIn o journal
-  pub seated : AreOfStations stations journal
+pub record Closes (o : Opening) (stations station : ℕ) (known h : History) : Type 0 where
+  pub legal : IsLegalIn o h
+  pub seated : AreOfStations stations h
   pub more : History
-  pub journal : journal ≡ known ++ more
-  pub own : of_station station journal ≡ of_station station known
+  pub journal : h ≡ known ++ more
+  pub own : of_station station h ≡ of_station station known

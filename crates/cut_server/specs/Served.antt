@@ -34,9 +34,9 @@ Serves {S} {C} {D} {R} {Q} {X} {Y} k station old new lines Taken =
     → (more : List (List ℕ)) × (after : ℕ) × Served k station o new (ls ++ lines) (rs ++ more) after × Taken more
 
 -- a station's session that has just been opened
-pub record IsFresh (o : Opening) (station : ℕ) (s : SessionState) : Type 0 where
+pub record IsFresh (o : Opening) (number : ℕ) (s : SessionState) : Type 0 where
   pub setting : s.setting ≡ setting_of o
-  pub station : s.station ≡ station
+  pub station : s.station ≡ number
   pub tracks : s.course.state ≡ o.tracks
   pub journal : s.course.journal ≡ []
   pub line : s.course.line ≡ 1

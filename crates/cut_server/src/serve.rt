@@ -50,6 +50,7 @@ fn answer_line<R: Wait, G: Gate, J: Naming<Editor, Track>, K: Sink>(
     ensures err { OnErr result (ServesTo session.old session.new (line_told end text.now ∷ [])
         (LastIsCut (K.taken output.old) (K.taken output.new))) }
     ensures number { session.new.course.line ≡ session.old.course.line + 1 }
+    ensures station { session.new.station ≡ session.old.station }
 
     ensures cause { OnErr result (HasRisen (K.write_faults output.old) (K.write_faults output.new)) }
     ensures quiet { OnOk result (K.write_faults output.new ≡ K.write_faults output.old) }
@@ -74,6 +75,7 @@ fn answer_piece<R: Wait, G: Gate, J: Naming<Editor, Track>, K: Sink>(
         × ServesTo session.old session.new lines (LastIsCut (K.taken output.old) (K.taken output.new))) }
     ensures pending { OnOk result (reader.new.pending ≡ pending_after reader.old.pending piece.now) }
     ensures number { session.new.course.line ≤ session.old.course.line + length piece.now }
+    ensures station { session.new.station ≡ session.old.station }
 
     ensures cause { OnErr result (HasRisen (K.write_faults output.old) (K.write_faults output.new)) }
     ensures quiet { OnOk result (K.write_faults output.new ≡ K.write_faults output.old) }
@@ -107,6 +109,7 @@ fn finish<R: Wait, G: Gate, J: Naming<Editor, Track>, K: Sink>(
         (AreSent (K.taken output.old) (K.taken output.new))) }
     ensures err { OnErr result ((line : InputLine) × (last_line reader.old.pending ≡ line ∷ [])
         × ServesTo session.old session.new (line ∷ []) (LastIsCut (K.taken output.old) (K.taken output.new))) }
+    ensures station { session.new.station ≡ session.old.station }
 
     ensures cause { OnErr result (HasRisen (K.write_faults output.old) (K.write_faults output.new)) }
     ensures quiet { OnOk result (K.write_faults output.new ≡ K.write_faults output.old) }
@@ -127,6 +130,7 @@ fn serve<R: Wait, G: Gate, J: Naming<Editor, Track>, L: Line>(
     ensures ends { SessionEnds (ServesTo session.old session.new)
         (outside (L.left line.old) (L.read_faults line.old) (L.taken line.old) (L.write_faults line.old))
         (outside (L.left line.new) (L.read_faults line.new) (L.taken line.new) (L.write_faults line.new)) result }
+    ensures station { session.new.station ≡ session.old.station }
     ensures lent { L.lent line.new ≡ L.lent line.old }
 {
     let mut reader = LineReader::new();

@@ -65,10 +65,20 @@ impl<'a, R: Wait, G: Gate, J: Naming<Editor, Track>> Session<'a, R, G, J> {
 
     /// The station's pass.
     pub(crate) fn into_pass(self) -> Pass<Editor, J>
-        ensures entries { result.entries ≡ self.course.journal }
-        ensures number { result.number ≡ self.station }
+        ensures entries { result.entries ≡ self.entry.course.journal }
+        ensures number { result.number ≡ self.entry.station }
     {
-        match self.pass {
+        let Session {
+            rt: _,
+            alloc: _,
+            room: _,
+            gate: _,
+            pass,
+            counting: _,
+            start: _,
+            line: _,
+        } = self;
+        match pass {
             Some(pass) => pass,
             None => unreachable!(),
         }

@@ -9,11 +9,11 @@ unreachable-requires g c =
     let count = ap length c.requires.0 in
     absurd (omega (arith, none.0, count, length-map c.args.passes.items (λ q. q.number), c.args.passes.ok))
 
-pub returns-in-Some-clause-pass : goal.returns-in-Some-clause-pass
-returns-in-Some-clause-pass g c =
+pub returns-clause-pass : goal.returns-clause-pass
+returns-clause-pass g c =
     let is = rw c.in-Some.is at c.pop.ensures.items in
     ((only c.args.passes.items c.in-Some.pass c.pop.new.self.items c.requires.0 is).1,
     (only_fresh g.J.Naming.opening c.args.passes.items c.in-Some.pass c.pop.new.self.items c.requires is).1)
 
-pub returns-in-Some-clause-none : goal.returns-in-Some-clause-none
-returns-in-Some-clause-none g c = (only c.args.passes.items c.in-Some.pass c.pop.new.self.items c.requires.0 (rw c.in-Some.is at c.pop.ensures.items)).0
+pub returns-clause-none : goal.returns-clause-none
+returns-clause-none g c = (only c.args.passes.items c.in-Some.pass c.pop.new.self.items c.requires.0 (rw c.in-Some.is at c.pop.ensures.items)).0

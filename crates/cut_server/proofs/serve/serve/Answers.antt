@@ -11,6 +11,7 @@ pub loop-total-init : goal.loop-total-init
 loop-total-init g c = record {
   buffer = refl;
   number = omega (arith, c.requires);
+  station = refl;
   lent = refl;
   so_far = (
     [],
@@ -101,6 +102,7 @@ loop-total-preserved g c =
     record {
       buffer = omega (arith, c.loop-total.invariant.buffer, c.read.auto.into);
       number = omega (arith, c.loop-total.invariant.number, c.answer_piece.ensures.number, c.split_at.ensures.front_len, same);
+      station = c.answer_piece.ensures.station ∙ c.loop-total.invariant.station;
       lent = k.2 ∙ (t.2 ∙ c.loop-total.invariant.lent);
       so_far = (
         s.0 ++ piece,

@@ -8,3 +8,6 @@ returns-clause-ends g c = λ o is.
     rw c.into_pass.ensures.entries
     (session_knows o c.args.pass.number _ c.serve-end.new.session _ _ c.serve-end.result
     (fresh_session o c.args.room.now c.args.pass c.args.setting.counting c.args.setting.start is c.requires) c.serve-end.ensures.ends)
+
+pub returns-clause-station : goal.returns-clause-station
+returns-clause-station g c = c.into_pass.ensures.number ∙ c.serve-end.ensures.station

@@ -10,5 +10,11 @@ returns g c =
     let s = c.self.inside in
     let is = sym c.take.ensures.value ∙ c.in-Some.is in
     rw (← c.self.view_is, is)
-    (sight_replied s.room.now c.in-Some.pass c.see.result.0 s.counting s.start s.line (rw is at c.self.invariant) c.args.ask.now c.see.result.1 c.sight_reply.result
-    c.see.ensures.looked c.sight_reply.ensures)
+    (sight_replied s.room.now c.in-Some.pass c.see-pass.result.0 s.counting s.start s.line (rw is at c.self.invariant) c.args.ask.now c.see-pass.result.1 c.sight_reply.result
+    c.see-pass.ensures.looked c.sight_reply.ensures)
+
+pub invariant_of-self : goal.invariant_of-self
+invariant_of-self g c =
+    let s = c.self.inside in
+    let is = sym c.take.ensures.value ∙ c.in-Some.is in
+    sight_seated s.room.now c.in-Some.pass c.see-pass.result.0 s.counting s.start s.line (rw is at c.self.invariant) c.args.ask.now c.see-pass.result.1 c.see-pass.ensures.looked

@@ -10,5 +10,11 @@ returns-clause-replies g c =
     let s = c.self.inside in
     let is = sym c.take.ensures.value ∙ c.in-Some.is in
     rw (← c.self.view_is, is)
-    (point_replied s.room.now c.in-Some.pass c.point.result.0 s.counting s.start s.line (rw is at c.self.invariant) c.point.result.1 c.point_text.result
-    c.point.ensures.at c.point_text.ensures.text)
+    (point_replied s.room.now c.in-Some.pass c.point-pass.result.0 s.counting s.start s.line (rw is at c.self.invariant) c.point-pass.result.1 c.point_text.result
+    c.point-pass.ensures.at c.point_text.ensures.text)
+
+pub invariant_of-self : goal.invariant_of-self
+invariant_of-self g c =
+    let s = c.self.inside in
+    let is = sym c.take.ensures.value ∙ c.in-Some.is in
+    point_seated s.room.now c.in-Some.pass c.point-pass.result.0 s.counting s.start s.line (rw is at c.self.invariant) c.point-pass.result.1 c.point-pass.ensures.at
