@@ -3,6 +3,7 @@ use Rattle.std.proofs.Common.{◌≡◌, ℕ, ◌+◌, ◌<◌, List, [], ◌∷
 use Rattle.std.proofs.lemmas.List.Elements.{All-head, All-tail}
 use Rattle.timecode12.specs.Numbers.{Counted}
 use Rattle.composables.specs.TrackState.{TrackState}
+use Rattle.composables.specs.declared.media.Table.{Table}
 use Rattle.edit_apply.specs.declared.asks.Call.{Call}
 use Rattle.edit_apply.specs.Apply.{editing}
 use Rattle.edit_journal.specs.declared.name.Name.TheVariants.{Station}
@@ -53,7 +54,7 @@ closed o room counting start passes p h is are first legal agree stations =
     subst (λ (n : ℕ). Agrees (editing room.0.table).names h (Station n) p.entries) first (All-head (λ q. Agrees (editing room.0.table).names h (Station q.number) q.entries) p [] all) in
     let numbers : map (λ (q : TrackPass). q.number) passes ≡ 0 ∷ [] = ap (map (λ (q : TrackPass). q.number)) are ∙ ap (λ (n : ℕ). n ∷ []) first in
     record {
-      legal = subst (λ x. IsLegal (whole (editing x.0)) x.1 h) (λ i. (table i, is.tracks i)) legal;
+      legal = subst (λ (x : Table × List TrackState). IsLegal (whole (editing x.0)) x.1 h) (λ i. (table i, is.tracks i)) legal;
       seated = of_one_station h (subst (λ (ns : List ℕ). All (λ e. In e.station ns) h) numbers stations);
       more = mine.front.0;
       journal = mine.front.1;

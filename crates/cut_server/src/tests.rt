@@ -265,21 +265,21 @@ fn a_line_has_a_limit(rt: HostRuntime) -> Result<(), Fail> {
 }
 
 // The status and the output of a run in a room of one track and one reel, over `point` and a line of so many bytes.
-fn long_input(alloc: Global, bytes: usize) -> Result<(u8, Vec<u8>), Fail> {
+fn long_input<R: Wait>(rt: &R, alloc: Global, bytes: usize) -> Result<(u8, Vec<u8>), Fail> {
     let mut pieces = Vec::new(alloc);
     pieces.push(b"point\n".to_vec(alloc)?)?;
     pieces.push(vec![in alloc; b'x'; bytes]?)?;
     let mut input = MemSource::new(pieces, Vec::new(alloc));
     let mut output = MemSink::new(alloc, Vec::new(alloc));
     let words = words_of(alloc, &["run", "1", "1"])?;
-    let status = cut_main(&rt, alloc, &words, &mut no_files(alloc), &mut input, &mut output, &OpenGate);
+    let status = cut_main(rt, alloc, &words, &mut no_files(alloc), &mut input, &mut output, &OpenGate);
     let told = output.bytes().ok_or("told")?;
     Ok((status, told.to_vec(alloc)?))
 }
 
 #[test]
 fn an_input_may_have_64_mib(rt: HostRuntime) -> Result<(), Fail> {
-    let (status, output) = long_input(rt.alloc(), 67_108_858)?;
+    let (status, output) = long_input(&rt, rt.alloc(), 67_108_858)?;
     assert_eq!(rt; status, 0);
     assert_eq!(rt;
         output.as_slice(),
@@ -290,7 +290,7 @@ fn an_input_may_have_64_mib(rt: HostRuntime) -> Result<(), Fail> {
 
 #[test]
 fn an_input_has_no_byte_more(rt: HostRuntime) -> Result<(), Fail> {
-    let (status, output) = long_input(rt.alloc(), 67_108_859)?;
+    let (status, output) = long_input(&rt, rt.alloc(), 67_108_859)?;
     assert_eq!(rt; status, 7);
     assert_eq!(rt; output.as_slice(), b"point 0\n".as_slice());
     Ok(())
@@ -325,7 +325,8 @@ const DOCUMENT: &str = "\
 \"RationalTime.1\", \"rate\": 24.0, \"value\": 5.0}}}]}]}}";
 
 // The status and the output of a run with these words, where the file `cut` holds this text and these calls fail.
-fn opened(
+fn opened<R: Wait>(
+    rt: &R,
     alloc: Global,
     words: &[&str],
     text: &[u8],
@@ -415,7 +416,7 @@ fn a_document_is_opened_or_refused(rt: HostRuntime) -> Result<(), Fail> {
         ),
     ];
     for (words, text, fails, writes, status, wanted) in table {
-        let (ended_with, output) = opened(alloc, words, text, fails, writes)?;
+        let (ended_with, output) = opened(&rt, alloc, words, text, fails, writes)?;
         assert_eq!(rt; ended_with, status, "{words:?}");
         assert_eq!(rt; output.as_slice(), wanted, "{words:?}");
     }
@@ -430,7 +431,7 @@ fn a_document_has_a_limit(rt: HostRuntime) -> Result<(), Fail> {
         (33_554_433, b"refused J5 0\n".as_slice()),
     ] {
         let text = vec![in alloc; b' '; blanks]?;
-        let (status, output) = opened(alloc, &["run", "cut", "24", "ndf"], &text, &[], &[])?;
+        let (status, output) = opened(&rt, alloc, &["run", "cut", "24", "ndf"], &text, &[], &[])?;
         assert_eq!(rt; status, 4);
         assert_eq!(rt; output.as_slice(), wanted);
     }
