@@ -1,5 +1,5 @@
 -- Fronts of a journal.
-use Rattle.std.proofs.Common.{◌≡◌, ℕ, ◌+◌, ◌<◌, ◌≤◌, List, length, take, Vec, Option, Some, None, Result, Ok, Err, IfOk, OnOk, IfErr, IsSome, refl, sym, ap, ◌∙◌, arith, subst}
+use Rattle.std.proofs.Common.{◌≡◌, ℕ, ◌≤◌, List, length, take, Vec, Option, Some, None, Result, Ok, Err, IfOk, OnOk, IfErr, IsSome, refl, sym, ap, ◌∙◌, arith, subst}
 use Rattle.std.specs.Global.{Global}
 use Rattle.std.proofs.lemmas.List.{take-take, length-take-le}
 use Rattle.room_core.specs.declared.entry.Entry.{Entry}

@@ -1,8 +1,9 @@
 -- The members of a set of numbers.
-use Rattle.std.proofs.Common.{◌≡◌, ◌⊎◌, inl, inr, ℕ, zero, suc, ◌+◌, ◌*◌, ◌/◌, ◌%◌, ◌^◌, ◌<◌, ◌≤◌, ◌≢◌, ◌==◌, Bool, true, false, List, [], ◌∷◌, ◌++◌, refl, sym, ap, ◌∙◌, subst, arith, ⊎_elim}
+use Rattle.std.proofs.Common.{◌≡◌, ◌⊎◌, inl, inr, ℕ, zero, suc, ◌+◌, ◌*◌, ◌/◌, ◌%◌, ◌^◌, ◌<◌, ◌≤◌, ◌≢◌, ◌==◌, Bool, true, false, List, [], ◌∷◌, refl, sym, ap, ◌∙◌, subst, arith, ⊎_elim}
 use Rattle.std.proofs.Math.Nat.{div-div-eq-div-mul, pow-succ'}
 use Rattle.std.proofs.lemmas.Bool.Decides.{nat_tests}
-use Rattle.room_core.specs.Parts.{AscendBetween}
+use Rattle.edit_journal.specs.Seats.{In}
+use Rattle.room_core.specs.Parts.{AscendBetween, numbers}
 use Rattle.room_core.specs.Whole.{set_of}
 use Rattle.history_points.proofs.Sets.{Rest, shifted, rest_of_all, higher, listed_next, passed_next, all_listed}
 use Rattle.track_locks.specs.Homes.{members}
@@ -46,3 +47,13 @@ pub members_of : (count set : ℕ) (names : List ℕ) → count ≤ 32 → Ascen
 members_of count set names few a is =
     let r = from_all count set names a (rest_of_all set names (higher 0 count 32 names few a) is) in
     all_listed count count (set / 2 ^ count) (members count set) names (omega arith) (rest_at count set names count r)
+
+here_or_later : (b : Bool) (from count n : ℕ) → (n == from) ≡ b → (n ≢ from → In n (numbers (from + 1) count)) → In n (from ∷ numbers (from + 1) count)
+here_or_later true from count n e later = inl (Prim.grind (arith, nat_tests, e))
+here_or_later false from count n e later = inr (later (λ h. Prim.grind (arith, nat_tests, e, h)))
+
+-- so many numbers from one on
+pub in_numbers : (from count n : ℕ) → from ≤ n → n < from + count → In n (numbers from count)
+in_numbers from zero n le lt = absurd (omega (arith, le, lt))
+in_numbers from (suc count) n le lt =
+    here_or_later (n == from) from count n refl (λ other. in_numbers (from + 1) count n (omega (arith, le, other)) (omega (arith, lt)))

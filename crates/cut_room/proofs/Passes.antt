@@ -1,11 +1,9 @@
 -- What a pass knows after a turn at the journal.
-use Rattle.std.proofs.Common.{◌≡◌, ℕ, zero, suc, ◌+◌, ◌<◌, ◌≤◌, List, [], ◌∷◌, ◌++◌, length, Bool, true, false, ◌==◌, cond, Option, Some, None, Result, Ok, Err, IsSome, slice_get, get_or, All, refl, sym, ap, ◌∙◌, subst, arith, option_map, take, sum_by, ◌*◌}
-use Rattle.std.specs.List.{filter}
+use Rattle.std.proofs.Common.{◌≡◌, ℕ, suc, ◌+◌, ◌<◌, ◌≤◌, List, [], ◌∷◌, ◌++◌, length, Bool, true, ◌==◌, cond, Option, Some, None, Result, Ok, Err, IsSome, slice_get, refl, sym, ap, ◌∙◌, subst, arith, option_map, take, sum_by, ◌*◌}
 use Rattle.std.proofs.lemmas.List.{append-nil, length-append}
 use Rattle.std.proofs.Math.Seq.{take-append_seam}
 use Rattle.std.proofs.lemmas.List.Elements.{filter-append}
 use Rattle.std.proofs.lemmas.Bool.Decides.{nat_tests}
-use Rattle.std.proofs.lemmas.Option.{get_or_from_slice_get}
 use Rattle.room_core.specs.declared.entry.Entry.{Entry}
 use Rattle.room_core.specs.History.{after_entry, replay, state_in, IsLegal, most_entries}
 use Rattle.room_core.specs.Parts.{AreGood}
@@ -21,7 +19,7 @@ use Rattle.track_locks.proofs.Several.{within}
 use Rattle.track_locks.proofs.Stands.{one_at}
 use Rattle.cut_room.specs.Desks.{told}
 use Rattle.cut_room.specs.Gathered.{ComesTo}
-use Rattle.cut_room.specs.Rooms.{GoesOn, Stays, IsAtPoint, IsCommitted, IsTurnedDown, FindsNoRoom, IsSight, TakesAtMost}
+use Rattle.cut_room.specs.Rooms.{Stays, IsAtPoint, IsCommitted, IsTurnedDown, FindsNoRoom, IsSight, TakesAtMost}
 
 one_opening : {A : Type 0} (o : Option A) (a b : A) → o ≡ Some a → o ≡ Some b → a ≡ b
 one_opening o a b x y = let e : Some a ≡ Some b = sym x ∙ y in Prim.grind (arith, e)

@@ -1,6 +1,6 @@
 -- Parts that are put where others were held, after an entry that names them.
-use Rattle.std.proofs.Common.{◌≡◌, ◌≢◌, ℕ, zero, suc, ◌+◌, ◌<◌, ◌≤◌, List, [], ◌∷◌, ◌++◌, length, map, Bool, true, false, ◌==◌, ◌||◌, cond, Option, Some, None, Result, Ok, Err, slice_get, slice_set, get_or, All, refl, sym, ap, ◌∙◌, subst, arith}
-use Rattle.std.specs.List.{filter, list_any}
+use Rattle.std.proofs.Common.{◌≡◌, ◌≢◌, ℕ, zero, suc, ◌+◌, ◌<◌, List, [], ◌∷◌, ◌++◌, length, map, Bool, true, false, ◌==◌, ◌||◌, cond, Option, Some, None, Ok, slice_get, slice_set, get_or, All, refl, sym, ap, ◌∙◌, subst, arith}
+use Rattle.std.specs.List.{list_any}
 use Rattle.std.proofs.Math.ListN.{length-set}
 use Rattle.std.proofs.lemmas.List.{length-append}
 use Rattle.std.proofs.lemmas.List.Elements.{filter-append}
@@ -8,12 +8,12 @@ use Rattle.std.proofs.lemmas.Bool.Decides.{nat_tests}
 use Rattle.std.proofs.lemmas.Option.{get_or_from_slice_get}
 use Rattle.room_core.specs.declared.entry.Entry.{Entry}
 use Rattle.room_core.specs.History.{replay, IsLegal, most_entries}
-use Rattle.room_core.specs.Parts.{AreGood, AscendBetween, numbers}
+use Rattle.room_core.specs.Parts.{AreGood, AscendBetween}
 use Rattle.room_core.specs.Projection.{of_part}
 use Rattle.room_core.specs.Whole.{Meaning, put_back, whole}
 use Rattle.edit_journal.specs.Seats.{Opening}
 use Rattle.edit_journal.specs.Turns.{Known, last_of}
-use Rattle.track_locks.specs.Homes.{IsAt, IsVersion, IsHistory, IsHome, AreHomes, AreGoodAt, StandFor}
+use Rattle.track_locks.specs.Homes.{IsVersion, IsHistory, AreHomes, AreGoodAt, StandFor}
 use Rattle.track_locks.proofs.Several.{within}
 use Rattle.track_locks.proofs.Stands.{one_at, homes_again}
 use Rattle.cut_room.specs.Gathered.{ComesTo}

@@ -28,7 +28,8 @@ pub fn gather<O: PartObject, J: Naming<O, O::Part>>(
 ) -> u32
     requires tokens { turn.old.tokens ≡ 0 }
     requires few { length held.old.numbers ≤ 32 }
-    requires homes { AreHomes O.meaning O.opens J.opening held.old.numbers held.old.parts held.old.versions held.old.seats }
+    requires homes { AreHomes O.meaning O.opens J.opening held.old.numbers held.old.parts
+        held.old.versions held.old.seats }
     ensures gathered { IsGathered O.meaning O.opens J.opening turn.new held.old pass }
     ensures count { result ≡ length turn.new.journal.entries }
     ensures seats { held.new ≡ record held.old { seats = [] } }
@@ -48,7 +49,8 @@ pub fn append<O: PartObject, J: Naming<O, O::Part>>(
     requires above { last_of entry.station turn.old.journal.entries < entry.number }
     requires applies { Applies O.meaning turn.old.journal entry }
     ensures appends { Appends entry turn.old turn.new result }
-    ensures same { (turn.new.journal.names ≡ turn.old.journal.names) × (turn.new.journal.opening ≡ turn.old.journal.opening) }
+    ensures same { (turn.new.journal.names ≡ turn.old.journal.names)
+        × (turn.new.journal.opening ≡ turn.old.journal.opening) }
     ensures tokens { turn.new.tokens ≡ turn.old.tokens }
 {
     match turn.reserve(alloc) {
@@ -72,11 +74,14 @@ pub fn give_back<O: PartObject, J: Naming<O, O::Part>>(
     requires station { In (Station station) turn.old.journal.names }
     requires tokens { turn.old.tokens ≡ length held.old.numbers + 1 }
 
-    ensures pass { (result.number ≡ station) × (result.opening ≡ turn.old.journal.opening) × (result.entries ≡ turn.old.journal.entries) }
+    ensures pass { (result.number ≡ station) × (result.opening ≡ turn.old.journal.opening)
+        × (result.entries ≡ turn.old.journal.entries) }
     ensures tokens { turn.new.tokens ≡ 0 }
     ensures seats { map (λ s. s.number) held.new.seats ≡ held.old.numbers }
-    ensures know { All (λ s. (s.opening ≡ turn.old.journal.opening) × (s.entries ≡ turn.old.journal.entries)) held.new.seats }
-    ensures same { (held.new.numbers ≡ held.old.numbers) × (held.new.parts ≡ held.old.parts) × (held.new.versions ≡ held.old.versions) }
+    ensures know { All (λ s. (s.opening ≡ turn.old.journal.opening)
+        × (s.entries ≡ turn.old.journal.entries)) held.new.seats }
+    ensures same { (held.new.numbers ≡ held.old.numbers) × (held.new.parts ≡ held.old.parts)
+        × (held.new.versions ≡ held.old.versions) }
 {
     held.give_seats(turn);
     turn.give_pass(station)
@@ -88,7 +93,8 @@ pub fn settle<O: PartObject, J: Naming<O, O::Part>, R: Wait>(
     mut held: Held<'_, O, J>,
     parts: Vec<O::Part>,
 )
-    requires homes { AreHomes O.meaning O.opens J.opening held.numbers parts.items (map (λ v. v + 1) held.versions) held.seats }
+    requires homes { AreHomes O.meaning O.opens J.opening held.numbers parts.items
+        (map (λ v. v + 1) held.versions) held.seats }
     requires good { AreGoodAt O.good J.opening held.numbers parts.items }
 {
     held.put(parts);

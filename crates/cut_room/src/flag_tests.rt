@@ -1,5 +1,6 @@
 // Two stations that edit two parts at the same time: a call on a part looks for one on the other that has begun.
-ghost use Rattle.std.specs.Prelude.{◌≡◌, ◌%◌, ◌<◌, Ok, None};
+ghost use Rattle.std.proofs.Common.{arith};
+ghost use Rattle.std.specs.Prelude.{◌≡◌, ◌%◌, ◌<◌, [], ◌∷◌, Ok, None};
 ghost use Rattle.room_core.specs.Parts.{AreGood, numbers};
 
 use crate::{Room, RoomBlank};
@@ -8,8 +9,8 @@ use room_core::{Fault, Memory, PartObject};
 use room_halls::OpenGate;
 use std::alloc::Global;
 use std::marker::Brand;
-use std::sync::ledger::{Blank, Ledger};
 use std::sync::atomic::{AtomicBool, Ordering};
+use std::sync::ledger::{Blank, Ledger};
 use std::sync::{Arc, Wait};
 use std::test::Fail;
 use std::thread;
@@ -20,6 +21,7 @@ use step_count::Steps;
 const MOST_LOOKS: u32 = 200_000_000;
 
 // For each of two parts, whether a call on it has begun, and whether it saw that one on the other had.
+#[derive(Drop)]
 struct Flags {
     begun: [AtomicBool; 2],
     met: [AtomicBool; 2],
@@ -137,8 +139,7 @@ fn edit_counted<J: Naming<Pair, u32>, R: Wait, L: Ledger>(
     match station.pass.take() {
         Some(pass) => {
             if pass.last() == 0 {
-                let (pass, _) =
-                    room.edit(rt, alloc, pass, 1, station.call, &OpenGate, &mut steps);
+                let (pass, _) = room.edit(rt, alloc, pass, 1, station.call, &OpenGate, &mut steps);
                 station.pass = Some(pass);
             }
         }
@@ -174,9 +175,12 @@ fn edit_both<J: Naming<Pair, u32> + Send + Sync, R: Threads + Wait + Sync>(
             call,
         })?;
     }
-    thread::for_each_mut(rt, &mut stations, 2, &|_, station| {
-        edit_once(rt, alloc, &room, station)
-    });
+    thread::for_each_mut(
+        rt,
+        &mut stations,
+        2,
+        &|_, station| { edit_once(rt, alloc, &room, station) },
+    );
     Ok(())
 }
 
@@ -200,7 +204,9 @@ fn two_stations_edit_two_parts_at_the_same_time(rt: HostRuntime) -> Result<(), F
     };
     let flags = Arc::new(rt.alloc(), flags)?;
     let shared = Arc::try_clone(&flags)?;
-    edit_both_once(&rt, rt.alloc(), shared).ok().ok_or("a room")?;
+    edit_both_once(&rt, rt.alloc(), shared)
+        .ok()
+        .ok_or("a room")?;
     assert!(rt; flags.met[0].load(Ordering::SeqCst));
     assert!(rt; flags.met[1].load(Ordering::SeqCst));
     Ok(())

@@ -42,7 +42,8 @@ impl<O: PartObject> Model for RoomBlank<O> {
 
     ghost view = { λ b. b.blank };
 
-    ghost invariant = { λ b. (b.blank.opening ≡ Some (b.object, b.parts.items)) × O.opens b.object b.parts.items × (b.blank.parts ≡ length b.parts.items) };
+    ghost invariant = { λ b. (b.blank.opening ≡ Some (b.object, b.parts.items))
+        × O.opens b.object b.parts.items × (b.blank.parts ≡ length b.parts.items) };
 }
 
 impl<O: PartObject + Drop> RoomBlank<O> {
@@ -96,16 +97,14 @@ impl<O: PartObject, J: Naming<O, O::Part>> Model for Room<O, J> {
 
     ghost view = { λ r. (r.object, r.opening.items) };
 
-    ghost invariant = { λ r. (J.opening ≡ Some (r.object, r.opening.items)) × O.opens r.object r.opening.items
+    ghost invariant = { λ r. (J.opening ≡ Some (r.object, r.opening.items))
+        × O.opens r.object r.opening.items
         × (r.tracks ≡ length r.opening.items) };
 }
 
 impl<O: PartObject + Drop, J: Naming<O, O::Part>> Room<O, J> {
     /// Opens a room, with a pass for each station, in ascending order.
-    pub fn open(
-        alloc: Global,
-        blank: RoomBlank<O>,
-    ) -> Result<(Room<O, J>, Vec<Pass<O, J>>), Memory>
+    pub fn open(alloc: Global, blank: RoomBlank<O>) -> Result<(Room<O, J>, Vec<Pass<O, J>>), Memory>
         requires table { J.table ≡ blank.table }
         requires opening { J.opening ≡ blank.opening }
         requires stations { J.stations ≡ blank.stations }
@@ -155,8 +154,11 @@ impl<O: PartObject + Drop, J: Naming<O, O::Part>> Room<O, J> {
         steps: &mut Steps<L>,
     ) -> (Pass<O, J>, Answer<O>)
         requires number { last_of pass.number pass.entries < number }
-        ensures edited { Edited (O.meaning self.now.0) self.now.1 (record { station = pass.number; number = number; call = call }) pass result.0 result.1 }
-        ensures most { TakesAtMost (O.meaning self.now.0) self.now.1 O.size call (stood_before result.0.entries result.1) steps.old steps.new }
+        ensures edited { Edited (O.meaning self.now.0) self.now.1
+            (record { station = pass.number; number = number; call = call }) pass result.0
+            result.1 }
+        ensures most { TakesAtMost (O.meaning self.now.0) self.now.1 O.size call
+            (stood_before result.0.entries result.1) steps.old steps.new }
     {
         match self.object.refuse_names(&call) {
             Some(refusal) => {
@@ -191,13 +193,15 @@ impl<O: PartObject + Drop, J: Naming<O, O::Part>> Room<O, J> {
     ) -> (Pass<O, J>, Answer<O>)
         requires named { (O.meaning self.now.0).refuses entry.call ≡ None }
         requires numbers { held.numbers ≡ (O.meaning self.now.0).names entry.call }
-        requires homes { AreHomes O.meaning O.opens J.opening held.numbers held.parts held.versions held.seats }
+        requires homes { AreHomes O.meaning O.opens J.opening held.numbers held.parts held.versions
+            held.seats }
         requires good { AreGoodAt O.good J.opening held.numbers held.parts }
         requires few { length held.numbers ≤ 32 }
         requires station { entry.station ≡ pass.number }
         requires number { last_of pass.number pass.entries < entry.number }
         ensures edited { Edited (O.meaning self.now.0) self.now.1 entry pass result.0 result.1 }
-        ensures most { TakesAtMost (O.meaning self.now.0) self.now.1 O.size entry.call (stood_before result.0.entries result.1) steps.old steps.new }
+        ensures most { TakesAtMost (O.meaning self.now.0) self.now.1 O.size entry.call
+            (stood_before result.0.entries result.1) steps.old steps.new }
     {
         let mut parts = match held.copy(alloc, &self.object) {
             Ok(parts) => parts,
@@ -234,15 +238,18 @@ impl<O: PartObject + Drop, J: Naming<O, O::Part>> Room<O, J> {
     ) -> (Pass<O, J>, Answer<O>)
         requires named { (O.meaning self.now.0).refuses entry.call ≡ None }
         requires numbers { held.numbers ≡ (O.meaning self.now.0).names entry.call }
-        requires homes { AreHomes O.meaning O.opens J.opening held.numbers held.parts held.versions held.seats }
+        requires homes { AreHomes O.meaning O.opens J.opening held.numbers held.parts held.versions
+            held.seats }
         requires good { AreGoodAt O.good J.opening held.numbers held.parts }
         requires few { length held.numbers ≤ 32 }
         requires station { entry.station ≡ pass.number }
         requires number { last_of pass.number pass.entries < entry.number }
-        requires applies { (O.meaning self.now.0).applied held.parts entry.call ≡ Ok (parts.items, done) }
+        requires applies { (O.meaning self.now.0).applied held.parts entry.call
+            ≡ Ok (parts.items, done) }
         requires good_now { AreGood (O.good self.now.0) held.numbers parts.items }
         ensures edited { Edited (O.meaning self.now.0) self.now.1 entry pass result.0 result.1 }
-        ensures parts { ComesTo (O.meaning self.now.0) self.now.1 (stood_before result.0.entries result.1) held.entry.numbers held.entry.parts }
+        ensures parts { ComesTo (O.meaning self.now.0) self.now.1
+            (stood_before result.0.entries result.1) held.entry.numbers held.entry.parts }
     {
         let station = pass.station();
         let mut turn = self.journal.lock(rt);
@@ -268,17 +275,14 @@ impl<O: PartObject + Drop, J: Naming<O, O::Part>> Room<O, J> {
     }
 
     // Looks at the journal with a pass and what is held, and puts this back.
-    fn look<R: Wait>(
-        &self,
-        rt: &R,
-        mut held: Held<'_, O, J>,
-        pass: Pass<O, J>,
-    ) -> (Pass<O, J>, u32)
-        requires homes { AreHomes O.meaning O.opens J.opening held.numbers held.parts held.versions held.seats }
+    fn look<R: Wait>(&self, rt: &R, mut held: Held<'_, O, J>, pass: Pass<O, J>) -> (Pass<O, J>, u32)
+        requires homes { AreHomes O.meaning O.opens J.opening held.numbers held.parts held.versions
+            held.seats }
         requires good { AreGoodAt O.good J.opening held.numbers held.parts }
         requires few { length held.numbers ≤ 32 }
         ensures at { IsAtPoint (O.meaning self.now.0) self.now.1 pass result.0 result.1 }
-        ensures parts { ComesTo (O.meaning self.now.0) self.now.1 result.0.entries held.entry.numbers held.entry.parts }
+        ensures parts { ComesTo (O.meaning self.now.0) self.now.1 result.0.entries
+            held.entry.numbers held.entry.parts }
     {
         let station = pass.station();
         let mut turn = self.journal.lock(rt);
@@ -297,7 +301,8 @@ impl<O: PartObject + Drop, J: Naming<O, O::Part>> Room<O, J> {
         pass: Pass<O, J>,
         ask: &O::Ask,
     ) -> (Pass<O, J>, Sight<O>)
-        ensures looked { Looked (O.meaning self.now.0) self.now.1 (O.asked self.now.0 ask.now) (λ p. O.seen self.now.0 p ask.now) pass result.0 result.1 }
+        ensures looked { Looked (O.meaning self.now.0) self.now.1 (O.asked self.now.0 ask.now)
+            (λ p. O.seen self.now.0 p ask.now) pass result.0 result.1 }
     {
         let part = match self.object.ask_part(ask) {
             Ok(part) => part,
@@ -329,7 +334,8 @@ impl<O: PartObject + Drop, J: Naming<O, O::Part>> Room<O, J> {
     fn hold_one<R: Wait>(&self, rt: &R, alloc: Global, part: u32) -> Result<Held<'_, O, J>, Memory>
         requires { part < O.count self.now.0 }
         ensures numbers { IfOk result (λ h. h.numbers ≡ part ∷ []) }
-        ensures homes { IfOk result (λ h. AreHomes O.meaning O.opens J.opening h.numbers h.parts h.versions h.seats) }
+        ensures homes { IfOk result (λ h. AreHomes O.meaning O.opens J.opening h.numbers h.parts
+            h.versions h.seats) }
         ensures good { IfOk result (λ h. AreGoodAt O.good J.opening h.numbers h.parts) }
     {
         let held = self.tracks.hold(rt, alloc, set_of_one(part))?;
@@ -343,8 +349,10 @@ impl<O: PartObject + Drop, J: Naming<O, O::Part>> Room<O, J> {
         copies: &[O::Part],
         ask: &O::Ask,
     ) -> Result<O::Seen, Fault<O::AskRefusal>>
-        requires { (n : ℕ) × (O.asked self.now.0 ask.now ≡ Ok n) × AreGood (O.good self.now.0) (n ∷ []) copies.now }
-        ensures { (p : O.Part) × (copies.now ≡ p ∷ []) × Tells (O.seen self.now.0 p ask.now) result }
+        requires { (n : ℕ) × (O.asked self.now.0 ask.now ≡ Ok n)
+            × AreGood (O.good self.now.0) (n ∷ []) copies.now }
+        ensures { (p : O.Part) × (copies.now ≡ p ∷ []) × Tells
+            (O.seen self.now.0 p ask.now) result }
     {
         self.object.see(alloc, &copies[0], ask)
     }
@@ -357,7 +365,8 @@ impl<O: PartObject + Drop, J: Naming<O, O::Part>> Room<O, J> {
         pass: Pass<O, J>,
         n: u32,
     ) -> (Pass<O, J>, Result<Vec<Entry<O::Call>>, CopyFault>)
-        ensures at { IsAtPoint (O.meaning self.now.0) self.now.1 pass result.0 (length result.0.entries) }
+        ensures at { IsAtPoint (O.meaning self.now.0) self.now.1 pass result.0
+            (length result.0.entries) }
         ensures copied { IsCopied n result.0.entries result.1 }
     {
         let station = pass.station();
@@ -379,7 +388,8 @@ impl<O: PartObject + Drop, J: Naming<O, O::Part>> Room<O, J> {
         n: u32,
     ) -> (Pass<O, J>, Result<Vec<O::Part>, CutFault>)
         ensures cut { IsCut (O.meaning self.now.0) self.now.1 n pass result.0 result.1 }
-        ensures good { IfOk result.1 (λ parts. AreGood (O.good self.now.0) (numbers 0 (O.count self.now.0)) parts.items) }
+        ensures good { IfOk result.1 (λ parts. AreGood (O.good self.now.0) (numbers 0
+            (O.count self.now.0)) parts.items) }
     {
         let (pass, entries) = self.copied(rt, alloc, pass, n);
         match entries {
@@ -401,8 +411,10 @@ impl<O: PartObject + Drop, J: Naming<O, O::Part>> Room<O, J> {
     ) -> Result<Vec<O::Part>, CutFault>
         requires within { (n ≤ length entries.now) × (n ≤ most_entries) }
         requires applies { IsSome (replay (whole (O.meaning self.now.0)) self.now.1 entries.now) }
-        ensures good { IfOk result (λ parts. AreGood (O.good self.now.0) (numbers 0 (O.count self.now.0)) parts.items) }
-        ensures parts { IfOk result (λ ps. replay (whole (O.meaning self.now.0)) self.now.1 (take n entries.now) ≡ Some ps.items) }
+        ensures good { IfOk result (λ parts. AreGood (O.good self.now.0) (numbers 0
+            (O.count self.now.0)) parts.items) }
+        ensures parts { IfOk result (λ ps. replay (whole (O.meaning self.now.0)) self.now.1
+            (take n entries.now) ≡ Some ps.items) }
         ensures fault { IfErr result (λ f. f ≡ NoMemory) }
     {
         match replay(alloc, &self.object, &self.opening, entries, n) {
@@ -416,7 +428,8 @@ impl<O: PartObject + Drop, J: Naming<O, O::Part>> Room<O, J> {
     pub fn close(self, passes: Vec<Pass<O, J>>) -> Vec<Entry<O::Call>>
         requires all { (s : ℕ) → s < J.stations → In s (map (λ p. p.number) passes.items) }
         ensures legal { IsLegal (whole (O.meaning self.0)) self.1 result.items }
-        ensures passes { All (λ p. Agrees (O.meaning self.0).names result.items (Station p.number) p.entries) passes.items }
+        ensures passes { All (λ p. Agrees (O.meaning self.0).names result.items
+            (Station p.number) p.entries) passes.items }
         ensures stations { All (λ e. In e.station (map (λ p. p.number) passes.items)) result.items }
     {
         let Room {

@@ -51,7 +51,7 @@ struct Outcome {
     lasts: [u32; 5],
 }
 
-fn outcome<J: Naming<Counters, u32>, R: Wait, L: Ledger>(
+fn five_answered<J: Naming<Counters, u32>, R: Wait, L: Ledger>(
     rt: &R,
     alloc: Global,
     blank: RoomBlank<Counters>,
@@ -97,15 +97,19 @@ fn outcome<J: Naming<Counters, u32>, R: Wait, L: Ledger>(
     })
 }
 
-fn outcome_once<R: Wait>(rt: &R, alloc: Global, blank: RoomBlank<Counters>) -> Option<Outcome> {
-    outcome::<Brand, R, Brand>(rt, alloc, blank, Blank::new(1))
+fn five_answered_once<R: Wait>(
+    rt: &R,
+    alloc: Global,
+    blank: RoomBlank<Counters>,
+) -> Option<Outcome> {
+    five_answered::<Brand, R, Brand>(rt, alloc, blank, Blank::new(1))
 }
 
 #[test]
 fn five_stations_are_answered_by_one_journal(rt: HostRuntime) -> Result<(), Fail> {
     let alloc = rt.alloc();
     let blank = blank_of(alloc).ok().ok_or("a blank")?;
-    let outcome = outcome_once(&rt, alloc, blank).ok_or("an outcome")?;
+    let outcome = five_answered_once(&rt, alloc, blank).ok_or("an outcome")?;
     let wanted = [
         Told::Done(0, 5),
         Told::Refused(1, 5),
@@ -119,7 +123,7 @@ fn five_stations_are_answered_by_one_journal(rt: HostRuntime) -> Result<(), Fail
     assert_eq!(rt; cut.as_slice(), [5, 5, 0].as_slice());
     assert!(rt; outcome.no_cut == Some(CutFault::NoPoint(2)));
     assert!(rt; outcome.point == 2);
-    assert_eq!(rt; outcome.lasts.as_slice(), [1, 2, 0, 0, 0].as_slice());
+    assert_eq!(rt; outcome.lasts.as_slice(), [1, 1, 0, 0, 0].as_slice());
     Ok(())
 }
 
@@ -174,8 +178,10 @@ fn closed<J: Naming<Counters, u32>>(
     requires opening { J.opening ≡ blank.opening }
     requires stations { J.stations ≡ blank.stations }
 {
-    let (room, passes) = Room::<Counters, J>::open(alloc, blank).ok()?;
-    Some(room.close(passes))
+    match Room::<Counters, J>::open(alloc, blank) {
+        Ok((room, passes)) => Some(room.close(passes)),
+        Err(_) => None,
+    }
 }
 
 fn closed_once(alloc: Global, blank: RoomBlank<Counters>) -> Option<Vec<Entry<(u32, u32)>>> {

@@ -1,4 +1,4 @@
-use Rattle.std.proofs.Common.{◌≡◌, ap, ◌∙◌, arith}
+use Rattle.std.proofs.Common.{ap, ◌∙◌}
 use Rattle.cut_room.proofs.Gathering.{given_entries, given_opening, given_station}
 use Rattle.cut_room.proofs.committing.give_back.Goals as goal
 

@@ -15,11 +15,11 @@ give_seats-requires-clause-names g c =
     rw (c.take_seats.ensures.seats, c.look.ensures.same, c.take_seats.ensures.journal)
     (gathered_names _ _ g.J.Naming.opening c.lock-turn.result.journal h.numbers h.parts h.versions h.seats c.in_ok-held.ensures.homes)
 
-pub release-requires-clause-good : goal.release-requires-clause-good
-release-requires-clause-good g c = rw (c.give_seats.ensures.same.0, c.give_seats.ensures.same.1, c.take_seats.ensures.seats) c.in_ok-held.ensures.good
+pub release-requires-2-clause-good : goal.release-requires-2-clause-good
+release-requires-2-clause-good g c = rw (c.give_seats.ensures.same.0, c.give_seats.ensures.same.1, c.take_seats.ensures.seats) c.in_ok-held.ensures.good
 
-pub release-requires-clause-homes : goal.release-requires-clause-homes
-release-requires-clause-homes g c =
+pub release-requires-2-clause-homes : goal.release-requires-2-clause-homes
+release-requires-2-clause-homes g c =
     let h = c.in_ok-held.held in
     let k = c.give_seats.ensures in
     let homes = c.in_ok-held.ensures.homes in

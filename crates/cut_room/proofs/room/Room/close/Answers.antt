@@ -1,5 +1,4 @@
-use Rattle.std.proofs.Common.{◌≡◌, ◌<◌, ◌∷◌, [], map, get_or, All, List, ℕ, arith, subst}
-use Rattle.room_core.specs.declared.entry.Entry.{Entry}
+use Rattle.std.proofs.Common.{get_or}
 use Rattle.cut_room.proofs.Passes.{legal_of}
 use Rattle.cut_room.proofs.room.Room.close.Goals as goal
 

@@ -1,4 +1,4 @@
-use Rattle.std.proofs.Common.{◌≡◌, ◌+◌, ◌<◌, ◌++◌, [], ◌∷◌, map, refl, sym, ap, ◌∙◌, subst, arith, length}
+use Rattle.std.proofs.Common.{◌+◌, ◌<◌, ◌++◌, [], ◌∷◌, map, refl, sym, ap, ◌∙◌, subst, arith, length}
 use Rattle.std.proofs.lemmas.List.{length-map}
 use Rattle.room_core.specs.History.{most_entries}
 use Rattle.room_core.specs.Parts.{AscendBetween}
@@ -134,11 +134,11 @@ returns-in-At-clause-edited g c =
     c.self.invariant.0 all.journal all.parts_stand c.requires.homes.parts c.requires.homes.versions in
     let above = last_there g.O.PartObject.meaning g.J.Naming.opening (s.object, s.opening.items) journal.entries c.args.pass e c.self.invariant.0 all.pass_stands c.requires.station c.requires.number in
     rw (← c.self.view_is) (committed g.O.PartObject.meaning g.O.PartObject.opens g.J.Naming.opening (s.object, s.opening.items) journal.entries e c.args.pass c.give_back-pass.result c.in-At.point
-          h.numbers h.parts c.args.parts.items c.args.done c.self.invariant.0 all.journal all.pass_stands comes
-          (rw (← c.self.view_is) at c.requires.named) (rw (← c.self.view_is) at c.requires.numbers) (rw (← c.self.view_is) at c.requires.applies)
-          c.requires.station above added.1 added.2 (back.0 ∙ c.station-station.ensures.number)
-          (back.1 ∙ (c.append-appended.ensures.same.1 ∙ (all.opening_is ∙ sym c.station-station.ensures.opening)))
-          (back.2 ∙ ap (λ j. j.entries) added.0))
+    h.numbers h.parts c.args.parts.items c.args.done c.self.invariant.0 all.journal all.pass_stands comes
+    (rw (← c.self.view_is) at c.requires.named) (rw (← c.self.view_is) at c.requires.numbers) (rw (← c.self.view_is) at c.requires.applies)
+    c.requires.station above added.1 added.2 (back.0 ∙ c.station-station.ensures.number)
+    (back.1 ∙ (c.append-appended.ensures.same.1 ∙ (all.opening_is ∙ sym c.station-station.ensures.opening)))
+    (back.2 ∙ ap (λ j. j.entries) added.0))
 
 pub returns-in-Full-clause-edited : goal.returns-in-Full-clause-edited
 returns-in-Full-clause-edited g c =
@@ -156,7 +156,7 @@ returns-in-Full-clause-edited g c =
     c.self.invariant.0 all.journal all.pass_stands (back.0 ∙ c.station-station.ensures.number)
     (back.1 ∙ (c.append-appended.ensures.same.1 ∙ (all.opening_is ∙ sym c.station-station.ensures.opening))) entries (sym kept.1) in
     rw (← c.self.view_is) (no_room (g.O.PartObject.meaning s.object) s.opening.items e.call c.args.pass c.give_back-pass.result 100000 h.numbers h.parts c.args.parts.items c.args.done at
-          (rw entries comes) (rw (← c.self.view_is) at c.requires.named) (rw (← c.self.view_is) at c.requires.numbers) (rw (← c.self.view_is) at c.requires.applies) refl)
+    (rw entries comes) (rw (← c.self.view_is) at c.requires.named) (rw (← c.self.view_is) at c.requires.numbers) (rw (← c.self.view_is) at c.requires.applies) refl)
 
 pub returns-in-Memory-clause-edited : goal.returns-in-Memory-clause-edited
 returns-in-Memory-clause-edited g c =

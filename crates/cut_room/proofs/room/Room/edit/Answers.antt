@@ -1,4 +1,4 @@
-use Rattle.std.proofs.Common.{◌≡◌, length, sym, ap, ◌∙◌, subst, arith}
+use Rattle.std.proofs.Common.{◌≡◌, sym, ◌∙◌, subst, arith}
 use Rattle.room_core.specs.Parts.{AscendBetween}
 use Rattle.history_points.proofs.NamedCalls.{good-count}
 use Rattle.cut_room.proofs.Numbered.{members_of}
@@ -21,7 +21,7 @@ pub returns-in-Some-clause-edited : goal.returns-in-Some-clause-edited
 returns-in-Some-clause-edited g c =
     let s = c.self.inside in
     rw (← c.self.view_is) (turned_down_first (g.O.PartObject.meaning s.object) s.opening.items c.args.call c.args.pass c.point-pass.result.0 c.point-pass.result.1 c.in-Some.refusal
-          (rw (← c.self.view_is) at c.point-pass.ensures.at) (sym c.refuse_names.ensures ∙ c.in-Some.is))
+    (rw (← c.self.view_is) at c.point-pass.ensures.at) (sym c.refuse_names.ensures ∙ c.in-Some.is))
 
 pub returns-in-Err-clause-edited : goal.returns-in-Err-clause-edited
 returns-in-Err-clause-edited g c = stays_same _ _ c.args.pass

@@ -1,4 +1,4 @@
-use Rattle.std.proofs.Common.{sym, ap, ◌∙◌}
+use Rattle.std.proofs.Common.{◌∙◌}
 use Rattle.cut_room.proofs.room.Room.open.Goals as goal
 
 pub new-requires-clause-opening : goal.new-requires-clause-opening

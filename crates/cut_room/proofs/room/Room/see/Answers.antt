@@ -1,4 +1,4 @@
-use Rattle.std.proofs.Common.{◌≡◌, ◌∷◌, [], Ok, Err, sym, ap, ◌∙◌}
+use Rattle.std.proofs.Common.{Ok, Err, sym, ◌∙◌}
 use Rattle.cut_room.proofs.Passes.{sight_of, sight_of_none}
 use Rattle.cut_room.proofs.room.Room.see.Goals as goal
 

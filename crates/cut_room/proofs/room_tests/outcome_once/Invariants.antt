@@ -1,1 +1,0 @@
-use Rattle.cut_room.proofs.room_tests.outcome_once.Given as goal
