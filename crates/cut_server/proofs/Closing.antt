@@ -1,5 +1,5 @@
 -- A session that begins, and a room that closes.
-use Rattle.std.proofs.Common.{◌≡◌, ℕ, ◌+◌, ◌<◌, List, [], ◌∷◌, ◌++◌, length, Option, Some, All, map, refl, sym, ap, ◌∙◌, arith, subst, ⊎_elim, inl}
+use Rattle.std.proofs.Common.{◌≡◌, ℕ, ◌<◌, List, [], ◌∷◌, ◌++◌, length, Option, Some, All, map, refl, sym, ap, ◌∙◌, arith, subst, ⊎_elim, inl}
 use Rattle.std.proofs.lemmas.List.Elements.{All-head, All-tail}
 use Rattle.timecode12.specs.Numbers.{Counted}
 use Rattle.composables.specs.TrackState.{TrackState}
@@ -14,9 +14,9 @@ use Rattle.room_core.specs.History.{IsLegal}
 use Rattle.room_core.specs.Whole.{whole}
 use Rattle.otio_json.specs.declared.opening.Opening.{Opening}
 use Rattle.cut_server.specs.Closed.{Closes}
-use Rattle.cut_server.specs.Rooms.{History, Setting, setting_of}
+use Rattle.cut_server.specs.Rooms.{History, Setting}
 use Rattle.cut_server.specs.Served.{IsFresh, IsRoomOf}
-use Rattle.cut_server.specs.SessionInside.{IsSeated, TrackPass, TrackRoom, session_at, setting_at, tracks_at}
+use Rattle.cut_server.specs.SessionInside.{IsSeated, TrackPass, TrackRoom, session_at, tracks_at}
 use Rattle.cut_server.specs.Stations.{AreOfStations}
 
 pub fresh_seated : (room : TrackRoom) (pass : TrackPass) → pass.entries ≡ [] → IsSeated room 1 pass

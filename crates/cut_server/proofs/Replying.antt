@@ -1,5 +1,5 @@
 -- What a room did for a session's line, and what the reply to it says.
-use Rattle.std.proofs.Common.{◌≡◌, ℕ, max, ◌+◌, ◌<◌, ◌≤◌, inl, inr, List, [], ◌∷◌, ◌++◌, length, Option, Some, None, Result, Ok, Err, IsSome, slice_get, option_map, fold, refl, sym, ap, ◌∙◌, arith, subst}
+use Rattle.std.proofs.Common.{◌≡◌, ℕ, max, ◌+◌, inl, inr, List, [], ◌∷◌, ◌++◌, length, Option, Some, None, Result, Ok, Err, IsSome, slice_get, option_map, fold, refl, sym, ap, ◌∙◌, arith, subst}
 use Rattle.std.specs.Prelude.{codes, decimal}
 use Rattle.std.proofs.lemmas.List.{append-nil}
 use Rattle.std.proofs.lemmas.List.Sums.{fold-append}
@@ -10,7 +10,7 @@ use Rattle.edit_apply.specs.declared.asks.Ask.{Ask}
 use Rattle.edit_apply.specs.declared.asks.Seen.{Seen}
 use Rattle.edit_apply.specs.declared.asks.AskRefusal.{AskRefusal}
 use Rattle.edit_apply.specs.Apply.{editing}
-use Rattle.edit_apply.specs.See.{ask_part_of, seen_at, seen_if, seen_in, seen_on}
+use Rattle.edit_apply.specs.See.{ask_part_of, seen_at, seen_if, seen_on}
 use Rattle.edit_journal.specs.Seats.{Begins}
 use Rattle.edit_journal.specs.Turns.{last_of}
 use Rattle.room_core.specs.declared.entry.Entry.{Entry}
@@ -20,13 +20,13 @@ use Rattle.room_core.specs.Whole.{whole}
 use Rattle.cut_room.specs.declared.answers.Answer.TheVariants as answer
 use Rattle.cut_room.specs.declared.answers.Sight.TheVariants as sight
 use Rattle.cut_room.specs.Desks.{told}
-use Rattle.cut_room.specs.Rooms.{Edited, GoesOn, IsAtPoint, IsCommitted, Looked, Stays}
+use Rattle.cut_room.specs.Rooms.{Edited, IsAtPoint, Looked, Stays}
 use Rattle.call_text.specs.CallTexts.{IsWritten}
 use Rattle.call_text.specs.Replies.{EditAnswer, answer_text_of}
 use Rattle.call_text.specs.Sights.{TrackSight, sight_text_of}
 use Rattle.cut_server.specs.declared.reply.Reply.{Reply}
-use Rattle.cut_server.specs.Rooms.{History, Setting, AreWritten, finds_memory, room_of, seen_of}
-use Rattle.cut_server.specs.Session.{Course, Grows, IsSightReply, Replies, RepliesWith, Step}
+use Rattle.cut_server.specs.Rooms.{History, AreWritten, finds_memory, room_of, seen_of}
+use Rattle.cut_server.specs.Session.{Grows, IsSightReply, Replies, RepliesWith, Step}
 use Rattle.cut_server.specs.SessionInside.{IsSeated, IsSession, TrackPass, TrackRoom, course_at, or_opening, session_at, setting_at, tracks_at}
 use Rattle.cut_server.specs.Transcript.{Wish, Do, See, Point, Bad}
 use Rattle.cut_server.proofs.Transcripts.{nothing_behind, own_append}

@@ -1,5 +1,5 @@
 -- What a session answered, line after line.
-use Rattle.std.proofs.Common.{◌≡◌, ℕ, ◌+◌, ◌<◌, ◌≤◌, ◌⊎◌, inl, inr, List, [], ◌∷◌, ◌++◌, length, take, Option, Some, None, Result, Ok, Err, refl, sym, ap, ◌∙◌, arith, append_assoc, subst, OnOk, OnErr}
+use Rattle.std.proofs.Common.{◌≡◌, ℕ, ◌+◌, List, [], ◌∷◌, ◌++◌, take, Option, Some, None, Result, Ok, Err, refl, sym, ap, ◌∙◌, append_assoc, subst, OnOk, OnErr}
 use Rattle.std.specs.Prelude.{codes}
 use Rattle.std.proofs.lemmas.List.{append-nil}
 use Rattle.room_ports.specs.Bytes.{Takes, TakesFront}
@@ -7,15 +7,13 @@ use Rattle.room_ports.proofs.Fronts.{takes-nothing, takes-takes}
 use Rattle.line_words.specs.Lines.{Line as InputLine}
 use Rattle.line_words.specs.Told.{line_told, lines_told}
 use Rattle.line_words.specs.declared.line.LineEnd.{LineEnd}
-use Rattle.composables.specs.TrackState.{TrackState}
-use Rattle.edit_apply.specs.declared.asks.Call.{Call}
 use Rattle.cut_server.specs.declared.reply.Reply.{Reply}
 use Rattle.cut_server.specs.Outside.{AreSent, TakesThenFront, LastIsCut}
-use Rattle.cut_server.specs.Transcript.{Kind, Wish, sent}
+use Rattle.cut_server.specs.Transcript.{Kind, sent}
 use Rattle.cut_server.specs.Rooms.{Setting, AreWritten, room_of, meaning_of, wish_in}
 use Rattle.room_core.specs.Projection.{of_station}
 use Rattle.cut_server.specs.Session.{Course, Grows, SessionState, past_line, IsReply, Replies, Step}
-use Rattle.cut_server.specs.Served.{Served, Serves, ServesTo}
+use Rattle.cut_server.specs.Served.{Serves, ServesTo}
 use Rattle.cut_server.proofs.Serving.{served_grows, served_more}
 
 sent-append : (xs ys : List (List ℕ)) → sent (xs ++ ys) ≡ sent xs ++ sent ys

@@ -1,15 +1,14 @@
 -- A station that has answered some lines, and what it does for one more.
-use Rattle.std.proofs.Common.{◌≡◌, ℕ, ◌+◌, ◌<◌, ◌≤◌, Bool, IsTrue, ◌⊎◌, inl, inr, List, [], ◌∷◌, ◌++◌, length, Option, Some, Result, Ok, Err, refl, sym, ap, ◌∙◌, subst, arith, append_assoc, option_map, fold, cond, eqb, true, false}
-use Rattle.std.specs.Prelude.{codes}
+use Rattle.std.proofs.Common.{◌≡◌, ℕ, ◌+◌, ◌<◌, ◌≤◌, Bool, inl, inr, List, [], ◌∷◌, ◌++◌, length, Option, Some, Ok, refl, sym, ap, ◌∙◌, subst, arith, option_map, fold, cond, eqb, true, false}
 use Rattle.std.proofs.lemmas.List.{append-nil, length-append}
 use Rattle.std.proofs.lemmas.List.Sums.{fold-append}
 use Rattle.line_words.specs.Lines.{Line as InputLine}
 use Rattle.room_core.specs.declared.entry.Entry.{Entry}
 use Rattle.room_core.specs.History.{most_entries, replay, after_entry, answer_in, state_in, RiseAfter, NumbersRise, IsLegal}
 use Rattle.room_core.specs.Projection.{of_station}
-use Rattle.cut_server.specs.Transcript.{Wish, Do, See, Point, Bad, Kind, answer_at, sight_at, BearsNone, IsDone, IsRefused, IsFull, IsMemory, IsSeen, IsPoint, IsBad, Answered, Row, Rows, Transcript, points_from, sent}
-use Rattle.cut_server.specs.Session.{Course, past_line, Commits, Refuses, HasNoRoom, Says, Does, Step, Grows}
-use Rattle.cut_server.specs.Served.{OwnBefore, Served, Serves}
+use Rattle.cut_server.specs.Transcript.{Wish, Do, See, Point, Bad, Kind, answer_at, sight_at, BearsNone, IsDone, IsRefused, IsFull, IsMemory, IsSeen, IsPoint, IsBad, Row, Rows, Transcript, points_from}
+use Rattle.cut_server.specs.Session.{Course, past_line, Commits, Does, Step, Grows}
+use Rattle.cut_server.specs.Served.{OwnBefore, Served}
 use Rattle.cut_server.proofs.Transcripts.{OwnFrom, get_last, answer_more, rows_more, one_row_more, points_append, points_one, no_own, replay_more, state_now}
 
 before_later : {C : Type 0} (station m n : ℕ) (h : List (Entry C)) → m ≤ n → OwnBefore station m h → OwnBefore station n h

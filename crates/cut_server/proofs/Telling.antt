@@ -1,9 +1,7 @@
 -- From what a session answered to what the program promises.
 use Rattle.std.proofs.Common.{◌≡◌, ℕ, ◌<◌, ◌≤◌, ◌⊎◌, inl, inr, List, [], ◌∷◌, ◌++◌, length, Option, Some, None, IfSome, refl, sym, ap, ◌∙◌, subst, arith, Bool, true, false, cond, ◌==◌}
 use Rattle.std.specs.Option.{IsSomeAnd}
-use Rattle.room_ports.specs.Bytes.{Takes, TakesFront}
 use Rattle.room_ports.specs.Counts.{HasRisen}
-use Rattle.room_ports.specs.Sides.{Lent, SourceSide}
 use Rattle.room_ports.proofs.Fronts.{takes-takes}
 use Rattle.line_words.specs.Lines.{Line as InputLine, lines_of}
 use Rattle.call_text.specs.Journals.{journal_text_of}
@@ -11,21 +9,19 @@ use Rattle.cut_server.specs.declared.serve.End.{End}
 use Rattle.cut_server.specs.declared.serve.End.TheVariants as end
 use Rattle.cut_server.specs.declared.status.Status.{Status}
 use Rattle.cut_server.specs.declared.status.Status.TheVariants.{Done, ReadFault, WriteFault, NoCommand, Refused, OutOfMemory, TooMuchInput}
-use Rattle.cut_server.specs.Outside.{Outside, outside, NoFault, WriteFailed, Got, AtEnd, AreSent}
+use Rattle.cut_server.specs.Outside.{Outside, Got, AtEnd, AreSent}
 use Rattle.otio_json.specs.declared.opening.Opening.{Opening}
 use Rattle.cut_server.specs.Closed.{Closes}
 use Rattle.cut_server.specs.Stations.{AreOfStations}
 use Rattle.room_core.specs.declared.entry.Entry.{Entry}
 use Rattle.room_core.specs.Projection.{of_station}
 use Rattle.std.proofs.lemmas.Bool.Decides.{nat_tests}
-use Rattle.cut_server.specs.Rooms.{History, Setting, AreWritten, room_of, setting_of, IsLegalIn, RoomTranscript}
-use Rattle.room_core.specs.History.{IsLegal}
+use Rattle.cut_server.specs.Rooms.{History, Setting, AreWritten, room_of, setting_of, RoomTranscript}
 use Rattle.cut_server.specs.Transcript.{Transcript, sent}
 use Rattle.cut_server.specs.Session.{SessionState}
-use Rattle.cut_server.specs.Served.{Knows, Served, Serves, IsFresh, ServesTo}
+use Rattle.cut_server.specs.Served.{Knows, Serves, IsFresh, ServesTo}
 use Rattle.cut_server.specs.Serving.{StopsInPiece, StopsAtEnd, SessionEnds}
 use Rattle.cut_server.specs.Runs.{IsTold, TellsOne, Tells, IsWhole, JournalIsCut, JournalEnds, RunEnds}
-use Rattle.cut_server.proofs.Inputs.{source_same}
 use Rattle.cut_server.proofs.Serves.{takes-then_front}
 use Rattle.cut_server.proofs.Serving.{served_none, transcript_served}
 use Rattle.cut_server.proofs.Transcripts.{transcript_more}

@@ -1,5 +1,5 @@
 -- What a station was told stays true when more is committed, and its transcript grows line by line.
-use Rattle.std.proofs.Common.{◌≡◌, ◌≢◌, ℕ, zero, suc, ◌+◌, ◌<◌, ◌≤◌, Bool, true, false, cond, eqb, IsTrue, ◌⊎◌, inl, inr, List, [], ◌∷◌, ◌++◌, length, take, Option, Some, None, Result, Ok, Err, refl, sym, ap, ◌∙◌, subst, arith, append_assoc, slice_get, option_map, fold}
+use Rattle.std.proofs.Common.{◌≡◌, ℕ, zero, suc, ◌+◌, ◌<◌, ◌≤◌, Bool, true, false, cond, eqb, inl, inr, List, [], ◌∷◌, ◌++◌, length, take, Some, refl, sym, ap, ◌∙◌, subst, arith, append_assoc, slice_get, option_map}
 use Rattle.std.specs.Prelude.{codes}
 use Rattle.std.proofs.lemmas.List.{append-nil, length-append, take-append-le}
 use Rattle.std.proofs.lemmas.List.Sums.{fold-append}
@@ -10,7 +10,7 @@ use Rattle.room_core.specs.History.{most_entries, replay, after_entry, answer_in
 use Rattle.room_core.specs.Projection.{of_station}
 use Rattle.cut_server.specs.Longer.{TranscriptsStay}
 use Rattle.cut_server.specs.Rooms.{room_of, setting_of}
-use Rattle.cut_server.specs.Transcript.{Wish, Do, See, Point, Bad, Kind, state_at, answer_at, sight_at, BearsNone, IsDone, IsRefused, IsFull, IsMemory, IsSeen, IsPoint, IsBad, Answered, Row, Rows, points_from, Transcript, sent}
+use Rattle.cut_server.specs.Transcript.{Wish, Do, See, Point, Bad, Kind, state_at, answer_at, sight_at, BearsNone, IsFull, Answered, Row, Rows, points_from, Transcript, sent}
 
 -- each of these entries that is of the station is of this line or a later one
 abbrev pub OwnFrom : {C : Type 0} → ℕ → ℕ → List (Entry C) → Type 0

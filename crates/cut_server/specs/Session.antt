@@ -1,7 +1,6 @@
 -- What a session does for one line: others may have committed more, and then it answers the line, and at most commits one
 -- call.
 use Rattle.std.specs.Prelude.{◌≡◌, ℕ, ◌+◌, ◌<◌, ◌≤◌, ◌⊎◌, Bool, IsTrue, List, [], ◌∷◌, ◌++◌, Some, Ok, Err, length, codes, decimal}
-use Rattle.line_words.specs.Lines.{Line as InputLine}
 use Rattle.composables.specs.TrackState.{TrackState}
 use Rattle.edit_apply.specs.declared.asks.Call.{Call}
 use Rattle.edit_apply.specs.declared.asks.Ask.{Ask}

@@ -32,7 +32,15 @@ fn ended<R: Wait>(
     reads: &[u32],
     writes: &[u32],
 ) -> Result<(u8, Vec<u8>), Fail> {
-    ended_over(rt, alloc, words, &mut no_files(alloc), pieces, reads, writes)
+    ended_over(
+        rt,
+        alloc,
+        words,
+        &mut no_files(alloc),
+        pieces,
+        reads,
+        writes,
+    )
 }
 
 // The same over these files.
@@ -124,7 +132,14 @@ fn pieces_make_no_difference(rt: HostRuntime) -> Result<(), Fail> {
     let wanted = b"ok 0 item 0\nseen 1 dark 10 @0 100 5\njournal 1\n0 1 overwrite 0 10 @0 100 5\n";
     for cut in 0..text.len() {
         let (front, back) = text.split_at(cut);
-        let (status, output) = ended(&rt, alloc, &["run", "2", "1"], &[front, b"", back], &[], &[])?;
+        let (status, output) = ended(
+            &rt,
+            alloc,
+            &["run", "2", "1"],
+            &[front, b"", back],
+            &[],
+            &[],
+        )?;
         assert_eq!(rt; status, 0, "cut at {cut}");
         assert_eq!(rt; output.as_slice(), wanted.as_slice(), "cut at {cut}");
     }
@@ -136,7 +151,15 @@ fn pieces_make_no_difference(rt: HostRuntime) -> Result<(), Fail> {
     let mut output = MemSink::new(alloc, Vec::new(alloc));
     let words = words_of(alloc, &["run", "2", "1"])?;
     assert_eq!(rt;
-        cut_main(&rt, alloc, &words, &mut no_files(alloc), &mut input, &mut output, &OpenGate),
+        cut_main(
+            &rt,
+            alloc,
+            &words,
+            &mut no_files(alloc),
+            &mut input,
+            &mut output,
+            &OpenGate
+        ),
         0
     );
     let told = output.bytes().ok_or("told")?;
@@ -272,7 +295,15 @@ fn long_input<R: Wait>(rt: &R, alloc: Global, bytes: usize) -> Result<(u8, Vec<u
     let mut input = MemSource::new(pieces, Vec::new(alloc));
     let mut output = MemSink::new(alloc, Vec::new(alloc));
     let words = words_of(alloc, &["run", "1", "1"])?;
-    let status = cut_main(rt, alloc, &words, &mut no_files(alloc), &mut input, &mut output, &OpenGate);
+    let status = cut_main(
+        rt,
+        alloc,
+        &words,
+        &mut no_files(alloc),
+        &mut input,
+        &mut output,
+        &OpenGate,
+    );
     let told = output.bytes().ok_or("told")?;
     Ok((status, told.to_vec(alloc)?))
 }

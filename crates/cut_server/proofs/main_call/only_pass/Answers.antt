@@ -1,4 +1,4 @@
-use Rattle.std.proofs.Common.{◌≡◌, ◌++◌, ◌∷◌, [], ap, sym, ◌∙◌, arith, length}
+use Rattle.std.proofs.Common.{ap, arith, length}
 use Rattle.std.proofs.lemmas.List.{length-map}
 use Rattle.cut_server.proofs.Closing.{only, only_fresh}
 use Rattle.cut_server.proofs.main_call.only_pass.Goals as goal
@@ -11,9 +11,10 @@ unreachable-requires g c =
 
 pub returns-clause-pass : goal.returns-clause-pass
 returns-clause-pass g c =
-    let is = rw c.in-Some.is at c.pop.ensures.items in
-    ((only c.args.passes.items c.in-Some.pass c.pop.new.self.items c.requires.0 is).1,
-    (only_fresh g.J.Naming.opening c.args.passes.items c.in-Some.pass c.pop.new.self.items c.requires is).1)
+    let is = rw c.in-Some.is at c.pop.ensures.items in (
+      (only c.args.passes.items c.in-Some.pass c.pop.new.self.items c.requires.0 is).1,
+      (only_fresh g.J.Naming.opening c.args.passes.items c.in-Some.pass c.pop.new.self.items c.requires is).1,
+    )
 
 pub returns-clause-none : goal.returns-clause-none
 returns-clause-none g c = (only c.args.passes.items c.in-Some.pass c.pop.new.self.items c.requires.0 (rw c.in-Some.is at c.pop.ensures.items)).0

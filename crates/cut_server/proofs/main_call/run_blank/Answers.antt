@@ -1,4 +1,4 @@
-use Rattle.std.proofs.Common.{◌≡◌, subst}
+use Rattle.std.proofs.Common.{subst}
 use Rattle.cut_server.specs.Served.{IsRoomOf}
 use Rattle.cut_server.specs.SessionInside.{TrackRoom}
 use Rattle.cut_server.proofs.Closing.{one_room}

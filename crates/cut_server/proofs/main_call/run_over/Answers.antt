@@ -1,4 +1,4 @@
-use Rattle.std.proofs.Common.{◌≡◌, sym, ap}
+use Rattle.std.proofs.Common.{sym, ap}
 use Rattle.room_ports.specs.Sides.{Lent}
 use Rattle.cut_server.proofs.main_call.run_over.Goals as goal
 

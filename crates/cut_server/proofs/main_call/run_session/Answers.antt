@@ -1,4 +1,4 @@
-use Rattle.std.proofs.Common.{◌≡◌, ◌<◌, ◌++◌, ◌∷◌, [], refl, inl, sym, ap, subst, ◌∙◌, map, ℕ}
+use Rattle.std.proofs.Common.{◌++◌, ◌∷◌, [], inl, ap, subst, ◌∙◌}
 use Rattle.cut_server.specs.Outside.{Outside, outside}
 use Rattle.cut_server.specs.Rooms.{History}
 use Rattle.cut_server.specs.Runs.{JournalEnds}

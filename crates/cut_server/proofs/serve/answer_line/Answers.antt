@@ -1,4 +1,3 @@
-use Rattle.room_ports.specs.Bytes.{Takes, TakesFront}
 use Rattle.line_words.specs.Told.{line_told}
 use Rattle.cut_server.specs.Outside.{AreSent, LastIsCut}
 use Rattle.cut_server.proofs.Serves.{serves_one, next_number, same_station, sent_one, cut_one, on_ok, on_err}

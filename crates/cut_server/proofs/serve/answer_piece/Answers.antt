@@ -1,4 +1,4 @@
-use Rattle.std.proofs.Common.{◌≡◌, ◌+◌, ◌++◌, ◌∷◌, [], List, drop, take, Some, refl, sym, ap, ◌∙◌, arith, append_assoc}
+use Rattle.std.proofs.Common.{◌≡◌, ◌+◌, ◌++◌, ◌∷◌, [], List, drop, take, refl, sym, ap, ◌∙◌, arith, append_assoc}
 use Rattle.line_words.specs.Lines.{Line as InputLine}
 use Rattle.line_words.specs.Pieces.{ended, pending_after}
 use Rattle.line_words.specs.Told.{line_told}

@@ -1,10 +1,9 @@
-use Rattle.std.proofs.Common.{◌≡◌, ℕ, ◌+◌, ◌-◌, ◌≤◌, ◌<◌, ◌++◌, ◌⊎◌, inl, inr, [], List, Option, Some, take, drop, length, refl, sym, ap, ◌∙◌, arith, subst}
+use Rattle.std.proofs.Common.{◌≡◌, ℕ, ◌-◌, ◌++◌, [], List, take, drop, length, refl, sym, ap, ◌∙◌, arith}
 use Rattle.std.proofs.lemmas.List.{length-append, length-take}
-use Rattle.room_ports.specs.Bytes.{Gives}
 use Rattle.room_ports.proofs.Fronts.{gives-nothing}
 use Rattle.cut_server.specs.Outside.{outside}
 use Rattle.cut_server.proofs.Serves.{serves_none}
-use Rattle.cut_server.proofs.Inputs.{SoFar, Chunk, ends_all, ends_cut, piece_cut, too_much, piece_more, take_split, take_fitting, fitting, source_same, sink_same}
+use Rattle.cut_server.proofs.Inputs.{ends_all, ends_cut, piece_cut, too_much, piece_more, take_split, take_fitting, fitting, source_same, sink_same}
 use Rattle.cut_server.proofs.serve.serve.Goals as goal
 
 pub loop-total-init : goal.loop-total-init

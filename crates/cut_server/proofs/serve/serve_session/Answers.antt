@@ -1,5 +1,5 @@
-use Rattle.std.proofs.Common.{◌≡◌, sym, ◌∙◌}
-use Rattle.cut_server.proofs.Closing.{fresh_seated, fresh_session}
+use Rattle.std.proofs.Common.{◌∙◌}
+use Rattle.cut_server.proofs.Closing.{fresh_session}
 use Rattle.cut_server.proofs.Telling.{session_knows}
 use Rattle.cut_server.proofs.serve.serve_session.Goals as goal
 

@@ -1,4 +1,4 @@
-use Rattle.std.proofs.Common.{◌≡◌, sym, ◌∙◌}
+use Rattle.std.proofs.Common.{sym, ◌∙◌}
 use Rattle.cut_server.proofs.Replying.{sight_replied, sight_seated}
 use Rattle.cut_server.proofs.session.Session.reply_to_ask.Goals as goal
 

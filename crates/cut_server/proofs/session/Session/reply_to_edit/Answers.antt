@@ -1,4 +1,4 @@
-use Rattle.std.proofs.Common.{◌≡◌, sym, ◌∙◌}
+use Rattle.std.proofs.Common.{sym, ◌∙◌}
 use Rattle.cut_server.proofs.Replying.{edit_replied, edit_seated}
 use Rattle.cut_server.proofs.session.Session.reply_to_edit.Goals as goal
 

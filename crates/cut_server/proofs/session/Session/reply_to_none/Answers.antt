@@ -1,6 +1,4 @@
-use Rattle.std.proofs.Common.{inl, refl}
 use Rattle.call_text.specs.Replies.{fault_of}
-use Rattle.cut_server.specs.Transcript.{Bad}
 use Rattle.cut_server.proofs.Replying.{bad_replied, same_seated}
 use Rattle.cut_server.proofs.session.Session.reply_to_none.Goals as goal
 
