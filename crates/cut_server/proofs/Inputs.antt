@@ -2,7 +2,7 @@
 use Rattle.std.proofs.lemmas.Bool.Decides.{nat_tests}
 use Rattle.std.proofs.Common.{◌≡◌, ℕ, zero, suc, min, nat_le, Bool, true, false, ◌+◌, ◌-◌, ◌<◌, ◌≤◌, ◌↔◌, ◌⊎◌, inl, inr, List, [], ◌∷◌, ◌++◌, length, take, drop, Option, Some, None, IfSome, refl, sym, ap, ◌∙◌, arith, append_assoc, subst}
 use Rattle.std.specs.Option.{IsSomeAnd}
-use Rattle.std.proofs.lemmas.List.{append-nil, length-append, take_at, take-append-le}
+use Rattle.std.proofs.lemmas.List.{length-append, take_at}
 use Rattle.room_ports.specs.Bytes.{Gives}
 use Rattle.room_ports.specs.Counts.{HasRisen}
 use Rattle.room_ports.specs.Sides.{Lent, SourceSide, SinkSide}
@@ -10,7 +10,7 @@ use Rattle.room_ports.proofs.Fronts.{gives-gives}
 use Rattle.line_words.specs.Lines.{Line as InputLine, last_line, lines_of}
 use Rattle.line_words.specs.Pieces.{ended, pending_after}
 use Rattle.line_words.proofs.PieceLaws.{ended-append, pending_after-append, lines_of_lem}
-use Rattle.cut_server.specs.Outside.{Outside, NoFault, WriteFailed, Got, AtEnd, AreSent, LastIsCut, most_input, most_read}
+use Rattle.cut_server.specs.Outside.{Outside, NoFault, Got, AreSent, LastIsCut, most_input, most_read}
 use Rattle.cut_server.specs.Serving.{StopsWithin, StopsInPiece, StopsAtEnd, SessionEnds}
 use Rattle.cut_server.specs.declared.serve.End.TheVariants.{Ended, WriteFault, TooMuchInput}
 use Rattle.cut_server.specs.Session.{SessionState}

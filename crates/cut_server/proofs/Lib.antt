@@ -7,3 +7,4 @@ pub mod Rates
 pub mod Telling
 pub mod DocumentRuns
 pub mod Replying
+pub mod Closing

@@ -1,5 +1,5 @@
 -- What a session answered, line after line.
-use Rattle.std.proofs.Common.{◌≡◌, ℕ, ◌+◌, ◌<◌, ◌≤◌, ◌⊎◌, inl, inr, List, [], ◌∷◌, ◌++◌, length, take, Option, Some, None, Result, Ok, Err, refl, sym, ap, ◌∙◌, arith, append_assoc, subst, OnOk, OnErr}
+use Rattle.std.proofs.Common.{◌≡◌, ℕ, ◌+◌, List, [], ◌∷◌, ◌++◌, take, Option, Some, None, Result, Ok, Err, refl, sym, ap, ◌∙◌, append_assoc, subst, OnOk, OnErr}
 use Rattle.std.specs.Prelude.{codes}
 use Rattle.std.proofs.lemmas.List.{append-nil}
 use Rattle.room_ports.specs.Bytes.{Takes, TakesFront}
@@ -7,15 +7,14 @@ use Rattle.room_ports.proofs.Fronts.{takes-nothing, takes-takes}
 use Rattle.line_words.specs.Lines.{Line as InputLine}
 use Rattle.line_words.specs.Told.{line_told, lines_told}
 use Rattle.line_words.specs.declared.line.LineEnd.{LineEnd}
-use Rattle.composables.specs.TrackState.{TrackState}
-use Rattle.edit_apply.specs.declared.asks.Call.{Call}
 use Rattle.cut_server.specs.declared.reply.Reply.{Reply}
 use Rattle.cut_server.specs.Outside.{AreSent, TakesThenFront, LastIsCut}
-use Rattle.cut_server.specs.Transcript.{Kind, Wish, sent}
+use Rattle.cut_server.specs.Transcript.{Kind, sent}
 use Rattle.cut_server.specs.Rooms.{Setting, AreWritten, room_of, meaning_of, wish_in}
-use Rattle.cut_server.specs.Session.{Course, SessionState, past_line, IsReply, Replies, Step}
-use Rattle.cut_server.specs.Served.{Served, Serves, ServesTo}
-use Rattle.cut_server.proofs.Serving.{served_more}
+use Rattle.room_core.specs.Projection.{of_station}
+use Rattle.cut_server.specs.Session.{Course, Grows, SessionState, past_line, IsReply, Replies, Step}
+use Rattle.cut_server.specs.Served.{Serves, ServesTo}
+use Rattle.cut_server.proofs.Serving.{served_grows, served_more}
 
 sent-append : (xs ys : List (List ℕ)) → sent (xs ++ ys) ≡ sent xs ++ sent ys
 sent-append [] ys = refl
@@ -58,9 +57,9 @@ cut_more t u v xs ys h (whole, cut, is, k) = (
 )
 
 -- two runs of lines, for any kind of history, where what was taken composes
-module _ {S C D R Q X Y : Type 0} (k : Kind S C D R Q X Y) (stations station : ℕ) where
+module _ {S C D R Q X Y : Type 0} (k : Kind S C D R Q X Y) (station : ℕ) where
   then_serves : (a b c : Course S C) (xs ys : List InputLine) (P V W : List (List ℕ) → Type 0) → ((us vs : List (List ℕ)) → P us → V vs → W (us ++ vs))
-      → Serves k stations station a b xs P → Serves k stations station b c ys V → Serves k stations station a c (xs ++ ys) W
+      → Serves k station a b xs P → Serves k station b c ys V → Serves k station a c (xs ++ ys) W
   then_serves a b c xs ys P V W both f g o ls rs last w =
       let first = f o ls rs last w in
       let second = g o (ls ++ xs) (rs ++ first.0) first.1 first.2 in (
@@ -70,23 +69,28 @@ module _ {S C D R Q X Y : Type 0} (k : Kind S C D R Q X Y) (stations station : �
         both first.0 second.0 first.3 second.3,
       )
 
-  one_serves : (old mid new : Course S C) (l : InputLine) (text : List ℕ) (Taken : List (List ℕ) → Type 0) → station < stations
-      → Step k station old mid text (k.wish l) (k.takes_memory l) → new ≡ past_line mid → Taken (text ∷ []) → Serves k stations station old new (l ∷ []) Taken
-  one_serves old mid new l text Taken seated step next taken o ls rs last w =
-      let s = served_more k stations station o old mid ls rs last l text seated w step in
+  one_serves : (old met mid new : Course S C) (l : InputLine) (text : List ℕ) (Taken : List (List ℕ) → Type 0) → Grows k station old met
+      → Step k station met mid text (k.wish l) (k.takes_memory l) → new ≡ past_line mid → Taken (text ∷ []) → Serves k station old new (l ∷ []) Taken
+  one_serves old met mid new l text Taken grows step next taken o ls rs last w =
+      let s = served_more k station o met mid ls rs last l text (served_grows k station o old met ls rs last w grows) step in
       (text ∷ [], s.0, rw next s.1, taken)
 
 pub serves_none : (s : SessionState) (t : Option (List ℕ)) → ServesTo s s [] (AreSent t t)
-serves_none s t = record { setting = refl; written = λ w. w; serves = λ o ls rs last w. ([], last, rw (append-nil, append-nil) w, takes-nothing t) }
+serves_none s t = record { setting = refl; station = refl; written = λ w. w; serves = λ o ls rs last w. ([], last, rw (append-nil, append-nil) w, takes-nothing t) }
 
 pub serves_one : (old new : SessionState) (l : InputLine) (reply : Reply) (Taken : List (List ℕ) → Type 0)
     → Replies old new (wish_in (meaning_of old.setting l)) reply → ((text : List ℕ) → IsReply reply text → Taken (text ∷ []))
     → ServesTo old new (l ∷ []) Taken
 serves_one old new l reply Taken (text, is, r) taken = record {
   setting = r.setting;
+  station = r.station;
   written = r.written;
-  serves = one_serves (room_of old.setting) 1 0 old.course r.answered new.course l text Taken (omega arith) r.step r.passed (taken text is);
+  serves = one_serves (room_of old.setting) old.station old.course r.met r.answered new.course l text Taken r.grows r.step r.passed (taken text is);
 }
+
+-- the station
+pub same_station : (old new : SessionState) (l : InputLine) (reply : Reply) → Replies old new (wish_in (meaning_of old.setting l)) reply → new.station ≡ old.station
+same_station old new l reply (text, is, r) = r.station
 
 -- the number of the next line
 pub next_number : (old new : SessionState) (l : InputLine) (reply : Reply) → Replies old new (wish_in (meaning_of old.setting l)) reply → new.course.line ≡ old.course.line + 1
@@ -96,9 +100,10 @@ serves_then : (a b c : SessionState) (xs ys : List InputLine) (P V W : List (Lis
     → ServesTo a b xs P → ServesTo b c ys V → ServesTo a c (xs ++ ys) W
 serves_then a b c xs ys P V W both f g = record {
   setting = g.setting ∙ f.setting;
-  written = λ w. g.written (f.written w);
-  serves = then_serves (room_of a.setting) 1 0 a.course b.course c.course xs ys P V W both f.serves
-      (subst (λ (setting : Setting). Serves (room_of setting) 1 0 b.course c.course ys V) f.setting g.serves);
+  station = g.station ∙ f.station;
+  written = λ w. subst (λ (n : ℕ). AreWritten (of_station n b.course.journal) → AreWritten (of_station n c.course.journal)) f.station g.written (f.written w);
+  serves = then_serves (room_of a.setting) a.station a.course b.course c.course xs ys P V W both f.serves
+      (subst (λ (x : Setting × ℕ). Serves (room_of x.0) x.1 b.course c.course ys V) (λ i. (f.setting i, f.station i)) g.serves);
 }
 
 -- these lines and then those

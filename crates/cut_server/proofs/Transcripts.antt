@@ -1,5 +1,5 @@
 -- What a station was told stays true when more is committed, and its transcript grows line by line.
-use Rattle.std.proofs.Common.{◌≡◌, ◌≢◌, ℕ, zero, suc, ◌+◌, ◌<◌, ◌≤◌, Bool, true, false, cond, eqb, IsTrue, ◌⊎◌, inl, inr, List, [], ◌∷◌, ◌++◌, length, take, Option, Some, None, Result, Ok, Err, refl, sym, ap, ◌∙◌, subst, arith, append_assoc, slice_get, option_map, fold}
+use Rattle.std.proofs.Common.{◌≡◌, ℕ, zero, suc, ◌+◌, ◌<◌, ◌≤◌, Bool, true, false, cond, eqb, inl, inr, List, [], ◌∷◌, ◌++◌, length, take, Some, refl, sym, ap, ◌∙◌, subst, arith, append_assoc, slice_get, option_map}
 use Rattle.std.specs.Prelude.{codes}
 use Rattle.std.proofs.lemmas.List.{append-nil, length-append, take-append-le}
 use Rattle.std.proofs.lemmas.List.Sums.{fold-append}
@@ -10,7 +10,7 @@ use Rattle.room_core.specs.History.{most_entries, replay, after_entry, answer_in
 use Rattle.room_core.specs.Projection.{of_station}
 use Rattle.cut_server.specs.Longer.{TranscriptsStay}
 use Rattle.cut_server.specs.Rooms.{room_of, setting_of}
-use Rattle.cut_server.specs.Transcript.{Wish, Do, See, Point, Write, Bad, Kind, state_at, answer_at, sight_at, BearsNone, IsDone, IsRefused, IsFull, IsMemory, IsSeen, IsPoint, IsBad, Answered, Row, Rows, points_from, Transcript, sent}
+use Rattle.cut_server.specs.Transcript.{Wish, Do, See, Point, Write, Bad, Kind, state_at, answer_at, sight_at, BearsNone, IsFull, Answered, Row, Rows, points_from, Transcript, sent}
 
 -- each of these entries that is of the station is of this line or a later one
 abbrev pub OwnFrom : {C : Type 0} → ℕ → ℕ → List (Entry C) → Type 0
@@ -217,11 +217,11 @@ own_beside f true xs ys zs e = ap (λ es. f ∷ es) e
 own_beside f false xs ys zs e = e
 
 -- a list that has no entries of a station
-own_append : {C : Type 0} (station : ℕ) (h more : List (Entry C)) → of_station station (h ++ more) ≡ of_station station h ++ of_station station more
+pub own_append : {C : Type 0} (station : ℕ) (h more : List (Entry C)) → of_station station (h ++ more) ≡ of_station station h ++ of_station station more
 own_append station [] more = refl
 own_append station (f ∷ fs) more = own_beside f (eqb f.station station) _ _ _ (own_append station fs more)
 
-nothing_behind : {A : Type 0} (xs ys : List A) → xs ++ ys ≡ xs → ys ≡ []
+pub nothing_behind : {A : Type 0} (xs ys : List A) → xs ++ ys ≡ xs → ys ≡ []
 nothing_behind [] ys e = e
 nothing_behind (x ∷ xs) ys e = nothing_behind xs ys (tails e) where
   tails : {A : Type 0} {x : A} {us vs : List A} → x ∷ us ≡ x ∷ vs → us ≡ vs
@@ -233,7 +233,7 @@ not_own : {C : Type 0} (station n line : ℕ) (e : Entry C) (es : List (Entry C)
 not_own station n line e es true is h rest = cc
 not_own station n line e es false is h rest = ((rest h).0, (λ same. absurd (grind (arith, is, same)), (rest h).1))
 
-no_own : {C : Type 0} (station n line : ℕ) (more : List (Entry C)) → of_station station more ≡ [] → (points_from n station more ≡ []) × OwnFrom station line more
+pub no_own : {C : Type 0} (station n line : ℕ) (more : List (Entry C)) → of_station station more ≡ [] → (points_from n station more ≡ []) × OwnFrom station line more
 no_own station n line [] none = (refl, tt)
 no_own station n line (e ∷ es) none = not_own station n line e es (eqb e.station station) refl none (no_own station (n + 1) line es)
 

@@ -8,6 +8,7 @@ pub mod SessionInside
 pub mod Commands
 pub mod Documents
 pub mod Served
+pub mod Closed
 pub mod Outside
 pub mod Serving
 pub mod Statuses

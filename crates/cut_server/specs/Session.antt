@@ -1,15 +1,20 @@
--- What a session does for one line: it answers it, and at most commits one call.
-use Rattle.std.specs.Prelude.{◌≡◌, ℕ, ◌+◌, ◌<◌, ◌≤◌, ◌⊎◌, Bool, IsTrue, List, [], ◌∷◌, ◌++◌, Some, Ok, Err, length, take, codes, decimal}
-use Rattle.line_words.specs.Lines.{Line as InputLine}
+-- What a session does for one line: others may have committed more, and then it answers the line, and at most commits one
+-- call.
+use Rattle.std.specs.Prelude.{◌≡◌, ℕ, ◌+◌, ◌<◌, ◌≤◌, ◌⊎◌, Bool, IsTrue, List, [], ◌∷◌, ◌++◌, Vec, Some, Result, Ok, Err, length, take, codes, decimal}
+use Rattle.std.specs.Global.{Global}
 use Rattle.composables.specs.TrackState.{TrackState}
 use Rattle.edit_apply.specs.declared.asks.Call.{Call}
 use Rattle.edit_apply.specs.declared.asks.Ask.{Ask}
 use Rattle.room_core.specs.declared.entry.Entry.{Entry}
 use Rattle.call_text.specs.declared.short_text.Short.{Short}
 use Rattle.call_text.specs.Sights.{TrackSight, sight_text_of}
-use Rattle.room_core.specs.History.{answer_in, most_entries, replay}
+use Rattle.room_core.specs.History.{answer_in, most_entries, replay, NumbersRise}
+use Rattle.room_core.specs.Projection.{of_station}
 use Rattle.cut_server.specs.Transcript.{Wish, Do, See, Point, Write, Bad, Kind}
-use Rattle.cut_server.specs.Rooms.{Setting, AreWritten, room_of, finds_memory}
+use Rattle.cut_room.specs.declared.answers.CutFault.{CutFault}
+use Rattle.cut_room.specs.declared.answers.CutFault.TheVariants as fault
+use Rattle.cut_server.specs.DocumentReplies.{document_reply, no_point_reply}
+use Rattle.cut_server.specs.Rooms.{Setting, AreWritten, document_of, room_of, finds_memory}
 use Rattle.cut_server.specs.declared.reply.Reply.{Reply}
 use Rattle.cut_server.specs.declared.reply.Reply.TheVariants as reply
 
@@ -20,6 +25,18 @@ pub record Course (S C : Type 0) : Type 0 where
   pub state : S
   pub journal : List (Entry C)
   pub line : ℕ
+
+-- Others have committed more: what the station knows begins what it knows then, which has no further entry of its own, and
+-- the state is what their entries leave.
+pub record Grows {S C D R Q X Y : Type 0} (k : Kind S C D R Q X Y) (station : ℕ) (old new : Course S C) : Type 0 where
+  pub more : List (Entry C)
+  pub opening : new.opening ≡ old.opening
+  pub journal : new.journal ≡ old.journal ++ more
+  pub others : of_station station more ≡ []
+  pub state : replay k.apply old.state more ≡ Some new.state
+  pub rise : NumbersRise new.journal
+  pub within : length new.journal ≤ most_entries
+  pub line : new.line ≡ old.line
 
 -- the number of the next line rises
 abbrev pub past_line : {S C : Type 0} → Course S C → Course S C
@@ -76,9 +93,10 @@ module _ {S C D R Q X Y : Type 0} (k : Kind S C D R Q X Y) (station : ℕ) (old 
   abbrev pub Step : Wish C Q → Bool → Type 0
   Step wish takes_memory = Does wish ⊎ (IsTrue takes_memory × Says (codes "memory"))
 
--- the room of one station: its setting, and how far the station has come
+-- a station's session: the room's setting, the station's number, and how far it has come
 pub record SessionState : Type 0 where
   pub setting : Setting
+  pub station : ℕ
   pub course : Course (List TrackState) Call
 
 -- a reply with this text, which ends with its line feed
@@ -90,13 +108,16 @@ IsReply (reply.Text bytes) text = bytes.items ≡ text ++ codes "\n"
 abbrev pub IsSightReply : TrackSight → Reply → Type 0
 IsSightReply sight answer = IsReply answer (sight_text_of sight) ⊎ IsReply answer (codes "memory")
 
--- A reply of this text to what a line asks for, and then the line is past: the only station is number 0, and its entries
--- can be written.
+-- A reply of this text to what a line asks for, after others have committed what they have, and then the line is past.
+-- The station's own entries can be written.
 pub record RepliesWith (old new : SessionState) (wish : Wish Call Ask) (text : List ℕ) : Type 0 where
   pub setting : new.setting ≡ old.setting
-  pub written : AreWritten old.course.journal → AreWritten new.course.journal
+  pub station : new.station ≡ old.station
+  pub written : AreWritten (of_station old.station old.course.journal) → AreWritten (of_station old.station new.course.journal)
+  pub met : Course (List TrackState) Call
+  pub grows : Grows (room_of old.setting) old.station old.course met
   pub answered : Course (List TrackState) Call
-  pub step : Step (room_of old.setting) 0 old.course answered text wish (finds_memory wish)
+  pub step : Step (room_of old.setting) old.station met answered text wish (finds_memory wish)
   pub passed : new.course ≡ past_line answered
   pub line : new.course.line ≡ old.course.line + 1
 
@@ -109,3 +130,9 @@ Replies old new wish answer = (text : List ℕ) × IsReply answer text × Replie
 -- this reply, or that there was no memory for it
 abbrev pub IsReplyIfMemory : List ℕ → Reply → Type 0
 IsReplyIfMemory text answer = IsReply answer text ⊎ IsReply answer (codes "memory")
+
+-- the reply to a wish for the document after n entries, where this cut was found
+abbrev pub IsCutReply : Setting → ℕ → Result (Vec TrackState Global) CutFault → Reply → Type 0
+IsCutReply setting n (Ok tracks) answer = IsReplyIfMemory (document_reply n (document_of setting tracks.items)) answer
+IsCutReply setting n (Err (fault.NoPoint count)) answer = IsReply answer (no_point_reply count)
+IsCutReply setting n (Err fault.Memory) answer = IsReply answer (codes "memory")

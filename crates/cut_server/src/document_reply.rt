@@ -2,18 +2,38 @@
 ghost use Rattle.std.specs.Prelude.{◌≡◌, ◌≤◌, ◌++◌, codes, decimal, length, IfOk};
 ghost use Rattle.otio_text.specs.Documents.{timeline_text};
 ghost use Rattle.cut_server.specs.DocumentReplies.{document_reply, no_point_reply};
-ghost use Rattle.cut_server.specs.Session.{IsReply, IsReplyIfMemory};
+ghost use Rattle.cut_server.specs.Session.{IsCutReply, IsReply, IsReplyIfMemory};
 
 use crate::reply::Reply;
 use call_text::Short;
 use composables::{Memory, Table, Track};
+use cut_room::CutFault;
 use otio_json::{WriteFault, write_timeline};
 use std::alloc::Global;
 use timecode12::Counting;
 
+/// The reply with the document of this cut, which stands after `n` entries, or why there is none.
+pub(crate) fn cut_reply(
+    alloc: Global,
+    n: u32,
+    table: &Table,
+    cut: Result<Vec<Track>, CutFault>,
+    counting: &Counting,
+    start: u32,
+) -> Reply
+    ensures { IsCutReply (record { table = table.now; counting = counting.now; start = start })
+        n cut result }
+{
+    match cut {
+        Ok(tracks) => document_reply(alloc, n, table, &tracks, counting, start),
+        Err(CutFault::NoPoint(length)) => no_point_reply(length),
+        Err(CutFault::Memory) => memory_reply(),
+    }
+}
+
 /// The reply with the document of these tracks, which stand after `n` entries, or that it is too long, or that there is
 /// no memory for it.
-pub(crate) fn document_reply(
+fn document_reply(
     alloc: Global,
     n: u32,
     table: &Table,
@@ -35,14 +55,14 @@ pub(crate) fn document_reply(
 }
 
 /// The reply where there are only so many entries.
-pub(crate) fn no_point_reply(length: u32) -> Reply
+fn no_point_reply(length: u32) -> Reply
     ensures { IsReply result (no_point_reply length) }
 {
     Reply::Short(refused_at(length, b" V3"))
 }
 
 /// The reply where there is no memory.
-pub(crate) fn memory_reply() -> Reply
+fn memory_reply() -> Reply
     ensures { IsReply result (codes "memory") }
 {
     let mut line = Short::new();

@@ -5,12 +5,20 @@ ghost use Rattle.line_words.specs.Pieces.{ended, pending_after};
 ghost use Rattle.line_words.specs.Told.{line_told};
 ghost use Rattle.room_ports.specs.Counts.{HasRisen};
 ghost use Rattle.cut_server.specs.Outside.{outside, AreSent, LastIsCut};
-ghost use Rattle.cut_server.specs.Served.{ServesTo};
+ghost use Rattle.cut_server.specs.Served.{IsRoomOf, Knows, ServesTo};
+ghost use Rattle.otio_json.specs.declared.opening.Opening.{Opening as OpeningOf};
 ghost use Rattle.cut_server.specs.Serving.{StopsWithin, SessionEnds};
 
-use crate::session::Session;
+use crate::session::{Session, Setting};
+use composables::Track;
+use cut_room::Room;
+use edit_apply::Editor;
+use edit_journal::{Naming, Pass};
 use line_words::{LineEnd, LineReader};
+use room_halls::Gate;
 use room_ports::{Failed, Line, Sink};
+use std::alloc::Global;
+use std::sync::Wait;
 
 /// How a session ended.
 #[derive(Clone, Copy, Debug, PartialEq, Eq)]
@@ -29,8 +37,8 @@ const MOST_INPUT: usize = 67_108_864;
 const MOST_READ: usize = 8_192;
 
 // Answers a line that has ended.
-fn answer_line<K: Sink>(
-    session: &mut Session,
+fn answer_line<R: Wait, G: Gate, J: Naming<Editor, Track>, K: Sink>(
+    session: &mut Session<'_, R, G, J>,
     end: LineEnd,
     text: &[u8],
     output: &mut K,
@@ -42,6 +50,7 @@ fn answer_line<K: Sink>(
     ensures err { OnErr result (ServesTo session.old session.new (line_told end text.now ∷ [])
         (LastIsCut (K.taken output.old) (K.taken output.new))) }
     ensures number { session.new.course.line ≡ session.old.course.line + 1 }
+    ensures station { session.new.station ≡ session.old.station }
 
     ensures cause { OnErr result (HasRisen (K.write_faults output.old)
         (K.write_faults output.new)) }
@@ -53,9 +62,9 @@ fn answer_line<K: Sink>(
 }
 
 // Answers the lines that end within a piece.
-fn answer_piece<K: Sink>(
+fn answer_piece<R: Wait, G: Gate, J: Naming<Editor, Track>, K: Sink>(
     reader: &mut LineReader,
-    session: &mut Session,
+    session: &mut Session<'_, R, G, J>,
     piece: &[u8],
     output: &mut K,
 ) -> Result<(), Failed>
@@ -70,6 +79,7 @@ fn answer_piece<K: Sink>(
     ensures pending { OnOk result (reader.new.pending
         ≡ pending_after reader.old.pending piece.now) }
     ensures number { session.new.course.line ≤ session.old.course.line + length piece.now }
+    ensures station { session.new.station ≡ session.old.station }
 
     ensures cause { OnErr result (HasRisen (K.write_faults output.old)
         (K.write_faults output.new)) }
@@ -93,9 +103,9 @@ fn answer_piece<K: Sink>(
 }
 
 // Answers a last line without a line feed.
-fn finish<K: Sink>(
+fn finish<R: Wait, G: Gate, J: Naming<Editor, Track>, K: Sink>(
     reader: &mut LineReader,
-    session: &mut Session,
+    session: &mut Session<'_, R, G, J>,
     output: &mut K,
 ) -> Result<(), Failed>
     requires { session.old.course.line + 1 < 2 ^ 32 }
@@ -105,6 +115,7 @@ fn finish<K: Sink>(
     ensures err { OnErr result ((line : InputLine) × (last_line reader.old.pending ≡ line ∷ [])
         × ServesTo session.old session.new (line ∷ [])
         (LastIsCut (K.taken output.old) (K.taken output.new))) }
+    ensures station { session.new.station ≡ session.old.station }
 
     ensures cause { OnErr result (HasRisen (K.write_faults output.old)
         (K.write_faults output.new)) }
@@ -118,13 +129,17 @@ fn finish<K: Sink>(
 }
 
 /// Answers each line of an input, in order, until the input's end, a fault, or more than 64 MiB.
-pub(crate) fn serve<L: Line>(session: &mut Session, line: &mut L) -> End
+fn serve<R: Wait, G: Gate, J: Naming<Editor, Track>, L: Line>(
+    session: &mut Session<'_, R, G, J>,
+    line: &mut L,
+) -> End
     requires { session.old.course.line ≡ 1 }
     ensures ends { SessionEnds (ServesTo session.old session.new)
         (outside (L.left line.old) (L.read_faults line.old) (L.taken line.old)
         (L.write_faults line.old))
         (outside (L.left line.new) (L.read_faults line.new) (L.taken line.new)
         (L.write_faults line.new)) result }
+    ensures station { session.new.station ≡ session.old.station }
     ensures lent { L.lent line.new ≡ L.lent line.old }
 {
     let mut reader = LineReader::new();
@@ -153,4 +168,38 @@ pub(crate) fn serve<L: Line>(session: &mut Session, line: &mut L) -> End
         total += n;
     }
     unreachable!()
+}
+
+/// The session of a station that has no entry yet, over a line. The pass knows then what the last of its answers told of.
+pub(crate) fn serve_session<R: Wait, G: Gate, J: Naming<Editor, Track>, L: Line>(
+    rt: &R,
+    alloc: Global,
+    room: &Room<Editor, J>,
+    gate: &G,
+    pass: Pass<Editor, J>,
+    setting: Setting,
+    line: &mut L,
+) -> (Pass<Editor, J>, End)
+    requires { pass.entries ≡ [] }
+    ensures ends { (o : OpeningOf) → IsRoomOf o room.now setting.counting setting.start
+        → SessionEnds (Knows o pass.number result.0.entries)
+        (outside (L.left line.old) (L.read_faults line.old) (L.taken line.old)
+        (L.write_faults line.old))
+        (outside (L.left line.new) (L.read_faults line.new) (L.taken line.new)
+        (L.write_faults line.new)) result.1 }
+    ensures station { result.0.number ≡ pass.number }
+    ensures lent { L.lent line.new ≡ L.lent line.old }
+{
+    let mut session = Session {
+        rt,
+        alloc,
+        room,
+        gate,
+        pass: Some(pass),
+        counting: setting.counting,
+        start: setting.start,
+        line: 1,
+    };
+    let end = serve(&mut session, line);
+    (session.into_pass(), end)
 }

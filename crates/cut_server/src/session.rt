@@ -1,89 +1,88 @@
-// The session of one station: its room, and the answer to each of its lines.
-ghost use Rattle.std.specs.Prelude.{◌≡◌, ◌<◌, ◌+◌, ◌++◌, All, IfOk, codes};
+// The session of one station in a room, and the answer to each of its lines.
+ghost use Rattle.std.specs.Prelude.{◌≡◌, ◌<◌, ◌++◌, IfOk, codes};
 ghost use Rattle.call_text.specs.Sights.{sight_text_of};
-ghost use Rattle.cut_room.specs.Desks.{Edits};
+ghost use Rattle.cut_room.specs.Rooms.{Edited};
 ghost use Rattle.edit_apply.specs.Apply.{editing};
+ghost use Rattle.edit_journal.specs.Turns.{last_of};
 ghost use Rattle.cut_server.specs.Session.{IsSightReply};
 
-use crate::document_reply::{document_reply, memory_reply, no_point_reply};
+use crate::document_reply::cut_reply;
 use crate::reply::{Reply, ended};
 use call_text::{
     Line, LineFault, Short, answer_text, fault_text, point_text, read_line, sight_text,
 };
-use composables::Memory;
-use cut_room::{Answer, CutFault, Desk, Sight};
+use composables::{Memory, Track};
+use cut_room::{Answer, Room, Sight};
 use edit_apply::{Ask, Call, Editor};
+use edit_journal::{Naming, Pass};
 use line_words::LineEnd;
-use otio_json::Opening;
-use room_core::Entry;
+use room_halls::Gate;
 use std::alloc::Global;
 use std::marker::{Brand, Model};
+use std::sync::Wait;
 use std::sync::ledger::{Blank, Ledger};
 use step_count::Steps;
 use timecode12::Counting;
 
-/// A room with one station. Contracts see its setting, its tracks, its journal and the number of the next line.
-#[derive(Drop)]
-pub(crate) struct Session {
-    alloc: Global,
-    desk: Desk<Editor>,
-    counting: Counting,
-    start: u32,
-    line: u32,
+/// How a room counts frames, and the frame at which its record starts.
+#[derive(Clone, Copy, Debug)]
+pub(crate) struct Setting {
+    pub(crate) counting: Counting,
+    pub(crate) start: u32,
 }
 
-impl Model for Session {
+/// A station in a room. Contracts see the room's setting, the station's number, what it knows of the journal, and the
+/// number of its next line.
+pub(crate) struct Session<'a, R, G, J: Naming<Editor, Track>> {
+    pub(crate) rt: &'a R,
+    pub(crate) alloc: Global,
+    pub(crate) room: &'a Room<Editor, J>,
+    pub(crate) gate: &'a G,
+    pub(crate) pass: Option<Pass<Editor, J>>,
+    pub(crate) counting: Counting,
+    pub(crate) start: u32,
+    pub(crate) line: u32,
+}
+
+impl<'a, R, G, J: Naming<Editor, Track>> Model for Session<'a, R, G, J> {
     ghost use Rattle.cut_server.specs.Session.{SessionState};
+    ghost use Rattle.cut_server.specs.SessionInside.{session_at, IsSession};
 
     ghost Value = { SessionState };
 
-    ghost use Rattle.cut_server.specs.SessionInside.{state_of, IsSession};
+    ghost view = { λ s. session_at s.room.now s.pass s.counting s.start s.line };
 
-    ghost view = { state_of };
-
-    ghost invariant = { IsSession };
+    ghost invariant = { λ s. IsSession s.room.now s.line s.pass };
 }
 
-impl Session {
+impl<'a, R: Wait, G: Gate, J: Naming<Editor, Track>> Session<'a, R, G, J> {
     ghost use Rattle.std.specs.Prelude.{◌≡◌, ◌+◌, ◌<◌, ◌≤◌, ◌^◌, ◌++◌, IfOk, codes, decimal, length};
     ghost use Rattle.line_words.specs.Told.{line_told};
     ghost use Rattle.call_text.specs.CallTexts.{IsWritten, NamesWritten};
     ghost use Rattle.call_text.specs.Replies.{fault_of};
-    ghost use Rattle.otio_json.specs.Soundness.{IsSoundOpening};
     ghost use Rattle.cut_server.specs.Rooms.{meaning_of, wish_in};
-    ghost use Rattle.cut_server.specs.Served.{IsFresh};
     ghost use Rattle.cut_server.specs.Session.{Replies, RepliesShort};
     ghost use Rattle.cut_server.specs.Transcript.{Bad, Do, Point, See, Write};
 
-    /// A session in a room that begins so, with an empty journal.
-    pub(crate) fn opened(alloc: Global, opening: Opening) -> Result<Session, Memory>
-        requires sound { IsSoundOpening opening }
-        requires some { 0 < length opening.tracks }
-        ensures { IfOk result (λ s. IsFresh opening s) }
+    /// The station's pass.
+    pub(crate) fn into_pass(self) -> Pass<Editor, J>
+        ensures entries { result.entries ≡ self.entry.course.journal }
+        ensures number { result.number ≡ self.entry.station }
     {
-        let Opening {
-            table,
-            tracks,
-            counting,
-            start,
-        } = opening;
-        match Desk::open(alloc, Editor { table }, tracks.into_vec()) {
-            Ok(desk) => Ok(Session {
-                alloc,
-                desk,
-                counting,
-                start,
-                line: 1,
-            }),
-            Err(_) => Err(Memory),
+        let Session {
+            rt: _,
+            alloc: _,
+            room: _,
+            gate: _,
+            pass,
+            counting: _,
+            start: _,
+            line: _,
+        } = self;
+        match pass {
+            Some(pass) => pass,
+            None => unreachable!(),
         }
-    }
-
-    /// The entries of the journal.
-    pub(crate) fn close(self) -> Vec<Entry<Call>>
-        ensures { result.items ≡ self.course.journal }
-    {
-        self.desk.close()
     }
 
     /// What a line of the input says.
@@ -103,7 +102,13 @@ impl Session {
         ensures replies { RepliesShort self.old self.new (Do call) result }
         ensures short { length result ≤ 128 }
     {
-        let answer = edit_uncounted(self.alloc, &mut self.desk, self.line, call);
+        let pass = match self.pass.take() {
+            Some(pass) => pass,
+            None => unreachable!(),
+        };
+        let (rt, room, gate) = (self.rt, self.room, self.gate);
+        let (pass, answer) = edit_uncounted(rt, self.alloc, room, gate, pass, self.line, call);
+        self.pass = Some(pass);
         self.line += 1;
         answer_text(&answer)
     }
@@ -112,7 +117,12 @@ impl Session {
         requires { self.old.course.line + 1 < 2 ^ 32 }
         ensures { Replies self.old self.new (See ask.now) result }
     {
-        let sight = self.desk.see(self.alloc, ask);
+        let pass = match self.pass.take() {
+            Some(pass) => pass,
+            None => unreachable!(),
+        };
+        let (pass, sight) = self.room.see(self.rt, self.alloc, pass, ask);
+        self.pass = Some(pass);
         self.line += 1;
         sight_reply(self.alloc, &sight)
     }
@@ -122,8 +132,14 @@ impl Session {
         ensures replies { RepliesShort self.old self.new Point result }
         ensures short { length result ≤ 128 }
     {
+        let pass = match self.pass.take() {
+            Some(pass) => pass,
+            None => unreachable!(),
+        };
+        let (pass, point) = self.room.point(self.rt, pass);
+        self.pass = Some(pass);
         self.line += 1;
-        point_text(self.desk.point())
+        point_text(point)
     }
 
     // The reply with the document of the cut after `n` entries.
@@ -131,14 +147,15 @@ impl Session {
         requires { self.old.course.line + 1 < 2 ^ 32 }
         ensures { Replies self.old self.new (Write n) result }
     {
-        self.line += 1;
-        let table = &self.desk.object().table;
-        let tracks = match self.desk.cut_at(self.alloc, n) {
-            Ok(tracks) => tracks,
-            Err(CutFault::NoPoint(length)) => return no_point_reply(length),
-            Err(CutFault::Memory) => return memory_reply(),
+        let pass = match self.pass.take() {
+            Some(pass) => pass,
+            None => unreachable!(),
         };
-        document_reply(self.alloc, n, table, &tracks, &self.counting, self.start)
+        let (pass, cut) = self.room.cut_at(self.rt, self.alloc, pass, n);
+        self.pass = Some(pass);
+        self.line += 1;
+        let table = &self.room.object().table;
+        cut_reply(self.alloc, n, table, cut, &self.counting, self.start)
     }
 
     // The reply to a line that is none of the table.
@@ -169,29 +186,40 @@ impl Session {
     }
 }
 
-fn edit_counted<L: Ledger>(
-    blank: Blank,
+fn edit_counted<R: Wait, G: Gate, J: Naming<Editor, Track>, L: Ledger>(
+    ledger: Blank,
+    rt: &R,
     alloc: Global,
-    desk: &mut Desk<Editor>,
+    room: &Room<Editor, J>,
+    gate: &G,
+    pass: Pass<Editor, J>,
     number: u32,
     call: Call,
-) -> Answer<Editor>
-    requires blank { (blank.name ≡ L.name) × (blank.parts ≡ L.parts) × (0 < blank.parts) }
-    requires number { All (λ e. e.number < number) desk.old.entries }
-    ensures edits { Edits (editing desk.old.object.table) number call desk.old desk.new result }
-    ensures numbers { All (λ e. e.number < number + 1) desk.new.entries }
+) -> (Pass<Editor, J>, Answer<Editor>)
+    requires ledger { (ledger.name ≡ L.name) × (ledger.parts ≡ L.parts) × (0 < ledger.parts) }
+    requires number { last_of pass.number pass.entries < number }
+    ensures { Edited (editing room.now.0.table) room.now.1
+        (record { station = pass.number; number = number; call = call }) pass result.0 result.1 }
 {
-    let mut steps = Steps::<L>::new(blank);
-    desk.edit(alloc, number, call, &mut steps)
+    let mut steps = Steps::<L>::new(ledger);
+    room.edit(rt, alloc, pass, number, call, gate, &mut steps)
 }
 
 // An edit of the room under a number, which counts no steps.
-fn edit_uncounted(alloc: Global, desk: &mut Desk<Editor>, number: u32, call: Call) -> Answer<Editor>
-    requires { All (λ e. e.number < number) desk.old.entries }
-    ensures edits { Edits (editing desk.old.object.table) number call desk.old desk.new result }
-    ensures numbers { All (λ e. e.number < number + 1) desk.new.entries }
+fn edit_uncounted<R: Wait, G: Gate, J: Naming<Editor, Track>>(
+    rt: &R,
+    alloc: Global,
+    room: &Room<Editor, J>,
+    gate: &G,
+    pass: Pass<Editor, J>,
+    number: u32,
+    call: Call,
+) -> (Pass<Editor, J>, Answer<Editor>)
+    requires { last_of pass.number pass.entries < number }
+    ensures { Edited (editing room.now.0.table) room.now.1
+        (record { station = pass.number; number = number; call = call }) pass result.0 result.1 }
 {
-    edit_counted::<Brand>(Blank::new(1), alloc, desk, number, call)
+    edit_counted::<R, G, J, Brand>(Blank::new(1), rt, alloc, room, gate, pass, number, call)
 }
 
 // The reply to a question, or to one for whose reply there is no memory.

@@ -3,8 +3,10 @@
 use crate::cut_main;
 use line_words::Words;
 use room_files::MemFiles;
+use room_halls::OpenGate;
 use room_ports::{MemSink, MemSource};
 use std::alloc::Global;
+use std::sync::Wait;
 use std::test::Fail;
 
 fn words_of(alloc: Global, texts: &[&str]) -> Result<Words, Fail> {
@@ -22,18 +24,28 @@ fn no_files(alloc: Global) -> MemFiles {
 }
 
 // The status and the output of a run with these words, over these pieces of input and these calls that fail.
-pub(crate) fn ended(
+pub(crate) fn ended<R: Wait>(
+    rt: &R,
     alloc: Global,
     words: &[&str],
     pieces: &[&[u8]],
     reads: &[u32],
     writes: &[u32],
 ) -> Result<(u8, Vec<u8>), Fail> {
-    ended_over(alloc, words, &mut no_files(alloc), pieces, reads, writes)
+    ended_over(
+        rt,
+        alloc,
+        words,
+        &mut no_files(alloc),
+        pieces,
+        reads,
+        writes,
+    )
 }
 
 // The same over these files.
-pub(crate) fn ended_over(
+pub(crate) fn ended_over<R: Wait>(
+    rt: &R,
     alloc: Global,
     words: &[&str],
     files: &mut MemFiles,
@@ -48,7 +60,7 @@ pub(crate) fn ended_over(
     let mut input = MemSource::new(input, reads.to_vec(alloc)?);
     let mut output = MemSink::new(alloc, writes.to_vec(alloc)?);
     let words = words_of(alloc, words)?;
-    let status = cut_main(alloc, &words, files, &mut input, &mut output);
+    let status = cut_main(rt, alloc, &words, files, &mut input, &mut output, &OpenGate);
     let bytes = match output.bytes() {
         Some(bytes) => bytes.to_vec(alloc)?,
         None => Vec::new(alloc),
@@ -106,7 +118,7 @@ fn lines_are_answered(rt: HostRuntime) -> Result<(), Fail> {
         ),
     ];
     for (input, wanted) in table {
-        let (status, output) = ended(alloc, &["run", "2", "1"], &[input], &[], &[])?;
+        let (status, output) = ended(&rt, alloc, &["run", "2", "1"], &[input], &[], &[])?;
         assert_eq!(rt; status, 0);
         assert_eq!(rt; output.as_slice(), wanted);
     }
@@ -131,7 +143,7 @@ fn dissolves_are_answered(rt: HostRuntime) -> Result<(), Fail> {
         ),
     ];
     for (input, wanted) in table {
-        let (status, output) = ended(alloc, &["run", "2", "1"], &[input], &[], &[])?;
+        let (status, output) = ended(&rt, alloc, &["run", "2", "1"], &[input], &[], &[])?;
         assert_eq!(rt; status, 0);
         assert_eq!(rt; output.as_slice(), wanted);
     }
@@ -152,7 +164,7 @@ fn edits_by_a_delta_are_answered(rt: HostRuntime) -> Result<(), Fail> {
         ),
     ];
     for (input, wanted) in table {
-        let (status, output) = ended(alloc, &["run", "2", "1"], &[input], &[], &[])?;
+        let (status, output) = ended(&rt, alloc, &["run", "2", "1"], &[input], &[], &[])?;
         assert_eq!(rt; status, 0);
         assert_eq!(rt; output.as_slice(), wanted);
     }
@@ -177,7 +189,7 @@ fn moved_cuts_and_filled_gaps_are_answered(rt: HostRuntime) -> Result<(), Fail> 
         ),
     ];
     for (input, wanted) in table {
-        let (status, output) = ended(alloc, &["run", "1", "1"], &[input], &[], &[])?;
+        let (status, output) = ended(&rt, alloc, &["run", "1", "1"], &[input], &[], &[])?;
         assert_eq!(rt; status, 0);
         assert_eq!(rt; output.as_slice(), wanted);
     }
@@ -198,7 +210,7 @@ fn ripples_are_answered(rt: HostRuntime) -> Result<(), Fail> {
         ),
     ];
     for (input, wanted) in table {
-        let (status, output) = ended(alloc, &["run", "2", "1"], &[input], &[], &[])?;
+        let (status, output) = ended(&rt, alloc, &["run", "2", "1"], &[input], &[], &[])?;
         assert_eq!(rt; status, 0);
         assert_eq!(rt; output.as_slice(), wanted);
     }
@@ -212,7 +224,14 @@ fn pieces_make_no_difference(rt: HostRuntime) -> Result<(), Fail> {
     let wanted = b"ok 0 item 0\nseen 1 dark 10 @0 100 5\njournal 1\n0 1 overwrite 0 10 @0 100 5\n";
     for cut in 0..text.len() {
         let (front, back) = text.split_at(cut);
-        let (status, output) = ended(alloc, &["run", "2", "1"], &[front, b"", back], &[], &[])?;
+        let (status, output) = ended(
+            &rt,
+            alloc,
+            &["run", "2", "1"],
+            &[front, b"", back],
+            &[],
+            &[],
+        )?;
         assert_eq!(rt; status, 0, "cut at {cut}");
         assert_eq!(rt; output.as_slice(), wanted.as_slice(), "cut at {cut}");
     }
@@ -224,7 +243,15 @@ fn pieces_make_no_difference(rt: HostRuntime) -> Result<(), Fail> {
     let mut output = MemSink::new(alloc, Vec::new(alloc));
     let words = words_of(alloc, &["run", "2", "1"])?;
     assert_eq!(rt;
-        cut_main(alloc, &words, &mut no_files(alloc), &mut input, &mut output),
+        cut_main(
+            &rt,
+            alloc,
+            &words,
+            &mut no_files(alloc),
+            &mut input,
+            &mut output,
+            &OpenGate
+        ),
         0
     );
     let told = output.bytes().ok_or("told")?;
@@ -245,11 +272,11 @@ fn faults_end_the_run(rt: HostRuntime) -> Result<(), Fail> {
         (&[], &[3], 2, b"ok 0 item 0\npoint 1\n"),
     ];
     for (reads, writes, status, wanted) in table {
-        let (ended_with, output) = ended(alloc, &["run", "1", "1"], &pieces, reads, writes)?;
+        let (ended_with, output) = ended(&rt, alloc, &["run", "1", "1"], &pieces, reads, writes)?;
         assert_eq!(rt; ended_with, status);
         assert_eq!(rt; output.as_slice(), wanted);
     }
-    let (status, output) = ended(alloc, &["run"], &[b"point\n"], &[], &[1])?;
+    let (status, output) = ended(&rt, alloc, &["run"], &[b"point\n"], &[], &[1])?;
     assert_eq!(rt; status, 2);
     assert_eq!(rt; output.len(), 0);
     Ok(())
@@ -287,16 +314,16 @@ fn each_call_may_fail(rt: HostRuntime) -> Result<(), Fail> {
     let mut wanted = Vec::new(alloc);
     let mut call = 1u32;
     for reply in replies {
-        let (read, before) = ended(alloc, &["run", "2", "1"], &lines, &[call], &[])?;
+        let (read, before) = ended(&rt, alloc, &["run", "2", "1"], &lines, &[call], &[])?;
         assert_eq!(rt; read, 1, "read {call}");
         assert_eq!(rt; before.as_slice(), wanted.as_slice(), "read {call}");
-        let (write, front) = ended(alloc, &["run", "2", "1"], &lines, &[], &[call])?;
+        let (write, front) = ended(&rt, alloc, &["run", "2", "1"], &lines, &[], &[call])?;
         assert_eq!(rt; write, 2, "write {call}");
         assert_eq!(rt; front.as_slice(), wanted.as_slice(), "write {call}");
         wanted.extend_from_slice(reply)?;
         call = call.saturating_add(1);
     }
-    let (status, all) = ended(alloc, &["run", "2", "1"], &lines, &[12], &[12])?;
+    let (status, all) = ended(&rt, alloc, &["run", "2", "1"], &lines, &[12], &[12])?;
     assert_eq!(rt; status, 0);
     assert_eq!(rt; all.as_slice(), wanted.as_slice());
     Ok(())
@@ -318,7 +345,7 @@ fn words_are_a_run_or_refused(rt: HostRuntime) -> Result<(), Fail> {
         &["Run", "2", "1"],
     ];
     for words in refused {
-        let (status, output) = ended(alloc, words, &[b"point\n"], &[], &[])?;
+        let (status, output) = ended(&rt, alloc, words, &[b"point\n"], &[], &[])?;
         assert_eq!(rt; status, 3);
         assert_eq!(rt; output.as_slice(), b"refused words\n".as_slice());
     }
@@ -329,7 +356,7 @@ fn words_are_a_run_or_refused(rt: HostRuntime) -> Result<(), Fail> {
         &["run", "2", "000"],
     ];
     for words in taken {
-        let (status, output) = ended(alloc, words, &[b"point\n"], &[], &[])?;
+        let (status, output) = ended(&rt, alloc, words, &[b"point\n"], &[], &[])?;
         assert_eq!(rt; status, 0);
         assert_eq!(rt; output.as_slice(), b"point 0\njournal 0\n".as_slice());
     }
@@ -345,7 +372,7 @@ fn a_line_has_a_limit(rt: HostRuntime) -> Result<(), Fail> {
     ] {
         let mut line = vec![in alloc; b' '; blanks]?;
         line.extend_from_slice(b"point\npoint\n")?;
-        let (status, output) = ended(alloc, &["run", "1", "1"], &[&line], &[], &[])?;
+        let (status, output) = ended(&rt, alloc, &["run", "1", "1"], &[&line], &[], &[])?;
         assert_eq!(rt; status, 0);
         assert_eq!(rt; output.as_slice(), wanted);
     }
@@ -353,21 +380,29 @@ fn a_line_has_a_limit(rt: HostRuntime) -> Result<(), Fail> {
 }
 
 // The status and the output of a run in a room of one track and one reel, over `point` and a line of so many bytes.
-fn long_input(alloc: Global, bytes: usize) -> Result<(u8, Vec<u8>), Fail> {
+fn long_input<R: Wait>(rt: &R, alloc: Global, bytes: usize) -> Result<(u8, Vec<u8>), Fail> {
     let mut pieces = Vec::new(alloc);
     pieces.push(b"point\n".to_vec(alloc)?)?;
     pieces.push(vec![in alloc; b'x'; bytes]?)?;
     let mut input = MemSource::new(pieces, Vec::new(alloc));
     let mut output = MemSink::new(alloc, Vec::new(alloc));
     let words = words_of(alloc, &["run", "1", "1"])?;
-    let status = cut_main(alloc, &words, &mut no_files(alloc), &mut input, &mut output);
+    let status = cut_main(
+        rt,
+        alloc,
+        &words,
+        &mut no_files(alloc),
+        &mut input,
+        &mut output,
+        &OpenGate,
+    );
     let told = output.bytes().ok_or("told")?;
     Ok((status, told.to_vec(alloc)?))
 }
 
 #[test]
 fn an_input_may_have_64_mib(rt: HostRuntime) -> Result<(), Fail> {
-    let (status, output) = long_input(rt.alloc(), 67_108_858)?;
+    let (status, output) = long_input(&rt, rt.alloc(), 67_108_858)?;
     assert_eq!(rt; status, 0);
     assert_eq!(rt;
         output.as_slice(),
@@ -378,7 +413,7 @@ fn an_input_may_have_64_mib(rt: HostRuntime) -> Result<(), Fail> {
 
 #[test]
 fn an_input_has_no_byte_more(rt: HostRuntime) -> Result<(), Fail> {
-    let (status, output) = long_input(rt.alloc(), 67_108_859)?;
+    let (status, output) = long_input(&rt, rt.alloc(), 67_108_859)?;
     assert_eq!(rt; status, 7);
     assert_eq!(rt; output.as_slice(), b"point 0\n".as_slice());
     Ok(())
@@ -392,7 +427,7 @@ fn a_journal_has_a_limit(rt: HostRuntime) -> Result<(), Fail> {
         lines.extend_from_slice(b"overwrite 0 0 @0 0 1\n")?;
     }
     lines.extend_from_slice(b"overwrite 0 0 @1 0 1\npoint\n")?;
-    let (status, output) = ended(alloc, &["run", "1", "1"], &[&lines], &[], &[])?;
+    let (status, output) = ended(&rt, alloc, &["run", "1", "1"], &[&lines], &[], &[])?;
     assert_eq!(rt; status, 0);
     // The replies `ok N item N` to the first 100,000 lines are 1,977,780 bytes.
     let wanted =

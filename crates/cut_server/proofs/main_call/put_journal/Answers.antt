@@ -1,4 +1,4 @@
-use Rattle.std.proofs.Common.{◌≡◌, sym, ap, ◌∙◌}
+use Rattle.std.proofs.Common.{◌≡◌, ◌∙◌}
 use Rattle.call_text.specs.Journals.{journal_text_of}
 use Rattle.cut_server.proofs.Inputs.{source_same}
 use Rattle.cut_server.proofs.main_call.put_journal.Goals as goal

@@ -1,7 +1,6 @@
-use Rattle.room_ports.specs.Bytes.{Takes, TakesFront}
 use Rattle.line_words.specs.Told.{line_told}
 use Rattle.cut_server.specs.Outside.{AreSent, LastIsCut}
-use Rattle.cut_server.proofs.Serves.{serves_one, next_number, sent_one, cut_one, on_ok, on_err}
+use Rattle.cut_server.proofs.Serves.{serves_one, next_number, same_station, sent_one, cut_one, on_ok, on_err}
 use Rattle.cut_server.proofs.serve.answer_line.Goals as goal
 
 pub returns-clause-ok : goal.returns-clause-ok
@@ -22,3 +21,6 @@ returns-clause-err g c =
 
 pub returns-clause-number : goal.returns-clause-number
 returns-clause-number g c = next_number c.args.session.now c.answer-reply.new.self (line_told c.args.end c.args.text.now) c.answer-reply.result c.answer-reply.ensures
+
+pub returns-clause-station : goal.returns-clause-station
+returns-clause-station g c = same_station c.args.session.now c.answer-reply.new.self (line_told c.args.end c.args.text.now) c.answer-reply.result c.answer-reply.ensures

@@ -1,4 +1,4 @@
-use Rattle.std.proofs.Common.{◌≡◌, ◌+◌, ◌++◌, ◌∷◌, [], List, drop, take, Some, refl, sym, ap, ◌∙◌, arith, append_assoc}
+use Rattle.std.proofs.Common.{◌≡◌, ◌+◌, ◌++◌, ◌∷◌, [], List, drop, take, refl, sym, ap, ◌∙◌, arith, append_assoc}
 use Rattle.line_words.specs.Lines.{Line as InputLine}
 use Rattle.line_words.specs.Pieces.{ended, pending_after}
 use Rattle.line_words.specs.Told.{line_told}
@@ -12,6 +12,7 @@ loop-at-init g c = record {
   number = omega arith;
   pending = refl;
   served = ([], refl, serves_none c.args.session.now (g.K.Sink.taken c.args.output.now));
+  station = refl;
   quiet = refl;
   apart = refl;
 }
@@ -38,6 +39,7 @@ loop-at-preserved-in-Ok g c =
         inv.served.1 ∙ (ap (λ (zs : List InputLine). done ++ zs) (ended_fed c.loop-at.reader.pending q (l ∷ []) p c.loop-at.at n told pend) ∙ sym (append_assoc done (l ∷ []) _)),
         serves_more c.args.session.now c.loop-at.session c.answer_line.new.session done (l ∷ []) (g.K.Sink.taken c.args.output.now) (g.K.Sink.taken c.loop-at.output) (g.K.Sink.taken c.answer_line.new.output) inv.served.2 c.in-Ok.ensures.ok,
       );
+      station = c.answer_line.ensures.station ∙ inv.station;
       quiet = c.in-Ok.ensures.quiet ∙ inv.quiet;
       apart = c.answer_line.ensures.apart ∙ inv.apart;
     }

@@ -12,6 +12,7 @@ invariant-loop-at g l = record {
   pending : pending_after l.fn.reader.pending l.piece ≡ pending_after l.reader.pending (drop l.at l.piece);
   served : (done : List InputLine) × (ended l.fn.reader.pending l.piece ≡ done ++ ended l.reader.pending (drop l.at l.piece))
       × ServesTo l.fn.session l.session done (AreSent (g.K.Sink.taken l.fn.output) (g.K.Sink.taken l.output));
+  station : l.session.station ≡ l.fn.session.station;
   quiet : g.K.Sink.write_faults l.output ≡ g.K.Sink.write_faults l.fn.output;
   apart : g.K.Sink.as_source l.output ≡ g.K.Sink.as_source l.fn.output;
 }

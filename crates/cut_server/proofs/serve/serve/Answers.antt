@@ -1,16 +1,16 @@
-use Rattle.std.proofs.Common.{◌≡◌, ℕ, ◌+◌, ◌-◌, ◌≤◌, ◌<◌, ◌++◌, ◌⊎◌, inl, inr, [], List, Option, Some, take, drop, length, refl, sym, ap, ◌∙◌, arith, subst}
+use Rattle.std.proofs.Common.{◌≡◌, ℕ, ◌-◌, ◌++◌, [], List, take, drop, length, refl, sym, ap, ◌∙◌, arith}
 use Rattle.std.proofs.lemmas.List.{length-append, length-take}
-use Rattle.room_ports.specs.Bytes.{Gives}
 use Rattle.room_ports.proofs.Fronts.{gives-nothing}
 use Rattle.cut_server.specs.Outside.{outside}
 use Rattle.cut_server.proofs.Serves.{serves_none}
-use Rattle.cut_server.proofs.Inputs.{SoFar, Chunk, ends_all, ends_cut, piece_cut, too_much, piece_more, take_split, take_fitting, fitting, source_same, sink_same}
+use Rattle.cut_server.proofs.Inputs.{ends_all, ends_cut, piece_cut, too_much, piece_more, take_split, take_fitting, fitting, source_same, sink_same}
 use Rattle.cut_server.proofs.serve.serve.Goals as goal
 
 pub loop-total-init : goal.loop-total-init
 loop-total-init g c = record {
   buffer = refl;
   number = omega (arith, c.requires);
+  station = refl;
   lent = refl;
   so_far = (
     [],
@@ -101,6 +101,7 @@ loop-total-preserved g c =
     record {
       buffer = omega (arith, c.loop-total.invariant.buffer, c.read.auto.into);
       number = omega (arith, c.loop-total.invariant.number, c.answer_piece.ensures.number, c.split_at.ensures.front_len, same);
+      station = c.answer_piece.ensures.station ∙ c.loop-total.invariant.station;
       lent = k.2 ∙ (t.2 ∙ c.loop-total.invariant.lent);
       so_far = (
         s.0 ++ piece,

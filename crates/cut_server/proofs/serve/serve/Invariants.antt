@@ -7,6 +7,7 @@ abbrev pub invariant-loop-total : goal.invariant-loop-total
 invariant-loop-total g l = record {
   buffer : length l.buffer ≡ 8192;
   number : l.session.course.line ≤ 1 + l.total;
+  station : l.session.station ≡ l.fn.session.station;
   lent : g.L.Line.lent l.line ≡ g.L.Line.lent l.fn.line;
   so_far : (got : List ℕ) × (l.total ≡ length got) × SoFar l.fn.session l.session
       (outside (g.L.Source.left l.fn.line) (g.L.Source.read_faults l.fn.line) (g.L.Sink.taken l.fn.line) (g.L.Sink.write_faults l.fn.line))

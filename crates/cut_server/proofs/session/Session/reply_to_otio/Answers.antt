@@ -1,22 +1,20 @@
-use Rattle.cut_server.proofs.Replying.{document_replied, past_replied, memory_replied}
+use Rattle.std.proofs.Common.{sym, ◌∙◌}
+use Rattle.cut_server.proofs.Replying.{cut_replied, cut_seated}
 use Rattle.cut_server.proofs.session.Session.reply_to_otio.Goals as goal
 
+pub unreachable-requires : goal.unreachable-requires
+unreachable-requires g c = rw (sym c.take.ensures.value ∙ c.in-None.is) at c.self.invariant
+
 pub returns : goal.returns
-returns c =
+returns g c =
     let s = c.self.inside in
-    rw (← c.self.view_is)
-    (document_replied s.desk s.counting s.start s.line c.args.n c.in-Ok.tracks.items c.document_reply.result
-    c.in-Ok.ensures.cuts.0 c.in-Ok.ensures.cuts.1 (rw (c.object.ensures, c.deref.ensures.value) at c.document_reply.ensures))
+    let is = sym c.take.ensures.value ∙ c.in-Some.is in
+    rw (← c.self.view_is, is)
+    (cut_replied s.room.now c.in-Some.pass c.cut_at-pass.result.0 s.counting s.start s.line (rw is at c.self.invariant) c.args.n c.cut_at-pass.result.1 c.cut_reply.result
+    c.cut_at-pass.ensures.cut (rw c.object.ensures at c.cut_reply.ensures))
 
-pub returns-in-Err-NoPoint : goal.returns-in-Err-NoPoint
-returns-in-Err-NoPoint c =
+pub invariant_of-self : goal.invariant_of-self
+invariant_of-self g c =
     let s = c.self.inside in
-    let cuts = rw c.in-Err-NoPoint.field-0-is at c.in-Err-NoPoint.ensures.cuts in
-    rw (← c.self.view_is)
-    (past_replied s.desk s.counting s.start s.line c.args.n c.in-Err-NoPoint.length c.no_point_reply.result cuts.0 cuts.1
-    (rw c.in-Err-NoPoint.field-0-is at c.no_point_reply.ensures))
-
-pub returns-in-Err-Memory : goal.returns-in-Err-Memory
-returns-in-Err-Memory c =
-    let s = c.self.inside in
-    rw (← c.self.view_is) (memory_replied s.desk s.counting s.start s.line c.args.n c.memory_reply.result c.memory_reply.ensures)
+    let is = sym c.take.ensures.value ∙ c.in-Some.is in
+    cut_seated s.room.now c.in-Some.pass c.cut_at-pass.result.0 s.counting s.start s.line (rw is at c.self.invariant) c.args.n c.cut_at-pass.result.1 c.cut_at-pass.ensures.cut

@@ -1,12 +1,20 @@
-use Rattle.std.proofs.Common.{◌++◌, ◌∙◌, ap, inl, refl}
-use Rattle.std.specs.Prelude.{codes, decimal}
-use Rattle.cut_server.specs.Transcript.{Point}
-use Rattle.cut_server.proofs.Replying.{replied}
+use Rattle.std.proofs.Common.{sym, ◌∙◌}
+use Rattle.cut_server.proofs.Replying.{point_replied, point_seated}
 use Rattle.cut_server.proofs.session.Session.reply_to_point.Goals as goal
 
+pub unreachable-requires : goal.unreachable-requires
+unreachable-requires g c = rw (sym c.take.ensures.value ∙ c.in-None.is) at c.self.invariant
+
 pub returns-clause-replies : goal.returns-clause-replies
-returns-clause-replies c =
+returns-clause-replies g c =
     let s = c.self.inside in
-    rw (← c.self.view_is)
-    (replied s.desk s.counting s.start s.line Point c.point_text.result
-    (inl (record { same = refl; reply_is = c.point_text.ensures.text ∙ ap (λ n. codes "point " ++ decimal n) c.point.ensures })))
+    let is = sym c.take.ensures.value ∙ c.in-Some.is in
+    rw (← c.self.view_is, is)
+    (point_replied s.room.now c.in-Some.pass c.point-pass.result.0 s.counting s.start s.line (rw is at c.self.invariant) c.point-pass.result.1 c.point_text.result
+    c.point-pass.ensures.at c.point_text.ensures.text)
+
+pub invariant_of-self : goal.invariant_of-self
+invariant_of-self g c =
+    let s = c.self.inside in
+    let is = sym c.take.ensures.value ∙ c.in-Some.is in
+    point_seated s.room.now c.in-Some.pass c.point-pass.result.0 s.counting s.start s.line (rw is at c.self.invariant) c.point-pass.result.1 c.point-pass.ensures.at
