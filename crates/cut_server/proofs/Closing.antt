@@ -30,6 +30,7 @@ pub fresh_session : (o : Opening) (room : TrackRoom) (pass : TrackPass) (countin
 fresh_session o room pass counting start is none = record {
   setting = is.setting;
   station = refl;
+  opening = is.tracks;
   tracks = ap (λ (h : History). tracks_at room h) none ∙ is.tracks;
   journal = none;
   line = refl;
