@@ -1,27 +1,34 @@
 // The call that the program makes.
-ghost use Rattle.std.specs.Prelude.{◌≡◌, ◌<◌, ◌≤◌, None, length};
+ghost use Rattle.std.specs.Prelude.{◌≡◌, ◌<◌, ◌≤◌, [], None, Some, length, vec_capacity};
 ghost use Rattle.cut_server.specs.Commands.{command_of, least_tracks, most_tracks, most_reels};
 ghost use Rattle.otio_json.specs.Openings.{plain_opening};
 ghost use Rattle.otio_json.specs.Soundness.{IsSoundOpening};
-ghost use Rattle.cut_server.specs.Outside.{outside};
+ghost use Rattle.station_sessions.specs.Outside.{outside};
 ghost use Rattle.otio_json.specs.declared.opening.Opening.{Opening as OpeningOf};
 ghost use Rattle.cut_server.specs.Documents.{files_told, refusal_line};
 ghost use Rattle.cut_server.specs.Runs.{JournalEnds, RunEnds, RefusalEnds, LineEnds, DocumentEnds, CommandEnds, EndsWith};
-ghost use Rattle.cut_server.specs.Served.{IsFresh};
+ghost use Rattle.station_sessions.specs.Served.{IsRoomOf};
+ghost use Rattle.station_sessions.specs.SessionInside.{TrackRoom};
+ghost use Rattle.edit_journal.specs.Turns.{AreFresh};
 
 use crate::command::{Command, command_in};
 use crate::document::{DocumentFault, open_document, refusal_line};
-use crate::serve::{End, serve};
-use crate::session::Session;
 use crate::status::Status;
 use call_text::journal_text;
-use edit_apply::Call;
+use composables::Track;
+use cut_room::{Room, RoomBlank};
+use edit_apply::{Call, Editor};
+use edit_journal::{Naming, Pass};
 use line_words::Words;
 use otio_json::{DocCode, Opening};
 use room_core::Entry;
 use room_files::Files;
+use room_halls::Gate;
 use room_ports::{Line, Pair, Sink, Source, put};
+use station_sessions::{End, Setting, serve_session};
 use std::alloc::Global;
+use std::marker::Brand;
+use std::sync::Wait;
 use timecode12::Counting;
 
 // Puts the journal's text behind the replies.
@@ -43,49 +50,112 @@ fn put_journal<L: Line>(alloc: Global, entries: &[Entry<Call>], line: &mut L) ->
     }
 }
 
-// Serves the session of a room that has just been opened, and puts its journal's text behind the replies.
-fn run_session<L: Line>(alloc: Global, session: Session, line: &mut L) -> Status
-    requires { session.course.line ≡ 1 }
-    ensures ends { (o : OpeningOf) → IsFresh o session → RunEnds o
+// Serves the session of the one station of a room that has just been opened, and puts its journal's text behind the replies.
+fn run_session<R: Wait, G: Gate, J: Naming<Editor, Track>, L: Line>(
+    rt: &R,
+    alloc: Global,
+    room: Room<Editor, J>,
+    passes: Vec<Pass<Editor, J>>,
+    setting: Setting,
+    line: &mut L,
+    gate: &G,
+) -> Status
+    requires passes { AreFresh J.opening 1 passes.items }
+    requires stations { J.stations ≡ 1 }
+    ensures ends { (o : OpeningOf) → IsRoomOf o room setting.counting setting.start → RunEnds o
         (outside (L.left line.old) (L.read_faults line.old) (L.taken line.old)
         (L.write_faults line.old))
         (outside (L.left line.new) (L.read_faults line.new) (L.taken line.new)
         (L.write_faults line.new)) ⊥ result }
     ensures lent { L.lent line.new ≡ L.lent line.old }
 {
-    let mut session = session;
-    match serve(&mut session, line) {
-        End::Ended => put_journal(alloc, &session.close(), line),
+    let (mut passes, pass) = only_pass(passes);
+    let (pass, end) = serve_session(rt, alloc, &room, gate, pass, setting, line);
+    passes.push_reserved(pass);
+    let entries = room.close(passes);
+    match end {
+        End::Ended => put_journal(alloc, &entries, line),
         End::ReadFault => Status::ReadFault,
         End::WriteFault => Status::WriteFault,
         End::TooMuchInput => Status::TooMuchInput,
     }
 }
 
+// The pass of the one station, and room for it.
+fn only_pass<J: Naming<Editor, Track>>(
+    passes: Vec<Pass<Editor, J>>,
+) -> (Vec<Pass<Editor, J>>, Pass<Editor, J>)
+    requires { AreFresh J.opening 1 passes.items }
+    ensures pass { (result.1.number ≡ 0) × (result.1.entries ≡ []) }
+    ensures none { result.0.items ≡ [] }
+    ensures room { 0 < vec_capacity result.0 }
+{
+    let mut passes = passes;
+    match passes.pop() {
+        Some(pass) => (passes, pass),
+        None => unreachable!(),
+    }
+}
+
 // The same over an input and an output that are lent.
-fn run_over<S: Source, K: Sink>(
+fn run_over<R: Wait, G: Gate, J: Naming<Editor, Track>, S: Source, K: Sink>(
+    rt: &R,
     alloc: Global,
-    session: Session,
+    room: Room<Editor, J>,
+    passes: Vec<Pass<Editor, J>>,
+    setting: Setting,
     input: &mut S,
     output: &mut K,
+    gate: &G,
 ) -> Status
-    requires { session.course.line ≡ 1 }
-    ensures { (o : OpeningOf) → IsFresh o session → RunEnds o
+    requires passes { AreFresh J.opening 1 passes.items }
+    requires stations { J.stations ≡ 1 }
+    ensures { (o : OpeningOf) → IsRoomOf o room setting.counting setting.start → RunEnds o
         (outside (S.left input.old) (S.read_faults input.old) (K.taken output.old)
         (K.write_faults output.old))
         (outside (S.left input.new) (S.read_faults input.new) (K.taken output.new)
         (K.write_faults output.new)) ⊥ result }
 {
     let mut line = Pair { input, output };
-    run_session(alloc, session, &mut line)
+    run_session(rt, alloc, room, passes, setting, &mut line, gate)
+}
+
+// A run of one station in the room of a blank.
+fn run_blank<R: Wait, G: Gate, J: Naming<Editor, Track>, S: Source, K: Sink>(
+    rt: &R,
+    alloc: Global,
+    blank: RoomBlank<Editor>,
+    setting: Setting,
+    input: &mut S,
+    output: &mut K,
+    gate: &G,
+) -> Status
+    requires table { J.table ≡ blank.table }
+    requires opening { J.opening ≡ blank.opening }
+    requires stations { (J.stations ≡ blank.stations) × (blank.stations ≡ 1) }
+    ensures { (o : OpeningOf) (room : TrackRoom) → blank.opening ≡ Some room
+        → IsRoomOf o room setting.counting setting.start → RunEnds o
+        (outside (S.left input.old) (S.read_faults input.old) (K.taken output.old)
+        (K.write_faults output.old))
+        (outside (S.left input.new) (S.read_faults input.new) (K.taken output.new)
+        (K.write_faults output.new))
+        ((input.new ≡ input.old) × (output.new ≡ output.old)) result }
+{
+    let (room, passes) = match Room::<Editor, J>::open(alloc, blank) {
+        Ok(opened) => opened,
+        Err(_) => return Status::OutOfMemory,
+    };
+    run_over(rt, alloc, room, passes, setting, input, output, gate)
 }
 
 // A run of one station in a room that begins so.
-fn run_opened<S: Source, K: Sink>(
+fn run_opened<R: Wait, G: Gate, S: Source, K: Sink>(
+    rt: &R,
     alloc: Global,
     opening: Opening,
     input: &mut S,
     output: &mut K,
+    gate: &G,
 ) -> Status
     requires sound { IsSoundOpening opening }
     requires some { 0 < length opening.tracks }
@@ -96,20 +166,29 @@ fn run_opened<S: Source, K: Sink>(
         (K.write_faults output.new))
         ((input.new ≡ input.old) × (output.new ≡ output.old)) result }
 {
-    let session = match Session::opened(alloc, opening) {
-        Ok(session) => session,
+    let Opening {
+        table,
+        tracks,
+        counting,
+        start,
+    } = opening;
+    let setting = Setting { counting, start };
+    let blank = match RoomBlank::new(alloc, Editor { table }, tracks.into_vec(), 1) {
+        Ok(blank) => blank,
         Err(_) => return Status::OutOfMemory,
     };
-    run_over(alloc, session, input, output)
+    run_blank::<R, G, Brand, S, K>(rt, alloc, blank, setting, input, output, gate)
 }
 
 // A run of one station in a plain room.
-fn run_plain<S: Source, K: Sink>(
+fn run_plain<R: Wait, G: Gate, S: Source, K: Sink>(
+    rt: &R,
     alloc: Global,
     tracks: u32,
     reels: u32,
     input: &mut S,
     output: &mut K,
+    gate: &G,
 ) -> Status
     requires least { least_tracks ≤ tracks }
     requires tracks { tracks ≤ most_tracks }
@@ -125,7 +204,7 @@ fn run_plain<S: Source, K: Sink>(
         Ok(opening) => opening,
         Err(_) => return Status::OutOfMemory,
     };
-    run_opened(alloc, opening, input, output)
+    run_opened(rt, alloc, opening, input, output, gate)
 }
 
 // Refuses a document.
@@ -141,13 +220,15 @@ fn refuse_document<K: Sink>(code: DocCode, at: u32, output: &mut K) -> Status
 }
 
 // A run of one station in the room of a document.
-fn run_document<F: Files, S: Source, K: Sink>(
+fn run_document<R: Wait, G: Gate, F: Files, S: Source, K: Sink>(
+    rt: &R,
     alloc: Global,
     name: &str,
     counting: &Counting,
     files: &mut F,
     input: &mut S,
     output: &mut K,
+    gate: &G,
 ) -> Status
     ensures { DocumentEnds name.now counting.now
         (files_told (F.file files.old) (F.read_faults files.old) (F.write_faults files.old))
@@ -159,7 +240,7 @@ fn run_document<F: Files, S: Source, K: Sink>(
         (input.new ≡ input.old) (output.new ≡ output.old) result }
 {
     match open_document(alloc, files, name, counting) {
-        Ok(opening) => run_opened(alloc, opening, input, output),
+        Ok(opening) => run_opened(rt, alloc, opening, input, output, gate),
         Err(DocumentFault::ReadFault) => Status::ReadFault,
         Err(DocumentFault::Refused { code, at }) => refuse_document(code, at, output),
         Err(DocumentFault::Memory) => Status::OutOfMemory,
@@ -178,12 +259,14 @@ fn refuse<K: Sink>(output: &mut K) -> Status
 }
 
 // Does what the words ask for.
-fn do_command<F: Files, S: Source, K: Sink>(
+fn do_command<R: Wait, G: Gate, F: Files, S: Source, K: Sink>(
+    rt: &R,
     alloc: Global,
     words: &Words,
     files: &mut F,
     input: &mut S,
     output: &mut K,
+    gate: &G,
 ) -> Status
     ensures { CommandEnds
         (files_told (F.file files.old) (F.read_faults files.old) (F.write_faults files.old))
@@ -196,9 +279,11 @@ fn do_command<F: Files, S: Source, K: Sink>(
         (input.new ≡ input.old) (output.new ≡ output.old) (command_of words.now) result }
 {
     match &command_in(words) {
-        Some(Command::Run { tracks, reels }) => run_plain(alloc, *tracks, *reels, input, output),
+        Some(Command::Run { tracks, reels }) => {
+            run_plain(rt, alloc, *tracks, *reels, input, output, gate)
+        }
         Some(Command::RunDocument { document, counting }) => {
-            run_document(alloc, document, counting, files, input, output)
+            run_document(rt, alloc, document, counting, files, input, output, gate)
         }
         None => refuse(output),
     }
@@ -221,12 +306,14 @@ fn do_command<F: Files, S: Source, K: Sink>(
 /// | 4 | the document is refused, and a line tells its first fault with its place |
 /// | 6 | there was no memory to begin with, or none for the journal's text |
 /// | 7 | the input gave more than 64 MiB |
-pub fn cut_main<F: Files, S: Source, K: Sink>(
+pub fn cut_main<R: Wait, F: Files, S: Source, K: Sink, G: Gate>(
+    rt: &R,
     alloc: Global,
     words: &Words,
     files: &mut F,
     input: &mut S,
     output: &mut K,
+    gate: &G,
 ) -> u8
     // The headline: with 0 the output is the replies and then the text of a journal that is one legal serial history,
     // and each reply is what that history tells, to the lines of all bytes, however they came. `CommandEnds` says for
@@ -241,5 +328,5 @@ pub fn cut_main<F: Files, S: Source, K: Sink>(
         (K.write_faults output.new))
         (input.new ≡ input.old) (output.new ≡ output.old) (command_of words.now)) }
 {
-    do_command(alloc, words, files, input, output).number()
+    do_command(rt, alloc, words, files, input, output, gate).number()
 }

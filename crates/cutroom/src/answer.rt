@@ -1,19 +1,22 @@
 // What the program answers to its words.
 ghost use Rattle.std.specs.Prelude.{◌≡◌};
 ghost use Rattle.cut_server.specs.Documents.{files_told};
-ghost use Rattle.cut_server.specs.Outside.{outside};
+ghost use Rattle.station_sessions.specs.Outside.{outside};
 ghost use Rattle.cutroom.specs.Answers.{ProgramEnds, complaint_of};
 
 use crate::notice::Notice;
 use cut_server::cut_main;
 use line_words::Words;
 use room_files::Files;
+use room_halls::OpenGate;
 use room_ports::{Sink, Source};
 use std::alloc::Global;
+use std::sync::Wait;
 
 /// Answers `--help` and `--version` by the notice that they ask for, and does what other words ask for. It answers the
 /// status that the program ends with.
-pub fn answer<F: Files, S: Source, K: Sink>(
+pub fn answer<R: Wait, F: Files, S: Source, K: Sink>(
+    rt: &R,
     alloc: Global,
     words: &Words,
     files: &mut F,
@@ -32,7 +35,7 @@ pub fn answer<F: Files, S: Source, K: Sink>(
 {
     match Notice::asked_by(words) {
         Some(notice) => notice.tell(output),
-        None => cut_main(alloc, words, files, input, output),
+        None => cut_main(rt, alloc, words, files, input, output, &OpenGate),
     }
 }
 

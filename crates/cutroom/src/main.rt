@@ -27,7 +27,7 @@ fn main(rt: HostRuntime) -> ExitCode {
     let mut files = StdFiles::new(&rt);
     let mut input = StdSource::new(rt.stdin());
     let mut output = StdSink::new(rt.stdout());
-    let status = answer(alloc, &words, &mut files, &mut input, &mut output);
+    let status = answer(&rt, alloc, &words, &mut files, &mut input, &mut output);
     let _ = put(&mut StdSink::new(rt.stderr()), complaint(status).as_bytes());
     ExitCode::from(status)
 }
