@@ -19,8 +19,8 @@ use Rattle.cut_room.specs.Desks.{Edits, Sees, told}
 use Rattle.room_core.specs.History.{replay}
 use Rattle.room_core.specs.Whole.{whole}
 use Rattle.call_text.specs.CallTexts.{IsWritten}
-use Rattle.call_text.specs.Replies.{EditAnswer, answer_text_of}
-use Rattle.call_text.specs.Sights.{TrackSight, sight_text_of}
+use Rattle.reply_text.specs.Replies.{EditAnswer, answer_text_of}
+use Rattle.reply_text.specs.Sights.{TrackSight, sight_text_of}
 use Rattle.cut_server.specs.declared.reply.Reply.{Reply}
 use Rattle.cut_server.specs.DocumentReplies.{document_reply, no_point_reply}
 use Rattle.cut_server.specs.Rooms.{History, Setting, AreWritten, document_of, finds_memory, room_of, seen_of}

@@ -1,6 +1,6 @@
 // The session of one station: its room, and the answer to each of its lines.
 ghost use Rattle.std.specs.Prelude.{◌≡◌, ◌<◌, ◌+◌, ◌++◌, All, IfOk, codes};
-ghost use Rattle.call_text.specs.Sights.{sight_text_of};
+ghost use Rattle.reply_text.specs.Sights.{sight_text_of};
 ghost use Rattle.cut_room.specs.Desks.{Edits};
 ghost use Rattle.edit_apply.specs.Apply.{editing};
 ghost use Rattle.cut_server.specs.Session.{IsSightReply};
@@ -48,7 +48,7 @@ impl Session {
     ghost use Rattle.std.specs.Prelude.{◌≡◌, ◌+◌, ◌<◌, ◌≤◌, ◌^◌, ◌++◌, IfOk, codes, decimal, length};
     ghost use Rattle.line_words.specs.Told.{line_told};
     ghost use Rattle.call_text.specs.CallTexts.{IsWritten, NamesWritten};
-    ghost use Rattle.call_text.specs.Replies.{fault_of};
+    ghost use Rattle.reply_text.specs.Replies.{fault_of};
     ghost use Rattle.otio_json.specs.Soundness.{IsSoundOpening};
     ghost use Rattle.cut_server.specs.Rooms.{meaning_of, wish_in};
     ghost use Rattle.cut_server.specs.Served.{IsFresh};
