@@ -24,8 +24,9 @@ use Rattle.edit_apply.specs.declared.asks.Call.{Call}
 use Rattle.edit_apply.specs.declared.asks.Call.TheVariants as call
 use Rattle.room_core.specs.declared.entry.Entry.{Entry}
 use Rattle.call_text.specs.declared.lines.Line.TheVariants.{Edit}
-use Rattle.call_text.specs.declared.lines.LineFault.TheVariants.{B5}
-use Rattle.call_text.specs.CallTexts.{what_text, numbers_after, tracks_text, frames_text, length_text, call_text_of, IsSmallWhat, IsSmallLength, IsWritten}
+use Rattle.reply_text.specs.declared.line_fault.LineFault.TheVariants.{B5}
+use Rattle.reply_text.specs.Things.{what_text}
+use Rattle.call_text.specs.CallTexts.{numbers_after, tracks_text, frames_text, length_text, call_text_of, IsSmallWhat, IsSmallLength, IsWritten}
 use Rattle.call_text.specs.JournalFaults.{HasNoEntry}
 use Rattle.call_text.specs.Journals.{entry_text, entry_line, count_text, count_line, HasLine}
 use Rattle.call_text.specs.LooseEntries.{loose_entry}

@@ -9,8 +9,8 @@ use Rattle.line_words.specs.declared.numbers.NumberFault.{NumberFault}
 use Rattle.line_words.specs.declared.numbers.NumberFault.TheVariants.{NotANumber, TooLarge}
 use Rattle.composables.specs.declared.calls.End.{End}
 use Rattle.call_text.specs.declared.lines.Line.{Line}
-use Rattle.call_text.specs.declared.lines.LineFault.{LineFault}
-use Rattle.call_text.specs.declared.lines.LineFault.TheVariants.{B1, B2, B3, B4, B5, B6}
+use Rattle.reply_text.specs.declared.line_fault.LineFault.{LineFault}
+use Rattle.reply_text.specs.declared.line_fault.LineFault.TheVariants.{B1, B2, B3, B4, B5, B6}
 use Rattle.call_text.specs.declared.commands.Command.{Command}
 use Rattle.call_text.specs.declared.commands.Command.TheVariants as command
 use Rattle.call_text.specs.Spelling.{◌>>=◌, number_or_fault, numeral_of, delta_of, end_of, given_of, track_of, is_comma, set_with, tracks_of, number_or_label, place_of, what_of}

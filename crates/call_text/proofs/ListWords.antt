@@ -9,7 +9,7 @@ use Rattle.std.proofs.lemmas.List.Quantifiers.{position-Some}
 use Rattle.std.proofs.lemmas.List.Sums.{fails_before_first}
 use Rattle.std.proofs.lemmas.List.Splits.{slice_split_first, slice_split_none}
 use Rattle.std.specs.List.{position_or_len}
-use Rattle.call_text.specs.declared.lines.LineFault.{LineFault}
+use Rattle.reply_text.specs.declared.line_fault.LineFault.{LineFault}
 use Rattle.call_text.specs.Spelling.{track_of, is_comma, set_with}
 
 place_told : (b : Bool) (n i : ℕ) → (if b then Some n else None) ≡ Some i → (b ≡ true) × (n ≡ i)

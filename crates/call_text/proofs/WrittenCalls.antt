@@ -9,7 +9,8 @@ use Rattle.composables.specs.declared.calls.FillLength.TheVariants.{Source, Sequ
 use Rattle.edit_apply.specs.declared.asks.Call.{Call}
 use Rattle.edit_apply.specs.declared.asks.Call.TheVariants as call
 use Rattle.call_text.specs.declared.lines.Line.TheVariants.{Edit}
-use Rattle.call_text.specs.CallTexts.{what_text, tracks_text, length_text, call_text_of, IsSmallLength, IsWritten}
+use Rattle.reply_text.specs.Things.{what_text}
+use Rattle.call_text.specs.CallTexts.{tracks_text, length_text, call_text_of, IsSmallLength, IsWritten}
 use Rattle.call_text.specs.Reading.{line_of}
 use Rattle.call_text.specs.Table.{AreCall, AreLength, end_word}
 use Rattle.call_text.proofs.TableLaws.{line_read}

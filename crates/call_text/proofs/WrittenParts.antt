@@ -18,7 +18,8 @@ use Rattle.line_words.specs.declared.numbers.NumberFault.TheVariants.{NotANumber
 use Rattle.line_words.proofs.DigitLaws.{number_of-decimal}
 use Rattle.frame_meaning.specs.declared.cells.What.{What}
 use Rattle.frame_meaning.specs.declared.cells.What.TheVariants.{Media, Nest}
-use Rattle.call_text.specs.CallTexts.{what_text, numbers_after, tracks_text, IsSmallWhat}
+use Rattle.reply_text.specs.Things.{what_text}
+use Rattle.call_text.specs.CallTexts.{numbers_after, tracks_text, IsSmallWhat}
 use Rattle.call_text.specs.Spelling.{is_comma}
 use Rattle.call_text.specs.Table.{IsThing, AreNumerals, IsTracks, end_word}
 use Rattle.composables.specs.declared.calls.End.{End}

@@ -13,12 +13,8 @@ use Rattle.edit_apply.specs.declared.asks.Call.TheVariants as call
 use Rattle.call_text.specs.declared.lines.Line.{Line}
 use Rattle.call_text.specs.declared.lines.Line.TheVariants.{Edit, Ask, Point, Otio}
 use Rattle.call_text.specs.declared.parts.TheConstants.{LAST_TRACK}
+use Rattle.reply_text.specs.Things.{what_text}
 use Rattle.call_text.specs.Table.{end_word}
-
--- `@` and the number of a media entry, or `#` and the number of a nest
-abbrev pub what_text : What → List ℕ
-what_text (Media m) = codes "@" ++ decimal m
-what_text (Nest n) = codes "#" ++ decimal n
 
 -- numbers, parted by commas; `lead` stands before the first
 abbrev pub numbers_after : List ℕ → List ℕ → List ℕ

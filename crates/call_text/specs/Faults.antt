@@ -11,8 +11,8 @@ use Rattle.line_words.specs.declared.numbers.NumberFault.TheVariants.{NotANumber
 use Rattle.composables.specs.declared.calls.End.{End}
 use Rattle.frame_meaning.specs.declared.cells.What.{What}
 use Rattle.call_text.specs.declared.parts.TheConstants.{LAST_TRACK}
-use Rattle.call_text.specs.declared.lines.LineFault.{LineFault}
-use Rattle.call_text.specs.declared.lines.LineFault.TheVariants.{B1, B2, B3, B4, B5, B6}
+use Rattle.reply_text.specs.declared.line_fault.LineFault.{LineFault}
+use Rattle.reply_text.specs.declared.line_fault.LineFault.TheVariants.{B1, B2, B3, B4, B5, B6}
 use Rattle.call_text.specs.declared.commands.Command.{Command}
 use Rattle.call_text.specs.declared.commands.Command.TheVariants as command
 use Rattle.call_text.specs.Spelling.{Naming, is_comma}

@@ -12,8 +12,9 @@ use Rattle.composables.specs.declared.calls.End.TheVariants.{Head, Tail}
 use Rattle.frame_meaning.specs.declared.cells.What.{What}
 use Rattle.frame_meaning.specs.declared.cells.What.TheVariants.{Media, Nest}
 use Rattle.call_text.specs.declared.parts.TheConstants.{LAST_TRACK}
-use Rattle.call_text.specs.declared.lines.LineFault.{LineFault}
-use Rattle.call_text.specs.declared.lines.LineFault.TheVariants.{B1, B3, B4, B6}
+use Rattle.reply_text.specs.LineFaults.{number_fault}
+use Rattle.reply_text.specs.declared.line_fault.LineFault.{LineFault}
+use Rattle.reply_text.specs.declared.line_fault.LineFault.TheVariants.{B1, B3, B4, B6}
 
 -- which place a word names as a label, if it names one
 abbrev pub Naming : Type 0
@@ -25,10 +26,6 @@ abbrev pub ◌>>=◌ :
     {A B : Type 0} → Result A LineFault → (A → Result B LineFault) → Result B LineFault
 (Ok x) >>= f = f x
 (Err e) >>= f = Err e
-
-abbrev pub number_fault : NumberFault → LineFault
-number_fault NotANumber = B3
-number_fault TooLarge = B4
 
 abbrev pub number_or_fault : {A : Type 0} → Result A NumberFault → Result A LineFault
 number_or_fault (Ok n) = Ok n

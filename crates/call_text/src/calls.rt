@@ -2,10 +2,11 @@
 ghost use Rattle.std.specs.Prelude.{◌≡◌, ◌++◌, IfOk, OnOk};
 ghost use Rattle.call_text.specs.CallTexts.{call_text_of, frames_text, numbers_text, tracks_text};
 
-use crate::bytes::{put, put_end, put_length, put_number, put_signed, put_what};
+use crate::part_texts::{put_end, put_length, put_signed};
 use composables::{Fill, Memory, Ripple, Slide, Slip, Trim, has_track};
 use edit_apply::Call;
 use frame_meaning::What;
+use reply_text::{put, put_number, put_what};
 use std::alloc::Global;
 
 /// The text of a call: its line, without its line feed.

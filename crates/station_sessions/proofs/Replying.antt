@@ -24,8 +24,8 @@ use Rattle.cut_room.specs.declared.answers.CutFault.{CutFault}
 use Rattle.cut_room.specs.declared.answers.CutFault.TheVariants as fault
 use Rattle.cut_room.specs.Rooms.{Edited, IsAtPoint, IsCut, Looked, Stays, told}
 use Rattle.call_text.specs.CallTexts.{IsWritten}
-use Rattle.call_text.specs.Replies.{EditAnswer, answer_text_of}
-use Rattle.call_text.specs.Sights.{TrackSight, sight_text_of}
+use Rattle.reply_text.specs.Replies.{EditAnswer, answer_text_of}
+use Rattle.reply_text.specs.Sights.{TrackSight, sight_text_of}
 use Rattle.station_sessions.specs.declared.reply.Reply.{Reply}
 use Rattle.station_sessions.specs.DocumentReplies.{document_reply, no_point_reply}
 use Rattle.station_sessions.specs.Rooms.{History, AreWritten, document_of, finds_memory, room_of, seen_of}

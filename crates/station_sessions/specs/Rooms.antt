@@ -16,8 +16,8 @@ use Rattle.edit_apply.specs.See.{seen_in}
 use Rattle.room_core.specs.declared.entry.Entry.{Entry}
 use Rattle.call_text.specs.declared.lines.Line.{Line}
 use Rattle.call_text.specs.declared.lines.Line.TheVariants.{Edit, Ask as AskOf, Point as PointOf, Otio}
-use Rattle.call_text.specs.declared.lines.LineFault.{LineFault}
-use Rattle.call_text.specs.declared.lines.LineFault.TheVariants.{B5}
+use Rattle.reply_text.specs.declared.line_fault.LineFault.{LineFault}
+use Rattle.reply_text.specs.declared.line_fault.LineFault.TheVariants.{B5}
 use Rattle.call_text.specs.Labels.{place_by}
 use Rattle.call_text.specs.Reading.{line_of}
 use Rattle.otio_text.specs.Documents.{timeline_text}
@@ -25,8 +25,8 @@ use Rattle.station_sessions.specs.DocumentReplies.{document_reply, no_point_repl
 use Rattle.cut_room.specs.declared.answers.Answer.TheVariants as answer
 use Rattle.cut_room.specs.declared.answers.Sight.TheVariants as sight
 use Rattle.call_text.specs.CallTexts.{IsWritten}
-use Rattle.call_text.specs.Replies.{answer_text_of, fault_of}
-use Rattle.call_text.specs.Sights.{sight_text_of}
+use Rattle.reply_text.specs.Replies.{answer_text_of, fault_of}
+use Rattle.reply_text.specs.Sights.{sight_text_of}
 use Rattle.room_core.specs.History.{IsLegal, most_entries}
 use Rattle.room_core.specs.Whole.{whole}
 use Rattle.station_sessions.specs.Transcript.{Wish, Do, See, Point, Write, Bad, Kind, Transcript}

@@ -6,8 +6,8 @@ use Rattle.composables.specs.TrackState.{TrackState}
 use Rattle.edit_apply.specs.declared.asks.Call.{Call}
 use Rattle.edit_apply.specs.declared.asks.Ask.{Ask}
 use Rattle.room_core.specs.declared.entry.Entry.{Entry}
-use Rattle.call_text.specs.declared.short_text.Short.{Short}
-use Rattle.call_text.specs.Sights.{TrackSight, sight_text_of}
+use Rattle.reply_text.specs.declared.short_text.Short.{Short}
+use Rattle.reply_text.specs.Sights.{TrackSight, sight_text_of}
 use Rattle.room_core.specs.History.{answer_in, most_entries, replay, NumbersRise}
 use Rattle.room_core.specs.Projection.{of_station}
 use Rattle.station_sessions.specs.Transcript.{Wish, Do, See, Point, Write, Bad, Kind}

@@ -1,6 +1,6 @@
 // The session of one station in a room, and the answer to each of its lines.
 ghost use Rattle.std.specs.Prelude.{◌≡◌, ◌<◌, ◌++◌, IfOk, codes};
-ghost use Rattle.call_text.specs.Sights.{sight_text_of};
+ghost use Rattle.reply_text.specs.Sights.{sight_text_of};
 ghost use Rattle.cut_room.specs.Rooms.{Edited};
 ghost use Rattle.edit_apply.specs.Apply.{editing};
 ghost use Rattle.edit_journal.specs.Turns.{last_of};
@@ -59,7 +59,7 @@ impl<'a, R: Wait, G: Gate, J: Naming<Editor, Track>> Session<'a, R, G, J> {
     ghost use Rattle.std.specs.Prelude.{◌≡◌, ◌+◌, ◌<◌, ◌≤◌, ◌^◌, ◌++◌, IfOk, codes, decimal, length};
     ghost use Rattle.line_words.specs.Told.{line_told};
     ghost use Rattle.call_text.specs.CallTexts.{IsWritten, NamesWritten};
-    ghost use Rattle.call_text.specs.Replies.{fault_of};
+    ghost use Rattle.reply_text.specs.Replies.{fault_of};
     ghost use Rattle.station_sessions.specs.Rooms.{meaning_of, wish_in};
     ghost use Rattle.station_sessions.specs.Session.{Replies, RepliesShort};
     ghost use Rattle.station_sessions.specs.Transcript.{Bad, Do, Point, See, Write};

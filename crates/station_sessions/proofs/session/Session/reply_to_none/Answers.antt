@@ -1,4 +1,4 @@
-use Rattle.call_text.specs.Replies.{fault_of}
+use Rattle.reply_text.specs.Replies.{fault_of}
 use Rattle.station_sessions.proofs.Replying.{bad_replied, same_seated}
 use Rattle.station_sessions.proofs.session.Session.reply_to_none.Goals as goal
 
