@@ -1,6 +1,6 @@
 // All that was written to files, in memory that is there from the beginning.
-ghost use Rattle.std.specs.Prelude.{◌≡◌, ◌↔◌, [], IfOk, IsOk, IsTrue, ℕ, option_map};
-ghost use Rattle.room_files.specs.Files.{content_in, found_content, with_file};
+ghost use Rattle.std.specs.Prelude.{◌≡◌, ◌↔◌, [], IfOk, IsOk, IsTrue, ℕ, option_map, bytes_eq, if◌then◌else◌};
+ghost use Rattle.room_files.specs.Files.{Bytes, content_in, found_content, with_file};
 ghost use Rattle.room_files.specs.WrittenInside.{HasRoom, IsKept, files_of};
 
 use room_ports::Memory;
@@ -78,12 +78,26 @@ impl Written {
         for lengths in &self.lengths {
             let (this_name, later_names) = names.split_at(lengths.name);
             let (these_bytes, later_bytes) = bytes.split_at(lengths.bytes);
-            if this_name == name.as_bytes() {
-                found = Some(these_bytes);
-            }
+            found = latest(this_name, these_bytes, name, found);
             names = later_names;
             bytes = later_bytes;
         }
         found
     }
+}
+
+// What was found so far, where a write of these bytes under `this_name` comes behind it.
+fn latest<'a>(
+    this_name: &[u8],
+    bytes: &'a [u8],
+    name: &str,
+    found: Option<&'a [u8]>,
+) -> Option<&'a [u8]>
+    ensures { found_content (option_map (λ b. b.now) result)
+        ≡ (if bytes_eq this_name.now name.now then Bytes bytes.now else found_content (option_map (λ b. b.now) found)) }
+{
+    if this_name == name.as_bytes() {
+        return Some(bytes);
+    }
+    found
 }
