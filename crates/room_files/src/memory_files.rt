@@ -6,6 +6,7 @@ ghost use Rattle.room_files.specs.declared.files.FileFault.TheVariants as faults
 ghost use Rattle.room_files.specs.FilesInside.{named};
 ghost use Rattle.room_files.specs.Files.{CountsRead, IsWhole, Keeps, OthersUnchanged, ReadsFile, Refuses, content_in, content_of, found_content, with_file, Missing};
 
+
 use crate::{FileFault, Files};
 use room_ports::{Failed, FailingCalls, Memory};
 use std::alloc::Global;
@@ -192,7 +193,7 @@ fn add(alloc: Global, files: &mut Vec<NamedFile>, name: &str, bytes: &[u8]) -> R
     Ok(())
 }
 
-fn copied(alloc: Global, bytes: &[u8]) -> Result<Vec<u8>, Memory>
+pub(crate) fn copied(alloc: Global, bytes: &[u8]) -> Result<Vec<u8>, Memory>
     ensures { IfOk result (λ v. v.items ≡ bytes.now) }
 {
     Ok(Vec::from_slice(alloc, bytes)?)
