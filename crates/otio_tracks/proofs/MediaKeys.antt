@@ -6,7 +6,8 @@ use Rattle.std.specs.List.{list_any, position_or_len}
 use Rattle.std.proofs.lemmas.List.{map-append, length-map}
 use Rattle.std.proofs.lemmas.List.Recursion.{is_position_or_len}
 use Rattle.composables.specs.declared.media.Media.{Media}
-use Rattle.otio_tracks.specs.Clips.{media_of, same_media, number_or, entry_number, unless_there, with_entry}
+use Rattle.composables.specs.declared.media.Table.{Table}
+use Rattle.otio_tracks.specs.Clips.{media_of, same_media, number_or, entry_number, unless_there, with_entry, with_media}
 
 Key : Type 0
 Key = ℕ × ℕ × ℕ
@@ -37,3 +38,15 @@ stands_there k ks i is = rw (position_same k ks, is) refl
 
 pub stays : (k : Key) (ks : List Key) (i : ℕ) → position (same_key k) ks ≡ Some i → map media_of ks ≡ with_entry (map media_of ks) (media_of k)
 stays k ks i is = rw (position_same k ks, is) refl
+
+-- the same of the table
+pub table_stays : (t : Table) (k : Key) (ks : List Key) (i : ℕ) → t.media ≡ map media_of ks → position (same_key k) ks ≡ Some i → t ≡ with_media t (media_of k)
+table_stays t k ks i is there =
+    ap (λ (media : List Media). record t { media = media })
+    (is ∙ (stays k ks i there ∙ ap (λ media. with_entry media (media_of k)) (sym is)))
+
+pub table_grows : (t : Table) (k : Key) (ks new : List Key) → t.media ≡ map media_of ks → position (same_key k) ks ≡ None → list_any (same_key k) ks ≡ false
+    → new ≡ (if list_any (same_key k) ks then ks else ks ++ k ∷ []) → record t { media = map media_of new } ≡ with_media t (media_of k)
+table_grows t k ks new is none fresh made =
+    ap (λ (media : List Media). record t { media = media })
+    (goes_last k ks new none fresh made ∙ ap (λ media. with_entry media (media_of k)) (sym is))

@@ -1,5 +1,5 @@
 // The table of a document that is being read.
-ghost use Rattle.std.specs.Prelude.{◌≡◌, IfOk, IfSome, OnOk, length, position};
+ghost use Rattle.std.specs.Prelude.{◌≡◌, IfOk, map};
 ghost use Rattle.otio_tracks.specs.Clips.{media_of};
 
 use composables::{Kind, Listed, Media, Memory, Nest, Reels, Table};
@@ -95,7 +95,7 @@ impl Entries {
     pub fn finish(self) -> Result<Table, Memory>
         ensures { IfOk result (λ table. table ≡ self) }
     {
-        let media = media_list(self.alloc, &self.media)?;
+        let media = media_list(self.alloc, self.media.as_slice())?;
         Ok(Table {
             kinds: self.kinds,
             reels: self.reels,
@@ -113,11 +113,11 @@ fn key_of(entry: Media) -> (u32, u32, u32)
 }
 
 // The media entries with these keys, in their order.
-fn media_list(alloc: Global, keys: &IndexSet<(u32, u32, u32)>) -> Result<Listed<Media>, Memory>
-    ensures { IfOk result (λ media. media ≡ map media_of keys.now.keys) }
+fn media_list(alloc: Global, keys: &[(u32, u32, u32)]) -> Result<Listed<Media>, Memory>
+    ensures { IfOk result (λ media. media ≡ map media_of keys.now) }
 {
     let mut media = Listed::new(alloc);
-    for key in keys.iter() {
+    for key in keys {
         let (reel, from, to) = *key;
         media.push(Media { reel, from, to })?;
     }
