@@ -23,7 +23,9 @@ number_told word n e =
 
 -- what a counting is asked for, and what it is
 same_counting : (c : Counted) (rate : SequenceRate) (drop : Bool) → c.rate ≡ rate → c.drop_frame ≡ drop → Some c ≡ Some (record { rate = rate; drop_frame = drop })
-same_counting c rate drop r d = cc
+same_counting c rate drop r d = ap (λ x. counted x c.drop_frame) r ∙ ap (counted rate) d where
+  counted : SequenceRate → Bool → Option Counted
+  counted x y = Some (record { rate = x; drop_frame = y })
 
 no_none : true ≡ false → ⊥
 no_none h = cc

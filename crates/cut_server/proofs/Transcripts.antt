@@ -9,7 +9,7 @@ use Rattle.room_core.specs.declared.entry.Entry.{Entry}
 use Rattle.room_core.specs.History.{most_entries, replay, after_entry, answer_in}
 use Rattle.room_core.specs.Projection.{of_station}
 use Rattle.cut_server.specs.Longer.{TranscriptsStay}
-use Rattle.cut_server.specs.Rooms.{room_of}
+use Rattle.cut_server.specs.Rooms.{room_of, setting_of}
 use Rattle.cut_server.specs.Transcript.{Wish, Do, See, Point, Bad, Kind, state_at, answer_at, sight_at, BearsNone, IsDone, IsRefused, IsFull, IsMemory, IsSeen, IsPoint, IsBad, Answered, Row, Rows, points_from, Transcript, sent}
 
 -- each of these entries that is of the station is of this line or a later one

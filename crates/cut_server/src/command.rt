@@ -19,7 +19,10 @@ const MOST_REELS: u32 = 999;
 #[derive(Clone, Copy)]
 pub(crate) enum Command<'a> {
     /// One station over input and output, in a plain room of so many tracks and reels.
-    Run { tracks: u32, reels: u32 },
+    Run {
+        tracks: u32,
+        reels: u32,
+    },
     /// The same in the room that the document of this name describes, whose frames are counted so.
     RunDocument {
         document: &'a str,

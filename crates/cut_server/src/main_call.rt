@@ -18,8 +18,8 @@ use call_text::journal_text;
 use edit_apply::Call;
 use line_words::Words;
 use otio_json::{DocCode, Opening};
-use room_files::Files;
 use room_core::Entry;
+use room_files::Files;
 use room_ports::{Line, Pair, Sink, Source, put};
 use std::alloc::Global;
 use timecode12::Counting;
@@ -180,10 +180,10 @@ fn do_command<F: Files, S: Source, K: Sink>(
         (outside (S.left input.new) (S.read_faults input.new) (K.taken output.new) (K.write_faults output.new))
         (input.new ≡ input.old) (output.new ≡ output.old) (command_of words.now) result }
 {
-    match command_in(words) {
-        Some(Command::Run { tracks, reels }) => run_plain(alloc, tracks, reels, input, output),
+    match &command_in(words) {
+        Some(Command::Run { tracks, reels }) => run_plain(alloc, *tracks, *reels, input, output),
         Some(Command::RunDocument { document, counting }) => {
-            run_document(alloc, document, &counting, files, input, output)
+            run_document(alloc, document, counting, files, input, output)
         }
         None => refuse(output),
     }

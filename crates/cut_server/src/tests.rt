@@ -131,7 +131,10 @@ fn pieces_make_no_difference(rt: HostRuntime) -> Result<(), Fail> {
     let mut input = MemSource::new(bytes, Vec::new(alloc));
     let mut output = MemSink::new(alloc, Vec::new(alloc));
     let words = words_of(alloc, &["run", "2", "1"])?;
-    assert_eq!(rt; cut_main(alloc, &words, &mut no_files(alloc), &mut input, &mut output), 0);
+    assert_eq!(rt;
+        cut_main(alloc, &words, &mut no_files(alloc), &mut input, &mut output),
+        0
+    );
     let told = output.bytes().ok_or("told")?;
     assert_eq!(rt; told, wanted.as_slice());
     Ok(())
@@ -341,15 +344,71 @@ fn a_document_is_opened_or_refused(rt: HostRuntime) -> Result<(), Fail> {
         (&["run", "cut", "2400e-2", "ndf"], whole, &[2], &[], 0, told),
         (&["run", "cut", "24", "ndf"], whole, &[1], &[], 1, b""),
         (&["run", "none.otio", "24", "ndf"], whole, &[], &[], 1, b""),
-        (&["run", "cut", "24", "ndf"], b"{", &[], &[], 4, b"refused J1 1\n"),
-        (&["run", "cut", "29.97", "drop"], b"[]", &[], &[], 4, b"refused O3 0\n"),
-        (&["run", "cut", "23.98", "ndf"], b"{}", &[], &[], 4, b"refused O2 0\n"),
+        (
+            &["run", "cut", "24", "ndf"],
+            b"{",
+            &[],
+            &[],
+            4,
+            b"refused J1 1\n",
+        ),
+        (
+            &["run", "cut", "29.97", "drop"],
+            b"[]",
+            &[],
+            &[],
+            4,
+            b"refused O3 0\n",
+        ),
+        (
+            &["run", "cut", "23.98", "ndf"],
+            b"{}",
+            &[],
+            &[],
+            4,
+            b"refused O2 0\n",
+        ),
         (&["run", "cut", "24", "ndf"], b"{", &[], &[1], 2, b""),
-        (&["run", "cut", "24", "drop"], whole, &[], &[], 3, b"refused words\n"),
-        (&["run", "cut", "24", "NDF"], whole, &[], &[], 3, b"refused words\n"),
-        (&["run", "cut", "59.94", "ndf"], whole, &[], &[], 3, b"refused words\n"),
-        (&["run", "cut", "24 ", "ndf"], whole, &[], &[], 3, b"refused words\n"),
-        (&["run", "cut", "24", "ndf", "x"], whole, &[], &[], 3, b"refused words\n"),
+        (
+            &["run", "cut", "24", "drop"],
+            whole,
+            &[],
+            &[],
+            3,
+            b"refused words\n",
+        ),
+        (
+            &["run", "cut", "24", "NDF"],
+            whole,
+            &[],
+            &[],
+            3,
+            b"refused words\n",
+        ),
+        (
+            &["run", "cut", "59.94", "ndf"],
+            whole,
+            &[],
+            &[],
+            3,
+            b"refused words\n",
+        ),
+        (
+            &["run", "cut", "24 ", "ndf"],
+            whole,
+            &[],
+            &[],
+            3,
+            b"refused words\n",
+        ),
+        (
+            &["run", "cut", "24", "ndf", "x"],
+            whole,
+            &[],
+            &[],
+            3,
+            b"refused words\n",
+        ),
     ];
     for (words, text, fails, writes, status, wanted) in table {
         let (ended_with, output) = opened(alloc, words, text, fails, writes)?;

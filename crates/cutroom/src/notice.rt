@@ -21,7 +21,7 @@ TRACKS is 1 to 16 and REELS is 0 to 999. DOC is the path of an OpenTimelineIO fi
 23.976, 24, 25, 29.97 and 30, and DROP is ndf, or drop at 29.97.
 
 Examples:
-  cutroom run cut.otio 24 ndf
+  printf 'items 0\\nview 0 0 96\\n' | cutroom run examples/kitchen.otio 24 ndf
   printf 'overwrite 0 10 @0 100 5\\nview 0 0 15\\n' | cutroom run 2 1
 ";
 

@@ -9,13 +9,17 @@ returns-in-Ok g c =
 
 pub returns-in-Err-ReadFault : goal.returns-in-Err-ReadFault
 returns-in-Err-ReadFault g c =
-    ends_unread c.args.name.now c.args.counting.now _ _ _ _ _ _ (c.in-Err-ReadFault.ensures.same, c.in-Err-ReadFault.ensures.apart) c.in-Err-ReadFault.ensures.counts refl refl
+    ends_unread c.args.name.now c.args.counting.now _ _ _ _ _ _ (c.in-Err-ReadFault.ensures.same, c.in-Err-ReadFault.ensures.apart)
+    (rw c.in-Err-ReadFault.field-0-is at c.in-Err-ReadFault.ensures.counts) refl refl
 
 pub returns-in-Err-Refused : goal.returns-in-Err-Refused
 returns-in-Err-Refused g c =
     ends_refused c.args.name.now c.args.counting.now _ _ _ _ _ _ c.in-Err-Refused.code c.in-Err-Refused.at c.refuse_document.result
-    (c.in-Err-Refused.ensures.same, c.in-Err-Refused.ensures.apart) c.in-Err-Refused.ensures.opens c.in-Err-Refused.ensures.counts refl c.refuse_document.ensures
+    (c.in-Err-Refused.ensures.same, c.in-Err-Refused.ensures.apart) (rw c.in-Err-Refused.field-0-is at c.in-Err-Refused.ensures.opens)
+    (rw c.in-Err-Refused.field-0-is at c.in-Err-Refused.ensures.counts) refl
+    (rw c.in-Err-Refused.field-0-is at c.refuse_document.ensures)
 
 pub returns-in-Err-Memory : goal.returns-in-Err-Memory
 returns-in-Err-Memory g c =
-    ends_without_memory c.args.name.now c.args.counting.now _ _ _ _ _ _ (c.in-Err-Memory.ensures.same, c.in-Err-Memory.ensures.apart) c.in-Err-Memory.ensures.counts refl refl
+    ends_without_memory c.args.name.now c.args.counting.now _ _ _ _ _ _ (c.in-Err-Memory.ensures.same, c.in-Err-Memory.ensures.apart)
+    (rw c.in-Err-Memory.field-0-is at c.in-Err-Memory.ensures.counts) refl refl
