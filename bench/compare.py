@@ -38,6 +38,30 @@ def extracts_in_the_middle(count, items):
     return [f"extract 0 0 {number_at[place]}" for place in range(first, first + count)]
 
 
+def first_source(lines, source):
+    """The same overwrites, whose items begin with this source frame and so can reach back."""
+    return [line.replace(" @0 0 ", f" @0 {source} ") for line in lines]
+
+
+def deltas_in_the_middle(items):
+    """For each edit by a delta, lines that move the same item or cut in the middle there and back."""
+    place = items // 2
+    item = next(number for number in range(items) if number * STRIDE % items == place)
+    head = place * PLACE_FRAMES
+    return {
+        "trim": (f"trim 0 {item} tail 3", f"trim 0 {item} tail -3"),
+        "slip": (f"slip 0 0 {item} 5", f"slip 0 0 {item} -5"),
+        "roll": (f"roll 0 {head} 1", f"roll 0 {head + 1} -1"),
+        "slide": (f"slide 0 0 {item} 2", f"slide 0 0 {item} -2"),
+        "ripple": (f"ripple 0 0 {item} tail 1", f"ripple 0 0 {item} tail -1"),
+    }
+
+
+def fills_of_gaps(count, items):
+    places = (number * STRIDE % (items - 1) * PLACE_FRAMES + PLACE_FRAMES - 1 for number in range(count))
+    return [f"fill 0 {place} @0 0 source 10" for place in places]
+
+
 def run(program, lines):
     """Runs the program on the lines. Answers its replies, the processor seconds that it took, and its most memory in
     bytes."""
@@ -86,6 +110,11 @@ def main():
         compare(ours, plain, "extract in the middle of 10,000 items", extracts_in_the_middle(2_000, 10_000), items)
     except SystemExit as end:
         print(end)
+    for items in (1_000, 10_000):
+        before = first_source(scattered(items), 1_000)
+        for name, there_and_back in deltas_in_the_middle(items).items():
+            compare(ours, plain, f"{name} in the middle of {items:,} items", there_and_back * 1_000, before)
+        compare(ours, plain, f"fill of gaps between {items:,} items", fills_of_gaps(2_000, items), before)
     for count in (1_000, 100_000):
         most, _ = memory_of(ours, count)
         print(f"memory after {count:>7,} edits of one small track {most / 1e6:>10.1f} MB", flush=True)

@@ -1,6 +1,8 @@
 //! The plain program that `bench/compare` measures cutroom against: one station, tracks that are vectors of items, no
 //! proofs, no dissolves, no links, no limits. It answers valid lines as cutroom does, and nothing else of it is meant.
 
+mod deltas;
+
 use std::io::{BufRead, Write};
 
 #[derive(Clone, Copy, PartialEq)]
@@ -122,6 +124,10 @@ fn thing(word: &str, source: &str) -> Side {
     Side::Media { media: number(&word[1..]), source: number(source) }
 }
 
+fn delta(word: &str) -> i32 {
+    word.parse().unwrap()
+}
+
 fn tracks_of(word: &str) -> Vec<usize> {
     word.split(',').map(|track| track.parse().unwrap()).collect()
 }
@@ -204,6 +210,37 @@ fn main() {
                     tracks[track].splice(x.min(len), y.min(len), &[]);
                 }
                 format!("ok {point}\n")
+            }
+            "trim" => {
+                let track = &mut tracks[number(words[1]) as usize];
+                let (item, by) = (number(words[2]), delta(words[4]));
+                let used = if words[3] == "head" { track.trim_head(item, by) } else { track.trim_tail(item, by) };
+                format!("ok {point} by {used}\n")
+            }
+            "slip" => {
+                let used = tracks[number(words[2]) as usize].slip(number(words[3]), delta(words[4]));
+                format!("ok {point} by {used}\n")
+            }
+            "roll" => {
+                let used = tracks[number(words[1]) as usize].roll(number(words[2]), delta(words[3]));
+                format!("ok {point} by {used}\n")
+            }
+            "slide" => {
+                let used = tracks[number(words[2]) as usize].slide(number(words[3]), delta(words[4]));
+                format!("ok {point} by {used}\n")
+            }
+            // of one track alone
+            "ripple" => {
+                let track = &mut tracks[number(words[2]) as usize];
+                let (item, by) = (number(words[3]), delta(words[5]));
+                let used = if words[4] == "head" { track.ripple_head(item, by) } else { track.ripple_tail(item, by) };
+                format!("ok {point} by {used}\n")
+            }
+            "fill" => {
+                let track = &mut tracks[number(words[1]) as usize];
+                let len = words.get(6).map(|word| number(word));
+                let item = track.fill(number(words[2]), thing(words[3], words[4]), len);
+                format!("ok {point} item {item}\n")
             }
             other => panic!("{other}"),
         };

@@ -1,7 +1,8 @@
 -- The text of an entry has no line feed, and tells its entry.
-use Rattle.std.proofs.Common.{◌≡◌, ℕ, ◌<◌, ◌≤◌, ◌^◌, List, [], ◌∷◌, ◌++◌, Bool, true, not, Option, Some, None, Ok, length, nat_le, inl, inr, refl, sym, ap, ◌∙◌, arith, append_assoc, codes}
+use Rattle.std.proofs.Common.{◌≡◌, ℕ, suc, ℤ, pos, negsuc, FitsSigned, ◌<◌, ◌≤◌, ◌^◌, List, [], ◌∷◌, ◌++◌, Bool, true, not, Option, Some, None, Ok, length, nat_le, inl, inr, refl, sym, ap, ◌∙◌, arith, append_assoc, codes}
 use Rattle.std.specs.Char.{is_ascii_digit}
-use Rattle.std.specs.Fmt.{decimal}
+use Rattle.std.specs.Fmt.{decimal, signed_decimal}
+use Rattle.std.specs.Int.{w32}
 use Rattle.std.specs.List.{list_all, flat_map, All}
 use Rattle.std.proofs.lemmas.Bool.{and_parts, le-leb}
 use Rattle.std.proofs.lemmas.Bool.Decides.{nat_tests}
@@ -14,21 +15,26 @@ use Rattle.line_words.proofs.DigitLaws.{number_of-decimal}
 use Rattle.line_words.proofs.WordLaws.{words_of-word}
 use Rattle.frame_meaning.specs.declared.cells.What.{What}
 use Rattle.frame_meaning.specs.declared.cells.What.TheVariants.{Media, Nest}
+use Rattle.composables.specs.declared.calls.End.{End}
+use Rattle.composables.specs.declared.calls.End.TheVariants.{Head, Tail}
+use Rattle.composables.specs.declared.calls.FillLength.{FillLength}
+use Rattle.composables.specs.declared.calls.FillLength.TheVariants.{Source, Sequence}
 use Rattle.composables.specs.TrackSets.{tracks_in}
 use Rattle.edit_apply.specs.declared.asks.Call.{Call}
 use Rattle.edit_apply.specs.declared.asks.Call.TheVariants as call
 use Rattle.room_core.specs.declared.entry.Entry.{Entry}
 use Rattle.call_text.specs.declared.lines.Line.TheVariants.{Edit}
 use Rattle.call_text.specs.declared.lines.LineFault.TheVariants.{B5}
-use Rattle.call_text.specs.CallTexts.{what_text, numbers_after, tracks_text, frames_text, call_text_of, IsSmallWhat, IsWritten}
+use Rattle.call_text.specs.CallTexts.{what_text, numbers_after, tracks_text, frames_text, length_text, call_text_of, IsSmallWhat, IsSmallLength, IsWritten}
 use Rattle.call_text.specs.JournalFaults.{HasNoEntry}
 use Rattle.call_text.specs.Journals.{entry_text, entry_line, count_text, count_line, HasLine}
 use Rattle.call_text.specs.LooseEntries.{loose_entry}
 use Rattle.call_text.specs.Reading.{line_of_words}
+use Rattle.call_text.specs.Table.{end_word}
 use Rattle.call_text.proofs.ReadParts.{chosen, err_ok}
 use Rattle.call_text.proofs.TrackSets.{tracks_in_below}
 use Rattle.call_text.proofs.WrittenCalls.{written_call}
-use Rattle.call_text.proofs.WrittenParts.{are_digits, IsWord-decimal}
+use Rattle.call_text.proofs.WrittenParts.{are_digits, back_small, delta_small, IsWord-decimal}
 
 -- no byte is a line feed
 abbrev pub is_plain : List ℕ → Bool
@@ -52,8 +58,20 @@ what_plain : (w : What) → IsSmallWhat w → is_plain (what_text w) ≡ true
 what_plain (Media m) h = number_plain m h
 what_plain (Nest n) h = number_plain n h
 
+end_plain : (end : End) → is_plain (end_word end) ≡ true
+end_plain Head = refl
+end_plain Tail = refl
+
 both_plain : (a b : List ℕ) → is_plain a ≡ true → is_plain b ≡ true → is_plain (a ++ b) ≡ true
 both_plain a b h k = rw (list_all-append (λ byte. not (is_lf byte)) a b, h, k) refl
+
+delta_plain : (z : ℤ) → FitsSigned w32 z → is_plain (signed_decimal z) ≡ true
+delta_plain (pos n) h = number_plain n (delta_small n h)
+delta_plain (negsuc n) h = both_plain (codes "-") (decimal (suc n)) refl (number_plain (suc n) (back_small n h))
+
+length_plain : (l : FillLength) → IsSmallLength l → is_plain (length_text l) ≡ true
+length_plain (Source n) h = both_plain (codes "source ") (decimal n) refl (number_plain n h)
+length_plain Sequence h = refl
 
 numbers_plain : (lead ns : List ℕ) → is_plain lead ≡ true → All (λ n. n < 32) ns → is_plain (numbers_after lead ns) ≡ true
 numbers_plain lead [] first h = refl
@@ -92,6 +110,41 @@ call_plain (call.Extract c) (tracks, track, item) =
     then_plain (codes "extract " ++ tracks_text c.tracks ++ codes " " ++ decimal c.track) (decimal c.item) own (number_plain c.item item)
 call_plain (call.Slice c) (track, at) =
     then_plain (codes "slice " ++ decimal c.track) (decimal c.at) (number_plain c.track (low c.track track)) (number_plain c.at at)
+call_plain (call.Dissolve c) (track, at, a, b) =
+    let places = then_plain (codes "dissolve " ++ decimal c.track) (decimal c.at) (number_plain c.track (low c.track track)) (number_plain c.at at) in
+    let before = then_plain (codes "dissolve " ++ decimal c.track ++ codes " " ++ decimal c.at) (decimal c.a) places (number_plain c.a a) in
+    then_plain (codes "dissolve " ++ decimal c.track ++ codes " " ++ decimal c.at ++ codes " " ++ decimal c.a) (decimal c.b) before (number_plain c.b b)
+call_plain (call.Undissolve c) (track, at) =
+    then_plain (codes "undissolve " ++ decimal c.track) (decimal c.at) (number_plain c.track (low c.track track)) (number_plain c.at at)
+call_plain (call.Trim c) (track, item, by) =
+    let items = then_plain (codes "trim " ++ decimal c.track) (decimal c.item) (number_plain c.track (low c.track track)) (number_plain c.item item) in
+    let ends = then_plain (codes "trim " ++ decimal c.track ++ codes " " ++ decimal c.item) (end_word c.end) items (end_plain c.end) in
+    then_plain (codes "trim " ++ decimal c.track ++ codes " " ++ decimal c.item ++ codes " " ++ end_word c.end) (signed_decimal c.by) ends (delta_plain c.by by)
+call_plain (call.Slip c) (tracks, track, item, by) =
+    let own = then_plain (codes "slip " ++ tracks_text c.tracks) (decimal c.track) (tracks_plain c.tracks) (number_plain c.track (low c.track track)) in
+    let items = then_plain (codes "slip " ++ tracks_text c.tracks ++ codes " " ++ decimal c.track) (decimal c.item) own (number_plain c.item item) in
+    then_plain (codes "slip " ++ tracks_text c.tracks ++ codes " " ++ decimal c.track ++ codes " " ++ decimal c.item) (signed_decimal c.by) items (delta_plain c.by by)
+call_plain (call.Roll c) (track, at, by) =
+    let places = then_plain (codes "roll " ++ decimal c.track) (decimal c.at) (number_plain c.track (low c.track track)) (number_plain c.at at) in
+    then_plain (codes "roll " ++ decimal c.track ++ codes " " ++ decimal c.at) (signed_decimal c.by) places (delta_plain c.by by)
+call_plain (call.Slide c) (tracks, track, item, by) =
+    let own = then_plain (codes "slide " ++ tracks_text c.tracks) (decimal c.track) (tracks_plain c.tracks) (number_plain c.track (low c.track track)) in
+    let items = then_plain (codes "slide " ++ tracks_text c.tracks ++ codes " " ++ decimal c.track) (decimal c.item) own (number_plain c.item item) in
+    then_plain (codes "slide " ++ tracks_text c.tracks ++ codes " " ++ decimal c.track ++ codes " " ++ decimal c.item) (signed_decimal c.by) items (delta_plain c.by by)
+call_plain (call.Fill c) (track, at, what, from, len) =
+    let places = then_plain (codes "fill " ++ decimal c.track) (decimal c.at) (number_plain c.track (low c.track track)) (number_plain c.at at) in
+    let things = then_plain (codes "fill " ++ decimal c.track ++ codes " " ++ decimal c.at) (what_text c.what) places (what_plain c.what what) in
+    let sources =
+    then_plain (codes "fill " ++ decimal c.track ++ codes " " ++ decimal c.at ++ codes " " ++ what_text c.what) (decimal c.from) things (number_plain c.from from) in
+    then_plain (codes "fill " ++ decimal c.track ++ codes " " ++ decimal c.at ++ codes " " ++ what_text c.what ++ codes " " ++ decimal c.from) (length_text c.length) sources
+    (length_plain c.length len)
+call_plain (call.Ripple c) (tracks, track, item, by) =
+    let own = then_plain (codes "ripple " ++ tracks_text c.tracks) (decimal c.track) (tracks_plain c.tracks) (number_plain c.track (low c.track track)) in
+    let items = then_plain (codes "ripple " ++ tracks_text c.tracks ++ codes " " ++ decimal c.track) (decimal c.item) own (number_plain c.item item) in
+    let ends =
+    then_plain (codes "ripple " ++ tracks_text c.tracks ++ codes " " ++ decimal c.track ++ codes " " ++ decimal c.item) (end_word c.end) items (end_plain c.end) in
+    then_plain (codes "ripple " ++ tracks_text c.tracks ++ codes " " ++ decimal c.track ++ codes " " ++ decimal c.item ++ codes " " ++ end_word c.end) (signed_decimal c.by) ends
+    (delta_plain c.by by)
 
 pub entry_plain : (e : Entry Call) → HasLine e → is_plain (entry_text e) ≡ true
 entry_plain e h =

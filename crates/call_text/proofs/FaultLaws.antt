@@ -1,21 +1,23 @@
 -- A line that is not read is none of the table for the fault that is told, and one that is none of the table is not read.
-use Rattle.std.proofs.Common.{◌≡◌, ◌≢◌, ℕ, ◌+◌, ◌^◌, ◌⊎◌, List, [], ◌∷◌, Bool, true, false, Option, Some, None, Result, Ok, Err, ◌==◌, nat_le, length, if◌then◌else◌, inl, inr, refl, ap, sym, ◌∙◌, arith}
+use Rattle.std.proofs.Common.{◌≡◌, ◌≢◌, ℕ, ℤ, ◌+◌, ◌^◌, ◌⊎◌, List, [], ◌∷◌, Bool, true, false, Option, Some, None, Result, Ok, Err, ◌==◌, nat_le, length, if◌then◌else◌, inl, inr, refl, ap, sym, ◌∙◌, arith, codes}
 use Rattle.std.specs.List.{slice_split}
+use Rattle.std.specs.Str.{bytes_eq}
 use Rattle.std.proofs.lemmas.Bool.{leb-true, le-leb, leb-false, lt-leb, eqb-true}
 use Rattle.line_words.specs.Blanks.{words_of}
-use Rattle.line_words.specs.Digits.{number_of}
+use Rattle.line_words.specs.Digits.{number_of, signed_of}
 use Rattle.line_words.specs.declared.numbers.NumberFault.{NumberFault}
 use Rattle.line_words.specs.declared.numbers.NumberFault.TheVariants.{NotANumber, TooLarge}
+use Rattle.composables.specs.declared.calls.End.{End}
 use Rattle.call_text.specs.declared.lines.Line.{Line}
 use Rattle.call_text.specs.declared.lines.LineFault.{LineFault}
 use Rattle.call_text.specs.declared.lines.LineFault.TheVariants.{B1, B2, B3, B4, B5, B6}
 use Rattle.call_text.specs.declared.commands.Command.{Command}
 use Rattle.call_text.specs.declared.commands.Command.TheVariants as command
-use Rattle.call_text.specs.Spelling.{◌>>=◌, number_or_fault, numeral_of, track_of, is_comma, set_with, tracks_of, number_or_label, place_of, what_of}
-use Rattle.call_text.specs.Reading.{command_of, overwrite_of, insert_of, row_of, row_if, line_of_words, line_of}
-use Rattle.call_text.specs.Table.{IsLine, word_of}
-use Rattle.call_text.specs.Faults.{Part, Tracks, Track, Place, Thing, Number, rows_of, IsNoNumeral, IsTooLarge, IsBadTrack, AreBadTracks, HasDigits, IsBadPart, IsPart, FirstIsBad, AreNoRow, AreBad, IsBad}
-use Rattle.call_text.proofs.ReadParts.{chosen, ok_same, err_ok, numeral_spelled, numeral_read, track_spelled, track_read, tracks_spelled, tracks_read, place_spelled, place_read, thing_spelled, thing_read}
+use Rattle.call_text.specs.Spelling.{◌>>=◌, number_or_fault, numeral_of, delta_of, end_of, given_of, track_of, is_comma, set_with, tracks_of, number_or_label, place_of, what_of}
+use Rattle.call_text.specs.Reading.{command_of, overwrite_of, insert_of, fill_of, row_of, row_if, line_of_words, line_of}
+use Rattle.call_text.specs.Table.{IsLine, end_word, word_of}
+use Rattle.call_text.specs.Faults.{Part, Tracks, Track, Place, Thing, Number, Ending, Delta, Given, rows_of, IsNoNumeral, IsTooLarge, IsNoDelta, IsDeltaTooLarge, IsBadTrack, AreBadTracks, HasDigits, IsBadPart, IsPart, FirstIsBad, AreNoRow, AreBad, IsBad}
+use Rattle.call_text.proofs.ReadParts.{chosen, ok_same, err_ok, numeral_spelled, numeral_read, delta_spelled, delta_read, end_spelled, end_read, given_spelled, given_read, track_spelled, track_read, tracks_spelled, tracks_read, place_spelled, place_read, thing_spelled, thing_read}
 use Rattle.call_text.proofs.TableLaws.{command_spelled, command_read, line_spelled, line_read}
 
 -- the fault of what was not read
@@ -69,6 +71,50 @@ numeral_bad word e h = numeral_bad_of word (number_of word) e refl h
 bad_numeral : (word : List ℕ) (e : LineFault) → (IsNoNumeral word × (e ≡ B3)) ⊎ (IsTooLarge word × (e ≡ B4)) → numeral_of word ≡ Err e
 bad_numeral word e (inl (not, is)) = rw (not, is) refl
 bad_numeral word e (inr (large, is)) = rw (large, is) refl
+
+-- a delta
+delta_bad_of : (word : List ℕ) (r : Result ℤ NumberFault) (e : LineFault) → signed_of word ≡ r → number_or_fault r ≡ Err e → (IsNoDelta word × (e ≡ B3)) ⊎ (IsDeltaTooLarge word × (e ≡ B4))
+delta_bad_of word (Ok z) e is h = absurd cc
+delta_bad_of word (Err NotANumber) e is h = inl (is, sym (err_same B3 e h))
+delta_bad_of word (Err TooLarge) e is h = inr (is, sym (err_same B4 e h))
+
+bad_delta : (word : List ℕ) (e : LineFault) → (IsNoDelta word × (e ≡ B3)) ⊎ (IsDeltaTooLarge word × (e ≡ B4)) → delta_of word ≡ Err e
+bad_delta word e (inl (not, is)) = rw (not, is) refl
+bad_delta word e (inr (large, is)) = rw (large, is) refl
+
+-- an end of an item
+end_none : (word : List ℕ) (e : LineFault) → end_of word ≡ Err e → (end : End) → word ≢ end_word end
+end_none word e h end is = let read : Err e ≡ Ok end = sym h ∙ (ap end_of is ∙ end_read end) in absurd cc
+
+end_bad : (word : List ℕ) (e : LineFault) → end_of word ≡ Err e → ((end : End) → word ≢ end_word end) × (e ≡ B1)
+end_bad word e h = elim (chosen (bytes_eq word (codes "head")) _ _ (Err e) h) [
+  | inl head ↦ absurd cc
+  | inr other ↦ elim (chosen (bytes_eq word (codes "tail")) _ _ (Err e) other.1) [
+    | inl tail ↦ absurd cc
+    | inr none ↦ (end_none word e h, sym (err_same B1 e none.1))
+  ]
+]
+
+bad_end : (word : List ℕ) (e : LineFault) → ((end : End) → word ≢ end_word end) × (e ≡ B1) → end_of word ≡ Err e
+bad_end word e (none, is) = by (end_of word) refl
+  where
+    by : (r : Result End LineFault) → end_of word ≡ r → end_of word ≡ Err e
+    by (Ok end) read = absurd (none end (end_spelled word end read))
+    by (Err f) read = let same = (end_bad word f read).1 in read ∙ ap Err (same ∙ sym is)
+
+-- a word that must be this one
+given_bad : (given word : List ℕ) (e : LineFault) → given_of given word ≡ Err e → (word ≢ given) × (e ≡ B1)
+given_bad given word e h = elim (chosen (bytes_eq word given) _ _ (Err e) h) [
+  | inl same ↦ absurd cc
+  | inr other ↦ (λ is. let read : Err e ≡ Ok tt = sym h ∙ given_read given word is in absurd cc, sym (err_same B1 e other.1))
+]
+
+bad_given : (given word : List ℕ) (e : LineFault) → (word ≢ given) × (e ≡ B1) → given_of given word ≡ Err e
+bad_given given word e (none, is) = by (given_of given word) refl
+  where
+    by : (r : Result (Unit {0}) LineFault) → given_of given word ≡ r → given_of given word ≡ Err e
+    by (Ok x) read = absurd (none (given_spelled given word x read))
+    by (Err f) read = let same = (given_bad given word f read).1 in read ∙ ap Err (same ∙ sym is)
 
 -- a track
 track_bad : (word : List ℕ) (e : LineFault) → track_of word ≡ Err e → IsBadTrack word e
@@ -190,6 +236,9 @@ part_error place_at Track word = error_of (track_of word)
 part_error place_at Tracks word = error_of (tracks_of word)
 part_error place_at Place word = error_of (place_of place_at word)
 part_error place_at Thing word = error_of (what_of word)
+part_error place_at Ending word = error_of (end_of word)
+part_error place_at Delta word = error_of (delta_of word)
+part_error place_at (Given given) word = error_of (given_of given word)
 
 part_bad : (place_at : List ℕ → Option ℕ) (part : Part) (word : List ℕ) (e : LineFault) → part_error place_at part word ≡ Some e → IsBadPart place_at part word e
 part_bad place_at Number word e h = numeral_bad word e (error_told (numeral_of word) e h)
@@ -197,6 +246,9 @@ part_bad place_at Track word e h = track_bad word e (error_told (track_of word) 
 part_bad place_at Tracks word e h = tracks_bad (slice_split is_comma word) 0 0 e (error_told (tracks_of word) e h)
 part_bad place_at Place word e h = place_bad_of place_at word (number_of word) (place_at word) e refl refl (error_told (place_of place_at word) e h)
 part_bad place_at Thing word e h = thing_bad place_at word e (error_told (what_of word) e h)
+part_bad place_at Ending word e h = end_bad word e (error_told (end_of word) e h)
+part_bad place_at Delta word e h = delta_bad_of word (signed_of word) e refl (error_told (delta_of word) e h)
+part_bad place_at (Given given) word e h = given_bad given word e (error_told (given_of given word) e h)
 
 bad_part : (place_at : List ℕ → Option ℕ) (part : Part) (word : List ℕ) (e : LineFault) → IsBadPart place_at part word e → part_error place_at part word ≡ Some e
 bad_part place_at Number word e h = ap error_of (bad_numeral word e h)
@@ -204,6 +256,9 @@ bad_part place_at Track word e h = ap error_of (bad_track word e h)
 bad_part place_at Tracks word e h = ap error_of (bad_tracks (slice_split is_comma word) 0 0 e h)
 bad_part place_at Place word e h = ap error_of (bad_place place_at word e h)
 bad_part place_at Thing word e h = ap error_of (bad_thing place_at word e h)
+bad_part place_at Ending word e h = ap error_of (bad_end word e h)
+bad_part place_at Delta word e h = ap error_of (bad_delta word e h)
+bad_part place_at (Given given) word e h = ap error_of (bad_given given word e h)
 
 part_right : (place_at : List ℕ → Option ℕ) (part : Part) (word : List ℕ) → part_error place_at part word ≡ None → IsPart place_at part word
 part_right place_at Number word h = let read = error_none (numeral_of word) h in (read.0, numeral_spelled word read.0 read.1)
@@ -211,6 +266,9 @@ part_right place_at Track word h = let read = error_none (track_of word) h in (r
 part_right place_at Tracks word h = let read = error_none (tracks_of word) h in (read.0, tracks_spelled word read.0 read.1)
 part_right place_at Place word h = let read = error_none (place_of place_at word) h in (read.0, place_spelled place_at word read.0 read.1)
 part_right place_at Thing word h = let read = error_none (what_of word) h in (read.0, thing_spelled word read.0 read.1)
+part_right place_at Ending word h = let read = error_none (end_of word) h in (read.0, end_spelled word read.0 read.1)
+part_right place_at Delta word h = let read = error_none (delta_of word) h in (read.0, delta_spelled word read.0 read.1)
+part_right place_at (Given given) word h = let read = error_none (given_of given word) h in given_spelled given word read.0 read.1
 
 right_part : (place_at : List ℕ → Option ℕ) (part : Part) (word : List ℕ) → IsPart place_at part word → part_error place_at part word ≡ None
 right_part place_at Number word h = error_read (numeral_of word) h.0 (numeral_read word h.0 h.1)
@@ -218,6 +276,9 @@ right_part place_at Track word h = error_read (track_of word) h.0 (track_read wo
 right_part place_at Tracks word h = error_read (tracks_of word) h.0 (tracks_read word h.0 h.1)
 right_part place_at Place word h = error_read (place_of place_at word) h.0 (place_read place_at word h.0 h.1)
 right_part place_at Thing word h = error_read (what_of word) h.0 (thing_read word h.0 h.1)
+right_part place_at Ending word h = error_read (end_of word) h.0 (ap end_of h.1 ∙ end_read h.0)
+right_part place_at Delta word h = error_read (delta_of word) h.0 (delta_read word h.0 h.1)
+right_part place_at (Given given) word h = error_read (given_of given word) tt (given_read given word h)
 
 -- the first fault of words as a row
 abbrev first_error : (List ℕ → Option ℕ) → List Part → List (List ℕ) → Option LineFault
@@ -310,6 +371,18 @@ insert_error place_at (a ∷ b ∷ c ∷ d ∷ e ∷ f ∷ []) =
     error_bind (tracks_of a) _ _ (λ tracks. error_bind (track_of b) _ _ (λ track. error_bind (place_of place_at c) _ _ (λ at. error_bind (what_of d) _ _ (λ what. error_bind (numeral_of e) _ _ (λ from. error_bind (numeral_of f) _ _ (λ len. refl))))))
 insert_error place_at (a ∷ b ∷ c ∷ d ∷ e ∷ f ∷ g ∷ words) = refl
 
+fill_error : (place_at : List ℕ → Option ℕ) (words : List (List ℕ)) → error_of (fill_of place_at words) ≡ rows_error place_at (rows_of command.Fill) words
+fill_error place_at [] = refl
+fill_error place_at (a ∷ []) = refl
+fill_error place_at (a ∷ b ∷ []) = refl
+fill_error place_at (a ∷ b ∷ c ∷ []) = refl
+fill_error place_at (a ∷ b ∷ c ∷ d ∷ []) = refl
+fill_error place_at (a ∷ b ∷ c ∷ d ∷ e ∷ []) =
+    error_bind (track_of a) _ _ (λ track. error_bind (place_of place_at b) _ _ (λ at. error_bind (what_of c) _ _ (λ what. error_bind (numeral_of d) _ _ (λ from. error_bind (given_of (codes "sequence") e) _ _ (λ how. refl)))))
+fill_error place_at (a ∷ b ∷ c ∷ d ∷ e ∷ f ∷ []) =
+    error_bind (track_of a) _ _ (λ track. error_bind (place_of place_at b) _ _ (λ at. error_bind (what_of c) _ _ (λ what. error_bind (numeral_of d) _ _ (λ from. error_bind (given_of (codes "source") e) _ _ (λ how. error_bind (numeral_of f) _ _ (λ len. refl))))))
+fill_error place_at (a ∷ b ∷ c ∷ d ∷ e ∷ f ∷ g ∷ words) = refl
+
 row_error : (place_at : List ℕ → Option ℕ) (k : Command) (words : List (List ℕ)) → error_of (row_of place_at k words) ≡ rows_error place_at (rows_of k) words
 row_error place_at command.Overwrite words = overwrite_error place_at words
 row_error place_at command.Insert words = insert_error place_at words
@@ -326,6 +399,52 @@ row_error place_at command.Slice [] = refl
 row_error place_at command.Slice (a ∷ []) = refl
 row_error place_at command.Slice (a ∷ b ∷ []) = error_bind (track_of a) _ _ (λ track. error_bind (place_of place_at b) _ _ (λ at. refl))
 row_error place_at command.Slice (a ∷ b ∷ c ∷ words) = refl
+row_error place_at command.Dissolve [] = refl
+row_error place_at command.Dissolve (a ∷ []) = refl
+row_error place_at command.Dissolve (a ∷ b ∷ []) = refl
+row_error place_at command.Dissolve (a ∷ b ∷ c ∷ []) = refl
+row_error place_at command.Dissolve (a ∷ b ∷ c ∷ d ∷ []) =
+    error_bind (track_of a) _ _ (λ track. error_bind (place_of place_at b) _ _ (λ at. error_bind (numeral_of c) _ _ (λ before. error_bind (numeral_of d) _ _ (λ after. refl))))
+row_error place_at command.Dissolve (a ∷ b ∷ c ∷ d ∷ e ∷ words) = refl
+row_error place_at command.Undissolve [] = refl
+row_error place_at command.Undissolve (a ∷ []) = refl
+row_error place_at command.Undissolve (a ∷ b ∷ []) = error_bind (track_of a) _ _ (λ track. error_bind (place_of place_at b) _ _ (λ at. refl))
+row_error place_at command.Undissolve (a ∷ b ∷ c ∷ words) = refl
+row_error place_at command.Trim [] = refl
+row_error place_at command.Trim (a ∷ []) = refl
+row_error place_at command.Trim (a ∷ b ∷ []) = refl
+row_error place_at command.Trim (a ∷ b ∷ c ∷ []) = refl
+row_error place_at command.Trim (a ∷ b ∷ c ∷ d ∷ []) =
+    error_bind (track_of a) _ _ (λ track. error_bind (numeral_of b) _ _ (λ item. error_bind (end_of c) _ _ (λ end. error_bind (delta_of d) _ _ (λ delta. refl))))
+row_error place_at command.Trim (a ∷ b ∷ c ∷ d ∷ e ∷ words) = refl
+row_error place_at command.Slip [] = refl
+row_error place_at command.Slip (a ∷ []) = refl
+row_error place_at command.Slip (a ∷ b ∷ []) = refl
+row_error place_at command.Slip (a ∷ b ∷ c ∷ []) = refl
+row_error place_at command.Slip (a ∷ b ∷ c ∷ d ∷ []) =
+    error_bind (tracks_of a) _ _ (λ tracks. error_bind (track_of b) _ _ (λ track. error_bind (numeral_of c) _ _ (λ item. error_bind (delta_of d) _ _ (λ delta. refl))))
+row_error place_at command.Slip (a ∷ b ∷ c ∷ d ∷ e ∷ words) = refl
+row_error place_at command.Roll [] = refl
+row_error place_at command.Roll (a ∷ []) = refl
+row_error place_at command.Roll (a ∷ b ∷ []) = refl
+row_error place_at command.Roll (a ∷ b ∷ c ∷ []) = error_bind (track_of a) _ _ (λ track. error_bind (place_of place_at b) _ _ (λ at. error_bind (delta_of c) _ _ (λ delta. refl)))
+row_error place_at command.Roll (a ∷ b ∷ c ∷ d ∷ words) = refl
+row_error place_at command.Slide [] = refl
+row_error place_at command.Slide (a ∷ []) = refl
+row_error place_at command.Slide (a ∷ b ∷ []) = refl
+row_error place_at command.Slide (a ∷ b ∷ c ∷ []) = refl
+row_error place_at command.Slide (a ∷ b ∷ c ∷ d ∷ []) =
+    error_bind (tracks_of a) _ _ (λ tracks. error_bind (track_of b) _ _ (λ track. error_bind (numeral_of c) _ _ (λ item. error_bind (delta_of d) _ _ (λ delta. refl))))
+row_error place_at command.Slide (a ∷ b ∷ c ∷ d ∷ e ∷ words) = refl
+row_error place_at command.Fill words = fill_error place_at words
+row_error place_at command.Ripple [] = refl
+row_error place_at command.Ripple (a ∷ []) = refl
+row_error place_at command.Ripple (a ∷ b ∷ []) = refl
+row_error place_at command.Ripple (a ∷ b ∷ c ∷ []) = refl
+row_error place_at command.Ripple (a ∷ b ∷ c ∷ d ∷ []) = refl
+row_error place_at command.Ripple (a ∷ b ∷ c ∷ d ∷ e ∷ []) =
+    error_bind (tracks_of a) _ _ (λ tracks. error_bind (track_of b) _ _ (λ track. error_bind (numeral_of c) _ _ (λ item. error_bind (end_of d) _ _ (λ end. error_bind (delta_of e) _ _ (λ delta. refl)))))
+row_error place_at command.Ripple (a ∷ b ∷ c ∷ d ∷ e ∷ f ∷ words) = refl
 row_error place_at command.View [] = refl
 row_error place_at command.View (a ∷ []) = refl
 row_error place_at command.View (a ∷ b ∷ []) = refl
@@ -336,6 +455,9 @@ row_error place_at command.Items (a ∷ []) = error_bind (track_of a) _ _ (λ tr
 row_error place_at command.Items (a ∷ b ∷ words) = refl
 row_error place_at command.Point [] = refl
 row_error place_at command.Point (a ∷ words) = refl
+row_error place_at command.Otio [] = refl
+row_error place_at command.Otio (a ∷ []) = error_bind (numeral_of a) _ _ (λ point. refl)
+row_error place_at command.Otio (a ∷ b ∷ words) = refl
 
 -- the whole line
 none_named : (first : List ℕ) → command_of first ≡ None → (k : Command) → first ≢ word_of k

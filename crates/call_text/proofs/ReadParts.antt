@@ -1,17 +1,21 @@
 -- What is read of a part is spelled there, and what is spelled there is read.
-use Rattle.std.proofs.Common.{◌≡◌, ℕ, ◌+◌, ◌^◌, ◌<◌, ◌⊎◌, List, [], ◌∷◌, Bool, true, false, Option, Some, None, Result, Ok, Err, ◌==◌, nat_le, length, if◌then◌else◌, inl, inr, refl, ap, sym, subst, ◌∙◌, arith, pow_pos}
+use Rattle.std.proofs.Common.{◌≡◌, ℕ, ℤ, ◌+◌, ◌^◌, ◌<◌, ◌⊎◌, List, [], ◌∷◌, Bool, true, false, Option, Some, None, Result, Ok, Err, ◌==◌, nat_le, length, if◌then◌else◌, inl, inr, refl, ap, sym, subst, ◌∙◌, arith, pow_pos, codes}
 use Rattle.std.specs.List.{slice_split}
 use Rattle.std.proofs.lemmas.Bool.{leb-true, le-leb, eqb-true}
 use Rattle.std.proofs.lemmas.List.Splits.{length-slice_split}
-use Rattle.line_words.specs.Digits.{number_of}
+use Rattle.std.proofs.lemmas.Slice.Eq.{bytes_eq-Decides}
+use Rattle.std.specs.Str.{bytes_eq}
+use Rattle.line_words.specs.Digits.{number_of, signed_of}
 use Rattle.line_words.specs.declared.numbers.NumberFault.{NumberFault}
 use Rattle.line_words.specs.declared.numbers.NumberFault.TheVariants.{NotANumber, TooLarge}
+use Rattle.composables.specs.declared.calls.End.{End}
+use Rattle.composables.specs.declared.calls.End.TheVariants.{Head, Tail}
 use Rattle.frame_meaning.specs.declared.cells.What.{What}
 use Rattle.frame_meaning.specs.declared.cells.What.TheVariants.{Media, Nest}
 use Rattle.call_text.specs.declared.lines.LineFault.{LineFault}
-use Rattle.call_text.specs.declared.lines.LineFault.TheVariants.{B3, B4, B6}
-use Rattle.call_text.specs.Spelling.{◌>>=◌, number_or_fault, numeral_of, track_of, is_comma, set_with, tracks_of, place_or_fault, number_or_label, place_of, what_of}
-use Rattle.call_text.specs.Table.{IsNumeral, IsTrack, IsTracks, IsPlace, IsThing}
+use Rattle.call_text.specs.declared.lines.LineFault.TheVariants.{B1, B3, B4, B6}
+use Rattle.call_text.specs.Spelling.{◌>>=◌, number_or_fault, numeral_of, delta_of, end_of, given_of, track_of, is_comma, set_with, tracks_of, place_or_fault, number_or_label, place_of, what_of}
+use Rattle.call_text.specs.Table.{IsDelta, IsNumeral, IsTrack, IsTracks, IsPlace, IsThing, end_word}
 use Rattle.call_text.proofs.TrackSets.{AreRising, rising, set_below, spells}
 
 -- what was read first, where all was read
@@ -30,15 +34,43 @@ ok_same x y h = cc
 pub err_ok : {A : Type 0} (e : LineFault) (x : A) → Err e ≡ Ok x → ⊥
 err_ok e x h = cc
 
-number_ok : (r : Result ℕ NumberFault) (n : ℕ) → number_or_fault r ≡ Ok n → r ≡ Ok n
-number_ok (Ok m) n h = cc
-number_ok (Err e) n h = absurd cc
+number_ok : {A : Type 0} (r : Result A NumberFault) (x : A) → number_or_fault r ≡ Ok x → r ≡ Ok x
+number_ok (Ok y) x h = ap Ok (ok_same y x h)
+number_ok (Err e) x h = absurd cc
 
 pub numeral_spelled : (word : List ℕ) (n : ℕ) → numeral_of word ≡ Ok n → IsNumeral word n
 numeral_spelled word n h = number_ok (number_of word) n h
 
 pub numeral_read : (word : List ℕ) (n : ℕ) → IsNumeral word n → numeral_of word ≡ Ok n
 numeral_read word n h = ap number_or_fault h
+
+pub delta_spelled : (word : List ℕ) (z : ℤ) → delta_of word ≡ Ok z → IsDelta word z
+delta_spelled word z h = number_ok (signed_of word) z h
+
+pub delta_read : (word : List ℕ) (z : ℤ) → IsDelta word z → delta_of word ≡ Ok z
+delta_read word z h = ap (λ (r : Result ℤ NumberFault). number_or_fault r) h
+
+pub end_spelled : (word : List ℕ) (end : End) → end_of word ≡ Ok end → word ≡ end_word end
+end_spelled word end h = elim (chosen (bytes_eq word (codes "head")) _ _ (Ok end) h) [
+  | inl head ↦ let same = ok_same Head end head.1 in rw (← same) ((bytes_eq-Decides word (codes "head")).0 head.0)
+  | inr other ↦ elim (chosen (bytes_eq word (codes "tail")) _ _ (Ok end) other.1) [
+    | inl tail ↦ let same = ok_same Tail end tail.1 in rw (← same) ((bytes_eq-Decides word (codes "tail")).0 tail.0)
+    | inr none ↦ absurd (err_ok B1 end none.1)
+  ]
+]
+
+pub end_read : (end : End) → end_of (end_word end) ≡ Ok end
+end_read Head = refl
+end_read Tail = refl
+
+pub given_spelled : (given word : List ℕ) (is : Unit {0}) → given_of given word ≡ Ok is → word ≡ given
+given_spelled given word is h = elim (chosen (bytes_eq word given) _ _ (Ok is) h) [
+  | inl same ↦ (bytes_eq-Decides word given).0 same.0
+  | inr other ↦ absurd (err_ok B1 is other.1)
+]
+
+pub given_read : (given word : List ℕ) → word ≡ given → given_of given word ≡ Ok tt
+given_read given word h = let same = (bytes_eq-Decides word given).1 h in rw same refl
 
 bounded : (b : Bool) (m n : ℕ) → (if b then Ok m else Err B4) ≡ Ok n → (b ≡ true) × (m ≡ n)
 bounded true m n h = (refl, cc)

@@ -5,6 +5,15 @@ use Rattle.std.proofs.Common.{◌≡◌, ℕ, ◌<◌, ◌≤◌, List, [], ◌�
 abbrev pub no_word : Bor (List ℕ)
 no_word = record { ref_ptr = (0, 0); now = [] }
 
+pub four_words : (ws : List (Bor (List ℕ))) → 4 ≤ length ws → length ws < 5
+    → map (λ w. w.now) ws ≡ (get_or ws 0 no_word).now ∷ (get_or ws 1 no_word).now ∷ (get_or ws 2 no_word).now ∷ (get_or ws 3 no_word).now ∷ []
+four_words [] h k = absurd (omega (arith, h))
+four_words (a ∷ []) h k = absurd (omega (arith, h))
+four_words (a ∷ b ∷ []) h k = absurd (omega (arith, h))
+four_words (a ∷ b ∷ c ∷ []) h k = absurd (omega (arith, h))
+four_words (a ∷ b ∷ c ∷ e ∷ []) h k = refl
+four_words (a ∷ b ∷ c ∷ e ∷ f ∷ ws) h k = absurd (omega (arith, k))
+
 pub five_words : (ws : List (Bor (List ℕ))) → 5 ≤ length ws → length ws < 6
     → map (λ w. w.now) ws ≡ (get_or ws 0 no_word).now ∷ (get_or ws 1 no_word).now ∷ (get_or ws 2 no_word).now ∷ (get_or ws 3 no_word).now ∷ (get_or ws 4 no_word).now ∷ []
 five_words [] h k = absurd (omega (arith, h))

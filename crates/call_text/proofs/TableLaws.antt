@@ -1,20 +1,23 @@
 -- What is read of a line is spelled there, and what is spelled there is read.
-use Rattle.std.proofs.Common.{◌≡◌, ℕ, List, [], ◌∷◌, Option, Some, None, Ok, length, nat_le, inl, inr, refl, if◌then◌else◌}
+use Rattle.std.proofs.Common.{◌≡◌, ℕ, List, [], ◌∷◌, Option, Some, None, Ok, length, nat_le, inl, inr, refl, ap, if◌then◌else◌, codes}
 use Rattle.std.proofs.lemmas.Bool.{leb-true, le-leb}
 use Rattle.std.proofs.lemmas.Slice.Eq.{bytes_eq-Decides}
 use Rattle.std.specs.Str.{bytes_eq}
 use Rattle.line_words.specs.Blanks.{words_of}
+use Rattle.frame_meaning.specs.declared.cells.What.{What}
+use Rattle.composables.specs.declared.calls.FillLength.{FillLength}
+use Rattle.composables.specs.declared.calls.FillLength.TheVariants.{Source, Sequence}
 use Rattle.edit_apply.specs.declared.asks.Call.TheVariants as call
 use Rattle.edit_apply.specs.declared.asks.Ask.TheVariants as ask
 use Rattle.call_text.specs.declared.lines.Line.{Line}
-use Rattle.call_text.specs.declared.lines.Line.TheVariants.{Edit, Ask, Point}
+use Rattle.call_text.specs.declared.lines.Line.TheVariants.{Edit, Ask, Point, Otio}
 use Rattle.call_text.specs.declared.lines.LineFault.TheVariants.{B1, B2, B5}
 use Rattle.call_text.specs.declared.commands.Command.{Command}
 use Rattle.call_text.specs.declared.commands.Command.TheVariants as command
-use Rattle.call_text.specs.Spelling.{numeral_of, track_of, tracks_of, place_of, what_of}
-use Rattle.call_text.specs.Reading.{overwrite_of, insert_of, remove_of, extract_of, slice_of, view_of, items_of, point_of, command_of, row_of, row_if, line_of_words, line_of}
-use Rattle.call_text.specs.Table.{AreWords, IsLine, word_of}
-use Rattle.call_text.proofs.ReadParts.{bind_ok, chosen, ok_same, err_ok, numeral_spelled, numeral_read, track_spelled, track_read, tracks_spelled, tracks_read, place_spelled, place_read, thing_spelled, thing_read}
+use Rattle.call_text.specs.Spelling.{numeral_of, delta_of, end_of, given_of, track_of, tracks_of, place_of, what_of}
+use Rattle.call_text.specs.Reading.{overwrite_of, insert_of, remove_of, extract_of, slice_of, dissolve_of, undissolve_of, trim_of, slip_of, roll_of, slide_of, fill_of, ripple_of, view_of, items_of, point_of, otio_of, command_of, row_of, row_if, line_of_words, line_of}
+use Rattle.call_text.specs.Table.{AreLength, AreWords, IsLine, word_of}
+use Rattle.call_text.proofs.ReadParts.{bind_ok, chosen, ok_same, err_ok, numeral_spelled, numeral_read, delta_spelled, delta_read, end_spelled, end_read, given_spelled, given_read, track_spelled, track_read, tracks_spelled, tracks_read, place_spelled, place_read, thing_spelled, thing_read}
 
 some_same : {A : Type 0} (x y : A) → Some x ≡ Some y → x ≡ y
 some_same x y h = cc
@@ -32,9 +35,18 @@ command_spelled word k h = named word command.Overwrite k _
     (named word command.Remove k _
     (named word command.Extract k _
     (named word command.Slice k _
+    (named word command.Dissolve k _
+    (named word command.Undissolve k _
+    (named word command.Trim k _
+    (named word command.Slip k _
+    (named word command.Roll k _
+    (named word command.Slide k _
+    (named word command.Fill k _
+    (named word command.Ripple k _
     (named word command.View k _
     (named word command.Items k _
-    (named word command.Point k None (λ none. absurd cc)))))))) h
+    (named word command.Point k _
+    (named word command.Otio k None (λ none. absurd cc))))))))))))))))) h
 
 pub command_read : (k : Command) → command_of (word_of k) ≡ Some k
 command_read command.Overwrite = refl
@@ -42,9 +54,18 @@ command_read command.Insert = refl
 command_read command.Remove = refl
 command_read command.Extract = refl
 command_read command.Slice = refl
+command_read command.Dissolve = refl
+command_read command.Undissolve = refl
+command_read command.Trim = refl
+command_read command.Slip = refl
+command_read command.Roll = refl
+command_read command.Slide = refl
+command_read command.Fill = refl
+command_read command.Ripple = refl
 command_read command.View = refl
 command_read command.Items = refl
 command_read command.Point = refl
+command_read command.Otio = refl
 
 overwrite_spelled : (place_at : List ℕ → Option ℕ) (words : List (List ℕ)) (line : Line) → overwrite_of place_at words ≡ Ok line → AreWords place_at (word_of command.Overwrite ∷ words) line
 overwrite_spelled place_at [] line h = absurd (err_ok B2 line h)
@@ -138,6 +159,197 @@ slice_spelled place_at (a ∷ b ∷ []) line h =
     rw (← same) (a, b, refl, track_spelled a track.0 track.1, place_spelled place_at b at.0 at.1)
 slice_spelled place_at (a ∷ b ∷ c ∷ words) line h = absurd (err_ok B2 line h)
 
+dissolve_spelled : (place_at : List ℕ → Option ℕ) (words : List (List ℕ)) (line : Line) → dissolve_of place_at words ≡ Ok line → AreWords place_at (word_of command.Dissolve ∷ words) line
+dissolve_spelled place_at [] line h = absurd (err_ok B2 line h)
+dissolve_spelled place_at (a ∷ []) line h = absurd (err_ok B2 line h)
+dissolve_spelled place_at (a ∷ b ∷ []) line h = absurd (err_ok B2 line h)
+dissolve_spelled place_at (a ∷ b ∷ c ∷ []) line h = absurd (err_ok B2 line h)
+dissolve_spelled place_at (a ∷ b ∷ c ∷ d ∷ []) line h =
+    let track = bind_ok (track_of a) _ line h in
+    let at = bind_ok (place_of place_at b) _ line track.2 in
+    let before = bind_ok (numeral_of c) _ line at.2 in
+    let after = bind_ok (numeral_of d) _ line before.2 in
+    let same = ok_same (Edit (call.Dissolve (record { track = track.0; at = at.0; a = before.0; b = after.0 }))) line after.2 in
+    rw (← same) (
+      a,
+      b,
+      c,
+      d,
+      refl,
+      track_spelled a track.0 track.1,
+      place_spelled place_at b at.0 at.1,
+      numeral_spelled c before.0 before.1,
+      numeral_spelled d after.0 after.1,
+    )
+dissolve_spelled place_at (a ∷ b ∷ c ∷ d ∷ e ∷ words) line h = absurd (err_ok B2 line h)
+
+undissolve_spelled : (place_at : List ℕ → Option ℕ) (words : List (List ℕ)) (line : Line) → undissolve_of place_at words ≡ Ok line → AreWords place_at (word_of command.Undissolve ∷ words) line
+undissolve_spelled place_at [] line h = absurd (err_ok B2 line h)
+undissolve_spelled place_at (a ∷ []) line h = absurd (err_ok B2 line h)
+undissolve_spelled place_at (a ∷ b ∷ []) line h =
+    let track = bind_ok (track_of a) _ line h in
+    let at = bind_ok (place_of place_at b) _ line track.2 in
+    let same = ok_same (Edit (call.Undissolve (record { track = track.0; at = at.0 }))) line at.2 in
+    rw (← same) (a, b, refl, track_spelled a track.0 track.1, place_spelled place_at b at.0 at.1)
+undissolve_spelled place_at (a ∷ b ∷ c ∷ words) line h = absurd (err_ok B2 line h)
+
+trim_spelled : (place_at : List ℕ → Option ℕ) (words : List (List ℕ)) (line : Line) → trim_of words ≡ Ok line → AreWords place_at (word_of command.Trim ∷ words) line
+trim_spelled place_at [] line h = absurd (err_ok B2 line h)
+trim_spelled place_at (a ∷ []) line h = absurd (err_ok B2 line h)
+trim_spelled place_at (a ∷ b ∷ []) line h = absurd (err_ok B2 line h)
+trim_spelled place_at (a ∷ b ∷ c ∷ []) line h = absurd (err_ok B2 line h)
+trim_spelled place_at (a ∷ b ∷ c ∷ d ∷ []) line h =
+    let track = bind_ok (track_of a) _ line h in
+    let item = bind_ok (numeral_of b) _ line track.2 in
+    let end = bind_ok (end_of c) _ line item.2 in
+    let delta = bind_ok (delta_of d) _ line end.2 in
+    let same = ok_same (Edit (call.Trim (record { track = track.0; item = item.0; end = end.0; by = delta.0 }))) line delta.2 in
+    rw (← same) (
+      a,
+      b,
+      d,
+      ap (λ (w : List ℕ). word_of command.Trim ∷ a ∷ b ∷ w ∷ d ∷ []) (end_spelled c end.0 end.1),
+      track_spelled a track.0 track.1,
+      numeral_spelled b item.0 item.1,
+      delta_spelled d delta.0 delta.1,
+    )
+trim_spelled place_at (a ∷ b ∷ c ∷ d ∷ e ∷ words) line h = absurd (err_ok B2 line h)
+
+slip_spelled : (place_at : List ℕ → Option ℕ) (words : List (List ℕ)) (line : Line) → slip_of words ≡ Ok line → AreWords place_at (word_of command.Slip ∷ words) line
+slip_spelled place_at [] line h = absurd (err_ok B2 line h)
+slip_spelled place_at (a ∷ []) line h = absurd (err_ok B2 line h)
+slip_spelled place_at (a ∷ b ∷ []) line h = absurd (err_ok B2 line h)
+slip_spelled place_at (a ∷ b ∷ c ∷ []) line h = absurd (err_ok B2 line h)
+slip_spelled place_at (a ∷ b ∷ c ∷ d ∷ []) line h =
+    let tracks = bind_ok (tracks_of a) _ line h in
+    let track = bind_ok (track_of b) _ line tracks.2 in
+    let item = bind_ok (numeral_of c) _ line track.2 in
+    let delta = bind_ok (delta_of d) _ line item.2 in
+    let same = ok_same (Edit (call.Slip (record { tracks = tracks.0; track = track.0; item = item.0; by = delta.0 }))) line delta.2 in
+    rw (← same) (
+      a,
+      b,
+      c,
+      d,
+      refl,
+      tracks_spelled a tracks.0 tracks.1,
+      track_spelled b track.0 track.1,
+      numeral_spelled c item.0 item.1,
+      delta_spelled d delta.0 delta.1,
+    )
+slip_spelled place_at (a ∷ b ∷ c ∷ d ∷ e ∷ words) line h = absurd (err_ok B2 line h)
+
+roll_spelled : (place_at : List ℕ → Option ℕ) (words : List (List ℕ)) (line : Line) → roll_of place_at words ≡ Ok line → AreWords place_at (word_of command.Roll ∷ words) line
+roll_spelled place_at [] line h = absurd (err_ok B2 line h)
+roll_spelled place_at (a ∷ []) line h = absurd (err_ok B2 line h)
+roll_spelled place_at (a ∷ b ∷ []) line h = absurd (err_ok B2 line h)
+roll_spelled place_at (a ∷ b ∷ c ∷ []) line h =
+    let track = bind_ok (track_of a) _ line h in
+    let at = bind_ok (place_of place_at b) _ line track.2 in
+    let delta = bind_ok (delta_of c) _ line at.2 in
+    let same = ok_same (Edit (call.Roll (record { track = track.0; at = at.0; by = delta.0 }))) line delta.2 in
+    rw (← same) (a, b, c, refl, track_spelled a track.0 track.1, place_spelled place_at b at.0 at.1, delta_spelled c delta.0 delta.1)
+roll_spelled place_at (a ∷ b ∷ c ∷ d ∷ words) line h = absurd (err_ok B2 line h)
+
+slide_spelled : (place_at : List ℕ → Option ℕ) (words : List (List ℕ)) (line : Line) → slide_of words ≡ Ok line → AreWords place_at (word_of command.Slide ∷ words) line
+slide_spelled place_at [] line h = absurd (err_ok B2 line h)
+slide_spelled place_at (a ∷ []) line h = absurd (err_ok B2 line h)
+slide_spelled place_at (a ∷ b ∷ []) line h = absurd (err_ok B2 line h)
+slide_spelled place_at (a ∷ b ∷ c ∷ []) line h = absurd (err_ok B2 line h)
+slide_spelled place_at (a ∷ b ∷ c ∷ d ∷ []) line h =
+    let tracks = bind_ok (tracks_of a) _ line h in
+    let track = bind_ok (track_of b) _ line tracks.2 in
+    let item = bind_ok (numeral_of c) _ line track.2 in
+    let delta = bind_ok (delta_of d) _ line item.2 in
+    let same = ok_same (Edit (call.Slide (record { tracks = tracks.0; track = track.0; item = item.0; by = delta.0 }))) line delta.2 in
+    rw (← same) (
+      a,
+      b,
+      c,
+      d,
+      refl,
+      tracks_spelled a tracks.0 tracks.1,
+      track_spelled b track.0 track.1,
+      numeral_spelled c item.0 item.1,
+      delta_spelled d delta.0 delta.1,
+    )
+slide_spelled place_at (a ∷ b ∷ c ∷ d ∷ e ∷ words) line h = absurd (err_ok B2 line h)
+
+fill_spelled : (place_at : List ℕ → Option ℕ) (words : List (List ℕ)) (line : Line) → fill_of place_at words ≡ Ok line → AreWords place_at (word_of command.Fill ∷ words) line
+fill_spelled place_at [] line h = absurd (err_ok B2 line h)
+fill_spelled place_at (a ∷ []) line h = absurd (err_ok B2 line h)
+fill_spelled place_at (a ∷ b ∷ []) line h = absurd (err_ok B2 line h)
+fill_spelled place_at (a ∷ b ∷ c ∷ []) line h = absurd (err_ok B2 line h)
+fill_spelled place_at (a ∷ b ∷ c ∷ d ∷ []) line h = absurd (err_ok B2 line h)
+fill_spelled place_at (a ∷ b ∷ c ∷ d ∷ e ∷ []) line h =
+    let track = bind_ok (track_of a) _ line h in
+    let at = bind_ok (place_of place_at b) _ line track.2 in
+    let what = bind_ok (what_of c) _ line at.2 in
+    let from = bind_ok (numeral_of d) _ line what.2 in
+    let how = bind_ok (given_of (codes "sequence") e) _ line from.2 in
+    let same = ok_same (Edit (call.Fill (record { track = track.0; at = at.0; what = what.0; from = from.0; length = Sequence }))) line how.2 in
+    rw (← same) (
+      a,
+      b,
+      c,
+      d,
+      e ∷ [],
+      refl,
+      track_spelled a track.0 track.1,
+      place_spelled place_at b at.0 at.1,
+      thing_spelled c what.0 what.1,
+      numeral_spelled d from.0 from.1,
+      ap (λ (w : List ℕ). w ∷ []) (given_spelled (codes "sequence") e how.0 how.1),
+    )
+fill_spelled place_at (a ∷ b ∷ c ∷ d ∷ e ∷ f ∷ []) line h =
+    let track = bind_ok (track_of a) _ line h in
+    let at = bind_ok (place_of place_at b) _ line track.2 in
+    let what = bind_ok (what_of c) _ line at.2 in
+    let from = bind_ok (numeral_of d) _ line what.2 in
+    let how = bind_ok (given_of (codes "source") e) _ line from.2 in
+    let len = bind_ok (numeral_of f) _ line how.2 in
+    let same = ok_same (Edit (call.Fill (record { track = track.0; at = at.0; what = what.0; from = from.0; length = Source len.0 }))) line len.2 in
+    rw (← same) (
+      a,
+      b,
+      c,
+      d,
+      e ∷ f ∷ [],
+      refl,
+      track_spelled a track.0 track.1,
+      place_spelled place_at b at.0 at.1,
+      thing_spelled c what.0 what.1,
+      numeral_spelled d from.0 from.1,
+      (f, ap (λ (w : List ℕ). w ∷ f ∷ []) (given_spelled (codes "source") e how.0 how.1), numeral_spelled f len.0 len.1),
+    )
+fill_spelled place_at (a ∷ b ∷ c ∷ d ∷ e ∷ f ∷ g ∷ words) line h = absurd (err_ok B2 line h)
+
+ripple_spelled : (place_at : List ℕ → Option ℕ) (words : List (List ℕ)) (line : Line) → ripple_of words ≡ Ok line → AreWords place_at (word_of command.Ripple ∷ words) line
+ripple_spelled place_at [] line h = absurd (err_ok B2 line h)
+ripple_spelled place_at (a ∷ []) line h = absurd (err_ok B2 line h)
+ripple_spelled place_at (a ∷ b ∷ []) line h = absurd (err_ok B2 line h)
+ripple_spelled place_at (a ∷ b ∷ c ∷ []) line h = absurd (err_ok B2 line h)
+ripple_spelled place_at (a ∷ b ∷ c ∷ d ∷ []) line h = absurd (err_ok B2 line h)
+ripple_spelled place_at (a ∷ b ∷ c ∷ d ∷ e ∷ []) line h =
+    let tracks = bind_ok (tracks_of a) _ line h in
+    let track = bind_ok (track_of b) _ line tracks.2 in
+    let item = bind_ok (numeral_of c) _ line track.2 in
+    let end = bind_ok (end_of d) _ line item.2 in
+    let delta = bind_ok (delta_of e) _ line end.2 in
+    let same = ok_same (Edit (call.Ripple (record { tracks = tracks.0; track = track.0; item = item.0; end = end.0; by = delta.0 }))) line delta.2 in
+    rw (← same) (
+      a,
+      b,
+      c,
+      e,
+      ap (λ (w : List ℕ). word_of command.Ripple ∷ a ∷ b ∷ c ∷ w ∷ e ∷ []) (end_spelled d end.0 end.1),
+      tracks_spelled a tracks.0 tracks.1,
+      track_spelled b track.0 track.1,
+      numeral_spelled c item.0 item.1,
+      delta_spelled e delta.0 delta.1,
+    )
+ripple_spelled place_at (a ∷ b ∷ c ∷ d ∷ e ∷ f ∷ words) line h = absurd (err_ok B2 line h)
+
 view_spelled : (place_at : List ℕ → Option ℕ) (words : List (List ℕ)) (line : Line) → view_of place_at words ≡ Ok line → AreWords place_at (word_of command.View ∷ words) line
 view_spelled place_at [] line h = absurd (err_ok B2 line h)
 view_spelled place_at (a ∷ []) line h = absurd (err_ok B2 line h)
@@ -162,15 +374,32 @@ point_spelled : (place_at : List ℕ → Option ℕ) (words : List (List ℕ)) (
 point_spelled place_at [] line h = let same = ok_same Point line h in rw (← same) refl
 point_spelled place_at (a ∷ words) line h = absurd (err_ok B2 line h)
 
+otio_spelled : (place_at : List ℕ → Option ℕ) (words : List (List ℕ)) (line : Line) → otio_of words ≡ Ok line → AreWords place_at (word_of command.Otio ∷ words) line
+otio_spelled place_at [] line h = absurd (err_ok B2 line h)
+otio_spelled place_at (a ∷ []) line h =
+    let point = bind_ok (numeral_of a) _ line h in
+    let same = ok_same (Otio point.0) line point.2 in
+    rw (← same) (a, refl, numeral_spelled a point.0 point.1)
+otio_spelled place_at (a ∷ b ∷ words) line h = absurd (err_ok B2 line h)
+
 row_spelled : (place_at : List ℕ → Option ℕ) (k : Command) (words : List (List ℕ)) (line : Line) → row_of place_at k words ≡ Ok line → AreWords place_at (word_of k ∷ words) line
 row_spelled place_at command.Overwrite words line h = overwrite_spelled place_at words line h
 row_spelled place_at command.Insert words line h = insert_spelled place_at words line h
 row_spelled place_at command.Remove words line h = remove_spelled place_at words line h
 row_spelled place_at command.Extract words line h = extract_spelled place_at words line h
 row_spelled place_at command.Slice words line h = slice_spelled place_at words line h
+row_spelled place_at command.Dissolve words line h = dissolve_spelled place_at words line h
+row_spelled place_at command.Undissolve words line h = undissolve_spelled place_at words line h
+row_spelled place_at command.Trim words line h = trim_spelled place_at words line h
+row_spelled place_at command.Slip words line h = slip_spelled place_at words line h
+row_spelled place_at command.Roll words line h = roll_spelled place_at words line h
+row_spelled place_at command.Slide words line h = slide_spelled place_at words line h
+row_spelled place_at command.Fill words line h = fill_spelled place_at words line h
+row_spelled place_at command.Ripple words line h = ripple_spelled place_at words line h
 row_spelled place_at command.View words line h = view_spelled place_at words line h
 row_spelled place_at command.Items words line h = items_spelled place_at words line h
 row_spelled place_at command.Point words line h = point_spelled place_at words line h
+row_spelled place_at command.Otio words line h = otio_spelled place_at words line h
 
 if_spelled : (place_at : List ℕ → Option ℕ) (first : List ℕ) (o : Option Command) (words : List (List ℕ)) (line : Line)
     → command_of first ≡ o → row_if place_at o words ≡ Ok line → AreWords place_at (first ∷ words) line
@@ -186,6 +415,14 @@ line_spelled place_at bytes line h = elim (chosen (nat_le (length bytes) 1024) _
   | inl short ↦ record { short = leb-true (length bytes) 1024 short.0; words = words_spelled place_at (words_of bytes) line short.1 }
   | inr long ↦ absurd (err_ok B5 line long.1)
 ]
+
+fill_read : (place_at : List ℕ → Option ℕ) (t a w f : List ℕ) (rest : List (List ℕ)) (track at : ℕ) (what : What) (from : ℕ) (len : FillLength)
+    → track_of t ≡ Ok track → place_of place_at a ≡ Ok at → what_of w ≡ Ok what → numeral_of f ≡ Ok from → AreLength rest len
+    → fill_of place_at (t ∷ a ∷ w ∷ f ∷ rest) ≡ Ok (Edit (call.Fill (record { track = track; at = at; what = what; from = from; length = len })))
+fill_read place_at t a w f rest track at what from (Source n) is_track is_at is_what is_from (word, is_rest, is_number) =
+    let number = numeral_read word n is_number in
+    rw (is_rest, is_track, is_at, is_what, is_from, number) refl
+fill_read place_at t a w f rest track at what from Sequence is_track is_at is_what is_from is_rest = rw (is_rest, is_track, is_at, is_what, is_from) refl
 
 words_read : (place_at : List ℕ → Option ℕ) (words : List (List ℕ)) (line : Line) → AreWords place_at words line → line_of_words place_at words ≡ Ok line
 words_read place_at words (Edit (call.Overwrite c)) h =
@@ -216,6 +453,52 @@ words_read place_at words (Edit (call.Slice c)) h =
     let track = track_read h.0 c.track h.3 in
     let at = place_read place_at h.1 c.at h.4 in
     rw (h.2, track, at) refl
+words_read place_at words (Edit (call.Dissolve c)) h =
+    let track = track_read h.0 c.track h.5 in
+    let at = place_read place_at h.1 c.at h.6 in
+    let before = numeral_read h.2 c.a h.7 in
+    let after = numeral_read h.3 c.b h.8 in
+    rw (h.4, track, at, before, after) refl
+words_read place_at words (Edit (call.Undissolve c)) h =
+    let track = track_read h.0 c.track h.3 in
+    let at = place_read place_at h.1 c.at h.4 in
+    rw (h.2, track, at) refl
+words_read place_at words (Edit (call.Trim c)) h =
+    let track = track_read h.0 c.track h.4 in
+    let item = numeral_read h.1 c.item h.5 in
+    let end = end_read c.end in
+    let delta = delta_read h.2 c.by h.6 in
+    rw (h.3, track, item, end, delta) refl
+words_read place_at words (Edit (call.Slip c)) h =
+    let tracks = tracks_read h.0 c.tracks h.5 in
+    let track = track_read h.1 c.track h.6 in
+    let item = numeral_read h.2 c.item h.7 in
+    let delta = delta_read h.3 c.by h.8 in
+    rw (h.4, tracks, track, item, delta) refl
+words_read place_at words (Edit (call.Roll c)) h =
+    let track = track_read h.0 c.track h.4 in
+    let at = place_read place_at h.1 c.at h.5 in
+    let delta = delta_read h.2 c.by h.6 in
+    rw (h.3, track, at, delta) refl
+words_read place_at words (Edit (call.Slide c)) h =
+    let tracks = tracks_read h.0 c.tracks h.5 in
+    let track = track_read h.1 c.track h.6 in
+    let item = numeral_read h.2 c.item h.7 in
+    let delta = delta_read h.3 c.by h.8 in
+    rw (h.4, tracks, track, item, delta) refl
+words_read place_at words (Edit (call.Fill c)) h =
+    let track = track_read h.0 c.track h.6 in
+    let at = place_read place_at h.1 c.at h.7 in
+    let what = thing_read h.2 c.what h.8 in
+    let from = numeral_read h.3 c.from h.9 in
+    rw h.5 (fill_read place_at h.0 h.1 h.2 h.3 h.4 c.track c.at c.what c.from c.length track at what from h.10)
+words_read place_at words (Edit (call.Ripple c)) h =
+    let tracks = tracks_read h.0 c.tracks h.5 in
+    let track = track_read h.1 c.track h.6 in
+    let item = numeral_read h.2 c.item h.7 in
+    let end = end_read c.end in
+    let delta = delta_read h.3 c.by h.8 in
+    rw (h.4, tracks, track, item, end, delta) refl
 words_read place_at words (Ask (ask.View t p q)) h =
     let track = track_read h.0 t h.4 in
     let a = place_read place_at h.1 p h.5 in
@@ -223,6 +506,7 @@ words_read place_at words (Ask (ask.View t p q)) h =
     rw (h.3, track, a, b) refl
 words_read place_at words (Ask (ask.Items t)) h = let track = track_read h.0 t h.2 in rw (h.1, track) refl
 words_read place_at words Point h = rw h refl
+words_read place_at words (Otio n) h = let point = numeral_read h.0 n h.2 in rw (h.1, point) refl
 
 pub line_read : (place_at : List ℕ → Option ℕ) (bytes : List ℕ) (line : Line) → IsLine place_at bytes line → line_of place_at bytes ≡ Ok line
 line_read place_at bytes line h = let short = le-leb (length bytes) 1024 h.short in rw short (words_read place_at (words_of bytes) line h.words)

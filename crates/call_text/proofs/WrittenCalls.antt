@@ -1,17 +1,19 @@
 -- The text of a call is read again as that call.
 use Rattle.std.proofs.Common.{◌≡◌, ℕ, ◌+◌, ◌<◌, ◌≤◌, ◌^◌, List, [], ◌∷◌, ◌++◌, Option, Ok, length, inl, refl, ap, ◌∙◌, arith, append_assoc, length-append, codes}
-use Rattle.std.specs.Fmt.{decimal}
+use Rattle.std.specs.Fmt.{decimal, signed_decimal}
 use Rattle.line_words.specs.Blanks.{words_of, IsWord}
-use Rattle.line_words.proofs.DigitLaws.{number_of-decimal}
+use Rattle.line_words.proofs.DigitLaws.{number_of-decimal, signed_of-signed_decimal}
 use Rattle.line_words.proofs.WordLaws.{words_of-word, words_of-last}
+use Rattle.composables.specs.declared.calls.FillLength.{FillLength}
+use Rattle.composables.specs.declared.calls.FillLength.TheVariants.{Source, Sequence}
 use Rattle.edit_apply.specs.declared.asks.Call.{Call}
 use Rattle.edit_apply.specs.declared.asks.Call.TheVariants as call
 use Rattle.call_text.specs.declared.lines.Line.TheVariants.{Edit}
-use Rattle.call_text.specs.CallTexts.{what_text, tracks_text, call_text_of, IsWritten}
+use Rattle.call_text.specs.CallTexts.{what_text, tracks_text, length_text, call_text_of, IsSmallLength, IsWritten}
 use Rattle.call_text.specs.Reading.{line_of}
-use Rattle.call_text.specs.Table.{AreCall}
+use Rattle.call_text.specs.Table.{AreCall, AreLength, end_word}
 use Rattle.call_text.proofs.TableLaws.{line_read}
-use Rattle.call_text.proofs.WrittenParts.{length-decimal, IsWord-tested, IsWord-decimal, IsWord-what_text, length-what_text, IsThing-what_text, IsTracks-tracks_text, IsWord-tracks_text, length-tracks_text}
+use Rattle.call_text.proofs.WrittenParts.{IsWord-end, IsWord-signed, length-end, length-signed, length-decimal, IsWord-tested, IsWord-decimal, IsWord-what_text, length-what_text, IsThing-what_text, IsTracks-tracks_text, IsWord-tracks_text, length-tracks_text}
 
 -- words with one space between
 abbrev spaced : List ℕ → List (List ℕ) → List ℕ
@@ -38,6 +40,28 @@ low t h = omega (arith, h)
 
 frames_spaced : (w f n : List ℕ) → w ++ codes " " ++ f ++ codes " " ++ n ≡ spaced w (f ∷ n ∷ [])
 frames_spaced w f n = simp append_assoc refl
+
+-- how much is filled, as its words
+abbrev length_words : FillLength → List (List ℕ)
+length_words (Source n) = codes "source" ∷ decimal n ∷ []
+length_words Sequence = codes "sequence" ∷ []
+
+are_length_words : (l : FillLength) → IsSmallLength l → AreAllWords (length_words l)
+are_length_words (Source n) h = (IsWord-tested (codes "source") refl, (IsWord-decimal n h, tt))
+are_length_words Sequence h = (IsWord-tested (codes "sequence") refl, tt)
+
+AreLength-words : (l : FillLength) → IsSmallLength l → AreLength (length_words l) l
+AreLength-words (Source n) h = (decimal n, refl, number_of-decimal n h)
+AreLength-words Sequence h = refl
+
+length_length : (l : FillLength) → IsSmallLength l → length (length_text l) ≤ 17
+length_length (Source n) h = let digits = length-decimal n h in omega (arith, digits)
+length_length Sequence h = omega arith
+
+length_spaced : (l : FillLength) (t a w f : List ℕ)
+    → codes "fill " ++ t ++ codes " " ++ a ++ codes " " ++ w ++ codes " " ++ f ++ codes " " ++ length_text l ≡ spaced (codes "fill") (t ∷ a ∷ w ∷ f ∷ length_words l)
+length_spaced (Source n) t a w f = simp append_assoc refl
+length_spaced Sequence t a w f = simp append_assoc refl
 
 pub written_call : (place_at : List ℕ → Option ℕ) (c : Call) → IsWritten c → line_of place_at (call_text_of c) ≡ Ok (Edit c)
 written_call place_at (call.Overwrite c) (track, at, what, from, len) =
@@ -165,3 +189,215 @@ written_call place_at (call.Slice c) (track, at) =
 
     length-all : (t a : List ℕ) → length (codes "slice " ++ t ++ codes " " ++ a) ≡ length t + length a + 7
     length-all t a = simp length-append (omega arith)
+written_call place_at (call.Dissolve c) (track, at, a, b) =
+    is_read place_at (call.Dissolve c) (codes "dissolve") (decimal c.track ∷ decimal c.at ∷ decimal c.a ∷ decimal c.b ∷ [])
+    (regrouped (decimal c.track) (decimal c.at) (decimal c.a) (decimal c.b))
+    (IsWord-tested (codes "dissolve") refl)
+    (IsWord-decimal c.track (low c.track track), (IsWord-decimal c.at at, (IsWord-decimal c.a a, (IsWord-decimal c.b b, tt))))
+    (omega (
+      arith,
+      length-all (decimal c.track) (decimal c.at) (decimal c.a) (decimal c.b),
+      length-decimal c.track (low c.track track),
+      length-decimal c.at at,
+      length-decimal c.a a,
+      length-decimal c.b b,
+    )) (
+      decimal c.track,
+      decimal c.at,
+      decimal c.a,
+      decimal c.b,
+      refl,
+      (number_of-decimal c.track (low c.track track), track),
+      inl (number_of-decimal c.at at),
+      number_of-decimal c.a a,
+      number_of-decimal c.b b,
+    )
+  where
+    regrouped : (t p x y : List ℕ) → codes "dissolve " ++ t ++ codes " " ++ p ++ codes " " ++ x ++ codes " " ++ y ≡ spaced (codes "dissolve") (t ∷ p ∷ x ∷ y ∷ [])
+    regrouped t p x y = simp append_assoc refl
+
+    length-all : (t p x y : List ℕ) → length (codes "dissolve " ++ t ++ codes " " ++ p ++ codes " " ++ x ++ codes " " ++ y) ≡ length t + length p + length x + length y + 12
+    length-all t p x y = simp length-append (omega arith)
+written_call place_at (call.Undissolve c) (track, at) =
+    is_read place_at (call.Undissolve c) (codes "undissolve") (decimal c.track ∷ decimal c.at ∷ [])
+    (regrouped (decimal c.track) (decimal c.at))
+    (IsWord-tested (codes "undissolve") refl)
+    (IsWord-decimal c.track (low c.track track), (IsWord-decimal c.at at, tt))
+    (omega (arith, length-all (decimal c.track) (decimal c.at), length-decimal c.track (low c.track track), length-decimal c.at at))
+    (decimal c.track, decimal c.at, refl, (number_of-decimal c.track (low c.track track), track), inl (number_of-decimal c.at at))
+  where
+    regrouped : (t a : List ℕ) → codes "undissolve " ++ t ++ codes " " ++ a ≡ spaced (codes "undissolve") (t ∷ a ∷ [])
+    regrouped t a = simp append_assoc refl
+
+    length-all : (t a : List ℕ) → length (codes "undissolve " ++ t ++ codes " " ++ a) ≡ length t + length a + 12
+    length-all t a = simp length-append (omega arith)
+written_call place_at (call.Trim c) (track, item, by) =
+    is_read place_at (call.Trim c) (codes "trim") (decimal c.track ∷ decimal c.item ∷ end_word c.end ∷ signed_decimal c.by ∷ [])
+    (regrouped (decimal c.track) (decimal c.item) (end_word c.end) (signed_decimal c.by))
+    (IsWord-tested (codes "trim") refl)
+    (IsWord-decimal c.track (low c.track track), (IsWord-decimal c.item item, (IsWord-end c.end, (IsWord-signed c.by by, tt))))
+    (omega (
+      arith,
+      length-all (decimal c.track) (decimal c.item) (end_word c.end) (signed_decimal c.by),
+      length-decimal c.track (low c.track track),
+      length-decimal c.item item,
+      length-end c.end,
+      length-signed c.by by,
+    )) (
+      decimal c.track,
+      decimal c.item,
+      signed_decimal c.by,
+      refl,
+      (number_of-decimal c.track (low c.track track), track),
+      number_of-decimal c.item item,
+      signed_of-signed_decimal c.by by,
+    )
+  where
+    regrouped : (t i e d : List ℕ) → codes "trim " ++ t ++ codes " " ++ i ++ codes " " ++ e ++ codes " " ++ d ≡ spaced (codes "trim") (t ∷ i ∷ e ∷ d ∷ [])
+    regrouped t i e d = simp append_assoc refl
+
+    length-all : (t i e d : List ℕ) → length (codes "trim " ++ t ++ codes " " ++ i ++ codes " " ++ e ++ codes " " ++ d) ≡ length t + length i + length e + length d + 8
+    length-all t i e d = simp length-append (omega arith)
+written_call place_at (call.Slip c) ((some, tracks), track, item, by) =
+    is_read place_at (call.Slip c) (codes "slip") (tracks_text c.tracks ∷ decimal c.track ∷ decimal c.item ∷ signed_decimal c.by ∷ [])
+    (regrouped (tracks_text c.tracks) (decimal c.track) (decimal c.item) (signed_decimal c.by))
+    (IsWord-tested (codes "slip") refl)
+    (IsWord-tracks_text c.tracks some tracks, (IsWord-decimal c.track (low c.track track), (IsWord-decimal c.item item, (IsWord-signed c.by by, tt))))
+    (omega (
+      arith,
+      length-all (tracks_text c.tracks) (decimal c.track) (decimal c.item) (signed_decimal c.by),
+      length-tracks_text c.tracks some tracks,
+      length-decimal c.track (low c.track track),
+      length-decimal c.item item,
+      length-signed c.by by,
+    )) (
+      tracks_text c.tracks,
+      decimal c.track,
+      decimal c.item,
+      signed_decimal c.by,
+      refl,
+      IsTracks-tracks_text c.tracks some tracks,
+      (number_of-decimal c.track (low c.track track), track),
+      number_of-decimal c.item item,
+      signed_of-signed_decimal c.by by,
+    )
+  where
+    regrouped : (s t i d : List ℕ) → codes "slip " ++ s ++ codes " " ++ t ++ codes " " ++ i ++ codes " " ++ d ≡ spaced (codes "slip") (s ∷ t ∷ i ∷ d ∷ [])
+    regrouped s t i d = simp append_assoc refl
+
+    length-all : (s t i d : List ℕ) → length (codes "slip " ++ s ++ codes " " ++ t ++ codes " " ++ i ++ codes " " ++ d) ≡ length s + length t + length i + length d + 8
+    length-all s t i d = simp length-append (omega arith)
+written_call place_at (call.Roll c) (track, at, by) =
+    is_read place_at (call.Roll c) (codes "roll") (decimal c.track ∷ decimal c.at ∷ signed_decimal c.by ∷ [])
+    (regrouped (decimal c.track) (decimal c.at) (signed_decimal c.by))
+    (IsWord-tested (codes "roll") refl)
+    (IsWord-decimal c.track (low c.track track), (IsWord-decimal c.at at, (IsWord-signed c.by by, tt)))
+    (omega (
+      arith,
+      length-all (decimal c.track) (decimal c.at) (signed_decimal c.by),
+      length-decimal c.track (low c.track track),
+      length-decimal c.at at,
+      length-signed c.by by,
+    )) (
+      decimal c.track,
+      decimal c.at,
+      signed_decimal c.by,
+      refl,
+      (number_of-decimal c.track (low c.track track), track),
+      inl (number_of-decimal c.at at),
+      signed_of-signed_decimal c.by by,
+    )
+  where
+    regrouped : (t a d : List ℕ) → codes "roll " ++ t ++ codes " " ++ a ++ codes " " ++ d ≡ spaced (codes "roll") (t ∷ a ∷ d ∷ [])
+    regrouped t a d = simp append_assoc refl
+
+    length-all : (t a d : List ℕ) → length (codes "roll " ++ t ++ codes " " ++ a ++ codes " " ++ d) ≡ length t + length a + length d + 7
+    length-all t a d = simp length-append (omega arith)
+written_call place_at (call.Slide c) ((some, tracks), track, item, by) =
+    is_read place_at (call.Slide c) (codes "slide") (tracks_text c.tracks ∷ decimal c.track ∷ decimal c.item ∷ signed_decimal c.by ∷ [])
+    (regrouped (tracks_text c.tracks) (decimal c.track) (decimal c.item) (signed_decimal c.by))
+    (IsWord-tested (codes "slide") refl)
+    (IsWord-tracks_text c.tracks some tracks, (IsWord-decimal c.track (low c.track track), (IsWord-decimal c.item item, (IsWord-signed c.by by, tt))))
+    (omega (
+      arith,
+      length-all (tracks_text c.tracks) (decimal c.track) (decimal c.item) (signed_decimal c.by),
+      length-tracks_text c.tracks some tracks,
+      length-decimal c.track (low c.track track),
+      length-decimal c.item item,
+      length-signed c.by by,
+    )) (
+      tracks_text c.tracks,
+      decimal c.track,
+      decimal c.item,
+      signed_decimal c.by,
+      refl,
+      IsTracks-tracks_text c.tracks some tracks,
+      (number_of-decimal c.track (low c.track track), track),
+      number_of-decimal c.item item,
+      signed_of-signed_decimal c.by by,
+    )
+  where
+    regrouped : (s t i d : List ℕ) → codes "slide " ++ s ++ codes " " ++ t ++ codes " " ++ i ++ codes " " ++ d ≡ spaced (codes "slide") (s ∷ t ∷ i ∷ d ∷ [])
+    regrouped s t i d = simp append_assoc refl
+
+    length-all : (s t i d : List ℕ) → length (codes "slide " ++ s ++ codes " " ++ t ++ codes " " ++ i ++ codes " " ++ d) ≡ length s + length t + length i + length d + 9
+    length-all s t i d = simp length-append (omega arith)
+written_call place_at (call.Fill c) (track, at, what, from, len) =
+    is_read place_at (call.Fill c) (codes "fill") (decimal c.track ∷ decimal c.at ∷ what_text c.what ∷ decimal c.from ∷ length_words c.length)
+    (length_spaced c.length (decimal c.track) (decimal c.at) (what_text c.what) (decimal c.from))
+    (IsWord-tested (codes "fill") refl)
+    (IsWord-decimal c.track (low c.track track), (IsWord-decimal c.at at, (IsWord-what_text c.what what, (IsWord-decimal c.from from, are_length_words c.length len))))
+    (omega (
+      arith,
+      length-all (decimal c.track) (decimal c.at) (what_text c.what) (decimal c.from) (length_text c.length),
+      length-decimal c.track (low c.track track),
+      length-decimal c.at at,
+      length-what_text c.what what,
+      length-decimal c.from from,
+      length_length c.length len,
+    )) (
+      decimal c.track,
+      decimal c.at,
+      what_text c.what,
+      decimal c.from,
+      length_words c.length,
+      refl,
+      (number_of-decimal c.track (low c.track track), track),
+      inl (number_of-decimal c.at at),
+      IsThing-what_text c.what what,
+      number_of-decimal c.from from,
+      AreLength-words c.length len,
+    )
+  where
+    length-all : (t a w f n : List ℕ) → length (codes "fill " ++ t ++ codes " " ++ a ++ codes " " ++ w ++ codes " " ++ f ++ codes " " ++ n) ≡ length t + length a + length w + length f + length n + 9
+    length-all t a w f n = simp length-append (omega arith)
+written_call place_at (call.Ripple c) ((some, tracks), track, item, by) =
+    is_read place_at (call.Ripple c) (codes "ripple") (tracks_text c.tracks ∷ decimal c.track ∷ decimal c.item ∷ end_word c.end ∷ signed_decimal c.by ∷ [])
+    (regrouped (tracks_text c.tracks) (decimal c.track) (decimal c.item) (end_word c.end) (signed_decimal c.by))
+    (IsWord-tested (codes "ripple") refl)
+    (IsWord-tracks_text c.tracks some tracks, (IsWord-decimal c.track (low c.track track), (IsWord-decimal c.item item, (IsWord-end c.end, (IsWord-signed c.by by, tt)))))
+    (omega (
+      arith,
+      length-all (tracks_text c.tracks) (decimal c.track) (decimal c.item) (end_word c.end) (signed_decimal c.by),
+      length-tracks_text c.tracks some tracks,
+      length-decimal c.track (low c.track track),
+      length-decimal c.item item,
+      length-end c.end,
+      length-signed c.by by,
+    )) (
+      tracks_text c.tracks,
+      decimal c.track,
+      decimal c.item,
+      signed_decimal c.by,
+      refl,
+      IsTracks-tracks_text c.tracks some tracks,
+      (number_of-decimal c.track (low c.track track), track),
+      number_of-decimal c.item item,
+      signed_of-signed_decimal c.by by,
+    )
+  where
+    regrouped : (s t i e d : List ℕ) → codes "ripple " ++ s ++ codes " " ++ t ++ codes " " ++ i ++ codes " " ++ e ++ codes " " ++ d ≡ spaced (codes "ripple") (s ∷ t ∷ i ∷ e ∷ d ∷ [])
+    regrouped s t i e d = simp append_assoc refl
+
+    length-all : (s t i e d : List ℕ) → length (codes "ripple " ++ s ++ codes " " ++ t ++ codes " " ++ i ++ codes " " ++ e ++ codes " " ++ d) ≡ length s + length t + length i + length e + length d + 11
+    length-all s t i e d = simp length-append (omega arith)

@@ -1,10 +1,12 @@
 -- Each part of a line is a word where it is written, and spells what was written.
-use Rattle.std.proofs.Common.{◌≡◌, ℕ, ◌<◌, ◌≤◌, ◌*◌, ◌^◌, List, [], ◌∷◌, ◌++◌, Bool, true, false, not, ◌&&◌, Result, Ok, Err, length, map, if◌then◌else◌, refl, sym, ap, subst, ◌∙◌, arith, length-append, codes}
+use Rattle.std.proofs.Common.{◌≡◌, ℕ, suc, ℤ, pos, negsuc, FitsSigned, ◌<◌, ◌≤◌, ◌*◌, ◌^◌, List, [], ◌∷◌, ◌++◌, Bool, true, false, not, ◌&&◌, Result, Ok, Err, length, map, if◌then◌else◌, refl, sym, ap, subst, ◌∙◌, arith, length-append, codes}
 use Rattle.std.specs.Char.{is_ascii_digit}
-use Rattle.std.specs.Fmt.{decimal}
+use Rattle.std.specs.Fmt.{decimal, signed_decimal}
+use Rattle.std.specs.Int.{w32}
 use Rattle.std.specs.List.{list_all, slice_split, All}
 use Rattle.std.proofs.lemmas.Bool.{and_parts}
 use Rattle.std.proofs.lemmas.Bool.Decides.{nat_tests}
+use Rattle.std.proofs.lemmas.Int.{ints}
 use Rattle.std.proofs.lemmas.Fmt.{decimal_nonempty, length-decimal-le}
 use Rattle.std.proofs.lemmas.List.Elements.{All-nil, All-cons, All-append, All-head, All-tail}
 use Rattle.std.proofs.lemmas.List.{append-nil}
@@ -18,7 +20,9 @@ use Rattle.frame_meaning.specs.declared.cells.What.{What}
 use Rattle.frame_meaning.specs.declared.cells.What.TheVariants.{Media, Nest}
 use Rattle.call_text.specs.CallTexts.{what_text, numbers_after, tracks_text, IsSmallWhat}
 use Rattle.call_text.specs.Spelling.{is_comma}
-use Rattle.call_text.specs.Table.{IsThing, AreNumerals, IsTracks}
+use Rattle.call_text.specs.Table.{IsThing, AreNumerals, IsTracks, end_word}
+use Rattle.composables.specs.declared.calls.End.{End}
+use Rattle.composables.specs.declared.calls.End.TheVariants.{Head, Tail}
 use Rattle.composables.specs.TrackSets.{tracks_in}
 use Rattle.call_text.proofs.TrackSets.{rising, tracks_in_below, tracks_in_count}
 
@@ -145,3 +149,27 @@ length-what_text (Nest n) h = omega (arith, length-decimal n h)
 pub IsThing-what_text : (w : What) → IsSmallWhat w → IsThing (what_text w) w
 IsThing-what_text (Media m) h = (decimal m, refl, number_of-decimal m h)
 IsThing-what_text (Nest n) h = (decimal n, refl, number_of-decimal n h)
+
+-- a delta
+pub delta_small : (n : ℕ) → FitsSigned w32 (pos n) → n < 2 ^ 32
+delta_small n h = omega (arith, ints)
+
+pub back_small : (n : ℕ) → FitsSigned w32 (negsuc n) → suc n < 2 ^ 32
+back_small n h = omega (arith, ints)
+
+pub IsWord-signed : (z : ℤ) → FitsSigned w32 z → IsWord (signed_decimal z)
+IsWord-signed (pos n) h = IsWord-decimal n (delta_small n h)
+IsWord-signed (negsuc n) h = IsWord-cons 45 (decimal (suc n)) refl (IsWord-decimal (suc n) (back_small n h))
+
+pub length-signed : (z : ℤ) → FitsSigned w32 z → length (signed_decimal z) ≤ 11
+length-signed (pos n) h = let digits = length-decimal n (delta_small n h) in omega (arith, digits)
+length-signed (negsuc n) h = let digits = length-decimal (suc n) (back_small n h) in omega (arith, digits)
+
+-- an end of an item
+pub IsWord-end : (end : End) → IsWord (end_word end)
+IsWord-end Head = IsWord-tested (codes "head") refl
+IsWord-end Tail = IsWord-tested (codes "tail") refl
+
+pub length-end : (end : End) → length (end_word end) ≤ 4
+length-end Head = omega arith
+length-end Tail = omega arith

@@ -1,14 +1,19 @@
 -- The text of a call: its line with one space between words, lists of tracks ascending, places as
 -- numbers, and numbers without leading zeros.
-use Rattle.std.specs.Prelude.{ℕ, ◌<◌, ◌≤◌, ◌^◌, List, [], ◌∷◌, ◌++◌, codes, decimal}
+use Rattle.std.specs.Prelude.{ℕ, ◌<◌, ◌≤◌, ◌^◌, List, [], ◌∷◌, ◌++◌, codes, decimal, FitsSigned}
+use Rattle.std.specs.Fmt.{signed_decimal}
+use Rattle.std.specs.Int.{w32}
 use Rattle.frame_meaning.specs.declared.cells.What.{What}
 use Rattle.frame_meaning.specs.declared.cells.What.TheVariants.{Media, Nest}
+use Rattle.composables.specs.declared.calls.FillLength.{FillLength}
+use Rattle.composables.specs.declared.calls.FillLength.TheVariants.{Source, Sequence}
 use Rattle.composables.specs.TrackSets.{tracks_in}
 use Rattle.edit_apply.specs.declared.asks.Call.{Call}
 use Rattle.edit_apply.specs.declared.asks.Call.TheVariants as call
 use Rattle.call_text.specs.declared.lines.Line.{Line}
-use Rattle.call_text.specs.declared.lines.Line.TheVariants.{Edit, Ask, Point}
+use Rattle.call_text.specs.declared.lines.Line.TheVariants.{Edit, Ask, Point, Otio}
 use Rattle.call_text.specs.declared.parts.TheConstants.{LAST_TRACK}
+use Rattle.call_text.specs.Table.{end_word}
 
 -- `@` and the number of a media entry, or `#` and the number of a nest
 abbrev pub what_text : What → List ℕ
@@ -28,6 +33,15 @@ tracks_text set = numbers_after [] (tracks_in set)
 abbrev pub frames_text : What → ℕ → ℕ → List ℕ
 frames_text what from len = what_text what ++ codes " " ++ decimal from ++ codes " " ++ decimal len
 
+-- how much is filled: so many source frames, or the whole gap
+abbrev pub length_text : FillLength → List ℕ
+length_text (Source len) = codes "source " ++ decimal len
+length_text Sequence = codes "sequence"
+
+-- a text, and two numbers with a space between
+abbrev pub numbers_text : List ℕ → ℕ → ℕ → List ℕ
+numbers_text lead first second = lead ++ decimal first ++ codes " " ++ decimal second
+
 abbrev pub call_text_of : Call → List ℕ
 call_text_of (call.Overwrite c) =
     codes "overwrite " ++ decimal c.track ++ codes " " ++ decimal c.at ++ codes " "
@@ -40,6 +54,29 @@ call_text_of (call.Extract c) =
     codes "extract " ++ tracks_text c.tracks ++ codes " " ++ decimal c.track ++ codes " "
     ++ decimal c.item
 call_text_of (call.Slice c) = codes "slice " ++ decimal c.track ++ codes " " ++ decimal c.at
+call_text_of (call.Dissolve c) =
+    codes "dissolve " ++ decimal c.track ++ codes " " ++ decimal c.at ++ codes " " ++ decimal c.a
+    ++ codes " " ++ decimal c.b
+call_text_of (call.Undissolve c) =
+    codes "undissolve " ++ decimal c.track ++ codes " " ++ decimal c.at
+call_text_of (call.Trim c) =
+    codes "trim " ++ decimal c.track ++ codes " " ++ decimal c.item ++ codes " " ++ end_word c.end
+    ++ codes " " ++ signed_decimal c.by
+call_text_of (call.Slip c) =
+    codes "slip " ++ tracks_text c.tracks ++ codes " " ++ decimal c.track ++ codes " "
+    ++ decimal c.item ++ codes " " ++ signed_decimal c.by
+call_text_of (call.Roll c) =
+    codes "roll " ++ decimal c.track ++ codes " " ++ decimal c.at ++ codes " "
+    ++ signed_decimal c.by
+call_text_of (call.Slide c) =
+    codes "slide " ++ tracks_text c.tracks ++ codes " " ++ decimal c.track ++ codes " "
+    ++ decimal c.item ++ codes " " ++ signed_decimal c.by
+call_text_of (call.Fill c) =
+    codes "fill " ++ decimal c.track ++ codes " " ++ decimal c.at ++ codes " " ++ what_text c.what
+    ++ codes " " ++ decimal c.from ++ codes " " ++ length_text c.length
+call_text_of (call.Ripple c) =
+    codes "ripple " ++ tracks_text c.tracks ++ codes " " ++ decimal c.track ++ codes " "
+    ++ decimal c.item ++ codes " " ++ end_word c.end ++ codes " " ++ signed_decimal c.by
 
 -- a number of 32 bits
 abbrev pub IsSmall : ℕ → Type 0
@@ -48,6 +85,10 @@ IsSmall n = n < 2 ^ 32
 abbrev pub IsSmallWhat : What → Type 0
 IsSmallWhat (Media m) = IsSmall m
 IsSmallWhat (Nest n) = IsSmall n
+
+abbrev pub IsSmallLength : FillLength → Type 0
+IsSmallLength (Source len) = IsSmall len
+IsSmallLength Sequence = Unit {0}
 
 -- at least one track, and none over 31
 abbrev pub IsSomeTracks : ℕ → Type 0
@@ -64,9 +105,23 @@ IsWritten (call.Insert c) =
 IsWritten (call.Remove c) = (c.track ≤ LAST_TRACK) × IsSmall c.item
 IsWritten (call.Extract c) = IsSomeTracks c.tracks × (c.track ≤ LAST_TRACK) × IsSmall c.item
 IsWritten (call.Slice c) = (c.track ≤ LAST_TRACK) × IsSmall c.at
+IsWritten (call.Dissolve c) = (c.track ≤ LAST_TRACK) × IsSmall c.at × IsSmall c.a × IsSmall c.b
+IsWritten (call.Undissolve c) = (c.track ≤ LAST_TRACK) × IsSmall c.at
+IsWritten (call.Trim c) = (c.track ≤ LAST_TRACK) × IsSmall c.item × FitsSigned w32 c.by
+IsWritten (call.Slip c) =
+    IsSomeTracks c.tracks × (c.track ≤ LAST_TRACK) × IsSmall c.item × FitsSigned w32 c.by
+IsWritten (call.Roll c) = (c.track ≤ LAST_TRACK) × IsSmall c.at × FitsSigned w32 c.by
+IsWritten (call.Slide c) =
+    IsSomeTracks c.tracks × (c.track ≤ LAST_TRACK) × IsSmall c.item × FitsSigned w32 c.by
+IsWritten (call.Fill c) =
+    (c.track ≤ LAST_TRACK) × IsSmall c.at
+    × IsSmallWhat c.what × IsSmall c.from × IsSmallLength c.length
+IsWritten (call.Ripple c) =
+    IsSomeTracks c.tracks × (c.track ≤ LAST_TRACK) × IsSmall c.item × FitsSigned w32 c.by
 
 -- the line is no edit, or an edit that can be written and read again
 abbrev pub NamesWritten : Line → Type 0
 NamesWritten (Edit c) = IsWritten c
 NamesWritten (Ask q) = Unit {0}
 NamesWritten Point = Unit {0}
+NamesWritten (Otio n) = Unit {0}

@@ -1,13 +1,14 @@
 -- Why a line is none of the table. The first of these that holds: it is too long; it has no word; its
 -- first word is not in the table; no row of that word has so many words; and then, word by word from the
 -- left, a word is not spelled as its part of the row, or a number of it is past its bound, or its list
--- of tracks does not rise.
-use Rattle.std.specs.Prelude.{◌≡◌, ◌≢◌, ℕ, ◌+◌, ◌<◌, ◌≤◌, ◌⊎◌, List, [], ◌∷◌, ◌++◌, None, Err, length, codes}
+-- of tracks does not rise, or it must be another.
+use Rattle.std.specs.Prelude.{◌≡◌, ◌≢◌, ℕ, ℤ, ◌+◌, ◌<◌, ◌≤◌, ◌⊎◌, List, [], ◌∷◌, ◌++◌, None, Err, length, codes}
 use Rattle.std.specs.List.{slice_split}
 use Rattle.line_words.specs.Blanks.{words_of}
-use Rattle.line_words.specs.Digits.{number_of}
+use Rattle.line_words.specs.Digits.{number_of, signed_of}
 use Rattle.line_words.specs.declared.TheConstants.{MAX_LINE}
 use Rattle.line_words.specs.declared.numbers.NumberFault.TheVariants.{NotANumber, TooLarge}
+use Rattle.composables.specs.declared.calls.End.{End}
 use Rattle.frame_meaning.specs.declared.cells.What.{What}
 use Rattle.call_text.specs.declared.parts.TheConstants.{LAST_TRACK}
 use Rattle.call_text.specs.declared.lines.LineFault.{LineFault}
@@ -15,15 +16,18 @@ use Rattle.call_text.specs.declared.lines.LineFault.TheVariants.{B1, B2, B3, B4,
 use Rattle.call_text.specs.declared.commands.Command.{Command}
 use Rattle.call_text.specs.declared.commands.Command.TheVariants as command
 use Rattle.call_text.specs.Spelling.{Naming, is_comma}
-use Rattle.call_text.specs.Table.{IsNumeral, IsTrack, IsTracks, IsPlace, IsThing, word_of}
+use Rattle.call_text.specs.Table.{IsDelta, IsNumeral, IsTrack, IsTracks, IsPlace, IsThing, end_word, word_of}
 
--- what a word of a row is to be: TS, T, P, WHAT, or a number (I, FROM, LEN)
+-- what a word of a row is to be: TS, T, P, WHAT, a number (I, FROM, LEN, A, B), END, D, or this word
 pub data Part : Type 0 where
   Tracks : Part
   Track : Part
   Place : Part
   Thing : Part
   Number : Part
+  Ending : Part
+  Delta : Part
+  Given : List ℕ → Part
 
 -- the rows that begin with a command's word, without it
 abbrev pub rows_of : Command → List (List Part)
@@ -32,9 +36,20 @@ rows_of command.Insert = (Tracks ∷ Track ∷ Place ∷ Thing ∷ Number ∷ Nu
 rows_of command.Remove = (Track ∷ Number ∷ []) ∷ []
 rows_of command.Extract = (Tracks ∷ Track ∷ Number ∷ []) ∷ []
 rows_of command.Slice = (Track ∷ Place ∷ []) ∷ []
+rows_of command.Dissolve = (Track ∷ Place ∷ Number ∷ Number ∷ []) ∷ []
+rows_of command.Undissolve = (Track ∷ Place ∷ []) ∷ []
+rows_of command.Trim = (Track ∷ Number ∷ Ending ∷ Delta ∷ []) ∷ []
+rows_of command.Slip = (Tracks ∷ Track ∷ Number ∷ Delta ∷ []) ∷ []
+rows_of command.Roll = (Track ∷ Place ∷ Delta ∷ []) ∷ []
+rows_of command.Slide = (Tracks ∷ Track ∷ Number ∷ Delta ∷ []) ∷ []
+rows_of command.Fill =
+    (Track ∷ Place ∷ Thing ∷ Number ∷ Given (codes "sequence") ∷ [])
+    ∷ (Track ∷ Place ∷ Thing ∷ Number ∷ Given (codes "source") ∷ Number ∷ []) ∷ []
+rows_of command.Ripple = (Tracks ∷ Track ∷ Number ∷ Ending ∷ Delta ∷ []) ∷ []
 rows_of command.View = (Track ∷ Place ∷ Place ∷ []) ∷ []
 rows_of command.Items = (Track ∷ []) ∷ []
 rows_of command.Point = [] ∷ []
+rows_of command.Otio = (Number ∷ []) ∷ []
 
 -- the word is not one or more decimal digits
 abbrev pub IsNoNumeral : List ℕ → Type 0
@@ -43,6 +58,14 @@ IsNoNumeral word = number_of word ≡ Err NotANumber
 -- the word is decimal digits, of a number that 32 bits do not hold
 abbrev pub IsTooLarge : List ℕ → Type 0
 IsTooLarge word = number_of word ≡ Err TooLarge
+
+-- the word is not one or more decimal digits, with or without one `-` before them
+abbrev pub IsNoDelta : List ℕ → Type 0
+IsNoDelta word = signed_of word ≡ Err NotANumber
+
+-- the word is a delta that 32 bits do not hold
+abbrev pub IsDeltaTooLarge : List ℕ → Type 0
+IsDeltaTooLarge word = signed_of word ≡ Err TooLarge
 
 -- the number of a track is past its bound
 abbrev pub IsPastTracks : List ℕ → Type 0
@@ -74,6 +97,10 @@ IsBadPart place_at Place word fault =
 IsBadPart place_at Thing word fault =
     (((digits : List ℕ) → HasDigits word digits → IsNoNumeral digits) × (fault ≡ B3))
     ⊎ (((digits : List ℕ) × HasDigits word digits × IsTooLarge digits) × (fault ≡ B4))
+IsBadPart place_at Ending word fault = ((end : End) → word ≢ end_word end) × (fault ≡ B1)
+IsBadPart place_at Delta word fault =
+    (IsNoDelta word × (fault ≡ B3)) ⊎ (IsDeltaTooLarge word × (fault ≡ B4))
+IsBadPart place_at (Given given) word fault = (word ≢ given) × (fault ≡ B1)
 
 -- the word is spelled as this part, within its bounds
 abbrev pub IsPart : Naming → Part → List ℕ → Type 0
@@ -82,6 +109,9 @@ IsPart place_at Track word = (n : ℕ) × IsTrack word n
 IsPart place_at Tracks word = (set : ℕ) × IsTracks word set
 IsPart place_at Place word = (n : ℕ) × IsPlace place_at word n
 IsPart place_at Thing word = (w : What) × IsThing word w
+IsPart place_at Ending word = (end : End) × (word ≡ end_word end)
+IsPart place_at Delta word = (by : ℤ) × IsDelta word by
+IsPart place_at (Given given) word = word ≡ given
 
 -- the first word that is wrong, those before it being right
 abbrev pub FirstIsBad : Naming → List Part → List (List ℕ) → LineFault → Type 0

@@ -6,7 +6,7 @@ use Rattle.edit_apply.specs.declared.asks.Call.{Call}
 use Rattle.room_core.specs.declared.entry.Entry.{Entry}
 use Rattle.call_text.specs.declared.journal_reading.TheConstants.{LAST_STATION}
 use Rattle.call_text.specs.declared.lines.Line.{Line}
-use Rattle.call_text.specs.declared.lines.Line.TheVariants.{Edit, Ask, Point}
+use Rattle.call_text.specs.declared.lines.Line.TheVariants.{Edit, Ask, Point, Otio}
 use Rattle.call_text.specs.declared.lines.LineFault.{LineFault}
 use Rattle.call_text.specs.Reading.{line_of_words}
 use Rattle.call_text.specs.Spelling.{Naming}
@@ -24,6 +24,7 @@ abbrev pub edit_in : Result Line LineFault → Option Call
 edit_in (Ok (Edit call)) = Some call
 edit_in (Ok (Ask ask)) = None
 edit_in (Ok Point) = None
+edit_in (Ok (Otio n)) = None
 edit_in (Err fault) = None
 
 infixl 10 ◌>>=◌

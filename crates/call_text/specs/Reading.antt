@@ -1,20 +1,21 @@
 -- The table of the lines that a station sends, and the first fault of a line that is none of them: B5
 -- more than 1,024 bytes; B2 no word; B1 a first word that is not in the table; B2 not as many words as
 -- the row has; then, word by word from the left, B3 a word that is not spelled so, B4 a number past its
--- bound, B6 a list of tracks that does not rise.
+-- bound, B6 a list of tracks that does not rise, B1 a word that must be another.
 use Rattle.std.specs.Prelude.{ℕ, List, [], ◌∷◌, Option, Some, None, Result, Ok, Err, length, map, nat_le, codes, bytes_eq, if◌then◌else◌}
 use Rattle.std.specs.Borrow.{Bor}
 use Rattle.line_words.specs.Blanks.{words_of}
 use Rattle.line_words.specs.declared.TheConstants.{MAX_LINE}
+use Rattle.composables.specs.declared.calls.FillLength.TheVariants.{Source, Sequence}
 use Rattle.edit_apply.specs.declared.asks.Call.TheVariants as call
 use Rattle.edit_apply.specs.declared.asks.Ask.TheVariants as ask
 use Rattle.call_text.specs.declared.lines.Line.{Line}
-use Rattle.call_text.specs.declared.lines.Line.TheVariants.{Edit, Ask, Point}
+use Rattle.call_text.specs.declared.lines.Line.TheVariants.{Edit, Ask, Point, Otio}
 use Rattle.call_text.specs.declared.lines.LineFault.{LineFault}
 use Rattle.call_text.specs.declared.lines.LineFault.TheVariants.{B1, B2, B5}
 use Rattle.call_text.specs.declared.commands.Command.{Command}
 use Rattle.call_text.specs.declared.commands.Command.TheVariants as command
-use Rattle.call_text.specs.Spelling.{Naming, ◌>>=◌, numeral_of, track_of, tracks_of, place_of, what_of}
+use Rattle.call_text.specs.Spelling.{Naming, ◌>>=◌, numeral_of, delta_of, end_of, given_of, track_of, tracks_of, place_of, what_of}
 
 -- the bytes of words
 abbrev pub texts_of : List (Bor (List ℕ)) → List (List ℕ)
@@ -81,6 +82,111 @@ slice_of place_at (track ∷ at ∷ []) = do
   Ok (Edit (call.Slice (record { track = track; at = at })))
 slice_of place_at words = Err B2
 
+-- dissolve T P A B
+abbrev pub dissolve_of : Naming → List (List ℕ) → Result Line LineFault
+dissolve_of place_at (track ∷ at ∷ a ∷ b ∷ []) = do
+  track ← track_of track
+  at ← place_of place_at at
+  a ← numeral_of a
+  b ← numeral_of b
+  Ok (Edit (call.Dissolve (record { track = track; at = at; a = a; b = b })))
+dissolve_of place_at words = Err B2
+
+-- undissolve T P
+abbrev pub undissolve_of : Naming → List (List ℕ) → Result Line LineFault
+undissolve_of place_at (track ∷ at ∷ []) = do
+  track ← track_of track
+  at ← place_of place_at at
+  Ok (Edit (call.Undissolve (record { track = track; at = at })))
+undissolve_of place_at words = Err B2
+
+-- trim T I END D
+abbrev pub trim_of : List (List ℕ) → Result Line LineFault
+trim_of (track ∷ item ∷ end ∷ by ∷ []) = do
+  track ← track_of track
+  item ← numeral_of item
+  end ← end_of end
+  by ← delta_of by
+  Ok (Edit (call.Trim (record { track = track; item = item; end = end; by = by })))
+trim_of words = Err B2
+
+-- slip TS T I D
+abbrev pub slip_of : List (List ℕ) → Result Line LineFault
+slip_of (tracks ∷ track ∷ item ∷ by ∷ []) = do
+  tracks ← tracks_of tracks
+  track ← track_of track
+  item ← numeral_of item
+  by ← delta_of by
+  Ok (Edit (call.Slip (record { tracks = tracks; track = track; item = item; by = by })))
+slip_of words = Err B2
+
+-- roll T P D
+abbrev pub roll_of : Naming → List (List ℕ) → Result Line LineFault
+roll_of place_at (track ∷ at ∷ by ∷ []) = do
+  track ← track_of track
+  at ← place_of place_at at
+  by ← delta_of by
+  Ok (Edit (call.Roll (record { track = track; at = at; by = by })))
+roll_of place_at words = Err B2
+
+-- slide TS T I D
+abbrev pub slide_of : List (List ℕ) → Result Line LineFault
+slide_of (tracks ∷ track ∷ item ∷ by ∷ []) = do
+  tracks ← tracks_of tracks
+  track ← track_of track
+  item ← numeral_of item
+  by ← delta_of by
+  Ok (Edit (call.Slide (record { tracks = tracks; track = track; item = item; by = by })))
+slide_of words = Err B2
+
+-- fill T P WHAT FROM sequence · fill T P WHAT FROM source LEN
+abbrev pub fill_of : Naming → List (List ℕ) → Result Line LineFault
+fill_of place_at (track ∷ at ∷ what ∷ from ∷ how ∷ []) = do
+  track ← track_of track
+  at ← place_of place_at at
+  what ← what_of what
+  from ← numeral_of from
+  how ← given_of (codes "sequence") how
+  Ok (Edit (call.Fill (record {
+    track = track;
+    at = at;
+    what = what;
+    from = from;
+    length = Sequence;
+  })))
+fill_of place_at (track ∷ at ∷ what ∷ from ∷ how ∷ len ∷ []) = do
+  track ← track_of track
+  at ← place_of place_at at
+  what ← what_of what
+  from ← numeral_of from
+  how ← given_of (codes "source") how
+  len ← numeral_of len
+  Ok (Edit (call.Fill (record {
+    track = track;
+    at = at;
+    what = what;
+    from = from;
+    length = Source len;
+  })))
+fill_of place_at words = Err B2
+
+-- ripple TS T I END D
+abbrev pub ripple_of : List (List ℕ) → Result Line LineFault
+ripple_of (tracks ∷ track ∷ item ∷ end ∷ by ∷ []) = do
+  tracks ← tracks_of tracks
+  track ← track_of track
+  item ← numeral_of item
+  end ← end_of end
+  by ← delta_of by
+  Ok (Edit (call.Ripple (record {
+    tracks = tracks;
+    track = track;
+    item = item;
+    end = end;
+    by = by;
+  })))
+ripple_of words = Err B2
+
 -- view T P P
 abbrev pub view_of : Naming → List (List ℕ) → Result Line LineFault
 view_of place_at (track ∷ from ∷ to ∷ []) = do
@@ -102,6 +208,13 @@ abbrev pub point_of : List (List ℕ) → Result Line LineFault
 point_of [] = Ok Point
 point_of words = Err B2
 
+-- otio N
+abbrev pub otio_of : List (List ℕ) → Result Line LineFault
+otio_of (point ∷ []) = do
+  point ← numeral_of point
+  Ok (Otio point)
+otio_of words = Err B2
+
 -- the first words of the table
 abbrev pub command_of : List ℕ → Option Command
 command_of word =
@@ -110,9 +223,18 @@ command_of word =
     else if bytes_eq word (codes "remove") then Some command.Remove
     else if bytes_eq word (codes "extract") then Some command.Extract
     else if bytes_eq word (codes "slice") then Some command.Slice
+    else if bytes_eq word (codes "dissolve") then Some command.Dissolve
+    else if bytes_eq word (codes "undissolve") then Some command.Undissolve
+    else if bytes_eq word (codes "trim") then Some command.Trim
+    else if bytes_eq word (codes "slip") then Some command.Slip
+    else if bytes_eq word (codes "roll") then Some command.Roll
+    else if bytes_eq word (codes "slide") then Some command.Slide
+    else if bytes_eq word (codes "fill") then Some command.Fill
+    else if bytes_eq word (codes "ripple") then Some command.Ripple
     else if bytes_eq word (codes "view") then Some command.View
     else if bytes_eq word (codes "items") then Some command.Items
     else if bytes_eq word (codes "point") then Some command.Point
+    else if bytes_eq word (codes "otio") then Some command.Otio
     else None
 
 -- the words after the first, by the row of the first
@@ -122,9 +244,18 @@ row_of place_at command.Insert words = insert_of place_at words
 row_of place_at command.Remove words = remove_of words
 row_of place_at command.Extract words = extract_of words
 row_of place_at command.Slice words = slice_of place_at words
+row_of place_at command.Dissolve words = dissolve_of place_at words
+row_of place_at command.Undissolve words = undissolve_of place_at words
+row_of place_at command.Trim words = trim_of words
+row_of place_at command.Slip words = slip_of words
+row_of place_at command.Roll words = roll_of place_at words
+row_of place_at command.Slide words = slide_of words
+row_of place_at command.Fill words = fill_of place_at words
+row_of place_at command.Ripple words = ripple_of words
 row_of place_at command.View words = view_of place_at words
 row_of place_at command.Items words = items_of words
 row_of place_at command.Point words = point_of words
+row_of place_at command.Otio words = otio_of words
 
 abbrev pub row_if : Naming → Option Command → List (List ℕ) → Result Line LineFault
 row_if place_at None words = Err B1

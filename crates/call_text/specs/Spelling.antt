@@ -1,16 +1,19 @@
 -- How the parts of a line are spelled, each as what its word says, or why the word is wrong: B3 where
--- it is not spelled so, B4 where a number is past its bound, B6 where a list of tracks does not rise.
+-- it is not spelled so, B4 where a number is past its bound, B6 where a list of tracks does not rise,
+-- B1 where a word that must be `head`, `tail`, `source` or `sequence` is another.
 -- This project's own protocol.
-use Rattle.std.specs.Prelude.{ℕ, ◌+◌, ◌^◌, Bool, List, [], ◌∷◌, Option, Some, None, Result, Ok, Err, nat_le, ◌==◌, if◌then◌else◌}
+use Rattle.std.specs.Prelude.{ℕ, ℤ, ◌+◌, ◌^◌, Bool, List, [], ◌∷◌, Option, Some, None, Result, Ok, Err, nat_le, ◌==◌, if◌then◌else◌, bytes_eq, codes}
 use Rattle.std.specs.List.{slice_split}
-use Rattle.line_words.specs.Digits.{number_of}
+use Rattle.line_words.specs.Digits.{number_of, signed_of}
 use Rattle.line_words.specs.declared.numbers.NumberFault.{NumberFault}
 use Rattle.line_words.specs.declared.numbers.NumberFault.TheVariants.{NotANumber, TooLarge}
+use Rattle.composables.specs.declared.calls.End.{End}
+use Rattle.composables.specs.declared.calls.End.TheVariants.{Head, Tail}
 use Rattle.frame_meaning.specs.declared.cells.What.{What}
 use Rattle.frame_meaning.specs.declared.cells.What.TheVariants.{Media, Nest}
 use Rattle.call_text.specs.declared.parts.TheConstants.{LAST_TRACK}
 use Rattle.call_text.specs.declared.lines.LineFault.{LineFault}
-use Rattle.call_text.specs.declared.lines.LineFault.TheVariants.{B3, B4, B6}
+use Rattle.call_text.specs.declared.lines.LineFault.TheVariants.{B1, B3, B4, B6}
 
 -- which place a word names as a label, if it names one
 abbrev pub Naming : Type 0
@@ -27,13 +30,28 @@ abbrev pub number_fault : NumberFault → LineFault
 number_fault NotANumber = B3
 number_fault TooLarge = B4
 
-abbrev pub number_or_fault : Result ℕ NumberFault → Result ℕ LineFault
+abbrev pub number_or_fault : {A : Type 0} → Result A NumberFault → Result A LineFault
 number_or_fault (Ok n) = Ok n
 number_or_fault (Err fault) = Err (number_fault fault)
 
 -- a number: decimal digits, at most 4,294,967,295
 abbrev pub numeral_of : List ℕ → Result ℕ LineFault
 numeral_of word = number_or_fault (number_of word)
+
+-- a delta: digits, with or without one `-` before them, from -2,147,483,648 to 2,147,483,647
+abbrev pub delta_of : List ℕ → Result ℤ LineFault
+delta_of word = number_or_fault (signed_of word)
+
+-- an end of an item, by its word
+abbrev pub end_of : List ℕ → Result End LineFault
+end_of word =
+    if bytes_eq word (codes "head") then Ok Head
+    else if bytes_eq word (codes "tail") then Ok Tail
+    else Err B1
+
+-- a word that must be this one
+abbrev pub given_of : List ℕ → List ℕ → Result (Unit {0}) LineFault
+given_of given word = if bytes_eq word given then Ok tt else Err B1
 
 -- a track: a number, at most 31
 abbrev pub track_of : List ℕ → Result ℕ LineFault

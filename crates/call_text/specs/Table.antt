@@ -1,19 +1,23 @@
 -- What the lines of the table are, word by word. place_at says which place a label names.
-use Rattle.std.specs.Prelude.{◌≡◌, ℕ, ◌^◌, ◌<◌, ◌≤◌, ◌⊎◌, List, [], ◌∷◌, ◌++◌, Some, Ok, Err, length, codes}
+use Rattle.std.specs.Prelude.{◌≡◌, ℕ, ℤ, ◌^◌, ◌<◌, ◌≤◌, ◌⊎◌, List, [], ◌∷◌, ◌++◌, Some, Ok, Err, length, codes}
 use Rattle.std.specs.List.{slice_split}
 use Rattle.line_words.specs.Blanks.{words_of}
-use Rattle.line_words.specs.Digits.{number_of}
+use Rattle.line_words.specs.Digits.{number_of, signed_of}
 use Rattle.line_words.specs.declared.TheConstants.{MAX_LINE}
 use Rattle.line_words.specs.declared.numbers.NumberFault.TheVariants.{NotANumber}
 use Rattle.frame_meaning.specs.declared.cells.What.{What}
 use Rattle.frame_meaning.specs.declared.cells.What.TheVariants.{Media, Nest}
+use Rattle.composables.specs.declared.calls.End.{End}
+use Rattle.composables.specs.declared.calls.End.TheVariants.{Head, Tail}
+use Rattle.composables.specs.declared.calls.FillLength.{FillLength}
+use Rattle.composables.specs.declared.calls.FillLength.TheVariants.{Source, Sequence}
 use Rattle.composables.specs.TrackSets.{tracks_in}
 use Rattle.edit_apply.specs.declared.asks.Call.{Call}
 use Rattle.edit_apply.specs.declared.asks.Call.TheVariants as call
 use Rattle.edit_apply.specs.declared.asks.Ask.TheVariants as ask
 use Rattle.call_text.specs.declared.parts.TheConstants.{LAST_TRACK}
 use Rattle.call_text.specs.declared.lines.Line.{Line}
-use Rattle.call_text.specs.declared.lines.Line.TheVariants.{Edit, Ask, Point}
+use Rattle.call_text.specs.declared.lines.Line.TheVariants.{Edit, Ask, Point, Otio}
 use Rattle.call_text.specs.declared.commands.Command.{Command}
 use Rattle.call_text.specs.declared.commands.Command.TheVariants as command
 use Rattle.call_text.specs.Spelling.{Naming, is_comma}
@@ -21,6 +25,15 @@ use Rattle.call_text.specs.Spelling.{Naming, is_comma}
 -- the word is this number, with leading zeros or without
 abbrev pub IsNumeral : List ℕ → ℕ → Type 0
 IsNumeral word n = number_of word ≡ Ok n
+
+-- the word is this number, with a `-` before its digits where it is negative
+abbrev pub IsDelta : List ℕ → ℤ → Type 0
+IsDelta word by = signed_of word ≡ Ok by
+
+-- the word of an end of an item
+abbrev pub end_word : End → List ℕ
+end_word Head = codes "head"
+end_word Tail = codes "tail"
 
 abbrev pub IsTrack : List ℕ → ℕ → Type 0
 IsTrack word track = IsNumeral word track × (track ≤ LAST_TRACK)
@@ -45,6 +58,11 @@ abbrev pub IsThing : List ℕ → What → Type 0
 IsThing word (Media m) = (digits : List ℕ) × (word ≡ codes "@" ++ digits) × IsNumeral digits m
 IsThing word (Nest n) = (digits : List ℕ) × (word ≡ codes "#" ++ digits) × IsNumeral digits n
 
+-- the words are how much is filled: so many source frames, or the whole gap
+abbrev pub AreLength : List (List ℕ) → FillLength → Type 0
+AreLength words (Source n) = (len : List ℕ) × (words ≡ codes "source" ∷ len ∷ []) × IsNumeral len n
+AreLength words Sequence = words ≡ codes "sequence" ∷ []
+
 -- the first word of a command's lines
 abbrev pub word_of : Command → List ℕ
 word_of command.Overwrite = codes "overwrite"
@@ -52,11 +70,22 @@ word_of command.Insert = codes "insert"
 word_of command.Remove = codes "remove"
 word_of command.Extract = codes "extract"
 word_of command.Slice = codes "slice"
+word_of command.Dissolve = codes "dissolve"
+word_of command.Undissolve = codes "undissolve"
+word_of command.Trim = codes "trim"
+word_of command.Slip = codes "slip"
+word_of command.Roll = codes "roll"
+word_of command.Slide = codes "slide"
+word_of command.Fill = codes "fill"
+word_of command.Ripple = codes "ripple"
 word_of command.View = codes "view"
 word_of command.Items = codes "items"
 word_of command.Point = codes "point"
+word_of command.Otio = codes "otio"
 
 -- overwrite T P WHAT FROM LEN · insert TS T P WHAT FROM LEN · remove T I · extract TS T I · slice T P
+-- · dissolve T P A B · undissolve T P · trim T I END D · slip TS T I D · roll T P D · slide TS T I D
+-- · fill T P WHAT FROM sequence · fill T P WHAT FROM source LEN · ripple TS T I END D
 abbrev pub AreCall : Naming → List (List ℕ) → Call → Type 0
 AreCall place_at words (call.Overwrite c) =
     (track at what from len : List ℕ)
@@ -77,8 +106,38 @@ AreCall place_at words (call.Extract c) =
 AreCall place_at words (call.Slice c) =
     (track at : List ℕ) × (words ≡ word_of command.Slice ∷ track ∷ at ∷ [])
     × IsTrack track c.track × IsPlace place_at at c.at
+AreCall place_at words (call.Dissolve c) =
+    (track at a b : List ℕ) × (words ≡ word_of command.Dissolve ∷ track ∷ at ∷ a ∷ b ∷ [])
+    × IsTrack track c.track × IsPlace place_at at c.at × IsNumeral a c.a × IsNumeral b c.b
+AreCall place_at words (call.Undissolve c) =
+    (track at : List ℕ) × (words ≡ word_of command.Undissolve ∷ track ∷ at ∷ [])
+    × IsTrack track c.track × IsPlace place_at at c.at
+AreCall place_at words (call.Trim c) =
+    (track item by : List ℕ)
+    × (words ≡ word_of command.Trim ∷ track ∷ item ∷ end_word c.end ∷ by ∷ [])
+    × IsTrack track c.track × IsNumeral item c.item × IsDelta by c.by
+AreCall place_at words (call.Slip c) =
+    (tracks track item by : List ℕ)
+    × (words ≡ word_of command.Slip ∷ tracks ∷ track ∷ item ∷ by ∷ [])
+    × IsTracks tracks c.tracks × IsTrack track c.track × IsNumeral item c.item × IsDelta by c.by
+AreCall place_at words (call.Roll c) =
+    (track at by : List ℕ) × (words ≡ word_of command.Roll ∷ track ∷ at ∷ by ∷ [])
+    × IsTrack track c.track × IsPlace place_at at c.at × IsDelta by c.by
+AreCall place_at words (call.Slide c) =
+    (tracks track item by : List ℕ)
+    × (words ≡ word_of command.Slide ∷ tracks ∷ track ∷ item ∷ by ∷ [])
+    × IsTracks tracks c.tracks × IsTrack track c.track × IsNumeral item c.item × IsDelta by c.by
+AreCall place_at words (call.Fill c) =
+    (track at what from : List ℕ) × (rest : List (List ℕ))
+    × (words ≡ word_of command.Fill ∷ track ∷ at ∷ what ∷ from ∷ rest)
+    × IsTrack track c.track × IsPlace place_at at c.at
+    × IsThing what c.what × IsNumeral from c.from × AreLength rest c.length
+AreCall place_at words (call.Ripple c) =
+    (tracks track item by : List ℕ)
+    × (words ≡ word_of command.Ripple ∷ tracks ∷ track ∷ item ∷ end_word c.end ∷ by ∷ [])
+    × IsTracks tracks c.tracks × IsTrack track c.track × IsNumeral item c.item × IsDelta by c.by
 
--- a call · view T P P · items T · point
+-- a call · view T P P · items T · point · otio N
 abbrev pub AreWords : Naming → List (List ℕ) → Line → Type 0
 AreWords place_at words (Edit c) = AreCall place_at words c
 AreWords place_at words (Ask (ask.View track a b)) =
@@ -87,6 +146,8 @@ AreWords place_at words (Ask (ask.View track a b)) =
 AreWords place_at words (Ask (ask.Items track)) =
     (named : List ℕ) × (words ≡ word_of command.Items ∷ named ∷ []) × IsTrack named track
 AreWords place_at words Point = words ≡ word_of command.Point ∷ []
+AreWords place_at words (Otio n) =
+    (named : List ℕ) × (words ≡ word_of command.Otio ∷ named ∷ []) × IsNumeral named n
 
 -- the bytes are this line
 pub record IsLine (place_at : Naming) (bytes : List ℕ) (line : Line) : Type 0 where

@@ -1,9 +1,9 @@
 // Calls as text.
 ghost use Rattle.std.specs.Prelude.{◌≡◌, ◌++◌, IfOk, OnOk};
-ghost use Rattle.call_text.specs.CallTexts.{call_text_of, frames_text, tracks_text};
+ghost use Rattle.call_text.specs.CallTexts.{call_text_of, frames_text, numbers_text, tracks_text};
 
-use crate::bytes::{put, put_number, put_what};
-use composables::{Memory, has_track};
+use crate::bytes::{put, put_end, put_length, put_number, put_signed, put_what};
+use composables::{Fill, Memory, Ripple, Slide, Slip, Trim, has_track};
 use edit_apply::Call;
 use frame_meaning::What;
 use std::alloc::Global;
@@ -22,8 +22,7 @@ pub(crate) fn put_call(out: &mut Vec<u8>, call: &Call) -> Result<(), Memory>
 {
     match call {
         Call::Overwrite(edit) => {
-            put_number(out, b"overwrite ", edit.track)?;
-            put_number(out, b" ", edit.at)?;
+            put_numbers(out, b"overwrite ", edit.track, edit.at)?;
             put(out, b" ")?;
             put_frames(out, &edit.what, edit.from, edit.len)
         }
@@ -34,20 +33,86 @@ pub(crate) fn put_call(out: &mut Vec<u8>, call: &Call) -> Result<(), Memory>
             put(out, b" ")?;
             put_frames(out, &edit.what, edit.from, edit.len)
         }
-        Call::Remove(edit) => {
-            put_number(out, b"remove ", edit.track)?;
-            put_number(out, b" ", edit.item)
-        }
+        Call::Remove(edit) => put_numbers(out, b"remove ", edit.track, edit.item),
         Call::Extract(edit) => {
             put_tracks(out, b"extract ", edit.tracks)?;
             put_number(out, b" ", edit.track)?;
             put_number(out, b" ", edit.item)
         }
-        Call::Slice(edit) => {
-            put_number(out, b"slice ", edit.track)?;
-            put_number(out, b" ", edit.at)
+        Call::Slice(edit) => put_numbers(out, b"slice ", edit.track, edit.at),
+        Call::Dissolve(edit) => {
+            put_numbers(out, b"dissolve ", edit.track, edit.at)?;
+            put_number(out, b" ", edit.a)?;
+            put_number(out, b" ", edit.b)
         }
+        Call::Undissolve(edit) => put_numbers(out, b"undissolve ", edit.track, edit.at),
+        Call::Trim(edit) => put_trim(out, edit),
+        Call::Slip(edit) => put_slip(out, edit),
+        Call::Roll(edit) => {
+            put_numbers(out, b"roll ", edit.track, edit.at)?;
+            put_signed(out, b" ", edit.by)
+        }
+        Call::Slide(edit) => put_slide(out, edit),
+        Call::Fill(edit) => put_fill(out, edit),
+        Call::Ripple(edit) => put_ripple(out, edit),
     }
+}
+
+fn put_trim(out: &mut Vec<u8>, edit: &Trim) -> Result<(), Memory>
+    ensures { OnOk result (out.new.items ≡ out.old.items ++ call_text_of (Call.Trim edit.now)) }
+{
+    put_numbers(out, b"trim ", edit.track, edit.item)?;
+    put(out, b" ")?;
+    put_end(out, edit.end)?;
+    put_signed(out, b" ", edit.by)
+}
+
+fn put_slip(out: &mut Vec<u8>, edit: &Slip) -> Result<(), Memory>
+    ensures { OnOk result (out.new.items ≡ out.old.items ++ call_text_of (Call.Slip edit.now)) }
+{
+    put_tracks(out, b"slip ", edit.tracks)?;
+    put_number(out, b" ", edit.track)?;
+    put_number(out, b" ", edit.item)?;
+    put_signed(out, b" ", edit.by)
+}
+
+fn put_ripple(out: &mut Vec<u8>, edit: &Ripple) -> Result<(), Memory>
+    ensures { OnOk result (out.new.items ≡ out.old.items ++ call_text_of (Call.Ripple edit.now)) }
+{
+    put_tracks(out, b"ripple ", edit.tracks)?;
+    put_number(out, b" ", edit.track)?;
+    put_number(out, b" ", edit.item)?;
+    put(out, b" ")?;
+    put_end(out, edit.end)?;
+    put_signed(out, b" ", edit.by)
+}
+
+fn put_slide(out: &mut Vec<u8>, edit: &Slide) -> Result<(), Memory>
+    ensures { OnOk result (out.new.items ≡ out.old.items ++ call_text_of (Call.Slide edit.now)) }
+{
+    put_tracks(out, b"slide ", edit.tracks)?;
+    put_number(out, b" ", edit.track)?;
+    put_number(out, b" ", edit.item)?;
+    put_signed(out, b" ", edit.by)
+}
+
+fn put_fill(out: &mut Vec<u8>, edit: &Fill) -> Result<(), Memory>
+    ensures { OnOk result (out.new.items ≡ out.old.items ++ call_text_of (Call.Fill edit.now)) }
+{
+    put_numbers(out, b"fill ", edit.track, edit.at)?;
+    put(out, b" ")?;
+    put_what(out, &edit.what)?;
+    put_number(out, b" ", edit.from)?;
+    put(out, b" ")?;
+    put_length(out, edit.length)
+}
+
+// A text, and two numbers with a space between.
+fn put_numbers(out: &mut Vec<u8>, lead: &[u8], first: u32, second: u32) -> Result<(), Memory>
+    ensures { OnOk result (out.new.items ≡ out.old.items ++ numbers_text lead.now first second) }
+{
+    put_number(out, lead, first)?;
+    put_number(out, b" ", second)
 }
 
 // A thing, a source frame of it, and a count of frames.

@@ -10,9 +10,18 @@ pub enum Command {
     Remove,
     Extract,
     Slice,
+    Dissolve,
+    Undissolve,
+    Trim,
+    Slip,
+    Roll,
+    Slide,
+    Fill,
+    Ripple,
     View,
     Items,
     Point,
+    Otio,
 }
 
 impl Command {
@@ -30,12 +39,30 @@ impl Command {
             Some(Command::Extract)
         } else if word == b"slice".as_slice() {
             Some(Command::Slice)
+        } else if word == b"dissolve".as_slice() {
+            Some(Command::Dissolve)
+        } else if word == b"undissolve".as_slice() {
+            Some(Command::Undissolve)
+        } else if word == b"trim".as_slice() {
+            Some(Command::Trim)
+        } else if word == b"slip".as_slice() {
+            Some(Command::Slip)
+        } else if word == b"roll".as_slice() {
+            Some(Command::Roll)
+        } else if word == b"slide".as_slice() {
+            Some(Command::Slide)
+        } else if word == b"fill".as_slice() {
+            Some(Command::Fill)
+        } else if word == b"ripple".as_slice() {
+            Some(Command::Ripple)
         } else if word == b"view".as_slice() {
             Some(Command::View)
         } else if word == b"items".as_slice() {
             Some(Command::Items)
         } else if word == b"point".as_slice() {
             Some(Command::Point)
+        } else if word == b"otio".as_slice() {
+            Some(Command::Otio)
         } else {
             None
         }

@@ -227,6 +227,7 @@ fn edit_of(line: &[u8], counting: &Counting) -> Option<Call>
         Ok(Line::Edit(call)) => Some(call),
         Ok(Line::Ask(_)) => None,
         Ok(Line::Point) => None,
+        Ok(Line::Otio(_)) => None,
         Err(_) => None,
     }
 }

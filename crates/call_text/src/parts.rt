@@ -1,13 +1,15 @@
 // The parts of a line.
-ghost use Rattle.std.specs.Prelude.{◌≡◌, ◌<◌, ◌≤◌, ◌∷◌, IfOk, IfSome, length, option_map, position};
+ghost use Rattle.std.specs.Prelude.{◌≡◌, ◌<◌, ◌≤◌, ◌∷◌, FitsSigned, IfOk, IfSome, length, option_map, position};
+ghost use Rattle.std.specs.Int.{w32};
 ghost use Rattle.std.specs.List.{slice_split};
 ghost use Rattle.call_text.specs.Labels.{place_by};
-ghost use Rattle.call_text.specs.Spelling.{numeral_of, track_of, is_comma, listed_in, tracks_of, place_of, what_of};
+ghost use Rattle.call_text.specs.Spelling.{numeral_of, delta_of, end_of, given_of, track_of, is_comma, listed_in, tracks_of, place_of, what_of};
 
 use crate::LineFault;
 use crate::labels::label_place;
+use composables::End;
 use frame_meaning::What;
-use line_words::{NumberFault, number};
+use line_words::{NumberFault, number, signed};
 use timecode12::Counting;
 
 /// The greatest number of a track that a line can name.
@@ -17,6 +19,38 @@ pub(crate) fn numeral(word: &[u8]) -> Result<u32, LineFault>
     ensures { result ≡ numeral_of word.now }
 {
     Ok(number(word)?)
+}
+
+// A count of frames with its sign.
+pub(crate) fn delta(word: &[u8]) -> Result<i32, LineFault>
+    ensures read { result ≡ delta_of word.now }
+    ensures fits { IfOk result (λ by. FitsSigned w32 by) }
+{
+    Ok(signed(word)?)
+}
+
+// An end of an item.
+pub(crate) fn end(word: &[u8]) -> Result<End, LineFault>
+    ensures { result ≡ end_of word.now }
+{
+    if word == b"head".as_slice() {
+        Ok(End::Head)
+    } else if word == b"tail".as_slice() {
+        Ok(End::Tail)
+    } else {
+        Err(LineFault::B1)
+    }
+}
+
+// A word that must be this one.
+pub(crate) fn given(word: &[u8], given: &[u8]) -> Result<(), LineFault>
+    ensures { result ≡ given_of given.now word.now }
+{
+    if word == given {
+        Ok(())
+    } else {
+        Err(LineFault::B1)
+    }
 }
 
 pub(crate) fn track(word: &[u8]) -> Result<u32, LineFault>

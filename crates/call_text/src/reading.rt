@@ -3,12 +3,15 @@ ghost use Rattle.std.specs.Prelude.{◌≡◌, IfOk};
 ghost use Rattle.line_words.specs.Blanks.{words_of};
 ghost use Rattle.call_text.specs.CallTexts.{NamesWritten};
 ghost use Rattle.call_text.specs.Labels.{place_by};
-ghost use Rattle.call_text.specs.Reading.{overwrite_of, insert_of, remove_of, extract_of, slice_of, view_of, items_of, point_of, row_of, line_of, line_of_words, texts_of};
+ghost use Rattle.call_text.specs.Reading.{overwrite_of, insert_of, remove_of, extract_of, slice_of, dissolve_of, undissolve_of, trim_of, slip_of, roll_of, slide_of, fill_of, ripple_of, view_of, items_of, point_of, otio_of, row_of, line_of, line_of_words, texts_of};
 
-use crate::parts::{numeral, place, track, tracks, what};
+use crate::parts::{delta, end, given, numeral, place, track, tracks, what};
 use crate::words::{first_word, line_words};
 use crate::{Command, Line, LineFault};
-use composables::{Extract, Insert, Overwrite, Remove, Slice};
+use composables::{
+    Dissolve, Extract, Fill, FillLength, Insert, Overwrite, Remove, Ripple, Roll, Slice, Slide,
+    Slip, Trim, Undissolve,
+};
 use edit_apply::{Ask, Call};
 use line_words::MAX_LINE;
 use std::alloc::Global;
@@ -61,9 +64,18 @@ fn row(command: Command, rest: &[u8], counting: &Counting, start: u32) -> Result
         Command::Remove => remove(words),
         Command::Extract => extract(words),
         Command::Slice => slice(words, counting, start),
+        Command::Dissolve => dissolve(words, counting, start),
+        Command::Undissolve => undissolve(words, counting, start),
+        Command::Trim => trim(words),
+        Command::Slip => slip(words),
+        Command::Roll => roll(words, counting, start),
+        Command::Slide => slide(words),
+        Command::Fill => fill(words, counting, start),
+        Command::Ripple => ripple(words),
         Command::View => view(words, counting, start),
         Command::Items => items(words),
         Command::Point => point(words),
+        Command::Otio => otio(words),
     }
 }
 
@@ -167,6 +179,184 @@ fn slice(words: &[&[u8]], counting: &Counting, start: u32) -> Result<Line, LineF
     }
 }
 
+// dissolve T P A B
+fn dissolve(words: &[&[u8]], counting: &Counting, start: u32) -> Result<Line, LineFault>
+    ensures read { result ≡ dissolve_of (place_by counting.now start) (texts_of words.now) }
+    ensures written { IfOk result (λ read. NamesWritten read) }
+{
+    match words {
+        [track_word, at, before, after] => {
+            let track = track(track_word)?;
+            let at = place(at, counting, start)?;
+            let a = numeral(before)?;
+            let b = numeral(after)?;
+            Ok(Line::Edit(Call::Dissolve(Dissolve { track, at, a, b })))
+        }
+        _ => Err(LineFault::B2),
+    }
+}
+
+// undissolve T P
+fn undissolve(words: &[&[u8]], counting: &Counting, start: u32) -> Result<Line, LineFault>
+    ensures read { result ≡ undissolve_of (place_by counting.now start) (texts_of words.now) }
+    ensures written { IfOk result (λ read. NamesWritten read) }
+{
+    match words {
+        [track_word, at] => {
+            let track = track(track_word)?;
+            let at = place(at, counting, start)?;
+            Ok(Line::Edit(Call::Undissolve(Undissolve { track, at })))
+        }
+        _ => Err(LineFault::B2),
+    }
+}
+
+// trim T I END D
+fn trim(words: &[&[u8]]) -> Result<Line, LineFault>
+    ensures read { result ≡ trim_of (texts_of words.now) }
+    ensures written { IfOk result (λ read. NamesWritten read) }
+{
+    match words {
+        [track_word, item, last, by] => {
+            let track = track(track_word)?;
+            let item = numeral(item)?;
+            let end = end(last)?;
+            let by = delta(by)?;
+            Ok(Line::Edit(Call::Trim(Trim {
+                track,
+                item,
+                end,
+                by,
+            })))
+        }
+        _ => Err(LineFault::B2),
+    }
+}
+
+// slip TS T I D
+fn slip(words: &[&[u8]]) -> Result<Line, LineFault>
+    ensures read { result ≡ slip_of (texts_of words.now) }
+    ensures written { IfOk result (λ read. NamesWritten read) }
+{
+    match words {
+        [list, track_word, item, by] => {
+            let tracks = tracks(list)?;
+            let track = track(track_word)?;
+            let item = numeral(item)?;
+            let by = delta(by)?;
+            Ok(Line::Edit(Call::Slip(Slip {
+                tracks,
+                track,
+                item,
+                by,
+            })))
+        }
+        _ => Err(LineFault::B2),
+    }
+}
+
+// roll T P D
+fn roll(words: &[&[u8]], counting: &Counting, start: u32) -> Result<Line, LineFault>
+    ensures read { result ≡ roll_of (place_by counting.now start) (texts_of words.now) }
+    ensures written { IfOk result (λ read. NamesWritten read) }
+{
+    match words {
+        [track_word, at, by] => {
+            let track = track(track_word)?;
+            let at = place(at, counting, start)?;
+            let by = delta(by)?;
+            Ok(Line::Edit(Call::Roll(Roll { track, at, by })))
+        }
+        _ => Err(LineFault::B2),
+    }
+}
+
+// slide TS T I D
+fn slide(words: &[&[u8]]) -> Result<Line, LineFault>
+    ensures read { result ≡ slide_of (texts_of words.now) }
+    ensures written { IfOk result (λ read. NamesWritten read) }
+{
+    match words {
+        [list, track_word, item, by] => {
+            let tracks = tracks(list)?;
+            let track = track(track_word)?;
+            let item = numeral(item)?;
+            let by = delta(by)?;
+            Ok(Line::Edit(Call::Slide(Slide {
+                tracks,
+                track,
+                item,
+                by,
+            })))
+        }
+        _ => Err(LineFault::B2),
+    }
+}
+
+// fill T P WHAT FROM sequence, or fill T P WHAT FROM source LEN
+fn fill(words: &[&[u8]], counting: &Counting, start: u32) -> Result<Line, LineFault>
+    ensures read { result ≡ fill_of (place_by counting.now start) (texts_of words.now) }
+    ensures written { IfOk result (λ read. NamesWritten read) }
+{
+    match words {
+        [track_word, at, thing, from, how] => {
+            let track = track(track_word)?;
+            let at = place(at, counting, start)?;
+            let what = what(thing)?;
+            let from = numeral(from)?;
+            given(how, b"sequence")?;
+            let length = FillLength::Sequence;
+            Ok(Line::Edit(Call::Fill(Fill {
+                track,
+                at,
+                what,
+                from,
+                length,
+            })))
+        }
+        [track_word, at, thing, from, how, len] => {
+            let track = track(track_word)?;
+            let at = place(at, counting, start)?;
+            let what = what(thing)?;
+            let from = numeral(from)?;
+            given(how, b"source")?;
+            let length = FillLength::Source(numeral(len)?);
+            Ok(Line::Edit(Call::Fill(Fill {
+                track,
+                at,
+                what,
+                from,
+                length,
+            })))
+        }
+        _ => Err(LineFault::B2),
+    }
+}
+
+// ripple TS T I END D
+fn ripple(words: &[&[u8]]) -> Result<Line, LineFault>
+    ensures read { result ≡ ripple_of (texts_of words.now) }
+    ensures written { IfOk result (λ read. NamesWritten read) }
+{
+    match words {
+        [list, track_word, item, last, by] => {
+            let tracks = tracks(list)?;
+            let track = track(track_word)?;
+            let item = numeral(item)?;
+            let end = end(last)?;
+            let by = delta(by)?;
+            Ok(Line::Edit(Call::Ripple(Ripple {
+                tracks,
+                track,
+                item,
+                end,
+                by,
+            })))
+        }
+        _ => Err(LineFault::B2),
+    }
+}
+
 // view T P P
 fn view(words: &[&[u8]], counting: &Counting, start: u32) -> Result<Line, LineFault>
     ensures read { result ≡ view_of (place_by counting.now start) (texts_of words.now) }
@@ -204,6 +394,17 @@ fn point(words: &[&[u8]]) -> Result<Line, LineFault>
 {
     match words {
         [] => Ok(Line::Point),
+        _ => Err(LineFault::B2),
+    }
+}
+
+// otio N
+fn otio(words: &[&[u8]]) -> Result<Line, LineFault>
+    ensures read { result ≡ otio_of (texts_of words.now) }
+    ensures written { IfOk result (λ read. NamesWritten read) }
+{
+    match words {
+        [point] => Ok(Line::Otio(numeral(point)?)),
         _ => Err(LineFault::B2),
     }
 }

@@ -1,10 +1,13 @@
-//! A small object of parts, to try on it whatever works for any object: [`Counters`], of which each part is a number. It
-//! is used by tests alone.
+//! A small object of parts, to try on it whatever works for any object: [`Counters`], of which each part is a number.
+//! [`Stations`] is the machine of many stations over it, plain and slow, as what it means says. Both are used by tests
+//! alone.
 #![tactic(auto)]
 
 mod object;
+mod stations;
 
 pub use object::Counters;
+pub use stations::{Event, Stations};
 
 #[cfg(test)]
 mod tests;

@@ -11,6 +11,8 @@ use std::marker::Brand;
 use std::sync::ledger::{Blank, Ledger};
 use step_count::Steps;
 
+mod machine;
+
 // What a call answers, or what it refuses, and what it leaves on counter 0 and the other.
 type Called = (Result<u32, u32>, u32, u32);
 
@@ -77,7 +79,11 @@ fn copies_are_equal<O: PartObject>(
 fn worked_run()
     ensures parts { (run (counters 3 10) (opened (0 ∷ 0 ∷ 0 ∷ [])) worked).parts ≡ 6 ∷ 6 ∷ 0 ∷ [] }
     ensures history { (run (counters 3 10) (opened (0 ∷ 0 ∷ 0 ∷ [])) worked).history
-        ≡ record { station = 7; number = 1; call = (1, 5) } ∷ record { station = 8; number = 1; call = (1, 1) } ∷ [] }
+        ≡ record { station = 7; number = 1; call = (1, 5) } ∷ record {
+          station = 8;
+          number = 1;
+          call = (1, 1);
+        } ∷ [] }
 {}
 
 #[test]

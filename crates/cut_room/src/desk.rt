@@ -123,6 +123,13 @@ impl<O: PartObject + Drop> Desk<O> {
         }
     }
 
+    /// The object that the room stands over.
+    pub fn object(&self) -> &O
+        ensures { result.now ≡ self.now.object }
+    {
+        &self.object
+    }
+
     /// How many entries the journal has.
     pub fn point(&self) -> u32
         ensures { result ≡ length self.now.entries }

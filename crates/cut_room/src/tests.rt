@@ -11,7 +11,7 @@ use step_count::Steps;
 
 // What an edit or a question is answered: the point, and the sum or the number that is refused.
 #[derive(Clone, Copy, Debug, PartialEq, Eq)]
-enum Told {
+pub enum Told {
     Done(u32, u32),
     Refused(u32, u32),
     Full(u32),
@@ -19,7 +19,7 @@ enum Told {
     Memory,
 }
 
-fn edit_told(answer: Answer<Counters>) -> Told {
+pub fn edit_told(answer: Answer<Counters>) -> Told {
     match answer {
         Answer::Done { point, done } => Told::Done(point, done),
         Answer::Refused { point, refusal } => Told::Refused(point, refusal),
@@ -28,7 +28,7 @@ fn edit_told(answer: Answer<Counters>) -> Told {
     }
 }
 
-fn sight_told(sight: Sight<Counters>) -> Told {
+pub fn sight_told(sight: Sight<Counters>) -> Told {
     match sight {
         Sight::Seen { point, seen } => Told::Seen(point, seen),
         Sight::Refused { point, refusal } => Told::Refused(point, refusal),

@@ -1,5 +1,5 @@
 -- What an edit did to a session, and what a question was answered, is what the reply says.
-use Rattle.std.proofs.Common.{◌≡◌, ℕ, ◌+◌, ◌<◌, inl, inr, List, [], ◌∷◌, ◌++◌, length, Option, Some, None, Result, Ok, Err, slice_get, option_map, refl, sym, ap, ◌∙◌, arith, subst}
+use Rattle.std.proofs.Common.{◌≡◌, ℕ, ◌+◌, ◌<◌, ◌≤◌, inl, inr, List, [], ◌∷◌, ◌++◌, length, take, Option, Some, None, Result, Ok, Err, slice_get, option_map, refl, sym, ap, ◌∙◌, arith, subst}
 use Rattle.std.specs.Prelude.{codes}
 use Rattle.timecode12.specs.Numbers.{Counted}
 use Rattle.composables.specs.TrackState.{TrackState}
@@ -14,15 +14,19 @@ use Rattle.room_core.specs.declared.entry.Entry.{Entry}
 use Rattle.room_core.specs.History.{most_entries}
 use Rattle.cut_room.specs.declared.answers.Answer.TheVariants as answer
 use Rattle.cut_room.specs.declared.answers.Sight.TheVariants as sight
+use Rattle.cut_room.specs.declared.answers.CutFault.{CutFault}
 use Rattle.cut_room.specs.Desks.{Edits, Sees, told}
+use Rattle.room_core.specs.History.{replay}
+use Rattle.room_core.specs.Whole.{whole}
 use Rattle.call_text.specs.CallTexts.{IsWritten}
 use Rattle.call_text.specs.Replies.{EditAnswer, answer_text_of}
 use Rattle.call_text.specs.Sights.{TrackSight, sight_text_of}
 use Rattle.cut_server.specs.declared.reply.Reply.{Reply}
-use Rattle.cut_server.specs.Rooms.{History, Setting, AreWritten, finds_memory, room_of, seen_of}
-use Rattle.cut_server.specs.Session.{IsSightReply, Replies, RepliesWith, Step}
+use Rattle.cut_server.specs.DocumentReplies.{document_reply, no_point_reply}
+use Rattle.cut_server.specs.Rooms.{History, Setting, AreWritten, document_of, finds_memory, room_of, seen_of}
+use Rattle.cut_server.specs.Session.{IsReply, IsReplyIfMemory, IsSightReply, Replies, RepliesWith, Step}
 use Rattle.cut_server.specs.SessionInside.{TrackDesk, session_at}
-use Rattle.cut_server.specs.Transcript.{Wish, Do, See}
+use Rattle.cut_server.specs.Transcript.{Wish, Do, See, Write}
 
 written_more : (h : History) (e : Entry Call) → IsWritten e.call → AreWritten h → AreWritten (h ++ e ∷ [])
 written_more [] e w all = (w, tt)
@@ -51,6 +55,7 @@ edit_replied before after counting start line c (answer.Done n d) text w e is = 
   step = inl (inl (
     d,
     record {
+      opening = e.opening_is;
       applies = e.applies;
       journal = e.entries_are;
       room = omega (arith, e.point_is, e.room);
@@ -123,3 +128,31 @@ pub sight_replied : (desk : TrackDesk) (counting : Counted) (start line : ℕ) (
 sight_replied desk counting start line q s reply e (inl is) = (sight_text_of s, is, ask_replied desk counting start line q s (sight_text_of s) e refl)
 sight_replied desk counting start line q s reply e (inr is) =
     (codes "memory", is, replied desk counting start line (See q) (codes "memory") (inr (refl, record { same = refl; reply_is = refl })))
+
+-- the document of a cut, or that it is too long, or that there was no memory for it
+pub document_replied : (desk : TrackDesk) (counting : Counted) (start line n : ℕ) (tracks : List TrackState) (reply : Reply)
+    → n ≤ length desk.entries → replay (whole (editing desk.object.table)) desk.opening (take n desk.entries) ≡ Some tracks
+    → IsReplyIfMemory (document_reply n (document_of (session_at desk counting start line).setting tracks)) reply
+    → Replies (session_at desk counting start line) (session_at desk counting start (line + 1)) (Write n) reply
+document_replied desk counting start line n tracks reply within state (inl is) =
+    let text = document_reply n (document_of (session_at desk counting start line).setting tracks) in
+    (text, is, replied desk counting start line (Write n) text (inl (inl (tracks, record { within = within; state = state; same = refl; reply_is = refl }))))
+document_replied desk counting start line n tracks reply within state (inr is) =
+    (codes "memory", is, replied desk counting start line (Write n) (codes "memory") (inr (refl, record { same = refl; reply_is = refl })))
+
+-- there are fewer entries
+pub past_replied : (desk : TrackDesk) (counting : Counted) (start line n count : ℕ) (reply : Reply) → count ≡ length desk.entries → count < n
+    → IsReply reply (no_point_reply count)
+    → Replies (session_at desk counting start line) (session_at desk counting start (line + 1)) (Write n) reply
+past_replied desk counting start line n count reply counted past is = (
+  no_point_reply count,
+  is,
+  replied desk counting start line (Write n) (no_point_reply count)
+      (inl (inr (record { past = omega (arith, counted, past); same = refl; reply_is = ap no_point_reply counted }))),
+)
+
+-- there was no memory for the cut
+pub memory_replied : (desk : TrackDesk) (counting : Counted) (start line n : ℕ) (reply : Reply) → IsReply reply (codes "memory")
+    → Replies (session_at desk counting start line) (session_at desk counting start (line + 1)) (Write n) reply
+memory_replied desk counting start line n reply is =
+    (codes "memory", is, replied desk counting start line (Write n) (codes "memory") (inr (refl, record { same = refl; reply_is = refl })))

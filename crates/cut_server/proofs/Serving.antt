@@ -1,13 +1,13 @@
 -- A station that has answered some lines, and what it does for one more.
-use Rattle.std.proofs.Common.{◌≡◌, ℕ, ◌+◌, ◌<◌, ◌≤◌, Bool, IsTrue, ◌⊎◌, inl, inr, List, [], ◌∷◌, ◌++◌, length, Option, Some, Result, Ok, Err, refl, sym, ap, ◌∙◌, subst, arith, append_assoc, option_map}
+use Rattle.std.proofs.Common.{◌≡◌, ℕ, ◌+◌, ◌<◌, ◌≤◌, Bool, IsTrue, ◌⊎◌, inl, inr, List, [], ◌∷◌, ◌++◌, length, max, take, Option, Some, Result, Ok, Err, refl, sym, ap, ◌∙◌, subst, arith, append_assoc, option_map}
 use Rattle.std.specs.Prelude.{codes}
 use Rattle.std.proofs.lemmas.List.{append-nil, length-append}
 use Rattle.line_words.specs.Lines.{Line as InputLine}
 use Rattle.room_core.specs.declared.entry.Entry.{Entry}
 use Rattle.room_core.specs.History.{most_entries, replay, after_entry, answer_in, state_in, RiseAfter, NumbersRise, IsLegal}
 use Rattle.cut_server.specs.Stations.{AreOfStations}
-use Rattle.cut_server.specs.Transcript.{Wish, Do, See, Point, Bad, Kind, answer_at, sight_at, BearsNone, IsDone, IsRefused, IsFull, IsMemory, IsSeen, IsPoint, IsBad, Answered, Row, Transcript, points_from, sent}
-use Rattle.cut_server.specs.Session.{Course, past_line, Commits, Refuses, HasNoRoom, Says, Does, Step}
+use Rattle.cut_server.specs.Transcript.{Wish, Do, See, Point, Write, Bad, Kind, answer_at, sight_at, BearsNone, IsDone, IsRefused, IsFull, IsMemory, IsSeen, IsPoint, IsDocument, IsPastEnd, IsBad, Answered, Row, Transcript, points_from, sent}
+use Rattle.cut_server.specs.Session.{Course, past_line, Commits, Refuses, HasNoRoom, Writes, HasNoPoint, Says, Does, Step}
 use Rattle.cut_server.specs.Served.{OwnBefore, Served, Serves}
 use Rattle.cut_server.proofs.Transcripts.{OwnFrom, get_last, answer_more, rows_more, one_row_more, points_append, points_one, replay_more, state_now}
 
@@ -39,8 +39,9 @@ zero_plus : (n : ℕ) → 0 + n ≡ n
 zero_plus n = omega arith
 
 module _ {S C D R Q X Y : Type 0} (k : Kind S C D R Q X Y) (stations station : ℕ) (o : S) where
-  pub served_none : (s : Course S C) → s.state ≡ o → s.journal ≡ [] → s.line ≡ 1 → Served k stations station o s [] [] 0
-  served_none s is j first = record {
+  pub served_none : (s : Course S C) → s.opening ≡ o → s.state ≡ o → s.journal ≡ [] → s.line ≡ 1 → Served k stations station o s [] [] 0
+  served_none s from is j first = record {
+    opening = from;
     state = ap (λ (h : List (Entry C)). replay k.apply o h) j ∙ ap Some (sym is);
     rows = (refl, ap (points_from 0 station) j);
     told = omega arith;
@@ -62,6 +63,7 @@ module _ {S C D R Q X Y : Type 0} (k : Kind S C D R Q X Y) (stations station : �
       → Served k stations station o s ls rs last → Row k o s.journal station (1 + length ls) last reply after [] l → after ≤ length s.journal
       → Served k stations station o (past_line s) (ls ++ l ∷ []) (rs ++ reply ∷ []) after
   served_same s ls rs last l reply after w row told = record {
+    opening = w.opening;
     state = w.state;
     rows = rw append-nil at (one_row_more k o s.journal station 1 0 ls rs last (points_from 0 station s.journal) l reply after [] w.rows row);
     told = told;
@@ -101,6 +103,7 @@ module _ {S C D R Q X Y : Type 0} (k : Kind S C D R Q X Y) (stations station : �
       let points : points_from 0 station (h ++ e ∷ []) ≡ points_from 0 station h ++ n ∷ [] =
       points_append 0 station h (e ∷ []) ∙ (ap (λ ps. points_from 0 station h ++ ps) (points_one (0 + length h) station e refl) ∙ ap (λ i. points_from 0 station h ++ i ∷ []) (zero_plus n)) in
       record {
+        opening = m.opening ∙ w.opening;
         state = rw j state;
         rows = rw (j, points) rows;
         told = omega (arith, ap length j, counted);
@@ -165,6 +168,27 @@ module _ {S C D R Q X Y : Type 0} (k : Kind S C D R Q X Y) (stations station : �
         points_are = refl;
       } in
       (n, served_quiet old new ls rs last l reply n m.same w (inl (rw says (n, point))) (omega arith))
+  served_does old new ls rs last l reply (Write n) seated w says (inl (s, m)) =
+      let told : max last n ≤ length old.journal = omega (arith, w.told, m.within) in
+      let document : IsDocument k o old.journal station (1 + length ls) last reply (max last n) [] n s = record {
+        within = m.within;
+        state = ap (λ (x : S). replay k.apply x (take n old.journal)) (sym w.opening) ∙ m.state;
+        reply_is = m.reply_is;
+        after_is = refl;
+        points_are = refl;
+      } in
+      (max last n, served_quiet old new ls rs last l reply (max last n) m.same w (inl (rw says (inl (s, document)))) told)
+  served_does old new ls rs last l reply (Write n) seated w says (inr m) =
+      let at : ℕ = length old.journal in
+      let past : IsPastEnd k o old.journal station (1 + length ls) last reply at [] n at = record {
+        told_of = w.told;
+        within = omega arith;
+        past = m.past;
+        reply_is = m.reply_is;
+        after_is = refl;
+        points_are = refl;
+      } in
+      (at, served_quiet old new ls rs last l reply at m.same w (inl (rw says (inr (at, past)))) (omega arith))
   served_does old new ls rs last l reply (Bad text) seated w says m =
       let bad : IsBad k o old.journal station (1 + length ls) last reply last [] text = record {
         reply_is = m.reply_is;

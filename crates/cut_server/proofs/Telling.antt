@@ -35,7 +35,7 @@ told o a b ls rs last f texts w = record {
 -- the session's journal tells its replies
 tells_by : (o : Opening) (a b : SessionState) (ls : List InputLine) (Taken : List (List ℕ) → Type 0) → IsFresh o a → ServesTo a b ls Taken → (replies : List (List ℕ)) × IsTold o 1 b.course.journal 0 ls replies × Taken replies
 tells_by o a b ls Taken f g =
-    let s = g.serves o.tracks [] [] 0 (served_none (room_of a.setting) 1 0 o.tracks a.course f.tracks f.journal f.line) in
+    let s = g.serves o.tracks [] [] 0 (served_none (room_of a.setting) 1 0 o.tracks a.course f.opening f.tracks f.journal f.line) in
     (s.0, told o a b ls s.0 s.1 f (g.written (rw f.journal tt)) s.2, s.3)
 
 tells : (o : Opening) (a b : SessionState) → IsFresh o a → (ls : List InputLine) (Taken : List (List ℕ) → Type 0) → ServesTo a b ls Taken → Tells o ls Taken

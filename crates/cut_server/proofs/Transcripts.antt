@@ -10,7 +10,7 @@ use Rattle.room_core.specs.History.{most_entries, replay, after_entry, answer_in
 use Rattle.room_core.specs.Projection.{of_station}
 use Rattle.cut_server.specs.Longer.{TranscriptsStay}
 use Rattle.cut_server.specs.Rooms.{room_of, setting_of}
-use Rattle.cut_server.specs.Transcript.{Wish, Do, See, Point, Bad, Kind, state_at, answer_at, sight_at, BearsNone, IsDone, IsRefused, IsFull, IsMemory, IsSeen, IsPoint, IsBad, Answered, Row, Rows, points_from, Transcript, sent}
+use Rattle.cut_server.specs.Transcript.{Wish, Do, See, Point, Write, Bad, Kind, state_at, answer_at, sight_at, BearsNone, IsDone, IsRefused, IsFull, IsMemory, IsSeen, IsPoint, IsBad, Answered, Row, Rows, points_from, Transcript, sent}
 
 -- each of these entries that is of the station is of this line or a later one
 abbrev pub OwnFrom : {C : Type 0} → ℕ → ℕ → List (Entry C) → Type 0
@@ -114,6 +114,29 @@ module _ {S C D R Q X Y : Type 0} (k : Kind S C D R Q X Y) (o : S) where
       points_are = w.points_are;
     },
   )
+  answered_more h more station line told reply after points (Write n) within (inl (s, w)) =
+      inl (
+        s,
+        record {
+          within = omega (arith, w.within, length-append h more);
+          state = state_more h more n w.within ∙ w.state;
+          reply_is = w.reply_is;
+          after_is = w.after_is;
+          points_are = w.points_are;
+        },
+      )
+  answered_more h more station line told reply after points (Write n) within (inr (at, w)) =
+      inr (
+        at,
+        record {
+          told_of = w.told_of;
+          within = omega (arith, w.within, length-append h more);
+          past = w.past;
+          reply_is = w.reply_is;
+          after_is = w.after_is;
+          points_are = w.points_are;
+        },
+      )
   answered_more h more station line told reply after points (Bad text) within w = record {
     reply_is = w.reply_is;
     after_is = w.after_is;

@@ -1,5 +1,6 @@
 pub mod Stations
 pub mod Transcript
+pub mod DocumentReplies
 pub mod Rooms
 pub mod Longer
 pub mod Session

@@ -15,11 +15,13 @@ use Rattle.edit_apply.specs.Apply.{editing}
 use Rattle.edit_apply.specs.See.{seen_in}
 use Rattle.room_core.specs.declared.entry.Entry.{Entry}
 use Rattle.call_text.specs.declared.lines.Line.{Line}
-use Rattle.call_text.specs.declared.lines.Line.TheVariants.{Edit, Ask as AskOf, Point as PointOf}
+use Rattle.call_text.specs.declared.lines.Line.TheVariants.{Edit, Ask as AskOf, Point as PointOf, Otio}
 use Rattle.call_text.specs.declared.lines.LineFault.{LineFault}
 use Rattle.call_text.specs.declared.lines.LineFault.TheVariants.{B5}
 use Rattle.call_text.specs.Labels.{place_by}
 use Rattle.call_text.specs.Reading.{line_of}
+use Rattle.otio_text.specs.Documents.{timeline_text}
+use Rattle.cut_server.specs.DocumentReplies.{document_reply, no_point_reply}
 use Rattle.cut_room.specs.declared.answers.Answer.TheVariants as answer
 use Rattle.cut_room.specs.declared.answers.Sight.TheVariants as sight
 use Rattle.call_text.specs.CallTexts.{IsWritten}
@@ -27,7 +29,7 @@ use Rattle.call_text.specs.Replies.{answer_text_of, fault_of}
 use Rattle.call_text.specs.Sights.{sight_text_of}
 use Rattle.room_core.specs.History.{IsLegal, most_entries}
 use Rattle.room_core.specs.Whole.{whole}
-use Rattle.cut_server.specs.Transcript.{Wish, Do, See, Point, Bad, Kind, Transcript}
+use Rattle.cut_server.specs.Transcript.{Wish, Do, See, Point, Write, Bad, Kind, Transcript}
 
 -- what stays as it is in a room: its table, how its frames are counted, and the frame at which its record starts
 pub record Setting : Type 0 where
@@ -51,13 +53,15 @@ abbrev pub wish_in : Result Line LineFault → Wish Call Ask
 wish_in (Ok (Edit c)) = Do c
 wish_in (Ok (AskOf q)) = See q
 wish_in (Ok PointOf) = Point
+wish_in (Ok (Otio n)) = Write n
 wish_in (Err fault) = Bad (fault_of fault)
 
--- an edit and a question may find no memory
+-- an edit, a question and a document may find no memory
 abbrev pub finds_memory : Wish Call Ask → Bool
 finds_memory (Do c) = true
 finds_memory (See q) = true
 finds_memory Point = false
+finds_memory (Write n) = true
 finds_memory (Bad text) = false
 
 -- the reply to an edit at a point, and to a question
@@ -69,6 +73,10 @@ abbrev pub seen_of : ℕ → Result Seen AskRefusal → List ℕ
 seen_of n (Ok s) = sight_text_of (sight.Seen n s)
 seen_of n (Err r) = sight_text_of (sight.Refused n r)
 
+-- the document of a cut in a room
+abbrev pub document_of : Setting → List TrackState → List ℕ
+document_of setting tracks = timeline_text setting.table tracks setting.counting setting.start
+
 abbrev pub room_of : Setting → Kind (List TrackState) Call Done Refusal Ask Seen AskRefusal
 room_of setting = record {
   apply = whole (editing setting.table);
@@ -78,6 +86,8 @@ room_of setting = record {
   answer_text = reply_of;
   full_text = answer_text_of (answer.Full most_entries);
   sight_text = seen_of;
+  document_text = λ n tracks. document_reply n (document_of setting tracks);
+  no_point_text = no_point_reply;
 }
 
 -- the transcript of a station of a room

@@ -16,6 +16,7 @@ OwnBefore station line (e ∷ es) = (e.station ≡ station → e.number < line) 
 
 -- the lines so far have their replies, and the state is what the journal comes to
 pub record Served {S C D R Q X Y : Type 0} (k : Kind S C D R Q X Y) (stations station : ℕ) (o : S) (s : Course S C) (ls : List InputLine) (rs : List (List ℕ)) (last : ℕ) : Type 0 where
+  pub opening : s.opening ≡ o
   pub state : replay k.apply o s.journal ≡ Some s.state
   pub rows : Rows k o s.journal station 1 0 ls rs last (points_from 0 station s.journal)
   pub told : last ≤ length s.journal
@@ -35,6 +36,7 @@ Serves {S} {C} {D} {R} {Q} {X} {Y} k stations station old new lines Taken =
 -- a session that has just been opened
 pub record IsFresh (o : Opening) (s : SessionState) : Type 0 where
   pub setting : s.setting ≡ setting_of o
+  pub opening : s.course.opening ≡ o.tracks
   pub tracks : s.course.state ≡ o.tracks
   pub journal : s.course.journal ≡ []
   pub line : s.course.line ≡ 1

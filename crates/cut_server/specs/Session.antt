@@ -1,5 +1,5 @@
 -- What a session does for one line: it answers it, and at most commits one call.
-use Rattle.std.specs.Prelude.{◌≡◌, ℕ, ◌+◌, ◌<◌, ◌⊎◌, Bool, IsTrue, List, [], ◌∷◌, ◌++◌, Ok, Err, length, codes, decimal}
+use Rattle.std.specs.Prelude.{◌≡◌, ℕ, ◌+◌, ◌<◌, ◌≤◌, ◌⊎◌, Bool, IsTrue, List, [], ◌∷◌, ◌++◌, Some, Ok, Err, length, take, codes, decimal}
 use Rattle.line_words.specs.Lines.{Line as InputLine}
 use Rattle.composables.specs.TrackState.{TrackState}
 use Rattle.edit_apply.specs.declared.asks.Call.{Call}
@@ -7,25 +7,28 @@ use Rattle.edit_apply.specs.declared.asks.Ask.{Ask}
 use Rattle.room_core.specs.declared.entry.Entry.{Entry}
 use Rattle.call_text.specs.declared.short_text.Short.{Short}
 use Rattle.call_text.specs.Sights.{TrackSight, sight_text_of}
-use Rattle.room_core.specs.History.{answer_in, most_entries}
-use Rattle.cut_server.specs.Transcript.{Wish, Do, See, Point, Bad, Kind}
+use Rattle.room_core.specs.History.{answer_in, most_entries, replay}
+use Rattle.cut_server.specs.Transcript.{Wish, Do, See, Point, Write, Bad, Kind}
 use Rattle.cut_server.specs.Rooms.{Setting, AreWritten, room_of, finds_memory}
 use Rattle.cut_server.specs.declared.reply.Reply.{Reply}
 use Rattle.cut_server.specs.declared.reply.Reply.TheVariants as reply
 
--- how far a station has come: the state as it is, the journal, and the number of its next line
+-- how far a station has come: the state that it began with, the state as it is, the journal, and the number of its next
+-- line
 pub record Course (S C : Type 0) : Type 0 where
+  pub opening : S
   pub state : S
   pub journal : List (Entry C)
   pub line : ℕ
 
 -- the number of the next line rises
 abbrev pub past_line : {S C : Type 0} → Course S C → Course S C
-past_line s = record { state = s.state; journal = s.journal; line = s.line + 1 }
+past_line s = record { opening = s.opening; state = s.state; journal = s.journal; line = s.line + 1 }
 
 module _ {S C D R Q X Y : Type 0} (k : Kind S C D R Q X Y) (station : ℕ) (old new : Course S C) (reply : List ℕ) where
   -- the call was done on the state and stands in the journal
   pub record Commits (c : C) (d : D) : Type 0 where
+    pub opening : new.opening ≡ old.opening
     pub applies : k.apply old.state c ≡ Ok (new.state, d)
     pub journal : new.journal ≡ old.journal ++ record { station = station; number = old.line; call = c } ∷ []
     pub room : length old.journal < most_entries
@@ -44,6 +47,19 @@ module _ {S C D R Q X Y : Type 0} (k : Kind S C D R Q X Y) (station : ℕ) (old 
     pub same : new ≡ old
     pub reply_is : reply ≡ k.full_text
 
+  -- the state after so many entries is told as a document
+  pub record Writes (n : ℕ) (s : S) : Type 0 where
+    pub within : n ≤ length old.journal
+    pub state : replay k.apply old.opening (take n old.journal) ≡ Some s
+    pub same : new ≡ old
+    pub reply_is : reply ≡ k.document_text n s
+
+  -- there are fewer entries
+  pub record HasNoPoint (n : ℕ) : Type 0 where
+    pub past : length old.journal < n
+    pub same : new ≡ old
+    pub reply_is : reply ≡ k.no_point_text (length old.journal)
+
   pub record Says (text : List ℕ) : Type 0 where
     pub same : new ≡ old
     pub reply_is : reply ≡ text
@@ -53,6 +69,7 @@ module _ {S C D R Q X Y : Type 0} (k : Kind S C D R Q X Y) (station : ℕ) (old 
   Does (Do c) = ((d : D) × Commits c d) ⊎ (((r : R) × Refuses c r) ⊎ ((d : D) × HasNoRoom c d))
   Does (See q) = Says (k.sight_text (length old.journal) (k.see old.state q))
   Does Point = Says (codes "point " ++ decimal (length old.journal))
+  Does (Write n) = ((s : S) × Writes n s) ⊎ HasNoPoint n
   Does (Bad text) = Says text
 
   -- answering a line, before the number of the next line rises
@@ -88,3 +105,7 @@ RepliesShort old new wish text = RepliesWith old new wish text
 
 abbrev pub Replies : SessionState → SessionState → Wish Call Ask → Reply → Type 0
 Replies old new wish answer = (text : List ℕ) × IsReply answer text × RepliesWith old new wish text
+
+-- this reply, or that there was no memory for it
+abbrev pub IsReplyIfMemory : List ℕ → Reply → Type 0
+IsReplyIfMemory text answer = IsReply answer text ⊎ IsReply answer (codes "memory")

@@ -16,7 +16,7 @@ TrackDesk = DeskState Editor TrackState Call
 abbrev pub session_at : TrackDesk → Counted → ℕ → ℕ → SessionState
 session_at desk counting start line = record {
   setting = record { table = desk.object.table; counting = counting; start = start };
-  course = record { state = desk.parts; journal = desk.entries; line = line };
+  course = record { opening = desk.opening; state = desk.parts; journal = desk.entries; line = line };
 }
 
 abbrev pub state_of : Inside → SessionState

@@ -1,15 +1,17 @@
 -- What a station is told: one reply for each of its lines. Each reply but `bad` and `memory` names its point in the
 -- journal, and says what the entries before that point give.
-use Rattle.std.specs.Prelude.{◌≡◌, ◌≢◌, ℕ, ◌+◌, ◌≤◌, ◌⊎◌, Bool, IsTrue, List, [], ◌∷◌, ◌++◌, Option, Some, Result, Ok, Err, length, take, slice_get, codes, decimal, option_map, ◌==◌, if◌then◌else◌}
+use Rattle.std.specs.Prelude.{◌≡◌, ◌≢◌, ℕ, ◌+◌, ◌<◌, ◌≤◌, ◌⊎◌, Bool, IsTrue, List, [], ◌∷◌, ◌++◌, Option, Some, Result, Ok, Err, length, max, take, slice_get, codes, decimal, option_map, ◌==◌, if◌then◌else◌}
 use Rattle.line_words.specs.Lines.{Line as InputLine}
 use Rattle.room_core.specs.declared.entry.Entry.{Entry}
 use Rattle.room_core.specs.History.{answer_in, replay, most_entries}
 
--- what a line asks for: a call, a question, the point, or nothing of the protocol, where this is its reply
+-- what a line asks for: a call, a question, the point, the document of a point, or nothing of the protocol, where this
+-- is its reply
 pub data Wish (C Q : Type 0) : Type 0 where
   Do : C → Wish C Q
   See : Q → Wish C Q
   Point : Wish C Q
+  Write : ℕ → Wish C Q
   Bad : List ℕ → Wish C Q
 
 -- A kind of history over states S: what a call does and a question sees, what a line asks for and whether it may find no
@@ -22,6 +24,9 @@ pub record Kind (S C D R Q X Y : Type 0) : Type 0 where
   pub answer_text : ℕ → Result D R → List ℕ
   pub full_text : List ℕ
   pub sight_text : ℕ → Result X Y → List ℕ
+  -- the reply with the document of a state, which stands after so many entries, and where there are only so many entries
+  pub document_text : ℕ → S → List ℕ
+  pub no_point_text : ℕ → List ℕ
 
 -- no entry bears this line's number and its station
 abbrev pub BearsNone : {C : Type 0} → List (Entry C) → ℕ → ℕ → Type 0
@@ -84,6 +89,23 @@ module _ {S C D R Q X Y : Type 0} (k : Kind S C D R Q X Y) (o : S) (h : List (En
       pub after_is : after ≡ n
       pub points_are : points ≡ []
 
+    -- the document is that of the state after so many entries, which may be fewer than the station had been told of
+    pub record IsDocument (n : ℕ) (s : S) : Type 0 where
+      pub within : n ≤ length h
+      pub state : state_at n ≡ Some s
+      pub reply_is : reply ≡ k.document_text n s
+      pub after_is : after ≡ max told n
+      pub points_are : points ≡ []
+
+    -- there are fewer entries than were asked for
+    pub record IsPastEnd (asked n : ℕ) : Type 0 where
+      pub told_of : told ≤ n
+      pub within : n ≤ length h
+      pub past : n < asked
+      pub reply_is : reply ≡ k.no_point_text n
+      pub after_is : after ≡ n
+      pub points_are : points ≡ []
+
     -- the line is none of the protocol
     pub record IsBad (text : List ℕ) : Type 0 where
       pub reply_is : reply ≡ text
@@ -102,6 +124,7 @@ module _ {S C D R Q X Y : Type 0} (k : Kind S C D R Q X Y) (o : S) (h : List (En
     Answered (Do c) = ((n : ℕ) × (d : D) × IsDone c n d) ⊎ (((n : ℕ) × (r : R) × IsRefused c n r) ⊎ ((d : D) × IsFull c d))
     Answered (See q) = (n : ℕ) × (s : Result X Y) × IsSeen q n s
     Answered Point = (n : ℕ) × IsPoint n
+    Answered (Write n) = ((s : S) × IsDocument n s) ⊎ ((at : ℕ) × IsPastEnd n at)
     Answered (Bad text) = IsBad text
 
     abbrev pub Row : InputLine → Type 0

@@ -7,6 +7,7 @@
 
 mod command;
 mod document;
+mod document_reply;
 pub mod laws;
 mod main_call;
 mod reply;
@@ -16,5 +17,7 @@ mod status;
 
 pub use main_call::cut_main;
 
+#[cfg(test)]
+mod document_tests;
 #[cfg(test)]
 mod tests;

@@ -5,12 +5,13 @@ ghost use Rattle.cut_room.specs.Desks.{Edits};
 ghost use Rattle.edit_apply.specs.Apply.{editing};
 ghost use Rattle.cut_server.specs.Session.{IsSightReply};
 
+use crate::document_reply::{document_reply, memory_reply, no_point_reply};
 use crate::reply::{Reply, ended};
 use call_text::{
     Line, LineFault, Short, answer_text, fault_text, point_text, read_line, sight_text,
 };
 use composables::Memory;
-use cut_room::{Answer, Desk, Sight};
+use cut_room::{Answer, CutFault, Desk, Sight};
 use edit_apply::{Ask, Call, Editor};
 use line_words::LineEnd;
 use otio_json::Opening;
@@ -52,7 +53,7 @@ impl Session {
     ghost use Rattle.cut_server.specs.Rooms.{meaning_of, wish_in};
     ghost use Rattle.cut_server.specs.Served.{IsFresh};
     ghost use Rattle.cut_server.specs.Session.{Replies, RepliesShort};
-    ghost use Rattle.cut_server.specs.Transcript.{Bad, Do, Point, See};
+    ghost use Rattle.cut_server.specs.Transcript.{Bad, Do, Point, See, Write};
 
     /// A session in a room that begins so, with an empty journal.
     pub(crate) fn opened(alloc: Global, opening: Opening) -> Result<Session, Memory>
@@ -125,6 +126,21 @@ impl Session {
         point_text(self.desk.point())
     }
 
+    // The reply with the document of the cut after `n` entries.
+    fn reply_to_otio(&mut self, n: u32) -> Reply
+        requires { self.old.course.line + 1 < 2 ^ 32 }
+        ensures { Replies self.old self.new (Write n) result }
+    {
+        self.line += 1;
+        let table = &self.desk.object().table;
+        let tracks = match self.desk.cut_at(self.alloc, n) {
+            Ok(tracks) => tracks,
+            Err(CutFault::NoPoint(length)) => return no_point_reply(length),
+            Err(CutFault::Memory) => return memory_reply(),
+        };
+        document_reply(self.alloc, n, table, &tracks, &self.counting, self.start)
+    }
+
     // The reply to a line that is none of the table.
     fn reply_to_none(&mut self, fault: &LineFault) -> Short
         requires { self.old.course.line + 1 < 2 ^ 32 }
@@ -145,6 +161,7 @@ impl Session {
                 Line::Edit(call) => Reply::Short(ended(self.reply_to_edit(call))),
                 Line::Ask(ask) => self.reply_to_ask(&ask),
                 Line::Point => Reply::Short(ended(self.reply_to_point())),
+                Line::Otio(n) => self.reply_to_otio(n),
             },
             Err(fault) => Reply::Short(ended(self.reply_to_none(&fault))),
         }

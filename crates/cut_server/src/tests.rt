@@ -22,7 +22,7 @@ fn no_files(alloc: Global) -> MemFiles {
 }
 
 // The status and the output of a run with these words, over these pieces of input and these calls that fail.
-fn ended(
+pub(crate) fn ended(
     alloc: Global,
     words: &[&str],
     pieces: &[&[u8]],
@@ -33,7 +33,7 @@ fn ended(
 }
 
 // The same over these files.
-fn ended_over(
+pub(crate) fn ended_over(
     alloc: Global,
     words: &[&str],
     files: &mut MemFiles,
@@ -103,6 +103,98 @@ fn lines_are_answered(rt: HostRuntime) -> Result<(), Fail> {
         (
             b"overwrite 0 2591998 @0 0 2\npoint\n",
             b"ok 0 item 0\npoint 1\njournal 1\n0 1 overwrite 0 2591998 @0 0 2\n",
+        ),
+    ];
+    for (input, wanted) in table {
+        let (status, output) = ended(alloc, &["run", "2", "1"], &[input], &[], &[])?;
+        assert_eq!(rt; status, 0);
+        assert_eq!(rt; output.as_slice(), wanted);
+    }
+    Ok(())
+}
+
+#[test]
+fn dissolves_are_answered(rt: HostRuntime) -> Result<(), Fail> {
+    let alloc = rt.alloc();
+    let table: [(&[u8], &[u8]); 3] = [
+        (
+            b"overwrite 0 0 @0 100 10\noverwrite 0 10 @0 200 10\ndissolve 0 10 1 2\nview 0 0 20\nundissolve 0 10\nview 0 8 13\nundissolve 0 10\n",
+            b"ok 0 item 0\nok 1 item 1\nok 2\nseen 3 @0 100 9 mix @0 109 @0 199 1 4 3 @0 202 8\nok 3\nseen 4 @0 108 2 @0 200 3\nno 4 E7 10\njournal 4\n0 1 overwrite 0 0 @0 100 10\n0 2 overwrite 0 10 @0 200 10\n0 3 dissolve 0 10 1 2\n0 5 undissolve 0 10\n",
+        ),
+        (
+            b"overwrite 0 0 @0 100 10\noverwrite 0 10 @0 200 10\ndissolve 0 00:00:00:10 1 2\nslice 0 12\nitems 0\nslice 0 11\nitems 0\n",
+            b"ok 0 item 0\nok 1 item 1\nok 2\nok 3\nitems 4 0 @0 100 10 mark 1 2 1 @0 200 2 2 @0 202 8\nok 4\nitems 5 0 @0 100 10 1 @0 200 1 3 @0 201 1 2 @0 202 8\njournal 5\n0 1 overwrite 0 0 @0 100 10\n0 2 overwrite 0 10 @0 200 10\n0 3 dissolve 0 10 1 2\n0 4 slice 0 12\n0 6 slice 0 11\n",
+        ),
+        (
+            b"overwrite 0 0 @0 100 10\noverwrite 0 10 @0 300 10\ndissolve 0 10 11 0\ndissolve 0 10 0 11\ndissolve 0 5 0 0\ndissolve 0 5 1 1\ndissolve 0 10 1\ndissolve 2 10 1 1\nundissolve 0 10\n",
+            b"ok 0 item 0\nok 1 item 1\nno 2 E8 left\nno 2 E8 right\nno 2 E4\nno 2 E7 5\nbad B2\nno 2 E1 2\nno 2 E7 10\njournal 2\n0 1 overwrite 0 0 @0 100 10\n0 2 overwrite 0 10 @0 300 10\n",
+        ),
+    ];
+    for (input, wanted) in table {
+        let (status, output) = ended(alloc, &["run", "2", "1"], &[input], &[], &[])?;
+        assert_eq!(rt; status, 0);
+        assert_eq!(rt; output.as_slice(), wanted);
+    }
+    Ok(())
+}
+
+#[test]
+fn edits_by_a_delta_are_answered(rt: HostRuntime) -> Result<(), Fail> {
+    let alloc = rt.alloc();
+    let table: [(&[u8], &[u8]); 2] = [
+        (
+            b"overwrite 0 0 @0 86388 5\nslip 0 0 0 100\nslip 0 0 0 100\nslip 0 0 0 -5\nitems 0\nslip 0 1 0 1\nslip 2 2 0 1\n",
+            b"ok 0 item 0\nok 1 by 7\nok 2 by 0\nok 3 by -5\nitems 4 0 @0 86390 5\nno 4 E1 1\nno 4 E1 2\njournal 4\n0 1 overwrite 0 0 @0 86388 5\n0 2 slip 0 0 0 100\n0 3 slip 0 0 0 100\n0 4 slip 0 0 0 -5\n",
+        ),
+        (
+            b"overwrite 0 3 @0 100 5\ntrim 0 0 head -10\ntrim 0 0 tail -100\ntrim 0 0 tail 4\nitems 0\ntrim 0 1 tail 1\ntrim 0 0 Tail 1\ntrim 0 0 tail x\ntrim 0 0 tail 2147483648\n",
+            b"ok 0 item 0\nok 1 by -3\nok 2 by -7\nok 3 by 4\nitems 4 0 @0 97 5 dark 3\nno 4 E2\nbad B1\nbad B3\nbad B4\njournal 4\n0 1 overwrite 0 3 @0 100 5\n0 2 trim 0 0 head -10\n0 3 trim 0 0 tail -100\n0 4 trim 0 0 tail 4\n",
+        ),
+    ];
+    for (input, wanted) in table {
+        let (status, output) = ended(alloc, &["run", "2", "1"], &[input], &[], &[])?;
+        assert_eq!(rt; status, 0);
+        assert_eq!(rt; output.as_slice(), wanted);
+    }
+    Ok(())
+}
+
+#[test]
+fn moved_cuts_and_filled_gaps_are_answered(rt: HostRuntime) -> Result<(), Fail> {
+    let alloc = rt.alloc();
+    let table: [(&[u8], &[u8]); 3] = [
+        (
+            b"overwrite 0 0 @0 0 5\noverwrite 0 5 @0 105 5\noverwrite 0 10 @0 210 5\nslide 0 0 1 2\nitems 0\nslide 0 0 1 -100\nitems 0\nslide 0 0 0 3\nslide 0 0 5 1\n",
+            b"ok 0 item 0\nok 1 item 1\nok 2 item 2\nok 3 by 2\nitems 4 0 @0 0 7 1 @0 105 5 2 @0 212 3\nok 4 by -6\nitems 5 0 @0 0 1 1 @0 105 5 2 @0 206 9\nok 5 by 0\nno 6 E2\njournal 6\n0 1 overwrite 0 0 @0 0 5\n0 2 overwrite 0 5 @0 105 5\n0 3 overwrite 0 10 @0 210 5\n0 4 slide 0 0 1 2\n0 6 slide 0 0 1 -100\n0 8 slide 0 0 0 3\n",
+        ),
+        (
+            b"overwrite 0 0 @0 100 5\noverwrite 0 5 @0 200 5\nroll 0 00:00:00:05 2\nroll 0 7 -100\nitems 0\nroll 0 4 1\nroll 0 0 1\nroll 0 1 -\nroll 0 1 -0\n",
+            b"ok 0 item 0\nok 1 item 1\nok 2 by 2\nok 3 by -6\nitems 4 0 @0 100 1 1 @0 196 9\nno 4 E7 4\nno 4 E7 0\nbad B3\nok 4 by 0\njournal 5\n0 1 overwrite 0 0 @0 100 5\n0 2 overwrite 0 5 @0 200 5\n0 3 roll 0 5 2\n0 4 roll 0 7 -100\n0 9 roll 0 1 0\n",
+        ),
+        (
+            b"overwrite 0 3 @0 100 5\nfill 0 0 @0 500 source 2\nfill 0 2 @0 600 sequence\nitems 0\nfill 0 3 @0 0 sequence\nfill 0 3 @0 86399 source 2\nfill 0 9 @1 0 sequence\nfill 0 0 @0 0 source\nfill 0 0 @0 0 sequence 1\n",
+            b"ok 0 item 0\nok 1 item 1\nok 2 item 2\nitems 3 1 @0 500 2 2 @0 600 1 0 @0 100 5\nno 3 E6 3\nno 3 E5\nno 3 E3\nbad B1\nbad B1\njournal 3\n0 1 overwrite 0 3 @0 100 5\n0 2 fill 0 0 @0 500 source 2\n0 3 fill 0 2 @0 600 sequence\n",
+        ),
+    ];
+    for (input, wanted) in table {
+        let (status, output) = ended(alloc, &["run", "1", "1"], &[input], &[], &[])?;
+        assert_eq!(rt; status, 0);
+        assert_eq!(rt; output.as_slice(), wanted);
+    }
+    Ok(())
+}
+
+#[test]
+fn ripples_are_answered(rt: HostRuntime) -> Result<(), Fail> {
+    let alloc = rt.alloc();
+    let table: [(&[u8], &[u8]); 2] = [
+        (
+            b"overwrite 0 3 @0 100 5\ntrim 0 0 head -10\ntrim 0 0 tail -100\ntrim 0 0 tail 4\nripple 0 0 0 head 2\nripple 0 0 0 tail 1\nitems 0\nroll 0 4 -10\nfill 0 3 @0 500 source 2\nfill 0 5 @0 600 sequence\nextract 0 0 1\nremove 0 0\nitems 0\n",
+            b"ok 0 item 0\nok 1 by -3\nok 2 by -7\nok 3 by 4\nok 4 by 2\nok 5 by 1\nitems 6 0 @0 99 4 dark 3\nok 6 by -3\nok 7 item 1\nok 8 item 2\nok 9\nok 10\nitems 11 dark 1 2 @0 600 4\njournal 11\n0 1 overwrite 0 3 @0 100 5\n0 2 trim 0 0 head -10\n0 3 trim 0 0 tail -100\n0 4 trim 0 0 tail 4\n0 5 ripple 0 0 0 head 2\n0 6 ripple 0 0 0 tail 1\n0 8 roll 0 4 -10\n0 9 fill 0 3 @0 500 source 2\n0 10 fill 0 5 @0 600 sequence\n0 11 extract 0 0 1\n0 12 remove 0 0\n",
+        ),
+        (
+            b"overwrite 0 0 @0 100 10\noverwrite 1 0 @0 100 10\nripple 0,1 0 0 tail 3\nitems 1\nripple 0,1 0 0 head -200\nripple 0,1 0 0 head 4\nitems 0\nitems 1\nripple 0 1 0 head 1\nripple 0 0 0 heads 1\n",
+            b"ok 0 item 0\nok 1 item 0\nok 2 by 3\nitems 3 0 @0 100 10\nok 3 by -100\nok 4 by 4\nitems 5 0 @0 4 109\nitems 5 dark 96 0 @0 100 10\nno 5 E1 1\nbad B1\njournal 5\n0 1 overwrite 0 0 @0 100 10\n0 2 overwrite 1 0 @0 100 10\n0 3 ripple 0,1 0 0 tail 3\n0 5 ripple 0,1 0 0 head -200\n0 6 ripple 0,1 0 0 head 4\n",
         ),
     ];
     for (input, wanted) in table {
@@ -308,127 +400,5 @@ fn a_journal_has_a_limit(rt: HostRuntime) -> Result<(), Fail> {
     assert!(rt; output.len() > 1_977_760);
     let (_, last) = output.as_slice().split_at(1_977_760);
     assert!(rt; last.starts_with(wanted.as_slice()));
-    Ok(())
-}
-
-/// A sequence of one track with five frames from the frame 100 of a tape on, which starts at 01:00:00:00.
-const DOCUMENT: &str = "\
-{\"OTIO_SCHEMA\": \"Timeline.1\", \"global_start_time\": {\"OTIO_SCHEMA\": \"RationalTime.1\", \"rate\": \
-24.0, \"value\": 86400}, \"tracks\": {\"OTIO_SCHEMA\": \"Stack.1\", \"children\": [ {\"OTIO_SCHEMA\": \
-\"Track.1\", \"kind\": \"Video\", \"children\": [{\"OTIO_SCHEMA\": \"Clip.1\", \"name\": \"A7\", \
-\"source_range\": {\"OTIO_SCHEMA\": \"TimeRange.1\", \"start_time\": {\"OTIO_SCHEMA\": \
-\"RationalTime.1\", \"rate\": 24.0, \"value\": 100.0}, \"duration\": {\"OTIO_SCHEMA\": \
-\"RationalTime.1\", \"rate\": 24.0, \"value\": 5.0}}}]}]}}";
-
-// The status and the output of a run with these words, where the file `cut` holds this text and these calls fail.
-fn opened(
-    alloc: Global,
-    words: &[&str],
-    text: &[u8],
-    fails: &[u32],
-    writes: &[u32],
-) -> Result<(u8, Vec<u8>), Fail> {
-    let mut files = MemFiles::new(alloc, fails.to_vec(alloc)?);
-    files.put("cut", text)?;
-    let lines = b"items 0\noverwrite 0 01:00:00:05 @0 103 1\n";
-    ended_over(alloc, words, &mut files, &[lines], &[], writes)
-}
-
-#[test]
-fn a_document_is_opened_or_refused(rt: HostRuntime) -> Result<(), Fail> {
-    let alloc = rt.alloc();
-    let whole = DOCUMENT.as_bytes();
-    let told = b"items 0 0 @0 100 5\nok 0 item 1\njournal 1\n0 2 overwrite 0 5 @0 103 1\n";
-    let table: [(&[&str], &[u8], &[u32], &[u32], u8, &[u8]); 13] = [
-        (&["run", "cut", "24", "ndf"], whole, &[], &[], 0, told),
-        (&["run", "cut", "2400e-2", "ndf"], whole, &[2], &[], 0, told),
-        (&["run", "cut", "24", "ndf"], whole, &[1], &[], 1, b""),
-        (&["run", "none.otio", "24", "ndf"], whole, &[], &[], 1, b""),
-        (
-            &["run", "cut", "24", "ndf"],
-            b"{",
-            &[],
-            &[],
-            4,
-            b"refused J1 1\n",
-        ),
-        (
-            &["run", "cut", "29.97", "drop"],
-            b"[]",
-            &[],
-            &[],
-            4,
-            b"refused O3 0\n",
-        ),
-        (
-            &["run", "cut", "23.98", "ndf"],
-            b"{}",
-            &[],
-            &[],
-            4,
-            b"refused O2 0\n",
-        ),
-        (&["run", "cut", "24", "ndf"], b"{", &[], &[1], 2, b""),
-        (
-            &["run", "cut", "24", "drop"],
-            whole,
-            &[],
-            &[],
-            3,
-            b"refused words\n",
-        ),
-        (
-            &["run", "cut", "24", "NDF"],
-            whole,
-            &[],
-            &[],
-            3,
-            b"refused words\n",
-        ),
-        (
-            &["run", "cut", "59.94", "ndf"],
-            whole,
-            &[],
-            &[],
-            3,
-            b"refused words\n",
-        ),
-        (
-            &["run", "cut", "24 ", "ndf"],
-            whole,
-            &[],
-            &[],
-            3,
-            b"refused words\n",
-        ),
-        (
-            &["run", "cut", "24", "ndf", "x"],
-            whole,
-            &[],
-            &[],
-            3,
-            b"refused words\n",
-        ),
-    ];
-    for (words, text, fails, writes, status, wanted) in table {
-        let (ended_with, output) = opened(alloc, words, text, fails, writes)?;
-        assert_eq!(rt; ended_with, status, "{words:?}");
-        assert_eq!(rt; output.as_slice(), wanted, "{words:?}");
-    }
-    Ok(())
-}
-
-#[test]
-fn a_document_has_a_limit(rt: HostRuntime) -> Result<(), Fail> {
-    let alloc = rt.alloc();
-    for (blanks, wanted) in [
-        (33_554_432usize, b"refused J1 33554432\n".as_slice()),
-        (33_554_433, b"refused J5 0\n".as_slice()),
-    ] {
-        let text = vec![in alloc; b' '; blanks]?;
-        let (status, output) = opened(alloc, &["run", "cut", "24", "ndf"], &text, &[], &[])?;
-        assert_eq!(rt; status, 4);
-        assert_eq!(rt; output.as_slice(), wanted);
-    }
     Ok(())
 }

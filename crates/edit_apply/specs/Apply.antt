@@ -9,7 +9,14 @@ use Rattle.composables.specs.declared.refusals.Refusal.TheVariants.{NoTrack}
 use Rattle.composables.specs.TrackState.{TrackState}
 use Rattle.composables.specs.Answers.{Applied}
 use Rattle.composables.specs.TrackSets.{tracks_in}
+use Rattle.dissolves.specs.Marking.{dissolve_named, undissolve_named}
 use Rattle.edit_insert.specs.Edits.{extract_named, insert_named, overwrite_named, remove_named, slice_named}
+use Rattle.edit_insert.specs.Fills.{fill_named}
+use Rattle.edit_roll.specs.Rolling.{roll_named}
+use Rattle.edit_roll.specs.Sliding.{slide_named}
+use Rattle.edit_trim.specs.Rippling.{ripple_named}
+use Rattle.edit_trim.specs.Slipping.{slip_named}
+use Rattle.edit_trim.specs.Trimming.{trim_named}
 use Rattle.room_core.specs.Whole.{Meaning}
 use Rattle.edit_apply.specs.declared.asks.Call.{Call}
 use Rattle.edit_apply.specs.declared.asks.Call.TheVariants as call
@@ -23,6 +30,14 @@ named_by (call.Insert c) = Many c.tracks c.track
 named_by (call.Remove c) = One c.track
 named_by (call.Extract c) = Many c.tracks c.track
 named_by (call.Slice c) = One c.track
+named_by (call.Dissolve c) = One c.track
+named_by (call.Undissolve c) = One c.track
+named_by (call.Trim c) = One c.track
+named_by (call.Slip c) = Many c.tracks c.track
+named_by (call.Roll c) = One c.track
+named_by (call.Slide c) = Many c.tracks c.track
+named_by (call.Fill c) = One c.track
+named_by (call.Ripple c) = Many c.tracks c.track
 
 abbrev pub tracks_of : NamedTracks → List ℕ
 tracks_of (One track) = track ∷ []
@@ -74,6 +89,14 @@ applied_on table named (call.Insert c) = insert_named table named c
 applied_on table named (call.Remove c) = remove_named named c
 applied_on table named (call.Extract c) = extract_named named c
 applied_on table named (call.Slice c) = slice_named named c
+applied_on table named (call.Dissolve c) = dissolve_named table named c
+applied_on table named (call.Undissolve c) = undissolve_named named c
+applied_on table named (call.Trim c) = trim_named table named c
+applied_on table named (call.Slip c) = slip_named table named c
+applied_on table named (call.Roll c) = roll_named table named c
+applied_on table named (call.Slide c) = slide_named table named c
+applied_on table named (call.Fill c) = fill_named table named c
+applied_on table named (call.Ripple c) = ripple_named table named c
 
 -- what the calls of a room with this table mean
 abbrev pub editing : Table → Meaning TrackState Call Done Refusal

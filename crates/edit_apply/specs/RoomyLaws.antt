@@ -2,14 +2,15 @@
 -- entry raises the next item number of a track by two at most.
 use Rattle.std.proofs.Common.{◌≡◌, ℕ, zero, suc, ◌+◌, ◌*◌, ◌^◌, ◌≤◌, List, [], ◌∷◌, All, fold, length, Option, Some, None, Result, Ok, Err, slice_set, refl, sym, ◌∙◌, arith, subst}
 use Rattle.std.proofs.lemmas.List.Elements.{All-cons}
+use Rattle.frame_meaning.specs.declared.cells.Cell.{Cell}
 use Rattle.composables.specs.declared.media.Table.{Table}
 use Rattle.composables.specs.declared.refusals.Refusal.{Refusal}
 use Rattle.composables.specs.Answers.{Applied}
 use Rattle.composables.specs.Good.{IsGood}
+use Rattle.composables.specs.Items.{items_of}
 use Rattle.composables.specs.Roomy.{IsRoomy}
 use Rattle.composables.specs.TrackState.{TrackState}
 use Rattle.edit_splice.proofs.Standing.{all_head, all_none, all_tail}
-use Rattle.edit_splice.proofs.Unlinked.{Bare, bare-good}
 use Rattle.room_core.specs.declared.entry.Entry.{Entry}
 use Rattle.room_core.specs.History.{IsLegal, after_entry, replay, state_in}
 use Rattle.room_core.specs.Parts.{AreGood, numbers}
@@ -18,8 +19,9 @@ use Rattle.room_core.proofs.WholeParts.{roomy_picked}
 use Rattle.edit_apply.specs.declared.asks.Call.{Call}
 use Rattle.edit_apply.specs.declared.asks.Call.TheVariants as call
 use Rattle.edit_apply.specs.Apply.{applied_on, editing, names_of, refuse_names_of, track_count}
+use Rattle.edit_apply.specs.PlainCells.{ArePlain, plain-more, plain-views}
 use Rattle.edit_apply.specs.RoomTracks.{IsOpening, IsTrackOf, IsUnlinked}
-use Rattle.edit_apply.specs.YoungTracks.{AreYoung, IsYoung, all-more, young-extract, young-insert, young-overwrite, young-remove, young-slice}
+use Rattle.edit_apply.specs.YoungTracks.{AreYoung, IsYoung, all-more, young-dissolve, young-extract, young-fill, young-insert, young-overwrite, young-remove, young-ripple, young-roll, young-slice, young-slide, young-slip, young-trim, young-undissolve}
 
 -- a call on the named tracks
 young_applied : (n : ℕ) (table : Table) (ts : List TrackState) (c : Call) → All (IsYoung n) ts → AreYoung (n + 2) (applied_on table ts c)
@@ -28,6 +30,14 @@ young_applied n table ts (call.Insert c) h = young-insert n table ts c h
 young_applied n table ts (call.Remove c) h = young-remove n ts c h
 young_applied n table ts (call.Extract c) h = young-extract n ts c h
 young_applied n table ts (call.Slice c) h = young-slice n ts c h
+young_applied n table ts (call.Dissolve c) h = young-dissolve n table ts c h
+young_applied n table ts (call.Undissolve c) h = young-undissolve n ts c h
+young_applied n table ts (call.Trim c) h = young-trim n table ts c h
+young_applied n table ts (call.Slip c) h = young-slip n table ts c h
+young_applied n table ts (call.Roll c) h = young-roll n table ts c h
+young_applied n table ts (call.Slide c) h = young-slide n table ts c h
+young_applied n table ts (call.Fill c) h = young-fill n table ts c h
+young_applied n table ts (call.Ripple c) h = young-ripple n table ts c h
 
 -- and on all
 set_young : (n : ℕ) (ts : List TrackState) (i : ℕ) (u : TrackState) → All (IsYoung n) ts → IsYoung n u → All (IsYoung n) (slice_set ts i u)
@@ -92,12 +102,21 @@ tracks-unlinked table [] (t ∷ ts) h = absurd h
 tracks-unlinked table (n ∷ ns) [] h = absurd h
 tracks-unlinked table (n ∷ ns) (t ∷ ts) h = All-cons IsUnlinked t ts h.0.unlinked (tracks-unlinked table ns ts h.1)
 
-young_opening : (ts : List TrackState) → All (λ (t : TrackState). t.next_item ≤ 65536) ts → All (λ (t : TrackState). t.next_link ≡ 0) ts → Bare ts → All (IsYoung 65536) ts
-young_opening [] i l b = all_none (IsYoung 65536)
-young_opening (t ∷ ts) i l b =
+-- its cells have the numbers that were given away
+plain_good : (table : Table) (t : TrackState) → IsGood table t → IsUnlinked t → ArePlain t.next_item t.cells
+plain_good table t g u =
+    subst (λ (cs : List Cell). ArePlain t.next_item cs) g.kept.whole (plain-views t.next_item (items_of t.cells) g.kept.below u)
+
+young_opening : (table : Table) (ts : List TrackState) → All (λ (t : TrackState). t.next_item ≤ 65536) ts → All (λ (t : TrackState). t.next_link ≡ 0) ts
+    → All (λ (t : TrackState). IsGood table t) ts → All IsUnlinked ts → All (IsYoung 65536) ts
+young_opening table [] i l g u = all_none (IsYoung 65536)
+young_opening table (t ∷ ts) i l g u =
+    let item = all_head (λ (t : TrackState). t.next_item ≤ 65536) t ts i in
+    let plain = plain_good table t (all_head (IsGood table) t ts g) (all_head IsUnlinked t ts u) in
     All-cons (IsYoung 65536) t ts
-    (record { item = all_head (λ (t : TrackState). t.next_item ≤ 65536) t ts i; link = all_head (λ (t : TrackState). t.next_link ≡ 0) t ts l; bare = b.0 })
-    (young_opening ts (all_tail (λ (t : TrackState). t.next_item ≤ 65536) t ts i) (all_tail (λ (t : TrackState). t.next_link ≡ 0) t ts l) b.1)
+    (record { item = item; link = all_head (λ (t : TrackState). t.next_link ≡ 0) t ts l; plain = plain-more t.next_item 65536 t.cells item plain })
+    (young_opening table ts (all_tail (λ (t : TrackState). t.next_item ≤ 65536) t ts i) (all_tail (λ (t : TrackState). t.next_link ≡ 0) t ts l)
+    (all_tail (IsGood table) t ts g) (all_tail IsUnlinked t ts u))
 
 roomy_young : (n : ℕ) (ts : List TrackState) → n ≤ 2 ^ 31 → All (IsYoung n) ts → All IsRoomy ts
 roomy_young n [] le h = all_none IsRoomy
@@ -110,6 +129,5 @@ pub editing-roomy : (table : Table) (ps qs : List TrackState) (entries : List (E
     → replay (whole (editing table)) ps entries ≡ Some qs → All IsRoomy qs
 editing-roomy table ps qs entries opens legal comes =
     let names : List ℕ = numbers 0 (track_count table) in
-    let bare : Bare ps = bare-good table ps (tracks-good table names ps opens.good) (tracks-unlinked table names ps opens.good) in
-    roomy_young (65536 + 2 * length entries) qs (omega (arith, legal.within))
-    (young_history 65536 table ps qs entries (young_opening ps opens.items opens.links bare) comes)
+    let young = young_opening table ps opens.items opens.links (tracks-good table names ps opens.good) (tracks-unlinked table names ps opens.good) in
+    roomy_young (65536 + 2 * length entries) qs (omega (arith, legal.within)) (young_history 65536 table ps qs entries young comes)

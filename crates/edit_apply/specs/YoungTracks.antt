@@ -1,30 +1,53 @@
 -- How far the numbers of tracks without links have risen: each call raises the next item number of a track by two at
 -- most, and no next link number.
-use Rattle.std.proofs.Common.{◌≡◌, ℕ, ◌+◌, ◌-◌, ◌≤◌, Bool, true, false, cond, eqb, min, List, [], ◌∷◌, All, length, Option, Some, None, IfSome, Result, Ok, Err, refl, sym, arith, subst, nat_lt}
-use Rattle.std.proofs.lemmas.Bool.{eq-eqb}
+use Rattle.std.proofs.Common.{◌≡◌, ℕ, zero, suc, ℤ, pos, negsuc, ◌+◌, ◌-◌, ◌<◌, ◌≤◌, Bool, true, false, cond, eqb, min, List, [], ◌∷◌, All, length, Option, Some, None, IfSome, Result, Ok, Err, refl, sym, ◌∙◌, arith, subst, nat_lt}
 use Rattle.std.proofs.lemmas.List.Elements.{All-cons}
 use Rattle.frame_meaning.specs.declared.cells.What.{What}
 use Rattle.composables.specs.declared.calls.Overwrite.{Overwrite}
 use Rattle.composables.specs.declared.calls.Insert.{Insert}
 use Rattle.composables.specs.declared.calls.Remove.{Remove}
 use Rattle.composables.specs.declared.calls.Extract.{Extract}
+use Rattle.composables.specs.declared.calls.Fill.{Fill}
+use Rattle.composables.specs.declared.calls.Ripple.{Ripple}
+use Rattle.composables.specs.declared.calls.Roll.{Roll}
+use Rattle.composables.specs.declared.calls.Slide.{Slide}
 use Rattle.composables.specs.declared.calls.Slice.{Slice}
+use Rattle.composables.specs.declared.calls.Dissolve.{Dissolve}
+use Rattle.composables.specs.declared.calls.Undissolve.{Undissolve}
+use Rattle.composables.specs.declared.calls.End.{End}
+use Rattle.composables.specs.declared.calls.End.TheVariants.{Head, Tail}
+use Rattle.composables.specs.declared.calls.Trim.{Trim}
+use Rattle.composables.specs.declared.calls.Slip.{Slip}
 use Rattle.composables.specs.declared.items.ItemView.{ItemView}
 use Rattle.composables.specs.declared.media.Table.{Table}
 use Rattle.composables.specs.declared.refusals.Done.{Done}
-use Rattle.composables.specs.declared.refusals.Done.TheVariants.{Item, Plain}
+use Rattle.composables.specs.declared.refusals.Done.TheVariants.{By, Item, Plain}
 use Rattle.composables.specs.declared.refusals.Refusal.{Refusal}
-use Rattle.composables.specs.declared.refusals.Refusal.TheVariants.{NoItem, NoTrack}
+use Rattle.composables.specs.declared.refusals.Refusal.TheVariants.{NoItem, NotACut, NoTrack}
 use Rattle.composables.specs.Answers.{Applied, unless}
 use Rattle.composables.specs.Good.{AllUnlinked}
 use Rattle.composables.specs.Joined.{frames_in}
 use Rattle.composables.specs.Limits.{too_long, too_many, track_within_limits, within_limits}
-use Rattle.composables.specs.Links.{links_in}
+use Rattle.composables.specs.Items.{cells_of}
 use Rattle.composables.specs.OwnTracks.{among_named, for_own, on_own, track_numbered, with_track}
-use Rattle.composables.specs.Ranges.{range_of}
+use Rattle.composables.specs.Ranges.{gap_at, is_cut, range_of}
 use Rattle.composables.specs.TrackFacts.{NumbersBelow}
 use Rattle.composables.specs.TrackState.{TrackState}
 use Rattle.composables.specs.Views.{clip_view, gap_view, gap_views}
+use Rattle.frame_meaning.specs.declared.cells.Mark.{Mark}
+use Rattle.frame_meaning.specs.Render.{cell_at}
+use Rattle.dissolves.specs.Cuts.{dissolve_refusal}
+use Rattle.dissolves.specs.Marking.{dissolve_named, dissolve_on, mark_asked, marked_track, undissolve_named, undissolve_on, undissolve_refusal}
+use Rattle.edit_delta.specs.Nearest.{nearest}
+use Rattle.edit_delta.specs.Reaching.{going_on, reaching_back}
+use Rattle.edit_delta.specs.Using.{on_range, used_on}
+use Rattle.edit_trim.specs.Rippling.{ripple_allows, ripple_end, ripple_named, ripple_own, rippled, used_on_all}
+use Rattle.edit_trim.specs.Slipping.{slip_allows, slip_named, slip_range, slip_track, slipped, slipped_by}
+use Rattle.edit_trim.specs.Trimming.{trim_allows, trim_end, trim_named, trim_track, trimmed}
+use Rattle.edit_insert.specs.Fills.{fill_at, fill_named, fill_track, filled, frames_asked}
+use Rattle.edit_roll.specs.Neighbours.{move_allows}
+use Rattle.edit_roll.specs.Rolling.{roll_cut, roll_named, roll_track, rolled}
+use Rattle.edit_roll.specs.Sliding.{bare_item, slid, slide_allows, slide_named, slide_range, slide_track}
 use Rattle.edit_splice.specs.Shifts.{shift_of, shifted, shifted_along, shifted_track}
 use Rattle.edit_splice.specs.Splicing.{spliced_track}
 use Rattle.edit_splice.proofs.Outcomes.{next-bounds}
@@ -33,23 +56,25 @@ use Rattle.edit_splice.specs.Padding.{padded_track}
 use Rattle.edit_insert.specs.Sources.{source_refusal}
 use Rattle.edit_splice.proofs.Bridging.{for-found}
 use Rattle.edit_splice.proofs.Standing.{all_head, all_none, all_tail}
-use Rattle.edit_splice.proofs.Unlinked.{Bare, bare-padded, bare-shifted, shift-free}
+use Rattle.edit_splice.proofs.Numbers.{if-weaker}
+use Rattle.edit_splice.proofs.Unlinked.{Bare, shift-free}
+use Rattle.edit_apply.specs.PlainCells.{ArePlain, IsPlain, plain-append, plain-at, plain-bare, plain-changed, plain-marked, plain-more, plain-spliced, plain-views}
 
 -- a track without links that has given away at most this many item numbers, and no link number
 pub record IsYoung (n : ℕ) (t : TrackState) : Type 0 where
   pub item : t.next_item ≤ n
   pub link : t.next_link ≡ 0
-  pub bare : links_in t.cells ≡ []
+  pub plain : ArePlain n t.cells
 
 pub young-more : (n m : ℕ) (t : TrackState) → n ≤ m → IsYoung n t → IsYoung m t
-young-more n m t le y = record { item = omega (arith, le, y.item); link = y.link; bare = y.bare }
+young-more n m t le y = record { item = omega (arith, le, y.item); link = y.link; plain = plain-more n m t.cells le y.plain }
 
 pub all-more : (n m : ℕ) (ts : List TrackState) → n ≤ m → All (IsYoung n) ts → All (IsYoung m) ts
 all-more n m ts le h k d lt = young-more n m _ le (h k d lt)
 
 pub all-bare : (n : ℕ) (ts : List TrackState) → All (IsYoung n) ts → Bare ts
 all-bare n [] h = tt
-all-bare n (t ∷ ts) h = ((all_head (IsYoung n) t ts h).bare, all-bare n ts (all_tail (IsYoung n) t ts h))
+all-bare n (t ∷ ts) h = (plain-bare n t.cells (all_head (IsYoung n) t ts h).plain, all-bare n ts (all_tail (IsYoung n) t ts h))
 
 -- what a call leaves, if it is done
 abbrev pub AreYoung : ℕ → Applied → Type 0
@@ -64,11 +89,6 @@ StaysYoung n (Err r) = Unit {0}
 young_views : (n m : ℕ) (views : List ItemView) → n ≡ m → NumbersBelow n views → NumbersBelow m views
 young_views n m views e h = subst (λ (k : ℕ). NumbersBelow k views) e h
 
-spliced_bare : (t : TrackState) (x y : ℕ) (views : List ItemView) → links_in t.cells ≡ [] → AllUnlinked views → links_in (spliced_track t x y views).cells ≡ []
-spliced_bare t x y views h u =
-    let all : Bare (shifted t.number x y views (t ∷ [])) = bare-shifted t.number x y views (t ∷ []) u (h, tt) in
-    subst (λ (b : Bool). links_in (cond b (spliced_track t x y views) (shifted_along t x y (frames_in views))).cells ≡ []) (eq-eqb t.number t.number refl) all.0
-
 pub young-spliced : (n : ℕ) (t : TrackState) (x y : ℕ) (views : List ItemView) → IsYoung n t → NumbersBelow (n + 1) views → AllUnlinked views
     → IsYoung (n + 2) (spliced_track t x y views)
 young-spliced n t x y views h below u =
@@ -76,7 +96,11 @@ young-spliced n t x y views h below u =
     let e : n + 1 ≡ t.next_item + more = omega (arith, h.item) in
     let next = next-bounds t x y more views (young_views (n + 1) (t.next_item + more) views e below) in
     let most : (spliced_track t x y views).next_item ≤ t.next_item + more + 1 = next.1 in
-    record { item = omega (arith, most, e); link = h.link; bare = spliced_bare t x y views h.bare u }
+    let up : n ≤ n + 1 = omega arith in
+    let low : t.next_item ≤ n + 1 = omega (arith, h.item) in
+    let plain = plain-spliced (n + 1) t x y views low (plain-more n (n + 1) t.cells up h.plain) below u in
+    let same : n + 1 + 1 ≡ n + 2 = omega arith in
+    record { item = omega (arith, most, e); link = h.link; plain = subst (λ (k : ℕ). ArePlain k (spliced_track t x y views).cells) same plain }
 
 gap_young : (n k : ℕ) → NumbersBelow n (gap_views k)
 gap_young n k = by (eqb k 0) where
@@ -91,11 +115,12 @@ gap_unlinked k = by (eqb k 0) where
   by false = (refl, tt)
 
 pub young-padded : (n : ℕ) (t : TrackState) (at : ℕ) → IsYoung n t → IsYoung n (padded_track t at)
-young-padded n t at h =
-    let all : Bare (with_track (t ∷ []) (padded_track t at)) = bare-padded (t ∷ []) t at h.bare (h.bare, tt) in
-    let bare : Bare (padded_track t at ∷ []) =
-    subst (λ (b : Bool). Bare (cond b (padded_track t at ∷ []) (t ∷ []))) (eq-eqb t.number t.number refl) all in
-    record { item = h.item; link = h.link; bare = bare.0 }
+young-padded n t at h = record {
+  item = h.item;
+  link = h.link;
+  plain = plain-append n t.cells (cells_of (gap_views (at - length t.cells))) h.plain
+      (plain-views n (gap_views (at - length t.cells)) (gap_young n (at - length t.cells)) (gap_unlinked (at - length t.cells)));
+}
 
 -- refusals
 unless_young : (n : ℕ) (why : Option Refusal) (meant : Applied) → AreYoung n meant → AreYoung n (unless why meant)
@@ -220,3 +245,166 @@ young-slice n ts c h = on-own-young n (n + 2) c.track (slice_track c) ts (omega 
     by : (b : Bool) → StaysYoung (n + 2) (cond b (track_within_limits (spliced_track t c.at c.at []) Plain) (Err NoItem))
     by true = within_stays (n + 2) (spliced_track t c.at c.at []) Plain (young-spliced n t c.at c.at [] y tt tt)
     by false = tt
+
+-- a dissolve put or taken away
+young_marked : (n : ℕ) (t : TrackState) (p : ℕ) (mark : Option Mark) → IsYoung n t → IsYoung (n + 2) (marked_track t p mark)
+young_marked n t p mark y = record {
+  item = omega (arith, y.item);
+  link = y.link;
+  plain = plain-marked (n + 2) t.cells p mark (plain-more n (n + 2) t.cells (omega arith) y.plain);
+}
+
+pub young-dissolve : (n : ℕ) (table : Table) (ts : List TrackState) (c : Dissolve) → All (IsYoung n) ts → AreYoung (n + 2) (dissolve_named table ts c)
+young-dissolve n table ts c h = on-own-young n (n + 2) c.track (λ t. dissolve_on table t c) ts (omega arith) h each where
+  each : (t : TrackState) → IsYoung n t → StaysYoung (n + 2) (dissolve_on table t c)
+  each t y =
+      unless_stays (n + 2) (dissolve_refusal table t.cells c.at (mark_asked c)) (Ok (marked_track t c.at (Some (mark_asked c)), Plain))
+      (young_marked n t c.at (Some (mark_asked c)) y)
+
+pub young-undissolve : (n : ℕ) (ts : List TrackState) (c : Undissolve) → All (IsYoung n) ts → AreYoung (n + 2) (undissolve_named ts c)
+young-undissolve n ts c h = on-own-young n (n + 2) c.track (λ t. undissolve_on t c) ts (omega arith) h each where
+  each : (t : TrackState) → IsYoung n t → StaysYoung (n + 2) (undissolve_on t c)
+  each t y =
+      unless_stays (n + 2) (undissolve_refusal (cell_at t.cells c.at).mark c.at) (Ok (marked_track t c.at None, Plain)) (young_marked n t c.at None y)
+
+-- an edit by a delta
+on_range_stays : (m : ℕ) (meant : ℕ → ℕ → Result (TrackState × Done) Refusal) (range : Option (ℕ × ℕ)) → ((x y : ℕ) → StaysYoung m (meant x y))
+    → StaysYoung m (on_range meant range)
+on_range_stays m meant None h = tt
+on_range_stays m meant (Some (x, y)) h = h x y
+
+used_stays : (n : ℕ) (t : TrackState) (moved : ℤ → TrackState) (d : ℤ) → IsYoung n t → IsYoung (n + 2) (moved d) → StaysYoung (n + 2) (used_on t moved d)
+used_stays n t moved (pos zero) y h = young-more n (n + 2) t (omega arith) y
+used_stays n t moved (pos (suc k)) y h = within_stays (n + 2) (moved (pos (suc k))) (By (pos (suc k))) h
+used_stays n t moved (negsuc k) y h = within_stays (n + 2) (moved (negsuc k)) (By (negsuc k)) h
+
+-- a part of an item that goes on or reaches back, with the item's number
+part_young : (n : ℕ) (t : TrackState) (x y p : ℕ) (v : ItemView) → IsYoung n t → v.item ≡ (cell_at t.cells p).item → v.link ≡ (cell_at t.cells p).link
+    → IsYoung (n + 2) (spliced_track t x y (v ∷ []))
+part_young n t x y p v h item link =
+    let plain : IsPlain n (cell_at t.cells p) = plain-at n t.cells p h.plain in
+    let below : IfSome v.item (λ i. i < n) = subst (λ (o : Option ℕ). IfSome o (λ i. i < n)) (sym item) plain.0 in
+    young-spliced n t x y (v ∷ []) h (if-weaker v.item n (n + 1) (omega arith) below, tt) (link ∙ plain.1, tt)
+
+-- two parts side by side
+parts_young : (n : ℕ) (t : TrackState) (x y p q : ℕ) (v w : ItemView) → IsYoung n t
+    → v.item ≡ (cell_at t.cells p).item → v.link ≡ (cell_at t.cells p).link → w.item ≡ (cell_at t.cells q).item → w.link ≡ (cell_at t.cells q).link
+    → IsYoung (n + 2) (spliced_track t x y (v ∷ w ∷ []))
+parts_young n t x y p q v w h vi vl wi wl =
+    young-spliced n t x y (v ∷ w ∷ []) h (below v p vi, (below w q wi, tt)) (bare v p vl, (bare w q wl, tt)) where
+      below : (u : ItemView) (at : ℕ) → u.item ≡ (cell_at t.cells at).item → IfSome u.item (λ i. i < n + 1)
+      below u at e = if-weaker u.item n (n + 1) (omega arith) (subst (λ (o : Option ℕ). IfSome o (λ i. i < n)) (sym e) (plain-at n t.cells at h.plain).0)
+
+      bare : (u : ItemView) (at : ℕ) → u.link ≡ (cell_at t.cells at).link → u.link ≡ None
+      bare u at e = e ∙ (plain-at n t.cells at h.plain).1
+
+dark_young : (n : ℕ) (t : TrackState) (x y k : ℕ) → IsYoung n t → IsYoung (n + 2) (spliced_track t x y (gap_views k))
+dark_young n t x y k h = young-spliced n t x y (gap_views k) h (gap_young (n + 1) k) (gap_unlinked k)
+
+young_trimmed : (n : ℕ) (t : TrackState) (x y : ℕ) (end : End) (d : ℤ) → IsYoung n t → IsYoung (n + 2) (trimmed t x y end d)
+young_trimmed n t x y Head (pos k) h = dark_young n t x (x + k) k h
+young_trimmed n t x y Head (negsuc k) h = part_young n t (x - suc k) x x (reaching_back (cell_at t.cells x) (suc k)) h refl refl
+young_trimmed n t x y Tail (pos k) h = part_young n t y (min (y + k) (length t.cells)) (y - 1) (going_on (cell_at t.cells (y - 1)) k) h refl refl
+young_trimmed n t x y Tail (negsuc k) h = dark_young n t (y - suc k) y (suc k) h
+
+pub young-trim : (n : ℕ) (table : Table) (ts : List TrackState) (c : Trim) → All (IsYoung n) ts → AreYoung (n + 2) (trim_named table ts c)
+young-trim n table ts c h = on-own-young n (n + 2) c.track (trim_track table c) ts (omega arith) h each where
+  each : (t : TrackState) → IsYoung n t → StaysYoung (n + 2) (trim_track table c t)
+  each t y = on_range_stays (n + 2) (trim_end table t c.end c.by) (range_of t.cells c.item)
+      (λ a b. used_stays n t (trimmed t a b c.end) (nearest (trim_allows table t a b c.end) c.by) y
+      (young_trimmed n t a b c.end (nearest (trim_allows table t a b c.end) c.by) y))
+
+young_moved : (n : ℕ) (t : TrackState) (x y on back : ℕ) → IsYoung n t → IsYoung (n + 2) (slipped_by t x y on back)
+young_moved n t x y on back h = record {
+  item = omega (arith, h.item);
+  link = h.link;
+  plain = plain-changed (n + 2) x y on back t.cells (plain-more n (n + 2) t.cells (omega arith) h.plain);
+}
+
+young_slipped : (n : ℕ) (t : TrackState) (x y : ℕ) (d : ℤ) → IsYoung n t → IsYoung (n + 2) (slipped t x y d)
+young_slipped n t x y (pos k) h = young_moved n t x y k 0 h
+young_slipped n t x y (negsuc k) h = young_moved n t x y 0 (suc k) h
+
+pub young-slip : (n : ℕ) (table : Table) (ts : List TrackState) (c : Slip) → All (IsYoung n) ts → AreYoung (n + 2) (slip_named table ts c)
+young-slip n table ts c h = on-own-young n (n + 2) c.track (slip_track table c) ts (omega arith) h each where
+  each : (t : TrackState) → IsYoung n t → StaysYoung (n + 2) (slip_track table c t)
+  each t y = on_range_stays (n + 2) (slip_range table t c.by) (range_of t.cells c.item)
+      (λ a b. used_stays n t (slipped t a b) (nearest (slip_allows table t a b) c.by) y
+      (young_slipped n t a b (nearest (slip_allows table t a b) c.by) y))
+
+-- a cut, and an item between its neighbours
+young_rolled : (n : ℕ) (t : TrackState) (at : ℕ) (d : ℤ) → IsYoung n t → IsYoung (n + 2) (rolled t at d)
+young_rolled n t at (pos k) h = part_young n t at (at + k) (at - 1) (going_on (cell_at t.cells (at - 1)) k) h refl refl
+young_rolled n t at (negsuc k) h = part_young n t (at - suc k) at at (reaching_back (cell_at t.cells at) (suc k)) h refl refl
+
+pub young-roll : (n : ℕ) (table : Table) (ts : List TrackState) (c : Roll) → All (IsYoung n) ts → AreYoung (n + 2) (roll_named table ts c)
+young-roll n table ts c h = on-own-young n (n + 2) c.track (roll_track table c) ts (omega arith) h each where
+  each : (t : TrackState) → IsYoung n t → StaysYoung (n + 2) (roll_track table c t)
+  each t y = by (is_cut t.cells c.at) where
+    by : (b : Bool) → StaysYoung (n + 2) (cond b (roll_cut table t c.by c.at) (Err (NotACut c.at)))
+    by true =
+        used_stays n t (rolled t c.at) (nearest (move_allows table t c.at c.at) c.by) y
+        (young_rolled n t c.at (nearest (move_allows table t c.at c.at) c.by) y)
+    by false = tt
+
+young_slid : (n : ℕ) (t : TrackState) (x y : ℕ) (d : ℤ) → IsYoung n t → IsYoung (n + 2) (slid t x y d)
+young_slid n t x y (pos k) h =
+    parts_young n t x (y + k) (x - 1) x (going_on (cell_at t.cells (x - 1)) k) (bare_item (cell_at t.cells x) (y - x)) h refl refl refl refl
+young_slid n t x y (negsuc k) h =
+    parts_young n t (x - suc k) y x y (bare_item (cell_at t.cells x) (y - x)) (reaching_back (cell_at t.cells y) (suc k)) h refl refl refl refl
+
+pub young-slide : (n : ℕ) (table : Table) (ts : List TrackState) (c : Slide) → All (IsYoung n) ts → AreYoung (n + 2) (slide_named table ts c)
+young-slide n table ts c h = on-own-young n (n + 2) c.track (slide_track table c) ts (omega arith) h each where
+  each : (t : TrackState) → IsYoung n t → StaysYoung (n + 2) (slide_track table c t)
+  each t y = on_range_stays (n + 2) (slide_range table t c.by) (range_of t.cells c.item)
+      (λ a b. used_stays n t (slid t a b) (nearest (slide_allows table t a b) c.by) y
+      (young_slid n t a b (nearest (slide_allows table t a b) c.by) y))
+
+-- a new item in a gap
+young_filled : (n : ℕ) (t : TrackState) (c : Fill) (at len : ℕ) → IsYoung n t → StaysYoung (n + 2) (track_within_limits (filled t c at len) (Item t.next_item))
+young_filled n t c at len h =
+    within_stays (n + 2) (filled t c at len) (Item t.next_item)
+    (young-spliced n t at (at + len) (clip_view t.next_item c.what c.from len ∷ []) h (clip_below n t.next_item c.what c.from len h.item) (refl, tt))
+
+pub young-fill : (n : ℕ) (table : Table) (ts : List TrackState) (c : Fill) → All (IsYoung n) ts → AreYoung (n + 2) (fill_named table ts c)
+young-fill n table ts c h = on-own-young n (n + 2) c.track (fill_track table c) ts (omega arith) h each where
+  each : (t : TrackState) → IsYoung n t → StaysYoung (n + 2) (fill_track table c t)
+  each t y = by (gap_at t.cells c.at) where
+    by : (gap : Option (ℕ × ℕ)) → StaysYoung (n + 2) (fill_at table c t gap)
+    by None = tt
+    by (Some (a, b)) =
+        let asked : ℕ = frames_asked c.length (b - a) in
+        unless_stays (n + 2) (source_refusal table t.number c.what c.from asked) (track_within_limits (filled t c a (min asked (b - a))) (Item t.next_item))
+        (young_filled n t c a (min asked (b - a)) y)
+
+-- an end of an item, and all behind it
+on_range_young : (m : ℕ) (meant : ℕ → ℕ → Applied) (range : Option (ℕ × ℕ)) → ((x y : ℕ) → AreYoung m (meant x y)) → AreYoung m (on_range meant range)
+on_range_young m meant None h = tt
+on_range_young m meant (Some (x, y)) h = h x y
+
+used_young : (n : ℕ) (ts : List TrackState) (moved : Done → ℤ → Applied) (d : ℤ) → All (IsYoung n) ts → AreYoung (n + 2) (moved (By d) d)
+    → AreYoung (n + 2) (used_on_all ts moved d)
+used_young n ts moved (pos zero) h m = all-more n (n + 2) ts (omega arith) h
+used_young n ts moved (pos (suc k)) h m = m
+used_young n ts moved (negsuc k) h m = m
+
+part_shifted : (n own x y p : ℕ) (t : TrackState) (v : ItemView) (done : Done) (ts : List TrackState) → All (IsYoung n) ts → IsYoung n t
+    → v.item ≡ (cell_at t.cells p).item → v.link ≡ (cell_at t.cells p).link → AreYoung (n + 2) (shift_of own x y (v ∷ []) done ts)
+part_shifted n own x y p t v done ts h young item link =
+    let plain : IsPlain n (cell_at t.cells p) = plain-at n t.cells p young.plain in
+    let below : IfSome v.item (λ i. i < n) = subst (λ (o : Option ℕ). IfSome o (λ i. i < n)) (sym item) plain.0 in
+    shift_young n own x y (v ∷ []) done ts h (if-weaker v.item n (n + 1) (omega arith) below, tt) (link ∙ plain.1, tt)
+
+young_rippled : (n own : ℕ) (ts : List TrackState) (t : TrackState) (x y : ℕ) (end : End) (done : Done) (d : ℤ) → All (IsYoung n) ts → IsYoung n t
+    → AreYoung (n + 2) (rippled own ts t x y end done d)
+young_rippled n own ts t x y Head done (pos k) h young = shift_young n own x (x + k) [] done ts h tt tt
+young_rippled n own ts t x y Head done (negsuc k) h young = part_shifted n own x x x t (reaching_back (cell_at t.cells x) (suc k)) done ts h young refl refl
+young_rippled n own ts t x y Tail done (pos k) h young = part_shifted n own y y (y - 1) t (going_on (cell_at t.cells (y - 1)) k) done ts h young refl refl
+young_rippled n own ts t x y Tail done (negsuc k) h young = shift_young n own (y - suc k) y [] done ts h tt tt
+
+pub young-ripple : (n : ℕ) (table : Table) (ts : List TrackState) (c : Ripple) → All (IsYoung n) ts → AreYoung (n + 2) (ripple_named table ts c)
+young-ripple n table ts c h = for_own_young n (n + 2) c.track (ripple_own table c ts) ts h each where
+  each : (t : TrackState) → IsYoung n t → AreYoung (n + 2) (ripple_own table c ts t)
+  each t young = on_range_young (n + 2) (ripple_end table c.track ts t c.end c.by) (range_of t.cells c.item)
+      (λ a b. used_young n ts (rippled c.track ts t a b c.end) (nearest (ripple_allows table c.track ts t a b c.end) c.by) h
+      (young_rippled n c.track ts t a b c.end (By (nearest (ripple_allows table c.track ts t a b c.end) c.by)) (nearest (ripple_allows table c.track ts t a b c.end) c.by) h young))

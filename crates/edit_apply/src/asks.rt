@@ -1,6 +1,9 @@
 // Calls and questions as a station sends them, and what a question is answered.
 
-use composables::{Extract, Insert, ItemView, Listed, Overwrite, Remove, Slice};
+use composables::{
+    Dissolve, Extract, Fill, Insert, ItemView, Listed, Overwrite, Remove, Ripple, Roll, Slice,
+    Slide, Slip, Trim, Undissolve,
+};
 use frame_meaning::{Run, What};
 
 /// An edit.
@@ -11,6 +14,14 @@ pub enum Call {
     Remove(Remove),
     Extract(Extract),
     Slice(Slice),
+    Dissolve(Dissolve),
+    Undissolve(Undissolve),
+    Trim(Trim),
+    Slip(Slip),
+    Roll(Roll),
+    Slide(Slide),
+    Fill(Fill),
+    Ripple(Ripple),
 }
 
 /// A question to a track: the frames shown in its places [a, b), or its items.

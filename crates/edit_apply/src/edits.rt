@@ -1,6 +1,6 @@
 // An edit on the tracks that its call names.
 ghost use Rattle.std.specs.Prelude.{◌≡◌, ◌+◌, ◌*◌, ◌≤◌, All, None, length, sum_by};
-ghost use Rattle.composables.specs.Answers.{Answers, NextRises};
+ghost use Rattle.composables.specs.Answers.{Answers};
 ghost use Rattle.composables.specs.Good.{IsGood};
 ghost use Rattle.composables.specs.Items.{items_of};
 ghost use Rattle.composables.specs.Roomy.{IsRoomy};
@@ -10,7 +10,10 @@ ghost use Rattle.edit_apply.specs.RoomTracks.{AreNamed, IsUnlinked};
 
 use crate::Call;
 use composables::{Done, EditFault, Refusal, Table, Track};
-use edit_insert::{extract, insert, overwrite, remove, slice};
+use dissolves::{dissolve, undissolve};
+use edit_insert::{extract, fill, insert, overwrite, remove, slice};
+use edit_roll::{roll, slide};
+use edit_trim::{ripple, slip, trim};
 use room_core::Fault;
 use std::alloc::Global;
 use std::sync::ledger::Ledger;
@@ -36,7 +39,6 @@ pub(crate) fn edit<L: Ledger>(
     ensures named { AreNamed call.now parts.new.items }
     ensures good { All (λ t. IsGood table.now t) parts.new.items }
     ensures unlinked { All IsUnlinked parts.new.items }
-    ensures numbers { NextRises 2 parts.old.items parts.new.items }
 
     ensures least { steps.old + 1 ≤ steps.new }
     ensures most { steps.new ≤ steps.old + 32 * sum_by (λ t. length (items_of t.cells) + 64) parts.old.items }
@@ -47,6 +49,14 @@ pub(crate) fn edit<L: Ledger>(
         Call::Remove(edit) => remove(alloc, table, parts, edit, steps),
         Call::Extract(edit) => extract(alloc, table, parts, edit, steps),
         Call::Slice(edit) => slice(alloc, table, parts, edit, steps),
+        Call::Dissolve(edit) => dissolve(alloc, table, parts, edit, steps),
+        Call::Undissolve(edit) => undissolve(alloc, table, parts, edit, steps),
+        Call::Trim(edit) => trim(alloc, table, parts, edit, steps),
+        Call::Slip(edit) => slip(alloc, table, parts, edit, steps),
+        Call::Roll(edit) => roll(alloc, table, parts, edit, steps),
+        Call::Slide(edit) => slide(alloc, table, parts, edit, steps),
+        Call::Fill(edit) => fill(alloc, table, parts, edit, steps),
+        Call::Ripple(edit) => ripple(alloc, table, parts, edit, steps),
     }
 }
 

@@ -31,6 +31,23 @@ pub(crate) fn named_by(call: &Call) -> NamedTracks
             own: edit.track,
         },
         Call::Slice(edit) => NamedTracks::One(edit.track),
+        Call::Dissolve(edit) => NamedTracks::One(edit.track),
+        Call::Undissolve(edit) => NamedTracks::One(edit.track),
+        Call::Trim(edit) => NamedTracks::One(edit.track),
+        Call::Slip(edit) => NamedTracks::Many {
+            tracks: edit.tracks,
+            own: edit.track,
+        },
+        Call::Roll(edit) => NamedTracks::One(edit.track),
+        Call::Slide(edit) => NamedTracks::Many {
+            tracks: edit.tracks,
+            own: edit.track,
+        },
+        Call::Fill(edit) => NamedTracks::One(edit.track),
+        Call::Ripple(edit) => NamedTracks::Many {
+            tracks: edit.tracks,
+            own: edit.track,
+        },
     }
 }
 

@@ -8,8 +8,9 @@ ghost use Rattle.edit_apply.specs.RoomTracks.{IsTrackOf};
 
 use crate::{Ask, AskRefusal, Call, Editor};
 use composables::{
-    Done, Extract, Insert, ItemView, Kind, Listed, MAX_ITEMS, Media, Memory, Overwrite, Reels,
-    Refusal, Remove, Slice, Table, Track,
+    Dissolve, Done, End, Extract, Fill, FillLength, Insert, ItemView, Kind, Listed, MAX_ITEMS,
+    Media, Memory, Overwrite, Reels, Refusal, Remove, Ripple, Roll, Slice, Slide, Slip, Table,
+    Track, Trim, Undissolve,
 };
 use frame_meaning::What;
 use room_core::{Fault, PartObject};
@@ -77,6 +78,38 @@ fn a_call_names_its_tracks(rt: HostRuntime) -> Result<(), Fail> {
         assert_eq!(rt; editor.names(&overwrite_on(track)), set);
         assert_eq!(rt; editor.names(&Call::Remove(Remove { track, item: 0 })), set);
         assert_eq!(rt; editor.names(&Call::Slice(Slice { track, at: 0 })), set);
+        assert_eq!(rt;
+            editor.names(&Call::Undissolve(Undissolve { track, at: 0 })),
+            set
+        );
+        let dissolve = Call::Dissolve(Dissolve {
+            track,
+            at: 0,
+            a: 1,
+            b: 1,
+        });
+        assert_eq!(rt; editor.names(&dissolve), set);
+        let roll = Call::Roll(Roll {
+            track,
+            at: 1,
+            by: -1,
+        });
+        assert_eq!(rt; editor.names(&roll), set);
+        let fill = Call::Fill(Fill {
+            track,
+            at: 1,
+            what: What::Media(0),
+            from: 0,
+            length: FillLength::Sequence,
+        });
+        assert_eq!(rt; editor.names(&fill), set);
+        let trim = Call::Trim(Trim {
+            track,
+            item: 0,
+            end: End::Head,
+            by: -1,
+        });
+        assert_eq!(rt; editor.names(&trim), set);
     }
     for tracks in [0u32, 1, 5, 4_294_967_295] {
         assert_eq!(rt; editor.names(&insert_on(tracks, 0)), tracks);
@@ -86,6 +119,28 @@ fn a_call_names_its_tracks(rt: HostRuntime) -> Result<(), Fail> {
             item: 0,
         });
         assert_eq!(rt; editor.names(&extract), tracks);
+        let ripple = Call::Ripple(Ripple {
+            tracks,
+            track: 9,
+            item: 0,
+            end: End::Tail,
+            by: 1,
+        });
+        assert_eq!(rt; editor.names(&ripple), tracks);
+        let slide = Call::Slide(Slide {
+            tracks,
+            track: 9,
+            item: 0,
+            by: 1,
+        });
+        assert_eq!(rt; editor.names(&slide), tracks);
+        let slip = Call::Slip(Slip {
+            tracks,
+            track: 9,
+            item: 0,
+            by: 1,
+        });
+        assert_eq!(rt; editor.names(&slip), tracks);
     }
     Ok(())
 }

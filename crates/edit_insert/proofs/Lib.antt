@@ -3,3 +3,4 @@ pub mod SourceRanges
 pub mod Removals
 pub mod Inserts
 pub mod TestTracks
+pub mod Filled

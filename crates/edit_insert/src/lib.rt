@@ -4,11 +4,13 @@
 //! cells; after a refusal, and for want of memory, all tracks are as they were.
 #![tactic(auto)]
 
+mod filling;
 mod inserting;
 mod overwriting;
 mod removing;
 mod sources;
 
+pub use filling::fill;
 pub use inserting::{extract, insert};
 pub use overwriting::overwrite;
 pub use removing::{remove, slice};

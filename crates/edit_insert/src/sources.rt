@@ -1,5 +1,6 @@
 // Source frames that are asked for.
 ghost use Rattle.std.specs.Prelude.{◌≡◌, ◌+◌, ◌≤◌, ◌<◌, ◌^◌, ◌&&◌, IfNone, IsTrue, nat_le};
+ghost use Rattle.edit_insert.specs.Fills.{thing_refusal};
 ghost use Rattle.edit_insert.specs.Sources.{suits, source_refusal};
 
 use composables::{Kind, Refusal, Table};
@@ -25,6 +26,21 @@ pub fn source_refusal(table: &Table, track: u32, what: What, from: u32, len: u32
         return Some(Refusal::MediaEnds);
     }
     None
+}
+
+// Why a thing can't stand on a track, if it can't.
+pub fn thing_refusal(table: &Table, track: u32, what: What) -> Option<Refusal>
+    ensures { result ≡ thing_refusal table.now track what }
+{
+    match table.bounds(what) {
+        Some(_) => {}
+        None => return Some(Refusal::NoMedia),
+    }
+    if suits(table.kinds.as_slice().get(track as usize).copied(), what) {
+        None
+    } else {
+        Some(Refusal::NoMedia)
+    }
 }
 
 // Whether the frames [from, from + len) are among [low, high).

@@ -1,5 +1,5 @@
 -- A shift as it is meant, over the named tracks, and what the code does on each of them.
-use Rattle.std.proofs.Common.{◌≡◌, ◌≢◌, ℕ, zero, suc, ◌-◌, ◌<◌, ◌≤◌, Bool, true, false, cond, eqb, ltb, List, [], ◌∷◌, ◌++◌, All, length, map, min, unwrap_or, Option, Some, None, Result, Ok, Err, refl, sym, ap, ◌∙◌, arith, subst}
+use Rattle.std.proofs.Common.{◌≡◌, ◌≢◌, ℕ, zero, suc, ◌-◌, ◌<◌, ◌≤◌, Bool, true, false, cond, eqb, ltb, List, [], ◌∷◌, ◌++◌, All, get_or, length, map, min, unwrap_or, Option, Some, None, Result, Ok, Err, refl, sym, ap, ◌∙◌, arith, subst}
 use Rattle.std.proofs.lemmas.Bool.{eq-eqb, eqb-true}
 use Rattle.std.proofs.lemmas.List.Elements.{All-cons}
 use Rattle.composables.specs.declared.items.ItemView.{ItemView}
@@ -24,10 +24,12 @@ use Rattle.edit_splice.specs.Moves.{IsShiftOf, all_moved, moved, put_views}
 use Rattle.composables.specs.OwnTracks.{for_own, track_numbered, with_track}
 use Rattle.edit_splice.specs.Padding.{new_len, new_views, padded_track}
 use Rattle.edit_splice.specs.Shifts.{shifted, shifted_along, shifted_track}
-use Rattle.edit_splice.specs.Standing.{EachStaysGood}
+use Rattle.edit_splice.specs.Laws.{IsWithinLimits}
+use Rattle.edit_splice.specs.Standing.{EachStaysGood, StaysGood}
 use Rattle.composables.specs.TrackSets.{has_track, tracks_from, tracks_in}
 use Rattle.edit_splice.proofs.Firsts.{few-all, short-all}
-use Rattle.edit_splice.proofs.Moving.{put-own, put-other}
+use Rattle.edit_splice.proofs.Meeting.{filled-each}
+use Rattle.edit_splice.proofs.Moving.{new-kept, put-own, put-other}
 use Rattle.edit_splice.proofs.Padding.{padded-put, padded-reaches}
 use Rattle.edit_splice.proofs.Put.{PutIn, put-gap}
 use Rattle.edit_splice.proofs.Standing.{all_head, all_none, all_tail, each-self, stays-spliced}
@@ -182,16 +184,22 @@ put-shift table s t h = by (eqb t.number s.own) (ltb s.x (length t.cells)) refl 
   by false false e = put-gap table t 0
 
 pub is-shift : (table : Table) (s : Shift) (t : TrackState) → IsGood table t → IsRoomy t → PutIn table t (put_views s t) → IsShiftOf s t
-is-shift table s t g r p = record { kept = g.kept; roomy = r; frames = g.frames; new = p.new.new; numbers = p.numbers }
+is-shift table s t g r p = record { kept = g.kept; roomy = r; frames = g.frames; stays = new-kept s t g.kept g.frames p.new.new; filled = filled-each (put_views s t) p.new.new.each; numbers = p.numbers }
 
-each_moved : (table : Table) (s : Shift) (ts : List TrackState) → s.x ≤ s.y → All (IsGood table) ts → All (λ (t : TrackState). PutIn table t (put_views s t)) ts
+-- a track within its limits stays good where the shift is made on it
+abbrev pub StaysMoved : Table → Shift → TrackState → Type 0
+StaysMoved table s t = IsWithinLimits (moved s t) → StaysGood table t (moved s t)
+
+pub put-moved : (table : Table) (s : Shift) (t : TrackState) → s.x ≤ s.y → IsGood table t → PutIn table t (put_views s t) → StaysMoved table s t
+put-moved table s t le g p limits = stays-spliced table t (min s.x (length t.cells)) (min s.y (length t.cells)) (put_views s t) g (omega (arith, le)) (omega arith) p limits
+
+each_moved : (table : Table) (s : Shift) (ts : List TrackState) → All (StaysMoved table s) ts
     → All (λ (t : TrackState). length (moved s t).cells ≤ MAX_FRAMES) ts → All (λ (t : TrackState). length (items_of (moved s t).cells) ≤ MAX_ITEMS) ts → EachStaysGood table ts (all_moved s ts)
-each_moved table s [] le g p a b = tt
-each_moved table s (t ∷ ts) le g p a b = (
-  stays-spliced table t (min s.x (length t.cells)) (min s.y (length t.cells)) (put_views s t) (all_head (IsGood table) t ts g) (omega (arith, le)) (omega arith)
-      (all_head (λ (t : TrackState). PutIn table t (put_views s t)) t ts p)
+each_moved table s [] p a b = tt
+each_moved table s (t ∷ ts) p a b = (
+  all_head (StaysMoved table s) t ts p
       (record { frames = all_head (λ (t : TrackState). length (moved s t).cells ≤ MAX_FRAMES) t ts a; items = all_head (λ (t : TrackState). length (items_of (moved s t).cells) ≤ MAX_ITEMS) t ts b }),
-  each_moved table s ts le (all_tail (IsGood table) t ts g) (all_tail (λ (t : TrackState). PutIn table t (put_views s t)) t ts p)
+  each_moved table s ts (all_tail (StaysMoved table s) t ts p)
       (all_tail (λ (t : TrackState). length (moved s t).cells ≤ MAX_FRAMES) t ts a) (all_tail (λ (t : TrackState). length (items_of (moved s t).cells) ≤ MAX_ITEMS) t ts b),
 )
 
@@ -208,13 +216,17 @@ all_done us done new d = by (too_long us) (too_many us) refl refl where
   by None None e f k = record { same = Prim.grind (arith, k); long = e; many = f }
 
 -- after a shift
+pub each-shifted : (table : Table) (s : Shift) (ts us : List TrackState) (done : Done) (result : Result Done EditFault) → All (IsGood table) ts
+    → All (StaysMoved table s) ts → Answers (within_limits (all_moved s ts) done) ts us result → EachStaysGood table ts us
+each-shifted table s ts us done (Ok d) g p a =
+    let k : AreDone (all_moved s ts) done us d = all_done (all_moved s ts) done us d a in
+    subst (EachStaysGood table ts) (sym k.same) (each_moved table s ts p (short-all s ts k.long) (few-all s ts k.many))
+each-shifted table s ts us done (Err (Refused why)) g p a = subst (EachStaysGood table ts) (sym a.1) (each-self table ts g)
+each-shifted table s ts us done (Err Memory) g p a = subst (EachStaysGood table ts) (sym a) (each-self table ts g)
+
 pub each-shift : (table : Table) (s : Shift) (ts us : List TrackState) (done : Done) (result : Result Done EditFault) → s.x ≤ s.y → All (IsGood table) ts
     → All (λ (t : TrackState). PutIn table t (put_views s t)) ts → Answers (within_limits (all_moved s ts) done) ts us result → EachStaysGood table ts us
-each-shift table s ts us done (Ok d) le g p a =
-    let k : AreDone (all_moved s ts) done us d = all_done (all_moved s ts) done us d a in
-    subst (EachStaysGood table ts) (sym k.same) (each_moved table s ts le g p (short-all s ts k.long) (few-all s ts k.many))
-each-shift table s ts us done (Err (Refused why)) le g p a = subst (EachStaysGood table ts) (sym a.1) (each-self table ts g)
-each-shift table s ts us done (Err Memory) le g p a = subst (EachStaysGood table ts) (sym a) (each-self table ts g)
+each-shift table s ts us done result le g p a = each-shifted table s ts us done result g (λ k d lt. put-moved table s (get_or ts k d) le (g k d lt) (p k d lt)) a
 
 -- the own track is found
 pub for-found : (n : ℕ) (meant : TrackState → Result (List TrackState × Done) Refusal) (ts : List TrackState) (own : TrackState) → track_numbered n ts ≡ Some own → for_own n meant ts ≡ meant own

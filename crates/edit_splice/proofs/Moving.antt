@@ -8,6 +8,7 @@ use Rattle.composables.specs.TrackState.{TrackState}
 use Rattle.composables.specs.Views.{gap_views}
 use Rattle.composables.proofs.Frames.{frames_in-append}
 use Rattle.composables.specs.TrackFacts.{IsKept}
+use Rattle.edit_splice.specs.Laws.{IsWithinLimits}
 use Rattle.edit_splice.specs.NewItems.{AreNew}
 use Rattle.edit_splice.specs.Splicing.{spliced_track}
 use Rattle.edit_splice.proofs.Keeping.{kept_spliced}
@@ -59,11 +60,15 @@ pub length-none : (s : Shift) (t : TrackState) → s.x ≤ s.y → t.number ≢ 
 length-none s t le n h = omega (arith, length-moved s t le, ap frames_in (put-none s t n h))
 
 -- on a track that keeps its limits it leaves one that keeps what every track keeps
-pub kept-put : (s : Shift) (t : TrackState) (x y : ℕ) (views : List ItemView) → s.x ≤ s.y → IsShiftOf s t → length (moved s t).cells ≤ MAX_FRAMES
-    → x ≡ min s.x (length t.cells) → y ≡ min s.y (length t.cells) → views ≡ put_views s t → IsKept (spliced_track t x y views)
-kept-put s t x y views le f short e h k =
-    kept_spliced t x y views f.kept (omega (arith, e, h, le)) (omega (arith, h)) (subst (AreNew t.next_item) (sym k) f.new)
-    (omega (arith, length-moved s t le, short, f.frames, ap frames_in k, le))
+pub new-kept : (s : Shift) (t : TrackState) → IsKept t → length t.cells ≤ MAX_FRAMES → AreNew t.next_item (put_views s t) → s.x ≤ s.y → IsWithinLimits (moved s t) → IsKept (moved s t)
+new-kept s t kept frames new le limits =
+    kept_spliced t (min s.x (length t.cells)) (min s.y (length t.cells)) (put_views s t) kept (omega (arith, le)) (omega arith) new
+    (omega (arith, length-moved s t le, limits.frames, frames, le))
 
-pub kept-moved : (s : Shift) (t : TrackState) → s.x ≤ s.y → IsShiftOf s t → length (moved s t).cells ≤ MAX_FRAMES → IsKept (moved s t)
-kept-moved s t le f short = kept-put s t (min s.x (length t.cells)) (min s.y (length t.cells)) (put_views s t) le f short refl refl refl
+pub kept-put : (s : Shift) (t : TrackState) (x y : ℕ) (views : List ItemView) → s.x ≤ s.y → IsShiftOf s t → IsWithinLimits (moved s t)
+    → x ≡ min s.x (length t.cells) → y ≡ min s.y (length t.cells) → views ≡ put_views s t → IsKept (spliced_track t x y views)
+kept-put s t x y views le f limits e h k =
+    let same : moved s t ≡ spliced_track t x y views =
+    ap (λ (n : ℕ). spliced_track t n (min s.y (length t.cells)) (put_views s t)) (sym e)
+    ∙ (ap (λ (n : ℕ). spliced_track t x n (put_views s t)) (sym h) ∙ ap (spliced_track t x y) (sym k)) in
+    subst IsKept same (f.stays le limits)

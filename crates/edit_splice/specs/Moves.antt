@@ -4,10 +4,11 @@ use Rattle.std.specs.Prelude.{◌+◌, ◌-◌, ◌≤◌, List, [], ◌∷◌, 
 use Rattle.composables.specs.declared.items.ItemView.{ItemView}
 use Rattle.composables.specs.TrackState.{TrackState}
 use Rattle.composables.specs.declared.TheConstants.{MAX_FRAMES}
+use Rattle.composables.specs.Joined.{AllFilled}
 use Rattle.composables.specs.Roomy.{IsRoomy}
 use Rattle.composables.specs.SpareState.{SpareState}
 use Rattle.composables.specs.TrackFacts.{IsKept, NumbersBelow}
-use Rattle.edit_splice.specs.NewItems.{AreNew}
+use Rattle.edit_splice.specs.Laws.{IsWithinLimits}
 use Rattle.edit_splice.specs.Splicing.{HasRoom, spliced_track}
 use Rattle.edit_splice.specs.declared.shifting.Shift.{Shift}
 use Rattle.composables.specs.Views.{gap_views}
@@ -26,12 +27,13 @@ moved s t = spliced_track t (min s.x (length t.cells)) (min s.y (length t.cells)
 abbrev pub all_moved : Shift → List TrackState → List TrackState
 all_moved s named = map (moved s) named
 
--- the shift may be made on a track that keeps its limits: what is put in is new to it
+-- the shift may be made on a track that keeps its limits: within these it leaves a track, and what it puts in has frames
 pub record IsShiftOf (s : Shift) (t : TrackState) : Type 0 where
   pub kept : IsKept t
   pub roomy : IsRoomy t
   pub frames : length t.cells ≤ MAX_FRAMES
-  pub new : AreNew t.next_item (put_views s t)
+  pub stays : s.x ≤ s.y → IsWithinLimits (moved s t) → IsKept (moved s t)
+  pub filled : AllFilled (put_views s t)
   pub numbers : NumbersBelow (t.next_item + 1) (put_views s t)
 
 -- memory for each of these tracks, to splice two items or gaps into it

@@ -182,6 +182,8 @@ fn shift_all<L: Ledger>(
     requires order { shift.now.x ≤ shift.now.y }
     requires fits { All (λ t. IsShiftOf shift.now t) named.old.items }
     requires short { All (λ t. length (moved shift.now t).cells ≤ MAX_FRAMES) named.old.items }
+    requires few { All (λ t. length (items_of (moved shift.now t).cells) ≤ MAX_ITEMS)
+        named.old.items }
     requires rooms { HasRooms spares.items named.old.items }
     ensures moved { named.new.items ≡ all_moved shift.now named.old.items }
     ensures least { steps.old ≤ steps.new }
@@ -198,6 +200,7 @@ fn shift_track<L: Ledger>(track: &mut Track, shift: &Shift, spare: Spare, steps:
     requires order { shift.now.x ≤ shift.now.y }
     requires fits { IsShiftOf shift.now track.old }
     requires short { length (moved shift.now track.old).cells ≤ MAX_FRAMES }
+    requires few { length (items_of (moved shift.now track.old).cells) ≤ MAX_ITEMS }
     requires room { HasRoom spare track.old 2 }
     ensures moved { track.new ≡ moved shift.now track.old }
     ensures least { steps.old ≤ steps.new }

@@ -1,5 +1,5 @@
 -- A track of items and gaps that can be laid.
-use Rattle.std.proofs.Common.{◌≡◌, ◌≢◌, ℕ, zero, suc, ◌+◌, ◌<◌, ◌≤◌, max, Bool, true, false, nat_eq, map, List, [], ◌∷◌, ◌++◌, length, drop, get_or, Option, Some, None, IfSome, refl, sym, ap, ◌∙◌, arith, subst}
+use Rattle.std.proofs.Common.{◌≡◌, ◌≢◌, ℕ, zero, suc, ◌+◌, ◌<◌, ◌≤◌, max, Bool, true, false, nat_eq, map, List, [], All, ◌∷◌, ◌++◌, length, drop, get_or, Option, Some, None, IfSome, refl, sym, ap, ◌∙◌, arith, subst}
 use Rattle.std.proofs.lemmas.Bool.{ne_eqb}
 use Rattle.std.specs.List.{list_any, slice_get}
 use Rattle.std.proofs.lemmas.List.{append-nil, drop_more}
@@ -147,3 +147,25 @@ one-numbers us vs t e f is =
 pub one-own : list_any (nat_eq 0) (tracks_in 1) ≡ true
 unfolding tracks_in
 one-own = refl
+
+-- two tracks that are named
+pub two-numbers : (us vs ws : List TrackState) (t u : TrackState) (n : ℕ) → us ≡ [] → vs ≡ us ++ t ∷ [] → ws ≡ vs ++ u ∷ [] → t.number ≡ 0 → u.number ≡ 1 → n ≡ 3
+    → map (λ (t : TrackState). t.number) ws ≡ tracks_in n
+unfolding tracks_in
+two-numbers us vs ws t u n e f g zero_is one_is three =
+    let both : ws ≡ t ∷ u ∷ [] = g ∙ ap (λ (l : List TrackState). l ++ u ∷ []) (f ∙ ap (λ (l : List TrackState). l ++ t ∷ []) e) in
+    ap (map (λ (t : TrackState). t.number)) both
+    ∙ (ap (λ (k : ℕ). k ∷ u.number ∷ []) zero_is ∙ (ap (λ (k : ℕ). 0 ∷ k ∷ []) one_is ∙ ap tracks_in (sym three)))
+
+pub two-own : (own tracks : ℕ) → own ≡ 0 → tracks ≡ 3 → list_any (nat_eq own) (tracks_in tracks) ≡ true
+unfolding tracks_in
+two-own own tracks e f = ap (λ (k : ℕ). list_any (nat_eq k) (tracks_in tracks)) e ∙ ap (λ (k : ℕ). list_any (nat_eq 0) (tracks_in k)) f
+
+pub all-two : (P : TrackState → Type 0) (us vs ws : List TrackState) (t u : TrackState) → us ≡ [] → vs ≡ us ++ t ∷ [] → ws ≡ vs ++ u ∷ [] → P t → P u → All P ws
+all-two P us vs ws t u e f g p q =
+    let both : ws ≡ t ∷ u ∷ [] = g ∙ ap (λ (l : List TrackState). l ++ u ∷ []) (f ∙ ap (λ (l : List TrackState). l ++ t ∷ []) e) in
+    subst (λ (l : List TrackState). All P l) (sym both) each where
+      each : All P (t ∷ u ∷ [])
+      each zero d lt = p
+      each (suc zero) d lt = q
+      each (suc (suc k)) d lt = absurd (omega (arith, lt))

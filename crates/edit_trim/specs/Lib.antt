@@ -1,4 +1,5 @@
 pub mod Darkness
 pub mod Trimming
 pub mod Slipping
+pub mod Rippling
 pub mod Laid

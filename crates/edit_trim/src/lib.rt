@@ -1,4 +1,5 @@
-//! The edits that move an end of an item, or its source frames, and leave all other items where they are.
+//! The edits that move an end of an item, or its source frames. `trim` and `slip` leave all other items where they are;
+//! `ripple` moves what is behind the end by as much, on all named tracks.
 //!
 //! The main contract is that each call leaves on its tracks, and answers, exactly what its meaning says as a list of
 //! cells, by the delta that is used: the nearest to the one asked for of those that its limits allow. After a refusal,
@@ -6,9 +7,11 @@
 #![tactic(auto)]
 
 mod darkness;
+mod rippling;
 mod slipping;
 mod trimming;
 
+pub use rippling::ripple;
 pub use slipping::slip;
 pub use trimming::trim;
 

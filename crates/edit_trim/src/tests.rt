@@ -1,4 +1,5 @@
-// Small tracks, trimmed and slipped.
+// Small tracks, trimmed, slipped and rippled.
 
 mod edits;
 mod laying;
+mod ripples;

@@ -26,12 +26,16 @@ fn apply_named<O: PartObject, L: Ledger>(
     requires named { (O.meaning object.now).refuses call.now ≡ None }
     requires names { names.now ≡ (O.meaning object.now).names call.now }
     requires whole { IsWhole slots.old.items }
-    requires good { AreGood (O.good object.now) (numbers 0 (O.count object.now)) (present slots.old.items) }
+    requires good { AreGood (O.good object.now) (numbers 0 (O.count object.now))
+        (present slots.old.items) }
     requires roomy { All (O.roomy object.now) (present slots.old.items) }
     ensures whole { IsWhole slots.new.items }
-    ensures meant { Answers (whole (O.meaning object.now) (present slots.old.items) call.now) (present slots.old.items) (present slots.new.items) result }
-    ensures good { AreGood (O.good object.now) (numbers 0 (O.count object.now)) (present slots.new.items) }
-    ensures most { steps.new ≤ steps.old + 32 * sum_by (λ p. O.size p + 64) (picked (present slots.old.items) names.now) }
+    ensures meant { Answers (whole (O.meaning object.now) (present slots.old.items) call.now)
+        (present slots.old.items) (present slots.new.items) result }
+    ensures good { AreGood (O.good object.now) (numbers 0 (O.count object.now))
+        (present slots.new.items) }
+    ensures most { steps.new ≤ steps.old + 32 * sum_by
+        (λ p. O.size p + 64) (picked (present slots.old.items) names.now) }
 {
     let mut named = Vec::with_capacity(alloc, names.len())?;
     take_out(slots, names, &mut named);
@@ -52,9 +56,11 @@ pub fn apply_in_place<O: PartObject, L: Ledger>(
     requires count { O.count object.now ≤ 32 }
     requires good { AreGood (O.good object.now) (numbers 0 (O.count object.now)) parts.old }
     requires roomy { All (O.roomy object.now) parts.old }
-    ensures meant { Answers (whole (O.meaning object.now) parts.old call.now) parts.old parts.new result }
+    ensures meant { Answers (whole (O.meaning object.now) parts.old call.now) parts.old parts.new
+        result }
     ensures good { AreGood (O.good object.now) (numbers 0 (O.count object.now)) parts.new }
-    ensures most { steps.new ≤ steps.old + 32 * sum_by (λ p. O.size p + 64) (picked parts.old ((O.meaning object.now).names call.now)) }
+    ensures most { steps.new ≤ steps.old + 32 * sum_by
+        (λ p. O.size p + 64) (picked parts.old ((O.meaning object.now).names call.now)) }
 {
     match object.refuse_names(call) {
         Some(refusal) => return Err(Fault::Refused(refusal)),
@@ -93,7 +99,8 @@ pub fn try_call<O: PartObject, L: Ledger>(
     requires good { AreGood (O.good object.now) (numbers 0 (O.count object.now)) parts.now }
     requires roomy { All (O.roomy object.now) parts.now }
     ensures answer { Tells (answer_in (whole (O.meaning object.now) parts.now call.now)) result }
-    ensures most { steps.new ≤ steps.old + 32 * sum_by (λ p. O.size p + 64) (picked parts.now ((O.meaning object.now).names call.now)) }
+    ensures most { steps.new ≤ steps.old + 32 * sum_by
+        (λ p. O.size p + 64) (picked parts.now ((O.meaning object.now).names call.now)) }
 {
     match object.refuse_names(call) {
         Some(refusal) => return Err(Fault::Refused(refusal)),

@@ -8,7 +8,8 @@ use std::alloc::Global;
 
 // The numbers of a set, in ascending order.
 fn numbers_in(alloc: Global, set: u32) -> Result<Vec<u32>, Memory>
-    ensures { IfOk result (λ v. (names : List ℕ) → AscendBetween 0 32 names → set_of names ≡ set → v.items ≡ names) }
+    ensures { IfOk result (λ v. (names : List ℕ) → AscendBetween 0 32 names → set_of names ≡ set
+        → v.items ≡ names) }
 {
     let mut numbers = Vec::new(alloc);
     let mut left = set;

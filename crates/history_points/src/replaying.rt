@@ -40,7 +40,8 @@ fn replay_counted<O: PartObject, L: Ledger>(
     requires within { n ≤ length entries.now }
     requires most { n ≤ most_entries }
     ensures replays { Replays (O.meaning object.now) opening.now entries.now n result }
-    ensures good { IfOk result (λ parts. AreGood (O.good object.now) (numbers 0 (O.count object.now)) parts.items) }
+    ensures good { IfOk result (λ parts. AreGood (O.good object.now)
+        (numbers 0 (O.count object.now)) parts.items) }
 {
     let mut steps = Steps::<L>::new(blank);
     let mut parts = Places::of(alloc, copy_parts(alloc, object, opening)?)?;
@@ -68,7 +69,8 @@ pub fn replay<O: PartObject>(
     requires within { n ≤ length entries.now }
     requires most { n ≤ most_entries }
     ensures replays { Replays (O.meaning object.now) opening.now entries.now n result }
-    ensures good { IfOk result (λ parts. AreGood (O.good object.now) (numbers 0 (O.count object.now)) parts.items) }
+    ensures good { IfOk result (λ parts. AreGood (O.good object.now)
+        (numbers 0 (O.count object.now)) parts.items) }
 {
     replay_counted::<O, Brand>(Blank::new(1), alloc, object, opening, entries, n)
 }

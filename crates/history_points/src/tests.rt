@@ -108,6 +108,44 @@ fn replays_the_first_entries(rt: HostRuntime) -> Result<(), Memory> {
     Ok(())
 }
 
+// The same of six calls, of which one is in its place another that does not apply.
+fn stopped(
+    alloc: Global,
+    at: usize,
+    refused: (u32, u32),
+    n: u32,
+) -> Result<Result<Option<Sums>, u32>, Memory> {
+    let mut calls = [(1u32, 1u32), (2, 1), (1, 2), (2, 2), (1, 1), (2, 1)];
+    if at < calls.len() {
+        calls[at] = refused;
+    }
+    replayed(alloc, &calls, n)
+}
+
+#[test]
+fn stops_at_each_place(rt: HostRuntime) -> Result<(), Memory> {
+    let alloc = rt.alloc();
+    let after = [
+        (0u32, 0u32, 0u32),
+        (1, 1, 0),
+        (2, 1, 1),
+        (4, 3, 1),
+        (6, 3, 3),
+        (7, 4, 3),
+        (8, 4, 4),
+    ];
+    for refused in [(0u32, 1u32), (3, 1), (1, 11)] {
+        for at in 0..6u32 {
+            for (n, sums) in (0..7u32).zip(after) {
+                let want = if at < n { Err(at) } else { Ok(Some(sums)) };
+                let result = stopped(alloc, at as usize, refused, n)?;
+                assert_eq!(rt; result, want, "{refused:?} at {at}, the first {n}");
+            }
+        }
+    }
+    Ok(())
+}
+
 #[test]
 fn does_calls_in_place(rt: HostRuntime) -> Result<(), Memory> {
     let alloc = rt.alloc();

@@ -20,7 +20,8 @@ enum Lead {
 
 /// The text behind an opening quote, up to the closing one and past it.
 pub fn text_behind_quote(alloc: Global, rest: Rest<'_>) -> Result<(Text, Rest<'_>), JsonFault>
-    ensures { Gives (λ r. (r.0, r.1.at, r.1.bytes.now)) result (text_at (length rest.entry.bytes.now) rest.entry.at rest.entry.bytes.now) }
+    ensures { Gives (λ r. (r.0, r.1.at, r.1.bytes.now)) result
+        (text_at (length rest.entry.bytes.now) rest.entry.at rest.entry.bytes.now) }
 {
     let mut string = String::new(alloc);
     let mut rest = rest;
@@ -40,7 +41,8 @@ pub fn text_behind_quote(alloc: Global, rest: Rest<'_>) -> Result<(Text, Rest<'_
 /// The character at the front, raw or escaped.
 #[tactic(auto, unfolding(crate::specs::ReadingTexts::character_at))]
 fn character(rest: Rest<'_>) -> Result<(char, Rest<'_>), JsonFault>
-    ensures { Gives (λ r. (r.0, r.1.at, r.1.bytes.now)) result (character_at rest.entry.at rest.entry.bytes.now) }
+    ensures { Gives (λ r. (r.0, r.1.at, r.1.bytes.now)) result
+        (character_at rest.entry.at rest.entry.bytes.now) }
 {
     match rest.bytes {
         [0..=31, ..] | [] => Err(JsonFault::Syntax(rest.at)),
@@ -104,7 +106,8 @@ fn lead_of(first: u8) -> Option<Lead>
 /// The raw character whose first byte stands at `start`, with `rest` behind that byte.
 #[tactic(auto, unfolding(crate::specs::ReadingTexts::sequence_at, crate::specs::ReadingTexts::two_at, crate::specs::ReadingTexts::three_at, crate::specs::ReadingTexts::four_at))]
 fn sequence(start: u32, first: u8, rest: Rest<'_>) -> Result<(char, Rest<'_>), JsonFault>
-    ensures { Gives (λ r. (r.0, r.1.at, r.1.bytes.now)) result (sequence_at start first rest.entry.at rest.entry.bytes.now) }
+    ensures { Gives (λ r. (r.0, r.1.at, r.1.bytes.now)) result
+        (sequence_at start first rest.entry.at rest.entry.bytes.now) }
 {
     match lead_of(first) {
         None => Err(JsonFault::NotUtf8(start)),
@@ -137,7 +140,8 @@ fn sequence(start: u32, first: u8, rest: Rest<'_>) -> Result<(char, Rest<'_>), J
 /// The next byte of the raw character that begins at `start`.
 fn continuation(start: u32, low: u8, high: u8, rest: Rest<'_>) -> Result<(u8, Rest<'_>), JsonFault>
     ensures within { IfOk result (λ r. (low ≤ r.0) × (r.0 ≤ high)) }
-    ensures given { Gives (λ r. (r.0, r.1.at, r.1.bytes.now)) result (continuation_at start low high rest.entry.at rest.entry.bytes.now) }
+    ensures given { Gives (λ r. (r.0, r.1.at, r.1.bytes.now)) result
+        (continuation_at start low high rest.entry.at rest.entry.bytes.now) }
 {
     match rest.bytes {
         [] => Err(JsonFault::Syntax(rest.at)),
@@ -167,7 +171,8 @@ fn scalar(code: u32) -> char
 /// The character that is escaped by the backslash at `start`, with `rest` behind it.
 #[tactic(auto, unfolding(crate::specs::ReadingTexts::escape_at))]
 fn escape(start: u32, rest: Rest<'_>) -> Result<(char, Rest<'_>), JsonFault>
-    ensures { Gives (λ r. (r.0, r.1.at, r.1.bytes.now)) result (escape_at start rest.entry.at rest.entry.bytes.now) }
+    ensures { Gives (λ r. (r.0, r.1.at, r.1.bytes.now)) result
+        (escape_at start rest.entry.at rest.entry.bytes.now) }
 {
     match rest.bytes {
         [] => Err(JsonFault::Syntax(rest.at)),
@@ -204,7 +209,8 @@ fn short_escape(byte: u8) -> Option<char>
 /// The character of the escape with digits: of one, or of a pair for the two halves of a surrogate pair.
 #[tactic(auto, unfolding(crate::specs::ReadingTexts::unicode_at))]
 fn unicode(start: u32, rest: Rest<'_>) -> Result<(char, Rest<'_>), JsonFault>
-    ensures { Gives (λ r. (r.0, r.1.at, r.1.bytes.now)) result (unicode_at start rest.entry.at rest.entry.bytes.now) }
+    ensures { Gives (λ r. (r.0, r.1.at, r.1.bytes.now)) result
+        (unicode_at start rest.entry.at rest.entry.bytes.now) }
 {
     let (unit, rest) = unit(rest)?;
     if unit < 0xd800 || unit >= 0xe000 {
@@ -221,7 +227,8 @@ fn unicode(start: u32, rest: Rest<'_>) -> Result<(char, Rest<'_>), JsonFault>
 fn pair(start: u32, first: u32, rest: Rest<'_>) -> Result<(char, Rest<'_>), JsonFault>
     requires low { 0xd800 ≤ first }
     requires high { first < 0xdc00 }
-    ensures { Gives (λ r. (r.0, r.1.at, r.1.bytes.now)) result (pair_at start first rest.entry.at rest.entry.bytes.now) }
+    ensures { Gives (λ r. (r.0, r.1.at, r.1.bytes.now)) result
+        (pair_at start first rest.entry.at rest.entry.bytes.now) }
 {
     let (second, rest) = second_half(start, rest)?;
     let code = 0x1_0000 + (first - 0xd800) * 0x400 + (second - 0xdc00);
@@ -232,7 +239,8 @@ fn pair(start: u32, first: u32, rest: Rest<'_>) -> Result<(char, Rest<'_>), Json
 #[tactic(auto, unfolding(crate::specs::ReadingTexts::unit_at))]
 fn unit(rest: Rest<'_>) -> Result<(u32, Rest<'_>), JsonFault>
     ensures unit { IfOk result (λ r. r.0 < 0x10000) }
-    ensures given { Gives (λ r. (r.0, r.1.at, r.1.bytes.now)) result (unit_at rest.entry.at rest.entry.bytes.now) }
+    ensures given { Gives (λ r. (r.0, r.1.at, r.1.bytes.now)) result
+        (unit_at rest.entry.at rest.entry.bytes.now) }
 {
     let (first, rest) = hex(rest)?;
     let (second, rest) = hex(rest)?;
@@ -246,7 +254,8 @@ fn unit(rest: Rest<'_>) -> Result<(u32, Rest<'_>), JsonFault>
 
 fn hex(rest: Rest<'_>) -> Result<(u32, Rest<'_>), JsonFault>
     ensures digit { IfOk result (λ r. r.0 < 16) }
-    ensures given { Gives (λ r. (r.0, r.1.at, r.1.bytes.now)) result (hex_at rest.entry.at rest.entry.bytes.now) }
+    ensures given { Gives (λ r. (r.0, r.1.at, r.1.bytes.now)) result
+        (hex_at rest.entry.at rest.entry.bytes.now) }
 {
     match rest.bytes {
         [] => Err(JsonFault::Syntax(rest.at)),
@@ -280,7 +289,8 @@ fn hex_value(byte: u8) -> Option<u32>
 #[tactic(auto, unfolding(crate::specs::ReadingTexts::second_half_at))]
 fn second_half(start: u32, rest: Rest<'_>) -> Result<(u32, Rest<'_>), JsonFault>
     ensures low { IfOk result (λ r. (0xdc00 ≤ r.0) × (r.0 < 0xe000)) }
-    ensures given { Gives (λ r. (r.0, r.1.at, r.1.bytes.now)) result (second_half_at start rest.entry.at rest.entry.bytes.now) }
+    ensures given { Gives (λ r. (r.0, r.1.at, r.1.bytes.now)) result
+        (second_half_at start rest.entry.at rest.entry.bytes.now) }
 {
     let rest = half_byte(start, b'\\', rest)?;
     let rest = half_byte(start, b'u', rest)?;
@@ -290,7 +300,8 @@ fn second_half(start: u32, rest: Rest<'_>) -> Result<(u32, Rest<'_>), JsonFault>
 #[tactic(auto, unfolding(crate::specs::ReadingTexts::half_digits_at))]
 fn half_digits(start: u32, rest: Rest<'_>) -> Result<(u32, Rest<'_>), JsonFault>
     ensures low { IfOk result (λ r. (0xdc00 ≤ r.0) × (r.0 < 0xe000)) }
-    ensures given { Gives (λ r. (r.0, r.1.at, r.1.bytes.now)) result (half_digits_at start rest.entry.at rest.entry.bytes.now) }
+    ensures given { Gives (λ r. (r.0, r.1.at, r.1.bytes.now)) result
+        (half_digits_at start rest.entry.at rest.entry.bytes.now) }
 {
     let (first, rest) = half_digit(start, rest)?;
     if first != 0xd {
@@ -306,8 +317,10 @@ fn half_digits(start: u32, rest: Rest<'_>) -> Result<(u32, Rest<'_>), JsonFault>
 #[tactic(auto, unfolding(crate::specs::ReadingTexts::half_end_at))]
 fn half_end(start: u32, second: u32, rest: Rest<'_>) -> Result<(u32, Rest<'_>), JsonFault>
     requires { second < 16 }
-    ensures given { Gives (λ r. (r.0, r.1.at, r.1.bytes.now)) result (half_end_at start second rest.entry.at rest.entry.bytes.now) }
-    ensures low { IfOk result (λ r. (0xd000 + second * 0x100 ≤ r.0) × (r.0 < 0xd100 + second * 0x100)) }
+    ensures given { Gives (λ r. (r.0, r.1.at, r.1.bytes.now)) result
+        (half_end_at start second rest.entry.at rest.entry.bytes.now) }
+    ensures low { IfOk result (λ r. (0xd000 + second * 0x100 ≤ r.0)
+        × (r.0 < 0xd100 + second * 0x100)) }
 {
     let (third, rest) = half_digit(start, rest)?;
     let (fourth, rest) = half_digit(start, rest)?;
@@ -315,7 +328,8 @@ fn half_end(start: u32, second: u32, rest: Rest<'_>) -> Result<(u32, Rest<'_>), 
 }
 
 fn half_byte(start: u32, wanted: u8, rest: Rest<'_>) -> Result<Rest<'_>, JsonFault>
-    ensures { Gives (λ r. (r.at, r.bytes.now)) result (half_byte_at start wanted rest.entry.at rest.entry.bytes.now) }
+    ensures { Gives (λ r. (r.at, r.bytes.now)) result
+        (half_byte_at start wanted rest.entry.at rest.entry.bytes.now) }
 {
     match rest.bytes {
         [] => Err(JsonFault::Syntax(rest.at)),
@@ -333,7 +347,8 @@ fn half_byte(start: u32, wanted: u8, rest: Rest<'_>) -> Result<Rest<'_>, JsonFau
 
 fn half_digit(start: u32, rest: Rest<'_>) -> Result<(u32, Rest<'_>), JsonFault>
     ensures digit { IfOk result (λ r. r.0 < 16) }
-    ensures given { Gives (λ r. (r.0, r.1.at, r.1.bytes.now)) result (half_digit_at start rest.entry.at rest.entry.bytes.now) }
+    ensures given { Gives (λ r. (r.0, r.1.at, r.1.bytes.now)) result
+        (half_digit_at start rest.entry.at rest.entry.bytes.now) }
 {
     match rest.bytes {
         [] => Err(JsonFault::Syntax(rest.at)),

@@ -36,8 +36,10 @@ struct NoDigit<'a> {
 /// The numeral that the whole text spells. There is none where it spells no number, or one with too
 /// many digits to be kept.
 pub fn numeral(text: &[u8]) -> Option<Numeral>
-    ensures found { IfSome result (λ n. (d : Digits) × IsNumber text.now d × IsKept d n.mantissa n.places) }
-    ensures none { IfNone result ((d : Digits) (m : ℤ) (p : ℕ) → IsNumber text.now d → IsKept d m p → ⊥) }
+    ensures found { IfSome result (λ n. (d : Digits) × IsNumber text.now d
+        × IsKept d n.mantissa n.places) }
+    ensures none { IfNone result ((d : Digits) (m : ℤ) (p : ℕ) → IsNumber text.now d → IsKept d m p
+        → ⊥) }
 
     // The same as a function, for definitions that compute.
     ensures value { numeral_kept result ≡ numeral_in text.now }
@@ -62,7 +64,8 @@ fn whole_text(text: &[u8]) -> Option<Numeral>
 /// The number at the front. It is `None` where it is a lawful number that is too wide to be kept.
 #[tactic(auto, unfolding(crate::specs::ReadingNumerals::numeral_at))]
 pub fn numeral_value(rest: Rest<'_>) -> Result<(Option<Numeral>, Rest<'_>), JsonFault>
-    ensures { Gives (λ r. (numeral_kept r.0, r.1.at, r.1.bytes.now)) result (numeral_at rest.entry.at rest.entry.bytes.now) }
+    ensures { Gives (λ r. (numeral_kept r.0, r.1.at, r.1.bytes.now)) result
+        (numeral_at rest.entry.at rest.entry.bytes.now) }
 {
     let most = rest.bytes.len();
     match take_spelling(rest.bytes) {
@@ -133,7 +136,8 @@ fn take_fraction(bytes: &[u8]) -> Result<(&[u8], &[u8]), NoDigit<'_>>
 
 #[tactic(auto, unfolding(crate::specs::ReadingNumerals::exponent_at))]
 fn take_exponent(bytes: &[u8]) -> Result<(Exponent<'_>, &[u8]), NoDigit<'_>>
-    ensures given { Takes (λ r. ((r.0.lowers, r.0.digits.now), r.1.now)) result (exponent_at bytes.now) }
+    ensures given { Takes (λ r. ((r.0.lowers, r.0.digits.now), r.1.now)) result
+        (exponent_at bytes.now) }
     ensures digits { IfOk result (λ r. AreDigits r.0.digits.now) }
     ensures shorter { IfOk result (λ r. length r.1.now ≤ length bytes.now) }
     ensures stop { IfErr result (λ s. length s.rest.now ≤ length bytes.now) }
@@ -152,7 +156,8 @@ fn take_exponent(bytes: &[u8]) -> Result<(Exponent<'_>, &[u8]), NoDigit<'_>>
 
 #[tactic(auto, unfolding(crate::specs::ReadingNumerals::power_at))]
 fn take_power(bytes: &[u8]) -> Result<(Exponent<'_>, &[u8]), NoDigit<'_>>
-    ensures given { Takes (λ r. ((r.0.lowers, r.0.digits.now), r.1.now)) result (power_at bytes.now) }
+    ensures given { Takes (λ r. ((r.0.lowers, r.0.digits.now), r.1.now)) result
+        (power_at bytes.now) }
     ensures digits { IfOk result (λ r. AreDigits r.0.digits.now) }
     ensures shorter { IfOk result (λ r. length r.1.now ≤ length bytes.now) }
     ensures stop { IfErr result (λ s. length s.rest.now ≤ length bytes.now) }

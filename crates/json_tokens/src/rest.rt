@@ -27,7 +27,8 @@ pub fn past_blanks(rest: Rest<'_>) -> Rest<'_>
 }
 
 fn past_blank(rest: Rest<'_>) -> Option<Rest<'_>>
-    ensures { option_map (λ r. (r.at, r.bytes.now)) result ≡ blank_at rest.entry.at rest.entry.bytes.now }
+    ensures { option_map (λ r. (r.at, r.bytes.now)) result
+        ≡ blank_at rest.entry.at rest.entry.bytes.now }
 {
     match rest.bytes {
         [b' ' | b'\t' | b'\n' | b'\r', bytes @ ..] => Some(Rest {
@@ -40,7 +41,8 @@ fn past_blank(rest: Rest<'_>) -> Option<Rest<'_>>
 
 /// Past that byte, if it stands there.
 pub fn past_byte(byte: u8, rest: Rest<'_>) -> Option<Rest<'_>>
-    ensures { option_map (λ r. (r.at, r.bytes.now)) result ≡ byte_at byte rest.entry.at rest.entry.bytes.now }
+    ensures { option_map (λ r. (r.at, r.bytes.now)) result
+        ≡ byte_at byte rest.entry.at rest.entry.bytes.now }
 {
     match rest.bytes {
         [first, bytes @ ..] if *first == byte => Some(Rest {
@@ -53,7 +55,8 @@ pub fn past_byte(byte: u8, rest: Rest<'_>) -> Option<Rest<'_>>
 
 /// Past the bytes of the word, or the fault at the first other one.
 pub fn word<'a>(word: &[u8], rest: Rest<'a>) -> Result<Rest<'a>, JsonFault>
-    ensures { Gives (λ r. (r.at, r.bytes.now)) result (word_at word.now rest.entry.at rest.entry.bytes.now) }
+    ensures { Gives (λ r. (r.at, r.bytes.now)) result
+        (word_at word.now rest.entry.at rest.entry.bytes.now) }
 {
     let mut rest = rest;
     for letter in word {

@@ -23,9 +23,11 @@ pub const MOST_LEVELS: u32 = 64;
 /// are too many are not looked into.
 pub fn read(alloc: Global, bytes: &[u8]) -> Result<Json, JsonFault>
     // What is read is spelled so, with its places.
-    ensures found { IfOk result (λ tree. (length bytes.now ≤ MOST_BYTES) × Spells MOST_LEVELS bytes.now (tree_of tree)) }
+    ensures found { IfOk result (λ tree. (length bytes.now ≤ MOST_BYTES)
+        × Spells MOST_LEVELS bytes.now (tree_of tree)) }
     // What is spelled so is read, unless memory runs out.
-    ensures only { (tree : Tree) → length bytes.now ≤ MOST_BYTES → Spells MOST_LEVELS bytes.now tree → Gives tree_of result (Ok tree) }
+    ensures only { (tree : Tree) → length bytes.now ≤ MOST_BYTES → Spells MOST_LEVELS bytes.now tree
+        → Gives tree_of result (Ok tree) }
     // Where the fault stands: up to it the bytes are lawful, and with the byte there they are not. No bytes have two
     // faults: `bytes_have_one_fault`.
     ensures placed { IfErr result (λ fault. IsPlaced bytes.now fault) }

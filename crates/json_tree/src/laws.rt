@@ -9,8 +9,10 @@ use json_tokens::JsonFault;
 
 /// No bytes have two faults, and bytes that spell a text have none.
 pub fn bytes_have_one_fault()
-    ensures one { (bytes : List ℕ) (e f : JsonFault) → IsPlaced bytes e → IsPlaced bytes f → e ≢ JsonFault.Memory → f ≢ JsonFault.Memory → e ≡ f }
-    ensures none { (bytes : List ℕ) (e : JsonFault) (t : Tree) → IsPlaced bytes e → e ≢ JsonFault.Memory → length bytes ≤ MOST_BYTES → Spells MOST_LEVELS bytes t → ⊥ }
+    ensures one { (bytes : List ℕ) (e f : JsonFault) → IsPlaced bytes e → IsPlaced bytes f
+        → e ≢ JsonFault.Memory → f ≢ JsonFault.Memory → e ≡ f }
+    ensures none { (bytes : List ℕ) (e : JsonFault) (t : Tree) → IsPlaced bytes e
+        → e ≢ JsonFault.Memory → length bytes ≤ MOST_BYTES → Spells MOST_LEVELS bytes t → ⊥ }
 {}
 
 /// The limits: a text of at most 32 MiB, with at most 64 lists and objects in one another.

@@ -7,7 +7,8 @@ use crate::tree::{Json, Member};
 
 /// The value of the last member of that name.
 pub fn last_of<'a>(members: &'a [Member], name: &str) -> Option<&'a Json>
-    ensures { option_map (λ j. tree_of j.now) result ≡ last_named name.now (map member_of members.now) }
+    ensures { option_map (λ j. tree_of j.now) result
+        ≡ last_named name.now (map member_of members.now) }
 {
     let mut found = None;
     for member in members {

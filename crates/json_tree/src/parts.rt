@@ -9,8 +9,10 @@ use crate::tree::{Json, Value};
 impl Json {
     /// The last member of that name, or `None` where there is none or the value is no object.
     pub fn member(&self, name: &str) -> Option<&Json>
-        ensures member { option_map (λ j. tree_of j.now) result ≡ member_in name.now (kind_in (tree_of self.now)) }
-        ensures smaller { IfSome result (λ j. tree_size (tree_of j.now) < tree_size (tree_of self.now)) }
+        ensures member { option_map (λ j. tree_of j.now) result
+            ≡ member_in name.now (kind_in (tree_of self.now)) }
+        ensures smaller { IfSome result (λ j. tree_size (tree_of j.now)
+            < tree_size (tree_of self.now)) }
     {
         match &self.value {
             Value::Object(members) => members.find(name),
@@ -20,8 +22,10 @@ impl Json {
 
     /// The values of a list, in order, or `None` where the value is none.
     pub fn items(&self) -> Option<&[Json]>
-        ensures items { option_map (λ js. map tree_of js.now) result ≡ items_in (kind_in (tree_of self.now)) }
-        ensures smaller { IfSome result (λ js. items_size (map tree_of js.now) < tree_size (tree_of self.now)) }
+        ensures items { option_map (λ js. map tree_of js.now) result
+            ≡ items_in (kind_in (tree_of self.now)) }
+        ensures smaller { IfSome result (λ js. items_size (map tree_of js.now)
+            < tree_size (tree_of self.now)) }
     {
         match &self.value {
             Value::List(items) => Some(items.as_slice()),

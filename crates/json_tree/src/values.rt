@@ -24,7 +24,8 @@ enum Next {
 #[tactic(auto, unfolding(crate::specs::ReadingValues::value_at))]
 #[cycle(value)]
 fn value(alloc: Global, levels: u32, rest: Rest<'_>) -> Result<(Json, Rest<'_>), JsonFault>
-    ensures { Gives (λ r. (tree_of r.0, r.1.at, r.1.bytes.now)) result (value_at levels rest.entry.at rest.entry.bytes.now) }
+    ensures { Gives (λ r. (tree_of r.0, r.1.at, r.1.bytes.now)) result
+        (value_at levels rest.entry.at rest.entry.bytes.now) }
 {
     let at = rest.at;
     let (value, rest) = kind(alloc, levels, rest)?;
@@ -33,7 +34,8 @@ fn value(alloc: Global, levels: u32, rest: Rest<'_>) -> Result<(Json, Rest<'_>),
 
 #[cycle(value)]
 fn kind(alloc: Global, levels: u32, rest: Rest<'_>) -> Result<(Value, Rest<'_>), JsonFault>
-    ensures { Gives (λ r. (kind_of r.0, r.1.at, r.1.bytes.now)) result (kind_read (inner_at levels) rest.entry.at rest.entry.bytes.now) }
+    ensures { Gives (λ r. (kind_of r.0, r.1.at, r.1.bytes.now)) result
+        (kind_read (inner_at levels) rest.entry.at rest.entry.bytes.now) }
 {
     match past_byte(b'[', rest) {
         Some(after) => return list(alloc, rest.at, levels, after),
@@ -53,7 +55,8 @@ fn list(
     levels: u32,
     rest: Rest<'_>,
 ) -> Result<(Value, Rest<'_>), JsonFault>
-    ensures { Gives (λ r. (kind_of r.0, r.1.at, r.1.bytes.now)) result (list_in (inner_at levels) start rest.entry.at rest.entry.bytes.now) }
+    ensures { Gives (λ r. (kind_of r.0, r.1.at, r.1.bytes.now)) result
+        (list_in (inner_at levels) start rest.entry.at rest.entry.bytes.now) }
 {
     if levels == 0 {
         return Err(JsonFault::Depth(start));
@@ -64,7 +67,8 @@ fn list(
 #[tactic(auto, unfolding(crate::specs::ReadingValues::items_at))]
 #[cycle(value)]
 fn list_inside(alloc: Global, levels: u32, rest: Rest<'_>) -> Result<(Value, Rest<'_>), JsonFault>
-    ensures { Gives (λ r. (kind_of r.0, r.1.at, r.1.bytes.now)) result (items_at (value_at levels) rest.entry.at rest.entry.bytes.now) }
+    ensures { Gives (λ r. (kind_of r.0, r.1.at, r.1.bytes.now)) result
+        (items_at (value_at levels) rest.entry.at rest.entry.bytes.now) }
 {
     let (items, rest) = items(alloc, levels, rest)?;
     Ok((Value::List(items), rest))
@@ -78,7 +82,8 @@ fn object(
     levels: u32,
     rest: Rest<'_>,
 ) -> Result<(Value, Rest<'_>), JsonFault>
-    ensures { Gives (λ r. (kind_of r.0, r.1.at, r.1.bytes.now)) result (object_in (inner_at levels) start rest.entry.at rest.entry.bytes.now) }
+    ensures { Gives (λ r. (kind_of r.0, r.1.at, r.1.bytes.now)) result
+        (object_in (inner_at levels) start rest.entry.at rest.entry.bytes.now) }
 {
     if levels == 0 {
         return Err(JsonFault::Depth(start));
@@ -89,7 +94,8 @@ fn object(
 #[tactic(auto, unfolding(crate::specs::ReadingValues::members_at))]
 #[cycle(value)]
 fn object_inside(alloc: Global, levels: u32, rest: Rest<'_>) -> Result<(Value, Rest<'_>), JsonFault>
-    ensures { Gives (λ r. (kind_of r.0, r.1.at, r.1.bytes.now)) result (members_at (value_at levels) rest.entry.at rest.entry.bytes.now) }
+    ensures { Gives (λ r. (kind_of r.0, r.1.at, r.1.bytes.now)) result
+        (members_at (value_at levels) rest.entry.at rest.entry.bytes.now) }
 {
     let (members, rest) = members(alloc, levels, rest)?;
     Ok((Value::Object(members), rest))
@@ -98,7 +104,8 @@ fn object_inside(alloc: Global, levels: u32, rest: Rest<'_>) -> Result<(Value, R
 /// A value that holds no others.
 #[tactic(auto, unfolding(crate::specs::ReadingValues::scalar_at))]
 fn scalar(alloc: Global, rest: Rest<'_>) -> Result<(Value, Rest<'_>), JsonFault>
-    ensures { Gives (λ r. (kind_of r.0, r.1.at, r.1.bytes.now)) result (scalar_at rest.entry.at rest.entry.bytes.now) }
+    ensures { Gives (λ r. (kind_of r.0, r.1.at, r.1.bytes.now)) result
+        (scalar_at rest.entry.at rest.entry.bytes.now) }
 {
     match rest.bytes {
         [b'"', bytes @ ..] => {
@@ -117,7 +124,8 @@ fn scalar(alloc: Global, rest: Rest<'_>) -> Result<(Value, Rest<'_>), JsonFault>
 
 #[tactic(auto, unfolding(crate::specs::ReadingValues::number_at))]
 fn number(rest: Rest<'_>) -> Result<(Value, Rest<'_>), JsonFault>
-    ensures { Gives (λ r. (kind_of r.0, r.1.at, r.1.bytes.now)) result (number_at rest.entry.at rest.entry.bytes.now) }
+    ensures { Gives (λ r. (kind_of r.0, r.1.at, r.1.bytes.now)) result
+        (number_at rest.entry.at rest.entry.bytes.now) }
 {
     let (numeral, rest) = numeral_value(rest)?;
     Ok((number_value(numeral), rest))
@@ -134,7 +142,8 @@ fn number_value(numeral: Option<Numeral>) -> Value
 
 #[tactic(auto, unfolding(crate::specs::ReadingValues::quoted_at))]
 fn quoted(alloc: Global, rest: Rest<'_>) -> Result<(Value, Rest<'_>), JsonFault>
-    ensures { Gives (λ r. (kind_of r.0, r.1.at, r.1.bytes.now)) result (quoted_at rest.entry.at rest.entry.bytes.now) }
+    ensures { Gives (λ r. (kind_of r.0, r.1.at, r.1.bytes.now)) result
+        (quoted_at rest.entry.at rest.entry.bytes.now) }
 {
     let (text, rest) = text_behind_quote(alloc, rest)?;
     Ok((Value::Text(text), rest))
@@ -144,7 +153,8 @@ fn quoted(alloc: Global, rest: Rest<'_>) -> Result<(Value, Rest<'_>), JsonFault>
 #[cycle(value)]
 #[tactic(auto, unfolding(crate::specs::ReadingValues::list_at))]
 fn items(alloc: Global, levels: u32, rest: Rest<'_>) -> Result<(Items, Rest<'_>), JsonFault>
-    ensures { Gives (λ r. (r.0, r.1.at, r.1.bytes.now)) result (list_at (item_at (value_at levels)) 93 rest.entry.at rest.entry.bytes.now) }
+    ensures { Gives (λ r. (r.0, r.1.at, r.1.bytes.now)) result
+        (list_at (item_at (value_at levels)) 93 rest.entry.at rest.entry.bytes.now) }
 {
     let rest = past_blanks(rest);
     match past_byte(b']', rest) {
@@ -155,7 +165,9 @@ fn items(alloc: Global, levels: u32, rest: Rest<'_>) -> Result<(Items, Rest<'_>)
 
 #[cycle(value)]
 fn some_items(alloc: Global, levels: u32, rest: Rest<'_>) -> Result<(Items, Rest<'_>), JsonFault>
-    ensures { Gives (λ r. (r.0, r.1.at, r.1.bytes.now)) result (elements_at (item_at (value_at levels)) 93 (length rest.entry.bytes.now) rest.entry.at rest.entry.bytes.now) }
+    ensures { Gives (λ r. (r.0, r.1.at, r.1.bytes.now)) result
+        (elements_at (item_at (value_at levels)) 93
+        (length rest.entry.bytes.now) rest.entry.at rest.entry.bytes.now) }
 {
     let mut items = Items::new(alloc);
     let mut rest = rest;
@@ -177,7 +189,8 @@ fn some_items(alloc: Global, levels: u32, rest: Rest<'_>) -> Result<(Items, Rest
 #[cycle(value)]
 #[tactic(auto, unfolding(crate::specs::ReadingValues::item_at))]
 pub fn item(alloc: Global, levels: u32, rest: Rest<'_>) -> Result<(Json, Rest<'_>), JsonFault>
-    ensures { Gives (λ r. (tree_of r.0, r.1.at, r.1.bytes.now)) result (item_at (value_at levels) rest.entry.at rest.entry.bytes.now) }
+    ensures { Gives (λ r. (tree_of r.0, r.1.at, r.1.bytes.now)) result
+        (item_at (value_at levels) rest.entry.at rest.entry.bytes.now) }
 {
     let (value, rest) = value(alloc, levels, past_blanks(rest))?;
     Ok((value, past_blanks(rest)))
@@ -185,7 +198,8 @@ pub fn item(alloc: Global, levels: u32, rest: Rest<'_>) -> Result<(Json, Rest<'_
 
 /// A comma or the closing bracket.
 fn separator(close: u8, rest: Rest<'_>) -> Result<(Next, Rest<'_>), JsonFault>
-    ensures { Gives (λ r. (is_another r.0, r.1.at, r.1.bytes.now)) result (separator_at close rest.entry.at rest.entry.bytes.now) }
+    ensures { Gives (λ r. (is_another r.0, r.1.at, r.1.bytes.now)) result
+        (separator_at close rest.entry.at rest.entry.bytes.now) }
 {
     match rest.bytes {
         [] => Err(JsonFault::Syntax(rest.at)),
@@ -209,7 +223,8 @@ fn separator(close: u8, rest: Rest<'_>) -> Result<(Next, Rest<'_>), JsonFault>
 #[cycle(value)]
 #[tactic(auto, unfolding(crate::specs::ReadingValues::list_at))]
 fn members(alloc: Global, levels: u32, rest: Rest<'_>) -> Result<(Members, Rest<'_>), JsonFault>
-    ensures { Gives (λ r. (r.0, r.1.at, r.1.bytes.now)) result (list_at (member_at (value_at levels)) 125 rest.entry.at rest.entry.bytes.now) }
+    ensures { Gives (λ r. (r.0, r.1.at, r.1.bytes.now)) result
+        (list_at (member_at (value_at levels)) 125 rest.entry.at rest.entry.bytes.now) }
 {
     let rest = past_blanks(rest);
     match past_byte(b'}', rest) {
@@ -224,7 +239,9 @@ fn some_members(
     levels: u32,
     rest: Rest<'_>,
 ) -> Result<(Members, Rest<'_>), JsonFault>
-    ensures { Gives (λ r. (r.0, r.1.at, r.1.bytes.now)) result (elements_at (member_at (value_at levels)) 125 (length rest.entry.bytes.now) rest.entry.at rest.entry.bytes.now) }
+    ensures { Gives (λ r. (r.0, r.1.at, r.1.bytes.now)) result
+        (elements_at (member_at (value_at levels)) 125
+        (length rest.entry.bytes.now) rest.entry.at rest.entry.bytes.now) }
 {
     let mut members = Members::new(alloc);
     let mut rest = rest;
@@ -246,7 +263,8 @@ fn some_members(
 #[tactic(auto, unfolding(crate::specs::ReadingValues::member_at))]
 #[cycle(value)]
 fn member(alloc: Global, levels: u32, rest: Rest<'_>) -> Result<(Member, Rest<'_>), JsonFault>
-    ensures { Gives (λ r. (member_of r.0, r.1.at, r.1.bytes.now)) result (member_at (value_at levels) rest.entry.at rest.entry.bytes.now) }
+    ensures { Gives (λ r. (member_of r.0, r.1.at, r.1.bytes.now)) result
+        (member_at (value_at levels) rest.entry.at rest.entry.bytes.now) }
 {
     let (name, rest) = name(alloc, rest)?;
     let (value, rest) = item(alloc, levels, rest)?;
@@ -256,7 +274,8 @@ fn member(alloc: Global, levels: u32, rest: Rest<'_>) -> Result<(Member, Rest<'_
 /// A name with blanks around it, and the colon.
 #[tactic(auto, unfolding(crate::specs::ReadingValues::name_at))]
 fn name(alloc: Global, rest: Rest<'_>) -> Result<(Text, Rest<'_>), JsonFault>
-    ensures { Gives (λ r. (r.0, r.1.at, r.1.bytes.now)) result (name_at rest.entry.at rest.entry.bytes.now) }
+    ensures { Gives (λ r. (r.0, r.1.at, r.1.bytes.now)) result
+        (name_at rest.entry.at rest.entry.bytes.now) }
 {
     let rest = word(b"\"", past_blanks(rest))?;
     let (name, rest) = text_behind_quote(alloc, rest)?;

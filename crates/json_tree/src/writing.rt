@@ -50,7 +50,8 @@ fn put(out: &mut Vec<u8>, bytes: &[u8]) -> Result<(), Memory>
 
 #[cycle(put)]
 fn put_items(out: &mut Vec<u8>, items: &Items) -> Result<(), Memory>
-    ensures { OnOk result (out.new.items ≡ out.old.items ++ (91 ∷ (joined (map tree_text items.now) ++ 93 ∷ []))) }
+    ensures { OnOk result (out.new.items ≡ out.old.items
+        ++ (91 ∷ (joined (map tree_text items.now) ++ 93 ∷ []))) }
 {
     out.push(b'[')?;
     put_joined_items(out, items.as_slice())?;
@@ -60,7 +61,8 @@ fn put_items(out: &mut Vec<u8>, items: &Items) -> Result<(), Memory>
 
 #[cycle(put)]
 fn put_joined_items(out: &mut Vec<u8>, items: &[Json]) -> Result<(), Memory>
-    ensures { OnOk result (out.new.items ≡ out.old.items ++ joined (map tree_text (map tree_of items.now))) }
+    ensures { OnOk result (out.new.items ≡ out.old.items
+        ++ joined (map tree_text (map tree_of items.now))) }
 {
     match items {
         [] => Ok(()),
@@ -73,7 +75,8 @@ fn put_joined_items(out: &mut Vec<u8>, items: &[Json]) -> Result<(), Memory>
 
 #[cycle(put)]
 fn put_other_items(out: &mut Vec<u8>, others: &[Json]) -> Result<(), Memory>
-    ensures { OnOk result (out.new.items ≡ out.old.items ++ commas (map tree_text (map tree_of others.now))) }
+    ensures { OnOk result (out.new.items ≡ out.old.items
+        ++ commas (map tree_text (map tree_of others.now))) }
 {
     for item in others {
         out.push(b',')?;
@@ -84,7 +87,8 @@ fn put_other_items(out: &mut Vec<u8>, others: &[Json]) -> Result<(), Memory>
 
 #[cycle(put)]
 fn put_members(out: &mut Vec<u8>, members: &Members) -> Result<(), Memory>
-    ensures { OnOk result (out.new.items ≡ out.old.items ++ (123 ∷ (joined (map member_text members.now) ++ 125 ∷ []))) }
+    ensures { OnOk result (out.new.items ≡ out.old.items
+        ++ (123 ∷ (joined (map member_text members.now) ++ 125 ∷ []))) }
 {
     out.push(b'{')?;
     put_joined_members(out, members.as_slice())?;
@@ -94,7 +98,8 @@ fn put_members(out: &mut Vec<u8>, members: &Members) -> Result<(), Memory>
 
 #[cycle(put)]
 fn put_joined_members(out: &mut Vec<u8>, members: &[Member]) -> Result<(), Memory>
-    ensures { OnOk result (out.new.items ≡ out.old.items ++ joined (map member_text (map member_of members.now))) }
+    ensures { OnOk result (out.new.items ≡ out.old.items
+        ++ joined (map member_text (map member_of members.now))) }
 {
     match members {
         [] => Ok(()),
@@ -107,7 +112,8 @@ fn put_joined_members(out: &mut Vec<u8>, members: &[Member]) -> Result<(), Memor
 
 #[cycle(put)]
 fn put_other_members(out: &mut Vec<u8>, others: &[Member]) -> Result<(), Memory>
-    ensures { OnOk result (out.new.items ≡ out.old.items ++ commas (map member_text (map member_of others.now))) }
+    ensures { OnOk result (out.new.items ≡ out.old.items
+        ++ commas (map member_text (map member_of others.now))) }
 {
     for member in others {
         out.push(b',')?;
@@ -179,7 +185,8 @@ fn hex_digit(value: u8) -> u8
 
 #[tactic(auto, unfolding(crate::specs::Writing::numeral_text))]
 fn put_numeral(out: &mut Vec<u8>, numeral: &Numeral) -> Result<(), Memory>
-    ensures { OnOk result (out.new.items ≡ out.old.items ++ numeral_text numeral.now.mantissa numeral.now.places) }
+    ensures { OnOk result (out.new.items ≡ out.old.items
+        ++ numeral_text numeral.now.mantissa numeral.now.places) }
 {
     let size = numeral.mantissa.unsigned_abs();
     let power = power_of_ten(numeral.places);

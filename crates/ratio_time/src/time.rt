@@ -38,7 +38,8 @@ impl RationalTime {
     /// The frame of `rate` that names this very moment, counted from the moment 0.
     pub fn frames_at(&self, rate: &Rate) -> Result<i64, TimeFault>
         ensures ok { (f : ℤ) → (result ≡ Ok f) ↔ (OnFrame self.now rate.now f × IsNear f) }
-        ensures not_on_frame { (result ≡ Err TimeFault.NotOnFrame) ↔ IsBetweenFrames self.now rate.now }
+        ensures not_on_frame { (result ≡ Err TimeFault.NotOnFrame)
+            ↔ IsBetweenFrames self.now rate.now }
         ensures too_far { (result ≡ Err TimeFault.TooFar) ↔ IsOnFarFrame self.now rate.now }
 
         // the same as a function
@@ -102,7 +103,8 @@ impl TimeRange {
     /// The range's frames of `rate`, from the first on that starts in it to before the second number:
     /// none, where that is not the greater one.
     pub fn narrowed_at(&self, rate: &Rate) -> Result<(i64, i64), TooFar>
-        ensures ok { (from to : ℤ) → (result ≡ Ok (from, to)) ↔ IsNarrowedNear self.now rate.now from to }
+        ensures ok { (from to : ℤ) → (result ≡ Ok (from, to))
+            ↔ IsNarrowedNear self.now rate.now from to }
         ensures too_far { IsErr result ↔ IsNarrowedFar self.now rate.now }
 
         // the same as a function

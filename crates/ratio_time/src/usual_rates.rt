@@ -21,13 +21,15 @@ const USUAL_RATES: [(u64, u64); 7] = [
 /// at most 1/200 from it, as 23.98 and 23.976 are from 24000/1001; else the number itself, where it is
 /// positive, with a mantissa below 10^12 and at most six places.
 pub fn rate_of(number: &Numeral) -> Option<Rate>
-    ensures usual { All (λ usual. StandsFor number.now usual → GivesRate result usual.0 usual.1) usual_rates }
+    ensures usual { All (λ usual. StandsFor number.now usual
+        → GivesRate result usual.0 usual.1) usual_rates }
     ensures itself { IsUnusual number.now → IsRateItself number.now
         → GivesRate result (unsigned_abs number.now.mantissa) (10 ^ number.now.places) }
     ensures none { IsNone result ↔ (IsUnusual number.now × (IsRateItself number.now → ⊥)) }
 
     // the same as a function
-    ensures value { MatchOption result (rate_value number.now ≡ None) (λ rate. rate_value number.now ≡ Some (rate.num, rate.den)) }
+    ensures value { MatchOption result (rate_value number.now ≡ None)
+        (λ rate. rate_value number.now ≡ Some (rate.num, rate.den)) }
 {
     match usual_rate(number) {
         Some(rate) => Some(rate),
@@ -37,7 +39,8 @@ pub fn rate_of(number: &Numeral) -> Option<Rate>
 
 /// The usual rate that the number stands for.
 fn usual_rate(number: &Numeral) -> Option<Rate>
-    ensures found { IfSome result (λ rate. Contains usual_rates (rate.num, rate.den) × StandsFor number.now (rate.num, rate.den)) }
+    ensures found { IfSome result (λ rate. Contains usual_rates (rate.num, rate.den)
+        × StandsFor number.now (rate.num, rate.den)) }
     ensures none { IfNone result (IsUnusual number.now) }
 {
     for (num, den) in USUAL_RATES {
@@ -69,9 +72,11 @@ fn apart(number: &Numeral, rate: &Rate) -> i128
 
 /// The number as a rate of its own.
 fn rate_itself(number: &Numeral) -> Option<Rate>
-    ensures some { IfSome result (λ rate. (rate.num ≡ unsigned_abs number.now.mantissa) × (rate.den ≡ 10 ^ number.now.places)) }
+    ensures some { IfSome result (λ rate. (rate.num ≡ unsigned_abs number.now.mantissa)
+        × (rate.den ≡ 10 ^ number.now.places)) }
     ensures none { IsNone result ↔ (IsRateItself number.now → ⊥) }
-    ensures value { MatchOption result (itself number.now ≡ None) (λ rate. itself number.now ≡ Some (rate.num, rate.den)) }
+    ensures value { MatchOption result (itself number.now ≡ None)
+        (λ rate. itself number.now ≡ Some (rate.num, rate.den)) }
 {
     if number.mantissa <= 0 || number.mantissa >= 1_000_000_000_000 || number.places > 6 {
         return None;

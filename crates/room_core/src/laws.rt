@@ -22,21 +22,27 @@ pub fn serial_law<O: PartObject>()
 /// The parts that a call names, picked out of all, are such as a call asks for; and what a call leaves, put back in their
 /// places, makes all parts good again.
 pub fn named_parts_are_good<O: PartObject>()
-    ensures picked { (o : O) (call : O.Call) (parts : List O.Part) → (O.meaning o).refuses call ≡ None
+    ensures picked { (o : O) (call : O.Call) (parts : List O.Part)
+        → (O.meaning o).refuses call ≡ None
         → AreGood (O.good o) (numbers 0 (O.count o)) parts
         → AreGood (O.good o) ((O.meaning o).names call) (picked parts ((O.meaning o).names call)) }
     ensures roomy { (o : O) (call : O.Call) (parts : List O.Part) → All (O.roomy o) parts
         → All (O.roomy o) (picked parts ((O.meaning o).names call)) }
-    ensures put_back { (o : O) (call : O.Call) (parts now : List O.Part) → AreGood (O.good o) (numbers 0 (O.count o)) parts
+    ensures put_back { (o : O) (call : O.Call) (parts now : List O.Part)
+        → AreGood (O.good o) (numbers 0 (O.count o)) parts
         → AreGood (O.good o) ((O.meaning o).names call) now
-        → AreGood (O.good o) (numbers 0 (O.count o)) (put_back parts ((O.meaning o).names call) now) }
+        → AreGood (O.good o) (numbers 0 (O.count o))
+        (put_back parts ((O.meaning o).names call) now) }
 {}
 
 /// What is committed on other parts changes nothing of a part: where a history and a longer one have one projection on
 /// it, both come to one part there.
 pub fn other_parts_stay<O: PartObject>()
-    ensures { (o : O) (part : ℕ) (parts now then_now : List O.Part) (entries more : List (Entry O.Call))
-        → of_part (O.meaning o).names part (entries ++ more) ≡ of_part (O.meaning o).names part entries
-        → replay (whole (O.meaning o)) parts entries ≡ Some now → replay (whole (O.meaning o)) parts (entries ++ more) ≡ Some then_now
+    ensures { (o : O) (part : ℕ) (parts now then_now : List O.Part)
+        (entries more : List (Entry O.Call))
+        → of_part (O.meaning o).names part (entries ++ more)
+        ≡ of_part (O.meaning o).names part entries
+        → replay (whole (O.meaning o)) parts entries ≡ Some now
+        → replay (whole (O.meaning o)) parts (entries ++ more) ≡ Some then_now
         → slice_get then_now part ≡ slice_get now part }
 {}

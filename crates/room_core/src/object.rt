@@ -82,9 +82,11 @@ pub trait PartObject {
         steps: &mut Steps<L>,
     ) -> Result<Self::Done, Fault<Self::Refusal>>
         requires named { (meaning self.now).refuses call.now ≡ None }
-        requires good { AreGood (good self.now) ((meaning self.now).names call.now) parts.old.items }
+        requires good { AreGood (good self.now)
+            ((meaning self.now).names call.now) parts.old.items }
         requires roomy { All (roomy self.now) parts.old.items }
-        ensures meant { Answers ((meaning self.now).applied parts.old.items call.now) parts.old.items parts.new.items result }
+        ensures meant { Answers ((meaning self.now).applied parts.old.items call.now)
+            parts.old.items parts.new.items result }
         ensures good { AreGood (good self.now) ((meaning self.now).names call.now) parts.new.items }
 
         ensures least { steps.old + 1 ≤ steps.new }
@@ -107,13 +109,16 @@ pub trait PartObject {
         ensures { IfOk result (λ copy. copy ≡ call.now) };
 
     /// A call that is not refused for its names names parts that are there, in ascending order.
-    ghost named: { (o : Self) (c : Self.Call) → (meaning o).refuses c ≡ None → IsNaming (count o) ((meaning o).names c) };
+    ghost named: { (o : Self) (c : Self.Call) → (meaning o).refuses c ≡ None
+        → IsNaming (count o) ((meaning o).names c) };
 
     /// An opening has from 1 to 32 parts, as many as the object, each good at its number.
     ghost opening: { (o : Self) (ps : List Self.Part) → opens o ps
         → (0 < count o) × (count o ≤ 32) × AreGood (good o) (numbers 0 (count o)) ps };
 
     /// The parts that a legal history comes to have room for one call more.
-    ghost stays_roomy: { (o : Self) (ps qs : List Self.Part) (entries : List (Entry Self.Call)) → opens o ps
-        → IsLegal (whole (meaning o)) ps entries → replay (whole (meaning o)) ps entries ≡ Some qs → All (roomy o) qs };
+    ghost stays_roomy: { (o : Self) (ps qs : List Self.Part) (entries : List (Entry Self.Call))
+        → opens o ps
+        → IsLegal (whole (meaning o)) ps entries → replay (whole (meaning o)) ps entries ≡ Some qs
+        → All (roomy o) qs };
 }

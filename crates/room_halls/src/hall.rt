@@ -61,7 +61,8 @@ pub trait Hall {
     fn seat_station(&mut self, alloc: Global, station: u32) -> Result<Self::Line, HallFault>
         // The line stands as the hall told of it.
         ensures line { IfOk result (λ l. (told self.old station).line
-            ≡ line_told (Self.Line.left l) (Self.Line.taken l) (Self.Line.read_faults l) (Self.Line.write_faults l)) }
+            ≡ line_told (Self.Line.left l) (Self.Line.taken l) (Self.Line.read_faults l)
+            (Self.Line.write_faults l)) }
         ensures seated { OnOk result ((told self.new station).seated ≡ true) }
         ensures others { OnOk result (OthersStay station (told self.old) (told self.new)) }
         ensures counts { CountsSeat result (faults self.old) (faults self.new) };
@@ -70,7 +71,8 @@ pub trait Hall {
     fn stand_up(&mut self, station: u32, line: Self::Line)
         requires { (told self.old station).seated ≡ true }
         ensures line { (told self.new station).line
-            ≡ line_told (Self.Line.left line) (Self.Line.taken line) (Self.Line.read_faults line) (Self.Line.write_faults line) }
+            ≡ line_told (Self.Line.left line) (Self.Line.taken line) (Self.Line.read_faults line)
+            (Self.Line.write_faults line) }
         ensures seated { (told self.new station).seated ≡ true }
         ensures others { OthersStay station (told self.old) (told self.new) }
         ensures quiet { faults self.new ≡ faults self.old };

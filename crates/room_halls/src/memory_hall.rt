@@ -29,7 +29,12 @@ impl Model for MemHall {
 
     ghost Value = { HallState };
 
-    ghost view = { λ h. record { lines = h.lines.items; away = h.away; calls = h.calls; faults = h.faults } };
+    ghost view = { λ h. record {
+      lines = h.lines.items;
+      away = h.away;
+      calls = h.calls;
+      faults = h.faults;
+    } };
 
     ghost invariant = { λ h. length h.away ≤ vec_len h.lines };
 }
@@ -86,12 +91,14 @@ impl Hall for MemHall {
         ensures listed { FailsNext self.old.calls → self.new.calls ≡ failed self.old.calls }
         ensures passed { FailsNext self.old.calls ⊎ (self.new.calls ≡ passed self.old.calls) }
         ensures away { OnOk result (note_of self.new.away station ≡ Some true) }
-        ensures stays { OnErr result (NoneMoves (mem_hall_tells self.old) (mem_hall_tells self.new)) }
+        ensures stays { OnErr result (NoneMoves (mem_hall_tells self.old)
+            (mem_hall_tells self.new)) }
 
         // What every hall promises.
         ensures line { IfOk result (λ l. (mem_hall_tells self.old station).line ≡ mem_line_told l) }
         ensures seated { OnOk result ((mem_hall_tells self.new station).seated ≡ true) }
-        ensures others { OnOk result (OthersStay station (mem_hall_tells self.old) (mem_hall_tells self.new)) }
+        ensures others { OnOk result (OthersStay station (mem_hall_tells self.old)
+            (mem_hall_tells self.new)) }
         ensures counts { CountsSeat result self.old.faults self.new.faults }
     {
         match self.calls.next() {

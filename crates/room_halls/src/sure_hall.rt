@@ -61,12 +61,15 @@ impl Hall for SureHall {
     /// Seats a station, whether it has a line or not. Where memory is refused nothing that is told changes.
     fn seat_station(&mut self, alloc: Global, station: u32) -> Result<Pair2, HallFault>
         ensures sure { IfErr result (λ e. e ≡ faults.Memory) }
-        ensures stays { OnErr result (NoneMoves (sure_hall_tells self.old) (sure_hall_tells self.new)) }
+        ensures stays { OnErr result (NoneMoves (sure_hall_tells self.old)
+            (sure_hall_tells self.new)) }
 
         // What every hall promises.
-        ensures line { IfOk result (λ l. (sure_hall_tells self.old station).line ≡ sure_line_told l) }
+        ensures line { IfOk result (λ l. (sure_hall_tells self.old station).line
+            ≡ sure_line_told l) }
         ensures seated { OnOk result ((sure_hall_tells self.new station).seated ≡ true) }
-        ensures others { OnOk result (OthersStay station (sure_hall_tells self.old) (sure_hall_tells self.new)) }
+        ensures others { OnOk result (OthersStay station (sure_hall_tells self.old)
+            (sure_hall_tells self.new)) }
         ensures counts { CountsSeat result 0 0 }
     {
         make_lines(alloc, &mut self.lines, station)?;

@@ -47,7 +47,8 @@ impl Source for Pair2 {
         ensures within { IfOk result (λ n. n ≤ length into.old) }
         ensures front { IfOk result (λ n.
             Gives (Some (joined self.old.input)) (Some (joined self.new.input)) (take n into.new)) }
-        ensures end { IfOk result (λ n. 0 < length into.old → (n ≡ 0) ↔ (joined self.old.input ≡ [])) }
+        ensures end { IfOk result (λ n. 0 < length into.old → (n ≡ 0)
+            ↔ (joined self.old.input ≡ [])) }
     {
         self.input.read(into)
     }
@@ -68,7 +69,8 @@ impl Sink for Pair2 {
     fn write(&mut self, piece: &[u8]) -> Result<usize, Failed>
         ensures sure { IsOk result }
         ensures whole { IfOk result (λ n. n ≡ length piece.now) }
-        ensures kept { self.new.output.bytes ≡ kept self.old.output.room self.old.output.bytes piece.now }
+        ensures kept { self.new.output.bytes ≡ kept self.old.output.room self.old.output.bytes
+            piece.now }
         ensures input { self.new.input ≡ self.old.input }
 
         // What every sink promises.

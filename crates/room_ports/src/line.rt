@@ -48,7 +48,10 @@ impl<S: Source, K: Sink> Sink for Pair<'_, S, K> {
 }
 
 impl<S: Source, K: Sink> Line for Pair<'_, S, K> {
-    ghost lent = { λ line. record { input = line.input.ghost_name; output = line.output.ghost_name } };
+    ghost lent = { λ line. record {
+      input = line.input.ghost_name;
+      output = line.output.ghost_name;
+    } };
 
     ghost source_side = { λ line. refl };
 
@@ -76,7 +79,8 @@ impl Source for MemLine {
     /// Reads as its source does.
     fn read(&mut self, into: &mut [u8]) -> Result<usize, Failed>
         ensures fails { IsErr result ↔ FailsNext self.old.input.calls }
-        ensures reads { IfOk result (λ n. Reads self.old.input.pieces self.new.input.pieces into.old into.new n) }
+        ensures reads { IfOk result
+            (λ n. Reads self.old.input.pieces self.new.input.pieces into.old into.new n) }
         ensures passed { OnOk result (self.new.input.calls ≡ passed self.old.input.calls) }
         ensures failed { OnErr result (self.new.input.calls ≡ failed self.old.input.calls) }
         ensures stays { OnErr result (self.new.input.pieces ≡ self.old.input.pieces) }
@@ -85,10 +89,12 @@ impl Source for MemLine {
         // What every source promises.
         ensures within { IfOk result (λ n. n ≤ length into.old) }
         ensures front { IfOk result (λ n.
-            Gives (Some (joined self.old.input.pieces)) (Some (joined self.new.input.pieces)) (take n into.new)) }
+            Gives (Some (joined self.old.input.pieces)) (Some (joined self.new.input.pieces))
+            (take n into.new)) }
         ensures end { IfOk result (λ n.
             0 < length into.old → (n ≡ 0) ↔ (joined self.old.input.pieces ≡ [])) }
-        ensures cause { OnErr result (HasRisen self.old.input.calls.faults self.new.input.calls.faults) }
+        ensures cause { OnErr result (HasRisen self.old.input.calls.faults
+            self.new.input.calls.faults) }
         ensures count { self.old.input.calls.faults ≤ self.new.input.calls.faults }
     {
         self.input.read(into)
@@ -117,7 +123,8 @@ impl Sink for MemLine {
         ensures input { self.new.input ≡ self.old.input }
 
         // What every sink promises.
-        ensures cause { OnErr result (HasRisen self.old.output.calls.faults self.new.output.calls.faults) }
+        ensures cause { OnErr result (HasRisen self.old.output.calls.faults
+            self.new.output.calls.faults) }
         ensures count { self.old.output.calls.faults ≤ self.new.output.calls.faults }
     {
         self.output.write(piece)

@@ -94,7 +94,8 @@ impl Model for SureSink {
 
     ghost view = { λ s. record { bytes = option_map (λ v. v.items) s.bytes; room = s.room } };
 
-    ghost invariant = { λ s. IfSome s.bytes (λ v. (vec_len v ≤ s.room) × (s.room ≤ vec_capacity v)) };
+    ghost invariant = { λ s. IfSome s.bytes (λ v. (vec_len v ≤ s.room)
+        × (s.room ≤ vec_capacity v)) };
 }
 
 impl SureSink {
@@ -167,7 +168,8 @@ fn told(bytes: &Option<Vec<u8>>) -> Option<&[u8]>
 
 // Adds a piece, or tells nothing any more where its memory is refused.
 fn keep(bytes: &mut Option<Vec<u8>>, piece: &[u8])
-    ensures { Takes (option_map (λ v. v.items) bytes.old) (option_map (λ v. v.items) bytes.new) piece.now }
+    ensures { Takes (option_map (λ v. v.items) bytes.old)
+        (option_map (λ v. v.items) bytes.new) piece.now }
 {
     if let Some(kept) = bytes
         && kept.extend_from_slice(piece).is_err()
@@ -179,7 +181,8 @@ fn keep(bytes: &mut Option<Vec<u8>>, piece: &[u8])
 // Adds a piece while there is room for it, and tells nothing any more where there is none.
 fn keep_within(bytes: &mut Option<Vec<u8>>, room: usize, piece: &[u8])
     requires { IfSome bytes.old (λ v. (vec_len v ≤ room) × (room ≤ vec_capacity v)) }
-    ensures kept { option_map (λ v. v.items) bytes.new ≡ kept room (option_map (λ v. v.items) bytes.old) piece.now }
+    ensures kept { option_map (λ v. v.items) bytes.new
+        ≡ kept room (option_map (λ v. v.items) bytes.old) piece.now }
     ensures room { IfSome bytes.new (λ v. (vec_len v ≤ room) × (room ≤ vec_capacity v)) }
 {
     if let Some(kept) = bytes

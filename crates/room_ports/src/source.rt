@@ -31,7 +31,8 @@ impl MemSource {
     pub fn new(pieces: Vec<Vec<u8>>, failing: Vec<u32>) -> Self
         ensures pieces { result.pieces ≡ contents_of pieces.items }
         ensures calls { result.calls ≡ no_calls failing.items }
-        ensures left { ⟦<MemSource as Source>⟧.left result ≡ Some (joined (contents_of pieces.items)) }
+        ensures left { ⟦<MemSource as Source>⟧.left result
+            ≡ Some (joined (contents_of pieces.items)) }
         ensures faults { ⟦<MemSource as Source>⟧.read_faults result ≡ 0 }
     {
         MemSource {
@@ -52,7 +53,8 @@ impl Source for MemSource {
     /// empty, or as much of it as `into` has room for.
     fn read(&mut self, into: &mut [u8]) -> Result<usize, Failed>
         ensures fails { IsErr result ↔ FailsNext self.old.calls }
-        ensures reads { IfOk result (λ n. Reads self.old.pieces self.new.pieces into.old into.new n) }
+        ensures reads { IfOk result
+            (λ n. Reads self.old.pieces self.new.pieces into.old into.new n) }
         ensures passed { OnOk result (self.new.calls ≡ passed self.old.calls) }
         ensures failed { OnErr result (self.new.calls ≡ failed self.old.calls) }
         ensures stays { OnErr result (self.new.pieces ≡ self.old.pieces) }
@@ -60,8 +62,10 @@ impl Source for MemSource {
         // What every source promises.
         ensures within { IfOk result (λ n. n ≤ length into.old) }
         ensures front { IfOk result (λ n.
-            Gives (Some (joined self.old.pieces)) (Some (joined self.new.pieces)) (take n into.new)) }
-        ensures end { IfOk result (λ n. 0 < length into.old → (n ≡ 0) ↔ (joined self.old.pieces ≡ [])) }
+            Gives (Some (joined self.old.pieces)) (Some (joined self.new.pieces))
+            (take n into.new)) }
+        ensures end { IfOk result (λ n. 0 < length into.old → (n ≡ 0)
+            ↔ (joined self.old.pieces ≡ [])) }
         ensures cause { OnErr result (HasRisen self.old.calls.faults self.new.calls.faults) }
         ensures count { self.old.calls.faults ≤ self.new.calls.faults }
     {
@@ -88,7 +92,8 @@ impl SureSource {
     /// A source of these pieces.
     pub fn new(pieces: Vec<Vec<u8>>) -> Self
         ensures pieces { result ≡ contents_of pieces.items }
-        ensures left { ⟦<SureSource as Source>⟧.left result ≡ Some (joined (contents_of pieces.items)) }
+        ensures left { ⟦<SureSource as Source>⟧.left result
+            ≡ Some (joined (contents_of pieces.items)) }
     {
         SureSource {
             pieces: PieceReader::new(pieces),

@@ -303,8 +303,10 @@ fn put_reaches_every_sink(rt: HostRuntime) -> Result<(), Memory> {
 // Reads once from a line and writes back what came.
 fn echo<L: Line>(line: &mut L, buffer: &mut [u8]) -> Result<usize, Failed>
     ensures within { IfOk result (λ n. n ≤ length buffer.new) }
-    ensures given { IfOk result (λ n. Gives (L.left line.old) (L.left line.new) (take n buffer.new)) }
-    ensures taken { IfOk result (λ n. Takes (L.taken line.old) (L.taken line.new) (take n buffer.new)) }
+    ensures given { IfOk result (λ n. Gives (L.left line.old) (L.left line.new)
+        (take n buffer.new)) }
+    ensures taken { IfOk result (λ n. Takes (L.taken line.old) (L.taken line.new)
+        (take n buffer.new)) }
     ensures reads { OnOk result (L.read_faults line.new ≡ L.read_faults line.old) }
     ensures writes { OnOk result (L.write_faults line.new ≡ L.write_faults line.old) }
     ensures front { OnErr result (TakesFront (L.taken line.old) (L.taken line.new) buffer.new) }
@@ -321,8 +323,10 @@ fn pass_on<S: Source, K: Sink>(
     output: &mut K,
     buffer: &mut [u8],
 ) -> Result<usize, Failed>
-    ensures given { IfOk result (λ n. Gives (S.left input.old) (S.left input.new) (take n buffer.new)) }
-    ensures taken { IfOk result (λ n. Takes (K.taken output.old) (K.taken output.new) (take n buffer.new)) }
+    ensures given { IfOk result (λ n. Gives (S.left input.old) (S.left input.new)
+        (take n buffer.new)) }
+    ensures taken { IfOk result (λ n. Takes (K.taken output.old) (K.taken output.new)
+        (take n buffer.new)) }
     ensures reads { OnOk result (S.read_faults input.new ≡ S.read_faults input.old) }
     ensures writes { OnOk result (K.write_faults output.new ≡ K.write_faults output.old) }
 {

@@ -47,8 +47,10 @@ fn has_marks(text: &[u8]) -> bool
 
 /// The number of two digits.
 fn number(tens: u8, ones: u8) -> Option<u8>
-    ensures some { (n : ℕ) → (result ≡ Some n) ↔ ((n < 100) × (tens ≡ 48 + n / 10) × (ones ≡ 48 + n % 10)) }
-    ensures none { IsNone result ↔ ((n : ℕ) → n < 100 → tens ≡ 48 + n / 10 → ones ≡ 48 + n % 10 → ⊥) }
+    ensures some { (n : ℕ) → (result ≡ Some n)
+        ↔ ((n < 100) × (tens ≡ 48 + n / 10) × (ones ≡ 48 + n % 10)) }
+    ensures none { IsNone result ↔ ((n : ℕ) → n < 100 → tens ≡ 48 + n / 10 → ones ≡ 48 + n % 10
+        → ⊥) }
 {
     if !tens.is_ascii_digit() || !ones.is_ascii_digit() {
         return None;

@@ -1,3 +1,4 @@
 pub mod Stands
 pub mod Several
 pub mod Begin
+pub mod Goods

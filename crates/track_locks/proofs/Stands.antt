@@ -11,7 +11,7 @@ use Rattle.room_core.proofs.WholeParts.{one_part}
 use Rattle.edit_journal.specs.declared.name.Name.TheVariants.{Part}
 use Rattle.edit_journal.specs.Seats.{Opening, Agrees, In}
 use Rattle.edit_journal.specs.Turns.{Known, Open, IsJournal, AllAgree}
-use Rattle.track_locks.specs.Homes.{IsAt, IsVersion, IsHome, AreHomes, StandFor, all_gathered}
+use Rattle.track_locks.specs.Homes.{IsAt, IsVersion, IsHistory, IsHome, AreHomes, StandFor, all_gathered}
 use Rattle.track_locks.proofs.Several.{within}
 
 comes_to : {A : Type 0} (o : Option A) → IsSome o → (a : A) × (o ≡ Some a)
@@ -115,12 +115,12 @@ map_length f [] = omega arith
 map_length f (x ∷ xs) = let r = map_length f xs in omega (arith, r)
 
 -- parts that stand for the journal are homes with seats that know it
-pub homes_again : {O P C D R : Type 0} (meaning : O → Meaning P C D R) (opens : O → List P → Type 0) (stations : ℕ) (opening : Option (Opening O P)) (entries : List (Entry C))
+pub homes_again : {O P C D R : Type 0} (meaning : O → Meaning P C D R) (opens : O → List P → Type 0) (opening : Option (Opening O P)) (entries : List (Entry C))
     (ns : List ℕ) (ps : List P) (vs : List ℕ) (ss : List (Known O P C))
-    → length ps ≡ length ns → length vs ≡ length ns → StandFor meaning opening entries ns ps vs → IsJournal meaning opens stations opening entries
+    → length ps ≡ length ns → length vs ≡ length ns → StandFor meaning opening entries ns ps vs → IsHistory meaning opens opening entries
     → map (λ (s : Known O P C). s.number) ss ≡ ns → All (λ s. (s.opening ≡ opening) × (s.entries ≡ entries)) ss
     → AreHomes meaning opens opening ns ps vs ss
-homes_again {O} {P} {C} meaning opens stations opening entries ns ps vs ss parts versions stand legal numbers know =
+homes_again {O} {P} {C} meaning opens opening entries ns ps vs ss parts versions stand legal numbers know =
     let count = map_length (λ (s : Known O P C). s.number) ss in
     let same = ap length numbers in
     record {
@@ -137,7 +137,7 @@ homes_again {O} {P} {C} meaning opens stations opening entries ns ps vs ss parts
             number_is = is;
             opening_is = knows.0;
             home = subst (λ (l : List (Entry C)). IsHome meaning opens opening n p v l) (sym knows.1)
-                (record { history = (legal.0, legal.1, legal.2, legal.3); at = two.0; counted = two.1 });
+                (record { history = legal; at = two.0; counted = two.1 });
           };
     }
 

@@ -3,7 +3,7 @@ use Rattle.std.specs.Prelude.{◌≡◌, ℕ, ◌/◌, ◌%◌, ◌^◌, ◌==�
 use Rattle.std.specs.List.{filter}
 use Rattle.room_core.specs.declared.entry.Entry.{Entry}
 use Rattle.room_core.specs.History.{replay, IsLegal}
-use Rattle.room_core.specs.Parts.{numbers}
+use Rattle.room_core.specs.Parts.{AreGood, numbers}
 use Rattle.room_core.specs.Projection.{of_part}
 use Rattle.room_core.specs.Whole.{Meaning, whole}
 use Rattle.edit_journal.specs.declared.name.Name.{Name}
@@ -43,6 +43,14 @@ IsAt {O} {P} meaning opening number entries part =
 abbrev pub IsVersion : {O P C D R : Type 0} → (O → Meaning P C D R) → Option (Opening O P) → ℕ → List (Entry C) → ℕ → Type 0
 IsVersion {O} {P} meaning opening number entries version =
     (o : Opening O P) × (opening ≡ Some o) × (version ≡ length (of_part (meaning o.0).names number entries))
+
+-- a part is good at its number, for the object of the opening
+abbrev pub IsGoodAt : {O P : Type 0} → (O → ℕ → P → Type 0) → Option (Opening O P) → ℕ → P → Type 0
+IsGoodAt {O} {P} good opening number part = (o : Opening O P) → opening ≡ Some o → good o.0 number part
+
+-- and each of several at its own
+abbrev pub AreGoodAt : {O P : Type 0} → (O → ℕ → P → Type 0) → Option (Opening O P) → List ℕ → List P → Type 0
+AreGoodAt {O} {P} good opening ns ps = (o : Opening O P) → opening ≡ Some o → AreGood (good o.0) ns ps
 
 -- a legal history of the opening
 abbrev pub IsHistory : {O P C D R : Type 0} → (O → Meaning P C D R) → (O → List P → Type 0) → Option (Opening O P) → List (Entry C) → Type 0

@@ -3,7 +3,7 @@ ghost use Rattle.std.specs.Prelude.{◌≡◌, ◌<◌, ◌≤◌, ◌+◌, ℕ,
 ghost use Rattle.room_core.specs.Parts.{AscendBetween};
 ghost use Rattle.edit_journal.specs.declared.name.Name.TheVariants.{Part};
 ghost use Rattle.edit_journal.specs.Seats.{In};
-ghost use Rattle.track_locks.specs.Homes.{AreHomes, CanGive, all_gathered, all_given};
+ghost use Rattle.track_locks.specs.Homes.{AreGoodAt, AreHomes, CanGive, all_gathered, all_given};
 
 use crate::home::{Home, Place};
 use crate::tracks::Tracks;
@@ -79,7 +79,8 @@ impl<'a, O: PartObject, J: Naming<O, O::Part>> Held<'a, O, J> {
 
     /// Puts each part with its seat back into its lock.
     pub fn release<R: Wait>(self, rt: &R)
-        requires { AreHomes O.meaning O.opens J.opening self.numbers self.parts self.versions self.seats }
+        requires homes { AreHomes O.meaning O.opens J.opening self.numbers self.parts self.versions self.seats }
+        requires good { AreGoodAt O.good J.opening self.numbers self.parts }
     {
         let Held {
             tracks,
@@ -160,6 +161,7 @@ fn put_back<O: PartObject, J: Naming<O, O::Part>, R: Wait>(
 )
     requires within { All (λ n. n < length places.now) numbers.items }
     requires homes { AreHomes O.meaning O.opens J.opening numbers.items parts.items versions.items seats.items }
+    requires good { AreGoodAt O.good J.opening numbers.items parts.items }
 {
     while let (Some(number), Some(part), Some(version), Some(seat)) = (
         numbers.pop(),

@@ -17,13 +17,15 @@ pub struct Home<O: PartObject, J: Naming<O, O::Part>> {
 
 impl<O: PartObject, J: Naming<O, O::Part>> Model for Home<O, J> {
     ghost use Rattle.std.specs.Prelude.{◌≡◌};
-    ghost use Rattle.track_locks.specs.Homes.{Homed, IsHome};
+    ghost use Rattle.track_locks.specs.Homes.{Homed, IsHome, IsGoodAt};
 
     ghost Value = { Homed O.Part O.Call };
 
     ghost view = { λ h. record { number = h.seat.number; part = h.part; version = h.version; entries = h.seat.entries } };
 
-    ghost invariant = { λ h. (h.seat.opening ≡ J.opening) × IsHome O.meaning O.opens J.opening h.seat.number h.part h.version h.seat.entries };
+    ghost invariant = { λ h. (h.seat.opening ≡ J.opening)
+        × IsHome O.meaning O.opens J.opening h.seat.number h.part h.version h.seat.entries
+        × IsGoodAt O.good J.opening h.seat.number h.part };
 }
 
 impl<O: PartObject, J: Naming<O, O::Part>> Home<O, J> {

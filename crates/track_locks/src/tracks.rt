@@ -1,7 +1,7 @@
 // The locks of all parts.
 ghost use Rattle.std.specs.Prelude.{◌≡◌, ◌≤◌, IfOk, Some, length};
 ghost use Rattle.edit_journal.specs.Turns.{AreFresh};
-ghost use Rattle.track_locks.specs.Homes.{AreHomes, members};
+ghost use Rattle.track_locks.specs.Homes.{AreGoodAt, AreHomes, members};
 
 use crate::held::Held;
 use crate::home::{Home, Place};
@@ -64,6 +64,7 @@ impl<O: PartObject, J: Naming<O, O::Part>> Tracks<O, J> {
         ensures numbers { IfOk result (λ h. h.numbers ≡ members self.now set) }
         ensures few { IfOk result (λ h. length h.numbers ≤ 32) }
         ensures homes { IfOk result (λ h. AreHomes O.meaning O.opens J.opening h.numbers h.parts h.versions h.seats) }
+        ensures good { IfOk result (λ h. AreGoodAt O.good J.opening h.numbers h.parts) }
     {
         let count = self.places.len();
         let mut numbers = Vec::with_capacity(alloc, count)?;

@@ -18,7 +18,7 @@ use std::test::Fail;
 use step_count::Steps;
 
 // Media 0 has the source frames [8, 60), media 1 [0, 86400).
-fn table(alloc: Global) -> Result<Table, Memory> {
+pub fn table(alloc: Global) -> Result<Table, Memory> {
     let mut kinds = Listed::new(alloc);
     kinds.push(Kind::Video)?;
     let mut media = Listed::new(alloc);
@@ -143,7 +143,7 @@ fn tried(
     item: u32,
     edit: Edit,
 ) -> Result<Option<Played>, Memory> {
-    let Some(track) = track_of(alloc, Vec::from_slice(alloc, views)?)? else {
+    let Some(track) = track_of(alloc, 0, Vec::from_slice(alloc, views)?)? else {
         return Ok(None);
     };
     if !is_good(alloc, table, &track)? {
@@ -160,7 +160,7 @@ fn tried(
     Ok(Some(played))
 }
 
-fn dissolve(a: u32, b: u32, view: ItemView) -> ItemView {
+pub fn dissolve(a: u32, b: u32, view: ItemView) -> ItemView {
     ItemView {
         mark: Some(Mark { a, b }),
         ..view

@@ -23,23 +23,28 @@ pub fn gap(len: u32) -> ItemView {
     ItemView::gap(len)
 }
 
-// A track of these items and gaps.
-fn laid<L: Ledger>(alloc: Global, blank: Blank, items: Vec<ItemView>) -> Result<Track, Memory>
+// The track with this number, of these items and gaps.
+fn laid<L: Ledger>(
+    alloc: Global,
+    blank: Blank,
+    number: u32,
+    items: Vec<ItemView>,
+) -> Result<Track, Memory>
     requires blank { (blank.name ≡ L.name) × (blank.parts ≡ L.parts) × (0 < blank.parts) }
     requires laid { CanBeLaid items.items }
 {
     let mut steps = Steps::<L>::new(blank);
-    let mut track = Track::empty(alloc, 0);
+    let mut track = Track::empty(alloc, number);
     track.replace(0, 0, items, &mut steps)?;
     Ok(track)
 }
 
 // A track of them, or none where they can't be laid.
-pub fn track_of(alloc: Global, items: Vec<ItemView>) -> Result<Option<Track>, Memory> {
+pub fn track_of(alloc: Global, number: u32, items: Vec<ItemView>) -> Result<Option<Track>, Memory> {
     if !can_be_laid(&items) {
         return Ok(None);
     }
-    Ok(Some(laid::<Brand>(alloc, Blank::new(1), items)?))
+    Ok(Some(laid::<Brand>(alloc, Blank::new(1), number, items)?))
 }
 
 fn can_be_laid(items: &[ItemView]) -> bool

@@ -1,7 +1,8 @@
 use Rattle.std.proofs.Common.{◌≡◌, ◌≤◌, ℕ, ap, sym, arith, subst, length, drop, sum_by}
 use Rattle.std.proofs.lemmas.List.{take_all}
 use Rattle.composables.specs.TrackState.{TrackState}
-use Rattle.composables.specs.declared.TheConstants.{MAX_FRAMES}
+use Rattle.composables.specs.declared.TheConstants.{MAX_FRAMES, MAX_ITEMS}
+use Rattle.composables.specs.Items.{items_of}
 use Rattle.edit_splice.specs.Splicing.{HasRoom}
 use Rattle.edit_splice.specs.Moves.{HasRooms, IsShiftOf, moved}
 use Rattle.edit_splice.proofs.Firsts.{rooms-many}
@@ -42,6 +43,11 @@ pub shift_track-requires-clause-short : goal.shift_track-requires-clause-short
 shift_track-requires-clause-short g c =
     let l = (last c.args.shift.now c.loop-spare.spares.items c.pop.new.self.items c.in-Some.spare c.args.named.now.items c.loop-spare.named.items c.len-index.result c.index_mut.result.now c.in-Some.ensures.items (omega (arith, c.len-index.ensures, c.pop.new.self.ok)) c.loop-spare.invariant.within c.loop-spare.invariant.moved c.index_mut.ensures.value) in
     subst (λ (t : TrackState). length (moved c.args.shift.now t).cells ≤ MAX_FRAMES) (sym l.here) (c.requires.short (length c.pop.new.self.items) c.index_mut.result.now l.inside)
+
+pub shift_track-requires-clause-few : goal.shift_track-requires-clause-few
+shift_track-requires-clause-few g c =
+    let l = (last c.args.shift.now c.loop-spare.spares.items c.pop.new.self.items c.in-Some.spare c.args.named.now.items c.loop-spare.named.items c.len-index.result c.index_mut.result.now c.in-Some.ensures.items (omega (arith, c.len-index.ensures, c.pop.new.self.ok)) c.loop-spare.invariant.within c.loop-spare.invariant.moved c.index_mut.ensures.value) in
+    subst (λ (t : TrackState). length (items_of (moved c.args.shift.now t).cells) ≤ MAX_ITEMS) (sym l.here) (c.requires.few (length c.pop.new.self.items) c.index_mut.result.now l.inside)
 
 pub shift_track-requires-clause-room : goal.shift_track-requires-clause-room
 shift_track-requires-clause-room g c =

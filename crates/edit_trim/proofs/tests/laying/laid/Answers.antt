@@ -9,4 +9,4 @@ pub replace-requires-clause-numbers : goal.replace-requires-clause-numbers
 replace-requires-clause-numbers g c = below_of 0 false c.args.items.items c.requires.laid.each
 
 pub replace-requires-clause-kept : goal.replace-requires-clause-kept
-replace-requires-clause-kept g c = kept_laid c.args.items.items c.empty-track.result 0 c.empty-track.ensures c.requires.laid
+replace-requires-clause-kept g c = kept_laid c.args.items.items c.empty-track.result c.args.number c.empty-track.ensures c.requires.laid

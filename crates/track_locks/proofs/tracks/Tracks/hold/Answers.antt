@@ -1,7 +1,8 @@
 use Rattle.std.proofs.Common.{◌≡◌, ◌++◌, [], ◌∷◌, length, sym, subst, ap, ◌∙◌, arith}
 use Rattle.room_core.specs.Parts.{AscendBetween}
-use Rattle.track_locks.specs.Homes.{members, has_bit}
+use Rattle.track_locks.specs.Homes.{IsGoodAt, members, has_bit}
 use Rattle.track_locks.proofs.Stands.{members_few}
+use Rattle.track_locks.proofs.Goods.{good_more}
 use Rattle.track_locks.proofs.Several.{one_held, held_home, members_then, members_else, ascend_filter}
 use Rattle.track_locks.proofs.tracks.Tracks.hold.Goals as goal
 use Rattle.track_locks.proofs.tracks.Tracks.hold.Goals.{then-set-number-eq1, else-set-number-eq1}
@@ -16,6 +17,7 @@ loop-number-preserved g c =
           let h = w.part.inside in
           let is = ap (λ h. h.number) w.part.view_is ∙ w.take.ensures.number in
           let one = held_home g.O.PartObject.meaning g.O.PartObject.opens g.J.Naming.opening n h.part h.version h.seat is w.part.invariant.0 w.part.invariant.1 in
+          let good = subst (λ k. IsGoodAt g.O.PartObject.good g.J.Naming.opening k h.part) is w.part.invariant.2 in
           let a = w.push_reserved.ensures in
           let b = w.push_reserved-then-set-number-eq1.ensures in
           let d = w.push_reserved-then-set-number-eq1-2.ensures in
@@ -23,6 +25,7 @@ loop-number-preserved g c =
           rw (w.numbers-is, w.parts-is, w.versions-is, w.seats-is) record {
             numbers = a.items ∙ (ap (λ xs. xs ++ n ∷ []) i.numbers ∙ sym (members_then c.args.set n w.if-set-number-eq1.true));
             homes = rw (a.items, b.items, d.items, e.items) (one_held g.O.PartObject.meaning g.O.PartObject.opens g.J.Naming.opening l.numbers.items l.parts.items l.versions.items l.seats.items n h.part h.version h.seat i.homes one);
+            good = rw (a.items, b.items) (good_more g.O.PartObject.good g.J.Naming.opening l.numbers.items l.parts.items n h.part i.good good);
             count = omega (arith, a.len, i.count);
             parts = omega (arith, a.len, b.len, i.parts);
             versions = omega (arith, a.len, d.len, i.versions);
@@ -36,6 +39,7 @@ loop-number-preserved g c =
           rw (w.numbers-is, w.parts-is, w.versions-is, w.seats-is) record {
             numbers = i.numbers ∙ sym (members_else c.args.set n w.if-set-number-eq1.false);
             homes = i.homes;
+            good = i.good;
             count = omega (arith, i.count);
             parts = i.parts;
             versions = i.versions;

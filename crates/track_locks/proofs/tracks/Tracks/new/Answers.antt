@@ -1,6 +1,7 @@
 use Rattle.std.proofs.Common.{◌≡◌, ◌++◌, [], ◌∷◌, suc, length, drop, vec_len, sym, ap, ◌∙◌, arith, append_assoc, slice_get}
 use Rattle.std.proofs.lemmas.List.{append-nil, nil_from_length, length-append}
 use Rattle.std.specs.Vec.Iter.{into_iter_items}
+use Rattle.track_locks.proofs.Goods.{first_good}
 use Rattle.track_locks.proofs.Begin.{at_drop, after_drop, none_after, good_length, fresh_length, fresh_at, first_home}
 use Rattle.track_locks.proofs.tracks.Tracks.new.Goals as goal
 
@@ -12,7 +13,11 @@ invariant_of-home g c =
     let f = fresh_at g.J.Naming.opening (length c.args.parts.items) c.args.seats.items c.loop-seat.yielded seat (into_iter_items c.next.new.self) c.requires.seats is in
     let at = at_drop c.args.parts.items (vec_len c.loop-seat.places) c.in-Some-next.part (into_iter_items c.next-in-loop-seat.new.self) (sym i.left ∙ c.in-Some-next.ensures.items) in
     let here = ap (λ k. slice_get c.args.parts.items k) (f.0 ∙ i.given) ∙ at in
-    (f.1, first_home g.O.PartObject.meaning g.O.PartObject.opens (c.args.object.now, c.args.parts.items) g.J.Naming.opening seat.number c.in-Some-next.part seat.entries c.requires.opening c.requires.opens f.2 here)
+    let law = g.met.O.PartObject.opening c.args.object.now c.args.parts.items c.requires.opens in (
+      f.1,
+      first_home g.O.PartObject.meaning g.O.PartObject.opens (c.args.object.now, c.args.parts.items) g.J.Naming.opening seat.number c.in-Some-next.part seat.entries c.requires.opening c.requires.opens f.2 here,
+      first_good g.O.PartObject.good (g.O.PartObject.count c.args.object.now) (c.args.object.now, c.args.parts.items) g.J.Naming.opening seat.number c.in-Some-next.part c.requires.opening law.2 here,
+    )
 
 pub loop-seat-preserved-in-Continue-1 : goal.loop-seat-preserved-in-Continue-1
 loop-seat-preserved-in-Continue-1 g c =

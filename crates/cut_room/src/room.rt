@@ -1,0 +1,450 @@
+// A room of many stations: an object, the locks of its parts, and its journal.
+ghost use Rattle.std.specs.Prelude.{◌≡◌, ◌<◌, ◌≤◌, [], ◌∷◌, ℕ, None, Some, Ok, All, IfErr, IfOk, IsSome, length, map, take};
+ghost use Rattle.room_core.specs.Answers.{Tells};
+ghost use Rattle.room_core.specs.History.{IsLegal, most_entries, replay};
+ghost use Rattle.room_core.specs.Parts.{AreGood, numbers};
+ghost use Rattle.room_core.specs.Whole.{set_of, whole};
+ghost use Rattle.edit_journal.specs.declared.name.Name.TheVariants.{Station};
+ghost use Rattle.edit_journal.specs.Seats.{Agrees, In};
+ghost use Rattle.edit_journal.specs.Turns.{AreFresh, last_of};
+ghost use Rattle.track_locks.specs.Homes.{AreGoodAt, AreHomes};
+ghost use Rattle.cut_room.specs.Gathered.{ComesTo};
+ghost use Rattle.cut_room.specs.declared.answers.CutFault.TheVariants.{Memory as NoMemory};
+ghost use Rattle.cut_room.specs.Rooms.{Edited, IsAtPoint, IsCopied, IsCut, Looked, TakesAtMost, stood_before};
+
+use crate::committing::{Appended, append, gather, give_back, settle};
+use crate::{Answer, CutFault, Sight};
+use edit_journal::{Beginning, Blank, CopyFault, Journal, MOST_ENTRIES, Naming, Pass};
+use history_points::{ReplayFault, copy_parts, replay};
+use room_core::{Entry, Fault, Memory, PartObject};
+use room_halls::Gate;
+use std::alloc::Global;
+use std::marker::Model;
+use std::sync::Wait;
+use std::sync::ledger::Ledger;
+use step_count::Steps;
+use track_locks::{Held, Tracks};
+
+/// A room that is not open yet: its object, its parts, and the table of its journal. Contracts see the table, the
+/// opening, and how many parts and stations there are.
+#[derive(Drop)]
+pub struct RoomBlank<O: PartObject> {
+    object: O,
+    parts: Vec<O::Part>,
+    blank: Blank<O>,
+}
+
+impl<O: PartObject> Model for RoomBlank<O> {
+    ghost use Rattle.std.specs.Prelude.{◌≡◌, Some, length};
+    ghost use Rattle.edit_journal.specs.Turns.{Fresh};
+
+    ghost Value = { Fresh O O.Part };
+
+    ghost view = { λ b. b.blank };
+
+    ghost invariant = { λ b. (b.blank.opening ≡ Some (b.object, b.parts.items))
+        × O.opens b.object b.parts.items × (b.blank.parts ≡ length b.parts.items) };
+}
+
+impl<O: PartObject + Drop> RoomBlank<O> {
+    /// A room over these parts, for so many stations, that is not open yet.
+    pub fn new(
+        alloc: Global,
+        object: O,
+        parts: Vec<O::Part>,
+        stations: u32,
+    ) -> Result<RoomBlank<O>, Memory>
+        requires opens { O.opens object parts.items }
+        requires stations { (0 < stations) × (stations ≤ 64) }
+        ensures opening { IfOk result (λ b. b.opening ≡ Some (object, parts.items)) }
+        ensures stations { IfOk result (λ b. b.stations ≡ stations) }
+    {
+        let beginning = Beginning {
+            part_count: object.parts(),
+            station_count: stations,
+            object,
+            parts,
+        };
+        let blank = Blank::new(alloc, &beginning);
+        let Beginning {
+            object,
+            parts,
+            part_count: _,
+            station_count: _,
+        } = beginning;
+        Ok(RoomBlank {
+            object,
+            parts,
+            blank: blank?,
+        })
+    }
+}
+
+/// A room of many stations. Contracts see its opening: the object's value, and the parts that it opened with.
+#[derive(Drop)]
+pub struct Room<O: PartObject, J: Naming<O, O::Part>> {
+    object: O,
+    opening: Vec<O::Part>,
+    journal: Journal<O, J>,
+    tracks: Tracks<O, J>,
+}
+
+impl<O: PartObject, J: Naming<O, O::Part>> Model for Room<O, J> {
+    ghost use Rattle.std.specs.Prelude.{◌≡◌, Some, length};
+    ghost use Rattle.edit_journal.specs.Seats.{Opening};
+
+    ghost Value = { Opening O O.Part };
+
+    ghost view = { λ r. (r.object, r.opening.items) };
+
+    ghost invariant = { λ r. (J.opening ≡ Some (r.object, r.opening.items))
+        × O.opens r.object r.opening.items
+        × (r.tracks ≡ length r.opening.items) };
+}
+
+impl<O: PartObject + Drop, J: Naming<O, O::Part>> Room<O, J> {
+    /// Opens a room, with a pass for each station, in ascending order.
+    pub fn open(alloc: Global, blank: RoomBlank<O>) -> Result<(Room<O, J>, Vec<Pass<O, J>>), Memory>
+        requires table { J.table ≡ blank.table }
+        requires opening { J.opening ≡ blank.opening }
+        requires stations { J.stations ≡ blank.stations }
+        ensures room { IfOk result (λ r. J.opening ≡ Some r.0) }
+        ensures passes { IfOk result (λ r. AreFresh J.opening blank.stations r.1.items) }
+    {
+        let RoomBlank {
+            object,
+            parts,
+            blank,
+        } = blank;
+        let opening = copy_parts(alloc, &object, &parts)?;
+        let (journal, seats, passes) = Journal::open(alloc, blank)?;
+        let tracks = Tracks::new(alloc, &object, parts, seats)?;
+        let room = Room {
+            object,
+            opening,
+            journal,
+            tracks,
+        };
+        Ok((room, passes))
+    }
+
+    /// How many entries the journal has, all of which the pass knows then.
+    pub fn point<R: Wait>(&self, rt: &R, pass: Pass<O, J>) -> (Pass<O, J>, u32)
+        ensures at { IsAtPoint (O.meaning self.now.0) self.now.1 pass result.0 result.1 }
+    {
+        let station = pass.station();
+        let mut turn = self.journal.lock(rt);
+        turn.gather_pass(pass);
+        let point = turn.look();
+        let pass = turn.give_pass(station);
+        turn.release();
+        (pass, point)
+    }
+
+    /// Does a call of a station under a number above its last, and puts it into the journal. After each answer but `Done`
+    /// nothing has changed. The gate is called once where the call applies, before it is put into the journal.
+    pub fn edit<R: Wait, G: Gate, L: Ledger>(
+        &self,
+        rt: &R,
+        alloc: Global,
+        pass: Pass<O, J>,
+        number: u32,
+        call: O::Call,
+        gate: &G,
+        steps: &mut Steps<L>,
+    ) -> (Pass<O, J>, Answer<O>)
+        requires number { last_of pass.number pass.entries < number }
+        ensures edited { Edited (O.meaning self.now.0) self.now.1
+            (record { station = pass.number; number = number; call = call }) pass result.0
+            result.1 }
+        ensures most { TakesAtMost (O.meaning self.now.0) self.now.1 O.size call
+            (stood_before result.0.entries result.1) steps.old steps.new }
+    {
+        match self.object.refuse_names(&call) {
+            Some(refusal) => {
+                let (pass, point) = self.point(rt, pass);
+                return (pass, Answer::Refused { point, refusal });
+            }
+            None => {}
+        }
+        let set = self.object.names(&call);
+        let station = pass.station();
+        let entry = Entry {
+            station,
+            number,
+            call,
+        };
+        match self.tracks.hold(rt, alloc, set) {
+            Ok(held) => self.edit_held(rt, alloc, held, pass, entry, gate, steps),
+            Err(Memory) => (pass, Answer::Memory),
+        }
+    }
+
+    // Does the call of an entry on copies of the parts that are held for it.
+    fn edit_held<R: Wait, G: Gate, L: Ledger>(
+        &self,
+        rt: &R,
+        alloc: Global,
+        held: Held<'_, O, J>,
+        pass: Pass<O, J>,
+        entry: Entry<O::Call>,
+        gate: &G,
+        steps: &mut Steps<L>,
+    ) -> (Pass<O, J>, Answer<O>)
+        requires named { (O.meaning self.now.0).refuses entry.call ≡ None }
+        requires numbers { held.numbers ≡ (O.meaning self.now.0).names entry.call }
+        requires homes { AreHomes O.meaning O.opens J.opening held.numbers held.parts held.versions
+            held.seats }
+        requires good { AreGoodAt O.good J.opening held.numbers held.parts }
+        requires few { length held.numbers ≤ 32 }
+        requires station { entry.station ≡ pass.number }
+        requires number { last_of pass.number pass.entries < entry.number }
+        ensures edited { Edited (O.meaning self.now.0) self.now.1 entry pass result.0 result.1 }
+        ensures most { TakesAtMost (O.meaning self.now.0) self.now.1 O.size entry.call
+            (stood_before result.0.entries result.1) steps.old steps.new }
+    {
+        let mut parts = match held.copy(alloc, &self.object) {
+            Ok(parts) => parts,
+            Err(Memory) => {
+                held.release(rt);
+                return (pass, Answer::Memory);
+            }
+        };
+        match self.object.apply(alloc, &mut parts, &entry.call, steps) {
+            Ok(done) => {
+                gate.at_commit(entry.station);
+                self.commit(rt, alloc, held, parts, pass, entry, done)
+            }
+            Err(fault) => {
+                let (pass, point) = self.look(rt, held, pass);
+                match fault {
+                    Fault::Refused(refusal) => (pass, Answer::Refused { point, refusal }),
+                    Fault::Memory => (pass, Answer::Memory),
+                }
+            }
+        }
+    }
+
+    // Puts an entry into the journal whose call left these parts of those that are held.
+    fn commit<R: Wait>(
+        &self,
+        rt: &R,
+        alloc: Global,
+        mut held: Held<'_, O, J>,
+        parts: Vec<O::Part>,
+        pass: Pass<O, J>,
+        entry: Entry<O::Call>,
+        done: O::Done,
+    ) -> (Pass<O, J>, Answer<O>)
+        requires named { (O.meaning self.now.0).refuses entry.call ≡ None }
+        requires numbers { held.numbers ≡ (O.meaning self.now.0).names entry.call }
+        requires homes { AreHomes O.meaning O.opens J.opening held.numbers held.parts held.versions
+            held.seats }
+        requires good { AreGoodAt O.good J.opening held.numbers held.parts }
+        requires few { length held.numbers ≤ 32 }
+        requires station { entry.station ≡ pass.number }
+        requires number { last_of pass.number pass.entries < entry.number }
+        requires applies { (O.meaning self.now.0).applied held.parts entry.call
+            ≡ Ok (parts.items, done) }
+        requires good_now { AreGood (O.good self.now.0) held.numbers parts.items }
+        ensures edited { Edited (O.meaning self.now.0) self.now.1 entry pass result.0 result.1 }
+        ensures parts { ComesTo (O.meaning self.now.0) self.now.1
+            (stood_before result.0.entries result.1) held.entry.numbers held.entry.parts }
+    {
+        let station = pass.station();
+        let mut turn = self.journal.lock(rt);
+        gather(&mut turn, &mut held, pass);
+        let appended = append(alloc, &mut turn, entry);
+        let pass = give_back(&mut turn, &mut held, station);
+        turn.release();
+        match appended {
+            Appended::At(point) => {
+                settle(rt, held, parts);
+                (pass, Answer::Done { point, done })
+            }
+            Appended::Full => {
+                held.release(rt);
+                let point = MOST_ENTRIES;
+                (pass, Answer::Full { point })
+            }
+            Appended::Memory => {
+                held.release(rt);
+                (pass, Answer::Memory)
+            }
+        }
+    }
+
+    // Looks at the journal with a pass and what is held, and puts this back.
+    fn look<R: Wait>(&self, rt: &R, mut held: Held<'_, O, J>, pass: Pass<O, J>) -> (Pass<O, J>, u32)
+        requires homes { AreHomes O.meaning O.opens J.opening held.numbers held.parts held.versions
+            held.seats }
+        requires good { AreGoodAt O.good J.opening held.numbers held.parts }
+        requires few { length held.numbers ≤ 32 }
+        ensures at { IsAtPoint (O.meaning self.now.0) self.now.1 pass result.0 result.1 }
+        ensures parts { ComesTo (O.meaning self.now.0) self.now.1 result.0.entries
+            held.entry.numbers held.entry.parts }
+    {
+        let station = pass.station();
+        let mut turn = self.journal.lock(rt);
+        let point = gather(&mut turn, &mut held, pass);
+        let pass = give_back(&mut turn, &mut held, station);
+        turn.release();
+        held.release(rt);
+        (pass, point)
+    }
+
+    /// What a question is answered by the part that it is about, as it is at the point.
+    pub fn see<R: Wait>(
+        &self,
+        rt: &R,
+        alloc: Global,
+        pass: Pass<O, J>,
+        ask: &O::Ask,
+    ) -> (Pass<O, J>, Sight<O>)
+        ensures looked { Looked (O.meaning self.now.0) self.now.1 (O.asked self.now.0 ask.now)
+            (λ p. O.seen self.now.0 p ask.now) pass result.0 result.1 }
+    {
+        let part = match self.object.ask_part(ask) {
+            Ok(part) => part,
+            Err(refusal) => {
+                let (pass, point) = self.point(rt, pass);
+                return (pass, Sight::Refused { point, refusal });
+            }
+        };
+        let held = match self.hold_one(rt, alloc, part) {
+            Ok(held) => held,
+            Err(Memory) => return (pass, Sight::Memory),
+        };
+        let copies = held.copy(alloc, &self.object);
+        let (pass, point) = self.look(rt, held, pass);
+        let copies = match copies {
+            Ok(copies) => copies,
+            Err(Memory) => return (pass, Sight::Memory),
+        };
+        match self.see_copy(alloc, &copies, ask) {
+            Ok(seen) => (pass, Sight::Seen { point, seen }),
+            Err(fault) => match fault {
+                Fault::Refused(refusal) => (pass, Sight::Refused { point, refusal }),
+                Fault::Memory => (pass, Sight::Memory),
+            },
+        }
+    }
+
+    // Waits for the lock of one part, and takes it.
+    fn hold_one<R: Wait>(&self, rt: &R, alloc: Global, part: u32) -> Result<Held<'_, O, J>, Memory>
+        requires { part < O.count self.now.0 }
+        ensures numbers { IfOk result (λ h. h.numbers ≡ part ∷ []) }
+        ensures homes { IfOk result (λ h. AreHomes O.meaning O.opens J.opening h.numbers h.parts
+            h.versions h.seats) }
+        ensures good { IfOk result (λ h. AreGoodAt O.good J.opening h.numbers h.parts) }
+    {
+        let held = self.tracks.hold(rt, alloc, set_of_one(part))?;
+        Ok(held)
+    }
+
+    // What a question is answered by a copy of the part that it is about.
+    fn see_copy(
+        &self,
+        alloc: Global,
+        copies: &[O::Part],
+        ask: &O::Ask,
+    ) -> Result<O::Seen, Fault<O::AskRefusal>>
+        requires { (n : ℕ) × (O.asked self.now.0 ask.now ≡ Ok n)
+            × AreGood (O.good self.now.0) (n ∷ []) copies.now }
+        ensures { (p : O.Part) × (copies.now ≡ p ∷ []) × Tells
+            (O.seen self.now.0 p ask.now) result }
+    {
+        self.object.see(alloc, &copies[0], ask)
+    }
+
+    // The first `n` entries, as they stand at a look.
+    fn copied<R: Wait>(
+        &self,
+        rt: &R,
+        alloc: Global,
+        pass: Pass<O, J>,
+        n: u32,
+    ) -> (Pass<O, J>, Result<Vec<Entry<O::Call>>, CopyFault>)
+        ensures at { IsAtPoint (O.meaning self.now.0) self.now.1 pass result.0
+            (length result.0.entries) }
+        ensures copied { IsCopied n result.0.entries result.1 }
+    {
+        let station = pass.station();
+        let mut turn = self.journal.lock(rt);
+        turn.gather_pass(pass);
+        turn.look();
+        let entries = turn.copy_to(alloc, &self.object, n);
+        let pass = turn.give_pass(station);
+        turn.release();
+        (pass, entries)
+    }
+
+    /// The parts after the first `n` entries.
+    pub fn cut_at<R: Wait>(
+        &self,
+        rt: &R,
+        alloc: Global,
+        pass: Pass<O, J>,
+        n: u32,
+    ) -> (Pass<O, J>, Result<Vec<O::Part>, CutFault>)
+        ensures cut { IsCut (O.meaning self.now.0) self.now.1 n pass result.0 result.1 }
+        ensures good { IfOk result.1 (λ parts. AreGood (O.good self.now.0) (numbers 0
+            (O.count self.now.0)) parts.items) }
+    {
+        let (pass, entries) = self.copied(rt, alloc, pass, n);
+        match entries {
+            Ok(entries) => {
+                let parts = self.replayed(alloc, &entries, n);
+                (pass, parts)
+            }
+            Err(CopyFault::NoPoint(length)) => (pass, Err(CutFault::NoPoint(length))),
+            Err(CopyFault::Memory) => (pass, Err(CutFault::Memory)),
+        }
+    }
+
+    // What the first `n` of entries that apply come to.
+    fn replayed(
+        &self,
+        alloc: Global,
+        entries: &[Entry<O::Call>],
+        n: u32,
+    ) -> Result<Vec<O::Part>, CutFault>
+        requires within { (n ≤ length entries.now) × (n ≤ most_entries) }
+        requires applies { IsSome (replay (whole (O.meaning self.now.0)) self.now.1 entries.now) }
+        ensures good { IfOk result (λ parts. AreGood (O.good self.now.0) (numbers 0
+            (O.count self.now.0)) parts.items) }
+        ensures parts { IfOk result (λ ps. replay (whole (O.meaning self.now.0)) self.now.1
+            (take n entries.now) ≡ Some ps.items) }
+        ensures fault { IfErr result (λ f. f ≡ NoMemory) }
+    {
+        match replay(alloc, &self.object, &self.opening, entries, n) {
+            Ok(parts) => Ok(parts),
+            Err(ReplayFault::Refused(_)) => unreachable!(),
+            Err(ReplayFault::Memory) => Err(CutFault::Memory),
+        }
+    }
+
+    /// Ends the room and gives the journal's entries.
+    pub fn close(self, passes: Vec<Pass<O, J>>) -> Vec<Entry<O::Call>>
+        requires all { (s : ℕ) → s < J.stations → In s (map (λ p. p.number) passes.items) }
+        ensures legal { IsLegal (whole (O.meaning self.0)) self.1 result.items }
+        ensures passes { All (λ p. Agrees (O.meaning self.0).names result.items
+            (Station p.number) p.entries) passes.items }
+        ensures stations { All (λ e. In e.station (map (λ p. p.number) passes.items)) result.items }
+    {
+        let Room {
+            object: _,
+            opening: _,
+            journal,
+            tracks: _,
+        } = self;
+        journal.close(passes)
+    }
+}
+
+// The set of one part, bit n for the part n.
+fn set_of_one(part: u32) -> u32
+    ensures { result ≡ set_of (part ∷ []) }
+{
+    if part < 32 { 1 << part } else { 0 }
+}

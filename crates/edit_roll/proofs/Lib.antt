@@ -1,0 +1,4 @@
+pub mod Beside
+pub mod Moves
+pub mod Slides
+pub mod Lengths

@@ -1,0 +1,4 @@
+pub mod Neighbours
+pub mod Rolling
+pub mod Sliding
+pub mod Lengths

@@ -1,0 +1,139 @@
+// Slide: an item moved between its neighbours.
+ghost use Rattle.std.specs.Prelude.{◌≡◌, ◌+◌, ◌*◌, ◌≤◌, All, Some, nat_eq, slice_get, true};
+ghost use Rattle.std.specs.List.{list_any};
+ghost use Rattle.composables.specs.Answers.{Answers, NextRises};
+ghost use Rattle.composables.specs.Good.{AreUnlinked, IsGood};
+ghost use Rattle.composables.specs.Items.{items_of};
+ghost use Rattle.composables.specs.OwnTracks.{numbers_of};
+ghost use Rattle.composables.specs.Places.{IsPlaceOf};
+ghost use Rattle.composables.specs.Roomy.{IsRoomy};
+ghost use Rattle.composables.specs.Sizes.{size_of, sizes_of};
+ghost use Rattle.composables.specs.TrackSets.{tracks_in};
+ghost use Rattle.edit_splice.specs.Standing.{StaysGood};
+ghost use Rattle.edit_roll.specs.Neighbours.{StandBeside, has_neighbours};
+ghost use Rattle.edit_roll.specs.Sliding.{bare_view, slide_named, slide_range, slide_track};
+
+use crate::neighbours::{Sides, sides_of_item, used_between};
+use composables::{Done, EditFault, ItemView, Place, Refusal, Slide, Table, Track, own_index};
+use edit_delta::{Way, going_on, place_parts, reaching_back};
+use std::alloc::Global;
+use std::sync::ledger::Ledger;
+use step_count::Steps;
+
+/// Moves an item of its own track by the delta used, between its neighbours: the one that it leaves grows, the other
+/// gives way, and the length of the track stays. Both keep a frame, and what grows keeps its source in its range; an
+/// item that has no neighbour at one side stays where it is. A dissolve at the item's head is dropped. The other named
+/// tracks stay as they are.
+///
+/// It answers the delta used, or the first of these refusals that holds: `NoItem`, `TooManyItems`.
+pub fn slide<L: Ledger>(
+    alloc: Global,
+    table: &Table,
+    named: &mut Vec<Track>,
+    call: &Slide,
+    steps: &mut Steps<L>,
+) -> Result<Done, EditFault>
+    requires named { numbers_of named.old.items ≡ tracks_in call.now.tracks }
+    requires own { list_any (nat_eq call.now.track) (tracks_in call.now.tracks) ≡ true }
+    requires good { All (λ t. IsGood table.now t) named.old.items }
+    requires roomy { All (λ t. IsRoomy t) named.old.items }
+    requires unlinked { AreUnlinked named.old.items }
+
+    ensures answers { Answers (slide_named table.now named.old.items call.now)
+        named.old.items named.new.items result }
+
+    ensures named { numbers_of named.new.items ≡ tracks_in call.now.tracks }
+    ensures good { All (λ t. IsGood table.now t) named.new.items }
+    ensures unlinked { AreUnlinked named.new.items }
+    ensures numbers { NextRises 2 named.old.items named.new.items }
+
+    ensures least { steps.old + 1 ≤ steps.new }
+    ensures most { steps.new ≤ steps.old + 32 * sizes_of named.old.items }
+{
+    steps.tick();
+    match own_index(named, call.track) {
+        Some(index) => slide_track(alloc, table, &mut named[index], call, steps),
+        None => unreachable!(),
+    }
+}
+
+// The same on the own track.
+fn slide_track<L: Ledger>(
+    alloc: Global,
+    table: &Table,
+    track: &mut Track,
+    call: &Slide,
+    steps: &mut Steps<L>,
+) -> Result<Done, EditFault>
+    requires good { IsGood table.now track.old }
+    requires roomy { IsRoomy track.old }
+    ensures answers { Answers (slide_track table.now call.now track.old)
+        track.old track.new result }
+    ensures good { StaysGood table.now track.old track.new }
+    ensures least { steps.old ≤ steps.new }
+    ensures most { steps.new ≤ steps.old + 20 * size_of track.old }
+{
+    let Some(found) = track.item_by_id(call.item, steps) else {
+        return Err(EditFault::Refused(Refusal::NoItem));
+    };
+    let Some(view) = track.item(found.index) else {
+        unreachable!()
+    };
+    match sides_of_item(track, found) {
+        Some(sides) => slide_item(alloc, table, track, found, &view, &sides, call.by, steps),
+        None => Ok(Done::By(0)),
+    }
+}
+
+// Moves the item at a place between these.
+fn slide_item<L: Ledger>(
+    alloc: Global,
+    table: &Table,
+    track: &mut Track,
+    found: Place,
+    view: &ItemView,
+    sides: &Sides,
+    by: i32,
+    steps: &mut Steps<L>,
+) -> Result<Done, EditFault>
+    requires good { IsGood table.now track.old }
+    requires roomy { IsRoomy track.old }
+    requires place { IsPlaceOf track.old.cells found }
+    requires view { slice_get (items_of track.old.cells) found.index ≡ Some view.now }
+    requires sides { StandBeside track.old.cells found.from found.to sides.now }
+    requires both { has_neighbours track.old.cells found.from found.to ≡ true }
+    ensures answers { Answers (slide_range table.now track.old by found.from found.to)
+        track.old track.new result }
+    ensures good { StaysGood table.now track.old track.new }
+    ensures least { steps.old ≤ steps.new }
+    ensures most { steps.new ≤ steps.old + 16 * size_of track.old }
+{
+    let used = used_between(table, sides, by);
+    match used.way {
+        Way::Still => Ok(used.done),
+        Way::Later(frames) => {
+            let parts = [going_on(&sides.left, frames), without_mark(view)];
+            let to = found.to + frames;
+            place_parts(
+                alloc, table, track, found.from, to, &parts, used.done, steps,
+            )
+        }
+        Way::Earlier(frames) => {
+            let parts = [without_mark(view), reaching_back(&sides.right, frames)];
+            let from = found.from - frames;
+            place_parts(
+                alloc, table, track, from, found.to, &parts, used.done, steps,
+            )
+        }
+    }
+}
+
+// The item without the dissolve at its head.
+fn without_mark(view: &ItemView) -> ItemView
+    ensures { result ≡ bare_view view.now }
+{
+    ItemView {
+        mark: None,
+        ..*view
+    }
+}

@@ -1,0 +1,4 @@
+// Cuts rolled and items slid, beside a plain program over cells.
+
+mod edits;
+mod plain;

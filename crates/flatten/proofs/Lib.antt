@@ -1,0 +1,13 @@
+pub mod Moving
+pub mod Parts
+pub mod Joining
+pub mod Over
+pub mod Stacking
+pub mod Resolving
+pub mod Building
+pub mod Segmenting
+pub mod LastSegment
+pub mod CutRuns
+pub mod RunsOfReels
+pub mod OneCutting
+pub mod Spots

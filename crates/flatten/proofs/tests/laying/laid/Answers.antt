@@ -1,0 +1,12 @@
+use Rattle.std.proofs.Common.{false}
+use Rattle.dissolves.proofs.Laid.{filled_of, below_of, kept_laid}
+use Rattle.flatten.proofs.tests.laying.laid.Goals as goal
+
+pub replace-requires-clause-filled : goal.replace-requires-clause-filled
+replace-requires-clause-filled g c = filled_of 0 false c.args.items.items c.requires.laid.each
+
+pub replace-requires-clause-numbers : goal.replace-requires-clause-numbers
+replace-requires-clause-numbers g c = below_of 0 false c.args.items.items c.requires.laid.each
+
+pub replace-requires-clause-kept : goal.replace-requires-clause-kept
+replace-requires-clause-kept g c = kept_laid c.args.items.items c.empty-track.result 0 c.empty-track.ensures c.requires.laid

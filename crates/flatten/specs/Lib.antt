@@ -1,0 +1,7 @@
+pub mod Stacks
+pub mod Nests
+pub mod Channels
+pub mod Strips
+pub mod Segments
+pub mod Joined
+pub mod Ends

@@ -1,0 +1,23 @@
+//! What a cut shows, reel by reel: the video tracks stacked into one channel, the audio tracks each by itself, and
+//! nests looked through.
+//!
+//! The main contract is that of `flatten`: the maximal runs of the frames of each channel, which are defined place by
+//! place. The code composes runs, track by track and nest by nest, and never goes over frames. `segments` cuts a
+//! channel into what an edit decision list has as events.
+#![tactic(auto)]
+
+mod channels;
+mod cutting;
+mod finding;
+mod joins;
+mod laws;
+mod nests;
+mod stacks;
+mod strips;
+
+pub use channels::{Shown, flatten};
+pub use cutting::{Segment, SegmentFault, segments};
+pub use laws::a_channel_has_one_cutting;
+
+#[cfg(test)]
+mod tests;

@@ -1,0 +1,6 @@
+// Worked channels, and their segments.
+
+mod channels;
+mod cutting;
+mod laying;
+mod tables;

@@ -1,0 +1,227 @@
+// Tracks laid from items and gaps, and when there is one.
+ghost use Rattle.std.specs.Prelude.{◌≡◌, ◌<◌, ◌≤◌, IfOk, IfSome, false, length, slice_get, true};
+ghost use Rattle.composables.specs.Good.{AllUnlinked, EachLiesIn, IsGood};
+ghost use Rattle.composables.specs.Items.{items_of};
+ghost use Rattle.composables.specs.Roomy.{IsRoomy};
+ghost use Rattle.composables.specs.Joined.{frames_in};
+ghost use Rattle.composables.specs.TrackFacts.{first_mark, left_reach, right_reach};
+ghost use Rattle.laid_tracks.specs.Laid.{CanBeLaid, Follows, IsLaid, Laid, is_gap, mark_of, number_after};
+
+use composables::{ItemView, MAX_FRAMES, MAX_ITEMS, Table, Track, holds};
+use frame_meaning::{Mark, Memory, What};
+use std::alloc::Global;
+use std::marker::Brand;
+use std::sync::ledger::{Blank, Ledger};
+use step_count::Steps;
+
+/// An item that shows `len` frames of a media from the source frame `source` on.
+pub fn clip(number: u32, media: u32, source: u32, len: u32) -> ItemView {
+    ItemView::clip(number, What::Media(media), source, len)
+}
+
+/// A gap of `len` frames.
+pub fn gap(len: u32) -> ItemView {
+    ItemView::gap(len)
+}
+
+/// The same with a dissolve at the cut before it, of `a` frames before and `b` behind.
+pub fn dissolve(a: u32, b: u32, view: ItemView) -> ItemView {
+    ItemView {
+        mark: Some(Mark { a, b }),
+        ..view
+    }
+}
+
+/// The track with this number that has these items and gaps, if there is one without links that is good in the table
+/// and has next numbers of at most 2,147,483,648. The item numbers have to rise.
+pub fn laid_track(
+    alloc: Global,
+    table: &Table,
+    number: u32,
+    views: &[ItemView],
+) -> Result<Option<Track>, Memory>
+    ensures track { IfOk result (λ o. IfSome o (λ t. IsLaid table.now number views.now t)) }
+{
+    if !can_be_laid(views) {
+        return Ok(None);
+    }
+    let items = Vec::from_slice(alloc, views)?;
+    let track = laid::<Brand>(alloc, Blank::new(1), number, items)?;
+    if is_good(table, &track, views) {
+        Ok(Some(track))
+    } else {
+        Ok(None)
+    }
+}
+
+// A track of these items and gaps.
+fn laid<L: Ledger>(
+    alloc: Global,
+    blank: Blank,
+    number: u32,
+    items: Vec<ItemView>,
+) -> Result<Track, Memory>
+    requires blank { (blank.name ≡ L.name) × (blank.parts ≡ L.parts) × (0 < blank.parts) }
+    requires laid { CanBeLaid items.items }
+    ensures number { IfOk result (λ t. t.number ≡ number) }
+    ensures items { IfOk result (λ t. items_of t.cells ≡ items.items) }
+    ensures link { IfOk result (λ t. t.next_link ≡ 0) }
+{
+    let mut steps = Steps::<L>::new(blank);
+    let mut track = Track::empty(alloc, number);
+    track.replace(0, 0, items, &mut steps)?;
+    Ok(track)
+}
+
+fn can_be_laid(items: &[ItemView]) -> bool
+    ensures { result ≡ true → CanBeLaid items.now }
+{
+    are_laid(items) && are_short(items) && begin_unmarked(items)
+}
+
+fn are_laid(items: &[ItemView]) -> bool
+    ensures { result ≡ true → Laid 0 false items.now }
+{
+    let mut next = 0;
+    let mut after_gap = false;
+    for (index, view) in items.iter().enumerate() {
+        if !holds(view, mark_at(items, index + 1)) {
+            return false;
+        }
+        let Some(number) = number_behind(view.item, next, after_gap) else {
+            return false;
+        };
+        next = number;
+        after_gap = is_dark(view.item);
+    }
+    true
+}
+
+fn are_short(items: &[ItemView]) -> bool
+    ensures { result ≡ true → frames_in items.now ≤ 4294967294 }
+{
+    let mut left = 4_294_967_294;
+    for view in items {
+        if view.len > left {
+            return false;
+        }
+        left -= view.len;
+    }
+    true
+}
+
+fn begin_unmarked(items: &[ItemView]) -> bool
+    ensures { result ≡ true → first_mark items.now ≡ None }
+{
+    match items.first() {
+        Some(view) => view.mark.is_none(),
+        None => true,
+    }
+}
+
+fn mark_at(items: &[ItemView], index: usize) -> Option<Mark>
+    ensures { result ≡ mark_of (slice_get items.now index) }
+{
+    match items.get(index) {
+        Some(view) => view.mark,
+        None => None,
+    }
+}
+
+fn left_reach(mark: Option<Mark>) -> u32
+    ensures { result ≡ left_reach mark }
+{
+    match mark {
+        Some(mark) => mark.a,
+        None => 0,
+    }
+}
+
+fn right_reach(mark: Option<Mark>) -> u32
+    ensures { result ≡ right_reach mark }
+{
+    match mark {
+        Some(mark) => mark.b,
+        None => 0,
+    }
+}
+
+fn is_dark(item: Option<u32>) -> bool
+    ensures { result ≡ is_gap item }
+{
+    match item {
+        Some(_) => false,
+        None => true,
+    }
+}
+
+fn number_behind(item: Option<u32>, next: u32, after_gap: bool) -> Option<u32>
+    ensures follows { IfSome result (λ _. Follows item next after_gap) }
+    ensures number { IfSome result (λ n. n ≡ number_after item next) }
+{
+    match item {
+        Some(i) => {
+            if i < next || i == 4_294_967_295 {
+                return None;
+            }
+            Some(i + 1)
+        }
+        None => {
+            if after_gap {
+                return None;
+            }
+            Some(next)
+        }
+    }
+}
+
+// Whether a track of these is good in the table, roomy, and without links.
+fn is_good(table: &Table, track: &Track, views: &[ItemView]) -> bool
+    requires items { items_of track.now.cells ≡ views.now }
+    requires link { track.now.next_link ≡ 0 }
+    ensures good { result ≡ true → IsGood table.now track.now }
+    ensures roomy { result ≡ true → IsRoomy track.now }
+    ensures unlinked { result ≡ true → AllUnlinked (items_of track.now.cells) }
+{
+    if track.length() > MAX_FRAMES {
+        return false;
+    }
+    if track.count() > MAX_ITEMS {
+        return false;
+    }
+    if track.next_item() > 2_147_483_648 {
+        return false;
+    }
+    if !all_lie(table, views) {
+        return false;
+    }
+    are_unlinked(views)
+}
+
+fn all_lie(table: &Table, views: &[ItemView]) -> bool
+    ensures { result ≡ true → EachLiesIn table.now views.now }
+{
+    for (index, view) in views.iter().enumerate() {
+        let tail = mark_at(views, index + 1);
+        if !table.lies_in(
+            view.first,
+            view.len,
+            left_reach(view.mark),
+            right_reach(tail),
+        ) {
+            return false;
+        }
+    }
+    true
+}
+
+fn are_unlinked(views: &[ItemView]) -> bool
+    ensures { result ≡ true → AllUnlinked views.now }
+{
+    for view in views {
+        if view.link.is_some() {
+            return false;
+        }
+    }
+    true
+}

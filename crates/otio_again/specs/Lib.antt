@@ -1,0 +1,3 @@
+pub mod CutTrees
+pub mod SameCut
+pub mod Meanings

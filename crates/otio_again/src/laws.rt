@@ -1,0 +1,15 @@
+// What is true of every cut and its text.
+ghost use Rattle.otio_again.specs.Meanings.{WrittenIsReadAgain, WrittenIsSpelled};
+
+/// What is written of a sound cut is JSON, with at most 64 lists and objects in one another: the grammar spells by it
+/// the tree of the cut, places aside.
+pub fn what_is_written_is_spelled()
+    ensures { WrittenIsSpelled }
+{}
+
+/// What is written of a sound cut with a track, if it has at most 32 MiB, is opened at the same counting, as a cut that
+/// is the same: the same kinds and start, and on each track the same frames, dissolves and items, where media and nests
+/// are compared by what they are, items by the order in which they come, and links are left out.
+pub fn a_written_cut_is_read_again()
+    ensures { WrittenIsReadAgain }
+{}
