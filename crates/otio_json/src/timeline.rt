@@ -7,14 +7,14 @@ ghost use Rattle.otio_tracks.specs.Reading.{Reads, Gives};
 ghost use Rattle.otio_tracks.specs.Times.{rate_pair};
 ghost use Rattle.otio_tracks.specs.Clips.{entries};
 ghost use Rattle.otio_json.specs.Soundness.{IsSoundOpening};
-ghost use Rattle.otio_json.specs.Timelines.{rate_counted, start_read, untrimmed, kind_read, nesting_of, empty_table, head_of_track, next_track, tracks_read, timeline_read, tree_read, doc_fault, document_read};
+ghost use Rattle.otio_json.specs.Timelines.{rate_counted, start_read, untrimmed, kind_read, nesting_of, head_of_track, next_track, tracks_read, timeline_read, tree_read, doc_fault, document_read};
 
 use crate::nests::{Nesting, track};
 use crate::opening::Opening;
-use composables::{Kind, Listed, Reels, Table, Track};
+use composables::{Kind, Listed, Track};
 use json_tree::{Json, JsonFault, read};
 use otio_tracks::{
-    DocCode, DocFault, Fault, enabled, expect, fault_at, frame, given, list, needed, text,
+    DocCode, DocFault, Entries, Fault, enabled, expect, fault_at, frame, given, list, needed, text,
 };
 use ratio_time::Rate;
 use std::alloc::Global;
@@ -90,7 +90,7 @@ fn head_of_track(json: &Json) -> Result<Kind, Fault>
 fn add_track(
     alloc: Global,
     rate: &Rate,
-    table: &mut Table,
+    table: &mut Entries,
     tracks: &mut Listed<Track>,
     json: &Json,
 ) -> Result<(), DocFault>
@@ -115,7 +115,7 @@ fn add_track(
         json.at,
     )?;
     tracks.push(track)?;
-    table.kinds.push(kind)?;
+    table.add_kind(kind)?;
     Ok(())
 }
 
@@ -123,7 +123,7 @@ fn add_track(
 fn add_tracks(
     alloc: Global,
     rate: &Rate,
-    table: &mut Table,
+    table: &mut Entries,
     children: &[Json],
 ) -> Result<Listed<Track>, DocFault>
     requires few { entries table.old + 2 * items_size (map tree_of children.now) < 2 ^ 31 }
@@ -136,17 +136,6 @@ fn add_tracks(
         add_track(alloc, rate, table, &mut tracks, json)?;
     }
     Ok(tracks)
-}
-
-fn empty_table(alloc: Global) -> Table
-    ensures { result ≡ empty_table }
-{
-    Table {
-        kinds: Listed::new(alloc),
-        reels: Reels::new(alloc),
-        media: Listed::new(alloc),
-        nests: Listed::new(alloc),
-    }
 }
 
 #[tactic(auto, unfolding(crate::specs::Timelines::timeline_read))]
@@ -165,10 +154,10 @@ fn timeline(alloc: Global, counting: &Counting, json: &Json) -> Result<Opening, 
     if items.is_empty() || items.len() > MAX_TRACKS as usize {
         return Err(fault_at(DocCode::O10, children).into());
     }
-    let mut table = empty_table(alloc);
+    let mut table = Entries::new(alloc);
     let tracks = add_tracks(alloc, &rate, &mut table, items)?;
     Ok(Opening {
-        table,
+        table: table.finish()?,
         tracks,
         counting: *counting,
         start,
