@@ -1,9 +1,9 @@
 -- What was written, cut out of all names and all bytes.
-use Rattle.std.proofs.Common.{◌≡◌, ℕ, ◌+◌, ◌<◌, ◌≤◌, List, [], ◌∷◌, ◌++◌, take, drop, length, refl, sym, ap, ◌∙◌, arith}
+use Rattle.std.proofs.Common.{◌≡◌, ℕ, ◌+◌, ◌<◌, ◌≤◌, List, [], ◌∷◌, ◌++◌, Option, Some, None, option_map, take, drop, length, refl, sym, ap, subst, ◌∙◌, arith}
 use Rattle.std.proofs.lemmas.List.{length-drop, length-take-le, take-append-le, drop-append-le}
 use Rattle.std.proofs.Math.Seq.{take-length}
 use Rattle.room_files.specs.declared.written.Lengths.{Lengths}
-use Rattle.room_files.specs.Files.{FitsWithin, all_names, all_bytes, with_file}
+use Rattle.room_files.specs.Files.{FitsWithin, KeepsWithin, all_names, all_bytes, with_file}
 use Rattle.room_files.specs.declared.written.Written.{Written}
 use Rattle.room_files.specs.WrittenInside.{IsKept, HasRoom, cut, files_of, names_length, bytes_length}
 
@@ -115,3 +115,16 @@ fits_room room w name bytes kept fits =
       short = omega (arith, short, w.names.ok.0);
       within = omega (arith, within, w.bytes.ok.0);
     }
+
+-- a write for which there is no room, and one for which there is
+pub goes_untold : (room : ℕ) (before : Option Written) (w : Written) (name bytes : List ℕ) → before ≡ Some w → IsKept room w
+    → (HasRoom room w name bytes → ⊥) → KeepsWithin room (option_map files_of before) None name bytes
+goes_untold room before w name bytes is kept none =
+    subst (λ b. KeepsWithin room (option_map files_of b) None name bytes) (sym is) (λ fits. none (fits_room room w name bytes kept fits))
+
+pub is_told_still : (room : ℕ) (before : Option Written) (w new : Written) (name bytes : List ℕ) → before ≡ Some w → IsKept room w
+    → HasRoom room w name bytes → files_of new ≡ with_file name bytes (files_of w)
+    → KeepsWithin room (option_map files_of before) (Some (files_of new)) name bytes
+is_told_still room before w new name bytes is kept has added =
+    subst (λ b. KeepsWithin room (option_map files_of b) (Some (files_of new)) name bytes) (sym is)
+    (added, subst (λ files. FitsWithin room files) (sym added) (room_fits room w name bytes kept has))

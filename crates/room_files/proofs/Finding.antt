@@ -3,7 +3,7 @@ use Rattle.std.proofs.Common.{◌≡◌, ℕ, ◌+◌, ◌<◌, ◌≤◌, Bool,
 use Rattle.std.specs.Str.{bytes_eq}
 use Rattle.std.proofs.lemmas.List.{drop_more, length-drop}
 use Rattle.room_files.specs.declared.written.Lengths.{Lengths}
-use Rattle.room_files.specs.Files.{Content, Untold, Missing, Bytes, or_earlier, content_in, found_content}
+use Rattle.room_files.specs.Files.{Content, Untold, Missing, Bytes, or_earlier, or_empty, content_in}
 use Rattle.room_files.specs.WrittenInside.{cut, names_length, bytes_length}
 
 or_earlier-assoc : (a b c : Content) → or_earlier (or_earlier a b) c ≡ or_earlier a (or_earlier b c)
@@ -35,3 +35,9 @@ module _ (ls : List Lengths) (i : ℕ) (l : Lengths) (within : i < length ls) (i
       let one : Content = if bytes_eq (take l.name names) name then Bytes (take l.bytes bytes) else Missing in
       sym (ap (λ k. or_earlier (content_in (cut names bytes k) name) found) lengths_from
       ∙ (or_earlier-assoc rest one found ∙ ap (or_earlier rest) (here (bytes_eq (take l.name names) name) (take l.bytes bytes) found)))
+
+-- looked for in nothing, what was found so far is all
+pub from_nothing : (c : Content) → or_earlier c (Bytes []) ≡ or_empty c
+from_nothing Untold = refl
+from_nothing Missing = refl
+from_nothing (Bytes x) = refl

@@ -79,7 +79,8 @@ impl Files for SureFiles {
         ensures others { OthersUnchanged name.now
             (λ n. or_empty (content_of self.old.files n)) (λ n. or_empty (content_of self.new.files n)) }
     {
-        keep_within(&mut self.written, self.room, name, bytes);
+        let written = self.written.take();
+        self.written = kept_within(written, self.room, name, bytes);
         Ok(())
     }
 }
@@ -95,31 +96,38 @@ fn read_kept(
     ensures reads { ReadsFile (or_empty (content_of (option_map files_of written.now) name.now)) limit result }
     ensures sure { (result ≡ Err faults.Failed) → ⊥ }
 {
-    let written = match written {
-        Some(written) => written,
-        None => return Err(FileFault::Memory),
-    };
-    match written.find(name) {
-        Some(bytes) => {
+    match written {
+        Some(written) => {
+            let bytes = written.find(name);
             if bytes.len() > limit as usize {
                 return Err(FileFault::TooLarge);
             }
             Ok(copied(alloc, bytes)?)
         }
-        None => Ok(Vec::new(alloc)),
+        None => Err(FileFault::Memory),
     }
 }
 
-// Adds a write while there is room for it, and tells nothing any more where there is none.
-#[tactic(auto, using(crate::proofs::Cutting::room_fits, crate::proofs::Cutting::fits_room))]
-fn keep_within(written: &mut Option<Written>, room: usize, name: &str, bytes: &[u8])
-    requires { IfSome written.old (λ w. IsKept room w) }
-    ensures keeps { KeepsWithin room (option_map files_of written.old) (option_map files_of written.new) name.now bytes.now }
-    ensures kept { IfSome written.new (λ w. IsKept room w) }
+// With a write more while there is room for it. Where there is none, nothing is told any more.
+fn kept_within(
+    written: Option<Written>,
+    room: usize,
+    name: &str,
+    bytes: &[u8],
+) -> Option<Written>
+    requires { IfSome written (λ w. IsKept room w) }
+    ensures keeps { KeepsWithin room (option_map files_of written) (option_map files_of result) name.now bytes.now }
+    ensures kept { IfSome result (λ w. IsKept room w) }
 {
-    if let Some(kept) = written
-        && (!kept.has_room(room, name, bytes) || kept.add(room, name, bytes).is_err())
-    {
-        *written = None;
+    let mut kept = match written {
+        Some(kept) => kept,
+        None => return None,
+    };
+    if !kept.has_room(room, name, bytes) {
+        return None;
+    }
+    match kept.add(room, name, bytes) {
+        Ok(()) => Some(kept),
+        Err(_) => None,
     }
 }

@@ -1,7 +1,7 @@
 // All that was written to files, in memory that is there from the beginning.
-ghost use Rattle.std.specs.Prelude.{◌≡◌, ◌↔◌, [], IfOk, IsOk, IsTrue, ℕ, option_map, bytes_eq, if◌then◌else◌};
-ghost use Rattle.room_files.specs.Files.{Bytes, content_in, found_content, with_file};
-ghost use Rattle.room_files.specs.WrittenInside.{HasRoom, IsKept, files_of};
+ghost use Rattle.std.specs.Prelude.{◌≡◌, ◌≤◌, ◌↔◌, [], IfOk, IsOk, IsTrue, ℕ, length, bytes_eq, if◌then◌else◌};
+ghost use Rattle.room_files.specs.Files.{Bytes, content_in, or_empty, with_file};
+ghost use Rattle.room_files.specs.WrittenInside.{HasRoom, IsKept, cut, files_of, names_length, bytes_length};
 
 use room_ports::Memory;
 use std::alloc::Global;
@@ -67,37 +67,41 @@ impl Written {
         Ok(())
     }
 
-    /// What was written last under this name.
-    pub fn find(&self, name: &str) -> Option<&[u8]>
+    /// What was written last under this name, or nothing.
+    pub fn find(&self, name: &str) -> &[u8]
         requires { (room : ℕ) × IsKept room self.now }
-        ensures { found_content (option_map (λ b. b.now) result) ≡ content_in (files_of self.now) name.now }
+        ensures { Bytes result.now ≡ or_empty (content_in (files_of self.now) name.now) }
     {
-        let mut names = self.names.as_slice();
-        let mut bytes = self.bytes.as_slice();
-        let mut found = None;
-        for lengths in &self.lengths {
-            let (this_name, later_names) = names.split_at(lengths.name);
-            let (these_bytes, later_bytes) = bytes.split_at(lengths.bytes);
-            found = latest(this_name, these_bytes, name, found);
-            names = later_names;
-            bytes = later_bytes;
-        }
-        found
+        last_of(&self.lengths, &self.names, &self.bytes, name)
     }
 }
 
+// What the last of these writes under this name wrote, or nothing. They have these lengths, and their names and what
+// they wrote stand behind one another.
+fn last_of<'a>(lengths: &[Lengths], names: &[u8], bytes: &'a [u8], name: &str) -> &'a [u8]
+    requires names { names_length lengths.now ≤ length names.now }
+    requires bytes { bytes_length lengths.now ≤ length bytes.now }
+    ensures { Bytes result.now ≡ or_empty (content_in (cut names.now bytes.now lengths.now) name.now) }
+{
+    let mut names = names;
+    let mut bytes = bytes;
+    let mut found: &[u8] = &[];
+    for each in lengths {
+        let (this_name, later_names) = names.split_at(each.name);
+        let (these_bytes, later_bytes) = bytes.split_at(each.bytes);
+        found = latest(this_name, these_bytes, name, found);
+        names = later_names;
+        bytes = later_bytes;
+    }
+    found
+}
+
 // What was found so far, where a write of these bytes under `this_name` comes behind it.
-fn latest<'a>(
-    this_name: &[u8],
-    bytes: &'a [u8],
-    name: &str,
-    found: Option<&'a [u8]>,
-) -> Option<&'a [u8]>
-    ensures { found_content (option_map (λ b. b.now) result)
-        ≡ (if bytes_eq this_name.now name.now then Bytes bytes.now else found_content (option_map (λ b. b.now) found)) }
+fn latest<'a>(this_name: &[u8], bytes: &'a [u8], name: &str, found: &'a [u8]) -> &'a [u8]
+    ensures { Bytes result.now ≡ (if bytes_eq this_name.now name.now then Bytes bytes.now else Bytes found.now) }
 {
     if this_name == name.as_bytes() {
-        return Some(bytes);
+        return bytes;
     }
     found
 }
