@@ -9,7 +9,7 @@ use Rattle.composables.specs.declared.media.Media.{Media}
 use Rattle.composables.specs.declared.media.Table.{Table}
 use Rattle.otio_tracks.specs.Clips.{media_of, same_media, number_or, entry_number, unless_there, with_entry, with_media}
 
-Key : Type 0
+abbrev pub Key : Type 0
 Key = ℕ × ℕ × ℕ
 
 -- whether two keys are one

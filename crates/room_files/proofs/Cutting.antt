@@ -1,5 +1,5 @@
 -- What was written, cut out of all names and all bytes.
-use Rattle.std.proofs.Common.{◌≡◌, ℕ, ◌+◌, ◌<◌, ◌≤◌, List, [], ◌∷◌, ◌++◌, Option, Some, None, option_map, take, drop, length, refl, sym, ap, subst, ◌∙◌, arith}
+use Rattle.std.proofs.Common.{◌≡◌, ℕ, ◌+◌, ◌<◌, ◌≤◌, true, false, true≢false, List, [], ◌∷◌, ◌++◌, Option, Some, None, option_map, take, drop, length, refl, sym, ap, subst, ◌∙◌, arith}
 use Rattle.std.proofs.lemmas.List.{length-drop, length-take-le, take-append-le, drop-append-le}
 use Rattle.std.proofs.Math.Seq.{take-length}
 use Rattle.room_files.specs.declared.written.Lengths.{Lengths}
@@ -118,9 +118,9 @@ fits_room room w name bytes kept fits =
 
 -- a write for which there is no room, and one for which there is
 pub goes_untold : (room : ℕ) (before : Option Written) (w : Written) (name bytes : List ℕ) → before ≡ Some w → IsKept room w
-    → (HasRoom room w name bytes → ⊥) → KeepsWithin room (option_map files_of before) None name bytes
+    → (HasRoom room w name bytes → false ≡ true) → KeepsWithin room (option_map files_of before) None name bytes
 goes_untold room before w name bytes is kept none =
-    subst (λ b. KeepsWithin room (option_map files_of b) None name bytes) (sym is) (λ fits. none (fits_room room w name bytes kept fits))
+    subst (λ b. KeepsWithin room (option_map files_of b) None name bytes) (sym is) (λ fits. true≢false (sym (none (fits_room room w name bytes kept fits))))
 
 pub is_told_still : (room : ℕ) (before : Option Written) (w new : Written) (name bytes : List ℕ) → before ≡ Some w → IsKept room w
     → HasRoom room w name bytes → files_of new ≡ with_file name bytes (files_of w)

@@ -15,22 +15,27 @@ here : (b : Bool) (bytes : List ℕ) (found : Content) → or_earlier (if b then
 here true bytes found = refl
 here false bytes found = refl
 
-module _ (ls : List Lengths) (i : ℕ) (l : Lengths) (within : i < length ls) (is : l ≡ get_or ls i l) where
-  lengths_from : drop i ls ≡ l ∷ drop (i + 1) ls
-  lengths_from = drop_more ls i l within ∙ ap (λ x. x ∷ drop (i + 1) ls) (sym is)
+module _ (ls : List Lengths) (i : ℕ) (d : Lengths) (within : i < length ls) where
+  lengths_from : drop i ls ≡ get_or ls i d ∷ drop (i + 1) ls
+  lengths_from = drop_more ls i d within
 
-  pub names_from : names_length (drop i ls) ≡ l.name + names_length (drop (i + 1) ls)
-  names_from = ap names_length lengths_from
+  pub names_left : (names : List ℕ) → names_length (drop i ls) ≤ length names → names_length (drop (i + 1) ls) ≤ length (drop (get_or ls i d).name names)
+  names_left names h =
+      let e : names_length (drop i ls) ≡ (get_or ls i d).name + names_length (drop (i + 1) ls) = ap names_length lengths_from in
+      omega (arith, h, e, length-drop (get_or ls i d).name names)
 
-  pub bytes_from : bytes_length (drop i ls) ≡ l.bytes + bytes_length (drop (i + 1) ls)
-  bytes_from = ap bytes_length lengths_from
+  pub bytes_left : (bytes : List ℕ) → bytes_length (drop i ls) ≤ length bytes → bytes_length (drop (i + 1) ls) ≤ length (drop (get_or ls i d).bytes bytes)
+  bytes_left bytes h =
+      let e : bytes_length (drop i ls) ≡ (get_or ls i d).bytes + bytes_length (drop (i + 1) ls) = ap bytes_length lengths_from in
+      omega (arith, h, e, length-drop (get_or ls i d).bytes bytes)
 
   -- one write more was looked at
   pub found_from : (names bytes name : List ℕ) (found : Content)
-      → or_earlier (content_in (cut (drop l.name names) (drop l.bytes bytes) (drop (i + 1) ls)) name)
-          (if bytes_eq (take l.name names) name then Bytes (take l.bytes bytes) else found)
+      → or_earlier (content_in (cut (drop (get_or ls i d).name names) (drop (get_or ls i d).bytes bytes) (drop (i + 1) ls)) name)
+          (if bytes_eq (take (get_or ls i d).name names) name then Bytes (take (get_or ls i d).bytes bytes) else found)
         ≡ or_earlier (content_in (cut names bytes (drop i ls)) name) found
   found_from names bytes name found =
+      let l : Lengths = get_or ls i d in
       let rest : Content = content_in (cut (drop l.name names) (drop l.bytes bytes) (drop (i + 1) ls)) name in
       let one : Content = if bytes_eq (take l.name names) name then Bytes (take l.bytes bytes) else Missing in
       sym (ap (λ k. or_earlier (content_in (cut names bytes k) name) found) lengths_from
