@@ -1,5 +1,5 @@
 -- Media entries that are found by their keys.
-use Rattle.std.proofs.Common.{◌≡◌, ℕ, ◌+◌, ◌<◌, Bool, true, false, ◌&&◌, List, [], ◌∷◌, ◌++◌, Option, Some, None, length, map, refl, sym, ap, ◌∙◌, arith, cond, position, if◌then◌else◌}
+use Rattle.std.proofs.Common.{◌≡◌, ℕ, ◌+◌, ◌<◌, Bool, true, false, not, ◌&&◌, List, [], ◌∷◌, ◌++◌, Option, Some, None, length, map, refl, sym, ap, ◌∙◌, arith, cond, position, if◌then◌else◌}
 use Rattle.std.specs.Prelude.{eqb, nat_lt}
 use Rattle.std.specs.Option.{is_some}
 use Rattle.std.specs.List.{list_any, position_or_len}
@@ -16,9 +16,13 @@ Key = ℕ × ℕ × ℕ
 abbrev pub same_key : Key → Key → Bool
 same_key a b = (eqb a.0 b.0 && eqb a.1 b.1) && eqb a.2 b.2
 
+turned : (b : Bool) (n : ℕ) → cond (not b) (1 + n) 0 ≡ cond b 0 (1 + n)
+turned true n = refl
+turned false n = refl
+
 -- how far an entry stands behind the front is how far its key does
 place_same : (k : Key) (ks : List Key) → position_or_len (same_media (media_of k)) (map media_of ks) ≡ position_or_len (same_key k) ks
-place_same k ks = is_position_or_len (λ xs. position_or_len (same_media (media_of k)) (map media_of xs)) (same_key k) refl (λ x xs. refl) ks
+place_same k ks = is_position_or_len (λ xs. position_or_len (same_media (media_of k)) (map media_of xs)) (same_key k) refl (λ x xs. turned (same_key k x) (position_or_len (same_media (media_of k)) (map media_of xs))) ks
 
 pub position_same : (k : Key) (ks : List Key) → position (same_media (media_of k)) (map media_of ks) ≡ position (same_key k) ks
 position_same k ks = rw (place_same k ks, length-map ks media_of) refl
