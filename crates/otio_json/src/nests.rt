@@ -13,8 +13,8 @@ use composables::{Layer, Listed, Nest, Track};
 use frame_meaning::{Side, What};
 use json_tree::Json;
 use otio_tracks::{
-    DocCode, DocFault, Entries, Fault, Part, Row, Schema, Span, clip, fault_at, frames_within, gap_length,
-    given, head, list, needed, schema_of, track_of, trim,
+    DocCode, DocFault, Entries, Fault, Part, Row, Schema, Span, clip, fault_at, frames_within,
+    gap_length, given, head, list, needed, schema_of, track_of, trim,
 };
 use ratio_time::Rate;
 use std::alloc::Global;

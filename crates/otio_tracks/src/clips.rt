@@ -163,7 +163,8 @@ fn clip_frames(source: Option<(u32, u32)>, available: Option<(u32, u32)>) -> Opt
     requires available { IfSome available (λ f. (f.0 < f.1) × (f.1 ≤ MOST_SOURCE)) }
     ensures frames { result ≡ clip_frames source available }
     ensures short { IfSome result (λ f. f.len ≤ MOST_SOURCE) }
-    ensures within { IfSome result (λ f. 0 < f.len → (f.from ≤ f.source) × (f.source + f.len ≤ f.to)) }
+    ensures within { IfSome result (λ f. 0 < f.len → (f.from ≤ f.source)
+        × (f.source + f.len ≤ f.to)) }
 {
     match (source, available) {
         (Some(source), Some(available)) => {
@@ -226,7 +227,8 @@ fn reel(clip: &Json) -> &str
 /// The item of a clip on this reel, which is entered in the table.
 fn enter(table: &mut Entries, reel: &str, frames: Frames) -> Result<Part, Memory>
     requires few { entries table.old + 2 < 2 ^ 32 }
-    requires within { 0 < frames.len → (frames.from ≤ frames.source) × (frames.source + frames.len ≤ frames.to) }
+    requires within { 0 < frames.len → (frames.from ≤ frames.source)
+        × (frames.source + frames.len ≤ frames.to) }
     ensures ok { IfOk result (λ part. (part, table.new) ≡ entered table.old reel.now frames) }
     ensures few { OnOk result (entries table.new ≤ entries table.old + 2) }
     ensures short { IfOk result (λ part. part.len ≡ frames.len) }
@@ -255,7 +257,8 @@ fn enter(table: &mut Entries, reel: &str, frames: Frames) -> Result<Part, Memory
 #[tactic(auto, unfolding(crate::specs::Clips::clip_read))]
 pub fn clip(rate: &Rate, table: &mut Entries, json: &Json) -> Result<Part, DocFault>
     requires { entries table.old + 2 < 2 ^ 32 }
-    ensures read { Gives (λ part. (part, table.new)) result (clip_read (rate_pair rate.now) table.old (tree_of json.now)) }
+    ensures read { Gives (λ part. (part, table.new)) result
+        (clip_read (rate_pair rate.now) table.old (tree_of json.now)) }
     ensures few { OnOk result (entries table.new ≤ entries table.old + 2) }
     ensures short { IfOk result (λ part. part.len ≤ 2147483647) }
     ensures sound { IfOk result IsItemPart }

@@ -41,7 +41,7 @@ cut-add n b name new (l ∷ ls) last e f g h =
     let dn = drop-append-le l.name n name (omega (arith, e)) in
     let db = drop-append-le l.bytes b new (omega (arith, f)) in
     let rest = cut-add (drop l.name n) (drop l.bytes b) name new ls last
-      (omega (arith, e, length-drop l.name n)) (omega (arith, f, length-drop l.bytes b)) g h in
+    (omega (arith, e, length-drop l.name n)) (omega (arith, f, length-drop l.bytes b)) g h in
     rw (tn, tb, dn, db) (ap (λ fs. (take l.name n, take l.bytes b) ∷ fs) rest)
 
 count-add : (fs : List (List ℕ × List ℕ)) (name new : List ℕ) → length (with_file name new fs) ≡ length fs + 1

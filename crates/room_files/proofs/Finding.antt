@@ -32,8 +32,8 @@ module _ (ls : List Lengths) (i : ℕ) (d : Lengths) (within : i < length ls) wh
   -- one write more was looked at
   pub found_from : (names bytes name : List ℕ) (found : Content)
       → or_earlier (content_in (cut (drop (get_or ls i d).name names) (drop (get_or ls i d).bytes bytes) (drop (i + 1) ls)) name)
-          (if bytes_eq (take (get_or ls i d).name names) name then Bytes (take (get_or ls i d).bytes bytes) else found)
-        ≡ or_earlier (content_in (cut names bytes (drop i ls)) name) found
+      (if bytes_eq (take (get_or ls i d).name names) name then Bytes (take (get_or ls i d).bytes bytes) else found)
+      ≡ or_earlier (content_in (cut names bytes (drop i ls)) name) found
   found_from names bytes name found =
       let l : Lengths = get_or ls i d in
       let rest : Content = content_in (cut (drop l.name names) (drop l.bytes bytes) (drop (i + 1) ls)) name in

@@ -60,9 +60,11 @@ impl Files for SureFiles {
         ensures stays { self.new ≡ self.old }
 
         // What all files promise.
-        ensures whole { IfOk result (λ v. IsWhole (or_empty (content_of self.old.files name.now)) v.items) }
+        ensures whole { IfOk result (λ v. IsWhole
+            (or_empty (content_of self.old.files name.now)) v.items) }
         ensures within { IfOk result (λ v. length v.items ≤ limit) }
-        ensures refuses { IfErr result (λ e. Refuses e (or_empty (content_of self.old.files name.now)) limit) }
+        ensures refuses { IfErr result (λ e. Refuses e
+            (or_empty (content_of self.old.files name.now)) limit) }
         ensures counts { CountsRead result 0 0 }
     {
         read_kept(alloc, &self.written, name, limit)
@@ -77,7 +79,8 @@ impl Files for SureFiles {
         // What all files promise.
         ensures holds { IsWhole (or_empty (content_of self.new.files name.now)) bytes.now }
         ensures others { OthersUnchanged name.now
-            (λ n. or_empty (content_of self.old.files n)) (λ n. or_empty (content_of self.new.files n)) }
+            (λ n. or_empty (content_of self.old.files n))
+            (λ n. or_empty (content_of self.new.files n)) }
     {
         let written = self.written.take();
         self.written = kept_within(written, self.room, name, bytes);
@@ -93,7 +96,8 @@ fn read_kept(
     limit: u32,
 ) -> Result<Vec<u8>, FileFault>
     requires { IfSome written.now (λ w. (room : ℕ) × IsKept room w) }
-    ensures reads { ReadsFile (or_empty (content_of (option_map files_of written.now) name.now)) limit result }
+    ensures reads { ReadsFile (or_empty (content_of (option_map files_of written.now) name.now))
+        limit result }
     ensures sure { (result ≡ Err faults.Failed) → ⊥ }
 {
     match written {
@@ -109,14 +113,10 @@ fn read_kept(
 }
 
 // With a write more while there is room for it. Where there is none, nothing is told any more.
-fn kept_within(
-    written: Option<Written>,
-    room: usize,
-    name: &str,
-    bytes: &[u8],
-) -> Option<Written>
+fn kept_within(written: Option<Written>, room: usize, name: &str, bytes: &[u8]) -> Option<Written>
     requires { IfSome written (λ w. IsKept room w) }
-    ensures keeps { KeepsWithin room (option_map files_of written) (option_map files_of result) name.now bytes.now }
+    ensures keeps { KeepsWithin room (option_map files_of written)
+        (option_map files_of result) name.now bytes.now }
     ensures kept { IfSome result (λ w. IsKept room w) }
 {
     let mut kept = match written {

@@ -12,11 +12,7 @@ enum Step {
 
 // The calls, one after the other: `.` for a write, the bytes of a read with `/` behind them, `!` for a fault, `>`
 // for a file that is too large and `?` for want of memory.
-fn files_log<F: Files>(
-    alloc: Global,
-    files: &mut F,
-    steps: &[Step],
-) -> Result<String, AllocError> {
+fn files_log<F: Files>(alloc: Global, files: &mut F, steps: &[Step]) -> Result<String, AllocError> {
     let mut log = Vec::new(alloc);
     for step in steps {
         match *step {
@@ -44,12 +40,56 @@ fn files_over_memory_hold_what_was_written_last(rt: HostRuntime) -> Result<(), M
     let alloc = rt.alloc();
     // failing calls, calls, what they answer; a file `put` of the bytes `here` is there
     let cases: [(&[u32], &[Step], &str); 6] = [
-        (&[], &[Read("put", 4), Read("put", 3), Read("none", 9)], "here/>!"),
-        (&[], &[Write("a", "one"), Write("b", "two"), Read("a", 3), Read("b", 9)], "..one/two/"),
-        (&[], &[Write("a", "one"), Write("a", ""), Read("a", 0), Read("put", 9)], "../here/"),
-        (&[2], &[Write("a", "one"), Write("a", "two"), Read("a", 9)], ".!one/"),
-        (&[1, 3], &[Read("put", 9), Read("put", 9), Write("put", "x"), Read("put", 9)], "!here/!here/"),
-        (&[3, 4], &[Read("none", 0), Write("none", "x"), Read("none", 1), Read("none", 1)], "!.!!"),
+        (
+            &[],
+            &[Read("put", 4), Read("put", 3), Read("none", 9)],
+            "here/>!",
+        ),
+        (
+            &[],
+            &[
+                Write("a", "one"),
+                Write("b", "two"),
+                Read("a", 3),
+                Read("b", 9),
+            ],
+            "..one/two/",
+        ),
+        (
+            &[],
+            &[
+                Write("a", "one"),
+                Write("a", ""),
+                Read("a", 0),
+                Read("put", 9),
+            ],
+            "../here/",
+        ),
+        (
+            &[2],
+            &[Write("a", "one"), Write("a", "two"), Read("a", 9)],
+            ".!one/",
+        ),
+        (
+            &[1, 3],
+            &[
+                Read("put", 9),
+                Read("put", 9),
+                Write("put", "x"),
+                Read("put", 9),
+            ],
+            "!here/!here/",
+        ),
+        (
+            &[3, 4],
+            &[
+                Read("none", 0),
+                Write("none", "x"),
+                Read("none", 1),
+                Read("none", 1),
+            ],
+            "!.!!",
+        ),
     ];
     for (failing, steps, log) in cases {
         let mut failing_calls = Vec::new(alloc);
@@ -68,9 +108,38 @@ fn files_that_never_fail_tell_up_to_their_room(rt: HostRuntime) -> Result<(), Me
     let alloc = rt.alloc();
     // room, calls, what they answer
     let cases: [(u32, &[Step], &str); 4] = [
-        (6, &[Read("a", 0), Write("a", "abc"), Write("b", "def"), Read("a", 3), Read("b", 2)], "/..abc/>"),
-        (6, &[Write("a", "abc"), Write("a", "def"), Read("a", 9), Read("b", 0)], "..def//"),
-        (5, &[Write("a", "abc"), Write("b", "de"), Read("b", 9), Write("c", "f"), Read("a", 9)], "..de/.?"),
+        (
+            6,
+            &[
+                Read("a", 0),
+                Write("a", "abc"),
+                Write("b", "def"),
+                Read("a", 3),
+                Read("b", 2),
+            ],
+            "/..abc/>",
+        ),
+        (
+            6,
+            &[
+                Write("a", "abc"),
+                Write("a", "def"),
+                Read("a", 9),
+                Read("b", 0),
+            ],
+            "..def//",
+        ),
+        (
+            5,
+            &[
+                Write("a", "abc"),
+                Write("b", "de"),
+                Read("b", 9),
+                Write("c", "f"),
+                Read("a", 9),
+            ],
+            "..de/.?",
+        ),
         (0, &[Write("a", ""), Read("a", 0)], "./"),
     ];
     for (room, steps, log) in cases {

@@ -81,7 +81,8 @@ impl Written {
 fn last_of<'a>(lengths: &[Lengths], names: &[u8], bytes: &'a [u8], name: &str) -> &'a [u8]
     requires names { names_length lengths.now ≤ length names.now }
     requires bytes { bytes_length lengths.now ≤ length bytes.now }
-    ensures { Bytes result.now ≡ or_empty (content_in (cut names.now bytes.now lengths.now) name.now) }
+    ensures { Bytes result.now ≡ or_empty (content_in
+        (cut names.now bytes.now lengths.now) name.now) }
 {
     let mut names = names;
     let mut bytes = bytes;
@@ -98,7 +99,8 @@ fn last_of<'a>(lengths: &[Lengths], names: &[u8], bytes: &'a [u8], name: &str) -
 
 // What was found so far, where a write of these bytes under `this_name` comes behind it.
 fn latest<'a>(this_name: &[u8], bytes: &'a [u8], name: &str, found: &'a [u8]) -> &'a [u8]
-    ensures { Bytes result.now ≡ (if bytes_eq this_name.now name.now then Bytes bytes.now else Bytes found.now) }
+    ensures { Bytes result.now
+        ≡ (if bytes_eq this_name.now name.now then Bytes bytes.now else Bytes found.now) }
 {
     if this_name == name.as_bytes() {
         return bytes;

@@ -148,10 +148,12 @@ fn what_is_written_opens_the_same(rt: HostRuntime) -> Result<(), Fail> {
 fn readable_front(alloc: Global, text: &[u8]) -> Option<usize> {
     for cut in 0..text.len() {
         match read_timeline(alloc, &text[..cut], &at_24()) {
-            Err(DocFault::Refused {
-                code: DocCode::J1,
-                at,
-            }) => {
+            Err(
+                DocFault::Refused {
+                    code: DocCode::J1,
+                    at,
+                },
+            ) => {
                 if at as usize != cut {
                     return Some(cut);
                 }

@@ -27,4 +27,4 @@ returns-clause-added c =
     let k = c.requires.kept in
     rw (c.in_ok-extend_from_slice.ensures.items, c.in_ok-extend_from_slice-2.ensures.items, c.in_ok-push.ensures.items, c.as_bytes.ensures.value)
     (cut-add c.args.self.now.names.items c.args.self.now.bytes.items c.args.name.now c.args.bytes.now c.args.self.now.lengths.items _
-      (k.names ∙ c.args.self.now.names.ok.0) (k.bytes ∙ c.args.self.now.bytes.ok.0) refl refl)
+    (k.names ∙ c.args.self.now.names.ok.0) (k.bytes ∙ c.args.self.now.bytes.ok.0) refl refl)
