@@ -5,13 +5,13 @@ ghost use Rattle.json_tree.specs.Size.{tree_size, items_size};
 ghost use Rattle.json_tree.specs.View.{tree_of};
 ghost use Rattle.otio_tracks.specs.Reading.{Reads, Gives};
 ghost use Rattle.otio_tracks.specs.Times.{rate_pair};
-ghost use Rattle.otio_tracks.specs.Clips.{entries};
+ghost use Rattle.otio_tracks.specs.Clips.{entries, empty_table};
 ghost use Rattle.otio_json.specs.Soundness.{IsSoundOpening};
-ghost use Rattle.otio_json.specs.Timelines.{rate_counted, start_read, untrimmed, kind_read, nesting_of, head_of_track, next_track, tracks_read, timeline_read, tree_read, doc_fault, document_read};
+ghost use Rattle.otio_json.specs.Timelines.{rate_counted, start_read, untrimmed, kind_read, nesting_of, head_of_track, next_track, tracks_read, sequence_read, timeline_read, tree_read, doc_fault, document_read};
 
 use crate::nests::{Nesting, track};
 use crate::opening::Opening;
-use composables::{Kind, Listed, Track};
+use composables::{Kind, Listed, Table, Track};
 use json_tree::{Json, JsonFault, read};
 use otio_tracks::{
     DocCode, DocFault, Entries, Fault, enabled, expect, fault_at, frame, given, list, needed, text,
@@ -138,6 +138,43 @@ fn add_tracks(
     Ok(tracks)
 }
 
+// The tracks of the sequence, and the table that they use.
+fn read_tracks(
+    alloc: Global,
+    rate: &Rate,
+    children: &[Json],
+) -> Result<(Listed<Track>, Table), DocFault>
+    requires few { 2 * items_size (map tree_of children.now) < 2 ^ 31 }
+    requires count { length children.now ≤ MAX_TRACKS }
+    ensures { Gives (λ state. state) result
+        (tracks_read (rate_pair rate.now) empty_table (map tree_of children.now)) }
+{
+    let mut table = Entries::new(alloc);
+    let tracks = add_tracks(alloc, rate, &mut table, children)?;
+    let table = table.finish()?;
+    Ok((tracks, table))
+}
+
+// The same, if there is one track and not too many. Their list stands at `at`.
+fn sequence(
+    alloc: Global,
+    rate: &Rate,
+    children: &[Json],
+    at: u32,
+) -> Result<(Listed<Track>, Table), DocFault>
+    requires { 2 * items_size (map tree_of children.now) < 2 ^ 31 }
+    ensures { Gives (λ state. state) result
+        (sequence_read (rate_pair rate.now) (map tree_of children.now) at) }
+{
+    if children.is_empty() || children.len() > MAX_TRACKS as usize {
+        return Err(DocFault::Refused {
+            code: DocCode::O10,
+            at,
+        });
+    }
+    read_tracks(alloc, rate, children)
+}
+
 #[tactic(auto, unfolding(crate::specs::Timelines::timeline_read))]
 fn timeline(alloc: Global, counting: &Counting, json: &Json) -> Result<Opening, DocFault>
     requires { 2 * tree_size (tree_of json.now) < 2 ^ 31 }
@@ -151,13 +188,9 @@ fn timeline(alloc: Global, counting: &Counting, json: &Json) -> Result<Opening, 
     untrimmed(stack)?;
     let children = needed(stack, "children")?;
     let items = list(children)?;
-    if items.is_empty() || items.len() > MAX_TRACKS as usize {
-        return Err(fault_at(DocCode::O10, children).into());
-    }
-    let mut table = Entries::new(alloc);
-    let tracks = add_tracks(alloc, &rate, &mut table, items)?;
+    let (tracks, table) = sequence(alloc, &rate, items, children.at)?;
     Ok(Opening {
-        table: table.finish()?,
+        table,
         tracks,
         counting: *counting,
         start,
