@@ -177,7 +177,7 @@ fn a_view_shows_its_part_of_each_dissolve(rt: HostRuntime) -> Result<(), Fail> {
         dissolve(2, 0, gap(5)),
     ];
     let black = Side::Dark;
-    let rows = [
+    for (views, range, want) in [
         // the whole of a dissolve, and each part of one
         (
             cut.as_slice(),
@@ -222,8 +222,7 @@ fn a_view_shows_its_part_of_each_dissolve(rt: HostRuntime) -> Result<(), Fail> {
                 dark(5),
             ],
         ),
-    ];
-    for (views, range, want) in rows {
+    ] {
         assert_eq!(rt;
             seen(rt.alloc(), views, range)?.as_slice(),
             want,

@@ -67,7 +67,7 @@ fn stack_of(
 #[test]
 fn a_channel_shows_the_topmost_that_is_not_dark(rt: HostRuntime) -> Result<(), Fail> {
     let cut = [clip(0, 0, 10, 4), dissolve(2, 2, clip(1, 2, 50, 4))];
-    let rows = [
+    for (lower, upper, want) in [
         // a dissolve below a gap
         (
             cut.as_slice(),
@@ -94,8 +94,7 @@ fn a_channel_shows_the_topmost_that_is_not_dark(rt: HostRuntime) -> Result<(), F
         ),
         // a shorter track over a longer one
         (&cut, &[clip(0, 4, 70, 7)], &[pic(2, 70, 7), pic(1, 53, 1)]),
-    ];
-    for (lower, upper, want) in rows {
+    ] {
         assert_eq!(rt;
             stack_of(rt.alloc(), &[], lower, upper)?.as_slice(),
             want,
@@ -111,7 +110,7 @@ fn a_nest_shows_its_layers(rt: HostRuntime) -> Result<(), Fail> {
     let above = [gap(2), clip(0, 2, 50, 2)];
     let cut = [clip(0, 0, 10, 4), dissolve(2, 2, clip(1, 2, 50, 4))];
     let below = [clip(0, 4, 70, 6)];
-    let rows = [
+    for (layers, lower, upper, want) in [
         // the topmost layer that is not dark
         (
             [(picture.as_slice(), 0, 6), (above.as_slice(), 0, 4)].as_slice(),
@@ -147,8 +146,7 @@ fn a_nest_shows_its_layers(rt: HostRuntime) -> Result<(), Fail> {
                 pic(2, 73, 3),
             ],
         ),
-    ];
-    for (layers, lower, upper, want) in rows {
+    ] {
         let video = stack_of(rt.alloc(), &[(6, layers)], lower, &[upper])?;
         assert_eq!(rt; video.as_slice(), want, "{want:?}");
     }

@@ -56,7 +56,7 @@ fn cut_below(alloc: Global, upper: &[ItemView]) -> Result<Vec<Segment>, SegmentF
 
 #[test]
 fn a_dissolve_has_what_goes_on_behind_it(rt: HostRuntime) -> Result<(), Fail> {
-    let rows = [
+    for (upper, want) in [
         (
             [].as_slice(),
             [
@@ -77,8 +77,7 @@ fn a_dissolve_has_what_goes_on_behind_it(rt: HostRuntime) -> Result<(), Fail> {
                 dissolve(8, 3, 5, pic(1, 54), Side::Dark),
             ],
         ),
-    ];
-    for (upper, want) in rows {
+    ] {
         assert_eq!(rt; cut_below(rt.alloc(), upper)?.as_slice(), want, "{want:?}");
     }
     Ok(())
