@@ -1,6 +1,7 @@
 // Dissolves put at every place of small tracks and taken away, against a plain program over cells.
-ghost use Rattle.std.specs.Prelude.{◌≡◌, ◌<◌};
+ghost use Rattle.std.specs.Prelude.{◌≡◌, ◌<◌, [], ◌∷◌, All, map};
 ghost use Rattle.composables.specs.Good.{IsGood};
+ghost use Rattle.composables.specs.TrackState.{TrackState};
 
 use crate::tests::tracks::{CODES, marked, nest, table};
 use crate::{dissolve, undissolve};
@@ -35,23 +36,36 @@ fn played<L: Ledger>(
     let number = track.number();
     let mut named = Vec::new(alloc);
     named.push(track)?;
-    let answer = match call {
+    let answer = answered(alloc, table, &mut named, number, at, call, &mut steps);
+    let cells = match named.first() {
+        Some(track) => track.cells(alloc)?,
+        None => Vec::new(alloc),
+    };
+    Ok((answer, cells))
+}
+
+fn answered<L: Ledger>(
+    alloc: Global,
+    table: &Table,
+    named: &mut Vec<Track>,
+    track: u32,
+    at: u32,
+    call: Call,
+    steps: &mut Steps<L>,
+) -> Result<Done, EditFault>
+    requires named { map (λ (t : TrackState). t.number) named.old.items ≡ track ∷ [] }
+    requires good { All (λ t. IsGood table.now t) named.old.items }
+{
+    match call {
         Call::Put(Mark { a, b }) => {
-            let call = Dissolve {
-                track: number,
-                at,
-                a,
-                b,
-            };
-            dissolve(alloc, table, &mut named, &call, &mut steps)
+            let call = Dissolve { track, at, a, b };
+            dissolve(alloc, table, named, &call, steps)
         }
         Call::Take => {
-            let call = Undissolve { track: number, at };
-            undissolve(alloc, table, &mut named, &call, &mut steps)
+            let call = Undissolve { track, at };
+            undissolve(alloc, table, named, &call, steps)
         }
-    };
-    let cells = named[0].cells(alloc)?;
-    Ok((answer, cells))
+    }
 }
 
 fn tried(
@@ -231,11 +245,13 @@ fn mistake(alloc: Global, table: &Table, track: &Track) -> Result<Option<u32>, M
 
 // Of the tracks of three with dissolves of up to two frames on each side of their cuts, how many are edited as wanted
 // and how many are not.
-fn edited(alloc: Global, table: &Table, items: [ItemView; 3]) -> Result<(u32, u32), Memory> {
+fn edited(alloc: Global, items: [ItemView; 3]) -> Result<(u32, u32), Memory> {
+    // Few source frames more than the clips show: media 0 has one after the first clip, media 1 one before the second.
+    let table = table(alloc, &[(8, 13), (19, 40), (0, 33)])?;
     let mut right = 0_u32;
     let mut wrong = 0_u32;
     for code in 0..CODES {
-        match is_right(alloc, table, &marked(items, code))? {
+        match is_right(alloc, &table, &marked(items, code))? {
             Some(true) => right = right.saturating_add(1),
             Some(false) => wrong = wrong.saturating_add(1),
             None => {}
@@ -254,8 +270,6 @@ fn is_right(alloc: Global, table: &Table, views: &[ItemView]) -> Result<Option<b
 
 #[test]
 fn dissolves_are_put_where_there_is_room(rt: HostRuntime) -> Result<(), Fail> {
-    // Few source frames more than the clips show: media 0 has one after the first clip, media 1 one before the second.
-    let table = table(rt.alloc(), &[(8, 13), (19, 40), (0, 33)])?;
     let rows = [
         (
             [clip(0, 0, 10, 2), clip(1, 1, 20, 3), clip(2, 2, 30, 2)],
@@ -268,7 +282,7 @@ fn dissolves_are_put_where_there_is_room(rt: HostRuntime) -> Result<(), Fail> {
         ([clip(0, 2, 2, 4), clip(1, 2, 6, 4), nest(2, 4)], 9),
     ];
     for (items, want) in rows {
-        assert_eq!(rt; edited(rt.alloc(), &table, items)?, (want, 0), "{items:?}");
+        assert_eq!(rt; edited(rt.alloc(), items)?, (want, 0), "{items:?}");
     }
     Ok(())
 }
@@ -344,12 +358,24 @@ fn a_dissolve_may_take_all_the_room_there_is(rt: HostRuntime) -> Result<(), Fail
     Ok(())
 }
 
+// Whether a dissolve at a place of a track with one cut, that at 10, is answered so.
+fn is_answered(alloc: Global, at: u32, want: Option<Refusal>) -> Result<bool, Memory> {
+    let table = table(alloc, &[(8, 13), (19, 40)])?;
+    let Some(track) = laid_track(alloc, &table, 0, &[gap(10), clip(0, 1, 29, 10)])? else {
+        return Ok(false);
+    };
+    is_as_wanted(
+        alloc,
+        &table,
+        &track,
+        at,
+        Call::Put(Mark { a: 2, b: 3 }),
+        want,
+    )
+}
+
 #[test]
 fn a_dissolve_stands_at_a_cut(rt: HostRuntime) -> Result<(), Fail> {
-    let table = table(rt.alloc(), &[(8, 13), (19, 40)])?;
-    let track = laid_track(rt.alloc(), &table, 0, &[gap(10), clip(0, 1, 29, 10)])?.ok_or(
-        "these can be laid",
-    )?;
     let rows = [
         (10, None),
         (0, Some(Refusal::NotACut(0))),
@@ -357,9 +383,7 @@ fn a_dissolve_stands_at_a_cut(rt: HostRuntime) -> Result<(), Fail> {
         (20, Some(Refusal::NotACut(20))),
     ];
     for (at, want) in rows {
-        let put = Call::Put(Mark { a: 2, b: 3 });
-        let right = is_as_wanted(rt.alloc(), &table, &track, at, put, want)?;
-        assert!(rt; right, "dissolve at {at}");
+        assert!(rt; is_answered(rt.alloc(), at, want)?, "dissolve at {at}");
     }
     Ok(())
 }

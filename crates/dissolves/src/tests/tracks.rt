@@ -1,32 +1,29 @@
 // The tables and tracks of these tests.
-use composables::{ItemView, Kind, Layer, Listed, Media, Nest, Reels, Table};
+use composables::{ItemView, Kind, Listed, Media, Nest, Reels, Table};
 use frame_meaning::{Mark, Memory, What};
 use std::alloc::Global;
 
 // A table with a media entry for each of these ranges of source frames, and a nest of 100 frames.
 pub fn table(alloc: Global, ranges: &[(u32, u32)]) -> Result<Table, Memory> {
-    let mut kinds = Listed::new(alloc);
-    kinds.push(Kind::Video)?;
-    let mut media = Listed::new(alloc);
+    let mut table = Table {
+        kinds: Listed::new(alloc),
+        reels: Reels::new(alloc),
+        media: Listed::new(alloc),
+        nests: Listed::new(alloc),
+    };
+    table.kinds.push(Kind::Video)?;
     for (from, to) in ranges {
-        media.push(Media {
+        table.media.push(Media {
             reel: 0,
             from: *from,
             to: *to,
         })?;
     }
-    let mut nests = Listed::new(alloc);
-    let layers: Listed<Layer> = Listed::new(alloc);
-    nests.push(Nest {
-        layers,
+    table.nests.push(Nest {
+        layers: Listed::new(alloc),
         length: 100,
     })?;
-    Ok(Table {
-        kinds,
-        reels: Reels::new(alloc),
-        media,
-        nests,
-    })
+    Ok(table)
 }
 
 pub fn nest(number: u32, len: u32) -> ItemView {

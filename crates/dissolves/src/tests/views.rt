@@ -54,10 +54,11 @@ fn difference(alloc: Global, track: &Track) -> Result<Option<(u32, u32)>, Memory
 
 // How many dissolves of up to two frames on each side of its two cuts a track of three can have, where `runs_in` is
 // right with each of them.
-fn right_marks(alloc: Global, table: &Table, items: [ItemView; 3]) -> Result<u32, Memory> {
+fn right_marks(alloc: Global, items: [ItemView; 3]) -> Result<u32, Memory> {
+    let table = table(alloc, &[(0, u32::MAX), (0, 100), (0, 100)])?;
     let mut right = 0_u32;
     for code in 0..CODES {
-        if is_right(alloc, table, &marked(items, code))? {
+        if is_right(alloc, &table, &marked(items, code))? {
             right = right.saturating_add(1);
         }
     }
@@ -76,7 +77,6 @@ fn is_right(alloc: Global, table: &Table, views: &[ItemView]) -> Result<bool, Me
 
 #[test]
 fn runs_are_those_of_the_frames_shown(rt: HostRuntime) -> Result<(), Fail> {
-    let table = table(rt.alloc(), &[(0, u32::MAX), (0, 100), (0, 100)])?;
     // Two dissolves may have 3 times 9 - 1 times 3 forms, but for those that a source or a nest leaves out.
     let rows = [
         (
@@ -107,7 +107,7 @@ fn runs_are_those_of_the_frames_shown(rt: HostRuntime) -> Result<(), Fail> {
         ([gap(2), gap(3), clip(2, 1, 30, 2)], 0),
     ];
     for (items, want) in rows {
-        assert_eq!(rt; right_marks(rt.alloc(), &table, items)?, want, "{items:?}");
+        assert_eq!(rt; right_marks(rt.alloc(), items)?, want, "{items:?}");
     }
     Ok(())
 }

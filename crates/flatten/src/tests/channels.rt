@@ -153,18 +153,21 @@ fn a_nest_shows_its_layers(rt: HostRuntime) -> Result<(), Fail> {
     Ok(())
 }
 
+// The audio channel of a track, where it has one of its own and no video.
+fn audio_of(alloc: Global, views: &[ItemView]) -> Result<Vec<Run<u32>>, Memory> {
+    let table = table_of(alloc, &[Kind::Audio, Kind::Video], &[])?;
+    let Shown { video, audio } = shown_of(alloc, &table, views, &[])?;
+    match audio.into_vec().pop() {
+        Some(channel) if video.as_slice().is_empty() => Ok(channel.into_vec()),
+        _ => Ok(Vec::new(alloc)),
+    }
+}
+
 #[test]
 fn media_of_one_reel_go_on(rt: HostRuntime) -> Result<(), Fail> {
-    let alloc = rt.alloc();
-    let table = table_of(alloc, &[Kind::Audio, Kind::Video], &[])?;
-    let first = [clip(0, 0, 10, 3), clip(1, 1, 13, 2), clip(2, 2, 15, 1)];
-    let Shown { video, audio } = shown_of(alloc, &table, &first, &[])?;
-    assert_eq!(rt; video.as_slice().len(), 0);
-    assert_eq!(rt; audio.as_slice().len(), 1);
+    let views = [clip(0, 0, 10, 3), clip(1, 1, 13, 2), clip(2, 2, 15, 1)];
     let want = [pic(0, 10, 5), pic(1, 15, 1)];
-    for channel in audio.as_slice() {
-        assert_eq!(rt; channel.as_slice(), want.as_slice());
-    }
+    assert_eq!(rt; audio_of(rt.alloc(), &views)?.as_slice(), want.as_slice());
     Ok(())
 }
 
@@ -181,12 +184,16 @@ fn add_eight_nests(table: &mut Table, alloc: Global) -> Result<(), Memory> {
     Ok(())
 }
 
-#[test]
-fn nests_stand_in_one_another(rt: HostRuntime) -> Result<(), Fail> {
-    let alloc = rt.alloc();
+// The video channel of a track that shows the last of them from its frame 1 on.
+fn last_of_eight(alloc: Global) -> Result<Listed<Run<u32>>, Memory> {
     let mut table = table_of(alloc, &[Kind::Video], &[])?;
     add_eight_nests(&mut table, alloc)?;
     let Shown { video, audio: _ } = shown_of(alloc, &table, &[nest(0, 7, 1, 12)], &[])?;
+    Ok(video)
+}
+
+#[test]
+fn nests_stand_in_one_another(rt: HostRuntime) -> Result<(), Fail> {
     let want = [
         pic(2, 65, 5),
         pic(0, 10, 1),
@@ -197,6 +204,6 @@ fn nests_stand_in_one_another(rt: HostRuntime) -> Result<(), Fail> {
         pic(0, 60, 1),
         pic(0, 70, 1),
     ];
-    assert_eq!(rt; video.as_slice(), want.as_slice());
+    assert_eq!(rt; last_of_eight(rt.alloc())?.as_slice(), want.as_slice());
     Ok(())
 }

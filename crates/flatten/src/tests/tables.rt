@@ -20,31 +20,26 @@ pub fn nest(number: u32, nest: u32, source: u32, len: u32) -> ItemView {
 
 // Tracks of these kinds, and these nests; media m is of reel m / 2, so that two entries are of one reel.
 pub fn table_of(alloc: Global, kinds: &[Kind], nests: &[NestRow<'_>]) -> Result<Table, Memory> {
-    let mut table = empty_table(alloc)?;
+    let mut table = Table {
+        kinds: Listed::new(alloc),
+        reels: Reels::new(alloc),
+        media: Listed::new(alloc),
+        nests: Listed::new(alloc),
+    };
     for kind in kinds {
         table.kinds.push(*kind)?;
     }
-    for (length, layers) in nests {
-        add_nest(&mut table, alloc, *length, layers)?;
-    }
-    Ok(table)
-}
-
-fn empty_table(alloc: Global) -> Result<Table, Memory> {
-    let mut media = Listed::new(alloc);
     for m in 0..6 {
-        media.push(Media {
+        table.media.push(Media {
             reel: m / 2,
             from: 0,
             to: 100,
         })?;
     }
-    Ok(Table {
-        kinds: Listed::new(alloc),
-        reels: Reels::new(alloc),
-        media,
-        nests: Listed::new(alloc),
-    })
+    for (length, layers) in nests {
+        add_nest(&mut table, alloc, *length, layers)?;
+    }
+    Ok(table)
 }
 
 /// Adds a nest behind those of a table, without the layers that can't be laid.
