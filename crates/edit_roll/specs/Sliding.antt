@@ -1,7 +1,7 @@
 -- What a slide means, as OpenTimelineIO's editAlgorithm names it; its limits are this project's own. The item moves, with
 -- what it shows, over frames of the neighbour that it comes near, and the neighbour that it leaves grows. Where something
 -- else has its link the item must stay, since the two would no longer have one offset.
-use Rattle.std.specs.Prelude.{ℕ, zero, suc, ◌+◌, ◌-◌, ℤ, pos, negsuc, ◌+ℤ◌, Bool, ◌&&◌, List, [], ◌∷◌, Option, Some, None, Result, if◌then◌else◌}
+use Rattle.std.specs.Prelude.{◌≡◌, ℕ, zero, suc, ◌+◌, ◌-◌, ℤ, pos, negsuc, ◌+ℤ◌, Bool, ◌&&◌, List, [], ◌∷◌, Option, Some, None, Result, if◌then◌else◌}
 use Rattle.frame_meaning.specs.declared.cells.Cell.{Cell}
 use Rattle.frame_meaning.specs.declared.cells.Link.{Link}
 use Rattle.frame_meaning.specs.Render.{cell_at}
@@ -18,7 +18,8 @@ use Rattle.composables.specs.Ranges.{offset_of, range_of}
 use Rattle.composables.specs.TrackState.{TrackState}
 use Rattle.edit_delta.specs.Nearest.{by_sign, nearest}
 use Rattle.edit_delta.specs.Reaching.{going_on, reaching_back}
-use Rattle.edit_delta.specs.Using.{on_range, used_on}
+use Rattle.edit_delta.specs.declared.deltas.Way.{Way}
+use Rattle.edit_delta.specs.Using.{IsWayOf, on_range, used_on}
 use Rattle.edit_splice.specs.Splicing.{spliced_track}
 use Rattle.link_groups.specs.ItemLinks.{carried_outside}
 use Rattle.link_groups.specs.LinkedItems.{item_of}
@@ -81,3 +82,7 @@ slide_own table named c t = unless (links_refuse table named c t (item_of t c.it
 
 abbrev pub slide_named : Table → List TrackState → Slide → Applied
 slide_named table named c = for_own c.track (slide_own table named c) named
+
+-- the same refusal, or none, where the delta has this way
+abbrev pub IsBrokenBy : Link → ℤ → Way → Option Refusal → Type 0
+IsBrokenBy l offset way refusal = (d : ℤ) → IsWayOf d way → refusal ≡ broken_by l offset d

@@ -2,6 +2,9 @@ pub mod Beside
 pub mod Trims
 pub mod Slips
 pub mod Slipped
+pub mod LinkedRooms
+pub mod LinkedMoves
+pub mod LinkedSlip
 pub mod Ripples
 pub mod RippleTracks
 pub mod RippleShift

@@ -101,10 +101,14 @@ slip_link_by l named d = Ok (link_slipped l named d, By d)
 abbrev pub slip_link : Table → List TrackState → Link → ℤ → Applied
 slip_link table named l by = slip_link_by l named (nearest (link_allows table named l) by)
 
--- an item without a link alone; one with a link with all that has it, where all tracks of the link are named
+-- the same, where all tracks of the link are named
+abbrev pub slip_linked : Table → List TrackState → Link → ℤ → Applied
+slip_linked table named l by = unless (outside_refusal named (Some l)) (slip_link table named l by)
+
+-- an item without a link alone; one with a link with all that has it
 abbrev pub slip_with : Table → List TrackState → Slip → TrackState → Option Link → Applied
 slip_with table named c t None = among_named named (slip_track table c t)
-slip_with table named c t (Some l) = unless (outside_refusal named (Some l)) (slip_link table named l c.by)
+slip_with table named c t (Some l) = slip_linked table named l c.by
 
 abbrev pub slip_own : Table → List TrackState → Slip → TrackState → Applied
 slip_own table named c t = slip_with table named c t (link_of t c.item)

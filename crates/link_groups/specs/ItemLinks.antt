@@ -22,11 +22,15 @@ link_found (Some (x, v)) = v.link
 abbrev pub link_of : TrackState → ℕ → Option Link
 link_of t i = link_found (item_of t i)
 
--- a cell of this track has the link, and is not one of the item i of the track own
-abbrev pub carried_on : Link → ℕ → ℕ → TrackState → Bool
-carried_on l own i t = list_any (λ (c : Cell). carries l c.link && not (nat_eq t.number own && same_number c.item (Some i))) t.cells
+-- what has this item number and link on the track with this number has the link l, and is not the item i of the track own
+abbrev pub is_elsewhere : Link → ℕ → ℕ → ℕ → Option ℕ → Option Link → Bool
+is_elsewhere l own i number item link = carries l link && not (nat_eq number own && same_number item (Some i))
 
--- a cell outside the item i of the track own has the link
+-- a cell of this track that is not one of that item has the link
+abbrev pub carried_on : Link → ℕ → ℕ → TrackState → Bool
+carried_on l own i t = list_any (λ (c : Cell). is_elsewhere l own i t.number c.item c.link) t.cells
+
+-- a cell of these tracks does
 abbrev pub carried_outside : Link → ℕ → ℕ → List TrackState → Bool
 carried_outside l own i [] = false
 carried_outside l own i (t ∷ ts) = carried_on l own i t || carried_outside l own i ts

@@ -1,8 +1,7 @@
 // The link of an item, and whether something else has it.
-ghost use Rattle.std.specs.Prelude.{◌≡◌, ◌+◌, ◌≤◌, ◌&&◌, Some, nat_eq};
-ghost use Rattle.frame_meaning.specs.Cells.{same_number};
+ghost use Rattle.std.specs.Prelude.{◌≡◌, ◌+◌, ◌≤◌};
 ghost use Rattle.composables.specs.Sizes.{size_of, sizes_of};
-ghost use Rattle.link_groups.specs.ItemLinks.{carried_on, carried_outside, carries, link_of};
+ghost use Rattle.link_groups.specs.ItemLinks.{carried_on, carried_outside, carries, is_elsewhere, link_of};
 
 use crate::finding::item_on;
 use composables::{ItemView, Track};
@@ -72,16 +71,16 @@ fn carried_on<L: Ledger>(
         let Some(view) = track.item(index) else {
             unreachable!()
         };
-        if carries(link, view.link) && !is_item(track.number(), &view, own, item) {
+        if is_elsewhere(link, own, item, track.number(), &view) {
             return true;
         }
     }
     false
 }
 
-// Whether an item or gap of the track with this number is the item of the track `own`.
-fn is_item(number: u32, view: &ItemView, own: u32, item: u32) -> bool
-    ensures { result ≡ (nat_eq number own && same_number view.now.item (Some item)) }
+// Whether an item or gap of the track with this number has the link, and is not the item of the track `own`.
+fn is_elsewhere(link: Link, own: u32, item: u32, number: u32, view: &ItemView) -> bool
+    ensures { result ≡ is_elsewhere link own item number view.now.item view.now.link }
 {
-    number == own && same_item(view.item, Some(item))
+    carries(link, view.link) && !(number == own && same_item(view.item, Some(item)))
 }

@@ -12,7 +12,6 @@ mod offsets;
 mod outside;
 mod unlinking;
 
-pub use finding::{Found, item_on};
 pub use item_links::{carried_outside, carries, link_of};
 pub use linking::link;
 pub use offsets::offset;
