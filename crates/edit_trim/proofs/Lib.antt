@@ -1,4 +1,5 @@
 pub mod Beside
+pub mod TestTracks
 pub mod Trims
 pub mod Slips
 pub mod Slipped
@@ -8,4 +9,3 @@ pub mod LinkedSlip
 pub mod Ripples
 pub mod RippleTracks
 pub mod RippleShift
-pub mod Laid

@@ -1,11 +1,11 @@
 -- A slip of all that has a link, by the delta that suits it.
-use Rattle.std.proofs.Common.{◌≡◌, ℕ, zero, suc, ◌≤◌, ℤ, List, map, Ok, refl, sym, ap, ◌∙◌, arith, subst, w32, to_z, of_z, SFits, Bool}
+use Rattle.std.proofs.Common.{◌≡◌, ℕ, zero, suc, ◌≤◌, ℤ, List, map, Some, None, Ok, refl, sym, ap, ◌∙◌, arith, subst, w32, to_z, of_z, SFits, Bool}
+use Rattle.std.proofs.lemmas.Int.{to_z-of_z}
 use Rattle.frame_meaning.specs.declared.cells.Link.{Link}
+use Rattle.composables.specs.declared.calls.Slip.{Slip}
 use Rattle.composables.specs.declared.media.Table.{Table}
 use Rattle.composables.specs.declared.refusals.Done.{Done}
-use Rattle.composables.specs.declared.refusals.Done.TheVariants.{By}
-use Rattle.composables.specs.declared.refusals.Refusal.{Refusal}
-use Rattle.composables.specs.Answers.{Applied, unless}
+use Rattle.composables.specs.OwnTracks.{among_named, on_own, track_numbered}
 use Rattle.composables.specs.TrackState.{TrackState}
 use Rattle.edit_delta.specs.declared.deltas.Used.{Used}
 use Rattle.edit_delta.specs.declared.deltas.Way.{Way}
@@ -13,9 +13,11 @@ use Rattle.edit_delta.specs.declared.deltas.Way.TheVariants.{Earlier, Later, Sti
 use Rattle.edit_delta.specs.Nearest.{by_sign, lies_within, nearest}
 use Rattle.edit_delta.specs.Using.{IsUsed, IsWayOf}
 use Rattle.edit_delta.proofs.Answered.{IsUsedOf, earlier-most, later-most, used-of}
+use Rattle.edit_splice.proofs.Bridging.{for-found}
 use Rattle.edit_trim.specs.declared.linked_slips.Room.{Room}
 use Rattle.edit_trim.specs.LinkedSlips.{AllMove, RoomAmong, back_of, moved_by, on_of}
-use Rattle.edit_trim.specs.Slipping.{each_linked_on, item_may_slip_earlier, item_may_slip_later, link_slipped, slip_link, slip_link_by}
+use Rattle.edit_trim.specs.Slipping.{each_linked_on, item_may_slip_earlier, item_may_slip_later, link_slipped, slip_link, slip_linked, slip_named, slip_own, slip_track, slip_with}
+use Rattle.link_groups.specs.ItemLinks.{link_of}
 
 slipped_by_way : (l : Link) (ts : List TrackState) (d : ℤ) (w : Way) → IsWayOf d w → link_slipped l ts d ≡ map (moved_by l w) ts
 slipped_by_way l ts d Still e = ap (link_slipped l ts) e
@@ -51,3 +53,15 @@ link-slip table l ts by r u fits room is = record { moves = moves u.way refl; me
   meant =
       ap (λ (a : Done). Ok (link_slipped l ts d, a)) (sym used.used.done)
       ∙ ap (λ (us : List TrackState). Ok (us, u.done)) (slipped_by_way l ts d u.way used.used.way)
+
+-- what a slip means for an item without a link, and for one that has one
+pub alone-means : (table : Table) (c : Slip) (ts : List TrackState) (t : TrackState) → track_numbered c.track ts ≡ Some t → link_of t c.item ≡ None → slip_named table ts c ≡ on_own c.track (slip_track table c) ts
+alone-means table c ts t found none =
+    for-found c.track (slip_own table ts c) ts t found
+    ∙ (ap (slip_with table ts c t) none ∙ sym (for-found c.track (λ (u : TrackState). among_named ts (slip_track table c u)) ts t found))
+
+pub linked-means : (table : Table) (c : Slip) (ts : List TrackState) (t : TrackState) (l : Link) → SFits w32 c.by → track_numbered c.track ts ≡ Some t → link_of t c.item ≡ Some l
+    → slip_named table ts c ≡ slip_linked table ts l (to_z w32 (of_z w32 c.by))
+linked-means table c ts t l fits found some =
+    for-found c.track (slip_own table ts c) ts t found
+    ∙ (ap (slip_with table ts c t) some ∙ ap (slip_linked table ts l) (sym (to_z-of_z w32 c.by fits)))

@@ -3,4 +3,3 @@ pub mod Trimming
 pub mod Slipping
 pub mod LinkedSlips
 pub mod Rippling
-pub mod Laid
