@@ -1,5 +1,5 @@
 -- Why the link of an item does not allow its slide, case by case.
-use Rattle.std.proofs.Common.{◌≡◌, ℕ, zero, suc, ◌+◌, ◌<◌, Bool, true, false, cond, ℤ, pos, negsuc, neg_ℤ, ◌+ℤ◌, ◌-ℤ◌, List, [], ◌∷◌, Option, Some, None, IfSome, Err, slice_get, refl, sym, ap, ◌∙◌, arith, subst, w32, to_z, of_z, SFits}
+use Rattle.std.proofs.Common.{◌≡◌, ℕ, zero, suc, ◌+◌, ◌<◌, Bool, true, false, cond, ℤ, pos, negsuc, neg_ℤ, ◌+ℤ◌, ◌-ℤ◌, List, [], ◌∷◌, Option, Some, None, IfSome, Result, Err, slice_get, refl, sym, ap, ◌∙◌, arith, subst, w32, to_z, of_z, SFits}
 use Rattle.std.proofs.lemmas.Int.{to_z-of_z}
 use Rattle.frame_meaning.specs.declared.cells.Link.{Link}
 use Rattle.frame_meaning.specs.declared.cells.What.{What}
@@ -9,8 +9,10 @@ use Rattle.composables.specs.declared.calls.Slide.{Slide}
 use Rattle.composables.specs.declared.items.ItemView.{ItemView}
 use Rattle.composables.specs.declared.items.Place.{Place}
 use Rattle.composables.specs.declared.media.Table.{Table}
+use Rattle.composables.specs.declared.refusals.Done.{Done}
+use Rattle.composables.specs.declared.refusals.EditFault.{EditFault}
 use Rattle.composables.specs.declared.refusals.Refusal.{Refusal}
-use Rattle.composables.specs.Answers.{unless}
+use Rattle.composables.specs.Answers.{Answers, Applied, unless}
 use Rattle.composables.specs.Good.{IsGood}
 use Rattle.composables.specs.Items.{items_of}
 use Rattle.composables.specs.Links.{outside_refusal}
@@ -107,6 +109,10 @@ allowed-means table c ts t found refuse =
     for-found c.track (slide_own table ts c) ts t found
     ∙ (ap (λ (r : Option Refusal). unless r (among_named ts (slide_track table c t))) refuse
     ∙ sym (for-found c.track (λ (u : TrackState). among_named ts (slide_track table c u)) ts t found))
+
+pub allowed-answers : (table : Table) (c : Slide) (ts us : List TrackState) (t : TrackState) (r : Result Done EditFault) → track_numbered c.track ts ≡ Some t → links_refuse table ts c t (item_of t c.item) ≡ None
+    → Answers (on_own c.track (slide_track table c) ts) ts us r → Answers (slide_named table ts c) ts us r
+allowed-answers table c ts us t r found none a = subst (λ (m : Applied). Answers m ts us r) (sym (allowed-means table c ts t found none)) a
 
 abbrev pub no_track : TrackState
 no_track = record { number = 0; cells = []; next_item = 0; next_link = 0 }

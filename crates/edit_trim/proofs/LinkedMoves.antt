@@ -215,6 +215,14 @@ pub moves-part : (table : Table) (l : Link) (on back i : ℕ) (t u : TrackState)
     → slice_get (items_of u.cells) i ≡ Some v → carries l v.link ≡ true → ShowsMoved table v (mark_of (slice_get (items_of t.cells) (suc i))) on back
 moves-part table l on back i t u v g h is e c = moves_at table l (items_of t.cells) i v on back (read-part table l on back i t u v g h is e) c h
 
+-- what of that the code asks for
+bare_source : (d : Side What) (len a b : ℕ) → HasSource d len a b → HasSource d len 0 0
+bare_source Dark len a b h = tt
+bare_source (Pic w s) len a b h = (omega arith, omega (arith, h.1))
+
+pub source-part : (table : Table) (v : ItemView) (tail : Option Mark) (on back : ℕ) → ShowsMoved table v tail on back → HasSource (moved v.first on back) v.len 0 0
+source-part table v tail on back h = bare_source (moved v.first on back) v.len (left_reach v.mark) (right_reach tail) h.source
+
 pub good-part : (table : Table) (l : Link) (on back i k : ℕ) (t u : TrackState) (v : ItemView) → IsGood table t → EachMoves table l (items_of t.cells) on back → u ≡ partly l on back i t
     → slice_get (items_of u.cells) i ≡ Some v → carries l v.link ≡ true → side_from v.first k ≡ moved v.first on back → IsGood table (changed_track u i (with_source k))
 good-part table l on back i k t u v g h is e c s =

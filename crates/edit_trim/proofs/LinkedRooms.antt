@@ -13,7 +13,7 @@ use Rattle.frame_meaning.specs.Render.{moved}
 use Rattle.composables.specs.declared.items.ItemView.{ItemView}
 use Rattle.composables.specs.declared.media.Table.{Table}
 use Rattle.composables.specs.Bounds.{bounds_of}
-use Rattle.composables.specs.Good.{LiesIn, SideLiesIn}
+use Rattle.composables.specs.Good.{IsGood, LiesIn, SideLiesIn}
 use Rattle.composables.specs.Items.{items_of}
 use Rattle.composables.specs.TrackFacts.{HasSource, first_mark, left_reach, right_reach}
 use Rattle.composables.specs.TrackState.{TrackState}
@@ -25,7 +25,9 @@ use Rattle.edit_trim.specs.declared.linked_slips.Room.{Room}
 use Rattle.edit_trim.specs.LinkedSlips.{AllMove, EachMoves, IsRoom, ReachesBack, RoomAmong, RoomOf, RoomOn, ShowsMoved}
 use Rattle.edit_trim.specs.Slipping.{each_linked, each_linked_on, item_may_slip_earlier, item_may_slip_later, mark_of, may_slip_earlier, may_slip_later}
 use Rattle.edit_trim.proofs.Slips.{first-of-rest}
+use Rattle.edit_trim.proofs.Slipped.{lies-ends, source-ends}
 use Rattle.link_groups.specs.ItemLinks.{carries}
+use Rattle.link_groups.proofs.LeastLinks.{filled-at}
 
 -- what a side shows later, and earlier, of its thing
 
@@ -65,6 +67,23 @@ room-of table v tail e l filled lies source up down numbered es ls = record {
   back = λ n le. shows_moved table v tail 0 n
       (shows_earlier table v.first v.len (left_reach v.mark) (right_reach tail) n lies source (up-true (may_slip_earlier table v.first v.mark) e n up le es));
 }
+
+-- an item of a good track lies in the range of its thing with what the dissolves at its ends show past it
+pub record AtEnds (table : Table) (v : ItemView) (tail : Option Mark) : Type 0 where
+  pub filled : 0 < v.len
+  pub lies : SideLiesIn table v.first v.len (left_reach v.mark) (right_reach tail)
+  pub source : HasSource v.first v.len (left_reach v.mark) (right_reach tail)
+
+pub ends-of : (table : Table) (t : TrackState) (i : ℕ) (v : ItemView) (tail : Option Mark) → IsGood table t → slice_get (items_of t.cells) i ≡ Some v → tail ≡ mark_of (slice_get (items_of t.cells) (i + 1)) → AtEnds table v tail
+ends-of table t i v tail good read is =
+    let vs = items_of t.cells in
+    let more : i + 1 ≡ suc i = omega arith in
+    let here : tail ≡ mark_of (slice_get vs (suc i)) = is ∙ ap (λ (k : ℕ). mark_of (slice_get vs k)) more in
+    record {
+      filled = filled-at vs i v read good.kept.each;
+      lies = subst (λ (m : Option Mark). SideLiesIn table v.first v.len (left_reach v.mark) (right_reach m)) (sym here) (lies-ends table vs i v read good.ranges);
+      source = subst (λ (m : Option Mark). HasSource v.first v.len (left_reach v.mark) (right_reach m)) (sym here) (source-ends vs i v read good.kept.each);
+    }
 
 -- rooms of several
 

@@ -1,10 +1,14 @@
 -- A slip of all that has a link, by the delta that suits it.
-use Rattle.std.proofs.Common.{◌≡◌, ℕ, zero, suc, ◌≤◌, ℤ, List, map, Some, None, Ok, refl, sym, ap, ◌∙◌, arith, subst, w32, to_z, of_z, SFits, Bool}
+use Rattle.std.proofs.Common.{◌≡◌, ℕ, zero, suc, ◌≤◌, ℤ, List, map, Option, Some, None, Result, Ok, Err, refl, sym, ap, ◌∙◌, arith, subst, w32, to_z, of_z, SFits, Bool}
 use Rattle.std.proofs.lemmas.Int.{to_z-of_z}
 use Rattle.frame_meaning.specs.declared.cells.Link.{Link}
 use Rattle.composables.specs.declared.calls.Slip.{Slip}
 use Rattle.composables.specs.declared.media.Table.{Table}
 use Rattle.composables.specs.declared.refusals.Done.{Done}
+use Rattle.composables.specs.declared.refusals.EditFault.{EditFault}
+use Rattle.composables.specs.declared.refusals.Refusal.{Refusal}
+use Rattle.composables.specs.Answers.{Answers, Applied, unless}
+use Rattle.composables.specs.Links.{outside_refusal}
 use Rattle.composables.specs.OwnTracks.{among_named, on_own, track_numbered}
 use Rattle.composables.specs.TrackState.{TrackState}
 use Rattle.edit_delta.specs.declared.deltas.Used.{Used}
@@ -65,3 +69,18 @@ pub linked-means : (table : Table) (c : Slip) (ts : List TrackState) (t : TrackS
 linked-means table c ts t l fits found some =
     for-found c.track (slip_own table ts c) ts t found
     ∙ (ap (slip_with table ts c t) some ∙ ap (slip_linked table ts l) (sym (to_z-of_z w32 c.by fits)))
+
+pub alone-answers : (table : Table) (c : Slip) (ts us : List TrackState) (t : TrackState) (r : Result Done EditFault) → track_numbered c.track ts ≡ Some t → link_of t c.item ≡ None
+    → Answers (on_own c.track (slip_track table c) ts) ts us r → Answers (slip_named table ts c) ts us r
+alone-answers table c ts us t r found none a = subst (λ (m : Applied). Answers m ts us r) (sym (alone-means table c ts t found none)) a
+
+pub linked-answers : (table : Table) (c : Slip) (ts us : List TrackState) (t : TrackState) (l : Link) (r : Result Done EditFault) → SFits w32 c.by → track_numbered c.track ts ≡ Some t → link_of t c.item ≡ Some l
+    → Answers (slip_linked table ts l (to_z w32 (of_z w32 c.by))) ts us r → Answers (slip_named table ts c) ts us r
+linked-answers table c ts us t l r fits found some a = subst (λ (m : Applied). Answers m ts us r) (sym (linked-means table c ts t l fits found some)) a
+
+-- and for all that has a link
+pub link-refused : (table : Table) (ts : List TrackState) (l : Link) (by : ℤ) (why : Refusal) → outside_refusal ts (Some l) ≡ Some why → slip_linked table ts l by ≡ Err why
+link-refused table ts l by why e = ap (λ (o : Option Refusal). unless o (slip_link table ts l by)) e
+
+pub link-done : (table : Table) (ts : List TrackState) (l : Link) (by : ℤ) (u : Used) → outside_refusal ts (Some l) ≡ None → IsLinkSlip table l ts by u → slip_linked table ts l by ≡ Ok (map (moved_by l u.way) ts, u.done)
+link-done table ts l by u e s = ap (λ (o : Option Refusal). unless o (slip_link table ts l by)) e ∙ s.meant

@@ -53,9 +53,9 @@ AllMove table l [] on back = Unit {0}
 AllMove table l (t ∷ ts) on back = EachMoves table l (items_of t.cells) on back × AllMove table l ts on back
 
 -- these are the most frames later, and earlier, that are allowed; and by as many what moves shows frames of its thing
-pub record IsRoom (later earlier : ℕ → Bool) (Moves : ℕ → ℕ → Type 0) (r : Room) : Type 0 where
-  pub later : AreUpTo later r.later
-  pub earlier : AreUpTo earlier r.earlier
+pub record IsRoom (suits_later suits_earlier : ℕ → Bool) (Moves : ℕ → ℕ → Type 0) (r : Room) : Type 0 where
+  pub later : AreUpTo suits_later r.later
+  pub earlier : AreUpTo suits_earlier r.earlier
   pub on : (n : ℕ) → n ≤ r.later → Moves n 0
   pub back : (n : ℕ) → n ≤ r.earlier → Moves 0 n
 

@@ -1,20 +1,20 @@
 // Slip of all that has a link: one delta that suits each item, and then the source frames of each moved by it.
-ghost use Rattle.std.specs.Prelude.{◌≡◌, ◌+◌, ◌*◌, ◌<◌, ◌≤◌, All, Some, map, min};
+ghost use Rattle.std.specs.Prelude.{◌≡◌, ◌+◌, ◌*◌, ◌<◌, ◌≤◌, All, Some, length, map, min, slice_get};
 ghost use Rattle.frame_meaning.specs.Render.{moved};
 ghost use Rattle.composables.specs.Answers.{Answers};
 ghost use Rattle.composables.specs.Changes.{side_from};
-ghost use Rattle.composables.specs.Good.{IsGood, SideLiesIn};
+ghost use Rattle.composables.specs.Good.{IsGood};
 ghost use Rattle.composables.specs.Items.{items_of};
 ghost use Rattle.composables.specs.Sizes.{size_of, sizes_of};
-ghost use Rattle.composables.specs.TrackFacts.{HasSource, left_reach, right_reach};
+ghost use Rattle.composables.specs.TrackFacts.{HasSource};
 ghost use Rattle.edit_splice.specs.Standing.{EachStaysGood};
 ghost use Rattle.edit_trim.specs.LinkedSlips.{AllMove, EachMoves, ReachesBack, RoomAmong, RoomOf, RoomOn, back_of, moved_by, on_of};
-ghost use Rattle.edit_trim.specs.Slipping.{slip_linked};
+ghost use Rattle.edit_trim.specs.Slipping.{mark_of, slip_linked};
 
 use crate::slipping::{mark_of, room_earlier, room_later};
 use composables::{Done, EditFault, ItemView, Table, Track};
 use edit_delta::{Way, used_within};
-use frame_meaning::{Link, Mark, Side};
+use frame_meaning::{Link, Side};
 use link_groups::{carries, outside_refusal};
 use std::sync::ledger::Ledger;
 use step_count::Steps;
@@ -90,8 +90,7 @@ fn room_on<L: Ledger>(table: &Table, track: &Track, link: Link, steps: &mut Step
             unreachable!()
         };
         if carries(link, view.link) {
-            let tail = mark_of(track.item(index + 1));
-            room = narrower(room, room_of(table, &view, tail));
+            room = narrower(room, room_at(table, track, index, &view));
         }
     }
     room
@@ -107,15 +106,15 @@ fn narrower(one: Room, other: Room) -> Room
     }
 }
 
-// The room of an item with this dissolve at its tail.
-fn room_of(table: &Table, view: &ItemView, tail: Option<Mark>) -> Room
-    requires filled { 0 < view.now.len }
-    requires lies { SideLiesIn table.now view.now.first view.now.len
-        (left_reach view.now.mark) (right_reach tail) }
-    requires source { HasSource view.now.first view.now.len
-        (left_reach view.now.mark) (right_reach tail) }
-    ensures { RoomOf table.now view.now tail result }
+// The room of the item with an index, with the dissolves at its two ends.
+fn room_at(table: &Table, track: &Track, index: u32, view: &ItemView) -> Room
+    requires good { IsGood table.now track.now }
+    requires within { index < length (items_of track.now.cells) }
+    requires view { slice_get (items_of track.now.cells) index ≡ Some view.now }
+    ensures { RoomOf table.now view.now
+        (mark_of (slice_get (items_of track.now.cells) (index + 1))) result }
 {
+    let tail = mark_of(track.item(index + 1));
     Room {
         earlier: room_earlier(table, view),
         later: room_later(table, view, tail),

@@ -47,7 +47,7 @@ pub fn laid_track(
     }
     let items = Vec::from_slice(alloc, views)?;
     let track = laid::<Brand>(alloc, Blank::new(1), number, items)?;
-    if are_unlinked(views) && is_good(table, &track, views) {
+    if is_bare(table, &track, views) {
         Ok(Some(track))
     } else {
         Ok(None)
@@ -225,6 +225,20 @@ fn is_good(table: &Table, track: &Track, views: &[ItemView]) -> bool
         return false;
     }
     have_own_links(track.number(), views)
+}
+
+// Whether it is so, and without links.
+fn is_bare(table: &Table, track: &Track, views: &[ItemView]) -> bool
+    requires items { items_of track.now.cells ≡ views.now }
+    requires link { track.now.next_link ≡ 0 }
+    ensures good { result ≡ true → IsGood table.now track.now }
+    ensures roomy { result ≡ true → IsRoomy track.now }
+    ensures unlinked { result ≡ true → AllUnlinked (items_of track.now.cells) }
+{
+    if !is_good(table, track, views) {
+        return false;
+    }
+    are_unlinked(views)
 }
 
 // Whether each link has this track and its home among its tracks.
