@@ -4,4 +4,5 @@ pub mod Linked
 pub mod NamedSets
 pub mod Named
 pub mod LeastLinks
+pub mod Elsewhere
 pub mod TestTracks

@@ -1,2 +1,3 @@
 pub mod LinkedItems
 pub mod Linking
+pub mod ItemLinks

@@ -6,14 +6,16 @@
 #![tactic(auto)]
 
 mod finding;
+mod item_links;
 mod linking;
 mod offsets;
 mod outside;
 mod unlinking;
 
+pub use item_links::{carried_outside, carries, link_of};
 pub use linking::link;
 pub use offsets::offset;
-pub use outside::check;
+pub use outside::{check, outside_refusal};
 pub use unlinking::unlink;
 
 #[cfg(test)]
