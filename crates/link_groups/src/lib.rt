@@ -9,11 +9,16 @@ mod finding;
 mod linking;
 mod offsets;
 mod outside;
+mod renumbering;
+mod shifting;
+mod splits;
 mod unlinking;
 
 pub use linking::link;
 pub use offsets::offset;
 pub use outside::check;
+pub use renumbering::renumber;
+pub use shifting::shift_linked;
 pub use unlinking::unlink;
 
 #[cfg(test)]
