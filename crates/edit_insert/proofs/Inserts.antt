@@ -84,7 +84,7 @@ insert_uncut table c ts own v number o some f g good k d lt after =
 
 pub insert-allowed : (table : Table) (c : Insert) (tracks : ℕ) (ts : List TrackState) (own : TrackState) (v : ItemView) (number : ℕ) → IsOwn c.track ts own → source_refusal table c.track c.what c.from c.len ≡ None
     → 0 < c.len → map (λ (t : TrackState). t.number) ts ≡ tracks_in tracks → All (IsGood table) ts → All (IsShiftOf (shift_at c v)) ts → IsKept own → number ≡ own.next_item → v ≡ clip_view number c.what c.from c.len
-    → insert_named table ts c ≡ linked_shift (shift_at c v) (Item number) ts
+    → insert_named table ts c ≡ linked_shift (shift_at c v) (c.at + v.len) (Item number) ts
 insert-allowed table c tracks ts own v number o e some numbers good fits kept f g =
     for-found c.track (inserted table c ts) ts own o.found
     ∙ (ap (λ (r : Option Refusal). unless r (shift_of c.track c.at c.at (clip_view own.next_item c.what c.from c.len ∷ []) (Item own.next_item) (with_track ts (padded_track own c.at))))
@@ -114,7 +114,7 @@ extract-missing c ts own o e =
     ∙ ap (λ (r : Option (ℕ × ℕ)). for_range (λ x y. shift_of c.track x y [] Plain ts) r) e
 
 pub extract-found : (table : Table) (c : Extract) (ts : List TrackState) (own : TrackState) (x y : ℕ) → IsOwn c.track ts own → range_of own.cells c.item ≡ Some (x, y) → All (IsGood table) ts
-    → All (IsShiftOf (shift_out c x y)) ts → IsKept own → extract_named ts c ≡ linked_shift (shift_out c x y) Plain ts
+    → All (IsShiftOf (shift_out c x y)) ts → IsKept own → extract_named ts c ≡ linked_shift (shift_out c x y) (x + 0) Plain ts
 extract-found table c ts own x y o e good fits kept =
     for-found c.track (extracted c ts) ts own o.found
     ∙ (ap (λ (r : Option (ℕ × ℕ)). for_range (λ x y. shift_of c.track x y [] Plain ts) r) e

@@ -89,7 +89,8 @@ fn insert_at<L: Ledger>(
         y: call.at,
         new: Some(ItemView::clip(number, call.what, call.from, call.len)),
     };
-    shift_linked(alloc, named, &made, Done::Item(number), steps)
+    let place = u64::from(call.at) + u64::from(call.len);
+    shift_linked(alloc, named, &made, place, Done::Item(number), steps)
 }
 
 /// Takes an item out of its own track, and moves what is after it earlier on all named tracks, of which each loses the
@@ -154,7 +155,8 @@ fn extract_at<L: Ledger>(
                 y: found.to,
                 new: None,
             };
-            shift_linked(alloc, named, &made, Done::Plain, steps)
+            let place = u64::from(found.from);
+            shift_linked(alloc, named, &made, place, Done::Plain, steps)
         }
         None => Err(EditFault::Refused(Refusal::NoItem)),
     }

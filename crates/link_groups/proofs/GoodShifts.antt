@@ -73,14 +73,14 @@ each-same table (t ∷ ts) (u ∷ us) h = (stays_same table t u h.0, each-same t
 pub each-still : (table : Table) (ts : List TrackState) → All (IsGood table) ts → EachStaysShifted table ts ts
 each-still table ts g = each-same table ts ts (each-self table ts g)
 
-record IsAfter (s : Shift) (done : Done) (ts us : List TrackState) : Type 0 where
-  same : us ≡ linked_after s ts
+record IsAfter (s : Shift) (place : ℕ) (done : Done) (ts us : List TrackState) : Type 0 where
+  same : us ≡ linked_after s place ts
   within : within_limits (all_moved s ts) done ≡ Ok (all_moved s ts, done)
 
-is_after : (s : Shift) (done : Done) (ts us : List TrackState) (d : Done) → linked_shift s done ts ≡ Ok (us, d) → IsAfter s done ts us
-is_after s done ts us d = by (linked_refusal s ts) (too_long (all_moved s ts)) (too_many (all_moved s ts)) refl refl where
+is_after : (s : Shift) (place : ℕ) (done : Done) (ts us : List TrackState) (d : Done) → linked_shift s place done ts ≡ Ok (us, d) → IsAfter s place done ts us
+is_after s place done ts us d = by (linked_refusal s ts) (too_long (all_moved s ts)) (too_many (all_moved s ts)) refl refl where
   by : (r a b : Option Refusal) → too_long (all_moved s ts) ≡ a → too_many (all_moved s ts) ≡ b
-      → unless {A = List TrackState × Done} r (unless {A = List TrackState × Done} a (unless {A = List TrackState × Done} b (Ok (linked_after s ts, done)))) ≡ Ok (us, d) → IsAfter s done ts us
+      → unless {A = List TrackState × Done} r (unless {A = List TrackState × Done} a (unless {A = List TrackState × Done} b (Ok (linked_after s place ts, done)))) ≡ Ok (us, d) → IsAfter s place done ts us
   by (Some r) a b e f k = absurd (Prim.grind (arith, k))
   by None (Some r) b e f k = absurd (Prim.grind (arith, k))
   by None None (Some r) e f k = absurd (Prim.grind (arith, k))
@@ -91,20 +91,20 @@ is_after s done ts us d = by (linked_refusal s ts) (too_long (all_moved s ts)) (
         ∙ ap (λ (o : Option Refusal). unless {A = List TrackState × Done} o (Ok (all_moved s ts, done))) f;
   }
 
-after_stays : (table : Table) (s : Shift) (ts : List TrackState) → EachStaysGood table ts (all_moved s ts) → EachStaysShifted table ts (linked_after s ts)
-after_stays table s ts h = by (eqb (new_len s.new) (s.y - s.x)) where
-  by : (b : Bool) → EachStaysShifted table ts (cond b (all_moved s ts) (map (split_items ts (split_links s.x s.y ts) (s.x + new_len s.new)) (all_moved s ts)))
+after_stays : (table : Table) (s : Shift) (place : ℕ) (ts : List TrackState) → EachStaysGood table ts (all_moved s ts) → EachStaysShifted table ts (linked_after s place ts)
+after_stays table s place ts h = by (eqb (new_len s.new) (s.y - s.x)) where
+  by : (b : Bool) → EachStaysShifted table ts (cond b (all_moved s ts) (map (split_items ts (split_links s.x s.y ts) place) (all_moved s ts)))
   by true = each-same table ts (all_moved s ts) h
-  by false = each_split table ts (split_links s.x s.y ts) (s.x + new_len s.new) ts (all_moved s ts) h
+  by false = each_split table ts (split_links s.x s.y ts) place ts (all_moved s ts) h
 
 -- after a shift
-pub each-linked : (table : Table) (s : Shift) (ts us : List TrackState) (done : Done) (result : Result Done EditFault) → All (IsGood table) ts → All (StaysMoved table s) ts
-    → Answers (linked_shift s done ts) ts us result → EachStaysShifted table ts us
-each-linked table s ts us done (Ok d) g p a =
-    let k = is_after s done ts us d a in
-    subst (EachStaysShifted table ts) (sym k.same) (after_stays table s ts (each-shifted table s ts (all_moved s ts) done (Ok done) g p k.within))
-each-linked table s ts us done (Err (Refused why)) g p a = subst (EachStaysShifted table ts) (sym a.1) (each-still table ts g)
-each-linked table s ts us done (Err Memory) g p a = subst (EachStaysShifted table ts) (sym a) (each-still table ts g)
+pub each-linked : (table : Table) (s : Shift) (place : ℕ) (ts us : List TrackState) (done : Done) (result : Result Done EditFault) → All (IsGood table) ts → All (StaysMoved table s) ts
+    → Answers (linked_shift s place done ts) ts us result → EachStaysShifted table ts us
+each-linked table s place ts us done (Ok d) g p a =
+    let k = is_after s place done ts us d a in
+    subst (EachStaysShifted table ts) (sym k.same) (after_stays table s place ts (each-shifted table s ts (all_moved s ts) done (Ok done) g p k.within))
+each-linked table s place ts us done (Err (Refused why)) g p a = subst (EachStaysShifted table ts) (sym a.1) (each-still table ts g)
+each-linked table s place ts us done (Err Memory) g p a = subst (EachStaysShifted table ts) (sym a) (each-still table ts g)
 
 -- what the edits say of it
 

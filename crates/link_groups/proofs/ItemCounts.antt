@@ -1,6 +1,7 @@
 -- How many items and gaps there are after a shift: as many whatever links they have, and three more at most.
 use Rattle.std.proofs.Common.{◌≡◌, ℕ, zero, suc, ◌+◌, ◌*◌, ◌-◌, ◌<◌, ◌≤◌, Bool, true, false, cond, eqb, ltb, min, List, [], ◌∷◌, ◌++◌, take, drop, map, length, sum_by, Option, Some, None, refl, sym, ap, ◌∙◌, arith, subst, append_assoc}
 use Rattle.std.proofs.lemmas.List.{length-append, map-append}
+use Rattle.std.proofs.lemmas.List.Sums.{sum_by-cons}
 use Rattle.frame_meaning.specs.declared.cells.Cell.{Cell}
 use Rattle.frame_meaning.specs.declared.cells.Link.{Link}
 use Rattle.frame_meaning.specs.declared.cells.Mark.{Mark}
@@ -108,24 +109,18 @@ count_append [] bs = omega arith
 count_append (a ∷ []) bs = omega (arith, with_most a (items_of bs))
 count_append (a ∷ b ∷ cs) bs = omega (arith, count_append (b ∷ cs) bs, count_more a b cs, count_more a b (cs ++ bs))
 
-count_cut : (n : ℕ) (cs : List Cell) → count (take n cs) + count (drop n cs) ≤ count cs + 1
-count_cut zero cs = omega arith
-count_cut (suc n) [] = omega arith
-count_cut (suc n) (c ∷ []) = by n where
-  by : (n : ℕ) → count (c ∷ take n []) + count (drop n []) ≤ 1 + 1
-  by zero = omega arith
-  by (suc n) = omega arith
-count_cut (suc zero) (c ∷ d ∷ ds) = omega (arith, count_more c d ds)
-count_cut (suc (suc n)) (c ∷ d ∷ ds) = omega (arith, count_cut (suc n) (d ∷ ds), count_more c d (take n ds), count_more c d ds)
+fewer_behind : (c : Cell) (cs : List Cell) → count cs ≤ count (c ∷ cs)
+fewer_behind c [] = omega arith
+fewer_behind c (d ∷ ds) = omega (arith, count_more c d ds)
+
+count_drop : (n : ℕ) (cs : List Cell) → count (drop n cs) ≤ count cs
+count_drop zero cs = omega arith
+count_drop (suc n) [] = omega arith
+count_drop (suc n) (c ∷ cs) = omega (arith, count_drop n cs, fewer_behind c cs)
 
 -- how many there are before x and from y on
 count_ends : (x y : ℕ) (cs : List Cell) → x ≤ y → count (take x cs) + count (drop y cs) ≤ count cs + 1
-count_ends zero zero cs le = omega arith
-count_ends zero (suc y) [] le = omega arith
-count_ends zero (suc y) (c ∷ cs) le = omega (arith, count_ends zero y cs (omega arith), fewer c cs) where
-  fewer : (c : Cell) (cs : List Cell) → count cs ≤ count (c ∷ cs)
-  fewer c [] = omega arith
-  fewer c (d ∷ ds) = omega (arith, count_more c d ds)
+count_ends zero y cs le = omega (arith, count_drop y cs)
 count_ends (suc x) zero cs le = absurd (omega (arith, le))
 count_ends (suc x) (suc y) [] le = omega arith
 count_ends (suc x) (suc y) (c ∷ []) le = by x y where
@@ -134,7 +129,7 @@ count_ends (suc x) (suc y) (c ∷ []) le = by x y where
   by zero (suc y) = omega arith
   by (suc x) zero = omega arith
   by (suc x) (suc y) = omega arith
-count_ends (suc zero) (suc y) (c ∷ d ∷ ds) le = omega (arith, count_ends zero y (d ∷ ds) (omega arith), count_more c d ds)
+count_ends (suc zero) (suc y) (c ∷ d ∷ ds) le = omega (arith, count_drop y (d ∷ ds), count_more c d ds, fewer_behind c (d ∷ ds))
 count_ends (suc (suc x)) (suc y) (c ∷ d ∷ ds) le = omega (arith, count_ends (suc x) y (d ∷ ds) (omega (arith, le)), count_more c d (take x ds), count_more c d ds)
 
 span_one : (o : Option ℕ) (s : Side What) (l : Option Link) (n : ℕ) → count (span o s l n) ≤ 1
@@ -143,7 +138,7 @@ span_one o s l (suc zero) = omega arith
 span_one o s l (suc (suc n)) =
     let c : Cell = record { item = o; side = s; mark = None; link = l } in
     let d : Cell = record { item = o; side = next_side s; mark = None; link = l } in
-    let same : cond (same_number o o) 0 1 ≡ 0 = ap (λ (b : Bool). cond b 0 1) (same-refl o) in
+    let same : ◌≡◌ {A = ℕ} (cond (same_number o o) 0 1) 0 = ap (λ (b : Bool). cond {A = ℕ} b 0 1) (same-refl o) in
     omega (arith, span_one o (next_side s) l (suc n), count_more c d (span o (next_side (next_side s)) l n), same)
 
 view_one : (v : ItemView) → count (view_cells v) ≤ 1
@@ -172,18 +167,26 @@ same_renumbered (Some i) fresh c d e =
 count_renumbered : (s : Option ℕ) (fresh : ℕ) (cs : List Cell) → count (map (renumbered s fresh) cs) ≤ count cs
 count_renumbered s fresh [] = omega arith
 count_renumbered s fresh (c ∷ []) = omega arith
-count_renumbered s fresh (c ∷ d ∷ ds) = by (same_number c.item d.item) (same_number (renumbered s fresh c).item (renumbered s fresh d).item) refl refl where
-  by : (a b : Bool) → same_number c.item d.item ≡ a → same_number (renumbered s fresh c).item (renumbered s fresh d).item ≡ b → count (map (renumbered s fresh) (c ∷ d ∷ ds)) ≤ count (c ∷ d ∷ ds)
-  by true b e f =
-      let g : cond (same_number (renumbered s fresh c).item (renumbered s fresh d).item) 0 1 ≡ 0 = ap (λ (x : Bool). cond x 0 1) (same_renumbered s fresh c d e) in
-      omega (arith, count_more c d ds, count_more (renumbered s fresh c) (renumbered s fresh d) (map (renumbered s fresh) ds), count_renumbered s fresh (d ∷ ds), g)
-  by false true e f =
-      let g : cond (same_number (renumbered s fresh c).item (renumbered s fresh d).item) 0 1 ≡ 0 = ap (λ (x : Bool). cond x 0 1) f in
-      omega (arith, count_more c d ds, count_more (renumbered s fresh c) (renumbered s fresh d) (map (renumbered s fresh) ds), count_renumbered s fresh (d ∷ ds), g)
-  by false false e f =
-      let g : cond (same_number (renumbered s fresh c).item (renumbered s fresh d).item) 0 1 ≡ 1 = ap (λ (x : Bool). cond x 0 1) f in
-      let h : cond (same_number c.item d.item) 0 1 ≡ 1 = ap (λ (x : Bool). cond x 0 1) e in
-      omega (arith, count_more c d ds, count_more (renumbered s fresh c) (renumbered s fresh d) (map (renumbered s fresh) ds), count_renumbered s fresh (d ∷ ds), g, h)
+count_renumbered s fresh (c ∷ d ∷ ds) =
+    omega (
+      arith,
+      count_renumbered s fresh (d ∷ ds),
+      count_more c d ds,
+      count_more (renumbered s fresh c) (renumbered s fresh d) (map (renumbered s fresh) ds),
+      by (same_number c.item d.item) (same_number (renumbered s fresh c).item (renumbered s fresh d).item) refl refl,
+    ) where
+      by : (a b : Bool) → same_number c.item d.item ≡ a → same_number (renumbered s fresh c).item (renumbered s fresh d).item ≡ b
+          → cond {A = ℕ} (same_number (renumbered s fresh c).item (renumbered s fresh d).item) 0 1 ≤ cond {A = ℕ} (same_number c.item d.item) 0 1
+      by true b e f =
+          let g : ◌≡◌ {A = ℕ} (cond (same_number (renumbered s fresh c).item (renumbered s fresh d).item) 0 1) 0 = ap (λ (x : Bool). cond {A = ℕ} x 0 1) (same_renumbered s fresh c d e) in
+          omega (arith, g)
+      by false true e f =
+          let g : ◌≡◌ {A = ℕ} (cond (same_number (renumbered s fresh c).item (renumbered s fresh d).item) 0 1) 0 = ap (λ (x : Bool). cond {A = ℕ} x 0 1) f in
+          omega (arith, g)
+      by false false e f =
+          let g : ◌≡◌ {A = ℕ} (cond (same_number (renumbered s fresh c).item (renumbered s fresh d).item) 0 1) 1 = ap (λ (x : Bool). cond {A = ℕ} x 0 1) f in
+          let h : ◌≡◌ {A = ℕ} (cond (same_number c.item d.item) 0 1) 1 = ap (λ (x : Bool). cond {A = ℕ} x 0 1) e in
+          omega (arith, g, h)
 
 same_take : (n : ℕ) (cs ds : List Cell) → SameItems cs ds → SameItems (take n cs) (take n ds)
 same_take zero cs ds h = tt
@@ -237,4 +240,4 @@ size_moved s t le = omega (arith, count_spliced t (min s.x (length t.cells)) (mi
 
 pub sizes-moved : (s : Shift) (ts : List TrackState) → s.x ≤ s.y → sizes_of (all_moved s ts) ≤ 2 * sizes_of ts
 sizes-moved s [] le = omega arith
-sizes-moved s (t ∷ ts) le = omega (arith, size_moved s t le, sizes-moved s ts le)
+sizes-moved s (t ∷ ts) le = omega (arith, sum_by-cons size_of t ts, sum_by-cons size_of (moved s t) (all_moved s ts), size_moved s t le, sizes-moved s ts le)

@@ -141,6 +141,17 @@ range-met q from to i vs v e met =
     (same_drop q (is_key_of q v.link) (from - min to (frames_in (take i vs))) (take (to - frames_in (take i vs)) (view_cells v)) (same_take q (is_key_of q v.link) (to - frames_in (take i vs)) (view_cells v) (same_view q v)))
     (omega (arith, part_long from to (frames_in (take i vs)) v, met)))
 
+or_assoc : (a b c : Bool) → ((a || b) || c) ≡ (a || (b || c))
+or_assoc true b c = refl
+or_assoc false b c = refl
+
+-- beside what was there before
+pub or-again : (q : ℕ × ℕ) (from to i : ℕ) (vs : List ItemView) (v : ItemView) (old : Bool) → slice_get vs i ≡ Some v → max (frames_in (take i vs)) from < min (frames_in (take i vs) + v.len) to
+    → ((old || list_any (has_key q) (drop from (take to (cells_of (take i vs))))) || is_key_of q v.link) ≡ (old || list_any (has_key q) (drop from (take to (cells_of (take (i + 1) vs)))))
+or-again q from to i vs v old e met =
+    or_assoc old (list_any (has_key q) (drop from (take to (cells_of (take i vs))))) (is_key_of q v.link)
+    ∙ ap (λ (b : Bool). old || b) (sym (range-met q from to i vs v e met))
+
 or_none : (b : Bool) → (b || false) ≡ b
 or_none true = refl
 or_none false = refl

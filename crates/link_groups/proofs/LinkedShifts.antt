@@ -1,5 +1,5 @@
 -- Shifts that split links, item by item and cell by cell.
-use Rattle.std.proofs.Common.{◌≡◌, ℕ, zero, suc, ◌+◌, ◌-◌, ◌<◌, ◌≤◌, ◌^◌, Bool, true, false, cond, eqb, ltb, List, [], ◌∷◌, ◌++◌, All, take, drop, map, length, unwrap_or, Option, Some, None, Result, Ok, Err, refl, sym, ap, ◌∙◌, arith, subst, get_or}
+use Rattle.std.proofs.Common.{◌≡◌, ℕ, zero, suc, ◌+◌, ◌-◌, ◌*◌, ◌<◌, ◌≤◌, ◌^◌, Bool, true, false, cond, eqb, ltb, List, [], ◌∷◌, ◌++◌, All, take, drop, map, length, unwrap_or, Option, Some, None, Result, Ok, Err, refl, sym, ap, ◌∙◌, arith, subst, get_or}
 use Rattle.std.specs.List.{list_any}
 use Rattle.std.specs.BTreeMap.{get}
 use Rattle.std.specs.Ordering.{nat_cmp}
@@ -25,7 +25,8 @@ use Rattle.link_groups.specs.declared.splits.Splits.{Splits}
 use Rattle.link_groups.specs.LinkedShifts.{linked_after, linked_refusal, linked_shift, split_items}
 use Rattle.link_groups.specs.Renumbering.{IsUncut, MayBeSplit}
 use Rattle.link_groups.specs.Splits.{AreSplits, HasFew, relinked_track}
-use Rattle.link_groups.proofs.ItemCounts.{count-same, same-append, same-items, same-length, same-map}
+use Rattle.composables.specs.Sizes.{sizes_of}
+use Rattle.link_groups.proofs.ItemCounts.{count-same, same-append, same-items, same-length, same-map, sizes-moved}
 use Rattle.link_groups.proofs.ShiftLinks.{next-moved, splits-moved}
 use Rattle.link_groups.proofs.SplitCells.{each-cells, relinked-each}
 
@@ -79,13 +80,10 @@ EachUncut s ts = All (λ (t : TrackState). IsKept (moved s t) → IsUncut (s.x +
 
 all_mapped : (s : Shift) (P : TrackState → Type 0) (ts : List TrackState) → All (λ (t : TrackState). P (moved s t)) ts → All P (all_moved s ts)
 all_mapped s P [] h = λ k d lt. absurd (omega (arith, lt))
-all_mapped s P (t ∷ ts) h = by where
-  rest : All P (all_moved s ts)
-  rest = all_mapped s P ts (λ k d lt. h (suc k) d (omega (arith, lt)))
-
-  by : (k : ℕ) (d : TrackState) → k < length (all_moved s (t ∷ ts)) → P (get_or (all_moved s (t ∷ ts)) k d)
-  by zero d lt = h 0 t (omega arith)
-  by (suc k) d lt = rest k d (omega (arith, lt))
+all_mapped s P (t ∷ ts) h = by (all_mapped s P ts (λ k d lt. h (suc k) d (omega (arith, lt)))) where
+  by : All P (all_moved s ts) → (k : ℕ) (d : TrackState) → k < length (all_moved s (t ∷ ts)) → P (get_or (all_moved s (t ∷ ts)) k d)
+  by rest zero d lt = h 0 t (omega arith)
+  by rest (suc k) d lt = rest k d (omega (arith, lt))
 
 pub split-moved : (s : Shift) (ts : List TrackState) → s.x ≤ s.y → All (λ (t : TrackState). IsKept (moved s t)) ts → EachUncut s ts
     → links_split s.x (s.x + new_len s.new) (all_moved s ts) ≡ map (split_items ts (split_links s.x s.y ts) (s.x + new_len s.new)) (all_moved s ts)
@@ -100,7 +98,7 @@ within_kept s ts order fits long many k d lt = (fits k d lt).stays order (record
 
 -- a shift as it is meant, cell by cell
 pub shift-items : (s : Shift) (done : Done) (ts : List TrackState) → s.x ≤ s.y → All (IsShiftOf s) ts → EachUncut s ts
-    → unless (linked_refusal s ts) (within_limits (cond (eqb (new_len s.new) (s.y - s.x)) (all_moved s ts) (links_split s.x (s.x + new_len s.new) (all_moved s ts))) done) ≡ linked_shift s done ts
+    → unless (linked_refusal s ts) (within_limits (cond (eqb (new_len s.new) (s.y - s.x)) (all_moved s ts) (links_split s.x (s.x + new_len s.new) (all_moved s ts))) done) ≡ linked_shift s (s.x + new_len s.new) done ts
 shift-items s done ts order fits uncut = ap (unless (linked_refusal s ts)) (by (eqb (new_len s.new) (s.y - s.x))) where
   z : ℕ
   z = s.x + new_len s.new
@@ -144,46 +142,62 @@ is-done s done ts new d = by (too_long (all_moved s ts)) (too_many (all_moved s 
   by None (Some r) e f k = absurd (Prim.grind (arith, k))
   by None None e f k = record { same = Prim.grind (arith, k); answer = Prim.grind (arith, k); long = e; many = f }
 
-pub refused-done : (s : Shift) (done : Done) (ts : List TrackState) (why : Refusal) → linked_refusal s ts ≡ None → within_limits (all_moved s ts) done ≡ Err why → linked_shift s done ts ≡ Err why
-refused-done s done ts why none = by (too_long (all_moved s ts)) (too_many (all_moved s ts)) refl refl where
-  to : (r : Result (List TrackState × Done) Refusal) → linked_shift s done ts ≡ unless_over (all_moved s ts) (Ok (linked_after s ts, done))
-  to r = ap (λ (o : Option Refusal). unless {A = List TrackState × Done} o (unless_over (all_moved s ts) (Ok (linked_after s ts, done)))) none
+pub refused-done : (s : Shift) (place : ℕ) (done : Done) (ts : List TrackState) (why : Refusal) → linked_refusal s ts ≡ None → within_limits (all_moved s ts) done ≡ Err why → linked_shift s place done ts ≡ Err why
+refused-done s place done ts why none = by (too_long (all_moved s ts)) (too_many (all_moved s ts)) refl refl where
+  to : (r : Result (List TrackState × Done) Refusal) → linked_shift s place done ts ≡ unless_over (all_moved s ts) (Ok (linked_after s place ts, done))
+  to r = ap (λ (o : Option Refusal). unless {A = List TrackState × Done} o (unless_over (all_moved s ts) (Ok (linked_after s place ts, done)))) none
 
   by : (a b : Option Refusal) → too_long (all_moved s ts) ≡ a → too_many (all_moved s ts) ≡ b
-      → unless {A = List TrackState × Done} a (unless {A = List TrackState × Done} b (Ok (all_moved s ts, done))) ≡ Err why → linked_shift s done ts ≡ Err why
+      → unless {A = List TrackState × Done} a (unless {A = List TrackState × Done} b (Ok (all_moved s ts, done))) ≡ Err why → linked_shift s place done ts ≡ Err why
   by (Some r) b e f k =
-      to (Err why) ∙ (ap (λ (o : Option Refusal). unless {A = List TrackState × Done} o (unless {A = List TrackState × Done} (too_many (all_moved s ts)) (Ok (linked_after s ts, done)))) e ∙ k)
+      to (Err why) ∙ (ap (λ (o : Option Refusal). unless {A = List TrackState × Done} o (unless {A = List TrackState × Done} (too_many (all_moved s ts)) (Ok (linked_after s place ts, done)))) e ∙ k)
   by None (Some r) e f k =
-      to (Err why) ∙ (ap (λ (o : Option Refusal). unless {A = List TrackState × Done} o (unless {A = List TrackState × Done} (too_many (all_moved s ts)) (Ok (linked_after s ts, done)))) e
-      ∙ (ap (λ (o : Option Refusal). unless {A = List TrackState × Done} o (Ok (linked_after s ts, done))) f ∙ k))
+      to (Err why) ∙ (ap (λ (o : Option Refusal). unless {A = List TrackState × Done} o (unless {A = List TrackState × Done} (too_many (all_moved s ts)) (Ok (linked_after s place ts, done)))) e
+      ∙ (ap (λ (o : Option Refusal). unless {A = List TrackState × Done} o (Ok (linked_after s place ts, done))) f ∙ k))
   by None None e f k = absurd (Prim.grind (arith, k))
 
-pub done-after : (s : Shift) (done : Done) (ts : List TrackState) → linked_refusal s ts ≡ None → too_long (all_moved s ts) ≡ None → too_many (all_moved s ts) ≡ None → linked_shift s done ts ≡ Ok (linked_after s ts, done)
-done-after s done ts none e f =
-    ap (λ (o : Option Refusal). unless {A = List TrackState × Done} o (unless_over (all_moved s ts) (Ok (linked_after s ts, done)))) none
-    ∙ (ap (λ (o : Option Refusal). unless {A = List TrackState × Done} o (unless {A = List TrackState × Done} (too_many (all_moved s ts)) (Ok (linked_after s ts, done)))) e
-    ∙ ap (λ (o : Option Refusal). unless {A = List TrackState × Done} o (Ok (linked_after s ts, done))) f)
+pub done-after : (s : Shift) (place : ℕ) (done : Done) (ts : List TrackState) → linked_refusal s ts ≡ None → too_long (all_moved s ts) ≡ None → too_many (all_moved s ts) ≡ None → linked_shift s place done ts ≡ Ok (linked_after s place ts, done)
+done-after s place done ts none e f =
+    ap (λ (o : Option Refusal). unless {A = List TrackState × Done} o (unless_over (all_moved s ts) (Ok (linked_after s place ts, done)))) none
+    ∙ (ap (λ (o : Option Refusal). unless {A = List TrackState × Done} o (unless {A = List TrackState × Done} (too_many (all_moved s ts)) (Ok (linked_after s place ts, done)))) e
+    ∙ ap (λ (o : Option Refusal). unless {A = List TrackState × Done} o (Ok (linked_after s place ts, done))) f)
 
-pub after-code : (s : Shift) (ts : List TrackState) (p : Splits) → eqb (new_len s.new) (s.y - s.x) ≡ false → AreSplits ts (split_links s.x s.y ts) p
-    → map (relinked_track p (s.x + new_len s.new)) (all_moved s ts) ≡ linked_after s ts
-after-code s ts p e a =
-    relinked-each ts (split_links s.x s.y ts) p (s.x + new_len s.new) (all_moved s ts) a
-    ∙ sym (ap (λ (b : Bool). cond b (all_moved s ts) (map (split_items ts (split_links s.x s.y ts) (s.x + new_len s.new)) (all_moved s ts))) e)
+pub after-code : (s : Shift) (place : ℕ) (ts : List TrackState) (p : Splits) → eqb (new_len s.new) (s.y - s.x) ≡ false → AreSplits ts (split_links s.x s.y ts) p
+    → map (relinked_track p place) (all_moved s ts) ≡ linked_after s place ts
+after-code s place ts p e a =
+    relinked-each ts (split_links s.x s.y ts) p place (all_moved s ts) a
+    ∙ sym (ap (λ (b : Bool). cond b (all_moved s ts) (map (split_items ts (split_links s.x s.y ts) place) (all_moved s ts))) e)
 
 pub still-refusal : (s : Shift) (ts : List TrackState) → eqb (new_len s.new) (s.y - s.x) ≡ true → linked_refusal s ts ≡ None
 still-refusal s ts e = ap (λ (b : Bool). cond b None (link_outside ts (cells_from s.y ts))) e
 
-pub still-shift : (s : Shift) (done : Done) (ts : List TrackState) → eqb (new_len s.new) (s.y - s.x) ≡ true → linked_shift s done ts ≡ within_limits (all_moved s ts) done
-still-shift s done ts e =
-    ap (λ (o : Option Refusal). unless {A = List TrackState × Done} o (unless_over (all_moved s ts) (Ok (linked_after s ts, done)))) (still-refusal s ts e)
-    ∙ ap (λ (b : Bool). unless_over (all_moved s ts) (Ok (cond b (all_moved s ts) (map (split_items ts (split_links s.x s.y ts) (s.x + new_len s.new)) (all_moved s ts)), done))) e
+pub still-shift : (s : Shift) (place : ℕ) (done : Done) (ts : List TrackState) → eqb (new_len s.new) (s.y - s.x) ≡ true → linked_shift s place done ts ≡ within_limits (all_moved s ts) done
+still-shift s place done ts e =
+    ap (λ (o : Option Refusal). unless {A = List TrackState × Done} o (unless_over (all_moved s ts) (Ok (linked_after s place ts, done)))) (still-refusal s ts e)
+    ∙ ap (λ (b : Bool). unless_over (all_moved s ts) (Ok (cond b (all_moved s ts) (map (split_items ts (split_links s.x s.y ts) place) (all_moved s ts)), done))) e
 
 pub moving-refusal : (s : Shift) (ts : List TrackState) (r : Option Refusal) → eqb (new_len s.new) (s.y - s.x) ≡ false → r ≡ link_outside ts (cells_from s.y ts) → linked_refusal s ts ≡ r
 moving-refusal s ts r e f = ap (λ (b : Bool). cond b None (link_outside ts (cells_from s.y ts))) e ∙ sym f
 
-pub refused-shift : (s : Shift) (done : Done) (ts : List TrackState) (why : Refusal) → linked_refusal s ts ≡ Some why → linked_shift s done ts ≡ Err why
-refused-shift s done ts why e = ap (λ (o : Option Refusal). unless {A = List TrackState × Done} o (unless_over (all_moved s ts) (Ok (linked_after s ts, done)))) e
+pub refused-shift : (s : Shift) (place : ℕ) (done : Done) (ts : List TrackState) (why : Refusal) → linked_refusal s ts ≡ Some why → linked_shift s place done ts ≡ Err why
+refused-shift s place done ts why e = ap (λ (o : Option Refusal). unless {A = List TrackState × Done} o (unless_over (all_moved s ts) (Ok (linked_after s place ts, done)))) e
 
 pub numbers-fit : (s : Shift) (ts : List TrackState) (p : Splits) → All (λ (t : TrackState). t.next_link ≤ 2 ^ 31) ts → HasFew p
     → All (λ (t : TrackState). t.next_link + unwrap_or (get nat_cmp p.counts t.number) 0 < 2 ^ 32) (all_moved s ts)
 numbers-fit s ts p next few = all_mapped s (λ (t : TrackState). t.next_link + unwrap_or (get nat_cmp p.counts t.number) 0 < 2 ^ 32) ts (λ k d lt. omega (arith, next k d lt, few (get_or ts k d).number))
+
+-- a shift that was done, or refused, and the links of what was moved
+pub shift-done : (s : Shift) (place : ℕ) (done d : Done) (ts new after : List TrackState) (p : Splits) → eqb (new_len s.new) (s.y - s.x) ≡ false → linked_refusal s ts ≡ None → AreSplits ts (split_links s.x s.y ts) p
+    → within_limits (all_moved s ts) done ≡ Ok (new, d) → after ≡ map (relinked_track p place) new → linked_shift s place done ts ≡ Ok (after, d)
+shift-done s place done d ts new after p moves none a h e =
+    let k = is-done s done ts new d h in
+    done-after s place done ts none k.long k.many
+    ∙ (ap (λ (us : List TrackState). Ok (us, done)) (sym (e ∙ (ap (map (relinked_track p place)) k.same ∙ after-code s place ts p moves a))) ∙ ap (λ (b : Done). Ok (after, b)) (sym k.answer))
+
+pub sizes-done : (s : Shift) (done d : Done) (ts new : List TrackState) → s.x ≤ s.y → within_limits (all_moved s ts) done ≡ Ok (new, d) → sizes_of new ≤ 2 * sizes_of ts
+sizes-done s done d ts new order h = subst (λ (us : List TrackState). sizes_of us ≤ 2 * sizes_of ts) (sym (is-done s done ts new d h).same) (sizes-moved s ts order)
+
+pub next-fits : (s : Shift) (done d : Done) (ts new : List TrackState) (p : Splits) → All (λ (t : TrackState). t.next_link ≤ 2 ^ 31) ts → HasFew p → within_limits (all_moved s ts) done ≡ Ok (new, d)
+    → All (λ (t : TrackState). t.next_link + unwrap_or (get nat_cmp p.counts t.number) 0 < 2 ^ 32) new
+next-fits s done d ts new p next few h =
+    subst (λ (us : List TrackState). All (λ (t : TrackState). t.next_link + unwrap_or (get nat_cmp p.counts t.number) 0 < 2 ^ 32) us) (sym (is-done s done ts new d h).same) (numbers-fit s ts p next few)

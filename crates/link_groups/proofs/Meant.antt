@@ -45,7 +45,7 @@ len_new (Some v) = omega arith
 
 pub shift-meant : (s : Shift) (done : Done) (ts named : List TrackState) → shifted s.own s.x s.y (new_views s.new) named ≡ all_moved s ts
     → link_outside named (cells_from s.y named) ≡ link_outside ts (cells_from s.y ts) → s.x ≤ s.y → All (IsShiftOf s) ts → EachUncut s ts
-    → shift_of s.own s.x s.y (new_views s.new) done named ≡ linked_shift s done ts
+    → shift_of s.own s.x s.y (new_views s.new) done named ≡ linked_shift s (s.x + new_len s.new) done ts
 shift-meant s done ts named same outside order fits uncut =
     ap (λ (n : ℕ). unless (shift_refusal s.x s.y n named) (within_limits (cond (eqb n (s.y - s.x)) (shifted s.own s.x s.y (new_views s.new) named) (links_split s.x (s.x + n) (shifted s.own s.x s.y (new_views s.new) named))) done)) (len_new s.new)
     ∙ (ap (λ (us : List TrackState). unless (shift_refusal s.x s.y (new_len s.new) named) (within_limits (cond (eqb (new_len s.new) (s.y - s.x)) us (links_split s.x (s.x + new_len s.new) us)) done)) same

@@ -47,7 +47,7 @@ links_in_there (c ∷ cs) = by c.link (links_in_there cs) where
   by None e = e
   by (Some l) e = ap (with_link l) e
 
-least_of : List TrackState → List Link → Option Link
+abbrev least_of : List TrackState → List Link → Option Link
 least_of named [] = None
 least_of named (l ∷ ls) = least_link (outside named (Some l)) (least_of named ls)
 
@@ -127,11 +127,11 @@ inside ls ws x y past z le same sum =
 -- where the track ends by it, and dark frames are put in up to it
 beyond : (ls gap ws : List (Option Link)) (x y k past z : ℕ) → length ls ≤ x → length ls ≤ k → length ls ≤ past → x ≤ y → there gap ≡ [] → (length ls + length gap ≡ x) ⊎ (length gap + length ws ≡ 0)
     → (x + length ws ≡ z) ⊎ (x ≤ z × (length gap + length ws ≡ 0)) → Ends x y z ls (take k ls ++ ((gap ++ ws) ++ drop past ls))
-beyond ls gap ws x y k past z short le beyond order bare at sum = (front at, behind sum) where
+beyond ls gap ws x y k past z short le ends order bare at sum = (front at, behind sum) where
   whole : take k ls ++ ((gap ++ ws) ++ drop past ls) ≡ ls ++ (gap ++ ws)
   whole =
       ap (λ (ks : List (Option Link)). ks ++ ((gap ++ ws) ++ drop past ls)) (take_all k ls le)
-      ∙ ap (λ (bs : List (Option Link)). ls ++ bs) (ap (λ (cs : List (Option Link)). (gap ++ ws) ++ cs) (drop_all past ls beyond) ∙ append-nil (gap ++ ws))
+      ∙ ap (λ (bs : List (Option Link)). ls ++ bs) (ap (λ (cs : List (Option Link)). (gap ++ ws) ++ cs) (drop_all past ls ends) ∙ append-nil (gap ++ ws))
 
   all : there (take x ls) ≡ there ls
   all = ap there (take_all x ls short)

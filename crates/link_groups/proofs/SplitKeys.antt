@@ -8,6 +8,7 @@ use Rattle.std.specs.BTreeMap.{is_at}
 use Rattle.std.specs.BTreeSet.{BTreeSet, IsOrdered, contains, insert_key}
 use Rattle.std.proofs.lemmas.Bool.{eqb-true, eqb-false, ltb-true, ltb-false}
 use Rattle.std.proofs.lemmas.List.{append-nil}
+use Rattle.std.proofs.lemmas.List.Sums.{sum_by-cons}
 use Rattle.std.proofs.lemmas.Map.Lookups.{CmpEqualImpliesEq, btree_set_from_contains, exact_pairs, exact_unsigned}
 use Rattle.frame_meaning.specs.declared.cells.Cell.{Cell}
 use Rattle.frame_meaning.specs.declared.cells.Link.{Link}
@@ -221,9 +222,9 @@ not_smaller f k e = by (ltb f.0 k.0) (eqb f.0 k.0) (ltb f.1 k.1) (eqb k.0 f.0) (
 
 length_more : (p : ℕ × ℕ → Bool) (ks : List (ℕ × ℕ)) (k : ℕ × ℕ) → length (filter p (ks ++ k ∷ [])) ≡ length (filter p ks) + cond (p k) 1 0
 length_more p [] k = by (p k) where
-  by : (b : Bool) → length (cond b (k ∷ []) []) ≡ cond b 1 0
-  by true = refl
-  by false = refl
+  by : (b : Bool) → length (cond b (k ∷ []) []) ≡ 0 + cond b 1 0
+  by true = omega arith
+  by false = omega arith
 length_more p (q ∷ qs) k = by (p q) (length_more p qs k) where
   by : (b : Bool) → length (filter p (qs ++ k ∷ [])) ≡ length (filter p qs) + cond (p k) 1 0
       → length (cond b (q ∷ filter p (qs ++ k ∷ [])) (filter p (qs ++ k ∷ []))) ≡ length (cond b (q ∷ filter p qs) (filter p qs)) + cond (p k) 1 0
@@ -259,11 +260,11 @@ any_more q (f ∷ fs) k = ap (λ (b : Bool). is_at (key_cmp q) f || b) (any_more
 -- where a key is among those below k, it has no smaller number for k
 among_below : (q k : ℕ × ℕ) (ks : List (ℕ × ℕ)) → AllBelow k ks → list_any (is_at (key_cmp q)) ks ≡ true → key_cmp q k ≡ Less
 among_below q k [] a e = absurd cc
-among_below q k (f ∷ fs) a e = by (key_cmp q f) refl e where
-  by : (r : Ordering) → key_cmp q f ≡ r → (is_eq r || list_any (is_at (key_cmp q)) fs) ≡ true → key_cmp q k ≡ Less
-  by Less g h = among_below q k fs a.1 h
-  by Equal g h = subst (λ (p : ℕ × ℕ). key_cmp p k ≡ Less) (sym (key-exact q f g)) a.0
-  by Greater g h = among_below q k fs a.1 h
+among_below q k (f ∷ fs) a e = by (key_cmp q f) refl e (among_below q k fs a.1) where
+  by : (r : Ordering) → key_cmp q f ≡ r → (is_eq r || list_any (is_at (key_cmp q)) fs) ≡ true → (list_any (is_at (key_cmp q)) fs ≡ true → key_cmp q k ≡ Less) → key_cmp q k ≡ Less
+  by Less g h later = later h
+  by Equal g h later = subst (λ (p : ℕ × ℕ). key_cmp p k ≡ Less) (sym (key-exact q f g)) a.0
+  by Greater g h later = later h
 
 at_sym : (q k : ℕ × ℕ) → is_at (key_cmp q) k ≡ is_at (key_cmp k) q
 at_sym q k = ap is_eq (key-total.antisymm q k) ∙ reversed (key_cmp k q) where
@@ -363,7 +364,7 @@ pub more-split : (tracks : List TrackState) (test : ℕ × ℕ → Bool) (keys r
     → rest ≡ k ∷ left → IsStrictlySortedBy key_cmp keys → test k ≡ true
     → ((q : ℕ × ℕ) → new q ≡ cond (is_at (key_cmp k) q) (Some (next_link_at k.0 tracks + count k.0)) (old q)) → ((home : ℕ) → more home ≡ cond (eqb k.0 home) (count k.0 + 1) (count home))
     → SoFar tracks test keys left new more
-more-split tracks test keys rest left k old new count more (done, whole, numbers, counts) is sorted yes news mores = (done ++ k ∷ [], one_done keys done rest left k whole is, each, homes) where
+more-split tracks test keys rest left k old new count more (done, whole, numbers, counts) is sorted passes news mores = (done ++ k ∷ [], one_done keys done rest left k whole is, each, homes) where
   so_far : List (ℕ × ℕ)
   so_far = filter test done
 
@@ -375,7 +376,7 @@ more-split tracks test keys rest left k old new count more (done, whole, numbers
       news q
       ∙ (ap (λ (n : ℕ). cond (is_at (key_cmp k) q) (Some (next_link_at k.0 tracks + n)) (old q)) (counts k.0)
       ∙ (ap (λ (o : Option ℕ). cond (is_at (key_cmp k) q) (Some (next_link_at k.0 tracks + at_home k.0 (filter test done))) o) (numbers q)
-      ∙ (sym (given-more tracks (filter test done) k q below) ∙ ap (λ (qs : List (ℕ × ℕ)). given tracks qs q) (sym (filter_more test done k true yes)))))
+      ∙ (sym (given-more tracks (filter test done) k q below) ∙ ap (λ (qs : List (ℕ × ℕ)). given tracks qs q) (sym (filter_more test done k true passes)))))
 
   homes : (home : ℕ) → more home ≡ at_home home (filter test (done ++ k ∷ []))
   homes home =
@@ -383,7 +384,7 @@ more-split tracks test keys rest left k old new count more (done, whole, numbers
       ∙ (ap (λ (n : ℕ). cond (eqb k.0 home) (n + 1) (count home)) (counts k.0)
       ∙ (ap (λ (n : ℕ). cond (eqb k.0 home) (at_home k.0 (filter test done) + 1) n) (counts home)
       ∙ (by (eqb k.0 home) refl
-      ∙ (sym (at-home-more home (filter test done) k) ∙ ap (at_home home) (sym (filter_more test done k true yes)))))) where
+      ∙ (sym (at-home-more home (filter test done) k) ∙ ap (at_home home) (sym (filter_more test done k true passes)))))) where
         by : (b : Bool) → eqb k.0 home ≡ b → cond b (at_home k.0 (filter test done) + 1) (at_home home (filter test done)) ≡ at_home home (filter test done) + cond (eqb k.0 home) 1 0
         by true e = ap (λ (n : ℕ). at_home n (filter test done) + 1) (eqb-true k.0 home e) ∙ ap (λ (c : Bool). at_home home (filter test done) + cond c 1 0) (sym e)
         by false e = let none : at_home home (filter test done) ≡ at_home home (filter test done) + 0 = omega arith in none ∙ ap (λ (c : Bool). at_home home (filter test done) + cond c 1 0) (sym e)
@@ -421,4 +422,4 @@ next-small home (t ∷ ts) h = by (eqb t.number home) (next-small home ts (λ k 
 
 pub sum-few : (ts : List TrackState) → All (λ (t : TrackState). length (items_of t.cells) ≤ MAX_ITEMS) ts → sum_by (λ (t : TrackState). length (items_of t.cells)) ts ≤ 65536 * length ts
 sum-few [] h = omega arith
-sum-few (t ∷ ts) h = omega (arith, h 0 t (omega arith), sum-few ts (λ k d lt. h (suc k) d (omega (arith, lt))))
+sum-few (t ∷ ts) h = omega (arith, sum_by-cons (λ (t : TrackState). length (items_of t.cells)) t ts, h 0 t (omega arith), sum-few ts (λ k d lt. h (suc k) d (omega (arith, lt))))

@@ -32,13 +32,13 @@ split_items tracks splits place t = record t {
 abbrev pub linked_refusal : Shift → List TrackState → Option Refusal
 linked_refusal s named = if nat_eq (new_len s.new) (s.y - s.x) then None else link_outside named (cells_from s.y named)
 
--- the tracks after it: where it moves, what ends past its place gets its new links
-abbrev pub linked_after : Shift → List TrackState → List TrackState
-linked_after s named =
+-- the tracks after it: where it moves, what ends past a place gets its new links
+abbrev pub linked_after : Shift → ℕ → List TrackState → List TrackState
+linked_after s place named =
     if nat_eq (new_len s.new) (s.y - s.x)
     then all_moved s named
-    else map (split_items named (split_links s.x s.y named) (s.x + new_len s.new)) (all_moved s named)
+    else map (split_items named (split_links s.x s.y named) place) (all_moved s named)
 
--- what a shift means, item by item
-abbrev pub linked_shift : Shift → Done → List TrackState → Applied
-linked_shift s done named = unless (linked_refusal s named) (unless_over (all_moved s named) (Ok (linked_after s named, done)))
+-- what a shift means, item by item, where what ends past a place is moved
+abbrev pub linked_shift : Shift → ℕ → Done → List TrackState → Applied
+linked_shift s place done named = unless (linked_refusal s named) (unless_over (all_moved s named) (Ok (linked_after s place named, done)))

@@ -16,21 +16,25 @@ use std::alloc::Global;
 use std::sync::ledger::Ledger;
 use step_count::Steps;
 
-/// Shifts all these tracks, or none, with the links of what is moved: an item that ends past the place of the shift
-/// gets a new link where others of its link stay before it. The first link of what is moved that has a track which is
-/// not among these is told, and else the first track that would be too long, and else the first that would have too
-/// many items and gaps, and want of memory, before any of them is changed.
+/// Shifts all these tracks, or none, with the links of what is moved: where others of its link stay before the shift,
+/// an item that ends past the record frame `place` after it gets a new link. `place` is the end of what is put in, or its
+/// start where that belongs to an item which is moved.
+///
+/// The first link of what is moved that has a track which is not among these is told, and else the first track that
+/// would be too long, and else the first that would have too many items and gaps, and want of memory, before any of
+/// them is changed.
 pub fn shift_linked<L: Ledger>(
     alloc: Global,
     named: &mut Vec<Track>,
     shift: &Shift,
+    place: u64,
     done: Done,
     steps: &mut Steps<L>,
 ) -> Result<Done, EditFault>
     requires order { shift.now.x ≤ shift.now.y }
     requires fits { All (λ t. IsShiftOf shift.now t) named.old.items }
     requires split { MayBeSplit named.old.items }
-    ensures answers { Answers (linked_shift shift.now done named.old.items)
+    ensures answers { Answers (linked_shift shift.now place done named.old.items)
         named.old.items named.new.items result }
     ensures least { steps.old ≤ steps.new }
     ensures most { steps.new ≤ steps.old + 21 * sizes_of named.old.items }
@@ -45,7 +49,6 @@ pub fn shift_linked<L: Ledger>(
     match splits_at(alloc, named, shift.x, shift.y, steps) {
         Ok(splits) => {
             let done = shift_tracks(alloc, named, shift, done, steps)?;
-            let place = u64::from(shift.x) + u64::from(len_of(shift.new));
             relink_all(named, place, &splits, steps);
             Ok(done)
         }

@@ -37,7 +37,7 @@ loop-key-preserved-in_ok-insert-2 c =
           omega (
             arith,
             few-more c.in-Some.key.now.0 home (unwrap_or (get nat_cmp c.loop-key.counts home) 0) (unwrap_or (get nat_cmp c.loop-key.counts c.in-Some.key.now.0) 0) (btree_set_len c.args.moved.now) (length c.loop-key.key-iterator) (length c.next.new.self)
-                (c.loop-key.invariant.few home) (c.loop-key.invariant.few c.in-Some.key.now.0) (ap length left),
+                (c.loop-key.invariant.few home) (c.loop-key.invariant.few c.in-Some.key.now.0) (omega (arith, ap length left)),
             ap (λ (o : Option ℕ). unwrap_or o 0) (c.in_ok-insert-2.ensures.updates.0 home)
                 ∙ (count-more c.in-Some.key.now.0 home (c.unwrap_or-count.result + 1) (get nat_cmp c.loop-key.counts home)
                 ∙ ap (λ (n : ℕ). cond (eqb c.in-Some.key.now.0 home) (n + 1) (unwrap_or (get nat_cmp c.loop-key.counts home) 0)) count),
