@@ -1,5 +1,5 @@
 -- Insert and extract as they are meant, and as shifts of all named tracks.
-use Rattle.std.proofs.Common.{◌≡◌, ℕ, ◌-◌, ◌<◌, ◌≤◌, min, Bool, true, false, cond, eqb, ◌||◌, List, [], ◌∷◌, ◌++◌, All, length, map, Option, Some, None, Err, refl, sym, ap, ◌∙◌, arith, subst, get_or, slice_get, nat_eq}
+use Rattle.std.proofs.Common.{◌≡◌, ℕ, ◌+◌, ◌-◌, ◌<◌, ◌≤◌, min, Bool, true, false, cond, eqb, ◌||◌, List, [], ◌∷◌, ◌++◌, All, length, map, Option, Some, None, Err, refl, sym, ap, ◌∙◌, arith, subst, get_or, slice_get, nat_eq}
 use Rattle.std.specs.List.{list_any}
 use Rattle.std.proofs.lemmas.Bool.{eq-eqb, eqb-true}
 use Rattle.std.proofs.lemmas.Option.{slice_get-get_or, slice_get_read}

@@ -89,8 +89,9 @@ fn insert_at<L: Ledger>(
         y: call.at,
         new: Some(ItemView::clip(number, call.what, call.from, call.len)),
     };
-    let place = u64::from(call.at) + u64::from(call.len);
-    shift_linked(alloc, named, &made, place, Done::Item(number), steps)
+    let at = u64::from(call.at);
+    let len = u64::from(call.len);
+    shift_linked(alloc, named, &made, at + len, Done::Item(number), steps)
 }
 
 /// Takes an item out of its own track, and moves what is after it earlier on all named tracks, of which each loses the

@@ -2,6 +2,7 @@ pub mod Beside
 pub mod Trims
 pub mod Slips
 pub mod Slipped
+pub mod Reached
 pub mod Ripples
 pub mod RippleTracks
 pub mod RippleShift

@@ -43,17 +43,17 @@ track_sizes z tracks splits t =
       count-same (take z t.cells ++ map (moved_cell tracks splits) (drop z t.cells)) (take z t.cells ++ drop z t.cells) same ∙ ap (λ (cs : List Cell). length (items_of cs)) (take-append-drop z t.cells),
     )
 
-long_same : (z : ℕ) (tracks : List TrackState) (splits : List Link) (ts : List TrackState) → too_long (map (split_track z tracks splits) ts) ≡ too_long ts
-long_same z tracks splits [] = refl
-long_same z tracks splits (t ∷ ts) =
+pub long-same : (z : ℕ) (tracks : List TrackState) (splits : List Link) (ts : List TrackState) → too_long (map (split_track z tracks splits) ts) ≡ too_long ts
+long-same z tracks splits [] = refl
+long-same z tracks splits (t ∷ ts) =
     ap (λ (n : ℕ). cond (ltb MAX_FRAMES n) (Some (TooLong t.number)) (too_long (map (split_track z tracks splits) ts))) (track_sizes z tracks splits t).0
-    ∙ ap (λ (o : Option Refusal). cond (ltb MAX_FRAMES (length t.cells)) (Some (TooLong t.number)) o) (long_same z tracks splits ts)
+    ∙ ap (λ (o : Option Refusal). cond (ltb MAX_FRAMES (length t.cells)) (Some (TooLong t.number)) o) (long-same z tracks splits ts)
 
-many_same : (z : ℕ) (tracks : List TrackState) (splits : List Link) (ts : List TrackState) → too_many (map (split_track z tracks splits) ts) ≡ too_many ts
-many_same z tracks splits [] = refl
-many_same z tracks splits (t ∷ ts) =
+pub many-same : (z : ℕ) (tracks : List TrackState) (splits : List Link) (ts : List TrackState) → too_many (map (split_track z tracks splits) ts) ≡ too_many ts
+many-same z tracks splits [] = refl
+many-same z tracks splits (t ∷ ts) =
     ap (λ (n : ℕ). cond (ltb MAX_ITEMS n) (Some (TooManyItems t.number)) (too_many (map (split_track z tracks splits) ts))) (track_sizes z tracks splits t).1
-    ∙ ap (λ (o : Option Refusal). cond (ltb MAX_ITEMS (length (items_of t.cells))) (Some (TooManyItems t.number)) o) (many_same z tracks splits ts)
+    ∙ ap (λ (o : Option Refusal). cond (ltb MAX_ITEMS (length (items_of t.cells))) (Some (TooManyItems t.number)) o) (many-same z tracks splits ts)
 
 -- numbers are those of the homes as they were before the shift
 
@@ -68,11 +68,11 @@ cells_same s ts splits (c ∷ cs) =
     ap (λ (o : Option Link). record c { link = o } ∷ map (moved_cell (all_moved s ts) splits) cs) (link_same s ts splits c.link)
     ∙ ap (λ (ds : List Cell). record c { link = moved_link ts splits c.link } ∷ ds) (cells_same s ts splits cs)
 
-tracks_same : (s : Shift) (ts : List TrackState) (splits : List Link) (z : ℕ) (us : List TrackState) → map (split_track z (all_moved s ts) splits) us ≡ map (split_track z ts splits) us
-tracks_same s ts splits z [] = refl
-tracks_same s ts splits z (u ∷ us) =
+pub tracks-same : (s : Shift) (ts : List TrackState) (splits : List Link) (z : ℕ) (us : List TrackState) → map (split_track z (all_moved s ts) splits) us ≡ map (split_track z ts splits) us
+tracks-same s ts splits z [] = refl
+tracks-same s ts splits z (u ∷ us) =
     ap (λ (cs : List Cell). record u { cells = take z u.cells ++ cs; next_link = u.next_link + count_at_home splits u.number } ∷ map (split_track z (all_moved s ts) splits) us) (cells_same s ts splits (drop z u.cells))
-    ∙ ap (λ (vs : List TrackState). split_track z ts splits u ∷ vs) (tracks_same s ts splits z us)
+    ∙ ap (λ (vs : List TrackState). split_track z ts splits u ∷ vs) (tracks-same s ts splits z us)
 
 -- the split after a shift, item by item
 abbrev pub EachUncut : Shift → List TrackState → Type 0
@@ -89,12 +89,12 @@ pub split-moved : (s : Shift) (ts : List TrackState) → s.x ≤ s.y → All (λ
     → links_split s.x (s.x + new_len s.new) (all_moved s ts) ≡ map (split_items ts (split_links s.x s.y ts) (s.x + new_len s.new)) (all_moved s ts)
 split-moved s ts order kept uncut =
     ap (λ (ls : List Link). map (split_track (s.x + new_len s.new) (all_moved s ts) ls) (all_moved s ts)) (splits-moved s ts order)
-    ∙ (tracks_same s ts (split_links s.x s.y ts) (s.x + new_len s.new) (all_moved s ts)
+    ∙ (tracks-same s ts (split_links s.x s.y ts) (s.x + new_len s.new) (all_moved s ts)
     ∙ sym (each-cells ts (split_links s.x s.y ts) (s.x + new_len s.new) (all_moved s ts) (all_mapped s (λ (t : TrackState). IsKept t) ts kept)
     (all_mapped s (λ (t : TrackState). IsUncut (s.x + new_len s.new) t) ts (λ k d lt. uncut k d lt (kept k d lt)))))
 
-within_kept : (s : Shift) (ts : List TrackState) → s.x ≤ s.y → All (IsShiftOf s) ts → too_long (all_moved s ts) ≡ None → too_many (all_moved s ts) ≡ None → All (λ (t : TrackState). IsKept (moved s t)) ts
-within_kept s ts order fits long many k d lt = (fits k d lt).stays order (record { frames = short-all s ts long k d lt; items = few-all s ts many k d lt })
+pub within-kept : (s : Shift) (ts : List TrackState) → s.x ≤ s.y → All (IsShiftOf s) ts → too_long (all_moved s ts) ≡ None → too_many (all_moved s ts) ≡ None → All (λ (t : TrackState). IsKept (moved s t)) ts
+within-kept s ts order fits long many k d lt = (fits k d lt).stays order (record { frames = short-all s ts long k d lt; items = few-all s ts many k d lt })
 
 -- a shift as it is meant, cell by cell
 pub shift-items : (s : Shift) (done : Done) (ts : List TrackState) → s.x ≤ s.y → All (IsShiftOf s) ts → EachUncut s ts
@@ -114,16 +114,16 @@ shift-items s done ts order fits uncut = ap (unless (linked_refusal s ts)) (by (
       ≡ unless {A = List TrackState × Done} a (unless {A = List TrackState × Done} b (Ok (map (split_items ts (split_links s.x s.y ts) (s.x + new_len s.new)) (all_moved s ts), done)))
   at (Some r) b e f = refl
   at None (Some r) e f = refl
-  at None None e f = ap (λ (us : List TrackState). Ok (us, done)) (split-moved s ts order (within_kept s ts order fits e f) uncut)
+  at None None e f = ap (λ (us : List TrackState). Ok (us, done)) (split-moved s ts order (within-kept s ts order fits e f) uncut)
 
   by : (b : Bool) → within_limits (cond b (all_moved s ts) (links_split s.x (s.x + new_len s.new) (all_moved s ts))) done
       ≡ unless_over (all_moved s ts) (Ok (cond b (all_moved s ts) (map (split_items ts (split_links s.x s.y ts) (s.x + new_len s.new)) (all_moved s ts)), done))
   by true = refl
   by false =
       ap (λ (o : Option Refusal). unless {A = List TrackState × Done} o (unless {A = List TrackState × Done} (too_many (links_split s.x (s.x + new_len s.new) (all_moved s ts))) (Ok (links_split s.x (s.x + new_len s.new) (all_moved s ts), done))))
-      (long_same (s.x + new_len s.new) (all_moved s ts) (split_links s.x (s.x + new_len s.new) (all_moved s ts)) (all_moved s ts))
+      (long-same (s.x + new_len s.new) (all_moved s ts) (split_links s.x (s.x + new_len s.new) (all_moved s ts)) (all_moved s ts))
       ∙ (ap (λ (o : Option Refusal). unless {A = List TrackState × Done} (too_long (all_moved s ts)) (unless {A = List TrackState × Done} o (Ok (links_split s.x (s.x + new_len s.new) (all_moved s ts), done))))
-      (many_same (s.x + new_len s.new) (all_moved s ts) (split_links s.x (s.x + new_len s.new) (all_moved s ts)) (all_moved s ts))
+      (many-same (s.x + new_len s.new) (all_moved s ts) (split_links s.x (s.x + new_len s.new) (all_moved s ts)) (all_moved s ts))
       ∙ at (too_long (all_moved s ts)) (too_many (all_moved s ts)) refl refl)
 
 -- what the code does

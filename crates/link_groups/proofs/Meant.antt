@@ -151,6 +151,10 @@ next_gap n m = by (eqb m 0) where
   by true = refl
   by false = refl
 
+-- frames of no item behind dark frames
+pub ends-none : (t : TrackState) (y n : ℕ) (v : ItemView) → 0 < v.len → v.item ≡ None → EndsApart t y (gap_views n ++ v ∷ [])
+ends-none t y n v some is h = inl (last_item (gap_views n) v some ∙ is)
+
 -- a new item behind dark frames
 pub ends-new : (t : TrackState) (y n i : ℕ) (v : ItemView) → 0 < v.len → v.item ≡ Some i → (cell_at t.cells y).item ≢ Some i → i ≢ max t.next_item (i + 1) → EndsApart t y (gap_views n ++ v ∷ [])
 ends-new t y n i v some is other fresh h =
@@ -158,8 +162,8 @@ ends-new t y n i v some is other fresh h =
         next-append t.next_item (gap_views n) (v ∷ []) ∙ (ap (λ (m : ℕ). next_past_all m (v ∷ [])) (next_gap t.next_item n) ∙ ap (λ (o : Option ℕ). next_past t.next_item o) is) in
     inr (i, last_item (gap_views n) v some ∙ is, other, λ e. fresh (e ∙ next))
 
-uncut_beyond : (u : TrackState) (z : ℕ) → IsKept u → length u.cells ≤ z → IsUncut z u
-uncut_beyond u z kept le i v e begins ends =
+pub uncut-beyond : (u : TrackState) (z : ℕ) → IsKept u → length u.cells ≤ z → IsUncut z u
+uncut-beyond u z kept le i v e begins ends =
     absurd (omega (arith, ends, le, frames-more (items_of u.cells) i v e, frames_in-take_le (i + 1) (items_of u.cells), length-cells_of (items_of u.cells), ap length kept.whole))
 
 pub uncut-moved : (s : Shift) (t : TrackState) → IsKept t → s.x ≤ s.y → (t.number ≡ s.own → EndsApart t (min s.y (length t.cells)) (gap_views (s.x - length t.cells) ++ new_views s.new))
@@ -181,7 +185,7 @@ uncut-moved s t kept order apart after = by (eqb t.number s.own) refl (ltb s.x (
   by false e false f =
       let other : t.number ≢ s.own = eqb-false t.number s.own e in
       let le = ltb-false s.x (length t.cells) f in
-      uncut_beyond (moved s t) (s.x + new_len s.new) after (omega (arith, le, length-none s t order other le))
+      uncut-beyond (moved s t) (s.x + new_len s.new) after (omega (arith, le, length-none s t order other le))
 
 -- named tracks that are good may be split
 

@@ -35,8 +35,8 @@ marked_moved : (tracks : List TrackState) (splits : List Link) (m : Option Mark)
 marked_moved tracks splits m [] = refl
 marked_moved tracks splits m (c ∷ cs) = refl
 
-view_moved : (tracks : List TrackState) (splits : List Link) (v : ItemView) → map (moved_cell tracks splits) (view_cells v) ≡ view_cells (with_link (moved_link tracks splits v.link) v)
-view_moved tracks splits v =
+pub view-moved : (tracks : List TrackState) (splits : List Link) (v : ItemView) → map (moved_cell tracks splits) (view_cells v) ≡ view_cells (with_link (moved_link tracks splits v.link) v)
+view-moved tracks splits v =
     marked_moved tracks splits v.mark (span v.item v.first v.link v.len) ∙ ap (marked v.mark) (span_moved tracks splits v.item v.first v.link v.len)
 
 map_drop : (f : Cell → Cell) (n : ℕ) (cs : List Cell) → map f (drop n cs) ≡ drop n (map f cs)
@@ -51,13 +51,13 @@ AreUncut place (v ∷ vs) = (0 < place → place < v.len → v.link ≡ None) ×
 
 cut_view : (tracks : List TrackState) (splits : List Link) (place : ℕ) (v : ItemView) → (0 < place → place < v.len → v.link ≡ None) → place < v.len
     → view_cells (with_link (moved_link tracks splits v.link) v) ≡ take place (view_cells v) ++ map (moved_cell tracks splits) (drop place (view_cells v))
-cut_view tracks splits zero v h less = sym (view_moved tracks splits v)
+cut_view tracks splits zero v h less = sym (view-moved tracks splits v)
 cut_view tracks splits (suc p) v h less =
     let none : v.link ≡ None = h (omega arith) less in
     let same : view_cells (with_link (moved_link tracks splits v.link) v) ≡ view_cells v = ap (λ (o : Option Link). view_cells (with_link (moved_link tracks splits o) v)) none ∙ ap (λ (o : Option Link). view_cells (with_link o v)) (sym none) in
     same
     ∙ (sym (take-append-drop (suc p) (view_cells v))
-    ∙ ap (λ (cs : List Cell). take (suc p) (view_cells v) ++ cs) (sym (map_drop (moved_cell tracks splits) (suc p) (view_cells v) ∙ ap (drop (suc p)) (view_moved tracks splits v ∙ same))))
+    ∙ ap (λ (cs : List Cell). take (suc p) (view_cells v) ++ cs) (sym (map_drop (moved_cell tracks splits) (suc p) (view_cells v) ∙ ap (drop (suc p)) (view-moved tracks splits v ∙ same))))
 
 cells_moved : (tracks : List TrackState) (splits : List Link) (place : ℕ) (vs : List ItemView) → AreUncut place vs
     → cells_of (moved_views tracks splits place vs) ≡ take place (cells_of vs) ++ map (moved_cell tracks splits) (drop place (cells_of vs))
