@@ -1,5 +1,5 @@
 -- A ripple's shift splits links as they are split cell by cell, also where an item reaches back.
-use Rattle.std.proofs.Common.{◌≡◌, ◌≢◌, ℕ, zero, suc, ◌+◌, ◌-◌, ◌<◌, ◌≤◌, ◌⊎◌, inl, inr, Bool, true, false, cond, eqb, ltb, min, max, List, [], ◌∷◌, ◌++◌, All, take, drop, map, length, get_or, unwrap_or, Option, Some, None, IfSome, slice_get, refl, sym, ap, ◌∙◌, arith, subst, append_assoc, ⊎_elim}
+use Rattle.std.proofs.Common.{◌≡◌, ◌≢◌, ℕ, zero, suc, ◌+◌, ◌-◌, ◌<◌, ◌≤◌, ◌⊎◌, inl, inr, Bool, true, false, cond, eqb, ltb, min, max, List, [], ◌∷◌, ◌++◌, All, take, drop, map, length, get_or, unwrap_or, Option, Some, None, IfSome, Result, Ok, slice_get, refl, sym, ap, ◌∙◌, arith, subst, append_assoc, ⊎_elim}
 use Rattle.std.proofs.lemmas.Bool.{cases_lt, eqb-false, eqb-true, ltb-false, ltb-true, ne_eqb}
 use Rattle.std.proofs.lemmas.List.{append-nil, drop-append-le, drop_all, get_or-append-add, get_or-drop, get_or-map, length-append, length-drop, length-take, length-take-le, map-append, take-append-le, take_all, take_at}
 use Rattle.std.proofs.lemmas.Option.{slice_get_within}
