@@ -12,6 +12,7 @@ pub mod laws;
 mod main_call;
 mod reply;
 mod serve;
+mod serving;
 mod session;
 mod status;
 
