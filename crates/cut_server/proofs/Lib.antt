@@ -8,3 +8,4 @@ pub mod Telling
 pub mod DocumentRuns
 pub mod Replying
 pub mod Closing
+pub mod AllStations

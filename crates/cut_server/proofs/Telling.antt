@@ -102,7 +102,7 @@ module _ (T U : List InputLine → (List (List ℕ) → Type 0) → Type 0) (f :
   stops got left (inr s) = inr (at_end got left s)
 
   -- what a session did, told in another way
-  session_told : (e : End) → SessionEnds T old new e → SessionEnds U old new e
+  pub session_told : (e : End) → SessionEnds T old new e → SessionEnds U old new e
   session_told end.Ended (quiet, h) = (quiet, got_map old new _ _ (λ got left k. (k.0, k.1, f _ _ k.2)) h)
   session_told end.ReadFault (failed, h) = (failed, got_map old new _ _ (λ got left k. (k.0, f _ _ k.1)) h)
   session_told end.WriteFault (failed, h) = (failed, got_map old new _ _ stops h)
