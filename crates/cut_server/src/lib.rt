@@ -11,8 +11,8 @@ mod document_reply;
 pub mod laws;
 mod main_call;
 mod reply;
+mod seats;
 mod serve;
-mod serving;
 mod session;
 mod status;
 

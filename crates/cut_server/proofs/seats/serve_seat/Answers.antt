@@ -1,5 +1,5 @@
 use Rattle.std.proofs.Common.{◌≡◌, sym, ◌∙◌}
-use Rattle.cut_server.proofs.serving.serve_seat.Goals as goal
+use Rattle.cut_server.proofs.seats.serve_seat.Goals as goal
 
 pub unreachable-requires : goal.unreachable-requires
 unreachable-requires g c = rw (sym c.take.ensures.value ∙ c.in-None.is) at c.requires
