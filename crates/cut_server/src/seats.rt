@@ -42,14 +42,13 @@ fn serve_seat<R: Wait, G: Gate, J: Naming<Editor, Track>, L: Line>(
         (outside (L.left seat.new.line) (L.read_faults seat.new.line) (L.taken seat.new.line) (L.write_faults seat.new.line))
         seat.new.end }
 {
-    match seat.pass.take() {
-        Some(pass) => {
-            let (pass, end) = serve_session(rt, alloc, room, gate, pass, setting, &mut seat.line);
-            seat.pass = Some(pass);
-            seat.end = end;
-        }
+    let pass = match seat.pass.take() {
+        Some(pass) => pass,
         None => unreachable!(),
-    }
+    };
+    let (pass, end) = serve_session(rt, alloc, room, gate, pass, setting, &mut seat.line);
+    seat.pass = Some(pass);
+    seat.end = end;
 }
 
 /// Serves the sessions of these stations, all at once.

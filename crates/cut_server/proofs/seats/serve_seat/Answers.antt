@@ -7,6 +7,6 @@ unreachable-requires g c = rw (sym c.take.ensures.value ∙ c.in-None.is) at c.r
 pub serve_session-pass-requires : goal.serve_session-pass-requires
 serve_session-pass-requires g c = rw (sym c.take.ensures.value ∙ c.in-Some.is) at c.requires
 
-pub returns-in-Some : goal.returns-in-Some
-returns-in-Some g c = λ o is.
+pub returns : goal.returns
+returns g c = λ o is.
     rw (sym c.take.ensures.value ∙ c.in-Some.is) (c.serve_session-pass.ensures.station, c.serve_session-pass.ensures.ends o is)
