@@ -13,5 +13,5 @@ pub mod Outside
 pub mod Serving
 pub mod Statuses
 pub mod Runs
-pub mod Seated
 pub mod Halls
+pub mod Seated

@@ -14,6 +14,7 @@ mod reply;
 mod seats;
 mod serve;
 mod session;
+mod stations;
 mod status;
 
 pub use main_call::cut_main;

@@ -1,8 +1,7 @@
 // The sessions of several stations of one room, each over a line of its own and in a thread of its own.
-ghost use Rattle.std.specs.Prelude.{◌≡◌, ◌<◌, ℕ, All, length, slice_index};
+ghost use Rattle.std.specs.Prelude.{◌≡◌, ℕ, Some, length, slice_get};
 ghost use Rattle.otio_json.specs.declared.opening.Opening.{Opening as OpeningOf};
-ghost use Rattle.cut_server.specs.Outside.{outside};
-ghost use Rattle.cut_server.specs.Seated.{IsReady, SeatServed};
+ghost use Rattle.cut_server.specs.Seated.{IsReady, SameStation, SeatServed, SeatState};
 ghost use Rattle.cut_server.specs.Served.{IsRoomOf};
 
 use crate::serve::{End, serve_session};
@@ -14,16 +13,31 @@ use edit_journal::{Naming, Pass};
 use room_halls::Gate;
 use room_ports::Line;
 use std::alloc::Global;
+use std::marker::Model;
 use std::sync::Wait;
 use std::thread;
 use std::thread::Threads;
 
-/// A station with its pass and its line, and how its session ended.
+/// A station with its pass and its line, and how its session ended. Contracts see what the pass knows and what the line
+/// tells.
 #[derive(Drop)]
-pub(crate) struct Seat<L, J: Naming<Editor, Track>> {
+pub(crate) struct Seat<L: Line, J: Naming<Editor, Track>> {
     pub(crate) pass: Option<Pass<Editor, J>>,
     pub(crate) line: L,
     pub(crate) end: End,
+}
+
+impl<L: Line, J: Naming<Editor, Track>> Model for Seat<L, J> {
+    ghost use Rattle.cut_server.specs.Outside.{outside};
+    ghost use Rattle.cut_server.specs.Seated.{SeatState};
+
+    ghost Value = { SeatState };
+
+    ghost view = { λ s. record {
+      pass = s.pass;
+      line = outside (L.left s.line) (L.read_faults s.line) (L.taken s.line) (L.write_faults s.line);
+      end = s.end;
+    } };
 }
 
 // Serves the session of one station.
@@ -36,11 +50,9 @@ fn serve_seat<R: Wait, G: Gate, J: Naming<Editor, Track>, L: Line>(
     seat: &mut Seat<L, J>,
 )
     requires { IsReady seat.old.pass }
-    ensures { (o : OpeningOf) → IsRoomOf o room.now setting.counting setting.start
-        → SeatServed o seat.old.pass seat.new.pass
-        (outside (L.left seat.old.line) (L.read_faults seat.old.line) (L.taken seat.old.line) (L.write_faults seat.old.line))
-        (outside (L.left seat.new.line) (L.read_faults seat.new.line) (L.taken seat.new.line) (L.write_faults seat.new.line))
-        seat.new.end }
+    ensures served { (o : OpeningOf) → IsRoomOf o room.now setting.counting setting.start
+        → SeatServed o seat.old seat.new }
+    ensures station { SameStation seat.old.pass seat.new.pass }
 {
     let pass = match seat.pass.take() {
         Some(pass) => pass,
@@ -65,15 +77,13 @@ pub(crate) fn serve_seats<
     setting: Setting,
     seats: &mut [Seat<L, J>],
 )
-    requires { All (λ s. IsReady s.pass) seats.old }
-    ensures { (o : OpeningOf) → IsRoomOf o room.now setting.counting setting.start
-        → (k : ℕ) → k < length seats.old
-        → SeatServed o (slice_index seats.old k).pass (slice_index seats.new k).pass
-        (outside (L.left (slice_index seats.old k).line) (L.read_faults (slice_index seats.old k).line)
-        (L.taken (slice_index seats.old k).line) (L.write_faults (slice_index seats.old k).line))
-        (outside (L.left (slice_index seats.new k).line) (L.read_faults (slice_index seats.new k).line)
-        (L.taken (slice_index seats.new k).line) (L.write_faults (slice_index seats.new k).line))
-        (slice_index seats.new k).end }
+    requires { (k : ℕ) (s : SeatState) → slice_get seats.old k ≡ Some s → IsReady s.pass }
+    ensures served { (o : OpeningOf) → IsRoomOf o room.now setting.counting setting.start
+        → (k : ℕ) (s t : SeatState) → slice_get seats.old k ≡ Some s → slice_get seats.new k ≡ Some t
+        → SeatServed o s t }
+    ensures stations { (k : ℕ) (s t : SeatState) → slice_get seats.old k ≡ Some s
+        → slice_get seats.new k ≡ Some t → SameStation s.pass t.pass }
+    ensures all { length seats.new ≡ length seats.old }
 {
     let threads = seats.len().max(1);
     thread::for_each_mut(rt, seats, threads, &|_, seat| {

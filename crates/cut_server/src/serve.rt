@@ -5,7 +5,10 @@ ghost use Rattle.line_words.specs.Pieces.{ended, pending_after};
 ghost use Rattle.line_words.specs.Told.{line_told};
 ghost use Rattle.room_ports.specs.Counts.{HasRisen};
 ghost use Rattle.cut_server.specs.Outside.{outside, AreSent, LastIsCut};
+ghost use Rattle.room_core.specs.Projection.{of_station};
+ghost use Rattle.cut_server.specs.Rooms.{AreWritten};
 ghost use Rattle.cut_server.specs.Served.{IsRoomOf, Knows, ServesTo};
+ghost use Rattle.cut_server.specs.Seated.{StaysWritten};
 ghost use Rattle.otio_json.specs.declared.opening.Opening.{Opening as OpeningOf};
 ghost use Rattle.cut_server.specs.Serving.{StopsWithin, SessionEnds};
 
@@ -140,6 +143,7 @@ fn serve<R: Wait, G: Gate, J: Naming<Editor, Track>, L: Line>(
         (outside (L.left line.new) (L.read_faults line.new) (L.taken line.new)
         (L.write_faults line.new)) result }
     ensures station { session.new.station ≡ session.old.station }
+    ensures written { StaysWritten session.old session.new }
     ensures lent { L.lent line.new ≡ L.lent line.old }
 {
     let mut reader = LineReader::new();
@@ -188,6 +192,7 @@ pub(crate) fn serve_session<R: Wait, G: Gate, J: Naming<Editor, Track>, L: Line>
         (outside (L.left line.new) (L.read_faults line.new) (L.taken line.new)
         (L.write_faults line.new)) result.1 }
     ensures station { result.0.number ≡ pass.number }
+    ensures written { AreWritten (of_station pass.number result.0.entries) }
     ensures lent { L.lent line.new ≡ L.lent line.old }
 {
     let mut session = Session {
