@@ -9,3 +9,4 @@ pub mod DocumentRuns
 pub mod Replying
 pub mod Closing
 pub mod AllStations
+pub mod Seating

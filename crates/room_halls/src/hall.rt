@@ -4,7 +4,7 @@ ghost use Rattle.room_ports.specs.Counts.{HasRisen};
 ghost use Rattle.room_halls.specs.declared.hall.HallFault.TheVariants as faults;
 ghost use Rattle.room_halls.specs.Stations.{Station, CountsSeat, NoneMoves, OthersStay, line_told};
 
-use room_ports::{Failed, Line, Memory};
+use room_ports::{Failed, Line, MemLine, Memory};
 use std::alloc::{AllocError, AllocFailed, Global};
 
 /// Why a station was not seated.
@@ -40,10 +40,26 @@ impl<T: Drop> From<AllocFailed<T>> for HallFault {
     }
 }
 
+/// The line of a station of a hall.
+pub trait HallLine: Line {
+    /// Told when the session over the line has ended, after which nothing is read of it or written to it. What is told of
+    /// the line stays.
+    fn leave(&mut self)
+        ensures read { (Self.left self.new ≡ Self.left self.old)
+            × (Self.read_faults self.new ≡ Self.read_faults self.old) }
+        ensures written { (Self.taken self.new ≡ Self.taken self.old)
+            × (Self.write_faults self.new ≡ Self.write_faults self.old) };
+}
+
+// Over memory nobody waits for the end of a session.
+impl HallLine for MemLine {
+    fn leave(&mut self) {}
+}
+
 /// A line for each station, by the station's number from 0 on.
 pub trait Hall {
     /// What a station speaks over.
-    type Line: Line + Send + Drop;
+    type Line: HallLine + Send + Drop;
 
     /// What is told of a station.
     ghost told: { Self → ℕ → Station };
