@@ -10,7 +10,7 @@ use composables::Track;
 use cut_room::Room;
 use edit_apply::Editor;
 use edit_journal::{Naming, Pass};
-use room_halls::Gate;
+use room_halls::{Gate, HallLine};
 use room_ports::Line;
 use std::alloc::Global;
 use std::marker::Model;
@@ -41,7 +41,7 @@ impl<L: Line, J: Naming<Editor, Track>> Model for Seat<L, J> {
 }
 
 // Serves the session of one station.
-fn serve_seat<R: Wait, G: Gate, J: Naming<Editor, Track>, L: Line>(
+fn serve_seat<R: Wait, G: Gate, J: Naming<Editor, Track>, L: HallLine>(
     rt: &R,
     alloc: Global,
     room: &Room<Editor, J>,
@@ -61,6 +61,7 @@ fn serve_seat<R: Wait, G: Gate, J: Naming<Editor, Track>, L: Line>(
     let (pass, end) = serve_session(rt, alloc, room, gate, pass, setting, &mut seat.line);
     seat.pass = Some(pass);
     seat.end = end;
+    seat.line.leave();
 }
 
 /// Serves the sessions of these stations, all at once.
@@ -68,7 +69,7 @@ pub(crate) fn serve_seats<
     R: Threads + Wait + Sync,
     G: Gate + Sync,
     J: Naming<Editor, Track> + Send + Sync,
-    L: Line + Send,
+    L: HallLine + Send,
 >(
     rt: &R,
     alloc: Global,
