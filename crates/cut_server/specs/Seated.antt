@@ -5,16 +5,17 @@ use Rattle.room_halls.specs.declared.hall.HallFault.{HallFault}
 use Rattle.room_halls.specs.declared.hall.HallFault.TheVariants.{Failed, Memory}
 use Rattle.otio_json.specs.declared.opening.Opening.{Opening}
 use Rattle.room_core.specs.Projection.{of_station}
+use Rattle.timecode12.specs.Numbers.{Counted}
 use Rattle.cut_server.specs.declared.serve.End.{End}
 use Rattle.cut_server.specs.declared.status.Status.{Status}
 use Rattle.cut_server.specs.declared.status.Status.TheVariants.{NotSeated, OutOfMemory}
 use Rattle.cut_server.specs.Halls.{HallTold, line_at}
 use Rattle.cut_server.specs.Outside.{Outside}
 use Rattle.cut_server.specs.Rooms.{AreWritten}
-use Rattle.cut_server.specs.Served.{Knows}
+use Rattle.cut_server.specs.Served.{IsRoomOf, Knows}
 use Rattle.cut_server.specs.Serving.{SessionEnds}
 use Rattle.cut_server.specs.Session.{SessionState}
-use Rattle.cut_server.specs.SessionInside.{TrackPass}
+use Rattle.cut_server.specs.SessionInside.{TrackPass, TrackRoom}
 
 -- where the station's own entries could be written, they still can
 abbrev pub StaysWritten : SessionState → SessionState → Type 0
@@ -53,12 +54,6 @@ abbrev pub HasNumber : ℕ → Option TrackPass → Type 0
 HasNumber number None = ⊥
 HasNumber number (Some pass) = pass.number ≡ number
 
--- both are passes of one station
-abbrev pub SameStation : Option TrackPass → Option TrackPass → Type 0
-SameStation (Some before) (Some after) = after.number ≡ before.number
-SameStation (Some before) None = ⊥
-SameStation None after = ⊥
-
 -- the station of this number has its pass, to which no entry is known, and its line stands as the hall tells of it
 pub record IsSeated (hall : HallTold) (number : ℕ) (seat : SeatState) : Type 0 where
   pub pass : TrackPass
@@ -75,6 +70,17 @@ abbrev pub CountsSeats : Result (Unit {0}) HallFault → ℕ → ℕ → Type 0
 CountsSeats (Ok _) before after = after ≡ before
 CountsSeats (Err Failed) before after = HasRisen before after
 CountsSeats (Err Memory) before after = after ≡ before
+
+-- both are passes of one station
+abbrev pub SameStation : Option TrackPass → Option TrackPass → Type 0
+SameStation (Some before) (Some after) = after.number ≡ before.number
+SameStation (Some before) None = ⊥
+SameStation None after = ⊥
+
+-- the station was served in this room, and has its pass again
+abbrev pub IsServedIn : TrackRoom → Counted → ℕ → SeatState → SeatState → Type 0
+IsServedIn room counting start before after =
+    SameStation before.pass after.pass × ((o : Opening) → IsRoomOf o room counting start → SeatServed o before after)
 
 -- the status where a station was not seated
 abbrev pub unseated : HallFault → Status

@@ -1,8 +1,6 @@
 // The sessions of several stations of one room, each over a line of its own and in a thread of its own.
 ghost use Rattle.std.specs.Prelude.{◌≡◌, ℕ, Some, length, slice_get};
-ghost use Rattle.otio_json.specs.declared.opening.Opening.{Opening as OpeningOf};
-ghost use Rattle.cut_server.specs.Seated.{IsReady, SameStation, SeatServed, SeatState};
-ghost use Rattle.cut_server.specs.Served.{IsRoomOf};
+ghost use Rattle.cut_server.specs.Seated.{IsReady, IsServedIn, SeatState};
 
 use crate::serve::{End, serve_session};
 use crate::session::Setting;
@@ -50,9 +48,7 @@ fn serve_seat<R: Wait, G: Gate, J: Naming<Editor, Track>, L: HallLine>(
     seat: &mut Seat<L, J>,
 )
     requires { IsReady seat.old.pass }
-    ensures served { (o : OpeningOf) → IsRoomOf o room.now setting.counting setting.start
-        → SeatServed o seat.old seat.new }
-    ensures station { SameStation seat.old.pass seat.new.pass }
+    ensures { IsServedIn room.now setting.counting setting.start seat.old seat.new }
 {
     let pass = match seat.pass.take() {
         Some(pass) => pass,
@@ -79,15 +75,14 @@ pub(crate) fn serve_seats<
     seats: &mut [Seat<L, J>],
 )
     requires { (k : ℕ) (s : SeatState) → slice_get seats.old k ≡ Some s → IsReady s.pass }
-    ensures served { (o : OpeningOf) → IsRoomOf o room.now setting.counting setting.start
-        → (k : ℕ) (s t : SeatState) → slice_get seats.old k ≡ Some s → slice_get seats.new k ≡ Some t
-        → SeatServed o s t }
-    ensures stations { (k : ℕ) (s t : SeatState) → slice_get seats.old k ≡ Some s
-        → slice_get seats.new k ≡ Some t → SameStation s.pass t.pass }
+    ensures served { (k : ℕ) (s t : SeatState) → slice_get seats.old k ≡ Some s
+        → slice_get seats.new k ≡ Some t → IsServedIn room.now setting.counting setting.start s t }
     ensures all { length seats.new ≡ length seats.old }
 {
     let threads = seats.len().max(1);
-    thread::for_each_mut(rt, seats, threads, &|_, seat| {
-        serve_seat(rt, alloc, room, gate, setting, seat)
-    });
+    let served = |_: usize, seat: &mut Seat<L, J>|
+        requires { IsReady seat.old.pass }
+        ensures { IsServedIn room.now setting.counting setting.start seat.old seat.new }
+    { serve_seat(rt, alloc, room, gate, setting, seat) };
+    thread::for_each_mut(rt, seats, threads, &served);
 }

@@ -7,9 +7,9 @@ unreachable-requires g c = rw (sym c.take.ensures.value ∙ c.in-None.is) at c.r
 pub serve_session-pass-requires : goal.serve_session-pass-requires
 serve_session-pass-requires g c = rw (sym c.take.ensures.value ∙ c.in-Some.is) at c.requires
 
-pub returns-clause-served : goal.returns-clause-served
-returns-clause-served g c = λ o is.
-    rw (sym c.take.ensures.value ∙ c.in-Some.is) (record { number = c.serve_session-pass.ensures.station; ends = c.serve_session-pass.ensures.ends o is; written = c.serve_session-pass.ensures.written })
-
-pub returns-clause-station : goal.returns-clause-station
-returns-clause-station g c = rw (sym c.take.ensures.value ∙ c.in-Some.is) c.serve_session-pass.ensures.station
+pub returns : goal.returns
+returns g c =
+    rw (sym c.take.ensures.value ∙ c.in-Some.is) (
+      c.serve_session-pass.ensures.station,
+      λ o is. record { number = c.serve_session-pass.ensures.station; ends = c.serve_session-pass.ensures.ends o is; written = c.serve_session-pass.ensures.written },
+    )
