@@ -8,5 +8,5 @@ pub mod Telling
 pub mod DocumentRuns
 pub mod Replying
 pub mod Closing
-pub mod AllStations
 pub mod Seating
+pub mod AllStations

@@ -14,7 +14,6 @@ use Rattle.cut_server.specs.Halls.{HallTold, first_fault, hall_told, line_at, li
 use Rattle.cut_server.specs.Outside.{Outside, outside}
 use Rattle.cut_server.specs.Seated.{AreSeated, CountsSeats, IsSeated, SeatState}
 use Rattle.cut_server.specs.SessionInside.{TrackPass}
-use Rattle.cut_server.proofs.AllStations.{at_place}
 
 -- an element of a list, or the one behind it
 pub one_more : {X : Type 0} (xs : List X) (x y : X) (k : ℕ) → slice_get (xs ++ x ∷ []) k ≡ Some y → (slice_get xs k ≡ Some y) ⊎ ((k ≡ length xs) × (x ≡ y))

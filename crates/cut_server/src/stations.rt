@@ -96,7 +96,7 @@ fn stand_all_up<H: Hall, J: Naming<Editor, Track>>(
         → line_of (H.told hall.new k).line ≡ s.line }
     ensures free { (k : ℕ) → length seats.items ≤ k → H.told hall.new k ≡ H.told hall.old k }
     ensures passes { map Some passes.new.items ≡ map (λ s. s.pass) seats.items }
-    ensures fault { result ≡ first_fault (map (λ s. status_of s.end) seats.items) }
+    ensures fault { result ≡ first_fault (map status_of (map (λ s. s.end) seats.items)) }
     ensures quiet { H.faults hall.new ≡ H.faults hall.old }
 {
     let mut fault = Status::Done;
