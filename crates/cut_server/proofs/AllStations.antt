@@ -17,21 +17,21 @@ use Rattle.room_core.specs.Projection.{of_station}
 use Rattle.room_core.specs.Whole.{whole}
 use Rattle.call_text.specs.CallTexts.{IsWritten}
 use Rattle.otio_json.specs.declared.opening.Opening.{Opening}
-use Rattle.cut_server.specs.declared.serve.End.{End}
+use Rattle.station_sessions.specs.declared.serve.End.{End}
 use Rattle.cut_server.specs.Closed.{Closes}
 use Rattle.cut_server.specs.Documents.{FilesTold}
 use Rattle.cut_server.specs.declared.status.Status.{Status}
 use Rattle.cut_server.specs.Halls.{HallTold, TellsStation, AreServed, FileEnds, HasServed, first_fault, line_at, or_next, status_of}
-use Rattle.cut_server.specs.Outside.{Outside}
-use Rattle.cut_server.specs.Rooms.{History, Setting, AreWritten, RoomTranscript, IsLegalIn, room_of, setting_of}
+use Rattle.station_sessions.specs.Outside.{Outside}
+use Rattle.station_sessions.specs.Rooms.{History, Setting, AreWritten, RoomTranscript, IsLegalIn, room_of, setting_of}
 use Rattle.cut_server.specs.Seated.{AreSeated, IsServedIn, PassServed, PassesServed, SeatState, HasNumber, SameStation}
-use Rattle.cut_server.specs.Served.{IsRoomOf, Knows}
-use Rattle.cut_server.specs.Serving.{SessionEnds}
-use Rattle.cut_server.specs.SessionInside.{TrackPass, TrackRoom}
+use Rattle.station_sessions.specs.Served.{IsRoomOf, Knows}
+use Rattle.station_sessions.specs.Serving.{SessionEnds}
+use Rattle.station_sessions.specs.SessionInside.{TrackPass, TrackRoom}
 use Rattle.cut_server.specs.Stations.{AreOfStations}
 use Rattle.cut_server.proofs.Seating.{fault_more}
-use Rattle.cut_server.proofs.Telling.{session_told}
-use Rattle.cut_server.proofs.Transcripts.{transcript_more}
+use Rattle.station_sessions.proofs.Knowing.{session_told}
+use Rattle.station_sessions.proofs.Transcripts.{transcript_more}
 
 -- ---- entries that can be written
 

@@ -11,9 +11,9 @@ use Rattle.room_halls.specs.declared.hall.HallFault.TheVariants.{Failed, Memory}
 use Rattle.cut_server.specs.declared.status.Status.{Status}
 use Rattle.cut_server.specs.declared.status.Status.TheVariants.{Done, ReadFault, WriteFault, NoCommand, Refused, NotSeated, OutOfMemory, TooMuchInput}
 use Rattle.cut_server.specs.Halls.{HallTold, first_fault, hall_told, line_at, line_of, or_next}
-use Rattle.cut_server.specs.Outside.{Outside, outside}
+use Rattle.station_sessions.specs.Outside.{Outside, outside}
 use Rattle.cut_server.specs.Seated.{AreSeated, CountsSeats, IsSeated, SeatState}
-use Rattle.cut_server.specs.SessionInside.{TrackPass}
+use Rattle.station_sessions.specs.SessionInside.{TrackPass}
 
 -- an element of a list, or the one behind it
 pub one_more : {X : Type 0} (xs : List X) (x y : X) (k : ℕ) → slice_get (xs ++ x ∷ []) k ≡ Some y → (slice_get xs k ≡ Some y) ⊎ ((k ≡ length xs) × (x ≡ y))

@@ -6,14 +6,14 @@ use Rattle.room_halls.specs.Stations.{LineTold, Station}
 use Rattle.room_ports.specs.Counts.{HasRisen}
 use Rattle.otio_json.specs.declared.opening.Opening.{Opening}
 use Rattle.call_text.specs.Journals.{journal_text_of}
-use Rattle.cut_server.specs.declared.serve.End.{End}
-use Rattle.cut_server.specs.declared.serve.End.TheVariants as end
+use Rattle.station_sessions.specs.declared.serve.End.{End}
+use Rattle.station_sessions.specs.declared.serve.End.TheVariants as end
 use Rattle.cut_server.specs.declared.status.Status.{Status}
 use Rattle.cut_server.specs.declared.status.Status.TheVariants.{Done, ReadFault, WriteFault, NoCommand, Refused, NotSeated, OutOfMemory, TooMuchInput}
 use Rattle.cut_server.specs.Documents.{FilesTold}
-use Rattle.cut_server.specs.Outside.{Outside, outside}
-use Rattle.cut_server.specs.Rooms.{History, AreWritten, IsLegalIn, RoomTranscript}
-use Rattle.cut_server.specs.Serving.{SessionEnds}
+use Rattle.station_sessions.specs.Outside.{Outside, outside}
+use Rattle.station_sessions.specs.Rooms.{History, AreWritten, IsLegalIn, RoomTranscript}
+use Rattle.station_sessions.specs.Serving.{SessionEnds}
 use Rattle.cut_server.specs.Stations.{AreOfStations}
 
 -- what a hall tells: of each station, and how often a call of it has failed

@@ -6,20 +6,16 @@ use Rattle.room_halls.specs.declared.hall.HallFault.TheVariants.{Failed, Memory}
 use Rattle.otio_json.specs.declared.opening.Opening.{Opening}
 use Rattle.room_core.specs.Projection.{of_station}
 use Rattle.timecode12.specs.Numbers.{Counted}
-use Rattle.cut_server.specs.declared.serve.End.{End}
+use Rattle.station_sessions.specs.declared.serve.End.{End}
 use Rattle.cut_server.specs.declared.status.Status.{Status}
 use Rattle.cut_server.specs.declared.status.Status.TheVariants.{NotSeated, OutOfMemory}
 use Rattle.cut_server.specs.Halls.{HallTold, line_at}
-use Rattle.cut_server.specs.Outside.{Outside}
-use Rattle.cut_server.specs.Rooms.{AreWritten}
-use Rattle.cut_server.specs.Served.{IsRoomOf, Knows}
-use Rattle.cut_server.specs.Serving.{SessionEnds}
-use Rattle.cut_server.specs.Session.{SessionState}
-use Rattle.cut_server.specs.SessionInside.{TrackPass, TrackRoom}
-
--- where the station's own entries could be written, they still can
-abbrev pub StaysWritten : SessionState → SessionState → Type 0
-StaysWritten old new = AreWritten (of_station old.station old.course.journal) → AreWritten (of_station old.station new.course.journal)
+use Rattle.station_sessions.specs.Outside.{Outside}
+use Rattle.station_sessions.specs.Rooms.{AreWritten}
+use Rattle.station_sessions.specs.Served.{IsRoomOf, Knows}
+use Rattle.station_sessions.specs.Serving.{SessionEnds}
+use Rattle.station_sessions.specs.Session.{SessionState}
+use Rattle.station_sessions.specs.SessionInside.{TrackPass, TrackRoom}
 
 -- a station with its pass and its line, and how its session ended
 pub record SeatState : Type 0 where

@@ -2,14 +2,13 @@
 ghost use Rattle.std.specs.Prelude.{◌≡◌, ℕ, Some, length, slice_get};
 ghost use Rattle.cut_server.specs.Seated.{IsReady, IsServedIn, SeatState};
 
-use crate::serve::{End, serve_session};
-use crate::session::Setting;
 use composables::Track;
 use cut_room::Room;
 use edit_apply::Editor;
 use edit_journal::{Naming, Pass};
 use room_halls::{Gate, HallLine};
 use room_ports::Line;
+use station_sessions::{End, Setting, serve_session};
 use std::alloc::Global;
 use std::marker::Model;
 use std::sync::Wait;
@@ -26,7 +25,7 @@ pub(crate) struct Seat<L: Line, J: Naming<Editor, Track>> {
 }
 
 impl<L: Line, J: Naming<Editor, Track>> Model for Seat<L, J> {
-    ghost use Rattle.cut_server.specs.Outside.{outside};
+    ghost use Rattle.station_sessions.specs.Outside.{outside};
     ghost use Rattle.cut_server.specs.Seated.{SeatState};
 
     ghost Value = { SeatState };

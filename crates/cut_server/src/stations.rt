@@ -6,12 +6,10 @@ ghost use Rattle.otio_json.specs.declared.opening.Opening.{Opening as OpeningOf}
 ghost use Rattle.cut_server.specs.Documents.{files_told};
 ghost use Rattle.cut_server.specs.Halls.{FileEnds, HallEnds, HallTold, HasServed, first_fault, hall_told, line_of, or_next, status_of};
 ghost use Rattle.cut_server.specs.Seated.{AreSeated, CountsSeats, HasNumber, SeatState, unseated};
-ghost use Rattle.cut_server.specs.Served.{IsRoomOf};
-ghost use Rattle.cut_server.specs.SessionInside.{TrackRoom};
+ghost use Rattle.station_sessions.specs.Served.{IsRoomOf};
+ghost use Rattle.station_sessions.specs.SessionInside.{TrackRoom};
 
 use crate::seats::{Seat, serve_seats};
-use crate::serve::End;
-use crate::session::Setting;
 use crate::status::Status;
 use call_text::journal_text;
 use composables::Track;
@@ -22,6 +20,7 @@ use otio_json::Opening;
 use room_core::Entry;
 use room_files::Files;
 use room_halls::{Gate, Hall, HallFault};
+use station_sessions::{End, Setting};
 use std::alloc::Global;
 use std::marker::Brand;
 use std::sync::Wait;

@@ -1,7 +1,7 @@
 // What the program answers to its words.
 ghost use Rattle.std.specs.Prelude.{◌≡◌};
 ghost use Rattle.cut_server.specs.Documents.{files_told};
-ghost use Rattle.cut_server.specs.Outside.{outside};
+ghost use Rattle.station_sessions.specs.Outside.{outside};
 ghost use Rattle.cutroom.specs.Answers.{ProgramEnds, complaint_of};
 
 use crate::notice::Notice;
