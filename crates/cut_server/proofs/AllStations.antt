@@ -1,5 +1,5 @@
 -- The closed room's journal tells what each of several stations was answered.
-use Rattle.std.proofs.Common.{◌≡◌, ℕ, zero, suc, ◌+◌, ◌<◌, ◌≤◌, ◌⊎◌, inl, inr, Bool, true, false, cond, ◌==◌, List, [], ◌∷◌, ◌++◌, All, length, map, slice_get, Option, Some, None, option_map, refl, sym, ap, ◌∙◌, arith, subst, ⊎_elim}
+use Rattle.std.proofs.Common.{◌≡◌, ℕ, zero, suc, ◌+◌, ◌<◌, ◌≤◌, ◌⊎◌, inl, inr, Bool, true, false, cond, ◌==◌, List, [], ◌∷◌, ◌++◌, All, length, map, slice_get, Option, Some, None, IsSome, option_map, refl, sym, ap, ◌∙◌, arith, subst, ⊎_elim}
 use Rattle.std.proofs.lemmas.Bool.Decides.{nat_tests}
 use Rattle.std.proofs.lemmas.List.{length-map}
 use Rattle.std.proofs.lemmas.Option.{none-some, same_Some, slice_get-map, slice_get_within, get_or_from_slice_get}
@@ -29,7 +29,7 @@ use Rattle.station_sessions.specs.Served.{IsRoomOf, Knows}
 use Rattle.station_sessions.specs.Serving.{SessionEnds}
 use Rattle.station_sessions.specs.SessionInside.{TrackPass, TrackRoom}
 use Rattle.cut_server.specs.Stations.{AreOfStations}
-use Rattle.cut_server.proofs.Seating.{fault_more}
+use Rattle.cut_server.proofs.Seating.{at_place, fault_more}
 use Rattle.station_sessions.proofs.Knowing.{session_told}
 use Rattle.station_sessions.proofs.Transcripts.{transcript_more}
 
@@ -68,9 +68,6 @@ station_ends o stations s g h old new e c ended =
     session_told (Knows o s g) (TellsStation o h s) (λ ls Taken. tells_station o stations s g h ls Taken c) old new e ended
 
 -- ---- elements by their places
-
-pub at_place : {X : Type 0} (P : X → Type 0) (xs : List X) (k : ℕ) (x : X) → All P xs → slice_get xs k ≡ Some x → P x
-at_place P xs k x all is = subst P (get_or_from_slice_get xs k x x is) (all k x (slice_get_within xs k x is))
 
 pub some_at : {X : Type 0} (xs : List X) (k : ℕ) → k < length xs → (x : X) × (slice_get xs k ≡ Some x)
 some_at [] k low = absurd (omega (arith, low))
@@ -177,9 +174,13 @@ same_number None b p is same = absurd (none-some p is)
 same_number (Some q) None p is same = absurd same
 same_number (Some q) (Some r) p is same = same ∙ ap (λ (x : TrackPass). x.number) (same_Some q p is)
 
-number_is : (b : Option TrackPass) (p : TrackPass) (n : ℕ) → b ≡ Some p → HasNumber n b → p.number ≡ n
+pub number_is : (b : Option TrackPass) (p : TrackPass) (n : ℕ) → b ≡ Some p → HasNumber n b → p.number ≡ n
 number_is None p n is has = absurd has
 number_is (Some q) p n is has = ap (λ (x : TrackPass). x.number) (sym (same_Some q p is)) ∙ has
+
+pub has_pass : (number : ℕ) (a : Option TrackPass) → HasNumber number a → IsSome a
+has_pass number None has = absurd has
+has_pass number (Some p) has = tt
 
 -- the numbers of the stations when they have been served
 pub numbers_left : (room : TrackRoom) (counting : Counted) (start : ℕ) (before : HallTold) (seats left : List SeatState) → length left ≡ length seats → AreSeated before seats
