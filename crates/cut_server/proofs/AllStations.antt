@@ -96,7 +96,7 @@ pass_at passes seats k t p are at is =
     some_of (slice_get passes k) t.pass p there is
 
 pub as_many : (passes : List TrackPass) (seats : List SeatState) → map Some passes ≡ map (λ (s : SeatState). s.pass) seats → length passes ≡ length seats
-as_many passes seats are = sym (length-map Some passes) ∙ (ap length are ∙ length-map (λ (s : SeatState). s.pass) seats)
+as_many passes seats are = sym (length-map passes Some) ∙ (ap length are ∙ length-map seats (λ (s : SeatState). s.pass))
 
 -- the number of a place
 pub in_range : (ps : List TrackPass) (from s : ℕ) → ((k : ℕ) (p : TrackPass) → slice_get ps k ≡ Some p → p.number ≡ from + k) → In s (map (λ (p : TrackPass). p.number) ps) → s < from + length ps
@@ -253,7 +253,7 @@ module _ (room : TrackRoom) (counting : Counted) (start stations : ℕ) (before 
       legal = closed.legal;
       seated = of_seats;
       written = written;
-      count = length-map (λ (s : SeatState). s.end) left ∙ (a.all ∙ a.count);
+      count = length-map left (λ (s : SeatState). s.end) ∙ (a.all ∙ a.count);
       each = λ s e at. end_at s e (some_end left s e at);
     }
       where
