@@ -3,3 +3,5 @@ pub mod Rates
 pub mod Telling
 pub mod DocumentRuns
 pub mod Closing
+pub mod Seating
+pub mod AllStations

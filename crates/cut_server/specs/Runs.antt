@@ -13,7 +13,7 @@ use Rattle.cut_server.specs.Commands.{Asked, RunPlain, RunDocument}
 use Rattle.cut_server.specs.Documents.{FilesTold, OnlyRead, Describes, IsRefusedAt, refusal_line}
 use Rattle.station_sessions.specs.declared.serve.End.TheVariants as end
 use Rattle.cut_server.specs.declared.status.Status.{Status}
-use Rattle.cut_server.specs.declared.status.Status.TheVariants.{Done, ReadFault, WriteFault, NoCommand, Refused, OutOfMemory, TooMuchInput}
+use Rattle.cut_server.specs.declared.status.Status.TheVariants.{Done, ReadFault, WriteFault, NoCommand, Refused, NotSeated, OutOfMemory, TooMuchInput}
 use Rattle.cut_server.specs.Stations.{AreOfStations}
 use Rattle.station_sessions.specs.Outside.{Outside, NoFault, WriteFailed, AtEnd, TakesThenFront}
 use Rattle.station_sessions.specs.Rooms.{History, AreWritten, IsLegalIn, RoomTranscript}
@@ -53,6 +53,7 @@ module _ (h : History) (old new : Outside) where
   JournalEnds WriteFault = WriteFailed old new × (new.left ≡ old.left) × TakesFront old.taken new.taken (journal_text_of h)
   JournalEnds NoCommand = ⊥
   JournalEnds Refused = ⊥
+  JournalEnds NotSeated = ⊥
   JournalEnds OutOfMemory = new ≡ old
   JournalEnds TooMuchInput = ⊥
 
@@ -68,6 +69,7 @@ module _ (o : Opening) (old new : Outside) (Untouched : Type 0) where
       ⊎ (WriteFailed old new × AtEnd old new (λ lines. TellsOne o lines (JournalIsCut old.taken new.taken)))
   RunEnds NoCommand = ⊥
   RunEnds Refused = ⊥
+  RunEnds NotSeated = ⊥
   -- nothing was begun, or the input was read to its end and the output is all replies without the journal
   RunEnds OutOfMemory = Untouched ⊎ SessionEnds (Tells o) old new end.Ended
   -- the lines that ended among the first 64 MiB are answered
@@ -88,6 +90,7 @@ module _ (old new : Outside) (Unread : Type 0) where
   RefusalEnds WriteFault = Unread × LineIsCut (codes "refused words\n") old new
   RefusalEnds NoCommand = Unread × LineIsPut (codes "refused words\n") old new
   RefusalEnds Refused = ⊥
+  RefusalEnds NotSeated = ⊥
   RefusalEnds OutOfMemory = ⊥
   RefusalEnds TooMuchInput = ⊥
 
@@ -99,6 +102,7 @@ module _ (line : List ℕ) (old new : Outside) where
   LineEnds WriteFault = LineIsCut line old new
   LineEnds NoCommand = ⊥
   LineEnds Refused = LineIsPut line old new
+  LineEnds NotSeated = ⊥
   LineEnds OutOfMemory = ⊥
   LineEnds TooMuchInput = ⊥
 
@@ -128,6 +132,7 @@ module _ (name : List ℕ) (counting : Counted) (before after : FilesTold) (old 
   EndsUnopened WriteFault = RefusesDocument WriteFault
   EndsUnopened NoCommand = ⊥
   EndsUnopened Refused = RefusesDocument Refused
+  EndsUnopened NotSeated = ⊥
   EndsUnopened OutOfMemory = (after.reads ≡ before.reads) × Unread × Unwritten
   EndsUnopened TooMuchInput = ⊥
 
