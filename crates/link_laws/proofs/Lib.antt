@@ -11,3 +11,7 @@ pub mod ShiftEdits
 pub mod Reaching
 pub mod RippleLaw
 pub mod Wholes
+pub mod Ranks
+pub mod Runs
+pub mod LinkedRuns
+pub mod Weighing

@@ -1,4 +1,5 @@
 pub mod Together
+pub mod Weights
 pub mod Rooms
 pub mod Laws
 pub mod Wholes
