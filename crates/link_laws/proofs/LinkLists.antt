@@ -226,9 +226,9 @@ named_from named set t (suc n) k e le lt h =
         at (inl less) = later g less
         at (inr more) = let same : t ≡ k = omega (arith, le, more) in absurd (differ (sym f ∙ (ap (has_track set) same ∙ h)))
 
-all_named : (named : List TrackState) (set k : ℕ) → first_unnamed named (tracks_in set) ≡ None → k < 32 → IsBitSet set k → is_named named k ≡ true
+pub all-named : (named : List TrackState) (set k : ℕ) → first_unnamed named (tracks_in set) ≡ None → k < 32 → IsBitSet set k → is_named named k ≡ true
 unfolding tracks_in
-all_named named set k e lt h = named_from named set 0 32 k e (omega arith) (omega (arith, lt)) (has_bit set k h)
+all-named named set k e lt h = named_from named set 0 32 k e (omega arith) (omega (arith, lt)) (has_bit set k h)
 
 pub named-inside : (named : List TrackState) (cs : List Cell) (l : Link) (k : ℕ) → link_outside named cs ≡ None → Carries cs l → k < 32 → IsBitSet l.tracks k → is_named named k ≡ true
-named-inside named cs l k e h lt bit = all_named named l.tracks k (each_none named cs l (none_least named cs e) h) lt bit
+named-inside named cs l k e h lt bit = all-named named l.tracks k (each_none named cs l (none_least named cs e) h) lt bit

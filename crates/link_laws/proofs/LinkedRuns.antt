@@ -1,5 +1,5 @@
 -- Runs of cells with one link, where an item gets a link or loses its own; and where no cell has the link, or one has.
-use Rattle.std.proofs.Common.{◌≡◌, ◌≢◌, ℕ, zero, suc, ◌+◌, ◌<◌, ◌≤◌, ◌⊎◌, inl, inr, Bool, true, false, cond, eqb, ◌&&◌, List, [], ◌∷◌, ◌++◌, map, length, Option, Some, None, IfSome, refl, sym, ap, ◌∙◌, arith, subst}
+use Rattle.std.proofs.Common.{◌≡◌, ◌≢◌, ℕ, zero, suc, ◌+◌, ◌≤◌, inl, inr, Bool, true, false, cond, eqb, ◌&&◌, List, [], ◌∷◌, ◌++◌, map, Option, Some, None, refl, ap, ◌∙◌, arith, subst}
 use Rattle.std.proofs.lemmas.Bool.{eq-eqb, eqb-true}
 use Rattle.std.proofs.lemmas.List.{map-append}
 use Rattle.frame_meaning.specs.declared.cells.Cell.{Cell}
@@ -51,9 +51,9 @@ map_have h n i link o (c ∷ cs) e a =
     (ap (λ (b : Bool). (cond b (record c { link = link }) c).link) (ap (λ (p : Option ℕ). same_number p (Some i)) a.0 ∙ e), map_have h n i link o cs e a.1)
 
 not_same : (o : Option ℕ) (i : ℕ) → o ≢ Some i → same_number o (Some i) ≡ false
-not_same o i no = by (same_number o (Some i)) refl where
+not_same o i never = by (same_number o (Some i)) refl where
   by : (b : Bool) → same_number o (Some i) ≡ b → b ≡ false
-  by true e = absurd (no (same-is o (Some i) e))
+  by true e = absurd (never (same-is o (Some i) e))
   by false e = refl
 
 map_lacks : (i : ℕ) (link : Option Link) (vs : List ItemView) → Lacks i vs → map (linked_cell i link) (cells_of vs) ≡ cells_of vs
@@ -131,12 +131,12 @@ link-not h n l apart = by (eqb l.home h) (eqb l.number n) refl refl where
   by false b e f = refl
 
 pub runs-none : (h n : ℕ) (b : Bool) (cs : List Cell) → ((k : Link) → Carries cs k → k.home ≡ h → k.number ≡ n → ⊥) → runs_in h n b cs ≡ 0
-runs-none h n b [] no = refl
-runs-none h n b (c ∷ cs) no =
-    omega (arith, ap (λ (q : Bool). begins b q + runs_in h n q cs) (by c.link refl), runs-none h n false cs (λ k a. no k (inr a))) where
+runs-none h n b [] never = refl
+runs-none h n b (c ∷ cs) never =
+    omega (arith, ap (λ (q : Bool). begins b q + runs_in h n q cs) (by c.link refl), runs-none h n false cs (λ k a. never k (inr a))) where
       by : (o : Option Link) → c.link ≡ o → is_link h n o ≡ false
       by None e = refl
-      by (Some k) e = link-not h n k (no k (inl e))
+      by (Some k) e = link-not h n k (never k (inl e))
 
 pub runs-some : (h n : ℕ) (cs : List Cell) (l : Link) → l.home ≡ h → l.number ≡ n → Carries cs l → 1 ≤ runs_in h n false cs
 runs-some h n [] l e f a = absurd a

@@ -1,11 +1,12 @@
 -- Split links are numbered in their order: how many of them have the home of one and a smaller number.
-use Rattle.std.proofs.Common.{◌≡◌, ℕ, zero, suc, ◌+◌, ◌<◌, ◌≤◌, ◌⊎◌, inl, inr, Bool, true, false, cond, eqb, ltb, ◌&&◌, ◌||◌, max, List, [], ◌∷◌, filter, length, Option, Some, None, refl, sym, ap, ◌∙◌, arith, subst}
+use Rattle.std.proofs.Common.{◌≡◌, ℕ, zero, suc, ◌+◌, ◌<◌, ◌≤◌, ◌⊎◌, inl, inr, Bool, true, false, cond, eqb, ltb, ◌&&◌, ◌||◌, max, List, [], ◌∷◌, filter, length, Option, Some, None, refl, sym, ap, ◌∙◌, arith}
 use Rattle.std.proofs.lemmas.Bool.{cases_lt, eq-eqb, eqb-true, le-ltb, lt-ltb, ltb-true}
 use Rattle.std.specs.List.{list_any}
 use Rattle.frame_meaning.specs.declared.cells.Cell.{Cell}
 use Rattle.frame_meaning.specs.declared.cells.Link.{Link}
 use Rattle.composables.specs.Links.{link_before, links_in, same_link, with_link, with_link_of}
-use Rattle.link_laws.proofs.LinkLists.{AllLinks, AnySame, Same, all-filter, all-with, any-same, is-same, same-is-link}
+use Rattle.link_laws.specs.Weights.{given}
+use Rattle.link_laws.proofs.LinkLists.{AllLinks, AnySame, all-filter, all-with, any-same, is-same, same-is-link}
 
 differ : false ≡ true → ⊥
 differ e = cc
@@ -34,6 +35,37 @@ rank-one s m n e f r = by (cases_lt m n) (cases_lt n m) where
   by (inl a) c = absurd (omega (arith, rank-less s m n e a, r))
   by (inr a) (inl b) = absurd (omega (arith, rank-less s n m f b, r))
   by (inr a) (inr b) = omega (arith, a, b)
+
+-- what is given away of numbers, where those that pass are given away anew behind all
+
+abbrev above : (ℕ → ℕ) → ℕ → ℕ → ℕ
+above f top zero = 0
+above f top (suc j) = max 1 (f (top + j)) + above f top j
+
+given_add : (f : ℕ → ℕ) (top k : ℕ) → given f (top + k) ≡ above f top k + given f top
+given_add f top zero = let e : top + 0 ≡ top = omega arith in omega (arith, ap (given f) e)
+given_add f top (suc k) =
+    let e : top + suc k ≡ suc (top + k) = omega arith in
+    let more : given f (top + suc k) ≡ max 1 (f (top + k)) + given f (top + k) = ap (given f) e in
+    omega (arith, more, given_add f top k)
+
+pub given-up : (f : ℕ → ℕ) (top k : ℕ) → given f top ≤ given f (top + k)
+given-up f top k = omega (arith, given_add f top k)
+
+split_below : (f g : ℕ → ℕ) (s : ℕ → Bool) (top n : ℕ) → ((m : ℕ) → m < n → s m ≡ false → g m ≤ f m)
+    → ((m : ℕ) → m < n → s m ≡ true → max 1 (g m) + max 1 (g (top + rank s m)) ≤ f m) → above g top (rank s n) + given g n ≤ given f n
+split_below f g s top zero old new = omega arith
+split_below f g s top (suc n) old new =
+    by (s n) refl (split_below f g s top n (λ m lt e. old m (omega (arith, lt)) e) (λ m lt e. new m (omega (arith, lt)) e)) where
+      by : (b : Bool) → s n ≡ b → above g top (rank s n) + given g n ≤ given f n
+          → above g top (cond b (suc (rank s n)) (rank s n)) + (max 1 (g n) + given g n) ≤ max 1 (f n) + given f n
+      by true e later = omega (arith, later, new n (omega arith) e)
+      by false e later = omega (arith, later, old n (omega arith) e)
+
+-- where f counts what the numbers had, and g what they have and the new ones get
+pub given-split : (f g : ℕ → ℕ) (s : ℕ → Bool) (top : ℕ) → ((m : ℕ) → m < top → s m ≡ false → g m ≤ f m)
+    → ((m : ℕ) → m < top → s m ≡ true → max 1 (g m) + max 1 (g (top + rank s m)) ≤ f m) → given g (top + rank s top) ≤ given f top
+given-split f g s top old new = omega (arith, given_add g top (rank s top), split_below f g s top top old new)
 
 -- links in order, each once
 
@@ -137,22 +169,26 @@ any-is l (k ∷ ks) e = by (same_link l k) refl e (λ f. any-is l ks f) where
 abbrev pub low_at : ℕ → ℕ → Link → Bool
 low_at h n k = eqb k.home h && ltb k.number n
 
+abbrev bit : Bool → ℕ
+bit true = 1
+bit false = 0
+
 abbrev one_low : ℕ → ℕ → Link → ℕ
-one_low h n l = cond (low_at h n l) 1 0
+one_low h n l = bit (low_at h n l)
 
 one_yes : (h n : ℕ) (l : Link) → l.home ≡ h → l.number < n → one_low h n l ≡ 1
 one_yes h n l e lt =
-    ap (λ (b : Bool). cond (b && ltb l.number n) 1 0) (eq-eqb l.home h e) ∙ ap (λ (b : Bool). cond b 1 0) (lt-ltb l.number n lt)
+    ap (λ (b : Bool). bit (b && ltb l.number n)) (eq-eqb l.home h e) ∙ ap bit (lt-ltb l.number n lt)
 
 one_no : (h n : ℕ) (l : Link) → (l.home ≡ h → l.number < n → ⊥) → one_low h n l ≡ 0
-one_no h n l no = by (eqb l.home h) (ltb l.number n) refl refl where
-  by : (a b : Bool) → eqb l.home h ≡ a → ltb l.number n ≡ b → cond (a && b) 1 0 ≡ 0
-  by true true e f = absurd (no (eqb-true l.home h e) (ltb-true l.number n f))
+one_no h n l never = by (eqb l.home h) (ltb l.number n) refl refl where
+  by : (a b : Bool) → eqb l.home h ≡ a → ltb l.number n ≡ b → bit (a && b) ≡ 0
+  by true true e f = absurd (never (eqb-true l.home h e) (ltb-true l.number n f))
   by true false e f = refl
   by false b e f = refl
 
 one_same : (h n : ℕ) (l : Link) → (h ≡ l.home → n ≡ l.number → ⊥) → one_low h (suc n) l ≡ one_low h n l
-one_same h n l no = by (eqb l.home h) refl where
+one_same h n l never = by (eqb l.home h) refl where
   less : (e : l.home ≡ h) → ltb l.number (suc n) ≡ ltb l.number n
   less e = at (cases_lt l.number n) where
     at : (l.number < n) ⊎ (n ≤ l.number) → ltb l.number (suc n) ≡ ltb l.number n
@@ -160,10 +196,10 @@ one_same h n l no = by (eqb l.home h) refl where
     at (inr le) = past (cases_lt n l.number) where
       past : (n < l.number) ⊎ (l.number ≤ n) → ltb l.number (suc n) ≡ ltb l.number n
       past (inl lt) = le-ltb l.number (suc n) (omega (arith, lt)) ∙ sym (le-ltb l.number n le)
-      past (inr ge) = absurd (no (sym e) (omega (arith, le, ge)))
+      past (inr ge) = absurd (never (sym e) (omega (arith, le, ge)))
 
-  by : (a : Bool) → eqb l.home h ≡ a → cond (a && ltb l.number (suc n)) 1 0 ≡ cond (a && ltb l.number n) 1 0
-  by true e = ap (λ (b : Bool). cond b 1 0) (less (eqb-true l.home h e))
+  by : (a : Bool) → eqb l.home h ≡ a → bit (a && ltb l.number (suc n)) ≡ bit (a && ltb l.number n)
+  by true e = ap bit (less (eqb-true l.home h e))
   by false e = refl
 
 rank_none : (h n : ℕ) → rank (at_home [] h) n ≡ 0
@@ -188,7 +224,7 @@ rank_one_more l ls h (suc n) once = by (same_link k l) (at_home ls h n) refl ref
 pub count-low : (ls : List Link) (h n : ℕ) → InOrder ls → length (filter (low_at h n) ls) ≡ rank (at_home ls h) n
 count-low [] h n o = sym (rank_none h n)
 count-low (l ∷ ls) h n o = omega (arith, by (low_at h n l), count-low ls h n o.1, rank_one_more l ls h n (before-none l ls o.0)) where
-  by : (b : Bool) → length (cond b (l ∷ filter (low_at h n) ls) (filter (low_at h n) ls)) ≡ cond b 1 0 + length (filter (low_at h n) ls)
+  by : (b : Bool) → length (cond b (l ∷ filter (low_at h n) ls) (filter (low_at h n) ls)) ≡ bit b + length (filter (low_at h n) ls)
   by true = omega arith
   by false = omega arith
 

@@ -1,5 +1,5 @@
 -- Runs of cells with one link, after cells were taken out, put in, and cut in two.
-use Rattle.std.proofs.Common.{◌≡◌, ℕ, zero, suc, ◌+◌, ◌<◌, ◌≤◌, ◌⊎◌, inl, inr, Bool, true, false, cond, List, [], ◌∷◌, ◌++◌, take, drop, map, length, Option, Some, None, refl, sym, ap, ◌∙◌, arith, subst}
+use Rattle.std.proofs.Common.{◌≡◌, ℕ, zero, suc, ◌+◌, ◌≤◌, Bool, true, false, List, [], ◌∷◌, ◌++◌, take, drop, map, length, Option, None, refl, sym, ap, ◌∙◌, arith, subst}
 use Rattle.frame_meaning.specs.declared.cells.Cell.{Cell}
 use Rattle.frame_meaning.specs.declared.cells.Link.{Link}
 use Rattle.frame_meaning.specs.declared.cells.Mark.{Mark}
@@ -27,7 +27,7 @@ count h n [] = 0
 count h n (o ∷ os) = one h n o + count h n os
 
 pub count-append : (h n : ℕ) (os ps : List (Option Link)) → count h n (os ++ ps) ≡ count h n os + count h n ps
-count-append h n [] ps = refl
+count-append h n [] ps = omega arith
 count-append h n (o ∷ os) ps = omega (arith, count-append h n os ps)
 
 -- a track with few runs more of each link: those of a list

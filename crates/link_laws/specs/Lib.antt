@@ -3,3 +3,4 @@ pub mod Weights
 pub mod Rooms
 pub mod Laws
 pub mod Wholes
+pub mod Histories
