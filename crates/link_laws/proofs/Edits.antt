@@ -55,13 +55,17 @@ use Rattle.link_groups.specs.LinkedItems.{item_of, linked_cell, linked_item}
 use Rattle.link_groups.specs.Linking.{unlink_on, where_there}
 use Rattle.link_laws.specs.Laws.{DissolvingKeepsTogether, MovingAnEndKeepsTogether, PuttingInKeepsTogether, UnlinkingKeepsTogether}
 use Rattle.link_laws.specs.Rooms.{AreAmong, IsRoom, KeepsTogether, LeavesTogether, with_tracks}
+use Rattle.link_laws.specs.Together.{Together}
+use Rattle.link_laws.proofs.LinkedRuns.{grown-linked}
+use Rattle.link_laws.proofs.Runs.{runs-alike}
 use Rattle.link_laws.proofs.Sights.{Alike, Shows, alike-self, shows-alike}
-use Rattle.link_laws.proofs.Splices.{gap-bare, keeps-bare, keeps-padded, keeps-spliced, length-pad, seen-back, seen-on}
+use Rattle.link_laws.proofs.Splices.{gap-bare, keeps-bare, keeps-one, keeps-padded, length-pad, padded-runs, seen-back, seen-on}
 use Rattle.link_laws.proofs.Tied.{Each, Keeps, among-numbered, each-left, each-with, good-found, kept-tied, keeps-self, keeps-then, numbered-is, tied-of, together-of}
+use Rattle.link_laws.proofs.Weighing.{kept-little}
 
 -- what a call leaves, if it is done, and where it is for one track
 
-abbrev KeptOne : TrackState → Result (TrackState × Done) Refusal → Type 0
+abbrev pub KeptOne : TrackState → Result (TrackState × Done) Refusal → Type 0
 KeptOne t (Ok (u, d)) = (u.number ≡ t.number) × Keeps t u
 KeptOne t (Err r) = Unit {0}
 
@@ -69,20 +73,22 @@ abbrev pub KeptAll : List TrackState → Applied → Type 0
 KeptAll ts (Ok (us, d)) = Each Keeps ts us
 KeptAll ts (Err r) = Unit {0}
 
+pub kept-leaves : (table : Table) (all named : List TrackState) (r : Applied) → IsRoom table all → AreAmong all named → Together all → KeptAll named r → LeavesTogether all r
+kept-leaves table all named (Ok (us, d)) room among g k =
+    let each = each-left Keeps keeps-self all named us all among k room.apart in
+    record { together = together-of (with_tracks all us) (kept-tied all (with_tracks all us) each (tied-of all g)); little = kept-little table all (with_tracks all us) room each }
+kept-leaves table all named (Err r) room among g k = tt
+
 pub kept-law : (table : Table) (meant : List TrackState → Applied) → ((all named : List TrackState) → IsRoom table all → AreAmong all named → KeptAll named (meant named)) → KeepsTogether table meant
-kept-law table meant h all named room names g = by (meant named) (h all named room names.among) where
-  by : (r : Applied) → KeptAll named r → LeavesTogether all r
-  by (Ok (us, d)) k =
-      together-of (with_tracks all us) (kept-tied all (with_tracks all us) (each-left Keeps keeps-self all named us all names.among k room.apart) (tied-of all g))
-  by (Err r) k = tt
+kept-law table meant h all named room names g = kept-leaves table all named (meant named) room names.among g (h all named room names.among)
 
 pub not-found : (own : ℕ) (meant : TrackState → Applied) (ts : List TrackState) → track_numbered own ts ≡ None → for_own own meant ts ≡ Err (NoTrack own)
 not-found own meant ts e = rw e refl
 
-among_kept : (own : ℕ) (ts : List TrackState) (t : TrackState) (r : Result (TrackState × Done) Refusal) → track_numbered own ts ≡ Some t → KeptOne t r → KeptAll ts (among_named ts r)
-among_kept own ts t (Ok (u, d)) e k =
+pub among-kept : (own : ℕ) (ts : List TrackState) (t : TrackState) (r : Result (TrackState × Done) Refusal) → track_numbered own ts ≡ Some t → KeptOne t r → KeptAll ts (among_named ts r)
+among-kept own ts t (Ok (u, d)) e k =
     each-with Keeps keeps-self ts t u (ap (λ (m : ℕ). track_numbered m ts) (k.0 ∙ numbered-is own ts t e) ∙ e) k.0 k.1
-among_kept own ts t (Err r) e k = tt
+among-kept own ts t (Err r) e k = tt
 
 own_kept : (own : ℕ) (meant : TrackState → Result (TrackState × Done) Refusal) (ts : List TrackState)
     → ((t : TrackState) → track_numbered own ts ≡ Some t → KeptOne t (meant t)) → KeptAll ts (on_own own meant ts)
@@ -92,7 +98,7 @@ own_kept own meant ts each = by (track_numbered own ts) refl where
 
   by : (o : Option TrackState) → track_numbered own ts ≡ o → KeptAll ts (on_own own meant ts)
   by None e = subst (KeptAll ts) (sym (not-found own all ts e)) tt
-  by (Some t) e = subst (KeptAll ts) (sym (for-found own all ts t e)) (among_kept own ts t (meant t) e (each t e))
+  by (Some t) e = subst (KeptAll ts) (sym (for-found own all ts t e)) (among-kept own ts t (meant t) e (each t e))
 
 pub room-good : (table : Table) (all named : List TrackState) (own : ℕ) (t : TrackState) → IsRoom table all → AreAmong all named → track_numbered own named ≡ Some t → IsGood table t
 room-good table all named own t room among e = (good-found table all own t room.tracks (among-numbered all named own t among e)).1
@@ -120,9 +126,9 @@ abbrev end_of : Option (ℕ × ℕ) → ℕ
 end_of None = 0
 end_of (Some r) = r.1
 
-range_within : (vs : List ItemView) (p i x y : ℕ) → EachHolds vs → range_from p vs i ≡ Some (x, y) → (p ≤ x) × (x < y) × (y ≤ p + frames_in vs)
-range_within [] p i x y e h = absurd cc
-range_within (v ∷ vs) p i x y e h = by (same_number v.item (Some i)) h (range_within vs (p + v.len) i x y e.1) where
+pub range-within : (vs : List ItemView) (p i x y : ℕ) → EachHolds vs → range_from p vs i ≡ Some (x, y) → (p ≤ x) × (x < y) × (y ≤ p + frames_in vs)
+range-within [] p i x y e h = absurd cc
+range-within (v ∷ vs) p i x y e h = by (same_number v.item (Some i)) h (range-within vs (p + v.len) i x y e.1) where
   by : (b : Bool) → cond b (Some (p, p + v.len)) (range_from (p + v.len) vs i) ≡ Some (x, y)
       → (range_from (p + v.len) vs i ≡ Some (x, y) → (p + v.len ≤ x) × (x < y) × (y ≤ p + v.len + frames_in vs))
       → (p ≤ x) × (x < y) × (y ≤ p + (v.len + frames_in vs))
@@ -134,13 +140,13 @@ range_within (v ∷ vs) p i x y e h = by (same_number v.item (Some i)) h (range_
       let r = later k in
       (omega (arith, r.0), r.1, omega (arith, r.2))
 
-frames_all : (table : Table) (t : TrackState) → IsGood table t → frames_in (items_of t.cells) ≡ length t.cells
-frames_all table t g = omega (arith, length-cells_of (items_of t.cells), ap length g.kept.whole)
+pub frames-all : (table : Table) (t : TrackState) → IsGood table t → frames_in (items_of t.cells) ≡ length t.cells
+frames-all table t g = omega (arith, length-cells_of (items_of t.cells), ap length g.kept.whole)
 
 pub item-range : (table : Table) (t : TrackState) (i x y : ℕ) → IsGood table t → range_of t.cells i ≡ Some (x, y) → (x < y) × (y ≤ length t.cells)
 item-range table t i x y g e =
-    let r = range_within (items_of t.cells) 0 i x y g.kept.each e in
-    (r.1, omega (arith, r.2, frames_all table t g))
+    let r = range-within (items_of t.cells) 0 i x y g.kept.each e in
+    (r.1, omega (arith, r.2, frames-all table t g))
 
 gap_within : (vs : List ItemView) (p q x y : ℕ) → gap_from p vs q ≡ Some (x, y) → (p ≤ x) × (x ≤ p + frames_in vs)
 gap_within [] p q x y e = absurd cc
@@ -172,7 +178,7 @@ overwrite_one table c t g =
     let one : c.at + frames_in clip ≡ c.at + c.len = omega arith in
     unless_kept t (source_refusal table t.number c.what c.from c.len) (track_within_limits (overwritten t c.at c.what c.from c.len) (Item t.next_item))
     (within_kept t (overwritten t c.at c.what c.from c.len) (Item t.next_item) refl
-    (keeps-then t p (overwritten t c.at c.what c.from c.len) (keeps-padded t c.at)
+    (keeps-then t p (overwritten t c.at c.what c.from c.len) (keeps-padded t c.at) (padded-runs t c.at)
     (keeps-bare p c.at (min (c.at + c.len) (length p.cells)) clip (omega (arith, length-pad t c.at))
     (subst (λ (k : ℕ). (k ≡ min (c.at + c.len) (length p.cells)) ⊎ (length p.cells ≤ min (c.at + c.len) (length p.cells))) (sym one) (up_to c.at c.len (length p.cells)))
     (refl, tt))))
@@ -205,7 +211,7 @@ fill_one table c t g = by (gap_at t.cells c.at) refl where
       let len : ℕ = min asked (y - x) in
       unless_kept t (source_refusal table t.number c.what c.from asked) (track_within_limits (filled t c x len) (Item t.next_item))
       (within_kept t (filled t c x len) (Item t.next_item) refl
-      (keeps-bare t x (x + len) (clip_view t.next_item c.what c.from len ∷ []) (omega (arith, r.1, frames_all table t g)) (inl (omega arith)) (refl, tt)))
+      (keeps-bare t x (x + len) (clip_view t.next_item c.what c.from len ∷ []) (omega (arith, r.1, frames-all table t g)) (inl (omega arith)) (refl, tt)))
 
 pub putting-keeps : PuttingInKeepsTogether
 putting-keeps = record {
@@ -217,9 +223,9 @@ putting-keeps = record {
 
 -- an end of an item, and a cut, moved
 
-used_kept : (t : TrackState) (moved : ℤ → TrackState) (allowed : ℤ → Bool) (by : ℤ)
+pub used-kept : (t : TrackState) (moved : ℤ → TrackState) (allowed : ℤ → Bool) (by : ℤ)
     → ((d : ℤ) → allowed d ≡ true → ((moved d).number ≡ t.number) × Keeps t (moved d)) → KeptOne t (used_on t moved (nearest allowed by))
-used_kept t moved allowed by each = at (nearest allowed by) (is-nearest allowed by).member where
+used-kept t moved allowed by each = at (nearest allowed by) (is-nearest allowed by).member where
   at : (d : ℤ) → (d ≡ pos 0) ⊎ (allowed d ≡ true) → KeptOne t (used_on t moved d)
   at (pos zero) m = (refl, keeps-self t)
   at (pos (suc k)) (inl e) = absurd cc
@@ -230,14 +236,14 @@ used_kept t moved allowed by each = at (nearest allowed by) (is-nearest allowed 
 back_kept : (table : Table) (t : TrackState) (x n : ℕ) → n ≤ x → x ≤ length t.cells → has_before table (cell_at t.cells x).side n ≡ true
     → Keeps t (spliced_track t (x - n) x (reaching_back (cell_at t.cells x) n ∷ []))
 back_kept table t x n le within has =
-    keeps-spliced t (x - n) x (reaching_back (cell_at t.cells x) n ∷ []) (omega (arith, within)) (inl (omega (arith, le)))
+    keeps-one t (x - n) x (reaching_back (cell_at t.cells x) n) (omega (arith, within)) (inl (omega (arith, le)))
     (λ l o h. seen-back table t x (x - n) n l o (omega (arith, le)) has h)
 
 on_kept : (t : TrackState) (y z n : ℕ) → 0 < y → y ≤ length t.cells → (y + n ≡ z) ⊎ (length t.cells ≤ z)
     → Keeps t (spliced_track t y z (going_on (cell_at t.cells (y - 1)) n ∷ []))
 on_kept t y z n some within way =
     let one : y + n ≡ y + (n + 0) = omega arith in
-    keeps-spliced t y z (going_on (cell_at t.cells (y - 1)) n ∷ []) within (subst (λ (k : ℕ). (k ≡ z) ⊎ (length t.cells ≤ z)) one way)
+    keeps-one t y z (going_on (cell_at t.cells (y - 1)) n) within (subst (λ (k : ℕ). (k ≡ z) ⊎ (length t.cells ≤ z)) one way)
     (λ l o h. seen-on t y n l o some h)
 
 dark_kept : (t : TrackState) (x y n : ℕ) → x ≤ length t.cells → x + n ≡ y → Keeps t (spliced_track t x y (gap_views n))
@@ -261,7 +267,7 @@ trim_one table c t g = by (range_of t.cells c.item) refl where
   by None e = tt
   by (Some (x, y)) e =
       let r = item-range table t c.item x y g e in
-      used_kept t (trimmed t x y c.end) (trim_allows table t x y c.end) c.by (λ d a. trim_kept table t x y c.end d r.0 r.1 a)
+      used-kept t (trimmed t x y c.end) (trim_allows table t x y c.end) c.by (λ d a. trim_kept table t x y c.end d r.0 r.1 a)
 
 roll_kept : (table : Table) (t : TrackState) (at : ℕ) (d : ℤ) → 0 < at → at ≤ length t.cells → move_allows table t at at d ≡ true
     → ((rolled t at d).number ≡ t.number) × Keeps t (rolled t at d)
@@ -278,7 +284,7 @@ roll_one table c t g = by (is_cut t.cells c.at) refl where
       let a = and-both (ltb 0 c.at && ltb c.at (length t.cells)) _ e in
       let b = and-both (ltb 0 c.at) (ltb c.at (length t.cells)) a.0 in
       let within = ltb-true c.at (length t.cells) b.1 in
-      used_kept t (rolled t c.at) (move_allows table t c.at c.at) c.by (λ d m. roll_kept table t c.at d (ltb-true 0 c.at b.0) (omega (arith, within)) m)
+      used-kept t (rolled t c.at) (move_allows table t c.at c.at) c.by (λ d m. roll_kept table t c.at d (ltb-true 0 c.at b.0) (omega (arith, within)) m)
   by false e = tt
 
 pub moving-keeps : MovingAnEndKeepsTogether
@@ -295,7 +301,11 @@ alike_marked (c ∷ cs) zero mark = (refl, refl, alike-self cs)
 alike_marked (c ∷ cs) (suc p) mark = (refl, refl, alike_marked cs p mark)
 
 marked_kept : (t : TrackState) (p : ℕ) (mark : Option Mark) → Keeps t (marked_track t p mark)
-marked_kept t p mark = record { shows = λ l o h. shows-alike 0 (mark_at_place t.cells p mark) t.cells l o (alike_marked t.cells p mark) h; next = omega arith }
+marked_kept t p mark = record {
+  shows = λ l o h. shows-alike 0 (mark_at_place t.cells p mark) t.cells l o (alike_marked t.cells p mark) h;
+  next = refl;
+  grown = ([], omega arith, λ h n. omega (arith, runs-alike h n false (mark_at_place t.cells p mark) t.cells (alike_marked t.cells p mark)));
+}
 
 dissolve_one : (table : Table) (c : Dissolve) (t : TrackState) → IsGood table t → KeptOne t (dissolve_on table t c)
 dissolve_one table c t g =
@@ -325,7 +335,7 @@ unlinked_shows i p (c ∷ cs) l o h = by (same_number c.item (Some i)) h (λ k. 
 unlink_one : (table : Table) (c : Unlink) (t : TrackState) → IsGood table t → KeptOne t (unlink_on c t)
 unlink_one table c t g = by (item_of t c.item) where
   kept : Keeps t (linked_item t c.item None)
-  kept = record { shows = λ l o h. unlinked_shows c.item 0 t.cells l o h; next = omega arith }
+  kept = record { shows = λ l o h. unlinked_shows c.item 0 t.cells l o h; next = refl; grown = grown-linked table t c.item None g }
 
   by : (o : Option (ℕ × ItemView)) → KeptOne t (where_there o (Ok (linked_item t c.item None, Plain)))
   by None = tt

@@ -24,16 +24,17 @@ use Rattle.edit_delta.proofs.Greatest.{is-nearest}
 use Rattle.edit_splice.specs.Shifts.{shift_of}
 use Rattle.edit_trim.specs.Rippling.{as_split, have_room, ripple_allows, ripple_end, ripple_own, rippled, used_on_all}
 use Rattle.link_laws.specs.Laws.{RippleKeepsTogether}
-use Rattle.link_laws.specs.Rooms.{AreNamed, IsRoom, LeavesTogether, with_tracks}
+use Rattle.link_laws.specs.Rooms.{AreNamed, IsRoom, LeavesTogether, StaysTogether, with_tracks}
 use Rattle.link_laws.specs.Together.{Together}
 use Rattle.link_laws.proofs.Edits.{and-both, item-range, room-good}
 use Rattle.link_laws.proofs.Reaching.{reached}
 use Rattle.link_laws.proofs.Sights.{Shows, shows-cell}
 use Rattle.link_laws.proofs.ShiftEdits.{nothing-each, own-room, shift-law}
 use Rattle.link_laws.proofs.Shifting.{SeesBefore}
-use Rattle.link_laws.proofs.ShiftTracks.{HasPlace, has-place, shifts-each}
+use Rattle.link_laws.proofs.ShiftTracks.{HasPlace, few-one, has-place, shifts-each}
 use Rattle.link_laws.proofs.Splices.{shows-on}
 use Rattle.link_laws.proofs.Tied.{Keeps, among-numbered, each-left, each-self, keeps-self, kept-tied, some-is, tied-of, together-of}
+use Rattle.link_laws.proofs.Weighing.{kept-little}
 
 numbered_before : (n x : ℕ) (ts : List TrackState) (t : TrackState) (l : Link) (o : Option ℤ) → track_numbered n ts ≡ Some t → Shows 0 (take x t.cells) l o → SeesBefore x ts l o
 numbered_before n x [] t l o e h = absurd cc
@@ -54,8 +55,8 @@ module _ (table : Table) (all named : List TrackState) (t : TrackState) (own : �
 
   on_keeps : (y n : ℕ) → 0 < y → 0 < n → y ≤ length t.cells → LeavesTogether all (shift_of own y y (going_on (cell_at t.cells (y - 1)) n ∷ []) done named)
   on_keeps y n some grows le =
-      shift-law table all named named own y y (going_on (cell_at t.cells (y - 1)) n ∷ []) done Put room names.among g (λ z. omega (arith, z, grows))
-      (shifts-each own y y (going_on (cell_at t.cells (y - 1)) n ∷ []) Put named (omega arith) (has y le) (λ l o h. h)) (λ l b s. s) (λ m. refl)
+      shift-law table all named named own y y (going_on (cell_at t.cells (y - 1)) n ∷ []) done Put room names g (λ z. omega (arith, z, grows))
+      (shifts-each own y y (going_on (cell_at t.cells (y - 1)) n ∷ []) Put named (omega arith) (has y le) (λ l o h. h) (few-one (going_on (cell_at t.cells (y - 1)) n))) (λ l b s. s) (λ m. refl)
       (λ l o h. inl (inl (numbered_before own y named t l o e (before l o h)))) where
         Put : Link → Option ℤ → Type 0
         Put l o = Shows y (cells_of (going_on (cell_at t.cells (y - 1)) n ∷ [])) l o
@@ -69,8 +70,8 @@ module _ (table : Table) (all named : List TrackState) (t : TrackState) (own : �
       → LeavesTogether all (shift_of own x x (reaching_back (cell_at (as_split x named t).cells x) n ∷ []) done named)
   back_keeps x n grows le before =
       shift-law table all named named own x x (reaching_back (cell_at (as_split x named t).cells x) n ∷ []) done
-      (λ l o. Shows x (cells_of (reaching_back (cell_at (as_split x named t).cells x) n ∷ [])) l o) room names.among g (λ z. omega (arith, z, grows))
-      (shifts-each own x x (reaching_back (cell_at (as_split x named t).cells x) n ∷ []) (λ l o. Shows x (cells_of (reaching_back (cell_at (as_split x named t).cells x) n ∷ [])) l o) named (omega arith) (has x le) (λ l o h. h))
+      (λ l o. Shows x (cells_of (reaching_back (cell_at (as_split x named t).cells x) n ∷ [])) l o) room names g (λ z. omega (arith, z, grows))
+      (shifts-each own x x (reaching_back (cell_at (as_split x named t).cells x) n ∷ []) (λ l o. Shows x (cells_of (reaching_back (cell_at (as_split x named t).cells x) n ∷ [])) l o) named (omega arith) (has x le) (λ l o h. h) (few-one (reaching_back (cell_at (as_split x named t).cells x) n)))
       (λ l b s. s) (λ m. refl) (λ l o h. inr (reached table named t own x n l o e (has x le) before h))
 
 rippled_keeps : (table : Table) (all named : List TrackState) (t : TrackState) (own x y : ℕ) (end : End) (done : Done) (d : ℤ) → IsRoom table all → AreNamed all named → Together all
@@ -87,10 +88,13 @@ rippled_keeps table all named t own x y Tail done (negsuc k) room names g e less
     let fits : x + suc k < y = ltb-true (x + suc k) y a in
     nothing-each table all named t own (y - suc k) y done room names g e (omega (arith, fits)) (omega (arith, within))
 
-same_keeps : (table : Table) (all named : List TrackState) → IsRoom table all → AreNamed all named → Together all → Together (with_tracks all named)
+same_keeps : (table : Table) (all named : List TrackState) → IsRoom table all → AreNamed all named → Together all → StaysTogether all (with_tracks all named)
 same_keeps table all named room names g =
-    together-of (with_tracks all named)
-    (kept-tied all (with_tracks all named) (each-left Keeps keeps-self all named named all names.among (each-self Keeps keeps-self named) room.apart) (tied-of all g))
+    let each = each-left Keeps keeps-self all named named all names.among (each-self Keeps keeps-self named) room.apart in
+    record {
+      together = together-of (with_tracks all named) (kept-tied all (with_tracks all named) each (tied-of all g));
+      little = kept-little table all (with_tracks all named) room each;
+    }
 
 used_keeps : (table : Table) (all named : List TrackState) (moved : Done → ℤ → Applied) (allowed : ℤ → Bool) (by : ℤ) → IsRoom table all → AreNamed all named → Together all
     → ((done : Done) (d : ℤ) → allowed d ≡ true → (d ≡ pos 0 → ⊥) → LeavesTogether all (moved done d)) → LeavesTogether all (used_on_all named moved (nearest allowed by))

@@ -27,16 +27,17 @@ use Rattle.edit_splice.specs.Padding.{padded_track}
 use Rattle.edit_splice.specs.Shifts.{after_shift, shift_of, shift_refusal, shifted, shifted_track}
 use Rattle.edit_splice.proofs.Bridging.{for-found}
 use Rattle.link_laws.specs.Laws.{ShiftingKeepsTogether}
-use Rattle.link_laws.specs.Rooms.{AreAmong, AreNamed, Ascend, IsRoom, KeepsTogether, LeavesTogether, with_tracks}
+use Rattle.link_laws.specs.Rooms.{AreNamed, Ascend, IsRoom, KeepsTogether, LeavesTogether, StaysTogether, with_tracks}
 use Rattle.link_laws.specs.Together.{Together}
 use Rattle.link_laws.proofs.Edits.{item-range, not-found, room-good}
 use Rattle.link_laws.proofs.LinkLists.{named-inside}
 use Rattle.link_laws.proofs.Sights.{Shows, shows-none}
 use Rattle.link_laws.proofs.Shifting.{Shifts, Stays, from-carries, named-each, shift-end, shift-start}
-use Rattle.link_laws.proofs.ShiftTracks.{HasPlace, has-place, padded-carries, shifted-number, shifts-each, shifts-one, shifts-padded}
+use Rattle.link_laws.proofs.ShiftTracks.{HasFew, HasPlace, few-none, has-place, padded-carries, shifted-number, shifts-each, shifts-one, shifts-padded}
 use Rattle.link_laws.proofs.Splices.{length-pad}
-use Rattle.link_laws.proofs.Splitting.{SeesFrom, all-split, splits-before}
-use Rattle.link_laws.proofs.Tied.{Each, IsTied, among-numbered, each-with, numbered-is, some-is, tied-of, together-of}
+use Rattle.link_laws.proofs.ShiftWeight.{shift-little, split-order}
+use Rattle.link_laws.proofs.Splitting.{SeesFrom, split-law, splits-before}
+use Rattle.link_laws.proofs.Tied.{Each, among-numbered, each-with, numbered-is, some-is, tied-of, together-of}
 
 -- what a call leaves
 
@@ -44,7 +45,7 @@ pub unless-leaves : (all : List TrackState) (why : Option Refusal) (meant : Appl
 unless-leaves all None meant h = h refl
 unless-leaves all (Some r) meant h = tt
 
-within_leaves : (all us : List TrackState) (done : Done) → Together (with_tracks all us) → LeavesTogether all (within_limits us done)
+within_leaves : (all us : List TrackState) (done : Done) → StaysTogether all (with_tracks all us) → LeavesTogether all (within_limits us done)
 within_leaves all us done h =
     unless-leaves all (too_long us) (unless (too_many us) (Ok (us, done))) (λ e. unless-leaves all (too_many us) (Ok (us, done)) (λ f. h))
 
@@ -65,14 +66,14 @@ not_eqb m n differs = by (eqb m n) refl where
   by false e = refl
 
 pub shift-law : (table : Table) (all named ts : List TrackState) (own x y : ℕ) (views : List ItemView) (done : Done) (Put : Link → Option ℤ → Type 0)
-    → IsRoom table all → AreAmong all named → Together all → (frames_in views ≡ y - x → ⊥)
+    → IsRoom table all → AreNamed all named → Together all → (frames_in views ≡ y - x → ⊥)
     → Each (Shifts x y (x + frames_in views) Put) named (shifted own x y views ts)
     → ((l : Link) (b : Option ℤ) → SeesFrom y named l b → SeesFrom y ts l b) → ((n : ℕ) → is_named ts n ≡ is_named named n)
     → ((l : Link) (o : Option ℤ) → Put l o → Stays x named all l o ⊎ SeesFrom (x + frames_in views) (links_split x (x + frames_in views) (shifted own x y views ts)) l o)
     → LeavesTogether all (shift_of own x y views done ts)
-shift-law table all named ts own x y views done Put room among g moves each sees same put =
+shift-law table all named ts own x y views done Put room names g moves each sees same put =
     unless-leaves all (shift_refusal x y (frames_in views) ts) (within_limits (after_shift own x y views ts) done)
-    (λ e. subst (λ (ws : List TrackState). LeavesTogether all (within_limits ws done)) (sym split) (within_leaves all vs done (together-of (with_tracks all vs) (tied e)))) where
+    (λ e. subst (λ (ws : List TrackState). LeavesTogether all (within_limits ws done)) (sym split) (within_leaves all vs done (stays e))) where
       z : ℕ
       z = x + frames_in views
 
@@ -81,6 +82,9 @@ shift-law table all named ts own x y views done Put room among g moves each sees
 
       vs : List TrackState
       vs = links_split x z us
+
+      ls : List Link
+      ls = split_links x z us
 
       differs : eqb (frames_in views) (y - x) ≡ false
       differs = not_eqb (frames_in views) (y - x) moves
@@ -91,21 +95,24 @@ shift-law table all named ts own x y views done Put room among g moves each sees
       told : shift_refusal x y (frames_in views) ts ≡ None → link_outside ts (cells_from y ts) ≡ None
       told e = sym (ap (λ (b : Bool). cond b None (link_outside ts (cells_from y ts))) differs) ∙ e
 
-      tied : shift_refusal x y (frames_in views) ts ≡ None → IsTied (with_tracks all vs)
-      tied e =
+      stays : shift_refusal x y (frames_in views) ts ≡ None → StaysTogether all (with_tracks all vs)
+      stays e =
           let inside : (l : Link) (b : Option ℤ) → SeesFrom y named l b → (n : ℕ) → n < 32 → IsBitSet l.tracks n → is_named named n ≡ true =
           λ l b s n lt bit. sym (same n) ∙ named-inside ts (cells_from y ts) l n (told e) (from-carries y ts l b (sees l b s)) lt bit in
-          let start = shift-start table all named us x y z Put room.tracks among (tied-of all g) each inside in
-          let end = all-split (Stays x named all) z us (split_links x z us) start in
-          shift-end all named us vs x y z Put among (tied-of all g) each (splits-before z us (split_links x z us)) end put
+          let start = shift-start table all named us x y z Put room.tracks names.among (tied-of all g) each inside in
+          let end = split-law us ls (split-order x z us) start.each (Stays x named all) z start in
+          record {
+            together = together-of (with_tracks all vs) (shift-end all named us vs x y z Put names.among (tied-of all g) each (splits-before us ls z us) end put);
+            little = shift-little table all named us x y z Put room names (tied-of all g) each start;
+          }
 
 -- extract
 
 pub nothing-each : (table : Table) (all named : List TrackState) (t : TrackState) (own x y : ℕ) (done : Done) → IsRoom table all → AreNamed all named → Together all → track_numbered own named ≡ Some t
     → x < y → x ≤ length t.cells → LeavesTogether all (shift_of own x y [] done named)
 nothing-each table all named t own x y done room names g e less le =
-    shift-law table all named named own x y [] done (λ l o. ⊥) room names.among g (λ z. omega (arith, z, less))
-    (shifts-each own x y [] (λ l o. ⊥) named (omega (arith, less)) (has-place all own x named t names.among (among-numbered all named own t names.among e) le) (λ l o h. h))
+    shift-law table all named named own x y [] done (λ l o. ⊥) room names g (λ z. omega (arith, z, less))
+    (shifts-each own x y [] (λ l o. ⊥) named (omega (arith, less)) (has-place all own x named t names.among (among-numbered all named own t names.among e) le) (λ l o h. h) (few-none [] tt))
     (λ l b s. s) (λ n. refl) (λ l o h. absurd h)
 
 extract_keeps : (table : Table) (c : Extract) (all named : List TrackState) (t : TrackState) → IsRoom table all → AreNamed all named → Together all → track_numbered c.track named ≡ Some t
@@ -134,10 +141,10 @@ none_place own x least (t ∷ ts) a lt = ((λ e. absurd (differ e)), none_place 
   differ e = omega (arith, e, a.0, lt)
 
 padded_each : (at least : ℕ) (views : List ItemView) (Put : Link → Option ℤ → Type 0) (ts : List TrackState) (t : TrackState) → Ascend least ts → track_numbered t.number ts ≡ Some t
-    → ((l : Link) (o : Option ℤ) → Shows at (cells_of views) l o → Put l o)
+    → ((l : Link) (o : Option ℤ) → Shows at (cells_of views) l o → Put l o) → HasFew views
     → Each (Shifts at at (at + frames_in views) Put) ts (shifted t.number at at views (with_track ts (padded_track t at)))
-padded_each at least views Put [] t a e put = absurd cc
-padded_each at least views Put (w ∷ ws) t a e put = by (eqb w.number t.number) refl e (λ k. padded_each at (w.number + 1) views Put ws t a.1 k put) where
+padded_each at least views Put [] t a e put few = absurd cc
+padded_each at least views Put (w ∷ ws) t a e put few = by (eqb w.number t.number) refl e (λ k. padded_each at (w.number + 1) views Put ws t a.1 k put few) where
   p : TrackState
   p = padded_track t at
 
@@ -151,7 +158,7 @@ padded_each at least views Put (w ∷ ws) t a e put = by (eqb w.number t.number)
   long = omega (arith, length-pad t at)
 
   there : R t (shifted_track t.number at at views p)
-  there = shifts-padded t (shifted_track t.number at at views p) at at at z Put (shifts-one t.number at at views Put p (omega arith) (λ n. long) put)
+  there = shifts-padded t (shifted_track t.number at at views p) at at at z Put (shifts-one t.number at at views Put p (omega arith) (λ n. long) put few)
 
   by : (b : Bool) → eqb w.number t.number ≡ b → cond b (Some w) (track_numbered t.number ws) ≡ Some t
       → (track_numbered t.number ws ≡ Some t → Each R ws (shifted t.number at at views (with_track ws p)))
@@ -161,10 +168,10 @@ padded_each at least views Put (w ∷ ws) t a e put = by (eqb w.number t.number)
       let n : w.number ≡ t.number = eqb-true w.number t.number f in (
         shifted-number t.number at at views p ∙ sym n,
         subst (λ (v : TrackState). R v (shifted_track t.number at at views p)) (sym same) there,
-        shifts-each t.number at at views Put ws (omega arith) (none_place t.number at (w.number + 1) ws a.1 (omega (arith, n))) put,
+        shifts-each t.number at at views Put ws (omega arith) (none_place t.number at (w.number + 1) ws a.1 (omega (arith, n))) put few,
       )
   by false f k later =
-      (shifted-number t.number at at views w, shifts-one t.number at at views Put w (omega arith) (λ n. absurd (differ n)) put, later k) where
+      (shifted-number t.number at at views w, shifts-one t.number at at views Put w (omega arith) (λ n. absurd (differ n)) put few, later k) where
         differ : w.number ≡ t.number → ⊥
         differ n = apart (eqb w.number t.number) f (ap (λ (m : ℕ). eqb m t.number) n ∙ self t.number) where
           apart : (b : Bool) → b ≡ false → b ≡ true → ⊥
@@ -186,7 +193,7 @@ insert_keeps : (table : Table) (c : Insert) (all named : List TrackState) (t : T
     → LeavesTogether all (inserted table c named t)
 insert_keeps table c all named t room names g e =
     unless-leaves all (source_refusal table t.number c.what c.from c.len) (shift_of c.track c.at c.at clip (Item t.next_item) ts)
-    (λ f. shift-law table all named ts c.track c.at c.at clip (Item t.next_item) (λ l o. ⊥) room names.among g (λ z. omega (arith, z, source_some table t.number c.what c.from c.len f))
+    (λ f. shift-law table all named ts c.track c.at c.at clip (Item t.next_item) (λ l o. ⊥) room names g (λ z. omega (arith, z, source_some table t.number c.what c.from c.len f))
     (subst (λ (n : ℕ). Each (Shifts c.at c.at (c.at + frames_in clip) (λ l o. ⊥)) named (shifted n c.at c.at clip ts)) own each)
     (λ l b s. from_each c.at named ts l b padded s) (λ n. named-each (Sees c.at) named ts n padded) (λ l o h. absurd h)) where
       clip : List ItemView
@@ -202,7 +209,7 @@ insert_keeps table c all named t room names g e =
       found = ap (λ (n : ℕ). track_numbered n named) own ∙ e
 
       each : Each (Shifts c.at c.at (c.at + frames_in clip) (λ l o. ⊥)) named (shifted t.number c.at c.at clip ts)
-      each = padded_each c.at 0 clip (λ l o. ⊥) named t names.ascend found (λ l o h. shows-none c.at clip l o (refl, tt) h)
+      each = padded_each c.at 0 clip (λ l o. ⊥) named t names.ascend found (λ l o h. shows-none c.at clip l o (refl, tt) h) (few-none clip (refl, tt))
 
       padded : Each (Sees c.at) named ts
       padded = each-with (Sees c.at) (λ u l o h. h) named t (padded_track t c.at) found refl (λ l o h. padded-carries t c.at c.at l o h)

@@ -11,6 +11,8 @@ use Rattle.composables.specs.Ranges.{offset_of}
 use Rattle.composables.specs.TrackState.{TrackState}
 use Rattle.link_laws.specs.Together.{StandsOn, Together}
 use Rattle.link_laws.specs.Rooms.{AreAmong, AreTracks, as_left, with_tracks}
+use Rattle.link_laws.specs.Weights.{runs_in}
+use Rattle.link_laws.proofs.Runs.{Grown, grown-from, grown-self}
 use Rattle.link_laws.proofs.Sights.{Shows}
 
 -- a cell of these tracks has this link and this offset
@@ -153,16 +155,18 @@ each-with R self (w ∷ ws) t u e n r = by (eqb w.number u.number) refl e (λ k.
   by true f h later = (sym (eqb-true w.number u.number f), subst (λ (s : TrackState). R s u) (sym (some-is w t h)) r, each-self R self ws)
   by false f h later = (refl, self w, later h)
 
--- a track that has no link with an offset that it had not, and gives no link number again
+-- a track that has no link with an offset that it had not, few runs more of its links, and gives no link number away
 pub record Keeps (t u : TrackState) : Type 0 where
   pub shows : (l : Link) (o : Option ℤ) → Shows 0 u.cells l o → Shows 0 t.cells l o
-  pub next : t.next_link ≤ u.next_link
+  pub next : u.next_link ≡ t.next_link
+  pub grown : Grown t u
 
 pub keeps-self : (t : TrackState) → Keeps t t
-keeps-self t = record { shows = λ l o h. h; next = omega arith }
+keeps-self t = record { shows = λ l o h. h; next = refl; grown = grown-self t }
 
-pub keeps-then : (t u v : TrackState) → Keeps t u → Keeps u v → Keeps t v
-keeps-then t u v a b = record { shows = λ l o h. a.shows l o (b.shows l o h); next = omega (arith, a.next, b.next) }
+-- a track without more runs, and then one that is kept
+pub keeps-then : (t u v : TrackState) → Keeps t u → ((h n : ℕ) → runs_in h n false u.cells ≤ runs_in h n false t.cells) → Keeps u v → Keeps t v
+keeps-then t u v a le b = record { shows = λ l o h. a.shows l o (b.shows l o h); next = b.next ∙ a.next; grown = grown-from t u v le b.grown }
 
 sees_less : (ts us : List TrackState) (l : Link) (o : Option ℤ) → Each Keeps ts us → Sees us l o → Sees ts l o
 sees_less [] [] l o each h = absurd h
@@ -185,7 +189,7 @@ each_next : (ts us : List TrackState) → Each Keeps ts us → Each (λ (t u : T
 each_next [] [] each = tt
 each_next [] (u ∷ us) each = absurd each
 each_next (t ∷ ts) [] each = absurd each
-each_next (t ∷ ts) (u ∷ us) each = (each.0, each.1.next, each_next ts us each.2)
+each_next (t ∷ ts) (u ∷ us) each = (each.0, omega (arith, each.1.next), each_next ts us each.2)
 
 pub kept-tied : (ts us : List TrackState) → Each Keeps ts us → IsTied ts → IsTied us
 kept-tied ts us each g = record {
