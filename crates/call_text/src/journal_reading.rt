@@ -175,11 +175,8 @@ fn told_entry(
 {
     match loose_entry(line, counting) {
         Some(entry) => {
-            if is_text_of(scratch, line, &entry)? {
-                Ok(Some(entry))
-            } else {
-                Ok(None)
-            }
+            let told = is_text_of(scratch, line, &entry)?;
+            if told { Ok(Some(entry)) } else { Ok(None) }
         }
         None => Ok(None),
     }

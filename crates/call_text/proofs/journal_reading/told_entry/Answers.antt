@@ -4,10 +4,10 @@ use Rattle.call_text.specs.Journals.{entry_text}
 use Rattle.call_text.proofs.JournalSteps.{none_loose, other_loose, differ}
 use Rattle.call_text.proofs.journal_reading.told_entry.Goals as goal
 
-pub returns-else-is_text_of : goal.returns-else-is_text_of
-returns-else-is_text_of c =
+pub returns-else-told : goal.returns-else-told
+returns-else-told c =
     other_loose (place_by c.args.counting.now 0) c.args.line.now c.in-Some.entry c.in-Some.ensures.read
-    (λ same. differ (entry_text c.in-Some.entry) c.args.line.now (sym c.is_text_of.ensures ∙ c.if-is_text_of.false) same)
+    (λ same. differ (entry_text c.in-Some.entry) c.args.line.now (sym c.in_ok-told-in-Some.ensures ∙ c.if-told.false) same)
 
 pub returns-in-None : goal.returns-in-None
 returns-in-None c = none_loose (place_by c.args.counting.now 0) c.args.line.now c.in-None.ensures.read
