@@ -7,4 +7,4 @@ returns-in_err-tracks c =
     rw (p.1, p.2) (rw c.new-table.ensures at c.in_err-tracks.ensures)
 
 pub returns : goal.returns
-returns c = rw c.in_ok-finish.ensures (rw c.new-table.ensures at c.in_ok-tracks.ensures)
+returns c = rw c.in_ok-table.ensures (rw c.new-table.ensures at c.in_ok-tracks.ensures)
