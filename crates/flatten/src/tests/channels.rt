@@ -1,6 +1,6 @@
 // Worked channels.
 use crate::Shown;
-use crate::tests::tables::{NestRow, add_nest, add_track, nest, shown, table_of};
+use crate::tests::tables::{LayerRow, add_nest, add_track, nest, shown, table_of};
 use composables::{ItemView, Kind, Listed, Memory, Table};
 use frame_meaning::{Frame, Run, Side};
 use laid_tracks::{clip, dissolve, gap};
@@ -52,14 +52,15 @@ fn shown_of(
     shown(alloc, table, &tracks)
 }
 
-// The video channel of two tracks, the second over the first, where there are these nests.
+// The video channel of two tracks, the second over the first, where a nest of six frames has these layers.
 fn stack_of(
     alloc: Global,
-    nests: &[NestRow<'_>],
+    layers: &[LayerRow<'_>],
     lower: &[ItemView],
     upper: &[ItemView],
 ) -> Result<Listed<Run<u32>>, Memory> {
-    let table = table_of(alloc, &[Kind::Video, Kind::Video], nests)?;
+    let mut table = table_of(alloc, &[Kind::Video, Kind::Video])?;
+    add_nest(&mut table, alloc, 6, layers)?;
     let Shown { video, audio: _ } = shown_of(alloc, &table, lower, upper)?;
     Ok(video)
 }
@@ -105,41 +106,56 @@ fn a_channel_shows_the_topmost_that_is_not_dark(rt: HostRuntime) -> Result<(), F
 }
 
 #[test]
-fn a_nest_shows_its_layers(rt: HostRuntime) -> Result<(), Fail> {
+fn a_nest_shows_its_topmost_layer(rt: HostRuntime) -> Result<(), Fail> {
     let picture = [clip(0, 0, 10, 6)];
     let above = [gap(2), clip(0, 2, 50, 2)];
+    let layers = [(picture.as_slice(), 0, 6), (above.as_slice(), 0, 4)];
+    let want = [pic(0, 11, 1), pic(1, 50, 2), pic(0, 14, 1)];
+    let video = stack_of(rt.alloc(), &layers, &[], &[nest(0, 0, 1, 4)])?;
+    assert_eq!(rt; video.as_slice(), want.as_slice());
+    Ok(())
+}
+
+// The video channel of a track over which lies a nest of six frames, shown from one of its frames on, with one layer:
+// the places [from, to) of these.
+fn below_a_nest(
+    alloc: Global,
+    layer: LayerRow<'_>,
+    lower: &[ItemView],
+    source: u32,
+) -> Result<Listed<Run<u32>>, Memory> {
+    let upper = nest(0, 0, source, 6_u32.saturating_sub(source));
+    stack_of(alloc, &[layer], lower, &[upper])
+}
+
+#[test]
+fn a_nest_is_dark_where_its_layer_ends(rt: HostRuntime) -> Result<(), Fail> {
+    let picture = [clip(0, 0, 10, 6)];
     let cut = [clip(0, 0, 10, 4), dissolve(2, 2, clip(1, 2, 50, 4))];
-    let below = [clip(0, 4, 70, 6)];
-    for (layers, lower, upper, want) in [
-        // the topmost layer that is not dark
+    let other = [clip(0, 4, 70, 6)];
+    for (layer, lower, source, want) in [
         (
-            [(picture.as_slice(), 0, 6), (above.as_slice(), 0, 4)].as_slice(),
+            (picture.as_slice(), 2, 5),
             [].as_slice(),
-            nest(0, 0, 1, 4),
-            [pic(0, 11, 1), pic(1, 50, 2), pic(0, 14, 1)].as_slice(),
+            1,
+            [pic(0, 13, 2), dark(3)].as_slice(),
         ),
-        // dark where its layer ends, and there a dissolve below is seen
+        // there a dissolve below is seen
         (
-            &[(&picture, 2, 5)],
-            &[],
-            nest(0, 0, 1, 5),
-            &[pic(0, 13, 2), dark(3)],
-        ),
-        (
-            &[(&picture, 2, 5)],
+            (&picture, 2, 5),
             &cut,
-            nest(0, 0, 0, 6),
+            0,
             &[
                 pic(0, 12, 3),
                 mix(at(0, 13), at(1, 49), (2, 5), 3),
                 pic(1, 52, 2),
             ],
         ),
-        // a dissolve in which its layer ends
+        // a dissolve in which the layer ends
         (
-            &[(&cut, 0, 4)],
-            &below,
-            nest(0, 0, 1, 5),
+            (&cut, 0, 4),
+            &other,
+            1,
             &[
                 pic(0, 11, 1),
                 mix(at(0, 12), at(1, 48), (1, 5), 2),
@@ -147,7 +163,7 @@ fn a_nest_shows_its_layers(rt: HostRuntime) -> Result<(), Fail> {
             ],
         ),
     ] {
-        let video = stack_of(rt.alloc(), &[(6, layers)], lower, &[upper])?;
+        let video = below_a_nest(rt.alloc(), layer, lower, source)?;
         assert_eq!(rt; video.as_slice(), want, "{want:?}");
     }
     Ok(())
@@ -155,7 +171,7 @@ fn a_nest_shows_its_layers(rt: HostRuntime) -> Result<(), Fail> {
 
 // The audio channel of a track, where it has one of its own and no video.
 fn audio_of(alloc: Global, views: &[ItemView]) -> Result<Vec<Run<u32>>, Memory> {
-    let table = table_of(alloc, &[Kind::Audio, Kind::Video], &[])?;
+    let table = table_of(alloc, &[Kind::Audio, Kind::Video])?;
     let Shown { video, audio } = shown_of(alloc, &table, views, &[])?;
     match audio.into_vec().pop() {
         Some(channel) if video.as_slice().is_empty() => Ok(channel.into_vec()),
@@ -186,7 +202,7 @@ fn add_eight_nests(table: &mut Table, alloc: Global) -> Result<(), Memory> {
 
 // The video channel of a track that shows the last of them from its frame 1 on.
 fn last_of_eight(alloc: Global) -> Result<Listed<Run<u32>>, Memory> {
-    let mut table = table_of(alloc, &[Kind::Video], &[])?;
+    let mut table = table_of(alloc, &[Kind::Video])?;
     add_eight_nests(&mut table, alloc)?;
     let Shown { video, audio: _ } = shown_of(alloc, &table, &[nest(0, 7, 1, 12)], &[])?;
     Ok(video)

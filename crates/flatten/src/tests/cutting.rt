@@ -42,7 +42,7 @@ fn cut(alloc: Global, table: &Table, tracks: &[Track]) -> Result<Vec<Segment>, S
 
 // The segments of a track with two dissolves, over which another lies.
 fn cut_below(alloc: Global, upper: &[ItemView]) -> Result<Vec<Segment>, SegmentFault> {
-    let table = table_of(alloc, &[Kind::Video, Kind::Video], &[])?;
+    let table = table_of(alloc, &[Kind::Video, Kind::Video])?;
     let mut tracks = Vec::new(alloc);
     let lower = [
         clip(0, 0, 10, 4),

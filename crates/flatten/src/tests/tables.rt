@@ -11,15 +11,12 @@ use std::alloc::Global;
 /// A layer: the places [from, to) of a track of these.
 pub type LayerRow<'a> = (&'a [ItemView], u32, u32);
 
-/// A nest: how long it is, and its layers.
-pub type NestRow<'a> = (u32, &'a [LayerRow<'a>]);
-
 pub fn nest(number: u32, nest: u32, source: u32, len: u32) -> ItemView {
     ItemView::clip(number, What::Nest(nest), source, len)
 }
 
-// Tracks of these kinds, and these nests; media m is of reel m / 2, so that two entries are of one reel.
-pub fn table_of(alloc: Global, kinds: &[Kind], nests: &[NestRow<'_>]) -> Result<Table, Memory> {
+// Tracks of these kinds, and no nests; media m is of reel m / 2, so that two entries are of one reel.
+pub fn table_of(alloc: Global, kinds: &[Kind]) -> Result<Table, Memory> {
     let mut table = Table {
         kinds: Listed::new(alloc),
         reels: Reels::new(alloc),
@@ -35,9 +32,6 @@ pub fn table_of(alloc: Global, kinds: &[Kind], nests: &[NestRow<'_>]) -> Result<
             from: 0,
             to: 100,
         })?;
-    }
-    for (length, layers) in nests {
-        add_nest(&mut table, alloc, *length, layers)?;
     }
     Ok(table)
 }
