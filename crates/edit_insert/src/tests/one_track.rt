@@ -256,7 +256,13 @@ fn an_overwrite_cuts_what_stands_at_its_ends(rt: HostRuntime) -> Result<(), Fail
             Done::Item(1),
         ),
         (
-            [Over(0, 0, 3), Over(3, 10, 3), Over(6, 20, 3), Over(2, 500, 5)].as_slice(),
+            [
+                Over(0, 0, 3),
+                Over(3, 10, 3),
+                Over(6, 20, 3),
+                Over(2, 500, 5),
+            ]
+            .as_slice(),
             " 0@0+2 3@500+5 2@21+2",
             Done::Item(3),
         ),
@@ -314,9 +320,16 @@ fn a_fill_takes_of_its_gap_what_it_has_frames_for(rt: HostRuntime) -> Result<(),
             " +2 0@0+3 2@86396+4 1@10+1",
             2,
         ),
-        ([Over(0, 0, 3), Out(0), Whole(2, 500)].as_slice(), " 1@500+3", 1),
+        (
+            [Over(0, 0, 3), Out(0), Whole(2, 500)].as_slice(),
+            " 1@500+3",
+            1,
+        ),
     ] {
-        assert!(rt; leave(&rt, rt.alloc(), ops, items, Done::Item(last))?, "{ops:?}");
+        assert!(rt;
+            leave(&rt, rt.alloc(), ops, items, Done::Item(last))?,
+            "{ops:?}"
+        );
     }
     Ok(())
 }
@@ -466,6 +479,9 @@ fn a_fill_asks_for_its_source_before_its_gap(rt: HostRuntime) -> Result<(), Fail
 #[test]
 fn an_item_may_end_at_the_last_frame_of_a_track(rt: HostRuntime) -> Result<(), Fail> {
     let ops = [Op::Over(2_591_999, 0, 1)];
-    assert!(rt; leave(&rt, rt.alloc(), &ops, " +2591999 0@0+1", Done::Item(0))?, "{ops:?}");
+    assert!(rt;
+        leave(&rt, rt.alloc(), &ops, " +2591999 0@0+1", Done::Item(0))?,
+        "{ops:?}"
+    );
     Ok(())
 }

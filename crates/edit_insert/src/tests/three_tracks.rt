@@ -235,7 +235,10 @@ fn inserts_and_extracts_move_what_is_behind_on_each_track(rt: HostRuntime) -> Re
             Err(EditFault::Refused(Refusal::TooLong(1))),
         ),
     ] {
-        assert!(rt; leave(&rt, rt.alloc(), [9, 2, 5], edits, items, last)?, "row {row}");
+        assert!(rt;
+            leave(&rt, rt.alloc(), [9, 2, 5], edits, items, last)?,
+            "row {row}"
+        );
     }
     Ok(())
 }
@@ -253,7 +256,10 @@ fn an_insert_splits_a_link_where_some_of_it_stays(rt: HostRuntime) -> Result<(),
         let edits = [Tie(0, 0, 0), Put(1, at, 50, 2)];
         let items = [other, own, other];
         let last = Ok(Done::Item(1));
-        assert!(rt; leave(&rt, rt.alloc(), [6, 6, 6], &edits, items, last)?, "at {at}");
+        assert!(rt;
+            leave(&rt, rt.alloc(), [6, 6, 6], &edits, items, last)?,
+            "at {at}"
+        );
     }
     Ok(())
 }
@@ -288,7 +294,10 @@ fn links_that_are_split_get_their_numbers_in_order(rt: HostRuntime) -> Result<()
             Ok(Done::Plain),
         ),
     ] {
-        assert!(rt; leave(&rt, rt.alloc(), [6, 6, 6], edits, items, last)?, "row {row}");
+        assert!(rt;
+            leave(&rt, rt.alloc(), [6, 6, 6], edits, items, last)?,
+            "row {row}"
+        );
     }
     Ok(())
 }
