@@ -1,8 +1,8 @@
 -- A track of items and gaps that can be laid.
-use Rattle.std.proofs.Common.{◌≡◌, ◌≢◌, ℕ, zero, suc, ◌+◌, ◌<◌, ◌≤◌, max, Bool, true, false, nat_eq, map, List, [], All, ◌∷◌, ◌++◌, length, drop, get_or, Option, Some, None, IfSome, refl, sym, ap, ◌∙◌, arith, subst}
-use Rattle.std.proofs.lemmas.Bool.{ne_eqb}
+use Rattle.std.proofs.Common.{◌≡◌, ◌≢◌, ℕ, zero, suc, ◌+◌, ◌<◌, ◌≤◌, max, Bool, true, false, eqb, nat_eq, map, List, [], All, ◌∷◌, ◌++◌, length, drop, get_or, Option, Some, None, IfSome, refl, sym, ap, ◌∙◌, arith, subst}
+use Rattle.std.proofs.lemmas.Bool.{eqb-false, eqb-true, ne_eqb}
 use Rattle.std.specs.List.{list_any, slice_get}
-use Rattle.std.proofs.lemmas.List.{append-nil, drop_more}
+use Rattle.std.proofs.lemmas.List.{append-nil, drop_more, get_or_default}
 use Rattle.frame_meaning.specs.declared.cells.Mark.{Mark}
 use Rattle.frame_meaning.specs.declared.cells.Cell.{Cell}
 use Rattle.frame_meaning.specs.Cells.{same_number}
@@ -12,6 +12,7 @@ use Rattle.composables.specs.Good.{AllUnlinked, EachLiesIn, EachLinkOf, IsLinkOf
 use Rattle.composables.specs.Items.{cells_of, items_of}
 use Rattle.composables.specs.Joined.{IsTight, AllFilled}
 use Rattle.composables.specs.TrackFacts.{Holds, EachHolds, Lacks, Apart, NumbersBelow, IsKept, first_mark, left_reach, right_reach}
+use Rattle.composables.specs.Roomy.{IsRoomy}
 use Rattle.composables.specs.TrackSets.{tracks_in}
 use Rattle.composables.specs.TrackState.{TrackState, next_past, next_past_all, replaced}
 use Rattle.composables.proofs.Joining.{items_of-tight, length-cells_of}
@@ -169,3 +170,11 @@ all-two P us vs ws t u e f g p q =
       each zero d lt = p
       each (suc zero) d lt = q
       each (suc (suc k)) d lt = absurd (omega (arith, lt))
+
+-- one track more has room among its numbers
+pub one-more-young : (ts : List TrackState) (i : ℕ) (t : TrackState) → ((k : ℕ) (d : TrackState) → k < i → IsRoomy (get_or ts k d)) → i < length ts → t ≡ get_or ts i t → IsRoomy t
+    → (k : ℕ) (d : TrackState) → k < i + 1 → IsRoomy (get_or ts k d)
+one-more-young ts i t before h is room k d lt = by (eqb k i) refl where
+  by : (b : Bool) → eqb k i ≡ b → IsRoomy (get_or ts k d)
+  by true e = subst IsRoomy (is ∙ get_or_default ts i t d h ∙ ap (λ (j : ℕ). get_or ts j d) (sym (eqb-true k i e))) room
+  by false e = before k d (let n = eqb-false k i e in omega (arith, n, lt))

@@ -1,14 +1,16 @@
 // Worked examples of ripple, on two tracks.
-ghost use Rattle.std.specs.Prelude.{◌≡◌, ◌<◌, true};
-ghost use Rattle.composables.specs.Good.{AllUnlinked, IsGood};
-ghost use Rattle.composables.specs.Items.{items_of};
+ghost use Rattle.std.specs.Prelude.{◌≡◌, ◌<◌, All, true};
+ghost use Rattle.composables.specs.Good.{IsGood};
 ghost use Rattle.composables.specs.Roomy.{IsRoomy};
 
 use crate::ripple;
 use crate::tests::edits::{dissolve, table};
 use crate::tests::laying::{clip, gap, is_good, track_of};
-use composables::{Done, EditFault, End, ItemView, Refusal, Ripple, Table, Track};
+use composables::{
+    Done, EditFault, End, ItemView, Link3, Numbers, Refusal, Ripple, Table, Track,
+};
 use frame_meaning::Memory;
+use link_groups::link;
 use std::alloc::Global;
 use std::marker::Brand;
 use std::sync::ledger::{Blank, Ledger};
@@ -44,7 +46,6 @@ fn play<L: Ledger>(
     requires numbers { (first.number ≡ 0) × (second.number ≡ 1) }
     requires good { IsGood table.now first × IsGood table.now second }
     requires roomy { IsRoomy first × IsRoomy second }
-    requires unlinked { AllUnlinked (items_of first.cells) × AllUnlinked (items_of second.cells) }
 {
     let mut steps = Steps::<L>::new(blank);
     let mut named = Vec::new(alloc);
@@ -58,6 +59,54 @@ fn play<L: Ledger>(
         first,
         second,
     })
+}
+
+// The same once the first item of each track was linked; `None` where they have no one offset.
+fn play_linked<L: Ledger>(
+    alloc: Global,
+    blank: Blank,
+    table: &Table,
+    first: Track,
+    second: Track,
+    call: &Ripple,
+    tied: &Link3,
+) -> Result<Option<Both>, Memory>
+    requires blank { (blank.name ≡ L.name) × (blank.parts ≡ L.parts) × (0 < blank.parts) }
+    requires call { (call.now.track ≡ 0) × (call.now.tracks ≡ 3) }
+    requires tied { tied.now.tracks ≡ 3 }
+    requires numbers { (first.number ≡ 0) × (second.number ≡ 1) }
+    requires good { IsGood table.now first × IsGood table.now second }
+    requires roomy { IsRoomy first × IsRoomy second }
+{
+    let mut steps = Steps::<L>::new(blank);
+    let mut named = Vec::new(alloc);
+    named.push(first)?;
+    named.push(second)?;
+    if link(alloc, table, &mut named, tied, &mut steps).is_err() {
+        return Ok(None);
+    }
+    if !all_young(&named) {
+        return Ok(None);
+    }
+    let answer = ripple(alloc, table, &mut named, call, &mut steps);
+    let first = items_at(alloc, &named, 0)?;
+    let second = items_at(alloc, &named, 1)?;
+    Ok(Some(Both {
+        answer,
+        first,
+        second,
+    }))
+}
+
+fn all_young(named: &[Track]) -> bool
+    ensures { result ≡ true → All (λ t. IsRoomy t) named.now }
+{
+    for track in named {
+        if !is_young(track) {
+            return false;
+        }
+    }
+    true
 }
 
 fn is_young(track: &Track) -> bool
@@ -100,6 +149,42 @@ fn tried(
     };
     let played = play::<Brand>(alloc, Blank::new(1), table, first, second, &call)?;
     Ok(Some(played))
+}
+
+// The same of the first item of the first track, once it was linked with the first of the second.
+fn tried_linked(
+    alloc: Global,
+    table: &Table,
+    first: &[ItemView],
+    second: &[ItemView],
+    end: End,
+    by: i32,
+) -> Result<Option<Both>, Memory> {
+    let Some(first) = track_of(alloc, 0, Vec::from_slice(alloc, first)?)? else {
+        return Ok(None);
+    };
+    let Some(second) = track_of(alloc, 1, Vec::from_slice(alloc, second)?)? else {
+        return Ok(None);
+    };
+    if !is_good(alloc, table, &first)? || !is_good(alloc, table, &second)? {
+        return Ok(None);
+    }
+    if !is_young(&first) || !is_young(&second) {
+        return Ok(None);
+    }
+    if first.number() != 0 || second.number() != 1 {
+        return Ok(None);
+    }
+    let call = Ripple {
+        tracks: 3,
+        track: 0,
+        item: 0,
+        end,
+        by,
+    };
+    let items = Numbers::from_vec(Vec::from_slice(alloc, &[0, 0])?);
+    let tied = Link3 { tracks: 3, items };
+    play_linked::<Brand>(alloc, Blank::new(1), table, first, second, &call, &tied)
 }
 
 // A ripple of the two tracks of these examples.
@@ -270,5 +355,41 @@ fn an_item_that_is_not_there_is_refused(rt: HostRuntime) -> Result<(), Fail> {
     let refused = Err(EditFault::Refused(Refusal::NoItem));
     assert_eq!(rt; played.answer, refused);
     assert_eq!(rt; played.first.as_slice(), first.as_slice());
+    Ok(())
+}
+
+// The number of its link, if it has one.
+fn link_of(view: Option<&ItemView>) -> Option<u32> {
+    Some(view?.link?.number)
+}
+
+// The item of the first track is [3, 7); the partner on the second stands before it, at it, behind it or around it.
+#[test]
+fn a_ripple_splits_a_link_where_some_of_it_stays(rt: HostRuntime) -> Result<(), Fail> {
+    let table = table(rt.alloc())?;
+    let first = [gap(3), clip(0, 0, 10, 4)];
+    let before = [gap(1), clip(0, 0, 8, 2)];
+    let same = [gap(3), clip(0, 0, 10, 4)];
+    let behind = [gap(9), clip(0, 0, 16, 4)];
+    let around = [gap(1), clip(0, 0, 8, 9)];
+    for (row, second, end, by, own, last) in [
+        // the head moves with all of its item: what stays is before it
+        (0u32, before.as_slice(), End::Head, -2, Some(1), Some(0)),
+        (1, same.as_slice(), End::Head, -2, Some(0), Some(0)),
+        (2, behind.as_slice(), End::Head, -2, Some(0), Some(0)),
+        (3, around.as_slice(), End::Head, -2, Some(1), Some(1)),
+        // the tail moves what is behind its item, which stays
+        (4, before.as_slice(), End::Tail, 2, Some(0), Some(0)),
+        (5, same.as_slice(), End::Tail, -2, Some(0), Some(0)),
+        (6, behind.as_slice(), End::Tail, 2, Some(0), Some(1)),
+        (7, around.as_slice(), End::Tail, 2, Some(0), Some(1)),
+    ] {
+        let played = tried_linked(rt.alloc(), &table, &first, second, end, by)?.ok_or(
+            "these can be linked",
+        )?;
+        assert_eq!(rt; played.answer, Ok(Done::By(by)), "row {row}");
+        assert_eq!(rt; link_of(played.first.get(1)), own, "row {row}");
+        assert_eq!(rt; link_of(played.second.last()), last, "row {row}");
+    }
     Ok(())
 }
