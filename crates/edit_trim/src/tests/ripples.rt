@@ -1,21 +1,36 @@
 // Worked examples of ripple, on two tracks.
-ghost use Rattle.std.specs.Prelude.{◌≡◌, ◌<◌, All, true};
+ghost use Rattle.std.specs.Prelude.{◌≡◌, ◌<◌};
 ghost use Rattle.composables.specs.Good.{IsGood};
 ghost use Rattle.composables.specs.Roomy.{IsRoomy};
 
 use crate::ripple;
-use crate::tests::edits::{dissolve, table};
-use crate::tests::laying::{clip, gap, is_good, track_of};
 use composables::{
-    Done, EditFault, End, ItemView, Link3, Numbers, Refusal, Ripple, Table, Track,
+    Done, EditFault, End, ItemView, Kind, Listed, Media, Nest, Reels, Refusal, Ripple, Table, Track,
 };
-use frame_meaning::Memory;
-use link_groups::link;
+use frame_meaning::{Link, Memory};
+use laid_tracks::{clip, dissolve, gap, linked, linked_track};
 use std::alloc::Global;
 use std::marker::Brand;
 use std::sync::ledger::{Blank, Ledger};
 use std::test::Fail;
 use step_count::Steps;
+
+// Media 0 has the source frames [8, 60), media 1 [0, 86400).
+fn table(alloc: Global) -> Result<Table, Memory> {
+    let mut kinds = Listed::new(alloc);
+    kinds.push(Kind::Video)?;
+    let mut media = Listed::new(alloc);
+    for (from, to) in [(8, 60), (0, 86_400)] {
+        media.push(Media { reel: 0, from, to })?;
+    }
+    let nests: Listed<Nest> = Listed::new(alloc);
+    Ok(Table {
+        kinds,
+        reels: Reels::new(alloc),
+        media,
+        nests,
+    })
+}
 
 // What a ripple answers, and the items and gaps of both tracks after it.
 #[derive(Drop)]
@@ -61,60 +76,6 @@ fn play<L: Ledger>(
     })
 }
 
-// The same once the first item of each track was linked; `None` where they have no one offset.
-fn play_linked<L: Ledger>(
-    alloc: Global,
-    blank: Blank,
-    table: &Table,
-    first: Track,
-    second: Track,
-    call: &Ripple,
-    tied: &Link3,
-) -> Result<Option<Both>, Memory>
-    requires blank { (blank.name ≡ L.name) × (blank.parts ≡ L.parts) × (0 < blank.parts) }
-    requires call { (call.now.track ≡ 0) × (call.now.tracks ≡ 3) }
-    requires tied { tied.now.tracks ≡ 3 }
-    requires numbers { (first.number ≡ 0) × (second.number ≡ 1) }
-    requires good { IsGood table.now first × IsGood table.now second }
-    requires roomy { IsRoomy first × IsRoomy second }
-{
-    let mut steps = Steps::<L>::new(blank);
-    let mut named = Vec::new(alloc);
-    named.push(first)?;
-    named.push(second)?;
-    if link(alloc, table, &mut named, tied, &mut steps).is_err() {
-        return Ok(None);
-    }
-    if !all_young(&named) {
-        return Ok(None);
-    }
-    let answer = ripple(alloc, table, &mut named, call, &mut steps);
-    let first = items_at(alloc, &named, 0)?;
-    let second = items_at(alloc, &named, 1)?;
-    Ok(Some(Both {
-        answer,
-        first,
-        second,
-    }))
-}
-
-fn all_young(named: &[Track]) -> bool
-    ensures { result ≡ true → All (λ t. IsRoomy t) named.now }
-{
-    for track in named {
-        if !is_young(track) {
-            return false;
-        }
-    }
-    true
-}
-
-fn is_young(track: &Track) -> bool
-    ensures { result ≡ true → IsRoomy track.now }
-{
-    track.next_item() <= 100 && track.next_link() <= 100
-}
-
 // A ripple of the tracks of these items and gaps, where there are such tracks.
 fn tried(
     alloc: Global,
@@ -125,21 +86,12 @@ fn tried(
     end: End,
     by: i32,
 ) -> Result<Option<Both>, Memory> {
-    let Some(first) = track_of(alloc, 0, Vec::from_slice(alloc, first)?)? else {
+    let Some(first) = linked_track(alloc, table, 0, first)? else {
         return Ok(None);
     };
-    let Some(second) = track_of(alloc, 1, Vec::from_slice(alloc, second)?)? else {
+    let Some(second) = linked_track(alloc, table, 1, second)? else {
         return Ok(None);
     };
-    if !is_good(alloc, table, &first)? || !is_good(alloc, table, &second)? {
-        return Ok(None);
-    }
-    if !is_young(&first) || !is_young(&second) {
-        return Ok(None);
-    }
-    if first.number() != 0 || second.number() != 1 {
-        return Ok(None);
-    }
     let call = Ripple {
         tracks: 3,
         track: 0,
@@ -149,42 +101,6 @@ fn tried(
     };
     let played = play::<Brand>(alloc, Blank::new(1), table, first, second, &call)?;
     Ok(Some(played))
-}
-
-// The same of the first item of the first track, once it was linked with the first of the second.
-fn tried_linked(
-    alloc: Global,
-    table: &Table,
-    first: &[ItemView],
-    second: &[ItemView],
-    end: End,
-    by: i32,
-) -> Result<Option<Both>, Memory> {
-    let Some(first) = track_of(alloc, 0, Vec::from_slice(alloc, first)?)? else {
-        return Ok(None);
-    };
-    let Some(second) = track_of(alloc, 1, Vec::from_slice(alloc, second)?)? else {
-        return Ok(None);
-    };
-    if !is_good(alloc, table, &first)? || !is_good(alloc, table, &second)? {
-        return Ok(None);
-    }
-    if !is_young(&first) || !is_young(&second) {
-        return Ok(None);
-    }
-    if first.number() != 0 || second.number() != 1 {
-        return Ok(None);
-    }
-    let call = Ripple {
-        tracks: 3,
-        track: 0,
-        item: 0,
-        end,
-        by,
-    };
-    let items = Numbers::from_vec(Vec::from_slice(alloc, &[0, 0])?);
-    let tied = Link3 { tracks: 3, items };
-    play_linked::<Brand>(alloc, Blank::new(1), table, first, second, &call, &tied)
 }
 
 // A ripple of the two tracks of these examples.
@@ -363,33 +279,57 @@ fn link_of(view: Option<&ItemView>) -> Option<u32> {
     Some(view?.link?.number)
 }
 
-// The item of the first track is [3, 7); the partner on the second stands before it, at it, behind it or around it.
+// The item of the first track is [3, 7); its partner on the second stands before it, at it, behind it or around it.
 #[test]
 fn a_ripple_splits_a_link_where_some_of_it_stays(rt: HostRuntime) -> Result<(), Fail> {
     let table = table(rt.alloc())?;
-    let first = [gap(3), clip(0, 0, 10, 4)];
-    let before = [gap(1), clip(0, 0, 8, 2)];
-    let same = [gap(3), clip(0, 0, 10, 4)];
-    let behind = [gap(9), clip(0, 0, 16, 4)];
-    let around = [gap(1), clip(0, 0, 8, 9)];
+    let tied = Link {
+        home: 0,
+        number: 4,
+        tracks: 3,
+    };
+    let first = [gap(3), linked(tied, clip(0, 0, 10, 4))];
+    let before = [gap(1), linked(tied, clip(0, 0, 8, 2))];
+    let behind = [gap(9), linked(tied, clip(0, 0, 16, 4))];
+    let around = [gap(1), linked(tied, clip(0, 0, 8, 9))];
     for (row, second, end, by, own, last) in [
         // the head moves with all of its item: what stays is before it
-        (0u32, before.as_slice(), End::Head, -2, Some(1), Some(0)),
-        (1, same.as_slice(), End::Head, -2, Some(0), Some(0)),
-        (2, behind.as_slice(), End::Head, -2, Some(0), Some(0)),
-        (3, around.as_slice(), End::Head, -2, Some(1), Some(1)),
+        (0u32, before.as_slice(), End::Head, -2, Some(0), Some(4)),
+        (1, first.as_slice(), End::Head, -2, Some(4), Some(4)),
+        (2, behind.as_slice(), End::Head, -2, Some(4), Some(4)),
+        (3, around.as_slice(), End::Head, -2, Some(0), Some(0)),
         // the tail moves what is behind its item, which stays
-        (4, before.as_slice(), End::Tail, 2, Some(0), Some(0)),
-        (5, same.as_slice(), End::Tail, -2, Some(0), Some(0)),
-        (6, behind.as_slice(), End::Tail, 2, Some(0), Some(1)),
-        (7, around.as_slice(), End::Tail, 2, Some(0), Some(1)),
+        (4, before.as_slice(), End::Tail, 2, Some(4), Some(4)),
+        (5, first.as_slice(), End::Tail, -2, Some(4), Some(4)),
+        (6, behind.as_slice(), End::Tail, 2, Some(4), Some(0)),
+        (7, around.as_slice(), End::Tail, 2, Some(4), Some(0)),
     ] {
-        let played = tried_linked(rt.alloc(), &table, &first, second, end, by)?.ok_or(
-            "these can be linked",
-        )?;
+        let played = tried(rt.alloc(), &table, &first, second, 0, end, by)?.ok_or("laid")?;
         assert_eq!(rt; played.answer, Ok(Done::By(by)), "row {row}");
         assert_eq!(rt; link_of(played.first.get(1)), own, "row {row}");
         assert_eq!(rt; link_of(played.second.last()), last, "row {row}");
     }
+    Ok(())
+}
+
+#[test]
+fn a_ripple_that_moves_a_link_to_other_tracks_is_refused(rt: HostRuntime) -> Result<(), Fail> {
+    let table = table(rt.alloc())?;
+    let wide = Link {
+        home: 1,
+        number: 2,
+        tracks: 14,
+    };
+    let first = [clip(0, 0, 10, 4)];
+    let second = [gap(4), linked(wide, clip(0, 0, 16, 4))];
+    let played = tried(rt.alloc(), &table, &first, &second, 0, End::Tail, 1)?.ok_or("laid")?;
+    let outside = Refusal::LinkOutside {
+        home: 1,
+        number: 2,
+        track: 2,
+    };
+    assert_eq!(rt; played.answer, Err(EditFault::Refused(outside)));
+    assert_eq!(rt; played.first.as_slice(), first.as_slice());
+    assert_eq!(rt; played.second.as_slice(), second.as_slice());
     Ok(())
 }
