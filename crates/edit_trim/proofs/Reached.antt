@@ -199,7 +199,7 @@ reach_cells tracks splits own x g t some has = by (eqb t.number own) refl (ltb x
   by false e false h =
       let le : length t.cells ≤ x = ltb-false x (length t.cells) h in
       let long : length (spliced_track t (min x (length t.cells)) (min x (length t.cells)) []).cells ≡ length t.cells =
-          length-spliced kept_or_dropped t.cells (min x (length t.cells)) (min x (length t.cells)) [] t.next_item ∙ omega arith in
+      length-spliced kept_or_dropped t.cells (min x (length t.cells)) (min x (length t.cells)) [] t.next_item ∙ omega arith in
       ap (λ (cs : List Cell). record t { cells = cs; next_item = (spliced_track t (min x (length t.cells)) (min x (length t.cells)) []).next_item; next_link = t.next_link + count_at_home splits t.number })
       (past_all (moved_cell tracks splits) (x + g.len) (spliced_track t (min x (length t.cells)) (min x (length t.cells)) []).cells (omega (arith, long, le))
       ∙ sym (past_all (moved_cell tracks splits) x (spliced_track t (min x (length t.cells)) (min x (length t.cells)) []).cells (omega (arith, long, le))))
@@ -391,48 +391,48 @@ reach-meant table ts t i v own x y n done all good s some only fits =
     ∙ (ap (λ (b : Bool). unless (cond b None (link_outside ts (cells_from x ts))) (within_limits (cond b (all_moved (back_shift own x new) ts) (links_split x (x + n) (all_moved (back_shift own x new) ts))) done)) moves
     ∙ (ap (unless (link_outside ts (cells_from x ts))) inner
     ∙ sym (ap (λ (b : Bool). unless (cond b None (link_outside ts (cells_from x ts))) (unless_over (all_moved (back_shift own x g) ts) (Ok (cond b (all_moved (back_shift own x g) ts) (map (split_items ts (split_links x x ts) x) (all_moved (back_shift own x g) ts)), done)))) moves)))) where
-  g : ItemView
-  g = reaching_back (cell_in v 0) n
+      g : ItemView
+      g = reaching_back (cell_in v 0) n
 
-  splits : List Link
-  splits = split_links x x ts
+      splits : List Link
+      splits = split_links x x ts
 
-  new : ItemView
-  new = with_link (moved_link ts (split_links x x ts) v.link) (reaching_back (cell_in v 0) n)
+      new : ItemView
+      new = with_link (moved_link ts (split_links x x ts) v.link) (reaching_back (cell_in v 0) n)
 
-  len : n + 0 ≡ n
-  len = omega arith
+      len : n + 0 ≡ n
+      len = omega arith
 
-  moves : eqb n (x - x) ≡ false
-  moves = ne_eqb n (x - x) (λ e. omega (arith, e, some))
+      moves : eqb n (x - x) ≡ false
+      moves = ne_eqb n (x - x) (λ e. omega (arith, e, some))
 
-  has : (k : ℕ) (d : TrackState) → k < length ts → (get_or ts k d).number ≡ own → x ≤ length (get_or ts k d).cells
-  has k d lt e = omega (arith, s.within, s.long, ap (λ (w : TrackState). length w.cells) (only k d lt e))
+      has : (k : ℕ) (d : TrackState) → k < length ts → (get_or ts k d).number ≡ own → x ≤ length (get_or ts k d).cells
+      has k d lt e = omega (arith, s.within, s.long, ap (λ (w : TrackState). length w.cells) (only k d lt e))
 
-  long : All (λ (u : TrackState). u.number ≡ own → (x ≤ length u.cells) × (x ≤ length u.cells)) ts
-  long k d lt e = (has k d lt e, has k d lt e)
+      long : All (λ (u : TrackState). u.number ≡ own → (x ≤ length u.cells) × (x ≤ length u.cells)) ts
+      long k d lt e = (has k d lt e, has k d lt e)
 
-  after : too_long (all_moved (back_shift own x g) ts) ≡ None → too_many (all_moved (back_shift own x g) ts) ≡ None
-      → links_split x (x + n) (all_moved (back_shift own x new) ts) ≡ map (split_items ts (split_links x x ts) x) (all_moved (back_shift own x g) ts)
-  after a b =
-      let kept = within-kept (back_shift own x g) ts (omega arith) fits a b in
-      ap (λ (ls : List Link). map (split_track (x + n) (all_moved (back_shift own x new) ts) ls) (all_moved (back_shift own x new) ts)) (splits-moved (back_shift own x new) ts (omega arith))
-      ∙ (tracks-same (back_shift own x new) ts (split_links x x ts) (x + n) (all_moved (back_shift own x new) ts)
-      ∙ (reach_each ts (split_links x x ts) own x g ts some (λ k d lt. has k d lt)
-      ∙ sym (items_each ts (split_links x x ts) x (back_shift own x g) ts kept (λ k d lt. reach_uncut table own t i v x y n (get_or ts k d) good s some (all k d lt) (only k d lt) (kept k d lt)))))
+      after : too_long (all_moved (back_shift own x g) ts) ≡ None → too_many (all_moved (back_shift own x g) ts) ≡ None
+          → links_split x (x + n) (all_moved (back_shift own x new) ts) ≡ map (split_items ts (split_links x x ts) x) (all_moved (back_shift own x g) ts)
+      after a b =
+          let kept = within-kept (back_shift own x g) ts (omega arith) fits a b in
+          ap (λ (ls : List Link). map (split_track (x + n) (all_moved (back_shift own x new) ts) ls) (all_moved (back_shift own x new) ts)) (splits-moved (back_shift own x new) ts (omega arith))
+          ∙ (tracks-same (back_shift own x new) ts (split_links x x ts) (x + n) (all_moved (back_shift own x new) ts)
+          ∙ (reach_each ts (split_links x x ts) own x g ts some (λ k d lt. has k d lt)
+          ∙ sym (items_each ts (split_links x x ts) x (back_shift own x g) ts kept (λ k d lt. reach_uncut table own t i v x y n (get_or ts k d) good s some (all k d lt) (only k d lt) (kept k d lt)))))
 
-  at : (a b : Option Refusal) → too_long (all_moved (back_shift own x g) ts) ≡ a → too_many (all_moved (back_shift own x g) ts) ≡ b
-      → unless {A = List TrackState × Done} a (unless {A = List TrackState × Done} b (Ok (links_split x (x + n) (all_moved (back_shift own x new) ts), done)))
-      ≡ unless {A = List TrackState × Done} a (unless {A = List TrackState × Done} b (Ok (map (split_items ts (split_links x x ts) x) (all_moved (back_shift own x g) ts), done)))
-  at (Some r) b e f = refl
-  at None (Some r) e f = refl
-  at None None e f = ap (λ (us : List TrackState). Ok (us, done)) (after e f)
+      at : (a b : Option Refusal) → too_long (all_moved (back_shift own x g) ts) ≡ a → too_many (all_moved (back_shift own x g) ts) ≡ b
+          → unless {A = List TrackState × Done} a (unless {A = List TrackState × Done} b (Ok (links_split x (x + n) (all_moved (back_shift own x new) ts), done)))
+          ≡ unless {A = List TrackState × Done} a (unless {A = List TrackState × Done} b (Ok (map (split_items ts (split_links x x ts) x) (all_moved (back_shift own x g) ts), done)))
+      at (Some r) b e f = refl
+      at None (Some r) e f = refl
+      at None None e f = ap (λ (us : List TrackState). Ok (us, done)) (after e f)
 
-  inner : within_limits (links_split x (x + n) (all_moved (back_shift own x new) ts)) done
-      ≡ unless_over (all_moved (back_shift own x g) ts) (Ok (map (split_items ts (split_links x x ts) x) (all_moved (back_shift own x g) ts), done))
-  inner =
-      ap (λ (o : Option Refusal). unless {A = List TrackState × Done} o (unless {A = List TrackState × Done} (too_many (links_split x (x + n) (all_moved (back_shift own x new) ts))) (Ok (links_split x (x + n) (all_moved (back_shift own x new) ts), done))))
-      (long-same (x + n) (all_moved (back_shift own x new) ts) (split_links x (x + n) (all_moved (back_shift own x new) ts)) (all_moved (back_shift own x new) ts) ∙ long_moved own x (moved_link ts (split_links x x ts) v.link) g ts)
-      ∙ (ap (λ (o : Option Refusal). unless {A = List TrackState × Done} (too_long (all_moved (back_shift own x g) ts)) (unless {A = List TrackState × Done} o (Ok (links_split x (x + n) (all_moved (back_shift own x new) ts), done))))
-      (many-same (x + n) (all_moved (back_shift own x new) ts) (split_links x (x + n) (all_moved (back_shift own x new) ts)) (all_moved (back_shift own x new) ts) ∙ many_moved own x (moved_link ts (split_links x x ts) v.link) g ts)
-      ∙ at (too_long (all_moved (back_shift own x g) ts)) (too_many (all_moved (back_shift own x g) ts)) refl refl)
+      inner : within_limits (links_split x (x + n) (all_moved (back_shift own x new) ts)) done
+          ≡ unless_over (all_moved (back_shift own x g) ts) (Ok (map (split_items ts (split_links x x ts) x) (all_moved (back_shift own x g) ts), done))
+      inner =
+          ap (λ (o : Option Refusal). unless {A = List TrackState × Done} o (unless {A = List TrackState × Done} (too_many (links_split x (x + n) (all_moved (back_shift own x new) ts))) (Ok (links_split x (x + n) (all_moved (back_shift own x new) ts), done))))
+          (long-same (x + n) (all_moved (back_shift own x new) ts) (split_links x (x + n) (all_moved (back_shift own x new) ts)) (all_moved (back_shift own x new) ts) ∙ long_moved own x (moved_link ts (split_links x x ts) v.link) g ts)
+          ∙ (ap (λ (o : Option Refusal). unless {A = List TrackState × Done} (too_long (all_moved (back_shift own x g) ts)) (unless {A = List TrackState × Done} o (Ok (links_split x (x + n) (all_moved (back_shift own x new) ts), done))))
+          (many-same (x + n) (all_moved (back_shift own x new) ts) (split_links x (x + n) (all_moved (back_shift own x new) ts)) (all_moved (back_shift own x new) ts) ∙ many_moved own x (moved_link ts (split_links x x ts) v.link) g ts)
+          ∙ at (too_long (all_moved (back_shift own x g) ts)) (too_many (all_moved (back_shift own x g) ts)) refl refl)

@@ -37,8 +37,7 @@ track_sizes : (z : ℕ) (tracks : List TrackState) (splits : List Link) (t : Tra
 track_sizes z tracks splits t =
     let front : List Cell = take z t.cells in
     let behind : List Cell = drop z t.cells in
-    let same = same-append (take z t.cells) (take z t.cells) (map (moved_cell tracks splits) (drop z t.cells)) (drop z t.cells) (same-items (take z t.cells)) (same-map (moved_cell tracks splits) (λ c. refl) (drop z t.cells)) in
-    (
+    let same = same-append (take z t.cells) (take z t.cells) (map (moved_cell tracks splits) (drop z t.cells)) (drop z t.cells) (same-items (take z t.cells)) (same-map (moved_cell tracks splits) (λ c. refl) (drop z t.cells)) in (
       same-length (take z t.cells ++ map (moved_cell tracks splits) (drop z t.cells)) (take z t.cells ++ drop z t.cells) same ∙ ap length (take-append-drop z t.cells),
       count-same (take z t.cells ++ map (moved_cell tracks splits) (drop z t.cells)) (take z t.cells ++ drop z t.cells) same ∙ ap (λ (cs : List Cell). length (items_of cs)) (take-append-drop z t.cells),
     )

@@ -159,7 +159,7 @@ ends-none t y n v some is h = inl (last_item (gap_views n) v some ∙ is)
 pub ends-new : (t : TrackState) (y n i : ℕ) (v : ItemView) → 0 < v.len → v.item ≡ Some i → (cell_at t.cells y).item ≢ Some i → i ≢ max t.next_item (i + 1) → EndsApart t y (gap_views n ++ v ∷ [])
 ends-new t y n i v some is other fresh h =
     let next : next_past_all t.next_item (gap_views n ++ v ∷ []) ≡ max t.next_item (i + 1) =
-        next-append t.next_item (gap_views n) (v ∷ []) ∙ (ap (λ (m : ℕ). next_past_all m (v ∷ [])) (next_gap t.next_item n) ∙ ap (λ (o : Option ℕ). next_past t.next_item o) is) in
+    next-append t.next_item (gap_views n) (v ∷ []) ∙ (ap (λ (m : ℕ). next_past_all m (v ∷ [])) (next_gap t.next_item n) ∙ ap (λ (o : Option ℕ). next_past t.next_item o) is) in
     inr (i, last_item (gap_views n) v some ∙ is, other, λ e. fresh (e ∙ next))
 
 pub uncut-beyond : (u : TrackState) (z : ℕ) → IsKept u → length u.cells ≤ z → IsUncut z u

@@ -118,8 +118,7 @@ drop_at ks bs z e = drop-append-le z ks bs (omega (arith, e)) ∙ ap (λ (cs : L
 -- where the place is on the track
 inside : (ls ws : List (Option Link)) (x y past z : ℕ) → x ≤ length ls → drop past ls ≡ drop y ls → x + length ws ≡ z → Ends x y z ls (take x ls ++ (ws ++ drop past ls))
 inside ls ws x y past z le same sum =
-    let long : length (take x ls) ≡ x = length-take-le x ls le in
-    (
+    let long : length (take x ls) ≡ x = length-take-le x ls le in (
       ap there (take_at (take x ls) (ws ++ drop past ls) x long),
       ap there (ap (drop z) (sym (append_assoc (take x ls) ws (drop past ls))) ∙ (drop_at (take x ls ++ ws) (drop past ls) z (omega (arith, length-append (take x ls) ws, long, sum)) ∙ same)),
     )

@@ -76,11 +76,11 @@ uncut-by u z kept apart i v e begins ends =
     let here : frames_in (take i (items_of u.cells)) + (z - frames_in (take i (items_of u.cells))) ≡ z = omega (arith, begins) in
     let cells : cells_of (items_of u.cells) ≡ u.cells = kept.whole in
     let one : cell_at u.cells (z - 1) ≡ cell_in v (z - 1 - frames_in (take i (items_of u.cells))) =
-        ap (λ (n : ℕ). cell_at u.cells n) (sym before) ∙ (ap (λ (cs : List Cell). cell_at cs (frames_in (take i (items_of u.cells)) + (z - 1 - frames_in (take i (items_of u.cells))))) (sym cells)
-        ∙ cell-there (items_of u.cells) i (z - 1 - frames_in (take i (items_of u.cells))) v e (omega (arith, begins, ends))) in
+    ap (λ (n : ℕ). cell_at u.cells n) (sym before) ∙ (ap (λ (cs : List Cell). cell_at cs (frames_in (take i (items_of u.cells)) + (z - 1 - frames_in (take i (items_of u.cells))))) (sym cells)
+    ∙ cell-there (items_of u.cells) i (z - 1 - frames_in (take i (items_of u.cells))) v e (omega (arith, begins, ends))) in
     let other : cell_at u.cells z ≡ cell_in v (z - frames_in (take i (items_of u.cells))) =
-        ap (λ (n : ℕ). cell_at u.cells n) (sym here) ∙ (ap (λ (cs : List Cell). cell_at cs (frames_in (take i (items_of u.cells)) + (z - frames_in (take i (items_of u.cells))))) (sym cells)
-        ∙ cell-there (items_of u.cells) i (z - frames_in (take i (items_of u.cells))) v e (omega (arith, begins, ends))) in
+    ap (λ (n : ℕ). cell_at u.cells n) (sym here) ∙ (ap (λ (cs : List Cell). cell_at cs (frames_in (take i (items_of u.cells)) + (z - frames_in (take i (items_of u.cells))))) (sym cells)
+    ∙ cell-there (items_of u.cells) i (z - frames_in (take i (items_of u.cells))) v e (omega (arith, begins, ends))) in
     let inside : z < length u.cells = omega (arith, ends, frames-more (items_of u.cells) i v e, frames_in-take_le (i + 1) (items_of u.cells), length-cells_of (items_of u.cells), ap length cells) in
     let none : (cell_at u.cells z).item ≡ None = apart (omega (arith, begins)) inside (ap (λ (c : Cell). c.item) one ∙ sym (ap (λ (c : Cell). c.item) other)) in
     no_link v.item v.first v.link (sym (ap (λ (c : Cell). c.item) other) ∙ none) (shows_at (items_of u.cells) i v e kept.each)
@@ -241,8 +241,8 @@ uncut-spliced t x y views kept le apart after = uncut-by (spliced_track t x y vi
         let at : x + frames_in views - 1 ≡ x - 1 = omega (arith, h) in
         let start : 0 < x = omega (arith, some, h) in
         let first : (cell_at (spliced_track t x y views).cells (x + frames_in views - 1)).item ≡ (cell_at t.cells (x - 1)).item =
-            ap (λ (n : ℕ). (cell_at (spliced_track t x y views).cells n).item) at
-            ∙ ap (λ (c : Cell). c.item) (cell-before kept_or_dropped t.cells x y (cells_of views) fresh (x - 1) le (omega (arith, start))) in
+        ap (λ (n : ℕ). (cell_at (spliced_track t x y views).cells n).item) at
+        ∙ ap (λ (c : Cell). c.item) (cell-before kept_or_dropped t.cells x y (cells_of views) fresh (x - 1) le (omega (arith, start))) in
         let second : (cell_at (spliced_track t x y views).cells (x + frames_in views)).item ≡ (renumbered s fresh (record (cell_at t.cells y) { mark = None })).item =
-            ap (λ (c : Cell). c.item) (behind less) ∙ bare (cell_at t.cells y) _ in
+        ap (λ (c : Cell). c.item) (behind less) ∙ bare (cell_at t.cells y) _ in
         sym same ∙ (first ∙ split_apart t.cells x y fresh (cell_at t.cells (x - 1)).item None start less refl (below (x - 1)) (sym first ∙ (same ∙ second)))

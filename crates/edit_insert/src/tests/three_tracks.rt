@@ -4,12 +4,12 @@ ghost use Rattle.composables.specs.Good.{IsGood};
 ghost use Rattle.composables.specs.OwnTracks.{numbers_of};
 ghost use Rattle.composables.specs.TrackSets.{tracks_in};
 
-use crate::tests::tracks::{all_roomy, item, small_table};
+use crate::tests::tracks::{all_roomy, item, small_table, told_all};
 use crate::{extract, insert};
 use composables::{
-    Done, EditFault, Extract, Insert, ItemView, Link3, Memory, Numbers, Refusal, Table, Track,
+    Done, EditFault, Extract, Insert, Link3, Memory, Numbers, Refusal, Table, Track,
 };
-use frame_meaning::{Side, What};
+use frame_meaning::What;
 use laid_tracks::laid_track;
 use link_groups::link;
 use std::alloc::Global;
@@ -128,29 +128,12 @@ fn start(alloc: Global, table: &Table, number: u32, len: u32) -> Result<Option<T
     }
 }
 
-// An item or gap as text: its frames, of an item after its number and its first source frame, and the number of its
-// link.
-fn told(alloc: Global, view: &ItemView) -> Result<String, Memory> {
-    let Side::Pic { source, .. } = view.first else {
-        return Ok(format!(in alloc; " +{}", view.len)?);
-    };
-    let item = view.item.unwrap_or(0);
-    match view.link {
-        Some(link) => Ok(format!(in alloc; " {item}@{source}+{}#{}", view.len, link.number)?),
-        None => Ok(format!(in alloc; " {item}@{source}+{}", view.len)?),
-    }
-}
-
 // The items and gaps of a track as text.
 fn shown(alloc: Global, named: &[Track], index: usize) -> Result<String, Memory> {
-    let mut text = String::new(alloc);
-    let Some(track) = named.get(index) else {
-        return Ok(text);
-    };
-    for view in &track.items(alloc)? {
-        text.push_str(told(alloc, view)?.as_str())?;
+    match named.get(index) {
+        Some(track) => told_all(alloc, &track.items(alloc)?),
+        None => Ok(String::new(alloc)),
     }
-    Ok(text)
 }
 
 // What edits leave of the three tracks, and what the last was answered.
@@ -252,7 +235,10 @@ fn inserts_and_extracts_move_what_is_behind_on_each_track(rt: HostRuntime) -> Re
             Err(EditFault::Refused(Refusal::TooLong(1))),
         ),
     ] {
-        assert!(rt; leave(&rt, rt.alloc(), [9, 2, 5], edits, items, last)?, "row {row}");
+        assert!(rt;
+            leave(&rt, rt.alloc(), [9, 2, 5], edits, items, last)?,
+            "row {row}"
+        );
     }
     Ok(())
 }
@@ -270,7 +256,10 @@ fn an_insert_splits_a_link_where_some_of_it_stays(rt: HostRuntime) -> Result<(),
         let edits = [Tie(0, 0, 0), Put(1, at, 50, 2)];
         let items = [other, own, other];
         let last = Ok(Done::Item(1));
-        assert!(rt; leave(&rt, rt.alloc(), [6, 6, 6], &edits, items, last)?, "at {at}");
+        assert!(rt;
+            leave(&rt, rt.alloc(), [6, 6, 6], &edits, items, last)?,
+            "at {at}"
+        );
     }
     Ok(())
 }
@@ -305,7 +294,10 @@ fn links_that_are_split_get_their_numbers_in_order(rt: HostRuntime) -> Result<()
             Ok(Done::Plain),
         ),
     ] {
-        assert!(rt; leave(&rt, rt.alloc(), [6, 6, 6], edits, items, last)?, "row {row}");
+        assert!(rt;
+            leave(&rt, rt.alloc(), [6, 6, 6], edits, items, last)?,
+            "row {row}"
+        );
     }
     Ok(())
 }

@@ -19,7 +19,7 @@ relink_item-requires-clause-kept g c = kept-now c.args.splits.now c.args.place c
 pub loop-index-preserved : goal.loop-index-preserved
 loop-index-preserved g c =
     let read : slice_get (items_of c.args.track.now.cells) c.loop-index.index ≡ Some c.in-Some.view =
-        sym (read-now c.args.splits.now c.args.place c.args.track.now c.loop-index.track c.loop-index.index c.length.ensures.kept c.loop-index.invariant.track) ∙ (sym c.item.ensures ∙ c.in-Some.is) in
+    sym (read-now c.args.splits.now c.args.place c.args.track.now c.loop-index.track c.loop-index.index c.length.ensures.kept c.loop-index.invariant.track) ∙ (sym c.item.ensures ∙ c.in-Some.is) in
     let more = frames-more (items_of c.args.track.now.cells) c.loop-index.index c.in-Some.view read in
     elim c.if-end-place.branch [
       | then-end-place w ↦ record {

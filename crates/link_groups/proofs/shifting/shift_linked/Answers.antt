@@ -18,7 +18,7 @@ pub returns-in_ok-done-in-Ok-clause-answers : goal.returns-in_ok-done-in-Ok-clau
 returns-in_ok-done-in-Ok-clause-answers g c =
     let moves : eqb (new_len c.args.shift.now.new) (c.args.shift.now.y - c.args.shift.now.x) ≡ false = ne_eqb (new_len c.args.shift.now.new) (c.args.shift.now.y - c.args.shift.now.x) (λ e. c.if-len_of-shift.false (c.len_of.ensures ∙ e)) in
     let none : None ≡ link_outside c.args.named.now.items (cells_from c.args.shift.now.y c.args.named.now.items) =
-        subst (λ (ts : List TrackState). None ≡ link_outside ts (cells_from c.args.shift.now.y ts)) c.deref.ensures.value (sym c.in-None.is ∙ c.check.ensures.refusal) in
+    subst (λ (ts : List TrackState). None ≡ link_outside ts (cells_from c.args.shift.now.y ts)) c.deref.ensures.value (sym c.in-None.is ∙ c.check.ensures.refusal) in
     shift-done c.args.shift.now c.args.place c.args.done c.in_ok-done-in-Ok.done c.args.named.now.items c.shift_tracks-in-Ok.new.named.items c.relink_all.new.named.items c.in-Ok.splits moves
     (moving-refusal c.args.shift.now c.args.named.now.items None moves none)
     (subst (λ (ts : List TrackState). AreSplits ts (split_links c.args.shift.now.x c.args.shift.now.y ts) c.in-Ok.splits) c.deref-2.ensures.value c.in-Ok.ensures.splits)

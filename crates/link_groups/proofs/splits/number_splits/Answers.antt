@@ -21,7 +21,7 @@ loop-key-preserved-in_ok-insert-2 c =
     let left : c.loop-key.key-iterator ≡ c.in-Some.key.now ∷ c.next.new.self = rest_more deref c.loop-key.key-iterator c.next.new.self c.next.result c.in-Some.key c.in-Some.is c.next.ensures.steps in
     let count : c.unwrap_or-count.result ≡ unwrap_or (get nat_cmp c.loop-key.counts c.in-Some.key.now.0) 0 = c.unwrap_or-count.ensures ∙ ap (λ (o : Option ℕ). unwrap_or o 0) (c.copied.ensures ∙ c.get.ensures.value) in
     let number : c.next_link_at.result + c.unwrap_or-count.result ≡ next_link_at c.in-Some.key.now.0 c.args.named.now + unwrap_or (get nat_cmp c.loop-key.counts c.in-Some.key.now.0) 0 =
-        ap (λ (n : ℕ). n + c.unwrap_or-count.result) c.next_link_at.ensures ∙ ap (λ (n : ℕ). next_link_at c.in-Some.key.now.0 c.args.named.now + n) count in
+    ap (λ (n : ℕ). n + c.unwrap_or-count.result) c.next_link_at.ensures ∙ ap (λ (n : ℕ). next_link_at c.in-Some.key.now.0 c.args.named.now + n) count in
     record {
       so_far =
           more-split c.args.named.now (λ (k : ℕ × ℕ). contains key_cmp c.args.before.now k) c.args.moved.now.keys c.loop-key.key-iterator c.next.new.self c.in-Some.key.now
