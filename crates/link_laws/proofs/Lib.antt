@@ -15,5 +15,7 @@ pub mod ShiftWeight
 pub mod ShiftEdits
 pub mod Reaching
 pub mod RippleLaw
+pub mod SlipLaw
+pub mod SlideLaw
 pub mod Wholes
 pub mod Histories

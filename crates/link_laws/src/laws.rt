@@ -4,6 +4,7 @@ ghost use Rattle.link_laws.specs.Laws.{DissolvingKeepsTogether, LinkingKeepsToge
 ghost use Rattle.link_laws.specs.Laws.{MovingAnEndKeepsTogether, PuttingInKeepsTogether};
 ghost use Rattle.link_laws.specs.Laws.{RippleKeepsTogether, ShiftingKeepsTogether};
 ghost use Rattle.link_laws.specs.Laws.{UnlinkingKeepsTogether};
+ghost use Rattle.link_laws.specs.SlipLaws.{SlidingKeepsTogether, SlippingKeepsTogether};
 ghost use Rattle.link_laws.specs.Weights.{NextsAreWithinWeight};
 ghost use Rattle.link_laws.specs.Wholes.{UnlinkedAreTogether, WholesKeepTogether};
 
@@ -15,6 +16,8 @@ pub fn together_law()
     ensures shifting { ShiftingKeepsTogether }
     ensures ripple { RippleKeepsTogether }
     ensures moving_an_end { MovingAnEndKeepsTogether }
+    ensures slipping { SlippingKeepsTogether }
+    ensures sliding { SlidingKeepsTogether }
     ensures dissolving { DissolvingKeepsTogether }
     ensures linking { LinkingKeepsTogether }
     ensures unlinking { UnlinkingKeepsTogether }
