@@ -28,14 +28,14 @@ use Rattle.link_groups.specs.LinkedItems.{item_from, linked_cell, linked_item}
 use Rattle.link_groups.specs.Linking.{all_linked, already_linked, are_there, found_offset, home_risen, item_offset, link_named, linked, new_link, offsets_differ, or_else, other_offset, shown_offset}
 use Rattle.link_groups.proofs.Relinked.{lacks_of}
 use Rattle.link_laws.specs.Laws.{LinkingKeepsTogether}
-use Rattle.link_laws.specs.Rooms.{AreAmong, AreNamed, AreTracks, IsRoom, LeavesTogether, StaysTogether, as_left, with_tracks}
+use Rattle.link_laws.specs.Rooms.{AreAmong, AreNamed, AreTracks, IsNumbered, IsRoom, LeavesTogether, StaysTogether, as_left, with_tracks}
 use Rattle.link_laws.specs.Together.{Together}
 use Rattle.link_laws.specs.Weights.{given, most_added, runs_on, weight, weight_of}
 use Rattle.link_laws.proofs.LinkedRuns.{grown-linked}
 use Rattle.link_laws.proofs.Runs.{Grown, count, count-append, grown-self}
 use Rattle.link_laws.proofs.Sights.{Shows, offset-next}
 use Rattle.link_laws.proofs.Tied.{Each, IsTied, Sees, each-left, good-found, next-more, numbered-is, some-is, tied-of, together-of}
-use Rattle.link_laws.proofs.Weighing.{count-few, fresh-runs, tracks-few, weight-more}
+use Rattle.link_laws.proofs.Weighing.{Below, count-few, fresh-runs, numbered-of, tracks-few, weight-more}
 
 -- the offset of an item is that of each of its frames
 
@@ -248,11 +248,11 @@ gained_weight made off f (t ∷ ts) [] few e = absurd e
 gained_weight made off f (t ∷ ts) (u ∷ us) few e =
     omega (arith, gained_given made off f t u few e.0 e.1, gained_weight made off f ts us few e.2)
 
-gained_little : (table : Table) (made : Link) (off : ℤ) (ts us : List TrackState) → IsRoom table ts → IsTied ts → made.number ≡ next_link_at made.home ts → Each (Gains made off) ts us
+gained_little : (made : Link) (off : ℤ) (ts us : List TrackState) → IsNumbered ts → Below ts → made.number ≡ next_link_at made.home ts → Each (Gains made off) ts us
     → weight us ≤ weight ts + most_added
-gained_little table made off ts us room g fresh each =
+gained_little made off ts us room g fresh each =
     let r = gained_runs made off ts us each in
-    let tracks = tracks-few table ts room.ascend room.tracks in
+    let tracks = tracks-few ts room in
     let none : runs_on made.home made.number ts ≡ 0 = fresh-runs ts made.home made.number g (omega (arith, fresh)) in
     let few : runs_on made.home made.number us ≤ 128 = omega (arith, none, r.2 made.home made.number, count-few made.home made.number r.0, r.1, tracks) in
     omega (
@@ -298,7 +298,7 @@ link_done table all t ts c off room among g e =
     let fresh : made.number ≡ next_link_at made.home all = sym (next-numbered t.number all t among.0) in
     record {
       together = together-of (with_tracks all news) (gained_tied made off all (with_tracks all news) whole fresh (omega (arith, there, head.2)) tied);
-      little = gained_little table made off all (with_tracks all news) room tied fresh whole;
+      little = gained_little made off all (with_tracks all news) (numbered-of table all room) tied.below fresh whole;
     }
 
 or_none : (a b : Option Refusal) → or_else a b ≡ None → a ≡ None

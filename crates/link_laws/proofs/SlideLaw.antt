@@ -19,12 +19,12 @@ use Rattle.composables.specs.declared.refusals.Refusal.{Refusal}
 use Rattle.composables.specs.Answers.{Applied, unless}
 use Rattle.composables.specs.Good.{IsGood}
 use Rattle.composables.specs.Items.{cells_of, items_of, marked, view_cells}
-use Rattle.composables.specs.Joined.{frames_in}
+use Rattle.composables.specs.Joined.{AllFilled, frames_in}
 use Rattle.composables.specs.Limits.{too_long, too_many, track_within_limits}
 use Rattle.composables.specs.Links.{next_link_at, outside_refusal, same_link}
 use Rattle.composables.specs.OwnTracks.{among_named, track_numbered, with_track}
 use Rattle.composables.specs.Ranges.{offset_of, range_from, range_of}
-use Rattle.composables.specs.TrackFacts.{Apart, EachHolds, Lacks}
+use Rattle.composables.specs.TrackFacts.{Apart, Lacks}
 use Rattle.composables.specs.TrackState.{TrackState}
 use Rattle.composables.proofs.Joining.{length-view_cells, same-is}
 use Rattle.edit_delta.specs.Nearest.{nearest}
@@ -42,7 +42,8 @@ use Rattle.link_laws.specs.SlipLaws.{SlidingKeepsTogether}
 use Rattle.link_laws.specs.Rooms.{AreAmong, AreNamed, AreTracks, Ascend, IsRoom, KeepsTogether, LeavesTogether, StaysTogether, with_tracks}
 use Rattle.link_laws.specs.Together.{Together}
 use Rattle.link_laws.specs.Weights.{runs_in}
-use Rattle.link_laws.proofs.Edits.{KeptOne, among-kept, and-both, frames-all, item-range, kept-leaves, range-within, room-good}
+use Rattle.link_laws.proofs.Edits.{KeptOne, among-kept, and-both, kept-leaves, room-good}
+use Rattle.link_laws.proofs.FreeRanges.{filled-all, frames-all, item-range, range-within}
 use Rattle.link_laws.proofs.LinkLists.{Carries, Same, carries-append, is-same, same-is-link, shows-carries}
 use Rattle.link_laws.proofs.Runs.{Grown, count, runs-all, runs-append, runs-one, runs-spliced, view-have}
 use Rattle.link_laws.proofs.Shifting.{SeesRest, left-sees, numbered-sees, rest-all}
@@ -51,7 +52,7 @@ use Rattle.link_laws.proofs.Sights.{Shows, shows-append, shows-at, shows-drop, s
 use Rattle.link_laws.proofs.SlipLaw.{alone-named, link-seen, range-link}
 use Rattle.link_laws.proofs.Splices.{seen-back, seen-on, shows-one, spliced-parts, start_of}
 use Rattle.link_laws.proofs.Tied.{Each, IsTied, Keeps, Sees, among-numbered, each-left, each-with, keeps-self, next-more, numbered-is, some-is, tied-of, together-of}
-use Rattle.link_laws.proofs.Weighing.{Light, light-little, light-more, light-none, light-self}
+use Rattle.link_laws.proofs.Weighing.{Light, light-little, light-more, light-none, light-self, numbered-of}
 
 differ : false ≡ true → ⊥
 differ e = cc
@@ -145,7 +146,7 @@ abbrev end_of : Option (ℕ × ℕ) → ℕ
 end_of None = 0
 end_of (Some r) = r.1
 
-others_front : (vs : List ItemView) (p i x y : ℕ) → EachHolds vs → range_from p vs i ≡ Some (x, y) → Others i (take (x - p) (cells_of vs))
+others_front : (vs : List ItemView) (p i x y : ℕ) → AllFilled vs → range_from p vs i ≡ Some (x, y) → Others i (take (x - p) (cells_of vs))
 others_front [] p i x y g e = absurd cc
 others_front (v ∷ vs) p i x y g e = by (same_number v.item (Some i)) refl e (λ k. others_front vs (p + v.len) i x y g.1 k) where
   by : (b : Bool) → same_number v.item (Some i) ≡ b → cond b (Some (p, p + v.len)) (range_from (p + v.len) vs i) ≡ Some (x, y)
@@ -161,7 +162,7 @@ others_front (v ∷ vs) p i x y g e = by (same_number v.item (Some i)) refl e (�
       (others_append i (view_cells v) (take (x - p - length (view_cells v)) (cells_of vs)) (others_view i v f)
       (subst (λ (n : ℕ). Others i (take n (cells_of vs))) a (later k)))
 
-others_back : (vs : List ItemView) (p i x y : ℕ) → Apart vs → EachHolds vs → range_from p vs i ≡ Some (x, y) → Others i (drop (y - p) (cells_of vs))
+others_back : (vs : List ItemView) (p i x y : ℕ) → Apart vs → AllFilled vs → range_from p vs i ≡ Some (x, y) → Others i (drop (y - p) (cells_of vs))
 others_back [] p i x y apart g e = absurd cc
 others_back (v ∷ vs) p i x y apart g e = by (same_number v.item (Some i)) refl e (λ k. others_back vs (p + v.len) i x y apart.1 g.1 k) where
   by : (b : Bool) → same_number v.item (Some i) ≡ b → cond b (Some (p, p + v.len)) (range_from (p + v.len) vs i) ≡ Some (x, y)
@@ -184,9 +185,9 @@ others_of table t i x y g e =
     let a : x - 0 ≡ x = omega arith in
     let b : y - 0 ≡ y = omega arith in (
       subst (λ (cs : List Cell). Others i (take x cs)) g.kept.whole
-          (subst (λ (n : ℕ). Others i (take n (cells_of (items_of t.cells)))) a (others_front (items_of t.cells) 0 i x y g.kept.each e)),
+          (subst (λ (n : ℕ). Others i (take n (cells_of (items_of t.cells)))) a (others_front (items_of t.cells) 0 i x y (filled-all t.cells) e)),
       subst (λ (cs : List Cell). Others i (drop y cs)) g.kept.whole
-          (subst (λ (n : ℕ). Others i (drop n (cells_of (items_of t.cells)))) b (others_back (items_of t.cells) 0 i x y g.kept.apart g.kept.each e)),
+          (subst (λ (n : ℕ). Others i (drop n (cells_of (items_of t.cells)))) b (others_back (items_of t.cells) 0 i x y g.kept.apart (filled-all t.cells) e)),
     )
 
 -- where no cell outside an item has a link
@@ -334,8 +335,8 @@ ends_within (v ∷ vs) p q = by (ltb q v.len) (ends_within vs (p + v.len) (q - v
   by true later = omega arith
   by false later = omega (arith, later)
 
-slid_slides : (table : Table) (t : TrackState) (x y : ℕ) (d : ℤ) → IsGood table t → x < y → y ≤ length t.cells → slide_allows table t x y d ≡ true → Slides x y t (slid t x y d)
-slid_slides table t x y (pos n) good less within a = record {
+pub slid-slides : (table : Table) (t : TrackState) (x y : ℕ) (d : ℤ) → x < y → y ≤ length t.cells → slide_allows table t x y d ≡ true → Slides x y t (slid t x y d)
+slid-slides table t x y (pos n) less within a = record {
   number = refl;
   off = offset_of (cell_at t.cells x).side (x + n);
   shows = λ m o h. later_moved t x y n m o some less fits h;
@@ -351,8 +352,8 @@ slid_slides table t x y (pos n) good less within a = record {
   fits =
       let keeps = and-both (keeps_a_cell y (end_at t.cells y) n) (has_after table (cell_at t.cells (x - 1)).side n) both.1 in
       let lt : y + n < end_at t.cells y = ltb-true (y + n) (end_at t.cells y) keeps.0 in
-      omega (arith, lt, ends_within (items_of t.cells) 0 y, frames-all table t good)
-slid_slides table t x y (negsuc k) good less within a = record {
+      omega (arith, lt, ends_within (items_of t.cells) 0 y, frames-all t.cells)
+slid-slides table t x y (negsuc k) less within a = record {
   number = refl;
   off = offset_of (cell_at t.cells x).side (x - suc k);
   shows = λ m o h. earlier_moved table t x y (suc k) m o fits less within moves.1 h;
@@ -426,7 +427,7 @@ slides_stay : (table : Table) (all named : List TrackState) (t u : TrackState) (
     → carried_outside l own i named ≡ false → Slides x y t u → StaysTogether all (with_tracks all (with_track named u))
 slides_stay table all named t u own i x y l room names g e good range less has told free s = record {
   together = together-of (with_tracks all us) (record { one = one; below = below });
-  little = light-little table all (with_tracks all us) room lights;
+  little = light-little all (with_tracks all us) (numbered-of table all room) lights;
 } where
   us : List TrackState
   us = with_track named u
@@ -569,7 +570,7 @@ module _ (table : Table) (c : Slide) (all named : List TrackState) (t : TrackSta
       → link_broken table named c t x v o ≡ None → LeavesTogether all (among_named named (slide_range table t c.by x (x + v.len)))
   slide_item x v o range link told whole = at (nearest (slide_allows table t x (x + v.len)) c.by) (is-nearest (slide_allows table t x (x + v.len)) c.by).member (λ l k differs. free l (nearest (slide_allows table t x (x + v.len)) c.by) k differs (still o l k whole)) where
     within : (x < x + v.len) × (x + v.len ≤ length t.cells)
-    within = item-range table t c.item x (x + v.len) good range
+    within = item-range t c.item x (x + v.len) range
 
     still : (o : Option Link) (l : Link) → o ≡ Some l → link_broken table named c t x v o ≡ None
         → cond (carried_outside l c.track c.item named) (broken_by l (shown_offset (offset_of v.first x)) (nearest (slide_allows table t x (x + v.len)) c.by)) None ≡ None
@@ -587,11 +588,11 @@ module _ (table : Table) (c : Slide) (all named : List TrackState) (t : TrackSta
     at (pos (suc k)) (inl m) f = absurd cc
     at (pos (suc k)) (inr m) f =
         within_leave all named (slid t x (x + v.len) (pos (suc k))) (By (pos (suc k)))
-        (slides_done x (x + v.len) (slid t x (x + v.len) (pos (suc k))) o within.0 range link told (λ l q. f l q (λ z. absurd cc)) (slid_slides table t x (x + v.len) (pos (suc k)) good within.0 within.1 m))
+        (slides_done x (x + v.len) (slid t x (x + v.len) (pos (suc k))) o within.0 range link told (λ l q. f l q (λ z. absurd cc)) (slid-slides table t x (x + v.len) (pos (suc k)) within.0 within.1 m))
     at (negsuc k) (inl m) f = absurd cc
     at (negsuc k) (inr m) f =
         within_leave all named (slid t x (x + v.len) (negsuc k)) (By (negsuc k))
-        (slides_done x (x + v.len) (slid t x (x + v.len) (negsuc k)) o within.0 range link told (λ l q. f l q (λ z. absurd cc)) (slid_slides table t x (x + v.len) (negsuc k) good within.0 within.1 m))
+        (slides_done x (x + v.len) (slid t x (x + v.len) (negsuc k)) o within.0 range link told (λ l q. f l q (λ z. absurd cc)) (slid-slides table t x (x + v.len) (negsuc k) within.0 within.1 m))
 
   slide_keeps : LeavesTogether all (slide_own table named c t)
   slide_keeps = by (item_of t c.item) refl where

@@ -20,10 +20,11 @@ use Rattle.composables.specs.Answers.{Applied, unless}
 use Rattle.composables.specs.Bounds.{bounds_of}
 use Rattle.composables.specs.Good.{IsGood}
 use Rattle.composables.specs.Items.{cells_of, items_of, marked, view_cells}
+use Rattle.composables.specs.Joined.{AllFilled}
 use Rattle.composables.specs.Links.{first_unnamed, is_named, next_link_at, outside_refusal, outside_at, same_link}
 use Rattle.composables.specs.OwnTracks.{among_named, for_own, track_numbered}
 use Rattle.composables.specs.Ranges.{offset_of, range_from, range_of}
-use Rattle.composables.specs.TrackFacts.{EachHolds, first_mark, left_reach, right_reach}
+use Rattle.composables.specs.TrackFacts.{first_mark, left_reach, right_reach}
 use Rattle.composables.specs.TrackSets.{tracks_in}
 use Rattle.composables.specs.TrackState.{TrackState}
 use Rattle.composables.proofs.Joining.{length-view_cells}
@@ -38,7 +39,8 @@ use Rattle.link_laws.specs.SlipLaws.{SlippingKeepsTogether}
 use Rattle.link_laws.specs.Rooms.{AreAmong, AreNamed, AreTracks, IsRoom, KeepsTogether, LeavesTogether, StaysTogether, with_tracks}
 use Rattle.link_laws.specs.Together.{Together}
 use Rattle.link_laws.specs.Weights.{begins, is_link, most_added, runs_in, weight}
-use Rattle.link_laws.proofs.Edits.{KeptOne, among-kept, item-range, kept-leaves, range-within, room-good, used-kept}
+use Rattle.link_laws.proofs.Edits.{KeptOne, among-kept, kept-leaves, room-good, used-kept}
+use Rattle.link_laws.proofs.FreeRanges.{filled-all, item-range, range-within}
 use Rattle.link_laws.proofs.LinkedRuns.{runs-none}
 use Rattle.link_laws.proofs.LinkLists.{Carries, Same, all-named, carries-append, carries-left, carries-right, carries-shows, is-same, same-is-link, same-sym, shows-carries}
 use Rattle.link_laws.proofs.Runs.{Grown, count, runs-append, runs-cut}
@@ -46,7 +48,7 @@ use Rattle.link_laws.proofs.Shifting.{SeesRest, left-sees, named-found, numbered
 use Rattle.link_laws.proofs.ShiftEdits.{own-room, unless-leaves}
 use Rattle.link_laws.proofs.Sights.{Shows, int-shift, offset-moved, rebased, shows-append, shows-at, shows-drop, shows-take}
 use Rattle.link_laws.proofs.Tied.{Each, IsTied, Keeps, Sees, among-numbered, each-left, good-found, next-more, some-is, tied-of, together-of}
-use Rattle.link_laws.proofs.Weighing.{Light, light-little, light-more, light-none, light-self}
+use Rattle.link_laws.proofs.Weighing.{Light, light-little, light-more, light-none, light-self, numbered-of}
 
 differ : false ≡ true → ⊥
 differ e = cc
@@ -231,7 +233,7 @@ slips_stay : (table : Table) (all named us : List TrackState) (l : Link) (g : Op
     → ((m : Link) (o : Option ℤ) → SeesRest named all m o → Same l m → ⊥) → StaysTogether all (with_tracks all us)
 slips_stay table all named us l g room among together each alone = record {
   together = together-of left (record { one = one; below = below });
-  little = light-little table all left room lights;
+  little = light-little all left (numbered-of table all room) lights;
 } where
   left : List TrackState
   left = with_tracks all us
@@ -279,7 +281,7 @@ slips_stay table all named us l g room among together each alone = record {
 
 -- an item's link is that of a cell
 
-found_carries : (vs : List ItemView) (p i : ℕ) (l : Link) → EachHolds vs → link_found (item_from p vs i) ≡ Some l → Carries (cells_of vs) l
+found_carries : (vs : List ItemView) (p i : ℕ) (l : Link) → AllFilled vs → link_found (item_from p vs i) ≡ Some l → Carries (cells_of vs) l
 found_carries [] p i l e h = absurd cc
 found_carries (v ∷ vs) p i l e h = by (same_number v.item (Some i)) h (λ k. found_carries vs (p + v.len) i l e.1 k) where
   first : (n : ℕ) → 0 < n → (m : Option Mark) → v.link ≡ Some l → Carries (marked m (span v.item v.first v.link n)) l
@@ -288,12 +290,12 @@ found_carries (v ∷ vs) p i l e h = by (same_number v.item (Some i)) h (λ k. f
 
   by : (b : Bool) → link_found (cond b (Some (p, v)) (item_from (p + v.len) vs i)) ≡ Some l → (link_found (item_from (p + v.len) vs i) ≡ Some l → Carries (cells_of vs) l)
       → Carries (view_cells v ++ cells_of vs) l
-  by true k later = carries-left (view_cells v) (cells_of vs) l (first v.len e.0.filled v.mark k)
+  by true k later = carries-left (view_cells v) (cells_of vs) l (first v.len e.0 v.mark k)
   by false k later = carries-right (view_cells v) (cells_of vs) l (later k)
 
 pub link-seen : (table : Table) (all : List TrackState) (t : TrackState) (n i : ℕ) (l : Link) → IsGood table t → track_numbered n all ≡ Some t → link_of t i ≡ Some l → (b : Option ℤ) × Sees all l b
 link-seen table all t n i l g e h =
-    let c : Carries t.cells l = subst (λ (cs : List Cell). Carries cs l) g.kept.whole (found_carries (items_of t.cells) 0 i l g.kept.each h) in
+    let c : Carries t.cells l = subst (λ (cs : List Cell). Carries cs l) g.kept.whole (found_carries (items_of t.cells) 0 i l (filled-all t.cells) h) in
     let s = carries-shows 0 t.cells l c in
     (s.0, numbered-sees n all t l s.0 e s.1)
 
@@ -373,7 +375,7 @@ abbrev end_of : Option (ℕ × ℕ) → ℕ
 end_of None = 0
 end_of (Some r) = r.1
 
-pub mid-link : (vs : List ItemView) (p i x y : ℕ) (m : Link) → EachHolds vs → range_from p vs i ≡ Some (x, y) → Carries (drop (x - p) (take (y - p) (cells_of vs))) m
+pub mid-link : (vs : List ItemView) (p i x y : ℕ) (m : Link) → AllFilled vs → range_from p vs i ≡ Some (x, y) → Carries (drop (x - p) (take (y - p) (cells_of vs))) m
     → link_found (item_from p vs i) ≡ Some m
 mid-link [] p i x y m g e h = absurd cc
 mid-link (v ∷ vs) p i x y m g e h = by (same_number v.item (Some i)) e h (λ k c. mid-link vs (p + v.len) i x y m g.1 k c) where
@@ -408,7 +410,7 @@ range-link table t i x y m g e h =
     let a : x ≡ x - 0 = omega arith in
     let b : y ≡ y - 0 = omega arith in
     let whole : t.cells ≡ cells_of (items_of t.cells) = sym g.kept.whole in
-    mid-link (items_of t.cells) 0 i x y m g.kept.each e
+    mid-link (items_of t.cells) 0 i x y m (filled-all t.cells) e
     (subst (λ (n : ℕ). Carries (drop (x - 0) (take n (cells_of (items_of t.cells)))) m) b
     (subst (λ (n : ℕ). Carries (drop n (take y (cells_of (items_of t.cells)))) m) a (subst (λ (cs : List Cell). Carries (drop x (take y cs)) m) whole h)))
 
@@ -477,7 +479,7 @@ bare_kept table c t g e = by (range_of t.cells c.item) refl where
   by : (o : Option (ℕ × ℕ)) → range_of t.cells c.item ≡ o → KeptOne t (on_range (slip_range table t c.by) o)
   by None f = tt
   by (Some (x, y)) f =
-      let r = item-range table t c.item x y g f in
+      let r = item-range t c.item x y f in
       used-kept t (slipped t x y) (slip_allows table t x y) c.by
       (λ d a. slipped_keeps t x y d (omega (arith, r.0)) r.1 (λ m h. some (link_of t c.item) m e (range-link table t c.item x y m g f h)))
 

@@ -1,6 +1,7 @@
 pub mod Together
 pub mod Weights
 pub mod Rooms
+pub mod Given
 pub mod Laws
 pub mod TmpItemLinks
 pub mod TmpSlipping
