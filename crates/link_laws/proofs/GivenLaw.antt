@@ -26,7 +26,7 @@ use Rattle.composables.specs.Answers.{Applied, unless}
 use Rattle.composables.specs.Joined.{frames_in}
 use Rattle.composables.specs.Limits.{too_long, too_many, within_limits}
 use Rattle.composables.specs.Links.{cells_from, count_at_home, is_named, link_outside, links_split, next_link_at, split_links, split_track}
-use Rattle.composables.specs.OwnTracks.{for_own, on_own, track_numbered, with_track}
+use Rattle.composables.specs.OwnTracks.{for_own, numbers_of, on_own, track_numbered, with_track}
 use Rattle.composables.specs.Ranges.{offset_of, range_of}
 use Rattle.composables.specs.TrackState.{TrackState}
 use Rattle.composables.specs.Views.{clip_view}
@@ -80,11 +80,18 @@ are-given ts g p c l s e =
 
 -- tracks that are kept
 
-pub kept-given : (all named : List TrackState) (r : Applied) → IsNumbered all → AreAmong all named → AreGiven all → KeptAll named r → LeavesGiven all r
+pub numbers-each : (R : TrackState → TrackState → Type 0) (ts us : List TrackState) → Each R ts us → numbers_of us ≡ numbers_of ts
+numbers-each R [] [] e = refl
+numbers-each R [] (u ∷ us) e = absurd e
+numbers-each R (t ∷ ts) [] e = absurd e
+numbers-each R (t ∷ ts) (u ∷ us) e = ap (λ (n : ℕ). n ∷ numbers_of us) e.0 ∙ ap (λ (ns : List ℕ). t.number ∷ ns) (numbers-each R ts us e.2)
+
+pub kept-given : (all named : List TrackState) (r : Applied) → IsNumbered all → AreAmong all named → AreGiven all → KeptAll named r → LeavesGiven all named r
 kept-given all named (Ok (us, d)) room among g k =
     let each = each-left Keeps keeps-self all named us all among k room.apart in
     let old = given-of all g in
     record {
+      numbers = numbers-each Keeps named us k;
       given = are-given (with_tracks all us) (record {
         below = λ l a s. (let low = old.below l a (sees-kept all (with_tracks all us) l a each s) in omega (arith, low, up each l.home));
         bit = λ l a s. old.bit l a (sees-kept all (with_tracks all us) l a each s);
@@ -125,11 +132,11 @@ split_rises x y z Put ls us (t ∷ ts) (v ∷ vs) e = (e.0, omega (arith, e.1.ne
 rises_self : (t : TrackState) → Rises t t
 rises_self t = omega arith
 
-abbrev StayGiven : List TrackState → List TrackState → Type 0
-StayGiven all news = StaysGiven all (with_tracks all news)
+abbrev StayGiven : List TrackState → List TrackState → List TrackState → Type 0
+StayGiven all named news = StaysGiven all named news
 
-shifts_given : (all named : List TrackState) → IsNumbered all → AreNamed all named → AreGiven all → ByShifts (StayGiven all) all named
-shifts_given all named room names are ts own x y views done c = shift-leaves (StayGiven all) all named ts own x y views done c stays where
+shifts_given : (all named : List TrackState) → IsNumbered all → AreNamed all named → AreGiven all → ByShifts (StayGiven all named) all named
+shifts_given all named room names are ts own x y views done c = shift-leaves (StayGiven all named) all named ts own x y views done c stays where
   z : ℕ
   z = x + frames_in views
 
@@ -169,8 +176,9 @@ shifts_given all named room names are ts own x y views done c = shift-leaves (St
   up : (h : ℕ) → next_link_at h all ≤ next_link_at h (with_tracks all (map (split_track z us ls) us))
   up h = next-more h all (with_tracks all (map (split_track z us ls) us)) rises
 
-  stays : link_outside ts (cells_from y ts) ≡ None → StaysGiven all (with_tracks all (links_split x z us))
+  stays : link_outside ts (cells_from y ts) ≡ None → StaysGiven all named (links_split x z us)
   stays told = record {
+    numbers = numbers-each Rises named vs (split_rises x y z (PutAt x views) ls us named us c.each);
     given = are-given (with_tracks all vs) (record { below = λ l a s. (parts l a s).0; bit = λ l a s. (parts l a s).1 });
     little = shift-little all named us x y z (PutAt x views) room names g.below c.each (high told);
   } where
@@ -203,12 +211,12 @@ shifts_given all named room names are ts own x y views done c = shift-leaves (St
 
 -- the calls
 
-own_given : (own : ℕ) (meant : List TrackState → TrackState → Applied)
-    → ((all named : List TrackState) (t : TrackState) → IsNumbered all → AreNamed all named → AreGiven all → track_numbered own named ≡ Some t → Leaves (StayGiven all) (meant named t))
+pub own-given : (own : ℕ) (meant : List TrackState → TrackState → Applied)
+    → ((all named : List TrackState) (t : TrackState) → IsNumbered all → AreNamed all named → AreGiven all → track_numbered own named ≡ Some t → Leaves (StayGiven all named) (meant named t))
     → KeepsGiven (λ named. for_own own (meant named) named)
-own_given own meant each all named room names g = leaves-own (StayGiven all) own (meant named) named (λ t e. each all named t room names g e)
+own-given own meant each all named room names g = leaves-own (StayGiven all named) own (meant named) named (λ t e. each all named t room names g e)
 
-same_given : (all named : List TrackState) → IsNumbered all → AreNamed all named → AreGiven all → StayGiven all named
+same_given : (all named : List TrackState) → IsNumbered all → AreNamed all named → AreGiven all → StayGiven all named named
 same_given all named room names g = kept-given all named (Ok (named, Plain)) room names.among g (each-self Keeps keeps-self named)
 
 pub edits-keep-given : EditsKeepGiven
@@ -221,8 +229,8 @@ edits-keep-given = record {
   roll = λ table c. given_law (λ named. roll_named table named c) (λ named. own-kept c.track (roll_track table c) named (λ t e. roll-one table c t));
   dissolve = λ table c. given_law (λ named. dissolve_named table named c) (λ named. own-kept c.track (λ t. dissolve_on table t c) named (λ t e. dissolve-one table c t));
   undissolve = λ table c. given_law (λ named. undissolve_named named c) (λ named. own-kept c.track (λ t. undissolve_on t c) named (λ t e. undissolve-one table c t));
-  insert = λ table c. own_given c.track (inserted table c) (λ all named t room names g e. insert-leaves (StayGiven all) table c all named t names e (shifts_given all named room names g));
-  extract = λ table c. own_given c.track (extracted c) (λ all named t room names g e. extract-leaves (StayGiven all) c all named t names e (shifts_given all named room names g));
-  ripple = λ table c. own_given c.track (ripple_own table c)
-      (λ all named t room names g e. ripple-leaves (StayGiven all) table c all named t names e (same_given all named room names g) (shifts_given all named room names g));
+  insert = λ table c. own-given c.track (inserted table c) (λ all named t room names g e. insert-leaves (StayGiven all named) table c all named t names e (shifts_given all named room names g));
+  extract = λ table c. own-given c.track (extracted c) (λ all named t room names g e. extract-leaves (StayGiven all named) c all named t names e (shifts_given all named room names g));
+  ripple = λ table c. own-given c.track (ripple_own table c)
+      (λ all named t room names g e. ripple-leaves (StayGiven all named) table c all named t names e (same_given all named room names g) (shifts_given all named room names g));
 }

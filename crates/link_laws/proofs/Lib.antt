@@ -21,5 +21,6 @@ pub mod RippleLaw
 pub mod GivenLaw
 pub mod SlipLaw
 pub mod SlideLaw
+pub mod GivenSlips
 pub mod Wholes
 pub mod Histories

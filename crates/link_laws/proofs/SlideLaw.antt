@@ -70,11 +70,11 @@ back_carries [] y m e = absurd (Prim.grind (arith, e))
 back_carries (c ∷ cs) zero m e = inl e
 back_carries (c ∷ cs) (suc y) m e = back_carries cs y m e
 
-mid_carries : (cs : List Cell) (x y : ℕ) (m : Link) → x < y → (cell_at cs x).link ≡ Some m → Carries (drop x (take y cs)) m
-mid_carries [] x y m lt e = absurd (Prim.grind (arith, e))
-mid_carries (c ∷ cs) x zero m lt e = absurd (omega (arith, lt))
-mid_carries (c ∷ cs) zero (suc y) m lt e = inl e
-mid_carries (c ∷ cs) (suc x) (suc y) m lt e = mid_carries cs x y m (omega (arith, lt)) e
+pub mid-carries : (cs : List Cell) (x y : ℕ) (m : Link) → x < y → (cell_at cs x).link ≡ Some m → Carries (drop x (take y cs)) m
+mid-carries [] x y m lt e = absurd (Prim.grind (arith, e))
+mid-carries (c ∷ cs) x zero m lt e = absurd (omega (arith, lt))
+mid-carries (c ∷ cs) zero (suc y) m lt e = inl e
+mid-carries (c ∷ cs) (suc x) (suc y) m lt e = mid-carries cs x y m (omega (arith, lt)) e
 
 carries_less : (cs : List Cell) (n x : ℕ) (m : Link) → n ≤ x → Carries (take n cs) m → Carries (take x cs) m
 carries_less [] zero x m le h = absurd h
@@ -84,13 +84,19 @@ carries_less (c ∷ cs) (suc n) zero m le h = absurd (omega (arith, le))
 carries_less (c ∷ cs) (suc n) (suc x) m le (inl h) = inl h
 carries_less (c ∷ cs) (suc n) (suc x) m le (inr h) = inr (carries_less cs n x m (omega (arith, le)) h)
 
-carries_drop : (cs : List Cell) (n : ℕ) (m : Link) → Carries (drop n cs) m → Carries cs m
-carries_drop cs zero m h = h
-carries_drop [] (suc n) m h = h
-carries_drop (c ∷ cs) (suc n) m h = inr (carries_drop cs n m h)
+pub carries-drop : (cs : List Cell) (n : ℕ) (m : Link) → Carries (drop n cs) m → Carries cs m
+carries-drop cs zero m h = h
+carries-drop [] (suc n) m h = h
+carries-drop (c ∷ cs) (suc n) m h = inr (carries-drop cs n m h)
+
+pub carries-take : (cs : List Cell) (n : ℕ) (m : Link) → Carries (take n cs) m → Carries cs m
+carries-take cs zero m h = absurd h
+carries-take [] (suc n) m h = h
+carries-take (c ∷ cs) (suc n) m (inl h) = inl h
+carries-take (c ∷ cs) (suc n) m (inr h) = inr (carries-take cs n m h)
 
 carries_later : (cs : List Cell) (y n : ℕ) (m : Link) → Carries (drop (y + n) cs) m → Carries (drop y cs) m
-carries_later cs zero n m h = carries_drop cs (0 + n) m h
+carries_later cs zero n m h = carries-drop cs (0 + n) m h
 carries_later [] (suc y) n m h = let e : suc y + n ≡ suc (y + n) = omega arith in absurd (subst (λ (k : ℕ). Carries (drop k []) m) e h)
 carries_later (c ∷ cs) (suc y) n m h =
     let e : suc y + n ≡ suc (y + n) = omega arith in
@@ -241,7 +247,7 @@ other_free l i (c ∷ cs) m f (inr h) =
 -- what a slide leaves on the own track
 
 -- what it shows is of the item at its new place, or was there outside the item
-abbrev Moved : List Cell → Option Link → Option ℤ → ℕ → ℕ → Link → Option ℤ → Type 0
+abbrev pub Moved : List Cell → Option Link → Option ℤ → ℕ → ℕ → Link → Option ℤ → Type 0
 Moved cs link off x y m o = ((link ≡ Some m) × (o ≡ off)) ⊎ ((Carries (take x cs) m ⊎ Carries (drop y cs) m) × Shows 0 cs m o)
 
 two_runs : (h n : ℕ) (v w : ItemView) → runs_in h n false (cells_of (v ∷ w ∷ [])) ≤ count h n (v.link ∷ w.link ∷ [])
@@ -465,7 +471,7 @@ slides_stay table all named t u own i x y l room names g e good range less has t
 
   moved : (m : Link) (o : Option ℤ) → Moved t.cells (cell_at t.cells x).link s.off x y m o → Was m o
   moved m o (inl r) =
-      let own_link : link_of t i ≡ Some m = range-link table t i x y m good range (mid_carries t.cells x y m less r.0) in
+      let own_link : link_of t i ≡ Some m = range-link table t i x y m good range (mid-carries t.cells x y m less r.0) in
       inl (some-is m l (sym own_link ∙ has), r.1)
   moved m o (inr r) = inr (outside m r.0, numbered-sees own all t m o (among-numbered all named own t names.among e) r.1)
 
@@ -557,7 +563,7 @@ module _ (table : Table) (c : Slide) (all named : List TrackState) (t : TrackSta
     some o m p q = Prim.grind (arith, p, q)
 
     by : (m : Link) (o : Option ℤ) → Moved t.cells (cell_at t.cells x).link s.off x y m o → Shows 0 t.cells m o
-    by m o (inl r) = absurd (some (link_of t c.item) m none (range-link table t c.item x y m good range (mid_carries t.cells x y m less r.0)))
+    by m o (inl r) = absurd (some (link_of t c.item) m none (range-link table t c.item x y m good range (mid-carries t.cells x y m less r.0)))
     by m o (inr r) = r.1
 
   slides_done : (x y : ℕ) (u : TrackState) (o : Option Link) → x < y → range_of t.cells c.item ≡ Some (x, y) → link_of t c.item ≡ o → outside_refusal named o ≡ None

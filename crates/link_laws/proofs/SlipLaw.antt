@@ -170,11 +170,11 @@ moved_shows l g on back p (c ∷ cs) m o f a h = by (carries l c.link) refl h (�
   by false e (inl k) later = inr (here false e k.0, inl k)
   by false e (inr k) later = found_on l g p c cs m o (later k)
 
-moved_runs : (l : Link) (on back h n : ℕ) (b : Bool) (cs : List Cell) → runs_in h n b (map (linked_moved l on back) cs) ≡ runs_in h n b cs
-moved_runs l on back h n b [] = refl
-moved_runs l on back h n b (c ∷ cs) =
+pub moved-runs : (l : Link) (on back h n : ℕ) (b : Bool) (cs : List Cell) → runs_in h n b (map (linked_moved l on back) cs) ≡ runs_in h n b cs
+moved-runs l on back h n b [] = refl
+moved-runs l on back h n b (c ∷ cs) =
     ap (λ (o : Option Link). begins b (is_link h n o) + runs_in h n (is_link h n o) (map (linked_moved l on back) cs)) (by (carries l c.link))
-    ∙ ap (λ (r : ℕ). begins b (is_link h n c.link) + r) (moved_runs l on back h n (is_link h n c.link) cs) where
+    ∙ ap (λ (r : ℕ). begins b (is_link h n c.link) + r) (moved-runs l on back h n (is_link h n c.link) cs) where
       by : (q : Bool) → (cond q (cell_moved on back c) c).link ≡ c.link
       by true = refl
       by false = refl
@@ -183,7 +183,7 @@ track_slips : (l : Link) (g : Option ℤ → Option ℤ) (on back : ℕ) (t : Tr
     → ((s : Side What) (q : ℕ) → Behind s back → offset_of (moved s on back) q ≡ g (offset_of s q)) → AllBehind l back t.cells → Slips l g t (track_moved l on back t)
 track_slips l g on back t f a = record {
   shows = λ m o h. moved_shows l g on back 0 t.cells m o f a h;
-  light = (refl, ([], omega arith, λ h n. omega (arith, moved_runs l on back h n false t.cells)));
+  light = (refl, ([], omega arith, λ h n. omega (arith, moved-runs l on back h n false t.cells)));
 }
 
 -- on all named tracks

@@ -23,6 +23,7 @@ use Rattle.edit_trim.specs.Rippling.{ripple_named}
 use Rattle.edit_trim.specs.Trimming.{trim_named}
 use Rattle.composables.specs.Answers.{Applied}
 use Rattle.composables.specs.Links.{next_link_at}
+use Rattle.composables.specs.OwnTracks.{numbers_of}
 use Rattle.composables.specs.TrackState.{TrackState}
 use Rattle.link_laws.specs.Together.{StandsOn}
 use Rattle.link_laws.specs.Rooms.{AreNamed, IsNumbered, Leaves, with_tracks}
@@ -33,17 +34,19 @@ abbrev pub AreGiven : List TrackState → Type 0
 AreGiven tracks = (p : ℕ) (c : Cell) (l : Link) → StandsOn tracks p c → c.link ≡ Some l
     → (l.number < next_link_at l.home tracks) × IsBitSet l.tracks l.home
 
--- all links are given away after a call, and the weight of them is little more than before
-pub record StaysGiven (before after : List TrackState) : Type 0 where
-  pub given : AreGiven after
-  pub little : weight after ≤ weight before + most_added
+-- what a call leaves in place of the tracks that it named: they have their numbers, all links of the room are given away,
+-- and the weight of them is little more than before
+pub record StaysGiven (all named news : List TrackState) : Type 0 where
+  pub numbers : numbers_of news ≡ numbers_of named
+  pub given : AreGiven (with_tracks all news)
+  pub little : weight (with_tracks all news) ≤ weight all + most_added
 
-abbrev pub LeavesGiven : List TrackState → Applied → Type 0
-LeavesGiven all meant = Leaves (λ news. StaysGiven all (with_tracks all news)) meant
+abbrev pub LeavesGiven : List TrackState → List TrackState → Applied → Type 0
+LeavesGiven all named meant = Leaves (λ news. StaysGiven all named news) meant
 
 -- what a call means for the tracks that it names keeps the links of a room given away
 abbrev pub KeepsGiven : (List TrackState → Applied) → Type 0
-KeepsGiven meant = (all named : List TrackState) → IsNumbered all → AreNamed all named → AreGiven all → LeavesGiven all (meant named)
+KeepsGiven meant = (all named : List TrackState) → IsNumbered all → AreNamed all named → AreGiven all → LeavesGiven all named (meant named)
 
 -- every edit does
 pub record EditsKeepGiven : Type 0 where

@@ -1,5 +1,7 @@
 // What is true of links under the calls of a room.
-ghost use Rattle.link_laws.specs.Histories.{HistoriesStayTogether, LinkNumbersLast};
+ghost use Rattle.link_laws.specs.Given.{EditsKeepGiven};
+ghost use Rattle.link_laws.specs.Histories.{HistoriesStayGiven, HistoriesStayTogether};
+ghost use Rattle.link_laws.specs.Histories.{LinkNumbersLast};
 ghost use Rattle.link_laws.specs.Laws.{DissolvingKeepsTogether, LinkingKeepsTogether};
 ghost use Rattle.link_laws.specs.Laws.{MovingAnEndKeepsTogether, PuttingInKeepsTogether};
 ghost use Rattle.link_laws.specs.Laws.{RippleKeepsTogether, ShiftingKeepsTogether};
@@ -32,9 +34,17 @@ pub fn wholes_law()
     ensures nexts { NextsAreWithinWeight }
 {}
 
+/// Every edit keeps the links of a room given away, whatever else its tracks are: each link's number is below the next
+/// link number of its home, which is among its tracks. The weight of all links rises by little.
+pub fn given_law()
+    ensures edits { EditsKeepGiven }
+{}
+
 /// A history of calls that keep the tracks of a room together does so, where the tracks are good before each of its
-/// entries; and link numbers do not run out: after any 100,000 entries or fewer each next link number is at most 2^31.
+/// entries. One of calls that keep links given away does so whatever else the tracks are, and link numbers do not run
+/// out: after any 100,000 entries or fewer each next link number is at most 2^31.
 pub fn histories_law<C>()
     ensures together { HistoriesStayTogether C }
+    ensures given { HistoriesStayGiven C }
     ensures numbers { LinkNumbersLast C }
 {}
