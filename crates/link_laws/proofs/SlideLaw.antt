@@ -32,9 +32,9 @@ use Rattle.edit_delta.specs.Reaching.{going_on, has_after, has_before, keeps_a_c
 use Rattle.edit_delta.specs.Using.{on_range, used_on}
 use Rattle.edit_delta.proofs.Greatest.{is-nearest}
 use Rattle.edit_roll.specs.Neighbours.{begin_at, end_at, has_neighbours, may_move_earlier, may_move_later, range_at}
-use Rattle.link_laws.specs.TmpSliding.{bare_item, broken_by, link_broken, links_refuse, slid, slid_earlier, slid_later, slide_allows, slide_named, slide_own, slide_range, slide_track}
+use Rattle.edit_roll.specs.Sliding.{bare_item, broken_by, link_broken, links_refuse, slid, slid_earlier, slid_later, slide_allows, slide_named, slide_own, slide_range, slide_track}
 use Rattle.edit_splice.specs.Splicing.{spliced_track}
-use Rattle.link_laws.specs.TmpItemLinks.{carried_on, carried_outside, carries, link_found, link_of}
+use Rattle.link_groups.specs.ItemLinks.{carried_on, carried_outside, carries, link_found, link_of}
 use Rattle.link_groups.specs.LinkedItems.{item_from, item_of}
 use Rattle.link_groups.specs.Linking.{or_else, shown_offset}
 use Rattle.link_groups.proofs.Relinked.{lacks_of}
