@@ -5,6 +5,7 @@ pub mod Runs
 pub mod LinkedRuns
 pub mod Tied
 pub mod Weighing
+pub mod FreeRanges
 pub mod Splices
 pub mod Edits
 pub mod Linking
@@ -12,8 +13,16 @@ pub mod Splitting
 pub mod Shifting
 pub mod ShiftTracks
 pub mod ShiftWeight
-pub mod ShiftEdits
 pub mod Reaching
+pub mod ShiftCases
+pub mod RippleCases
+pub mod ShiftEdits
 pub mod RippleLaw
+pub mod GivenLaw
+pub mod SlipLaw
+pub mod SlideLaw
+pub mod GivenSlips
+pub mod GivenLinks
 pub mod Wholes
 pub mod Histories
+pub mod Openings

@@ -11,18 +11,18 @@ use Rattle.composables.specs.Links.{cells_before, cells_from, count_at_home, is_
 use Rattle.composables.specs.OwnTracks.{track_numbered}
 use Rattle.composables.specs.TrackState.{TrackState}
 use Rattle.composables.proofs.Joining.{eqb-refl}
-use Rattle.link_laws.specs.Rooms.{AreAmong, AreNamed, Ascend, IsRoom, as_left, with_tracks}
+use Rattle.link_laws.specs.Rooms.{AreAmong, AreNamed, Ascend, IsNumbered, as_left, with_tracks}
 use Rattle.link_laws.specs.Weights.{begins, given, is_link, most_added, runs_in, runs_on, weight, weight_of}
 use Rattle.link_laws.proofs.LinkedRuns.{link-is, link-not, runs-none, runs-some}
 use Rattle.link_laws.proofs.Linking.{left-number, next-numbered}
 use Rattle.link_laws.proofs.LinkLists.{AllLinks, AnySame, Carries, Same, all-links, carries-append, carries-shows, shows-carries}
 use Rattle.link_laws.proofs.Ranks.{InOrder, any-is, at_home, filter-order, given-split, given-up, links-order, rank, rank-one}
 use Rattle.link_laws.proofs.Runs.{count, count-append, runs-append}
-use Rattle.link_laws.proofs.Shifting.{Shifts, Stays, found-named, named-each, named-found, next-among, next-shifts}
+use Rattle.link_laws.proofs.Shifting.{Shifts, may-split, found-named, named-each, named-found, next-among, next-shifts}
 use Rattle.link_laws.proofs.Sights.{Shows, shows-take}
-use Rattle.link_laws.proofs.Splitting.{MaySplit, SeesFrom, Splits, count-is, number-is, number-past}
-use Rattle.link_laws.proofs.Tied.{Each, IsTied, Sees, among-numbered, found-of, numbered-is, some-is}
-use Rattle.link_laws.proofs.Weighing.{past-none, tracks-few, weight-more}
+use Rattle.link_laws.proofs.Splitting.{MaySplit, SeesFrom, count-is, number-is, number-past}
+use Rattle.link_laws.proofs.Tied.{Each, Sees, among-numbered, found-of, numbered-is, some-is}
+use Rattle.link_laws.proofs.Weighing.{Below, past-none, tracks-few, weight-more}
 
 differ : false ≡ true → ⊥
 differ e = cc
@@ -255,7 +255,7 @@ split_some z us ls n (t ∷ ts) u e = by (eqb t.number n) e (λ k. split_some z 
 
 -- the shift
 
-module _ (table : Table) (all named us : List TrackState) (x y z : ℕ) (Put : Link → Option ℤ → Type 0) (room : IsRoom table all) (names : AreNamed all named) (g : IsTied all) (each : Each (Shifts x y z Put) named us) (inv : Splits (Stays x named all) z us (split_links x z us)) where
+module _ (all named us : List TrackState) (x y z : ℕ) (Put : Link → Option ℤ → Type 0) (room : IsNumbered all) (names : AreNamed all named) (g : Below all) (each : Each (Shifts x y z Put) named us) (high : (l : Link) (a : Option ℤ) → SeesFrom z us l a → MaySplit us l) where
   abbrev ls : List Link
   ls = split_links x z us
 
@@ -274,8 +274,8 @@ module _ (table : Table) (all named us : List TrackState) (x y z : ℕ) (Put : L
   abbrev low : ℕ → ℕ → TrackState → ℕ
   low h n t = cond (is_named named t.number) (runs_in h n false (take x t.cells)) (runs_in h n false t.cells)
 
-  abbrev high : ℕ → ℕ → TrackState → ℕ
-  high h n t = high_of h n (track_numbered t.number us)
+  abbrev raised : ℕ → ℕ → TrackState → ℕ
+  raised h n t = high_of h n (track_numbered t.number us)
 
   abbrev moved : ℕ → ℕ → TrackState → ℕ
   moved h n t = moved_of h n (track_numbered t.number us)
@@ -339,11 +339,11 @@ module _ (table : Table) (all named us : List TrackState) (x y z : ℕ) (Put : L
             ap (moved_of h n) p.1,
           )
 
-  part_point : (t : TrackState) → track_numbered t.number all ≡ Some t → Point (λ h n t. low h n t + high h n t) (λ h n t. runs_in h n false t.cells) t
+  part_point : (t : TrackState) → track_numbered t.number all ≡ Some t → Point (λ h n t. low h n t + raised h n t) (λ h n t. runs_in h n false t.cells) t
   part_point t e = by (pair t e) where
-    by : Paired t → Point (λ h n t. low h n t + high h n t) (λ h n t. runs_in h n false t.cells) t
+    by : Paired t → Point (λ h n t. low h n t + raised h n t) (λ h n t. runs_in h n false t.cells) t
     by (inl p) = ([], omega arith, most) where
-      most : (h n : ℕ) → low h n t + high h n t ≤ runs_in h n false t.cells + count h n []
+      most : (h n : ℕ) → low h n t + raised h n t ≤ runs_in h n false t.cells + count h n []
       most h n =
           omega (
             arith,
@@ -351,7 +351,7 @@ module _ (table : Table) (all named us : List TrackState) (x y z : ℕ) (Put : L
             ap (high_of h n) p.0,
           )
     by (inr p) = (p.4.parts.0, p.4.parts.1, most) where
-      most : (h n : ℕ) → low h n t + high h n t ≤ runs_in h n false t.cells + count h n p.4.parts.0
+      most : (h n : ℕ) → low h n t + raised h n t ≤ runs_in h n false t.cells + count h n p.4.parts.0
       most h n =
           omega (
             arith,
@@ -359,6 +359,9 @@ module _ (table : Table) (all named us : List TrackState) (x y z : ℕ) (Put : L
             ap (high_of h n) p.1,
             p.4.parts.2 h n,
           )
+
+  mays : AllLinks (MaySplit us) (split_links x z us)
+  mays = may-split x z us high
 
   -- a split link has runs on both sides
 
@@ -371,12 +374,12 @@ module _ (table : Table) (all named us : List TrackState) (x y z : ℕ) (Put : L
       let r = found-of (Shifts x y z Put) u.number named us u each e in
       (r.0, among-numbered all named u.number r.0 names.among r.1, r.1, r.2)
 
-  high_some : (h n : ℕ) (l : Link) → l.home ≡ h → l.number ≡ n → Carries (cells_from z us) l → 1 ≤ total (high h n) all
+  high_some : (h n : ℕ) (l : Link) → l.home ≡ h → l.number ≡ n → Carries (cells_from z us) l → 1 ≤ total (raised h n) all
   high_some h n l e f c =
       let r = from_found z us us l apart c in
       let s = source r.0 r.1 in
       let there : track_numbered s.0.number us ≡ Some r.0 = ap (λ (m : ℕ). track_numbered m us) (numbered-is r.0.number all s.0 s.1) ∙ r.1 in
-      omega (arith, total_some (high h n) all r.0.number s.0 s.1, ap (high_of h n) there, runs-some h n (drop z r.0.cells) l e f r.2)
+      omega (arith, total_some (raised h n) all r.0.number s.0 s.1, ap (high_of h n) there, runs-some h n (drop z r.0.cells) l e f r.2)
 
   low_some : (h n : ℕ) (l : Link) → l.home ≡ h → l.number ≡ n → Carries (cells_before x us) l → 1 ≤ total (low h n) all
   low_some h n l e f c =
@@ -393,15 +396,15 @@ module _ (table : Table) (all named us : List TrackState) (x y z : ℕ) (Put : L
         runs-some h n (take x s.0.cells) l e f stays,
       )
 
-  both_some : (h n : ℕ) → at_home ls h n ≡ true → (1 ≤ total (low h n) all) × (1 ≤ total (high h n) all) × (is_named us h ≡ true)
+  both_some : (h n : ℕ) → at_home ls h n ≡ true → (1 ≤ total (low h n) all) × (1 ≤ total (raised h n) all) × (is_named us h ≡ true)
   both_some h n e =
       let k : Link = record { home = h; number = n; tracks = 0 } in
       let r = any_found (OnBoth x z us) k ls (both_split x z us) (any-is k ls e) in
       let q = any_found (Carries (cells_before x us)) r.0 (links_in (cells_before x us)) (all-links (Carries (cells_before x us)) (cells_before x us) (λ l c. c)) (any-is r.0 (links_in (cells_before x us)) r.2.1) in
-      let may = any_found (MaySplit us) k ls inv.each (any-is k ls e) in (
+      let given = any_found (MaySplit us) k ls mays (any-is k ls e) in (
         low_some h n q.0 (sym (r.1.0 ∙ q.1.0)) (sym (r.1.1 ∙ q.1.1)) q.2,
         high_some h n r.0 (sym r.1.0) (sym r.1.1) r.2.0,
-        ap (is_named us) may.1.0 ∙ may.2.0,
+        ap (is_named us) given.1.0 ∙ given.2.0,
       )
 
   -- no run stays of a number that was not given away
@@ -421,10 +424,10 @@ module _ (table : Table) (all named us : List TrackState) (x y z : ℕ) (Put : L
   fine : (n : ℕ) (u : TrackState) (k : Link) → track_numbered n us ≡ Some u → Carries (drop z u.cells) k → MaySplit us k
   fine n u k e c =
       let r = carries-shows z (drop z u.cells) k c in
-      inv.high k r.0 (numbered_from z n us u k r.0 e r.1)
+      high k r.0 (numbered_from z n us u k r.0 e r.1)
 
-  moved_le : (h n j m : ℕ) → ((k : Link) → MaySplit us k → is_link j m (moved_link us ls (Some k)) ≡ is_link h n (Some k)) → total (moved j m) all ≤ total (high h n) all
-  moved_le h n j m f = total_le (moved j m) (high h n) all (λ t. by t (track_numbered t.number us) refl) where
+  moved_le : (h n j m : ℕ) → ((k : Link) → MaySplit us k → is_link j m (moved_link us ls (Some k)) ≡ is_link h n (Some k)) → total (moved j m) all ≤ total (raised h n) all
+  moved_le h n j m f = total_le (moved j m) (raised h n) all (λ t. by t (track_numbered t.number us) refl) where
     by : (t : TrackState) (o : Option TrackState) → track_numbered t.number us ≡ o → moved_of j m o ≤ high_of h n o
     by t None e = omega arith
     by t (Some u) e = omega (arith, runs_same us ls h n j m false (drop z u.cells) (λ k c. f k (fine t.number u k e c)))
@@ -442,7 +445,7 @@ module _ (table : Table) (all named us : List TrackState) (x y z : ℕ) (Put : L
   -- the numbers of one home
 
   abbrev before : ℕ → ℕ → ℕ
-  before h n = total (low h n) all + total (high h n) all
+  before h n = total (low h n) all + total (raised h n) all
 
   abbrev after : ℕ → ℕ → ℕ
   after h n = total (low h n) all + total (moved h n) all
@@ -456,7 +459,7 @@ module _ (table : Table) (all named us : List TrackState) (x y z : ℕ) (Put : L
     tops e = next-shifts x y z Put named us h each ∙ (next-among all named h names.among (sym (same_named h) ∙ e) ∙ next)
 
     old : (m : ℕ) → m < top → at_home ls h m ≡ false → after h m ≤ before h m
-    old m lt s = omega (arith, moved_le h m h m (λ k may. old_link us ls order inv.each h top tops k m may lt s))
+    old m lt s = omega (arith, moved_le h m h m (λ k may. old_link us ls order mays h top tops k m may lt s))
 
     new : (m : ℕ) → m < top → at_home ls h m ≡ true → max 1 (after h m) + max 1 (after h (top + rank (at_home ls h) m)) ≤ before h m
     new m lt s =
@@ -466,8 +469,8 @@ module _ (table : Table) (all named us : List TrackState) (x y z : ℕ) (Put : L
           arith,
           both.0,
           both.1,
-          moved_none h m (λ k may. gone_link us ls order inv.each h top tops k m may lt s),
-          moved_le h m h (top + r) (λ k may. new_link us ls order inv.each h top tops k m may lt s),
+          moved_none h m (λ k may. gone_link us ls order mays h top tops k m may lt s),
+          moved_le h m h (top + r) (λ k may. new_link us ls order mays h top tops k m may lt s),
           low_none h (top + r) all (omega (arith, next)) (λ k a t. t),
         )
 
@@ -497,7 +500,7 @@ module _ (table : Table) (all named us : List TrackState) (x y z : ℕ) (Put : L
           arith,
           p.4.next,
           ap (count_at_home ls) p.3,
-          count-is us ls order inv.each t.number,
+          count-is us ls order mays t.number,
           ap (rank (at_home ls t.number)) there,
         ) in
         omega (arith, step, ap (λ (v : TrackState). given (after t.number) v.next_link) left, ap (given (after t.number)) up)
@@ -516,11 +519,11 @@ module _ (table : Table) (all named us : List TrackState) (x y z : ℕ) (Put : L
   shift-little =
       let left : List TrackState = with_tracks all vs in
       let a = gather all (λ h n t. runs_in h n false (as_left vs t).cells) (λ h n t. low h n t + moved h n t) whole_point all room.apart in
-      let b = gather all (λ h n t. low h n t + high h n t) (λ h n t. runs_in h n false t.cells) part_point all room.apart in
+      let b = gather all (λ h n t. low h n t + raised h n t) (λ h n t. runs_in h n false t.cells) part_point all room.apart in
       let more : (h n : ℕ) → runs_on h n left ≤ after h n + count h n a.0 =
       λ h n. omega (arith, total_left h n vs all, a.2 h n, total_add (low h n) (moved h n) all) in
       let less : (h n : ℕ) → before h n ≤ runs_on h n all + count h n b.0 =
-      λ h n. omega (arith, total_runs h n all, b.2 h n, total_add (low h n) (high h n) all) in
+      λ h n. omega (arith, total_runs h n all, b.2 h n, total_add (low h n) (raised h n) all) in
       omega (
         arith,
         weight-more after (λ (h n : ℕ). runs_on h n left) left a.0 (ascend_left vs 0 all room.ascend) more,
@@ -528,5 +531,5 @@ module _ (table : Table) (all named us : List TrackState) (x y z : ℕ) (Put : L
         weight-more (λ (h n : ℕ). runs_on h n all) before all b.0 room.ascend less,
         a.1,
         b.1,
-        tracks-few table all room.ascend room.tracks,
+        tracks-few all room,
       )

@@ -60,20 +60,20 @@ before_all x all [] l o a h = absurd h
 before_all x all (t ∷ ts) l o a (inl h) = numbered-sees t.number all t l o a.0 (shows-take x 0 t.cells l o h)
 before_all x all (t ∷ ts) l o a (inr h) = before_all x all ts l o a.1 h
 
-from_all : (y : ℕ) (all ts : List TrackState) (l : Link) (o : Option ℤ) → AreAmong all ts → SeesFrom y ts l o → Sees all l o
-from_all y all [] l o a h = absurd h
-from_all y all (t ∷ ts) l o a (inl h) =
+pub from-all : (y : ℕ) (all ts : List TrackState) (l : Link) (o : Option ℤ) → AreAmong all ts → SeesFrom y ts l o → Sees all l o
+from-all y all [] l o a h = absurd h
+from-all y all (t ∷ ts) l o a (inl h) =
     numbered-sees t.number all t l o a.0 (shows-drop y 0 t.cells l o (shows-at y (0 + y) (drop y t.cells) l o (omega arith) h))
-from_all y all (t ∷ ts) l o a (inr h) = from_all y all ts l o a.1 h
+from-all y all (t ∷ ts) l o a (inr h) = from-all y all ts l o a.1 h
 
 pub rest-all : (named ts : List TrackState) (l : Link) (o : Option ℤ) → SeesRest named ts l o → Sees ts l o
 rest-all named [] l o h = h
 rest-all named (t ∷ ts) l o (inl h) = inl h.1
 rest-all named (t ∷ ts) l o (inr h) = inr (rest-all named ts l o h)
 
-stays_all : (x : ℕ) (named all : List TrackState) (l : Link) (o : Option ℤ) → AreAmong all named → Stays x named all l o → Sees all l o
-stays_all x named all l o a (inl h) = before_all x all named l o a h
-stays_all x named all l o a (inr h) = rest-all named all l o h
+pub stays-all : (x : ℕ) (named all : List TrackState) (l : Link) (o : Option ℤ) → AreAmong all named → Stays x named all l o → Sees all l o
+stays-all x named all l o a (inl h) = before_all x all named l o a h
+stays-all x named all l o a (inr h) = rest-all named all l o h
 
 -- numbers of tracks, and links of good tracks
 
@@ -149,13 +149,13 @@ home_low table (t ∷ ts) h n a lt = by (eqb t.number h) refl lt (λ k. home_low
 
 -- what is moved, and what stays, before and after the shift
 
-high_all : (x y z : ℕ) (Put : Link → Option ℤ → Type 0) (ts us : List TrackState) (l : Link) (o : Option ℤ) → Each (Shifts x y z Put) ts us → SeesFrom z us l o
+pub high-all : (x y z : ℕ) (Put : Link → Option ℤ → Type 0) (ts us : List TrackState) (l : Link) (o : Option ℤ) → Each (Shifts x y z Put) ts us → SeesFrom z us l o
     → (b : Option ℤ) × SeesFrom y ts l b × (o ≡ rebased y z b)
-high_all x y z Put [] [] l o each h = absurd h
-high_all x y z Put [] (u ∷ us) l o each h = absurd each
-high_all x y z Put (t ∷ ts) [] l o each h = absurd h
-high_all x y z Put (t ∷ ts) (u ∷ us) l o each (inl h) = let r = each.1.high l o h in (r.0, inl r.1, r.2)
-high_all x y z Put (t ∷ ts) (u ∷ us) l o each (inr h) = let r = high_all x y z Put ts us l o each.2 h in (r.0, inr r.1, r.2)
+high-all x y z Put [] [] l o each h = absurd h
+high-all x y z Put [] (u ∷ us) l o each h = absurd each
+high-all x y z Put (t ∷ ts) [] l o each h = absurd h
+high-all x y z Put (t ∷ ts) (u ∷ us) l o each (inl h) = let r = each.1.high l o h in (r.0, inl r.1, r.2)
+high-all x y z Put (t ∷ ts) (u ∷ us) l o each (inr h) = let r = high-all x y z Put ts us l o each.2 h in (r.0, inr r.1, r.2)
 
 back_all : (x y z : ℕ) (Put : Link → Option ℤ → Type 0) (ts us : List TrackState) (l : Link) (o : Option ℤ) → Each (Shifts x y z Put) ts us → SeesBefore x ts l o → SeesBefore x us l o
 back_all x y z Put [] us l o each h = absurd h
@@ -168,9 +168,9 @@ from-carries z [] l o h = absurd h
 from-carries z (u ∷ us) l o (inl h) = carries-left (drop z u.cells) (cells_from z us) l (shows-carries z (drop z u.cells) l o h)
 from-carries z (u ∷ us) l o (inr h) = carries-right (drop z u.cells) (cells_from z us) l (from-carries z us l o h)
 
-carries_from : (z : ℕ) (us : List TrackState) (l : Link) → Carries (cells_from z us) l → (o : Option ℤ) × SeesFrom z us l o
-carries_from z [] l h = absurd h
-carries_from z (u ∷ us) l h = by (carries-append (drop z u.cells) (cells_from z us) l h) (λ k. carries_from z us l k) where
+pub carries-from : (z : ℕ) (us : List TrackState) (l : Link) → Carries (cells_from z us) l → (o : Option ℤ) × SeesFrom z us l o
+carries-from z [] l h = absurd h
+carries-from z (u ∷ us) l h = by (carries-append (drop z u.cells) (cells_from z us) l h) (λ k. carries-from z us l k) where
   by : Carries (drop z u.cells) l ⊎ Carries (cells_from z us) l → (Carries (cells_from z us) l → (o : Option ℤ) × SeesFrom z us l o) → (o : Option ℤ) × SeesFrom z (u ∷ us) l o
   by (inl a) later = let r = carries-shows z (drop z u.cells) l a in (r.0, inl r.1)
   by (inr b) later = let r = later b in (r.0, inr r.1)
@@ -188,13 +188,13 @@ pub shift-start : (table : Table) (all named us : List TrackState) (x y z : ℕ)
     → Splits (Stays x named all) z us (split_links x z us)
 shift-start table all named us x y z Put tracks among g each inside = record { after = after; cross = cross; low = low; high = high; each = may } where
   moved : (l : Link) (a : Option ℤ) → SeesFrom z us l a → (b : Option ℤ) × SeesFrom y named l b × (a ≡ rebased y z b)
-  moved l a s = high_all x y z Put named us l a each s
+  moved l a s = high-all x y z Put named us l a each s
 
   seen : (l : Link) (b : Option ℤ) → SeesFrom y named l b → Sees all l b
-  seen l b s = from_all y all named l b among s
+  seen l b s = from-all y all named l b among s
 
   stay : (l : Link) (b : Option ℤ) → Stays x named all l b → Sees all l b
-  stay l b s = stays_all x named all l b among s
+  stay l b s = stays-all x named all l b among s
 
   next : (h : ℕ) → is_named named h ≡ true → next_link_at h us ≡ next_link_at h all
   next h e = next-shifts x y z Put named us h each ∙ next-among all named h among e
@@ -241,10 +241,16 @@ shift-start table all named us x y z Put tracks among g each inside = record { a
       (same l.home ∙ home, omega (arith, below, next l.home home))
 
   one : (l : Link) → Carries (cells_from z us) l → MaySplit us l
-  one l h = let r = carries_from z us l h in high l r.0 r.1
+  one l h = let r = carries-from z us l h in high l r.0 r.1
 
   may : AllLinks (MaySplit us) (split_links x z us)
   may = all-filter (MaySplit us) (λ (l : Link). list_any (same_link l) before) behind (all-links (MaySplit us) (cells_from z us) one)
+
+-- they may be split where all that is moved has links that were given away
+pub may-split : (x z : ℕ) (us : List TrackState) → ((l : Link) (a : Option ℤ) → SeesFrom z us l a → MaySplit us l) → AllLinks (MaySplit us) (split_links x z us)
+may-split x z us high =
+    all-filter (MaySplit us) (λ (l : Link). list_any (same_link l) (links_in (cells_before x us))) (links_in (cells_from z us))
+    (all-links (MaySplit us) (cells_from z us) (λ l c. high l (carries-from z us l c).0 (carries-from z us l c).1))
 
 -- once they are split all tracks are together
 
@@ -288,8 +294,8 @@ left-sees named vs (t ∷ ts) l o none (inr h) = by (left-sees named vs ts l o n
   by (inl a) = inl (inr a)
   by (inr b) = inr b
 
-next_named : (all named vs : List TrackState) (h : ℕ) → AreAmong all named → is_named named h ≡ true → is_named vs h ≡ true → next_link_at h (with_tracks all vs) ≡ next_link_at h vs
-next_named all named vs h among e f =
+pub next-named : (all named vs : List TrackState) (h : ℕ) → AreAmong all named → is_named named h ≡ true → is_named vs h ≡ true → next_link_at h (with_tracks all vs) ≡ next_link_at h vs
+next-named all named vs h among e f =
     let r = named-found h named e in
     let q = named-found h vs f in
     let there = among-numbered all named h r.0 among r.1 in
@@ -308,13 +314,10 @@ next_unnamed vs (t ∷ ts) h e =
           ap (λ (o : Option TrackState). (unwrap_or o t).next_link) none
       by false f later = later
 
-pub shift-end : (all named us vs : List TrackState) (x y z : ℕ) (Put : Link → Option ℤ → Type 0) → AreAmong all named → IsTied all
-    → Each (Shifts x y z Put) named us → Each (SameBefore z) us vs → Splits (Stays x named all) z vs []
-    → ((l : Link) (o : Option ℤ) → Put l o → Stays x named all l o ⊎ SeesFrom z vs l o) → IsTied (with_tracks all vs)
-shift-end all named us vs x y z Put among g each same inv put = record {
-  one = λ k l a b s t h n. one k l a b h n (split k a s) (split l b t);
-  below = λ l a s. below l a (split l a s);
-} where
+pub end-split : (all named us vs : List TrackState) (x y z : ℕ) (Put : Link → Option ℤ → Type 0) → Each (Shifts x y z Put) named us → Each (SameBefore z) us vs
+    → ((l : Link) (o : Option ℤ) → Put l o → Stays x named all l o ⊎ SeesFrom z vs l o)
+    → (l : Link) (o : Option ℤ) → Sees (with_tracks all vs) l o → Stays x named all l o ⊎ SeesFrom z vs l o
+end-split all named us vs x y z Put each same put = split where
   named_same : (n : ℕ) → is_named vs n ≡ is_named named n
   named_same n = named-each (SameBefore z) us vs n same ∙ named-each (Shifts x y z Put) named us n each
 
@@ -338,8 +341,21 @@ shift-end all named us vs x y z Put among g each same inv put = record {
     outer (inl r) = inl (inr r)
     outer (inr s) = inner (sides x y z Put named us vs l o each same s)
 
+pub shift-end : (all named us vs : List TrackState) (x y z : ℕ) (Put : Link → Option ℤ → Type 0) → AreAmong all named → IsTied all
+    → Each (Shifts x y z Put) named us → Each (SameBefore z) us vs → Splits (Stays x named all) z vs []
+    → ((l : Link) (o : Option ℤ) → Put l o → Stays x named all l o ⊎ SeesFrom z vs l o) → IsTied (with_tracks all vs)
+shift-end all named us vs x y z Put among g each same inv put = record {
+  one = λ k l a b s t h n. one k l a b h n (split k a s) (split l b t);
+  below = λ l a s. below l a (split l a s);
+} where
+  named_same : (n : ℕ) → is_named vs n ≡ is_named named n
+  named_same n = named-each (SameBefore z) us vs n same ∙ named-each (Shifts x y z Put) named us n each
+
+  split : (l : Link) (o : Option ℤ) → Sees (with_tracks all vs) l o → Stays x named all l o ⊎ SeesFrom z vs l o
+  split = end-split all named us vs x y z Put each same put
+
   stay : (l : Link) (b : Option ℤ) → Stays x named all l b → Sees all l b
-  stay l b s = stays_all x named all l b among s
+  stay l b s = stays-all x named all l b among s
 
   one : (k l : Link) (a b : Option ℤ) → k.home ≡ l.home → k.number ≡ l.number → Stays x named all k a ⊎ SeesFrom z vs k a → Stays x named all l b ⊎ SeesFrom z vs l b
       → (k.tracks ≡ l.tracks) × (a ≡ b)
@@ -351,8 +367,8 @@ shift-end all named us vs x y z Put among g each same inv put = record {
   below : (l : Link) (a : Option ℤ) → Stays x named all l a ⊎ SeesFrom z vs l a → l.number < next_link_at l.home (with_tracks all vs)
   below l a (inl s) = by (is_named vs l.home) refl where
     by : (b : Bool) → is_named vs l.home ≡ b → l.number < next_link_at l.home (with_tracks all vs)
-    by true e = omega (arith, inv.low l a s e, next_named all named vs l.home among (sym (named_same l.home) ∙ e) e)
+    by true e = omega (arith, inv.low l a s e, next-named all named vs l.home among (sym (named_same l.home) ∙ e) e)
     by false e = omega (arith, g.below l a (stay l a s), next_unnamed vs all l.home (none-named l.home vs e))
   below l a (inr s) =
       let p = inv.high l a s in
-      omega (arith, p.1, next_named all named vs l.home among (sym (named_same l.home) ∙ p.0) p.0)
+      omega (arith, p.1, next-named all named vs l.home among (sym (named_same l.home) ∙ p.0) p.0)

@@ -44,13 +44,13 @@ split_take zero f cs = refl
 split_take (suc z) f [] = refl
 split_take (suc z) f (c ∷ cs) = ap (λ (ds : List Cell). c ∷ ds) (split_take z f cs)
 
-from_moves : (us : List TrackState) (ls : List Link) (z : ℕ) (ts : List TrackState) (m : Link) (o : Option ℤ) → SeesFrom z (map (split_track z us ls) ts) m o
+pub from-moves : (us : List TrackState) (ls : List Link) (z : ℕ) (ts : List TrackState) (m : Link) (o : Option ℤ) → SeesFrom z (map (split_track z us ls) ts) m o
     → (k : Link) × SeesFrom z ts k o × Moves us ls k m
-from_moves us ls z [] m o h = absurd h
-from_moves us ls z (t ∷ ts) m o (inl h) =
+from-moves us ls z [] m o h = absurd h
+from-moves us ls z (t ∷ ts) m o (inl h) =
     let r = map_moves us ls z (drop z t.cells) m o (subst (λ (cs : List Cell). Shows z cs m o) (split-drop z (moved_cell us ls) t.cells) h) in
     (r.0, inl r.1, r.2)
-from_moves us ls z (t ∷ ts) m o (inr h) = let r = from_moves us ls z ts m o h in (r.0, inr r.1, r.2)
+from-moves us ls z (t ∷ ts) m o (inr h) = let r = from-moves us ls z ts m o h in (r.0, inr r.1, r.2)
 
 -- numbers
 
@@ -118,6 +118,23 @@ module _ (us : List TrackState) (ls : List Link) (order : InOrder ls) (each : Al
       let home : k.home ≡ j.home = same.0 ∙ ap (λ (l : Link). l.home) e in
       omega (arith, lt, same.1, ap (λ (l : Link). l.number) e, number-past j, ap (λ (h : ℕ). next_link_at h us) home)
 
+  -- what is moved has links that were given away
+  pub split-high : (z : ℕ) → ((l : Link) (a : Option ℤ) → SeesFrom z us l a → MaySplit us l) → (k : Link) (a : Option ℤ)
+      → SeesFrom z (map (split_track z us ls) us) k a → MaySplit (map (split_track z us ls) us) k
+  split-high z high k a s =
+      let r = from-moves us ls z us k a s in
+      by r.0 r.1 r.2 where
+        vs : List TrackState
+        vs = map (split_track z us ls) us
+
+        by : (i : Link) → SeesFrom z us i a → Moves us ls i k → MaySplit (map (split_track z us ls) us) k
+        by i s (inl x) =
+            let old = high i a s in
+            subst (MaySplit vs) (sym x.1) (named_split us ls z us i.home ∙ old.0, omega (arith, number_below i x.0 old.1, next-split us ls z us i.home old.0))
+        by i s (inr x) =
+            let old = high i a s in
+            subst (MaySplit vs) (sym x.1) (named_split us ls z us i.home ∙ old.0, omega (arith, old.1, next-split us ls z us i.home old.0))
+
   pub split-law : (Before : Link → Option ℤ → Type 0) (z : ℕ) → Splits Before z us ls → Splits Before z (map (split_track z us ls) us) []
   split-law Before z inv = record { after = after; cross = cross; low = low; high = high; each = tt } where
     vs : List TrackState
@@ -128,8 +145,8 @@ module _ (us : List TrackState) (ls : List Link) (order : InOrder ls) (each : Al
 
     after : (k m : Link) (a b : Option ℤ) → SeesFrom z vs k a → SeesFrom z vs m b → Same k m → (k.tracks ≡ m.tracks) × (a ≡ b)
     after k m a b s t same =
-        let r = from_moves us ls z us k a s in
-        let q = from_moves us ls z us m b t in
+        let r = from-moves us ls z us k a s in
+        let q = from-moves us ls z us m b t in
         by r.0 q.0 r.1 q.1 r.2 q.2 where
           by : (i j : Link) → SeesFrom z us i a → SeesFrom z us j b → Moves us ls i k → Moves us ls j m → (k.tracks ≡ m.tracks) × (a ≡ b)
           by i j s t (inl x) (inl y) =
@@ -147,7 +164,7 @@ module _ (us : List TrackState) (ls : List Link) (order : InOrder ls) (each : Al
 
     cross : (k m : Link) (a b : Option ℤ) → Before k a → SeesFrom z vs m b → Same k m → (k.tracks ≡ m.tracks) × AnySame m []
     cross k m a b s t same =
-        let q = from_moves us ls z us m b t in
+        let q = from-moves us ls z us m b t in
         by q.0 q.1 q.2 where
           by : (j : Link) → SeesFrom z us j b → Moves us ls j m → (k.tracks ≡ m.tracks) × AnySame m []
           by j t (inl y) =
@@ -161,19 +178,8 @@ module _ (us : List TrackState) (ls : List Link) (order : InOrder ls) (each : Al
         let named : is_named us k.home ≡ true = sym (named_split us ls z us k.home) ∙ e in
         omega (arith, inv.low k a s named, up k.home named)
 
-    high : (k : Link) (a : Option ℤ) → SeesFrom z vs k a → (is_named vs k.home ≡ true) × (k.number < next_link_at k.home vs)
-    high k a s =
-        let r = from_moves us ls z us k a s in
-        by r.0 r.1 r.2 where
-          by : (i : Link) → SeesFrom z us i a → Moves us ls i k → (is_named vs k.home ≡ true) × (k.number < next_link_at k.home vs)
-          by i s (inl x) =
-              let old = inv.high i a s in
-              subst (λ (l : Link). (is_named vs l.home ≡ true) × (l.number < next_link_at l.home vs)) (sym x.1)
-              (named_split us ls z us i.home ∙ old.0, omega (arith, number_below i x.0 old.1, next-split us ls z us i.home old.0))
-          by i s (inr x) =
-              let old = inv.high i a s in
-              subst (λ (l : Link). (is_named vs l.home ≡ true) × (l.number < next_link_at l.home vs)) (sym x.1)
-              (named_split us ls z us i.home ∙ old.0, omega (arith, old.1, up i.home old.0))
+    high : (k : Link) (a : Option ℤ) → SeesFrom z vs k a → MaySplit vs k
+    high k a s = split-high z inv.high k a s
 
 -- what stands before the place stays
 

@@ -43,38 +43,38 @@ found_shows p (d ∷ ds) (suc k) c l e h =
     let z : p + 1 + k ≡ p + suc k = omega arith in
     inr (subst (λ (n : ℕ). Shows (p + 1) ds l (offset_of c.side n)) z (found_shows (p + 1) ds k c l e h))
 
-sees_found : (ts : List TrackState) (l : Link) (o : Option ℤ) → Sees ts l o
+pub sees-found : (ts : List TrackState) (l : Link) (o : Option ℤ) → Sees ts l o
     → (p : ℕ) × (c : Cell) × StandsOn ts p c × (c.link ≡ Some l) × (offset_of c.side p ≡ o)
-sees_found [] l o h = absurd h
-sees_found (t ∷ ts) l o (inl h) =
+sees-found [] l o h = absurd h
+sees-found (t ∷ ts) l o (inl h) =
     let r = shows_found 0 t.cells l o h in
     let z : r.0 ≡ 0 + r.0 = omega arith in
     (r.0, r.1, inl r.2, r.3, ap (λ (n : ℕ). offset_of r.1.side n) z ∙ r.4)
-sees_found (t ∷ ts) l o (inr h) = let r = sees_found ts l o h in (r.0, r.1, inr r.2, r.3, r.4)
+sees-found (t ∷ ts) l o (inr h) = let r = sees-found ts l o h in (r.0, r.1, inr r.2, r.3, r.4)
 
-stands_sees : (ts : List TrackState) (p : ℕ) (c : Cell) (l : Link) → StandsOn ts p c → c.link ≡ Some l → Sees ts l (offset_of c.side p)
-stands_sees [] p c l h e = absurd h
-stands_sees (t ∷ ts) p c l (inl h) e =
+pub stands-sees : (ts : List TrackState) (p : ℕ) (c : Cell) (l : Link) → StandsOn ts p c → c.link ≡ Some l → Sees ts l (offset_of c.side p)
+stands-sees [] p c l h e = absurd h
+stands-sees (t ∷ ts) p c l (inl h) e =
     let z : 0 + p ≡ p = omega arith in
     inl (subst (λ (n : ℕ). Shows 0 t.cells l (offset_of c.side n)) z (found_shows 0 t.cells p c l h e))
-stands_sees (t ∷ ts) p c l (inr h) e = inr (stands_sees ts p c l h e)
+stands-sees (t ∷ ts) p c l (inr h) e = inr (stands-sees ts p c l h e)
 
 pub tied-of : (ts : List TrackState) → Together ts → IsTied ts
 tied-of ts g = record { one = one; below = below } where
   one : (k l : Link) (a b : Option ℤ) → Sees ts k a → Sees ts l b → k.home ≡ l.home → k.number ≡ l.number → (k.tracks ≡ l.tracks) × (a ≡ b)
   one k l a b s t h n =
-      let r = sees_found ts k a s in
-      let q = sees_found ts l b t in
+      let r = sees-found ts k a s in
+      let q = sees-found ts l b t in
       let e = g.tied r.0 q.0 r.1 q.1 k l r.2 q.2 r.3 q.3 h n in
       (e.0, sym r.4 ∙ (e.1 ∙ q.4))
 
   below : (l : Link) (a : Option ℤ) → Sees ts l a → l.number < next_link_at l.home ts
-  below l a s = let r = sees_found ts l a s in g.below r.0 r.1 l r.2 r.3
+  below l a s = let r = sees-found ts l a s in g.below r.0 r.1 l r.2 r.3
 
 pub together-of : (ts : List TrackState) → IsTied ts → Together ts
 together-of ts g = record {
-  tied = λ p q c d k l s t e f h n. g.one k l (offset_of c.side p) (offset_of d.side q) (stands_sees ts p c k s e) (stands_sees ts q d l t f) h n;
-  below = λ p c l s e. g.below l (offset_of c.side p) (stands_sees ts p c l s e);
+  tied = λ p q c d k l s t e f h n. g.one k l (offset_of c.side p) (offset_of d.side q) (stands-sees ts p c k s e) (stands-sees ts q d l t f) h n;
+  below = λ p c l s e. g.below l (offset_of c.side p) (stands-sees ts p c l s e);
 }
 
 -- tracks that are changed one by one
@@ -168,12 +168,12 @@ keeps-self t = record { shows = λ l o h. h; next = refl; grown = grown-self t }
 pub keeps-then : (t u v : TrackState) → Keeps t u → ((h n : ℕ) → runs_in h n false u.cells ≤ runs_in h n false t.cells) → Keeps u v → Keeps t v
 keeps-then t u v a le b = record { shows = λ l o h. a.shows l o (b.shows l o h); next = b.next ∙ a.next; grown = grown-from t u v le b.grown }
 
-sees_less : (ts us : List TrackState) (l : Link) (o : Option ℤ) → Each Keeps ts us → Sees us l o → Sees ts l o
-sees_less [] [] l o each h = absurd h
-sees_less [] (u ∷ us) l o each h = absurd each
-sees_less (t ∷ ts) [] l o each h = absurd h
-sees_less (t ∷ ts) (u ∷ us) l o each (inl h) = inl (each.1.shows l o h)
-sees_less (t ∷ ts) (u ∷ us) l o each (inr h) = inr (sees_less ts us l o each.2 h)
+pub sees-kept : (ts us : List TrackState) (l : Link) (o : Option ℤ) → Each Keeps ts us → Sees us l o → Sees ts l o
+sees-kept [] [] l o each h = absurd h
+sees-kept [] (u ∷ us) l o each h = absurd each
+sees-kept (t ∷ ts) [] l o each h = absurd h
+sees-kept (t ∷ ts) (u ∷ us) l o each (inl h) = inl (each.1.shows l o h)
+sees-kept (t ∷ ts) (u ∷ us) l o each (inr h) = inr (sees-kept ts us l o each.2 h)
 
 pub next-more : (home : ℕ) (ts us : List TrackState) → Each (λ (t u : TrackState). t.next_link ≤ u.next_link) ts us → next_link_at home ts ≤ next_link_at home us
 next-more home [] [] each = omega arith
@@ -193,6 +193,6 @@ each_next (t ∷ ts) (u ∷ us) each = (each.0, omega (arith, each.1.next), each
 
 pub kept-tied : (ts us : List TrackState) → Each Keeps ts us → IsTied ts → IsTied us
 kept-tied ts us each g = record {
-  one = λ k l a b s t h n. g.one k l a b (sees_less ts us k a each s) (sees_less ts us l b each t) h n;
-  below = λ l a s. (let low = g.below l a (sees_less ts us l a each s) in omega (arith, low, next-more l.home ts us (each_next ts us each)));
+  one = λ k l a b s t h n. g.one k l a b (sees-kept ts us k a each s) (sees-kept ts us l b each t) h n;
+  below = λ l a s. (let low = g.below l a (sees-kept ts us l a each s) in omega (arith, low, next-more l.home ts us (each_next ts us each)));
 }

@@ -7,12 +7,12 @@ use Rattle.composables.specs.Links.{next_link_at}
 use Rattle.composables.specs.OwnTracks.{track_numbered}
 use Rattle.composables.specs.TrackState.{TrackState}
 use Rattle.std.proofs.lemmas.List.{length-append}
-use Rattle.link_laws.specs.Rooms.{AreTracks, Ascend, IsRoom}
+use Rattle.link_laws.specs.Rooms.{AreLow, AreTracks, Ascend, IsNumbered, IsRoom}
 use Rattle.link_laws.specs.Weights.{begins, given, is_link, most_added, NextsAreWithinWeight, NextsWithin, runs_on, weight, weight_of}
 use Rattle.link_laws.proofs.LinkedRuns.{link-not, runs-none}
 use Rattle.link_laws.proofs.LinkLists.{Carries, carries-shows}
 use Rattle.link_laws.proofs.Runs.{Grown, count, count-append, grown-self, one}
-use Rattle.link_laws.proofs.Tied.{Each, IsTied, Keeps, Sees}
+use Rattle.link_laws.proofs.Tied.{Each, Keeps, Sees}
 
 -- each next link number is within it
 
@@ -142,12 +142,19 @@ weight-same f (t ∷ ts) (u ∷ us) e =
 
 -- a room has 32 tracks at most
 
-tracks_few : (table : Table) (least : ℕ) (ts : List TrackState) → Ascend least ts → AreTracks table ts → least ≤ 32 → least + length ts ≤ 32
-tracks_few table least [] a h le = omega (arith, le)
-tracks_few table least (t ∷ ts) a h le = omega (arith, tracks_few table (t.number + 1) ts a.1 h.2 (omega (arith, h.0)), a.0)
+tracks_few : (least : ℕ) (ts : List TrackState) → Ascend least ts → AreLow ts → least ≤ 32 → least + length ts ≤ 32
+tracks_few least [] a h le = omega (arith, le)
+tracks_few least (t ∷ ts) a h le = omega (arith, tracks_few (t.number + 1) ts a.1 h.1 (omega (arith, h.0)), a.0)
 
-pub tracks-few : (table : Table) (ts : List TrackState) → Ascend 0 ts → AreTracks table ts → length ts ≤ 32
-tracks-few table ts a h = omega (arith, tracks_few table 0 ts a h (omega arith))
+pub tracks-few : (ts : List TrackState) → IsNumbered ts → length ts ≤ 32
+tracks-few ts h = omega (arith, tracks_few 0 ts h.ascend h.low (omega arith))
+
+low_of : (table : Table) (ts : List TrackState) → AreTracks table ts → AreLow ts
+low_of table [] h = tt
+low_of table (t ∷ ts) h = (h.0, low_of table ts h.2)
+
+pub numbered-of : (table : Table) (all : List TrackState) → IsRoom table all → IsNumbered all
+numbered-of table all room = record { apart = room.apart; ascend = room.ascend; low = low_of table all room.tracks }
 
 -- tracks that are kept have little more weight
 
@@ -195,19 +202,19 @@ kept_light [] (u ∷ us) e = absurd e
 kept_light (t ∷ ts) [] e = absurd e
 kept_light (t ∷ ts) (u ∷ us) e = (e.0, (e.1.next, e.1.grown), kept_light ts us e.2)
 
-pub light-little : (table : Table) (ts us : List TrackState) → IsRoom table ts → Each Light ts us → weight us ≤ weight ts + most_added
-light-little table ts us room each =
+pub light-little : (ts us : List TrackState) → IsNumbered ts → Each Light ts us → weight us ≤ weight ts + most_added
+light-little ts us room each =
     let g = light-grown ts us each in
     omega (
       arith,
       weight-same (λ (h n : ℕ). runs_on h n us) ts us (light_next ts us each),
       weight-more (λ (h n : ℕ). runs_on h n ts) (λ (h n : ℕ). runs_on h n us) ts g.0 room.ascend g.2,
       g.1,
-      tracks-few table ts room.ascend room.tracks,
+      tracks-few ts room,
     )
 
-pub kept-little : (table : Table) (ts us : List TrackState) → IsRoom table ts → Each Keeps ts us → weight us ≤ weight ts + most_added
-kept-little table ts us room each = light-little table ts us room (kept_light ts us each)
+pub kept-little : (ts us : List TrackState) → IsNumbered ts → Each Keeps ts us → weight us ≤ weight ts + most_added
+kept-little ts us room each = light-little ts us room (kept_light ts us each)
 
 -- a number that was not given away has no run
 
@@ -218,14 +225,18 @@ pub count-few : (h n : ℕ) (os : List (Option Link)) → count h n os ≤ lengt
 count-few h n [] = omega arith
 count-few h n (o ∷ os) = omega (arith, one_most h n o, count-few h n os)
 
-pub past-none : (all : List TrackState) (h n : ℕ) (k : Link) (a : Option ℤ) → IsTied all → next_link_at h all ≤ n → Sees all k a → k.home ≡ h → k.number ≡ n → ⊥
-past-none all h n k a g le s e f = omega (arith, g.below k a s, ap (λ (m : ℕ). next_link_at m all) e, f, le)
+-- each link of the tracks was given away
+abbrev pub Below : List TrackState → Type 0
+Below all = (k : Link) (a : Option ℤ) → Sees all k a → k.number < next_link_at k.home all
 
-fresh_on : (all ts : List TrackState) (h n : ℕ) → IsTied all → next_link_at h all ≤ n → ((k : Link) (a : Option ℤ) → Sees ts k a → Sees all k a) → runs_on h n ts ≡ 0
+pub past-none : (all : List TrackState) (h n : ℕ) (k : Link) (a : Option ℤ) → Below all → next_link_at h all ≤ n → Sees all k a → k.home ≡ h → k.number ≡ n → ⊥
+past-none all h n k a g le s e f = omega (arith, g k a s, ap (λ (m : ℕ). next_link_at m all) e, f, le)
+
+fresh_on : (all ts : List TrackState) (h n : ℕ) → Below all → next_link_at h all ≤ n → ((k : Link) (a : Option ℤ) → Sees ts k a → Sees all k a) → runs_on h n ts ≡ 0
 fresh_on all [] h n g le sub = refl
 fresh_on all (t ∷ ts) h n g le sub = omega (arith, runs-none h n false t.cells never, fresh_on all ts h n g le (λ k a s. sub k a (inr s))) where
   never : (k : Link) → Carries t.cells k → k.home ≡ h → k.number ≡ n → ⊥
   never k c e f = let r = carries-shows 0 t.cells k c in past-none all h n k r.0 g le (sub k r.0 (inl r.1)) e f
 
-pub fresh-runs : (all : List TrackState) (h n : ℕ) → IsTied all → next_link_at h all ≤ n → runs_on h n all ≡ 0
+pub fresh-runs : (all : List TrackState) (h n : ℕ) → Below all → next_link_at h all ≤ n → runs_on h n all ≡ 0
 fresh-runs all h n g le = fresh_on all all h n g le (λ k a s. s)

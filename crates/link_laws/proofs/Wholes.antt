@@ -55,15 +55,15 @@ drop_step [] (suc k) y ys e = absurd cc
 drop_step (x ∷ xs) zero y ys e = let same : x ≡ y = cc in let rest : xs ≡ ys = cc in (ap Some same, rest)
 drop_step (x ∷ xs) (suc k) y ys e = drop_step xs k y ys e
 
-among_from : (all : List TrackState) (k : ℕ) (ts : List TrackState) → Numbered 0 all → drop k all ≡ ts → AreAmong all ts
-among_from all k [] h e = tt
-among_from all k (t ∷ ts) h e =
+pub among-from : (all : List TrackState) (k : ℕ) (ts : List TrackState) → Numbered 0 all → drop k all ≡ ts → AreAmong all ts
+among-from all k [] h e = tt
+among-from all k (t ∷ ts) h e =
     let r = drop_step all k t ts e in
-    ((at-place all k t h r.0).1, among_from all (suc k) ts h r.1)
+    ((at-place all k t h r.0).1, among-from all (suc k) ts h r.1)
 
-among_picked : (all : List TrackState) (names : List ℕ) → Numbered 0 all → AreAmong all (picked all names)
-among_picked all [] h = tt
-among_picked all (n ∷ ns) h = by (slice_get all n) refl (among_picked all ns h) where
+pub among-picked : (all : List TrackState) (names : List ℕ) → Numbered 0 all → AreAmong all (picked all names)
+among-picked all [] h = tt
+among-picked all (n ∷ ns) h = by (slice_get all n) refl (among-picked all ns h) where
   by : (o : Option TrackState) → slice_get all n ≡ o → AreAmong all (picked all ns) → AreAmong all (with_picked o (picked all ns))
   by None e rest = rest
   by (Some t) e rest = ((at-place all n t h e).1, rest)
@@ -73,9 +73,9 @@ none-within [] n e lt = omega (arith, lt)
 none-within (t ∷ ts) zero e lt = cc
 none-within (t ∷ ts) (suc n) e lt = none-within ts n e (omega (arith, lt))
 
-ascend_picked : (all : List TrackState) (least : ℕ) (names : List ℕ) → Numbered 0 all → AscendBetween least (length all) names → Ascend least (picked all names)
-ascend_picked all least [] h a = tt
-ascend_picked all least (n ∷ ns) h a = by (slice_get all n) refl (ascend_picked all (n + 1) ns h a.2) where
+pub ascend-picked : (all : List TrackState) (least : ℕ) (names : List ℕ) → Numbered 0 all → AscendBetween least (length all) names → Ascend least (picked all names)
+ascend-picked all least [] h a = tt
+ascend-picked all least (n ∷ ns) h a = by (slice_get all n) refl (ascend-picked all (n + 1) ns h a.2) where
   by : (o : Option TrackState) → slice_get all n ≡ o → Ascend (n + 1) (picked all ns) → Ascend least (with_picked o (picked all ns))
   by None e rest = absurd (none-within all n e a.1)
   by (Some t) e rest =
@@ -132,7 +132,7 @@ none_left : (ts : List TrackState) → with_tracks ts [] ≡ ts
 none_left [] = refl
 none_left (t ∷ ts) = ap (λ (us : List TrackState). t ∷ us) (none_left ts)
 
-put-back : (least : ℕ) (all us : List TrackState) → Numbered 0 all → AscendBetween least (length all) (numbers_of us) → put_back all (numbers_of us) us ≡ with_tracks all us
+pub put-back : (least : ℕ) (all us : List TrackState) → Numbered 0 all → AscendBetween least (length all) (numbers_of us) → put_back all (numbers_of us) us ≡ with_tracks all us
 put-back least all [] h a = sym (none_left all)
 put-back least all (u ∷ us) h a =
     let set : List TrackState = slice_set all u.number u in
@@ -142,17 +142,17 @@ put-back least all (u ∷ us) h a =
 
 -- a call on all tracks
 
-ascend_of : (from : ℕ) (ts : List TrackState) → Numbered from ts → Ascend from ts
-ascend_of from [] h = tt
-ascend_of from (t ∷ ts) h = (omega (arith, h.0), subst (λ (n : ℕ). Ascend (n + 1) ts) (sym h.0) (ascend_of (from + 1) ts h.1))
+pub ascend-of : (from : ℕ) (ts : List TrackState) → Numbered from ts → Ascend from ts
+ascend-of from [] h = tt
+ascend-of from (t ∷ ts) h = (omega (arith, h.0), subst (λ (n : ℕ). Ascend (n + 1) ts) (sym h.0) (ascend-of (from + 1) ts h.1))
 
 pub wholes-keep : WholesKeepTogether
 wholes-keep table meant all names keeps order tracks ascend numbers g = by (meant (picked all names)) numbers (keeps all (picked all names) room named g) where
   room : IsRoom table all
-  room = record { apart = among_from all 0 all order refl; ascend = ascend_of 0 all order; tracks = tracks }
+  room = record { apart = among-from all 0 all order refl; ascend = ascend-of 0 all order; tracks = tracks }
 
   named : AreNamed all (picked all names)
-  named = record { among = among_picked all names order; ascend = ascend_picked all 0 names order ascend }
+  named = record { among = among-picked all names order; ascend = ascend-picked all 0 names order ascend }
 
   by : (r : Applied) → KeepsNumbers names r → LeavesTogether all r → StayTogether all (on_whole all names r)
   by (Ok (us, d)) n l =
@@ -163,15 +163,15 @@ wholes-keep table meant all names keeps order tracks ascend numbers g = by (mean
 
 -- tracks without links
 
-sees_none : (table : Table) (ts : List TrackState) (l : Link) (o : Option ℤ) → AreBare table ts → Sees ts l o → ⊥
-sees_none table [] l o a h = h
-sees_none table (t ∷ ts) l o a (inl h) =
+pub sees-none : (table : Table) (ts : List TrackState) (l : Link) (o : Option ℤ) → AreBare table ts → Sees ts l o → ⊥
+sees-none table [] l o a h = h
+sees-none table (t ∷ ts) l o a (inl h) =
     shows-none 0 (items_of t.cells) l o a.1 (subst (λ (cs : List Cell). Shows 0 cs l o) (sym a.0.kept.whole) h)
-sees_none table (t ∷ ts) l o a (inr h) = sees_none table ts l o a.2 h
+sees-none table (t ∷ ts) l o a (inr h) = sees-none table ts l o a.2 h
 
 pub unlinked-together : UnlinkedAreTogether
 unlinked-together table all bare =
     together-of all (record {
-      one = λ k l a b s t h n. absurd (sees_none table all k a bare s);
-      below = λ l a s. absurd (sees_none table all l a bare s);
+      one = λ k l a b s t h n. absurd (sees-none table all k a bare s);
+      below = λ l a s. absurd (sees-none table all l a bare s);
     })

@@ -12,7 +12,8 @@ use Rattle.room_core.specs.Parts.{AscendBetween}
 use Rattle.room_core.specs.Whole.{Meaning, whole}
 use Rattle.link_laws.specs.Together.{Together}
 use Rattle.link_laws.specs.Weights.{NextsWithin, most_added, weight}
-use Rattle.link_laws.specs.Rooms.{AreTracks, KeepsTogether}
+use Rattle.link_laws.specs.Given.{AreGiven, LeavesGiven}
+use Rattle.link_laws.specs.Rooms.{AreNamed, AreTracks, IsNumbered, KeepsTogether}
 use Rattle.link_laws.specs.Wholes.{KeepsNumbers, Numbered}
 
 -- Each call keeps the tracks of a room together, and leaves the named ones their numbers; one that is not refused for its
@@ -38,8 +39,26 @@ HistoriesStayTogether C = (table : Table) (m : Meaning TrackState C Done Refusal
     → CallsKeepTogether table (length all) m → Numbered 0 all → Together all → GoodBefore table (whole m) (Some all) entries
     → replay (whole m) all entries ≡ Some qs → AreAfter all qs (length entries)
 
--- and where no link number was given away at its opening, each next link number is at most 2^31 after any of its entries
+-- Each call keeps the links of a room given away on the tracks that it names, which are tracks of the room, in ascending
+-- order, where it is not refused for its names.
+pub record CallsKeepGiven {C : Type 0} (count : ℕ) (m : Meaning TrackState C Done Refusal) : Type 0 where
+  pub keeps : (c : C) (all named : List TrackState) → numbers_of named ≡ m.names c → IsNumbered all → AreNamed all named → AreGiven all
+      → LeavesGiven all named (m.applied named c)
+  pub names : (c : C) → m.refuses c ≡ None → AscendBetween 0 count (m.names c)
+
+-- tracks that so many entries come to have given their links away, with little more weight for each entry
+pub record AreGivenAfter (all qs : List TrackState) (entries : ℕ) : Type 0 where
+  pub given : AreGiven qs
+  pub little : weight qs ≤ weight all + most_added * entries
+
+-- so it is of each history, whatever else the tracks are
+abbrev pub HistoriesStayGiven : Type 0 → Type 0
+HistoriesStayGiven C = (m : Meaning TrackState C Done Refusal) (all qs : List TrackState) (entries : List (Entry C))
+    → CallsKeepGiven (length all) m → Numbered 0 all → length all ≤ 32 → AreGiven all
+    → replay (whole m) all entries ≡ Some qs → AreGivenAfter all qs (length entries)
+
+-- and where no link number was given away at the opening, each next link number is at most 2^31 after at most 100,000
 abbrev pub LinkNumbersLast : Type 0 → Type 0
-LinkNumbersLast C = (table : Table) (m : Meaning TrackState C Done Refusal) (all qs : List TrackState) (entries : List (Entry C))
-    → CallsKeepTogether table (length all) m → Numbered 0 all → Together all → NextsWithin 0 all → length entries ≤ most_entries
-    → GoodBefore table (whole m) (Some all) entries → replay (whole m) all entries ≡ Some qs → NextsWithin (2 ^ 31) qs
+LinkNumbersLast C = (m : Meaning TrackState C Done Refusal) (all qs : List TrackState) (entries : List (Entry C))
+    → CallsKeepGiven (length all) m → Numbered 0 all → length all ≤ 32 → AreGiven all → NextsWithin 0 all → length entries ≤ most_entries
+    → replay (whole m) all entries ≡ Some qs → NextsWithin (2 ^ 31) qs

@@ -28,6 +28,17 @@ abbrev pub AreTracks : Table → List TrackState → Type 0
 AreTracks table [] = Unit {0}
 AreTracks table (t ∷ ts) = (t.number < 32) × IsGood table t × AreTracks table ts
 
+-- each has a number that a set of tracks can have
+abbrev pub AreLow : List TrackState → Type 0
+AreLow [] = Unit {0}
+AreLow (t ∷ ts) = (t.number < 32) × AreLow ts
+
+-- tracks in ascending order, each with a number of its own
+pub record IsNumbered (all : List TrackState) : Type 0 where
+  pub apart : AreAmong all all
+  pub ascend : Ascend 0 all
+  pub low : AreLow all
+
 -- the tracks of a room, in ascending order, each with a number of its own
 pub record IsRoom (table : Table) (all : List TrackState) : Type 0 where
   pub apart : AreAmong all all
@@ -46,10 +57,14 @@ pub record StaysTogether (before after : List TrackState) : Type 0 where
   pub together : Together after
   pub little : weight after ≤ weight before + most_added
 
--- a call that leaves these on the tracks that it names leaves all together, and a refusal leaves them as they are
+-- this is so of what a call that is done leaves on the tracks that it names; a refusal leaves them as they are
+abbrev pub Leaves : (List TrackState → Type 0) → Applied → Type 0
+Leaves P (Ok (news, done)) = P news
+Leaves P (Err why) = Unit {0}
+
+-- a call leaves all together
 abbrev pub LeavesTogether : List TrackState → Applied → Type 0
-LeavesTogether all (Ok (news, done)) = StaysTogether all (with_tracks all news)
-LeavesTogether all (Err why) = Unit {0}
+LeavesTogether all meant = Leaves (λ news. StaysTogether all (with_tracks all news)) meant
 
 -- what a call means for the tracks that it names keeps the tracks of a room together
 abbrev pub KeepsTogether : Table → (List TrackState → Applied) → Type 0
