@@ -1,4 +1,4 @@
-use Rattle.std.proofs.Common.{◌≡◌, ◌+◌, ◌++◌, ◌∷◌, [], length, refl, sym, ap, ◌∙◌, append_assoc, arith, subst}
+use Rattle.std.proofs.Common.{◌≡◌, ℕ, ◌+◌, ◌++◌, ◌∷◌, [], length, refl, sym, ap, ◌∙◌, append_assoc, arith, subst}
 use Rattle.std.specs.Vec.Iter.{into_iter_items}
 use Rattle.std.proofs.lemmas.List.{length-append, append-nil, nil_from_length}
 use Rattle.room_halls.specs.Stations.{Station}
@@ -31,7 +31,7 @@ loop-pass-preserved g c =
         pass_is = c.new.ensures.pass;
         number_is = sym c.station-station.ensures.number ∙ number;
         entries = fresh_none g.J.Naming.opening c.args.passes.items all p rest c.requires.passes.1 so_far;
-        line = c.new.ensures.line ∙ (told_line _ _ _ _ _ c.in-Ok.ensures.line ∙ ap (λ (s : Station). line_of s.line) (rw number (i.free _ (omega arith))));
+        line = c.new.ensures.line ∙ (told_line _ _ _ _ _ c.in-Ok.ensures.line ∙ ap (λ (s : Station). line_of s.line) (ap (λ (m : ℕ). g.H.Hall.told c.loop-pass.hall m) number ∙ i.free (length c.loop-pass.seats.items) (omega arith)));
       }));
       held = rw (items, length-append) (held_more _ _ _ i.held (rw number at c.in-Ok.ensures.seated) (rw number at c.in-Ok.ensures.others));
       free = rw (items, length-append) (free_more _ _ _ _ i.free (rw number at c.in-Ok.ensures.others));
