@@ -114,7 +114,9 @@ pub(crate) fn serve_seats<
     ensures all { length seats.new ≡ length seats.old }
 {
     let threads = seats.len().max(1);
-    thread::for_each_mut(rt, seats, threads, &|_, seat| {
-        seat.serve(rt, alloc, room, gate, setting)
-    });
+    let served = |_: usize, seat: &mut Seat<L, J>|
+        requires { IsReady seat.old.pass }
+        ensures { IsServedIn room.entry.now setting.counting setting.start seat.old seat.new }
+    { seat.serve(rt, alloc, room, gate, setting) };
+    thread::for_each_mut(rt, seats, threads, &served);
 }
