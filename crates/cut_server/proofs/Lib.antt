@@ -6,5 +6,6 @@ pub mod Openings
 pub mod Rates
 pub mod Telling
 pub mod DocumentRuns
+pub mod HallRuns
 pub mod Replying
 pub mod Closing

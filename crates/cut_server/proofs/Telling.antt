@@ -8,7 +8,7 @@ use Rattle.call_text.specs.Journals.{journal_text_of}
 use Rattle.cut_server.specs.declared.serve.End.{End}
 use Rattle.cut_server.specs.declared.serve.End.TheVariants as end
 use Rattle.cut_server.specs.declared.status.Status.{Status}
-use Rattle.cut_server.specs.declared.status.Status.TheVariants.{Done, ReadFault, WriteFault, NoCommand, Refused, OutOfMemory, TooMuchInput}
+use Rattle.cut_server.specs.declared.status.Status.TheVariants.{Done, ReadFault, WriteFault, NoCommand, Refused, NotSeated, OutOfMemory, TooMuchInput}
 use Rattle.cut_server.specs.Outside.{Outside, Got, AtEnd, AreSent}
 use Rattle.otio_json.specs.declared.opening.Opening.{Opening}
 use Rattle.cut_server.specs.Closed.{Closes}
@@ -136,6 +136,7 @@ run_ends o g h old mid new WriteFault c (quiet, ended) (failed, same, takes) = i
 )
 run_ends o g h old mid new NoCommand c ended journal = absurd journal
 run_ends o g h old mid new Refused c ended journal = absurd journal
+run_ends o g h old mid new NotSeated c ended journal = absurd journal
 run_ends o g h old mid new OutOfMemory c ended same = inr (session_ends o g h old new end.Ended c (subst (λ (x : Outside). SessionEnds (Knows o 0 g) old x end.Ended) (sym same) ended))
 run_ends o g h old mid new TooMuchInput c ended journal = absurd journal
 
@@ -146,6 +147,7 @@ run_begun o old new U ReadFault h = h
 run_begun o old new U WriteFault h = h
 run_begun o old new U NoCommand h = absurd h
 run_begun o old new U Refused h = absurd h
+run_begun o old new U NotSeated h = absurd h
 run_begun o old new U OutOfMemory (inl h) = absurd h
 run_begun o old new U OutOfMemory (inr h) = inr h
 run_begun o old new U TooMuchInput h = h
