@@ -1,4 +1,4 @@
--- A session that begins, and a room that closes.
+-- A room that closes.
 use Rattle.std.proofs.Common.{◌≡◌, ℕ, ◌<◌, List, [], ◌∷◌, ◌++◌, length, Option, Some, All, map, refl, sym, ap, ◌∙◌, arith, subst, ⊎_elim, inl}
 use Rattle.std.proofs.lemmas.List.Elements.{All-head, All-tail}
 use Rattle.timecode12.specs.Numbers.{Counted}
@@ -14,27 +14,10 @@ use Rattle.room_core.specs.History.{IsLegal}
 use Rattle.room_core.specs.Whole.{whole}
 use Rattle.otio_json.specs.declared.opening.Opening.{Opening}
 use Rattle.cut_server.specs.Closed.{Closes}
-use Rattle.cut_server.specs.Rooms.{History, Setting}
-use Rattle.cut_server.specs.Served.{IsFresh, IsRoomOf}
-use Rattle.cut_server.specs.SessionInside.{IsSeated, TrackPass, TrackRoom, session_at, tracks_at}
+use Rattle.station_sessions.specs.Rooms.{History, Setting}
+use Rattle.station_sessions.specs.Served.{IsFresh, IsRoomOf}
+use Rattle.station_sessions.specs.SessionInside.{IsSeated, TrackPass, TrackRoom, session_at, tracks_at}
 use Rattle.cut_server.specs.Stations.{AreOfStations}
-
-pub fresh_seated : (room : TrackRoom) (pass : TrackPass) → pass.entries ≡ [] → IsSeated room 1 pass
-fresh_seated room pass none = record {
-  legal = rw none (record { within = omega arith; applies = refl; rise = tt });
-  before = rw none (omega arith);
-}
-
-pub fresh_session : (o : Opening) (room : TrackRoom) (pass : TrackPass) (counting : Counted) (start : ℕ) → IsRoomOf o room counting start → pass.entries ≡ []
-    → IsFresh o pass.number (session_at room (Some pass) counting start 1)
-fresh_session o room pass counting start is none = record {
-  setting = is.setting;
-  station = refl;
-  opening = is.tracks;
-  tracks = ap (λ (h : History). tracks_at room h) none ∙ is.tracks;
-  journal = none;
-  line = refl;
-}
 
 one_station : (s : ℕ) → In s (0 ∷ []) → s < 1
 one_station s i = ⊎_elim (λ (e : s ≡ 0). omega (arith, e)) (λ (h : ⊥). absurd h) i

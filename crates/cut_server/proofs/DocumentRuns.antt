@@ -7,7 +7,7 @@ use Rattle.otio_json.specs.declared.opening.Opening.{Opening}
 use Rattle.cut_server.specs.declared.status.Status.{Status}
 use Rattle.cut_server.specs.declared.status.Status.TheVariants.{Done, ReadFault, WriteFault, NoCommand, Refused, NotSeated, OutOfMemory, TooMuchInput}
 use Rattle.cut_server.specs.Documents.{FilesTold, OnlyRead, Describes, IsRefusedAt, refusal_line}
-use Rattle.cut_server.specs.Outside.{Outside}
+use Rattle.station_sessions.specs.Outside.{Outside}
 use Rattle.cut_server.specs.Runs.{RunEnds, LineEnds, DocumentEnds}
 
 module _ (name : List ℕ) (counting : Counted) (before after : FilesTold) (old new : Outside) (U V : Type 0) where

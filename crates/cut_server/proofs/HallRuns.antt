@@ -9,8 +9,8 @@ use Rattle.cut_server.specs.declared.status.Status.{Status}
 use Rattle.cut_server.specs.declared.status.Status.TheVariants.{Done, ReadFault, WriteFault, NoCommand, Refused, NotSeated, OutOfMemory, TooMuchInput}
 use Rattle.cut_server.specs.Documents.{FilesTold, OnlyRead, Describes, IsRefusedAt, refusal_line}
 use Rattle.cut_server.specs.Halls.{FileEnds, HallEnds, HallTold, HasServed, IsUnserved}
-use Rattle.cut_server.specs.Outside.{Outside}
-use Rattle.cut_server.specs.Rooms.{History}
+use Rattle.station_sessions.specs.Outside.{Outside}
+use Rattle.station_sessions.specs.Rooms.{History}
 use Rattle.cut_server.specs.Runs.{LineEnds, RefusesDocument, ServeEnds}
 
 unchanged_then : (a b c : Content) → IsUnchanged a b → IsUnchanged b c → IsUnchanged a c

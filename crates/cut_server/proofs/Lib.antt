@@ -1,11 +1,6 @@
-pub mod Transcripts
-pub mod Serving
-pub mod Serves
-pub mod Inputs
 pub mod Openings
 pub mod Rates
 pub mod Telling
 pub mod DocumentRuns
 pub mod HallRuns
-pub mod Replying
 pub mod Closing

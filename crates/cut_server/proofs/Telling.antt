@@ -1,30 +1,29 @@
 -- From what a session answered to what the program promises.
-use Rattle.std.proofs.Common.{◌≡◌, ℕ, ◌<◌, ◌≤◌, ◌⊎◌, inl, inr, List, [], ◌∷◌, ◌++◌, length, Option, Some, None, IfSome, refl, sym, ap, ◌∙◌, subst, arith, Bool, true, false, cond, ◌==◌}
+use Rattle.std.proofs.Common.{◌≡◌, ℕ, ◌<◌, ◌≤◌, inr, List, [], ◌∷◌, ◌++◌, length, Option, IfSome, refl, sym, ap, ◌∙◌, subst, arith, Bool, true, false, cond, ◌==◌}
 use Rattle.std.specs.Option.{IsSomeAnd}
 use Rattle.room_ports.specs.Counts.{HasRisen}
 use Rattle.room_ports.proofs.Fronts.{takes-takes}
 use Rattle.line_words.specs.Lines.{Line as InputLine, lines_of}
 use Rattle.call_text.specs.Journals.{journal_text_of}
-use Rattle.cut_server.specs.declared.serve.End.{End}
-use Rattle.cut_server.specs.declared.serve.End.TheVariants as end
+use Rattle.station_sessions.specs.declared.serve.End.{End}
+use Rattle.station_sessions.specs.declared.serve.End.TheVariants as end
 use Rattle.cut_server.specs.declared.status.Status.{Status}
 use Rattle.cut_server.specs.declared.status.Status.TheVariants.{Done, ReadFault, WriteFault, NoCommand, Refused, NotSeated, OutOfMemory, TooMuchInput}
-use Rattle.cut_server.specs.Outside.{Outside, Got, AtEnd, AreSent}
+use Rattle.station_sessions.specs.Outside.{Outside, AtEnd, AreSent}
 use Rattle.otio_json.specs.declared.opening.Opening.{Opening}
 use Rattle.cut_server.specs.Closed.{Closes}
 use Rattle.cut_server.specs.Stations.{AreOfStations}
 use Rattle.room_core.specs.declared.entry.Entry.{Entry}
 use Rattle.room_core.specs.Projection.{of_station}
 use Rattle.std.proofs.lemmas.Bool.Decides.{nat_tests}
-use Rattle.cut_server.specs.Rooms.{History, Setting, AreWritten, room_of, setting_of, RoomTranscript}
-use Rattle.cut_server.specs.Transcript.{Transcript, sent}
-use Rattle.cut_server.specs.Session.{SessionState}
-use Rattle.cut_server.specs.Served.{Knows, Serves, IsFresh, ServesTo}
-use Rattle.cut_server.specs.Serving.{StopsInPiece, StopsAtEnd, SessionEnds}
+use Rattle.station_sessions.specs.Rooms.{History, AreWritten, room_of, setting_of, RoomTranscript}
+use Rattle.station_sessions.specs.Transcript.{sent}
+use Rattle.station_sessions.specs.Served.{Knows}
+use Rattle.station_sessions.specs.Serving.{SessionEnds}
 use Rattle.cut_server.specs.Runs.{IsTold, TellsOne, Tells, IsWhole, JournalIsCut, JournalEnds, RunEnds}
-use Rattle.cut_server.proofs.Serves.{takes-then_front}
-use Rattle.cut_server.proofs.Serving.{served_none, transcript_served}
-use Rattle.cut_server.proofs.Transcripts.{transcript_more}
+use Rattle.station_sessions.proofs.Serves.{takes-then_front}
+use Rattle.station_sessions.proofs.Knowing.{got_map, session_told}
+use Rattle.station_sessions.proofs.Transcripts.{transcript_more}
 
 all_own : {C : Type 0} (b : Bool) (e : Entry C) (es own : List (Entry C)) → (e.station == 0) ≡ b → e.station < 1 → own ≡ es → cond b (e ∷ own) own ≡ e ∷ es
 all_own true e es own is low same = ap (λ l. e ∷ l) same
@@ -34,19 +33,6 @@ all_own false e es own is low same = absurd (grind (arith, nat_tests, is, low))
 own_all : {C : Type 0} (h : List (Entry C)) → AreOfStations 1 h → of_station 0 h ≡ h
 own_all [] s = refl
 own_all (e ∷ es) s = all_own (e.station == 0) e es (of_station 0 es) refl s.0 (own_all es s.1)
-
--- what a session answered its pass tells
-knows_by : (o : Opening) (station : ℕ) (a b : SessionState) (ls : List InputLine) (Taken : List (List ℕ) → Type 0) → IsFresh o station a → ServesTo a b ls Taken
-    → Knows o station b.course.journal ls Taken
-knows_by o station a b ls Taken f g =
-    let serves : Serves (room_of a.setting) station a.course b.course ls Taken = subst (λ (n : ℕ). Serves (room_of a.setting) n a.course b.course ls Taken) f.station g.serves in
-    let texts : AreWritten (of_station station b.course.journal) = subst (λ (n : ℕ). AreWritten (of_station n b.course.journal)) f.station (g.written (rw f.journal tt)) in
-    let t = serves o.tracks [] [] 0 (served_none (room_of a.setting) station o.tracks a.course f.opening f.tracks f.journal f.line) in (
-      t.0,
-      subst (λ (s : Setting). Transcript (room_of s) o.tracks b.course.journal station ls t.0) f.setting (transcript_served (room_of a.setting) station o.tracks b.course ls t.0 t.1 t.2),
-      texts,
-      t.3,
-    )
 
 -- and the closed room's journal tells it too
 tells_by : (o : Opening) (g h : History) (ls : List InputLine) (Taken : List (List ℕ) → Type 0) → Closes o 1 0 g h → Knows o 0 g ls Taken
@@ -66,51 +52,6 @@ tells_by o g h ls Taken c k =
 
 tells : (o : Opening) (g h : History) → Closes o 1 0 g h → (ls : List InputLine) (Taken : List (List ℕ) → Type 0) → Knows o 0 g ls Taken → Tells o ls Taken
 tells o g h c ls Taken k = let s = tells_by o g h ls Taken c k in (h, s.0, s.1, s.2)
-
-got_map : (old new : Outside) (H K : List ℕ → List ℕ → Type 0) → ((got left : List ℕ) → H got left → K got left) → Got old new H → Got old new K
-got_map old new H K f h = between old.left new.left h where
-  between : (before after : Option (List ℕ)) → IfSome before (λ bytes. IsSomeAnd after (λ left. (got : List ℕ) × (bytes ≡ got ++ left) × H got left))
-      → IfSome before (λ bytes. IsSomeAnd after (λ left. (got : List ℕ) × (bytes ≡ got ++ left) × K got left))
-  between None after k = tt
-  between (Some b) None k = absurd k
-  between (Some b) (Some x) (got, is, k) = (got, is, f got x k)
-
-module _ (T U : List InputLine → (List (List ℕ) → Type 0) → Type 0) (f : (ls : List InputLine) (Taken : List (List ℕ) → Type 0) → T ls Taken → U ls Taken) (old new : Outside) where
-  in_piece : (got : List ℕ) → StopsInPiece T old new got → StopsInPiece U old new got
-  in_piece got s = record {
-    answered = s.answered;
-    piece = s.piece;
-    got_is = s.got_is;
-    one_read = s.one_read;
-    within = s.within;
-    lines = s.lines;
-    stops = s.stops;
-    answers = f _ _ s.answers;
-  }
-
-  at_end : (got left : List ℕ) → StopsAtEnd T old new got left → StopsAtEnd U old new got left
-  at_end got left s = record {
-    none_left = s.none_left;
-    within = s.within;
-    stopped_at = s.stopped_at;
-    last = s.last;
-    answers = f _ _ s.answers;
-  }
-
-  stops : (got left : List ℕ) → StopsInPiece T old new got ⊎ StopsAtEnd T old new got left → StopsInPiece U old new got ⊎ StopsAtEnd U old new got left
-  stops got left (inl s) = inl (in_piece got s)
-  stops got left (inr s) = inr (at_end got left s)
-
-  -- what a session did, told in another way
-  session_told : (e : End) → SessionEnds T old new e → SessionEnds U old new e
-  session_told end.Ended (quiet, h) = (quiet, got_map old new _ _ (λ got left k. (k.0, k.1, f _ _ k.2)) h)
-  session_told end.ReadFault (failed, h) = (failed, got_map old new _ _ (λ got left k. (k.0, f _ _ k.1)) h)
-  session_told end.WriteFault (failed, h) = (failed, got_map old new _ _ stops h)
-  session_told end.TooMuchInput (quiet, h) = (quiet, got_map old new _ _ (λ got left k. (k.0, k.1, f _ _ k.2)) h)
-
-pub session_knows : (o : Opening) (station : ℕ) (a b : SessionState) (old new : Outside) (e : End) → IsFresh o station a → SessionEnds (ServesTo a b) old new e
-    → SessionEnds (Knows o station b.course.journal) old new e
-session_knows o station a b old new e f ended = session_told (ServesTo a b) (Knows o station b.course.journal) (λ ls Taken. knows_by o station a b ls Taken f) old new e ended
 
 pub session_ends : (o : Opening) (g h : History) (old new : Outside) (e : End) → Closes o 1 0 g h → SessionEnds (Knows o 0 g) old new e → SessionEnds (Tells o) old new e
 session_ends o g h old new e c ended = session_told (Knows o 0 g) (Tells o) (tells o g h c) old new e ended

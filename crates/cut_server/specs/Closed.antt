@@ -2,7 +2,7 @@
 use Rattle.std.specs.Prelude.{◌≡◌, ℕ, ◌++◌}
 use Rattle.room_core.specs.Projection.{of_station}
 use Rattle.otio_json.specs.declared.opening.Opening.{Opening}
-use Rattle.cut_server.specs.Rooms.{History, IsLegalIn}
+use Rattle.station_sessions.specs.Rooms.{History, IsLegalIn}
 use Rattle.cut_server.specs.Stations.{AreOfStations}
 
 -- The journal is a legal history of the opening, by these stations; what the station knew begins it, and it has no further

@@ -11,16 +11,16 @@ use Rattle.call_text.specs.Journals.{journal_text_of}
 use Rattle.timecode12.specs.Numbers.{Counted}
 use Rattle.cut_server.specs.Commands.{Asked, RunPlain, RunDocument, Serve}
 use Rattle.cut_server.specs.Documents.{FilesTold, OnlyRead, Describes, IsRefusedAt, refusal_line}
-use Rattle.cut_server.specs.declared.serve.End.TheVariants as end
+use Rattle.station_sessions.specs.declared.serve.End.TheVariants as end
 use Rattle.cut_server.specs.declared.status.Status.{Status}
 use Rattle.cut_server.specs.declared.status.Status.TheVariants.{Done, ReadFault, WriteFault, NoCommand, Refused, NotSeated, OutOfMemory, TooMuchInput}
 use Rattle.cut_server.specs.Stations.{AreOfStations}
 use Rattle.cut_server.specs.Halls.{HallEnds, HallTold}
-use Rattle.cut_server.specs.Outside.{Outside, outside, NoFault, WriteFailed, AtEnd, TakesThenFront}
-use Rattle.cut_server.specs.Rooms.{History, AreWritten, IsLegalIn, RoomTranscript}
-use Rattle.cut_server.specs.Serving.{SessionEnds}
+use Rattle.station_sessions.specs.Outside.{Outside, outside, NoFault, WriteFailed, AtEnd, TakesThenFront}
+use Rattle.station_sessions.specs.Rooms.{History, AreWritten, IsLegalIn, RoomTranscript}
+use Rattle.station_sessions.specs.Serving.{SessionEnds}
 use Rattle.cut_server.specs.Statuses.{number_of}
-use Rattle.cut_server.specs.Transcript.{sent}
+use Rattle.station_sessions.specs.Transcript.{sent}
 
 -- the journal is a legal serial history of the opening with entries of these stations alone, each of which can be written
 -- and read again, and it tells the replies to the lines of one station

@@ -5,7 +5,7 @@ use Rattle.room_ports.specs.Counts.{HasRisen}
 use Rattle.cut_server.specs.Commands.{command_of}
 use Rattle.cut_server.specs.Documents.{FilesTold}
 use Rattle.cut_server.specs.Halls.{HallTold}
-use Rattle.cut_server.specs.Outside.{Outside}
+use Rattle.station_sessions.specs.Outside.{Outside}
 use Rattle.cut_server.specs.Runs.{CommandEnds, EndsWith}
 use Rattle.cutroom.specs.declared.notice.Notice.{Notice}
 use Rattle.cutroom.specs.declared.notice.Notice.TheVariants.{Help, Version}

@@ -2,7 +2,7 @@
 ghost use Rattle.std.specs.Prelude.{◌≡◌};
 ghost use Rattle.cut_server.specs.Documents.{files_told};
 ghost use Rattle.cut_server.specs.Halls.{hall_told};
-ghost use Rattle.cut_server.specs.Outside.{outside};
+ghost use Rattle.station_sessions.specs.Outside.{outside};
 ghost use Rattle.cutroom.specs.Answers.{ProgramEnds, complaint_of};
 
 use crate::notice::Notice;

@@ -1,6 +1,6 @@
 use Rattle.std.proofs.Common.{subst}
-use Rattle.cut_server.specs.Served.{IsRoomOf}
-use Rattle.cut_server.specs.SessionInside.{TrackRoom}
+use Rattle.station_sessions.specs.Served.{IsRoomOf}
+use Rattle.station_sessions.specs.SessionInside.{TrackRoom}
 use Rattle.cut_server.proofs.Closing.{one_room}
 use Rattle.cut_server.proofs.Telling.{run_begun}
 use Rattle.cut_server.proofs.main_call.run_blank.Goals as goal

@@ -1,8 +1,8 @@
 use Rattle.std.proofs.Common.{◌++◌, ◌∷◌, [], inl, ap, subst, ◌∙◌}
-use Rattle.cut_server.specs.Outside.{Outside, outside}
-use Rattle.cut_server.specs.Rooms.{History}
+use Rattle.station_sessions.specs.Outside.{Outside, outside}
+use Rattle.station_sessions.specs.Rooms.{History}
 use Rattle.cut_server.specs.Runs.{JournalEnds}
-use Rattle.cut_server.specs.declared.serve.End.TheVariants as end
+use Rattle.station_sessions.specs.declared.serve.End.TheVariants as end
 use Rattle.cut_server.proofs.Closing.{closed, has_zero}
 use Rattle.cut_server.proofs.Telling.{session_ends, run_ends}
 use Rattle.cut_server.proofs.main_call.run_session.Goals as goal
