@@ -3,6 +3,7 @@ use crate::tests::{ended, ended_over};
 use room_files::MemFiles;
 use std::alloc::Global;
 use std::sync::Wait;
+use std::thread::Threads;
 use std::test::Fail;
 
 /// A sequence of one track with five frames from the frame 100 of a tape on, which starts at 01:00:00:00.
@@ -25,7 +26,7 @@ journal 1
 ";
 
 // Whether a run with these words, where the file `cut` holds this text and these calls fail, ends so.
-fn ends<R: Wait>(
+fn ends<R: Threads + Wait + Sync>(
     rt: &R,
     alloc: Global,
     words: &str,
