@@ -4,3 +4,5 @@ pub mod Documents
 pub mod Closed
 pub mod Statuses
 pub mod Runs
+pub mod Halls
+pub mod Seated

@@ -9,6 +9,8 @@ mod command;
 mod document;
 pub mod laws;
 mod main_call;
+mod seats;
+mod stations;
 mod status;
 
 pub use main_call::cut_main;

@@ -13,7 +13,7 @@ use Rattle.station_sessions.specs.Transcript.{Kind, sent}
 use Rattle.station_sessions.specs.Rooms.{Setting, AreWritten, room_of, meaning_of, wish_in}
 use Rattle.room_core.specs.Projection.{of_station}
 use Rattle.station_sessions.specs.Session.{Course, Grows, SessionState, past_line, IsReply, Replies, Step}
-use Rattle.station_sessions.specs.Served.{Serves, ServesTo}
+use Rattle.station_sessions.specs.Served.{Serves, ServesTo, StaysWritten}
 use Rattle.station_sessions.proofs.Serving.{served_grows, served_more}
 
 sent-append : (xs ys : List (List ℕ)) → sent (xs ++ ys) ≡ sent xs ++ sent ys
@@ -105,6 +105,10 @@ serves_then a b c xs ys P V W both f g = record {
   serves = then_serves (room_of a.setting) a.station a.course b.course c.course xs ys P V W both f.serves
       (subst (λ (x : Setting × ℕ). Serves (room_of x.0) x.1 b.course c.course ys V) (λ i. (f.setting i, f.station i)) g.serves);
 }
+
+-- what could be written still can, after both
+pub written_then : (a b c : SessionState) (xs ys : List InputLine) (P V : List (List ℕ) → Type 0) → ServesTo a b xs P → ServesTo b c ys V → StaysWritten a c
+written_then a b c xs ys P V f g w = subst (λ (n : ℕ). AreWritten (of_station n b.course.journal) → AreWritten (of_station n c.course.journal)) f.station g.written (f.written w)
 
 -- these lines and then those
 pub serves_more : (a b c : SessionState) (xs ys : List InputLine) (t u v : Option (List ℕ)) → ServesTo a b xs (AreSent t u) → ServesTo b c ys (AreSent u v) → ServesTo a c (xs ++ ys) (AreSent t v)

@@ -5,7 +5,9 @@ ghost use Rattle.line_words.specs.Pieces.{ended, pending_after};
 ghost use Rattle.line_words.specs.Told.{line_told};
 ghost use Rattle.room_ports.specs.Counts.{HasRisen};
 ghost use Rattle.station_sessions.specs.Outside.{outside, AreSent, LastIsCut};
-ghost use Rattle.station_sessions.specs.Served.{IsRoomOf, Knows, ServesTo};
+ghost use Rattle.room_core.specs.Projection.{of_station};
+ghost use Rattle.station_sessions.specs.Rooms.{AreWritten};
+ghost use Rattle.station_sessions.specs.Served.{IsRoomOf, Knows, ServesTo, StaysWritten};
 ghost use Rattle.otio_json.specs.declared.opening.Opening.{Opening as OpeningOf};
 ghost use Rattle.station_sessions.specs.Serving.{StopsWithin, SessionEnds};
 
@@ -143,6 +145,7 @@ fn serve<R: Wait, G: Gate, J: Naming<Editor, Track>, L: Line>(
         (outside (L.left line.new) (L.read_faults line.new) (L.taken line.new)
         (L.write_faults line.new)) result }
     ensures station { session.new.station ≡ session.old.station }
+    ensures written { StaysWritten session.old session.new }
     ensures lent { L.lent line.new ≡ L.lent line.old }
 {
     let mut reader = LineReader::new();
@@ -192,6 +195,7 @@ pub fn serve_session<R: Wait, G: Gate, J: Naming<Editor, Track>, L: Line>(
         (outside (L.left line.new) (L.read_faults line.new) (L.taken line.new)
         (L.write_faults line.new)) result.1 }
     ensures station { result.0.number ≡ pass.number }
+    ensures written { AreWritten (of_station pass.number result.0.entries) }
     ensures lent { L.lent line.new ≡ L.lent line.old }
 {
     let mut session = Session {

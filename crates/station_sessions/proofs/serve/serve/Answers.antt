@@ -2,7 +2,7 @@ use Rattle.std.proofs.Common.{◌≡◌, ℕ, ◌-◌, ◌++◌, [], List, take,
 use Rattle.std.proofs.lemmas.List.{length-append, length-take}
 use Rattle.room_ports.proofs.Fronts.{gives-nothing}
 use Rattle.station_sessions.specs.Outside.{outside}
-use Rattle.station_sessions.proofs.Serves.{serves_none}
+use Rattle.station_sessions.proofs.Serves.{serves_none, written_then}
 use Rattle.station_sessions.proofs.Inputs.{ends_all, ends_cut, piece_cut, too_much, piece_more, take_split, take_fitting, fitting, source_same, sink_same}
 use Rattle.station_sessions.proofs.serve.serve.Goals as goal
 
@@ -145,3 +145,22 @@ pub returns-in-Err-clause-lent : goal.returns-in-Err-clause-lent
 returns-in-Err-clause-lent g c =
     let t = sink_same _ _ _ _ _ _ _ _ (g.met.L.Line.sink_side c.loop-total.line) (g.met.L.Line.sink_side c.read.new.self) c.read.ensures.apart in
     t.2 ∙ c.loop-total.invariant.lent
+
+pub returns-in-Ok-finish-clause-written : goal.returns-in-Ok-finish-clause-written
+returns-in-Ok-finish-clause-written g c =
+    written_then c.args.session.now c.loop-total.session c.finish.new.session _ _ _ _ c.loop-total.invariant.so_far.2.serves c.in-Ok-finish.ensures.ok
+
+pub returns-in-Err-finish-clause-written : goal.returns-in-Err-finish-clause-written
+returns-in-Err-finish-clause-written g c =
+    written_then c.args.session.now c.loop-total.session c.finish.new.session _ _ _ _ c.loop-total.invariant.so_far.2.serves c.in-Err-finish.ensures.err.2
+
+pub returns-in-Err-answer_piece-clause-written : goal.returns-in-Err-answer_piece-clause-written
+returns-in-Err-answer_piece-clause-written g c =
+    written_then c.args.session.now c.loop-total.session c.answer_piece.new.session _ _ _ _ c.loop-total.invariant.so_far.2.serves c.in-Err-answer_piece.ensures.err.2
+
+pub returns-then-fits-n-clause-written : goal.returns-then-fits-n-clause-written
+returns-then-fits-n-clause-written g c =
+    written_then c.args.session.now c.loop-total.session c.answer_piece.new.session _ _ _ _ c.loop-total.invariant.so_far.2.serves c.in-Ok-answer_piece.ensures.ok
+
+pub returns-in-Err-clause-written : goal.returns-in-Err-clause-written
+returns-in-Err-clause-written g c = c.loop-total.invariant.so_far.2.serves.written

@@ -10,3 +10,6 @@ returns-clause-ends g c = λ o is.
 
 pub returns-clause-station : goal.returns-clause-station
 returns-clause-station g c = c.into_pass.ensures.number ∙ c.serve-end.ensures.station
+
+pub returns-clause-written : goal.returns-clause-written
+returns-clause-written g c = rw c.into_pass.ensures.entries (c.serve-end.ensures.written (rw c.requires tt))

@@ -1,0 +1,108 @@
+-- Stations that are seated and stand up, one after the other.
+use Rattle.std.proofs.Common.{◌≡◌, ◌≢◌, ℕ, zero, suc, ◌+◌, ◌<◌, ◌≤◌, ◌⊎◌, inl, inr, Bool, true, false, ◌==◌, List, [], ◌∷◌, ◌++◌, All, length, map, slice_get, Option, Some, None, IfOk, Result, Ok, Err, refl, sym, ap, ◌∙◌, arith, subst, ⊎_elim}
+use Rattle.std.proofs.lemmas.Bool.Decides.{nat_tests}
+use Rattle.std.proofs.lemmas.Option.{none-some, same_Some, slice_get_within}
+use Rattle.edit_apply.specs.declared.asks.Call.{Call}
+use Rattle.room_core.specs.Parts.{numbers}
+use Rattle.room_ports.specs.Counts.{HasRisen}
+use Rattle.room_halls.specs.Stations.{LineTold, Station, CountsSeat, OthersStay, line_told}
+use Rattle.room_halls.specs.declared.hall.HallFault.{HallFault}
+use Rattle.room_halls.specs.declared.hall.HallFault.TheVariants.{Failed, Memory}
+use Rattle.cut_server.specs.declared.status.Status.{Status}
+use Rattle.cut_server.specs.declared.status.Status.TheVariants.{Done, ReadFault, WriteFault, NoCommand, Refused, NotSeated, OutOfMemory, TooMuchInput}
+use Rattle.cut_server.specs.Halls.{HallTold, first_fault, hall_told, line_at, line_of, or_next}
+use Rattle.station_sessions.specs.Outside.{Outside, outside}
+use Rattle.cut_server.specs.Seated.{AreSeated, CountsSeats, IsSeated, SeatState}
+use Rattle.station_sessions.specs.SessionInside.{TrackPass}
+use Rattle.cut_server.proofs.AllStations.{at_place}
+
+-- an element of a list, or the one behind it
+pub one_more : {X : Type 0} (xs : List X) (x y : X) (k : ℕ) → slice_get (xs ++ x ∷ []) k ≡ Some y → (slice_get xs k ≡ Some y) ⊎ ((k ≡ length xs) × (x ≡ y))
+one_more [] x y zero is = inr (refl, same_Some x y is)
+one_more [] x y (suc k) is = absurd (none-some y is)
+one_more (z ∷ zs) x y zero is = inl is
+one_more (z ∷ zs) x y (suc k) is = ⊎_elim (λ e. inl e) (λ p. inr (ap suc p.0, p.1)) (one_more zs x y k is)
+
+-- the element behind these
+pub behind : {X : Type 0} (before : List X) (x : X) (rest : List X) → slice_get (before ++ x ∷ rest) (length before) ≡ Some x
+behind [] x rest = refl
+behind (b ∷ bs) x rest = behind bs x rest
+
+number_of : (ps : List TrackPass) (from count k : ℕ) (p : TrackPass) → map (λ (q : TrackPass). q.number) ps ≡ numbers from count → slice_get ps k ≡ Some p → p.number ≡ from + k
+number_of [] from count k p are is = absurd (none-some p is)
+number_of (q ∷ ps) from zero k p are is = let n = ap length are in absurd (omega (arith, n))
+number_of (q ∷ ps) from (suc count) zero p are is = ap (λ (x : TrackPass). x.number) (sym (same_Some q p is)) ∙ (first_is are ∙ omega arith)
+  where
+    first_is : q.number ∷ map (λ (x : TrackPass). x.number) ps ≡ from ∷ numbers (from + 1) count → q.number ≡ from
+    first_is e = Prim.grind (arith, e)
+number_of (q ∷ ps) from (suc count) (suc k) p are is = number_of ps (from + 1) count k p (rest_are are) is ∙ omega arith
+  where
+    rest_are : q.number ∷ map (λ (x : TrackPass). x.number) ps ≡ from ∷ numbers (from + 1) count → map (λ (x : TrackPass). x.number) ps ≡ numbers (from + 1) count
+    rest_are e = Prim.grind (arith, e)
+
+-- the pass at a place among those of a room that has just been opened
+pub fresh_at : (count : ℕ) (ps before : List TrackPass) (p : TrackPass) (rest : List TrackPass) → map (λ (q : TrackPass). q.number) ps ≡ numbers 0 count → before ++ p ∷ rest ≡ ps
+    → p.number ≡ length before
+fresh_at count ps before p rest are is = number_of ps 0 count (length before) p are (subst (λ (l : List TrackPass). slice_get l (length before) ≡ Some p) is (behind before p rest)) ∙ omega arith
+
+-- a list that goes on
+pub is_within : {X : Type 0} (ps before : List X) (p : X) (rest : List X) → before ++ p ∷ rest ≡ ps → length before < length ps
+is_within ps before p rest is = slice_get_within ps (length before) p (subst (λ l. slice_get l (length before) ≡ Some p) is (behind before p rest))
+
+-- one seat more
+pub seated_more : (hall : HallTold) (seats : List SeatState) (s : SeatState) → AreSeated hall seats → IsSeated hall (length seats) s → AreSeated hall (seats ++ s ∷ [])
+seated_more hall seats s are is k t at =
+    ⊎_elim (λ (e : slice_get seats k ≡ Some t). are k t e) (λ (p : (k ≡ length seats) × (s ≡ t)). subst (λ (x : SeatState). IsSeated hall k x) p.1 (subst (λ (n : ℕ). IsSeated hall n s) (sym p.0) is)) (one_more seats s t k at)
+
+-- what a line tells, by its parts
+pub told_line : (l : LineTold) (left taken : Option (List ℕ)) (reads writes : ℕ) → l ≡ line_told left taken reads writes → outside left reads taken writes ≡ line_of l
+told_line l left taken reads writes is = ap line_of (sym is)
+
+-- the stations below this number are seated
+pub held_more : (before after : ℕ → Station) (n : ℕ) → ((k : ℕ) → k < n → (before k).seated ≡ true) → (after n).seated ≡ true → OthersStay n before after → (k : ℕ) → k < n + 1 → (after k).seated ≡ true
+held_more before after n held seated others k low = at_or (k == n) refl
+  where
+    at_or : (b : Bool) → (k == n) ≡ b → (after k).seated ≡ true
+    at_or true e = let same : k ≡ n = Prim.grind (arith, nat_tests, e) in subst (λ (m : ℕ). (after m).seated ≡ true) (sym same) seated
+    at_or false e =
+        let other : k ≢ n = λ (same : k ≡ n). absurd (Prim.grind (arith, nat_tests, e, same)) in
+        ap (λ (s : Station). s.seated) (others k other) ∙ held k (omega (arith, low, other))
+
+-- the stations from this number on stay
+pub free_more : (first before after : ℕ → Station) (n : ℕ) → ((k : ℕ) → n ≤ k → before k ≡ first k) → OthersStay n before after → (k : ℕ) → n + 1 ≤ k → after k ≡ first k
+free_more first before after n free others k ge = others k (λ (same : k ≡ n). absurd (omega (arith, ge, same))) ∙ free k (omega (arith, ge))
+
+-- a line that stands up
+pub line_more : (before after : ℕ → Station) (seats : List SeatState) (s : SeatState) → ((k : ℕ) (t : SeatState) → slice_get seats k ≡ Some t → line_of (before k).line ≡ t.line)
+    → line_of (after (length seats)).line ≡ s.line → OthersStay (length seats) before after → (k : ℕ) (t : SeatState) → slice_get (seats ++ s ∷ []) k ≡ Some t → line_of (after k).line ≡ t.line
+line_more before after seats s lines here others k t at =
+    ⊎_elim
+    (λ (e : slice_get seats k ≡ Some t). let low = slice_get_within seats k t e in ap (λ (x : Station). line_of x.line) (others k (λ (same : k ≡ length seats). absurd (omega (arith, low, same)))) ∙ lines k t e)
+    (λ (p : (k ≡ length seats) × (s ≡ t)). ap (λ (n : ℕ). line_of (after n).line) p.0 ∙ (here ∙ ap (λ (x : SeatState). x.line) p.1)) (one_more seats s t k at)
+
+-- a station that was not seated
+pub not_seated : {L : Type 0} (r : Result L HallFault) (fault : HallFault) (before mid after : ℕ) → r ≡ Err fault → mid ≡ before → CountsSeat r mid after → CountsSeats (Err fault) before after
+not_seated r Failed before mid after is quiet counts = subst (λ (n : ℕ). HasRisen n after) quiet (subst (λ x. CountsSeat x mid after) is counts)
+not_seated r Memory before mid after is quiet counts = subst (λ x. CountsSeat x mid after) is counts ∙ quiet
+
+-- the first status that is not 0, of one more
+pub fault_more : (ss : List Status) (s : Status) → or_next (first_fault ss) s ≡ first_fault (ss ++ s ∷ [])
+fault_more [] s = one_fault s
+  where
+    one_fault : (s : Status) → s ≡ or_next s Done
+    one_fault Done = refl
+    one_fault ReadFault = refl
+    one_fault WriteFault = refl
+    one_fault NoCommand = refl
+    one_fault Refused = refl
+    one_fault NotSeated = refl
+    one_fault OutOfMemory = refl
+    one_fault TooMuchInput = refl
+fault_more (Done ∷ ss) s = fault_more ss s
+fault_more (ReadFault ∷ ss) s = refl
+fault_more (WriteFault ∷ ss) s = refl
+fault_more (NoCommand ∷ ss) s = refl
+fault_more (Refused ∷ ss) s = refl
+fault_more (NotSeated ∷ ss) s = refl
+fault_more (OutOfMemory ∷ ss) s = refl
+fault_more (TooMuchInput ∷ ss) s = refl
