@@ -237,19 +237,19 @@ journal 4
 fn each_call_may_fail(rt: HostRuntime) -> Result<(), Fail> {
     let alloc = rt.alloc();
     let mut lines: Vec<&[u8]> = Vec::new(alloc);
-    for line in TEN_LINES.as_bytes().split_inclusive(|byte| *byte == b'\n') {
-        lines.push(line)?;
+    for line in TEN_LINES.split_inclusive('\n') {
+        lines.push(line.as_bytes())?;
     }
     let mut wanted = Vec::new(alloc);
     let mut call = 1u32;
-    for reply in TEN_REPLIES.as_bytes().split_inclusive(|byte| *byte == b'\n') {
+    for reply in TEN_REPLIES.split_inclusive('\n') {
         let (read, before) = ended(&rt, alloc, &["run", "2", "1"], &lines, &[call], &[])?;
         assert_eq!(rt; read, 1, "read {call}");
         assert_eq!(rt; before.as_slice(), wanted.as_slice(), "read {call}");
         let (write, front) = ended(&rt, alloc, &["run", "2", "1"], &lines, &[], &[call])?;
         assert_eq!(rt; write, 2, "write {call}");
         assert_eq!(rt; front.as_slice(), wanted.as_slice(), "write {call}");
-        wanted.extend_from_slice(reply)?;
+        wanted.extend_from_slice(reply.as_bytes())?;
         call = call.saturating_add(1);
     }
     let (write, front) = ended(&rt, alloc, &["run", "2", "1"], &lines, &[], &[call])?;
