@@ -1,5 +1,5 @@
 -- The closed room's journal tells what each of several stations was answered.
-use Rattle.std.proofs.Common.{◌≡◌, ℕ, zero, suc, ◌+◌, ◌<◌, ◌≤◌, ◌⊎◌, inl, inr, Bool, true, false, cond, ◌==◌, List, [], ◌∷◌, ◌++◌, All, length, map, slice_get, Option, Some, None, option_map, refl, sym, ap, ◌∙◌, arith, subst, ⊎_elim}
+use Rattle.std.proofs.Common.{◌≡◌, ℕ, zero, suc, ◌+◌, ◌<◌, ◌≤◌, ◌⊎◌, inl, inr, Bool, true, false, cond, ◌==◌, List, [], ◌∷◌, ◌++◌, All, length, map, slice_get, Option, Some, None, IsSome, option_map, refl, sym, ap, ◌∙◌, arith, subst, ⊎_elim}
 use Rattle.std.proofs.lemmas.Bool.Decides.{nat_tests}
 use Rattle.std.proofs.lemmas.List.{length-map}
 use Rattle.std.proofs.lemmas.Option.{none-some, same_Some, slice_get-map, slice_get_within, get_or_from_slice_get}
@@ -19,15 +19,18 @@ use Rattle.call_text.specs.CallTexts.{IsWritten}
 use Rattle.otio_json.specs.declared.opening.Opening.{Opening}
 use Rattle.station_sessions.specs.declared.serve.End.{End}
 use Rattle.cut_server.specs.Closed.{Closes}
-use Rattle.cut_server.specs.Halls.{HallTold, TellsStation, AreServed, line_at}
+use Rattle.cut_server.specs.Documents.{FilesTold}
+use Rattle.cut_server.specs.declared.status.Status.{Status}
+use Rattle.cut_server.specs.Halls.{HallTold, TellsStation, AreServed, FileEnds, HasServed, first_fault, line_at, or_next, status_of}
 use Rattle.station_sessions.specs.Outside.{Outside}
 use Rattle.station_sessions.specs.Rooms.{History, Setting, AreWritten, RoomTranscript, IsLegalIn, room_of, setting_of}
-use Rattle.cut_server.specs.Seated.{AreSeated, IsSeated, PassServed, PassesServed, SeatServed, SeatState, HasNumber, SameStation}
+use Rattle.cut_server.specs.Seated.{AreSeated, IsServedIn, PassServed, PassesServed, SeatState, HasNumber, SameStation}
 use Rattle.station_sessions.specs.Served.{IsRoomOf, Knows}
 use Rattle.station_sessions.specs.Serving.{SessionEnds}
 use Rattle.station_sessions.specs.SessionInside.{TrackPass, TrackRoom}
 use Rattle.cut_server.specs.Stations.{AreOfStations}
-use Rattle.cut_server.proofs.Telling.{session_told}
+use Rattle.cut_server.proofs.Seating.{at_place, fault_more}
+use Rattle.station_sessions.proofs.Knowing.{session_told}
 use Rattle.station_sessions.proofs.Transcripts.{transcript_more}
 
 -- ---- entries that can be written
@@ -66,9 +69,6 @@ station_ends o stations s g h old new e c ended =
 
 -- ---- elements by their places
 
-pub at_place : {X : Type 0} (P : X → Type 0) (xs : List X) (k : ℕ) (x : X) → All P xs → slice_get xs k ≡ Some x → P x
-at_place P xs k x all is = subst P (get_or_from_slice_get xs k x x is) (all k x (slice_get_within xs k x is))
-
 pub some_at : {X : Type 0} (xs : List X) (k : ℕ) → k < length xs → (x : X) × (slice_get xs k ≡ Some x)
 some_at [] k low = absurd (omega (arith, low))
 some_at (x ∷ xs) zero low = (x, refl)
@@ -79,6 +79,14 @@ some_of : {X : Type 0} (a : Option X) (b : Option X) (x : X) → option_map Some
 some_of None b x is e = absurd (none-some b is)
 some_of (Some y) b x is e = same_Some (Some y) b is ∙ e
 
+-- the pass that was kept of a seat
+pass_there : (passes : List TrackPass) (seats : List SeatState) (k : ℕ) (t : SeatState) (p : TrackPass) → map Some passes ≡ map (λ (s : SeatState). s.pass) seats
+    → slice_get seats k ≡ Some t → slice_get passes k ≡ Some p → Some p ≡ t.pass
+pass_there passes seats k t p are at is =
+    let there : option_map Some (slice_get passes k) ≡ Some t.pass =
+    sym (slice_get-map Some passes k) ∙ (ap (λ (l : List (Option TrackPass)). slice_get l k) are ∙ (slice_get-map (λ (s : SeatState). s.pass) seats k ∙ ap (option_map (λ (s : SeatState). s.pass)) at)) in
+    same_Some (Some p) t.pass (sym (ap (option_map Some) is) ∙ there)
+
 -- the passes that were kept of these seats
 pub pass_at : (passes : List TrackPass) (seats : List SeatState) (k : ℕ) (t : SeatState) (p : TrackPass) → map Some passes ≡ map (λ (s : SeatState). s.pass) seats
     → slice_get seats k ≡ Some t → t.pass ≡ Some p → slice_get passes k ≡ Some p
@@ -88,7 +96,7 @@ pass_at passes seats k t p are at is =
     some_of (slice_get passes k) t.pass p there is
 
 pub as_many : (passes : List TrackPass) (seats : List SeatState) → map Some passes ≡ map (λ (s : SeatState). s.pass) seats → length passes ≡ length seats
-as_many passes seats are = sym (length-map Some passes) ∙ (ap length are ∙ length-map (λ (s : SeatState). s.pass) seats)
+as_many passes seats are = sym (length-map passes Some) ∙ (ap length are ∙ length-map seats (λ (s : SeatState). s.pass))
 
 -- the number of a place
 pub in_range : (ps : List TrackPass) (from s : ℕ) → ((k : ℕ) (p : TrackPass) → slice_get ps k ≡ Some p → p.number ≡ from + k) → In s (map (λ (p : TrackPass). p.number) ps) → s < from + length ps
@@ -138,6 +146,11 @@ is_closed o room counting start passes h is legal agree stations =
       stations = stations;
     }
 
+pub some_end : (l : List SeatState) (n : ℕ) (e : End) → slice_get (map (λ (s : SeatState). s.end) l) n ≡ Some e → (t : SeatState) × (slice_get l n ≡ Some t) × (t.end ≡ e)
+some_end [] n e at = absurd (none-some e at)
+some_end (x ∷ xs) zero e at = (x, refl, same_Some x.end e at)
+some_end (x ∷ xs) (suc n) e at = some_end xs n e at
+
 pub of_stations : (stations : ℕ) (ns : List ℕ) (h : List (Entry Call)) → ((s : ℕ) → In s ns → s < stations) → All (λ (e : Entry Call). In e.station ns) h → AreOfStations stations h
 of_stations stations ns [] low all = tt
 of_stations stations ns (e ∷ es) low all =
@@ -147,81 +160,123 @@ of_stations stations ns (e ∷ es) low all =
 -- ---- all stations
 
 -- The seats of so many stations, each served over its line, which was as the hall told of it before and is as it tells
--- after, and the passes that were kept of them, with which the room was closed.
-pub record AllKept (o : Opening) (stations : ℕ) (before after : HallTold) (seats left : List SeatState) (passes : List TrackPass) (h : History) : Type 0 where
+-- after, and the passes that were kept of them.
+pub record AllKept (room : TrackRoom) (counting : Counted) (start stations : ℕ) (before after : HallTold) (seats left : List SeatState) (passes : List TrackPass) : Type 0 where
   pub count : length seats ≡ stations
   pub all : length left ≡ length seats
   pub seated : AreSeated before seats
-  pub served : (k : ℕ) (s t : SeatState) → slice_get seats k ≡ Some s → slice_get left k ≡ Some t → SeatServed o s t
+  pub served : (k : ℕ) (s t : SeatState) → slice_get seats k ≡ Some s → slice_get left k ≡ Some t → IsServedIn room counting start s t
   pub lines : (k : ℕ) (t : SeatState) → slice_get left k ≡ Some t → line_at after k ≡ t.line
   pub kept : map Some passes ≡ map (λ (s : SeatState). s.pass) left
-  pub closed : IsClosed o passes h
 
-module _ (o : Opening) (stations : ℕ) (before after : HallTold) (seats left : List SeatState) (passes : List TrackPass) (h : History) (a : AllKept o stations before after seats left passes h) where
-  -- the seat at a place, before
-  seat_at : (k : ℕ) (t : SeatState) → slice_get left k ≡ Some t → (s : SeatState) × (slice_get seats k ≡ Some s)
-  seat_at k t at =
-      let n = slice_get_within left k t at in some_at seats k (omega (arith, n, a.all))
+same_number : (a b : Option TrackPass) (p : TrackPass) → a ≡ Some p → SameStation a b → HasNumber p.number b
+same_number None b p is same = absurd (none-some p is)
+same_number (Some q) None p is same = absurd same
+same_number (Some q) (Some r) p is same = same ∙ ap (λ (x : TrackPass). x.number) (same_Some q p is)
 
-  pass_of : (k : ℕ) (t : SeatState) → slice_get left k ≡ Some t → (p : TrackPass) × (slice_get passes k ≡ Some p) × (p.number ≡ k)
-      × SessionEnds (Knows o k p.entries) (line_at before k) (line_at after k) t.end × AreWritten (of_station k p.entries)
-  pass_of k t at =
-      let s = seat_at k t at in
-      let m = a.seated k s.0 s.1 in
-      let p = pass_kept o s.0.pass t.pass m.pass s.0.line t.line t.end m.pass_is (a.served k s.0 t s.1 at) in
-      let ends = p.served.ends in (
-        p.after,
-        pass_at passes left k t p.after a.kept at p.after_is,
-        p.served.number ∙ m.number_is,
-        subst (λ (n : ℕ). SessionEnds (Knows o n p.after.entries) (line_at before k) (line_at after k) t.end) m.number_is
-            (subst (λ (l : Outside). SessionEnds (Knows o m.pass.number p.after.entries) l (line_at after k) t.end) m.line
-            (subst (λ (l : Outside). SessionEnds (Knows o m.pass.number p.after.entries) s.0.line l t.end) (sym (a.lines k t at)) ends)),
-        subst (λ (n : ℕ). AreWritten (of_station n p.after.entries)) m.number_is p.served.written,
-      )
+pub number_is : (b : Option TrackPass) (p : TrackPass) (n : ℕ) → b ≡ Some p → HasNumber n b → p.number ≡ n
+number_is None p n is has = absurd has
+number_is (Some q) p n is has = ap (λ (x : TrackPass). x.number) (sym (same_Some q p is)) ∙ has
 
-  numbered : (k : ℕ) (p : TrackPass) → slice_get passes k ≡ Some p → p.number ≡ k
+pub has_pass : (number : ℕ) (a : Option TrackPass) → HasNumber number a → IsSome a
+has_pass number None has = absurd has
+has_pass number (Some p) has = tt
+
+-- the numbers of the stations when they have been served
+pub numbers_left : (room : TrackRoom) (counting : Counted) (start : ℕ) (before : HallTold) (seats left : List SeatState) → length left ≡ length seats → AreSeated before seats
+    → ((k : ℕ) (s t : SeatState) → slice_get seats k ≡ Some s → slice_get left k ≡ Some t → IsServedIn room counting start s t)
+    → (k : ℕ) (t : SeatState) → slice_get left k ≡ Some t → HasNumber k t.pass
+numbers_left room counting start before seats left all seated served k t at =
+    let n = slice_get_within left k t at in
+    let s = some_at seats k (omega (arith, n, all)) in
+    let m = seated k s.0 s.1 in
+    subst (λ (x : ℕ). HasNumber x t.pass) m.number_is (same_number s.0.pass t.pass m.pass m.pass_is (served k s.0 t s.1 at).0)
+
+module _ (room : TrackRoom) (counting : Counted) (start stations : ℕ) (before after : HallTold) (seats left : List SeatState) (passes : List TrackPass) (a : AllKept room counting start stations before after seats left passes) where
+  pub numbered : (k : ℕ) (p : TrackPass) → slice_get passes k ≡ Some p → p.number ≡ k
   numbered k p at =
       let low : k < length left = let n = slice_get_within passes k p at in omega (arith, n, as_many passes left a.kept) in
-      let one = some_at left k low in
-      let q = pass_of k one.0 one.1 in
-      ap (λ (x : TrackPass). x.number) (same_Some p q.0 (sym at ∙ q.1)) ∙ q.2
-
-  seated : AreOfStations stations h
-  seated = of_stations stations (map (λ (p : TrackPass). p.number) passes) h
-      (λ s i. let low = in_range passes 0 s (λ k p at. let n = numbered k p at in omega (arith, n)) i in omega (arith, low, as_many passes left a.kept, a.all, a.count)) a.closed.stations
-
-  pub station_told : (k : ℕ) (t : SeatState) → slice_get left k ≡ Some t → IsTold o stations h k (line_at before k) (line_at after k) t.end
-  station_told k t at =
-      let p = pass_of k t at in
-      let agrees : Agrees (editing o.table).names h (Station k) p.0.entries =
-      subst (λ (n : ℕ). Agrees (editing o.table).names h (Station n) p.0.entries) p.2 (at_place (λ (q : TrackPass). Agrees (editing o.table).names h (Station q.number) q.entries) passes k p.0 a.closed.agree p.1) in
-      record {
-        known = p.0.entries;
-        closes = record { legal = a.closed.legal; seated = seated; more = agrees.front.0; journal = agrees.front.1; own = sym agrees.same };
-        ends = p.3;
-        written = p.4;
-      }
-
-  written : AreWritten h
-  written = all_written stations h seated (λ s low. one s (some_at left s (omega (arith, low, a.all, a.count))))
+      let t = some_at left k low in
+      let has = numbers_left room counting start before seats left a.all a.seated a.served k t.0 t.1 in
+      number_is t.0.pass p k (there t.0 t.1) has
     where
-      one : (s : ℕ) → (t : SeatState) × (slice_get left s ≡ Some t) → AreWritten (of_station s h)
-      one s t = let told = station_told s t.0 t.1 in subst AreWritten (sym told.closes.own) told.written
+      there : (t : SeatState) → slice_get left k ≡ Some t → t.pass ≡ Some p
+      there t is = sym (pass_there passes left k t p a.kept is at)
 
-  pub all_served : AreServed o stations h before after (map (λ (s : SeatState). s.end) left)
-  all_served = record {
-    legal = a.closed.legal;
-    seated = seated;
-    written = written;
-    count = length-map (λ (s : SeatState). s.end) left ∙ (a.all ∙ a.count);
-    each = λ s e at. end_at s e (some_end left s e at);
-  }
-    where
-      some_end : (l : List SeatState) (n : ℕ) (e : End) → slice_get (map (λ (s : SeatState). s.end) l) n ≡ Some e → (t : SeatState) × (slice_get l n ≡ Some t) × (t.end ≡ e)
-      some_end [] n e at = absurd (none-some e at)
-      some_end (x ∷ xs) zero e at = (x, refl, same_Some x.end e at)
-      some_end (x ∷ xs) (suc n) e at = some_end xs n e at
-      end_at : (s : ℕ) (e : End) → (t : SeatState) × (slice_get left s ≡ Some t) × (t.end ≡ e) → SessionEnds (TellsStation o h s) (line_at before s) (line_at after s) e
-      end_at s e t =
-          let told = station_told s t.0 t.1 in
-          subst (λ (x : End). SessionEnds (TellsStation o h s) (line_at before s) (line_at after s) x) t.2 (station_ends o stations s told.known h (line_at before s) (line_at after s) t.0.end told.closes told.ends)
+  -- each station is among them
+  pub all_in : (s : ℕ) → s < stations → In s (map (λ (p : TrackPass). p.number) passes)
+  all_in s low =
+      let p = some_at passes s (omega (arith, low, as_many passes left a.kept, a.all, a.count)) in
+      subst (λ (n : ℕ). In n (map (λ (q : TrackPass). q.number) passes)) (numbered s p.0 p.1) (has_number passes s p.0 p.1)
+
+  module _ (o : Opening) (h : History) (is : IsRoomOf o room counting start) (closed : IsClosed o passes h) where
+    pass_of : (k : ℕ) (t : SeatState) → slice_get left k ≡ Some t → (p : TrackPass) × (slice_get passes k ≡ Some p) × (p.number ≡ k)
+        × SessionEnds (Knows o k p.entries) (line_at before k) (line_at after k) t.end × AreWritten (of_station k p.entries)
+    pass_of k t at =
+        let n = slice_get_within left k t at in
+        let s = some_at seats k (omega (arith, n, a.all)) in
+        let m = a.seated k s.0 s.1 in
+        let p = pass_kept o s.0.pass t.pass m.pass s.0.line t.line t.end m.pass_is ((a.served k s.0 t s.1 at).1 o is) in (
+          p.after,
+          pass_at passes left k t p.after a.kept at p.after_is,
+          p.served.number ∙ m.number_is,
+          subst (λ (x : ℕ). SessionEnds (Knows o x p.after.entries) (line_at before k) (line_at after k) t.end) m.number_is
+              (subst (λ (l : Outside). SessionEnds (Knows o m.pass.number p.after.entries) l (line_at after k) t.end) m.line
+              (subst (λ (l : Outside). SessionEnds (Knows o m.pass.number p.after.entries) s.0.line l t.end) (sym (a.lines k t at)) p.served.ends)),
+          subst (λ (x : ℕ). AreWritten (of_station x p.after.entries)) m.number_is p.served.written,
+        )
+
+    of_seats : AreOfStations stations h
+    of_seats = of_stations stations (map (λ (p : TrackPass). p.number) passes) h
+        (λ s i. let low = in_range passes 0 s (λ k p at. let n = numbered k p at in omega (arith, n)) i in omega (arith, low, as_many passes left a.kept, a.all, a.count)) closed.stations
+
+    station_told : (k : ℕ) (t : SeatState) → slice_get left k ≡ Some t → IsTold o stations h k (line_at before k) (line_at after k) t.end
+    station_told k t at =
+        let p = pass_of k t at in
+        let agrees : Agrees (editing o.table).names h (Station k) p.0.entries =
+        subst (λ (n : ℕ). Agrees (editing o.table).names h (Station n) p.0.entries) p.2 (at_place (λ (q : TrackPass). Agrees (editing o.table).names h (Station q.number) q.entries) passes k p.0 closed.agree p.1) in
+        record {
+          known = p.0.entries;
+          closes = record { legal = closed.legal; seated = of_seats; more = agrees.front.0; journal = agrees.front.1; own = sym agrees.same };
+          ends = p.3;
+          written = p.4;
+        }
+
+    written : AreWritten h
+    written = all_written stations h of_seats (λ s low. one s (some_at left s (omega (arith, low, a.all, a.count))))
+      where
+        one : (s : ℕ) → (t : SeatState) × (slice_get left s ≡ Some t) → AreWritten (of_station s h)
+        one s t = let told = station_told s t.0 t.1 in subst AreWritten (sym told.closes.own) told.written
+
+    pub all_served : AreServed o stations h before after (map (λ (s : SeatState). s.end) left)
+    all_served = record {
+      legal = closed.legal;
+      seated = of_seats;
+      written = written;
+      count = length-map left (λ (s : SeatState). s.end) ∙ (a.all ∙ a.count);
+      each = λ s e at. end_at s e (some_end left s e at);
+    }
+      where
+        end_at : (s : ℕ) (e : End) → (t : SeatState) × (slice_get left s ≡ Some t) × (t.end ≡ e) → SessionEnds (TellsStation o h s) (line_at before s) (line_at after s) e
+        end_at s e t =
+            let told = station_told s t.0 t.1 in
+            subst (λ (x : End). SessionEnds (TellsStation o h s) (line_at before s) (line_at after s) x) t.2 (station_ends o stations s told.known h (line_at before s) (line_at after s) t.0.end told.closes told.ends)
+
+-- the statuses of the sessions, and of one more
+pub ends_more : (seats : List SeatState) (s : SeatState) → map status_of (map (λ (t : SeatState). t.end) (seats ++ s ∷ [])) ≡ map status_of (map (λ (t : SeatState). t.end) seats) ++ status_of s.end ∷ []
+ends_more [] s = refl
+ends_more (t ∷ ts) s = ap (λ (ss : List Status). status_of t.end ∷ ss) (ends_more ts s)
+
+-- all have been served, and the journal is kept
+pub has_served : (o : Opening) (stations : ℕ) (name : List ℕ) (old new : FilesTold) (Unfiled : Type 0) (before after : HallTold) (ends : List End) (h : History) (fault kept status : Status)
+    → AreServed o stations h before after ends → after.faults ≡ before.faults → FileEnds name h old new Unfiled kept → fault ≡ first_fault (map status_of ends) → status ≡ or_next fault kept
+    → HasServed o stations name old new Unfiled before after status
+has_served o stations name old new Unfiled before after ends h fault kept status served quiet file first is = record {
+  journal = h;
+  ends = ends;
+  kept = kept;
+  served = served;
+  quiet = quiet;
+  file = file;
+  status_is = is ∙ (ap (λ (s : Status). or_next s kept) first ∙ fault_more (map status_of ends) kept);
+}

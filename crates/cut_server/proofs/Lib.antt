@@ -4,5 +4,5 @@ pub mod Telling
 pub mod DocumentRuns
 pub mod HallRuns
 pub mod Closing
-pub mod AllStations
 pub mod Seating
+pub mod AllStations

@@ -1,7 +1,7 @@
 -- Stations that are seated and stand up, one after the other.
 use Rattle.std.proofs.Common.{◌≡◌, ◌≢◌, ℕ, zero, suc, ◌+◌, ◌<◌, ◌≤◌, ◌⊎◌, inl, inr, Bool, true, false, ◌==◌, List, [], ◌∷◌, ◌++◌, All, length, map, slice_get, Option, Some, None, IfOk, Result, Ok, Err, refl, sym, ap, ◌∙◌, arith, subst, ⊎_elim}
 use Rattle.std.proofs.lemmas.Bool.Decides.{nat_tests}
-use Rattle.std.proofs.lemmas.Option.{none-some, same_Some, slice_get_within}
+use Rattle.std.proofs.lemmas.Option.{none-some, same_Some, slice_get_within, get_or_from_slice_get}
 use Rattle.edit_apply.specs.declared.asks.Call.{Call}
 use Rattle.room_core.specs.Parts.{numbers}
 use Rattle.room_ports.specs.Counts.{HasRisen}
@@ -13,8 +13,10 @@ use Rattle.cut_server.specs.declared.status.Status.TheVariants.{Done, ReadFault,
 use Rattle.cut_server.specs.Halls.{HallTold, first_fault, hall_told, line_at, line_of, or_next}
 use Rattle.station_sessions.specs.Outside.{Outside, outside}
 use Rattle.cut_server.specs.Seated.{AreSeated, CountsSeats, IsSeated, SeatState}
-use Rattle.station_sessions.specs.SessionInside.{TrackPass}
-use Rattle.cut_server.proofs.AllStations.{at_place}
+use Rattle.station_sessions.specs.SessionInside.{TrackPass, TrackRoom}
+
+pub at_place : {X : Type 0} (P : X → Type 0) (xs : List X) (k : ℕ) (x : X) → All P xs → slice_get xs k ≡ Some x → P x
+at_place P xs k x all is = subst P (get_or_from_slice_get xs k x x is) (all k x (slice_get_within xs k x is))
 
 -- an element of a list, or the one behind it
 pub one_more : {X : Type 0} (xs : List X) (x y : X) (k : ℕ) → slice_get (xs ++ x ∷ []) k ≡ Some y → (slice_get xs k ≡ Some y) ⊎ ((k ≡ length xs) × (x ≡ y))
@@ -27,6 +29,9 @@ one_more (z ∷ zs) x y (suc k) is = ⊎_elim (λ e. inl e) (λ p. inr (ap suc p
 pub behind : {X : Type 0} (before : List X) (x : X) (rest : List X) → slice_get (before ++ x ∷ rest) (length before) ≡ Some x
 behind [] x rest = refl
 behind (b ∷ bs) x rest = behind bs x rest
+
+pub behind_at : {X : Type 0} (xs before : List X) (x : X) (rest : List X) → before ++ x ∷ rest ≡ xs → slice_get xs (length before) ≡ Some x
+behind_at xs before x rest is = subst (λ l. slice_get l (length before) ≡ Some x) is (behind before x rest)
 
 number_of : (ps : List TrackPass) (from count k : ℕ) (p : TrackPass) → map (λ (q : TrackPass). q.number) ps ≡ numbers from count → slice_get ps k ≡ Some p → p.number ≡ from + k
 number_of [] from count k p are is = absurd (none-some p is)
@@ -43,11 +48,16 @@ number_of (q ∷ ps) from (suc count) (suc k) p are is = number_of ps (from + 1)
 -- the pass at a place among those of a room that has just been opened
 pub fresh_at : (count : ℕ) (ps before : List TrackPass) (p : TrackPass) (rest : List TrackPass) → map (λ (q : TrackPass). q.number) ps ≡ numbers 0 count → before ++ p ∷ rest ≡ ps
     → p.number ≡ length before
-fresh_at count ps before p rest are is = number_of ps 0 count (length before) p are (subst (λ (l : List TrackPass). slice_get l (length before) ≡ Some p) is (behind before p rest)) ∙ omega arith
+fresh_at count ps before p rest are is = number_of ps 0 count (length before) p are (behind_at ps before p rest is) ∙ omega arith
 
 -- a list that goes on
 pub is_within : {X : Type 0} (ps before : List X) (p : X) (rest : List X) → before ++ p ∷ rest ≡ ps → length before < length ps
-is_within ps before p rest is = slice_get_within ps (length before) p (subst (λ l. slice_get l (length before) ≡ Some p) is (behind before p rest))
+is_within ps before p rest is = slice_get_within ps (length before) p (behind_at ps before p rest is)
+
+-- no entry is known to a pass of a room that has just been opened
+pub fresh_none : (opening : Option TrackRoom) (ps before : List TrackPass) (p : TrackPass) (rest : List TrackPass) → All (λ (t : TrackPass). (t.opening ≡ opening) × (t.entries ≡ [])) ps
+    → before ++ p ∷ rest ≡ ps → p.entries ≡ []
+fresh_none opening ps before p rest all is = (at_place (λ (t : TrackPass). (t.opening ≡ opening) × (t.entries ≡ [])) ps (length before) p all (behind_at ps before p rest is)).1
 
 -- one seat more
 pub seated_more : (hall : HallTold) (seats : List SeatState) (s : SeatState) → AreSeated hall seats → IsSeated hall (length seats) s → AreSeated hall (seats ++ s ∷ [])
@@ -71,6 +81,26 @@ held_more before after n held seated others k low = at_or (k == n) refl
 -- the stations from this number on stay
 pub free_more : (first before after : ℕ → Station) (n : ℕ) → ((k : ℕ) → n ≤ k → before k ≡ first k) → OthersStay n before after → (k : ℕ) → n + 1 ≤ k → after k ≡ first k
 free_more first before after n free others k ge = others k (λ (same : k ≡ n). absurd (omega (arith, ge, same))) ∙ free k (omega (arith, ge))
+
+-- the stations stay seated where one stands up
+pub held_on : (before after : ℕ → Station) (n most : ℕ) → ((k : ℕ) → k < most → (before k).seated ≡ true) → (after n).seated ≡ true → OthersStay n before after → (k : ℕ) → k < most → (after k).seated ≡ true
+held_on before after n most held seated others k low = at_or (k == n) refl
+  where
+    at_or : (b : Bool) → (k == n) ≡ b → (after k).seated ≡ true
+    at_or true e = let same : k ≡ n = Prim.grind (arith, nat_tests, e) in subst (λ (m : ℕ). (after m).seated ≡ true) (sym same) seated
+    at_or false e =
+        let other : k ≢ n = λ (same : k ≡ n). absurd (Prim.grind (arith, nat_tests, e, same)) in
+        ap (λ (s : Station). s.seated) (others k other) ∙ held k low
+
+pub map_more : {X Y : Type 0} (f : X → Y) (xs : List X) (x : X) → map f (xs ++ x ∷ []) ≡ map f xs ++ f x ∷ []
+map_more f [] x = refl
+map_more f (y ∷ ys) x = ap (λ l. f y ∷ l) (map_more f ys x)
+
+-- the pass of one seat more
+pub passes_more : (passes : List TrackPass) (seats : List SeatState) (p : TrackPass) (s : SeatState) → map Some passes ≡ map (λ (t : SeatState). t.pass) seats → s.pass ≡ Some p
+    → map Some (passes ++ p ∷ []) ≡ map (λ (t : SeatState). t.pass) (seats ++ s ∷ [])
+passes_more passes seats p s are is =
+    map_more Some passes p ∙ (ap (λ (l : List (Option TrackPass)). l ++ Some p ∷ []) are ∙ (ap (λ (o : Option TrackPass). map (λ (t : SeatState). t.pass) seats ++ o ∷ []) (sym is) ∙ sym (map_more (λ (t : SeatState). t.pass) seats s)))
 
 -- a line that stands up
 pub line_more : (before after : ℕ → Station) (seats : List SeatState) (s : SeatState) → ((k : ℕ) (t : SeatState) → slice_get seats k ≡ Some t → line_of (before k).line ≡ t.line)

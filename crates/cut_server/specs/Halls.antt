@@ -98,19 +98,22 @@ module _ (o : Opening) (stations : ℕ) (name : List ℕ) (before after : FilesT
     pub file : FileEnds name journal before after Unfiled kept
     pub status_is : status ≡ first_fault (map status_of ends ++ kept ∷ [])
 
-  -- no session was begun and no file written
+  -- no line was read or written, and no file written
   pub record IsUnserved : Type 0 where
     pub unheard : Unheard old new
     pub unfiled : Unfiled
 
-  abbrev pub HallEnds : Status → Type 0
-  HallEnds Done = HasServed Done
-  HallEnds ReadFault = HasServed ReadFault
-  HallEnds WriteFault = HasServed WriteFault
-  HallEnds NoCommand = ⊥
-  HallEnds Refused = ⊥
+  -- no session was begun
+  abbrev pub EndsUnserved : Status → Type 0
+  EndsUnserved Done = ⊥
+  EndsUnserved ReadFault = ⊥
+  EndsUnserved WriteFault = ⊥
+  EndsUnserved NoCommand = ⊥
+  EndsUnserved Refused = ⊥
   -- the hall was not opened, or a station not seated
-  HallEnds NotSeated = HasRisen old.faults new.faults × IsUnserved
-  -- there was none to begin with, or each session has ended and there was none for the journal's text
-  HallEnds OutOfMemory = ((new.faults ≡ old.faults) × IsUnserved) ⊎ HasServed OutOfMemory
-  HallEnds TooMuchInput = HasServed TooMuchInput
+  EndsUnserved NotSeated = HasRisen old.faults new.faults × IsUnserved
+  EndsUnserved OutOfMemory = (new.faults ≡ old.faults) × IsUnserved
+  EndsUnserved TooMuchInput = ⊥
+
+  abbrev pub HallEnds : Status → Type 0
+  HallEnds status = HasServed status ⊎ EndsUnserved status

@@ -37,6 +37,39 @@ impl<L: Line, J: Naming<Editor, Track>> Model for Seat<L, J> {
     } };
 }
 
+impl<L: Line, J: Naming<Editor, Track>> Seat<L, J> {
+    ghost use Rattle.std.specs.Prelude.{◌≡◌, Some, IsSome};
+    ghost use Rattle.station_sessions.specs.Outside.{outside};
+
+    /// A station before its session.
+    pub(crate) fn new(pass: Pass<Editor, J>, line: L) -> Seat<L, J>
+        ensures pass { result.pass ≡ Some pass }
+        ensures line { result.line
+            ≡ outside (L.left line) (L.read_faults line) (L.taken line) (L.write_faults line) }
+    {
+        Seat {
+            pass: Some(pass),
+            line,
+            end: End::Ended,
+        }
+    }
+
+    /// Its pass, its line, and how its session ended.
+    pub(crate) fn into_parts(self) -> (Pass<Editor, J>, L, End)
+        requires { IsSome self.pass }
+        ensures pass { self.pass ≡ Some result.0 }
+        ensures line { self.line ≡ outside (L.left result.1) (L.read_faults result.1)
+            (L.taken result.1) (L.write_faults result.1) }
+        ensures end { result.2 ≡ self.end }
+    {
+        let Seat { pass, line, end } = self;
+        match pass {
+            Some(pass) => (pass, line, end),
+            None => unreachable!(),
+        }
+    }
+}
+
 // Serves the session of one station.
 fn serve_seat<R: Wait, G: Gate, J: Naming<Editor, Track>, L: HallLine>(
     rt: &R,

@@ -69,11 +69,7 @@ fn seat_all<H: Hall, J: Naming<Editor, Track>>(
     for pass in passes {
         let station = pass.station();
         match hall.seat_station(alloc, station) {
-            Ok(line) => seats.push_reserved(Seat {
-                pass: Some(pass),
-                line,
-                end: End::Ended,
-            }),
+            Ok(line) => seats.push_reserved(Seat::new(pass, line)),
             Err(fault) => return Err(fault),
         }
     }
@@ -96,19 +92,14 @@ fn stand_all_up<H: Hall, J: Naming<Editor, Track>>(
         → line_of (H.told hall.new k).line ≡ s.line }
     ensures free { (k : ℕ) → length seats.items ≤ k → H.told hall.new k ≡ H.told hall.old k }
     ensures passes { map Some passes.new.items ≡ map (λ s. s.pass) seats.items }
-    ensures fault { result ≡ first_fault (map (λ s. status_of s.end) seats.items) }
+    ensures fault { result ≡ first_fault (map status_of (map (λ s. s.end) seats.items)) }
     ensures quiet { H.faults hall.new ≡ H.faults hall.old }
 {
     let mut fault = Status::Done;
     for seat in seats {
-        let Seat { pass, line, end } = seat;
-        match pass {
-            Some(pass) => {
-                hall.stand_up(pass.station(), line);
-                passes.push_reserved(pass);
-            }
-            None => unreachable!(),
-        }
+        let (pass, line, end) = seat.into_parts();
+        hall.stand_up(pass.station(), line);
+        passes.push_reserved(pass);
         fault = or_next(fault, status_of(end));
     }
     fault

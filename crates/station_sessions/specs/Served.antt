@@ -43,6 +43,10 @@ pub record IsFresh (o : Opening) (number : ℕ) (s : SessionState) : Type 0 wher
   pub journal : s.course.journal ≡ []
   pub line : s.course.line ≡ 1
 
+-- where the station's own entries could be written, they still can
+abbrev pub StaysWritten : SessionState → SessionState → Type 0
+StaysWritten old new = AreWritten (of_station old.station old.course.journal) → AreWritten (of_station old.station new.course.journal)
+
 -- a session answered these lines, as a station of its room
 pub record ServesTo (old new : SessionState) (lines : List InputLine) (Taken : List (List ℕ) → Type 0) : Type 0 where
   pub setting : new.setting ≡ old.setting

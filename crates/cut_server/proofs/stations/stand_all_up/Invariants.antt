@@ -12,6 +12,6 @@ invariant-loop-seat g l = record {
   lines : (k : ℕ) (s : SeatState) → slice_get l.yielded k ≡ Some s → line_of (g.H.Hall.told l.hall k).line ≡ s.line;
   free : (k : ℕ) → length l.yielded ≤ k → g.H.Hall.told l.hall k ≡ g.H.Hall.told l.fn.hall k;
   kept : map Some l.passes.items ≡ map (λ (s : SeatState). s.pass) l.yielded;
-  fault : l.fault ≡ first_fault (map (λ (s : SeatState). status_of s.end) l.yielded);
+  fault : l.fault ≡ first_fault (map status_of (map (λ (s : SeatState). s.end) l.yielded));
   quiet : g.H.Hall.faults l.hall ≡ g.H.Hall.faults l.fn.hall;
 }
