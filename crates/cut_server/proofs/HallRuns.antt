@@ -8,7 +8,7 @@ use Rattle.otio_json.specs.declared.opening.Opening.{Opening}
 use Rattle.cut_server.specs.declared.status.Status.{Status}
 use Rattle.cut_server.specs.declared.status.Status.TheVariants.{Done, ReadFault, WriteFault, NoCommand, Refused, NotSeated, OutOfMemory, TooMuchInput}
 use Rattle.cut_server.specs.Documents.{FilesTold, OnlyRead, Describes, IsRefusedAt, refusal_line}
-use Rattle.cut_server.specs.Halls.{FileEnds, HallEnds, HallTold, HasServed, IsUnserved}
+use Rattle.cut_server.specs.Halls.{EndsUnserved, FileEnds, HallEnds, HallTold, HasServed, IsUnserved}
 use Rattle.station_sessions.specs.Outside.{Outside}
 use Rattle.station_sessions.specs.Rooms.{History}
 use Rattle.cut_server.specs.Runs.{LineEnds, RefusesDocument, ServeEnds}
@@ -51,16 +51,19 @@ module _ (before mid after : FilesTold) (Same : Type 0) (only : OnlyRead before 
     unserved : IsUnserved o stations name mid after Same hall halls → IsUnserved o stations name before after (OnlyRead before after × (after.reads ≡ before.reads)) hall halls
     unserved u = record { unheard = u.unheard; unfiled = unfiled u.unfiled }
 
+    unserved_ends : (s : Status) → EndsUnserved o stations name mid after Same hall halls s → EndsUnserved o stations name before after (OnlyRead before after × (after.reads ≡ before.reads)) hall halls s
+    unserved_ends Done h = absurd h
+    unserved_ends ReadFault h = absurd h
+    unserved_ends WriteFault h = absurd h
+    unserved_ends NoCommand h = absurd h
+    unserved_ends Refused h = absurd h
+    unserved_ends NotSeated (risen, u) = (risen, unserved u)
+    unserved_ends OutOfMemory (still, u) = (still, unserved u)
+    unserved_ends TooMuchInput h = absurd h
+
     pub hall_ends : (s : Status) → HallEnds o stations name mid after Same hall halls s → HallEnds o stations name before after (OnlyRead before after × (after.reads ≡ before.reads)) hall halls s
-    hall_ends Done h = served Done h
-    hall_ends ReadFault h = served ReadFault h
-    hall_ends WriteFault h = served WriteFault h
-    hall_ends NoCommand h = absurd h
-    hall_ends Refused h = absurd h
-    hall_ends NotSeated (risen, u) = (risen, unserved u)
-    hall_ends OutOfMemory (inl (still, u)) = inl (still, unserved u)
-    hall_ends OutOfMemory (inr h) = inr (served OutOfMemory h)
-    hall_ends TooMuchInput h = served TooMuchInput h
+    hall_ends s (inl h) = inl (served s h)
+    hall_ends s (inr h) = inr (unserved_ends s h)
 
 module _ (name : List ℕ) (counting : Counted) (stations : ℕ) (journal : List ℕ) (before after : FilesTold)
     (hall halls : HallTold) (U : Type 0) (old new : Outside) (V : Type 0) where

@@ -63,7 +63,3 @@ pub record IsRoomOf (o : Opening) (room : TrackRoom) (counting : Counted) (start
 abbrev pub Knows : Opening → ℕ → History → List InputLine → (List (List ℕ) → Type 0) → Type 0
 Knows o station known lines Taken =
     (replies : List (List ℕ)) × RoomTranscript o known station lines replies × AreWritten (of_station station known) × Taken replies
-
--- where the station's own entries could be written, they still can
-abbrev pub StaysWritten : SessionState → SessionState → Type 0
-StaysWritten old new = AreWritten (of_station old.station old.course.journal) → AreWritten (of_station old.station new.course.journal)
