@@ -7,8 +7,8 @@ use room_halls::{MemHall, OpenGate};
 use room_ports::{MemSink, MemSource};
 use std::alloc::Global;
 use std::sync::Wait;
-use std::thread::Threads;
 use std::test::Fail;
+use std::thread::Threads;
 
 fn words_of(alloc: Global, texts: &[&str]) -> Result<Words, Fail> {
     let mut words = Words::new(alloc);
@@ -18,6 +18,12 @@ fn words_of(alloc: Global, texts: &[&str]) -> Result<Words, Fail> {
         }
     }
     Ok(words)
+}
+
+// The words of a text, parted by single spaces.
+pub(crate) fn words_in(alloc: Global, text: &str) -> Result<Words, Fail> {
+    let texts = parted(alloc, text)?;
+    words_of(alloc, &texts)
 }
 
 fn no_files(alloc: Global) -> MemFiles {
