@@ -1,5 +1,6 @@
 pub mod Openings
 pub mod Rates
+pub mod Asking
 pub mod Telling
 pub mod DocumentRuns
 pub mod HallRuns
