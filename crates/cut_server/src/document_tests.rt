@@ -61,7 +61,18 @@ fn a_document_is_opened(rt: HostRuntime) -> Result<(), Fail> {
 #[test]
 fn a_document_is_refused(rt: HostRuntime) -> Result<(), Fail> {
     let alloc = rt.alloc();
-    assert!(rt; ends(&rt, alloc, "run cut 24 ndf", b"{", &[], &[], 4, "refused J1 1\n")?);
+    assert!(rt;
+        ends(
+            &rt,
+            alloc,
+            "run cut 24 ndf",
+            b"{",
+            &[],
+            &[],
+            4,
+            "refused J1 1\n"
+        )?
+    );
     assert!(rt;
         ends(
             &rt,

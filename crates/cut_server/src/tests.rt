@@ -190,10 +190,20 @@ fn faults_end_the_run(rt: HostRuntime) -> Result<(), Fail> {
         (9, 3, 2, "ok 0 item 0\npoint 1\n"),
     ];
     for (read, write, status, wanted) in table {
-        let (ended_with, output) =
-            ended(&rt, alloc, &["run", "1", "1"], &pieces, &[read], &[write])?;
+        let (ended_with, output) = ended(
+            &rt,
+            alloc,
+            &["run", "1", "1"],
+            &pieces,
+            &[read],
+            &[write],
+        )?;
         assert_eq!(rt; ended_with, status, "read {read} write {write}");
-        assert_eq!(rt; output.as_slice(), wanted.as_bytes(), "read {read} write {write}");
+        assert_eq!(rt;
+            output.as_slice(),
+            wanted.as_bytes(),
+            "read {read} write {write}"
+        );
     }
     let (status, output) = ended(&rt, alloc, &["run"], &pieces, &[], &[1])?;
     assert_eq!(rt; status, 2);
