@@ -251,13 +251,7 @@ fn run_document<R: Wait, G: Gate, F: Files, S: Source, K: Sink>(
 }
 
 // Serves the stations of a hall in the room of a document.
-fn serve_document<
-    R: Threads + Wait + Sync,
-    F: Files,
-    K: Sink,
-    H: Hall,
-    G: Gate + Sync,
->(
+fn serve_document<R: Threads + Wait + Sync, F: Files, K: Sink, H: Hall, G: Gate + Sync>(
     rt: &R,
     alloc: Global,
     name: &str,
@@ -284,7 +278,9 @@ fn serve_document<
 {
     match open_document(alloc, files, name, counting) {
         Ok(opening) => {
-            serve_opened(rt, alloc, opening, stations, address, journal, files, hall, gate)
+            serve_opened(
+                rt, alloc, opening, stations, address, journal, files, hall, gate,
+            )
         }
         Err(DocumentFault::ReadFault) => Status::ReadFault,
         Err(DocumentFault::Refused { code, at }) => refuse_document(code, at, output),
@@ -334,13 +330,15 @@ fn do_command<R: Threads + Wait + Sync, F: Files, S: Source, K: Sink, H: Hall, G
         Some(Command::RunDocument { document, counting }) => {
             run_document(rt, alloc, document, counting, files, input, output, gate)
         }
-        Some(Command::Serve {
-            document,
-            counting,
-            stations,
-            address,
-            journal,
-        }) => serve_document(
+        Some(
+            Command::Serve {
+                document,
+                counting,
+                stations,
+                address,
+                journal,
+            },
+        ) => serve_document(
             rt, alloc, document, counting, *stations, address, journal, files, output, hall, gate,
         ),
         None => refuse(output),
@@ -371,14 +369,7 @@ fn do_command<R: Threads + Wait + Sync, F: Files, S: Source, K: Sink, H: Hall, G
 /// | 7 | the input, or a line, gave more than 64 MiB |
 ///
 /// Of several stations the status is that of the lowest whose status is not 0, and then that of the journal's file.
-pub fn cut_main<
-    R: Threads + Wait + Sync,
-    F: Files,
-    S: Source,
-    K: Sink,
-    H: Hall,
-    G: Gate + Sync,
->(
+pub fn cut_main<R: Threads + Wait + Sync, F: Files, S: Source, K: Sink, H: Hall, G: Gate + Sync>(
     rt: &R,
     alloc: Global,
     words: &Words,

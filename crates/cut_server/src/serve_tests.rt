@@ -111,7 +111,9 @@ fn two_stations_have_one_journal(rt: HostRuntime) -> Result<(), Fail> {
     assert_eq!(rt; ended.status, 0);
     assert_eq!(rt; ended.taken.len(), 2);
     let journal = ended.journal.ok_or("a journal")?;
-    let wanted = match journal.as_slice() == "journal 2\n0 1 slice 0 2\n1 1 slice 0 2\n".as_bytes() {
+    let wanted = match journal.as_slice()
+        == "journal 2\n0 1 slice 0 2\n1 1 slice 0 2\n".as_bytes()
+    {
         true => ["ok 0\n", "ok 1\n"],
         false => ["ok 1\n", "ok 0\n"],
     };

@@ -207,7 +207,9 @@ fn serve_room<
         Err(_) => return Status::NotSeated,
     }
     match seat_all(alloc, hall, passes, &mut seats) {
-        Ok(()) => serve_seated(rt, alloc, room, seats, back, setting, name, files, hall, gate),
+        Ok(()) => serve_seated(
+            rt, alloc, room, seats, back, setting, name, files, hall, gate,
+        ),
         Err(fault) => {
             stand_all_up(hall, seats, &mut back);
             unseated(fault)
@@ -259,7 +261,9 @@ fn serve_blank<
         Ok(opened) => opened,
         Err(_) => return Status::OutOfMemory,
     };
-    serve_room(rt, alloc, room, passes, setting, address, name, files, hall, gate)
+    serve_room(
+        rt, alloc, room, passes, setting, address, name, files, hall, gate,
+    )
 }
 
 /// Serves so many stations, all at once, in a room that begins so, each over its line of the hall, and then puts the
@@ -296,7 +300,5 @@ pub(crate) fn serve_opened<R: Threads + Wait + Sync, F: Files, H: Hall, G: Gate 
         Ok(blank) => blank,
         Err(_) => return Status::OutOfMemory,
     };
-    serve_blank::<R, F, H, G, Brand>(
-        rt, alloc, blank, setting, address, name, files, hall, gate,
-    )
+    serve_blank::<R, F, H, G, Brand>(rt, alloc, blank, setting, address, name, files, hall, gate)
 }

@@ -341,7 +341,11 @@ fn a_line_has_a_limit(rt: HostRuntime) -> Result<(), Fail> {
 }
 
 // The status and the output of a run in a room of one track and one reel, over `point` and a line of so many bytes.
-fn long_input<R: Threads + Wait + Sync>(rt: &R, alloc: Global, bytes: usize) -> Result<(u8, Vec<u8>), Fail> {
+fn long_input<R: Threads + Wait + Sync>(
+    rt: &R,
+    alloc: Global,
+    bytes: usize,
+) -> Result<(u8, Vec<u8>), Fail> {
     let mut pieces = Vec::new(alloc);
     pieces.push(b"point\n".to_vec(alloc)?)?;
     pieces.push(vec![in alloc; b'x'; bytes]?)?;

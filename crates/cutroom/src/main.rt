@@ -29,7 +29,15 @@ fn main(rt: HostRuntime) -> ExitCode {
     let mut input = StdSource::new(rt.stdin());
     let mut output = StdSink::new(rt.stdout());
     let mut hall = TcpHall::new(alloc, &rt, rt.stderr());
-    let status = answer(&rt, alloc, &words, &mut files, &mut input, &mut output, &mut hall);
+    let status = answer(
+        &rt,
+        alloc,
+        &words,
+        &mut files,
+        &mut input,
+        &mut output,
+        &mut hall,
+    );
     let _ = put(&mut StdSink::new(rt.stderr()), complaint(status).as_bytes());
     ExitCode::from(status)
 }

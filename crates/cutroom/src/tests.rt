@@ -101,7 +101,15 @@ fn words_are_answered_once(rt: HostRuntime) -> Result<(), Memory> {
         let mut output = MemSink::new(alloc, writes.to_vec(alloc)?);
         let mut files = MemFiles::new(alloc, Vec::new(alloc));
         let mut hall = MemHall::new(alloc, Vec::new(alloc), Vec::new(alloc));
-        let ended = answer(&rt, alloc, &words, &mut files, &mut input, &mut output, &mut hall);
+        let ended = answer(
+            &rt,
+            alloc,
+            &words,
+            &mut files,
+            &mut input,
+            &mut output,
+            &mut hall,
+        );
         assert_eq!(rt; ended, status, "{texts:?}");
         assert!(rt; output.bytes() == Some(text.as_bytes()), "{texts:?}");
         assert!(rt; complaint(ended).is_empty() != complains, "{texts:?}");
