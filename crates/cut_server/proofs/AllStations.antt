@@ -1,7 +1,7 @@
 -- The closed room's journal tells what each of several stations was answered.
-use Rattle.std.proofs.Common.{◌≡◌, ℕ, zero, suc, ◌+◌, ◌<◌, ◌≤◌, ◌⊎◌, inl, inr, Bool, true, false, cond, ◌==◌, List, [], ◌∷◌, ◌++◌, All, length, map, slice_get, Option, Some, None, IsSome, option_map, refl, sym, ap, ◌∙◌, arith, subst, ⊎_elim}
+use Rattle.std.proofs.Common.{◌≡◌, ℕ, zero, suc, ◌+◌, ◌<◌, ◌≤◌, ◌⊎◌, inl, inr, Bool, true, false, cond, ◌==◌, List, [], ◌∷◌, ◌++◌, All, length, map, take, drop, slice_get, Option, Some, None, IsSome, option_map, refl, sym, ap, ◌∙◌, arith, subst, ⊎_elim}
 use Rattle.std.proofs.lemmas.Bool.Decides.{nat_tests}
-use Rattle.std.proofs.lemmas.List.{length-map}
+use Rattle.std.proofs.lemmas.List.{length-map, take_at}
 use Rattle.std.proofs.lemmas.Option.{none-some, same_Some, slice_get-map, slice_get_within, get_or_from_slice_get}
 use Rattle.line_words.specs.Lines.{Line as InputLine}
 use Rattle.composables.specs.TrackState.{TrackState}
@@ -29,7 +29,7 @@ use Rattle.station_sessions.specs.Served.{IsRoomOf, Knows}
 use Rattle.station_sessions.specs.Serving.{SessionEnds}
 use Rattle.station_sessions.specs.SessionInside.{TrackPass, TrackRoom}
 use Rattle.cut_server.specs.Stations.{AreOfStations}
-use Rattle.cut_server.proofs.Seating.{at_place, fault_more}
+use Rattle.cut_server.proofs.Seating.{at_place, fault_more, some_at}
 use Rattle.station_sessions.proofs.Knowing.{session_told}
 use Rattle.station_sessions.proofs.Transcripts.{transcript_more}
 
@@ -69,11 +69,6 @@ station_ends o stations s g h old new e c ended =
     session_told (Knows o s g) (TellsStation o h s) (λ ls Taken. tells_station o stations s g h ls Taken c) old new e ended
 
 -- ---- elements by their places
-
-pub some_at : {X : Type 0} (xs : List X) (k : ℕ) → k < length xs → (x : X) × (slice_get xs k ≡ Some x)
-some_at [] k low = absurd (omega (arith, low))
-some_at (x ∷ xs) zero low = (x, refl)
-some_at (x ∷ xs) (suc k) low = some_at xs k (omega (arith, low))
 
 -- an option that was mapped to what it holds
 some_of : {X : Type 0} (a : Option X) (b : Option X) (x : X) → option_map Some a ≡ Some b → b ≡ Some x → a ≡ Some x
@@ -182,7 +177,7 @@ number_is (Some q) p n is has = ap (λ (x : TrackPass). x.number) (sym (same_Som
 
 pub has_pass : (number : ℕ) (a : Option TrackPass) → HasNumber number a → IsSome a
 has_pass number None has = absurd has
-has_pass number (Some p) has = tt
+has_pass number (Some p) has = refl
 
 -- the numbers of the stations when they have been served
 pub numbers_left : (room : TrackRoom) (counting : Counted) (start : ℕ) (before : HallTold) (seats left : List SeatState) → length left ≡ length seats → AreSeated before seats
@@ -263,6 +258,41 @@ module _ (room : TrackRoom) (counting : Counted) (start stations : ℕ) (before 
         end_at s e t =
             let told = station_told s t.0 t.1 in
             subst (λ (x : End). SessionEnds (TellsStation o h s) (line_at before s) (line_at after s) x) t.2 (station_ends o stations s told.known h (line_at before s) (line_at after s) t.0.end told.closes told.ends)
+
+-- what comes back of a vector that was lent
+back : {X : Type 0} (items new : List X) (n : ℕ) → n ≡ length items → length new ≡ length items → take n (new ++ drop (length new) items) ≡ new
+back items new n count all = take_at new (drop (length new) items) n (all ∙ sym count)
+
+pub numbers_back : (room : TrackRoom) (counting : Counted) (start : ℕ) (before : HallTold) (items old new : List SeatState) (n : ℕ) → old ≡ items → n ≡ length items → length new ≡ length old
+    → AreSeated before items → ((k : ℕ) (s t : SeatState) → slice_get old k ≡ Some s → slice_get new k ≡ Some t → IsServedIn room counting start s t)
+    → (k : ℕ) (t : SeatState) → slice_get (take n (new ++ drop (length new) items)) k ≡ Some t → HasNumber k t.pass
+numbers_back room counting start before items old new n same count all seated served =
+    let there = back items new n count (all ∙ ap length same) in
+    subst (λ (l : List SeatState). (k : ℕ) (t : SeatState) → slice_get l k ≡ Some t → HasNumber k t.pass) (sym there)
+    (numbers_left room counting start before old new all (subst (λ (l : List SeatState). AreSeated before l) (sym same) seated) served)
+
+-- The seats of a vector, served and stood up.
+pub all_kept : (room : TrackRoom) (counting : Counted) (start stations : ℕ) (before after : HallTold) (items old new : List SeatState) (n : ℕ) (passes : List TrackPass) → old ≡ items
+    → length items ≡ stations → n ≡ length items → length new ≡ length old → AreSeated before items
+    → ((k : ℕ) (s t : SeatState) → slice_get old k ≡ Some s → slice_get new k ≡ Some t → IsServedIn room counting start s t)
+    → ((k : ℕ) (t : SeatState) → slice_get (take n (new ++ drop (length new) items)) k ≡ Some t → line_at after k ≡ t.line)
+    → map Some passes ≡ map (λ (s : SeatState). s.pass) (take n (new ++ drop (length new) items))
+    → AllKept room counting start stations before after old new passes
+all_kept room counting start stations before after items old new n passes same many count all seated served lines kept =
+    let there = back items new n count (all ∙ ap length same) in
+    record {
+      count = ap length same ∙ many;
+      all = all;
+      seated = subst (λ (l : List SeatState). AreSeated before l) (sym same) seated;
+      served = served;
+      lines = subst (λ (l : List SeatState). (k : ℕ) (t : SeatState) → slice_get l k ≡ Some t → line_at after k ≡ t.line) there lines;
+      kept = subst (λ (l : List SeatState). map Some passes ≡ map (λ (s : SeatState). s.pass) l) there kept;
+    }
+
+pub fault_back : (items old new : List SeatState) (n : ℕ) (fault : Status) → old ≡ items → n ≡ length items → length new ≡ length old
+    → fault ≡ first_fault (map status_of (map (λ (s : SeatState). s.end) (take n (new ++ drop (length new) items)))) → fault ≡ first_fault (map status_of (map (λ (s : SeatState). s.end) new))
+fault_back items old new n fault same count all first =
+    subst (λ (l : List SeatState). fault ≡ first_fault (map status_of (map (λ (s : SeatState). s.end) l))) (back items new n count (all ∙ ap length same)) first
 
 -- the statuses of the sessions, and of one more
 pub ends_more : (seats : List SeatState) (s : SeatState) → map status_of (map (λ (t : SeatState). t.end) (seats ++ s ∷ [])) ≡ map status_of (map (λ (t : SeatState). t.end) seats) ++ status_of s.end ∷ []

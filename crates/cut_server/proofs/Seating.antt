@@ -1,22 +1,32 @@
 -- Stations that are seated and stand up, one after the other.
-use Rattle.std.proofs.Common.{◌≡◌, ◌≢◌, ℕ, zero, suc, ◌+◌, ◌<◌, ◌≤◌, ◌⊎◌, inl, inr, Bool, true, false, ◌==◌, List, [], ◌∷◌, ◌++◌, All, length, map, slice_get, Option, Some, None, IfOk, Result, Ok, Err, refl, sym, ap, ◌∙◌, arith, subst, ⊎_elim}
+use Rattle.std.proofs.Common.{◌≡◌, ◌≢◌, ℕ, zero, suc, nat_lt, ◌+◌, ◌<◌, ◌≤◌, ◌⊎◌, inl, inr, Bool, true, false, ◌==◌, List, [], ◌∷◌, ◌++◌, All, length, map, slice_get, Option, Some, None, IfOk, Result, Ok, Err, refl, sym, ap, ◌∙◌, arith, subst, ⊎_elim}
 use Rattle.std.proofs.lemmas.Bool.Decides.{nat_tests}
 use Rattle.std.proofs.lemmas.Option.{none-some, same_Some, slice_get_within, get_or_from_slice_get}
 use Rattle.edit_apply.specs.declared.asks.Call.{Call}
 use Rattle.room_core.specs.Parts.{numbers}
 use Rattle.room_ports.specs.Counts.{HasRisen}
-use Rattle.room_halls.specs.Stations.{LineTold, Station, CountsSeat, OthersStay, line_told}
+use Rattle.room_halls.specs.Stations.{LineTold, Station, CountsSeat, NoneMoves, OthersStay, line_told}
 use Rattle.room_halls.specs.declared.hall.HallFault.{HallFault}
 use Rattle.room_halls.specs.declared.hall.HallFault.TheVariants.{Failed, Memory}
 use Rattle.cut_server.specs.declared.status.Status.{Status}
 use Rattle.cut_server.specs.declared.status.Status.TheVariants.{Done, ReadFault, WriteFault, NoCommand, Refused, NotSeated, OutOfMemory, TooMuchInput}
-use Rattle.cut_server.specs.Halls.{HallTold, first_fault, hall_told, line_at, line_of, or_next}
+use Rattle.cut_server.specs.Documents.{FilesTold}
+use Rattle.cut_server.specs.Halls.{HallEnds, HallTold, Unheard, first_fault, hall_told, line_at, line_of, or_next}
+use Rattle.otio_json.specs.declared.opening.Opening.{Opening}
+use Rattle.line_words.specs.Lines.{Line as InputLine}
+use Rattle.station_sessions.specs.declared.serve.End.{End}
+use Rattle.station_sessions.specs.Serving.{SessionEnds}
 use Rattle.station_sessions.specs.Outside.{Outside, outside}
-use Rattle.cut_server.specs.Seated.{AreSeated, CountsSeats, IsSeated, SeatState}
+use Rattle.cut_server.specs.Seated.{AreSeated, CountsSeats, HasNumber, IsReady, IsSeated, SeatState, unseated}
 use Rattle.station_sessions.specs.SessionInside.{TrackPass, TrackRoom}
 
 pub at_place : {X : Type 0} (P : X → Type 0) (xs : List X) (k : ℕ) (x : X) → All P xs → slice_get xs k ≡ Some x → P x
 at_place P xs k x all is = subst P (get_or_from_slice_get xs k x x is) (all k x (slice_get_within xs k x is))
+
+pub some_at : {X : Type 0} (xs : List X) (k : ℕ) → k < length xs → (x : X) × (slice_get xs k ≡ Some x)
+some_at [] k low = absurd (omega (arith, low))
+some_at (x ∷ xs) zero low = (x, refl)
+some_at (x ∷ xs) (suc k) low = some_at xs k (omega (arith, low))
 
 -- an element of a list, or the one behind it
 pub one_more : {X : Type 0} (xs : List X) (x y : X) (k : ℕ) → slice_get (xs ++ x ∷ []) k ≡ Some y → (slice_get xs k ≡ Some y) ⊎ ((k ≡ length xs) × (x ≡ y))
@@ -136,3 +146,64 @@ fault_more (Refused ∷ ss) s = refl
 fault_more (NotSeated ∷ ss) s = refl
 fault_more (OutOfMemory ∷ ss) s = refl
 fault_more (TooMuchInput ∷ ss) s = refl
+
+-- ---- a hall and its stations
+
+-- a pass of each seat is that of its place
+pub seated_number : (hall : HallTold) (seats : List SeatState) → AreSeated hall seats → (k : ℕ) (s : SeatState) → slice_get seats k ≡ Some s → HasNumber k s.pass
+seated_number hall seats are k s at = let m = are k s at in subst (λ (o : Option TrackPass). HasNumber k o) (sym m.pass_is) m.number_is
+
+-- and no entry is known to it
+pub seated_ready : (hall : HallTold) (seats : List SeatState) → AreSeated hall seats → (k : ℕ) (s : SeatState) → slice_get seats k ≡ Some s → IsReady s.pass
+seated_ready hall seats are k s at = let m = are k s at in subst (λ (o : Option TrackPass). IsReady o) (sym m.pass_is) m.entries
+
+-- as another hall tells that tells the same of each station
+pub seated_as : (first then : ℕ → Station) (f g : ℕ) (seats : List SeatState) → NoneMoves first then → AreSeated (hall_told then f) seats → AreSeated (hall_told first g) seats
+seated_as first then f g seats same are k s at =
+    let m = are k s at in
+    record { pass = m.pass; pass_is = m.pass_is; number_is = m.number_is; entries = m.entries; line = m.line ∙ ap (λ (x : Station). line_of x.line) (same k) }
+
+-- how many passes a room has
+pub fresh_count : (ps : List TrackPass) (from count : ℕ) → map (λ (q : TrackPass). q.number) ps ≡ numbers from count → count ≡ length ps
+fresh_count [] from zero are = refl
+fresh_count [] from (suc count) are = let n = ap length are in absurd (omega (arith, n))
+fresh_count (q ∷ ps) from zero are = let n = ap length are in absurd (omega (arith, n))
+fresh_count (q ∷ ps) from (suc count) are = ap suc (fresh_count ps (from + 1) count (rest_are are))
+  where
+    rest_are : q.number ∷ map (λ (x : TrackPass). x.number) ps ≡ from ∷ numbers (from + 1) count → map (λ (x : TrackPass). x.number) ps ≡ numbers (from + 1) count
+    rest_are e = Prim.grind (arith, e)
+
+pub seats_quiet : (r : Result (Unit {0}) HallFault) (u : Unit {0}) (before after : ℕ) → r ≡ Ok u → CountsSeats r before after → after ≡ before
+seats_quiet (Ok v) u before after is counts = counts
+seats_quiet (Err Failed) u before after is counts = absurd (Prim.grind (arith, is))
+seats_quiet (Err Memory) u before after is counts = absurd (Prim.grind (arith, is))
+
+-- the lines of the stations that were seated, and of the others, are as they were
+pub unheard : (first opened seated last : ℕ → Station) (f g : ℕ) (seats : List SeatState) → NoneMoves first opened → AreSeated (hall_told opened f) seats
+    → ((k : ℕ) → length seats ≤ k → seated k ≡ opened k) → ((k : ℕ) (s : SeatState) → slice_get seats k ≡ Some s → line_of (last k).line ≡ s.line)
+    → ((k : ℕ) → length seats ≤ k → last k ≡ seated k) → (k : ℕ) → line_of (last k).line ≡ line_of (first k).line
+unheard first opened seated last f g seats same are free lines left k = at_or (nat_lt k (length seats)) refl
+  where
+    at_or : (b : Bool) → nat_lt k (length seats) ≡ b → line_of (last k).line ≡ line_of (first k).line
+    at_or true e =
+        let s = some_at seats k (Prim.grind (arith, nat_tests, e)) in
+        lines k s.0 s.1 ∙ ((are k s.0 s.1).line ∙ ap (λ (x : Station). line_of x.line) (same k))
+    at_or false e =
+        let past : length seats ≤ k = Prim.grind (arith, nat_tests, e) in
+        ap (λ (x : Station). line_of x.line) (left k past ∙ (free k past ∙ same k))
+
+pub ends_unserved : (o : Opening) (stations : ℕ) (name : List ℕ) (old new : FilesTold) (Unfiled : Type 0) (before after : HallTold) (r : Result (Unit {0}) HallFault) (fault : HallFault) (status : Status)
+    (opened seated : ℕ) → r ≡ Err fault → CountsSeats r opened seated → opened ≡ before.faults → after.faults ≡ seated → Unheard before after → Unfiled → status ≡ unseated fault
+    → HallEnds o stations name old new Unfiled before after status
+ends_unserved o stations name old new Unfiled before after r Failed status opened seated is counts at still unheard unfiled st =
+    subst (λ (s : Status). HallEnds o stations name old new Unfiled before after s) (sym st)
+    (inr (rw still (rw (← at) (subst (λ x. CountsSeats x opened seated) is counts)), record { unheard = unheard; unfiled = unfiled }))
+ends_unserved o stations name old new Unfiled before after r Memory status opened seated is counts at still unheard unfiled st =
+    subst (λ (s : Status). HallEnds o stations name old new Unfiled before after s) (sym st)
+    (inr (still ∙ (subst (λ x. CountsSeats x opened seated) is counts ∙ at), record { unheard = unheard; unfiled = unfiled }))
+
+-- a line that has been left tells what it told
+pub still_ends : (K : List InputLine → (List (List ℕ) → Type 0) → Type 0) (old : Outside) (left taken left' taken' : Option (List ℕ)) (reads writes reads' writes' : ℕ) (e : End)
+    → (left' ≡ left) × (reads' ≡ reads) → (taken' ≡ taken) × (writes' ≡ writes) → SessionEnds K old (outside left reads taken writes) e → SessionEnds K old (outside left' reads' taken' writes') e
+still_ends K old left taken left' taken' reads writes reads' writes' e source sink ends =
+    subst (λ (x : Outside). SessionEnds K old x e) (λ i. outside (sym source.0 i) (sym source.1 i) (sym sink.0 i) (sym sink.1 i)) ends

@@ -70,26 +70,28 @@ impl<L: Line, J: Naming<Editor, Track>> Seat<L, J> {
     }
 }
 
-// Serves the session of one station.
-fn serve_seat<R: Wait, G: Gate, J: Naming<Editor, Track>, L: HallLine>(
-    rt: &R,
-    alloc: Global,
-    room: &Room<Editor, J>,
-    gate: &G,
-    setting: Setting,
-    seat: &mut Seat<L, J>,
-)
-    requires { IsReady seat.old.pass }
-    ensures { IsServedIn room.now setting.counting setting.start seat.old seat.new }
-{
-    let pass = match seat.pass.take() {
-        Some(pass) => pass,
-        None => unreachable!(),
-    };
-    let (pass, end) = serve_session(rt, alloc, room, gate, pass, setting, &mut seat.line);
-    seat.pass = Some(pass);
-    seat.end = end;
-    seat.line.leave();
+impl<L: HallLine, J: Naming<Editor, Track>> Seat<L, J> {
+    /// Serves the session of the station.
+    fn serve<R: Wait, G: Gate>(
+        &mut self,
+        rt: &R,
+        alloc: Global,
+        room: &Room<Editor, J>,
+        gate: &G,
+        setting: Setting,
+    )
+        requires { IsReady self.old.pass }
+        ensures { IsServedIn room.now setting.counting setting.start self.old self.new }
+    {
+        let pass = match self.pass.take() {
+            Some(pass) => pass,
+            None => unreachable!(),
+        };
+        let (pass, end) = serve_session(rt, alloc, room, gate, pass, setting, &mut self.line);
+        self.pass = Some(pass);
+        self.end = end;
+        self.line.leave();
+    }
 }
 
 /// Serves the sessions of these stations, all at once.
@@ -112,9 +114,9 @@ pub(crate) fn serve_seats<
     ensures all { length seats.new ≡ length seats.old }
 {
     let threads = seats.len().max(1);
-    let served = |_: usize, seat: &mut Seat<L, J>|
+    let served = move |_: usize, seat: &mut Seat<L, J>|
         requires { IsReady seat.old.pass }
-        ensures { IsServedIn room.now setting.counting setting.start seat.old seat.new }
-    { serve_seat(rt, alloc, room, gate, setting, seat) };
+        ensures { IsServedIn room.entry.now setting.counting setting.start seat.old seat.new }
+    { seat.serve(rt, alloc, room, gate, setting) };
     thread::for_each_mut(rt, seats, threads, &served);
 }

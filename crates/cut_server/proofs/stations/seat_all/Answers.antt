@@ -19,7 +19,7 @@ loop-pass-preserved g c =
     let p = c.in-Some.pass in
     let rest = into_iter_items c.next.new.self in
     let so_far = ap (λ ps. all ++ ps) (sym c.in-Some.ensures.steps.0) ∙ i.so_far in
-    let number = c.station-station.ensures ∙ (fresh_at (length c.args.passes.items) c.args.passes.items all p rest c.requires.passes.0 so_far ∙ sym i.count) in
+    let number = c.station-station.ensures.number ∙ (fresh_at (length c.args.passes.items) c.args.passes.items all p rest c.requires.passes.0 so_far ∙ sym i.count) in
     let items = c.push_reserved.ensures.items in
     record {
       so_far = append_assoc all (p ∷ []) rest ∙ so_far;
@@ -28,7 +28,7 @@ loop-pass-preserved g c =
       seated = rw items (seated_more _ c.loop-pass.seats.items _ i.seated (record {
         pass = p;
         pass_is = c.new.ensures.pass;
-        number_is = sym c.station-station.ensures ∙ number;
+        number_is = sym c.station-station.ensures.number ∙ number;
         entries = fresh_none g.J.Naming.opening c.args.passes.items all p rest c.requires.passes.1 so_far;
         line = c.new.ensures.line ∙ (told_line _ _ _ _ _ c.in-Ok.ensures.line ∙ ap (λ s. line_of s.line) (rw number (i.free _ (omega arith))));
       }));
