@@ -1,5 +1,5 @@
 -- From what a session answered to what the program promises.
-use Rattle.std.proofs.Common.{◌≡◌, ℕ, ◌<◌, ◌≤◌, inr, List, [], ◌∷◌, ◌++◌, length, Option, IfSome, refl, sym, ap, ◌∙◌, subst, arith, Bool, true, false, cond, ◌==◌}
+use Rattle.std.proofs.Common.{◌≡◌, ℕ, ◌<◌, ◌≤◌, inl, inr, List, [], ◌∷◌, ◌++◌, length, Option, IfSome, refl, sym, ap, ◌∙◌, subst, arith, Bool, true, false, cond, ◌==◌}
 use Rattle.std.specs.Option.{IsSomeAnd}
 use Rattle.room_ports.specs.Counts.{HasRisen}
 use Rattle.room_ports.proofs.Fronts.{takes-takes}

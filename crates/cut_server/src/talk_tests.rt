@@ -150,7 +150,18 @@ journal 1
 #[test]
 fn overwrites_and_questions_are_answered(rt: HostRuntime) -> Result<(), Fail> {
     let alloc = rt.alloc();
-    for talk in [SEEN, PAST_THE_END, OVER_AN_ITEM, LABELS, REFUSED_OVERWRITES, NO_LINES, MEDIA_ENDS, BAD_OVERWRITES, ANOTHER_TRACK, LAST_FRAMES] {
+    for talk in [
+        SEEN,
+        PAST_THE_END,
+        OVER_AN_ITEM,
+        LABELS,
+        REFUSED_OVERWRITES,
+        NO_LINES,
+        MEDIA_ENDS,
+        BAD_OVERWRITES,
+        ANOTHER_TRACK,
+        LAST_FRAMES,
+    ] {
         assert!(rt; is_answered(&rt, alloc, "run 2 1", talk)?, "{talk}");
     }
     Ok(())

@@ -90,4 +90,3 @@ module _ (T U : List InputLine → (List (List ℕ) → Type 0) → Type 0) (f :
 pub session_knows : (o : Opening) (station : ℕ) (a b : SessionState) (old new : Outside) (e : End) → IsFresh o station a → SessionEnds (ServesTo a b) old new e
     → SessionEnds (Knows o station b.course.journal) old new e
 session_knows o station a b old new e f ended = session_told (ServesTo a b) (Knows o station b.course.journal) (λ ls Taken. knows_by o station a b ls Taken f) old new e ended
-
