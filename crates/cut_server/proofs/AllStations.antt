@@ -49,9 +49,10 @@ same n = Prim.grind (arith, nat_tests)
 -- where each station's own entries can be written, all can
 pub all_written : (stations : ℕ) (h : History) → AreOfStations stations h → ((s : ℕ) → s < stations → AreWritten (of_station s h)) → AreWritten h
 all_written stations [] seated all = tt
-all_written stations (e ∷ es) seated all =
-    (first_of (e.station == e.station) e (of_station e.station es) (same e.station) (all e.station seated.0),
-    all_written stations es seated.1 (λ s low. rest_of (e.station == s) e (of_station s es) (all s low)))
+all_written stations (e ∷ es) seated all = (
+  first_of (e.station == e.station) e (of_station e.station es) (same e.station) (all e.station seated.0),
+  all_written stations es seated.1 (λ s low. rest_of (e.station == s) e (of_station s es) (all s low)),
+)
 
 -- ---- one station
 
@@ -148,9 +149,10 @@ some_end (x ∷ xs) (suc n) e at = some_end xs n e at
 
 pub of_stations : (stations : ℕ) (ns : List ℕ) (h : List (Entry Call)) → ((s : ℕ) → In s ns → s < stations) → All (λ (e : Entry Call). In e.station ns) h → AreOfStations stations h
 of_stations stations ns [] low all = tt
-of_stations stations ns (e ∷ es) low all =
-    (low e.station (at_place (λ (x : Entry Call). In x.station ns) (e ∷ es) 0 e all refl),
-    of_stations stations ns es low (λ k d h. all (suc k) d (omega (arith, h))))
+of_stations stations ns (e ∷ es) low all = (
+  low e.station (at_place (λ (x : Entry Call). In x.station ns) (e ∷ es) 0 e all refl),
+  of_stations stations ns es low (λ k d h. all (suc k) d (omega (arith, h))),
+)
 
 -- ---- all stations
 

@@ -1,7 +1,9 @@
 pub mod Openings
 pub mod Rates
+pub mod Asking
 pub mod Telling
 pub mod DocumentRuns
+pub mod HallRuns
 pub mod Closing
 pub mod Seating
 pub mod AllStations

@@ -9,13 +9,14 @@ use Rattle.otio_json.specs.Openings.{plain_opening}
 use Rattle.otio_json.specs.declared.opening.Opening.{Opening}
 use Rattle.call_text.specs.Journals.{journal_text_of}
 use Rattle.timecode12.specs.Numbers.{Counted}
-use Rattle.cut_server.specs.Commands.{Asked, RunPlain, RunDocument}
+use Rattle.cut_server.specs.Commands.{Asked, RunPlain, RunDocument, Serve}
 use Rattle.cut_server.specs.Documents.{FilesTold, OnlyRead, Describes, IsRefusedAt, refusal_line}
 use Rattle.station_sessions.specs.declared.serve.End.TheVariants as end
 use Rattle.cut_server.specs.declared.status.Status.{Status}
 use Rattle.cut_server.specs.declared.status.Status.TheVariants.{Done, ReadFault, WriteFault, NoCommand, Refused, NotSeated, OutOfMemory, TooMuchInput}
 use Rattle.cut_server.specs.Stations.{AreOfStations}
-use Rattle.station_sessions.specs.Outside.{Outside, NoFault, WriteFailed, AtEnd, TakesThenFront}
+use Rattle.cut_server.specs.Halls.{HallEnds, HallTold}
+use Rattle.station_sessions.specs.Outside.{Outside, outside, NoFault, WriteFailed, AtEnd, TakesThenFront}
 use Rattle.station_sessions.specs.Rooms.{History, AreWritten, IsLegalIn, RoomTranscript}
 use Rattle.station_sessions.specs.Serving.{SessionEnds}
 use Rattle.cut_server.specs.Statuses.{number_of}
@@ -139,13 +140,36 @@ module _ (name : List ℕ) (counting : Counted) (before after : FilesTold) (old 
   abbrev pub DocumentEnds : Status → Type 0
   DocumentEnds status = OnlyRead before after × (RunsDocument status ⊎ EndsUnopened status)
 
--- how the program ends, by what it was asked for, where `Unfiled`, `Unread` and `Unwritten` say that the files, the input
--- and the output are as they were
-module _ (before after : FilesTold) (Unfiled : Type 0) (old new : Outside) (Unread Unwritten : Type 0) where
+-- So many stations are served in the room of a document in the file of this name, over the lines of a hall, and the journal
+-- is kept in a file, where `Unhalled` and `Unwritten` say that the hall and the output are as they were.
+module _ (name : List ℕ) (counting : Counted) (stations : ℕ) (journal : List ℕ) (before after : FilesTold)
+    (hall halls : HallTold) (Unhalled : Type 0) (old new : Outside) (Unwritten : Type 0) where
+  -- the document describes an opening, in whose room they are served
+  pub record ServesDocument (status : Status) : Type 0 where
+    pub opening : Opening
+    pub described : Describes counting (before.file name) opening
+    pub unwritten : Unwritten
+    pub ends : HallEnds opening stations journal before after (OnlyRead before after × (after.reads ≡ before.reads)) hall halls status
+
+  -- else no station is seated
+  abbrev pub ServeEnds : Status → Type 0
+  ServeEnds status = ServesDocument status
+      ⊎ (Unhalled × OnlyRead before after × EndsUnopened name counting before after old new (Unit {0}) Unwritten status)
+
+-- an output alone
+abbrev pub output_of : Outside → Outside
+output_of o = outside None 0 o.taken o.writes
+
+-- how the program ends, by what it was asked for, where `Unfiled`, `Unhalled`, `Unread` and `Unwritten` say that the files,
+-- the hall, the input and the output are as they were
+module _ (before after : FilesTold) (Unfiled : Type 0) (hall halls : HallTold) (Unhalled : Type 0) (old new : Outside) (Unread Unwritten : Type 0) where
   abbrev pub CommandEnds : Option Asked → Status → Type 0
-  CommandEnds None status = Unfiled × RefusalEnds old new Unread status
-  CommandEnds (Some (RunPlain tracks reels)) status = Unfiled × RunEnds (plain_opening tracks reels) old new (Unread × Unwritten) status
-  CommandEnds (Some (RunDocument name counting)) status = DocumentEnds name counting before after old new Unread Unwritten status
+  CommandEnds None status = Unfiled × Unhalled × RefusalEnds old new Unread status
+  CommandEnds (Some (RunPlain tracks reels)) status =
+      Unfiled × Unhalled × RunEnds (plain_opening tracks reels) old new (Unread × Unwritten) status
+  CommandEnds (Some (RunDocument name counting)) status = Unhalled × DocumentEnds name counting before after old new Unread Unwritten status
+  CommandEnds (Some (Serve name counting stations address journal)) status =
+      Unread × ServeEnds name counting stations journal before after hall halls Unhalled (output_of old) (output_of new) Unwritten status
 
 -- it ends with the number of a status that it may have
 abbrev pub EndsWith : ℕ → (Status → Type 0) → Type 0

@@ -4,9 +4,10 @@ use room_files::MemFiles;
 use std::alloc::Global;
 use std::sync::Wait;
 use std::test::Fail;
+use std::thread::Threads;
 
 /// A sequence of one track with five frames from the frame 100 of a tape on, which starts at 01:00:00:00.
-const DOCUMENT: &str = "\
+pub(crate) const DOCUMENT: &str = "\
 {\"OTIO_SCHEMA\": \"Timeline.1\", \"global_start_time\": {\"OTIO_SCHEMA\": \"RationalTime.1\", \"rate\": \
 24.0, \"value\": 86400}, \"tracks\": {\"OTIO_SCHEMA\": \"Stack.1\", \"children\": [ {\"OTIO_SCHEMA\": \
 \"Track.1\", \"kind\": \"Video\", \"children\": [{\"OTIO_SCHEMA\": \"Clip.1\", \"name\": \"A7\", \
@@ -25,7 +26,7 @@ journal 1
 ";
 
 // Whether a run with these words, where the file `cut` holds this text and these calls fail, ends so.
-fn ends<R: Wait>(
+fn ends<R: Threads + Wait + Sync>(
     rt: &R,
     alloc: Global,
     words: &str,

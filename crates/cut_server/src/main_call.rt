@@ -1,18 +1,20 @@
 // The call that the program makes.
 ghost use Rattle.std.specs.Prelude.{◌≡◌, ◌<◌, ◌≤◌, [], None, Some, length, vec_capacity};
-ghost use Rattle.cut_server.specs.Commands.{command_of, least_tracks, most_tracks, most_reels};
+ghost use Rattle.cut_server.specs.Commands.{command_of, least_tracks, most_tracks, most_reels, least_stations, most_stations};
 ghost use Rattle.otio_json.specs.Openings.{plain_opening};
 ghost use Rattle.otio_json.specs.Soundness.{IsSoundOpening};
 ghost use Rattle.station_sessions.specs.Outside.{outside};
 ghost use Rattle.otio_json.specs.declared.opening.Opening.{Opening as OpeningOf};
 ghost use Rattle.cut_server.specs.Documents.{files_told, refusal_line};
-ghost use Rattle.cut_server.specs.Runs.{JournalEnds, RunEnds, RefusalEnds, LineEnds, DocumentEnds, CommandEnds, EndsWith};
+ghost use Rattle.cut_server.specs.Halls.{hall_told};
+ghost use Rattle.cut_server.specs.Runs.{JournalEnds, RunEnds, RefusalEnds, LineEnds, DocumentEnds, ServeEnds, CommandEnds, EndsWith};
 ghost use Rattle.station_sessions.specs.Served.{IsRoomOf};
 ghost use Rattle.station_sessions.specs.SessionInside.{TrackRoom};
 ghost use Rattle.edit_journal.specs.Turns.{AreFresh};
 
 use crate::command::{Command, command_in};
 use crate::document::{DocumentFault, open_document, refusal_line};
+use crate::stations::serve_opened;
 use crate::status::Status;
 use call_text::journal_text;
 use composables::Track;
@@ -23,12 +25,13 @@ use line_words::Words;
 use otio_json::{DocCode, Opening};
 use room_core::Entry;
 use room_files::Files;
-use room_halls::Gate;
+use room_halls::{Gate, Hall};
 use room_ports::{Line, Pair, Sink, Source, put};
 use station_sessions::{End, Setting, serve_session};
 use std::alloc::Global;
 use std::marker::Brand;
 use std::sync::Wait;
+use std::thread::Threads;
 use timecode12::Counting;
 
 // Puts the journal's text behind the replies.
@@ -247,6 +250,44 @@ fn run_document<R: Wait, G: Gate, F: Files, S: Source, K: Sink>(
     }
 }
 
+// Serves the stations of a hall in the room of a document.
+fn serve_document<R: Threads + Wait + Sync, F: Files, K: Sink, H: Hall, G: Gate + Sync>(
+    rt: &R,
+    alloc: Global,
+    name: &str,
+    counting: &Counting,
+    stations: u32,
+    address: &str,
+    journal: &str,
+    files: &mut F,
+    output: &mut K,
+    hall: &mut H,
+    gate: &G,
+) -> Status
+    requires least { least_stations ≤ stations }
+    requires most { stations ≤ most_stations }
+    ensures { ServeEnds name.now counting.now stations journal.now
+        (files_told (F.file files.old) (F.read_faults files.old) (F.write_faults files.old))
+        (files_told (F.file files.new) (F.read_faults files.new) (F.write_faults files.new))
+        (hall_told (H.told hall.old) (H.faults hall.old))
+        (hall_told (H.told hall.new) (H.faults hall.new))
+        (hall.new ≡ hall.old)
+        (outside None 0 (K.taken output.old) (K.write_faults output.old))
+        (outside None 0 (K.taken output.new) (K.write_faults output.new))
+        (output.new ≡ output.old) result }
+{
+    match open_document(alloc, files, name, counting) {
+        Ok(opening) => {
+            serve_opened(
+                rt, alloc, opening, stations, address, journal, files, hall, gate,
+            )
+        }
+        Err(DocumentFault::ReadFault) => Status::ReadFault,
+        Err(DocumentFault::Refused { code, at }) => refuse_document(code, at, output),
+        Err(DocumentFault::Memory) => Status::OutOfMemory,
+    }
+}
+
 // Refuses words that are no command.
 fn refuse<K: Sink>(output: &mut K) -> Status
     ensures { RefusalEnds (outside None 0 (K.taken output.old) (K.write_faults output.old))
@@ -259,19 +300,23 @@ fn refuse<K: Sink>(output: &mut K) -> Status
 }
 
 // Does what the words ask for.
-fn do_command<R: Wait, G: Gate, F: Files, S: Source, K: Sink>(
+fn do_command<R: Threads + Wait + Sync, F: Files, S: Source, K: Sink, H: Hall, G: Gate + Sync>(
     rt: &R,
     alloc: Global,
     words: &Words,
     files: &mut F,
     input: &mut S,
     output: &mut K,
+    hall: &mut H,
     gate: &G,
 ) -> Status
     ensures { CommandEnds
         (files_told (F.file files.old) (F.read_faults files.old) (F.write_faults files.old))
         (files_told (F.file files.new) (F.read_faults files.new) (F.write_faults files.new))
         (files.new ≡ files.old)
+        (hall_told (H.told hall.old) (H.faults hall.old))
+        (hall_told (H.told hall.new) (H.faults hall.new))
+        (hall.new ≡ hall.old)
         (outside (S.left input.old) (S.read_faults input.old) (K.taken output.old)
         (K.write_faults output.old))
         (outside (S.left input.new) (S.read_faults input.new) (K.taken output.new)
@@ -285,48 +330,71 @@ fn do_command<R: Wait, G: Gate, F: Files, S: Source, K: Sink>(
         Some(Command::RunDocument { document, counting }) => {
             run_document(rt, alloc, document, counting, files, input, output, gate)
         }
+        Some(
+            Command::Serve {
+                document,
+                counting,
+                stations,
+                address,
+                journal,
+            },
+        ) => serve_document(
+            rt, alloc, document, counting, *stations, address, journal, files, output, hall, gate,
+        ),
         None => refuse(output),
     }
 }
 
-/// Does what the words ask for, over these files, this input and this output, and answers the status that the program
-/// ends with.
+/// Does what the words ask for, over these files, this input, this output and this hall, and answers the status that the
+/// program ends with.
 ///
 /// `run TRACKS REELS` is one station in a room of TRACKS empty video tracks (1 to 16) and REELS reels (0 to 999), each
 /// with 86,400 frames, at 24 frames a second. `run DOC RATE DROP` is one in the room that the document in the file DOC
 /// describes, of at most 32 MiB. RATE is a number such as `24` or `29.97`, and DROP is `ndf`, or `drop` at 30000/1001. The
 /// station answers each line of the input and then puts the journal's text.
 ///
+/// `serve DOC RATE DROP STATIONS ADDRESS JOURNAL` opens the hall at ADDRESS, seats the stations from 0 on (1 to 16) in such a
+/// room, and serves them all at once, each over its line. When all have ended, the journal's text is put into the file
+/// JOURNAL. A station that ends with a fault does not end the others.
+///
 /// | Status | Comes where |
 /// |---|---|
-/// | 0 | the input was read to its end, every line was answered, all was written |
-/// | 1 | a read of the input or of the document's file failed |
-/// | 2 | a write failed |
-/// | 3 | the words are neither `run TRACKS REELS` nor `run DOC RATE DROP` |
+/// | 0 | each input was read to its end, every line was answered, all was written |
+/// | 1 | a read of the input, of a line or of the document's file failed |
+/// | 2 | a write of the output, of a line or of the journal's file failed |
+/// | 3 | the words are no command |
 /// | 4 | the document is refused, and a line tells its first fault with its place |
+/// | 5 | the hall was not opened, or a station not seated: no session was begun |
 /// | 6 | there was no memory to begin with, or none for the journal's text |
-/// | 7 | the input gave more than 64 MiB |
-pub fn cut_main<R: Wait, F: Files, S: Source, K: Sink, G: Gate>(
+/// | 7 | the input, or a line, gave more than 64 MiB |
+///
+/// Of several stations the status is that of the lowest whose status is not 0, and then that of the journal's file.
+pub fn cut_main<R: Threads + Wait + Sync, F: Files, S: Source, K: Sink, H: Hall, G: Gate + Sync>(
     rt: &R,
     alloc: Global,
     words: &Words,
     files: &mut F,
     input: &mut S,
     output: &mut K,
+    hall: &mut H,
     gate: &G,
 ) -> u8
-    // The headline: with 0 the output is the replies and then the text of a journal that is one legal serial history,
-    // and each reply is what that history tells, to the lines of all bytes, however they came. `CommandEnds` says for
-    // each command and each status what was read, what was written and which count of faults rose.
+    // The headline: whatever the stations send at once, in whatever pieces, the room's journal is one legal serial history,
+    // each committed edit stands in it once, after all its station had been told of, and every reply names its point there
+    // and says what the entries before it give. `CommandEnds` says for each command and each status what was read, what
+    // was written and which count of faults rose.
     ensures { EndsWith result (CommandEnds
         (files_told (F.file files.old) (F.read_faults files.old) (F.write_faults files.old))
         (files_told (F.file files.new) (F.read_faults files.new) (F.write_faults files.new))
         (files.new ≡ files.old)
+        (hall_told (H.told hall.old) (H.faults hall.old))
+        (hall_told (H.told hall.new) (H.faults hall.new))
+        (hall.new ≡ hall.old)
         (outside (S.left input.old) (S.read_faults input.old) (K.taken output.old)
         (K.write_faults output.old))
         (outside (S.left input.new) (S.read_faults input.new) (K.taken output.new)
         (K.write_faults output.new))
         (input.new ≡ input.old) (output.new ≡ output.old) (command_of words.now)) }
 {
-    do_command(rt, alloc, words, files, input, output, gate).number()
+    do_command(rt, alloc, words, files, input, output, hall, gate).number()
 }

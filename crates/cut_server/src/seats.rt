@@ -114,7 +114,7 @@ pub(crate) fn serve_seats<
     ensures all { length seats.new ≡ length seats.old }
 {
     let threads = seats.len().max(1);
-    let served = move |_: usize, seat: &mut Seat<L, J>|
+    let served = |_: usize, seat: &mut Seat<L, J>|
         requires { IsReady seat.old.pass }
         ensures { IsServedIn room.entry.now setting.counting setting.start seat.old seat.new }
     { seat.serve(rt, alloc, room, gate, setting) };

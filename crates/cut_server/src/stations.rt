@@ -82,7 +82,8 @@ fn stand_all_up<H: Hall, J: Naming<Editor, Track>>(
     seats: Vec<Seat<H::Line, J>>,
     passes: &mut Vec<Pass<Editor, J>>,
 ) -> Status
-    requires numbers { (k : ℕ) (s : SeatState) → slice_get seats.items k ≡ Some s → HasNumber k s.pass }
+    requires numbers { (k : ℕ) (s : SeatState) → slice_get seats.items k ≡ Some s
+        → HasNumber k s.pass }
     requires held { (k : ℕ) → k < length seats.items → (H.told hall.old k).seated ≡ true }
     requires none { passes.old.items ≡ [] }
     requires room { length seats.items ≤ vec_capacity passes.old }
@@ -189,7 +190,8 @@ fn serve_room<
         (files_told (F.file files.old) (F.read_faults files.old) (F.write_faults files.old))
         (files_told (F.file files.new) (F.read_faults files.new) (F.write_faults files.new))
         (files.new ≡ files.old)
-        (hall_told (H.told hall.old) (H.faults hall.old)) (hall_told (H.told hall.new) (H.faults hall.new)) result }
+        (hall_told (H.told hall.old) (H.faults hall.old))
+        (hall_told (H.told hall.new) (H.faults hall.new)) result }
 {
     let count = passes.len();
     let mut seats = match Vec::with_capacity(alloc, count) {
@@ -205,7 +207,9 @@ fn serve_room<
         Err(_) => return Status::NotSeated,
     }
     match seat_all(alloc, hall, passes, &mut seats) {
-        Ok(()) => serve_seated(rt, alloc, room, seats, back, setting, name, files, hall, gate),
+        Ok(()) => serve_seated(
+            rt, alloc, room, seats, back, setting, name, files, hall, gate,
+        ),
         Err(fault) => {
             stand_all_up(hall, seats, &mut back);
             unseated(fault)
@@ -244,18 +248,22 @@ fn serve_blank<
     requires table { J.table ≡ blank.table }
     requires opening { J.opening ≡ blank.opening }
     requires stations { J.stations ≡ blank.stations }
-    ensures { (o : OpeningOf) (room : TrackRoom) → blank.opening ≡ Some room → IsRoomOf o room setting.counting setting.start
+    ensures { (o : OpeningOf) (room : TrackRoom) → blank.opening ≡ Some room
+        → IsRoomOf o room setting.counting setting.start
         → HallEnds o blank.stations name.now
         (files_told (F.file files.old) (F.read_faults files.old) (F.write_faults files.old))
         (files_told (F.file files.new) (F.read_faults files.new) (F.write_faults files.new))
         (files.new ≡ files.old)
-        (hall_told (H.told hall.old) (H.faults hall.old)) (hall_told (H.told hall.new) (H.faults hall.new)) result }
+        (hall_told (H.told hall.old) (H.faults hall.old))
+        (hall_told (H.told hall.new) (H.faults hall.new)) result }
 {
     let (room, passes) = match Room::<Editor, J>::open(alloc, blank) {
         Ok(opened) => opened,
         Err(_) => return Status::OutOfMemory,
     };
-    serve_room(rt, alloc, room, passes, setting, address, name, files, hall, gate)
+    serve_room(
+        rt, alloc, room, passes, setting, address, name, files, hall, gate,
+    )
 }
 
 /// Serves so many stations, all at once, in a room that begins so, each over its line of the hall, and then puts the
@@ -278,7 +286,8 @@ pub(crate) fn serve_opened<R: Threads + Wait + Sync, F: Files, H: Hall, G: Gate 
         (files_told (F.file files.old) (F.read_faults files.old) (F.write_faults files.old))
         (files_told (F.file files.new) (F.read_faults files.new) (F.write_faults files.new))
         (files.new ≡ files.old)
-        (hall_told (H.told hall.old) (H.faults hall.old)) (hall_told (H.told hall.new) (H.faults hall.new)) result }
+        (hall_told (H.told hall.old) (H.faults hall.old))
+        (hall_told (H.told hall.new) (H.faults hall.new)) result }
 {
     let Opening {
         table,
@@ -291,7 +300,5 @@ pub(crate) fn serve_opened<R: Threads + Wait + Sync, F: Files, H: Hall, G: Gate 
         Ok(blank) => blank,
         Err(_) => return Status::OutOfMemory,
     };
-    serve_blank::<R, F, H, G, Brand>(
-        rt, alloc, blank, setting, address, name, files, hall, gate,
-    )
+    serve_blank::<R, F, H, G, Brand>(rt, alloc, blank, setting, address, name, files, hall, gate)
 }

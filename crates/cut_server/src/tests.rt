@@ -3,11 +3,12 @@
 use crate::cut_main;
 use line_words::Words;
 use room_files::MemFiles;
-use room_halls::OpenGate;
+use room_halls::{MemHall, OpenGate};
 use room_ports::{MemSink, MemSource};
 use std::alloc::Global;
 use std::sync::Wait;
 use std::test::Fail;
+use std::thread::Threads;
 
 fn words_of(alloc: Global, texts: &[&str]) -> Result<Words, Fail> {
     let mut words = Words::new(alloc);
@@ -19,12 +20,22 @@ fn words_of(alloc: Global, texts: &[&str]) -> Result<Words, Fail> {
     Ok(words)
 }
 
+// The words of a text, parted by single spaces.
+pub(crate) fn words_in(alloc: Global, text: &str) -> Result<Words, Fail> {
+    let texts = parted(alloc, text)?;
+    words_of(alloc, &texts)
+}
+
 fn no_files(alloc: Global) -> MemFiles {
     MemFiles::new(alloc, Vec::new(alloc))
 }
 
+fn no_hall(alloc: Global) -> MemHall {
+    MemHall::new(alloc, Vec::new(alloc), Vec::new(alloc))
+}
+
 // The status and the output of a run with these words, over these pieces of input and these calls that fail.
-pub(crate) fn ended<R: Wait>(
+pub(crate) fn ended<R: Threads + Wait + Sync>(
     rt: &R,
     alloc: Global,
     words: &[&str],
@@ -44,7 +55,7 @@ pub(crate) fn ended<R: Wait>(
 }
 
 // The same over these files.
-pub(crate) fn ended_over<R: Wait>(
+pub(crate) fn ended_over<R: Threads + Wait + Sync>(
     rt: &R,
     alloc: Global,
     words: &[&str],
@@ -60,7 +71,16 @@ pub(crate) fn ended_over<R: Wait>(
     let mut input = MemSource::new(input, reads.to_vec(alloc)?);
     let mut output = MemSink::new(alloc, writes.to_vec(alloc)?);
     let words = words_of(alloc, words)?;
-    let status = cut_main(rt, alloc, &words, files, &mut input, &mut output, &OpenGate);
+    let status = cut_main(
+        rt,
+        alloc,
+        &words,
+        files,
+        &mut input,
+        &mut output,
+        &mut no_hall(alloc),
+        &OpenGate,
+    );
     let bytes = match output.bytes() {
         Some(bytes) => bytes.to_vec(alloc)?,
         None => Vec::new(alloc),
@@ -70,7 +90,7 @@ pub(crate) fn ended_over<R: Wait>(
 
 /// Whether a run with these words ends with status 0 and answers so, in a text of what is sent, each line behind `> `,
 /// and of what is answered.
-pub(crate) fn is_answered<R: Wait>(
+pub(crate) fn is_answered<R: Threads + Wait + Sync>(
     rt: &R,
     alloc: Global,
     words: &str,
@@ -283,6 +303,13 @@ fn words_are_a_run_or_refused(rt: HostRuntime) -> Result<(), Fail> {
         ("run 2\t 1", 3, refused),
         ("run 2 1 1", 3, refused),
         ("Run 2 1", 3, refused),
+        ("serve cut 24 ndf 1 a", 3, refused),
+        ("serve cut 24 ndf 0 a b", 3, refused),
+        ("serve cut 24 ndf 17 a b", 3, refused),
+        ("serve cut 24 drop 1 a b", 3, refused),
+        ("serve cut 24 ndf 1 a b c", 3, refused),
+        ("run cut 24 ndf 1 a b", 3, refused),
+        ("serve cut 24 ndf 16 a b", 1, ""),
         ("run 1 0", 0, ran),
         ("run 16 999", 0, ran),
         ("run 02 1", 0, ran),
@@ -314,7 +341,11 @@ fn a_line_has_a_limit(rt: HostRuntime) -> Result<(), Fail> {
 }
 
 // The status and the output of a run in a room of one track and one reel, over `point` and a line of so many bytes.
-fn long_input<R: Wait>(rt: &R, alloc: Global, bytes: usize) -> Result<(u8, Vec<u8>), Fail> {
+fn long_input<R: Threads + Wait + Sync>(
+    rt: &R,
+    alloc: Global,
+    bytes: usize,
+) -> Result<(u8, Vec<u8>), Fail> {
     let mut pieces = Vec::new(alloc);
     pieces.push(b"point\n".to_vec(alloc)?)?;
     pieces.push(vec![in alloc; b'x'; bytes]?)?;
@@ -328,6 +359,7 @@ fn long_input<R: Wait>(rt: &R, alloc: Global, bytes: usize) -> Result<(u8, Vec<u
         &mut no_files(alloc),
         &mut input,
         &mut output,
+        &mut no_hall(alloc),
         &OpenGate,
     );
     let told = output.bytes().ok_or("told")?;

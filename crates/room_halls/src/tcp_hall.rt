@@ -58,8 +58,7 @@ impl<'a, R: Net<Listener = TcpListener, Stream = TcpStream>, W> TcpHall<'a, R, W
 }
 
 impl<R: Net<Listener = TcpListener, Stream = TcpStream>, W: Write + Copy + Send> Hall
-    for TcpHall<'_, R, W>
-{
+    for TcpHall<'_, R, W> {
     type Line = TcpLine<W>;
 
     ghost told = { λ h s. tcp_hall_tells h s };

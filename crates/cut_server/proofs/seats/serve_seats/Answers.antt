@@ -4,7 +4,7 @@ use Rattle.cut_server.specs.Seated.{IsServedIn, SeatState}
 use Rattle.cut_server.proofs.seats.serve_seats.Goals as goal
 
 pub for_each_mut-requires-clause-accepts : goal.for_each_mut-requires-clause-accepts
-for_each_mut-requires-clause-accepts g c = λ i p low is. c.requires i p.now (slice_get_read c.args.seats.now _ i p.now refl low is)
+for_each_mut-requires-clause-accepts g c κs within = λ i p low is. c.requires i p.now (slice_get_read c.args.seats.now _ i p.now refl low is)
 
 pub returns-clause-served : goal.returns-clause-served
 returns-clause-served g c = λ k s t at left.

@@ -1,7 +1,8 @@
-use Rattle.std.proofs.Common.{◌≡◌, ◌+◌, ◌++◌, ◌∷◌, [], length, refl, sym, ap, ◌∙◌, append_assoc, arith, subst}
+use Rattle.std.proofs.Common.{◌≡◌, ℕ, ◌+◌, ◌++◌, ◌∷◌, [], length, refl, sym, ap, ◌∙◌, append_assoc, arith, subst}
 use Rattle.std.specs.Vec.Iter.{into_iter_items}
 use Rattle.std.proofs.lemmas.List.{length-append, append-nil, nil_from_length}
-use Rattle.cut_server.specs.Halls.{hall_told, line_of}
+use Rattle.room_halls.specs.Stations.{Station}
+use Rattle.cut_server.specs.Halls.{line_of}
 use Rattle.cut_server.proofs.Seating.{fresh_at, fresh_none, free_more, held_more, is_within, not_seated, seated_more, told_line}
 use Rattle.cut_server.proofs.stations.seat_all.Goals as goal
 
@@ -30,7 +31,7 @@ loop-pass-preserved g c =
         pass_is = c.new.ensures.pass;
         number_is = sym c.station-station.ensures.number ∙ number;
         entries = fresh_none g.J.Naming.opening c.args.passes.items all p rest c.requires.passes.1 so_far;
-        line = c.new.ensures.line ∙ (told_line _ _ _ _ _ c.in-Ok.ensures.line ∙ ap (λ s. line_of s.line) (rw number (i.free _ (omega arith))));
+        line = c.new.ensures.line ∙ (told_line _ _ _ _ _ c.in-Ok.ensures.line ∙ ap (λ (s : Station). line_of s.line) (ap (λ (m : ℕ). g.H.Hall.told c.loop-pass.hall m) number ∙ i.free (length c.loop-pass.seats.items) (omega arith)));
       }));
       held = rw (items, length-append) (held_more _ _ _ i.held (rw number at c.in-Ok.ensures.seated) (rw number at c.in-Ok.ensures.others));
       free = rw (items, length-append) (free_more _ _ _ _ i.free (rw number at c.in-Ok.ensures.others));
@@ -41,7 +42,7 @@ pub returns-in-Err-clause-free : goal.returns-in-Err-clause-free
 returns-in-Err-clause-free g c = λ k ge. c.in-Err.ensures.stays k ∙ c.loop-pass.invariant.free k ge
 
 pub returns-in-Err-clause-held : goal.returns-in-Err-clause-held
-returns-in-Err-clause-held g c = λ k low. ap (λ s. s.seated) (c.in-Err.ensures.stays k) ∙ c.loop-pass.invariant.held k low
+returns-in-Err-clause-held g c = λ k low. ap (λ (s : Station). s.seated) (c.in-Err.ensures.stays k) ∙ c.loop-pass.invariant.held k low
 
 pub returns-in-Err-clause-counts : goal.returns-in-Err-clause-counts
 returns-in-Err-clause-counts g c = not_seated c.seat_station.result c.in-Err.fault _ _ _ c.in-Err.is c.loop-pass.invariant.quiet c.seat_station.ensures.counts

@@ -54,7 +54,7 @@ loop-seat-preserved g c =
       lines = line_more _ _ all s i.lines here others;
       free = rw length-append (free_more _ _ _ (length all) i.free others);
       kept = rw c.push_reserved.ensures.items (passes_more c.loop-seat.passes.items all p s i.kept c.into_parts-pass.ensures.pass);
-      fault = c.or_next.ensures
+      fault = c.or_next-fault.ensures
           ∙ (ap (λ (x : Status). or_next c.loop-seat.fault x) end
           ∙ (ap (λ (x : Status). or_next x (status_of s.end)) i.fault
           ∙ (fault_more (map status_of (map (λ (t : SeatState). t.end) all)) (status_of s.end)
