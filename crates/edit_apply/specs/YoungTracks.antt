@@ -1,6 +1,6 @@
 -- How far the numbers of tracks without links have risen: each call raises the next item number of a track by two at
 -- most, and no next link number.
-use Rattle.std.proofs.Common.{◌≡◌, ℕ, zero, suc, ℤ, pos, negsuc, ◌+◌, ◌-◌, ◌<◌, ◌≤◌, Bool, true, false, cond, eqb, min, List, [], ◌∷◌, All, length, Option, Some, None, IfSome, Result, Ok, Err, refl, sym, ◌∙◌, arith, subst, nat_lt, unwrap_or}
+use Rattle.std.proofs.Common.{◌≡◌, ℕ, zero, suc, ℤ, pos, negsuc, ◌+◌, ◌-◌, ◌<◌, ◌≤◌, Bool, true, false, cond, eqb, min, List, [], ◌∷◌, All, length, map, Option, Some, None, IfSome, Result, Ok, Err, refl, sym, ◌∙◌, arith, subst, nat_lt, unwrap_or}
 use Rattle.std.proofs.lemmas.List.Elements.{All-cons}
 use Rattle.frame_meaning.specs.declared.cells.What.{What}
 use Rattle.composables.specs.declared.calls.Overwrite.{Overwrite}
@@ -29,11 +29,14 @@ use Rattle.composables.specs.Good.{AllUnlinked}
 use Rattle.composables.specs.Joined.{frames_in}
 use Rattle.composables.specs.Limits.{too_long, too_many, track_within_limits, within_limits}
 use Rattle.composables.specs.Items.{cells_of}
+use Rattle.composables.specs.Links.{outside_refusal}
 use Rattle.composables.specs.OwnTracks.{among_named, for_own, on_own, track_numbered, with_track}
 use Rattle.composables.specs.Ranges.{gap_at, is_cut, range_of}
 use Rattle.composables.specs.TrackFacts.{NumbersBelow}
 use Rattle.composables.specs.TrackState.{TrackState}
 use Rattle.composables.specs.Views.{clip_view, gap_view, gap_views}
+use Rattle.frame_meaning.specs.declared.cells.Cell.{Cell}
+use Rattle.frame_meaning.specs.declared.cells.Link.{Link}
 use Rattle.frame_meaning.specs.declared.cells.Mark.{Mark}
 use Rattle.frame_meaning.specs.Render.{cell_at}
 use Rattle.dissolves.specs.Cuts.{dissolve_refusal}
@@ -42,12 +45,12 @@ use Rattle.edit_delta.specs.Nearest.{nearest}
 use Rattle.edit_delta.specs.Reaching.{going_on, reaching_back}
 use Rattle.edit_delta.specs.Using.{on_range, used_on}
 use Rattle.edit_trim.specs.Rippling.{as_split, ripple_allows, ripple_end, ripple_named, ripple_own, rippled, used_on_all}
-use Rattle.edit_trim.specs.Slipping.{slip_allows, slip_named, slip_range, slip_track, slipped, slipped_by}
+use Rattle.edit_trim.specs.Slipping.{cell_moved, link_allows, link_slipped, linked_moved, slip_allows, slip_link, slip_named, slip_own, slip_range, slip_track, slip_with, slipped, slipped_by, track_moved}
 use Rattle.edit_trim.specs.Trimming.{trim_allows, trim_end, trim_named, trim_track, trimmed}
 use Rattle.edit_insert.specs.Fills.{fill_at, fill_named, fill_track, filled, frames_asked}
 use Rattle.edit_roll.specs.Neighbours.{move_allows}
 use Rattle.edit_roll.specs.Rolling.{roll_cut, roll_named, roll_track, rolled}
-use Rattle.edit_roll.specs.Sliding.{bare_item, slid, slide_allows, slide_named, slide_range, slide_track}
+use Rattle.edit_roll.specs.Sliding.{bare_item, links_refuse, slid, slide_allows, slide_named, slide_own, slide_range, slide_track}
 use Rattle.edit_splice.specs.Shifts.{shift_of, shifted, shifted_along, shifted_track}
 use Rattle.edit_splice.specs.Splicing.{spliced_track}
 use Rattle.edit_splice.proofs.Outcomes.{next-bounds}
@@ -58,6 +61,8 @@ use Rattle.edit_splice.proofs.Bridging.{for-found}
 use Rattle.edit_splice.proofs.Standing.{all_head, all_none, all_tail}
 use Rattle.edit_splice.proofs.Numbers.{if-weaker}
 use Rattle.edit_splice.proofs.Unlinked.{Bare, shift-free, split-free}
+use Rattle.link_groups.specs.ItemLinks.{carries, link_of}
+use Rattle.link_groups.specs.LinkedItems.{item_of}
 use Rattle.edit_apply.specs.PlainCells.{ArePlain, IsPlain, plain-append, plain-at, plain-bare, plain-changed, plain-marked, plain-more, plain-spliced, plain-views}
 
 -- a track without links that has given away at most this many item numbers, and no link number
@@ -325,12 +330,42 @@ young_slipped : (n : ℕ) (t : TrackState) (x y : ℕ) (d : ℤ) → IsYoung n t
 young_slipped n t x y (pos k) h = young_moved n t x y k 0 h
 young_slipped n t x y (negsuc k) h = young_moved n t x y 0 (suc k) h
 
+plain_linked : (n : ℕ) (l : Link) (on back : ℕ) (cs : List Cell) → ArePlain n cs → ArePlain n (map (linked_moved l on back) cs)
+plain_linked n l on back [] h = tt
+plain_linked n l on back (c ∷ cs) h = (by (carries l c.link), plain_linked n l on back cs h.1) where
+  by : (b : Bool) → IsPlain n (cond b (cell_moved on back c) c)
+  by true = h.0
+  by false = h.0
+
+young_linked : (n : ℕ) (l : Link) (on back : ℕ) (ts : List TrackState) → All (IsYoung n) ts → All (IsYoung (n + 2)) (map (track_moved l on back) ts)
+young_linked n l on back [] h = all_none (IsYoung (n + 2))
+young_linked n l on back (t ∷ ts) h =
+    All-cons (IsYoung (n + 2)) (track_moved l on back t) (map (track_moved l on back) ts) moved (young_linked n l on back ts (all_tail (IsYoung n) t ts h)) where
+      y : IsYoung n t
+      y = all_head (IsYoung n) t ts h
+
+      moved : IsYoung (n + 2) (track_moved l on back t)
+      moved = record {
+        item = omega (arith, y.item);
+        link = y.link;
+        plain = plain_linked (n + 2) l on back t.cells (plain-more n (n + 2) t.cells (omega arith) y.plain);
+      }
+
+young_link : (n : ℕ) (l : Link) (ts : List TrackState) (d : ℤ) → All (IsYoung n) ts → All (IsYoung (n + 2)) (link_slipped l ts d)
+young_link n l ts (pos k) h = young_linked n l k 0 ts h
+young_link n l ts (negsuc k) h = young_linked n l 0 (suc k) ts h
+
 pub young-slip : (n : ℕ) (table : Table) (ts : List TrackState) (c : Slip) → All (IsYoung n) ts → AreYoung (n + 2) (slip_named table ts c)
-young-slip n table ts c h = on-own-young n (n + 2) c.track (slip_track table c) ts (omega arith) h each where
-  each : (t : TrackState) → IsYoung n t → StaysYoung (n + 2) (slip_track table c t)
-  each t y = on_range_stays (n + 2) (slip_range table t c.by) (range_of t.cells c.item)
+young-slip n table ts c h = for_own_young n (n + 2) c.track (slip_own table ts c) ts h (λ t y. with_link t (link_of t c.item) y) where
+  alone : (t : TrackState) → IsYoung n t → StaysYoung (n + 2) (slip_track table c t)
+  alone t y = on_range_stays (n + 2) (slip_range table t c.by) (range_of t.cells c.item)
       (λ a b. used_stays n t (slipped t a b) (nearest (slip_allows table t a b) c.by) y
       (young_slipped n t a b (nearest (slip_allows table t a b) c.by) y))
+
+  with_link : (t : TrackState) (o : Option Link) → IsYoung n t → AreYoung (n + 2) (slip_with table ts c t o)
+  with_link t None y = among_young n (n + 2) ts (slip_track table c t) (omega arith) h (alone t y)
+  with_link t (Some l) y =
+      unless_young (n + 2) (outside_refusal ts (Some l)) (slip_link table ts l c.by) (young_link n l ts (nearest (link_allows table ts l) c.by) h)
 
 -- a cut, and an item between its neighbours
 young_rolled : (n : ℕ) (t : TrackState) (at : ℕ) (d : ℤ) → IsYoung n t → IsYoung (n + 2) (rolled t at d)
@@ -354,11 +389,16 @@ young_slid n t x y (negsuc k) h =
     parts_young n t (x - suc k) y x y (bare_item (cell_at t.cells x) (y - x)) (reaching_back (cell_at t.cells y) (suc k)) h refl refl refl refl
 
 pub young-slide : (n : ℕ) (table : Table) (ts : List TrackState) (c : Slide) → All (IsYoung n) ts → AreYoung (n + 2) (slide_named table ts c)
-young-slide n table ts c h = on-own-young n (n + 2) c.track (slide_track table c) ts (omega arith) h each where
-  each : (t : TrackState) → IsYoung n t → StaysYoung (n + 2) (slide_track table c t)
-  each t y = on_range_stays (n + 2) (slide_range table t c.by) (range_of t.cells c.item)
+young-slide n table ts c h = for_own_young n (n + 2) c.track (slide_own table ts c) ts h each where
+  stays : (t : TrackState) → IsYoung n t → StaysYoung (n + 2) (slide_track table c t)
+  stays t y = on_range_stays (n + 2) (slide_range table t c.by) (range_of t.cells c.item)
       (λ a b. used_stays n t (slid t a b) (nearest (slide_allows table t a b) c.by) y
       (young_slid n t a b (nearest (slide_allows table t a b) c.by) y))
+
+  each : (t : TrackState) → IsYoung n t → AreYoung (n + 2) (slide_own table ts c t)
+  each t y =
+      unless_young (n + 2) (links_refuse table ts c t (item_of t c.item)) (among_named ts (slide_track table c t))
+      (among_young n (n + 2) ts (slide_track table c t) (omega arith) h (stays t y))
 
 -- a new item in a gap
 young_filled : (n : ℕ) (t : TrackState) (c : Fill) (at len : ℕ) → IsYoung n t → StaysYoung (n + 2) (track_within_limits (filled t c at len) (Item t.next_item))

@@ -69,16 +69,19 @@ slide-none table t by x y h =
     let z = no_nearest (slide_allows table t x y) by (λ e. none_allowed table t x y e h) in
     ap (used_on t (by_sign (slid_later t x y) (slid_earlier t x y))) z
 
+pub slide-nowhere : (table : Table) (t : TrackState) (by : ℤ) (x y : ℕ) → has_neighbours t.cells x y ≡ false → nearest (slide_allows table t x y) by ≡ pos 0
+slide-nowhere table t by x y h = no_nearest (slide_allows table t x y) by (λ e. none_allowed table t x y e h)
+
 -- the item itself may be put in beside where it stood
 link_there : (number : ℕ) (vs : List ItemView) (i : ℕ) (v : ItemView) → slice_get vs i ≡ Some v → EachLinkOf number vs → IsLinkOf number v.link
 link_there number [] i v e h = absurd (omega (arith, slice_get_within [] i v e))
 link_there number (w ∷ ws) zero v e h = let same : w ≡ v = cc in subst (λ (u : ItemView). IsLinkOf number u.link) same h.0
 link_there number (w ∷ ws) (suc i) v e h = link_there number ws i v e h.1
 
-shows_there : (vs : List ItemView) (i : ℕ) (v : ItemView) → slice_get vs i ≡ Some v → EachHolds vs → ShowsAsItem v.item v.first v.link
-shows_there [] i v e h = absurd (omega (arith, slice_get_within [] i v e))
-shows_there (w ∷ ws) zero v e h = let same : w ≡ v = cc in subst (λ (u : ItemView). ShowsAsItem u.item u.first u.link) same h.0.shows
-shows_there (w ∷ ws) (suc i) v e h = shows_there ws i v e h.1
+pub shows-there : (vs : List ItemView) (i : ℕ) (v : ItemView) → slice_get vs i ≡ Some v → EachHolds vs → ShowsAsItem v.item v.first v.link
+shows-there [] i v e h = absurd (omega (arith, slice_get_within [] i v e))
+shows-there (w ∷ ws) zero v e h = let same : w ≡ v = cc in subst (λ (u : ItemView). ShowsAsItem u.item u.first u.link) same h.0.shows
+shows-there (w ∷ ws) (suc i) v e h = shows-there ws i v e h.1
 
 abbrev IsFree : TrackState → ℕ → ℕ → Option ℕ → Type 0
 IsFree t x y o = IfSome o (λ i. (t.next_item ≤ i) ⊎ StandsWithin t x y i)
@@ -98,7 +101,7 @@ bare-alone table t i v x y a b good s le ge = record {
   each = (
     record {
       filled = s.filled;
-      shows = shows_there (items_of t.cells) i v s.read good.kept.each;
+      shows = shows-there (items_of t.cells) i v s.read good.kept.each;
       mark_filled = tt;
       room = omega arith;
       source = s.source;

@@ -6,6 +6,7 @@
 #![tactic(auto)]
 
 mod laws;
+mod linked_slides;
 mod neighbours;
 mod rolling;
 mod sliding;

@@ -1,18 +1,19 @@
 // Slide: an item moved between its neighbours.
-ghost use Rattle.std.specs.Prelude.{◌≡◌, ◌+◌, ◌*◌, ◌≤◌, All, Some, nat_eq, slice_get, true};
+ghost use Rattle.std.specs.Prelude.{◌≡◌, ◌+◌, ◌*◌, ◌<◌, ◌≤◌, All, Some, length, nat_eq, slice_get, true};
 ghost use Rattle.std.specs.List.{list_any};
 ghost use Rattle.composables.specs.Answers.{Answers, NextRises};
 ghost use Rattle.composables.specs.Good.{AreUnlinked, IsGood};
 ghost use Rattle.composables.specs.Items.{items_of};
-ghost use Rattle.composables.specs.OwnTracks.{numbers_of};
+ghost use Rattle.composables.specs.OwnTracks.{numbers_of, track_numbered};
 ghost use Rattle.composables.specs.Places.{IsPlaceOf};
 ghost use Rattle.composables.specs.Roomy.{IsRoomy};
 ghost use Rattle.composables.specs.Sizes.{size_of, sizes_of};
 ghost use Rattle.composables.specs.TrackSets.{tracks_in};
-ghost use Rattle.edit_splice.specs.Standing.{StaysGood};
+ghost use Rattle.edit_splice.specs.Standing.{EachStaysGood, StaysGood};
 ghost use Rattle.edit_roll.specs.Neighbours.{StandBeside, has_neighbours};
 ghost use Rattle.edit_roll.specs.Sliding.{bare_view, slide_named, slide_range, slide_track};
 
+use crate::linked_slides::links_refuse;
 use crate::neighbours::{Sides, sides_of_item, used_between};
 use composables::{Done, EditFault, ItemView, Place, Refusal, Slide, Table, Track, own_index};
 use edit_delta::{Way, going_on, place_parts, reaching_back};
@@ -23,9 +24,11 @@ use step_count::Steps;
 /// Moves an item of its own track by the delta used, between its neighbours: the one that it leaves grows, the other
 /// gives way, and the length of the track stays. Both keep a frame, and what grows keeps its source in its range; an
 /// item that has no neighbour at one side stays where it is. A dissolve at the item's head is dropped. The other named
-/// tracks stay as they are.
+/// tracks stay as they are, so an item does not move away from what else has its link.
 ///
-/// It answers the delta used, or the first of these refusals that holds: `NoItem`, `TooManyItems`.
+/// It answers the delta used, or the first of these refusals that holds: `NoItem`; `LinkOutside`, where the item's link
+/// has a track that is not named; `LinkBroken`, where the delta used is not 0 and something else has its link;
+/// `TooManyItems`.
 pub fn slide<L: Ledger>(
     alloc: Global,
     table: &Table,
@@ -37,14 +40,13 @@ pub fn slide<L: Ledger>(
     requires own { list_any (nat_eq call.now.track) (tracks_in call.now.tracks) ≡ true }
     requires good { All (λ t. IsGood table.now t) named.old.items }
     requires roomy { All (λ t. IsRoomy t) named.old.items }
-    requires unlinked { AreUnlinked named.old.items }
 
     ensures answers { Answers (slide_named table.now named.old.items call.now)
         named.old.items named.new.items result }
 
     ensures named { numbers_of named.new.items ≡ tracks_in call.now.tracks }
     ensures good { All (λ t. IsGood table.now t) named.new.items }
-    ensures unlinked { AreUnlinked named.new.items }
+    ensures unlinked { AreUnlinked named.old.items → AreUnlinked named.new.items }
     ensures numbers { NextRises 2 named.old.items named.new.items }
 
     ensures least { steps.old + 1 ≤ steps.new }
@@ -52,8 +54,35 @@ pub fn slide<L: Ledger>(
 {
     steps.tick();
     match own_index(named, call.track) {
-        Some(index) => slide_track(alloc, table, &mut named[index], call, steps),
+        Some(index) => slide_at(alloc, table, named, index, call, steps),
         None => unreachable!(),
+    }
+}
+
+// The same, where the own track stands at an index.
+fn slide_at<L: Ledger>(
+    alloc: Global,
+    table: &Table,
+    named: &mut Vec<Track>,
+    index: usize,
+    call: &Slide,
+    steps: &mut Steps<L>,
+) -> Result<Done, EditFault>
+    requires within { index < length named.old.items }
+    requires found { track_numbered call.now.track named.old.items
+        ≡ slice_get named.old.items index }
+    requires named { numbers_of named.old.items ≡ tracks_in call.now.tracks }
+    requires good { All (λ t. IsGood table.now t) named.old.items }
+    requires roomy { All (λ t. IsRoomy t) named.old.items }
+    ensures answers { Answers (slide_named table.now named.old.items call.now)
+        named.old.items named.new.items result }
+    ensures good { EachStaysGood table.now named.old.items named.new.items }
+    ensures least { steps.old ≤ steps.new }
+    ensures most { steps.new ≤ steps.old + 22 * sizes_of named.old.items }
+{
+    match links_refuse(table, named, &named[index], call, steps) {
+        Some(refusal) => Err(EditFault::Refused(refusal)),
+        None => slide_track(alloc, table, &mut named[index], call, steps),
     }
 }
 

@@ -1,4 +1,5 @@
 // Cuts rolled and items slid, beside a plain program over cells.
 
 mod edits;
+mod links;
 mod plain;

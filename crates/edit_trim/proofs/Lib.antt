@@ -1,9 +1,12 @@
 pub mod Beside
+pub mod TestTracks
 pub mod Trims
 pub mod Slips
 pub mod Slipped
 pub mod Reached
+pub mod LinkedRooms
+pub mod LinkedMoves
+pub mod LinkedSlip
 pub mod Ripples
 pub mod RippleTracks
 pub mod RippleShift
-pub mod Laid

@@ -39,28 +39,28 @@ use Rattle.edit_trim.proofs.Beside.{beyond, none-past, there-of}
 use Rattle.edit_trim.proofs.Slips.{Reaches, sourced-good, sourced-slipped}
 
 -- with what the dissolves at its ends show past it, an item lies in the range of its thing
-lies_ends : (table : Table) (vs : List ItemView) (i : ℕ) (v : ItemView) → slice_get vs i ≡ Some v → EachLiesIn table vs
+pub lies-ends : (table : Table) (vs : List ItemView) (i : ℕ) (v : ItemView) → slice_get vs i ≡ Some v → EachLiesIn table vs
     → SideLiesIn table v.first v.len (left_reach v.mark) (right_reach (mark_of (slice_get vs (suc i))))
-lies_ends table [] i v e h = absurd (omega (arith, slice_get_within [] i v e))
-lies_ends table (w ∷ ws) zero v e h =
+lies-ends table [] i v e h = absurd (omega (arith, slice_get_within [] i v e))
+lies-ends table (w ∷ ws) zero v e h =
     let same : w ≡ v = cc in
     subst (λ (u : ItemView). SideLiesIn table u.first u.len (left_reach u.mark) (right_reach (mark_of (slice_get ws 0)))) same
     (subst (λ (m : Option Mark). SideLiesIn table w.first w.len (left_reach w.mark) (right_reach m)) (first_is ws) h.0) where
       first_is : (us : List ItemView) → first_mark us ≡ mark_of (slice_get us 0)
       first_is [] = refl
       first_is (u ∷ us) = refl
-lies_ends table (w ∷ ws) (suc i) v e h = lies_ends table ws i v e h.1
+lies-ends table (w ∷ ws) (suc i) v e h = lies-ends table ws i v e h.1
 
-source_ends : (vs : List ItemView) (i : ℕ) (v : ItemView) → slice_get vs i ≡ Some v → EachHolds vs → HasSource v.first v.len (left_reach v.mark) (right_reach (mark_of (slice_get vs (suc i))))
-source_ends [] i v e h = absurd (omega (arith, slice_get_within [] i v e))
-source_ends (w ∷ ws) zero v e h =
+pub source-ends : (vs : List ItemView) (i : ℕ) (v : ItemView) → slice_get vs i ≡ Some v → EachHolds vs → HasSource v.first v.len (left_reach v.mark) (right_reach (mark_of (slice_get vs (suc i))))
+source-ends [] i v e h = absurd (omega (arith, slice_get_within [] i v e))
+source-ends (w ∷ ws) zero v e h =
     let same : w ≡ v = cc in
     subst (λ (u : ItemView). HasSource u.first u.len (left_reach u.mark) (right_reach (mark_of (slice_get ws 0)))) same
     (subst (λ (m : Option Mark). HasSource w.first w.len (left_reach w.mark) (right_reach m)) (first_is ws) h.0.source) where
       first_is : (us : List ItemView) → first_mark us ≡ mark_of (slice_get us 0)
       first_is [] = refl
       first_is (u ∷ us) = refl
-source_ends (w ∷ ws) (suc i) v e h = source_ends ws i v e h.1
+source-ends (w ∷ ws) (suc i) v e h = source-ends ws i v e h.1
 
 -- the mark behind an item
 mark_behind : (table : Table) (t : TrackState) (p : Place) (o : Option ItemView) → IsGood table t → StandsAt (items_of t.cells) p → slice_get (items_of t.cells) (p.index + 1) ≡ o
@@ -100,29 +100,29 @@ ready table t p v s tail good stands read shows is =
       first = (first_of v.first s shows).1;
       tail_is = here;
       behind = mark_behind table t p (slice_get vs (p.index + 1)) good stands refl ∙ sym is;
-      lies = subst (λ (m : Option Mark). SideLiesIn table v.first v.len (left_reach v.mark) (right_reach m)) (sym here) (lies_ends table vs p.index v read good.ranges);
-      source = subst (λ (m : Option Mark). HasSource v.first v.len (left_reach v.mark) (right_reach m)) (sym here) (source_ends vs p.index v read good.kept.each);
+      lies = subst (λ (m : Option Mark). SideLiesIn table v.first v.len (left_reach v.mark) (right_reach m)) (sym here) (lies-ends table vs p.index v read good.ranges);
+      source = subst (λ (m : Option Mark). HasSource v.first v.len (left_reach v.mark) (right_reach m)) (sym here) (source-ends vs p.index v read good.kept.each);
     }
 
-less_lies : (table : Table) (d : Side What) (len a b c e : ℕ) → c ≤ a → e ≤ b → SideLiesIn table d len a b → SideLiesIn table d len c e
-less_lies table Dark len a b c e f g h = tt
-less_lies table (Pic w s) len a b c e f g h = by (bounds_of table w) h where
+pub less-lies : (table : Table) (d : Side What) (len a b c e : ℕ) → c ≤ a → e ≤ b → SideLiesIn table d len a b → SideLiesIn table d len c e
+less-lies table Dark len a b c e f g h = tt
+less-lies table (Pic w s) len a b c e f g h = by (bounds_of table w) h where
   by : (o : Option (ℕ × ℕ)) → LiesIn o s len a b → LiesIn o s len c e
   by None h = absurd h
   by (Some r) h = (omega (arith, h.0, f), omega (arith, h.1, g))
 
 pub lies-head : (table : Table) (t : TrackState) (p : Place) (v : ItemView) (s : ℕ) (tail : Option Mark) → Ready table t p v s tail → SideLiesIn table v.first v.len (left_reach v.mark) 0
-lies-head table t p v s tail r = less_lies table v.first v.len (left_reach v.mark) (right_reach tail) (left_reach v.mark) 0 (omega arith) (omega arith) r.lies
+lies-head table t p v s tail r = less-lies table v.first v.len (left_reach v.mark) (right_reach tail) (left_reach v.mark) 0 (omega arith) (omega arith) r.lies
 
 pub lies-tail : (table : Table) (t : TrackState) (p : Place) (v : ItemView) (s : ℕ) (tail : Option Mark) → Ready table t p v s tail → SideLiesIn table v.first v.len 0 (right_reach tail)
-lies-tail table t p v s tail r = less_lies table v.first v.len (left_reach v.mark) (right_reach tail) 0 (right_reach tail) (omega arith) (omega arith) r.lies
+lies-tail table t p v s tail r = less-lies table v.first v.len (left_reach v.mark) (right_reach tail) 0 (right_reach tail) (omega arith) (omega arith) r.lies
 
-less_source : (d : Side What) (len a b : ℕ) → HasSource d len a b → HasSource d len 0 b
-less_source Dark len a b h = tt
-less_source (Pic w s) len a b h = (omega arith, h.1)
+pub less-source : (d : Side What) (len a b : ℕ) → HasSource d len a b → HasSource d len 0 b
+less-source Dark len a b h = tt
+less-source (Pic w s) len a b h = (omega arith, h.1)
 
 pub source-tail : (table : Table) (t : TrackState) (p : Place) (v : ItemView) (s : ℕ) (tail : Option Mark) → Ready table t p v s tail → HasSource v.first v.len 0 (right_reach tail)
-source-tail table t p v s tail r = less_source v.first v.len (left_reach v.mark) (right_reach tail) r.source
+source-tail table t p v s tail r = less-source v.first v.len (left_reach v.mark) (right_reach tail) r.source
 
 -- its new source frames
 pub record Fits (table : Table) (v : ItemView) (k : ℕ) (tail : Option Mark) : Type 0 where

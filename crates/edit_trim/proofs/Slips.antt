@@ -26,35 +26,31 @@ use Rattle.composables.proofs.Joining.{items_of-tight, length-cells_of}
 use Rattle.edit_splice.specs.Standing.{StaysGood}
 use Rattle.edit_splice.proofs.Keeping.{stand_of}
 use Rattle.edit_splice.proofs.Meeting.{filled-each}
+use Rattle.edit_trim.specs.LinkedSlips.{ReachesBack}
 use Rattle.edit_trim.specs.Slipping.{cell_moved, changed_on, mark_of, slipped_by}
 
 -- the cells
 
--- a side that has as many frames before it
-abbrev Behind : Side What → ℕ → Type 0
-Behind Dark back = Unit {0}
-Behind (Pic w s) back = back ≤ s
-
-behind_next : (s : Side What) (back : ℕ) → Behind s back → Behind (next_side s) back
+behind_next : (s : Side What) (back : ℕ) → ReachesBack s back → ReachesBack (next_side s) back
 behind_next Dark back h = tt
 behind_next (Pic w s) back h = omega (arith, h)
 
-next_behind : (s : Side What) (on back : ℕ) → Behind s back → next_side (moved s on back) ≡ moved (next_side s) on back
+next_behind : (s : Side What) (on back : ℕ) → ReachesBack s back → next_side (moved s on back) ≡ moved (next_side s) on back
 next_behind Dark on back h = refl
 next_behind (Pic w s) on back h = let e : s + on - back + 1 ≡ s + 1 + on - back = omega (arith, h) in ap (Pic w) e
 
-span_moved : (i : Option ℕ) (s : Side What) (l : Option Link) (on back n : ℕ) → Behind s back → map (cell_moved on back) (span i s l n) ≡ span i (moved s on back) l n
-span_moved i s l on back zero h = refl
-span_moved i s l on back (suc n) h =
+pub span-moved : (i : Option ℕ) (s : Side What) (l : Option Link) (on back n : ℕ) → ReachesBack s back → map (cell_moved on back) (span i s l n) ≡ span i (moved s on back) l n
+span-moved i s l on back zero h = refl
+span-moved i s l on back (suc n) h =
     ap (λ (cs : List Cell). record { item = i; side = moved s on back; mark = None; link = l } ∷ cs)
-    (span_moved i (next_side s) l on back n (behind_next s back h) ∙ ap (λ (d : Side What). span i d l n) (sym (next_behind s on back h)))
+    (span-moved i (next_side s) l on back n (behind_next s back h) ∙ ap (λ (d : Side What). span i d l n) (sym (next_behind s on back h)))
 
 marked_moved : (m : Option Mark) (cs : List Cell) (on back : ℕ) → map (cell_moved on back) (marked m cs) ≡ marked m (map (cell_moved on back) cs)
 marked_moved m [] on back = refl
 marked_moved m (c ∷ cs) on back = refl
 
-view_moved : (v : ItemView) (on back : ℕ) → Behind v.first back → map (cell_moved on back) (view_cells v) ≡ view_cells (record v { first = moved v.first on back })
-view_moved v on back h = marked_moved v.mark (span v.item v.first v.link v.len) on back ∙ ap (marked v.mark) (span_moved v.item v.first v.link on back v.len h)
+view_moved : (v : ItemView) (on back : ℕ) → ReachesBack v.first back → map (cell_moved on back) (view_cells v) ≡ view_cells (record v { first = moved v.first on back })
+view_moved v on back h = marked_moved v.mark (span v.item v.first v.link v.len) on back ∙ ap (marked v.mark) (span-moved v.item v.first v.link on back v.len h)
 
 -- the cells before an item or gap, its own, and those behind it
 parts_at : (g : ItemView → ItemView) (i : ℕ) (vs : List ItemView) (v : ItemView) → slice_get vs i ≡ Some v
@@ -166,15 +162,15 @@ holds_sourced table v s tail r h = record {
   tail_no_nest = no_nest v.first tail s h.tail_no_nest;
 }
 
-first_of_rest : (vs : List ItemView) → first_mark vs ≡ mark_of (slice_get vs 0)
-first_of_rest [] = refl
-first_of_rest (v ∷ vs) = refl
+pub first-of-rest : (vs : List ItemView) → first_mark vs ≡ mark_of (slice_get vs 0)
+first-of-rest [] = refl
+first-of-rest (v ∷ vs) = refl
 
 each_sourced : (table : Table) (s i : ℕ) (vs : List ItemView) (v : ItemView) → slice_get vs i ≡ Some v → Reaches table v s (mark_of (slice_get vs (suc i))) → EachHolds vs → EachHolds (changed_at (with_source s) i vs)
 each_sourced table s i [] v e r h = absurd (omega (arith, slice_get_within [] i v e))
 each_sourced table s zero (w ∷ ws) v e r h =
     let same : v ≡ w = cc in
-    (holds_sourced table w s (first_mark ws) (subst (Reaches table w s) (sym (first_of_rest ws)) (subst (λ (u : ItemView). Reaches table u s (mark_of (slice_get ws 0))) same r)) h.0, h.1)
+    (holds_sourced table w s (first_mark ws) (subst (Reaches table w s) (sym (first-of-rest ws)) (subst (λ (u : ItemView). Reaches table u s (mark_of (slice_get ws 0))) same r)) h.0, h.1)
 each_sourced table s (suc i) (w ∷ ws) v e r h =
     (subst (Holds w) (sym (first_sourced s i ws)) h.0, each_sourced table s i ws v e r h.1)
 
@@ -182,7 +178,7 @@ ranges_sourced : (table : Table) (s i : ℕ) (vs : List ItemView) (v : ItemView)
 ranges_sourced table s i [] v e r h = absurd (omega (arith, slice_get_within [] i v e))
 ranges_sourced table s zero (w ∷ ws) v e r h =
     let same : v ≡ w = cc in
-    let here = subst (Reaches table w s) (sym (first_of_rest ws)) (subst (λ (u : ItemView). Reaches table u s (mark_of (slice_get ws 0))) same r) in
+    let here = subst (Reaches table w s) (sym (first-of-rest ws)) (subst (λ (u : ItemView). Reaches table u s (mark_of (slice_get ws 0))) same r) in
     (here.lies, h.1)
 ranges_sourced table s (suc i) (w ∷ ws) v e r h =
     (subst (λ (m : Option Mark). SideLiesIn table w.first w.len (left_reach w.mark) (right_reach m)) (sym (first_sourced s i ws)) h.0, ranges_sourced table s i ws v e r h.1)
@@ -190,8 +186,8 @@ ranges_sourced table s (suc i) (w ∷ ws) v e r h =
 shape : (s : ℕ) → LeavesShape (with_source s)
 shape s = record { item = λ v. refl; len = λ v. refl }
 
-items_sourced : (t : TrackState) (s i : ℕ) → IsKept t → items_of (changed_track t i (with_source s)).cells ≡ changed_at (with_source s) i (items_of t.cells)
-items_sourced t s i k =
+pub items-sourced : (t : TrackState) (s i : ℕ) → IsKept t → items_of (changed_track t i (with_source s)).cells ≡ changed_at (with_source s) i (items_of t.cells)
+items-sourced t s i k =
     items_of-tight (changed_at (with_source s) i (items_of t.cells))
     (filled-changed (with_source s) (shape s) i (items_of t.cells) (filled-each (items_of t.cells) k.each))
     (tight-changed (with_source s) (shape s) i (items_of t.cells) (stand_of t k).tight)
@@ -205,7 +201,7 @@ pub sourced-good : (table : Table) (t : TrackState) (i s : ℕ) (v : ItemView) �
 sourced-good table t i s v g e r =
     let k = g.kept in
     let vs = items_of t.cells in
-    let same = items_sourced t s i k in
+    let same = items-sourced t s i k in
     let long = length_sourced t s i k in
     record {
       kept = record {
@@ -229,7 +225,7 @@ sourced-stays table t i s v g e r = record {
   number = refl;
   item = omega arith;
   link = refl;
-  unlinked = λ u. subst AllUnlinked (sym (items_sourced t s i g.kept)) (unlinked_sourced s i (items_of t.cells) u);
+  unlinked = λ u. subst AllUnlinked (sym (items-sourced t s i g.kept)) (unlinked_sourced s i (items_of t.cells) u);
 }
 
 -- the code's change of an item is that of its cells
@@ -237,8 +233,8 @@ behind_of : (s on back k : ℕ) (w : What) (v : ItemView) → v.first ≡ Pic w 
 behind_of s on back k w v e le is =
     ap (λ (d : Side What). side_from d k) e ∙ (ap (Pic w) is ∙ ap (λ (d : Side What). moved d on back) (sym e))
 
-first_behind : (s back : ℕ) (w : What) (v : ItemView) → v.first ≡ Pic w s → back ≤ s → Behind v.first back
-first_behind s back w v e le = subst (λ (d : Side What). Behind d back) (sym e) le
+first_behind : (s back : ℕ) (w : What) (v : ItemView) → v.first ≡ Pic w s → back ≤ s → ReachesBack v.first back
+first_behind s back w v e le = subst (λ (d : Side What). ReachesBack d back) (sym e) le
 
 pub sourced-slipped : (t : TrackState) (i x y s on back k : ℕ) (w : What) (v : ItemView) → IsKept t → slice_get (items_of t.cells) i ≡ Some v → x ≡ frames_in (take i (items_of t.cells)) → y ≡ x + v.len
     → v.first ≡ Pic w s → back ≤ s → k ≡ s + on - back → changed_track t i (with_source k) ≡ slipped_by t x y on back
@@ -252,4 +248,4 @@ pub slipped-frames : (t : TrackState) (i s : ℕ) → IsKept t → length (chang
 slipped-frames t i s k = length_sourced t s i k
 
 pub slipped-count : (t : TrackState) (i s : ℕ) → IsKept t → length (items_of (changed_track t i (with_source s)).cells) ≡ length (items_of t.cells)
-slipped-count t i s k = ap length (items_sourced t s i k) ∙ length_changed (with_source s) i (items_of t.cells)
+slipped-count t i s k = ap length (items-sourced t s i k) ∙ length_changed (with_source s) i (items_of t.cells)

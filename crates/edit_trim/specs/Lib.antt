@@ -1,5 +1,5 @@
 pub mod Darkness
 pub mod Trimming
 pub mod Slipping
+pub mod LinkedSlips
 pub mod Rippling
-pub mod Laid

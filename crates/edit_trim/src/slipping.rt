@@ -1,29 +1,34 @@
-// Slip: the source frames of an item moved, and nothing else.
-ghost use Rattle.std.specs.Prelude.{◌≡◌, ◌+◌, ◌-◌, ◌*◌, ◌<◌, ◌≤◌, All, Ok, Some, length, map, nat_eq, slice_get, sum_by, true};
+// Slip: the source frames of an item moved, with those of all that has its link.
+ghost use Rattle.std.specs.Prelude.{◌≡◌, ◌+◌, ◌-◌, ◌*◌, ◌<◌, ◌≤◌, All, Ok, Some, length, nat_eq, slice_get, true};
 ghost use Rattle.std.specs.List.{list_any};
 ghost use Rattle.frame_meaning.specs.Cells.{later_side};
 ghost use Rattle.composables.specs.Answers.{Answers, NextRises};
-ghost use Rattle.composables.specs.Good.{IsGood, AllUnlinked, SideLiesIn};
+ghost use Rattle.composables.specs.Good.{AreUnlinked, IsGood, SideLiesIn};
 ghost use Rattle.composables.specs.Items.{items_of};
+ghost use Rattle.composables.specs.OwnTracks.{numbers_of, track_numbered};
 ghost use Rattle.composables.specs.Places.{IsPlaceOf};
+ghost use Rattle.composables.specs.Sizes.{size_of, sizes_of};
 ghost use Rattle.composables.specs.TrackFacts.{HasSource, left_reach, right_reach};
 ghost use Rattle.composables.specs.TrackSets.{tracks_in};
-ghost use Rattle.composables.specs.TrackState.{TrackState};
 ghost use Rattle.edit_delta.specs.Nearest.{AreUpTo};
-ghost use Rattle.edit_splice.specs.Standing.{StaysGood};
+ghost use Rattle.edit_splice.specs.Standing.{EachStaysGood, StaysGood};
 ghost use Rattle.edit_trim.specs.Slipping.{mark_of, may_slip_earlier, may_slip_later, shows_from, slip_named, slip_range, slip_track};
 
+use crate::linked_slips::slip_linked;
 use composables::{Done, EditFault, ItemView, Place, Refusal, Slip, Table, Track, own_index};
 use edit_delta::{Way, used_within};
 use frame_meaning::{Mark, Side};
+use link_groups::link_of;
 use std::alloc::Global;
 use std::sync::ledger::Ledger;
 use step_count::Steps;
 
-/// Adds the delta used to the source frames of an item of its own track, which stays where it is. A dissolve at its ends
-/// stays, and the frames that it shows past the item stay in the thing's range too. It takes no memory.
+/// Adds the delta used to the source frames of an item of its own track and, where it has a link, of all items of the
+/// link on the named tracks. All stay where they are, by one delta that suits each of them. A dissolve at their ends
+/// stays, and the frames that it shows past them stay in the thing's range too. It takes no memory.
 ///
-/// It answers the delta used, or `NoItem` where its own track has no such item.
+/// It answers the delta used, or the first of these refusals that holds: `NoItem`, where its own track has no such item;
+/// `LinkOutside`, where the item's link has a track that is not named.
 pub fn slip<L: Ledger>(
     _alloc: Global,
     table: &Table,
@@ -31,29 +36,54 @@ pub fn slip<L: Ledger>(
     call: &Slip,
     steps: &mut Steps<L>,
 ) -> Result<Done, EditFault>
-    requires named { map (λ (t : TrackState). t.number) named.old.items ≡ tracks_in call.now.tracks }
+    requires named { numbers_of named.old.items ≡ tracks_in call.now.tracks }
     requires own { list_any (nat_eq call.now.track) (tracks_in call.now.tracks) ≡ true }
     requires good { All (λ t. IsGood table.now t) named.old.items }
-    requires unlinked { All (λ t. AllUnlinked (items_of t.cells)) named.old.items }
 
-    ensures answers { Answers (slip_named table.now named.old.items call.now) named.old.items named.new.items result }
+    ensures answers { Answers (slip_named table.now named.old.items call.now)
+        named.old.items named.new.items result }
 
-    ensures named { map (λ (t : TrackState). t.number) named.new.items ≡ tracks_in call.now.tracks }
+    ensures named { numbers_of named.new.items ≡ tracks_in call.now.tracks }
     ensures good { All (λ t. IsGood table.now t) named.new.items }
-    ensures unlinked { All (λ t. AllUnlinked (items_of t.cells)) named.new.items }
+    ensures unlinked { AreUnlinked named.old.items → AreUnlinked named.new.items }
     ensures numbers { NextRises 2 named.old.items named.new.items }
 
     ensures least { steps.old + 1 ≤ steps.new }
-    ensures most { steps.new ≤ steps.old + 32 * sum_by (λ t. length (items_of t.cells) + 64) named.old.items }
+    ensures most { steps.new ≤ steps.old + 32 * sizes_of named.old.items }
 {
     steps.tick();
     match own_index(named, call.track) {
-        Some(index) => slip_track(table, &mut named[index], call, steps),
+        Some(index) => slip_at(table, named, index, call, steps),
         None => unreachable!(),
     }
 }
 
-// The same on the own track.
+// The same, where the own track stands at an index.
+fn slip_at<L: Ledger>(
+    table: &Table,
+    named: &mut Vec<Track>,
+    index: usize,
+    call: &Slip,
+    steps: &mut Steps<L>,
+) -> Result<Done, EditFault>
+    requires within { index < length named.old.items }
+    requires found { track_numbered call.now.track named.old.items
+        ≡ slice_get named.old.items index }
+    requires named { numbers_of named.old.items ≡ tracks_in call.now.tracks }
+    requires good { All (λ t. IsGood table.now t) named.old.items }
+    ensures answers { Answers (slip_named table.now named.old.items call.now)
+        named.old.items named.new.items result }
+    ensures good { EachStaysGood table.now named.old.items named.new.items }
+    ensures least { steps.old ≤ steps.new }
+    ensures most { steps.new ≤ steps.old + 4 * sizes_of named.old.items }
+{
+    match link_of(&named[index], call.item, steps) {
+        Some(link) => slip_linked(table, named, link, call.by, steps),
+        None => slip_track(table, &mut named[index], call, steps),
+    }
+}
+
+// The same of an item alone.
 fn slip_track<L: Ledger>(
     table: &Table,
     track: &mut Track,
@@ -64,7 +94,7 @@ fn slip_track<L: Ledger>(
     ensures answers { Answers (slip_track table.now call.now track.old) track.old track.new result }
     ensures good { StaysGood table.now track.old track.new }
     ensures least { steps.old ≤ steps.new }
-    ensures most { steps.new ≤ steps.old + length (items_of track.old.cells) + 64 }
+    ensures most { steps.new ≤ steps.old + size_of track.old }
 {
     let Some(found) = track.item_by_id(call.item, steps) else {
         return Err(EditFault::Refused(Refusal::NoItem));
@@ -109,7 +139,8 @@ fn slip_item(
     }
 }
 
-fn mark_of(view: Option<ItemView>) -> Option<Mark>
+/// The dissolve before an item or gap, if it is there.
+pub fn mark_of(view: Option<ItemView>) -> Option<Mark>
     ensures { result ≡ mark_of view }
 {
     match view {
@@ -118,8 +149,8 @@ fn mark_of(view: Option<ItemView>) -> Option<Mark>
     }
 }
 
-// How many source frames later an item may show its thing, with this dissolve at its tail.
-fn room_later(table: &Table, view: &ItemView, tail: Option<Mark>) -> u32
+/// How many source frames later an item may show its thing, with this dissolve at its tail.
+pub fn room_later(table: &Table, view: &ItemView, tail: Option<Mark>) -> u32
     requires filled { 0 < view.now.len }
     requires lies { SideLiesIn table.now view.now.first view.now.len 0 (right_reach tail) }
     requires source { HasSource view.now.first view.now.len 0 (right_reach tail) }
@@ -144,8 +175,8 @@ pub(crate) fn right_reach(mark: Option<Mark>) -> u32
     }
 }
 
-// How many source frames earlier.
-fn room_earlier(table: &Table, view: &ItemView) -> u32
+/// How many source frames earlier.
+pub fn room_earlier(table: &Table, view: &ItemView) -> u32
     requires lies { SideLiesIn table.now view.now.first view.now.len (left_reach view.now.mark) 0 }
     ensures { AreUpTo (may_slip_earlier table.now view.now.first view.now.mark) result }
 {

@@ -1,5 +1,6 @@
 // Small tracks, trimmed, slipped and rippled.
 
 mod edits;
-mod laying;
+mod links;
+mod plain;
 mod ripples;

@@ -1,6 +1,8 @@
 -- A track of items and gaps that can be laid.
-use Rattle.std.proofs.Common.{◌≡◌, ◌≢◌, ℕ, zero, suc, ◌+◌, ◌<◌, ◌≤◌, max, Bool, false, List, [], ◌∷◌, ◌++◌, length, drop, get_or, Option, Some, None, IfSome, refl, sym, ap, ◌∙◌, arith, subst}
-use Rattle.std.proofs.lemmas.Bool.{ne_eqb}
+use Rattle.std.proofs.Common.{◌≡◌, ◌≢◌, ℕ, zero, suc, ◌+◌, ◌<◌, ◌≤◌, ◌/◌, ◌^◌, max, Bool, true, false, List, [], ◌∷◌, ◌++◌, length, drop, get_or, Option, Some, None, IfSome, refl, sym, ap, ◌∙◌, arith, subst, IsBitSet}
+use Rattle.std.proofs.lemmas.Bool.{eqb-true, ne_eqb}
+use Rattle.std.proofs.lemmas.Nat.{bit_set_by_shift}
+use Rattle.std.specs.Int.Bits.{bit_and}
 use Rattle.std.specs.List.{slice_get}
 use Rattle.std.proofs.lemmas.List.{append-nil, drop_more}
 use Rattle.frame_meaning.specs.declared.cells.Mark.{Mark}
@@ -12,6 +14,7 @@ use Rattle.composables.specs.Good.{AllUnlinked, EachLiesIn, EachLinkOf, IsLinkOf
 use Rattle.composables.specs.Items.{cells_of, items_of}
 use Rattle.composables.specs.Joined.{IsTight, AllFilled}
 use Rattle.composables.specs.TrackFacts.{Holds, EachHolds, Lacks, Apart, NumbersBelow, IsKept, first_mark, left_reach, right_reach}
+use Rattle.composables.specs.TrackSets.{has_track}
 use Rattle.composables.specs.TrackState.{TrackState, next_past, next_past_all, replaced}
 use Rattle.composables.proofs.Joining.{items_of-tight, length-cells_of}
 use Rattle.laid_tracks.specs.Laid.{mark_of}
@@ -139,6 +142,9 @@ pub unlinked_more : (vs : List ItemView) (i : ℕ) (d : ItemView) → i < length
     → (AllUnlinked (drop i vs) → AllUnlinked vs) → AllUnlinked (drop (i + 1) vs) → AllUnlinked vs
 unlinked_more vs i d inside none so_far rest = so_far (subst AllUnlinked (sym (drop_more vs i d inside)) (none, rest))
 
-pub links_none : (n : ℕ) (vs : List ItemView) → AllUnlinked vs → EachLinkOf n vs
-links_none n [] h = tt
-links_none n (v ∷ vs) h = (subst (IsLinkOf n) (sym h.0) tt, links_none n vs h.1)
+pub links_more : (n : ℕ) (vs : List ItemView) (i : ℕ) (d : ItemView) → i < length vs → IsLinkOf n (get_or vs i d).link
+    → (EachLinkOf n (drop i vs) → EachLinkOf n vs) → EachLinkOf n (drop (i + 1) vs) → EachLinkOf n vs
+links_more n vs i d inside own so_far rest = so_far (subst (EachLinkOf n) (sym (drop_more vs i d inside)) (own, rest))
+
+pub bit_is_set : (set n : ℕ) → has_track set n ≡ true → IsBitSet set n
+bit_is_set set n e = (bit_set_by_shift set n).0 (eqb-true (bit_and (set / 2 ^ n) 1) 1 e)

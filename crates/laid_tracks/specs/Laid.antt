@@ -45,3 +45,10 @@ pub record IsLaid (table : Table) (n : ℕ) (vs : List ItemView) (t : TrackState
   pub good : IsGood table t
   pub roomy : IsRoomy t
   pub unlinked : AllUnlinked (items_of t.cells)
+
+-- the same of items of which some may be linked
+pub record IsLinked (table : Table) (n : ℕ) (vs : List ItemView) (t : TrackState) : Type 0 where
+  pub numbered : t.number ≡ n
+  pub items : items_of t.cells ≡ vs
+  pub good : IsGood table t
+  pub roomy : IsRoomy t

@@ -1,14 +1,14 @@
 // Tracks laid from items and gaps, and when there is one.
-ghost use Rattle.std.specs.Prelude.{◌≡◌, ◌<◌, ◌≤◌, IfOk, IfSome, false, length, slice_get, true};
-ghost use Rattle.composables.specs.Good.{AllUnlinked, EachLiesIn, IsGood};
+ghost use Rattle.std.specs.Prelude.{◌≡◌, ◌<◌, ◌≤◌, IfOk, IfSome, IsBitSet, false, length, slice_get, true};
+ghost use Rattle.composables.specs.Good.{AllUnlinked, EachLiesIn, EachLinkOf, IsGood, IsLinkOf};
 ghost use Rattle.composables.specs.Items.{items_of};
 ghost use Rattle.composables.specs.Roomy.{IsRoomy};
 ghost use Rattle.composables.specs.Joined.{frames_in};
 ghost use Rattle.composables.specs.TrackFacts.{first_mark, left_reach, right_reach};
-ghost use Rattle.laid_tracks.specs.Laid.{CanBeLaid, Follows, IsLaid, Laid, is_gap, mark_of, number_after};
+ghost use Rattle.laid_tracks.specs.Laid.{CanBeLaid, Follows, IsLaid, IsLinked, Laid, is_gap, mark_of, number_after};
 
-use composables::{ItemView, MAX_FRAMES, MAX_ITEMS, Table, Track, holds};
-use frame_meaning::{Mark, Memory, What};
+use composables::{ItemView, MAX_FRAMES, MAX_ITEMS, Table, Track, has_track, holds};
+use frame_meaning::{Link, Mark, Memory, What};
 use std::alloc::Global;
 use std::marker::Brand;
 use std::sync::ledger::{Blank, Ledger};
@@ -47,10 +47,40 @@ pub fn laid_track(
     }
     let items = Vec::from_slice(alloc, views)?;
     let track = laid::<Brand>(alloc, Blank::new(1), number, items)?;
+    if is_bare(table, &track, views) {
+        Ok(Some(track))
+    } else {
+        Ok(None)
+    }
+}
+
+/// The same of items of which some may have links. Each link needs this track and its home among its tracks; whether
+/// the items of one link have one offset is not asked.
+pub fn linked_track(
+    alloc: Global,
+    table: &Table,
+    number: u32,
+    views: &[ItemView],
+) -> Result<Option<Track>, Memory>
+    ensures track { IfOk result (λ o. IfSome o (λ t. IsLinked table.now number views.now t)) }
+{
+    if !can_be_laid(views) {
+        return Ok(None);
+    }
+    let items = Vec::from_slice(alloc, views)?;
+    let track = laid::<Brand>(alloc, Blank::new(1), number, items)?;
     if is_good(table, &track, views) {
         Ok(Some(track))
     } else {
         Ok(None)
+    }
+}
+
+/// The same item with a link.
+pub fn linked(link: Link, view: ItemView) -> ItemView {
+    ItemView {
+        link: Some(link),
+        ..view
     }
 }
 
@@ -175,13 +205,12 @@ fn number_behind(item: Option<u32>, next: u32, after_gap: bool) -> Option<u32>
     }
 }
 
-// Whether a track of these is good in the table, roomy, and without links.
+// Whether a track of these is good in the table, and roomy.
 fn is_good(table: &Table, track: &Track, views: &[ItemView]) -> bool
     requires items { items_of track.now.cells ≡ views.now }
     requires link { track.now.next_link ≡ 0 }
     ensures good { result ≡ true → IsGood table.now track.now }
     ensures roomy { result ≡ true → IsRoomy track.now }
-    ensures unlinked { result ≡ true → AllUnlinked (items_of track.now.cells) }
 {
     if track.length() > MAX_FRAMES {
         return false;
@@ -195,7 +224,48 @@ fn is_good(table: &Table, track: &Track, views: &[ItemView]) -> bool
     if !all_lie(table, views) {
         return false;
     }
+    have_own_links(track.number(), views)
+}
+
+// Whether it is so, and without links.
+fn is_bare(table: &Table, track: &Track, views: &[ItemView]) -> bool
+    requires items { items_of track.now.cells ≡ views.now }
+    requires link { track.now.next_link ≡ 0 }
+    ensures good { result ≡ true → IsGood table.now track.now }
+    ensures roomy { result ≡ true → IsRoomy track.now }
+    ensures unlinked { result ≡ true → AllUnlinked (items_of track.now.cells) }
+{
+    if !is_good(table, track, views) {
+        return false;
+    }
     are_unlinked(views)
+}
+
+// Whether each link has this track and its home among its tracks.
+fn have_own_links(number: u32, views: &[ItemView]) -> bool
+    ensures { result ≡ true → EachLinkOf number views.now }
+{
+    for view in views {
+        if !is_own_link(number, view.link) {
+            return false;
+        }
+    }
+    true
+}
+
+fn is_own_link(number: u32, link: Option<Link>) -> bool
+    ensures { result ≡ true → IsLinkOf number link }
+{
+    match link {
+        Some(l) => has_bit(l.tracks, number) && has_bit(l.tracks, l.home),
+        None => true,
+    }
+}
+
+fn has_bit(tracks: u32, track: u32) -> bool
+    ensures { result ≡ true → IsBitSet tracks track }
+{
+    track < 32 && has_track(tracks, track)
 }
 
 fn all_lie(table: &Table, views: &[ItemView]) -> bool

@@ -1,12 +1,12 @@
 //! Tracks laid from a list of items and gaps, with the facts that the edits ask for. They are made by tests alone.
 //!
 //! The main contract is that of [`laid_track`]: the track has exactly these items and gaps, and is good, roomy and without
-//! links; where there is no such track there is none.
+//! links; where there is no such track there is none. [`linked_track`] is the same where there may be links.
 #![tactic(auto)]
 
 mod laying;
 
-pub use laying::{clip, dissolve, gap, laid_track};
+pub use laying::{clip, dissolve, gap, laid_track, linked, linked_track};
 
 #[cfg(test)]
 mod tests;

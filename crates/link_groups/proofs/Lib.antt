@@ -10,6 +10,7 @@ pub mod SplitCells
 pub mod LinkedCells
 pub mod PartTracks
 pub mod ShiftLinks
+pub mod Elsewhere
 pub mod TestTracks
 pub mod ItemCounts
 pub mod LinkedShifts

@@ -4,3 +4,4 @@ pub mod Splits
 pub mod Renumbering
 pub mod LinkedShifts
 pub mod Shifted
+pub mod ItemLinks

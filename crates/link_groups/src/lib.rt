@@ -6,6 +6,7 @@
 #![tactic(auto)]
 
 mod finding;
+mod item_links;
 mod linking;
 mod offsets;
 mod outside;
@@ -14,9 +15,10 @@ mod shifting;
 mod splits;
 mod unlinking;
 
+pub use item_links::{carried_outside, carries, link_of};
 pub use linking::link;
 pub use offsets::offset;
-pub use outside::check;
+pub use outside::{check, outside_refusal};
 pub use renumbering::renumber;
 pub use shifting::shift_linked;
 pub use unlinking::unlink;

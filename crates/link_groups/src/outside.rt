@@ -21,7 +21,8 @@ pub fn check<L: Ledger>(named: &[Track], _x: u32, y: u32, steps: &mut Steps<L>) 
     outside_refusal(named, least)
 }
 
-fn outside_refusal(named: &[Track], link: Option<Link>) -> Option<Refusal>
+/// Why a call on these tracks is refused for a link, if it is: the first track of the link that is not named.
+pub fn outside_refusal(named: &[Track], link: Option<Link>) -> Option<Refusal>
     ensures { result ≡ outside_refusal named.now link }
 {
     match link {

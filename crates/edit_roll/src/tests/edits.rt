@@ -1,7 +1,6 @@
 // Roll and slide by every delta on a small track with gaps and dissolves.
 ghost use Rattle.std.specs.Prelude.{◌≡◌, ◌<◌, [], ◌∷◌, All, IfOk, IfSome};
-ghost use Rattle.composables.specs.Good.{AllUnlinked, AreUnlinked, IsGood};
-ghost use Rattle.composables.specs.Items.{items_of};
+ghost use Rattle.composables.specs.Good.{IsGood};
 ghost use Rattle.composables.specs.OwnTracks.{numbers_of};
 ghost use Rattle.composables.specs.Roomy.{IsRoomy};
 
@@ -19,7 +18,7 @@ use std::test::Fail;
 use step_count::Steps;
 
 // Media 0 has the source frames [8, 60), media 1 [0, 86400).
-fn table(alloc: Global) -> Result<Table, Memory> {
+pub fn table(alloc: Global) -> Result<Table, Memory> {
     let mut kinds = Listed::new(alloc);
     kinds.push(Kind::Video)?;
     let mut media = Listed::new(alloc);
@@ -41,7 +40,6 @@ fn track(alloc: Global, table: &Table) -> Result<Option<Track>, Memory>
     ensures number { IfOk result (λ o. IfSome o (λ t. t.number ≡ 0)) }
     ensures good { IfOk result (λ o. IfSome o (λ t. IsGood table.now t)) }
     ensures roomy { IfOk result (λ o. IfSome o (λ t. IsRoomy t)) }
-    ensures unlinked { IfOk result (λ o. IfSome o (λ t. AllUnlinked (items_of t.cells))) }
 {
     let views = [
         clip(0, 0, 53, 6),
@@ -79,7 +77,6 @@ fn play<L: Ledger>(
     requires number { track.number ≡ 0 }
     requires good { IsGood table.now track }
     requires roomy { IsRoomy track }
-    requires unlinked { AllUnlinked (items_of track.cells) }
 {
     let mut steps = Steps::<L>::new(blank);
     let mut named = Vec::new(alloc);
@@ -103,7 +100,6 @@ fn edited<L: Ledger>(
     requires named { numbers_of named.old.items ≡ 0 ∷ [] }
     requires good { All (λ t. IsGood table.now t) named.old.items }
     requires roomy { All (λ t. IsRoomy t) named.old.items }
-    requires unlinked { AreUnlinked named.old.items }
 {
     match edit {
         Edit::Cut(at) => {

@@ -1,19 +1,37 @@
 // Worked examples of ripple, on two tracks.
-ghost use Rattle.std.specs.Prelude.{◌≡◌, ◌<◌, true};
+ghost use Rattle.std.specs.Prelude.{◌≡◌, ◌<◌};
 ghost use Rattle.composables.specs.Good.{AllUnlinked, IsGood};
 ghost use Rattle.composables.specs.Items.{items_of};
 ghost use Rattle.composables.specs.Roomy.{IsRoomy};
 
 use crate::ripple;
-use crate::tests::edits::{dissolve, table};
-use crate::tests::laying::{clip, gap, is_good, track_of};
-use composables::{Done, EditFault, End, ItemView, Refusal, Ripple, Table, Track};
+use composables::{
+    Done, EditFault, End, ItemView, Kind, Listed, Media, Nest, Reels, Refusal, Ripple, Table, Track,
+};
 use frame_meaning::Memory;
+use laid_tracks::{clip, dissolve, gap, laid_track};
 use std::alloc::Global;
 use std::marker::Brand;
 use std::sync::ledger::{Blank, Ledger};
 use std::test::Fail;
 use step_count::Steps;
+
+// Media 0 has the source frames [8, 60), media 1 [0, 86400).
+fn table(alloc: Global) -> Result<Table, Memory> {
+    let mut kinds = Listed::new(alloc);
+    kinds.push(Kind::Video)?;
+    let mut media = Listed::new(alloc);
+    for (from, to) in [(8, 60), (0, 86_400)] {
+        media.push(Media { reel: 0, from, to })?;
+    }
+    let nests: Listed<Nest> = Listed::new(alloc);
+    Ok(Table {
+        kinds,
+        reels: Reels::new(alloc),
+        media,
+        nests,
+    })
+}
 
 // What a ripple answers, and the items and gaps of both tracks after it.
 #[derive(Drop)]
@@ -60,12 +78,6 @@ fn play<L: Ledger>(
     })
 }
 
-fn is_young(track: &Track) -> bool
-    ensures { result ≡ true → IsRoomy track.now }
-{
-    track.next_item() <= 100 && track.next_link() <= 100
-}
-
 // A ripple of the tracks of these items and gaps, where there are such tracks.
 fn tried(
     alloc: Global,
@@ -76,21 +88,12 @@ fn tried(
     end: End,
     by: i32,
 ) -> Result<Option<Both>, Memory> {
-    let Some(first) = track_of(alloc, 0, Vec::from_slice(alloc, first)?)? else {
+    let Some(first) = laid_track(alloc, table, 0, first)? else {
         return Ok(None);
     };
-    let Some(second) = track_of(alloc, 1, Vec::from_slice(alloc, second)?)? else {
+    let Some(second) = laid_track(alloc, table, 1, second)? else {
         return Ok(None);
     };
-    if !is_good(alloc, table, &first)? || !is_good(alloc, table, &second)? {
-        return Ok(None);
-    }
-    if !is_young(&first) || !is_young(&second) {
-        return Ok(None);
-    }
-    if first.number() != 0 || second.number() != 1 {
-        return Ok(None);
-    }
     let call = Ripple {
         tracks: 3,
         track: 0,

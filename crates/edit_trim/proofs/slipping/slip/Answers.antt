@@ -1,10 +1,10 @@
-use Rattle.std.proofs.Common.{◌≡◌, ◌<◌, List, None, length, refl, slice_get, sym, ap, ◌∙◌, subst}
+use Rattle.std.proofs.Common.{◌≡◌, sym, ap, ◌∙◌, arith, None, length}
+use Rattle.std.proofs.lemmas.List.Sums.{get_or-le-sum_by}
 use Rattle.composables.specs.OwnTracks.{track_numbered}
-use Rattle.composables.specs.TrackState.{TrackState}
-use Rattle.edit_delta.proofs.Own.{is-named, named-answers, named-each, named-found}
-use Rattle.edit_splice.specs.Standing.{StaysGood}
-use Rattle.edit_splice.proofs.Standing.{each-numbers, each-rises}
-use Rattle.edit_trim.specs.Slipping.{slip_track}
+use Rattle.composables.specs.Sizes.{size_of}
+use Rattle.edit_delta.proofs.Own.{named-found}
+use Rattle.edit_splice.proofs.Standing.{each-good, each-numbers, each-rises, each-unlinked}
+use Rattle.edit_trim.proofs.RippleTracks.{no_track}
 use Rattle.edit_trim.proofs.slipping.slip.Goals as goal
 
 pub unreachable-requires : goal.unreachable-requires
@@ -12,26 +12,18 @@ unreachable-requires g c =
     let found : track_numbered c.args.call.now.track c.args.named.now.items ≡ None = ap (track_numbered c.args.call.now.track) (sym c.deref.ensures.value) ∙ c.in-None.ensures.found in
     named-found c.args.call.now.track c.args.call.now.tracks c.args.named.now.items c.requires.named c.requires.own found
 
-pub returns-clause-answers : goal.returns-clause-answers
-returns-clause-answers g c =
-    let found = subst (λ (l : List TrackState). track_numbered c.args.call.now.track l ≡ slice_get l c.in-Some.index) c.deref.ensures.value c.in-Some.ensures.found in
-    let within = subst (λ (l : List TrackState). c.in-Some.index < length l) c.deref.ensures.value c.in-Some.ensures.within in
-    let o = is-named c.args.call.now.track c.args.call.now.tracks c.in-Some.index c.args.named.now.items c.index_mut.result.now c.requires.named found within c.index_mut.ensures.value in
-    let s : StaysGood c.args.table.now c.index_mut.result.now c.slip_track.new.track = c.slip_track.ensures.good in
-    named-answers c.args.call.now.track c.in-Some.index (slip_track c.args.table.now c.args.call.now) c.args.named.now.items _ c.index_mut.result.now c.slip_track.new.track c.slip_track.result o refl s.number c.slip_track.ensures.answers
-
 pub returns-clause-named : goal.returns-clause-named
-returns-clause-named g c =
-    let found = subst (λ (l : List TrackState). track_numbered c.args.call.now.track l ≡ slice_get l c.in-Some.index) c.deref.ensures.value c.in-Some.ensures.found in
-    let within = subst (λ (l : List TrackState). c.in-Some.index < length l) c.deref.ensures.value c.in-Some.ensures.within in
-    let o = is-named c.args.call.now.track c.args.call.now.tracks c.in-Some.index c.args.named.now.items c.index_mut.result.now c.requires.named found within c.index_mut.ensures.value in
-    let s : StaysGood c.args.table.now c.index_mut.result.now c.slip_track.new.track = c.slip_track.ensures.good in
-    each-numbers c.args.table.now c.args.named.now.items _ (named-each c.args.table.now c.args.call.now.track c.in-Some.index c.args.named.now.items _ c.index_mut.result.now c.slip_track.new.track o refl c.requires.good s) ∙ c.requires.named
+returns-clause-named g c = each-numbers c.args.table.now c.args.named.now.items c.slip_at.new.named.items c.slip_at.ensures.good ∙ c.requires.named
+
+pub returns-clause-good : goal.returns-clause-good
+returns-clause-good g c = each-good c.args.table.now c.args.named.now.items c.slip_at.new.named.items c.slip_at.ensures.good
+
+pub returns-clause-unlinked : goal.returns-clause-unlinked
+returns-clause-unlinked g c = λ u. each-unlinked c.args.table.now c.args.named.now.items c.slip_at.new.named.items c.slip_at.ensures.good u
 
 pub returns-clause-numbers : goal.returns-clause-numbers
-returns-clause-numbers g c =
-    let found = subst (λ (l : List TrackState). track_numbered c.args.call.now.track l ≡ slice_get l c.in-Some.index) c.deref.ensures.value c.in-Some.ensures.found in
-    let within = subst (λ (l : List TrackState). c.in-Some.index < length l) c.deref.ensures.value c.in-Some.ensures.within in
-    let o = is-named c.args.call.now.track c.args.call.now.tracks c.in-Some.index c.args.named.now.items c.index_mut.result.now c.requires.named found within c.index_mut.ensures.value in
-    let s : StaysGood c.args.table.now c.index_mut.result.now c.slip_track.new.track = c.slip_track.ensures.good in
-    each-rises c.args.table.now c.args.named.now.items _ (named-each c.args.table.now c.args.call.now.track c.in-Some.index c.args.named.now.items _ c.index_mut.result.now c.slip_track.new.track o refl c.requires.good s)
+returns-clause-numbers g c = each-rises c.args.table.now c.args.named.now.items c.slip_at.new.named.items c.slip_at.ensures.good
+
+pub returns-clause-most : goal.returns-clause-most
+returns-clause-most g c =
+    omega (arith, c.slip_at.ensures.most, c.tick.ensures, get_or-le-sum_by size_of c.args.named.now.items c.in-Some.index no_track (omega (arith, c.in-Some.ensures.within, ap length c.deref.ensures.value)))

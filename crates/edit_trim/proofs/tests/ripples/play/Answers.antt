@@ -2,7 +2,7 @@ use Rattle.composables.specs.Good.{AllUnlinked, IsGood}
 use Rattle.composables.specs.Items.{items_of}
 use Rattle.composables.specs.Roomy.{IsRoomy}
 use Rattle.composables.specs.TrackState.{TrackState}
-use Rattle.edit_trim.proofs.Laid.{all-two, two-numbers, two-own}
+use Rattle.edit_trim.proofs.TestTracks.{all-two, two-numbers, two-own}
 use Rattle.edit_trim.proofs.tests.ripples.play.Goals as goal
 
 pub ripple-answer-requires-clause-named : goal.ripple-answer-requires-clause-named

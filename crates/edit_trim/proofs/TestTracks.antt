@@ -1,0 +1,52 @@
+-- Lists of the one, two or three tracks of a test, and the calls that name them.
+use Rattle.std.proofs.Common.{◌≡◌, ℕ, suc, zero, true, List, [], ◌∷◌, ◌++◌, All, map, nat_eq, sym, ap, ◌∙◌, refl, arith, subst}
+use Rattle.std.specs.List.{list_any}
+use Rattle.composables.specs.OwnTracks.{numbers_of}
+use Rattle.composables.specs.TrackSets.{tracks_in}
+use Rattle.composables.specs.TrackState.{TrackState}
+
+-- the first track alone
+pub one-numbers : (us vs : List TrackState) (t : TrackState) → us ≡ [] → vs ≡ us ++ t ∷ [] → t.number ≡ 0 → numbers_of vs ≡ tracks_in 1
+unfolding tracks_in
+one-numbers us vs t e f is = ap numbers_of (f ∙ ap (λ (l : List TrackState). l ++ t ∷ []) e) ∙ ap (λ (n : ℕ). n ∷ []) is
+
+pub one-own : list_any (nat_eq 0) (tracks_in 1) ≡ true
+unfolding tracks_in
+one-own = refl
+
+-- two tracks
+pub two-numbers : (us vs ws : List TrackState) (t u : TrackState) (n : ℕ) → us ≡ [] → vs ≡ us ++ t ∷ [] → ws ≡ vs ++ u ∷ [] → t.number ≡ 0 → u.number ≡ 1 → n ≡ 3 → numbers_of ws ≡ tracks_in n
+unfolding tracks_in
+two-numbers us vs ws t u n e f g zero_is one_is three =
+    let both : ws ≡ t ∷ u ∷ [] = g ∙ ap (λ (l : List TrackState). l ++ u ∷ []) (f ∙ ap (λ (l : List TrackState). l ++ t ∷ []) e) in
+    ap numbers_of both ∙ (ap (λ (k : ℕ). k ∷ u.number ∷ []) zero_is ∙ (ap (λ (k : ℕ). 0 ∷ k ∷ []) one_is ∙ ap tracks_in (sym three)))
+
+pub two-own : (own tracks : ℕ) → own ≡ 0 → tracks ≡ 3 → list_any (nat_eq own) (tracks_in tracks) ≡ true
+unfolding tracks_in
+two-own own tracks e f = ap (λ (k : ℕ). list_any (nat_eq k) (tracks_in tracks)) e ∙ ap (λ (k : ℕ). list_any (nat_eq 0) (tracks_in k)) f
+
+pub all-two : (P : TrackState → Type 0) (us vs ws : List TrackState) (t u : TrackState) → us ≡ [] → vs ≡ us ++ t ∷ [] → ws ≡ vs ++ u ∷ [] → P t → P u → All P ws
+all-two P us vs ws t u e f g p q =
+    let both : ws ≡ t ∷ u ∷ [] = g ∙ ap (λ (l : List TrackState). l ++ u ∷ []) (f ∙ ap (λ (l : List TrackState). l ++ t ∷ []) e) in
+    subst (λ (l : List TrackState). All P l) (sym both) each where
+      each : All P (t ∷ u ∷ [])
+      each zero d lt = p
+      each (suc zero) d lt = q
+      each (suc (suc k)) d lt = absurd (omega (arith, lt))
+
+-- a set that names them
+pub named-one : (ns : List ℕ) (tracks : ℕ) → ns ≡ 0 ∷ [] → tracks ≡ 1 → ns ≡ tracks_in tracks
+unfolding tracks_in
+named-one ns tracks e f = e ∙ ap tracks_in (sym f)
+
+pub named-two : (ns : List ℕ) (tracks : ℕ) → ns ≡ 0 ∷ 1 ∷ [] → tracks ≡ 3 → ns ≡ tracks_in tracks
+unfolding tracks_in
+named-two ns tracks e f = e ∙ ap tracks_in (sym f)
+
+pub named-three : (ns : List ℕ) (tracks : ℕ) → ns ≡ 0 ∷ 1 ∷ 2 ∷ [] → tracks ≡ 7 → ns ≡ tracks_in tracks
+unfolding tracks_in
+named-three ns tracks e f = e ∙ ap tracks_in (sym f)
+
+pub first-named : (ns : List ℕ) (own tracks : ℕ) → ns ≡ tracks_in tracks → own ≡ 0 → (n : ℕ) → (ms : List ℕ) → ns ≡ 0 ∷ ms → list_any (nat_eq own) (tracks_in tracks) ≡ true
+first-named ns own tracks e f n ms g =
+    ap (list_any (nat_eq own)) (sym e) ∙ (ap (list_any (nat_eq own)) g ∙ ap (λ (k : ℕ). list_any (nat_eq k) (0 ∷ ms)) f)

@@ -1,0 +1,186 @@
+// Slip of all that has a link: one delta that suits each item, and then the source frames of each moved by it.
+ghost use Rattle.std.specs.Prelude.{◌≡◌, ◌+◌, ◌*◌, ◌<◌, ◌≤◌, All, Some, length, map, min, slice_get};
+ghost use Rattle.frame_meaning.specs.Render.{moved};
+ghost use Rattle.composables.specs.Answers.{Answers};
+ghost use Rattle.composables.specs.Changes.{side_from};
+ghost use Rattle.composables.specs.Good.{IsGood};
+ghost use Rattle.composables.specs.Items.{items_of};
+ghost use Rattle.composables.specs.Sizes.{size_of, sizes_of};
+ghost use Rattle.composables.specs.TrackFacts.{HasSource};
+ghost use Rattle.edit_splice.specs.Standing.{EachStaysGood};
+ghost use Rattle.edit_trim.specs.LinkedSlips.{AllMove, EachMoves, ReachesBack, RoomAmong, RoomOf, RoomOn, back_of, moved_by, on_of};
+ghost use Rattle.edit_trim.specs.Slipping.{mark_of, slip_linked};
+
+use crate::slipping::{mark_of, room_earlier, room_later};
+use composables::{Done, EditFault, ItemView, Table, Track};
+use edit_delta::{Way, used_within};
+use frame_meaning::{Link, Side};
+use link_groups::{carries, outside_refusal};
+use std::sync::ledger::Ledger;
+use step_count::Steps;
+
+/// How many source frames earlier, and how many later, what moves may show its thing.
+#[derive(Clone, Copy)]
+pub struct Room {
+    pub earlier: u32,
+    pub later: u32,
+}
+
+/// Adds one delta to the source frames of all that has the link on these tracks, which must be all tracks of the link.
+pub fn slip_linked<L: Ledger>(
+    table: &Table,
+    named: &mut Vec<Track>,
+    link: Link,
+    by: i32,
+    steps: &mut Steps<L>,
+) -> Result<Done, EditFault>
+    requires good { All (λ t. IsGood table.now t) named.old.items }
+    ensures answers { Answers (slip_linked table.now named.old.items link by)
+        named.old.items named.new.items result }
+    ensures good { EachStaysGood table.now named.old.items named.new.items }
+    ensures least { steps.old ≤ steps.new }
+    ensures most { steps.new ≤ steps.old + 2 * sizes_of named.old.items }
+{
+    match outside_refusal(named, Some(link)) {
+        Some(refusal) => return Err(EditFault::Refused(refusal)),
+        None => {}
+    }
+    let room = room_among(table, named, link, steps);
+    let used = used_within(by, room.earlier, room.later);
+    move_all(table, named, link, used.way, steps);
+    Ok(used.done)
+}
+
+// The room that suits all that has the link on these tracks.
+fn room_among<L: Ledger>(
+    table: &Table,
+    named: &[Track],
+    link: Link,
+    steps: &mut Steps<L>,
+) -> Room
+    requires good { All (λ t. IsGood table.now t) named.now }
+    ensures room { RoomAmong table.now link named.now result }
+    ensures least { steps.old ≤ steps.new }
+    ensures most { steps.new ≤ steps.old + sizes_of named.now }
+{
+    let mut room = Room {
+        earlier: u32::MAX,
+        later: u32::MAX,
+    };
+    for track in named {
+        room = narrower(room, room_on(table, track, link, steps));
+    }
+    room
+}
+
+// The same on one of the tracks.
+fn room_on<L: Ledger>(table: &Table, track: &Track, link: Link, steps: &mut Steps<L>) -> Room
+    requires good { IsGood table.now track.now }
+    ensures room { RoomOn table.now link (items_of track.now.cells) result }
+    ensures least { steps.old ≤ steps.new }
+    ensures most { steps.new ≤ steps.old + size_of track.now }
+{
+    let mut room = Room {
+        earlier: u32::MAX,
+        later: u32::MAX,
+    };
+    for index in 0..track.count() {
+        steps.tick();
+        let Some(view) = track.item(index) else {
+            unreachable!()
+        };
+        if carries(link, view.link) {
+            room = narrower(room, room_at(table, track, index, &view));
+        }
+    }
+    room
+}
+
+fn narrower(one: Room, other: Room) -> Room
+    ensures earlier { result.earlier ≡ min one.earlier other.earlier }
+    ensures later { result.later ≡ min one.later other.later }
+{
+    Room {
+        earlier: one.earlier.min(other.earlier),
+        later: one.later.min(other.later),
+    }
+}
+
+// The room of the item with an index, with the dissolves at its two ends.
+fn room_at(table: &Table, track: &Track, index: u32, view: &ItemView) -> Room
+    requires good { IsGood table.now track.now }
+    requires within { index < length (items_of track.now.cells) }
+    requires view { slice_get (items_of track.now.cells) index ≡ Some view.now }
+    ensures { RoomOf table.now view.now
+        (mark_of (slice_get (items_of track.now.cells) (index + 1))) result }
+{
+    let tail = mark_of(track.item(index + 1));
+    Room {
+        earlier: room_earlier(table, view),
+        later: room_later(table, view, tail),
+    }
+}
+
+// Moves the source frames of all that has the link on these tracks.
+fn move_all<L: Ledger>(
+    table: &Table,
+    named: &mut Vec<Track>,
+    link: Link,
+    way: Way,
+    steps: &mut Steps<L>,
+)
+    requires good { All (λ t. IsGood table.now t) named.old.items }
+    requires moves { AllMove table.now link named.old.items (on_of way) (back_of way) }
+    ensures moved { named.new.items ≡ map (moved_by link way) named.old.items }
+    ensures least { steps.old ≤ steps.new }
+    ensures most { steps.new ≤ steps.old + sizes_of named.old.items }
+{
+    for index in 0..named.len() {
+        move_on(table, &mut named[index], link, way, steps);
+    }
+}
+
+// The same on one of the tracks.
+fn move_on<L: Ledger>(
+    table: &Table,
+    track: &mut Track,
+    link: Link,
+    way: Way,
+    steps: &mut Steps<L>,
+)
+    requires good { IsGood table.now track.old }
+    requires moves { EachMoves table.now link (items_of track.old.cells)
+        (on_of way) (back_of way) }
+    ensures moved { track.new ≡ moved_by link way track.old }
+    ensures least { steps.old ≤ steps.new }
+    ensures most { steps.new ≤ steps.old + size_of track.old }
+{
+    for index in 0..track.count() {
+        steps.tick();
+        let Some(view) = track.item(index) else {
+            unreachable!()
+        };
+        if carries(link, view.link) {
+            track.set_source(index, moved_source(&view, way));
+        }
+    }
+}
+
+// The source frame from which on an item shows its thing once it is moved.
+fn moved_source(view: &ItemView, way: Way) -> u32
+    requires filled { 0 < view.now.len }
+    requires reaches { ReachesBack view.now.first (back_of way) }
+    requires source { HasSource (moved view.now.first (on_of way) (back_of way))
+        view.now.len 0 0 }
+    ensures { side_from view.now.first result
+        ≡ moved view.now.first (on_of way) (back_of way) }
+{
+    match view.first {
+        Side::Dark => 0,
+        Side::Pic { source, .. } => match way {
+            Way::Still => source,
+            Way::Later(frames) => source + frames,
+            Way::Earlier(frames) => source - frames,
+        },
+    }
+}

@@ -1,0 +1,86 @@
+// The link of an item, and whether something else has it.
+ghost use Rattle.std.specs.Prelude.{◌≡◌, ◌+◌, ◌≤◌};
+ghost use Rattle.composables.specs.Sizes.{size_of, sizes_of};
+ghost use Rattle.link_groups.specs.ItemLinks.{carried_on, carried_outside, carries, is_elsewhere, link_of};
+
+use crate::finding::item_on;
+use composables::{ItemView, Track};
+use frame_meaning::{Link, same_item};
+use std::sync::ledger::Ledger;
+use step_count::Steps;
+
+/// The link of the item of a track with this number, if it is there and has one.
+pub fn link_of<L: Ledger>(track: &Track, item: u32, steps: &mut Steps<L>) -> Option<Link>
+    ensures link { result ≡ link_of track.now item }
+    ensures least { steps.old ≤ steps.new }
+    ensures most { steps.new ≤ steps.old + size_of track.now }
+{
+    match item_on(track, item, steps) {
+        Some(found) => found.view.link,
+        None => None,
+    }
+}
+
+/// Whether what has a link, or none, has this one. Links are told apart by home and number.
+pub fn carries(link: Link, other: Option<Link>) -> bool
+    ensures { result ≡ carries link other }
+{
+    match other {
+        Some(other) => link.home == other.home && link.number == other.number,
+        None => false,
+    }
+}
+
+/// Whether something on these tracks has the link, outside the item with this number on the track `own`.
+pub fn carried_outside<L: Ledger>(
+    named: &[Track],
+    link: Link,
+    own: u32,
+    item: u32,
+    steps: &mut Steps<L>,
+) -> bool
+    ensures outside { result ≡ carried_outside link own item named.now }
+    ensures least { steps.old ≤ steps.new }
+    ensures most { steps.new ≤ steps.old + sizes_of named.now }
+{
+    for track in named {
+        if carried_on(track, link, own, item, steps) {
+            return true;
+        }
+    }
+    false
+}
+
+// The same on one of the tracks.
+fn carried_on<L: Ledger>(
+    track: &Track,
+    link: Link,
+    own: u32,
+    item: u32,
+    steps: &mut Steps<L>,
+) -> bool
+    ensures on { result ≡ carried_on link own item track.now }
+    ensures least { steps.old ≤ steps.new }
+    ensures most { steps.new ≤ steps.old + size_of track.now }
+{
+    if track.length() == 0 {
+        return false;
+    }
+    for index in 0..track.count() {
+        steps.tick();
+        let Some(view) = track.item(index) else {
+            unreachable!()
+        };
+        if is_elsewhere(link, own, item, track.number(), &view) {
+            return true;
+        }
+    }
+    false
+}
+
+// Whether an item or gap of the track with this number has the link, and is not the item of the track `own`.
+fn is_elsewhere(link: Link, own: u32, item: u32, number: u32, view: &ItemView) -> bool
+    ensures { result ≡ is_elsewhere link own item number view.now.item view.now.link }
+{
+    carries(link, view.link) && !(number == own && same_item(view.item, Some(item)))
+}
