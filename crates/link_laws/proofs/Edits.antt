@@ -1,6 +1,7 @@
 -- Edits of one track, dissolves, and links taken away.
-use Rattle.std.proofs.Common.{◌≡◌, ℕ, zero, suc, ◌+◌, ◌-◌, ◌<◌, ◌≤◌, ◌⊎◌, inl, inr, ℤ, pos, negsuc, Bool, true, false, cond, ltb, nat_lt, nat_le, ◌&&◌, min, List, [], ◌∷◌, map, length, Option, Some, None, Result, Ok, Err, refl, sym, ap, ◌∙◌, arith, subst}
+use Rattle.std.proofs.Common.{◌≡◌, ℕ, zero, suc, ◌+◌, ◌-◌, ◌<◌, ◌≤◌, ◌⊎◌, inl, inr, ℤ, pos, negsuc, Bool, true, false, cond, ltb, nat_lt, nat_le, ◌&&◌, min, List, [], ◌∷◌, ◌++◌, take, drop, map, length, Option, Some, None, Result, Ok, Err, refl, sym, ap, ◌∙◌, arith, subst}
 use Rattle.std.proofs.lemmas.Bool.{cases_lt, leb-true, ltb-true}
+use Rattle.std.proofs.lemmas.List.{length-append, length-drop, length-take-le}
 use Rattle.frame_meaning.specs.declared.cells.Cell.{Cell}
 use Rattle.frame_meaning.specs.declared.cells.Link.{Link}
 use Rattle.frame_meaning.specs.declared.cells.Mark.{Mark}
@@ -51,15 +52,15 @@ use Rattle.edit_splice.proofs.Bridging.{for-found}
 use Rattle.edit_splice.proofs.Padding.{frames-gap}
 use Rattle.edit_trim.specs.Darkness.{dark_before}
 use Rattle.edit_trim.specs.Trimming.{trim_allows, trim_end, trim_track, trimmed}
-use Rattle.link_groups.specs.LinkedItems.{item_of, linked_cell, linked_item}
+use Rattle.link_groups.specs.LinkedItems.{item_of, linked_found, linked_item, linked_on}
 use Rattle.link_groups.specs.Linking.{unlink_on, where_there}
 use Rattle.link_laws.specs.Laws.{DissolvingKeepsTogether, MovingAnEndKeepsTogether, PuttingInKeepsTogether, UnlinkingKeepsTogether}
 use Rattle.link_laws.specs.Rooms.{AreAmong, IsRoom, KeepsTogether, LeavesTogether, with_tracks}
 use Rattle.link_laws.specs.Together.{Together}
-use Rattle.link_laws.proofs.FreeRanges.{frames-all, gap-within, item-range}
-use Rattle.link_laws.proofs.LinkedRuns.{grown-linked}
+use Rattle.link_laws.proofs.FreeRanges.{frames-all, gap-within, item-range, range-item, ranged}
+use Rattle.link_laws.proofs.LinkedRuns.{grown-on}
 use Rattle.link_laws.proofs.Runs.{runs-alike}
-use Rattle.link_laws.proofs.Sights.{Alike, Shows, alike-self, shows-alike}
+use Rattle.link_laws.proofs.Sights.{Alike, Shows, alike-self, shows-alike, shows-append, shows-at, shows-drop, shows-take}
 use Rattle.link_laws.proofs.Splices.{gap-bare, keeps-bare, keeps-one, keeps-padded, length-pad, padded-runs, seen-back, seen-on}
 use Rattle.link_laws.proofs.Tied.{Each, Keeps, among-numbered, each-left, each-with, good-found, kept-tied, keeps-self, keeps-then, numbered-is, tied-of, together-of}
 use Rattle.link_laws.proofs.Weighing.{kept-little, numbered-of}
@@ -282,23 +283,49 @@ dissolving-keeps = record {
 
 -- a link taken away
 
-unlinked_shows : (i p : ℕ) (cs : List Cell) (l : Link) (o : Option ℤ) → Shows p (map (linked_cell i None) cs) l o → Shows p cs l o
-unlinked_shows i p [] l o h = h
-unlinked_shows i p (c ∷ cs) l o h = by (same_number c.item (Some i)) h (λ k. unlinked_shows i (p + 1) cs l o k) where
-  by : (b : Bool) → Shows p (cond b (record c { link = None }) c ∷ map (linked_cell i None) cs) l o → (Shows (p + 1) (map (linked_cell i None) cs) l o → Shows (p + 1) cs l o) → Shows p (c ∷ cs) l o
-  by true (inl k) later = absurd (Prim.grind (arith, k.0))
-  by true (inr k) later = inr (later k)
-  by false (inl k) later = inl k
-  by false (inr k) later = inr (later k)
+set_shows : (p : ℕ) (cs : List Cell) (l : Link) (o : Option ℤ) → Shows p (map (λ (c : Cell). record c { link = None }) cs) l o → ⊥
+set_shows p [] l o h = h
+set_shows p (c ∷ cs) l o (inl h) = Prim.grind (arith, h.0)
+set_shows p (c ∷ cs) l o (inr h) = set_shows (p + 1) cs l o h
 
-unlink_one : (table : Table) (c : Unlink) (t : TrackState) → IsGood table t → KeptOne t (unlink_on c t)
-unlink_one table c t g = by (item_of t c.item) where
-  kept : Keeps t (linked_item t c.item None)
-  kept = record { shows = λ l o h. unlinked_shows c.item 0 t.cells l o h; next = refl; grown = grown-linked table t c.item None g }
+map_long : (f : Cell → Cell) (cs : List Cell) → length (map f cs) ≡ length cs
+map_long f [] = refl
+map_long f (c ∷ cs) = ap suc (map_long f cs)
 
-  by : (o : Option (ℕ × ItemView)) → KeptOne t (where_there o (Ok (linked_item t c.item None, Plain)))
-  by None = tt
-  by (Some p) = (refl, kept)
+unlinked_keeps : (t : TrackState) (x y : ℕ) → x ≤ y → y ≤ length t.cells → Keeps t (record t { cells = linked_on x y None t.cells })
+unlinked_keeps t x y le within = record { shows = shows; next = refl; grown = grown-on t x y None le } where
+  mid : List Cell
+  mid = map (λ (c : Cell). record c { link = None }) (drop x (take y t.cells))
+
+  long : length (take x t.cells ++ mid) ≡ y
+  long =
+      omega (
+        arith,
+        length-append (take x t.cells) mid,
+        map_long (λ (c : Cell). record c { link = None }) (drop x (take y t.cells)),
+        length-drop x (take y t.cells),
+        length-take-le y t.cells within,
+        length-take-le x t.cells (omega (arith, le, within)),
+        le,
+      )
+
+  shows : (l : Link) (o : Option ℤ) → Shows 0 ((take x t.cells ++ mid) ++ drop y t.cells) l o → Shows 0 t.cells l o
+  shows l o h = outer (shows-append 0 (take x t.cells ++ mid) (drop y t.cells) l o h) where
+    inner : Shows 0 (take x t.cells) l o ⊎ Shows (0 + length (take x t.cells)) mid l o → Shows 0 t.cells l o
+    inner (inl a) = shows-take x 0 t.cells l o a
+    inner (inr b) = absurd (set_shows (0 + length (take x t.cells)) (drop x (take y t.cells)) l o b)
+
+    outer : Shows 0 (take x t.cells ++ mid) l o ⊎ Shows (0 + length (take x t.cells ++ mid)) (drop y t.cells) l o → Shows 0 t.cells l o
+    outer (inl a) = inner (shows-append 0 (take x t.cells) mid l o a)
+    outer (inr b) = shows-drop y 0 t.cells l o (shows-at (0 + length (take x t.cells ++ mid)) (0 + y) (drop y t.cells) l o (omega (arith, long)) b)
+
+pub unlink-one : (c : Unlink) (t : TrackState) → KeptOne t (unlink_on c t)
+unlink-one c t = by (item_of t c.item) refl where
+  by : (o : Option (ℕ × ItemView)) → item_of t c.item ≡ o → KeptOne t (where_there o (Ok (record t { cells = linked_found t.cells None o }, Plain)))
+  by None e = tt
+  by (Some (x, v)) e =
+      let r = item-range t c.item x (x + v.len) (range-item (items_of t.cells) 0 c.item ∙ ap ranged e) in
+      (refl, unlinked_keeps t x (x + v.len) (omega arith) r.1)
 
 pub unlinking-keeps : UnlinkingKeepsTogether
-unlinking-keeps table c = own_law table c.track (unlink_on c) (unlink_one table c)
+unlinking-keeps table c = own_law table c.track (unlink_on c) (λ t g. unlink-one c t)

@@ -7,6 +7,7 @@ use Rattle.composables.specs.Items.{items_of, view_from, with_cell}
 use Rattle.composables.specs.Joined.{AllFilled, frames_in}
 use Rattle.composables.specs.Ranges.{gap_from, range_from, range_of}
 use Rattle.composables.specs.TrackState.{TrackState}
+use Rattle.link_groups.specs.LinkedItems.{item_from}
 
 frames_with : (c : Cell) (vs : List ItemView) → frames_in (with_cell c vs) ≡ frames_in vs + 1
 frames_with c [] = omega arith
@@ -66,3 +67,17 @@ gap-within (v ∷ vs) p q x y e = by (ltb q v.len) (same_number v.item None) e (
   by true true k later = let a : p ≡ x = ap first_of k in (omega (arith, a), omega (arith, a))
   by true false k later = absurd cc
   by false c k later = let r = later k in (omega (arith, r.0), omega (arith, r.1))
+
+-- the frames of an item that was found
+
+abbrev pub ranged : Option (ℕ × ItemView) → Option (ℕ × ℕ)
+ranged None = None
+ranged (Some (x, v)) = Some (x, x + v.len)
+
+pub range-item : (vs : List ItemView) (p i : ℕ) → range_from p vs i ≡ ranged (item_from p vs i)
+range-item [] p i = refl
+range-item (v ∷ vs) p i = by (same_number v.item (Some i)) (range-item vs (p + v.len) i) where
+  by : (b : Bool) → range_from (p + v.len) vs i ≡ ranged (item_from (p + v.len) vs i)
+      → cond b (Some (p, p + v.len)) (range_from (p + v.len) vs i) ≡ ranged (cond b (Some (p, v)) (item_from (p + v.len) vs i))
+  by true later = refl
+  by false later = later

@@ -108,8 +108,8 @@ kept-given all named (Ok (us, d)) room among g k =
       up e h = next-more h all (with_tracks all us) (next all (with_tracks all us) e)
 kept-given all named (Err r) room among g k = tt
 
-given_law : (meant : List TrackState → Applied) → ((named : List TrackState) → KeptAll named (meant named)) → KeepsGiven meant
-given_law meant h all named room names g = kept-given all named (meant named) room names.among g (h named)
+pub given-law : (meant : List TrackState → Applied) → ((named : List TrackState) → KeptAll named (meant named)) → KeepsGiven meant
+given-law meant h all named room names g = kept-given all named (meant named) room names.among g (h named)
 
 -- a shift that moves something
 
@@ -221,14 +221,14 @@ same_given all named room names g = kept-given all named (Ok (named, Plain)) roo
 
 pub edits-keep-given : EditsKeepGiven
 edits-keep-given = record {
-  overwrite = λ table c. given_law (λ named. overwrite_named table named c) (λ named. own-kept c.track (overwrite_track table c) named (λ t e. overwrite-one table c t));
-  fill = λ table c. given_law (λ named. fill_named table named c) (λ named. own-kept c.track (fill_track table c) named (λ t e. fill-one table c t));
-  remove = λ table c. given_law (λ named. remove_named named c) (λ named. own-kept c.track (remove_track c) named (λ t e. remove-one table c t));
-  slice = λ table c. given_law (λ named. slice_named named c) (λ named. own-kept c.track (slice_track c) named (λ t e. slice-one table c t));
-  trim = λ table c. given_law (λ named. trim_named table named c) (λ named. own-kept c.track (trim_track table c) named (λ t e. trim-one table c t));
-  roll = λ table c. given_law (λ named. roll_named table named c) (λ named. own-kept c.track (roll_track table c) named (λ t e. roll-one table c t));
-  dissolve = λ table c. given_law (λ named. dissolve_named table named c) (λ named. own-kept c.track (λ t. dissolve_on table t c) named (λ t e. dissolve-one table c t));
-  undissolve = λ table c. given_law (λ named. undissolve_named named c) (λ named. own-kept c.track (λ t. undissolve_on t c) named (λ t e. undissolve-one table c t));
+  overwrite = λ table c. given-law (λ named. overwrite_named table named c) (λ named. own-kept c.track (overwrite_track table c) named (λ t e. overwrite-one table c t));
+  fill = λ table c. given-law (λ named. fill_named table named c) (λ named. own-kept c.track (fill_track table c) named (λ t e. fill-one table c t));
+  remove = λ table c. given-law (λ named. remove_named named c) (λ named. own-kept c.track (remove_track c) named (λ t e. remove-one table c t));
+  slice = λ table c. given-law (λ named. slice_named named c) (λ named. own-kept c.track (slice_track c) named (λ t e. slice-one table c t));
+  trim = λ table c. given-law (λ named. trim_named table named c) (λ named. own-kept c.track (trim_track table c) named (λ t e. trim-one table c t));
+  roll = λ table c. given-law (λ named. roll_named table named c) (λ named. own-kept c.track (roll_track table c) named (λ t e. roll-one table c t));
+  dissolve = λ table c. given-law (λ named. dissolve_named table named c) (λ named. own-kept c.track (λ t. dissolve_on table t c) named (λ t e. dissolve-one table c t));
+  undissolve = λ table c. given-law (λ named. undissolve_named named c) (λ named. own-kept c.track (λ t. undissolve_on t c) named (λ t e. undissolve-one table c t));
   insert = λ table c. own-given c.track (inserted table c) (λ all named t room names g e. insert-leaves (StayGiven all named) table c all named t names e (shifts_given all named room names g));
   extract = λ table c. own-given c.track (extracted c) (λ all named t room names g e. extract-leaves (StayGiven all named) c all named t names e (shifts_given all named room names g));
   ripple = λ table c. own-given c.track (ripple_own table c)

@@ -19,9 +19,9 @@ use Rattle.composables.specs.TrackState.{TrackState}
 use Rattle.edit_delta.specs.Nearest.{nearest}
 use Rattle.edit_delta.specs.Using.{on_range, used_on}
 use Rattle.edit_delta.proofs.Greatest.{is-nearest}
-use Rattle.link_laws.specs.TmpSliding.{links_refuse, slid, slide_allows, slide_named, slide_own, slide_range, slide_track}
-use Rattle.link_laws.specs.TmpSlipping.{cell_moved, changed_on, link_allows, link_slipped, linked_moved, slip_allows, slip_link, slip_link_by, slip_named, slip_own, slip_range, slip_track, slip_with, slipped, slipped_by, track_moved}
-use Rattle.link_laws.specs.TmpItemLinks.{carries, link_of}
+use Rattle.edit_roll.specs.Sliding.{links_refuse, slid, slide_allows, slide_named, slide_own, slide_range, slide_track}
+use Rattle.edit_trim.specs.Slipping.{cell_moved, changed_on, link_allows, link_slipped, linked_moved, slip_allows, slip_link, slip_link_by, slip_named, slip_own, slip_range, slip_track, slip_with, slipped, slipped_by, track_moved}
+use Rattle.link_groups.specs.ItemLinks.{carries, link_of}
 use Rattle.link_groups.specs.LinkedItems.{item_of}
 use Rattle.link_laws.specs.Given.{AreGiven, KeepsGiven, LeavesGiven, StaysGiven}
 use Rattle.link_laws.specs.Rooms.{AreAmong, AreNamed, IsNumbered, Leaves, with_tracks}

@@ -22,5 +22,6 @@ pub mod GivenLaw
 pub mod SlipLaw
 pub mod SlideLaw
 pub mod GivenSlips
+pub mod GivenLinks
 pub mod Wholes
 pub mod Histories

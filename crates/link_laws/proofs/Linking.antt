@@ -24,9 +24,9 @@ use Rattle.composables.specs.Ranges.{offset_of}
 use Rattle.composables.specs.TrackFacts.{Apart, EachHolds, Lacks, ShowsAsItem}
 use Rattle.composables.specs.TrackState.{TrackState}
 use Rattle.composables.proofs.Joining.{eqb-refl, length-view_cells, same-is}
-use Rattle.link_groups.specs.LinkedItems.{item_from, linked_cell, linked_item}
+use Rattle.link_groups.specs.LinkedItems.{item_from, item_of, linked_found, linked_item, linked_on}
 use Rattle.link_groups.specs.Linking.{all_linked, already_linked, are_there, found_offset, home_risen, item_offset, link_named, linked, new_link, offsets_differ, or_else, other_offset, shown_offset}
-use Rattle.link_groups.proofs.Relinked.{lacks_of}
+use Rattle.link_groups.proofs.Relinked.{lacks_of, linked-is, linked_cell}
 use Rattle.link_laws.specs.Laws.{LinkingKeepsTogether}
 use Rattle.link_laws.specs.Rooms.{AreAmong, AreNamed, AreTracks, IsNumbered, IsRoom, LeavesTogether, StaysTogether, as_left, with_tracks}
 use Rattle.link_laws.specs.Together.{Together}
@@ -118,9 +118,9 @@ linked_shows made i p (c ∷ cs) l o h = by (same_number c.item (Some i)) refl h
 
 item_gains : (table : Table) (made : Link) (off : ℤ) (t : TrackState) (i : ℕ) → IsGood table t → item_offset t i ≡ off → Gains made off t (linked_item t i (Some made))
 item_gains table made off t i g e = record {
-  shows = λ l o h. by l o (linked_shows made i 0 t.cells l o h);
+  shows = λ l o h. by l o (linked_shows made i 0 t.cells l o (subst (λ (u : TrackState). Shows 0 u.cells l o) (linked-is t i (Some made) g.kept) h));
   next = inl refl;
-  grown = grown-linked table t i (Some made) g;
+  grown = grown-linked t i (Some made);
 } where
   by : (l : Link) (o : Option ℤ) → Shows 0 t.cells l o ⊎ ((l ≡ made) × Has 0 t.cells i o) → Shows 0 t.cells l o ⊎ ((l ≡ made) × (o ≡ Some off))
   by l o (inl a) = inl a
@@ -215,19 +215,24 @@ gained_tied made off ts us each fresh risen g = record {
 
 -- the weight of all links: the new one has few runs
 
-gained_runs : (made : Link) (off : ℤ) (ts us : List TrackState) → Each (Gains made off) ts us
+-- a track with few runs more, or the home of the link that is made, which gives its number away
+pub record Rising (made : Link) (t u : TrackState) : Type 0 where
+  pub next : (u.next_link ≡ t.next_link) ⊎ ((u.next_link ≡ t.next_link + 1) × (t.number ≡ made.home) × (t.next_link ≡ made.number))
+  pub grown : Grown t u
+
+rising_runs : (made : Link) (ts us : List TrackState) → Each (Rising made) ts us
     → (os : List (Option Link)) × (length os ≤ 4 * length ts) × ((h n : ℕ) → runs_on h n us ≤ runs_on h n ts + count h n os)
-gained_runs made off [] [] e = ([], omega arith, λ h n. omega arith)
-gained_runs made off [] (u ∷ us) e = absurd e
-gained_runs made off (t ∷ ts) [] e = absurd e
-gained_runs made off (t ∷ ts) (u ∷ us) e =
+rising_runs made [] [] e = ([], omega arith, λ h n. omega arith)
+rising_runs made [] (u ∷ us) e = absurd e
+rising_runs made (t ∷ ts) [] e = absurd e
+rising_runs made (t ∷ ts) (u ∷ us) e =
     let a = e.1.grown in
-    let r = gained_runs made off ts us e.2 in
+    let r = rising_runs made ts us e.2 in
     (a.0 ++ r.0, omega (arith, length-append a.0 r.0, a.1, r.1), λ h n. omega (arith, count-append h n a.0 r.0, a.2 h n, r.2 h n))
 
-gained_given : (made : Link) (off : ℤ) (f : ℕ → ℕ → ℕ) (t u : TrackState) → f made.home made.number ≤ 128 → u.number ≡ t.number → Gains made off t u
+rising_given : (made : Link) (f : ℕ → ℕ → ℕ) (t u : TrackState) → f made.home made.number ≤ 128 → u.number ≡ t.number → Rising made t u
     → given (f u.number) u.next_link ≤ given (f t.number) t.next_link + 129
-gained_given made off f t u few e g = by g.next where
+rising_given made f t u few e g = by g.next where
   number : given (f u.number) u.next_link ≡ given (f t.number) u.next_link
   number = ap (λ (m : ℕ). given (f m) u.next_link) e
 
@@ -240,28 +245,34 @@ gained_given made off f t u few e g = by g.next where
       let more : given (f t.number) u.next_link ≡ max 1 (f t.number t.next_link) + given (f t.number) t.next_link = ap (given (f t.number)) up in
       omega (arith, number, more, same, few)
 
-gained_weight : (made : Link) (off : ℤ) (f : ℕ → ℕ → ℕ) (ts us : List TrackState) → f made.home made.number ≤ 128 → Each (Gains made off) ts us
+rising_weight : (made : Link) (f : ℕ → ℕ → ℕ) (ts us : List TrackState) → f made.home made.number ≤ 128 → Each (Rising made) ts us
     → weight_of f us ≤ weight_of f ts + 129 * length ts
-gained_weight made off f [] [] few e = omega arith
-gained_weight made off f [] (u ∷ us) few e = absurd e
-gained_weight made off f (t ∷ ts) [] few e = absurd e
-gained_weight made off f (t ∷ ts) (u ∷ us) few e =
-    omega (arith, gained_given made off f t u few e.0 e.1, gained_weight made off f ts us few e.2)
+rising_weight made f [] [] few e = omega arith
+rising_weight made f [] (u ∷ us) few e = absurd e
+rising_weight made f (t ∷ ts) [] few e = absurd e
+rising_weight made f (t ∷ ts) (u ∷ us) few e =
+    omega (arith, rising_given made f t u few e.0 e.1, rising_weight made f ts us few e.2)
 
-gained_little : (made : Link) (off : ℤ) (ts us : List TrackState) → IsNumbered ts → Below ts → made.number ≡ next_link_at made.home ts → Each (Gains made off) ts us
+pub rising-little : (made : Link) (ts us : List TrackState) → IsNumbered ts → Below ts → made.number ≡ next_link_at made.home ts → Each (Rising made) ts us
     → weight us ≤ weight ts + most_added
-gained_little made off ts us room g fresh each =
-    let r = gained_runs made off ts us each in
+rising-little made ts us room g fresh each =
+    let r = rising_runs made ts us each in
     let tracks = tracks-few ts room in
     let none : runs_on made.home made.number ts ≡ 0 = fresh-runs ts made.home made.number g (omega (arith, fresh)) in
     let few : runs_on made.home made.number us ≤ 128 = omega (arith, none, r.2 made.home made.number, count-few made.home made.number r.0, r.1, tracks) in
     omega (
       arith,
-      gained_weight made off (λ (h n : ℕ). runs_on h n us) ts us few each,
+      rising_weight made (λ (h n : ℕ). runs_on h n us) ts us few each,
       weight-more (λ (h n : ℕ). runs_on h n ts) (λ (h n : ℕ). runs_on h n us) ts r.0 room.ascend r.2,
       r.1,
       tracks,
     )
+
+gained_rising : (made : Link) (off : ℤ) (ts us : List TrackState) → Each (Gains made off) ts us → Each (Rising made) ts us
+gained_rising made off [] [] e = tt
+gained_rising made off [] (u ∷ us) e = absurd e
+gained_rising made off (t ∷ ts) [] e = absurd e
+gained_rising made off (t ∷ ts) (u ∷ us) e = (e.0, record { next = e.1.next; grown = e.1.grown }, gained_rising made off ts us e.2)
 
 -- the call
 
@@ -275,11 +286,11 @@ head_gains table all made off t ts (i ∷ is) g a home number e = by (all_gain t
       → Each (Gains made off) (t ∷ ts) (record (linked_item t i (Some made)) { next_link = t.next_link + 1 } ∷ all_linked made ts is)
   by r = (refl, record { shows = λ l o h. r.1.shows l o h; next = inr (refl, home, number); grown = r.1.grown }, r.2)
 
-head_is : (made : Link) (t : TrackState) (ts : List TrackState) (is : List ℕ) → (u : TrackState) × (track_numbered t.number (home_risen (all_linked made (t ∷ ts) is)) ≡ Some u) × (u.next_link ≡ t.next_link + 1)
-head_is made t ts [] =
+pub head-is : (made : Link) (t : TrackState) (ts : List TrackState) (is : List ℕ) → (u : TrackState) × (track_numbered t.number (home_risen (all_linked made (t ∷ ts) is)) ≡ Some u) × (u.next_link ≡ t.next_link + 1)
+head-is made t ts [] =
     let u : TrackState = record t { next_link = t.next_link + 1 } in
     (u, ap (λ (b : Bool). cond b (Some u) (track_numbered t.number ts)) (eqb-refl t.number), refl)
-head_is made t ts (i ∷ is) =
+head-is made t ts (i ∷ is) =
     let u : TrackState = record (linked_item t i (Some made)) { next_link = t.next_link + 1 } in
     (u, ap (λ (b : Bool). cond b (Some u) (track_numbered t.number (all_linked made ts is))) (eqb-refl t.number), refl)
 
@@ -290,7 +301,7 @@ link_done table all t ts c off room among g e =
     let news : List TrackState = home_risen (all_linked made (t ∷ ts) c.items) in
     let each = head_gains table all made off t ts c.items room.tracks among refl refl e in
     let whole = each-left (Gains made off) (gains_self made off) all (t ∷ ts) news all among each room.apart in
-    let head = head_is made t ts c.items in
+    let head = head-is made t ts c.items in
     let left : as_left news t ≡ head.0 = ap (λ (o : Option TrackState). unwrap_or o t) head.1 in
     let there : next_link_at t.number (with_tracks all news) ≡ head.0.next_link =
     next-numbered t.number (with_tracks all news) head.0 (numbered-left t.number news all t among.0 ∙ ap Some left) in
@@ -298,7 +309,7 @@ link_done table all t ts c off room among g e =
     let fresh : made.number ≡ next_link_at made.home all = sym (next-numbered t.number all t among.0) in
     record {
       together = together-of (with_tracks all news) (gained_tied made off all (with_tracks all news) whole fresh (omega (arith, there, head.2)) tied);
-      little = gained_little made off all (with_tracks all news) (numbered-of table all room) tied.below fresh whole;
+      little = rising-little made all (with_tracks all news) (numbered-of table all room) tied.below fresh (gained_rising made off all (with_tracks all news) whole);
     }
 
 or_none : (a b : Option Refusal) → or_else a b ≡ None → a ≡ None

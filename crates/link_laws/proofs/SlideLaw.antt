@@ -32,9 +32,9 @@ use Rattle.edit_delta.specs.Reaching.{going_on, has_after, has_before, keeps_a_c
 use Rattle.edit_delta.specs.Using.{on_range, used_on}
 use Rattle.edit_delta.proofs.Greatest.{is-nearest}
 use Rattle.edit_roll.specs.Neighbours.{begin_at, end_at, has_neighbours, may_move_earlier, may_move_later, range_at}
-use Rattle.link_laws.specs.TmpSliding.{bare_item, broken_by, link_broken, links_refuse, slid, slid_earlier, slid_later, slide_allows, slide_named, slide_own, slide_range, slide_track}
+use Rattle.edit_roll.specs.Sliding.{bare_item, broken_by, link_broken, links_refuse, slid, slid_earlier, slid_later, slide_allows, slide_named, slide_own, slide_range, slide_track}
 use Rattle.edit_splice.specs.Splicing.{spliced_track}
-use Rattle.link_laws.specs.TmpItemLinks.{carried_on, carried_outside, carries, link_found, link_of}
+use Rattle.link_groups.specs.ItemLinks.{carried_on, carried_outside, carries, link_found, link_of}
 use Rattle.link_groups.specs.LinkedItems.{item_from, item_of}
 use Rattle.link_groups.specs.Linking.{or_else, shown_offset}
 use Rattle.link_groups.proofs.Relinked.{lacks_of}
@@ -43,7 +43,7 @@ use Rattle.link_laws.specs.Rooms.{AreAmong, AreNamed, AreTracks, Ascend, IsRoom,
 use Rattle.link_laws.specs.Together.{Together}
 use Rattle.link_laws.specs.Weights.{runs_in}
 use Rattle.link_laws.proofs.Edits.{KeptOne, among-kept, and-both, kept-leaves, room-good}
-use Rattle.link_laws.proofs.FreeRanges.{filled-all, frames-all, item-range, range-within}
+use Rattle.link_laws.proofs.FreeRanges.{filled-all, frames-all, item-range, range-item, range-within, ranged}
 use Rattle.link_laws.proofs.LinkLists.{Carries, Same, carries-append, is-same, same-is-link, shows-carries}
 use Rattle.link_laws.proofs.Runs.{Grown, count, runs-all, runs-append, runs-one, runs-spliced, view-have}
 use Rattle.link_laws.proofs.Shifting.{SeesRest, left-sees, numbered-sees, rest-all}
@@ -523,18 +523,6 @@ slides_stay table all named t u own i x y l room names g e good range less has t
 
 -- the call
 
-abbrev ranged : Option (ℕ × ItemView) → Option (ℕ × ℕ)
-ranged None = None
-ranged (Some (x, v)) = Some (x, x + v.len)
-
-range_item : (vs : List ItemView) (p i : ℕ) → range_from p vs i ≡ ranged (item_from p vs i)
-range_item [] p i = refl
-range_item (v ∷ vs) p i = by (same_number v.item (Some i)) (range_item vs (p + v.len) i) where
-  by : (b : Bool) → range_from (p + v.len) vs i ≡ ranged (item_from (p + v.len) vs i)
-      → cond b (Some (p, p + v.len)) (range_from (p + v.len) vs i) ≡ ranged (cond b (Some (p, v)) (item_from (p + v.len) vs i))
-  by true later = refl
-  by false later = later
-
 within_leave : (all named : List TrackState) (u : TrackState) (done : Done) → StaysTogether all (with_tracks all (with_track named u))
     → LeavesTogether all (among_named named (track_within_limits u done))
 within_leave all named u done h = by (too_long (u ∷ [])) (too_many (u ∷ [])) where
@@ -603,7 +591,7 @@ module _ (table : Table) (c : Slide) (all named : List TrackState) (t : TrackSta
   slide_keeps : LeavesTogether all (slide_own table named c t)
   slide_keeps = by (item_of t c.item) refl where
     ranges : range_of t.cells c.item ≡ ranged (item_of t c.item)
-    ranges = range_item (items_of t.cells) 0 c.item
+    ranges = range-item (items_of t.cells) 0 c.item
 
     item : (x : ℕ) (v : ItemView) → item_of t c.item ≡ Some (x, v) → (o : Option Link) → v.link ≡ o → or_else (outside_refusal named o) (link_broken table named c t x v o) ≡ None
         → LeavesTogether all (among_named named (slide_track table c t))

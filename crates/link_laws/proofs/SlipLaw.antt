@@ -32,8 +32,8 @@ use Rattle.edit_delta.specs.Nearest.{nearest}
 use Rattle.edit_delta.specs.Reaching.{has_before, has_before_in}
 use Rattle.edit_delta.specs.Using.{on_range, used_on}
 use Rattle.edit_delta.proofs.Greatest.{is-nearest}
-use Rattle.link_laws.specs.TmpSlipping.{cell_moved, changed_on, each_linked, each_linked_on, item_may_slip_earlier, link_allows, link_slipped, linked_moved, may_slip_earlier, slip_allows, slip_link, slip_link_by, slip_named, slip_own, slip_range, slip_track, slip_with, slipped, slipped_by, track_moved}
-use Rattle.link_laws.specs.TmpItemLinks.{carries, link_found, link_of}
+use Rattle.edit_trim.specs.Slipping.{cell_moved, changed_on, each_linked, each_linked_on, item_may_slip_earlier, link_allows, link_slipped, linked_moved, may_slip_earlier, slip_allows, slip_link, slip_link_by, slip_named, slip_own, slip_range, slip_track, slip_with, slipped, slipped_by, track_moved}
+use Rattle.link_groups.specs.ItemLinks.{carries, link_found, link_of}
 use Rattle.link_groups.specs.LinkedItems.{item_from, item_of}
 use Rattle.link_laws.specs.SlipLaws.{SlippingKeepsTogether}
 use Rattle.link_laws.specs.Rooms.{AreAmong, AreNamed, AreTracks, IsRoom, KeepsTogether, LeavesTogether, StaysTogether, with_tracks}

@@ -1,6 +1,6 @@
 -- Link numbers are given away: each link's number is below the next one of its home, which is among its tracks. Calls keep
 -- it so, whatever else the tracks are, and add little to the weight of links.
-use Rattle.std.specs.Prelude.{◌≡◌, ◌<◌, ◌≤◌, ◌+◌, ℕ, List, Some, IsBitSet}
+use Rattle.std.specs.Prelude.{◌≡◌, ◌<◌, ◌≤◌, ◌+◌, ℕ, List, [], ◌∷◌, Some, IsBitSet}
 use Rattle.frame_meaning.specs.declared.cells.Cell.{Cell}
 use Rattle.frame_meaning.specs.declared.cells.Link.{Link}
 use Rattle.composables.specs.declared.media.Table.{Table}
@@ -21,10 +21,13 @@ use Rattle.edit_insert.specs.Fills.{fill_named}
 use Rattle.edit_roll.specs.Rolling.{roll_named}
 use Rattle.edit_trim.specs.Rippling.{ripple_named}
 use Rattle.edit_trim.specs.Trimming.{trim_named}
+use Rattle.composables.specs.declared.calls.Link3.{Link3}
+use Rattle.composables.specs.declared.calls.Unlink.{Unlink}
 use Rattle.composables.specs.Answers.{Applied}
 use Rattle.composables.specs.Links.{next_link_at}
 use Rattle.composables.specs.OwnTracks.{numbers_of}
 use Rattle.composables.specs.TrackState.{TrackState}
+use Rattle.link_groups.specs.Linking.{link_named, unlink_named}
 use Rattle.link_laws.specs.Together.{StandsOn}
 use Rattle.link_laws.specs.Rooms.{AreNamed, IsNumbered, Leaves, with_tracks}
 use Rattle.link_laws.specs.Weights.{most_added, weight}
@@ -61,3 +64,17 @@ pub record EditsKeepGiven : Type 0 where
   pub insert : (table : Table) (c : Insert) → KeepsGiven (λ named. insert_named table named c)
   pub extract : (table : Table) (c : Extract) → KeepsGiven (λ named. extract_named named c)
   pub ripple : (table : Table) (c : Ripple) → KeepsGiven (λ named. ripple_named table named c)
+
+-- so does a link taken away
+abbrev pub UnlinkingKeepsGiven : Type 0
+UnlinkingKeepsGiven = (c : Unlink) → KeepsGiven (λ named. unlink_named named c)
+
+-- these tracks are in a set of tracks
+abbrev pub AreIn : ℕ → List TrackState → Type 0
+AreIn set [] = Unit {0}
+AreIn set (t ∷ ts) = IsBitSet set t.number × AreIn set ts
+
+-- and a link that is made on the tracks of its set
+abbrev pub LinkingKeepsGiven : Type 0
+LinkingKeepsGiven = (c : Link3) (all named : List TrackState) → IsNumbered all → AreNamed all named → AreIn c.tracks named → AreGiven all
+    → LeavesGiven all named (link_named named c)

@@ -3,9 +3,6 @@ pub mod Weights
 pub mod Rooms
 pub mod Given
 pub mod Laws
-pub mod TmpItemLinks
-pub mod TmpSlipping
-pub mod TmpSliding
 pub mod SlipLaws
 pub mod Wholes
 pub mod Histories

@@ -3,8 +3,8 @@
 use Rattle.composables.specs.declared.media.Table.{Table}
 use Rattle.composables.specs.declared.calls.Slide.{Slide}
 use Rattle.composables.specs.declared.calls.Slip.{Slip}
-use Rattle.link_laws.specs.TmpSliding.{slide_named}
-use Rattle.link_laws.specs.TmpSlipping.{slip_named}
+use Rattle.edit_roll.specs.Sliding.{slide_named}
+use Rattle.edit_trim.specs.Slipping.{slip_named}
 use Rattle.link_laws.specs.Given.{KeepsGiven}
 use Rattle.link_laws.specs.Rooms.{KeepsTogether}
 

@@ -1,12 +1,13 @@
 // What is true of links under the calls of a room.
-ghost use Rattle.link_laws.specs.Given.{EditsKeepGiven};
+ghost use Rattle.link_laws.specs.Given.{EditsKeepGiven, LinkingKeepsGiven, UnlinkingKeepsGiven};
 ghost use Rattle.link_laws.specs.Histories.{HistoriesStayGiven, HistoriesStayTogether};
 ghost use Rattle.link_laws.specs.Histories.{LinkNumbersLast};
 ghost use Rattle.link_laws.specs.Laws.{DissolvingKeepsTogether, LinkingKeepsTogether};
 ghost use Rattle.link_laws.specs.Laws.{MovingAnEndKeepsTogether, PuttingInKeepsTogether};
 ghost use Rattle.link_laws.specs.Laws.{RippleKeepsTogether, ShiftingKeepsTogether};
 ghost use Rattle.link_laws.specs.Laws.{UnlinkingKeepsTogether};
-ghost use Rattle.link_laws.specs.SlipLaws.{SlidingKeepsTogether, SlippingKeepsTogether};
+ghost use Rattle.link_laws.specs.SlipLaws.{SlidingKeepsGiven, SlidingKeepsTogether};
+ghost use Rattle.link_laws.specs.SlipLaws.{SlippingKeepsGiven, SlippingKeepsTogether};
 ghost use Rattle.link_laws.specs.Weights.{NextsAreWithinWeight};
 ghost use Rattle.link_laws.specs.Wholes.{UnlinkedAreTogether, WholesKeepTogether};
 
@@ -38,6 +39,10 @@ pub fn wholes_law()
 /// link number of its home, which is among its tracks. The weight of all links rises by little.
 pub fn given_law()
     ensures edits { EditsKeepGiven }
+    ensures slipping { SlippingKeepsGiven }
+    ensures sliding { SlidingKeepsGiven }
+    ensures linking { LinkingKeepsGiven }
+    ensures unlinking { UnlinkingKeepsGiven }
 {}
 
 /// A history of calls that keep the tracks of a room together does so, where the tracks are good before each of its
