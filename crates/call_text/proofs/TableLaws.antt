@@ -1,5 +1,5 @@
 -- What is read of a line is spelled there, and what is spelled there is read.
-use Rattle.std.proofs.Common.{◌≡◌, ℕ, true, ◌∙◌, List, [], ◌∷◌, Option, Some, None, Ok, length, nat_eq, nat_le, inl, inr, refl, ap, if◌then◌else◌, codes}
+use Rattle.std.proofs.Common.{◌≡◌, ◌≤◌, ℕ, true, Result, ◌∙◌, List, [], ◌∷◌, Option, Some, None, Ok, length, nat_eq, nat_le, inl, inr, refl, ap, if◌then◌else◌, codes}
 use Rattle.std.proofs.lemmas.Bool.{eqb-true, eq-eqb, leb-true, le-leb}
 use Rattle.std.proofs.lemmas.Slice.Eq.{bytes_eq-Decides}
 use Rattle.std.specs.Str.{bytes_eq}
@@ -13,11 +13,12 @@ use Rattle.edit_apply.specs.declared.asks.Call.TheVariants as call
 use Rattle.edit_apply.specs.declared.asks.Ask.TheVariants as ask
 use Rattle.call_text.specs.declared.lines.Line.{Line}
 use Rattle.call_text.specs.declared.lines.Line.TheVariants.{Edit, Ask, Point, Otio}
+use Rattle.reply_text.specs.declared.line_fault.LineFault.{LineFault}
 use Rattle.reply_text.specs.declared.line_fault.LineFault.TheVariants.{B1, B2, B5}
 use Rattle.call_text.specs.declared.commands.Command.{Command}
 use Rattle.call_text.specs.declared.commands.Command.TheVariants as command
-use Rattle.call_text.specs.Spelling.{is_comma, numeral_of, numbers_of, delta_of, end_of, given_of, track_of, tracks_of, place_of, what_of}
-use Rattle.call_text.specs.Reading.{overwrite_of, insert_of, remove_of, extract_of, slice_of, dissolve_of, undissolve_of, trim_of, slip_of, roll_of, slide_of, fill_of, ripple_of, link_of, unlink_of, view_of, items_of, point_of, otio_of, are_linking, command_of, row_of, row_if, line_of_words, line_of}
+use Rattle.call_text.specs.Spelling.{IsOrMemory, is_comma, numeral_of, numbers_of, delta_of, end_of, given_of, track_of, tracks_of, place_of, what_of}
+use Rattle.call_text.specs.Reading.{AreRead, IsRead, IsRowRead, overwrite_of, insert_of, remove_of, extract_of, slice_of, dissolve_of, undissolve_of, trim_of, slip_of, roll_of, slide_of, fill_of, ripple_of, link_of, unlink_of, view_of, items_of, point_of, otio_of, are_linking, command_of, row_of, row_if, line_of_words, line_of}
 use Rattle.call_text.specs.Table.{AreLength, AreWords, IsLine, word_of}
 use Rattle.call_text.proofs.ReadParts.{bind_ok, chosen, ok_same, err_ok, numeral_spelled, numeral_read, numerals_spelled, numerals_read, delta_spelled, delta_read, end_spelled, end_read, given_spelled, track_spelled, track_read, tracks_spelled, tracks_read, place_spelled, place_read, thing_spelled, thing_read}
 
@@ -559,3 +560,20 @@ words_read place_at words (Otio n) h = let point = numeral_read h.0 n h.2 in rw 
 
 pub line_read : (place_at : List ℕ → Option ℕ) (bytes : List ℕ) (line : Line) → IsLine place_at bytes line → line_of place_at bytes ≡ Ok line
 line_read place_at bytes line h = let short = le-leb (length bytes) 1024 h.short in rw short (words_read place_at (words_of bytes) line h.words)
+
+-- a line is read as its row is, and as its words are
+pub row_read : (place_at : List ℕ → Option ℕ) (first : List ℕ) (words : List (List ℕ)) (k : Command) (r : Result Line LineFault) → command_of first ≡ Some k → IsRowRead place_at k words r → AreRead place_at (first ∷ words) r
+row_read place_at first words k r named (inl is) = inl (rw named is)
+row_read place_at first words k r named (inr (link, none)) = let word = linking first words k named link in inr (rw word tt, none)
+
+pub short_read : (place_at : List ℕ → Option ℕ) (bytes : List ℕ) (r : Result Line LineFault) → length bytes ≤ 1024 → AreRead place_at (words_of bytes) r → IsRead place_at bytes r
+short_read place_at bytes r short (inl is) = let within = le-leb (length bytes) 1024 short in inl (rw within is)
+short_read place_at bytes r short (inr linking) = inr linking
+
+-- a row other than `link` is read as it says
+pub exact_row : (place_at : List ℕ → Option ℕ) (k : Command) (words : List (List ℕ)) (r : Result Line LineFault) → r ≡ row_of place_at k words → IsRowRead place_at k words r
+exact_row place_at k words r is = inl is
+
+pub link_row : (place_at : List ℕ → Option ℕ) (k : Command) (words : List (List ℕ)) (r : Result Line LineFault) → k ≡ command.Link → IsOrMemory (link_of words) r → IsRowRead place_at k words r
+link_row place_at k words r link (inl is) = inl (rw link is)
+link_row place_at k words r link (inr none) = inr (link, none)

@@ -10,7 +10,7 @@ type Said = (&'static [u8], &'static [u8]);
 #[test]
 fn lines_say_what_the_table_says(rt: HostRuntime) -> Result<(), Fail> {
     let film = film().ok_or("no such counting")?;
-    let table: [Said; 28] = [
+    let table: [Said; 31] = [
         (b"point", b"point"),
         (b" \tpoint\t", b"point"),
         (b"otio 007", b"otio 7"),
@@ -54,6 +54,9 @@ fn lines_say_what_the_table_says(rt: HostRuntime) -> Result<(), Fail> {
             b"fill 1 20 @3 400 source 4294967295",
         ),
         (b"ripple 0,2 2 7 tail -1", b"ripple 0,2 2 7 tail -1"),
+        (b"link 0,2 007,4294967295", b"link 0,2 7,4294967295"),
+        (b"link 31 0", b"link 31 0"),
+        (b"unlink 3 010", b"unlink 3 10"),
     ];
     for (row, (line, want)) in table.into_iter().enumerate() {
         let said = told(rt.alloc(), line, &film, 0)?;
@@ -65,7 +68,7 @@ fn lines_say_what_the_table_says(rt: HostRuntime) -> Result<(), Fail> {
 #[test]
 fn the_first_fault_of_a_line_is_told(rt: HostRuntime) -> Result<(), Fail> {
     let film = film().ok_or("no such counting")?;
-    let table: [Said; 84] = [
+    let table: [Said; 101] = [
         (b"", b"bad B2"),
         (b" \t ", b"bad B2"),
         (b"jump", b"bad B1"),
@@ -150,6 +153,23 @@ fn the_first_fault_of_a_line_is_told(rt: HostRuntime) -> Result<(), Fail> {
         (b"fill 0 0 @0 0 source 4294967296", b"bad B4"),
         (b"ripple 0 0 0 head", b"bad B2"),
         (b"ripple 0 0 0 tai x", b"bad B1"),
+        (b"link", b"bad B2"),
+        (b"link 0", b"bad B2"),
+        (b"link 0 0 0", b"bad B2"),
+        (b"link 0 0,1", b"bad B2"),
+        (b"link 0,1 0", b"bad B2"),
+        (b"link 0 0,x", b"bad B3"),
+        (b"link 0 0,4294967296", b"bad B4"),
+        (b"link 0 4294967296,x", b"bad B4"),
+        (b"link 0 ,", b"bad B3"),
+        (b"link 0,1 0,", b"bad B3"),
+        (b"link 1,0 0,0", b"bad B6"),
+        (b"link 0,32 x", b"bad B4"),
+        (b"link x 4294967296", b"bad B3"),
+        (b"unlink 0", b"bad B2"),
+        (b"unlink 0 0 0", b"bad B2"),
+        (b"unlink 32 x", b"bad B4"),
+        (b"unlink 0 0,1", b"bad B3"),
     ];
     for (row, (line, want)) in table.into_iter().enumerate() {
         let said = told(rt.alloc(), line, &film, 0)?;
