@@ -27,64 +27,72 @@ fn lead(code: JournalCode) -> &'static [u8] {
     }
 }
 
-// A text, and what is read of it.
-type Told = (&'static [u8], &'static [u8]);
+// Each row is a text, in which `/` stands for a line feed, ` | `, and what is read of it.
+const FAULTS: &str = "\
+journal 0 | H1 1
+ | H1 1
+/ | H1 1
+journal 0\r/ | H1 1
+journal/ | H1 1
+journal  0/ | H1 1
+ journal 0/ | H1 1
+journal 0 / | H1 1
+journal 00/ | H1 1
+journal x/ | H1 1
+journal 4294967296/ | H1 1
+Journal 0/ | H1 1
+journal 0// | H1 2
+journal 4294967295/ | H2 1
+journal 1/ | H2 1
+journal 2/0 1 slice 0 10/ | H2 1
+journal 0/0 1 slice 0 10/ | H2 1
+journal 1/0 1 slice 0 10 | H1 2
+journal 1/0 1 slice 00 10/ | H1 2
+journal 1/00 1 slice 0 10/ | H1 2
+journal 1/16 1 slice 0 10/ | H1 2
+journal 1/0 01 slice 0 10/ | H1 2
+journal 1/0 4294967296 slice 0 10/ | H1 2
+journal 1/0 1  slice 0 10/ | H1 2
+journal 1/0 1 slice\t0 10/ | H1 2
+journal 1/0 1 slice 32 10/ | H1 2
+journal 1/0 1 slice 0 00:00:00:10/ | H1 2
+journal 1/0 1 items 0/ | H1 2
+journal 3/0 1 slice 0 1/0 x slice 0 1/ | H1 3
+journal 2/0 2 slice 0 1/0 2 slice 0 1/ | H4 3
+journal 3/0 2 slice 0 1/1 1 slice 0 1/0 1 slice 0 1/ | H4 4
+";
+
+const JOURNALS: &str = "\
+journal 0/
+journal 1/15 0 remove 31 4294967295/
+journal 3/0 1 overwrite 1 20 @3 400 5000/15 70 insert 0,2 2 24 #7 5 6/0 2 extract 1,2 1 3/
+";
+
+// A text with a line feed in place of each `/`.
+fn with_lines(alloc: Global, row: &str) -> Result<Vec<u8>, Memory> {
+    let mut text = Vec::new(alloc);
+    for byte in row.as_bytes() {
+        text.push(if *byte == b'/' { b'\n' } else { *byte })?;
+    }
+    Ok(text)
+}
 
 #[test]
 fn the_first_fault_of_a_journal_is_told(rt: HostRuntime) -> Result<(), Fail> {
-    let table: [Told; 31] = [
-        (b"", b"H1 1"),
-        (b"\n", b"H1 1"),
-        (b"journal 0", b"H1 1"),
-        (b"journal 0\r\n", b"H1 1"),
-        (b"journal\n", b"H1 1"),
-        (b"journal  0\n", b"H1 1"),
-        (b" journal 0\n", b"H1 1"),
-        (b"journal 0 \n", b"H1 1"),
-        (b"journal 00\n", b"H1 1"),
-        (b"journal x\n", b"H1 1"),
-        (b"journal 4294967296\n", b"H1 1"),
-        (b"Journal 0\n", b"H1 1"),
-        (b"journal 0\n\n", b"H1 2"),
-        (b"journal 4294967295\n", b"H2 1"),
-        (b"journal 1\n", b"H2 1"),
-        (b"journal 2\n0 1 slice 0 10\n", b"H2 1"),
-        (b"journal 0\n0 1 slice 0 10\n", b"H2 1"),
-        (b"journal 1\n0 1 slice 0 10", b"H1 2"),
-        (b"journal 1\n0 1 slice 00 10\n", b"H1 2"),
-        (b"journal 1\n00 1 slice 0 10\n", b"H1 2"),
-        (b"journal 1\n16 1 slice 0 10\n", b"H1 2"),
-        (b"journal 1\n0 01 slice 0 10\n", b"H1 2"),
-        (b"journal 1\n0 4294967296 slice 0 10\n", b"H1 2"),
-        (b"journal 1\n0 1  slice 0 10\n", b"H1 2"),
-        (b"journal 1\n0 1 slice\t0 10\n", b"H1 2"),
-        (b"journal 1\n0 1 slice 32 10\n", b"H1 2"),
-        (b"journal 1\n0 1 slice 0 00:00:00:10\n", b"H1 2"),
-        (b"journal 1\n0 1 items 0\n", b"H1 2"),
-        (b"journal 3\n0 1 slice 0 1\n0 x slice 0 1\n", b"H1 3"),
-        (b"journal 2\n0 2 slice 0 1\n0 2 slice 0 1\n", b"H4 3"),
-        (
-            b"journal 3\n0 2 slice 0 1\n1 1 slice 0 1\n0 1 slice 0 1\n",
-            b"H4 4",
-        ),
-    ];
-    for (row, (text, want)) in table.into_iter().enumerate() {
-        let said = told(rt.alloc(), text)?;
-        assert_eq!(rt; said.as_slice(), want, "row {row}");
+    for (row, text) in FAULTS.lines().enumerate() {
+        let (journal, want) = text.split_once(" | ").ok_or("no row")?;
+        let said = told(rt.alloc(), with_lines(rt.alloc(), journal)?.as_slice())?;
+        assert_eq!(rt; said.as_slice(), want.as_bytes(), "row {row}");
     }
     Ok(())
 }
 
 #[test]
 fn written_journals_are_read(rt: HostRuntime) -> Result<(), Fail> {
-    let table: [&[u8]; 3] = [
-        b"journal 0\n",
-        b"journal 1\n15 0 remove 31 4294967295\n",
-        b"journal 3\n0 1 overwrite 1 20 @3 400 5000\n15 70 insert 0,2 2 24 #7 5 6\n0 2 extract 1,2 1 3\n",
-    ];
-    for (row, text) in table.into_iter().enumerate() {
-        let said = told(rt.alloc(), text)?;
-        assert_eq!(rt; said.as_slice(), text, "row {row}");
+    for (row, text) in JOURNALS.lines().enumerate() {
+        let text = with_lines(rt.alloc(), text)?;
+        let said = told(rt.alloc(), text.as_slice())?;
+        assert_eq!(rt; said.as_slice(), text.as_slice(), "row {row}");
     }
     Ok(())
 }
