@@ -50,9 +50,8 @@ impl Session {
     ghost use Rattle.call_text.specs.CallTexts.{IsWritten, NamesWritten};
     ghost use Rattle.reply_text.specs.Replies.{fault_of};
     ghost use Rattle.otio_json.specs.Soundness.{IsSoundOpening};
-    ghost use Rattle.cut_server.specs.Rooms.{meaning_of, wish_in};
     ghost use Rattle.cut_server.specs.Served.{IsFresh};
-    ghost use Rattle.cut_server.specs.Session.{Replies, RepliesShort};
+    ghost use Rattle.cut_server.specs.Session.{IsMeant, Replies, RepliesShort, RepliesTo};
     ghost use Rattle.cut_server.specs.Transcript.{Bad, Do, Point, See, Write};
 
     /// A session in a room that begins so, with an empty journal.
@@ -88,7 +87,7 @@ impl Session {
 
     /// What a line of the input says.
     fn said(&self, end: LineEnd, text: &[u8]) -> Result<Line, LineFault>
-        ensures meant { result ≡ meaning_of self.now.setting (line_told end text.now) }
+        ensures meant { IsMeant self.now.setting (line_told end text.now) result }
         ensures written { IfOk result (λ line. NamesWritten line) }
     {
         match end {
@@ -154,8 +153,7 @@ impl Session {
     /// Answers a line, and commits it where it is an edit that applies. The next line has the next number.
     pub(crate) fn answer(&mut self, end: LineEnd, text: &[u8]) -> Reply
         requires { self.old.course.line + 1 < 2 ^ 32 }
-        ensures { Replies self.old self.new (wish_in
-            (meaning_of self.old.setting (line_told end text.now))) result }
+        ensures { RepliesTo self.old self.new (line_told end text.now) result }
     {
         match self.said(end, text) {
             Ok(line) => match line {
