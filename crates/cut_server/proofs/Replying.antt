@@ -1,6 +1,7 @@
 -- What an edit did to a session, and what a question was answered, is what the reply says.
 use Rattle.std.proofs.Common.{◌≡◌, ℕ, ◌+◌, ◌<◌, ◌≤◌, inl, inr, List, [], ◌∷◌, ◌++◌, length, take, Option, Some, None, Result, Ok, Err, slice_get, option_map, refl, sym, ap, ◌∙◌, arith, subst}
 use Rattle.std.specs.Prelude.{codes}
+use Rattle.line_words.specs.Lines.{Line as InputLine}
 use Rattle.timecode12.specs.Numbers.{Counted}
 use Rattle.composables.specs.TrackState.{TrackState}
 use Rattle.edit_apply.specs.declared.asks.Call.{Call}
@@ -18,13 +19,15 @@ use Rattle.cut_room.specs.declared.answers.CutFault.{CutFault}
 use Rattle.cut_room.specs.Desks.{Edits, Sees, told}
 use Rattle.room_core.specs.History.{replay}
 use Rattle.room_core.specs.Whole.{whole}
+use Rattle.call_text.specs.declared.lines.Line.{Line}
+use Rattle.reply_text.specs.declared.line_fault.LineFault.{LineFault}
 use Rattle.call_text.specs.CallTexts.{IsWritten}
-use Rattle.call_text.specs.Replies.{EditAnswer, answer_text_of}
-use Rattle.call_text.specs.Sights.{TrackSight, sight_text_of}
+use Rattle.reply_text.specs.Replies.{EditAnswer, answer_text_of}
+use Rattle.reply_text.specs.Sights.{TrackSight, sight_text_of}
 use Rattle.cut_server.specs.declared.reply.Reply.{Reply}
 use Rattle.cut_server.specs.DocumentReplies.{document_reply, no_point_reply}
-use Rattle.cut_server.specs.Rooms.{History, Setting, AreWritten, document_of, finds_memory, room_of, seen_of}
-use Rattle.cut_server.specs.Session.{IsReply, IsReplyIfMemory, IsSightReply, Replies, RepliesWith, Step}
+use Rattle.cut_server.specs.Rooms.{History, Setting, AreWritten, document_of, finds_memory, room_of, seen_of, wish_in}
+use Rattle.cut_server.specs.Session.{IsMeant, IsReply, IsReplyIfMemory, IsSightReply, Replies, RepliesTo, RepliesWith, Step}
 use Rattle.cut_server.specs.SessionInside.{TrackDesk, session_at}
 use Rattle.cut_server.specs.Transcript.{Wish, Do, See, Write}
 
@@ -156,3 +159,8 @@ pub memory_replied : (desk : TrackDesk) (counting : Counted) (start line n : ℕ
     → Replies (session_at desk counting start line) (session_at desk counting start (line + 1)) (Write n) reply
 memory_replied desk counting start line n reply is =
     (codes "memory", is, replied desk counting start line (Write n) (codes "memory") (inr (refl, record { same = refl; reply_is = refl })))
+
+-- the reply to what a line was read as is the reply to the line
+pub told_line : (old new : SessionState) (line : InputLine) (r : Result Line LineFault) (reply : Reply) → IsMeant old.setting line r → Replies old new (wish_in r) reply → RepliesTo old new line reply
+told_line old new line r reply (inl is) h = inl (subst (λ (x : Result Line LineFault). Replies old new (wish_in x) reply) is h)
+told_line old new line r reply (inr (linking, none)) h = inr (linking, subst (λ (x : Result Line LineFault). Replies old new (wish_in x) reply) none h)

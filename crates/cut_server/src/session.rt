@@ -1,6 +1,6 @@
 // The session of one station: its room, and the answer to each of its lines.
 ghost use Rattle.std.specs.Prelude.{◌≡◌, ◌<◌, ◌+◌, ◌++◌, All, IfOk, codes};
-ghost use Rattle.call_text.specs.Sights.{sight_text_of};
+ghost use Rattle.reply_text.specs.Sights.{sight_text_of};
 ghost use Rattle.cut_room.specs.Desks.{Edits};
 ghost use Rattle.edit_apply.specs.Apply.{editing};
 ghost use Rattle.cut_server.specs.Session.{IsSightReply};
@@ -48,11 +48,10 @@ impl Session {
     ghost use Rattle.std.specs.Prelude.{◌≡◌, ◌+◌, ◌<◌, ◌≤◌, ◌^◌, ◌++◌, IfOk, codes, decimal, length};
     ghost use Rattle.line_words.specs.Told.{line_told};
     ghost use Rattle.call_text.specs.CallTexts.{IsWritten, NamesWritten};
-    ghost use Rattle.call_text.specs.Replies.{fault_of};
+    ghost use Rattle.reply_text.specs.Replies.{fault_of};
     ghost use Rattle.otio_json.specs.Soundness.{IsSoundOpening};
-    ghost use Rattle.cut_server.specs.Rooms.{meaning_of, wish_in};
     ghost use Rattle.cut_server.specs.Served.{IsFresh};
-    ghost use Rattle.cut_server.specs.Session.{Replies, RepliesShort};
+    ghost use Rattle.cut_server.specs.Session.{IsMeant, Replies, RepliesShort, RepliesTo};
     ghost use Rattle.cut_server.specs.Transcript.{Bad, Do, Point, See, Write};
 
     /// A session in a room that begins so, with an empty journal.
@@ -88,7 +87,7 @@ impl Session {
 
     /// What a line of the input says.
     fn said(&self, end: LineEnd, text: &[u8]) -> Result<Line, LineFault>
-        ensures meant { result ≡ meaning_of self.now.setting (line_told end text.now) }
+        ensures meant { IsMeant self.now.setting (line_told end text.now) result }
         ensures written { IfOk result (λ line. NamesWritten line) }
     {
         match end {
@@ -154,8 +153,7 @@ impl Session {
     /// Answers a line, and commits it where it is an edit that applies. The next line has the next number.
     pub(crate) fn answer(&mut self, end: LineEnd, text: &[u8]) -> Reply
         requires { self.old.course.line + 1 < 2 ^ 32 }
-        ensures { Replies self.old self.new (wish_in
-            (meaning_of self.old.setting (line_told end text.now))) result }
+        ensures { RepliesTo self.old self.new (line_told end text.now) result }
     {
         match self.said(end, text) {
             Ok(line) => match line {

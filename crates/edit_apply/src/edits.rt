@@ -14,6 +14,7 @@ use dissolves::{dissolve, undissolve};
 use edit_insert::{extract, fill, insert, overwrite, remove, slice};
 use edit_roll::{roll, slide};
 use edit_trim::{ripple, slip, trim};
+use link_groups::{link, unlink};
 use room_core::Fault;
 use std::alloc::Global;
 use std::sync::ledger::Ledger;
@@ -59,6 +60,8 @@ pub(crate) fn edit<L: Ledger>(
         Call::Slide(edit) => slide(alloc, table, parts, edit, steps),
         Call::Fill(edit) => fill(alloc, table, parts, edit, steps),
         Call::Ripple(edit) => ripple(alloc, table, parts, edit, steps),
+        Call::Link3(edit) => link(alloc, table, parts, edit, steps),
+        Call::Unlink(edit) => unlink(alloc, table, parts, edit, steps),
     }
 }
 

@@ -1,5 +1,5 @@
 use Rattle.std.proofs.Common.{inl, refl}
-use Rattle.call_text.specs.Replies.{fault_of}
+use Rattle.reply_text.specs.Replies.{fault_of}
 use Rattle.cut_server.specs.Transcript.{Bad}
 use Rattle.cut_server.proofs.Replying.{replied}
 use Rattle.cut_server.proofs.session.Session.reply_to_none.Goals as goal

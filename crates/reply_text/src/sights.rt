@@ -1,7 +1,7 @@
 // Replies to questions.
 ghost use Rattle.std.specs.Prelude.{◌≡◌, ◌++◌, IfOk, OnOk};
 ghost use Rattle.std.specs.List.{flat_map};
-ghost use Rattle.call_text.specs.Sights.{side_text, frame_text, run_text, mark_text, number_text, item_link_text, item_text, picture_text, seen_text, ask_refusal_text, sight_text_of};
+ghost use Rattle.reply_text.specs.Sights.{side_text, frame_text, run_text, mark_text, number_text, item_link_text, item_text, picture_text, seen_text, ask_refusal_text, sight_text_of};
 
 use crate::bytes::{put, put_number, put_what};
 use composables::{ItemView, Memory};

@@ -22,8 +22,8 @@ use Rattle.edit_apply.specs.declared.asks.Ask.{Ask}
 use Rattle.edit_apply.specs.declared.editor.Editor.{Editor}
 use Rattle.cut_room.specs.declared.answers.Sight.{Sight}
 use Rattle.cut_room.specs.declared.answers.Sight.TheVariants as sight
-use Rattle.call_text.specs.CallTexts.{what_text}
-use Rattle.call_text.specs.Replies.{link_text}
+use Rattle.reply_text.specs.Things.{what_text}
+use Rattle.reply_text.specs.Replies.{link_text}
 
 -- a thing, and a source frame of it
 abbrev pub picture_text : What → ℕ → List ℕ

@@ -20,7 +20,7 @@ pub struct Short {
 
 impl Model for Short {
     ghost use Rattle.std.specs.Prelude.{◌≤◌, List, ℕ, take};
-    ghost use Rattle.call_text.specs.declared.short_text.TheConstants.{MAX_SHORT_LINE};
+    ghost use Rattle.reply_text.specs.declared.short_text.TheConstants.{MAX_SHORT_LINE};
 
     ghost Value = { List ℕ };
 

@@ -1,6 +1,6 @@
 // Replies.
 
-use crate::{LineFault, Memory, Short, answer_text, fault_text, point_text, sight_text};
+use crate::{LineFault, Short, answer_text, fault_text, point_text, sight_text};
 use composables::{Done, ItemView, Listed, Refusal, Which};
 use cut_room::{Answer, Sight};
 use edit_apply::{AskRefusal, Editor, Seen};

@@ -1,7 +1,7 @@
 use Rattle.std.proofs.Common.{◌≡◌, ◌++◌, drop}
 use Rattle.std.specs.List.{flat_map}
-use Rattle.call_text.specs.Sights.{item_text}
-use Rattle.call_text.proofs.sights.put_items.Given as goal
+use Rattle.reply_text.specs.Sights.{item_text}
+use Rattle.reply_text.proofs.sights.put_items.Given as goal
 
 -- what is written so far, and the items to come
 abbrev pub invariant-loop-item : goal.invariant-loop-item

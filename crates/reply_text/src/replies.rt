@@ -1,7 +1,7 @@
 // Replies to edits, to `point`, and to lines that are none of the table.
 ghost use Rattle.std.specs.Prelude.{◌≡◌, ◌+◌, ◌≤◌, ◌++◌, length, codes, decimal};
 ghost use Rattle.std.specs.Fmt.{signed_decimal};
-ghost use Rattle.call_text.specs.Replies.{link_text, offsets_text, done_text, refusal_text, answer_text_of, fault_of};
+ghost use Rattle.reply_text.specs.Replies.{link_text, offsets_text, done_text, refusal_text, answer_text_of, fault_of};
 
 use crate::{LineFault, MAX_SHORT, Short};
 use composables::{Done, Refusal, Which};

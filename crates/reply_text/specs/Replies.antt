@@ -14,8 +14,8 @@ use Rattle.edit_apply.specs.declared.asks.AskRefusal.{AskRefusal}
 use Rattle.edit_apply.specs.declared.editor.Editor.{Editor}
 use Rattle.cut_room.specs.declared.answers.Answer.{Answer}
 use Rattle.cut_room.specs.declared.answers.Answer.TheVariants as answer
-use Rattle.call_text.specs.declared.lines.LineFault.{LineFault}
-use Rattle.call_text.specs.declared.lines.LineFault.TheVariants as line
+use Rattle.reply_text.specs.declared.line_fault.LineFault.{LineFault}
+use Rattle.reply_text.specs.declared.line_fault.LineFault.TheVariants as line
 
 -- a link: its home track, a dot, and its number there
 abbrev pub link_text : ℕ → ℕ → List ℕ
