@@ -25,3 +25,4 @@ pub mod GivenSlips
 pub mod GivenLinks
 pub mod Wholes
 pub mod Histories
+pub mod Openings

@@ -163,15 +163,15 @@ wholes-keep table meant all names keeps order tracks ascend numbers g = by (mean
 
 -- tracks without links
 
-sees_none : (table : Table) (ts : List TrackState) (l : Link) (o : Option ℤ) → AreBare table ts → Sees ts l o → ⊥
-sees_none table [] l o a h = h
-sees_none table (t ∷ ts) l o a (inl h) =
+pub sees-none : (table : Table) (ts : List TrackState) (l : Link) (o : Option ℤ) → AreBare table ts → Sees ts l o → ⊥
+sees-none table [] l o a h = h
+sees-none table (t ∷ ts) l o a (inl h) =
     shows-none 0 (items_of t.cells) l o a.1 (subst (λ (cs : List Cell). Shows 0 cs l o) (sym a.0.kept.whole) h)
-sees_none table (t ∷ ts) l o a (inr h) = sees_none table ts l o a.2 h
+sees-none table (t ∷ ts) l o a (inr h) = sees-none table ts l o a.2 h
 
 pub unlinked-together : UnlinkedAreTogether
 unlinked-together table all bare =
     together-of all (record {
-      one = λ k l a b s t h n. absurd (sees_none table all k a bare s);
-      below = λ l a s. absurd (sees_none table all l a bare s);
+      one = λ k l a b s t h n. absurd (sees-none table all k a bare s);
+      below = λ l a s. absurd (sees-none table all l a bare s);
     })
