@@ -4,7 +4,7 @@ use edit_apply::{Ask, Call};
 
 /// A line that a station sends: an edit, a question to a track, the question how long the journal is, or the wish for
 /// the document of the cut after so many entries.
-#[derive(Clone, Debug, PartialEq, Eq, Drop)]
+#[derive(Drop)]
 pub enum Line {
     Edit(Call),
     Ask(Ask),

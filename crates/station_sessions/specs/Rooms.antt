@@ -1,5 +1,5 @@
 -- The kind of history of a room: edits of its tracks, questions to them, and the lines of the protocol.
-use Rattle.std.specs.Prelude.{ℕ, Bool, true, false, List, [], ◌∷◌, Some, None, Result, Ok, Err}
+use Rattle.std.specs.Prelude.{ℕ, Bool, true, false, ◌||◌, List, [], ◌∷◌, Some, None, Result, Ok, Err}
 use Rattle.line_words.specs.Lines.{Line as InputLine}
 use Rattle.timecode12.specs.Numbers.{Counted}
 use Rattle.composables.specs.declared.media.Table.{Table}
@@ -19,7 +19,8 @@ use Rattle.call_text.specs.declared.lines.Line.TheVariants.{Edit, Ask as AskOf, 
 use Rattle.reply_text.specs.declared.line_fault.LineFault.{LineFault}
 use Rattle.reply_text.specs.declared.line_fault.LineFault.TheVariants.{B5}
 use Rattle.call_text.specs.Labels.{place_by}
-use Rattle.call_text.specs.Reading.{line_of}
+use Rattle.call_text.specs.Reading.{are_linking, line_of}
+use Rattle.line_words.specs.Blanks.{words_of}
 use Rattle.otio_text.specs.Documents.{timeline_text}
 use Rattle.station_sessions.specs.DocumentReplies.{document_reply, no_point_reply}
 use Rattle.cut_room.specs.declared.answers.Answer.TheVariants as answer
@@ -64,6 +65,11 @@ finds_memory Point = false
 finds_memory (Write n) = true
 finds_memory (Bad text) = false
 
+-- a line whose first word is `link` may find none either, whatever it asks for
+abbrev pub is_linking : InputLine → Bool
+is_linking None = false
+is_linking (Some bytes) = are_linking (words_of bytes)
+
 -- the reply to an edit at a point, and to a question
 abbrev pub reply_of : ℕ → Result Done Refusal → List ℕ
 reply_of n (Ok d) = answer_text_of (answer.Done n d)
@@ -82,7 +88,7 @@ room_of setting = record {
   apply = whole (editing setting.table);
   see = seen_in setting.table;
   wish = λ l. wish_in (meaning_of setting l);
-  takes_memory = λ l. finds_memory (wish_in (meaning_of setting l));
+  takes_memory = λ l. finds_memory (wish_in (meaning_of setting l)) || is_linking l;
   answer_text = reply_of;
   full_text = answer_text_of (answer.Full most_entries);
   sight_text = seen_of;

@@ -2,8 +2,8 @@
 
 use crate::{Entry, call_text, journal_text};
 use composables::{
-    Dissolve, End, Extract, Fill, FillLength, Insert, Overwrite, Remove, Ripple, Roll, Slice,
-    Slide, Slip, Trim, Undissolve,
+    Dissolve, End, Extract, Fill, FillLength, Insert, Link3, Numbers, Overwrite, Remove, Ripple,
+    Roll, Slice, Slide, Slip, Trim, Undissolve, Unlink,
 };
 use edit_apply::Call;
 use frame_meaning::What;
@@ -140,6 +140,16 @@ fn calls_that_move_have_these_texts(rt: HostRuntime) -> Result<(), Fail> {
         let text = call_text(rt.alloc(), &call)?;
         assert_eq!(rt; text.as_slice(), want, "row {row}");
     }
+    Ok(())
+}
+
+#[test]
+fn links_have_these_texts(rt: HostRuntime) -> Result<(), Fail> {
+    let items = Numbers::from_vec(Vec::from_slice(rt.alloc(), &[7, 0, 4294967295])?);
+    let link = call_text(rt.alloc(), &Call::Link3(Link3 { tracks: 11, items }))?;
+    assert_eq!(rt; link.as_slice(), b"link 0,1,3 7,0,4294967295".as_slice());
+    let unlink = call_text(rt.alloc(), &Call::Unlink(Unlink { track: 3, item: 10 }))?;
+    assert_eq!(rt; unlink.as_slice(), b"unlink 3 10".as_slice());
     Ok(())
 }
 

@@ -36,6 +36,9 @@ slide 0,2 2 7 003 | slide 0,2 2 7 3
 fill 1 20 @3 400 sequence | fill 1 20 @3 400 sequence
 fill 1 20 @3 400 source 4294967295 | fill 1 20 @3 400 source 4294967295
 ripple 0,2 2 7 tail -1 | ripple 0,2 2 7 tail -1
+link 0,2 007,4294967295 | link 0,2 7,4294967295
+link 31 0 | link 31 0
+unlink 3 010 | unlink 3 10
 ";
 
 // Each row is a line that is none, ` | `, and the reply to it.
@@ -124,6 +127,23 @@ fill 0 0 @0 0 source x | bad B3
 fill 0 0 @0 0 source 4294967296 | bad B4
 ripple 0 0 0 head | bad B2
 ripple 0 0 0 tai x | bad B1
+link | bad B2
+link 0 | bad B2
+link 0 0 0 | bad B2
+link 0 0,1 | bad B2
+link 0,1 0 | bad B2
+link 0 0,x | bad B3
+link 0 0,4294967296 | bad B4
+link 0 4294967296,x | bad B4
+link 0 , | bad B3
+link 0,1 0, | bad B3
+link 1,0 0,0 | bad B6
+link 0,32 x | bad B4
+link x 4294967296 | bad B3
+unlink 0 | bad B2
+unlink 0 0 0 | bad B2
+unlink 32 x | bad B4
+unlink 0 0,1 | bad B3
 ";
 
 #[test]
