@@ -12,7 +12,7 @@ use Rattle.room_core.specs.Parts.{AscendBetween}
 use Rattle.room_core.specs.Whole.{Meaning, on_whole, picked, put_back, unless_refused, whole, with_picked}
 use Rattle.link_laws.specs.Together.{Together}
 use Rattle.link_laws.specs.Weights.{NextsWithin, given, most_added, runs_on, weight, weight_of}
-use Rattle.link_laws.specs.Given.{AreGiven, LeavesGiven, StaysGiven}
+use Rattle.link_laws.specs.Given.{AreGiven, LeavesGiven}
 use Rattle.link_laws.specs.Rooms.{AreLow, AreNamed, AreTracks, IsNumbered, with_tracks}
 use Rattle.link_laws.specs.Wholes.{KeepsNumbers, Numbered, StayTogether}
 use Rattle.link_laws.specs.Histories.{AreAfter, AreGivenAfter, CallsKeepGiven, CallsKeepTogether, GoodBefore, HistoriesStayGiven, HistoriesStayTogether, LinkNumbersLast}
