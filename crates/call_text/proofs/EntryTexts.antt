@@ -145,7 +145,6 @@ call_plain (call.Ripple c) (tracks, track, item, by) =
     then_plain (codes "ripple " ++ tracks_text c.tracks ++ codes " " ++ decimal c.track ++ codes " " ++ decimal c.item) (end_word c.end) items (end_plain c.end) in
     then_plain (codes "ripple " ++ tracks_text c.tracks ++ codes " " ++ decimal c.track ++ codes " " ++ decimal c.item ++ codes " " ++ end_word c.end) (signed_decimal c.by) ends
     (delta_plain c.by by)
-
 call_plain (call.Link3 c) (tracks, items, even) =
     then_plain (codes "link " ++ tracks_text c.tracks) (numbers_after [] c.items) (tracks_plain c.tracks) (numbers_plain [] c.items refl items)
 call_plain (call.Unlink c) (track, item) =

@@ -451,13 +451,13 @@ uneven_parts : (list numbers : List ℕ) (r : Result ℕ LineFault) (s : Result 
 uneven_parts list numbers (Ok set) (Ok items) e is are h = elim (chosen (nat_eq (length items) (length (tracks_in set))) _ _ (Some e) h) [
   | inl even ↦ absurd cc
   | inr uneven ↦ (
-      set,
-      items,
-      tracks_spelled list set is,
-      numerals_spelled (slice_split is_comma numbers) items are,
-      eqb-false (length items) (length (tracks_in set)) uneven.0,
-      sym (some_same B2 e uneven.1),
-    )
+    set,
+    items,
+    tracks_spelled list set is,
+    numerals_spelled (slice_split is_comma numbers) items are,
+    eqb-false (length items) (length (tracks_in set)) uneven.0,
+    sym (some_same B2 e uneven.1),
+  )
 ]
 uneven_parts list numbers (Ok set) (Err f) e is are h = absurd cc
 uneven_parts list numbers (Err f) s e is are h = absurd cc

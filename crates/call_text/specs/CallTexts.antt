@@ -73,7 +73,6 @@ call_text_of (call.Fill c) =
 call_text_of (call.Ripple c) =
     codes "ripple " ++ tracks_text c.tracks ++ codes " " ++ decimal c.track ++ codes " "
     ++ decimal c.item ++ codes " " ++ end_word c.end ++ codes " " ++ signed_decimal c.by
-
 call_text_of (call.Link3 c) =
     codes "link " ++ tracks_text c.tracks ++ codes " " ++ numbers_after [] c.items
 call_text_of (call.Unlink c) = codes "unlink " ++ decimal c.track ++ codes " " ++ decimal c.item
@@ -118,7 +117,6 @@ IsWritten (call.Fill c) =
     × IsSmallWhat c.what × IsSmall c.from × IsSmallLength c.length
 IsWritten (call.Ripple c) =
     IsSomeTracks c.tracks × (c.track ≤ LAST_TRACK) × IsSmall c.item × FitsSigned w32 c.by
-
 IsWritten (call.Link3 c) =
     IsSomeTracks c.tracks × All IsSmall c.items × (length c.items ≡ length (tracks_in c.tracks))
 IsWritten (call.Unlink c) = (c.track ≤ LAST_TRACK) × IsSmall c.item

@@ -147,7 +147,6 @@ AreCall place_at words (call.Ripple c) =
     (tracks track item by : List ℕ)
     × (words ≡ word_of command.Ripple ∷ tracks ∷ track ∷ item ∷ end_word c.end ∷ by ∷ [])
     × IsTracks tracks c.tracks × IsTrack track c.track × IsNumeral item c.item × IsDelta by c.by
-
 AreCall place_at words (call.Link3 c) =
     (tracks items : List ℕ) × (words ≡ word_of command.Link ∷ tracks ∷ items ∷ [])
     × IsTracks tracks c.tracks × AreItems items c.tracks c.items

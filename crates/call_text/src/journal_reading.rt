@@ -1,5 +1,5 @@
 // A journal read from its text.
-ghost use Rattle.std.specs.Prelude.{◌≡◌, ◌≢◌, ℕ, ◌+◌, ◌<◌, ◌∷◌, ◌++◌, ◌≤◌, List, [], length, option_map, codes, decimal, IfErr, IfOk, IfSome, MatchOption, None, take, position};
+ghost use Rattle.std.specs.Prelude.{◌≡◌, ◌≢◌, ℕ, ◌+◌, ◌<◌, ◌∷◌, ◌++◌, ◌≤◌, List, [], length, option_map, codes, decimal, bytes_eq, IfErr, IfOk, IfSome, MatchOption, None, take, position};
 ghost use Rattle.std.specs.List.{All, flat_map};
 ghost use Rattle.line_words.specs.Blanks.{words_of};
 ghost use Rattle.line_words.specs.Lines.{is_lf};
@@ -177,16 +177,20 @@ fn told_entry(
 {
     match loose_entry(alloc, line, counting)? {
         Some(entry) => {
-            scratch.clear();
-            put_entry_text(scratch, &entry)?;
-            if scratch.as_slice() == line {
-                Ok(Some(entry))
-            } else {
-                Ok(None)
-            }
+            let told = is_text_of(scratch, line, &entry)?;
+            if told { Ok(Some(entry)) } else { Ok(None) }
         }
         None => Ok(None),
     }
+}
+
+// Whether a line is the text of an entry. The scratch is overwritten.
+fn is_text_of(scratch: &mut Vec<u8>, line: &[u8], entry: &Entry<Call>) -> Result<bool, Memory>
+    ensures { IfOk result (λ same. same ≡ bytes_eq (entry_text entry.now) line.now) }
+{
+    scratch.clear();
+    put_entry_text(scratch, entry)?;
+    Ok(scratch.as_slice() == line)
 }
 
 // The entry of a line's words.

@@ -99,20 +99,13 @@ fn overwrite(words: &[&[u8]], counting: &Counting, start: u32) -> Result<Line, L
     ensures written { IfOk result (λ read. NamesWritten read) }
 {
     match words {
-        [track_word, at, thing, from, len] => {
-            let track = track(track_word)?;
-            let at = place(at, counting, start)?;
-            let what = what(thing)?;
-            let from = numeral(from)?;
-            let len = numeral(len)?;
-            Ok(Line::Edit(Call::Overwrite(Overwrite {
-                track,
-                at,
-                what,
-                from,
-                len,
-            })))
-        }
+        [track_word, at, thing, from, len] => Ok(Line::Edit(Call::Overwrite(Overwrite {
+            track: track(track_word)?,
+            at: place(at, counting, start)?,
+            what: what(thing)?,
+            from: numeral(from)?,
+            len: numeral(len)?,
+        }))),
         _ => Err(LineFault::B2),
     }
 }
@@ -123,22 +116,14 @@ fn insert(words: &[&[u8]], counting: &Counting, start: u32) -> Result<Line, Line
     ensures written { IfOk result (λ read. NamesWritten read) }
 {
     match words {
-        [list, track_word, at, thing, from, len] => {
-            let tracks = tracks(list)?;
-            let track = track(track_word)?;
-            let at = place(at, counting, start)?;
-            let what = what(thing)?;
-            let from = numeral(from)?;
-            let len = numeral(len)?;
-            Ok(Line::Edit(Call::Insert(Insert {
-                tracks,
-                track,
-                at,
-                what,
-                from,
-                len,
-            })))
-        }
+        [list, track_word, at, thing, from, len] => Ok(Line::Edit(Call::Insert(Insert {
+            tracks: tracks(list)?,
+            track: track(track_word)?,
+            at: place(at, counting, start)?,
+            what: what(thing)?,
+            from: numeral(from)?,
+            len: numeral(len)?,
+        }))),
         _ => Err(LineFault::B2),
     }
 }
@@ -149,11 +134,10 @@ fn remove(words: &[&[u8]]) -> Result<Line, LineFault>
     ensures written { IfOk result (λ read. NamesWritten read) }
 {
     match words {
-        [track_word, item] => {
-            let track = track(track_word)?;
-            let item = numeral(item)?;
-            Ok(Line::Edit(Call::Remove(Remove { track, item })))
-        }
+        [track_word, item] => Ok(Line::Edit(Call::Remove(Remove {
+            track: track(track_word)?,
+            item: numeral(item)?,
+        }))),
         _ => Err(LineFault::B2),
     }
 }
@@ -164,16 +148,11 @@ fn extract(words: &[&[u8]]) -> Result<Line, LineFault>
     ensures written { IfOk result (λ read. NamesWritten read) }
 {
     match words {
-        [list, track_word, item] => {
-            let tracks = tracks(list)?;
-            let track = track(track_word)?;
-            let item = numeral(item)?;
-            Ok(Line::Edit(Call::Extract(Extract {
-                tracks,
-                track,
-                item,
-            })))
-        }
+        [list, track_word, item] => Ok(Line::Edit(Call::Extract(Extract {
+            tracks: tracks(list)?,
+            track: track(track_word)?,
+            item: numeral(item)?,
+        }))),
         _ => Err(LineFault::B2),
     }
 }
@@ -184,11 +163,10 @@ fn slice(words: &[&[u8]], counting: &Counting, start: u32) -> Result<Line, LineF
     ensures written { IfOk result (λ read. NamesWritten read) }
 {
     match words {
-        [track_word, at] => {
-            let track = track(track_word)?;
-            let at = place(at, counting, start)?;
-            Ok(Line::Edit(Call::Slice(Slice { track, at })))
-        }
+        [track_word, at] => Ok(Line::Edit(Call::Slice(Slice {
+            track: track(track_word)?,
+            at: place(at, counting, start)?,
+        }))),
         _ => Err(LineFault::B2),
     }
 }
@@ -199,13 +177,12 @@ fn dissolve(words: &[&[u8]], counting: &Counting, start: u32) -> Result<Line, Li
     ensures written { IfOk result (λ read. NamesWritten read) }
 {
     match words {
-        [track_word, at, before, after] => {
-            let track = track(track_word)?;
-            let at = place(at, counting, start)?;
-            let a = numeral(before)?;
-            let b = numeral(after)?;
-            Ok(Line::Edit(Call::Dissolve(Dissolve { track, at, a, b })))
-        }
+        [track_word, at, before, after] => Ok(Line::Edit(Call::Dissolve(Dissolve {
+            track: track(track_word)?,
+            at: place(at, counting, start)?,
+            a: numeral(before)?,
+            b: numeral(after)?,
+        }))),
         _ => Err(LineFault::B2),
     }
 }
@@ -216,11 +193,10 @@ fn undissolve(words: &[&[u8]], counting: &Counting, start: u32) -> Result<Line, 
     ensures written { IfOk result (λ read. NamesWritten read) }
 {
     match words {
-        [track_word, at] => {
-            let track = track(track_word)?;
-            let at = place(at, counting, start)?;
-            Ok(Line::Edit(Call::Undissolve(Undissolve { track, at })))
-        }
+        [track_word, at] => Ok(Line::Edit(Call::Undissolve(Undissolve {
+            track: track(track_word)?,
+            at: place(at, counting, start)?,
+        }))),
         _ => Err(LineFault::B2),
     }
 }
@@ -231,18 +207,12 @@ fn trim(words: &[&[u8]]) -> Result<Line, LineFault>
     ensures written { IfOk result (λ read. NamesWritten read) }
 {
     match words {
-        [track_word, item, last, by] => {
-            let track = track(track_word)?;
-            let item = numeral(item)?;
-            let end = end(last)?;
-            let by = delta(by)?;
-            Ok(Line::Edit(Call::Trim(Trim {
-                track,
-                item,
-                end,
-                by,
-            })))
-        }
+        [track_word, item, last, by] => Ok(Line::Edit(Call::Trim(Trim {
+            track: track(track_word)?,
+            item: numeral(item)?,
+            end: end(last)?,
+            by: delta(by)?,
+        }))),
         _ => Err(LineFault::B2),
     }
 }
@@ -253,18 +223,12 @@ fn slip(words: &[&[u8]]) -> Result<Line, LineFault>
     ensures written { IfOk result (λ read. NamesWritten read) }
 {
     match words {
-        [list, track_word, item, by] => {
-            let tracks = tracks(list)?;
-            let track = track(track_word)?;
-            let item = numeral(item)?;
-            let by = delta(by)?;
-            Ok(Line::Edit(Call::Slip(Slip {
-                tracks,
-                track,
-                item,
-                by,
-            })))
-        }
+        [list, track_word, item, by] => Ok(Line::Edit(Call::Slip(Slip {
+            tracks: tracks(list)?,
+            track: track(track_word)?,
+            item: numeral(item)?,
+            by: delta(by)?,
+        }))),
         _ => Err(LineFault::B2),
     }
 }
@@ -275,12 +239,11 @@ fn roll(words: &[&[u8]], counting: &Counting, start: u32) -> Result<Line, LineFa
     ensures written { IfOk result (λ read. NamesWritten read) }
 {
     match words {
-        [track_word, at, by] => {
-            let track = track(track_word)?;
-            let at = place(at, counting, start)?;
-            let by = delta(by)?;
-            Ok(Line::Edit(Call::Roll(Roll { track, at, by })))
-        }
+        [track_word, at, by] => Ok(Line::Edit(Call::Roll(Roll {
+            track: track(track_word)?,
+            at: place(at, counting, start)?,
+            by: delta(by)?,
+        }))),
         _ => Err(LineFault::B2),
     }
 }
@@ -291,18 +254,12 @@ fn slide(words: &[&[u8]]) -> Result<Line, LineFault>
     ensures written { IfOk result (λ read. NamesWritten read) }
 {
     match words {
-        [list, track_word, item, by] => {
-            let tracks = tracks(list)?;
-            let track = track(track_word)?;
-            let item = numeral(item)?;
-            let by = delta(by)?;
-            Ok(Line::Edit(Call::Slide(Slide {
-                tracks,
-                track,
-                item,
-                by,
-            })))
-        }
+        [list, track_word, item, by] => Ok(Line::Edit(Call::Slide(Slide {
+            tracks: tracks(list)?,
+            track: track(track_word)?,
+            item: numeral(item)?,
+            by: delta(by)?,
+        }))),
         _ => Err(LineFault::B2),
     }
 }
@@ -353,20 +310,13 @@ fn ripple(words: &[&[u8]]) -> Result<Line, LineFault>
     ensures written { IfOk result (λ read. NamesWritten read) }
 {
     match words {
-        [list, track_word, item, last, by] => {
-            let tracks = tracks(list)?;
-            let track = track(track_word)?;
-            let item = numeral(item)?;
-            let end = end(last)?;
-            let by = delta(by)?;
-            Ok(Line::Edit(Call::Ripple(Ripple {
-                tracks,
-                track,
-                item,
-                end,
-                by,
-            })))
-        }
+        [list, track_word, item, last, by] => Ok(Line::Edit(Call::Ripple(Ripple {
+            tracks: tracks(list)?,
+            track: track(track_word)?,
+            item: numeral(item)?,
+            end: end(last)?,
+            by: delta(by)?,
+        }))),
         _ => Err(LineFault::B2),
     }
 }
@@ -395,11 +345,10 @@ fn unlink(words: &[&[u8]]) -> Result<Line, LineFault>
     ensures written { IfOk result (λ read. NamesWritten read) }
 {
     match words {
-        [track_word, item] => {
-            let track = track(track_word)?;
-            let item = numeral(item)?;
-            Ok(Line::Edit(Call::Unlink(Unlink { track, item })))
-        }
+        [track_word, item] => Ok(Line::Edit(Call::Unlink(Unlink {
+            track: track(track_word)?,
+            item: numeral(item)?,
+        }))),
         _ => Err(LineFault::B2),
     }
 }
@@ -410,12 +359,11 @@ fn view(words: &[&[u8]], counting: &Counting, start: u32) -> Result<Line, LineFa
     ensures written { IfOk result (λ read. NamesWritten read) }
 {
     match words {
-        [track_word, from, to] => {
-            let track = track(track_word)?;
-            let a = place(from, counting, start)?;
-            let b = place(to, counting, start)?;
-            Ok(Line::Ask(Ask::View { track, a, b }))
-        }
+        [track_word, from, to] => Ok(Line::Ask(Ask::View {
+            track: track(track_word)?,
+            a: place(from, counting, start)?,
+            b: place(to, counting, start)?,
+        })),
         _ => Err(LineFault::B2),
     }
 }
@@ -426,10 +374,9 @@ fn items(words: &[&[u8]]) -> Result<Line, LineFault>
     ensures written { IfOk result (λ read. NamesWritten read) }
 {
     match words {
-        [track_word] => {
-            let track = track(track_word)?;
-            Ok(Line::Ask(Ask::Items { track }))
-        }
+        [track_word] => Ok(Line::Ask(Ask::Items {
+            track: track(track_word)?,
+        })),
         _ => Err(LineFault::B2),
     }
 }

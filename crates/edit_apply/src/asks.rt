@@ -6,7 +6,8 @@ use composables::{
     Dissolve, Extract, Fill, Insert, ItemView, Link3, Listed, Overwrite, Remove, Ripple, Roll,
     Slice, Slide, Slip, Trim, Undissolve, Unlink,
 };
-use frame_meaning::{Memory, Run, What};
+use frame_meaning::{Run, What};
+use room_core::Memory;
 use std::alloc::Global;
 
 /// An edit.
@@ -48,7 +49,10 @@ pub(crate) fn copy_call(alloc: Global, call: &Call) -> Result<Call, Memory>
         Call::Fill(edit) => Ok(Call::Fill(*edit)),
         Call::Ripple(edit) => Ok(Call::Ripple(*edit)),
         Call::Link3(edit) => {
-            let items = edit.items.copy(alloc)?;
+            let items = match edit.items.copy(alloc) {
+                Ok(items) => items,
+                Err(_) => return Err(Memory),
+            };
             Ok(Call::Link3(Link3 {
                 tracks: edit.tracks,
                 items,
