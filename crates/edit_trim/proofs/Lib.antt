@@ -3,10 +3,10 @@ pub mod TestTracks
 pub mod Trims
 pub mod Slips
 pub mod Slipped
-pub mod Reached
 pub mod LinkedRooms
 pub mod LinkedMoves
 pub mod LinkedSlip
+pub mod Reached
 pub mod Ripples
 pub mod RippleTracks
 pub mod RippleShift

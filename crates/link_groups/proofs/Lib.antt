@@ -4,13 +4,13 @@ pub mod Linked
 pub mod NamedSets
 pub mod Named
 pub mod LeastLinks
+pub mod Elsewhere
 pub mod SplitKeys
 pub mod Relinking
 pub mod SplitCells
 pub mod LinkedCells
 pub mod PartTracks
 pub mod ShiftLinks
-pub mod Elsewhere
 pub mod TestTracks
 pub mod ItemCounts
 pub mod LinkedShifts

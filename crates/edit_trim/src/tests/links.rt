@@ -176,11 +176,17 @@ fn two(alloc: Global, table: &Table) -> Result<Option<Vec<Track>>, Memory>
     Ok(Some(named))
 }
 
-// Whether a slip of an item of the third track does what the plain program says.
-fn agrees(alloc: Global, item: u32, by: i32) -> Result<bool, Memory> {
+// The cells of each track before a slip of an item of the third, what the slip answers, and the cells after it.
+#[derive(Drop)]
+struct Slipped {
+    before: Vec<Vec<Cell>>,
+    played: Played,
+}
+
+fn slipped_on_third(alloc: Global, item: u32, by: i32) -> Result<Option<Slipped>, Memory> {
     let table = table(alloc)?;
     let Some(named) = three(alloc, &table)? else {
-        return Ok(false);
+        return Ok(None);
     };
     let before = cells_of(alloc, &named)?;
     let call = Slip {
@@ -189,9 +195,17 @@ fn agrees(alloc: Global, item: u32, by: i32) -> Result<bool, Memory> {
         item,
         by,
     };
-    let got = play::<Brand>(alloc, Blank::new(1), &table, named, &call)?;
-    let want = plainly(alloc, &before, item, by)?;
-    Ok(got == want)
+    let played = play::<Brand>(alloc, Blank::new(1), &table, named, &call)?;
+    Ok(Some(Slipped { before, played }))
+}
+
+// Whether a slip of an item of the third track does what the plain program says.
+fn agrees(alloc: Global, item: u32, by: i32) -> Result<bool, Memory> {
+    let Some(all) = slipped_on_third(alloc, item, by)? else {
+        return Ok(false);
+    };
+    let want = plainly(alloc, &all.before, item, by)?;
+    Ok(all.played == want)
 }
 
 // The first delta by which a slip of an item does something else than the plain program.
@@ -213,6 +227,16 @@ fn difference(alloc: Global, item: u32) -> Result<Option<i32>, Memory> {
 fn linked_items_slip_by_one_delta_that_suits_all(rt: HostRuntime) -> Result<(), Fail> {
     for item in 0..4 {
         assert_eq!(rt; difference(rt.alloc(), item)?, None, "slip of item {item}");
+    }
+    Ok(())
+}
+
+// The second track's dissolve ends it later, and the third track's first item earlier.
+#[test]
+fn a_link_slips_as_far_as_its_shortest_handle(rt: HostRuntime) -> Result<(), Fail> {
+    for (item, by, used) in [(0, 12, 1), (0, -12, -3), (1, i32::MAX, 1), (1, i32::MIN, -3)] {
+        let all = slipped_on_third(rt.alloc(), item, by)?.ok_or("these can be laid")?;
+        assert_eq!(rt; all.played.answer, Ok(Done::By(used)), "item {item} by {by}");
     }
     Ok(())
 }

@@ -11,9 +11,11 @@ use Rattle.edit_roll.proofs.sliding.slide_at.Goals as goal
 pub returns-in-Some-clause-answers : goal.returns-in-Some-clause-answers
 returns-in-Some-clause-answers g c =
     let own = is-named c.args.call.now.track c.args.call.now.tracks c.args.index c.args.named.now.items c.index.result.now c.requires.named c.requires.found c.requires.within c.index.ensures in
-    let t = c.index.result.now in
-    (refused-means c.args.table.now c.args.call.now c.args.named.now.items t c.in-Some.refusal own.found
-        (ap (λ (ts : List TrackState). links_refuse c.args.table.now ts c.args.call.now t (item_of t c.args.call.now.item)) (sym c.deref.ensures.value) ∙ (sym c.links_refuse.ensures.refusal ∙ c.in-Some.is)), refl)
+    let t = c.index.result.now in (
+      refused-means c.args.table.now c.args.call.now c.args.named.now.items t c.in-Some.refusal own.found
+          (ap (λ (ts : List TrackState). links_refuse c.args.table.now ts c.args.call.now t (item_of t c.args.call.now.item)) (sym c.deref.ensures.value) ∙ (sym c.links_refuse.ensures.refusal ∙ c.in-Some.is)),
+      refl,
+    )
 
 pub returns-in-Some-clause-good : goal.returns-in-Some-clause-good
 returns-in-Some-clause-good g c = each-self c.args.table.now c.args.named.now.items c.requires.good

@@ -1,4 +1,4 @@
-use Rattle.std.proofs.Common.{refl, ◌∙◌}
+use Rattle.std.proofs.Common.{refl}
 use Rattle.composables.specs.OwnTracks.{numbers_of}
 use Rattle.laid_tracks.proofs.Alone.{alone-named, alone-numbers, alone-own}
 use Rattle.edit_roll.proofs.tests.links.play.Goals as goal
