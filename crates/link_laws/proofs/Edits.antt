@@ -1,11 +1,10 @@
 -- Edits of one track, dissolves, and links taken away.
-use Rattle.std.proofs.Common.{◌≡◌, ℕ, zero, suc, ◌+◌, ◌-◌, ◌<◌, ◌≤◌, ◌⊎◌, inl, inr, ℤ, pos, negsuc, Bool, true, false, cond, ltb, nat_lt, nat_le, ◌&&◌, min, List, [], ◌∷◌, ◌++◌, take, drop, map, length, Option, Some, None, Result, Ok, Err, refl, sym, ap, ◌∙◌, arith, subst}
+use Rattle.std.proofs.Common.{◌≡◌, ℕ, zero, suc, ◌+◌, ◌-◌, ◌<◌, ◌≤◌, ◌⊎◌, inl, inr, ℤ, pos, negsuc, Bool, true, false, cond, ltb, nat_le, ◌&&◌, min, List, [], ◌∷◌, ◌++◌, take, drop, map, length, Option, Some, None, Result, Ok, Err, refl, sym, ap, ◌∙◌, arith, subst}
 use Rattle.std.proofs.lemmas.Bool.{cases_lt, leb-true, ltb-true}
 use Rattle.std.proofs.lemmas.List.{length-append, length-drop, length-take-le}
 use Rattle.frame_meaning.specs.declared.cells.Cell.{Cell}
 use Rattle.frame_meaning.specs.declared.cells.Link.{Link}
 use Rattle.frame_meaning.specs.declared.cells.Mark.{Mark}
-use Rattle.frame_meaning.specs.Cells.{same_number}
 use Rattle.frame_meaning.specs.Render.{cell_at}
 use Rattle.composables.specs.declared.calls.Dissolve.{Dissolve}
 use Rattle.composables.specs.declared.calls.End.{End}
@@ -30,11 +29,9 @@ use Rattle.composables.specs.Items.{items_of}
 use Rattle.composables.specs.Joined.{frames_in}
 use Rattle.composables.specs.Limits.{too_long, too_many, track_within_limits}
 use Rattle.composables.specs.OwnTracks.{among_named, for_own, on_own, track_numbered}
-use Rattle.composables.specs.Ranges.{gap_at, gap_from, is_cut, range_from, range_of}
-use Rattle.composables.specs.TrackFacts.{EachHolds}
+use Rattle.composables.specs.Ranges.{gap_at, is_cut, range_of}
 use Rattle.composables.specs.TrackState.{TrackState}
 use Rattle.composables.specs.Views.{clip_view, gap_views}
-use Rattle.composables.proofs.Joining.{length-cells_of}
 use Rattle.dissolves.specs.Cuts.{dissolve_refusal}
 use Rattle.dissolves.specs.Marking.{dissolve_on, mark_asked, mark_at_place, marked_track, undissolve_on, undissolve_refusal}
 use Rattle.edit_delta.specs.Nearest.{nearest}
@@ -52,7 +49,7 @@ use Rattle.edit_splice.proofs.Bridging.{for-found}
 use Rattle.edit_splice.proofs.Padding.{frames-gap}
 use Rattle.edit_trim.specs.Darkness.{dark_before}
 use Rattle.edit_trim.specs.Trimming.{trim_allows, trim_end, trim_track, trimmed}
-use Rattle.link_groups.specs.LinkedItems.{item_of, linked_found, linked_item, linked_on}
+use Rattle.link_groups.specs.LinkedItems.{item_of, linked_found, linked_on}
 use Rattle.link_groups.specs.Linking.{unlink_on, where_there}
 use Rattle.link_laws.specs.Laws.{DissolvingKeepsTogether, MovingAnEndKeepsTogether, PuttingInKeepsTogether, UnlinkingKeepsTogether}
 use Rattle.link_laws.specs.Rooms.{AreAmong, IsRoom, KeepsTogether, LeavesTogether, with_tracks}

@@ -1,67 +1,32 @@
 -- Every call keeps the links of a room given away, whatever else its tracks are.
-use Rattle.std.proofs.Common.{◌≡◌, ℕ, zero, suc, ◌+◌, ◌-◌, ◌<◌, ◌≤◌, ◌⊎◌, inl, inr, ⊎_elim, ℤ, pos, negsuc, Bool, true, false, cond, eqb, List, [], ◌∷◌, drop, map, unwrap_or, Option, Some, None, Result, Ok, Err, refl, sym, ap, ◌∙◌, arith, subst, IsBitSet}
-use Rattle.std.proofs.lemmas.Bool.{eqb-true, ltb-true}
-use Rattle.frame_meaning.specs.declared.cells.Cell.{Cell}
+use Rattle.std.proofs.Common.{◌≡◌, ℕ, ◌+◌, ◌<◌, ◌≤◌, ◌⊎◌, inl, inr, ℤ, Bool, true, false, cond, eqb, List, [], ◌∷◌, map, Option, Some, None, Ok, Err, refl, sym, ap, ◌∙◌, arith, subst, IsBitSet}
+use Rattle.std.proofs.lemmas.Bool.{eqb-true}
 use Rattle.frame_meaning.specs.declared.cells.Link.{Link}
-use Rattle.frame_meaning.specs.Render.{cell_at}
-use Rattle.composables.specs.declared.calls.Dissolve.{Dissolve}
-use Rattle.composables.specs.declared.calls.End.{End}
-use Rattle.composables.specs.declared.calls.End.TheVariants.{Head, Tail}
-use Rattle.composables.specs.declared.calls.Extract.{Extract}
-use Rattle.composables.specs.declared.calls.Fill.{Fill}
-use Rattle.composables.specs.declared.calls.Insert.{Insert}
-use Rattle.composables.specs.declared.calls.Overwrite.{Overwrite}
-use Rattle.composables.specs.declared.calls.Remove.{Remove}
-use Rattle.composables.specs.declared.calls.Ripple.{Ripple}
-use Rattle.composables.specs.declared.calls.Roll.{Roll}
-use Rattle.composables.specs.declared.calls.Slice.{Slice}
-use Rattle.composables.specs.declared.calls.Trim.{Trim}
-use Rattle.composables.specs.declared.calls.Undissolve.{Undissolve}
-use Rattle.composables.specs.declared.items.ItemView.{ItemView}
-use Rattle.composables.specs.declared.media.Table.{Table}
-use Rattle.composables.specs.declared.refusals.Done.{Done}
-use Rattle.composables.specs.declared.refusals.Done.TheVariants.{By, Item, Plain}
-use Rattle.composables.specs.declared.refusals.Refusal.{Refusal}
-use Rattle.composables.specs.Answers.{Applied, unless}
+use Rattle.composables.specs.declared.refusals.Done.TheVariants.{Plain}
+use Rattle.composables.specs.Answers.{Applied}
 use Rattle.composables.specs.Joined.{frames_in}
-use Rattle.composables.specs.Limits.{too_long, too_many, within_limits}
-use Rattle.composables.specs.Links.{cells_from, count_at_home, is_named, link_outside, links_split, next_link_at, split_links, split_track}
-use Rattle.composables.specs.OwnTracks.{for_own, numbers_of, on_own, track_numbered, with_track}
-use Rattle.composables.specs.Ranges.{offset_of, range_of}
+use Rattle.composables.specs.Links.{cells_from, is_named, link_outside, links_split, next_link_at, split_links, split_track}
+use Rattle.composables.specs.OwnTracks.{for_own, numbers_of, track_numbered}
+use Rattle.composables.specs.Ranges.{offset_of}
 use Rattle.composables.specs.TrackState.{TrackState}
-use Rattle.composables.specs.Views.{clip_view}
 use Rattle.dissolves.specs.Marking.{dissolve_named, dissolve_on, undissolve_named, undissolve_on}
-use Rattle.edit_delta.specs.Nearest.{nearest}
-use Rattle.edit_delta.specs.Reaching.{going_on, has_before, reaching_back}
-use Rattle.edit_delta.specs.Using.{on_range}
-use Rattle.edit_delta.proofs.Greatest.{is-nearest}
-use Rattle.edit_insert.specs.Edits.{extract_named, extracted, for_range, insert_named, inserted, overwrite_named, overwrite_track, remove_named, remove_track, slice_named, slice_track}
+use Rattle.edit_insert.specs.Edits.{extracted, inserted, overwrite_named, overwrite_track, remove_named, remove_track, slice_named, slice_track}
 use Rattle.edit_insert.specs.Fills.{fill_named, fill_track}
-use Rattle.edit_insert.specs.Sources.{source_refusal}
 use Rattle.edit_roll.specs.Rolling.{roll_named, roll_track}
-use Rattle.edit_splice.specs.Padding.{padded_track}
-use Rattle.edit_splice.specs.Shifts.{after_shift, shift_of, shift_refusal, shifted}
-use Rattle.edit_splice.proofs.Bridging.{for-found}
-use Rattle.edit_trim.specs.Rippling.{as_split, have_room, ripple_allows, ripple_end, ripple_named, ripple_own, rippled, used_on_all}
+use Rattle.edit_splice.specs.Shifts.{shifted}
+use Rattle.edit_trim.specs.Rippling.{ripple_own}
 use Rattle.edit_trim.specs.Trimming.{trim_named, trim_track}
 use Rattle.link_laws.specs.Given.{AreGiven, EditsKeepGiven, KeepsGiven, LeavesGiven, StaysGiven}
-use Rattle.link_laws.specs.Rooms.{AreAmong, AreLow, AreNamed, IsNumbered, Leaves, as_left, with_tracks}
-use Rattle.link_laws.specs.Together.{StandsOn}
-use Rattle.link_laws.proofs.Edits.{KeptAll, and-both, dissolve-one, fill-one, not-found, overwrite-one, own-kept, remove-one, roll-one, slice-one, trim-one, undissolve-one}
-use Rattle.link_laws.proofs.FreeRanges.{item-range}
+use Rattle.link_laws.specs.Rooms.{AreAmong, AreLow, AreNamed, IsNumbered, Leaves, with_tracks}
+use Rattle.link_laws.proofs.Edits.{KeptAll, dissolve-one, fill-one, overwrite-one, own-kept, remove-one, roll-one, slice-one, trim-one, undissolve-one}
 use Rattle.link_laws.proofs.LinkLists.{AllLinks, named-inside}
-use Rattle.link_laws.proofs.Linking.{next-numbered}
-use Rattle.link_laws.proofs.Reaching.{reached}
 use Rattle.link_laws.proofs.RippleCases.{ripple-leaves}
-use Rattle.link_laws.proofs.Shifting.{SeesBefore, Shifts, Stays, carries-from, end-split, from-all, from-carries, high-all, may-split, named-each, next-among, next-named, next-shifts, stays-all}
-use Rattle.link_laws.proofs.ShiftCases.{ByShifts, PutAt, ShiftCase, extract-leaves, insert-leaves, leaves-own, shift-leaves}
-use Rattle.link_laws.proofs.ShiftTracks.{HasFew, HasPlace, few-none, few-one, has-place, shifts-each}
+use Rattle.link_laws.proofs.Shifting.{Shifts, Stays, end-split, from-all, from-carries, high-all, may-split, named-each, next-among, next-named, next-shifts, stays-all}
+use Rattle.link_laws.proofs.ShiftCases.{ByShifts, PutAt, extract-leaves, insert-leaves, leaves-own, shift-leaves}
 use Rattle.link_laws.proofs.ShiftWeight.{shift-little, split-order}
-use Rattle.link_laws.proofs.Sights.{Shows}
-use Rattle.link_laws.proofs.Splices.{shows-on}
 use Rattle.link_laws.proofs.Splitting.{MaySplit, Moves, SameBefore, SeesFrom, from-moves, split-high, splits-before}
-use Rattle.link_laws.proofs.Tied.{Each, Keeps, Sees, among-numbered, each-left, each-self, keeps-self, next-more, numbered-is, sees-found, sees-kept, stands-sees}
-use Rattle.link_laws.proofs.Weighing.{Below, kept-little}
+use Rattle.link_laws.proofs.Tied.{Each, Keeps, Sees, each-left, each-self, keeps-self, next-more, sees-found, sees-kept, stands-sees}
+use Rattle.link_laws.proofs.Weighing.{kept-little}
 
 -- by links and offsets
 

@@ -1,18 +1,14 @@
 -- A link that is made, and one that is taken away, keep the links of a room given away, whatever else its tracks are.
-use Rattle.std.proofs.Common.{◌≡◌, ℕ, ◌+◌, ◌<◌, ◌≤◌, ◌⊎◌, inl, inr, ℤ, Bool, true, false, cond, List, [], ◌∷◌, ◌++◌, take, drop, map, unwrap_or, Option, Some, None, Ok, Err, refl, sym, ap, ◌∙◌, arith, subst, IsBitSet}
+use Rattle.std.proofs.Common.{◌≡◌, ℕ, ◌+◌, ◌<◌, ◌≤◌, ◌⊎◌, inl, inr, ℤ, List, [], ◌∷◌, ◌++◌, take, drop, map, unwrap_or, Option, Some, None, refl, sym, ap, ◌∙◌, arith, subst, IsBitSet}
 use Rattle.frame_meaning.specs.declared.cells.Cell.{Cell}
 use Rattle.frame_meaning.specs.declared.cells.Link.{Link}
 use Rattle.composables.specs.declared.calls.Link3.{Link3}
-use Rattle.composables.specs.declared.calls.Unlink.{Unlink}
 use Rattle.composables.specs.declared.items.ItemView.{ItemView}
-use Rattle.composables.specs.declared.refusals.Refusal.{Refusal}
-use Rattle.composables.specs.Answers.{Applied, unless}
 use Rattle.composables.specs.Links.{next_link_at}
-use Rattle.composables.specs.OwnTracks.{track_numbered}
 use Rattle.composables.specs.TrackState.{TrackState}
 use Rattle.link_groups.specs.LinkedItems.{item_of, linked_found, linked_item, linked_on}
-use Rattle.link_groups.specs.Linking.{all_linked, home_risen, link_named, link_refusal, linked, new_link, unlink_named, unlink_on}
-use Rattle.link_laws.specs.Given.{AreGiven, AreIn, KeepsGiven, LeavesGiven, LinkingKeepsGiven, StaysGiven, UnlinkingKeepsGiven}
+use Rattle.link_groups.specs.Linking.{all_linked, home_risen, link_refusal, linked, new_link, unlink_named, unlink_on}
+use Rattle.link_laws.specs.Given.{AreGiven, AreIn, LeavesGiven, LinkingKeepsGiven, StaysGiven, UnlinkingKeepsGiven}
 use Rattle.link_laws.specs.Rooms.{AreAmong, AreNamed, IsNumbered, as_left, with_tracks}
 use Rattle.link_laws.proofs.Edits.{own-kept, unlink-one}
 use Rattle.link_laws.proofs.GivenLaw.{IsGiven, are-given, given-law, given-of, numbers-each}

@@ -1,40 +1,38 @@
 -- A slip and a slide keep the links of a room given away, whatever else its tracks are.
-use Rattle.std.proofs.Common.{◌≡◌, ℕ, zero, suc, ◌+◌, ◌-◌, ◌<◌, ◌≤◌, ◌⊎◌, inl, inr, ℤ, pos, negsuc, Bool, true, false, cond, eqb, List, [], ◌∷◌, ◌++◌, take, drop, map, length, Option, Some, None, Result, Ok, Err, refl, sym, ap, ◌∙◌, arith, subst, IsBitSet}
+use Rattle.std.proofs.Common.{◌≡◌, ℕ, zero, suc, ◌+◌, ◌<◌, ◌≤◌, ◌⊎◌, inl, inr, ℤ, pos, negsuc, Bool, true, false, cond, List, [], ◌∷◌, take, map, Option, Some, None, Result, Ok, Err, refl, sym, ap, ◌∙◌, arith}
 use Rattle.frame_meaning.specs.declared.cells.Cell.{Cell}
 use Rattle.frame_meaning.specs.declared.cells.Link.{Link}
 use Rattle.frame_meaning.specs.Render.{cell_at}
 use Rattle.composables.specs.declared.calls.Slide.{Slide}
 use Rattle.composables.specs.declared.calls.Slip.{Slip}
-use Rattle.composables.specs.declared.items.ItemView.{ItemView}
 use Rattle.composables.specs.declared.media.Table.{Table}
 use Rattle.composables.specs.declared.refusals.Done.{Done}
 use Rattle.composables.specs.declared.refusals.Done.TheVariants.{By}
 use Rattle.composables.specs.declared.refusals.Refusal.{Refusal}
-use Rattle.composables.specs.Answers.{Applied, unless}
+use Rattle.composables.specs.Answers.{unless}
 use Rattle.composables.specs.Limits.{too_long, too_many, track_within_limits}
 use Rattle.composables.specs.Links.{next_link_at, outside_refusal}
-use Rattle.composables.specs.OwnTracks.{among_named, for_own, track_numbered, with_track}
+use Rattle.composables.specs.OwnTracks.{among_named, track_numbered, with_track}
 use Rattle.composables.specs.Ranges.{range_of}
 use Rattle.composables.specs.TrackState.{TrackState}
 use Rattle.edit_delta.specs.Nearest.{nearest}
 use Rattle.edit_delta.specs.Using.{on_range, used_on}
 use Rattle.edit_delta.proofs.Greatest.{is-nearest}
-use Rattle.edit_roll.specs.Sliding.{links_refuse, slid, slide_allows, slide_named, slide_own, slide_range, slide_track}
-use Rattle.edit_trim.specs.Slipping.{cell_moved, changed_on, link_allows, link_slipped, linked_moved, slip_allows, slip_link, slip_link_by, slip_named, slip_own, slip_range, slip_track, slip_with, slipped, slipped_by, track_moved}
+use Rattle.edit_roll.specs.Sliding.{links_refuse, slid, slide_allows, slide_own, slide_range, slide_track}
+use Rattle.edit_trim.specs.Slipping.{cell_moved, changed_on, link_allows, linked_moved, slip_allows, slip_link, slip_link_by, slip_own, slip_range, slip_track, slip_with, slipped, slipped_by, track_moved}
 use Rattle.link_groups.specs.ItemLinks.{carries, link_of}
 use Rattle.link_groups.specs.LinkedItems.{item_of}
-use Rattle.link_laws.specs.Given.{AreGiven, KeepsGiven, LeavesGiven, StaysGiven}
-use Rattle.link_laws.specs.Rooms.{AreAmong, AreNamed, IsNumbered, Leaves, with_tracks}
+use Rattle.link_laws.specs.Given.{AreGiven, LeavesGiven, StaysGiven}
+use Rattle.link_laws.specs.Rooms.{AreAmong, AreNamed, IsNumbered, with_tracks}
 use Rattle.link_laws.specs.SlipLaws.{SlidingKeepsGiven, SlippingKeepsGiven}
 use Rattle.link_laws.specs.Weights.{begins, is_link, runs_in}
 use Rattle.link_laws.proofs.FreeRanges.{item-range}
 use Rattle.link_laws.proofs.GivenLaw.{IsGiven, are-given, given-of, numbers-each, own-given}
-use Rattle.link_laws.proofs.LinkLists.{Carries, carries-append, carries-shows, shows-carries}
+use Rattle.link_laws.proofs.LinkLists.{Carries, carries-shows, shows-carries}
 use Rattle.link_laws.proofs.ShiftCases.{leaves-unless}
-use Rattle.link_laws.proofs.Sights.{Shows}
 use Rattle.link_laws.proofs.SlideLaw.{Moved, Slides, carries-drop, carries-take, mid-carries, slid-slides}
 use Rattle.link_laws.proofs.SlipLaw.{moved-runs}
-use Rattle.link_laws.proofs.Tied.{Each, Sees, each-left, each-self, each-with, next-more, numbered-is}
+use Rattle.link_laws.proofs.Tied.{Each, Sees, each-left, each-with, next-more, numbered-is}
 use Rattle.link_laws.proofs.Weighing.{Light, light-little, light-more, light-self}
 
 -- a track with no other links, and little more weight of them

@@ -12,7 +12,7 @@ use Rattle.room_core.specs.Parts.{AscendBetween}
 use Rattle.room_core.specs.Whole.{Meaning, on_whole, picked, put_back, unless_refused, whole, with_picked}
 use Rattle.link_laws.specs.Together.{Together}
 use Rattle.link_laws.specs.Weights.{NextsWithin, given, most_added, runs_on, weight, weight_of}
-use Rattle.link_laws.specs.Given.{AreGiven, LeavesGiven, StaysGiven}
+use Rattle.link_laws.specs.Given.{AreGiven, LeavesGiven}
 use Rattle.link_laws.specs.Rooms.{AreLow, AreNamed, AreTracks, IsNumbered, with_tracks}
 use Rattle.link_laws.specs.Wholes.{KeepsNumbers, Numbered, StayTogether}
 use Rattle.link_laws.specs.Histories.{AreAfter, AreGivenAfter, CallsKeepGiven, CallsKeepTogether, GoodBefore, HistoriesStayGiven, HistoriesStayTogether, LinkNumbersLast}
@@ -45,56 +45,18 @@ ordered_whole all names (Ok (us, d)) h n =
     subst (λ (ns : List ℕ). Numbered 0 (put_back all ns us) × (length (put_back all ns us) ≡ length all)) n (ordered_back all us h)
 ordered_whole all names (Err why) h n = tt
 
-module _ {C : Type 0} (table : Table) (m : Meaning TrackState C Done Refusal) where
-  one_call : (all : List TrackState) (c : C) → CallsKeepTogether table (length all) m → Numbered 0 all → AreTracks table all → Together all
-      → StayTogether all (whole m all c) × Ordered (length all) (whole m all c)
-  one_call all c k h tracks g = by (m.refuses c) refl where
-    names : List ℕ
-    names = m.names c
-
-    kept : AscendBetween 0 (length all) (m.names c) → KeepsNumbers (m.names c) (m.applied (picked all (m.names c)) c)
-    kept a =
-        subst (λ (ns : List ℕ). KeepsNumbers ns (m.applied (picked all (m.names c)) c)) (numbers_picked all 0 (m.names c) h a) (k.numbers c (picked all (m.names c)))
-
-    by : (o : Option Refusal) → m.refuses c ≡ o
-        → StayTogether all (unless_refused o (on_whole all (m.names c) (m.applied (picked all (m.names c)) c)))
-        × Ordered (length all) (unless_refused o (on_whole all (m.names c) (m.applied (picked all (m.names c)) c)))
-    by None e =
-        let a = k.names c e in (
-          wholes-keep table (λ named. m.applied named c) all (m.names c) (k.keeps c) h tracks a (kept a) g,
-          ordered_whole all (m.names c) (m.applied (picked all (m.names c)) c) h (kept a),
-        )
-    by (Some r) e = (tt, tt)
-
-  -- one entry after another
-
-  no_state : (es : List (Entry C)) → fold (after_entry (whole m)) None es ≡ None
-  no_state [] = refl
-  no_state (e ∷ es) = no_state es
-
-  history : (all qs : List TrackState) (es : List (Entry C)) → CallsKeepTogether table (length all) m → Numbered 0 all → Together all → GoodBefore table (whole m) (Some all) es
-      → replay (whole m) all es ≡ Some qs → AreAfter all qs (length es)
-  history all qs [] k h g good comes =
-      let same : all ≡ qs = Prim.grind (arith, comes) in
-      record { together = subst Together same g; little = omega (arith, ap weight same) }
-  history all qs (e ∷ es) k h g good comes = by (whole m all e.call) (one_call all e.call k h good.0 g) good.1 comes (λ us l. history us qs es l) where
-    by : (r : Applied) → StayTogether all r × Ordered (length all) r → GoodBefore table (whole m) (state_in r) es → fold (after_entry (whole m)) (state_in r) es ≡ Some qs
-        → ((us : List TrackState) → CallsKeepTogether table (length us) m → Numbered 0 us → Together us → GoodBefore table (whole m) (Some us) es
-        → replay (whole m) us es ≡ Some qs → AreAfter us qs (length es))
-        → AreAfter all qs (length (e ∷ es))
-    by (Ok (us, d)) s gs cs later =
-        let r = later us (subst (λ (n : ℕ). CallsKeepTogether table n m) (sym s.1.1) k) s.1.0 s.0.together gs cs in
-        record { together = r.together; little = omega (arith, r.little, s.0.little) }
-    by (Err why) s gs cs later = let none = sym (no_state es) ∙ cs in absurd (Prim.grind (arith, none))
-
-pub histories-together : {C : Type 0} → HistoriesStayTogether C
-histories-together table m all qs es k h g good comes = history table m all qs es k h g good comes
-
 -- link numbers, whatever else the tracks are
 
 low_numbered : (from : ℕ) (ts : List TrackState) → Numbered from ts → from + length ts ≤ 32 → AreLow ts
 low_numbered from [] h le = tt
 low_numbered from (t ∷ ts) h le = (omega (arith, h.0, le), low_numbered (from + 1) ts h.1 (omega (arith, le)))
+
+numbered_room : (all : List TrackState) → Numbered 0 all → length all ≤ 32 → IsNumbered all
+numbered_room all h few = record { apart = among-from all 0 all h refl; ascend = ascend-of 0 all h; low = low_numbered 0 all h (omega (arith, few)) }
+
+kept_numbers : (all named : List TrackState) (names : List ℕ) (r : Applied) → numbers_of named ≡ names → LeavesGiven all named r → KeepsNumbers names r
+kept_numbers all named names (Ok (us, d)) n s = s.numbers ∙ n
+kept_numbers all named names (Err why) n s = tt
 
 abbrev GivenIn : List TrackState → Applied → Type 0
 GivenIn all (Ok (us, d)) = AreGiven us × (weight us ≤ weight all + most_added)
@@ -115,9 +77,6 @@ module _ {C : Type 0} (m : Meaning TrackState C Done Refusal) where
   given_call : (all : List TrackState) (c : C) → CallsKeepGiven (length all) m → Numbered 0 all → length all ≤ 32 → AreGiven all
       → GivenIn all (whole m all c) × Ordered (length all) (whole m all c)
   given_call all c k h few g = by (m.refuses c) refl where
-    room : IsNumbered all
-    room = record { apart = among-from all 0 all h refl; ascend = ascend-of 0 all h; low = low_numbered 0 all h (omega (arith, few)) }
-
     by : (o : Option Refusal) → m.refuses c ≡ o
         → GivenIn all (unless_refused o (on_whole all (m.names c) (m.applied (picked all (m.names c)) c)))
         × Ordered (length all) (unless_refused o (on_whole all (m.names c) (m.applied (picked all (m.names c)) c)))
@@ -125,7 +84,7 @@ module _ {C : Type 0} (m : Meaning TrackState C Done Refusal) where
         let a = k.names c e in
         let n : numbers_of (picked all (m.names c)) ≡ m.names c = numbers_picked all 0 (m.names c) h a in
         let named : AreNamed all (picked all (m.names c)) = record { among = among-picked all (m.names c) h; ascend = ascend-picked all 0 (m.names c) h a } in
-        given_back all (m.names c) (m.applied (picked all (m.names c)) c) h a n (k.keeps c all (picked all (m.names c)) n room named g)
+        given_back all (m.names c) (m.applied (picked all (m.names c)) c) h a n (k.keeps c all (picked all (m.names c)) n (numbered_room all h few) named g)
     by (Some r) e = (tt, tt)
 
   past_state : (es : List (Entry C)) → fold (after_entry (whole m)) None es ≡ None
@@ -148,6 +107,41 @@ module _ {C : Type 0} (m : Meaning TrackState C Done Refusal) where
 
 pub histories-given : {C : Type 0} → HistoriesStayGiven C
 histories-given m all qs es k h few g comes = given_history m all qs es k h few g comes
+
+-- and together
+
+module _ {C : Type 0} (table : Table) (m : Meaning TrackState C Done Refusal) where
+  one_call : (all : List TrackState) (c : C) → CallsKeepTogether table (length all) m → Numbered 0 all → length all ≤ 32 → AreGiven all → AreTracks table all
+      → Together all → StayTogether all (whole m all c)
+  one_call all c k h few v tracks g = by (m.refuses c) refl where
+    by : (o : Option Refusal) → m.refuses c ≡ o → StayTogether all (unless_refused o (on_whole all (m.names c) (m.applied (picked all (m.names c)) c)))
+    by None e =
+        let a = k.given.names c e in
+        let n : numbers_of (picked all (m.names c)) ≡ m.names c = numbers_picked all 0 (m.names c) h a in
+        let named : AreNamed all (picked all (m.names c)) = record { among = among-picked all (m.names c) h; ascend = ascend-picked all 0 (m.names c) h a } in
+        wholes-keep table (λ named. m.applied named c) all (m.names c) (k.keeps c) h tracks a
+        (kept_numbers all (picked all (m.names c)) (m.names c) (m.applied (picked all (m.names c)) c) n (k.given.keeps c all (picked all (m.names c)) n (numbered_room all h few) named v)) g
+    by (Some r) e = tt
+
+  history : (all qs : List TrackState) (es : List (Entry C)) → CallsKeepTogether table (length all) m → Numbered 0 all → length all ≤ 32 → AreGiven all → Together all
+      → GoodBefore table (whole m) (Some all) es → replay (whole m) all es ≡ Some qs → AreAfter all qs (length es)
+  history all qs [] k h few v g good comes =
+      let same : all ≡ qs = Prim.grind (arith, comes) in
+      record { together = subst Together same g; little = omega (arith, ap weight same) }
+  history all qs (e ∷ es) k h few v g good comes =
+      by (whole m all e.call) (one_call all e.call k h few v good.0 g) (given_call m all e.call k.given h few v) good.1 comes (λ us l. history us qs es l) where
+    by : (r : Applied) → StayTogether all r → GivenIn all r × Ordered (length all) r → GoodBefore table (whole m) (state_in r) es
+        → fold (after_entry (whole m)) (state_in r) es ≡ Some qs
+        → ((us : List TrackState) → CallsKeepTogether table (length us) m → Numbered 0 us → length us ≤ 32 → AreGiven us → Together us → GoodBefore table (whole m) (Some us) es
+        → replay (whole m) us es ≡ Some qs → AreAfter us qs (length es))
+        → AreAfter all qs (length (e ∷ es))
+    by (Ok (us, d)) s v gs cs later =
+        let r = later us (subst (λ (n : ℕ). CallsKeepTogether table n m) (sym v.1.1) k) v.1.0 (omega (arith, v.1.1, few)) v.0.0 s.together gs cs in
+        record { together = r.together; little = omega (arith, r.little, s.little) }
+    by (Err why) s v gs cs later = let none = sym (past_state m es) ∙ cs in absurd (Prim.grind (arith, none))
+
+pub histories-together : {C : Type 0} → HistoriesStayTogether C
+histories-together table m all qs es k h few v g good comes = history table m all qs es k h few v g good comes
 
 given_none : (f : ℕ → ℕ) (n : ℕ) → n ≤ 0 → given f n ≡ 0
 given_none f zero le = refl

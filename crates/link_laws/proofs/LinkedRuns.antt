@@ -1,26 +1,15 @@
 -- Runs of cells with one link, where an item gets a link or loses its own; and where no cell has the link, or one has.
-use Rattle.std.proofs.Common.{◌≡◌, ◌≢◌, ℕ, zero, suc, ◌+◌, ◌≤◌, inl, inr, Bool, true, false, cond, eqb, ◌&&◌, List, [], ◌∷◌, ◌++◌, take, drop, map, length, Option, Some, None, refl, ap, ◌∙◌, arith, subst}
+use Rattle.std.proofs.Common.{◌≡◌, ℕ, ◌+◌, ◌≤◌, inl, inr, Bool, true, false, eqb, ◌&&◌, List, [], ◌∷◌, ◌++◌, take, drop, map, Option, Some, None, refl, ap, ◌∙◌, arith}
 use Rattle.std.proofs.lemmas.Bool.{eq-eqb, eqb-true}
-use Rattle.std.proofs.lemmas.List.{map-append}
 use Rattle.frame_meaning.specs.declared.cells.Cell.{Cell}
 use Rattle.frame_meaning.specs.declared.cells.Link.{Link}
-use Rattle.frame_meaning.specs.declared.cells.Mark.{Mark}
-use Rattle.frame_meaning.specs.declared.cells.What.{What}
-use Rattle.frame_meaning.specs.declared.frames.Side.{Side}
-use Rattle.frame_meaning.specs.Cells.{next_side, same_number, span}
 use Rattle.frame_meaning.specs.Render.{cell_at}
 use Rattle.composables.specs.declared.items.ItemView.{ItemView}
-use Rattle.composables.specs.declared.media.Table.{Table}
-use Rattle.composables.specs.Good.{IsGood}
-use Rattle.composables.specs.Items.{cells_of, items_of, marked, view_cells}
-use Rattle.composables.specs.TrackFacts.{Apart, Lacks}
 use Rattle.composables.specs.TrackState.{TrackState}
-use Rattle.composables.proofs.Joining.{same-is}
 use Rattle.link_groups.specs.LinkedItems.{item_of, linked_found, linked_item, linked_on}
-use Rattle.link_groups.proofs.Relinked.{lacks_of}
 use Rattle.link_laws.specs.Weights.{begins, is_link, runs_in}
 use Rattle.link_laws.proofs.LinkLists.{Carries}
-use Rattle.link_laws.proofs.Runs.{AllHave, Grown, count, grown-self, one, runs-all, runs-append, runs-cut}
+use Rattle.link_laws.proofs.Runs.{AllHave, Grown, count, grown-self, runs-all, runs-append, runs-cut}
 
 -- the cells at some places have one link, or none
 

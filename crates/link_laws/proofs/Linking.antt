@@ -24,7 +24,7 @@ use Rattle.composables.specs.Ranges.{offset_of}
 use Rattle.composables.specs.TrackFacts.{Apart, EachHolds, Lacks, ShowsAsItem}
 use Rattle.composables.specs.TrackState.{TrackState}
 use Rattle.composables.proofs.Joining.{eqb-refl, length-view_cells, same-is}
-use Rattle.link_groups.specs.LinkedItems.{item_from, item_of, linked_found, linked_item, linked_on}
+use Rattle.link_groups.specs.LinkedItems.{item_from, linked_item}
 use Rattle.link_groups.specs.Linking.{all_linked, already_linked, are_there, found_offset, home_risen, item_offset, link_named, linked, new_link, offsets_differ, or_else, other_offset, shown_offset}
 use Rattle.link_groups.proofs.Relinked.{lacks_of, linked-is, linked_cell}
 use Rattle.link_laws.specs.Laws.{LinkingKeepsTogether}

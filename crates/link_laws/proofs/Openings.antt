@@ -1,10 +1,8 @@
 -- The tracks of a set, and tracks that a room is opened with.
-use Rattle.std.proofs.Common.{◌≡◌, ℕ, zero, suc, ◌/◌, ◌^◌, Bool, true, false, cond, List, [], ◌∷◌, Option, Some, refl, ap, ◌∙◌, arith, subst, sym, IsBitSet}
+use Rattle.std.proofs.Common.{◌≡◌, ℕ, zero, suc, ◌/◌, ◌^◌, Bool, true, false, cond, List, [], ◌∷◌, refl, arith, subst, sym, IsBitSet}
 use Rattle.std.proofs.lemmas.Bool.{eqb-true}
 use Rattle.std.proofs.lemmas.Nat.{bit_set_by_shift}
 use Rattle.std.specs.Int.Bits.{bit_and}
-use Rattle.frame_meaning.specs.declared.cells.Cell.{Cell}
-use Rattle.frame_meaning.specs.declared.cells.Link.{Link}
 use Rattle.composables.specs.declared.media.Table.{Table}
 use Rattle.composables.specs.OwnTracks.{numbers_of}
 use Rattle.composables.specs.Ranges.{offset_of}

@@ -21,11 +21,8 @@ use Rattle.edit_delta.specs.Nearest.{nearest}
 use Rattle.edit_delta.specs.Reaching.{going_on, has_before, reaching_back}
 use Rattle.edit_delta.specs.Using.{on_range}
 use Rattle.edit_delta.proofs.Greatest.{is-nearest}
-use Rattle.edit_splice.specs.Shifts.{shift_of}
 use Rattle.edit_trim.specs.Rippling.{as_split, have_room, ripple_allows, ripple_end, ripple_own, rippled, used_on_all}
-use Rattle.link_laws.specs.Laws.{RippleKeepsTogether}
 use Rattle.link_laws.specs.Rooms.{AreNamed, Leaves}
-use Rattle.link_laws.specs.Together.{Together}
 use Rattle.link_laws.proofs.Edits.{and-both}
 use Rattle.link_laws.proofs.FreeRanges.{item-range}
 use Rattle.link_laws.proofs.Reaching.{reached}
@@ -34,8 +31,7 @@ use Rattle.link_laws.proofs.ShiftCases.{ByShifts, PutAt, ShiftCase, nothing-case
 use Rattle.link_laws.proofs.Shifting.{SeesBefore}
 use Rattle.link_laws.proofs.ShiftTracks.{HasPlace, few-one, has-place, shifts-each}
 use Rattle.link_laws.proofs.Splices.{shows-on}
-use Rattle.link_laws.proofs.Tied.{Keeps, among-numbered, each-left, each-self, keeps-self, kept-tied, some-is, tied-of, together-of}
-use Rattle.link_laws.proofs.Weighing.{kept-little, numbered-of}
+use Rattle.link_laws.proofs.Tied.{among-numbered, some-is}
 
 numbered_before : (n x : ℕ) (ts : List TrackState) (t : TrackState) (l : Link) (o : Option ℤ) → track_numbered n ts ≡ Some t → Shows 0 (take x t.cells) l o → SeesBefore x ts l o
 numbered_before n x [] t l o e h = absurd cc

@@ -1,5 +1,5 @@
 -- Shifts by which edits move what is behind them on all named tracks: what is true of each, whatever it is to leave.
-use Rattle.std.proofs.Common.{◌≡◌, ℕ, zero, suc, ◌+◌, ◌-◌, ◌<◌, ◌≤◌, ◌⊎◌, inl, inr, ℤ, Bool, true, false, cond, eqb, List, [], ◌∷◌, drop, length, slice_get, Option, Some, None, Ok, refl, sym, ap, ◌∙◌, arith, subst, IsBitSet}
+use Rattle.std.proofs.Common.{◌≡◌, ℕ, zero, suc, ◌+◌, ◌-◌, ◌<◌, ◌≤◌, ◌⊎◌, inl, inr, ℤ, Bool, true, false, cond, eqb, List, [], ◌∷◌, drop, length, slice_get, Option, Some, None, Ok, refl, sym, ap, ◌∙◌, arith, subst}
 use Rattle.std.proofs.lemmas.Bool.{eqb-true}
 use Rattle.frame_meaning.specs.declared.cells.Link.{Link}
 use Rattle.frame_meaning.specs.declared.cells.What.{What}
@@ -15,7 +15,7 @@ use Rattle.composables.specs.Bounds.{bounds_of}
 use Rattle.composables.specs.Items.{cells_of}
 use Rattle.composables.specs.Joined.{frames_in}
 use Rattle.composables.specs.Limits.{too_long, too_many, within_limits}
-use Rattle.composables.specs.Links.{cells_from, is_named, link_outside, links_split, split_links}
+use Rattle.composables.specs.Links.{cells_from, is_named, link_outside, links_split}
 use Rattle.composables.specs.OwnTracks.{for_own, track_numbered, with_track}
 use Rattle.composables.specs.Ranges.{range_of}
 use Rattle.composables.specs.TrackState.{TrackState}
@@ -26,21 +26,15 @@ use Rattle.edit_insert.specs.Sources.{refusal_in, source_refusal, suits}
 use Rattle.edit_splice.specs.Padding.{padded_track}
 use Rattle.edit_splice.specs.Shifts.{after_shift, shift_of, shift_refusal, shifted, shifted_track}
 use Rattle.edit_splice.proofs.Bridging.{for-found}
-use Rattle.link_laws.specs.Laws.{ShiftingKeepsTogether}
-use Rattle.link_laws.specs.Rooms.{AreNamed, Ascend, Leaves, with_tracks}
-use Rattle.link_laws.specs.Together.{Together}
+use Rattle.link_laws.specs.Rooms.{AreNamed, Ascend, Leaves}
 use Rattle.link_laws.proofs.Edits.{not-found}
 use Rattle.link_laws.proofs.FreeRanges.{item-range}
-use Rattle.link_laws.proofs.LinkLists.{named-inside}
 use Rattle.link_laws.proofs.Sights.{Shows, shows-none}
-use Rattle.link_laws.proofs.Shifting.{Shifts, Stays, from-carries, named-each, shift-end, shift-start}
+use Rattle.link_laws.proofs.Shifting.{Shifts, Stays, named-each}
 use Rattle.link_laws.proofs.ShiftTracks.{HasFew, HasPlace, few-none, has-place, padded-carries, shifted-number, shifts-each, shifts-one, shifts-padded}
 use Rattle.link_laws.proofs.Splices.{length-pad}
-use Rattle.link_laws.proofs.ShiftWeight.{shift-little, split-order}
-use Rattle.link_laws.proofs.Splitting.{SeesFrom, split-law, splits-before}
-use Rattle.link_laws.proofs.Weighing.{numbered-of}
-use Rattle.link_laws.proofs.Tied.{Each, among-numbered, each-with, numbered-is, some-is, tied-of, together-of}
-
+use Rattle.link_laws.proofs.Splitting.{SeesFrom}
+use Rattle.link_laws.proofs.Tied.{Each, among-numbered, each-with, numbered-is, some-is}
 
 -- what a call leaves
 

@@ -1,47 +1,25 @@
 -- Edits that move what is behind them on all named tracks keep these together.
-use Rattle.std.proofs.Common.{◌≡◌, ℕ, zero, suc, ◌+◌, ◌-◌, ◌<◌, ◌≤◌, ◌⊎◌, inl, inr, ℤ, Bool, true, false, cond, eqb, List, [], ◌∷◌, drop, length, slice_get, Option, Some, None, Ok, refl, sym, ap, ◌∙◌, arith, subst, IsBitSet}
-use Rattle.std.proofs.lemmas.Bool.{eqb-true}
+use Rattle.std.proofs.Common.{◌≡◌, ℕ, ◌+◌, ◌<◌, ℤ, true, List, Option, Some, None, sym, ◌∙◌, IsBitSet}
 use Rattle.frame_meaning.specs.declared.cells.Link.{Link}
-use Rattle.frame_meaning.specs.declared.cells.What.{What}
-use Rattle.composables.specs.declared.calls.Extract.{Extract}
-use Rattle.composables.specs.declared.calls.Insert.{Insert}
-use Rattle.composables.specs.declared.items.ItemView.{ItemView}
 use Rattle.composables.specs.declared.media.Table.{Table}
-use Rattle.composables.specs.declared.refusals.Done.{Done}
-use Rattle.composables.specs.declared.refusals.Done.TheVariants.{Item, Plain}
 use Rattle.composables.specs.declared.refusals.Refusal.{Refusal}
 use Rattle.composables.specs.Answers.{Applied, unless}
-use Rattle.composables.specs.Bounds.{bounds_of}
-use Rattle.composables.specs.Items.{cells_of}
 use Rattle.composables.specs.Joined.{frames_in}
-use Rattle.composables.specs.Limits.{too_long, too_many, within_limits}
 use Rattle.composables.specs.Links.{cells_from, is_named, link_outside, links_split, split_links}
-use Rattle.composables.specs.OwnTracks.{for_own, track_numbered, with_track}
-use Rattle.composables.specs.Ranges.{range_of}
+use Rattle.composables.specs.OwnTracks.{for_own, track_numbered}
 use Rattle.composables.specs.TrackState.{TrackState}
-use Rattle.composables.specs.Views.{clip_view}
-use Rattle.composables.proofs.Joining.{eqb-refl}
-use Rattle.edit_insert.specs.Edits.{extracted, for_range, inserted}
-use Rattle.edit_insert.specs.Sources.{refusal_in, source_refusal, suits}
-use Rattle.edit_splice.specs.Padding.{padded_track}
-use Rattle.edit_splice.specs.Shifts.{after_shift, shift_of, shift_refusal, shifted, shifted_track}
-use Rattle.edit_splice.proofs.Bridging.{for-found}
+use Rattle.edit_insert.specs.Edits.{extracted, inserted}
+use Rattle.edit_splice.specs.Shifts.{shifted}
 use Rattle.link_laws.specs.Laws.{ShiftingKeepsTogether}
-use Rattle.link_laws.specs.Rooms.{AreNamed, Ascend, IsRoom, KeepsTogether, LeavesTogether, StaysTogether, with_tracks}
+use Rattle.link_laws.specs.Rooms.{AreNamed, IsRoom, KeepsTogether, LeavesTogether, StaysTogether, with_tracks}
 use Rattle.link_laws.specs.Together.{Together}
-use Rattle.link_laws.proofs.ShiftCases.{ByShifts, PutAt, ShiftCase, extract-leaves, insert-leaves, leaves-own, leaves-unless, shift-leaves}
-use Rattle.link_laws.proofs.Edits.{not-found}
-use Rattle.link_laws.proofs.FreeRanges.{item-range}
+use Rattle.link_laws.proofs.ShiftCases.{ByShifts, PutAt, extract-leaves, insert-leaves, leaves-own, leaves-unless, shift-leaves}
 use Rattle.link_laws.proofs.LinkLists.{named-inside}
-use Rattle.link_laws.proofs.Sights.{Shows, shows-none}
-use Rattle.link_laws.proofs.Shifting.{Shifts, Stays, from-carries, named-each, shift-end, shift-start}
-use Rattle.link_laws.proofs.ShiftTracks.{HasFew, HasPlace, few-none, has-place, padded-carries, shifted-number, shifts-each, shifts-one, shifts-padded}
-use Rattle.link_laws.proofs.Splices.{length-pad}
+use Rattle.link_laws.proofs.Shifting.{Stays, from-carries, shift-end, shift-start}
 use Rattle.link_laws.proofs.ShiftWeight.{shift-little, split-order}
 use Rattle.link_laws.proofs.Splitting.{SeesFrom, split-law, splits-before}
 use Rattle.link_laws.proofs.Weighing.{numbered-of}
-use Rattle.link_laws.proofs.Tied.{Each, among-numbered, each-with, numbered-is, some-is, tied-of, together-of}
-
+use Rattle.link_laws.proofs.Tied.{tied-of, together-of}
 
 pub unless-leaves : (all : List TrackState) (why : Option Refusal) (meant : Applied) → (why ≡ None → LeavesTogether all meant) → LeavesTogether all (unless why meant)
 unless-leaves all why meant h = leaves-unless (λ (news : List TrackState). StaysTogether all (with_tracks all news)) why meant h

@@ -6,7 +6,6 @@ use Rattle.std.proofs.lemmas.List.{length-append}
 use Rattle.std.specs.List.{list_any}
 use Rattle.frame_meaning.specs.declared.cells.Cell.{Cell}
 use Rattle.frame_meaning.specs.declared.cells.Link.{Link}
-use Rattle.composables.specs.declared.media.Table.{Table}
 use Rattle.composables.specs.Links.{cells_before, cells_from, count_at_home, is_named, links_in, links_split, moved_cell, moved_link, next_link_at, same_link, split_links, split_number, split_track}
 use Rattle.composables.specs.OwnTracks.{track_numbered}
 use Rattle.composables.specs.TrackState.{TrackState}

@@ -1,5 +1,5 @@
 -- A slide: an item moves between its neighbours, and nothing else has its link.
-use Rattle.std.proofs.Common.{◌≡◌, ℕ, zero, suc, ◌+◌, ◌-◌, ◌<◌, ◌≤◌, ◌⊎◌, inl, inr, ℤ, pos, negsuc, Bool, true, false, cond, eqb, ltb, not, ◌&&◌, ◌||◌, List, [], ◌∷◌, ◌++◌, take, drop, length, Option, Some, None, Result, Ok, Err, refl, sym, ap, ◌∙◌, arith, subst}
+use Rattle.std.proofs.Common.{◌≡◌, ℕ, zero, suc, ◌+◌, ◌-◌, ◌<◌, ◌≤◌, ◌⊎◌, inl, inr, ℤ, pos, negsuc, Bool, true, false, cond, eqb, ltb, not, ◌&&◌, ◌||◌, List, [], ◌∷◌, ◌++◌, take, drop, length, Option, Some, None, Result, Ok, refl, sym, ap, ◌∙◌, arith, subst}
 use Rattle.std.proofs.lemmas.Bool.{eqb-true, ltb-true}
 use Rattle.std.proofs.lemmas.List.{length-take-le}
 use Rattle.std.specs.List.{list_any}
@@ -8,7 +8,7 @@ use Rattle.frame_meaning.specs.declared.cells.Link.{Link}
 use Rattle.frame_meaning.specs.declared.cells.Mark.{Mark}
 use Rattle.frame_meaning.specs.declared.cells.What.{What}
 use Rattle.frame_meaning.specs.declared.frames.Side.{Side}
-use Rattle.frame_meaning.specs.Cells.{dark_cell, next_side, same_number, span}
+use Rattle.frame_meaning.specs.Cells.{next_side, same_number, span}
 use Rattle.frame_meaning.specs.Render.{cell_at}
 use Rattle.composables.specs.declared.calls.Slide.{Slide}
 use Rattle.composables.specs.declared.items.ItemView.{ItemView}
@@ -16,7 +16,7 @@ use Rattle.composables.specs.declared.media.Table.{Table}
 use Rattle.composables.specs.declared.refusals.Done.{Done}
 use Rattle.composables.specs.declared.refusals.Done.TheVariants.{By}
 use Rattle.composables.specs.declared.refusals.Refusal.{Refusal}
-use Rattle.composables.specs.Answers.{Applied, unless}
+use Rattle.composables.specs.Answers.{unless}
 use Rattle.composables.specs.Good.{IsGood}
 use Rattle.composables.specs.Items.{cells_of, items_of, marked, view_cells}
 use Rattle.composables.specs.Joined.{AllFilled, frames_in}
@@ -32,20 +32,20 @@ use Rattle.edit_delta.specs.Reaching.{going_on, has_after, has_before, keeps_a_c
 use Rattle.edit_delta.specs.Using.{on_range, used_on}
 use Rattle.edit_delta.proofs.Greatest.{is-nearest}
 use Rattle.edit_roll.specs.Neighbours.{begin_at, end_at, has_neighbours, may_move_earlier, may_move_later, range_at}
-use Rattle.edit_roll.specs.Sliding.{bare_item, broken_by, link_broken, links_refuse, slid, slid_earlier, slid_later, slide_allows, slide_named, slide_own, slide_range, slide_track}
+use Rattle.edit_roll.specs.Sliding.{bare_item, broken_by, link_broken, links_refuse, slid, slid_earlier, slid_later, slide_allows, slide_own, slide_range, slide_track}
 use Rattle.edit_splice.specs.Splicing.{spliced_track}
 use Rattle.link_groups.specs.ItemLinks.{carried_on, carried_outside, carries, link_found, link_of}
-use Rattle.link_groups.specs.LinkedItems.{item_from, item_of}
+use Rattle.link_groups.specs.LinkedItems.{item_of}
 use Rattle.link_groups.specs.Linking.{or_else, shown_offset}
 use Rattle.link_groups.proofs.Relinked.{lacks_of}
 use Rattle.link_laws.specs.SlipLaws.{SlidingKeepsTogether}
-use Rattle.link_laws.specs.Rooms.{AreAmong, AreNamed, AreTracks, Ascend, IsRoom, KeepsTogether, LeavesTogether, StaysTogether, with_tracks}
+use Rattle.link_laws.specs.Rooms.{AreAmong, AreNamed, Ascend, IsRoom, LeavesTogether, StaysTogether, with_tracks}
 use Rattle.link_laws.specs.Together.{Together}
 use Rattle.link_laws.specs.Weights.{runs_in}
 use Rattle.link_laws.proofs.Edits.{KeptOne, among-kept, and-both, kept-leaves, room-good}
 use Rattle.link_laws.proofs.FreeRanges.{filled-all, frames-all, item-range, range-item, range-within, ranged}
-use Rattle.link_laws.proofs.LinkLists.{Carries, Same, carries-append, is-same, same-is-link, shows-carries}
-use Rattle.link_laws.proofs.Runs.{Grown, count, runs-all, runs-append, runs-one, runs-spliced, view-have}
+use Rattle.link_laws.proofs.LinkLists.{Carries, is-same, same-is-link, shows-carries}
+use Rattle.link_laws.proofs.Runs.{count, runs-all, runs-append, runs-one, runs-spliced, view-have}
 use Rattle.link_laws.proofs.Shifting.{SeesRest, left-sees, numbered-sees, rest-all}
 use Rattle.link_laws.proofs.ShiftEdits.{own-room, unless-leaves}
 use Rattle.link_laws.proofs.Sights.{Shows, shows-append, shows-at, shows-drop, shows-left, shows-take}

@@ -1,5 +1,5 @@
 -- A slip: all that has the link of an item shows other source frames, by one delta.
-use Rattle.std.proofs.Common.{◌≡◌, ℕ, zero, suc, ◌+◌, ◌-◌, ◌<◌, ◌≤◌, ◌⊎◌, inl, inr, ℤ, pos, negsuc, Bool, true, false, cond, eqb, ◌&&◌, List, [], ◌∷◌, ◌++◌, take, drop, map, length, is_some, Option, Some, None, Result, Ok, Err, refl, sym, ap, ◌∙◌, arith, subst, IsBitSet}
+use Rattle.std.proofs.Common.{◌≡◌, ℕ, zero, suc, ◌+◌, ◌-◌, ◌<◌, ◌≤◌, ◌⊎◌, inl, inr, ℤ, pos, negsuc, Bool, true, false, cond, ◌&&◌, List, [], ◌∷◌, ◌++◌, take, drop, map, length, Option, Some, None, refl, sym, ap, ◌∙◌, arith, subst, IsBitSet}
 use Rattle.std.proofs.lemmas.Bool.{leb-true}
 use Rattle.std.proofs.lemmas.List.{length-append, length-drop, length-take-le, take_at}
 use Rattle.frame_meaning.specs.declared.cells.Cell.{Cell}
@@ -13,41 +13,37 @@ use Rattle.frame_meaning.specs.Render.{cell_at, moved}
 use Rattle.composables.specs.declared.calls.Slip.{Slip}
 use Rattle.composables.specs.declared.items.ItemView.{ItemView}
 use Rattle.composables.specs.declared.media.Table.{Table}
-use Rattle.composables.specs.declared.refusals.Done.{Done}
-use Rattle.composables.specs.declared.refusals.Done.TheVariants.{By}
-use Rattle.composables.specs.declared.refusals.Refusal.{Refusal}
-use Rattle.composables.specs.Answers.{Applied, unless}
 use Rattle.composables.specs.Bounds.{bounds_of}
 use Rattle.composables.specs.Good.{IsGood}
 use Rattle.composables.specs.Items.{cells_of, items_of, marked, view_cells}
 use Rattle.composables.specs.Joined.{AllFilled}
 use Rattle.composables.specs.Links.{first_unnamed, is_named, next_link_at, outside_refusal, outside_at, same_link}
-use Rattle.composables.specs.OwnTracks.{among_named, for_own, track_numbered}
+use Rattle.composables.specs.OwnTracks.{among_named, track_numbered}
 use Rattle.composables.specs.Ranges.{offset_of, range_from, range_of}
-use Rattle.composables.specs.TrackFacts.{first_mark, left_reach, right_reach}
+use Rattle.composables.specs.TrackFacts.{first_mark, left_reach}
 use Rattle.composables.specs.TrackSets.{tracks_in}
 use Rattle.composables.specs.TrackState.{TrackState}
 use Rattle.composables.proofs.Joining.{length-view_cells}
 use Rattle.edit_delta.specs.Nearest.{nearest}
 use Rattle.edit_delta.specs.Reaching.{has_before, has_before_in}
-use Rattle.edit_delta.specs.Using.{on_range, used_on}
+use Rattle.edit_delta.specs.Using.{on_range}
 use Rattle.edit_delta.proofs.Greatest.{is-nearest}
-use Rattle.edit_trim.specs.Slipping.{cell_moved, changed_on, each_linked, each_linked_on, item_may_slip_earlier, link_allows, link_slipped, linked_moved, may_slip_earlier, slip_allows, slip_link, slip_link_by, slip_named, slip_own, slip_range, slip_track, slip_with, slipped, slipped_by, track_moved}
+use Rattle.edit_trim.specs.Slipping.{cell_moved, each_linked, each_linked_on, item_may_slip_earlier, link_allows, linked_moved, slip_allows, slip_link, slip_link_by, slip_own, slip_range, slip_track, slip_with, slipped, slipped_by, track_moved}
 use Rattle.link_groups.specs.ItemLinks.{carries, link_found, link_of}
-use Rattle.link_groups.specs.LinkedItems.{item_from, item_of}
+use Rattle.link_groups.specs.LinkedItems.{item_from}
 use Rattle.link_laws.specs.SlipLaws.{SlippingKeepsTogether}
-use Rattle.link_laws.specs.Rooms.{AreAmong, AreNamed, AreTracks, IsRoom, KeepsTogether, LeavesTogether, StaysTogether, with_tracks}
+use Rattle.link_laws.specs.Rooms.{AreAmong, AreNamed, AreTracks, IsRoom, LeavesTogether, StaysTogether, with_tracks}
 use Rattle.link_laws.specs.Together.{Together}
-use Rattle.link_laws.specs.Weights.{begins, is_link, most_added, runs_in, weight}
+use Rattle.link_laws.specs.Weights.{begins, is_link, runs_in}
 use Rattle.link_laws.proofs.Edits.{KeptOne, among-kept, kept-leaves, room-good, used-kept}
 use Rattle.link_laws.proofs.FreeRanges.{filled-all, item-range, range-within}
 use Rattle.link_laws.proofs.LinkedRuns.{runs-none}
-use Rattle.link_laws.proofs.LinkLists.{Carries, Same, all-named, carries-append, carries-left, carries-right, carries-shows, is-same, same-is-link, same-sym, shows-carries}
-use Rattle.link_laws.proofs.Runs.{Grown, count, runs-append, runs-cut}
+use Rattle.link_laws.proofs.LinkLists.{Carries, Same, all-named, carries-left, carries-right, carries-shows, is-same, same-is-link, shows-carries}
+use Rattle.link_laws.proofs.Runs.{count, runs-append, runs-cut}
 use Rattle.link_laws.proofs.Shifting.{SeesRest, left-sees, named-found, numbered-sees, rest-all, rest-bit}
 use Rattle.link_laws.proofs.ShiftEdits.{own-room, unless-leaves}
 use Rattle.link_laws.proofs.Sights.{Shows, int-shift, offset-moved, rebased, shows-append, shows-at, shows-drop, shows-take}
-use Rattle.link_laws.proofs.Tied.{Each, IsTied, Keeps, Sees, among-numbered, each-left, good-found, next-more, some-is, tied-of, together-of}
+use Rattle.link_laws.proofs.Tied.{Each, IsTied, Keeps, Sees, among-numbered, each-left, good-found, next-more, tied-of, together-of}
 use Rattle.link_laws.proofs.Weighing.{Light, light-little, light-more, light-none, light-self, numbered-of}
 
 differ : false ≡ true → ⊥

@@ -14,14 +14,19 @@ use Rattle.link_laws.specs.Together.{Together}
 use Rattle.link_laws.specs.Weights.{NextsWithin, most_added, weight}
 use Rattle.link_laws.specs.Given.{AreGiven, LeavesGiven}
 use Rattle.link_laws.specs.Rooms.{AreNamed, AreTracks, IsNumbered, KeepsTogether}
-use Rattle.link_laws.specs.Wholes.{KeepsNumbers, Numbered}
+use Rattle.link_laws.specs.Wholes.{Numbered}
 
--- Each call keeps the tracks of a room together, and leaves the named ones their numbers; one that is not refused for its
--- names names tracks of the room, in ascending order.
+-- Each call keeps the links of a room given away on the tracks that it names, which are tracks of the room, in ascending
+-- order, where it is not refused for its names.
+pub record CallsKeepGiven {C : Type 0} (count : ℕ) (m : Meaning TrackState C Done Refusal) : Type 0 where
+  pub keeps : (c : C) (all named : List TrackState) → numbers_of named ≡ m.names c → IsNumbered all → AreNamed all named → AreGiven all
+      → LeavesGiven all named (m.applied named c)
+  pub names : (c : C) → m.refuses c ≡ None → AscendBetween 0 count (m.names c)
+
+-- and all tracks of the room together
 pub record CallsKeepTogether {C : Type 0} (table : Table) (count : ℕ) (m : Meaning TrackState C Done Refusal) : Type 0 where
   pub keeps : (c : C) → KeepsTogether table (λ named. m.applied named c)
-  pub numbers : (c : C) (named : List TrackState) → KeepsNumbers (numbers_of named) (m.applied named c)
-  pub names : (c : C) → m.refuses c ≡ None → AscendBetween 0 count (m.names c)
+  pub given : CallsKeepGiven count m
 
 -- all tracks are good before each of these entries
 abbrev pub GoodBefore : {C : Type 0} → Table → (List TrackState → C → Applied) → Option (List TrackState) → List (Entry C) → Type 0
@@ -36,15 +41,9 @@ pub record AreAfter (all qs : List TrackState) (entries : ℕ) : Type 0 where
 -- so it is of each history
 abbrev pub HistoriesStayTogether : Type 0 → Type 0
 HistoriesStayTogether C = (table : Table) (m : Meaning TrackState C Done Refusal) (all qs : List TrackState) (entries : List (Entry C))
-    → CallsKeepTogether table (length all) m → Numbered 0 all → Together all → GoodBefore table (whole m) (Some all) entries
+    → CallsKeepTogether table (length all) m → Numbered 0 all → length all ≤ 32 → AreGiven all → Together all
+    → GoodBefore table (whole m) (Some all) entries
     → replay (whole m) all entries ≡ Some qs → AreAfter all qs (length entries)
-
--- Each call keeps the links of a room given away on the tracks that it names, which are tracks of the room, in ascending
--- order, where it is not refused for its names.
-pub record CallsKeepGiven {C : Type 0} (count : ℕ) (m : Meaning TrackState C Done Refusal) : Type 0 where
-  pub keeps : (c : C) (all named : List TrackState) → numbers_of named ≡ m.names c → IsNumbered all → AreNamed all named → AreGiven all
-      → LeavesGiven all named (m.applied named c)
-  pub names : (c : C) → m.refuses c ≡ None → AscendBetween 0 count (m.names c)
 
 -- tracks that so many entries come to have given their links away, with little more weight for each entry
 pub record AreGivenAfter (all qs : List TrackState) (entries : ℕ) : Type 0 where
