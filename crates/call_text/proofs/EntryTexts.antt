@@ -24,17 +24,17 @@ use Rattle.edit_apply.specs.declared.asks.Call.{Call}
 use Rattle.edit_apply.specs.declared.asks.Call.TheVariants as call
 use Rattle.room_core.specs.declared.entry.Entry.{Entry}
 use Rattle.call_text.specs.declared.lines.Line.TheVariants.{Edit}
-use Rattle.call_text.specs.declared.lines.LineFault.TheVariants.{B5}
-use Rattle.call_text.specs.CallTexts.{what_text, numbers_after, tracks_text, frames_text, length_text, call_text_of, IsSmallWhat, IsSmallLength, IsWritten}
+use Rattle.reply_text.specs.declared.line_fault.LineFault.TheVariants.{B5}
+use Rattle.reply_text.specs.Things.{what_text}
+use Rattle.call_text.specs.CallTexts.{numbers_after, tracks_text, frames_text, length_text, call_text_of, IsSmall, IsSmallWhat, IsSmallLength, IsWritten}
 use Rattle.call_text.specs.JournalFaults.{HasNoEntry}
 use Rattle.call_text.specs.Journals.{entry_text, entry_line, count_text, count_line, HasLine}
 use Rattle.call_text.specs.LooseEntries.{loose_entry}
 use Rattle.call_text.specs.Reading.{line_of_words}
 use Rattle.call_text.specs.Table.{end_word}
 use Rattle.call_text.proofs.ReadParts.{chosen, err_ok}
-use Rattle.call_text.proofs.TrackSets.{tracks_in_below}
 use Rattle.call_text.proofs.WrittenCalls.{written_call}
-use Rattle.call_text.proofs.WrittenParts.{are_digits, back_small, delta_small, IsWord-decimal}
+use Rattle.call_text.proofs.WrittenParts.{are_digits, back_small, delta_small, tracks_small, IsWord-decimal}
 
 -- no byte is a line feed
 abbrev pub is_plain : List ℕ → Bool
@@ -73,15 +73,15 @@ length_plain : (l : FillLength) → IsSmallLength l → is_plain (length_text l)
 length_plain (Source n) h = both_plain (codes "source ") (decimal n) refl (number_plain n h)
 length_plain Sequence h = refl
 
-numbers_plain : (lead ns : List ℕ) → is_plain lead ≡ true → All (λ n. n < 32) ns → is_plain (numbers_after lead ns) ≡ true
+numbers_plain : (lead ns : List ℕ) → is_plain lead ≡ true → All IsSmall ns → is_plain (numbers_after lead ns) ≡ true
 numbers_plain lead [] first h = refl
 numbers_plain lead (n ∷ ns) first h =
-    let here = All-head (λ n. n < 32) n ns h in
-    both_plain (lead ++ decimal n) (numbers_after (codes ",") ns) (both_plain lead (decimal n) first (number_plain n (omega (arith, here))))
-    (numbers_plain (codes ",") ns refl (All-tail (λ n. n < 32) n ns h))
+    let here = All-head IsSmall n ns h in
+    both_plain (lead ++ decimal n) (numbers_after (codes ",") ns) (both_plain lead (decimal n) first (number_plain n here))
+    (numbers_plain (codes ",") ns refl (All-tail IsSmall n ns h))
 
 tracks_plain : (set : ℕ) → is_plain (tracks_text set) ≡ true
-tracks_plain set = numbers_plain [] (tracks_in set) refl (tracks_in_below set)
+tracks_plain set = numbers_plain [] (tracks_in set) refl (tracks_small set)
 
 low : (t : ℕ) → t ≤ 31 → t < 2 ^ 32
 low t h = omega (arith, h)
@@ -145,6 +145,10 @@ call_plain (call.Ripple c) (tracks, track, item, by) =
     then_plain (codes "ripple " ++ tracks_text c.tracks ++ codes " " ++ decimal c.track ++ codes " " ++ decimal c.item) (end_word c.end) items (end_plain c.end) in
     then_plain (codes "ripple " ++ tracks_text c.tracks ++ codes " " ++ decimal c.track ++ codes " " ++ decimal c.item ++ codes " " ++ end_word c.end) (signed_decimal c.by) ends
     (delta_plain c.by by)
+call_plain (call.Link3 c) (tracks, items, even) =
+    then_plain (codes "link " ++ tracks_text c.tracks) (numbers_after [] c.items) (tracks_plain c.tracks) (numbers_plain [] c.items refl items)
+call_plain (call.Unlink c) (track, item) =
+    then_plain (codes "unlink " ++ decimal c.track) (decimal c.item) (number_plain c.track (low c.track track)) (number_plain c.item item)
 
 pub entry_plain : (e : Entry Call) → HasLine e → is_plain (entry_text e) ≡ true
 entry_plain e h =

@@ -1,23 +1,27 @@
 -- A line that is not read is none of the table for the fault that is told, and one that is none of the table is not read.
-use Rattle.std.proofs.Common.{◌≡◌, ◌≢◌, ℕ, ℤ, ◌+◌, ◌^◌, ◌⊎◌, List, [], ◌∷◌, Bool, true, false, Option, Some, None, Result, Ok, Err, ◌==◌, nat_le, length, if◌then◌else◌, inl, inr, refl, ap, sym, ◌∙◌, arith, codes}
+use Rattle.std.proofs.Common.{◌≡◌, ◌≢◌, ℕ, ℤ, ◌+◌, ◌^◌, ◌⊎◌, List, [], ◌∷◌, Bool, true, false, Option, Some, None, Result, Ok, Err, ◌==◌, nat_eq, nat_le, length, if◌then◌else◌, inl, inr, refl, ap, sym, ◌∙◌, arith, codes}
 use Rattle.std.specs.List.{slice_split}
 use Rattle.std.specs.Str.{bytes_eq}
-use Rattle.std.proofs.lemmas.Bool.{leb-true, le-leb, leb-false, lt-leb, eqb-true}
+use Rattle.std.proofs.lemmas.Bool.{leb-true, le-leb, leb-false, lt-leb, eqb-true, eqb-false, ne_eqb}
+use Rattle.std.proofs.lemmas.Slice.Eq.{bytes_eq-Decides}
 use Rattle.line_words.specs.Blanks.{words_of}
+use Rattle.composables.specs.TrackSets.{tracks_in}
+use Rattle.edit_apply.specs.declared.asks.Call.TheVariants as call
+use Rattle.call_text.specs.declared.lines.Line.TheVariants.{Edit}
 use Rattle.line_words.specs.Digits.{number_of, signed_of}
 use Rattle.line_words.specs.declared.numbers.NumberFault.{NumberFault}
 use Rattle.line_words.specs.declared.numbers.NumberFault.TheVariants.{NotANumber, TooLarge}
 use Rattle.composables.specs.declared.calls.End.{End}
 use Rattle.call_text.specs.declared.lines.Line.{Line}
-use Rattle.call_text.specs.declared.lines.LineFault.{LineFault}
-use Rattle.call_text.specs.declared.lines.LineFault.TheVariants.{B1, B2, B3, B4, B5, B6}
+use Rattle.reply_text.specs.declared.line_fault.LineFault.{LineFault}
+use Rattle.reply_text.specs.declared.line_fault.LineFault.TheVariants.{B1, B2, B3, B4, B5, B6}
 use Rattle.call_text.specs.declared.commands.Command.{Command}
 use Rattle.call_text.specs.declared.commands.Command.TheVariants as command
-use Rattle.call_text.specs.Spelling.{◌>>=◌, number_or_fault, numeral_of, delta_of, end_of, given_of, track_of, is_comma, set_with, tracks_of, number_or_label, place_of, what_of}
-use Rattle.call_text.specs.Reading.{command_of, overwrite_of, insert_of, fill_of, row_of, row_if, line_of_words, line_of}
+use Rattle.call_text.specs.Spelling.{◌>>=◌, number_or_fault, numeral_of, numerals_of, numbers_of, delta_of, end_of, given_of, track_of, is_comma, set_with, tracks_of, number_or_label, place_of, what_of}
+use Rattle.call_text.specs.Reading.{command_of, overwrite_of, insert_of, fill_of, link_of, row_of, row_if, line_of_words, line_of}
 use Rattle.call_text.specs.Table.{IsLine, end_word, word_of}
-use Rattle.call_text.specs.Faults.{Part, Tracks, Track, Place, Thing, Number, Ending, Delta, Given, rows_of, IsNoNumeral, IsTooLarge, IsNoDelta, IsDeltaTooLarge, IsBadTrack, AreBadTracks, HasDigits, IsBadPart, IsPart, FirstIsBad, AreNoRow, AreBad, IsBad}
-use Rattle.call_text.proofs.ReadParts.{chosen, ok_same, err_ok, numeral_spelled, numeral_read, delta_spelled, delta_read, end_spelled, end_read, given_spelled, given_read, track_spelled, track_read, tracks_spelled, tracks_read, place_spelled, place_read, thing_spelled, thing_read}
+use Rattle.call_text.specs.Faults.{Part, Tracks, Track, Place, Thing, Number, Numbers, Ending, Delta, Given, rows_of, IsNoNumeral, IsTooLarge, IsNoDelta, IsDeltaTooLarge, IsBadTrack, AreBadTracks, AreBadNumerals, AreUneven, HasDigits, IsBadPart, IsPart, FirstIsBad, AreNoRow, AreBad, IsBad}
+use Rattle.call_text.proofs.ReadParts.{chosen, ok_same, err_ok, numeral_spelled, numeral_read, numerals_spelled, numerals_read, delta_spelled, delta_read, end_spelled, end_read, given_spelled, given_read, track_spelled, track_read, tracks_spelled, tracks_read, place_spelled, place_read, thing_spelled, thing_read}
 use Rattle.call_text.proofs.TableLaws.{command_spelled, command_read, line_spelled, line_read}
 
 -- the fault of what was not read
@@ -71,6 +75,25 @@ numeral_bad word e h = numeral_bad_of word (number_of word) e refl h
 bad_numeral : (word : List ℕ) (e : LineFault) → (IsNoNumeral word × (e ≡ B3)) ⊎ (IsTooLarge word × (e ≡ B4)) → numeral_of word ≡ Err e
 bad_numeral word e (inl (not, is)) = rw (not, is) refl
 bad_numeral word e (inr (large, is)) = rw (large, is) refl
+
+-- a list of numbers
+numerals_bad : (words : List (List ℕ)) (e : LineFault) → numerals_of words ≡ Err e → AreBadNumerals words e
+numerals_bad [] e h = absurd cc
+numerals_bad (word ∷ words) e h = elim (bind_err (numeral_of word) _ e h) [
+  | inl wrong ↦ inl (numeral_bad word e wrong)
+  | inr first ↦ elim (bind_err (numerals_of words) _ e first.2) [
+    | inl later ↦ inr ((first.0, numeral_spelled word first.0 first.1), numerals_bad words e later)
+    | inr others ↦ absurd (err_ok e (first.0 ∷ others.0) (sym others.2))
+  ]
+]
+
+bad_numerals : (words : List (List ℕ)) (e : LineFault) → AreBadNumerals words e → numerals_of words ≡ Err e
+bad_numerals [] e h = absurd h
+bad_numerals (word ∷ words) e (inl wrong) = let read = bad_numeral word e wrong in rw read refl
+bad_numerals (word ∷ words) e (inr ((n, is), more)) =
+    let read = numeral_read word n is in
+    let later = bad_numerals words e more in
+    rw (read, later) refl
 
 -- a delta
 delta_bad_of : (word : List ℕ) (r : Result ℤ NumberFault) (e : LineFault) → signed_of word ≡ r → number_or_fault r ≡ Err e → (IsNoDelta word × (e ≡ B3)) ⊎ (IsDeltaTooLarge word × (e ≡ B4))
@@ -232,6 +255,7 @@ bad_thing place_at word e (inr ((digits, signed, large), is)) = thing_fault word
 -- the fault of a word as a part
 abbrev part_error : (List ℕ → Option ℕ) → Part → List ℕ → Option LineFault
 part_error place_at Number word = error_of (numeral_of word)
+part_error place_at Numbers word = error_of (numbers_of word)
 part_error place_at Track word = error_of (track_of word)
 part_error place_at Tracks word = error_of (tracks_of word)
 part_error place_at Place word = error_of (place_of place_at word)
@@ -242,6 +266,7 @@ part_error place_at (Given given) word = error_of (given_of given word)
 
 part_bad : (place_at : List ℕ → Option ℕ) (part : Part) (word : List ℕ) (e : LineFault) → part_error place_at part word ≡ Some e → IsBadPart place_at part word e
 part_bad place_at Number word e h = numeral_bad word e (error_told (numeral_of word) e h)
+part_bad place_at Numbers word e h = numerals_bad (slice_split is_comma word) e (error_told (numbers_of word) e h)
 part_bad place_at Track word e h = track_bad word e (error_told (track_of word) e h)
 part_bad place_at Tracks word e h = tracks_bad (slice_split is_comma word) 0 0 e (error_told (tracks_of word) e h)
 part_bad place_at Place word e h = place_bad_of place_at word (number_of word) (place_at word) e refl refl (error_told (place_of place_at word) e h)
@@ -252,6 +277,7 @@ part_bad place_at (Given given) word e h = given_bad given word e (error_told (g
 
 bad_part : (place_at : List ℕ → Option ℕ) (part : Part) (word : List ℕ) (e : LineFault) → IsBadPart place_at part word e → part_error place_at part word ≡ Some e
 bad_part place_at Number word e h = ap error_of (bad_numeral word e h)
+bad_part place_at Numbers word e h = ap error_of (bad_numerals (slice_split is_comma word) e h)
 bad_part place_at Track word e h = ap error_of (bad_track word e h)
 bad_part place_at Tracks word e h = ap error_of (bad_tracks (slice_split is_comma word) 0 0 e h)
 bad_part place_at Place word e h = ap error_of (bad_place place_at word e h)
@@ -262,6 +288,7 @@ bad_part place_at (Given given) word e h = ap error_of (bad_given given word e h
 
 part_right : (place_at : List ℕ → Option ℕ) (part : Part) (word : List ℕ) → part_error place_at part word ≡ None → IsPart place_at part word
 part_right place_at Number word h = let read = error_none (numeral_of word) h in (read.0, numeral_spelled word read.0 read.1)
+part_right place_at Numbers word h = let read = error_none (numbers_of word) h in (read.0, numerals_spelled (slice_split is_comma word) read.0 read.1)
 part_right place_at Track word h = let read = error_none (track_of word) h in (read.0, track_spelled word read.0 read.1)
 part_right place_at Tracks word h = let read = error_none (tracks_of word) h in (read.0, tracks_spelled word read.0 read.1)
 part_right place_at Place word h = let read = error_none (place_of place_at word) h in (read.0, place_spelled place_at word read.0 read.1)
@@ -272,6 +299,7 @@ part_right place_at (Given given) word h = let read = error_none (given_of given
 
 right_part : (place_at : List ℕ → Option ℕ) (part : Part) (word : List ℕ) → IsPart place_at part word → part_error place_at part word ≡ None
 right_part place_at Number word h = error_read (numeral_of word) h.0 (numeral_read word h.0 h.1)
+right_part place_at Numbers word h = error_read (numbers_of word) h.0 (numerals_read (slice_split is_comma word) h.0 h.1)
 right_part place_at Track word h = error_read (track_of word) h.0 (track_read word h.0 h.1)
 right_part place_at Tracks word h = error_read (tracks_of word) h.0 (tracks_read word h.0 h.1)
 right_part place_at Place word h = error_read (place_of place_at word) h.0 (place_read place_at word h.0 h.1)
@@ -383,80 +411,158 @@ fill_error place_at (a ∷ b ∷ c ∷ d ∷ e ∷ f ∷ []) =
     error_bind (track_of a) _ _ (λ track. error_bind (place_of place_at b) _ _ (λ at. error_bind (what_of c) _ _ (λ what. error_bind (numeral_of d) _ _ (λ from. error_bind (given_of (codes "source") e) _ _ (λ how. error_bind (numeral_of f) _ _ (λ len. refl))))))
 fill_error place_at (a ∷ b ∷ c ∷ d ∷ e ∷ f ∷ g ∷ words) = refl
 
-row_error : (place_at : List ℕ → Option ℕ) (k : Command) (words : List (List ℕ)) → error_of (row_of place_at k words) ≡ rows_error place_at (rows_of k) words
-row_error place_at command.Overwrite words = overwrite_error place_at words
-row_error place_at command.Insert words = insert_error place_at words
+-- `link` has not as many items as tracks
+abbrev uneven_of : Result ℕ LineFault → Result (List ℕ) LineFault → Option LineFault
+uneven_of (Ok set) (Ok items) = if nat_eq (length items) (length (tracks_in set)) then None else Some B2
+uneven_of (Ok set) (Err e) = None
+uneven_of (Err e) items = None
+
+abbrev uneven_words : List (List ℕ) → Option LineFault
+uneven_words (list ∷ numbers ∷ []) = uneven_of (tracks_of list) (numbers_of numbers)
+uneven_words words = None
+
+abbrev uneven_error : List ℕ → List (List ℕ) → Option LineFault
+uneven_error first words = if bytes_eq first (codes "link") then uneven_words words else None
+
+alone : (r : Result Line LineFault) (o : Option LineFault) → error_of r ≡ o → error_of r ≡ or_later o None
+alone r None h = h
+alone r (Some e) h = h
+
+even_error : (b : Bool) (line : Line) → error_of (if b then Ok line else Err B2) ≡ (if b then None else Some B2)
+even_error true line = refl
+even_error false line = refl
+
+link_parts : (r : Result ℕ LineFault) (s : Result (List ℕ) LineFault)
+    → error_of (r >>= (λ tracks. s >>= (λ items. if nat_eq (length items) (length (tracks_in tracks)) then Ok (Edit (call.Link3 (record { tracks = tracks; items = items }))) else Err B2)))
+    ≡ or_later (or_later (error_of r) (or_later (error_of s) None)) (uneven_of r s)
+link_parts (Ok set) (Ok items) = even_error (nat_eq (length items) (length (tracks_in set))) _
+link_parts (Ok set) (Err e) = refl
+link_parts (Err e) s = refl
+
+link_error : (place_at : List ℕ → Option ℕ) (words : List (List ℕ))
+    → error_of (link_of words) ≡ or_later (rows_error place_at (rows_of command.Link) words) (uneven_words words)
+link_error place_at [] = refl
+link_error place_at (a ∷ []) = refl
+link_error place_at (a ∷ b ∷ []) = link_parts (tracks_of a) (numbers_of b)
+link_error place_at (a ∷ b ∷ c ∷ words) = refl
+
+uneven_parts : (list numbers : List ℕ) (r : Result ℕ LineFault) (s : Result (List ℕ) LineFault) (e : LineFault) → tracks_of list ≡ r → numbers_of numbers ≡ s
+    → uneven_of r s ≡ Some e → AreUneven (list ∷ numbers ∷ []) e
+uneven_parts list numbers (Ok set) (Ok items) e is are h = elim (chosen (nat_eq (length items) (length (tracks_in set))) _ _ (Some e) h) [
+  | inl even ↦ absurd cc
+  | inr uneven ↦ (
+    set,
+    items,
+    tracks_spelled list set is,
+    numerals_spelled (slice_split is_comma numbers) items are,
+    eqb-false (length items) (length (tracks_in set)) uneven.0,
+    sym (some_same B2 e uneven.1),
+  )
+]
+uneven_parts list numbers (Ok set) (Err f) e is are h = absurd cc
+uneven_parts list numbers (Err f) s e is are h = absurd cc
+
+uneven_bad : (first : List ℕ) (words : List (List ℕ)) (e : LineFault) → uneven_error first words ≡ Some e → (first ≡ codes "link") × AreUneven words e
+uneven_bad first words e h = elim (chosen (bytes_eq first (codes "link")) _ _ (Some e) h) [
+  | inl link ↦ ((bytes_eq-Decides first (codes "link")).0 link.0, of_words words link.1)
+  | inr other ↦ absurd cc
+]
+  where
+    of_words : (words : List (List ℕ)) → uneven_words words ≡ Some e → AreUneven words e
+    of_words [] h = absurd cc
+    of_words (a ∷ []) h = absurd cc
+    of_words (a ∷ b ∷ []) h = uneven_parts a b (tracks_of a) (numbers_of b) e refl refl h
+    of_words (a ∷ b ∷ c ∷ words) h = absurd cc
+
+bad_uneven : (words : List (List ℕ)) (e : LineFault) → AreUneven words e → link_of words ≡ Err e
+bad_uneven [] e h = absurd h
+bad_uneven (a ∷ []) e h = absurd h
+bad_uneven (a ∷ b ∷ []) e (set, items, is_tracks, are_numbers, uneven, is) =
+    let tracks = tracks_read a set is_tracks in
+    let numbers = numerals_read (slice_split is_comma b) items are_numbers in
+    let count = ne_eqb (length items) (length (tracks_in set)) uneven in
+    rw (tracks, numbers, count, is) refl
+bad_uneven (a ∷ b ∷ c ∷ words) e h = absurd h
+
+row_error : (place_at : List ℕ → Option ℕ) (k : Command) (words : List (List ℕ)) → error_of (row_of place_at k words) ≡ or_later (rows_error place_at (rows_of k) words) (uneven_error (word_of k) words)
+row_error place_at command.Overwrite words = alone _ _ (overwrite_error place_at words)
+row_error place_at command.Insert words = alone _ _ (insert_error place_at words)
 row_error place_at command.Remove [] = refl
 row_error place_at command.Remove (a ∷ []) = refl
-row_error place_at command.Remove (a ∷ b ∷ []) = error_bind (track_of a) _ _ (λ track. error_bind (numeral_of b) _ _ (λ item. refl))
+row_error place_at command.Remove (a ∷ b ∷ []) = alone _ _ (error_bind (track_of a) _ _ (λ track. error_bind (numeral_of b) _ _ (λ item. refl)))
 row_error place_at command.Remove (a ∷ b ∷ c ∷ words) = refl
 row_error place_at command.Extract [] = refl
 row_error place_at command.Extract (a ∷ []) = refl
 row_error place_at command.Extract (a ∷ b ∷ []) = refl
-row_error place_at command.Extract (a ∷ b ∷ c ∷ []) = error_bind (tracks_of a) _ _ (λ tracks. error_bind (track_of b) _ _ (λ track. error_bind (numeral_of c) _ _ (λ item. refl)))
+row_error place_at command.Extract (a ∷ b ∷ c ∷ []) = alone _ _ (error_bind (tracks_of a) _ _ (λ tracks. error_bind (track_of b) _ _ (λ track. error_bind (numeral_of c) _ _ (λ item. refl))))
 row_error place_at command.Extract (a ∷ b ∷ c ∷ d ∷ words) = refl
 row_error place_at command.Slice [] = refl
 row_error place_at command.Slice (a ∷ []) = refl
-row_error place_at command.Slice (a ∷ b ∷ []) = error_bind (track_of a) _ _ (λ track. error_bind (place_of place_at b) _ _ (λ at. refl))
+row_error place_at command.Slice (a ∷ b ∷ []) = alone _ _ (error_bind (track_of a) _ _ (λ track. error_bind (place_of place_at b) _ _ (λ at. refl)))
 row_error place_at command.Slice (a ∷ b ∷ c ∷ words) = refl
 row_error place_at command.Dissolve [] = refl
 row_error place_at command.Dissolve (a ∷ []) = refl
 row_error place_at command.Dissolve (a ∷ b ∷ []) = refl
 row_error place_at command.Dissolve (a ∷ b ∷ c ∷ []) = refl
 row_error place_at command.Dissolve (a ∷ b ∷ c ∷ d ∷ []) =
-    error_bind (track_of a) _ _ (λ track. error_bind (place_of place_at b) _ _ (λ at. error_bind (numeral_of c) _ _ (λ before. error_bind (numeral_of d) _ _ (λ after. refl))))
+    alone _ _ (error_bind (track_of a) _ _ (λ track. error_bind (place_of place_at b) _ _ (λ at. error_bind (numeral_of c) _ _ (λ before. error_bind (numeral_of d) _ _ (λ after. refl)))))
 row_error place_at command.Dissolve (a ∷ b ∷ c ∷ d ∷ e ∷ words) = refl
 row_error place_at command.Undissolve [] = refl
 row_error place_at command.Undissolve (a ∷ []) = refl
-row_error place_at command.Undissolve (a ∷ b ∷ []) = error_bind (track_of a) _ _ (λ track. error_bind (place_of place_at b) _ _ (λ at. refl))
+row_error place_at command.Undissolve (a ∷ b ∷ []) = alone _ _ (error_bind (track_of a) _ _ (λ track. error_bind (place_of place_at b) _ _ (λ at. refl)))
 row_error place_at command.Undissolve (a ∷ b ∷ c ∷ words) = refl
 row_error place_at command.Trim [] = refl
 row_error place_at command.Trim (a ∷ []) = refl
 row_error place_at command.Trim (a ∷ b ∷ []) = refl
 row_error place_at command.Trim (a ∷ b ∷ c ∷ []) = refl
 row_error place_at command.Trim (a ∷ b ∷ c ∷ d ∷ []) =
-    error_bind (track_of a) _ _ (λ track. error_bind (numeral_of b) _ _ (λ item. error_bind (end_of c) _ _ (λ end. error_bind (delta_of d) _ _ (λ delta. refl))))
+    alone _ _ (error_bind (track_of a) _ _ (λ track. error_bind (numeral_of b) _ _ (λ item. error_bind (end_of c) _ _ (λ end. error_bind (delta_of d) _ _ (λ delta. refl)))))
 row_error place_at command.Trim (a ∷ b ∷ c ∷ d ∷ e ∷ words) = refl
 row_error place_at command.Slip [] = refl
 row_error place_at command.Slip (a ∷ []) = refl
 row_error place_at command.Slip (a ∷ b ∷ []) = refl
 row_error place_at command.Slip (a ∷ b ∷ c ∷ []) = refl
 row_error place_at command.Slip (a ∷ b ∷ c ∷ d ∷ []) =
-    error_bind (tracks_of a) _ _ (λ tracks. error_bind (track_of b) _ _ (λ track. error_bind (numeral_of c) _ _ (λ item. error_bind (delta_of d) _ _ (λ delta. refl))))
+    alone _ _ (error_bind (tracks_of a) _ _ (λ tracks. error_bind (track_of b) _ _ (λ track. error_bind (numeral_of c) _ _ (λ item. error_bind (delta_of d) _ _ (λ delta. refl)))))
 row_error place_at command.Slip (a ∷ b ∷ c ∷ d ∷ e ∷ words) = refl
 row_error place_at command.Roll [] = refl
 row_error place_at command.Roll (a ∷ []) = refl
 row_error place_at command.Roll (a ∷ b ∷ []) = refl
-row_error place_at command.Roll (a ∷ b ∷ c ∷ []) = error_bind (track_of a) _ _ (λ track. error_bind (place_of place_at b) _ _ (λ at. error_bind (delta_of c) _ _ (λ delta. refl)))
+row_error place_at command.Roll (a ∷ b ∷ c ∷ []) = alone _ _ (error_bind (track_of a) _ _ (λ track. error_bind (place_of place_at b) _ _ (λ at. error_bind (delta_of c) _ _ (λ delta. refl))))
 row_error place_at command.Roll (a ∷ b ∷ c ∷ d ∷ words) = refl
 row_error place_at command.Slide [] = refl
 row_error place_at command.Slide (a ∷ []) = refl
 row_error place_at command.Slide (a ∷ b ∷ []) = refl
 row_error place_at command.Slide (a ∷ b ∷ c ∷ []) = refl
 row_error place_at command.Slide (a ∷ b ∷ c ∷ d ∷ []) =
-    error_bind (tracks_of a) _ _ (λ tracks. error_bind (track_of b) _ _ (λ track. error_bind (numeral_of c) _ _ (λ item. error_bind (delta_of d) _ _ (λ delta. refl))))
+    alone _ _ (error_bind (tracks_of a) _ _ (λ tracks. error_bind (track_of b) _ _ (λ track. error_bind (numeral_of c) _ _ (λ item. error_bind (delta_of d) _ _ (λ delta. refl)))))
 row_error place_at command.Slide (a ∷ b ∷ c ∷ d ∷ e ∷ words) = refl
-row_error place_at command.Fill words = fill_error place_at words
+row_error place_at command.Fill words = alone _ _ (fill_error place_at words)
 row_error place_at command.Ripple [] = refl
 row_error place_at command.Ripple (a ∷ []) = refl
 row_error place_at command.Ripple (a ∷ b ∷ []) = refl
 row_error place_at command.Ripple (a ∷ b ∷ c ∷ []) = refl
 row_error place_at command.Ripple (a ∷ b ∷ c ∷ d ∷ []) = refl
 row_error place_at command.Ripple (a ∷ b ∷ c ∷ d ∷ e ∷ []) =
-    error_bind (tracks_of a) _ _ (λ tracks. error_bind (track_of b) _ _ (λ track. error_bind (numeral_of c) _ _ (λ item. error_bind (end_of d) _ _ (λ end. error_bind (delta_of e) _ _ (λ delta. refl)))))
+    alone _ _ (error_bind (tracks_of a) _ _ (λ tracks. error_bind (track_of b) _ _ (λ track. error_bind (numeral_of c) _ _ (λ item. error_bind (end_of d) _ _ (λ end. error_bind (delta_of e) _ _ (λ delta. refl))))))
 row_error place_at command.Ripple (a ∷ b ∷ c ∷ d ∷ e ∷ f ∷ words) = refl
+row_error place_at command.Link words = link_error place_at words
+row_error place_at command.Unlink [] = refl
+row_error place_at command.Unlink (a ∷ []) = refl
+row_error place_at command.Unlink (a ∷ b ∷ []) = alone _ _ (error_bind (track_of a) _ _ (λ track. error_bind (numeral_of b) _ _ (λ item. refl)))
+row_error place_at command.Unlink (a ∷ b ∷ c ∷ words) = refl
 row_error place_at command.View [] = refl
 row_error place_at command.View (a ∷ []) = refl
 row_error place_at command.View (a ∷ b ∷ []) = refl
-row_error place_at command.View (a ∷ b ∷ c ∷ []) = error_bind (track_of a) _ _ (λ track. error_bind (place_of place_at b) _ _ (λ from. error_bind (place_of place_at c) _ _ (λ to. refl)))
+row_error place_at command.View (a ∷ b ∷ c ∷ []) = alone _ _ (error_bind (track_of a) _ _ (λ track. error_bind (place_of place_at b) _ _ (λ from. error_bind (place_of place_at c) _ _ (λ to. refl))))
 row_error place_at command.View (a ∷ b ∷ c ∷ d ∷ words) = refl
 row_error place_at command.Items [] = refl
-row_error place_at command.Items (a ∷ []) = error_bind (track_of a) _ _ (λ track. refl)
+row_error place_at command.Items (a ∷ []) = alone _ _ (error_bind (track_of a) _ _ (λ track. refl))
 row_error place_at command.Items (a ∷ b ∷ words) = refl
 row_error place_at command.Point [] = refl
 row_error place_at command.Point (a ∷ words) = refl
 row_error place_at command.Otio [] = refl
-row_error place_at command.Otio (a ∷ []) = error_bind (numeral_of a) _ _ (λ point. refl)
+row_error place_at command.Otio (a ∷ []) = alone _ _ (error_bind (numeral_of a) _ _ (λ point. refl))
 row_error place_at command.Otio (a ∷ b ∷ words) = refl
 
 -- the whole line
@@ -472,7 +578,12 @@ named_none first (Some k) is none = absurd (none k (command_spelled first k is))
 
 if_bad : (place_at : List ℕ → Option ℕ) (first : List ℕ) (o : Option Command) (words : List (List ℕ)) (e : LineFault) → command_of first ≡ o → row_if place_at o words ≡ Err e → AreBad place_at (first ∷ words) e
 if_bad place_at first None words e is h = inl (none_named first is, sym (err_same B1 e h))
-if_bad place_at first (Some k) words e is h = inr (k, command_spelled first k is, rows_bad place_at (rows_of k) words e (sym (row_error place_at k words) ∙ ap error_of h))
+if_bad place_at first (Some k) words e is h =
+    let same = command_spelled first k is in
+    elim (or_told (rows_error place_at (rows_of k) words) (uneven_error (word_of k) words) e (sym (row_error place_at k words) ∙ ap error_of h)) [
+      | inl here ↦ inr (inl (k, same, rows_bad place_at (rows_of k) words e here))
+      | inr later ↦ let uneven = uneven_bad (word_of k) words e later.1 in inr (inr (same ∙ uneven.0, uneven.1))
+    ]
 
 words_bad : (place_at : List ℕ → Option ℕ) (words : List (List ℕ)) (e : LineFault) → line_of_words place_at words ≡ Err e → AreBad place_at words e
 words_bad place_at [] e h = sym (err_same B2 e h)
@@ -481,9 +592,14 @@ words_bad place_at (first ∷ words) e h = if_bad place_at first (command_of fir
 bad_words : (place_at : List ℕ → Option ℕ) (words : List (List ℕ)) (e : LineFault) → AreBad place_at words e → line_of_words place_at words ≡ Err e
 bad_words place_at [] e h = rw h refl
 bad_words place_at (first ∷ words) e (inl (none, is)) = let no = named_none first (command_of first) refl none in rw (no, is) refl
-bad_words place_at (first ∷ words) e (inr (k, same, more)) =
+bad_words place_at (first ∷ words) e (inr (inl (k, same, more))) =
     let named : command_of first ≡ Some k = ap command_of same ∙ command_read k in
-    let read = error_told (row_of place_at k words) e (row_error place_at k words ∙ bad_rows place_at (rows_of k) words e more) in
+    let here : or_later (rows_error place_at (rows_of k) words) (uneven_error (word_of k) words) ≡ Some e = rw (bad_rows place_at (rows_of k) words e more) refl in
+    let read = error_told (row_of place_at k words) e (row_error place_at k words ∙ here) in
+    rw (named, read) refl
+bad_words place_at (first ∷ words) e (inr (inr (same, uneven))) =
+    let named : command_of first ≡ Some command.Link = ap command_of same in
+    let read = bad_uneven words e uneven in
     rw (named, read) refl
 
 pub line_bad : (place_at : List ℕ → Option ℕ) (bytes : List ℕ) (e : LineFault) → line_of place_at bytes ≡ Err e → IsBad place_at bytes e

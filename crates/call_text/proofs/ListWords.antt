@@ -1,5 +1,5 @@
 -- The words of a list, between its commas.
-use Rattle.std.proofs.Common.{◌≡◌, ℕ, suc, ◌+◌, ◌*◌, ◌%◌, ◌^◌, ◌<◌, ◌≤◌, Bool, true, false, List, [], ◌∷◌, Some, None, Result, Ok, length, get_or, take, drop, nat_lt, if◌then◌else◌, refl, sym, ap, ◌∙◌, arith}
+use Rattle.std.proofs.Common.{◌≡◌, ℕ, suc, ◌+◌, ◌*◌, ◌%◌, ◌^◌, ◌<◌, ◌≤◌, Bool, true, false, List, [], ◌∷◌, ◌++◌, Some, None, Result, Ok, Err, length, get_or, take, drop, nat_lt, if◌then◌else◌, refl, sym, ap, ◌∙◌, append_assoc, arith}
 use Rattle.std.specs.List.{slice_split, position, All}
 use Rattle.std.proofs.Math.Nat.{mod-eq_of_lt, pow-suc}
 use Rattle.std.proofs.Math.Pow.{pow-lt, pow_mono}
@@ -9,8 +9,8 @@ use Rattle.std.proofs.lemmas.List.Quantifiers.{position-Some}
 use Rattle.std.proofs.lemmas.List.Sums.{fails_before_first}
 use Rattle.std.proofs.lemmas.List.Splits.{slice_split_first, slice_split_none}
 use Rattle.std.specs.List.{position_or_len}
-use Rattle.call_text.specs.declared.lines.LineFault.{LineFault}
-use Rattle.call_text.specs.Spelling.{track_of, is_comma, set_with}
+use Rattle.reply_text.specs.declared.line_fault.LineFault.{LineFault}
+use Rattle.call_text.specs.Spelling.{◌>>=◌, numeral_of, numerals_of, track_of, is_comma, set_with}
 
 place_told : (b : Bool) (n i : ℕ) → (if b then Some n else None) ≡ Some i → (b ≡ true) × (n ≡ i)
 place_told true n i h = (refl, cc)
@@ -69,3 +69,30 @@ set_within set least track small above =
     let next : track + 1 ≡ suc track = omega arith in
     let double : 2 ^ (track + 1) ≡ 2 ^ track * 2 = ap (λ k. 2 ^ k) next ∙ pow-suc 2 track in
     omega (arith, small, more, double)
+
+-- numbers that stand before others
+abbrev pub behind : List ℕ → Result (List ℕ) LineFault → Result (List ℕ) LineFault
+behind ns (Ok more) = Ok (ns ++ more)
+behind ns (Err fault) = Err fault
+
+behind_more : (ns : List ℕ) (n : ℕ) (r : Result (List ℕ) LineFault) → behind ns (r >>= (λ others. Ok (n ∷ others))) ≡ behind (ns ++ n ∷ []) r
+behind_more ns n (Ok more) = ap Ok (sym (append_assoc ns (n ∷ []) more))
+behind_more ns n (Err fault) = refl
+
+-- one number more: what is left to read
+pub next_numeral : (ns : List ℕ) (n : ℕ) (listed word : List ℕ) (rest : List (List ℕ)) (all : Result (List ℕ) LineFault) → slice_split is_comma listed ≡ word ∷ rest → Ok n ≡ numeral_of word
+    → behind ns (numerals_of (slice_split is_comma listed)) ≡ all → behind (ns ++ n ∷ []) (numerals_of rest) ≡ all
+next_numeral ns n listed word rest all words read h =
+    let step = ap (λ ws. behind ns (numerals_of ws)) words in
+    let is_number = sym read in
+    let went : behind ns (numerals_of (word ∷ rest)) ≡ behind (ns ++ n ∷ []) (numerals_of rest) = rw is_number (behind_more ns n (numerals_of rest)) in
+    sym went ∙ sym step ∙ h
+
+-- a word that is no number
+pub no_numeral : (ns : List ℕ) (listed word : List ℕ) (rest : List (List ℕ)) (fault : LineFault) (all : Result (List ℕ) LineFault) → slice_split is_comma listed ≡ word ∷ rest → Err fault ≡ numeral_of word
+    → behind ns (numerals_of (slice_split is_comma listed)) ≡ all → Err fault ≡ all
+no_numeral ns listed word rest fault all words read h =
+    let step = ap (λ ws. behind ns (numerals_of ws)) words in
+    let is_fault = sym read in
+    let went : behind ns (numerals_of (word ∷ rest)) ≡ Err fault = rw is_fault refl in
+    sym went ∙ sym step ∙ h

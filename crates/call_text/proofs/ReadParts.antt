@@ -12,10 +12,10 @@ use Rattle.composables.specs.declared.calls.End.{End}
 use Rattle.composables.specs.declared.calls.End.TheVariants.{Head, Tail}
 use Rattle.frame_meaning.specs.declared.cells.What.{What}
 use Rattle.frame_meaning.specs.declared.cells.What.TheVariants.{Media, Nest}
-use Rattle.call_text.specs.declared.lines.LineFault.{LineFault}
-use Rattle.call_text.specs.declared.lines.LineFault.TheVariants.{B1, B3, B4, B6}
-use Rattle.call_text.specs.Spelling.{◌>>=◌, number_or_fault, numeral_of, delta_of, end_of, given_of, track_of, is_comma, set_with, tracks_of, place_or_fault, number_or_label, place_of, what_of}
-use Rattle.call_text.specs.Table.{IsDelta, IsNumeral, IsTrack, IsTracks, IsPlace, IsThing, end_word}
+use Rattle.reply_text.specs.declared.line_fault.LineFault.{LineFault}
+use Rattle.reply_text.specs.declared.line_fault.LineFault.TheVariants.{B1, B3, B4, B6}
+use Rattle.call_text.specs.Spelling.{◌>>=◌, number_or_fault, numeral_of, numerals_of, delta_of, end_of, given_of, track_of, is_comma, set_with, tracks_of, place_or_fault, number_or_label, place_of, what_of}
+use Rattle.call_text.specs.Table.{AreNumerals, IsDelta, IsNumeral, IsTrack, IsTracks, IsPlace, IsThing, end_word}
 use Rattle.call_text.proofs.TrackSets.{AreRising, rising, set_below, spells}
 
 -- what was read first, where all was read
@@ -134,6 +134,24 @@ pub tracks_some : (word : List ℕ) (set : ℕ) → tracks_of word ≡ Ok set �
 tracks_some word set h =
     let count = length-slice_split is_comma word in
     some_tracks (slice_split is_comma word) 0 set (omega (arith, count)) (tracks_rise word set h)
+
+-- a list of numbers
+pub numerals_spelled : (words : List (List ℕ)) (ns : List ℕ) → numerals_of words ≡ Ok ns → AreNumerals words ns
+numerals_spelled [] ns h = let same = ok_same [] ns h in rw (← same) tt
+numerals_spelled (word ∷ words) ns h =
+    let first = bind_ok (numeral_of word) _ ns h in
+    let others = bind_ok (numerals_of words) _ ns first.2 in
+    let same = ok_same (first.0 ∷ others.0) ns others.2 in
+    rw (← same) (numeral_spelled word first.0 first.1, numerals_spelled words others.0 others.1)
+
+pub numerals_read : (words : List (List ℕ)) (ns : List ℕ) → AreNumerals words ns → numerals_of words ≡ Ok ns
+numerals_read [] [] h = refl
+numerals_read [] (n ∷ ns) h = absurd h
+numerals_read (word ∷ words) [] h = absurd h
+numerals_read (word ∷ words) (n ∷ ns) h =
+    let first = numeral_read word n h.0 in
+    let others = numerals_read words ns h.1 in
+    rw (first, others) refl
 
 label_ok : (label : Option ℕ) (n : ℕ) → place_or_fault label ≡ Ok n → label ≡ Some n
 label_ok None n h = absurd cc

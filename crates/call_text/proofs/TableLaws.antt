@@ -1,9 +1,11 @@
 -- What is read of a line is spelled there, and what is spelled there is read.
-use Rattle.std.proofs.Common.{◌≡◌, ℕ, List, [], ◌∷◌, Option, Some, None, Ok, length, nat_le, inl, inr, refl, ap, if◌then◌else◌, codes}
-use Rattle.std.proofs.lemmas.Bool.{leb-true, le-leb}
+use Rattle.std.proofs.Common.{◌≡◌, ◌≤◌, ℕ, true, Result, ◌∙◌, List, [], ◌∷◌, Option, Some, None, Ok, length, nat_eq, nat_le, inl, inr, refl, ap, if◌then◌else◌, codes}
+use Rattle.std.proofs.lemmas.Bool.{eqb-true, eq-eqb, leb-true, le-leb}
 use Rattle.std.proofs.lemmas.Slice.Eq.{bytes_eq-Decides}
 use Rattle.std.specs.Str.{bytes_eq}
 use Rattle.line_words.specs.Blanks.{words_of}
+use Rattle.std.specs.List.{slice_split}
+use Rattle.composables.specs.TrackSets.{tracks_in}
 use Rattle.frame_meaning.specs.declared.cells.What.{What}
 use Rattle.composables.specs.declared.calls.FillLength.{FillLength}
 use Rattle.composables.specs.declared.calls.FillLength.TheVariants.{Source, Sequence}
@@ -11,13 +13,14 @@ use Rattle.edit_apply.specs.declared.asks.Call.TheVariants as call
 use Rattle.edit_apply.specs.declared.asks.Ask.TheVariants as ask
 use Rattle.call_text.specs.declared.lines.Line.{Line}
 use Rattle.call_text.specs.declared.lines.Line.TheVariants.{Edit, Ask, Point, Otio}
-use Rattle.call_text.specs.declared.lines.LineFault.TheVariants.{B1, B2, B5}
+use Rattle.reply_text.specs.declared.line_fault.LineFault.{LineFault}
+use Rattle.reply_text.specs.declared.line_fault.LineFault.TheVariants.{B1, B2, B5}
 use Rattle.call_text.specs.declared.commands.Command.{Command}
 use Rattle.call_text.specs.declared.commands.Command.TheVariants as command
-use Rattle.call_text.specs.Spelling.{numeral_of, delta_of, end_of, given_of, track_of, tracks_of, place_of, what_of}
-use Rattle.call_text.specs.Reading.{overwrite_of, insert_of, remove_of, extract_of, slice_of, dissolve_of, undissolve_of, trim_of, slip_of, roll_of, slide_of, fill_of, ripple_of, view_of, items_of, point_of, otio_of, command_of, row_of, row_if, line_of_words, line_of}
+use Rattle.call_text.specs.Spelling.{IsOrMemory, is_comma, numeral_of, numbers_of, delta_of, end_of, given_of, track_of, tracks_of, place_of, what_of}
+use Rattle.call_text.specs.Reading.{AreRead, IsRead, IsRowRead, overwrite_of, insert_of, remove_of, extract_of, slice_of, dissolve_of, undissolve_of, trim_of, slip_of, roll_of, slide_of, fill_of, ripple_of, link_of, unlink_of, view_of, items_of, point_of, otio_of, are_linking, command_of, row_of, row_if, line_of_words, line_of}
 use Rattle.call_text.specs.Table.{AreLength, AreWords, IsLine, word_of}
-use Rattle.call_text.proofs.ReadParts.{bind_ok, chosen, ok_same, err_ok, numeral_spelled, numeral_read, delta_spelled, delta_read, end_spelled, end_read, given_spelled, track_spelled, track_read, tracks_spelled, tracks_read, place_spelled, place_read, thing_spelled, thing_read}
+use Rattle.call_text.proofs.ReadParts.{bind_ok, chosen, ok_same, err_ok, numeral_spelled, numeral_read, numerals_spelled, numerals_read, delta_spelled, delta_read, end_spelled, end_read, given_spelled, track_spelled, track_read, tracks_spelled, tracks_read, place_spelled, place_read, thing_spelled, thing_read}
 
 some_same : {A : Type 0} (x y : A) → Some x ≡ Some y → x ≡ y
 some_same x y h = cc
@@ -43,10 +46,12 @@ command_spelled word k h = named word command.Overwrite k _
     (named word command.Slide k _
     (named word command.Fill k _
     (named word command.Ripple k _
+    (named word command.Link k _
+    (named word command.Unlink k _
     (named word command.View k _
     (named word command.Items k _
     (named word command.Point k _
-    (named word command.Otio k None (λ none. absurd cc))))))))))))))))) h
+    (named word command.Otio k None (λ none. absurd cc))))))))))))))))))) h
 
 pub command_read : (k : Command) → command_of (word_of k) ≡ Some k
 command_read command.Overwrite = refl
@@ -62,10 +67,19 @@ command_read command.Roll = refl
 command_read command.Slide = refl
 command_read command.Fill = refl
 command_read command.Ripple = refl
+command_read command.Link = refl
+command_read command.Unlink = refl
 command_read command.View = refl
 command_read command.Items = refl
 command_read command.Point = refl
 command_read command.Otio = refl
+
+-- the first word of a line of this command
+pub linking : (first : List ℕ) (words : List (List ℕ)) (k : Command) → command_of first ≡ Some k → k ≡ command.Link → are_linking (first ∷ words) ≡ true
+linking first words k named link =
+    let same = command_spelled first k named in
+    let word = ap word_of link in
+    (bytes_eq-Decides first (codes "link")).1 (same ∙ word)
 
 overwrite_spelled : (place_at : List ℕ → Option ℕ) (words : List (List ℕ)) (line : Line) → overwrite_of place_at words ≡ Ok line → AreWords place_at (word_of command.Overwrite ∷ words) line
 overwrite_spelled place_at [] line h = absurd (err_ok B2 line h)
@@ -350,6 +364,31 @@ ripple_spelled place_at (a ∷ b ∷ c ∷ d ∷ e ∷ []) line h =
     )
 ripple_spelled place_at (a ∷ b ∷ c ∷ d ∷ e ∷ f ∷ words) line h = absurd (err_ok B2 line h)
 
+link_spelled : (place_at : List ℕ → Option ℕ) (words : List (List ℕ)) (line : Line) → link_of words ≡ Ok line → AreWords place_at (word_of command.Link ∷ words) line
+link_spelled place_at [] line h = absurd (err_ok B2 line h)
+link_spelled place_at (a ∷ []) line h = absurd (err_ok B2 line h)
+link_spelled place_at (a ∷ b ∷ []) line h =
+    let tracks = bind_ok (tracks_of a) _ line h in
+    let items = bind_ok (numbers_of b) _ line tracks.2 in
+    elim (chosen (nat_eq (length items.0) (length (tracks_in tracks.0))) _ _ (Ok line) items.2) [
+      | inl even ↦
+          let same = ok_same (Edit (call.Link3 (record { tracks = tracks.0; items = items.0 }))) line even.1 in
+          let count = eqb-true (length items.0) (length (tracks_in tracks.0)) even.0 in
+          rw (← same) (a, b, refl, tracks_spelled a tracks.0 tracks.1, (numerals_spelled (slice_split is_comma b) items.0 items.1, count))
+      | inr uneven ↦ absurd (err_ok B2 line uneven.1)
+    ]
+link_spelled place_at (a ∷ b ∷ c ∷ words) line h = absurd (err_ok B2 line h)
+
+unlink_spelled : (place_at : List ℕ → Option ℕ) (words : List (List ℕ)) (line : Line) → unlink_of words ≡ Ok line → AreWords place_at (word_of command.Unlink ∷ words) line
+unlink_spelled place_at [] line h = absurd (err_ok B2 line h)
+unlink_spelled place_at (a ∷ []) line h = absurd (err_ok B2 line h)
+unlink_spelled place_at (a ∷ b ∷ []) line h =
+    let track = bind_ok (track_of a) _ line h in
+    let item = bind_ok (numeral_of b) _ line track.2 in
+    let same = ok_same (Edit (call.Unlink (record { track = track.0; item = item.0 }))) line item.2 in
+    rw (← same) (a, b, refl, track_spelled a track.0 track.1, numeral_spelled b item.0 item.1)
+unlink_spelled place_at (a ∷ b ∷ c ∷ words) line h = absurd (err_ok B2 line h)
+
 view_spelled : (place_at : List ℕ → Option ℕ) (words : List (List ℕ)) (line : Line) → view_of place_at words ≡ Ok line → AreWords place_at (word_of command.View ∷ words) line
 view_spelled place_at [] line h = absurd (err_ok B2 line h)
 view_spelled place_at (a ∷ []) line h = absurd (err_ok B2 line h)
@@ -396,6 +435,8 @@ row_spelled place_at command.Roll words line h = roll_spelled place_at words lin
 row_spelled place_at command.Slide words line h = slide_spelled place_at words line h
 row_spelled place_at command.Fill words line h = fill_spelled place_at words line h
 row_spelled place_at command.Ripple words line h = ripple_spelled place_at words line h
+row_spelled place_at command.Link words line h = link_spelled place_at words line h
+row_spelled place_at command.Unlink words line h = unlink_spelled place_at words line h
 row_spelled place_at command.View words line h = view_spelled place_at words line h
 row_spelled place_at command.Items words line h = items_spelled place_at words line h
 row_spelled place_at command.Point words line h = point_spelled place_at words line h
@@ -499,6 +540,15 @@ words_read place_at words (Edit (call.Ripple c)) h =
     let end = end_read c.end in
     let delta = delta_read h.3 c.by h.8 in
     rw (h.4, tracks, track, item, end, delta) refl
+words_read place_at words (Edit (call.Link3 c)) (list, items, same, is_tracks, is_numbers, even) =
+    let tracks = tracks_read list c.tracks is_tracks in
+    let numbers = numerals_read (slice_split is_comma items) c.items is_numbers in
+    let count = eq-eqb (length c.items) (length (tracks_in c.tracks)) even in
+    rw (same, tracks, numbers, count) refl
+words_read place_at words (Edit (call.Unlink c)) h =
+    let track = track_read h.0 c.track h.3 in
+    let item = numeral_read h.1 c.item h.4 in
+    rw (h.2, track, item) refl
 words_read place_at words (Ask (ask.View t p q)) h =
     let track = track_read h.0 t h.4 in
     let a = place_read place_at h.1 p h.5 in
@@ -510,3 +560,20 @@ words_read place_at words (Otio n) h = let point = numeral_read h.0 n h.2 in rw 
 
 pub line_read : (place_at : List ℕ → Option ℕ) (bytes : List ℕ) (line : Line) → IsLine place_at bytes line → line_of place_at bytes ≡ Ok line
 line_read place_at bytes line h = let short = le-leb (length bytes) 1024 h.short in rw short (words_read place_at (words_of bytes) line h.words)
+
+-- a line is read as its row is, and as its words are
+pub row_read : (place_at : List ℕ → Option ℕ) (first : List ℕ) (words : List (List ℕ)) (k : Command) (r : Result Line LineFault) → command_of first ≡ Some k → IsRowRead place_at k words r → AreRead place_at (first ∷ words) r
+row_read place_at first words k r named (inl is) = inl (rw named is)
+row_read place_at first words k r named (inr (link, none)) = let word = linking first words k named link in inr (rw word tt, none)
+
+pub short_read : (place_at : List ℕ → Option ℕ) (bytes : List ℕ) (r : Result Line LineFault) → length bytes ≤ 1024 → AreRead place_at (words_of bytes) r → IsRead place_at bytes r
+short_read place_at bytes r short (inl is) = let within = le-leb (length bytes) 1024 short in inl (rw within is)
+short_read place_at bytes r short (inr linking) = inr linking
+
+-- a row other than `link` is read as it says
+pub exact_row : (place_at : List ℕ → Option ℕ) (k : Command) (words : List (List ℕ)) (r : Result Line LineFault) → r ≡ row_of place_at k words → IsRowRead place_at k words r
+exact_row place_at k words r is = inl is
+
+pub link_row : (place_at : List ℕ → Option ℕ) (k : Command) (words : List (List ℕ)) (r : Result Line LineFault) → k ≡ command.Link → IsOrMemory (link_of words) r → IsRowRead place_at k words r
+link_row place_at k words r link (inl is) = inl (rw link is)
+link_row place_at k words r link (inr none) = inr (link, none)

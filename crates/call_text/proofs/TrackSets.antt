@@ -68,6 +68,31 @@ went_without out lead all s t low not so_far = ap (λ text. out ++ text) (sym (t
 pub ended : (out lead all : List ℕ) (s t : ℕ) → t ≡ 32 → out ++ numbers_after lead (tracks_after s t) ≡ all → out ≡ all
 ended out lead all s t last so_far = sym (append-nil out) ∙ ap (λ ts. out ++ numbers_after lead ts) (sym (after_last s t last)) ∙ so_far
 
+-- tracks counted, while a set is gone over
+with_length : (b : Bool) (t : ℕ) (ts : List ℕ) → b ≡ true → length (if b then t ∷ ts else ts) ≡ 1 + length ts
+with_length true t ts e = refl
+with_length false t ts e = absurd cc
+
+without_length : (b : Bool) (t : ℕ) (ts : List ℕ) → b ≡ false → length (if b then t ∷ ts else ts) ≡ length ts
+without_length true t ts e = absurd cc
+without_length false t ts e = refl
+
+pub none_counted : (s count : ℕ) → count ≡ 0 → count + length (tracks_after s 0) ≡ length (tracks_in s)
+none_counted s count none = let same = ap length (tracks_first s) in omega (arith, none, same)
+
+pub counted_with : (s t count all : ℕ) → t < 32 → has_track s t ≡ true → count + length (tracks_after s t) ≡ all → count + 1 + length (tracks_after s (t + 1)) ≡ all
+counted_with s t count all low has so_far =
+    let next = ap length (after_next s t low) ∙ with_length (has_track s t) t (tracks_after s (t + 1)) has in
+    omega (arith, so_far, next)
+
+pub counted_without : (s t count all : ℕ) → t < 32 → has_track s t ≡ false → count + length (tracks_after s t) ≡ all → count + length (tracks_after s (t + 1)) ≡ all
+counted_without s t count all low not so_far =
+    let next = ap length (after_next s t low) ∙ without_length (has_track s t) t (tracks_after s (t + 1)) not in
+    omega (arith, so_far, next)
+
+pub all_counted : (s t count all : ℕ) → t ≡ 32 → count + length (tracks_after s t) ≡ all → count ≡ all
+all_counted s t count all last so_far = let none = ap length (after_last s t last) in omega (arith, so_far, none)
+
 -- a set is the sum of the bits of its tracks
 abbrev pub bits : ℕ → ℕ → ℕ → ℕ
 bits s t zero = 0

@@ -9,11 +9,13 @@ use Rattle.composables.specs.declared.calls.FillLength.TheVariants.{Source, Sequ
 use Rattle.edit_apply.specs.declared.asks.Call.{Call}
 use Rattle.edit_apply.specs.declared.asks.Call.TheVariants as call
 use Rattle.call_text.specs.declared.lines.Line.TheVariants.{Edit}
-use Rattle.call_text.specs.CallTexts.{what_text, tracks_text, length_text, call_text_of, IsSmallLength, IsWritten}
+use Rattle.reply_text.specs.Things.{what_text}
+use Rattle.call_text.specs.CallTexts.{numbers_after, tracks_text, length_text, call_text_of, IsSmallLength, IsWritten}
 use Rattle.call_text.specs.Reading.{line_of}
 use Rattle.call_text.specs.Table.{AreCall, AreLength, end_word}
 use Rattle.call_text.proofs.TableLaws.{line_read}
-use Rattle.call_text.proofs.WrittenParts.{IsWord-end, IsWord-signed, length-end, length-signed, length-decimal, IsWord-tested, IsWord-decimal, IsWord-what_text, length-what_text, IsThing-what_text, IsTracks-tracks_text, IsWord-tracks_text, length-tracks_text}
+use Rattle.call_text.proofs.TrackSets.{tracks_in_count}
+use Rattle.call_text.proofs.WrittenParts.{IsNumbers-numbers_after, IsWord-numbers_after, length-numbers_after, some_tracks_in, IsWord-end, IsWord-signed, length-end, length-signed, length-decimal, IsWord-tested, IsWord-decimal, IsWord-what_text, length-what_text, IsThing-what_text, IsTracks-tracks_text, IsWord-tracks_text, length-tracks_text}
 
 -- words with one space between
 abbrev spaced : List ℕ → List (List ℕ) → List ℕ
@@ -401,3 +403,39 @@ written_call place_at (call.Ripple c) ((some, tracks), track, item, by) =
 
     length-all : (s t i e d : List ℕ) → length (codes "ripple " ++ s ++ codes " " ++ t ++ codes " " ++ i ++ codes " " ++ e ++ codes " " ++ d) ≡ length s + length t + length i + length e + length d + 11
     length-all s t i e d = simp length-append (omega arith)
+written_call place_at (call.Link3 c) ((some, tracks), items, even) =
+    is_read place_at (call.Link3 c) (codes "link") (tracks_text c.tracks ∷ numbers_after [] c.items ∷ [])
+    (regrouped (tracks_text c.tracks) (numbers_after [] c.items))
+    (IsWord-tested (codes "link") refl)
+    (IsWord-tracks_text c.tracks some tracks, (IsWord-numbers_after c.items filled items, tt))
+    (omega (
+      arith,
+      length-all (tracks_text c.tracks) (numbers_after [] c.items),
+      length-tracks_text c.tracks some tracks,
+      length-numbers_after c.items items,
+      tracks_in_count c.tracks,
+      even,
+    ))
+    (tracks_text c.tracks, numbers_after [] c.items, refl, IsTracks-tracks_text c.tracks some tracks, (IsNumbers-numbers_after c.items filled items, even))
+  where
+    filled : 0 < length c.items
+    filled = let there = some_tracks_in c.tracks some tracks in omega (arith, there, even)
+
+    regrouped : (s i : List ℕ) → codes "link " ++ s ++ codes " " ++ i ≡ spaced (codes "link") (s ∷ i ∷ [])
+    regrouped s i = simp append_assoc refl
+
+    length-all : (s i : List ℕ) → length (codes "link " ++ s ++ codes " " ++ i) ≡ length s + length i + 6
+    length-all s i = simp length-append (omega arith)
+written_call place_at (call.Unlink c) (track, item) =
+    is_read place_at (call.Unlink c) (codes "unlink") (decimal c.track ∷ decimal c.item ∷ [])
+    (regrouped (decimal c.track) (decimal c.item))
+    (IsWord-tested (codes "unlink") refl)
+    (IsWord-decimal c.track (low c.track track), (IsWord-decimal c.item item, tt))
+    (omega (arith, length-all (decimal c.track) (decimal c.item), length-decimal c.track (low c.track track), length-decimal c.item item))
+    (decimal c.track, decimal c.item, refl, (number_of-decimal c.track (low c.track track), track), number_of-decimal c.item item)
+  where
+    regrouped : (t i : List ℕ) → codes "unlink " ++ t ++ codes " " ++ i ≡ spaced (codes "unlink") (t ∷ i ∷ [])
+    regrouped t i = simp append_assoc refl
+
+    length-all : (t i : List ℕ) → length (codes "unlink " ++ t ++ codes " " ++ i) ≡ length t + length i + 8
+    length-all t i = simp length-append (omega arith)

@@ -18,9 +18,10 @@ use Rattle.line_words.specs.declared.numbers.NumberFault.TheVariants.{NotANumber
 use Rattle.line_words.proofs.DigitLaws.{number_of-decimal}
 use Rattle.frame_meaning.specs.declared.cells.What.{What}
 use Rattle.frame_meaning.specs.declared.cells.What.TheVariants.{Media, Nest}
-use Rattle.call_text.specs.CallTexts.{what_text, numbers_after, tracks_text, IsSmallWhat}
+use Rattle.reply_text.specs.Things.{what_text}
+use Rattle.call_text.specs.CallTexts.{numbers_after, tracks_text, IsSmall, IsSmallWhat}
 use Rattle.call_text.specs.Spelling.{is_comma}
-use Rattle.call_text.specs.Table.{IsThing, AreNumerals, IsTracks, end_word}
+use Rattle.call_text.specs.Table.{IsThing, AreNumerals, IsNumbers, IsTracks, end_word}
 use Rattle.composables.specs.declared.calls.End.{End}
 use Rattle.composables.specs.declared.calls.End.TheVariants.{Head, Tail}
 use Rattle.composables.specs.TrackSets.{tracks_in}
@@ -71,65 +72,74 @@ IsWord-decimal n h = record {
 }
 
 -- numbers, parted by commas
-no_blank_in : (lead ns : List ℕ) → All (λ byte. is_blank byte ≡ false) lead → All (λ n. n < 32) ns → All (λ byte. is_blank byte ≡ false) (numbers_after lead ns)
+no_blank_in : (lead ns : List ℕ) → All (λ byte. is_blank byte ≡ false) lead → All IsSmall ns → All (λ byte. is_blank byte ≡ false) (numbers_after lead ns)
 no_blank_in lead [] first h = All-nil (λ byte. is_blank byte ≡ false)
 no_blank_in lead (n ∷ ns) first h =
-    let here = All-head (λ n. n < 32) n ns h in
-    All-append (λ byte. is_blank byte ≡ false) (lead ++ decimal n) (numbers_after (codes ",") ns) (All-append (λ byte. is_blank byte ≡ false) lead (decimal n) first (IsWord-decimal n (omega (arith, here))).no_blank)
-    (no_blank_in (codes ",") ns (none_blank (codes ",") refl) (All-tail (λ n. n < 32) n ns h))
+    let here = All-head IsSmall n ns h in
+    All-append (λ byte. is_blank byte ≡ false) (lead ++ decimal n) (numbers_after (codes ",") ns) (All-append (λ byte. is_blank byte ≡ false) lead (decimal n) first (IsWord-decimal n here).no_blank)
+    (no_blank_in (codes ",") ns (none_blank (codes ",") refl) (All-tail IsSmall n ns h))
 
-length_of : (lead ns : List ℕ) → length lead ≤ 1 → All (λ n. n < 32) ns → length (numbers_after lead ns) ≤ 11 * length ns
+length_of : (lead ns : List ℕ) → length lead ≤ 1 → All IsSmall ns → length (numbers_after lead ns) ≤ 11 * length ns
 length_of lead [] first h = omega arith
 length_of lead (n ∷ ns) first h =
-    let here = All-head (λ n. n < 32) n ns h in
-    let digits = length-decimal n (omega (arith, here)) in
-    let more = length_of (codes ",") ns (omega arith) (All-tail (λ n. n < 32) n ns h) in
+    let here = All-head IsSmall n ns h in
+    let digits = length-decimal n here in
+    let more = length_of (codes ",") ns (omega arith) (All-tail IsSmall n ns h) in
     let whole = length-append (lead ++ decimal n) (numbers_after (codes ",") ns) in
     let front = length-append lead (decimal n) in
     omega (arith, first, digits, more, whole, front)
 
-split_numbers : (n : ℕ) (ns : List ℕ) → n < 32 → All (λ n. n < 32) ns → slice_split is_comma (numbers_after [] (n ∷ ns)) ≡ map decimal (n ∷ ns)
-split_numbers n [] here h = ap (slice_split is_comma) (append-nil (decimal n)) ∙ slice_split_none is_comma (decimal n) (digits_fail is_comma no_comma (decimal n) (are_digits n (omega (arith, here))))
+split_numbers : (n : ℕ) (ns : List ℕ) → IsSmall n → All IsSmall ns → slice_split is_comma (numbers_after [] (n ∷ ns)) ≡ map decimal (n ∷ ns)
+split_numbers n [] here h = ap (slice_split is_comma) (append-nil (decimal n)) ∙ slice_split_none is_comma (decimal n) (digits_fail is_comma no_comma (decimal n) (are_digits n here))
 split_numbers n (m ∷ ns) here h =
-    slice_split_at is_comma (decimal n) 44 (numbers_after [] (m ∷ ns)) (digits_fail is_comma no_comma (decimal n) (are_digits n (omega (arith, here)))) refl
-    ∙ ap (λ words. decimal n ∷ words) (split_numbers m ns (All-head (λ n. n < 32) m ns h) (All-tail (λ n. n < 32) m ns h))
+    slice_split_at is_comma (decimal n) 44 (numbers_after [] (m ∷ ns)) (digits_fail is_comma no_comma (decimal n) (are_digits n here)) refl
+    ∙ ap (λ words. decimal n ∷ words) (split_numbers m ns (All-head IsSmall m ns h) (All-tail IsSmall m ns h))
 
-numerals_written : (ns : List ℕ) → All (λ n. n < 32) ns → AreNumerals (map decimal ns) ns
+numerals_written : (ns : List ℕ) → All IsSmall ns → AreNumerals (map decimal ns) ns
 numerals_written [] h = tt
 numerals_written (n ∷ ns) h =
-    let here = All-head (λ n. n < 32) n ns h in
-    (number_of-decimal n (omega (arith, here)), numerals_written ns (All-tail (λ n. n < 32) n ns h))
+    let here = All-head IsSmall n ns h in
+    (number_of-decimal n here, numerals_written ns (All-tail IsSmall n ns h))
+
+pub IsNumbers-numbers_after : (ns : List ℕ) → 0 < length ns → All IsSmall ns → IsNumbers (numbers_after [] ns) ns
+IsNumbers-numbers_after [] some h = absurd (omega (arith, some))
+IsNumbers-numbers_after (n ∷ ns) some h =
+    let split = split_numbers n ns (All-head IsSmall n ns h) (All-tail IsSmall n ns h) in
+    subst (λ ws. AreNumerals ws (n ∷ ns)) (sym split) (numerals_written (n ∷ ns) h)
+
+pub IsWord-numbers_after : (ns : List ℕ) → 0 < length ns → All IsSmall ns → IsWord (numbers_after [] ns)
+IsWord-numbers_after [] some h = absurd (omega (arith, some))
+IsWord-numbers_after (n ∷ ns) some h =
+    let number = IsWord-decimal n (All-head IsSmall n ns h) in
+    let whole = length-append (decimal n) (numbers_after (codes ",") ns) in
+    record {
+      filled = omega (arith, number.filled, whole);
+      no_blank = no_blank_in [] (n ∷ ns) (All-nil (λ byte. is_blank byte ≡ false)) h;
+    }
+
+pub length-numbers_after : (ns : List ℕ) → All IsSmall ns → length (numbers_after [] ns) ≤ 11 * length ns
+length-numbers_after ns h = length_of [] ns (omega arith) h
 
 -- a list of the tracks of a set
+pub tracks_small : (s : ℕ) → All IsSmall (tracks_in s)
+tracks_small s = λ k d within. let low = tracks_in_below s k d within in omega (arith, low)
+
 module _ (s : ℕ) (some : 0 < s) (small : s < 2 ^ 32) where
-  first_track : (n : ℕ) × (ns : List ℕ) × (tracks_in s ≡ n ∷ ns)
-  first_track = by (tracks_in s) refl
+  pub some_tracks_in : 0 < length (tracks_in s)
+  some_tracks_in = by (tracks_in s) refl
     where
-      by : (ts : List ℕ) → tracks_in s ≡ ts → (n : ℕ) × (ns : List ℕ) × (tracks_in s ≡ n ∷ ns)
+      by : (ts : List ℕ) → tracks_in s ≡ ts → 0 < length (tracks_in s)
       by [] e = let none : s ≡ 0 = rising s [] small (subst (AreNumerals []) (sym e) tt) in absurd (omega (arith, some, none))
-      by (n ∷ ns) e = (n, ns, e)
+      by (n ∷ ns) e = rw e (omega arith)
 
   pub IsTracks-tracks_text : IsTracks (tracks_text s) s
-  IsTracks-tracks_text =
-      let first = first_track in
-      let below = subst (All (λ n. n < 32)) first.2 (tracks_in_below s) in
-      let split = split_numbers first.0 first.1 (All-head (λ n. n < 32) first.0 first.1 below) (All-tail (λ n. n < 32) first.0 first.1 below) in
-      let words : slice_split is_comma (tracks_text s) ≡ map decimal (tracks_in s) = rw first.2 split in
-      (small, subst (λ ws. AreNumerals ws (tracks_in s)) (sym words) (numerals_written (tracks_in s) (tracks_in_below s)))
+  IsTracks-tracks_text = (small, IsNumbers-numbers_after (tracks_in s) some_tracks_in (tracks_small s))
 
   pub IsWord-tracks_text : IsWord (tracks_text s)
-  IsWord-tracks_text =
-      let first = first_track in
-      let below = subst (All (λ n. n < 32)) first.2 (tracks_in_below s) in
-      let number = IsWord-decimal first.0 (omega (arith, All-head (λ n. n < 32) first.0 first.1 below)) in
-      let whole = length-append (decimal first.0) (numbers_after (codes ",") first.1) in
-      record {
-        filled = rw first.2 (omega (arith, number.filled, whole));
-        no_blank = no_blank_in [] (tracks_in s) (All-nil (λ byte. is_blank byte ≡ false)) (tracks_in_below s);
-      }
+  IsWord-tracks_text = IsWord-numbers_after (tracks_in s) some_tracks_in (tracks_small s)
 
   pub length-tracks_text : length (tracks_text s) ≤ 352
-  length-tracks_text = let text = length_of [] (tracks_in s) (omega arith) (tracks_in_below s) in let few = tracks_in_count s in omega (arith, text, few)
+  length-tracks_text = let text = length-numbers_after (tracks_in s) (tracks_small s) in let few = tracks_in_count s in omega (arith, text, few)
 
 -- one byte more in front of a word
 IsWord-cons : (byte : ℕ) (word : List ℕ) → is_blank byte ≡ false → IsWord word → IsWord (byte ∷ word)

@@ -1,6 +1,6 @@
 -- The text of a call: its line with one space between words, lists of tracks ascending, places as
 -- numbers, and numbers without leading zeros.
-use Rattle.std.specs.Prelude.{ℕ, ◌<◌, ◌≤◌, ◌^◌, List, [], ◌∷◌, ◌++◌, codes, decimal, FitsSigned}
+use Rattle.std.specs.Prelude.{◌≡◌, ℕ, ◌<◌, ◌≤◌, ◌^◌, List, [], ◌∷◌, ◌++◌, All, codes, decimal, length, FitsSigned}
 use Rattle.std.specs.Fmt.{signed_decimal}
 use Rattle.std.specs.Int.{w32}
 use Rattle.frame_meaning.specs.declared.cells.What.{What}
@@ -13,12 +13,8 @@ use Rattle.edit_apply.specs.declared.asks.Call.TheVariants as call
 use Rattle.call_text.specs.declared.lines.Line.{Line}
 use Rattle.call_text.specs.declared.lines.Line.TheVariants.{Edit, Ask, Point, Otio}
 use Rattle.call_text.specs.declared.parts.TheConstants.{LAST_TRACK}
+use Rattle.reply_text.specs.Things.{what_text}
 use Rattle.call_text.specs.Table.{end_word}
-
--- `@` and the number of a media entry, or `#` and the number of a nest
-abbrev pub what_text : What → List ℕ
-what_text (Media m) = codes "@" ++ decimal m
-what_text (Nest n) = codes "#" ++ decimal n
 
 -- numbers, parted by commas; `lead` stands before the first
 abbrev pub numbers_after : List ℕ → List ℕ → List ℕ
@@ -77,6 +73,9 @@ call_text_of (call.Fill c) =
 call_text_of (call.Ripple c) =
     codes "ripple " ++ tracks_text c.tracks ++ codes " " ++ decimal c.track ++ codes " "
     ++ decimal c.item ++ codes " " ++ end_word c.end ++ codes " " ++ signed_decimal c.by
+call_text_of (call.Link3 c) =
+    codes "link " ++ tracks_text c.tracks ++ codes " " ++ numbers_after [] c.items
+call_text_of (call.Unlink c) = codes "unlink " ++ decimal c.track ++ codes " " ++ decimal c.item
 
 -- a number of 32 bits
 abbrev pub IsSmall : ℕ → Type 0
@@ -95,7 +94,7 @@ abbrev pub IsSomeTracks : ℕ → Type 0
 IsSomeTracks set = (0 < set) × IsSmall set
 
 -- a call whose text is a line, which is read again as the call: its numbers have 32 bits, it names at
--- least one track, and its tracks are among the 32 that a line can name
+-- least one track, its tracks are among the 32 that a line can name, and a link has an item for each
 abbrev pub IsWritten : Call → Type 0
 IsWritten (call.Overwrite c) =
     (c.track ≤ LAST_TRACK) × IsSmall c.at × IsSmallWhat c.what × IsSmall c.from × IsSmall c.len
@@ -118,6 +117,9 @@ IsWritten (call.Fill c) =
     × IsSmallWhat c.what × IsSmall c.from × IsSmallLength c.length
 IsWritten (call.Ripple c) =
     IsSomeTracks c.tracks × (c.track ≤ LAST_TRACK) × IsSmall c.item × FitsSigned w32 c.by
+IsWritten (call.Link3 c) =
+    IsSomeTracks c.tracks × All IsSmall c.items × (length c.items ≡ length (tracks_in c.tracks))
+IsWritten (call.Unlink c) = (c.track ≤ LAST_TRACK) × IsSmall c.item
 
 -- the line is no edit, or an edit that can be written and read again
 abbrev pub NamesWritten : Line → Type 0

@@ -1,7 +1,7 @@
 -- Why a line is none of the table. The first of these that holds: it is too long; it has no word; its
 -- first word is not in the table; no row of that word has so many words; and then, word by word from the
 -- left, a word is not spelled as its part of the row, or a number of it is past its bound, or its list
--- of tracks does not rise, or it must be another.
+-- of tracks does not rise, or it must be another; and at last `link` has not as many items as tracks.
 use Rattle.std.specs.Prelude.{◌≡◌, ◌≢◌, ℕ, ℤ, ◌+◌, ◌<◌, ◌≤◌, ◌⊎◌, List, [], ◌∷◌, ◌++◌, None, Err, length, codes}
 use Rattle.std.specs.List.{slice_split}
 use Rattle.line_words.specs.Blanks.{words_of}
@@ -9,22 +9,24 @@ use Rattle.line_words.specs.Digits.{number_of, signed_of}
 use Rattle.line_words.specs.declared.TheConstants.{MAX_LINE}
 use Rattle.line_words.specs.declared.numbers.NumberFault.TheVariants.{NotANumber, TooLarge}
 use Rattle.composables.specs.declared.calls.End.{End}
+use Rattle.composables.specs.TrackSets.{tracks_in}
 use Rattle.frame_meaning.specs.declared.cells.What.{What}
 use Rattle.call_text.specs.declared.parts.TheConstants.{LAST_TRACK}
-use Rattle.call_text.specs.declared.lines.LineFault.{LineFault}
-use Rattle.call_text.specs.declared.lines.LineFault.TheVariants.{B1, B2, B3, B4, B5, B6}
+use Rattle.reply_text.specs.declared.line_fault.LineFault.{LineFault}
+use Rattle.reply_text.specs.declared.line_fault.LineFault.TheVariants.{B1, B2, B3, B4, B5, B6}
 use Rattle.call_text.specs.declared.commands.Command.{Command}
 use Rattle.call_text.specs.declared.commands.Command.TheVariants as command
 use Rattle.call_text.specs.Spelling.{Naming, is_comma}
-use Rattle.call_text.specs.Table.{IsDelta, IsNumeral, IsTrack, IsTracks, IsPlace, IsThing, end_word, word_of}
+use Rattle.call_text.specs.Table.{IsDelta, IsNumbers, IsNumeral, IsTrack, IsTracks, IsPlace, IsThing, end_word, word_of}
 
--- what a word of a row is to be: TS, T, P, WHAT, a number (I, FROM, LEN, A, B), END, D, or this word
+-- what a word of a row is to be: TS, T, P, WHAT, a number (I, FROM, LEN, A, B), IS, END, D, or this word
 pub data Part : Type 0 where
   Tracks : Part
   Track : Part
   Place : Part
   Thing : Part
   Number : Part
+  Numbers : Part
   Ending : Part
   Delta : Part
   Given : List ℕ → Part
@@ -46,6 +48,8 @@ rows_of command.Fill =
     (Track ∷ Place ∷ Thing ∷ Number ∷ Given (codes "sequence") ∷ [])
     ∷ (Track ∷ Place ∷ Thing ∷ Number ∷ Given (codes "source") ∷ Number ∷ []) ∷ []
 rows_of command.Ripple = (Tracks ∷ Track ∷ Number ∷ Ending ∷ Delta ∷ []) ∷ []
+rows_of command.Link = (Tracks ∷ Numbers ∷ []) ∷ []
+rows_of command.Unlink = (Track ∷ Number ∷ []) ∷ []
 rows_of command.View = (Track ∷ Place ∷ Place ∷ []) ∷ []
 rows_of command.Items = (Track ∷ []) ∷ []
 rows_of command.Point = [] ∷ []
@@ -82,14 +86,23 @@ AreBadTracks least (word ∷ words) fault =
     ⊎ ((track : ℕ) × IsTrack word track
     × (((track < least) × (fault ≡ B6)) ⊎ ((least ≤ track) × AreBadTracks (track + 1) words fault)))
 
+abbrev pub IsBadNumeral : List ℕ → LineFault → Type 0
+IsBadNumeral word fault = (IsNoNumeral word × (fault ≡ B3)) ⊎ (IsTooLarge word × (fault ≡ B4))
+
+-- one of these is no number, or is past its bound, those before it being right
+abbrev pub AreBadNumerals : List (List ℕ) → LineFault → Type 0
+AreBadNumerals [] fault = ⊥
+AreBadNumerals (word ∷ words) fault =
+    IsBadNumeral word fault ⊎ (((n : ℕ) × IsNumeral word n) × AreBadNumerals words fault)
+
 -- the word is `@` or `#` and these digits
 abbrev pub HasDigits : List ℕ → List ℕ → Type 0
 HasDigits word digits = (word ≡ codes "@" ++ digits) ⊎ (word ≡ codes "#" ++ digits)
 
 -- the word is not spelled as this part, or a number of it is past its bound, or its list does not rise
 abbrev pub IsBadPart : Naming → Part → List ℕ → LineFault → Type 0
-IsBadPart place_at Number word fault =
-    (IsNoNumeral word × (fault ≡ B3)) ⊎ (IsTooLarge word × (fault ≡ B4))
+IsBadPart place_at Number word fault = IsBadNumeral word fault
+IsBadPart place_at Numbers word fault = AreBadNumerals (slice_split is_comma word) fault
 IsBadPart place_at Track word fault = IsBadTrack word fault
 IsBadPart place_at Tracks word fault = AreBadTracks 0 (slice_split is_comma word) fault
 IsBadPart place_at Place word fault =
@@ -105,6 +118,7 @@ IsBadPart place_at (Given given) word fault = (word ≢ given) × (fault ≡ B1)
 -- the word is spelled as this part, within its bounds
 abbrev pub IsPart : Naming → Part → List ℕ → Type 0
 IsPart place_at Number word = (n : ℕ) × IsNumeral word n
+IsPart place_at Numbers word = (ns : List ℕ) × IsNumbers word ns
 IsPart place_at Track word = (n : ℕ) × IsTrack word n
 IsPart place_at Tracks word = (set : ℕ) × IsTracks word set
 IsPart place_at Place word = (n : ℕ) × IsPlace place_at word n
@@ -128,11 +142,19 @@ AreNoRow place_at (row ∷ rows) words fault =
     ((length words ≡ length row) × FirstIsBad place_at row words fault)
     ⊎ ((length words ≢ length row) × AreNoRow place_at rows words fault)
 
+-- the words of `link` are right, but there are not as many items as tracks
+abbrev pub AreUneven : List (List ℕ) → LineFault → Type 0
+AreUneven (list ∷ numbers ∷ []) fault =
+    (set : ℕ) × (items : List ℕ) × IsTracks list set × IsNumbers numbers items
+    × (length items ≢ length (tracks_in set)) × (fault ≡ B2)
+AreUneven words fault = ⊥
+
 abbrev pub AreBad : Naming → List (List ℕ) → LineFault → Type 0
 AreBad place_at [] fault = fault ≡ B2
 AreBad place_at (first ∷ words) fault =
     (((k : Command) → first ≢ word_of k) × (fault ≡ B1))
     ⊎ ((k : Command) × (first ≡ word_of k) × AreNoRow place_at (rows_of k) words fault)
+    ⊎ ((first ≡ word_of command.Link) × AreUneven words fault)
 
 -- the bytes are no line of the table, and this is why
 abbrev pub IsBad : Naming → List ℕ → LineFault → Type 0

@@ -7,7 +7,5 @@ pub mod Labels
 pub mod LooseEntries
 pub mod Meanings
 pub mod Reading
-pub mod Replies
-pub mod Sights
 pub mod Spelling
 pub mod Table

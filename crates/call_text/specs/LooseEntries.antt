@@ -7,7 +7,7 @@ use Rattle.room_core.specs.declared.entry.Entry.{Entry}
 use Rattle.call_text.specs.declared.journal_reading.TheConstants.{LAST_STATION}
 use Rattle.call_text.specs.declared.lines.Line.{Line}
 use Rattle.call_text.specs.declared.lines.Line.TheVariants.{Edit, Ask, Point, Otio}
-use Rattle.call_text.specs.declared.lines.LineFault.{LineFault}
+use Rattle.reply_text.specs.declared.line_fault.LineFault.{LineFault}
 use Rattle.call_text.specs.Reading.{line_of_words}
 use Rattle.call_text.specs.Spelling.{Naming}
 

@@ -7,7 +7,7 @@ use Rattle.timecode12.specs.declared.label.Label.{Label}
 use Rattle.edit_apply.specs.declared.asks.Call.{Call}
 use Rattle.call_text.specs.declared.lines.Line.{Line}
 use Rattle.call_text.specs.declared.lines.Line.TheVariants.{Edit}
-use Rattle.call_text.specs.declared.lines.LineFault.{LineFault}
+use Rattle.reply_text.specs.declared.line_fault.LineFault.{LineFault}
 use Rattle.call_text.specs.CallTexts.{call_text_of, IsWritten}
 use Rattle.call_text.specs.Faults.{IsBad}
 use Rattle.call_text.specs.Labels.{place_by}

@@ -2,20 +2,21 @@
 -- more than 1,024 bytes; B2 no word; B1 a first word that is not in the table; B2 not as many words as
 -- the row has; then, word by word from the left, B3 a word that is not spelled so, B4 a number past its
 -- bound, B6 a list of tracks that does not rise, B1 a word that must be another.
-use Rattle.std.specs.Prelude.{ℕ, List, [], ◌∷◌, Option, Some, None, Result, Ok, Err, length, map, nat_le, codes, bytes_eq, if◌then◌else◌}
+use Rattle.std.specs.Prelude.{◌≡◌, ◌⊎◌, ℕ, Bool, false, IsTrue, List, [], ◌∷◌, Option, Some, None, Result, Ok, Err, length, map, nat_eq, nat_le, codes, bytes_eq, if◌then◌else◌}
 use Rattle.std.specs.Borrow.{Bor}
 use Rattle.line_words.specs.Blanks.{words_of}
 use Rattle.line_words.specs.declared.TheConstants.{MAX_LINE}
 use Rattle.composables.specs.declared.calls.FillLength.TheVariants.{Source, Sequence}
+use Rattle.composables.specs.TrackSets.{tracks_in}
 use Rattle.edit_apply.specs.declared.asks.Call.TheVariants as call
 use Rattle.edit_apply.specs.declared.asks.Ask.TheVariants as ask
 use Rattle.call_text.specs.declared.lines.Line.{Line}
 use Rattle.call_text.specs.declared.lines.Line.TheVariants.{Edit, Ask, Point, Otio}
-use Rattle.call_text.specs.declared.lines.LineFault.{LineFault}
-use Rattle.call_text.specs.declared.lines.LineFault.TheVariants.{B1, B2, B5}
+use Rattle.reply_text.specs.declared.line_fault.LineFault.{LineFault}
+use Rattle.reply_text.specs.declared.line_fault.LineFault.TheVariants.{B1, B2, B5, Memory}
 use Rattle.call_text.specs.declared.commands.Command.{Command}
 use Rattle.call_text.specs.declared.commands.Command.TheVariants as command
-use Rattle.call_text.specs.Spelling.{Naming, ◌>>=◌, numeral_of, delta_of, end_of, given_of, track_of, tracks_of, place_of, what_of}
+use Rattle.call_text.specs.Spelling.{Naming, ◌>>=◌, numeral_of, delta_of, end_of, given_of, numbers_of, track_of, tracks_of, place_of, what_of}
 
 -- the bytes of words
 abbrev pub texts_of : List (Bor (List ℕ)) → List (List ℕ)
@@ -187,6 +188,24 @@ ripple_of (tracks ∷ track ∷ item ∷ end ∷ by ∷ []) = do
   })))
 ripple_of words = Err B2
 
+-- link TS IS: as many numbers as tracks
+abbrev pub link_of : List (List ℕ) → Result Line LineFault
+link_of (list ∷ numbers ∷ []) = do
+  tracks ← tracks_of list
+  items ← numbers_of numbers
+  if nat_eq (length items) (length (tracks_in tracks))
+      then Ok (Edit (call.Link3 (record { tracks = tracks; items = items })))
+      else Err B2
+link_of words = Err B2
+
+-- unlink T I
+abbrev pub unlink_of : List (List ℕ) → Result Line LineFault
+unlink_of (track ∷ item ∷ []) = do
+  track ← track_of track
+  item ← numeral_of item
+  Ok (Edit (call.Unlink (record { track = track; item = item })))
+unlink_of words = Err B2
+
 -- view T P P
 abbrev pub view_of : Naming → List (List ℕ) → Result Line LineFault
 view_of place_at (track ∷ from ∷ to ∷ []) = do
@@ -231,6 +250,8 @@ command_of word =
     else if bytes_eq word (codes "slide") then Some command.Slide
     else if bytes_eq word (codes "fill") then Some command.Fill
     else if bytes_eq word (codes "ripple") then Some command.Ripple
+    else if bytes_eq word (codes "link") then Some command.Link
+    else if bytes_eq word (codes "unlink") then Some command.Unlink
     else if bytes_eq word (codes "view") then Some command.View
     else if bytes_eq word (codes "items") then Some command.Items
     else if bytes_eq word (codes "point") then Some command.Point
@@ -252,6 +273,8 @@ row_of place_at command.Roll words = roll_of place_at words
 row_of place_at command.Slide words = slide_of words
 row_of place_at command.Fill words = fill_of place_at words
 row_of place_at command.Ripple words = ripple_of words
+row_of place_at command.Link words = link_of words
+row_of place_at command.Unlink words = unlink_of words
 row_of place_at command.View words = view_of place_at words
 row_of place_at command.Items words = items_of words
 row_of place_at command.Point words = point_of words
@@ -269,3 +292,24 @@ line_of_words place_at (first ∷ words) = row_if place_at (command_of first) wo
 abbrev pub line_of : Naming → List ℕ → Result Line LineFault
 line_of place_at bytes =
     if nat_le (length bytes) MAX_LINE then line_of_words place_at (words_of bytes) else Err B5
+
+-- the first word is `link`
+abbrev pub are_linking : List (List ℕ) → Bool
+are_linking [] = false
+are_linking (first ∷ words) = bytes_eq first (codes "link")
+
+-- The words behind a command's, the words of a line, and a line are read as they say. Of a line whose first word is
+-- `link` there may be want of memory in place of that.
+abbrev pub IsRowRead : Naming → Command → List (List ℕ) → Result Line LineFault → Type 0
+IsRowRead place_at k words result =
+    (result ≡ row_of place_at k words) ⊎ ((k ≡ command.Link) × (result ≡ Err Memory))
+
+abbrev pub AreRead : Naming → List (List ℕ) → Result Line LineFault → Type 0
+AreRead place_at words result =
+    (result ≡ line_of_words place_at words)
+    ⊎ (IsTrue (are_linking words) × (result ≡ Err Memory))
+
+abbrev pub IsRead : Naming → List ℕ → Result Line LineFault → Type 0
+IsRead place_at bytes result =
+    (result ≡ line_of place_at bytes)
+    ⊎ (IsTrue (are_linking (words_of bytes)) × (result ≡ Err Memory))

@@ -2,7 +2,7 @@
 -- it is not spelled so, B4 where a number is past its bound, B6 where a list of tracks does not rise,
 -- B1 where a word that must be `head`, `tail`, `source` or `sequence` is another.
 -- This project's own protocol.
-use Rattle.std.specs.Prelude.{ℕ, ℤ, ◌+◌, ◌^◌, Bool, List, [], ◌∷◌, Option, Some, None, Result, Ok, Err, nat_le, ◌==◌, if◌then◌else◌, bytes_eq, codes}
+use Rattle.std.specs.Prelude.{◌≡◌, ◌⊎◌, ℕ, ℤ, ◌+◌, ◌^◌, Bool, List, [], ◌∷◌, Option, Some, None, Result, Ok, Err, nat_le, ◌==◌, if◌then◌else◌, bytes_eq, codes}
 use Rattle.std.specs.List.{slice_split}
 use Rattle.line_words.specs.Digits.{number_of, signed_of}
 use Rattle.line_words.specs.declared.numbers.NumberFault.{NumberFault}
@@ -12,8 +12,13 @@ use Rattle.composables.specs.declared.calls.End.TheVariants.{Head, Tail}
 use Rattle.frame_meaning.specs.declared.cells.What.{What}
 use Rattle.frame_meaning.specs.declared.cells.What.TheVariants.{Media, Nest}
 use Rattle.call_text.specs.declared.parts.TheConstants.{LAST_TRACK}
-use Rattle.call_text.specs.declared.lines.LineFault.{LineFault}
-use Rattle.call_text.specs.declared.lines.LineFault.TheVariants.{B1, B3, B4, B6}
+use Rattle.reply_text.specs.LineFaults.{number_fault}
+use Rattle.reply_text.specs.declared.line_fault.LineFault.{LineFault}
+use Rattle.reply_text.specs.declared.line_fault.LineFault.TheVariants.{B1, B3, B4, B6, Memory}
+
+-- this value, or want of memory
+abbrev pub IsOrMemory : {A : Type 0} → Result A LineFault → Result A LineFault → Type 0
+IsOrMemory value result = (result ≡ value) ⊎ (result ≡ Err Memory)
 
 -- which place a word names as a label, if it names one
 abbrev pub Naming : Type 0
@@ -25,10 +30,6 @@ abbrev pub ◌>>=◌ :
     {A B : Type 0} → Result A LineFault → (A → Result B LineFault) → Result B LineFault
 (Ok x) >>= f = f x
 (Err e) >>= f = Err e
-
-abbrev pub number_fault : NumberFault → LineFault
-number_fault NotANumber = B3
-number_fault TooLarge = B4
 
 abbrev pub number_or_fault : {A : Type 0} → Result A NumberFault → Result A LineFault
 number_or_fault (Ok n) = Ok n
@@ -79,6 +80,18 @@ set_with least set (word ∷ words) = do
 -- a set of tracks: tracks parted by commas, strictly ascending
 abbrev pub tracks_of : List ℕ → Result ℕ LineFault
 tracks_of word = set_with 0 0 (slice_split is_comma word)
+
+-- each word is a number
+abbrev pub numerals_of : List (List ℕ) → Result (List ℕ) LineFault
+numerals_of [] = Ok []
+numerals_of (word ∷ words) = do
+  first ← numeral_of word
+  others ← numerals_of words
+  Ok (first ∷ others)
+
+-- numbers parted by commas
+abbrev pub numbers_of : List ℕ → Result (List ℕ) LineFault
+numbers_of word = numerals_of (slice_split is_comma word)
 
 -- the place of a label, where it names one
 abbrev pub place_or_fault : Option ℕ → Result ℕ LineFault

@@ -49,6 +49,14 @@ AreNumerals (word ∷ words) (n ∷ ns) = IsNumeral word n × AreNumerals words 
 abbrev pub IsTracks : List ℕ → ℕ → Type 0
 IsTracks word set = (set < 2 ^ 32) × AreNumerals (slice_split is_comma word) (tracks_in set)
 
+-- the word is these numbers, parted by commas
+abbrev pub IsNumbers : List ℕ → List ℕ → Type 0
+IsNumbers word ns = AreNumerals (slice_split is_comma word) ns
+
+-- the word is these numbers, one for each track of the set
+abbrev pub AreItems : List ℕ → ℕ → List ℕ → Type 0
+AreItems word set items = IsNumbers word items × (length items ≡ length (tracks_in set))
+
 -- the number of the place, or a label that names it
 abbrev pub IsPlace : Naming → List ℕ → ℕ → Type 0
 IsPlace place_at word place =
@@ -78,6 +86,8 @@ word_of command.Roll = codes "roll"
 word_of command.Slide = codes "slide"
 word_of command.Fill = codes "fill"
 word_of command.Ripple = codes "ripple"
+word_of command.Link = codes "link"
+word_of command.Unlink = codes "unlink"
 word_of command.View = codes "view"
 word_of command.Items = codes "items"
 word_of command.Point = codes "point"
@@ -86,6 +96,7 @@ word_of command.Otio = codes "otio"
 -- overwrite T P WHAT FROM LEN · insert TS T P WHAT FROM LEN · remove T I · extract TS T I · slice T P
 -- · dissolve T P A B · undissolve T P · trim T I END D · slip TS T I D · roll T P D · slide TS T I D
 -- · fill T P WHAT FROM sequence · fill T P WHAT FROM source LEN · ripple TS T I END D
+-- · link TS IS · unlink T I
 abbrev pub AreCall : Naming → List (List ℕ) → Call → Type 0
 AreCall place_at words (call.Overwrite c) =
     (track at what from len : List ℕ)
@@ -136,6 +147,12 @@ AreCall place_at words (call.Ripple c) =
     (tracks track item by : List ℕ)
     × (words ≡ word_of command.Ripple ∷ tracks ∷ track ∷ item ∷ end_word c.end ∷ by ∷ [])
     × IsTracks tracks c.tracks × IsTrack track c.track × IsNumeral item c.item × IsDelta by c.by
+AreCall place_at words (call.Link3 c) =
+    (tracks items : List ℕ) × (words ≡ word_of command.Link ∷ tracks ∷ items ∷ [])
+    × IsTracks tracks c.tracks × AreItems items c.tracks c.items
+AreCall place_at words (call.Unlink c) =
+    (track item : List ℕ) × (words ≡ word_of command.Unlink ∷ track ∷ item ∷ [])
+    × IsTrack track c.track × IsNumeral item c.item
 
 -- a call · view T P P · items T · point · otio N
 abbrev pub AreWords : Naming → List (List ℕ) → Line → Type 0

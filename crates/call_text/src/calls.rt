@@ -1,11 +1,12 @@
 // Calls as text.
-ghost use Rattle.std.specs.Prelude.{◌≡◌, ◌++◌, IfOk, OnOk};
-ghost use Rattle.call_text.specs.CallTexts.{call_text_of, frames_text, numbers_text, tracks_text};
+ghost use Rattle.std.specs.Prelude.{◌≡◌, ◌++◌, [], IfOk, OnOk};
+ghost use Rattle.call_text.specs.CallTexts.{call_text_of, frames_text, numbers_after, numbers_text, tracks_text};
 
-use crate::bytes::{put, put_end, put_length, put_number, put_signed, put_what};
+use crate::part_texts::{put_end, put_length, put_signed};
 use composables::{Fill, Memory, Ripple, Slide, Slip, Trim, has_track};
 use edit_apply::Call;
 use frame_meaning::What;
+use reply_text::{put, put_number, put_what};
 use std::alloc::Global;
 
 /// The text of a call: its line, without its line feed.
@@ -55,6 +56,12 @@ pub(crate) fn put_call(out: &mut Vec<u8>, call: &Call) -> Result<(), Memory>
         Call::Slide(edit) => put_slide(out, edit),
         Call::Fill(edit) => put_fill(out, edit),
         Call::Ripple(edit) => put_ripple(out, edit),
+        Call::Link3(edit) => {
+            put_tracks(out, b"link ", edit.tracks)?;
+            put(out, b" ")?;
+            put_items(out, edit.items.as_slice())
+        }
+        Call::Unlink(edit) => put_numbers(out, b"unlink ", edit.track, edit.item),
     }
 }
 
@@ -135,6 +142,18 @@ fn put_tracks(out: &mut Vec<u8>, first: &[u8], tracks: u32) -> Result<(), Memory
             put_number(out, lead, track)?;
             lead = b",";
         }
+    }
+    Ok(())
+}
+
+// Numbers, parted by commas.
+fn put_items(out: &mut Vec<u8>, items: &[u32]) -> Result<(), Memory>
+    ensures { OnOk result (out.new.items ≡ out.old.items ++ numbers_after [] items.now) }
+{
+    let mut lead = b"".as_slice();
+    for item in items {
+        put_number(out, lead, *item)?;
+        lead = b",";
     }
     Ok(())
 }

@@ -18,6 +18,8 @@ pub enum Command {
     Slide,
     Fill,
     Ripple,
+    Link,
+    Unlink,
     View,
     Items,
     Point,
@@ -55,6 +57,10 @@ impl Command {
             Some(Command::Fill)
         } else if word == b"ripple".as_slice() {
             Some(Command::Ripple)
+        } else if word == b"link".as_slice() {
+            Some(Command::Link)
+        } else if word == b"unlink".as_slice() {
+            Some(Command::Unlink)
         } else if word == b"view".as_slice() {
             Some(Command::View)
         } else if word == b"items".as_slice() {

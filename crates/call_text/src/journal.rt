@@ -4,11 +4,11 @@ ghost use Rattle.std.specs.List.{flat_map};
 ghost use Rattle.call_text.specs.Journals.{entry_line, entry_text, journal_text_of};
 
 use crate::Entry;
-use crate::bytes::{put, put_number};
 use crate::calls::put_call;
 use composables::Memory;
 use edit_apply::Call;
 use itoa::Buffer;
+use reply_text::{put, put_number};
 use std::alloc::Global;
 
 /// The text of a journal: a line with the count of its entries, and a line for each entry, in order. Each line ends with

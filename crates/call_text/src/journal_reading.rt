@@ -1,5 +1,5 @@
 // A journal read from its text.
-ghost use Rattle.std.specs.Prelude.{◌≡◌, ◌≢◌, ℕ, ◌+◌, ◌<◌, ◌∷◌, ◌++◌, ◌≤◌, List, [], length, option_map, codes, decimal, IfErr, IfOk, IfSome, MatchOption, None, take, position};
+ghost use Rattle.std.specs.Prelude.{◌≡◌, ◌≢◌, ℕ, ◌+◌, ◌<◌, ◌∷◌, ◌++◌, ◌≤◌, List, [], length, option_map, codes, decimal, bytes_eq, IfErr, IfOk, IfSome, MatchOption, None, take, position};
 ghost use Rattle.std.specs.List.{All, flat_map};
 ghost use Rattle.line_words.specs.Blanks.{words_of};
 ghost use Rattle.line_words.specs.Lines.{is_lf};
@@ -14,7 +14,7 @@ ghost use Rattle.call_text.specs.Reading.{line_of_words};
 use crate::journal::put_entry_text;
 use crate::reading::table_line;
 use crate::words::first_word;
-use crate::{Entry, JournalCode, JournalFault, Line};
+use crate::{Entry, JournalCode, JournalFault, Line, LineFault};
 use composables::Memory;
 use edit_apply::Call;
 use itoa::Buffer;
@@ -134,7 +134,7 @@ fn entries_in(alloc: Global, text: &[u8]) -> Result<Vec<Entry<Call>>, JournalFau
     let mut scratch = Vec::new(alloc);
     let mut rest = text;
     while !rest.is_empty() {
-        match first_entry(&mut scratch, rest, &counting)? {
+        match first_entry(alloc, &mut scratch, rest, &counting)? {
             Some((entry, more)) => {
                 entries.push(entry)?;
                 rest = more;
@@ -147,6 +147,7 @@ fn entries_in(alloc: Global, text: &[u8]) -> Result<Vec<Entry<Call>>, JournalFau
 
 // The entry whose line stands at the front of a text, and the text behind that line. The scratch is overwritten.
 fn first_entry<'a>(
+    alloc: Global,
     scratch: &mut Vec<u8>,
     text: &'a [u8],
     counting: &Counting,
@@ -158,7 +159,7 @@ fn first_entry<'a>(
         Some(cut) => cut,
         None => return Ok(None),
     };
-    match told_entry(scratch, line, counting)? {
+    match told_entry(alloc, scratch, line, counting)? {
         Some(entry) => Ok(Some((entry, rest))),
         None => Ok(None),
     }
@@ -166,6 +167,7 @@ fn first_entry<'a>(
 
 // The entry whose text a line is: an entry is read however it is spelled, and its text is compared with the line.
 fn told_entry(
+    alloc: Global,
     scratch: &mut Vec<u8>,
     line: &[u8],
     counting: &Counting,
@@ -173,36 +175,53 @@ fn told_entry(
     ensures { IfOk result (λ found. MatchOption found (IsNoEntry line.now)
         (λ entry. HasLine entry × (line.now ≡ entry_text entry))) }
 {
-    match loose_entry(line, counting) {
+    match loose_entry(alloc, line, counting)? {
         Some(entry) => {
-            scratch.clear();
-            put_entry_text(scratch, &entry)?;
-            if scratch.as_slice() == line {
-                Ok(Some(entry))
-            } else {
-                Ok(None)
-            }
+            let told = is_text_of(scratch, line, &entry)?;
+            if told { Ok(Some(entry)) } else { Ok(None) }
         }
         None => Ok(None),
     }
 }
 
-// The entry of a line's words.
-fn loose_entry(line: &[u8], counting: &Counting) -> Option<Entry<Call>>
-    ensures read { result ≡ loose_entry (place_by counting.now 0) (words_of line.now) }
-    ensures line { IfSome result (λ entry. HasLine entry) }
+// Whether a line is the text of an entry. The scratch is overwritten.
+fn is_text_of(scratch: &mut Vec<u8>, line: &[u8], entry: &Entry<Call>) -> Result<bool, Memory>
+    ensures { IfOk result (λ same. same ≡ bytes_eq (entry_text entry.now) line.now) }
 {
-    let (station, rest) = first_number(line)?;
-    let (number, rest) = first_number(rest)?;
-    let call = edit_of(rest, counting)?;
+    scratch.clear();
+    put_entry_text(scratch, entry)?;
+    Ok(scratch.as_slice() == line)
+}
+
+// The entry of a line's words.
+fn loose_entry(
+    alloc: Global,
+    line: &[u8],
+    counting: &Counting,
+) -> Result<Option<Entry<Call>>, Memory>
+    ensures read { IfOk result (λ found. found ≡ loose_entry (place_by counting.now 0) (words_of line.now)) }
+    ensures line { IfOk result (λ found. IfSome found (λ entry. HasLine entry)) }
+{
+    let (station, rest) = match first_number(line) {
+        Some(found) => found,
+        None => return Ok(None),
+    };
+    let (number, rest) = match first_number(rest) {
+        Some(found) => found,
+        None => return Ok(None),
+    };
+    let call = match edit_of(alloc, rest, counting)? {
+        Some(call) => call,
+        None => return Ok(None),
+    };
     if station > LAST_STATION {
-        return None;
+        return Ok(None);
     }
-    Some(Entry {
+    Ok(Some(Entry {
         station,
         number,
         call,
-    })
+    }))
 }
 
 // The number that the first word of a line is, and the line behind it.
@@ -219,16 +238,17 @@ fn first_number(line: &[u8]) -> Option<(u32, &[u8])>
     }
 }
 
-fn edit_of(line: &[u8], counting: &Counting) -> Option<Call>
-    ensures read { result ≡ edit_in (line_of_words (place_by counting.now 0) (words_of line.now)) }
-    ensures written { IfSome result (λ call. IsWritten call) }
+fn edit_of(alloc: Global, line: &[u8], counting: &Counting) -> Result<Option<Call>, Memory>
+    ensures read { IfOk result (λ found. found ≡ edit_in (line_of_words (place_by counting.now 0) (words_of line.now))) }
+    ensures written { IfOk result (λ found. IfSome found (λ call. IsWritten call)) }
 {
-    match table_line(line, counting, 0) {
-        Ok(Line::Edit(call)) => Some(call),
-        Ok(Line::Ask(_)) => None,
-        Ok(Line::Point) => None,
-        Ok(Line::Otio(_)) => None,
-        Err(_) => None,
+    match table_line(alloc, line, counting, 0) {
+        Ok(Line::Edit(call)) => Ok(Some(call)),
+        Ok(Line::Ask(_)) => Ok(None),
+        Ok(Line::Point) => Ok(None),
+        Ok(Line::Otio(_)) => Ok(None),
+        Err(LineFault::Memory) => Err(Memory),
+        Err(_) => Ok(None),
     }
 }
 

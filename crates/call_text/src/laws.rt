@@ -3,7 +3,7 @@ ghost use Rattle.std.specs.Prelude.{◌≡◌};
 ghost use Rattle.room_core.specs.History.{most_entries};
 ghost use Rattle.call_text.specs.declared.parts.TheConstants.{LAST_TRACK};
 ghost use Rattle.call_text.specs.declared.journal_reading.TheConstants.{LAST_STATION, MAX_JOURNAL};
-ghost use Rattle.call_text.specs.declared.short_text.TheConstants.{MAX_SHORT, MAX_SHORT_LINE};
+ghost use Rattle.reply_text.specs.declared.short_text.TheConstants.{MAX_SHORT, MAX_SHORT_LINE};
 ghost use Rattle.call_text.specs.JournalMeanings.{IsOneJournal, HasOneJournalFault, HasNoFault};
 ghost use Rattle.call_text.specs.Meanings.{ReadAsSpelled, RefusedAsBad, HasMeaning, IsOneLine, HasOneFault, IsNotBoth, LabelsNamePlaces, WrittenIsRead};
 

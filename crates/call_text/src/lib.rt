@@ -5,7 +5,6 @@
 //! defined case by case, in `specs/`.
 #![tactic(auto)]
 
-mod bytes;
 mod calls;
 mod commands;
 mod journal;
@@ -14,11 +13,9 @@ mod journal_reading;
 mod labels;
 mod laws;
 mod lines;
+mod part_texts;
 mod parts;
 mod reading;
-mod replies;
-mod short_text;
-mod sights;
 mod words;
 
 pub use calls::call_text;
@@ -31,13 +28,13 @@ pub use laws::{
     journals_have_one_reading, labels_name_places, limits_are_these, lines_are_those_of_the_table,
     lines_have_one_meaning, written_calls_are_read,
 };
-pub use lines::{Line, LineFault};
+pub use lines::Line;
 pub use parts::LAST_TRACK;
 pub use reading::read_line;
-pub use replies::{answer_text, fault_text, point_text};
+pub use reply_text::{
+    LineFault, MAX_SHORT, MAX_SHORT_LINE, Short, answer_text, fault_text, point_text, sight_text,
+};
 pub use room_core::Entry;
-pub use short_text::{MAX_SHORT, MAX_SHORT_LINE, Short};
-pub use sights::sight_text;
 
 #[cfg(test)]
 mod tests;

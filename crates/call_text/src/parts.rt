@@ -2,14 +2,16 @@
 ghost use Rattle.std.specs.Prelude.{◌≡◌, ◌<◌, ◌≤◌, ◌∷◌, FitsSigned, IfOk, IfSome, length, option_map, position};
 ghost use Rattle.std.specs.Int.{w32};
 ghost use Rattle.std.specs.List.{slice_split};
+ghost use Rattle.composables.specs.TrackSets.{tracks_in};
 ghost use Rattle.call_text.specs.Labels.{place_by};
-ghost use Rattle.call_text.specs.Spelling.{numeral_of, delta_of, end_of, given_of, track_of, is_comma, listed_in, tracks_of, place_of, what_of};
+ghost use Rattle.call_text.specs.Spelling.{IsOrMemory, numeral_of, delta_of, end_of, given_of, numbers_of, track_of, is_comma, listed_in, tracks_of, place_of, what_of};
 
 use crate::LineFault;
 use crate::labels::label_place;
-use composables::End;
+use composables::{End, Numbers, has_track};
 use frame_meaning::What;
 use line_words::{NumberFault, number, signed};
+use std::alloc::Global;
 use timecode12::Counting;
 
 /// The greatest number of a track that a line can name.
@@ -83,6 +85,34 @@ pub(crate) fn tracks(list: &[u8]) -> Result<u32, LineFault>
         rest = more;
     }
     Ok(set)
+}
+
+// Numbers, parted by commas. It takes memory for them.
+pub(crate) fn numbers(alloc: Global, list: &[u8]) -> Result<Numbers, LineFault>
+    ensures read { IsOrMemory (numbers_of list.now) result }
+{
+    let mut numbers = Vec::new(alloc);
+    let mut rest = Some(list);
+    while let Some(listed) = rest {
+        let (word, more) = first_listed(listed);
+        let number = numeral(word)?;
+        numbers.push(number)?;
+        rest = more;
+    }
+    Ok(Numbers::from_vec(numbers))
+}
+
+// How many tracks a set has.
+pub(crate) fn track_count(tracks: u32) -> usize
+    ensures { result ≡ length (tracks_in tracks) }
+{
+    let mut count = 0;
+    for track in 0..32 {
+        if has_track(tracks, track) {
+            count += 1;
+        }
+    }
+    count
 }
 
 // What stands before the first comma of a list, and the list behind it, where there is a comma.

@@ -3,14 +3,15 @@ ghost use Rattle.std.specs.Prelude.{◌≡◌, IfOk};
 ghost use Rattle.line_words.specs.Blanks.{words_of};
 ghost use Rattle.call_text.specs.CallTexts.{NamesWritten};
 ghost use Rattle.call_text.specs.Labels.{place_by};
-ghost use Rattle.call_text.specs.Reading.{overwrite_of, insert_of, remove_of, extract_of, slice_of, dissolve_of, undissolve_of, trim_of, slip_of, roll_of, slide_of, fill_of, ripple_of, view_of, items_of, point_of, otio_of, row_of, line_of, line_of_words, texts_of};
+ghost use Rattle.call_text.specs.Reading.{AreRead, IsRead, IsRowRead, overwrite_of, insert_of, remove_of, extract_of, slice_of, dissolve_of, undissolve_of, trim_of, slip_of, roll_of, slide_of, fill_of, ripple_of, link_of, unlink_of, view_of, items_of, point_of, otio_of, texts_of};
+ghost use Rattle.call_text.specs.Spelling.{IsOrMemory};
 
-use crate::parts::{delta, end, given, numeral, place, track, tracks, what};
+use crate::parts::{delta, end, given, numbers, numeral, place, track, track_count, tracks, what};
 use crate::words::{first_word, line_words};
 use crate::{Command, Line, LineFault};
 use composables::{
-    Dissolve, Extract, Fill, FillLength, Insert, Overwrite, Remove, Ripple, Roll, Slice, Slide,
-    Slip, Trim, Undissolve,
+    Dissolve, Extract, Fill, FillLength, Insert, Link3, Overwrite, Remove, Ripple, Roll, Slice,
+    Slide, Slip, Trim, Undissolve, Unlink,
 };
 use edit_apply::{Ask, Call};
 use line_words::MAX_LINE;
@@ -20,37 +21,48 @@ use timecode12::Counting;
 /// The line that these bytes are, without its line feed, or the first fault of it. Labels name record frames by the
 /// counting, and `start` is the record frame of place 0.
 ///
-/// No line of today's table takes memory.
+/// Only a line whose first word is `link` takes memory, and may be answered `Memory`, also where it is none of the table.
 pub fn read_line(
-    _alloc: Global,
+    alloc: Global,
     line: &[u8],
     counting: &Counting,
     start: u32,
 ) -> Result<Line, LineFault>
-    ensures read { result ≡ line_of (place_by counting.now start) line.now }
+    ensures read { IsRead (place_by counting.now start) line.now result }
     ensures written { IfOk result (λ read. NamesWritten read) }
 {
     if line.len() > MAX_LINE {
         return Err(LineFault::B5);
     }
-    table_line(line, counting, start)
+    table_line(alloc, line, counting, start)
 }
 
 // The line that these bytes are, of any length.
-pub(crate) fn table_line(line: &[u8], counting: &Counting, start: u32) -> Result<Line, LineFault>
-    ensures read { result ≡ line_of_words (place_by counting.now start) (words_of line.now) }
+pub(crate) fn table_line(
+    alloc: Global,
+    line: &[u8],
+    counting: &Counting,
+    start: u32,
+) -> Result<Line, LineFault>
+    ensures read { AreRead (place_by counting.now start) (words_of line.now) result }
     ensures written { IfOk result (λ read. NamesWritten read) }
 {
     let (first, rest) = first_word(line)?;
     match Command::of_word(first) {
-        Some(command) => row(command, rest, counting, start),
+        Some(command) => row(alloc, command, rest, counting, start),
         None => Err(LineFault::B1),
     }
 }
 
 // The line whose words behind the first stand here.
-fn row(command: Command, rest: &[u8], counting: &Counting, start: u32) -> Result<Line, LineFault>
-    ensures read { result ≡ row_of (place_by counting.now start) command (words_of rest.now) }
+fn row(
+    alloc: Global,
+    command: Command,
+    rest: &[u8],
+    counting: &Counting,
+    start: u32,
+) -> Result<Line, LineFault>
+    ensures read { IsRowRead (place_by counting.now start) command (words_of rest.now) result }
     ensures written { IfOk result (λ read. NamesWritten read) }
 {
     let kept = match line_words(rest) {
@@ -72,6 +84,8 @@ fn row(command: Command, rest: &[u8], counting: &Counting, start: u32) -> Result
         Command::Slide => slide(words),
         Command::Fill => fill(words, counting, start),
         Command::Ripple => ripple(words),
+        Command::Link => link(alloc, words),
+        Command::Unlink => unlink(words),
         Command::View => view(words, counting, start),
         Command::Items => items(words),
         Command::Point => point(words),
@@ -85,20 +99,13 @@ fn overwrite(words: &[&[u8]], counting: &Counting, start: u32) -> Result<Line, L
     ensures written { IfOk result (λ read. NamesWritten read) }
 {
     match words {
-        [track_word, at, thing, from, len] => {
-            let track = track(track_word)?;
-            let at = place(at, counting, start)?;
-            let what = what(thing)?;
-            let from = numeral(from)?;
-            let len = numeral(len)?;
-            Ok(Line::Edit(Call::Overwrite(Overwrite {
-                track,
-                at,
-                what,
-                from,
-                len,
-            })))
-        }
+        [track_word, at, thing, from, len] => Ok(Line::Edit(Call::Overwrite(Overwrite {
+            track: track(track_word)?,
+            at: place(at, counting, start)?,
+            what: what(thing)?,
+            from: numeral(from)?,
+            len: numeral(len)?,
+        }))),
         _ => Err(LineFault::B2),
     }
 }
@@ -109,22 +116,14 @@ fn insert(words: &[&[u8]], counting: &Counting, start: u32) -> Result<Line, Line
     ensures written { IfOk result (λ read. NamesWritten read) }
 {
     match words {
-        [list, track_word, at, thing, from, len] => {
-            let tracks = tracks(list)?;
-            let track = track(track_word)?;
-            let at = place(at, counting, start)?;
-            let what = what(thing)?;
-            let from = numeral(from)?;
-            let len = numeral(len)?;
-            Ok(Line::Edit(Call::Insert(Insert {
-                tracks,
-                track,
-                at,
-                what,
-                from,
-                len,
-            })))
-        }
+        [list, track_word, at, thing, from, len] => Ok(Line::Edit(Call::Insert(Insert {
+            tracks: tracks(list)?,
+            track: track(track_word)?,
+            at: place(at, counting, start)?,
+            what: what(thing)?,
+            from: numeral(from)?,
+            len: numeral(len)?,
+        }))),
         _ => Err(LineFault::B2),
     }
 }
@@ -135,11 +134,10 @@ fn remove(words: &[&[u8]]) -> Result<Line, LineFault>
     ensures written { IfOk result (λ read. NamesWritten read) }
 {
     match words {
-        [track_word, item] => {
-            let track = track(track_word)?;
-            let item = numeral(item)?;
-            Ok(Line::Edit(Call::Remove(Remove { track, item })))
-        }
+        [track_word, item] => Ok(Line::Edit(Call::Remove(Remove {
+            track: track(track_word)?,
+            item: numeral(item)?,
+        }))),
         _ => Err(LineFault::B2),
     }
 }
@@ -150,16 +148,11 @@ fn extract(words: &[&[u8]]) -> Result<Line, LineFault>
     ensures written { IfOk result (λ read. NamesWritten read) }
 {
     match words {
-        [list, track_word, item] => {
-            let tracks = tracks(list)?;
-            let track = track(track_word)?;
-            let item = numeral(item)?;
-            Ok(Line::Edit(Call::Extract(Extract {
-                tracks,
-                track,
-                item,
-            })))
-        }
+        [list, track_word, item] => Ok(Line::Edit(Call::Extract(Extract {
+            tracks: tracks(list)?,
+            track: track(track_word)?,
+            item: numeral(item)?,
+        }))),
         _ => Err(LineFault::B2),
     }
 }
@@ -170,11 +163,10 @@ fn slice(words: &[&[u8]], counting: &Counting, start: u32) -> Result<Line, LineF
     ensures written { IfOk result (λ read. NamesWritten read) }
 {
     match words {
-        [track_word, at] => {
-            let track = track(track_word)?;
-            let at = place(at, counting, start)?;
-            Ok(Line::Edit(Call::Slice(Slice { track, at })))
-        }
+        [track_word, at] => Ok(Line::Edit(Call::Slice(Slice {
+            track: track(track_word)?,
+            at: place(at, counting, start)?,
+        }))),
         _ => Err(LineFault::B2),
     }
 }
@@ -185,13 +177,12 @@ fn dissolve(words: &[&[u8]], counting: &Counting, start: u32) -> Result<Line, Li
     ensures written { IfOk result (λ read. NamesWritten read) }
 {
     match words {
-        [track_word, at, before, after] => {
-            let track = track(track_word)?;
-            let at = place(at, counting, start)?;
-            let a = numeral(before)?;
-            let b = numeral(after)?;
-            Ok(Line::Edit(Call::Dissolve(Dissolve { track, at, a, b })))
-        }
+        [track_word, at, before, after] => Ok(Line::Edit(Call::Dissolve(Dissolve {
+            track: track(track_word)?,
+            at: place(at, counting, start)?,
+            a: numeral(before)?,
+            b: numeral(after)?,
+        }))),
         _ => Err(LineFault::B2),
     }
 }
@@ -202,11 +193,10 @@ fn undissolve(words: &[&[u8]], counting: &Counting, start: u32) -> Result<Line, 
     ensures written { IfOk result (λ read. NamesWritten read) }
 {
     match words {
-        [track_word, at] => {
-            let track = track(track_word)?;
-            let at = place(at, counting, start)?;
-            Ok(Line::Edit(Call::Undissolve(Undissolve { track, at })))
-        }
+        [track_word, at] => Ok(Line::Edit(Call::Undissolve(Undissolve {
+            track: track(track_word)?,
+            at: place(at, counting, start)?,
+        }))),
         _ => Err(LineFault::B2),
     }
 }
@@ -217,18 +207,12 @@ fn trim(words: &[&[u8]]) -> Result<Line, LineFault>
     ensures written { IfOk result (λ read. NamesWritten read) }
 {
     match words {
-        [track_word, item, last, by] => {
-            let track = track(track_word)?;
-            let item = numeral(item)?;
-            let end = end(last)?;
-            let by = delta(by)?;
-            Ok(Line::Edit(Call::Trim(Trim {
-                track,
-                item,
-                end,
-                by,
-            })))
-        }
+        [track_word, item, last, by] => Ok(Line::Edit(Call::Trim(Trim {
+            track: track(track_word)?,
+            item: numeral(item)?,
+            end: end(last)?,
+            by: delta(by)?,
+        }))),
         _ => Err(LineFault::B2),
     }
 }
@@ -239,18 +223,12 @@ fn slip(words: &[&[u8]]) -> Result<Line, LineFault>
     ensures written { IfOk result (λ read. NamesWritten read) }
 {
     match words {
-        [list, track_word, item, by] => {
-            let tracks = tracks(list)?;
-            let track = track(track_word)?;
-            let item = numeral(item)?;
-            let by = delta(by)?;
-            Ok(Line::Edit(Call::Slip(Slip {
-                tracks,
-                track,
-                item,
-                by,
-            })))
-        }
+        [list, track_word, item, by] => Ok(Line::Edit(Call::Slip(Slip {
+            tracks: tracks(list)?,
+            track: track(track_word)?,
+            item: numeral(item)?,
+            by: delta(by)?,
+        }))),
         _ => Err(LineFault::B2),
     }
 }
@@ -261,12 +239,11 @@ fn roll(words: &[&[u8]], counting: &Counting, start: u32) -> Result<Line, LineFa
     ensures written { IfOk result (λ read. NamesWritten read) }
 {
     match words {
-        [track_word, at, by] => {
-            let track = track(track_word)?;
-            let at = place(at, counting, start)?;
-            let by = delta(by)?;
-            Ok(Line::Edit(Call::Roll(Roll { track, at, by })))
-        }
+        [track_word, at, by] => Ok(Line::Edit(Call::Roll(Roll {
+            track: track(track_word)?,
+            at: place(at, counting, start)?,
+            by: delta(by)?,
+        }))),
         _ => Err(LineFault::B2),
     }
 }
@@ -277,18 +254,12 @@ fn slide(words: &[&[u8]]) -> Result<Line, LineFault>
     ensures written { IfOk result (λ read. NamesWritten read) }
 {
     match words {
-        [list, track_word, item, by] => {
-            let tracks = tracks(list)?;
-            let track = track(track_word)?;
-            let item = numeral(item)?;
-            let by = delta(by)?;
-            Ok(Line::Edit(Call::Slide(Slide {
-                tracks,
-                track,
-                item,
-                by,
-            })))
-        }
+        [list, track_word, item, by] => Ok(Line::Edit(Call::Slide(Slide {
+            tracks: tracks(list)?,
+            track: track(track_word)?,
+            item: numeral(item)?,
+            by: delta(by)?,
+        }))),
         _ => Err(LineFault::B2),
     }
 }
@@ -339,20 +310,45 @@ fn ripple(words: &[&[u8]]) -> Result<Line, LineFault>
     ensures written { IfOk result (λ read. NamesWritten read) }
 {
     match words {
-        [list, track_word, item, last, by] => {
+        [list, track_word, item, last, by] => Ok(Line::Edit(Call::Ripple(Ripple {
+            tracks: tracks(list)?,
+            track: track(track_word)?,
+            item: numeral(item)?,
+            end: end(last)?,
+            by: delta(by)?,
+        }))),
+        _ => Err(LineFault::B2),
+    }
+}
+
+// link TS IS
+fn link(alloc: Global, words: &[&[u8]]) -> Result<Line, LineFault>
+    ensures read { IsOrMemory (link_of (texts_of words.now)) result }
+    ensures written { IfOk result (λ read. NamesWritten read) }
+{
+    match words {
+        [list, numbers_word] => {
             let tracks = tracks(list)?;
-            let track = track(track_word)?;
-            let item = numeral(item)?;
-            let end = end(last)?;
-            let by = delta(by)?;
-            Ok(Line::Edit(Call::Ripple(Ripple {
-                tracks,
-                track,
-                item,
-                end,
-                by,
-            })))
+            let items = numbers(alloc, numbers_word)?;
+            if items.as_slice().len() != track_count(tracks) {
+                return Err(LineFault::B2);
+            }
+            Ok(Line::Edit(Call::Link3(Link3 { tracks, items })))
         }
+        _ => Err(LineFault::B2),
+    }
+}
+
+// unlink T I
+fn unlink(words: &[&[u8]]) -> Result<Line, LineFault>
+    ensures read { result ≡ unlink_of (texts_of words.now) }
+    ensures written { IfOk result (λ read. NamesWritten read) }
+{
+    match words {
+        [track_word, item] => Ok(Line::Edit(Call::Unlink(Unlink {
+            track: track(track_word)?,
+            item: numeral(item)?,
+        }))),
         _ => Err(LineFault::B2),
     }
 }
@@ -363,12 +359,11 @@ fn view(words: &[&[u8]], counting: &Counting, start: u32) -> Result<Line, LineFa
     ensures written { IfOk result (λ read. NamesWritten read) }
 {
     match words {
-        [track_word, from, to] => {
-            let track = track(track_word)?;
-            let a = place(from, counting, start)?;
-            let b = place(to, counting, start)?;
-            Ok(Line::Ask(Ask::View { track, a, b }))
-        }
+        [track_word, from, to] => Ok(Line::Ask(Ask::View {
+            track: track(track_word)?,
+            a: place(from, counting, start)?,
+            b: place(to, counting, start)?,
+        })),
         _ => Err(LineFault::B2),
     }
 }
@@ -379,10 +374,9 @@ fn items(words: &[&[u8]]) -> Result<Line, LineFault>
     ensures written { IfOk result (λ read. NamesWritten read) }
 {
     match words {
-        [track_word] => {
-            let track = track(track_word)?;
-            Ok(Line::Ask(Ask::Items { track }))
-        }
+        [track_word] => Ok(Line::Ask(Ask::Items {
+            track: track(track_word)?,
+        })),
         _ => Err(LineFault::B2),
     }
 }

@@ -1,6 +1,6 @@
 -- Links of cells that are moved: each must have all of its tracks among the named, and is split where it has cells
 -- that stay.
-use Rattle.std.specs.Prelude.{ℕ, ◌+◌, Bool, ◌&&◌, ◌||◌, not, List, [], ◌∷◌, ◌++◌, Option, Some, None, is_some, map, take, drop, filter, nat_eq, nat_lt, if◌then◌else◌}
+use Rattle.std.specs.Prelude.{ℕ, ◌+◌, Bool, ◌&&◌, ◌||◌, not, List, [], ◌∷◌, ◌++◌, Option, Some, None, is_some, map, take, drop, filter, length, nat_eq, nat_lt, if◌then◌else◌}
 use Rattle.std.specs.List.{flat_map, list_any}
 use Rattle.frame_meaning.specs.declared.cells.Cell.{Cell}
 use Rattle.frame_meaning.specs.declared.cells.Link.{Link}
@@ -82,32 +82,36 @@ abbrev pub next_link_at : ℕ → List TrackState → ℕ
 next_link_at home [] = 0
 next_link_at home (t ∷ ts) = if nat_eq t.number home then t.next_link else next_link_at home ts
 
--- a cell of one link gets another
-abbrev pub relinked : Link → Link → Cell → Cell
-relinked old new c = by_link c.link where
-  by_link : Option Link → Cell
-  by_link None = c
-  by_link (Some l) = if same_link l old then record c { link = Some new } else c
+-- how many of these links have the home of this one and a smaller number
+abbrev pub earlier_at_home : List Link → Link → ℕ
+earlier_at_home links l = length (filter (λ (k : Link). nat_eq k.home l.home && nat_lt k.number l.number) links)
 
--- the cells of a link from z on take the next link number of its home
-abbrev pub link_split : ℕ → List TrackState → Link → List TrackState
-link_split z tracks l = map split tracks where
-  number : ℕ
-  number = next_link_at l.home tracks
+-- how many of them have this home
+abbrev pub count_at_home : List Link → ℕ → ℕ
+count_at_home links home = length (filter (λ (k : Link). nat_eq k.home home) links)
 
-  next_of : TrackState → ℕ
-  next_of t = if nat_eq t.number l.home then number + 1 else t.next_link
+-- the number that a split link gets where it is moved: the next one of its home, after the other split links of that home
+-- with smaller numbers
+abbrev pub split_number : List TrackState → List Link → Link → ℕ
+split_number tracks splits l = next_link_at l.home tracks + earlier_at_home splits l
 
-  split : TrackState → TrackState
-  split t = record t {
-    cells = take z t.cells ++ map (relinked l (record l { number = number })) (drop z t.cells);
-    next_link = next_of t;
-  }
+-- a link as it is once it was moved, where these are split: with its home and its tracks, and a number of its own
+abbrev pub moved_link : List TrackState → List Link → Option Link → Option Link
+moved_link tracks splits None = None
+moved_link tracks splits (Some l) =
+    if list_any (same_link l) splits then Some (record l { number = split_number tracks splits l }) else Some l
 
-abbrev pub each_split : ℕ → List TrackState → List Link → List TrackState
-each_split z tracks [] = tracks
-each_split z tracks (l ∷ ls) = each_split z (link_split z tracks l) ls
+abbrev pub moved_cell : List TrackState → List Link → Cell → Cell
+moved_cell tracks splits c = record c { link = moved_link tracks splits c.link }
 
--- the tracks once the cells from z on are moved: each link that also has cells before x is split, in order
+-- a track whose cells from z on are moved, where these links are split; it gives a new number to each of which it is
+-- the home
+abbrev pub split_track : ℕ → List TrackState → List Link → TrackState → TrackState
+split_track z tracks splits t = record t {
+  cells = take z t.cells ++ map (moved_cell tracks splits) (drop z t.cells);
+  next_link = t.next_link + count_at_home splits t.number;
+}
+
+-- the tracks once the cells from z on are moved: each link that also has cells before x is split
 abbrev pub links_split : ℕ → ℕ → List TrackState → List TrackState
-links_split x z tracks = each_split z tracks (split_links x z tracks)
+links_split x z tracks = map (split_track z tracks (split_links x z tracks)) tracks

@@ -17,9 +17,8 @@ use Rattle.edit_journal.proofs.Lasts.{above_last}
 use Rattle.track_locks.specs.Homes.{IsAt, IsHistory, StandFor}
 use Rattle.track_locks.proofs.Several.{within}
 use Rattle.track_locks.proofs.Stands.{one_at}
-use Rattle.cut_room.specs.Desks.{told}
 use Rattle.cut_room.specs.Gathered.{ComesTo}
-use Rattle.cut_room.specs.Rooms.{Stays, IsAtPoint, IsCommitted, IsTurnedDown, FindsNoRoom, IsSight, TakesAtMost}
+use Rattle.cut_room.specs.Rooms.{told, Stays, IsAtPoint, IsCommitted, IsTurnedDown, FindsNoRoom, IsSight, TakesAtMost}
 
 one_opening : {A : Type 0} (o : Option A) (a b : A) → o ≡ Some a → o ≡ Some b → a ≡ b
 one_opening o a b x y = let e : Some a ≡ Some b = sym x ∙ y in Prim.grind (arith, e)

@@ -1,3 +1,2 @@
-pub mod Desks
 pub mod Gathered
 pub mod Rooms

@@ -1,6 +1,6 @@
 -- A room of many stations: what the pass of a station knows before and after a call, and what the calls answer. A pass
 -- knows the entries that stood in the journal when the station last had an answer.
-use Rattle.std.specs.Prelude.{◌≡◌, ℕ, ◌+◌, ◌*◌, ◌<◌, ◌≤◌, List, [], ◌∷◌, ◌++◌, Vec, Some, Result, Ok, Err, length, take, sum_by}
+use Rattle.std.specs.Prelude.{◌≡◌, ℕ, ◌+◌, ◌*◌, ◌<◌, ◌≤◌, List, [], ◌∷◌, ◌++◌, Vec, Option, Some, Result, Ok, Err, length, take, slice_get, option_map, sum_by}
 use Rattle.std.specs.Global.{Global}
 use Rattle.room_core.specs.declared.entry.Entry.{Entry}
 use Rattle.room_core.specs.History.{replay, IsLegal, most_entries}
@@ -16,7 +16,11 @@ use Rattle.cut_room.specs.declared.answers.Sight.{Sight}
 use Rattle.cut_room.specs.declared.answers.Sight.TheVariants as sight
 use Rattle.cut_room.specs.declared.answers.CutFault.{CutFault}
 use Rattle.cut_room.specs.declared.answers.CutFault.TheVariants as fault
-use Rattle.cut_room.specs.Desks.{told}
+
+-- what a question is answered by these parts: by the part that it is about, or why it is about none
+abbrev pub told : {P S Q : Type 0} → Result ℕ Q → (P → Result S Q) → List P → Option (Result S Q)
+told (Ok n) seen parts = option_map seen (slice_get parts n)
+told (Err refusal) seen parts = Some (Err refusal)
 
 module _ {O P C D R : Type 0} (m : Meaning P C D R) (opening : List P) where
   -- the pass is of the same station and opening, and what it knew begins what it knows, which is legal where that was

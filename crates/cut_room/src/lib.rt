@@ -1,21 +1,16 @@
-//! Cutting rooms over any object of parts. A [`Desk`] is one of one thread: it keeps the parts that its entries come to
-//! from the opening, and its entries are a legal history. A [`Room`] is one of many stations, whose passes know how its
-//! journal goes on. [`Desk::edit`] and [`Room::edit`] do a call and put it into the journal, or change nothing and say
-//! why. Nothing here knows what a part is.
+//! A cutting room over any object of parts, for many stations at once: the locks of its parts and its journal. The pass
+//! of a station knows how the journal goes on, from answer to answer. [`Room::edit`] does a call and puts it into the
+//! journal, or changes nothing and says why. Nothing here knows what a part is.
 #![tactic(auto)]
 
 mod answers;
 mod committing;
-mod desk;
 mod room;
 
 pub use answers::{Answer, CutFault, Sight};
-pub use desk::Desk;
 pub use room::{Room, RoomBlank};
 
 #[cfg(test)]
 mod flag_tests;
 #[cfg(test)]
 mod room_tests;
-#[cfg(test)]
-mod tests;

@@ -128,6 +128,13 @@ impl<O: PartObject + Drop, J: Naming<O, O::Part>> Room<O, J> {
         Ok((room, passes))
     }
 
+    /// The object that the room stands over.
+    pub fn object(&self) -> &O
+        ensures { result.now ≡ self.now.0 }
+    {
+        &self.object
+    }
+
     /// How many entries the journal has, all of which the pass knows then.
     pub fn point<R: Wait>(&self, rt: &R, pass: Pass<O, J>) -> (Pass<O, J>, u32)
         ensures at { IsAtPoint (O.meaning self.now.0) self.now.1 pass result.0 result.1 }

@@ -1,8 +1,7 @@
 // A room of counters, for five stations on one thread.
 ghost use Rattle.std.specs.Prelude.{◌≡◌, ◌<◌, IfOk};
 
-use crate::tests::{Told, edit_told, sight_told};
-use crate::{CutFault, Room, RoomBlank};
+use crate::{Answer, CutFault, Room, RoomBlank, Sight};
 use counters::Counters;
 use edit_journal::{Naming, Pass};
 use room_core::{Entry, Memory};
@@ -13,6 +12,33 @@ use std::sync::Wait;
 use std::sync::ledger::{Blank, Ledger};
 use std::test::Fail;
 use step_count::Steps;
+
+// What an edit or a question is answered: the point, and the sum or the number that is refused.
+#[derive(Clone, Copy, Debug, PartialEq, Eq)]
+enum Told {
+    Done(u32, u32),
+    Refused(u32, u32),
+    Full(u32),
+    Seen(u32, u32),
+    Memory,
+}
+
+fn edit_told(answer: Answer<Counters>) -> Told {
+    match answer {
+        Answer::Done { point, done } => Told::Done(point, done),
+        Answer::Refused { point, refusal } => Told::Refused(point, refusal),
+        Answer::Full { point } => Told::Full(point),
+        Answer::Memory => Told::Memory,
+    }
+}
+
+fn sight_told(sight: Sight<Counters>) -> Told {
+    match sight {
+        Sight::Seen { point, seen } => Told::Seen(point, seen),
+        Sight::Refused { point, refusal } => Told::Refused(point, refusal),
+        Sight::Memory => Told::Memory,
+    }
+}
 
 // Three counters at 0, which go up to 10, for five stations.
 fn blank_of(alloc: Global) -> Result<RoomBlank<Counters>, Memory> {

@@ -5,9 +5,9 @@ use Rattle.timecode12.specs.Numbers.{Counted}
 use Rattle.otio_tracks.specs.declared.faults.DocCode.{DocCode}
 use Rattle.otio_json.specs.declared.opening.Opening.{Opening}
 use Rattle.cut_server.specs.declared.status.Status.{Status}
-use Rattle.cut_server.specs.declared.status.Status.TheVariants.{Done, ReadFault, WriteFault, NoCommand, Refused, OutOfMemory, TooMuchInput}
+use Rattle.cut_server.specs.declared.status.Status.TheVariants.{Done, ReadFault, WriteFault, NoCommand, Refused, NotSeated, OutOfMemory, TooMuchInput}
 use Rattle.cut_server.specs.Documents.{FilesTold, OnlyRead, Describes, IsRefusedAt, refusal_line}
-use Rattle.cut_server.specs.Outside.{Outside}
+use Rattle.station_sessions.specs.Outside.{Outside}
 use Rattle.cut_server.specs.Runs.{RunEnds, LineEnds, DocumentEnds}
 
 module _ (name : List ℕ) (counting : Counted) (before after : FilesTold) (old new : Outside) (U V : Type 0) where
@@ -30,5 +30,6 @@ module _ (name : List ℕ) (counting : Counted) (before after : FilesTold) (old 
   ends_refused code at NoCommand only refused quiet u line = absurd line
   ends_refused code at Refused only refused quiet u line =
       (only, inr (record { code = code; at = at; refused = refused; quiet = quiet; unread = u; line = line }))
+  ends_refused code at NotSeated only refused quiet u line = absurd line
   ends_refused code at OutOfMemory only refused quiet u line = absurd line
   ends_refused code at TooMuchInput only refused quiet u line = absurd line

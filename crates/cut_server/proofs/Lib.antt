@@ -1,9 +1,9 @@
-pub mod Transcripts
-pub mod Serving
-pub mod Serves
-pub mod Inputs
 pub mod Openings
 pub mod Rates
+pub mod Asking
 pub mod Telling
 pub mod DocumentRuns
-pub mod Replying
+pub mod HallRuns
+pub mod Closing
+pub mod Seating
+pub mod AllStations

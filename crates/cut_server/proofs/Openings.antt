@@ -1,5 +1,5 @@
 -- A sound opening of a document or of a plain room is one that the history of a room can begin with.
-use Rattle.std.proofs.Common.{◌≡◌, ℕ, zero, suc, ◌+◌, ◌<◌, ◌≤◌, List, [], ◌∷◌, length, All, sym, arith, subst}
+use Rattle.std.proofs.Common.{◌≡◌, ℕ, ◌+◌, ◌<◌, ◌≤◌, List, [], ◌∷◌, length, All, sym, arith, subst}
 use Rattle.std.proofs.lemmas.List.Elements.{All-nil, All-cons}
 use Rattle.std.proofs.lemmas.List.FromFn.{length-map-range_with_len}
 use Rattle.composables.specs.declared.media.Kind.{Kind}
@@ -10,7 +10,7 @@ use Rattle.otio_json.specs.Openings.{plain_opening, empty_track}
 use Rattle.otio_json.specs.Soundness.{AreTracksFrom, IsReadTrack, IsSoundOpening, levels_of_kind}
 use Rattle.room_core.specs.Parts.{AreGood, numbers}
 use Rattle.edit_apply.specs.Apply.{track_count}
-use Rattle.edit_apply.specs.RoomTracks.{IsTrackOf, IsOpening}
+use Rattle.edit_apply.specs.RoomTracks.{IsTrackOf, IsOpening, IsUnlinked}
 use Rattle.cut_server.specs.Commands.{least_tracks}
 
 -- as many tracks as kinds
@@ -21,7 +21,7 @@ same_count table n (k ∷ ks) [] h = absurd h
 same_count table n (k ∷ ks) (t ∷ ts) h = omega (arith, same_count table (n + 1) ks ts h.2)
 
 track_is : (table : Table) (n levels : ℕ) (t : TrackState) → t.number ≡ n → IsReadTrack table levels t → IsTrackOf table n t
-track_is table n levels t number h = record { good = h.good; number_is = number; unlinked = h.unlinked }
+track_is table n levels t number h = record { good = h.good; number_is = number }
 
 tracks_are : (table : Table) (n : ℕ) (kinds : List Kind) (ts : List TrackState) → AreTracksFrom table n kinds ts
     → AreGood (IsTrackOf table) (numbers n (length kinds)) ts
@@ -51,6 +51,7 @@ sound_opens o sound some =
       good = subst (λ n. AreGood (IsTrackOf o.table) (numbers 0 n) o.tracks) count (tracks_are o.table 0 o.table.kinds o.tracks sound.tracks);
       items = each_read (λ t. t.next_item ≤ 65536) o.table (λ levels t h. h.next_item) 0 o.table.kinds o.tracks sound.tracks;
       links = each_read (λ t. t.next_link ≡ 0) o.table (λ levels t h. h.next_link) 0 o.table.kinds o.tracks sound.tracks;
+      unlinked = each_read IsUnlinked o.table (λ levels t h. h.unlinked) 0 o.table.kinds o.tracks sound.tracks;
     }
 
 -- a plain room has a track

@@ -5,7 +5,7 @@ use Rattle.ratio_time.specs.declared.numeral.Numeral.{Numeral}
 use Rattle.ratio_time.specs.Rates.{rate_value}
 use Rattle.json_tokens.specs.ReadingNumerals.{numeral_in}
 use Rattle.otio_tracks.specs.Times.{rate_meant}
-use Rattle.timecode12.specs.Numbers.{Counted, sequence_rate}
+use Rattle.timecode12.specs.Numbers.{Counted}
 use Rattle.timecode12.specs.declared.rate.SequenceRate.{SequenceRate}
 use Rattle.timecode12.specs.declared.rate.SequenceRate.TheVariants.{F23976, F24, F25, F2997, F30}
 use Rattle.cut_server.specs.Commands.{sequence_of, rate_of_word, drop_frame_at, counted_by}

@@ -1,6 +1,8 @@
 -- The words that the program takes. `run` TRACKS REELS asks for one station in a plain room, with TRACKS from 1 to 16 and
 -- REELS from 0 to 999. `run` DOC RATE DROP asks for one in the room that a document describes: DOC names its file, RATE is
 -- a decimal number that stands for one of the five rates of a sequence, and DROP is `drop`, at 30000/1001 alone, or `ndf`.
+-- `serve` DOC RATE DROP STATIONS ADDRESS JOURNAL asks for STATIONS of them, from 1 to 16, in such a room, over a hall at
+-- ADDRESS, and for the journal in the file JOURNAL.
 use Rattle.std.specs.Prelude.{ℕ, ◌≤◌, Bool, true, false, ◌&&◌, List, [], ◌∷◌, Option, Some, None, Result, Ok, Err, option_and_then, nat_le, codes, bytes_eq, if◌then◌else◌}
 use Rattle.line_words.specs.Digits.{number_of}
 use Rattle.line_words.specs.declared.numbers.NumberFault.{NumberFault}
@@ -17,6 +19,8 @@ use Rattle.cut_server.specs.declared.command.Command.TheVariants as command
 pub data Asked : Type 0 where
   RunPlain : ℕ → ℕ → Asked
   RunDocument : List ℕ → Counted → Asked
+  -- so many stations in such a room, over a hall at this address, and the journal in the file of this name
+  Serve : List ℕ → Counted → ℕ → List ℕ → List ℕ → Asked
 
 -- ---- a plain room
 
@@ -86,6 +90,24 @@ counted_so document (Some counting) = Some (RunDocument document counting)
 abbrev pub document_of : List ℕ → List ℕ → List ℕ → Option Asked
 document_of document rate drop = counted_so document (counting_of rate drop)
 
+-- ---- stations of a hall
+
+-- the least and the most stations
+abbrev pub least_stations : ℕ
+least_stations = 1
+
+abbrev pub most_stations : ℕ
+most_stations = 16
+
+abbrev pub served_so : List ℕ → List ℕ → List ℕ → Option Counted → Option ℕ → Option Asked
+served_so document address journal None stations = None
+served_so document address journal (Some counting) None = None
+served_so document address journal (Some counting) (Some stations) = Some (Serve document counting stations address journal)
+
+abbrev pub hall_of : List ℕ → List ℕ → List ℕ → List ℕ → List ℕ → List ℕ → Option Asked
+hall_of document rate drop stations address journal =
+    served_so document address journal (counting_of rate drop) (size_of stations least_stations most_stations)
+
 -- ---- the table
 
 abbrev pub run_of : List (List ℕ) → Option Asked
@@ -95,18 +117,35 @@ run_of (tracks ∷ reels ∷ []) = plain_of tracks reels
 run_of (document ∷ rate ∷ drop ∷ []) = document_of document rate drop
 run_of (a ∷ b ∷ c ∷ d ∷ words) = None
 
+abbrev pub serve_of : List (List ℕ) → Option Asked
+serve_of [] = None
+serve_of (a ∷ []) = None
+serve_of (a ∷ b ∷ []) = None
+serve_of (a ∷ b ∷ c ∷ []) = None
+serve_of (a ∷ b ∷ c ∷ d ∷ []) = None
+serve_of (a ∷ b ∷ c ∷ d ∷ e ∷ []) = None
+serve_of (document ∷ rate ∷ drop ∷ stations ∷ address ∷ journal ∷ []) = hall_of document rate drop stations address journal
+serve_of (a ∷ b ∷ c ∷ d ∷ e ∷ f ∷ g ∷ words) = None
+
+-- what words that begin so ask for
+abbrev pub asked_of : List ℕ → List (List ℕ) → Option Asked
+asked_of first words =
+    if bytes_eq first (codes "run") then run_of words else (if bytes_eq first (codes "serve") then serve_of words else None)
+
 -- what these words ask for
 abbrev pub command_of : List (List ℕ) → Option Asked
 command_of [] = None
-command_of (first ∷ words) = if bytes_eq first (codes "run") then run_of words else None
+command_of (first ∷ words) = asked_of first words
 
 -- ---- a command as the code keeps it
 
 abbrev pub asked_by : Command → Asked
 asked_by (command.Run tracks reels) = RunPlain tracks reels
 asked_by (command.RunDocument document counting) = RunDocument document.now counting
+asked_by (command.Serve document counting stations address journal) = Serve document.now counting stations address.now journal.now
 
--- so many tracks and reels as a plain room may have
+-- so many tracks and reels as a plain room may have, and so many stations as a hall
 abbrev pub HasBounds : Command → Type 0
 HasBounds (command.Run tracks reels) = (least_tracks ≤ tracks) × (tracks ≤ most_tracks) × (reels ≤ most_reels)
 HasBounds (command.RunDocument document counting) = Unit {0}
+HasBounds (command.Serve document counting stations address journal) = (least_stations ≤ stations) × (stations ≤ most_stations)

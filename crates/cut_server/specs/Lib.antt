@@ -1,14 +1,8 @@
 pub mod Stations
-pub mod Transcript
-pub mod DocumentReplies
-pub mod Rooms
-pub mod Longer
-pub mod Session
-pub mod SessionInside
 pub mod Commands
 pub mod Documents
-pub mod Served
-pub mod Outside
-pub mod Serving
+pub mod Closed
 pub mod Statuses
 pub mod Runs
+pub mod Halls
+pub mod Seated

@@ -1,6 +1,6 @@
 -- How a run of the program ends, by its status: what was read and what stands on the output, and that one legal history
 -- tells the replies.
-use Rattle.std.specs.Prelude.{◌≡◌, ℕ, ◌⊎◌, List, [], ◌++◌, Option, Some, None, codes}
+use Rattle.std.specs.Prelude.{◌≡◌, ℕ, ◌⊎◌, List, ◌++◌, Option, Some, None, codes}
 use Rattle.room_ports.specs.Bytes.{Takes, TakesFront}
 use Rattle.room_ports.specs.Counts.{HasRisen}
 use Rattle.line_words.specs.Lines.{Line as InputLine}
@@ -9,17 +9,18 @@ use Rattle.otio_json.specs.Openings.{plain_opening}
 use Rattle.otio_json.specs.declared.opening.Opening.{Opening}
 use Rattle.call_text.specs.Journals.{journal_text_of}
 use Rattle.timecode12.specs.Numbers.{Counted}
-use Rattle.cut_server.specs.Commands.{Asked, RunPlain, RunDocument}
+use Rattle.cut_server.specs.Commands.{Asked, RunPlain, RunDocument, Serve}
 use Rattle.cut_server.specs.Documents.{FilesTold, OnlyRead, Describes, IsRefusedAt, refusal_line}
-use Rattle.cut_server.specs.declared.serve.End.TheVariants as end
+use Rattle.station_sessions.specs.declared.serve.End.TheVariants as end
 use Rattle.cut_server.specs.declared.status.Status.{Status}
-use Rattle.cut_server.specs.declared.status.Status.TheVariants.{Done, ReadFault, WriteFault, NoCommand, Refused, OutOfMemory, TooMuchInput}
+use Rattle.cut_server.specs.declared.status.Status.TheVariants.{Done, ReadFault, WriteFault, NoCommand, Refused, NotSeated, OutOfMemory, TooMuchInput}
 use Rattle.cut_server.specs.Stations.{AreOfStations}
-use Rattle.cut_server.specs.Outside.{Outside, NoFault, WriteFailed, AtEnd, AreSent, TakesThenFront}
-use Rattle.cut_server.specs.Rooms.{History, AreWritten, IsLegalIn, RoomTranscript}
-use Rattle.cut_server.specs.Serving.{SessionEnds}
+use Rattle.cut_server.specs.Halls.{HallEnds, HallTold}
+use Rattle.station_sessions.specs.Outside.{Outside, outside, NoFault, WriteFailed, AtEnd, TakesThenFront}
+use Rattle.station_sessions.specs.Rooms.{History, AreWritten, IsLegalIn, RoomTranscript}
+use Rattle.station_sessions.specs.Serving.{SessionEnds}
 use Rattle.cut_server.specs.Statuses.{number_of}
-use Rattle.cut_server.specs.Transcript.{sent}
+use Rattle.station_sessions.specs.Transcript.{sent}
 
 -- the journal is a legal serial history of the opening with entries of these stations alone, each of which can be written
 -- and read again, and it tells the replies to the lines of one station
@@ -53,6 +54,7 @@ module _ (h : History) (old new : Outside) where
   JournalEnds WriteFault = WriteFailed old new × (new.left ≡ old.left) × TakesFront old.taken new.taken (journal_text_of h)
   JournalEnds NoCommand = ⊥
   JournalEnds Refused = ⊥
+  JournalEnds NotSeated = ⊥
   JournalEnds OutOfMemory = new ≡ old
   JournalEnds TooMuchInput = ⊥
 
@@ -68,6 +70,7 @@ module _ (o : Opening) (old new : Outside) (Untouched : Type 0) where
       ⊎ (WriteFailed old new × AtEnd old new (λ lines. TellsOne o lines (JournalIsCut old.taken new.taken)))
   RunEnds NoCommand = ⊥
   RunEnds Refused = ⊥
+  RunEnds NotSeated = ⊥
   -- nothing was begun, or the input was read to its end and the output is all replies without the journal
   RunEnds OutOfMemory = Untouched ⊎ SessionEnds (Tells o) old new end.Ended
   -- the lines that ended among the first 64 MiB are answered
@@ -88,6 +91,7 @@ module _ (old new : Outside) (Unread : Type 0) where
   RefusalEnds WriteFault = Unread × LineIsCut (codes "refused words\n") old new
   RefusalEnds NoCommand = Unread × LineIsPut (codes "refused words\n") old new
   RefusalEnds Refused = ⊥
+  RefusalEnds NotSeated = ⊥
   RefusalEnds OutOfMemory = ⊥
   RefusalEnds TooMuchInput = ⊥
 
@@ -99,6 +103,7 @@ module _ (line : List ℕ) (old new : Outside) where
   LineEnds WriteFault = LineIsCut line old new
   LineEnds NoCommand = ⊥
   LineEnds Refused = LineIsPut line old new
+  LineEnds NotSeated = ⊥
   LineEnds OutOfMemory = ⊥
   LineEnds TooMuchInput = ⊥
 
@@ -128,19 +133,43 @@ module _ (name : List ℕ) (counting : Counted) (before after : FilesTold) (old 
   EndsUnopened WriteFault = RefusesDocument WriteFault
   EndsUnopened NoCommand = ⊥
   EndsUnopened Refused = RefusesDocument Refused
+  EndsUnopened NotSeated = ⊥
   EndsUnopened OutOfMemory = (after.reads ≡ before.reads) × Unread × Unwritten
   EndsUnopened TooMuchInput = ⊥
 
   abbrev pub DocumentEnds : Status → Type 0
   DocumentEnds status = OnlyRead before after × (RunsDocument status ⊎ EndsUnopened status)
 
--- how the program ends, by what it was asked for, where `Unfiled`, `Unread` and `Unwritten` say that the files, the input
--- and the output are as they were
-module _ (before after : FilesTold) (Unfiled : Type 0) (old new : Outside) (Unread Unwritten : Type 0) where
+-- So many stations are served in the room of a document in the file of this name, over the lines of a hall, and the journal
+-- is kept in a file, where `Unhalled` and `Unwritten` say that the hall and the output are as they were.
+module _ (name : List ℕ) (counting : Counted) (stations : ℕ) (journal : List ℕ) (before after : FilesTold)
+    (hall halls : HallTold) (Unhalled : Type 0) (old new : Outside) (Unwritten : Type 0) where
+  -- the document describes an opening, in whose room they are served
+  pub record ServesDocument (status : Status) : Type 0 where
+    pub opening : Opening
+    pub described : Describes counting (before.file name) opening
+    pub unwritten : Unwritten
+    pub ends : HallEnds opening stations journal before after (OnlyRead before after × (after.reads ≡ before.reads)) hall halls status
+
+  -- else no station is seated
+  abbrev pub ServeEnds : Status → Type 0
+  ServeEnds status = ServesDocument status
+      ⊎ (Unhalled × OnlyRead before after × EndsUnopened name counting before after old new (Unit {0}) Unwritten status)
+
+-- an output alone
+abbrev pub output_of : Outside → Outside
+output_of o = outside None 0 o.taken o.writes
+
+-- how the program ends, by what it was asked for, where `Unfiled`, `Unhalled`, `Unread` and `Unwritten` say that the files,
+-- the hall, the input and the output are as they were
+module _ (before after : FilesTold) (Unfiled : Type 0) (hall halls : HallTold) (Unhalled : Type 0) (old new : Outside) (Unread Unwritten : Type 0) where
   abbrev pub CommandEnds : Option Asked → Status → Type 0
-  CommandEnds None status = Unfiled × RefusalEnds old new Unread status
-  CommandEnds (Some (RunPlain tracks reels)) status = Unfiled × RunEnds (plain_opening tracks reels) old new (Unread × Unwritten) status
-  CommandEnds (Some (RunDocument name counting)) status = DocumentEnds name counting before after old new Unread Unwritten status
+  CommandEnds None status = Unfiled × Unhalled × RefusalEnds old new Unread status
+  CommandEnds (Some (RunPlain tracks reels)) status =
+      Unfiled × Unhalled × RunEnds (plain_opening tracks reels) old new (Unread × Unwritten) status
+  CommandEnds (Some (RunDocument name counting)) status = Unhalled × DocumentEnds name counting before after old new Unread Unwritten status
+  CommandEnds (Some (Serve name counting stations address journal)) status =
+      Unread × ServeEnds name counting stations journal before after hall halls Unhalled (output_of old) (output_of new) Unwritten status
 
 -- it ends with the number of a status that it may have
 abbrev pub EndsWith : ℕ → (Status → Type 0) → Type 0

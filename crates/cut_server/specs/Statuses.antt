@@ -1,7 +1,7 @@
 -- The numbers that the program ends with.
 use Rattle.std.specs.Prelude.{ℕ}
 use Rattle.cut_server.specs.declared.status.Status.{Status}
-use Rattle.cut_server.specs.declared.status.Status.TheVariants.{Done, ReadFault, WriteFault, NoCommand, Refused, OutOfMemory, TooMuchInput}
+use Rattle.cut_server.specs.declared.status.Status.TheVariants.{Done, ReadFault, WriteFault, NoCommand, Refused, NotSeated, OutOfMemory, TooMuchInput}
 
 abbrev pub number_of : Status → ℕ
 number_of Done = 0
@@ -9,5 +9,6 @@ number_of ReadFault = 1
 number_of WriteFault = 2
 number_of NoCommand = 3
 number_of Refused = 4
+number_of NotSeated = 5
 number_of OutOfMemory = 6
 number_of TooMuchInput = 7

@@ -1,7 +1,8 @@
 // The words of the program's command line.
-ghost use Rattle.std.specs.Prelude.{◌≡◌, IfSome, option_and_then, option_map};
+ghost use Rattle.std.specs.Prelude.{◌≡◌, ◌<◌, IfSome, drop, length, option_and_then, option_map};
 ghost use Rattle.ratio_time.specs.Rates.{rate_value};
-ghost use Rattle.cut_server.specs.Commands.{command_of, plain_of, document_of, counting_of, rate_of_word, sequence_of, size_of, asked_by, HasBounds};
+ghost use Rattle.cut_server.specs.Commands.{command_of, run_of, serve_of, plain_of, document_of, hall_of};
+ghost use Rattle.cut_server.specs.Commands.{counting_of, rate_of_word, sequence_of, size_of, asked_by, HasBounds};
 
 use json_tree::numeral;
 use line_words::{Words, number};
@@ -15,6 +16,11 @@ const MOST_TRACKS: u32 = 16;
 
 const MOST_REELS: u32 = 999;
 
+/// The least and the most stations of a hall.
+const LEAST_STATIONS: u32 = 1;
+
+const MOST_STATIONS: u32 = 16;
+
 /// What the program is asked for.
 #[derive(Clone, Copy)]
 pub(crate) enum Command<'a> {
@@ -27,6 +33,14 @@ pub(crate) enum Command<'a> {
     RunDocument {
         document: &'a str,
         counting: Counting,
+    },
+    /// So many stations in such a room, over a hall at this address, and the journal's text in the file of this name.
+    Serve {
+        document: &'a str,
+        counting: Counting,
+        stations: u32,
+        address: &'a str,
+        journal: &'a str,
     },
 }
 
@@ -95,18 +109,70 @@ fn room_of<'a>(document: &'a str, rate: &str, drop: &str) -> Option<Command<'a>>
     Some(Command::RunDocument { document, counting })
 }
 
+fn hall_of<'a>(
+    document: &'a str,
+    rate: &str,
+    drop: &str,
+    stations: &str,
+    address: &'a str,
+    journal: &'a str,
+) -> Option<Command<'a>>
+    ensures command { option_map asked_by result
+        ≡ hall_of document.now rate.now drop.now stations.now address.now journal.now }
+    ensures bound { IfSome result HasBounds }
+{
+    let counting = counting(rate, drop)?;
+    let stations = size(stations, LEAST_STATIONS, MOST_STATIONS)?;
+    Some(Command::Serve {
+        document,
+        counting,
+        stations,
+        address,
+        journal,
+    })
+}
+
+// What the words after `run` ask for.
+fn run_in(words: &Words) -> Option<Command<'_>>
+    ensures command { option_map asked_by result ≡ run_of (drop 1 words.now) }
+    ensures bound { IfSome result HasBounds }
+{
+    match words.count() {
+        3 => plain_room(words.word(1), words.word(2)),
+        4 => room_of(words.word(1), words.word(2), words.word(3)),
+        _ => None,
+    }
+}
+
+// What the words after `serve` ask for.
+fn serve_in(words: &Words) -> Option<Command<'_>>
+    ensures command { option_map asked_by result ≡ serve_of (drop 1 words.now) }
+    ensures bound { IfSome result HasBounds }
+{
+    if words.count() != 7 {
+        return None;
+    }
+    hall_of(
+        words.word(1),
+        words.word(2),
+        words.word(3),
+        words.word(4),
+        words.word(5),
+        words.word(6),
+    )
+}
+
 /// The command that the words are, or `None` where they are none.
 pub(crate) fn command_in(words: &Words) -> Option<Command<'_>>
     ensures command { option_map asked_by result ≡ command_of words.now }
     ensures bound { IfSome result HasBounds }
 {
-    let count = words.count();
-    if count == 0 || words.word(0) != "run" {
+    if words.count() == 0 {
         return None;
     }
-    match count {
-        3 => plain_room(words.word(1), words.word(2)),
-        4 => room_of(words.word(1), words.word(2), words.word(3)),
+    match words.word(0) {
+        "run" => run_in(words),
+        "serve" => serve_in(words),
         _ => None,
     }
 }

@@ -2,10 +2,12 @@
 use crate::tests::{ended, ended_over};
 use room_files::MemFiles;
 use std::alloc::Global;
+use std::sync::Wait;
 use std::test::Fail;
+use std::thread::Threads;
 
 /// A sequence of one track with five frames from the frame 100 of a tape on, which starts at 01:00:00:00.
-const DOCUMENT: &str = "\
+pub(crate) const DOCUMENT: &str = "\
 {\"OTIO_SCHEMA\": \"Timeline.1\", \"global_start_time\": {\"OTIO_SCHEMA\": \"RationalTime.1\", \"rate\": \
 24.0, \"value\": 86400}, \"tracks\": {\"OTIO_SCHEMA\": \"Stack.1\", \"children\": [ {\"OTIO_SCHEMA\": \
 \"Track.1\", \"kind\": \"Video\", \"children\": [{\"OTIO_SCHEMA\": \"Clip.1\", \"name\": \"A7\", \
@@ -24,7 +26,8 @@ journal 1
 ";
 
 // Whether a run with these words, where the file `cut` holds this text and these calls fail, ends so.
-fn ends(
+fn ends<R: Threads + Wait + Sync>(
+    rt: &R,
     alloc: Global,
     words: &str,
     document: &[u8],
@@ -40,7 +43,7 @@ fn ends(
         texts.push(word)?;
     }
     let lines = LINES.as_bytes();
-    let (ended_with, output) = ended_over(alloc, &texts, &mut files, &[lines], &[], writes)?;
+    let (ended_with, output) = ended_over(rt, alloc, &texts, &mut files, &[lines], &[], writes)?;
     Ok(ended_with == status && output.as_slice() == wanted.as_bytes())
 }
 
@@ -48,19 +51,31 @@ fn ends(
 fn a_document_is_opened(rt: HostRuntime) -> Result<(), Fail> {
     let alloc = rt.alloc();
     let cut = DOCUMENT.as_bytes();
-    assert!(rt; ends(alloc, "run cut 24 ndf", cut, &[], &[], 0, TOLD)?);
-    assert!(rt; ends(alloc, "run cut 2400e-2 ndf", cut, &[2], &[], 0, TOLD)?);
-    assert!(rt; ends(alloc, "run cut 24 ndf", cut, &[1], &[], 1, "")?);
-    assert!(rt; ends(alloc, "run none.otio 24 ndf", cut, &[], &[], 1, "")?);
+    assert!(rt; ends(&rt, alloc, "run cut 24 ndf", cut, &[], &[], 0, TOLD)?);
+    assert!(rt; ends(&rt, alloc, "run cut 2400e-2 ndf", cut, &[2], &[], 0, TOLD)?);
+    assert!(rt; ends(&rt, alloc, "run cut 24 ndf", cut, &[1], &[], 1, "")?);
+    assert!(rt; ends(&rt, alloc, "run none.otio 24 ndf", cut, &[], &[], 1, "")?);
     Ok(())
 }
 
 #[test]
 fn a_document_is_refused(rt: HostRuntime) -> Result<(), Fail> {
     let alloc = rt.alloc();
-    assert!(rt; ends(alloc, "run cut 24 ndf", b"{", &[], &[], 4, "refused J1 1\n")?);
     assert!(rt;
         ends(
+            &rt,
+            alloc,
+            "run cut 24 ndf",
+            b"{",
+            &[],
+            &[],
+            4,
+            "refused J1 1\n"
+        )?
+    );
+    assert!(rt;
+        ends(
+            &rt,
             alloc,
             "run cut 29.97 drop",
             b"[]",
@@ -72,6 +87,7 @@ fn a_document_is_refused(rt: HostRuntime) -> Result<(), Fail> {
     );
     assert!(rt;
         ends(
+            &rt,
             alloc,
             "run cut 23.98 ndf",
             b"{}",
@@ -81,7 +97,7 @@ fn a_document_is_refused(rt: HostRuntime) -> Result<(), Fail> {
             "refused O2 0\n"
         )?
     );
-    assert!(rt; ends(alloc, "run cut 24 ndf", b"{", &[], &[1], 2, "")?);
+    assert!(rt; ends(&rt, alloc, "run cut 24 ndf", b"{", &[], &[1], 2, "")?);
     Ok(())
 }
 
@@ -97,7 +113,7 @@ fn words_are_looked_at_before_the_document(rt: HostRuntime) -> Result<(), Fail> 
     ];
     for words in table {
         assert!(rt;
-            ends(alloc, words, b"{", &[1], &[], 3, "refused words\n")?,
+            ends(&rt, alloc, words, b"{", &[1], &[], 3, "refused words\n")?,
             "{words}"
         );
     }
@@ -110,6 +126,7 @@ fn a_document_has_a_limit(rt: HostRuntime) -> Result<(), Fail> {
     let mut text = vec![in alloc; b' '; 33_554_432usize]?;
     assert!(rt;
         ends(
+            &rt,
             alloc,
             "run cut 24 ndf",
             &text,
@@ -122,6 +139,7 @@ fn a_document_has_a_limit(rt: HostRuntime) -> Result<(), Fail> {
     text.push(b' ')?;
     assert!(rt;
         ends(
+            &rt,
             alloc,
             "run cut 24 ndf",
             &text,
@@ -142,7 +160,7 @@ const EMPTY: &str =
 fn a_cut_is_written_at_any_point(rt: HostRuntime) -> Result<(), Fail> {
     let alloc = rt.alloc();
     let lines = b"otio 0\notio 1\noverwrite 0 0 @0 7 2\notio 00\notio\notio x\notio 4294967296\n";
-    let (status, output) = ended(alloc, &["run", "1", "1"], &[lines], &[], &[])?;
+    let (status, output) = ended(&rt, alloc, &["run", "1", "1"], &[lines], &[], &[])?;
     assert_eq!(rt; status, 0);
     let wanted = format!(in alloc;
         "otio 0 {EMPTY}\nno 0 V3\nok 0 item 0\notio 0 {EMPTY}\nbad B2\nbad B3\nbad B4\njournal 1\n0 3 overwrite 0 0 @0 7 2\n"
@@ -156,7 +174,7 @@ fn a_cut_is_written_at_any_point(rt: HostRuntime) -> Result<(), Fail> {
 fn what_is_written_opens_again(rt: HostRuntime) -> Result<(), Fail> {
     let alloc = rt.alloc();
     let lines = b"overwrite 0 3 @0 7 2\notio 1\n";
-    let (_, first) = ended(alloc, &["run", "1", "1"], &[lines], &[], &[])?;
+    let (_, first) = ended(&rt, alloc, &["run", "1", "1"], &[lines], &[], &[])?;
     let text = first
         .as_slice()
         .strip_prefix(b"ok 0 item 0\notio 1 ".as_slice())
@@ -165,6 +183,6 @@ fn what_is_written_opens_again(rt: HostRuntime) -> Result<(), Fail> {
         .ok_or("back")?;
     let wanted =
         "items 0 dark 3 0 @0 7 2\nok 0 item 1\njournal 1\n0 2 overwrite 0 86405 @0 103 1\n";
-    assert!(rt; ends(alloc, "run cut 24 ndf", text, &[], &[], 0, wanted)?);
+    assert!(rt; ends(&rt, alloc, "run cut 24 ndf", text, &[], &[], 0, wanted)?);
     Ok(())
 }

@@ -1,4 +1,4 @@
-//! The session of one station, and the call that the program makes.
+//! The call that the program makes: its words, the room that they ask for, the stations in it, and the journal.
 //!
 //! The main contract is that of `cut_main`: with status 0 the output is one reply to each line of the input, in whatever
 //! pieces it came, and then the text of a journal that is one legal serial history and tells every one of the replies. The
@@ -7,17 +7,19 @@
 
 mod command;
 mod document;
-mod document_reply;
 pub mod laws;
 mod main_call;
-mod reply;
-mod serve;
-mod session;
+mod seats;
+mod stations;
 mod status;
 
 pub use main_call::cut_main;
 
 #[cfg(test)]
 mod document_tests;
+#[cfg(test)]
+mod serve_tests;
+#[cfg(test)]
+mod talk_tests;
 #[cfg(test)]
 mod tests;

@@ -1,27 +1,37 @@
 // The call that the program makes.
-ghost use Rattle.std.specs.Prelude.{◌≡◌, ◌<◌, ◌≤◌, None, length};
-ghost use Rattle.cut_server.specs.Commands.{command_of, least_tracks, most_tracks, most_reels};
+ghost use Rattle.std.specs.Prelude.{◌≡◌, ◌<◌, ◌≤◌, [], None, Some, length, vec_capacity};
+ghost use Rattle.cut_server.specs.Commands.{command_of, least_tracks, most_tracks, most_reels, least_stations, most_stations};
 ghost use Rattle.otio_json.specs.Openings.{plain_opening};
 ghost use Rattle.otio_json.specs.Soundness.{IsSoundOpening};
-ghost use Rattle.cut_server.specs.Outside.{outside};
+ghost use Rattle.station_sessions.specs.Outside.{outside};
 ghost use Rattle.otio_json.specs.declared.opening.Opening.{Opening as OpeningOf};
 ghost use Rattle.cut_server.specs.Documents.{files_told, refusal_line};
-ghost use Rattle.cut_server.specs.Runs.{JournalEnds, RunEnds, RefusalEnds, LineEnds, DocumentEnds, CommandEnds, EndsWith};
-ghost use Rattle.cut_server.specs.Served.{IsFresh};
+ghost use Rattle.cut_server.specs.Halls.{hall_told};
+ghost use Rattle.cut_server.specs.Runs.{JournalEnds, RunEnds, RefusalEnds, LineEnds, DocumentEnds, ServeEnds, CommandEnds, EndsWith};
+ghost use Rattle.station_sessions.specs.Served.{IsRoomOf};
+ghost use Rattle.station_sessions.specs.SessionInside.{TrackRoom};
+ghost use Rattle.edit_journal.specs.Turns.{AreFresh};
 
 use crate::command::{Command, command_in};
 use crate::document::{DocumentFault, open_document, refusal_line};
-use crate::serve::{End, serve};
-use crate::session::Session;
+use crate::stations::serve_opened;
 use crate::status::Status;
 use call_text::journal_text;
-use edit_apply::Call;
+use composables::Track;
+use cut_room::{Room, RoomBlank};
+use edit_apply::{Call, Editor};
+use edit_journal::{Naming, Pass};
 use line_words::Words;
 use otio_json::{DocCode, Opening};
 use room_core::Entry;
 use room_files::Files;
+use room_halls::{Gate, Hall};
 use room_ports::{Line, Pair, Sink, Source, put};
+use station_sessions::{End, Setting, serve_session};
 use std::alloc::Global;
+use std::marker::Brand;
+use std::sync::Wait;
+use std::thread::Threads;
 use timecode12::Counting;
 
 // Puts the journal's text behind the replies.
@@ -43,49 +53,112 @@ fn put_journal<L: Line>(alloc: Global, entries: &[Entry<Call>], line: &mut L) ->
     }
 }
 
-// Serves the session of a room that has just been opened, and puts its journal's text behind the replies.
-fn run_session<L: Line>(alloc: Global, session: Session, line: &mut L) -> Status
-    requires { session.course.line ≡ 1 }
-    ensures ends { (o : OpeningOf) → IsFresh o session → RunEnds o
+// Serves the session of the one station of a room that has just been opened, and puts its journal's text behind the replies.
+fn run_session<R: Wait, G: Gate, J: Naming<Editor, Track>, L: Line>(
+    rt: &R,
+    alloc: Global,
+    room: Room<Editor, J>,
+    passes: Vec<Pass<Editor, J>>,
+    setting: Setting,
+    line: &mut L,
+    gate: &G,
+) -> Status
+    requires passes { AreFresh J.opening 1 passes.items }
+    requires stations { J.stations ≡ 1 }
+    ensures ends { (o : OpeningOf) → IsRoomOf o room setting.counting setting.start → RunEnds o
         (outside (L.left line.old) (L.read_faults line.old) (L.taken line.old)
         (L.write_faults line.old))
         (outside (L.left line.new) (L.read_faults line.new) (L.taken line.new)
         (L.write_faults line.new)) ⊥ result }
     ensures lent { L.lent line.new ≡ L.lent line.old }
 {
-    let mut session = session;
-    match serve(&mut session, line) {
-        End::Ended => put_journal(alloc, &session.close(), line),
+    let (mut passes, pass) = only_pass(passes);
+    let (pass, end) = serve_session(rt, alloc, &room, gate, pass, setting, line);
+    passes.push_reserved(pass);
+    let entries = room.close(passes);
+    match end {
+        End::Ended => put_journal(alloc, &entries, line),
         End::ReadFault => Status::ReadFault,
         End::WriteFault => Status::WriteFault,
         End::TooMuchInput => Status::TooMuchInput,
     }
 }
 
+// The pass of the one station, and room for it.
+fn only_pass<J: Naming<Editor, Track>>(
+    passes: Vec<Pass<Editor, J>>,
+) -> (Vec<Pass<Editor, J>>, Pass<Editor, J>)
+    requires { AreFresh J.opening 1 passes.items }
+    ensures pass { (result.1.number ≡ 0) × (result.1.entries ≡ []) }
+    ensures none { result.0.items ≡ [] }
+    ensures room { 0 < vec_capacity result.0 }
+{
+    let mut passes = passes;
+    match passes.pop() {
+        Some(pass) => (passes, pass),
+        None => unreachable!(),
+    }
+}
+
 // The same over an input and an output that are lent.
-fn run_over<S: Source, K: Sink>(
+fn run_over<R: Wait, G: Gate, J: Naming<Editor, Track>, S: Source, K: Sink>(
+    rt: &R,
     alloc: Global,
-    session: Session,
+    room: Room<Editor, J>,
+    passes: Vec<Pass<Editor, J>>,
+    setting: Setting,
     input: &mut S,
     output: &mut K,
+    gate: &G,
 ) -> Status
-    requires { session.course.line ≡ 1 }
-    ensures { (o : OpeningOf) → IsFresh o session → RunEnds o
+    requires passes { AreFresh J.opening 1 passes.items }
+    requires stations { J.stations ≡ 1 }
+    ensures { (o : OpeningOf) → IsRoomOf o room setting.counting setting.start → RunEnds o
         (outside (S.left input.old) (S.read_faults input.old) (K.taken output.old)
         (K.write_faults output.old))
         (outside (S.left input.new) (S.read_faults input.new) (K.taken output.new)
         (K.write_faults output.new)) ⊥ result }
 {
     let mut line = Pair { input, output };
-    run_session(alloc, session, &mut line)
+    run_session(rt, alloc, room, passes, setting, &mut line, gate)
+}
+
+// A run of one station in the room of a blank.
+fn run_blank<R: Wait, G: Gate, J: Naming<Editor, Track>, S: Source, K: Sink>(
+    rt: &R,
+    alloc: Global,
+    blank: RoomBlank<Editor>,
+    setting: Setting,
+    input: &mut S,
+    output: &mut K,
+    gate: &G,
+) -> Status
+    requires table { J.table ≡ blank.table }
+    requires opening { J.opening ≡ blank.opening }
+    requires stations { (J.stations ≡ blank.stations) × (blank.stations ≡ 1) }
+    ensures { (o : OpeningOf) (room : TrackRoom) → blank.opening ≡ Some room
+        → IsRoomOf o room setting.counting setting.start → RunEnds o
+        (outside (S.left input.old) (S.read_faults input.old) (K.taken output.old)
+        (K.write_faults output.old))
+        (outside (S.left input.new) (S.read_faults input.new) (K.taken output.new)
+        (K.write_faults output.new))
+        ((input.new ≡ input.old) × (output.new ≡ output.old)) result }
+{
+    let (room, passes) = match Room::<Editor, J>::open(alloc, blank) {
+        Ok(opened) => opened,
+        Err(_) => return Status::OutOfMemory,
+    };
+    run_over(rt, alloc, room, passes, setting, input, output, gate)
 }
 
 // A run of one station in a room that begins so.
-fn run_opened<S: Source, K: Sink>(
+fn run_opened<R: Wait, G: Gate, S: Source, K: Sink>(
+    rt: &R,
     alloc: Global,
     opening: Opening,
     input: &mut S,
     output: &mut K,
+    gate: &G,
 ) -> Status
     requires sound { IsSoundOpening opening }
     requires some { 0 < length opening.tracks }
@@ -96,20 +169,29 @@ fn run_opened<S: Source, K: Sink>(
         (K.write_faults output.new))
         ((input.new ≡ input.old) × (output.new ≡ output.old)) result }
 {
-    let session = match Session::opened(alloc, opening) {
-        Ok(session) => session,
+    let Opening {
+        table,
+        tracks,
+        counting,
+        start,
+    } = opening;
+    let setting = Setting { counting, start };
+    let blank = match RoomBlank::new(alloc, Editor { table }, tracks.into_vec(), 1) {
+        Ok(blank) => blank,
         Err(_) => return Status::OutOfMemory,
     };
-    run_over(alloc, session, input, output)
+    run_blank::<R, G, Brand, S, K>(rt, alloc, blank, setting, input, output, gate)
 }
 
 // A run of one station in a plain room.
-fn run_plain<S: Source, K: Sink>(
+fn run_plain<R: Wait, G: Gate, S: Source, K: Sink>(
+    rt: &R,
     alloc: Global,
     tracks: u32,
     reels: u32,
     input: &mut S,
     output: &mut K,
+    gate: &G,
 ) -> Status
     requires least { least_tracks ≤ tracks }
     requires tracks { tracks ≤ most_tracks }
@@ -125,7 +207,7 @@ fn run_plain<S: Source, K: Sink>(
         Ok(opening) => opening,
         Err(_) => return Status::OutOfMemory,
     };
-    run_opened(alloc, opening, input, output)
+    run_opened(rt, alloc, opening, input, output, gate)
 }
 
 // Refuses a document.
@@ -141,13 +223,15 @@ fn refuse_document<K: Sink>(code: DocCode, at: u32, output: &mut K) -> Status
 }
 
 // A run of one station in the room of a document.
-fn run_document<F: Files, S: Source, K: Sink>(
+fn run_document<R: Wait, G: Gate, F: Files, S: Source, K: Sink>(
+    rt: &R,
     alloc: Global,
     name: &str,
     counting: &Counting,
     files: &mut F,
     input: &mut S,
     output: &mut K,
+    gate: &G,
 ) -> Status
     ensures { DocumentEnds name.now counting.now
         (files_told (F.file files.old) (F.read_faults files.old) (F.write_faults files.old))
@@ -159,7 +243,45 @@ fn run_document<F: Files, S: Source, K: Sink>(
         (input.new ≡ input.old) (output.new ≡ output.old) result }
 {
     match open_document(alloc, files, name, counting) {
-        Ok(opening) => run_opened(alloc, opening, input, output),
+        Ok(opening) => run_opened(rt, alloc, opening, input, output, gate),
+        Err(DocumentFault::ReadFault) => Status::ReadFault,
+        Err(DocumentFault::Refused { code, at }) => refuse_document(code, at, output),
+        Err(DocumentFault::Memory) => Status::OutOfMemory,
+    }
+}
+
+// Serves the stations of a hall in the room of a document.
+fn serve_document<R: Threads + Wait + Sync, F: Files, K: Sink, H: Hall, G: Gate + Sync>(
+    rt: &R,
+    alloc: Global,
+    name: &str,
+    counting: &Counting,
+    stations: u32,
+    address: &str,
+    journal: &str,
+    files: &mut F,
+    output: &mut K,
+    hall: &mut H,
+    gate: &G,
+) -> Status
+    requires least { least_stations ≤ stations }
+    requires most { stations ≤ most_stations }
+    ensures { ServeEnds name.now counting.now stations journal.now
+        (files_told (F.file files.old) (F.read_faults files.old) (F.write_faults files.old))
+        (files_told (F.file files.new) (F.read_faults files.new) (F.write_faults files.new))
+        (hall_told (H.told hall.old) (H.faults hall.old))
+        (hall_told (H.told hall.new) (H.faults hall.new))
+        (hall.new ≡ hall.old)
+        (outside None 0 (K.taken output.old) (K.write_faults output.old))
+        (outside None 0 (K.taken output.new) (K.write_faults output.new))
+        (output.new ≡ output.old) result }
+{
+    match open_document(alloc, files, name, counting) {
+        Ok(opening) => {
+            serve_opened(
+                rt, alloc, opening, stations, address, journal, files, hall, gate,
+            )
+        }
         Err(DocumentFault::ReadFault) => Status::ReadFault,
         Err(DocumentFault::Refused { code, at }) => refuse_document(code, at, output),
         Err(DocumentFault::Memory) => Status::OutOfMemory,
@@ -178,17 +300,23 @@ fn refuse<K: Sink>(output: &mut K) -> Status
 }
 
 // Does what the words ask for.
-fn do_command<F: Files, S: Source, K: Sink>(
+fn do_command<R: Threads + Wait + Sync, F: Files, S: Source, K: Sink, H: Hall, G: Gate + Sync>(
+    rt: &R,
     alloc: Global,
     words: &Words,
     files: &mut F,
     input: &mut S,
     output: &mut K,
+    hall: &mut H,
+    gate: &G,
 ) -> Status
     ensures { CommandEnds
         (files_told (F.file files.old) (F.read_faults files.old) (F.write_faults files.old))
         (files_told (F.file files.new) (F.read_faults files.new) (F.write_faults files.new))
         (files.new ≡ files.old)
+        (hall_told (H.told hall.old) (H.faults hall.old))
+        (hall_told (H.told hall.new) (H.faults hall.new))
+        (hall.new ≡ hall.old)
         (outside (S.left input.old) (S.read_faults input.old) (K.taken output.old)
         (K.write_faults output.old))
         (outside (S.left input.new) (S.read_faults input.new) (K.taken output.new)
@@ -196,50 +324,77 @@ fn do_command<F: Files, S: Source, K: Sink>(
         (input.new ≡ input.old) (output.new ≡ output.old) (command_of words.now) result }
 {
     match &command_in(words) {
-        Some(Command::Run { tracks, reels }) => run_plain(alloc, *tracks, *reels, input, output),
-        Some(Command::RunDocument { document, counting }) => {
-            run_document(alloc, document, counting, files, input, output)
+        Some(Command::Run { tracks, reels }) => {
+            run_plain(rt, alloc, *tracks, *reels, input, output, gate)
         }
+        Some(Command::RunDocument { document, counting }) => {
+            run_document(rt, alloc, document, counting, files, input, output, gate)
+        }
+        Some(
+            Command::Serve {
+                document,
+                counting,
+                stations,
+                address,
+                journal,
+            },
+        ) => serve_document(
+            rt, alloc, document, counting, *stations, address, journal, files, output, hall, gate,
+        ),
         None => refuse(output),
     }
 }
 
-/// Does what the words ask for, over these files, this input and this output, and answers the status that the program
-/// ends with.
+/// Does what the words ask for, over these files, this input, this output and this hall, and answers the status that the
+/// program ends with.
 ///
 /// `run TRACKS REELS` is one station in a room of TRACKS empty video tracks (1 to 16) and REELS reels (0 to 999), each
 /// with 86,400 frames, at 24 frames a second. `run DOC RATE DROP` is one in the room that the document in the file DOC
 /// describes, of at most 32 MiB. RATE is a number such as `24` or `29.97`, and DROP is `ndf`, or `drop` at 30000/1001. The
 /// station answers each line of the input and then puts the journal's text.
 ///
+/// `serve DOC RATE DROP STATIONS ADDRESS JOURNAL` opens the hall at ADDRESS, seats the stations from 0 on (1 to 16) in such a
+/// room, and serves them all at once, each over its line. When all have ended, the journal's text is put into the file
+/// JOURNAL. A station that ends with a fault does not end the others.
+///
 /// | Status | Comes where |
 /// |---|---|
-/// | 0 | the input was read to its end, every line was answered, all was written |
-/// | 1 | a read of the input or of the document's file failed |
-/// | 2 | a write failed |
-/// | 3 | the words are neither `run TRACKS REELS` nor `run DOC RATE DROP` |
+/// | 0 | each input was read to its end, every line was answered, all was written |
+/// | 1 | a read of the input, of a line or of the document's file failed |
+/// | 2 | a write of the output, of a line or of the journal's file failed |
+/// | 3 | the words are no command |
 /// | 4 | the document is refused, and a line tells its first fault with its place |
+/// | 5 | the hall was not opened, or a station not seated: no session was begun |
 /// | 6 | there was no memory to begin with, or none for the journal's text |
-/// | 7 | the input gave more than 64 MiB |
-pub fn cut_main<F: Files, S: Source, K: Sink>(
+/// | 7 | the input, or a line, gave more than 64 MiB |
+///
+/// Of several stations the status is that of the lowest whose status is not 0, and then that of the journal's file.
+pub fn cut_main<R: Threads + Wait + Sync, F: Files, S: Source, K: Sink, H: Hall, G: Gate + Sync>(
+    rt: &R,
     alloc: Global,
     words: &Words,
     files: &mut F,
     input: &mut S,
     output: &mut K,
+    hall: &mut H,
+    gate: &G,
 ) -> u8
-    // The headline: with 0 the output is the replies and then the text of a journal that is one legal serial history,
-    // and each reply is what that history tells, to the lines of all bytes, however they came. `CommandEnds` says for
-    // each command and each status what was read, what was written and which count of faults rose.
+    // The headline: whatever the stations send at once, in whatever pieces, the room's journal is one legal serial history,
+    // each committed edit stands in it once, after all its station had been told of, and every reply names its point there
+    // and says what the entries before it give. `CommandEnds` says for each command and each status what was read, what
+    // was written and which count of faults rose.
     ensures { EndsWith result (CommandEnds
         (files_told (F.file files.old) (F.read_faults files.old) (F.write_faults files.old))
         (files_told (F.file files.new) (F.read_faults files.new) (F.write_faults files.new))
         (files.new ≡ files.old)
+        (hall_told (H.told hall.old) (H.faults hall.old))
+        (hall_told (H.told hall.new) (H.faults hall.new))
+        (hall.new ≡ hall.old)
         (outside (S.left input.old) (S.read_faults input.old) (K.taken output.old)
         (K.write_faults output.old))
         (outside (S.left input.new) (S.read_faults input.new) (K.taken output.new)
         (K.write_faults output.new))
         (input.new ≡ input.old) (output.new ≡ output.old) (command_of words.now)) }
 {
-    do_command(alloc, words, files, input, output).number()
+    do_command(rt, alloc, words, files, input, output, hall, gate).number()
 }

@@ -15,6 +15,8 @@ pub enum Status {
     NoCommand,
     /// 4: the document is refused.
     Refused,
+    /// 5: the hall was not opened, or a station not seated.
+    NotSeated,
     /// 6: there was no memory to begin with, or none for the journal's text.
     OutOfMemory,
     /// 7: the input gave more than 64 MiB.
@@ -32,6 +34,7 @@ impl Status {
             Status::WriteFault => 2,
             Status::NoCommand => 3,
             Status::Refused => 4,
+            Status::NotSeated => 5,
             Status::OutOfMemory => 6,
             Status::TooMuchInput => 7,
         }

@@ -1,5 +1,5 @@
-//! The program of the cutting room. It hands its arguments, the files of the system, its standard input and its standard
-//! output to `answer`, puts a line on standard error where the status does not say enough, and ends with the status.
+//! The program of the cutting room. It hands its arguments, the files of the system, its standard input, its standard
+//! output and a hall over TCP to `answer`, puts a line on standard error where the status does not say enough, and ends with the status.
 #![tactic(auto)]
 
 mod answer;
@@ -12,6 +12,7 @@ use answer::{answer, complaint};
 use arguments::command_words;
 use line_words::Memory;
 use room_files::StdFiles;
+use room_halls::TcpHall;
 use room_ports::{StdSink, StdSource, put};
 use std::process::ExitCode;
 
@@ -27,7 +28,16 @@ fn main(rt: HostRuntime) -> ExitCode {
     let mut files = StdFiles::new(&rt);
     let mut input = StdSource::new(rt.stdin());
     let mut output = StdSink::new(rt.stdout());
-    let status = answer(alloc, &words, &mut files, &mut input, &mut output);
+    let mut hall = TcpHall::new(alloc, &rt, rt.stderr());
+    let status = answer(
+        &rt,
+        alloc,
+        &words,
+        &mut files,
+        &mut input,
+        &mut output,
+        &mut hall,
+    );
     let _ = put(&mut StdSink::new(rt.stderr()), complaint(status).as_bytes());
     ExitCode::from(status)
 }

@@ -14,11 +14,13 @@ usage: cutroom COMMAND
 
 run TRACKS REELS   one station on an empty cut: lines from standard input; replies, then the journal, to standard output
 run DOC RATE DROP  the same on the cut that a document describes
+serve DOC RATE DROP STATIONS ADDRESS JOURNAL
+                   that many stations at once on such a cut, each over a connection to ADDRESS; the journal to the file JOURNAL
 --help             this text
 --version          the version
 
 TRACKS is 1 to 16 and REELS is 0 to 999. DOC is the path of an OpenTimelineIO file, RATE is its frames a second, one of
-23.976, 24, 25, 29.97 and 30, and DROP is ndf, or drop at 29.97.
+23.976, 24, 25, 29.97 and 30, and DROP is ndf, or drop at 29.97. STATIONS is 1 to 16, and ADDRESS is as localhost:7000.
 
 Examples:
   printf 'items 0\\nview 0 0 96\\n' | cutroom run examples/kitchen.otio 24 ndf

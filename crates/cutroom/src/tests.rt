@@ -4,6 +4,7 @@ use crate::arguments::words_after_the_name;
 use crate::notice::{HELP, Notice, VERSION};
 use line_words::{Memory, Words};
 use room_files::MemFiles;
+use room_halls::MemHall;
 use room_ports::{MemSink, MemSource};
 use std::alloc::Global;
 
@@ -99,7 +100,16 @@ fn words_are_answered_once(rt: HostRuntime) -> Result<(), Memory> {
         let mut input = MemSource::new(pieces, reads.to_vec(alloc)?);
         let mut output = MemSink::new(alloc, writes.to_vec(alloc)?);
         let mut files = MemFiles::new(alloc, Vec::new(alloc));
-        let ended = answer(alloc, &words, &mut files, &mut input, &mut output);
+        let mut hall = MemHall::new(alloc, Vec::new(alloc), Vec::new(alloc));
+        let ended = answer(
+            &rt,
+            alloc,
+            &words,
+            &mut files,
+            &mut input,
+            &mut output,
+            &mut hall,
+        );
         assert_eq!(rt; ended, status, "{texts:?}");
         assert!(rt; output.bytes() == Some(text.as_bytes()), "{texts:?}");
         assert!(rt; complaint(ended).is_empty() != complains, "{texts:?}");

@@ -5,8 +5,6 @@ pub mod Walk
 pub mod Whole
 pub mod Dissolved
 pub mod Numbers
-pub mod Laid
 pub mod AtCuts
 pub mod Marked
-pub mod Goodness
 pub mod Named

@@ -29,15 +29,18 @@ pub fn dissolve<L: Ledger>(
     requires named { map (λ (t : TrackState). t.number) named.old.items ≡ call.now.track ∷ [] }
     requires good { All (λ t. IsGood table.now t) named.old.items }
 
-    ensures answers { Answers (dissolve_named table.now named.old.items call.now) named.old.items named.new.items result }
+    ensures answers { Answers (dissolve_named table.now named.old.items call.now)
+        named.old.items named.new.items result }
 
     ensures named { map (λ (t : TrackState). t.number) named.new.items ≡ call.now.track ∷ [] }
     ensures good { All (λ t. IsGood table.now t) named.new.items }
-    ensures unlinked { All (λ t. AllUnlinked (items_of t.cells)) named.old.items → All (λ t. AllUnlinked (items_of t.cells)) named.new.items }
+    ensures unlinked { All (λ t. AllUnlinked (items_of t.cells)) named.old.items
+        → All (λ t. AllUnlinked (items_of t.cells)) named.new.items }
     ensures numbers { NextRises 0 named.old.items named.new.items }
 
     ensures least { steps.old + 1 ≤ steps.new }
-    ensures most { steps.new ≤ steps.old + sum_by (λ t. length (items_of t.cells) + 64) named.old.items }
+    ensures most { steps.new
+        ≤ steps.old + sum_by (λ t. length (items_of t.cells) + 64) named.old.items }
 {
     dissolve_track(table, &mut named[0], call, steps)
 }
@@ -54,15 +57,18 @@ pub fn undissolve<L: Ledger>(
     requires named { map (λ (t : TrackState). t.number) named.old.items ≡ call.now.track ∷ [] }
     requires good { All (λ t. IsGood table.now t) named.old.items }
 
-    ensures answers { Answers (undissolve_named named.old.items call.now) named.old.items named.new.items result }
+    ensures answers { Answers (undissolve_named named.old.items call.now)
+        named.old.items named.new.items result }
 
     ensures named { map (λ (t : TrackState). t.number) named.new.items ≡ call.now.track ∷ [] }
     ensures good { All (λ t. IsGood table.now t) named.new.items }
-    ensures unlinked { All (λ t. AllUnlinked (items_of t.cells)) named.old.items → All (λ t. AllUnlinked (items_of t.cells)) named.new.items }
+    ensures unlinked { All (λ t. AllUnlinked (items_of t.cells)) named.old.items
+        → All (λ t. AllUnlinked (items_of t.cells)) named.new.items }
     ensures numbers { NextRises 0 named.old.items named.new.items }
 
     ensures least { steps.old + 1 ≤ steps.new }
-    ensures most { steps.new ≤ steps.old + sum_by (λ t. length (items_of t.cells) + 64) named.old.items }
+    ensures most { steps.new
+        ≤ steps.old + sum_by (λ t. length (items_of t.cells) + 64) named.old.items }
 {
     undissolve_track(table, &mut named[0], call, steps)
 }
@@ -76,10 +82,12 @@ fn dissolve_track<L: Ledger>(
 ) -> Result<Done, EditFault>
     requires good { IsGood table.now track.old }
 
-    ensures answers { Answers (dissolve_on table.now track.old call.now) track.old track.new result }
+    ensures answers { Answers (dissolve_on table.now track.old call.now)
+        track.old track.new result }
 
     ensures good { IsGood table.now track.new }
-    ensures unlinked { AllUnlinked (items_of track.old.cells) → AllUnlinked (items_of track.new.cells) }
+    ensures unlinked { AllUnlinked (items_of track.old.cells)
+        → AllUnlinked (items_of track.new.cells) }
     ensures numbers { NextRises 0 (track.old ∷ []) (track.new ∷ []) }
 
     ensures least { steps.old + 1 ≤ steps.new }
@@ -115,7 +123,8 @@ fn undissolve_track<L: Ledger>(
     ensures answers { Answers (undissolve_on track.old call.now) track.old track.new result }
 
     ensures good { IsGood table.now track.new }
-    ensures unlinked { AllUnlinked (items_of track.old.cells) → AllUnlinked (items_of track.new.cells) }
+    ensures unlinked { AllUnlinked (items_of track.old.cells)
+        → AllUnlinked (items_of track.new.cells) }
     ensures numbers { NextRises 0 (track.old ∷ []) (track.new ∷ []) }
 
     ensures least { steps.old + 1 ≤ steps.new }

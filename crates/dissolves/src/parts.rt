@@ -33,7 +33,9 @@ pub fn add_item(
     requires between { Between before view after }
     requires places { from + view.len < 2 ^ 32 }
     requires room { len_of all.old.items ≤ from }
-    ensures walked { OnOk result ((rest frames : List (Frame What)) → Walked all.old.items from a b (item_frames before view after ++ rest) frames → Walked all.new.items (from + view.len) a b rest frames) }
+    ensures walked { OnOk result ((rest frames : List (Frame What))
+        → Walked all.old.items from a b (item_frames before view after ++ rest) frames
+        → Walked all.new.items (from + view.len) a b rest frames) }
 {
     let head = head_of(before, &view);
     let tail = tail_of(&view, after);

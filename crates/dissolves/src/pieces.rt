@@ -22,7 +22,9 @@ pub fn add_part(
     requires reaches { Reaches run.frame run.len }
     requires places { from + run.len < 2 ^ 32 }
     requires room { len_of all.old.items ≤ from }
-    ensures walked { OnOk result ((rest frames : List (Frame What)) → Walked all.old.items from a b (run_frames run ++ rest) frames → Walked all.new.items (from + run.len) a b rest frames) }
+    ensures walked { OnOk result ((rest frames : List (Frame What))
+        → Walked all.old.items from a b (run_frames run ++ rest) frames
+        → Walked all.new.items (from + run.len) a b rest frames) }
     ensures room { OnOk result (len_of all.new.items ≤ from + run.len) }
 {
     let begin = a.max(from);

@@ -23,7 +23,8 @@ pub fn runs_in(alloc: Global, track: &Track, a: u32, b: u32) -> Result<Vec<Run<W
     requires order { a ≤ b }
     requires within { b ≤ length track.now.cells }
     requires short { length track.now.cells < 4294967295 }
-    ensures { IfOk result (λ v. v.items ≡ runs same_what (take (b - a) (drop a (render track.now.cells)))) }
+    ensures { IfOk result (λ v. v.items ≡ runs same_what
+        (take (b - a) (drop a (render track.now.cells)))) }
 {
     let length = track.length();
     prove!(b <= length);

@@ -1,5 +1,5 @@
-// What is shown, and dissolves, against plain programs.
+// Worked rows, and plain programs to compare with.
 
-mod laying;
 mod marks;
+mod tracks;
 mod views;

@@ -8,7 +8,7 @@ use Rattle.composables.specs.declared.items.ItemView.{ItemView}
 use Rattle.composables.specs.declared.media.Table.{Table}
 use Rattle.composables.specs.declared.TheConstants.{MAX_ITEMS}
 use Rattle.composables.specs.Bounds.{bounds_of}
-use Rattle.composables.specs.Good.{AllUnlinked, EachLiesIn, EachLinkOf, LiesIn}
+use Rattle.composables.specs.Good.{EachLiesIn, EachLinkOf, LiesIn}
 use Rattle.composables.specs.Items.{cells_of, items_of, view_cells}
 use Rattle.composables.specs.Joined.{AllFilled, IsTight, frames_in}
 use Rattle.composables.specs.TrackFacts.{Apart, EachHolds, Holds, IsKept, Lacks, NumbersBelow, first_mark, right_reach}
@@ -101,11 +101,6 @@ unfolding row_from
 row-linked number n zero = tt
 row-linked number n (suc k) = (tt, row-linked number (n + 1) k)
 
-row-unlinked : (n k : ℕ) → AllUnlinked (row_from n k)
-unfolding row_from
-row-unlinked n zero = tt
-row-unlinked n (suc k) = (refl, row-unlinked (n + 1) k)
-
 pub row_track : ℕ → TrackState
 row_track k = record { number = 0; cells = cells_of (row_from 0 k); next_item = k; next_link = 0 }
 
@@ -140,7 +135,6 @@ row-good table k few media = record {
     items = omega (arith, few, ap length (row-items k), row-count 0 k);
   };
   number_is = refl;
-  unlinked = by-items AllUnlinked k (row-unlinked 0 k);
 }
 
 -- a track of so many

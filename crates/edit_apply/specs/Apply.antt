@@ -17,13 +17,19 @@ use Rattle.edit_roll.specs.Sliding.{slide_named}
 use Rattle.edit_trim.specs.Rippling.{ripple_named}
 use Rattle.edit_trim.specs.Slipping.{slip_named}
 use Rattle.edit_trim.specs.Trimming.{trim_named}
+use Rattle.link_groups.specs.Linking.{link_named, unlink_named}
 use Rattle.room_core.specs.Whole.{Meaning}
 use Rattle.edit_apply.specs.declared.asks.Call.{Call}
 use Rattle.edit_apply.specs.declared.asks.Call.TheVariants as call
 use Rattle.edit_apply.specs.declared.naming.NamedTracks.{NamedTracks}
 use Rattle.edit_apply.specs.declared.naming.NamedTracks.TheVariants.{One, Many}
 
--- a call is for its one track, or for a set of tracks
+-- the first of these tracks, and 0 where there is none
+abbrev pub lowest : List ℕ → ℕ
+lowest [] = 0
+lowest (n ∷ ns) = n
+
+-- A call is for its one track, or for a set of tracks. The own track of a new link is its home, the lowest one named.
 abbrev pub named_by : Call → NamedTracks
 named_by (call.Overwrite c) = One c.track
 named_by (call.Insert c) = Many c.tracks c.track
@@ -38,6 +44,8 @@ named_by (call.Roll c) = One c.track
 named_by (call.Slide c) = Many c.tracks c.track
 named_by (call.Fill c) = One c.track
 named_by (call.Ripple c) = Many c.tracks c.track
+named_by (call.Link3 c) = Many c.tracks (lowest (tracks_in c.tracks))
+named_by (call.Unlink c) = One c.track
 
 abbrev pub tracks_of : NamedTracks → List ℕ
 tracks_of (One track) = track ∷ []
@@ -97,6 +105,8 @@ applied_on table named (call.Roll c) = roll_named table named c
 applied_on table named (call.Slide c) = slide_named table named c
 applied_on table named (call.Fill c) = fill_named table named c
 applied_on table named (call.Ripple c) = ripple_named table named c
+applied_on table named (call.Link3 c) = link_named named c
+applied_on table named (call.Unlink c) = unlink_named named c
 
 -- what the calls of a room with this table mean
 abbrev pub editing : Table → Meaning TrackState Call Done Refusal

@@ -8,25 +8,25 @@ use Rattle.room_core.specs.Parts.{AreGood, numbers}
 use Rattle.edit_apply.specs.declared.asks.Call.{Call}
 use Rattle.edit_apply.specs.Apply.{names_of, track_count}
 
--- No item of the track is linked. No call makes a link yet, and a room is opened without links.
+-- no item of the track is linked; a room is opened so
 abbrev pub IsUnlinked : TrackState → Type 0
 IsUnlinked t = AllUnlinked (items_of t.cells)
 
--- a track of a room with this table: it is good in the table, has its place in the room for its number, and has no links
+-- a track of a room with this table: it is good in the table, and has its place in the room for its number
 pub record IsTrackOf (table : Table) (number : ℕ) (t : TrackState) : Type 0 where
   pub good : IsGood table t
   pub number_is : t.number ≡ number
-  pub unlinked : IsUnlinked t
 
 -- the tracks are those that a call names
 abbrev pub AreNamed : Call → List TrackState → Type 0
 AreNamed c named = map (λ (t : TrackState). t.number) named ≡ names_of c
 
 -- Tracks that a history can begin with: those of the table, in order, from 1 to 32; they have given away at most 65,536
--- item numbers and no link number.
+-- item numbers and no link number, and have no links.
 pub record IsOpening (table : Table) (tracks : List TrackState) : Type 0 where
   pub some : 0 < length table.kinds
   pub most : length table.kinds ≤ 32
   pub good : AreGood (IsTrackOf table) (numbers 0 (track_count table)) tracks
   pub items : All (λ (t : TrackState). t.next_item ≤ 65536) tracks
   pub links : All (λ (t : TrackState). t.next_link ≡ 0) tracks
+  pub unlinked : All IsUnlinked tracks

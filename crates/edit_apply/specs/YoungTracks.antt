@@ -1,6 +1,5 @@
--- How far the numbers of tracks without links have risen: each call raises the next item number of a track by two at
--- most, and no next link number.
-use Rattle.std.proofs.Common.{◌≡◌, ℕ, zero, suc, ℤ, pos, negsuc, ◌+◌, ◌-◌, ◌<◌, ◌≤◌, Bool, true, false, cond, eqb, min, List, [], ◌∷◌, All, length, map, Option, Some, None, IfSome, Result, Ok, Err, refl, sym, ◌∙◌, arith, subst, nat_lt, unwrap_or}
+-- How far the item numbers of tracks have risen: each call raises the next item number of a track by two at most.
+use Rattle.std.proofs.Common.{◌≡◌, ℕ, zero, suc, ℤ, pos, negsuc, ◌+◌, ◌-◌, ◌<◌, ◌≤◌, Bool, true, false, cond, eqb, min, List, [], ◌∷◌, ◌++◌, All, length, map, take, drop, Option, Some, None, IfSome, Result, Ok, Err, refl, sym, ◌∙◌, arith, subst, nat_lt, unwrap_or}
 use Rattle.std.proofs.lemmas.List.Elements.{All-cons}
 use Rattle.frame_meaning.specs.declared.cells.What.{What}
 use Rattle.composables.specs.declared.calls.Overwrite.{Overwrite}
@@ -17,6 +16,8 @@ use Rattle.composables.specs.declared.calls.Undissolve.{Undissolve}
 use Rattle.composables.specs.declared.calls.End.{End}
 use Rattle.composables.specs.declared.calls.End.TheVariants.{Head, Tail}
 use Rattle.composables.specs.declared.calls.Trim.{Trim}
+use Rattle.composables.specs.declared.calls.Link3.{Link3}
+use Rattle.composables.specs.declared.calls.Unlink.{Unlink}
 use Rattle.composables.specs.declared.calls.Slip.{Slip}
 use Rattle.composables.specs.declared.items.ItemView.{ItemView}
 use Rattle.composables.specs.declared.media.Table.{Table}
@@ -25,11 +26,10 @@ use Rattle.composables.specs.declared.refusals.Done.TheVariants.{By, Item, Plain
 use Rattle.composables.specs.declared.refusals.Refusal.{Refusal}
 use Rattle.composables.specs.declared.refusals.Refusal.TheVariants.{NoItem, NotACut, NoTrack}
 use Rattle.composables.specs.Answers.{Applied, unless}
-use Rattle.composables.specs.Good.{AllUnlinked}
 use Rattle.composables.specs.Joined.{frames_in}
 use Rattle.composables.specs.Limits.{too_long, too_many, track_within_limits, within_limits}
 use Rattle.composables.specs.Items.{cells_of}
-use Rattle.composables.specs.Links.{outside_refusal}
+use Rattle.composables.specs.Links.{links_split, moved_cell, outside_refusal, split_links, split_track}
 use Rattle.composables.specs.OwnTracks.{among_named, for_own, on_own, track_numbered, with_track}
 use Rattle.composables.specs.Ranges.{gap_at, is_cut, range_of}
 use Rattle.composables.specs.TrackFacts.{NumbersBelow}
@@ -51,7 +51,7 @@ use Rattle.edit_insert.specs.Fills.{fill_at, fill_named, fill_track, filled, fra
 use Rattle.edit_roll.specs.Neighbours.{move_allows}
 use Rattle.edit_roll.specs.Rolling.{roll_cut, roll_named, roll_track, rolled}
 use Rattle.edit_roll.specs.Sliding.{bare_item, links_refuse, slid, slide_allows, slide_named, slide_own, slide_range, slide_track}
-use Rattle.edit_splice.specs.Shifts.{shift_of, shifted, shifted_along, shifted_track}
+use Rattle.edit_splice.specs.Shifts.{after_shift, shift_of, shift_refusal, shifted, shifted_along, shifted_track}
 use Rattle.edit_splice.specs.Splicing.{spliced_track}
 use Rattle.edit_splice.proofs.Outcomes.{next-bounds}
 use Rattle.edit_insert.specs.Edits.{extract_named, extracted, for_range, insert_named, inserted, overwrite_named, overwrite_track, overwritten, remove_named, remove_track, slice_named, slice_track}
@@ -60,26 +60,21 @@ use Rattle.edit_insert.specs.Sources.{source_refusal}
 use Rattle.edit_splice.proofs.Bridging.{for-found}
 use Rattle.edit_splice.proofs.Standing.{all_head, all_none, all_tail}
 use Rattle.edit_splice.proofs.Numbers.{if-weaker}
-use Rattle.edit_splice.proofs.Unlinked.{Bare, shift-free, split-free}
 use Rattle.link_groups.specs.ItemLinks.{carries, link_of}
-use Rattle.link_groups.specs.LinkedItems.{item_of}
-use Rattle.edit_apply.specs.PlainCells.{ArePlain, IsPlain, plain-append, plain-at, plain-bare, plain-changed, plain-marked, plain-more, plain-spliced, plain-views}
+use Rattle.link_groups.specs.LinkedItems.{item_of, linked_found, linked_item}
+use Rattle.link_groups.specs.Linking.{all_linked, home_risen, link_named, link_refusal, linked, new_link, unlink_named, unlink_on, where_there}
+use Rattle.edit_apply.specs.PlainCells.{ArePlain, IsPlain, plain-append, plain-at, plain-changed, plain-drop, plain-linked-on, plain-marked, plain-more, plain-relinked, plain-spliced, plain-take, plain-views}
 
--- a track without links that has given away at most this many item numbers, and no link number
+-- a track that has given away at most this many item numbers
 pub record IsYoung (n : ℕ) (t : TrackState) : Type 0 where
   pub item : t.next_item ≤ n
-  pub link : t.next_link ≡ 0
   pub plain : ArePlain n t.cells
 
 pub young-more : (n m : ℕ) (t : TrackState) → n ≤ m → IsYoung n t → IsYoung m t
-young-more n m t le y = record { item = omega (arith, le, y.item); link = y.link; plain = plain-more n m t.cells le y.plain }
+young-more n m t le y = record { item = omega (arith, le, y.item); plain = plain-more n m t.cells le y.plain }
 
 pub all-more : (n m : ℕ) (ts : List TrackState) → n ≤ m → All (IsYoung n) ts → All (IsYoung m) ts
 all-more n m ts le h k d lt = young-more n m _ le (h k d lt)
-
-pub all-bare : (n : ℕ) (ts : List TrackState) → All (IsYoung n) ts → Bare ts
-all-bare n [] h = tt
-all-bare n (t ∷ ts) h = (plain-bare n t.cells (all_head (IsYoung n) t ts h).plain, all-bare n ts (all_tail (IsYoung n) t ts h))
 
 -- what a call leaves, if it is done
 abbrev pub AreYoung : ℕ → Applied → Type 0
@@ -94,18 +89,18 @@ StaysYoung n (Err r) = Unit {0}
 young_views : (n m : ℕ) (views : List ItemView) → n ≡ m → NumbersBelow n views → NumbersBelow m views
 young_views n m views e h = subst (λ (k : ℕ). NumbersBelow k views) e h
 
-pub young-spliced : (n : ℕ) (t : TrackState) (x y : ℕ) (views : List ItemView) → IsYoung n t → NumbersBelow (n + 1) views → AllUnlinked views
+pub young-spliced : (n : ℕ) (t : TrackState) (x y : ℕ) (views : List ItemView) → IsYoung n t → NumbersBelow (n + 1) views
     → IsYoung (n + 2) (spliced_track t x y views)
-young-spliced n t x y views h below u =
+young-spliced n t x y views h below =
     let more : ℕ = n + 1 - t.next_item in
     let e : n + 1 ≡ t.next_item + more = omega (arith, h.item) in
     let next = next-bounds t x y more views (young_views (n + 1) (t.next_item + more) views e below) in
     let most : (spliced_track t x y views).next_item ≤ t.next_item + more + 1 = next.1 in
     let up : n ≤ n + 1 = omega arith in
     let low : t.next_item ≤ n + 1 = omega (arith, h.item) in
-    let plain = plain-spliced (n + 1) t x y views low (plain-more n (n + 1) t.cells up h.plain) below u in
+    let plain = plain-spliced (n + 1) t x y views low (plain-more n (n + 1) t.cells up h.plain) below in
     let same : n + 1 + 1 ≡ n + 2 = omega arith in
-    record { item = omega (arith, most, e); link = h.link; plain = subst (λ (k : ℕ). ArePlain k (spliced_track t x y views).cells) same plain }
+    record { item = omega (arith, most, e); plain = subst (λ (k : ℕ). ArePlain k (spliced_track t x y views).cells) same plain }
 
 gap_young : (n k : ℕ) → NumbersBelow n (gap_views k)
 gap_young n k = by (eqb k 0) where
@@ -113,18 +108,12 @@ gap_young n k = by (eqb k 0) where
   by true = tt
   by false = (tt, tt)
 
-gap_unlinked : (k : ℕ) → AllUnlinked (gap_views k)
-gap_unlinked k = by (eqb k 0) where
-  by : (b : Bool) → AllUnlinked (cond b [] (gap_view k ∷ []))
-  by true = tt
-  by false = (refl, tt)
-
 pub young-padded : (n : ℕ) (t : TrackState) (at : ℕ) → IsYoung n t → IsYoung n (padded_track t at)
 young-padded n t at h = record {
   item = h.item;
-  link = h.link;
+ 
   plain = plain-append n t.cells (cells_of (gap_views (at - length t.cells))) h.plain
-      (plain-views n (gap_views (at - length t.cells)) (gap_young n (at - length t.cells)) (gap_unlinked (at - length t.cells)));
+      (plain-views n (gap_views (at - length t.cells)) (gap_young n (at - length t.cells)));
 }
 
 -- refusals
@@ -190,24 +179,44 @@ for_range_young m meant (Some (x, y)) h = h x y
 along_young : (n : ℕ) (t : TrackState) (x y len : ℕ) → IsYoung n t → IsYoung (n + 2) (shifted_along t x y len)
 along_young n t x y len h = by (nat_lt x (length t.cells)) where
   by : (b : Bool) → IsYoung (n + 2) (spliced_track t (min x (length t.cells)) (min y (length t.cells)) (cond b (gap_views len) []))
-  by true = young-spliced n t (min x (length t.cells)) (min y (length t.cells)) (gap_views len) h (gap_young (n + 1) len) (gap_unlinked len)
-  by false = young-spliced n t (min x (length t.cells)) (min y (length t.cells)) [] h tt tt
+  by true = young-spliced n t (min x (length t.cells)) (min y (length t.cells)) (gap_views len) h (gap_young (n + 1) len)
+  by false = young-spliced n t (min x (length t.cells)) (min y (length t.cells)) [] h tt
 
-shifted_young : (n own x y : ℕ) (views : List ItemView) (ts : List TrackState) → All (IsYoung n) ts → NumbersBelow (n + 1) views → AllUnlinked views
+shifted_young : (n own x y : ℕ) (views : List ItemView) (ts : List TrackState) → All (IsYoung n) ts → NumbersBelow (n + 1) views
     → All (IsYoung (n + 2)) (shifted own x y views ts)
-shifted_young n own x y views [] h below u = all_none (IsYoung (n + 2))
-shifted_young n own x y views (t ∷ ts) h below u =
+shifted_young n own x y views [] h below = all_none (IsYoung (n + 2))
+shifted_young n own x y views (t ∷ ts) h below =
     All-cons (IsYoung (n + 2)) (shifted_track own x y views t) (shifted own x y views ts) (by (eqb t.number own))
-    (shifted_young n own x y views ts (all_tail (IsYoung n) t ts h) below u) where
+    (shifted_young n own x y views ts (all_tail (IsYoung n) t ts h) below) where
       by : (b : Bool) → IsYoung (n + 2) (cond b (spliced_track t x y views) (shifted_along t x y (frames_in views)))
-      by true = young-spliced n t x y views (all_head (IsYoung n) t ts h) below u
+      by true = young-spliced n t x y views (all_head (IsYoung n) t ts h) below
       by false = along_young n t x y (frames_in views) (all_head (IsYoung n) t ts h)
 
-shift_young : (n own x y : ℕ) (views : List ItemView) (done : Done) (ts : List TrackState) → All (IsYoung n) ts → NumbersBelow (n + 1) views → AllUnlinked views
+-- links are split: no item number is given away
+relinked_young : (n z : ℕ) (us : List TrackState) (ls : List Link) (ts : List TrackState) → All (IsYoung n) ts → All (IsYoung n) (map (split_track z us ls) ts)
+relinked_young n z us ls [] h = all_none (IsYoung n)
+relinked_young n z us ls (t ∷ ts) h =
+    All-cons (IsYoung n) (split_track z us ls t) (map (split_track z us ls) ts) (one (all_head (IsYoung n) t ts h)) (relinked_young n z us ls ts (all_tail (IsYoung n) t ts h)) where
+      one : IsYoung n t → IsYoung n (split_track z us ls t)
+      one y = record {
+        item = y.item;
+        plain = plain-append n (take z t.cells) (map (moved_cell us ls) (drop z t.cells)) (plain-take n z t.cells y.plain) (plain-relinked n us ls (drop z t.cells) (plain-drop n z t.cells y.plain));
+      }
+
+split_young : (n x z : ℕ) (ts : List TrackState) → All (IsYoung n) ts → All (IsYoung n) (links_split x z ts)
+split_young n x z ts h = relinked_young n z ts (split_links x z ts) ts h
+
+shift_young : (n own x y : ℕ) (views : List ItemView) (done : Done) (ts : List TrackState) → All (IsYoung n) ts → NumbersBelow (n + 1) views
     → AreYoung (n + 2) (shift_of own x y views done ts)
-shift_young n own x y views done ts h below u =
-    subst (AreYoung (n + 2)) (sym (shift-free own x y views done ts u (all-bare n ts h)))
-    (within_young (n + 2) (shifted own x y views ts) done (shifted_young n own x y views ts h below u))
+shift_young n own x y views done ts h below =
+    unless_young (n + 2) (shift_refusal x y (frames_in views) ts) (within_limits (after_shift own x y views ts) done)
+    (within_young (n + 2) (after_shift own x y views ts) done (by (eqb (frames_in views) (y - x)))) where
+      all : All (IsYoung (n + 2)) (shifted own x y views ts)
+      all = shifted_young n own x y views ts h below
+
+      by : (b : Bool) → All (IsYoung (n + 2)) (cond b (shifted own x y views ts) (links_split x (x + frames_in views) (shifted own x y views ts)))
+      by true = all
+      by false = split_young (n + 2) x (x + frames_in views) (shifted own x y views ts) all
 
 -- each call
 clip_below : (n m : ℕ) (what : What) (from len : ℕ) → m ≤ n → NumbersBelow (n + 1) (clip_view m what from len ∷ [])
@@ -220,7 +229,7 @@ young-overwrite n table ts c h = on-own-young n (n + 2) c.track (overwrite_track
       unless_stays (n + 2) (source_refusal table t.number c.what c.from c.len) (track_within_limits (overwritten t c.at c.what c.from c.len) (Item t.next_item))
       (within_stays (n + 2) (overwritten t c.at c.what c.from c.len) (Item t.next_item)
       (young-spliced n (padded_track t c.at) c.at (min (c.at + c.len) (length (padded_track t c.at).cells)) (clip_view t.next_item c.what c.from c.len ∷ [])
-      (young-padded n t c.at y) (clip_below n t.next_item c.what c.from c.len y.item) (refl, tt)))
+      (young-padded n t c.at y) (clip_below n t.next_item c.what c.from c.len y.item)))
 
 pub young-insert : (n : ℕ) (table : Table) (ts : List TrackState) (c : Insert) → All (IsYoung n) ts → AreYoung (n + 2) (insert_named table ts c)
 young-insert n table ts c h = for_own_young n (n + 2) c.track (inserted table c ts) ts h each where
@@ -229,33 +238,33 @@ young-insert n table ts c h = for_own_young n (n + 2) c.track (inserted table c 
       unless_young (n + 2) (source_refusal table t.number c.what c.from c.len)
       (shift_of c.track c.at c.at (clip_view t.next_item c.what c.from c.len ∷ []) (Item t.next_item) (with_track ts (padded_track t c.at)))
       (shift_young n c.track c.at c.at (clip_view t.next_item c.what c.from c.len ∷ []) (Item t.next_item) (with_track ts (padded_track t c.at))
-      (with_young n ts (padded_track t c.at) h (young-padded n t c.at y)) (clip_below n t.next_item c.what c.from c.len y.item) (refl, tt))
+      (with_young n ts (padded_track t c.at) h (young-padded n t c.at y)) (clip_below n t.next_item c.what c.from c.len y.item))
 
 pub young-remove : (n : ℕ) (ts : List TrackState) (c : Remove) → All (IsYoung n) ts → AreYoung (n + 2) (remove_named ts c)
 young-remove n ts c h = on-own-young n (n + 2) c.track (remove_track c) ts (omega arith) h each where
   each : (t : TrackState) → IsYoung n t → StaysYoung (n + 2) (remove_track c t)
   each t y = for_range_stays (n + 2) (λ a b. track_within_limits (spliced_track t a b (gap_views (b - a))) Plain) (range_of t.cells c.item)
       (λ a b. within_stays (n + 2) (spliced_track t a b (gap_views (b - a))) Plain
-      (young-spliced n t a b (gap_views (b - a)) y (gap_young (n + 1) (b - a)) (gap_unlinked (b - a))))
+      (young-spliced n t a b (gap_views (b - a)) y (gap_young (n + 1) (b - a))))
 
 pub young-extract : (n : ℕ) (ts : List TrackState) (c : Extract) → All (IsYoung n) ts → AreYoung (n + 2) (extract_named ts c)
 young-extract n ts c h = for_own_young n (n + 2) c.track (extracted c ts) ts h each where
   each : (t : TrackState) → IsYoung n t → AreYoung (n + 2) (extracted c ts t)
-  each t y = for_range_young (n + 2) (λ a b. shift_of c.track a b [] Plain ts) (range_of t.cells c.item) (λ a b. shift_young n c.track a b [] Plain ts h tt tt)
+  each t y = for_range_young (n + 2) (λ a b. shift_of c.track a b [] Plain ts) (range_of t.cells c.item) (λ a b. shift_young n c.track a b [] Plain ts h tt)
 
 pub young-slice : (n : ℕ) (ts : List TrackState) (c : Slice) → All (IsYoung n) ts → AreYoung (n + 2) (slice_named ts c)
 young-slice n ts c h = on-own-young n (n + 2) c.track (slice_track c) ts (omega arith) h each where
   each : (t : TrackState) → IsYoung n t → StaysYoung (n + 2) (slice_track c t)
   each t y = by (nat_lt c.at (length t.cells)) where
     by : (b : Bool) → StaysYoung (n + 2) (cond b (track_within_limits (spliced_track t c.at c.at []) Plain) (Err NoItem))
-    by true = within_stays (n + 2) (spliced_track t c.at c.at []) Plain (young-spliced n t c.at c.at [] y tt tt)
+    by true = within_stays (n + 2) (spliced_track t c.at c.at []) Plain (young-spliced n t c.at c.at [] y tt)
     by false = tt
 
 -- a dissolve put or taken away
 young_marked : (n : ℕ) (t : TrackState) (p : ℕ) (mark : Option Mark) → IsYoung n t → IsYoung (n + 2) (marked_track t p mark)
 young_marked n t p mark y = record {
   item = omega (arith, y.item);
-  link = y.link;
+ 
   plain = plain-marked (n + 2) t.cells p mark (plain-more n (n + 2) t.cells (omega arith) y.plain);
 }
 
@@ -284,32 +293,29 @@ used_stays n t moved (pos (suc k)) y h = within_stays (n + 2) (moved (pos (suc k
 used_stays n t moved (negsuc k) y h = within_stays (n + 2) (moved (negsuc k)) (By (negsuc k)) h
 
 -- a part of an item that goes on or reaches back, with the item's number
-part_young : (n : ℕ) (t : TrackState) (x y p : ℕ) (v : ItemView) → IsYoung n t → v.item ≡ (cell_at t.cells p).item → v.link ≡ (cell_at t.cells p).link
+part_young : (n : ℕ) (t : TrackState) (x y p : ℕ) (v : ItemView) → IsYoung n t → v.item ≡ (cell_at t.cells p).item
     → IsYoung (n + 2) (spliced_track t x y (v ∷ []))
-part_young n t x y p v h item link =
+part_young n t x y p v h item =
     let plain : IsPlain n (cell_at t.cells p) = plain-at n t.cells p h.plain in
-    let below : IfSome v.item (λ i. i < n) = subst (λ (o : Option ℕ). IfSome o (λ i. i < n)) (sym item) plain.0 in
-    young-spliced n t x y (v ∷ []) h (if-weaker v.item n (n + 1) (omega arith) below, tt) (link ∙ plain.1, tt)
+    let below : IfSome v.item (λ i. i < n) = subst (λ (o : Option ℕ). IfSome o (λ i. i < n)) (sym item) plain in
+    young-spliced n t x y (v ∷ []) h (if-weaker v.item n (n + 1) (omega arith) below, tt)
 
 -- two parts side by side
 parts_young : (n : ℕ) (t : TrackState) (x y p q : ℕ) (v w : ItemView) → IsYoung n t
-    → v.item ≡ (cell_at t.cells p).item → v.link ≡ (cell_at t.cells p).link → w.item ≡ (cell_at t.cells q).item → w.link ≡ (cell_at t.cells q).link
+    → v.item ≡ (cell_at t.cells p).item → w.item ≡ (cell_at t.cells q).item
     → IsYoung (n + 2) (spliced_track t x y (v ∷ w ∷ []))
-parts_young n t x y p q v w h vi vl wi wl =
-    young-spliced n t x y (v ∷ w ∷ []) h (below v p vi, (below w q wi, tt)) (bare v p vl, (bare w q wl, tt)) where
+parts_young n t x y p q v w h vi wi =
+    young-spliced n t x y (v ∷ w ∷ []) h (below v p vi, (below w q wi, tt)) where
       below : (u : ItemView) (at : ℕ) → u.item ≡ (cell_at t.cells at).item → IfSome u.item (λ i. i < n + 1)
-      below u at e = if-weaker u.item n (n + 1) (omega arith) (subst (λ (o : Option ℕ). IfSome o (λ i. i < n)) (sym e) (plain-at n t.cells at h.plain).0)
-
-      bare : (u : ItemView) (at : ℕ) → u.link ≡ (cell_at t.cells at).link → u.link ≡ None
-      bare u at e = e ∙ (plain-at n t.cells at h.plain).1
+      below u at e = if-weaker u.item n (n + 1) (omega arith) (subst (λ (o : Option ℕ). IfSome o (λ i. i < n)) (sym e) (plain-at n t.cells at h.plain))
 
 dark_young : (n : ℕ) (t : TrackState) (x y k : ℕ) → IsYoung n t → IsYoung (n + 2) (spliced_track t x y (gap_views k))
-dark_young n t x y k h = young-spliced n t x y (gap_views k) h (gap_young (n + 1) k) (gap_unlinked k)
+dark_young n t x y k h = young-spliced n t x y (gap_views k) h (gap_young (n + 1) k)
 
 young_trimmed : (n : ℕ) (t : TrackState) (x y : ℕ) (end : End) (d : ℤ) → IsYoung n t → IsYoung (n + 2) (trimmed t x y end d)
 young_trimmed n t x y Head (pos k) h = dark_young n t x (x + k) k h
-young_trimmed n t x y Head (negsuc k) h = part_young n t (x - suc k) x x (reaching_back (cell_at t.cells x) (suc k)) h refl refl
-young_trimmed n t x y Tail (pos k) h = part_young n t y (min (y + k) (length t.cells)) (y - 1) (going_on (cell_at t.cells (y - 1)) k) h refl refl
+young_trimmed n t x y Head (negsuc k) h = part_young n t (x - suc k) x x (reaching_back (cell_at t.cells x) (suc k)) h refl
+young_trimmed n t x y Tail (pos k) h = part_young n t y (min (y + k) (length t.cells)) (y - 1) (going_on (cell_at t.cells (y - 1)) k) h refl
 young_trimmed n t x y Tail (negsuc k) h = dark_young n t (y - suc k) y (suc k) h
 
 pub young-trim : (n : ℕ) (table : Table) (ts : List TrackState) (c : Trim) → All (IsYoung n) ts → AreYoung (n + 2) (trim_named table ts c)
@@ -322,7 +328,7 @@ young-trim n table ts c h = on-own-young n (n + 2) c.track (trim_track table c) 
 young_moved : (n : ℕ) (t : TrackState) (x y on back : ℕ) → IsYoung n t → IsYoung (n + 2) (slipped_by t x y on back)
 young_moved n t x y on back h = record {
   item = omega (arith, h.item);
-  link = h.link;
+ 
   plain = plain-changed (n + 2) x y on back t.cells (plain-more n (n + 2) t.cells (omega arith) h.plain);
 }
 
@@ -347,13 +353,13 @@ young_linked n l on back (t ∷ ts) h =
       moved : IsYoung (n + 2) (track_moved l on back t)
       moved = record {
         item = omega (arith, y.item);
-        link = y.link;
+       
         plain = plain_linked (n + 2) l on back t.cells (plain-more n (n + 2) t.cells (omega arith) y.plain);
       }
 
-young_link : (n : ℕ) (l : Link) (ts : List TrackState) (d : ℤ) → All (IsYoung n) ts → All (IsYoung (n + 2)) (link_slipped l ts d)
-young_link n l ts (pos k) h = young_linked n l k 0 ts h
-young_link n l ts (negsuc k) h = young_linked n l 0 (suc k) ts h
+young_all : (n : ℕ) (l : Link) (ts : List TrackState) (d : ℤ) → All (IsYoung n) ts → All (IsYoung (n + 2)) (link_slipped l ts d)
+young_all n l ts (pos k) h = young_linked n l k 0 ts h
+young_all n l ts (negsuc k) h = young_linked n l 0 (suc k) ts h
 
 pub young-slip : (n : ℕ) (table : Table) (ts : List TrackState) (c : Slip) → All (IsYoung n) ts → AreYoung (n + 2) (slip_named table ts c)
 young-slip n table ts c h = for_own_young n (n + 2) c.track (slip_own table ts c) ts h (λ t y. with_link t (link_of t c.item) y) where
@@ -365,12 +371,12 @@ young-slip n table ts c h = for_own_young n (n + 2) c.track (slip_own table ts c
   with_link : (t : TrackState) (o : Option Link) → IsYoung n t → AreYoung (n + 2) (slip_with table ts c t o)
   with_link t None y = among_young n (n + 2) ts (slip_track table c t) (omega arith) h (alone t y)
   with_link t (Some l) y =
-      unless_young (n + 2) (outside_refusal ts (Some l)) (slip_link table ts l c.by) (young_link n l ts (nearest (link_allows table ts l) c.by) h)
+      unless_young (n + 2) (outside_refusal ts (Some l)) (slip_link table ts l c.by) (young_all n l ts (nearest (link_allows table ts l) c.by) h)
 
 -- a cut, and an item between its neighbours
 young_rolled : (n : ℕ) (t : TrackState) (at : ℕ) (d : ℤ) → IsYoung n t → IsYoung (n + 2) (rolled t at d)
-young_rolled n t at (pos k) h = part_young n t at (at + k) (at - 1) (going_on (cell_at t.cells (at - 1)) k) h refl refl
-young_rolled n t at (negsuc k) h = part_young n t (at - suc k) at at (reaching_back (cell_at t.cells at) (suc k)) h refl refl
+young_rolled n t at (pos k) h = part_young n t at (at + k) (at - 1) (going_on (cell_at t.cells (at - 1)) k) h refl
+young_rolled n t at (negsuc k) h = part_young n t (at - suc k) at at (reaching_back (cell_at t.cells at) (suc k)) h refl
 
 pub young-roll : (n : ℕ) (table : Table) (ts : List TrackState) (c : Roll) → All (IsYoung n) ts → AreYoung (n + 2) (roll_named table ts c)
 young-roll n table ts c h = on-own-young n (n + 2) c.track (roll_track table c) ts (omega arith) h each where
@@ -384,9 +390,9 @@ young-roll n table ts c h = on-own-young n (n + 2) c.track (roll_track table c) 
 
 young_slid : (n : ℕ) (t : TrackState) (x y : ℕ) (d : ℤ) → IsYoung n t → IsYoung (n + 2) (slid t x y d)
 young_slid n t x y (pos k) h =
-    parts_young n t x (y + k) (x - 1) x (going_on (cell_at t.cells (x - 1)) k) (bare_item (cell_at t.cells x) (y - x)) h refl refl refl refl
+    parts_young n t x (y + k) (x - 1) x (going_on (cell_at t.cells (x - 1)) k) (bare_item (cell_at t.cells x) (y - x)) h refl refl
 young_slid n t x y (negsuc k) h =
-    parts_young n t (x - suc k) y x y (bare_item (cell_at t.cells x) (y - x)) (reaching_back (cell_at t.cells y) (suc k)) h refl refl refl refl
+    parts_young n t (x - suc k) y x y (bare_item (cell_at t.cells x) (y - x)) (reaching_back (cell_at t.cells y) (suc k)) h refl refl
 
 pub young-slide : (n : ℕ) (table : Table) (ts : List TrackState) (c : Slide) → All (IsYoung n) ts → AreYoung (n + 2) (slide_named table ts c)
 young-slide n table ts c h = for_own_young n (n + 2) c.track (slide_own table ts c) ts h each where
@@ -404,7 +410,7 @@ young-slide n table ts c h = for_own_young n (n + 2) c.track (slide_own table ts
 young_filled : (n : ℕ) (t : TrackState) (c : Fill) (at len : ℕ) → IsYoung n t → StaysYoung (n + 2) (track_within_limits (filled t c at len) (Item t.next_item))
 young_filled n t c at len h =
     within_stays (n + 2) (filled t c at len) (Item t.next_item)
-    (young-spliced n t at (at + len) (clip_view t.next_item c.what c.from len ∷ []) h (clip_below n t.next_item c.what c.from len h.item) (refl, tt))
+    (young-spliced n t at (at + len) (clip_view t.next_item c.what c.from len ∷ []) h (clip_below n t.next_item c.what c.from len h.item))
 
 pub young-fill : (n : ℕ) (table : Table) (ts : List TrackState) (c : Fill) → All (IsYoung n) ts → AreYoung (n + 2) (fill_named table ts c)
 young-fill n table ts c h = on-own-young n (n + 2) c.track (fill_track table c) ts (omega arith) h each where
@@ -429,27 +435,25 @@ used_young n ts moved (pos (suc k)) h m = m
 used_young n ts moved (negsuc k) h m = m
 
 part_shifted : (n own x y p : ℕ) (t : TrackState) (v : ItemView) (done : Done) (ts : List TrackState) → All (IsYoung n) ts → IsYoung n t
-    → v.item ≡ (cell_at t.cells p).item → v.link ≡ (cell_at t.cells p).link → AreYoung (n + 2) (shift_of own x y (v ∷ []) done ts)
-part_shifted n own x y p t v done ts h young item link =
+    → v.item ≡ (cell_at t.cells p).item → AreYoung (n + 2) (shift_of own x y (v ∷ []) done ts)
+part_shifted n own x y p t v done ts h young item =
     let plain : IsPlain n (cell_at t.cells p) = plain-at n t.cells p young.plain in
-    let below : IfSome v.item (λ i. i < n) = subst (λ (o : Option ℕ). IfSome o (λ i. i < n)) (sym item) plain.0 in
-    shift_young n own x y (v ∷ []) done ts h (if-weaker v.item n (n + 1) (omega arith) below, tt) (link ∙ plain.1, tt)
+    let below : IfSome v.item (λ i. i < n) = subst (λ (o : Option ℕ). IfSome o (λ i. i < n)) (sym item) plain in
+    shift_young n own x y (v ∷ []) done ts h (if-weaker v.item n (n + 1) (omega arith) below, tt)
 
 -- the track as its links are split
 young_split : (n place : ℕ) (ts : List TrackState) (t : TrackState) → All (IsYoung n) ts → IsYoung n t → IsYoung n (as_split place ts t)
-young_split n place ts t h young =
-    subst (λ (us : List TrackState). IsYoung n (unwrap_or (track_numbered t.number us) t)) (sym (split-free place place ts (all-bare n ts h)))
-    (by (track_numbered t.number ts) (numbered_young n t.number ts h)) where
-      by : (o : Option TrackState) → IfSome o (IsYoung n) → IsYoung n (unwrap_or o t)
-      by None y = young
-      by (Some u) y = y
+young_split n place ts t h young = by (track_numbered t.number (links_split place place ts)) (numbered_young n t.number (links_split place place ts) (split_young n place place ts h)) where
+  by : (o : Option TrackState) → IfSome o (IsYoung n) → IsYoung n (unwrap_or o t)
+  by None y = young
+  by (Some u) y = y
 
 young_rippled : (n own : ℕ) (ts : List TrackState) (t : TrackState) (x y : ℕ) (end : End) (done : Done) (d : ℤ) → All (IsYoung n) ts → IsYoung n t
     → AreYoung (n + 2) (rippled own ts t x y end done d)
-young_rippled n own ts t x y Head done (pos k) h young = shift_young n own x (x + k) [] done ts h tt tt
-young_rippled n own ts t x y Head done (negsuc k) h young = part_shifted n own x x x (as_split x ts t) (reaching_back (cell_at (as_split x ts t).cells x) (suc k)) done ts h (young_split n x ts t h young) refl refl
-young_rippled n own ts t x y Tail done (pos k) h young = part_shifted n own y y (y - 1) t (going_on (cell_at t.cells (y - 1)) k) done ts h young refl refl
-young_rippled n own ts t x y Tail done (negsuc k) h young = shift_young n own (y - suc k) y [] done ts h tt tt
+young_rippled n own ts t x y Head done (pos k) h young = shift_young n own x (x + k) [] done ts h tt
+young_rippled n own ts t x y Head done (negsuc k) h young = part_shifted n own x x x (as_split x ts t) (reaching_back (cell_at (as_split x ts t).cells x) (suc k)) done ts h (young_split n x ts t h young) refl
+young_rippled n own ts t x y Tail done (pos k) h young = part_shifted n own y y (y - 1) t (going_on (cell_at t.cells (y - 1)) k) done ts h young refl
+young_rippled n own ts t x y Tail done (negsuc k) h young = shift_young n own (y - suc k) y [] done ts h tt
 
 pub young-ripple : (n : ℕ) (table : Table) (ts : List TrackState) (c : Ripple) → All (IsYoung n) ts → AreYoung (n + 2) (ripple_named table ts c)
 young-ripple n table ts c h = for_own_young n (n + 2) c.track (ripple_own table c ts) ts h each where
@@ -457,3 +461,38 @@ young-ripple n table ts c h = for_own_young n (n + 2) c.track (ripple_own table 
   each t young = on_range_young (n + 2) (ripple_end table c.track ts t c.end c.by) (range_of t.cells c.item)
       (λ a b. used_young n ts (rippled c.track ts t a b c.end) (nearest (ripple_allows table c.track ts t a b c.end) c.by) h
       (young_rippled n c.track ts t a b c.end (By (nearest (ripple_allows table c.track ts t a b c.end) c.by)) (nearest (ripple_allows table c.track ts t a b c.end) c.by) h young))
+
+-- a link made, and one taken away
+young_item : (n : ℕ) (t : TrackState) (i : ℕ) (link : Option Link) → IsYoung n t → IsYoung n (linked_item t i link)
+young_item n t i link y = record { item = y.item; plain = by (item_of t i) } where
+  by : (o : Option (ℕ × ItemView)) → ArePlain n (linked_found t.cells link o)
+  by None = y.plain
+  by (Some (x, v)) = plain-linked-on n x (x + v.len) link t.cells y.plain
+
+pub young-unlink : (n : ℕ) (ts : List TrackState) (c : Unlink) → All (IsYoung n) ts → AreYoung (n + 2) (unlink_named ts c)
+young-unlink n ts c h = on-own-young n (n + 2) c.track (unlink_on c) ts (omega arith) h each where
+  each : (t : TrackState) → IsYoung n t → StaysYoung (n + 2) (unlink_on c t)
+  each t y = by (item_of t c.item) where
+    by : (o : Option (ℕ × ItemView)) → StaysYoung (n + 2) (where_there o (Ok (linked_item t c.item None, Plain)))
+    by None = tt
+    by (Some p) = young-more n (n + 2) (linked_item t c.item None) (omega arith) (young_item n t c.item None y)
+
+all_linked_young : (n : ℕ) (made : Link) (ts : List TrackState) (is : List ℕ) → All (IsYoung n) ts → All (IsYoung n) (all_linked made ts is)
+all_linked_young n made [] is h = h
+all_linked_young n made (t ∷ ts) [] h = h
+all_linked_young n made (t ∷ ts) (i ∷ is) h =
+    All-cons (IsYoung n) (linked_item t i (Some made)) (all_linked made ts is) (young_item n t i (Some made) (all_head (IsYoung n) t ts h)) (all_linked_young n made ts is (all_tail (IsYoung n) t ts h))
+
+risen_young : (n : ℕ) (ts : List TrackState) → All (IsYoung n) ts → All (IsYoung n) (home_risen ts)
+risen_young n [] h = h
+risen_young n (t ∷ ts) h =
+    let y = all_head (IsYoung n) t ts h in
+    All-cons (IsYoung n) (record t { next_link = t.next_link + 1 }) ts (record { item = y.item; plain = y.plain }) (all_tail (IsYoung n) t ts h)
+
+pub young-link : (n : ℕ) (ts : List TrackState) (c : Link3) → All (IsYoung n) ts → AreYoung (n + 2) (link_named ts c)
+young-link n ts c h = unless_young (n + 2) (link_refusal ts c.items) (linked ts c) (by ts h) where
+  by : (us : List TrackState) → All (IsYoung n) us → AreYoung (n + 2) (linked us c)
+  by [] y = tt
+  by (u ∷ us) y =
+      all-more n (n + 2) (home_risen (all_linked (new_link u c.tracks) (u ∷ us) c.items)) (omega arith)
+      (risen_young n (all_linked (new_link u c.tracks) (u ∷ us) c.items) (all_linked_young n (new_link u c.tracks) (u ∷ us) c.items y))

@@ -8,6 +8,7 @@ ghost use Rattle.edit_apply.specs.RoomTracks.{IsOpening, IsTrackOf};
 ghost use Rattle.edit_apply.specs.RoomyLaws.{editing-roomy};
 ghost use Rattle.edit_apply.specs.See.{ask_part_of, seen_on};
 
+use crate::asks::copy_call;
 use crate::edits::{answer_of, edit};
 use crate::naming::{named_by, set_named, track_count, wrong_track};
 use crate::sights::see;
@@ -106,8 +107,8 @@ impl PartObject for Editor {
         }
     }
 
-    fn copy_call(&self, _alloc: Global, call: &Call) -> Result<Call, Memory> {
-        Ok(call.clone()?)
+    fn copy_call(&self, alloc: Global, call: &Call) -> Result<Call, Memory> {
+        copy_call(alloc, call)
     }
 
     ghost named = { λ o c. editing-named o.table c };

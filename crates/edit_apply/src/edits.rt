@@ -6,7 +6,7 @@ ghost use Rattle.composables.specs.Items.{items_of};
 ghost use Rattle.composables.specs.Roomy.{IsRoomy};
 ghost use Rattle.edit_apply.specs.Apply.{applied_on, refuse_names_of};
 ghost use Rattle.edit_apply.specs.Faults.{answer_of};
-ghost use Rattle.edit_apply.specs.RoomTracks.{AreNamed, IsUnlinked};
+ghost use Rattle.edit_apply.specs.RoomTracks.{AreNamed};
 
 use crate::Call;
 use composables::{Done, EditFault, Refusal, Table, Track};
@@ -14,6 +14,7 @@ use dissolves::{dissolve, undissolve};
 use edit_insert::{extract, fill, insert, overwrite, remove, slice};
 use edit_roll::{roll, slide};
 use edit_trim::{ripple, slip, trim};
+use link_groups::{link, unlink};
 use room_core::Fault;
 use std::alloc::Global;
 use std::sync::ledger::Ledger;
@@ -32,14 +33,12 @@ pub(crate) fn edit<L: Ledger>(
     requires named { AreNamed call.now parts.old.items }
     requires good { All (λ t. IsGood table.now t) parts.old.items }
     requires roomy { All IsRoomy parts.old.items }
-    requires unlinked { All IsUnlinked parts.old.items }
 
     ensures answers { Answers (applied_on table.now parts.old.items call.now) parts.old.items
         parts.new.items result }
 
     ensures named { AreNamed call.now parts.new.items }
     ensures good { All (λ t. IsGood table.now t) parts.new.items }
-    ensures unlinked { All IsUnlinked parts.new.items }
 
     ensures least { steps.old + 1 ≤ steps.new }
     ensures most { steps.new ≤ steps.old + 32 * sum_by
@@ -59,6 +58,8 @@ pub(crate) fn edit<L: Ledger>(
         Call::Slide(edit) => slide(alloc, table, parts, edit, steps),
         Call::Fill(edit) => fill(alloc, table, parts, edit, steps),
         Call::Ripple(edit) => ripple(alloc, table, parts, edit, steps),
+        Call::Link3(edit) => link(alloc, table, parts, edit, steps),
+        Call::Unlink(edit) => unlink(alloc, table, parts, edit, steps),
     }
 }
 

@@ -3,7 +3,7 @@ ghost use Rattle.std.specs.Prelude.{◌≡◌, ◌<◌, ◌≤◌, ◌&&◌, not
 ghost use Rattle.std.specs.List.{list_any};
 ghost use Rattle.composables.specs.TrackSets.{has_track, tracks_in};
 ghost use Rattle.room_core.specs.Whole.{set_of};
-ghost use Rattle.edit_apply.specs.Apply.{first_absent, named_by, track_count, tracks_of, wrong_track_in};
+ghost use Rattle.edit_apply.specs.Apply.{first_absent, lowest, named_by, track_count, tracks_of, wrong_track_in};
 
 use crate::Call;
 use composables::{Table, has_track};
@@ -48,7 +48,24 @@ pub(crate) fn named_by(call: &Call) -> NamedTracks
             tracks: edit.tracks,
             own: edit.track,
         },
+        Call::Link3(edit) => NamedTracks::Many {
+            tracks: edit.tracks,
+            own: lowest(edit.tracks),
+        },
+        Call::Unlink(edit) => NamedTracks::One(edit.track),
     }
+}
+
+// The lowest track of a set, and 0 where it has none: the home of a new link.
+fn lowest(tracks: u32) -> u32
+    ensures { result ≡ lowest (tracks_in tracks) }
+{
+    for track in 0..32 {
+        if has_track(tracks, track) {
+            return track;
+        }
+    }
+    0
 }
 
 /// These tracks as a set: bit t for track t. A track over 31 is in no set.

@@ -16,7 +16,8 @@ pub fn frames_after(table: &Table, view: &ItemView) -> u32
     requires filled { 0 < view.now.len }
     requires lies { SideLiesIn table.now view.now.first view.now.len 0 0 }
     requires source { HasSource view.now.first view.now.len 0 0 }
-    ensures reach { AreUpTo (has_after table.now (later_side view.now.first (view.now.len - 1))) result }
+    ensures reach { AreUpTo
+        (has_after table.now (later_side view.now.first (view.now.len - 1))) result }
     ensures numbered { HasSource view.now.first view.now.len 0 result }
 {
     match view.first {

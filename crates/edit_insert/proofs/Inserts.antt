@@ -1,5 +1,5 @@
 -- Insert and extract as they are meant, and as shifts of all named tracks.
-use Rattle.std.proofs.Common.{◌≡◌, ℕ, ◌-◌, ◌<◌, ◌≤◌, Bool, true, false, cond, eqb, ◌||◌, List, [], ◌∷◌, ◌++◌, All, length, map, Option, Some, None, Err, refl, sym, ap, ◌∙◌, arith, subst, get_or, slice_get, nat_eq}
+use Rattle.std.proofs.Common.{◌≡◌, ℕ, ◌+◌, ◌-◌, ◌<◌, ◌≤◌, min, Bool, true, false, cond, eqb, ◌||◌, List, [], ◌∷◌, ◌++◌, All, length, map, Option, Some, None, Err, refl, sym, ap, ◌∙◌, arith, subst, get_or, slice_get, nat_eq}
 use Rattle.std.specs.List.{list_any}
 use Rattle.std.proofs.lemmas.Bool.{eq-eqb, eqb-true}
 use Rattle.std.proofs.lemmas.Option.{slice_get-get_or, slice_get_read}
@@ -26,10 +26,15 @@ use Rattle.edit_splice.specs.Padding.{new_views, padded_track}
 use Rattle.edit_splice.specs.Shifts.{shift_of}
 use Rattle.edit_insert.specs.Sources.{source_refusal}
 use Rattle.composables.specs.TrackSets.{tracks_in}
-use Rattle.edit_splice.proofs.Bridging.{Rise, extract-moved, for-found, insert-moved, is-numbered, is-shift, only-one, put-shift, tracks-rise}
+use Rattle.edit_splice.proofs.Bridging.{Rise, StaysMoved, extract-moved, for-found, insert-moved, is-numbered, is-shift, only-one, put-moved, put-shift, tracks-rise}
 use Rattle.edit_splice.proofs.Put.{Clip, PutIn, put-clip, put-only}
 use Rattle.edit_insert.proofs.Removals.{range-within}
-use Rattle.edit_splice.proofs.Unlinked.{Bare, bare-numbered, bare-padded, shift-free}
+use Rattle.edit_splice.proofs.Moving.{frames-put}
+use Rattle.link_groups.specs.LinkedShifts.{linked_shift}
+use Rattle.link_groups.proofs.LinkedShifts.{EachUncut}
+use Rattle.link_groups.proofs.Meant.{ends-new, outside-padded, shift-meant, uncut-moved}
+use Rattle.link_groups.proofs.Uncut.{EndsApart, cell-below, some_below}
+use Rattle.frame_meaning.specs.Render.{cell_at}
 
 abbrev pub no_track : TrackState
 no_track = record { number = 0; cells = []; next_item = 0; next_link = 0 }
@@ -62,19 +67,34 @@ insert-refused table c ts own why o e =
 abbrev pub shift_at : Insert → ItemView → Shift
 shift_at c v = record { own = c.track; x = c.at; y = c.at; new = Some v }
 
+-- the shift of an insert splits links as they are split cell by cell: what is put into the own track ends with an item
+-- that is new to it
+insert_uncut : (table : Table) (c : Insert) (ts : List TrackState) (own : TrackState) (v : ItemView) (number : ℕ) → IsOwn c.track ts own → 0 < c.len
+    → number ≡ own.next_item → v ≡ clip_view number c.what c.from c.len → All (IsGood table) ts → EachUncut (shift_at c v) ts
+insert_uncut table c ts own v number o some f g good k d lt after =
+    uncut-moved (shift_at c v) (get_or ts k d) (good k d lt).kept (omega arith) on_own after where
+      on_own : (get_or ts k d).number ≡ c.track → EndsApart (get_or ts k d) (min c.at (length (get_or ts k d).cells)) (gap_views (c.at - length (get_or ts k d).cells) ++ new_views (Some v))
+      on_own e =
+          let here : get_or ts k d ≡ own = o.only k d lt e in
+          let next : number ≡ (get_or ts k d).next_item = f ∙ ap (λ (t : TrackState). t.next_item) (sym here) in
+          ends-new (get_or ts k d) (min c.at (length (get_or ts k d).cells)) (c.at - length (get_or ts k d).cells) number v
+          (subst (λ (w : ItemView). 0 < w.len) (sym g) some) (ap (λ (w : ItemView). w.item) g)
+          (λ is. omega (arith, next, some_below (cell_at (get_or ts k d).cells (min c.at (length (get_or ts k d).cells))).item (get_or ts k d).next_item number (cell-below (get_or ts k d) (min c.at (length (get_or ts k d).cells)) (good k d lt).kept) is))
+          (λ is. omega (arith, is, next))
+
 pub insert-allowed : (table : Table) (c : Insert) (tracks : ℕ) (ts : List TrackState) (own : TrackState) (v : ItemView) (number : ℕ) → IsOwn c.track ts own → source_refusal table c.track c.what c.from c.len ≡ None
-    → map (λ (t : TrackState). t.number) ts ≡ tracks_in tracks → IsKept own → Bare ts → number ≡ own.next_item → v ≡ clip_view number c.what c.from c.len
-    → insert_named table ts c ≡ within_limits (all_moved (shift_at c v) ts) (Item number)
-insert-allowed table c tracks ts own v number o e numbers kept bare f g =
+    → 0 < c.len → map (λ (t : TrackState). t.number) ts ≡ tracks_in tracks → All (IsGood table) ts → All (IsShiftOf (shift_at c v)) ts → IsKept own → number ≡ own.next_item → v ≡ clip_view number c.what c.from c.len
+    → insert_named table ts c ≡ linked_shift (shift_at c v) (c.at + v.len) (Item number) ts
+insert-allowed table c tracks ts own v number o e some numbers good fits kept f g =
     for-found c.track (inserted table c ts) ts own o.found
-    ∙ ap (λ (r : Option Refusal). unless r (shift_of c.track c.at c.at (clip_view own.next_item c.what c.from c.len ∷ []) (Item own.next_item) (with_track ts (padded_track own c.at))))
+    ∙ (ap (λ (r : Option Refusal). unless r (shift_of c.track c.at c.at (clip_view own.next_item c.what c.from c.len ∷ []) (Item own.next_item) (with_track ts (padded_track own c.at))))
     (ap (λ (n : ℕ). source_refusal table n c.what c.from c.len) o.number ∙ e)
-    ∙ shift-free c.track c.at c.at (clip_view own.next_item c.what c.from c.len ∷ []) (Item own.next_item) (with_track ts (padded_track own c.at)) (refl, tt)
-    (bare-padded ts own c.at (bare-numbered c.track ts own o.found bare) bare)
-    ∙ ap (λ (us : List TrackState). within_limits us (Item own.next_item))
-    (insert-moved (shift_at c (clip_view own.next_item c.what c.from c.len)) ts own (subst Rise (sym numbers) (tracks-rise tracks)) o.found kept refl)
-    ∙ sym (ap (λ (w : ItemView). within_limits (all_moved (shift_at c w) ts) (Item number)) (g ∙ ap (λ (n : ℕ). clip_view n c.what c.from c.len) f)
-    ∙ ap (λ (n : ℕ). within_limits (all_moved (shift_at c (clip_view own.next_item c.what c.from c.len)) ts) (Item n)) f)
+    ∙ (ap (λ (n : ℕ). shift_of c.track c.at c.at (clip_view n c.what c.from c.len ∷ []) (Item n) (with_track ts (padded_track own c.at))) (sym f)
+    ∙ (ap (λ (w : ItemView). shift_of c.track c.at c.at (w ∷ []) (Item number) (with_track ts (padded_track own c.at))) (sym g)
+    ∙ shift-meant (shift_at c v) (Item number) ts (with_track ts (padded_track own c.at))
+    (insert-moved (shift_at c v) ts own (subst Rise (sym numbers) (tracks-rise tracks)) o.found kept refl)
+    (outside-padded ts own c.at c.at (subst (λ (n : ℕ). All (λ (t : TrackState). t.number ≡ n → t ≡ own) ts) (sym o.number) o.only))
+    (omega arith) fits (insert_uncut table c ts own v number o some f g good))))
 
 pub insert-put : (table : Table) (c : Insert) (ts : List TrackState) (own : TrackState) (v : ItemView) (number : ℕ) → IsOwn c.track ts own → Clip table c.what c.from c.len
     → number ≡ own.next_item → v ≡ clip_view number c.what c.from c.len → All (λ (t : TrackState). PutIn table t (put_views (shift_at c v) t)) ts
@@ -93,18 +113,27 @@ extract-missing c ts own o e =
     for-found c.track (extracted c ts) ts own o.found
     ∙ ap (λ (r : Option (ℕ × ℕ)). for_range (λ x y. shift_of c.track x y [] Plain ts) r) e
 
-pub extract-found : (c : Extract) (ts : List TrackState) (own : TrackState) (x y : ℕ) → IsOwn c.track ts own → range_of own.cells c.item ≡ Some (x, y) → IsKept own → Bare ts
-    → extract_named ts c ≡ within_limits (all_moved (shift_out c x y) ts) Plain
-extract-found c ts own x y o e kept bare =
+pub extract-found : (table : Table) (c : Extract) (ts : List TrackState) (own : TrackState) (x y : ℕ) → IsOwn c.track ts own → range_of own.cells c.item ≡ Some (x, y) → All (IsGood table) ts
+    → All (IsShiftOf (shift_out c x y)) ts → IsKept own → extract_named ts c ≡ linked_shift (shift_out c x y) (x + 0) Plain ts
+extract-found table c ts own x y o e good fits kept =
     for-found c.track (extracted c ts) ts own o.found
-    ∙ ap (λ (r : Option (ℕ × ℕ)). for_range (λ x y. shift_of c.track x y [] Plain ts) r) e
-    ∙ shift-free c.track x y [] Plain ts tt bare
-    ∙ ap (λ (us : List TrackState). within_limits us Plain) (extract-moved (shift_out c x y) ts long) where
-      long : All (λ (t : TrackState). t.number ≡ c.track → (x ≤ length t.cells) × (y ≤ length t.cells)) ts
-      long k d lt n =
-          let h : (x ≤ y) × (y ≤ length own.cells) = range-within own c.item x y kept e in
+    ∙ (ap (λ (r : Option (ℕ × ℕ)). for_range (λ x y. shift_of c.track x y [] Plain ts) r) e
+    ∙ shift-meant (shift_out c x y) Plain ts ts (extract-moved (shift_out c x y) ts long) refl within.0 fits uncut) where
+      within : (x ≤ y) × (y ≤ length own.cells)
+      within = range-within own c.item x y kept e
+
+      has : (k : ℕ) (d : TrackState) → k < length ts → (get_or ts k d).number ≡ c.track → (x ≤ length (get_or ts k d).cells) × (y ≤ length (get_or ts k d).cells)
+      has k d lt n =
           let l : length (get_or ts k d).cells ≡ length own.cells = ap (λ (t : TrackState). length t.cells) (o.only k d lt n) in
-          (omega (arith, h.0, h.1, l), omega (arith, h.1, l))
+          (omega (arith, within.0, within.1, l), omega (arith, within.1, l))
+
+      long : All (λ (t : TrackState). t.number ≡ c.track → (x ≤ length t.cells) × (y ≤ length t.cells)) ts
+      long k d lt n = has k d lt n
+
+      uncut : EachUncut (shift_out c x y) ts
+      uncut k d lt after =
+          uncut-moved (shift_out c x y) (get_or ts k d) (good k d lt).kept within.0
+          (λ n some. absurd (omega (arith, some, frames-put (x - length (get_or ts k d).cells) None, (has k d lt n).0))) after
 
 pub extract-put : (table : Table) (c : Extract) (ts : List TrackState) (x y : ℕ) → All (λ (t : TrackState). PutIn table t (put_views (shift_out c x y) t)) ts
 extract-put table c ts x y k d lt = put-shift table (shift_out c x y) (get_or ts k d) (λ e. put-only table (get_or ts k d) (x - length (get_or ts k d).cells))
@@ -128,3 +157,6 @@ named_found n (t ∷ ts) e f = by (eqb t.number n) (eqb n t.number) refl refl e 
 
 pub named-found : (n tracks : ℕ) (ts : List TrackState) → map (λ (t : TrackState). t.number) ts ≡ tracks_in tracks → list_any (nat_eq n) (tracks_in tracks) ≡ true → track_numbered n ts ≡ None → ⊥
 named-found n tracks ts e f g = named_found n ts (ap (list_any (nat_eq n)) e ∙ f) g
+
+pub each-stays : (table : Table) (s : Shift) (ts : List TrackState) → s.x ≤ s.y → All (IsGood table) ts → All (λ (t : TrackState). PutIn table t (put_views s t)) ts → All (StaysMoved table s) ts
+each-stays table s ts le g p k d lt = put-moved table s (get_or ts k d) le (g k d lt) (p k d lt)

@@ -79,7 +79,8 @@ Kept {O} {P} {C} names words views = (seat : ℕ) × (opening : Opening O P) × 
 abbrev pub Learns : {O P C : Type 0} → (O → C → List ℕ) → View O P C → ℕ → Type 0
 Learns {O} {P} {C} names v n =
     v.keeps ≡ true → (n ≡ length v.entries)
-    × ((opening : Opening O P) (x : Name) (o : Option (Opening O P)) (l : List (Entry C)) → v.opening ≡ Some opening → In (x, (o, l)) v.remembered
+    × ((opening : Opening O P) (x : Name) (o : Option (Opening O P)) (l : List (Entry C))
+    → v.opening ≡ Some opening → In (x, (o, l)) v.remembered
     → (o ≡ Some opening) × Agrees (names opening.0) v.entries x l)
 
 abbrev pub without : Name → List Name → List Name

@@ -60,13 +60,15 @@ last_of station entries = fold (λ m e. max m e.number) 0 (of_station station en
 -- the entries of a journal are a legal history of its opening, and each bears one of the journal's stations
 abbrev pub IsJournal : {O P C D R : Type 0} → (O → Meaning P C D R) → (O → List P → Type 0) → ℕ → Option (Opening O P) → List (Entry C) → Type 0
 IsJournal {O} {P} meaning opens stations opening entries =
-    (o : Opening O P) × (opening ≡ Some o) × opens o.0 o.1 × IsLegal (whole (meaning o.0)) o.1 entries × All (λ e. e.station < stations) entries
+    (o : Opening O P) × (opening ≡ Some o) × opens o.0 o.1
+    × IsLegal (whole (meaning o.0)) o.1 entries × All (λ e. e.station < stations) entries
 
 -- each token that was gathered has the journal's opening, and what it knew begins the journal and agrees with it on the
 -- token's name
 abbrev pub AllAgree : {O P C D R : Type 0} → (O → Meaning P C D R) → Open O P C → Type 0
 AllAgree {O} {P} {C} meaning v =
-    (opening : Opening O P) (x : Name) (o : Option (Opening O P)) (l : List (Entry C)) → v.opening ≡ Some opening → In (x, (o, l)) v.told
+    (opening : Opening O P) (x : Name) (o : Option (Opening O P)) (l : List (Entry C))
+    → v.opening ≡ Some opening → In (x, (o, l)) v.told
     → (o ≡ Some opening) × Agrees (meaning opening.0).names v.entries x l
 
 -- this history has its name's entries of the journal with this opening, and begins it
@@ -80,12 +82,14 @@ AreFresh opening count tokens = (map (λ t. t.number) tokens ≡ numbers 0 count
 -- the tokens of the entry's parts and of its station were gathered
 abbrev pub HasNames : {O P C D R : Type 0} → (O → Meaning P C D R) → Open O P C → Entry C → Type 0
 HasNames {O} {P} meaning v e =
-    (o : Opening O P) × (v.opening ≡ Some o) × ((x : Name) → bears (meaning o.0).names e x ≡ true → In x v.names)
+    (o : Opening O P) × (v.opening ≡ Some o) × ((x : Name) → bears (meaning o.0).names e x ≡ true
+    → In x v.names)
 
 -- the entry's call applies on what the entries come to
 abbrev pub Applies : {O P C D R : Type 0} → (O → Meaning P C D R) → Open O P C → Entry C → Type 0
 Applies {O} {P} meaning v e =
-    (o : Opening O P) × (v.opening ≡ Some o) × IsSome (replay (whole (meaning o.0)) o.1 (v.entries ++ e ∷ []))
+    (o : Opening O P) × (v.opening ≡ Some o) × IsSome
+    (replay (whole (meaning o.0)) o.1 (v.entries ++ e ∷ []))
 
 -- what lies under the journal's lock
 pub record IsKeptLog {O P C D R : Type 0} (meaning : O → Meaning P C D R) (opens : O → List P → Type 0) (stations : ℕ) (v : Open O P C) (lasts : List ℕ) : Type 0 where

@@ -29,11 +29,14 @@ impl<O: PartObject> Model for Blank<O> {
 
     ghost Value = { Fresh O O.Part };
 
-    ghost view = { λ b. record { table = b.words.shared.table_id; opening = b.seat.me.0.opening; parts = b.parts; stations = b.stations } };
+    ghost view = { λ b. record { table = b.words.shared.table_id; opening = b.seat.me.0.opening;
+        parts = b.parts; stations = b.stations } };
 
-    ghost invariant = { λ b. (b.words.shared.table_id.words ≡ 1) × (b.seat.table_id ≡ b.words.shared.table_id)
+    ghost invariant = { λ b. (b.words.shared.table_id.words ≡ 1)
+        × (b.seat.table_id ≡ b.words.shared.table_id)
         × (b.lasts.items ≡ replicate b.stations 0)
-        × ((o : Opening O O.Part) × O.opens o.0 o.1 × (b.seat.me ≡ (keeper (Some o) (all_names b.parts b.stations) [], []))) };
+        × ((o : Opening O O.Part) × O.opens o.0 o.1
+        × (b.seat.me ≡ (keeper (Some o) (all_names b.parts b.stations) [], []))) };
 }
 
 impl<O: PartObject> Blank<O> {
@@ -41,8 +44,10 @@ impl<O: PartObject> Blank<O> {
     pub fn new(alloc: Global, beginning: &Beginning<O>) -> Result<Blank<O>, Memory>
         requires some { (0 < beginning.now.part_count) × (0 < beginning.now.station_count) }
         requires opens { O.opens beginning.now.object beginning.now.parts.items }
-        ensures opening { IfOk result (λ b. b.opening ≡ Some (beginning.now.object, beginning.now.parts.items)) }
-        ensures counts { IfOk result (λ b. (b.parts ≡ beginning.now.part_count) × (b.stations ≡ beginning.now.station_count)) }
+        ensures opening { IfOk result (λ b. b.opening
+            ≡ Some (beginning.now.object, beginning.now.parts.items)) }
+        ensures counts { IfOk result (λ b. (b.parts ≡ beginning.now.part_count)
+            × (b.stations ≡ beginning.now.station_count)) }
     {
         let lasts = Vec::from_elem(alloc, 0, beginning.station_count as usize)?;
         let (words, seat) = open(alloc, beginning)?;
@@ -111,7 +116,8 @@ impl<O: PartObject, J: Naming<O, O::Part>> Journal<O, J> {
     /// have no entry of its station that the pass has not.
     pub fn close(self, passes: Vec<Pass<O, J>>) -> Vec<Entry<O::Call>>
         ensures journal { IsJournal O.meaning O.opens J.stations J.opening result.items }
-        ensures passes { All (λ p. StandsIn O.meaning J.opening result.items (Station p.number) p.entries) passes.items }
+        ensures passes { All (λ p. StandsIn O.meaning J.opening result.items
+            (Station p.number) p.entries) passes.items }
     {
         let Journal { log, words } = self;
         let mut log = log.into_inner();
@@ -137,7 +143,8 @@ fn seats_of<O: PartObject, J: Naming<O, O::Part>>(
     requires names { (n : ℕ) → n < parts → In (Part n) log.old.0.names }
     requires empty { (log.old.0.opening ≡ J.opening) × (log.old.0.entries ≡ []) }
     ensures fresh { IfOk result (λ v. AreFresh J.opening parts v.items) }
-    ensures stations { OnOk result ((n : ℕ) → In (Station n) log.old.0.names → In (Station n) log.new.0.names) }
+    ensures stations { OnOk result ((n : ℕ) → In (Station n) log.old.0.names
+        → In (Station n) log.new.0.names) }
     ensures empty { OnOk result ((log.new.0.opening ≡ J.opening) × (log.new.0.entries ≡ [])) }
 {
     let mut seats = Vec::new(alloc);
@@ -173,7 +180,8 @@ fn take_all_back<O: PartObject, J: Naming<O, O::Part>>(
     passes: Vec<Pass<O, J>>,
 )
     requires words { (words.now.shared.table_id ≡ J.table) × (J.table.words ≡ 1) }
-    ensures agree { All (λ p. StandsIn O.meaning J.opening log.new.0.entries (Station p.number) p.entries) passes.items }
+    ensures agree { All (λ p. StandsIn O.meaning J.opening log.new.0.entries
+        (Station p.number) p.entries) passes.items }
 {
     for pass in passes {
         log.take_back(words, pass);

@@ -41,7 +41,8 @@ impl<O: PartObject, J: Naming<O, O::Part>> Model for Log<O, J> {
 
     ghost view = { λ l. (open_of l.keeper.me.0, vec_capacity l.entries) };
 
-    ghost invariant = { λ l. (l.keeper.table_id ≡ J.table) × (l.keeper.me.0.keeps ≡ true) × (l.keeper.me.1 ≡ [])
+    ghost invariant = { λ l. (l.keeper.table_id ≡ J.table) × (l.keeper.me.0.keeps ≡ true)
+        × (l.keeper.me.1 ≡ [])
         × (l.keeper.me.0.entries ≡ l.entries.items) × (l.keeper.me.0.opening ≡ J.opening)
         × IsKeptLog O.meaning O.opens J.stations (open_of l.keeper.me.0) l.lasts.items };
 }
@@ -57,7 +58,8 @@ impl<O: PartObject, J: Naming<O, O::Part>> Log<O, J> {
 
     pub fn gather_pass(&mut self, words: &Words<O>, pass: Pass<O, J>)
         requires words { (words.now.shared.table_id ≡ J.table) × (J.table.words ≡ 1) }
-        ensures at { self.new.0 ≡ gathered (Station pass.number) pass.opening pass.entries self.old.0 }
+        ensures at { self.new.0 ≡ gathered (Station pass.number) pass.opening pass.entries
+            self.old.0 }
         ensures room { self.new.1 ≡ self.old.1 }
     {
         take(words, &mut self.keeper, pass.token);
@@ -66,7 +68,8 @@ impl<O: PartObject, J: Naming<O, O::Part>> Log<O, J> {
     // Takes a pass in for good. What it knew begins the journal, which has no entry more of its station.
     pub fn take_back(&mut self, words: &Words<O>, pass: Pass<O, J>)
         requires words { (words.now.shared.table_id ≡ J.table) × (J.table.words ≡ 1) }
-        ensures agrees { StandsIn O.meaning J.opening self.old.0.entries (Station pass.number) pass.entries }
+        ensures agrees { StandsIn O.meaning J.opening self.old.0.entries
+            (Station pass.number) pass.entries }
         ensures entries { self.new.0.entries ≡ self.old.0.entries }
     {
         self.gather_pass(words, pass);
@@ -78,7 +81,8 @@ impl<O: PartObject, J: Naming<O, O::Part>> Log<O, J> {
         requires words { (words.now.shared.table_id ≡ J.table) × (J.table.words ≡ 1) }
         ensures count { result ≡ length self.old.0.entries }
         ensures opening { self.old.0.opening ≡ J.opening }
-        ensures journal { IsJournal O.meaning O.opens J.stations self.old.0.opening self.old.0.entries }
+        ensures journal { IsJournal O.meaning O.opens J.stations self.old.0.opening
+            self.old.0.entries }
         ensures agree { AllAgree O.meaning self.old.0 }
         ensures same { self.new ≡ self.old }
     {
@@ -91,7 +95,8 @@ impl<O: PartObject, J: Naming<O, O::Part>> Log<O, J> {
         requires has { In (Part part) self.old.0.names }
         ensures at { self.new.0 ≡ given (Part part) self.old.0 }
         ensures room { self.new.1 ≡ self.old.1 }
-        ensures seat { (result.number ≡ part) × (result.opening ≡ self.old.0.opening) × (result.entries ≡ self.old.0.entries) }
+        ensures seat { (result.number ≡ part) × (result.opening ≡ self.old.0.opening)
+            × (result.entries ≡ self.old.0.entries) }
     {
         let token = give_name(words, &mut self.keeper, Name::Part(part));
         PartSeat {
@@ -106,7 +111,8 @@ impl<O: PartObject, J: Naming<O, O::Part>> Log<O, J> {
         requires has { In (Station station) self.old.0.names }
         ensures at { self.new.0 ≡ given (Station station) self.old.0 }
         ensures room { self.new.1 ≡ self.old.1 }
-        ensures pass { (result.number ≡ station) × (result.opening ≡ self.old.0.opening) × (result.entries ≡ self.old.0.entries) }
+        ensures pass { (result.number ≡ station) × (result.opening ≡ self.old.0.opening)
+            × (result.entries ≡ self.old.0.entries) }
     {
         let last = self.lasts[station as usize];
         let token = give_name(words, &mut self.keeper, Name::Station(station));

@@ -26,18 +26,22 @@ pub fn open<O: PartObject>(
     alloc: Global,
     beginning: &Beginning<O>,
 ) -> Result<(Words<O>, Token<O>), AllocError>
-    ensures { IfOk result (λ r. (r.0.shared.table_id.words ≡ 1) × (r.1.table_id ≡ r.0.shared.table_id)
-        × (r.1.me ≡ (keeper (Some (beginning.now.object, beginning.now.parts.items)) (all_names beginning.now.part_count beginning.now.station_count) [], []))) }
+    ensures { IfOk result (λ r. (r.0.shared.table_id.words ≡ 1)
+        × (r.1.table_id ≡ r.0.shared.table_id)
+        × (r.1.me ≡ (keeper (Some (beginning.now.object, beginning.now.parts.items))
+        (all_names beginning.now.part_count beginning.now.station_count) [], []))) }
 {
     Words::<O>::of_words(alloc, &[0], beginning)
 }
 
 // How many entries there are. Each remembered history agrees with the journal on its name.
 pub fn look<O: PartObject>(words: &Words<O>, seat: &mut Token<O>) -> u64
-    requires seat { (seat.old.table_id ≡ words.now.shared.table_id) × (words.now.shared.table_id.words ≡ 1) }
+    requires seat { (seat.old.table_id ≡ words.now.shared.table_id)
+        × (words.now.shared.table_id.words ≡ 1) }
     requires keeps { seat.old.me.0.keeps ≡ true }
     ensures count { result ≡ length seat.old.me.0.entries }
-    ensures agrees { (opening : Opening O O.Part) (x : Name) (o : Option (Opening O O.Part)) (l : List (Entry O.Call))
+    ensures agrees { (opening : Opening O O.Part) (x : Name) (o : Option (Opening O O.Part))
+        (l : List (Entry O.Call))
         → seat.old.me.0.opening ≡ Some opening → In (x, (o, l)) seat.old.me.0.remembered
         → (o ≡ Some opening) × Agrees (O.meaning opening.0).names seat.old.me.0.entries x l }
     ensures same { (seat.new.me ≡ seat.old.me) × (seat.new.table_id ≡ seat.old.table_id) }
@@ -47,11 +51,13 @@ pub fn look<O: PartObject>(words: &Words<O>, seat: &mut Token<O>) -> u64
 
 // Gives up a name to a new token.
 fn give<O: PartObject, T: Wanted>(words: &Words<O>, seat: &mut Token<O>, name: Name) -> Token<O>
-    requires seat { (seat.old.table_id ≡ words.now.shared.table_id) × (words.now.shared.table_id.words ≡ 1) }
+    requires seat { (seat.old.table_id ≡ words.now.shared.table_id)
+        × (words.now.shared.table_id.words ≡ 1) }
     requires keeps { seat.old.me.0.keeps ≡ true }
     requires name { T.wanted ≡ Some name }
     requires has { In name seat.old.me.0.names }
-    ensures table { (seat.new.table_id ≡ seat.old.table_id) × (result.table_id ≡ seat.old.table_id) }
+    ensures table { (seat.new.table_id ≡ seat.old.table_id)
+        × (result.table_id ≡ seat.old.table_id) }
     ensures seat { seat.new.me ≡ (left_of (Some name) seat.old.me.0, seat.old.me.1) }
     ensures token { result.me ≡ (right_of (Some name) seat.old.me.0, []) }
 {
@@ -60,9 +66,11 @@ fn give<O: PartObject, T: Wanted>(words: &Words<O>, seat: &mut Token<O>, name: N
 
 // Takes a token's names in.
 pub fn take<O: PartObject>(words: &Words<O>, seat: &mut Token<O>, other: Token<O>)
-    requires seat { (seat.old.table_id ≡ words.now.shared.table_id) × (words.now.shared.table_id.words ≡ 1) }
+    requires seat { (seat.old.table_id ≡ words.now.shared.table_id)
+        × (words.now.shared.table_id.words ≡ 1) }
     requires keeps { seat.old.me.0.keeps ≡ true }
-    requires other { (other.table_id ≡ words.now.shared.table_id) × (other.me.1 ≡ []) × IsSome other.me.0.opening }
+    requires other { (other.table_id ≡ words.now.shared.table_id) × (other.me.1 ≡ [])
+        × IsSome other.me.0.opening }
     ensures table { seat.new.table_id ≡ seat.old.table_id }
     ensures seat { seat.new.me ≡ (both_of seat.old.me.0 other.me.0, seat.old.me.1) }
 {
@@ -76,7 +84,8 @@ fn append<O: PartObject, T: Entered<O::Call>>(
     count: u64,
     entry: &Entry<O::Call>,
 )
-    requires seat { (seat.old.table_id ≡ words.now.shared.table_id) × (words.now.shared.table_id.words ≡ 1) }
+    requires seat { (seat.old.table_id ≡ words.now.shared.table_id)
+        × (words.now.shared.table_id.words ≡ 1) }
     requires keeps { seat.old.me.0.keeps ≡ true }
     requires names { (o : Opening O O.Part) × (seat.old.me.0.opening ≡ Some o)
         × ((x : Name) → bears (O.meaning o.0).names entry.now x ≡ true → In x seat.old.me.0.names) }
@@ -90,10 +99,12 @@ fn append<O: PartObject, T: Entered<O::Call>>(
 
 // The same, of a name that is known when it runs.
 pub fn give_name<O: PartObject>(words: &Words<O>, seat: &mut Token<O>, name: Name) -> Token<O>
-    requires seat { (seat.old.table_id ≡ words.now.shared.table_id) × (words.now.shared.table_id.words ≡ 1) }
+    requires seat { (seat.old.table_id ≡ words.now.shared.table_id)
+        × (words.now.shared.table_id.words ≡ 1) }
     requires keeps { seat.old.me.0.keeps ≡ true }
     requires has { In name seat.old.me.0.names }
-    ensures table { (seat.new.table_id ≡ seat.old.table_id) × (result.table_id ≡ seat.old.table_id) }
+    ensures table { (seat.new.table_id ≡ seat.old.table_id)
+        × (result.table_id ≡ seat.old.table_id) }
     ensures seat { seat.new.me ≡ (left_of (Some name) seat.old.me.0, seat.old.me.1) }
     ensures token { result.me ≡ (right_of (Some name) seat.old.me.0, []) }
 {
@@ -107,7 +118,8 @@ pub fn append_entry<O: PartObject>(
     count: u64,
     entry: &Entry<O::Call>,
 )
-    requires seat { (seat.old.table_id ≡ words.now.shared.table_id) × (words.now.shared.table_id.words ≡ 1) }
+    requires seat { (seat.old.table_id ≡ words.now.shared.table_id)
+        × (words.now.shared.table_id.words ≡ 1) }
     requires keeps { seat.old.me.0.keeps ≡ true }
     requires names { (o : Opening O O.Part) × (seat.old.me.0.opening ≡ Some o)
         × ((x : Name) → bears (O.meaning o.0).names entry.now x ≡ true → In x seat.old.me.0.names) }

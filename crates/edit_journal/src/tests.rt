@@ -116,7 +116,9 @@ fn added<J: Naming<Registers, u32>>(
     entry: Written,
 ) -> Option<u32>
     requires opening { (ps : List ℕ) × (turn.old.journal.opening ≡ Some (object.now, ps)) }
-    requires journal { IsJournal ⟦<Registers as PartObject>⟧.meaning ⟦<Registers as PartObject>⟧.opens J.stations turn.old.journal.opening turn.old.journal.entries }
+    requires journal { IsJournal ⟦<Registers as PartObject>⟧.meaning
+        ⟦<Registers as PartObject>⟧.opens J.stations turn.old.journal.opening
+        turn.old.journal.entries }
     requires names { HasNames ⟦<Registers as PartObject>⟧.meaning turn.old.journal entry }
     requires above { last_of entry.station turn.old.journal.entries < entry.number }
     requires there { entry.call.0 < object.now.count }

@@ -27,7 +27,8 @@ impl<'a, O: PartObject, J: Naming<O, O::Part>> Model for Turn<'a, O, J> {
 
     ghost Value = { AtJournal O O.Part O.Call };
 
-    ghost view = { λ t. record { journal = (mutex_guard_value t.log).0; room = (mutex_guard_value t.log).1; tokens = t.tokens } };
+    ghost view = { λ t. record { journal = (mutex_guard_value t.log).0;
+        room = (mutex_guard_value t.log).1; tokens = t.tokens } };
 
     ghost invariant = { λ t. (t.words.now.shared.table_id ≡ J.table) × (J.table.words ≡ 1) };
 }
@@ -36,7 +37,8 @@ impl<'a, O: PartObject, J: Naming<O, O::Part>> Turn<'a, O, J> {
     /// Takes in the seat of a part.
     pub fn gather_seat(&mut self, seat: PartSeat<O, J>)
         requires tokens { self.old.tokens < 4294967295 }
-        ensures at { self.new.journal ≡ gathered (Part seat.number) seat.opening seat.entries self.old.journal }
+        ensures at { self.new.journal ≡ gathered
+            (Part seat.number) seat.opening seat.entries self.old.journal }
         ensures tokens { (self.new.tokens ≡ self.old.tokens + 1) × (self.new.room ≡ self.old.room) }
     {
         self.log.gather_seat(self.words, seat);
@@ -46,7 +48,8 @@ impl<'a, O: PartObject, J: Naming<O, O::Part>> Turn<'a, O, J> {
     /// Takes in the pass of a station.
     pub fn gather_pass(&mut self, pass: Pass<O, J>)
         requires tokens { self.old.tokens < 4294967295 }
-        ensures at { self.new.journal ≡ gathered (Station pass.number) pass.opening pass.entries self.old.journal }
+        ensures at { self.new.journal ≡ gathered
+            (Station pass.number) pass.opening pass.entries self.old.journal }
         ensures tokens { (self.new.tokens ≡ self.old.tokens + 1) × (self.new.room ≡ self.old.room) }
     {
         self.log.gather_pass(self.words, pass);
@@ -58,7 +61,8 @@ impl<'a, O: PartObject, J: Naming<O, O::Part>> Turn<'a, O, J> {
     pub fn look(&mut self) -> u32
         ensures count { result ≡ length self.old.journal.entries }
         ensures opening { self.old.journal.opening ≡ J.opening }
-        ensures journal { IsJournal O.meaning O.opens J.stations self.old.journal.opening self.old.journal.entries }
+        ensures journal { IsJournal O.meaning O.opens J.stations self.old.journal.opening
+            self.old.journal.entries }
         ensures agree { AllAgree O.meaning self.old.journal }
         ensures same { self.new ≡ self.old }
     {
@@ -71,7 +75,8 @@ impl<'a, O: PartObject, J: Naming<O, O::Part>> Turn<'a, O, J> {
         requires tokens { 0 < self.old.tokens }
         ensures at { self.new.journal ≡ given (Part part) self.old.journal }
         ensures tokens { (self.new.tokens + 1 ≡ self.old.tokens) × (self.new.room ≡ self.old.room) }
-        ensures seat { (result.number ≡ part) × (result.opening ≡ self.old.journal.opening) × (result.entries ≡ self.old.journal.entries) }
+        ensures seat { (result.number ≡ part) × (result.opening ≡ self.old.journal.opening)
+            × (result.entries ≡ self.old.journal.entries) }
     {
         self.tokens -= 1;
         self.log.give_seat(self.words, part)
@@ -83,7 +88,8 @@ impl<'a, O: PartObject, J: Naming<O, O::Part>> Turn<'a, O, J> {
         requires tokens { 0 < self.old.tokens }
         ensures at { self.new.journal ≡ given (Station station) self.old.journal }
         ensures tokens { (self.new.tokens + 1 ≡ self.old.tokens) × (self.new.room ≡ self.old.room) }
-        ensures pass { (result.number ≡ station) × (result.opening ≡ self.old.journal.opening) × (result.entries ≡ self.old.journal.entries) }
+        ensures pass { (result.number ≡ station) × (result.opening ≡ self.old.journal.opening)
+            × (result.entries ≡ self.old.journal.entries) }
     {
         self.tokens -= 1;
         self.log.give_pass(self.words, station)

@@ -32,7 +32,8 @@ impl<O: PartObject> TableRule<(), View<O, O::Part, O::Call>, Beginning<O>> for L
 
     ghost holds = { λ k s. Kept (λ o. (O.meaning o).names) s.words s.views };
 
-    ghost first = { λ k. keeper (Some (k.object, k.parts.items)) (all_names k.part_count k.station_count) [] };
+    ghost first = { λ k. keeper (Some (k.object, k.parts.items))
+        (all_names k.part_count k.station_count) [] };
 }
 
 /// The name that a step is about. The caller picks it.

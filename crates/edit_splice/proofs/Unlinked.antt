@@ -1,6 +1,7 @@
 -- Tracks without links have none that an edit splits or refuses.
 use Rattle.std.proofs.Common.{◌≡◌, ℕ, zero, suc, ◌+◌, ◌-◌, Bool, true, false, cond, eqb, ltb, min, unwrap_or, List, [], ◌∷◌, ◌++◌, All, map, take, drop, filter, length, Option, Some, None, refl, ap, ◌∙◌, arith, subst}
 use Rattle.std.specs.List.{list_any}
+use Rattle.std.proofs.lemmas.List.{take-append-drop}
 use Rattle.frame_meaning.specs.declared.cells.Cell.{Cell}
 use Rattle.frame_meaning.specs.declared.cells.Link.{Link}
 use Rattle.frame_meaning.specs.declared.cells.What.{What}
@@ -13,7 +14,7 @@ use Rattle.composables.specs.Items.{cells_of, items_of, marked, view_cells}
 use Rattle.composables.specs.TrackFacts.{IsKept}
 use Rattle.composables.specs.TrackState.{TrackState, next_past_all}
 use Rattle.composables.specs.Joined.{frames_in}
-use Rattle.composables.specs.Links.{cells_from, cells_before, each_split, link_before, least_link, least_outside, link_outside, links_in, links_split, outside, outside_refusal, same_link, with_link, with_link_of}
+use Rattle.composables.specs.Links.{cells_from, cells_before, link_before, least_link, least_outside, link_outside, links_in, links_split, moved_cell, moved_link, outside, outside_refusal, same_link, split_track, with_link, with_link_of}
 use Rattle.edit_splice.specs.Shifts.{after_shift, shift_of, shift_refusal, shifted, shifted_along}
 use Rattle.frame_meaning.specs.Splice.{Rule, kept_or_dropped, renumbered, split_item, with_marks}
 use Rattle.composables.specs.declared.media.Table.{Table}
@@ -165,8 +166,29 @@ none-refused x y len ts h = by (eqb len (y - x)) where
   by true = refl
   by false = ap (outside_refusal ts) (outside_none ts (cells_from y ts) (from_none y ts h))
 
+-- where no link is split all stays as it is
+moved_none : (all : List TrackState) (cs : List Cell) → map (moved_cell all []) cs ≡ cs
+moved_none all [] = refl
+moved_none all (c ∷ cs) =
+    ap (λ (o : Option Link). record c { link = o } ∷ map (moved_cell all []) cs) (by c.link) ∙ ap (λ (ds : List Cell). c ∷ ds) (moved_none all cs) where
+      by : (o : Option Link) → moved_link all [] o ≡ o
+      by None = refl
+      by (Some l) = refl
+
+track_none : (z : ℕ) (all : List TrackState) (t : TrackState) → split_track z all [] t ≡ t
+track_none z all t =
+    let none : t.next_link + 0 ≡ t.next_link = omega arith in
+    ap (λ (cs : List Cell). record t { cells = take z t.cells ++ cs; next_link = t.next_link + 0 }) (moved_none all (drop z t.cells))
+    ∙ (ap (λ (cs : List Cell). record t { cells = cs; next_link = t.next_link + 0 }) (take-append-drop z t.cells)
+    ∙ ap (λ (n : ℕ). record t { next_link = n }) none)
+
+tracks_none : (z : ℕ) (all ts : List TrackState) → map (split_track z all []) ts ≡ ts
+tracks_none z all [] = refl
+tracks_none z all (t ∷ ts) = ap (λ (u : TrackState). u ∷ map (split_track z all []) ts) (track_none z all t) ∙ ap (λ (us : List TrackState). t ∷ us) (tracks_none z all ts)
+
 pub split-free : (x z : ℕ) (ts : List TrackState) → Bare ts → links_split x z ts ≡ ts
-split-free x z ts h = ap (λ (ls : List Link). each_split z ts (filter (λ (l : Link). list_any (same_link l) (links_in (cells_before x ts))) ls)) (from_none z ts h)
+split-free x z ts h =
+    ap (λ (ls : List Link). map (split_track z ts (filter (λ (l : Link). list_any (same_link l) (links_in (cells_before x ts))) ls)) ts) (from_none z ts h) ∙ tracks_none z ts ts
 
 pub none-split : (own x y : ℕ) (views : List ItemView) (ts : List TrackState) → Bare (shifted own x y views ts) → after_shift own x y views ts ≡ shifted own x y views ts
 none-split own x y views ts h = by (eqb (frames_in views) (y - x)) where

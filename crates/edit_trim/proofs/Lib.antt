@@ -6,6 +6,7 @@ pub mod Slipped
 pub mod LinkedRooms
 pub mod LinkedMoves
 pub mod LinkedSlip
+pub mod Reached
 pub mod Ripples
 pub mod RippleTracks
 pub mod RippleShift

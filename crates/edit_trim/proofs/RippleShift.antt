@@ -8,9 +8,8 @@ use Rattle.composables.specs.declared.items.Place.{Place}
 use Rattle.composables.specs.declared.media.Table.{Table}
 use Rattle.composables.specs.declared.refusals.Refusal.TheVariants.{NoItem}
 use Rattle.composables.specs.declared.TheConstants.{MAX_FRAMES}
-use Rattle.composables.specs.Good.{AllUnlinked, AreUnlinked, IsGood}
+use Rattle.composables.specs.Good.{IsGood}
 use Rattle.composables.specs.Items.{cell_in, items_of}
-use Rattle.composables.specs.Limits.{within_limits}
 use Rattle.composables.specs.OwnTracks.{track_numbered}
 use Rattle.composables.specs.Places.{StandsAt}
 use Rattle.composables.specs.Ranges.{range_of}
@@ -24,14 +23,14 @@ use Rattle.edit_delta.specs.Reaching.{going_on, reaching_back}
 use Rattle.edit_delta.specs.Using.{on_range}
 use Rattle.edit_delta.proofs.Own.{IsNamed, named-holds}
 use Rattle.edit_delta.proofs.Pieces.{after-of, before-of, on-parts}
-use Rattle.edit_delta.proofs.Spots.{Spot, spot-at, unlinked-there}
+use Rattle.edit_delta.proofs.Spots.{Spot, spot-at}
 use Rattle.edit_splice.specs.declared.shifting.Shift.{Shift}
-use Rattle.edit_splice.specs.Moves.{IsShiftOf, all_moved}
+use Rattle.edit_splice.specs.Moves.{IsShiftOf}
+use Rattle.link_groups.specs.LinkedShifts.{linked_shift}
 use Rattle.edit_splice.specs.Padding.{new_views}
 use Rattle.edit_splice.proofs.Bridging.{StaysMoved, for-found, only-one}
-use Rattle.edit_splice.proofs.Unlinked.{Bare, bare-good}
 use Rattle.edit_trim.specs.declared.rippling.Rippled.{Rippled}
-use Rattle.edit_trim.specs.Rippling.{EndFits, IsRippled, IsWhole, RipplesAmong, end_place, have_room, ripple_end, ripple_named, ripple_own, shift_by}
+use Rattle.edit_trim.specs.Rippling.{EndFits, IsRippled, IsWhole, RipplesAmong, end_place, have_room, place_after, ripple_end, ripple_named, ripple_own, shift_by}
 use Rattle.edit_trim.proofs.Ripples.{HasPlaces, head-used, head_means, still_means, tail-used, tail_means}
 use Rattle.edit_trim.proofs.RippleTracks.{all-shift, all-stay, before-parts, none-parts, own-room, own-shift, own-stays}
 
@@ -69,7 +68,6 @@ parts_of table ts t i j v p room c r s Tail good spot read number small has is s
 -- what is known where an item is rippled
 pub record IsReady (table : Table) (ts : List TrackState) (i : ℕ) (t : TrackState) (v : ItemView) (c : Ripple) (p : Place) (r : Rippled) : Type 0 where
   pub good : All (IsGood table) ts
-  pub bare : AreUnlinked ts
   pub own : IsNamed c.track i ts t
   pub spot : Spot table t p.index v p.from p.to
   pub range : range_of t.cells c.item ≡ Some (p.from, p.to)
@@ -126,16 +124,13 @@ ready_places table ts i t v c p r k n d lt e =
     let same = ready_only table ts i t v c p r k n d lt e in
     omega (arith, k.spot.within, ap (λ (u : TrackState). length u.cells) same)
 
-ready_bare : (table : Table) (ts : List TrackState) (i : ℕ) (t : TrackState) (v : ItemView) (c : Ripple) (p : Place) (r : Rippled) → IsReady table ts i t v c p r → v.link ≡ None
-ready_bare table ts i t v c p r k = unlinked-there (items_of t.cells) p.index v k.spot.read (named-holds (λ (u : TrackState). AllUnlinked (items_of u.cells)) c.track i ts t k.own k.bare)
-
 end_some : (table : Table) (ts : List TrackState) (t : TrackState) (v : ItemView) (p : Place) (room : ℕ) (c : Ripple) (r : Rippled) (s : Shift) (end : End) → Spot table t p.index v p.from p.to
-    → AreUpTo (have_room c.track (end_place end p) ts) room → IsRippled table end p v room c r → Bare ts → track_numbered t.number ts ≡ Some t → v.link ≡ None → HasPlaces c.track p.to ts → r.shift ≡ Some s
-    → ripple_end table c.track ts t end c.by p.from p.to ≡ within_limits (all_moved s ts) r.done
-end_some table ts t v p room c r s Head spot has is bare found unlinked places some =
-    head_means table ts t p.index v p room c r s spot is (head-used table ts t p.index v p room c r spot has is) bare found unlinked places some
-end_some table ts t v p room c r s Tail spot has is bare found unlinked places some =
-    tail_means table ts t p.index v p room c r s spot is (tail-used table ts t p.index v p room c r spot has is) bare unlinked places some
+    → AreUpTo (have_room c.track (end_place end p) ts) room → IsRippled table end p v room c r → All (IsGood table) ts → IsGood table t → All (λ (u : TrackState). u.number ≡ c.track → u ≡ t) ts → All (λ (u : TrackState). IsShiftOf s u) ts
+    → track_numbered t.number ts ≡ Some t → HasPlaces c.track p.to ts → r.shift ≡ Some s → ripple_end table c.track ts t end c.by p.from p.to ≡ linked_shift s (place_after end s) r.done ts
+end_some table ts t v p room c r s Head spot has is good own only fits found places some =
+    head_means table ts t p.index v p room c r s spot is (head-used table ts t p.index v p room c r spot has is) found good own only fits places some
+end_some table ts t v p room c r s Tail spot has is good own only fits found places some =
+    tail_means table ts t p.index v p room c r s spot is (tail-used table ts t p.index v p room c r spot has is) good own only fits places some
 
 end_none : (table : Table) (ts : List TrackState) (t : TrackState) (v : ItemView) (p : Place) (room : ℕ) (c : Ripple) (r : Rippled) (end : End) → Spot table t p.index v p.from p.to
     → AreUpTo (have_room c.track (end_place end p) ts) room → IsRippled table end p v room c r → r.shift ≡ None → ripple_end table c.track ts t end c.by p.from p.to ≡ Ok (ts, r.done)
@@ -144,11 +139,12 @@ end_none table ts t v p room c r Head spot has is none =
 end_none table ts t v p room c r Tail spot has is none =
     still_means table ts t Tail p v room c r is (tail-used table ts t p.index v p room c r spot has is) none
 
-pub ready-some : (table : Table) (ts : List TrackState) (i : ℕ) (t : TrackState) (v : ItemView) (c : Ripple) (p : Place) (r : Rippled) (s : Shift) → IsReady table ts i t v c p r → r.shift ≡ Some s
-    → ripple_named table ts c ≡ within_limits (all_moved s ts) r.done
-ready-some table ts i t v c p r s k some =
+pub ready-some : (table : Table) (ts : List TrackState) (i : ℕ) (t : TrackState) (v : ItemView) (c : Ripple) (p : Place) (r : Rippled) (s : Shift) → IsReady table ts i t v c p r → All (λ (t : TrackState). IsRoomy t) ts → r.shift ≡ Some s
+    → ripple_named table ts c ≡ linked_shift s (place_after c.end s) r.done ts
+ready-some table ts i t v c p r s k roomy some =
     means_end table ts i t v c p r k
-    ∙ end_some table ts t v p k.among.room c r s c.end k.spot k.among.has k.among.is (bare-good table ts k.good k.bare) (ap (λ (n : ℕ). track_numbered n ts) k.own.number ∙ k.own.found) (ready_bare table ts i t v c p r k) (ready_places table ts i t v c p r k) some
+    ∙ end_some table ts t v p k.among.room c r s c.end k.spot k.among.has k.among.is k.good (own-good table ts i t c k.own k.good) (ready_only table ts i t v c p r k) (ready-fits table ts i t v c p r s k roomy some)
+    (ap (λ (n : ℕ). track_numbered n ts) k.own.number ∙ k.own.found) (ready_places table ts i t v c p r k) some
 
 pub ready-none : (table : Table) (ts : List TrackState) (i : ℕ) (t : TrackState) (v : ItemView) (c : Ripple) (p : Place) (r : Rippled) → IsReady table ts i t v c p r → r.shift ≡ None → ripple_named table ts c ≡ Ok (ts, r.done)
 ready-none table ts i t v c p r k none =
@@ -160,12 +156,11 @@ ripple-missing table ts i t c own e =
     for-found c.track (ripple_own table c ts) ts t own.found ∙ ap (on_range (ripple_end table c.track ts t c.end c.by)) e
 
 -- the facts at a place that was found
-pub ready-at : (table : Table) (ts : List TrackState) (i : ℕ) (t : TrackState) (v : ItemView) (c : Ripple) (p : Place) (r : Rippled) (found : Option Place) → All (IsGood table) ts → AreUnlinked ts → IsNamed c.track i ts t
+pub ready-at : (table : Table) (ts : List TrackState) (i : ℕ) (t : TrackState) (v : ItemView) (c : Ripple) (p : Place) (r : Rippled) (found : Option Place) → All (IsGood table) ts → IsNamed c.track i ts t
     → StandsAt (items_of t.cells) p → slice_get (items_of t.cells) p.index ≡ Some v → range_of t.cells c.item ≡ option_map (λ (p : Place). (p.from, p.to)) found → found ≡ Some p
     → RipplesAmong table ts c p v r → IsReady table ts i t v c p r
-ready-at table ts i t v c p r found good bare own stands read range is among = record {
+ready-at table ts i t v c p r found good own stands read range is among = record {
   good = good;
-  bare = bare;
   own = own;
   spot = spot-at table t p v (own-good table ts i t c own good) stands read;
   range = range ∙ ap (option_map (λ (p : Place). (p.from, p.to))) is;

@@ -23,7 +23,6 @@ use Rattle.composables.specs.declared.TheConstants.{MAX_FRAMES}
 use Rattle.composables.specs.Answers.{Applied}
 use Rattle.composables.specs.Good.{AllUnlinked, IsGood}
 use Rattle.composables.specs.Items.{cell_in, items_of}
-use Rattle.composables.specs.Limits.{within_limits}
 use Rattle.composables.specs.OwnTracks.{track_numbered}
 use Rattle.composables.specs.TrackFacts.{HasSource}
 use Rattle.composables.specs.TrackState.{TrackState}
@@ -38,11 +37,17 @@ use Rattle.edit_delta.proofs.Greatest.{nearest-ends}
 use Rattle.edit_delta.proofs.Pieces.{before-of, numbered-after, up-true}
 use Rattle.edit_delta.proofs.Spots.{Spot, side-head, spot-head, spot-last}
 use Rattle.edit_splice.specs.declared.shifting.Shift.{Shift}
-use Rattle.edit_splice.specs.Moves.{all_moved}
+use Rattle.edit_splice.specs.Moves.{IsShiftOf}
 use Rattle.edit_splice.specs.Padding.{new_views}
 use Rattle.edit_splice.specs.Shifts.{shift_of}
 use Rattle.edit_splice.proofs.Bridging.{extract-moved}
-use Rattle.edit_splice.proofs.Unlinked.{Bare, shift-free, split-free}
+use Rattle.composables.specs.Views.{gap_views}
+use Rattle.edit_splice.specs.Padding.{new_len}
+use Rattle.link_groups.specs.LinkedShifts.{linked_shift}
+use Rattle.link_groups.proofs.LinkedShifts.{EachUncut}
+use Rattle.link_groups.proofs.Meant.{shift-meant}
+use Rattle.link_groups.proofs.Uncut.{EndsApart}
+use Rattle.edit_trim.proofs.Reached.{ends-nothing, reach-meant, split-reach, tail-ends, uncut-ripple}
 use Rattle.edit_trim.specs.declared.rippling.Rippled.{Rippled}
 use Rattle.edit_trim.specs.Rippling.{CanShift, EndFits, IsRippled, IsWhole, as_split, has_room, have_room, ripple_allows, ripple_end, rippled, shift_by, used_on_all}
 
@@ -95,10 +100,10 @@ used_earlier : (ts : List TrackState) (f g : Done → ℕ → Applied) (d : ℤ)
 used_earlier ts f g d zero h e = absurd (omega (arith, h))
 used_earlier ts f g d (suc n) h e = ap (used_on_all ts (λ done. by_sign (f done) (g done))) e ∙ ap (λ (z : ℤ). g (By z) (suc n)) (sym e)
 
--- a shift as it is made, on tracks without links of which the own one has the places
-pub made : (s : Shift) (done : Done) (ts : List TrackState) → AllUnlinked (new_views s.new) → Bare ts → All (λ (t : TrackState). t.number ≡ s.own → (s.x ≤ length t.cells) × (s.y ≤ length t.cells)) ts
-    → shift_of s.own s.x s.y (new_views s.new) done ts ≡ within_limits (all_moved s ts) done
-made s done ts bare_views bare long = shift-free s.own s.x s.y (new_views s.new) done ts bare_views bare ∙ ap (λ (us : List TrackState). within_limits us done) (extract-moved s ts long)
+-- a shift as it is made, where the own track has the places
+pub made : (s : Shift) (done : Done) (ts : List TrackState) → All (λ (t : TrackState). t.number ≡ s.own → (s.x ≤ length t.cells) × (s.y ≤ length t.cells)) ts → s.x ≤ s.y → All (IsShiftOf s) ts → EachUncut s ts
+    → shift_of s.own s.x s.y (new_views s.new) done ts ≡ linked_shift s (s.x + new_len s.new) done ts
+made s done ts long order fits uncut = shift-meant s done ts ts (extract-moved s ts long) refl order fits uncut
 
 -- the room of all named tracks, one after another
 and_true : (b : Bool) → b && true ≡ b
@@ -232,10 +237,19 @@ HasPlaces own y ts = All (λ (t : TrackState). t.number ≡ own → y ≤ length
 places_of : (s : Shift) (own y : ℕ) (ts : List TrackState) → s.own ≡ own → s.x ≤ y → s.y ≤ y → HasPlaces own y ts → All (λ (t : TrackState). t.number ≡ s.own → (s.x ≤ length t.cells) × (s.y ≤ length t.cells)) ts
 places_of s own y ts e a b h k d lt n = let l : y ≤ length (get_or ts k d).cells = h k d lt (n ∙ e) in (omega (arith, a, l), omega (arith, b, l))
 
+-- the shift of a ripple splits links as they are split cell by cell
+abbrev pub Ends : Shift → List TrackState → Type 0
+Ends s ts = All (λ (t : TrackState). t.number ≡ s.own → EndsApart t (min s.y (length t.cells)) (gap_views (s.x - length t.cells) ++ new_views s.new)) ts
+
+nothing_ends : (s : Shift) (own y : ℕ) (ts : List TrackState) → s.own ≡ own → s.x ≤ y → s.new ≡ None → HasPlaces own y ts → Ends s ts
+nothing_ends s own y ts e le none h k d lt n =
+    subst (λ (o : Option ItemView). EndsApart (get_or ts k d) (min s.y (length (get_or ts k d).cells)) (gap_views (s.x - length (get_or ts k d).cells) ++ new_views o)) (sym none)
+    (ends-nothing (get_or ts k d) (min s.y (length (get_or ts k d).cells)) (s.x - length (get_or ts k d).cells) (omega (arith, h k d lt (n ∙ e), le)))
+
 pub tail_means : (table : Table) (ts : List TrackState) (t : TrackState) (i : ℕ) (v : ItemView) (p : Place) (room : ℕ) (c : Ripple) (r : Rippled) (s : Shift) → Spot table t i v p.from p.to → (is : IsRippled table Tail p v room c r)
-    → IsUsed (nearest (ripple_allows table c.track ts t p.from p.to Tail) c.by) is.delta → Bare ts → v.link ≡ None → HasPlaces c.track p.to ts → r.shift ≡ Some s
-    → ripple_end table c.track ts t Tail c.by p.from p.to ≡ within_limits (all_moved s ts) r.done
-tail_means table ts t i v p room c r s spot is used bare unlinked long some = by_way is.delta.way refl (sym is.shift ∙ some) where
+    → IsUsed (nearest (ripple_allows table c.track ts t p.from p.to Tail) c.by) is.delta → All (IsGood table) ts → IsGood table t → All (λ (u : TrackState). u.number ≡ c.track → u ≡ t) ts → All (IsShiftOf s) ts → HasPlaces c.track p.to ts → r.shift ≡ Some s
+    → ripple_end table c.track ts t Tail c.by p.from p.to ≡ linked_shift s (s.x + new_len s.new) r.done ts
+tail_means table ts t i v p room c r s spot is used good own only fits long some = by_way is.delta.way refl is.fits (sym is.shift ∙ some) where
   d : ℤ
   d = nearest (ripple_allows table c.track ts t p.from p.to Tail) c.by
 
@@ -248,33 +262,30 @@ tail_means table ts t i v p room c r s spot is used bare unlinked long some = by
   said : By d ≡ r.done
   said = sym used.done ∙ sym is.done
 
-  by_way : (w : Way) → is.delta.way ≡ w → shift_by c.track Tail p v w ≡ Some s → ripple_end table c.track ts t Tail c.by p.from p.to ≡ within_limits (all_moved s ts) r.done
-  by_way Still k e = absurd cc
-  by_way (Later n) k e =
+  by_way : (w : Way) → is.delta.way ≡ w → EndFits table Tail v room w → shift_by c.track Tail p v w ≡ Some s → ripple_end table c.track ts t Tail c.by p.from p.to ≡ linked_shift s (s.x + new_len s.new) r.done ts
+  by_way Still k f e = absurd cc
+  by_way (Later n) k f e =
       let m : Shift = record { own = c.track; x = p.to; y = p.to; new = Some (going_on (cell_in v (v.len - 1)) n) } in
       let same : m ≡ s = cc in
       let way = way_of_used d is.delta (Later n) used k in
+      let ends : Ends m ts = λ k d lt e. subst (λ (u : TrackState). EndsApart u (min p.to (length u.cells)) (gap_views (p.to - length u.cells) ++ going_on (cell_in v (v.len - 1)) n ∷ [])) (sym (only k d lt e)) (tail-ends table t i v p.from p.to n own spot f.0) in
       used_later ts on back d n way.0 way.1
       ∙ (ap (λ (g : ItemView). shift_of c.track p.to p.to (g ∷ []) (By d) ts) (ap (λ (x : Cell). going_on x n) (spot-last table t i v p.from p.to spot))
-      ∙ (made m (By d) ts (unlinked, tt) bare (places_of m c.track p.to ts refl (omega arith) (omega arith) long)
-      ∙ (ap (λ (z : Shift). within_limits (all_moved z ts) (By d)) same ∙ ap (within_limits (all_moved s ts)) said)))
-  by_way (Earlier n) k e =
+      ∙ (made m (By d) ts (places_of m c.track p.to ts refl (omega arith) (omega arith) long) (omega arith) (subst (λ (z : Shift). All (IsShiftOf z) ts) (sym same) fits) (uncut-ripple table m ts (omega arith) good ends)
+      ∙ (ap (λ (z : Shift). linked_shift z (z.x + new_len z.new) (By d) ts) same ∙ ap (λ (a : Done). linked_shift s (s.x + new_len s.new) a ts) said)))
+  by_way (Earlier n) k f e =
       let m : Shift = record { own = c.track; x = p.to - n; y = p.to; new = None } in
       let same : m ≡ s = cc in
       let way = way_of_used d is.delta (Earlier n) used k in
       used_earlier ts on back d n way.0 way.1
-      ∙ (made m (By d) ts tt bare (places_of m c.track p.to ts refl (omega arith) (omega arith) long)
-      ∙ (ap (λ (z : Shift). within_limits (all_moved z ts) (By d)) same ∙ ap (within_limits (all_moved s ts)) said))
-
--- tracks without links have none to split
-bare_split : (place : ℕ) (ts : List TrackState) (t : TrackState) → Bare ts → track_numbered t.number ts ≡ Some t → as_split place ts t ≡ t
-bare_split place ts t bare found =
-    ap (λ (us : List TrackState). unwrap_or (track_numbered t.number us) t) (split-free place place ts bare) ∙ ap (λ (o : Option TrackState). unwrap_or o t) found
+      ∙ (made m (By d) ts (places_of m c.track p.to ts refl (omega arith) (omega arith) long) (omega arith) (subst (λ (z : Shift). All (IsShiftOf z) ts) (sym same) fits)
+      (uncut-ripple table m ts (omega arith) good (nothing_ends m c.track p.to ts refl (omega arith) refl long))
+      ∙ (ap (λ (z : Shift). linked_shift z (z.x + new_len z.new) (By d) ts) same ∙ ap (λ (a : Done). linked_shift s (s.x + new_len s.new) a ts) said))
 
 pub head_means : (table : Table) (ts : List TrackState) (t : TrackState) (i : ℕ) (v : ItemView) (p : Place) (room : ℕ) (c : Ripple) (r : Rippled) (s : Shift) → Spot table t i v p.from p.to → (is : IsRippled table Head p v room c r)
-    → IsUsed (nearest (ripple_allows table c.track ts t p.from p.to Head) c.by) is.delta → Bare ts → track_numbered t.number ts ≡ Some t → v.link ≡ None → HasPlaces c.track p.to ts → r.shift ≡ Some s
-    → ripple_end table c.track ts t Head c.by p.from p.to ≡ within_limits (all_moved s ts) r.done
-head_means table ts t i v p room c r s spot is used bare found unlinked long some = by_way is.delta.way refl is.fits (sym is.shift ∙ some) where
+    → IsUsed (nearest (ripple_allows table c.track ts t p.from p.to Head) c.by) is.delta → track_numbered t.number ts ≡ Some t → All (IsGood table) ts → IsGood table t → All (λ (u : TrackState). u.number ≡ c.track → u ≡ t) ts → All (IsShiftOf s) ts → HasPlaces c.track p.to ts
+    → r.shift ≡ Some s → ripple_end table c.track ts t Head c.by p.from p.to ≡ linked_shift s s.x r.done ts
+head_means table ts t i v p room c r s spot is used found good own only fits long some = by_way is.delta.way refl is.fits (sym is.shift ∙ some) where
   d : ℤ
   d = nearest (ripple_allows table c.track ts t p.from p.to Head) c.by
 
@@ -287,20 +298,23 @@ head_means table ts t i v p room c r s spot is used bare found unlinked long som
   said : By d ≡ r.done
   said = sym used.done ∙ sym is.done
 
-  by_way : (w : Way) → is.delta.way ≡ w → EndFits table Head v room w → shift_by c.track Head p v w ≡ Some s → ripple_end table c.track ts t Head c.by p.from p.to ≡ within_limits (all_moved s ts) r.done
+  by_way : (w : Way) → is.delta.way ≡ w → EndFits table Head v room w → shift_by c.track Head p v w ≡ Some s → ripple_end table c.track ts t Head c.by p.from p.to ≡ linked_shift s s.x r.done ts
   by_way Still k f e = absurd cc
   by_way (Later n) k f e =
       let m : Shift = record { own = c.track; x = p.from; y = p.from + n; new = None } in
       let same : m ≡ s = cc in
       let way = way_of_used d is.delta (Later n) used k in
+      let none : p.from + 0 ≡ p.from = omega arith in
       used_later ts out back d n way.0 way.1
-      ∙ (made m (By d) ts tt bare (places_of m c.track p.to ts refl (omega (arith, spot.long)) (omega (arith, spot.long, f.1)) long)
-      ∙ (ap (λ (z : Shift). within_limits (all_moved z ts) (By d)) same ∙ ap (within_limits (all_moved s ts)) said))
+      ∙ (made m (By d) ts (places_of m c.track p.to ts refl (omega (arith, spot.long)) (omega (arith, spot.long, f.1)) long) (omega arith) (subst (λ (z : Shift). All (IsShiftOf z) ts) (sym same) fits)
+      (uncut-ripple table m ts (omega arith) good (nothing_ends m c.track p.to ts refl (omega (arith, spot.long)) refl long))
+      ∙ (ap (λ (q : ℕ). linked_shift m q (By d) ts) none
+      ∙ (ap (λ (z : Shift). linked_shift z z.x (By d) ts) same ∙ ap (λ (a : Done). linked_shift s s.x a ts) said)))
   by_way (Earlier n) k f e =
       let m : Shift = record { own = c.track; x = p.from; y = p.from; new = Some (reaching_back (cell_in v 0) n) } in
       let same : m ≡ s = cc in
       let way = way_of_used d is.delta (Earlier n) used k in
       used_earlier ts out back d n way.0 way.1
-      ∙ (ap (λ (g : ItemView). shift_of c.track p.from p.from (g ∷ []) (By d) ts) (ap (λ (u : TrackState). reaching_back (cell_at u.cells p.from) n) (bare_split p.from ts t bare found) ∙ ap (λ (x : Cell). reaching_back x n) (spot-head table t i v p.from p.to spot))
-      ∙ (made m (By d) ts (unlinked, tt) bare (places_of m c.track p.to ts refl (omega (arith, spot.long)) (omega (arith, spot.long)) long)
-      ∙ (ap (λ (z : Shift). within_limits (all_moved z ts) (By d)) same ∙ ap (within_limits (all_moved s ts)) said)))
+      ∙ (ap (λ (g : ItemView). shift_of c.track p.from p.from (g ∷ []) (By d) ts) (split-reach table ts t i v p.from p.to n spot found)
+      ∙ (reach-meant table ts t i v c.track p.from p.to n (By d) good own spot f.0 only (subst (λ (z : Shift). All (IsShiftOf z) ts) (sym same) fits)
+      ∙ (ap (λ (z : Shift). linked_shift z z.x (By d) ts) same ∙ ap (λ (a : Done). linked_shift s s.x a ts) said)))

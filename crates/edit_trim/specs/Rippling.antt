@@ -29,6 +29,7 @@ use Rattle.edit_delta.specs.declared.deltas.Way.TheVariants.{Still, Later, Earli
 use Rattle.edit_delta.specs.Using.{IsUsed, on_range}
 use Rattle.edit_splice.specs.declared.shifting.Shift.{Shift}
 use Rattle.edit_trim.specs.declared.rippling.Rippled.{Rippled}
+use Rattle.edit_splice.specs.Padding.{new_len}
 use Rattle.edit_splice.specs.Shifts.{shift_of}
 
 -- a named track has room for n frames more at a place; one that does not have the place does not grow
@@ -92,6 +93,11 @@ shift_by own Head p v (Later n) = Some (record { own = own; x = p.from; y = p.fr
 shift_by own Head p v (Earlier n) = Some (record { own = own; x = p.from; y = p.from; new = Some (reaching_back (cell_in v 0) n) })
 shift_by own Tail p v (Later n) = Some (record { own = own; x = p.to; y = p.to; new = Some (going_on (cell_in v (v.len - 1)) n) })
 shift_by own Tail p v (Earlier n) = Some (record { own = own; x = p.to - n; y = p.to; new = None })
+
+-- the record frame after that shift from which on items are moved: with its head the item is, with its tail what follows
+abbrev pub place_after : End → Shift → ℕ
+place_after Head s = s.x
+place_after Tail s = s.x + new_len s.new
 
 -- an item has a frame, and what it shows lies in the range of its thing
 pub record IsWhole (table : Table) (v : ItemView) : Type 0 where

@@ -3,21 +3,23 @@ ghost use Rattle.std.specs.Prelude.{◌≡◌, ◌+◌, ◌-◌, ◌*◌, ◌<�
 ghost use Rattle.std.specs.List.{list_any};
 ghost use Rattle.composables.specs.declared.calls.End.TheVariants.{Head, Tail};
 ghost use Rattle.composables.specs.declared.TheConstants.{MAX_FRAMES};
-ghost use Rattle.composables.specs.Answers.{Answers, NextRises};
+ghost use Rattle.composables.specs.Answers.{Answers};
 ghost use Rattle.composables.specs.Good.{AreUnlinked, IsGood};
 ghost use Rattle.composables.specs.OwnTracks.{numbers_of, track_numbered};
 ghost use Rattle.composables.specs.Roomy.{IsRoomy};
 ghost use Rattle.composables.specs.Sizes.{sizes_of};
 ghost use Rattle.composables.specs.TrackSets.{tracks_in};
 ghost use Rattle.edit_delta.specs.Nearest.{AreUpTo};
-ghost use Rattle.edit_splice.specs.Standing.{EachStaysGood};
-ghost use Rattle.edit_trim.specs.Rippling.{CanShift, IsRippled, IsWhole, RipplesAmong, has_room, have_room, ripple_named, shift_by};
+ghost use Rattle.edit_splice.specs.Padding.{new_len};
+ghost use Rattle.link_groups.specs.Shifted.{EachStaysShifted, NextItemsRise};
+ghost use Rattle.edit_trim.specs.Rippling.{CanShift, IsRippled, IsWhole, RipplesAmong, has_room, have_room, place_after, ripple_named, shift_by};
 
 use composables::{
     Done, EditFault, End, ItemView, MAX_FRAMES, Place, Refusal, Ripple, Table, Track, own_index,
 };
 use edit_delta::{Way, frames_after, frames_before, going_on, reaching_back, used_within};
-use edit_splice::{Shift, shift_tracks};
+use edit_splice::Shift;
+use link_groups::shift_linked;
 use std::alloc::Global;
 use std::sync::ledger::Ledger;
 use step_count::Steps;
@@ -25,10 +27,10 @@ use step_count::Steps;
 /// Moves the head or the tail of an item of its own track by the delta used, and all that is behind the item as much,
 /// on all named tracks that have the place. Where the item grows, dark frames are put into the other tracks; where it
 /// gives frames up, they lose the frames at those places. A positive delta is later. The item keeps a frame, its source
-/// stays in its range, and no named track becomes too long.
+/// stays in its range, and no named track becomes too long. What is moved gets new links where others of its links stay.
 ///
-/// It answers the delta used, or the first of these refusals that holds: `NoItem`, and `TooManyItems` of the first named
-/// track for which it holds.
+/// It answers the delta used, or the first of these refusals that holds: `NoItem`; `LinkOutside` of the least link of
+/// what is moved that has a track which is not named; and `TooManyItems` of the first named track for which it holds.
 pub fn ripple<L: Ledger>(
     alloc: Global,
     table: &Table,
@@ -40,15 +42,14 @@ pub fn ripple<L: Ledger>(
     requires own { list_any (nat_eq call.now.track) (tracks_in call.now.tracks) ≡ true }
     requires good { All (λ t. IsGood table.now t) named.old.items }
     requires roomy { All (λ t. IsRoomy t) named.old.items }
-    requires unlinked { AreUnlinked named.old.items }
 
     ensures answers { Answers (ripple_named table.now named.old.items call.now)
         named.old.items named.new.items result }
 
     ensures named { numbers_of named.new.items ≡ tracks_in call.now.tracks }
     ensures good { All (λ t. IsGood table.now t) named.new.items }
-    ensures unlinked { AreUnlinked named.new.items }
-    ensures numbers { NextRises 2 named.old.items named.new.items }
+    ensures unlinked { AreUnlinked named.old.items → AreUnlinked named.new.items }
+    ensures numbers { NextItemsRise 2 named.old.items named.new.items }
 
     ensures least { steps.old + 1 ≤ steps.new }
     ensures most { steps.new ≤ steps.old + 32 * sizes_of named.old.items }
@@ -75,10 +76,9 @@ fn ripple_at<L: Ledger>(
     requires named { numbers_of named.old.items ≡ tracks_in call.now.tracks }
     requires good { All (λ t. IsGood table.now t) named.old.items }
     requires roomy { All (λ t. IsRoomy t) named.old.items }
-    requires unlinked { AreUnlinked named.old.items }
     ensures answers { Answers (ripple_named table.now named.old.items call.now)
         named.old.items named.new.items result }
-    ensures good { EachStaysGood table.now named.old.items named.new.items }
+    ensures good { EachStaysShifted table.now named.old.items named.new.items }
     ensures least { steps.old ≤ steps.new }
     ensures most { steps.new ≤ steps.old + 24 * sizes_of named.old.items }
 {
@@ -91,8 +91,30 @@ fn ripple_at<L: Ledger>(
     };
     let rippled = rippled_among(table, named, call, found, &view);
     match rippled.shift {
-        Some(shift) => shift_tracks(alloc, named, &shift, rippled.done, steps),
+        Some(shift) => {
+            let place = place_after(call.end, &shift);
+            shift_linked(alloc, named, &shift, place, rippled.done, steps)
+        }
         None => Ok(rippled.done),
+    }
+}
+
+// The record frame after the shift from which on items are moved: a head moves with all of its item.
+fn place_after(end: End, shift: &Shift) -> u64
+    ensures { result ≡ place_after end shift.now }
+{
+    match end {
+        End::Head => u64::from(shift.x),
+        End::Tail => u64::from(shift.x) + u64::from(len_of(shift.new)),
+    }
+}
+
+fn len_of(new: Option<ItemView>) -> u32
+    ensures { result ≡ new_len new }
+{
+    match new {
+        Some(view) => view.len,
+        None => 0,
     }
 }
 

@@ -28,7 +28,8 @@ pub fn flatten(alloc: Global, table: &Table, tracks: &[Track]) -> Result<Shown, 
     requires layers { AreSound table.now.nests }
     requires tracks { EachIsShort tracks.now }
     ensures video { IfOk result (λ s. s.video ≡ maximal_runs (video_frames table.now tracks.now)) }
-    ensures audio { IfOk result (λ s. s.audio ≡ map maximal_runs (audio_frames table.now tracks.now)) }
+    ensures audio { IfOk result (λ s. s.audio ≡ map maximal_runs
+        (audio_frames table.now tracks.now)) }
     ensures video_cut { IfOk result (λ s. CanBeCut s.video) }
     ensures audio_cut { IfOk result (λ s. EachCanBeCut s.audio) }
 {

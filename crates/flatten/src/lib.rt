@@ -17,7 +17,10 @@ mod strips;
 
 pub use channels::{Shown, flatten};
 pub use cutting::{Segment, SegmentFault, segments};
-pub use laws::{a_channel_has_one_cutting, a_part_of_a_dissolve_has_no_cutting};
+pub use laws::{
+    a_channel_has_one_cutting, a_part_of_a_dissolve_has_no_cutting,
+    the_runs_of_a_channel_are_its_frames,
+};
 
 #[cfg(test)]
 mod tests;

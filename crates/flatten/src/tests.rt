@@ -2,5 +2,4 @@
 
 mod channels;
 mod cutting;
-mod laying;
 mod tables;

@@ -5,4 +5,15 @@ pub mod NamedSets
 pub mod Named
 pub mod LeastLinks
 pub mod Elsewhere
+pub mod SplitKeys
+pub mod Relinking
+pub mod SplitCells
+pub mod LinkedCells
+pub mod PartTracks
+pub mod ShiftLinks
 pub mod TestTracks
+pub mod ItemCounts
+pub mod LinkedShifts
+pub mod Uncut
+pub mod GoodShifts
+pub mod Meant

@@ -1,5 +1,5 @@
 -- A track of which one item gets a link, or loses its own.
-use Rattle.std.proofs.Common.{◌≡◌, ◌≢◌, ℕ, zero, suc, Bool, true, false, cond, List, [], ◌∷◌, ◌++◌, length, map, Option, Some, None, IfSome, slice_get, refl, sym, ap, ◌∙◌, arith, subst}
+use Rattle.std.proofs.Common.{◌≡◌, ◌≢◌, ℕ, zero, suc, ◌+◌, ◌-◌, ◌≤◌, Bool, true, false, cond, List, [], ◌∷◌, ◌++◌, take, drop, length, map, append_assoc, Option, Some, None, IfSome, slice_get, refl, sym, ap, ◌∙◌, arith, subst}
 use Rattle.std.proofs.lemmas.List.{map-append}
 use Rattle.std.proofs.lemmas.Option.{slice_get_within}
 use Rattle.frame_meaning.specs.declared.cells.Cell.{Cell}
@@ -18,8 +18,12 @@ use Rattle.composables.specs.Joined.{AllFilled, IsTight, joined}
 use Rattle.composables.specs.TrackFacts.{Apart, EachHolds, Holds, IsKept, Lacks, NumbersBelow, ShowsAsItem, first_mark, left_reach, right_reach}
 use Rattle.composables.specs.TrackState.{TrackState}
 use Rattle.composables.proofs.Changing.{LeavesShape, filled-changed, frames_in-changed, tight-changed}
-use Rattle.composables.proofs.Joining.{items_of-cells_of, items_of-tight, length-cells_of, same-is, same-refl, tight-joined}
-use Rattle.link_groups.specs.LinkedItems.{linked_cell, linked_item}
+use Rattle.composables.proofs.Joining.{items_of-cells_of, items_of-tight, length-cells_of, length-view_cells, same-is, same-refl, tight-joined}
+use Rattle.link_groups.specs.LinkedItems.{item_from, item_of, linked_found, linked_item, linked_on}
+
+-- a cell of the item with this number gets this link, or loses its own
+abbrev pub linked_cell : ℕ → Option Link → Cell → Cell
+linked_cell i link c = cond (same_number c.item (Some i)) (record c { link = link }) c
 
 -- the cells of an item or gap
 
@@ -91,6 +95,122 @@ cells_linked i link (w ∷ ws) (suc k) v a e is =
     map-append (linked_cell i link) (view_cells w) (cells_of ws)
     ∙ (ap (λ (cs : List Cell). cs ++ map (linked_cell i link) (cells_of ws)) (view_other i link w (not_same w.item i other))
     ∙ ap (λ (cs : List Cell). view_cells w ++ cs) (cells_linked i link ws k v a.1 e is))
+
+-- on a track the cells of the item with a number are those at its record frames
+
+set_span : (link : Option Link) (o : Option ℕ) (s : Side What) (l : Option Link) (n : ℕ) → map (λ (c : Cell). record c { link = link }) (span o s l n) ≡ span o s link n
+set_span link o s l zero = refl
+set_span link o s l (suc n) =
+    ap (λ (cs : List Cell). record { item = o; side = s; mark = None; link = link } ∷ cs) (set_span link o (next_side s) l n)
+
+set_marked : (link : Option Link) (m : Option Mark) (cs : List Cell) → map (λ (c : Cell). record c { link = link }) (marked m cs) ≡ marked m (map (λ (c : Cell). record c { link = link }) cs)
+set_marked link m [] = refl
+set_marked link m (c ∷ cs) = refl
+
+set_view : (link : Option Link) (v : ItemView) → map (λ (c : Cell). record c { link = link }) (view_cells v) ≡ view_cells (with_link link v)
+set_view link v = set_marked link v.mark (span v.item v.first v.link v.len) ∙ ap (marked v.mark) (set_span link v.item v.first v.link v.len)
+
+take_past : (n : ℕ) (cs ds : List Cell) → length cs ≤ n → take n (cs ++ ds) ≡ cs ++ take (n - length cs) ds
+take_past n [] ds le = let e : n ≡ n - 0 = omega arith in ap (λ (k : ℕ). take k ds) e
+take_past zero (c ∷ cs) ds le = absurd (omega (arith, le))
+take_past (suc n) (c ∷ cs) ds le =
+    let e : n - length cs ≡ suc n - length (c ∷ cs) = omega arith in
+    ap (λ (xs : List Cell). c ∷ xs) (take_past n cs ds (omega (arith, le)) ∙ ap (λ (k : ℕ). cs ++ take k ds) e)
+
+drop_past : (n : ℕ) (cs ds : List Cell) → length cs ≤ n → drop n (cs ++ ds) ≡ drop (n - length cs) ds
+drop_past n [] ds le = let e : n ≡ n - 0 = omega arith in ap (λ (k : ℕ). drop k ds) e
+drop_past zero (c ∷ cs) ds le = absurd (omega (arith, le))
+drop_past (suc n) (c ∷ cs) ds le =
+    let e : n - length cs ≡ suc n - length (c ∷ cs) = omega arith in
+    drop_past n cs ds (omega (arith, le)) ∙ ap (λ (k : ℕ). drop k ds) e
+
+-- cells before the places stay
+on_past : (x y : ℕ) (link : Option Link) (cs ds : List Cell) → length cs ≤ x → x ≤ y → linked_on x y link (cs ++ ds) ≡ cs ++ linked_on (x - length cs) (y - length cs) link ds
+on_past x y link cs ds le order =
+    let set : Cell → Cell = λ c. record c { link = link } in
+    let front : take x (cs ++ ds) ≡ cs ++ take (x - length cs) ds = take_past x cs ds le in
+    let mid : drop x (take y (cs ++ ds)) ≡ drop (x - length cs) (take (y - length cs) ds) =
+    ap (drop x) (take_past y cs ds (omega (arith, le, order))) ∙ drop_past x cs (take (y - length cs) ds) le in
+    let back : drop y (cs ++ ds) ≡ drop (y - length cs) ds = drop_past y cs ds (omega (arith, le, order)) in
+    ap (λ (fs : List Cell). (fs ++ map set (drop x (take y (cs ++ ds)))) ++ drop y (cs ++ ds)) front
+    ∙ (ap (λ (ms : List Cell). ((cs ++ take (x - length cs) ds) ++ map set ms) ++ drop y (cs ++ ds)) mid
+    ∙ (ap (λ (bs : List Cell). ((cs ++ take (x - length cs) ds) ++ map set (drop (x - length cs) (take (y - length cs) ds))) ++ bs) back
+    ∙ (ap (λ (fs : List Cell). fs ++ drop (y - length cs) ds) (append_assoc cs (take (x - length cs) ds) (map set (drop (x - length cs) (take (y - length cs) ds))))
+    ∙ append_assoc cs (take (x - length cs) ds ++ map set (drop (x - length cs) (take (y - length cs) ds))) (drop (y - length cs) ds))))
+
+-- those at the places, where these are the first
+on_first : (link : Option Link) (cs ds : List Cell) → linked_on 0 (length cs) link (cs ++ ds) ≡ map (λ (c : Cell). record c { link = link }) cs ++ ds
+on_first link [] ds = refl
+on_first link (c ∷ cs) ds = ap (λ (xs : List Cell). record c { link = link } ∷ xs) (on_first link cs ds)
+
+abbrev found_view : ItemView → Option (ℕ × ItemView) → ItemView
+found_view d None = d
+found_view d (Some (x, v)) = v
+
+abbrev found_place : Option (ℕ × ItemView) → ℕ
+found_place None = 0
+found_place (Some (x, v)) = x
+
+found_after : (p i x : ℕ) (v : ItemView) (vs : List ItemView) → item_from p vs i ≡ Some (x, v) → p ≤ x
+found_after p i x v [] e = absurd cc
+found_after p i x v (w ∷ ws) e = by (same_number w.item (Some i)) e (λ k. found_after (p + w.len) i x v ws k) where
+  by : (b : Bool) → cond b (Some (p, w)) (item_from (p + w.len) ws i) ≡ Some (x, v) → (item_from (p + w.len) ws i ≡ Some (x, v) → p + w.len ≤ x) → p ≤ x
+  by true k later = let a : p ≡ x = ap found_place k in omega (arith, a)
+  by false k later = omega (arith, later k)
+
+by_range : (i p x : ℕ) (link : Option Link) (v : ItemView) (vs : List ItemView) → Apart vs → item_from p vs i ≡ Some (x, v)
+    → linked_on (x - p) (x - p + v.len) link (cells_of vs) ≡ map (linked_cell i link) (cells_of vs)
+by_range i p x link v [] a e = absurd cc
+by_range i p x link v (w ∷ ws) a e = by (same_number w.item (Some i)) refl e (λ k. by_range i (p + w.len) x link v ws a.1 k) where
+  long : length (view_cells w) ≡ w.len
+  long = length-view_cells w
+
+  by : (b : Bool) → same_number w.item (Some i) ≡ b → cond b (Some (p, w)) (item_from (p + w.len) ws i) ≡ Some (x, v)
+      → (item_from (p + w.len) ws i ≡ Some (x, v) → linked_on (x - (p + w.len)) (x - (p + w.len) + v.len) link (cells_of ws) ≡ map (linked_cell i link) (cells_of ws))
+      → linked_on (x - p) (x - p + v.len) link (view_cells w ++ cells_of ws) ≡ map (linked_cell i link) (view_cells w ++ cells_of ws)
+  by true f k later =
+      let start : x - p ≡ 0 = let at : p ≡ x = ap found_place k in omega (arith, at) in
+      let same : w ≡ v = ap (found_view w) k in
+      let end : x - p + v.len ≡ length (view_cells w) = omega (arith, start, long, ap (λ (u : ItemView). u.len) same) in
+      let number : w.item ≡ Some i = same-is w.item (Some i) f in
+      ap (λ (n : ℕ). linked_on n (x - p + v.len) link (view_cells w ++ cells_of ws)) start
+      ∙ (ap (λ (n : ℕ). linked_on 0 n link (view_cells w ++ cells_of ws)) end
+      ∙ (on_first link (view_cells w) (cells_of ws)
+      ∙ (ap (λ (cs : List Cell). cs ++ cells_of ws) (set_view link w ∙ sym (view_linked i link w f))
+      ∙ (ap (λ (cs : List Cell). map (linked_cell i link) (view_cells w) ++ cs) (sym (cells_other i link ws (lacks_of w.item i ws a.0 number)))
+      ∙ sym (map-append (linked_cell i link) (view_cells w) (cells_of ws))))))
+  by false f k later =
+      let after = found_after (p + w.len) i x v ws k in
+      let start : x - p - length (view_cells w) ≡ x - (p + w.len) = omega (arith, long) in
+      let end : x - p + v.len - length (view_cells w) ≡ x - (p + w.len) + v.len = omega (arith, long, after) in
+      on_past (x - p) (x - p + v.len) link (view_cells w) (cells_of ws) (omega (arith, long, after)) (omega arith)
+      ∙ (ap (λ (n : ℕ). view_cells w ++ linked_on n (x - p + v.len - length (view_cells w)) link (cells_of ws)) start
+      ∙ (ap (λ (n : ℕ). view_cells w ++ linked_on (x - (p + w.len)) n link (cells_of ws)) end
+      ∙ (ap (λ (cs : List Cell). view_cells w ++ cs) (later k)
+      ∙ (ap (λ (cs : List Cell). cs ++ map (linked_cell i link) (cells_of ws)) (sym (view_other i link w f))
+      ∙ sym (map-append (linked_cell i link) (view_cells w) (cells_of ws))))))
+
+none_lacks : (p i : ℕ) (vs : List ItemView) → item_from p vs i ≡ None → Lacks i vs
+none_lacks p i [] e = tt
+none_lacks p i (w ∷ ws) e = by (same_number w.item (Some i)) refl e (λ k. none_lacks (p + w.len) i ws k) where
+  by : (b : Bool) → same_number w.item (Some i) ≡ b → cond b (Some (p, w)) (item_from (p + w.len) ws i) ≡ None → (item_from (p + w.len) ws i ≡ None → Lacks i ws) → (w.item ≢ Some i) × Lacks i ws
+  by true f k later = absurd cc
+  by false f k later = ((λ n. differ (sym f ∙ is_same w.item i n)), later k) where
+    differ : false ≡ true → ⊥
+    differ z = cc
+
+pub linked-is : (t : TrackState) (i : ℕ) (link : Option Link) → IsKept t → linked_item t i link ≡ record t { cells = map (linked_cell i link) t.cells }
+linked-is t i link kept = ap (λ (cs : List Cell). record t { cells = cs }) (by (item_of t i) refl) where
+  whole : cells_of (items_of t.cells) ≡ t.cells
+  whole = kept.whole
+
+  by : (o : Option (ℕ × ItemView)) → item_of t i ≡ o → linked_found t.cells link o ≡ map (linked_cell i link) t.cells
+  by None e = sym whole ∙ (sym (cells_other i link (items_of t.cells) (none_lacks 0 i (items_of t.cells) e)) ∙ ap (map (linked_cell i link)) whole)
+  by (Some (x, v)) e =
+      let start : x ≡ x - 0 = omega arith in
+      ap (linked_on x (x + v.len) link) (sym whole)
+      ∙ (ap (λ (n : ℕ). linked_on n (n + v.len) link (cells_of (items_of t.cells))) start
+      ∙ (by_range i 0 x link v (items_of t.cells) kept.apart e ∙ ap (map (linked_cell i link)) whole))
 
 -- what stays as it was
 
@@ -201,7 +321,8 @@ relinked table t k i v link g e is of =
     let same = items_relinked t link k kept in
     let long = length_cells t link k kept in
     record {
-      same = ap (λ (cs : List Cell). record t { cells = cs }) (sym (cells_linked i link vs k v kept.apart e is) ∙ ap (map (linked_cell i link)) kept.whole);
+      same = ap (λ (cs : List Cell). record t { cells = cs }) (sym (cells_linked i link vs k v kept.apart e is) ∙ ap (map (linked_cell i link)) kept.whole)
+          ∙ sym (linked-is t i link kept);
       good = record {
         kept = record {
           whole = ap cells_of same;

@@ -1,8 +1,8 @@
 //! Links of items: made, taken away, and asked about where what is linked moves.
 //!
 //! The main contracts are that `link` and `unlink` leave on the named tracks, and answer, exactly what their meaning says
-//! as a list of cells, and that `check` is the refusal of a shift for the links of what it moves. After a refusal all
-//! tracks are as they were.
+//! as a list of cells, and that `shift_linked` shifts all named tracks and gives new links to what it moves away from
+//! others of its links, or is refused as `check` says. After a refusal all tracks are as they were.
 #![tactic(auto)]
 
 mod finding;
@@ -10,12 +10,17 @@ mod item_links;
 mod linking;
 mod offsets;
 mod outside;
+mod renumbering;
+mod shifting;
+mod splits;
 mod unlinking;
 
 pub use item_links::{carried_outside, carries, link_of};
 pub use linking::link;
 pub use offsets::offset;
 pub use outside::{check, outside_refusal};
+pub use renumbering::renumber;
+pub use shifting::shift_linked;
 pub use unlinking::unlink;
 
 #[cfg(test)]

@@ -1,9 +1,11 @@
 // Worked examples of link and unlink, on tracks of one item each.
 ghost use Rattle.std.specs.Prelude.{◌≡◌, ◌<◌, All, IfOk, IfSome, true};
 ghost use Rattle.composables.specs.Good.{IsGood};
+ghost use Rattle.composables.specs.OwnTracks.{numbers_of};
 ghost use Rattle.composables.specs.Roomy.{IsRoomy};
+ghost use Rattle.composables.specs.TrackSets.{tracks_in};
 
-use crate::{link, offset, unlink};
+use crate::{check, link, offset, renumber, unlink};
 use composables::{
     Done, EditFault, ItemView, Kind, Link3, Listed, Media, Nest, Numbers, Reels, Refusal, Table,
     Track, Unlink,
@@ -60,13 +62,35 @@ fn track_of(alloc: Global, table: &Table, number: u32, source: u32) -> Result<Op
     Ok(Some(track))
 }
 
-// What a link answers on two tracks, the links of their first items after it, and what it answers once more.
+// What a link answers on two tracks, the links of their first items after it, and what it answers once more; why a shift
+// of the first track alone is refused, of what it has from its last frame on; and the link of the second track's item
+// after a split of what stands from the first frame on from what stands there.
 #[derive(Drop)]
 struct Played {
     answer: Result<Done, EditFault>,
     first: Option<Link>,
     second: Option<Link>,
     again: Result<Done, EditFault>,
+    alone: Option<Refusal>,
+    split: Option<Link>,
+}
+
+// Gives new links to all items, as where they are moved away from their own first frames.
+fn split_all<L: Ledger>(
+    alloc: Global,
+    table: &Table,
+    named: &mut Vec<Track>,
+    steps: &mut Steps<L>,
+) -> Result<(), Memory>
+    requires named { numbers_of named.old.items ≡ tracks_in 3 }
+    requires good { All (λ t. IsGood table.now t) named.old.items }
+    requires roomy { All (λ t. IsRoomy t) named.old.items }
+{
+    let _ = table;
+    match check(named, 1, 0, steps) {
+        Some(_) => Ok(()),
+        None => renumber(alloc, named, 1, 0, steps),
+    }
 }
 
 fn link_at(named: &[Track], index: usize) -> Option<Link> {
@@ -109,11 +133,20 @@ fn play<L: Ledger>(
     let first = link_at(&named, 0);
     let second = link_at(&named, 1);
     let again = link(alloc, table, &mut named, call, &mut steps);
+    let (one, _) = named.split_at(named.len().min(1));
+    let alone = check(one, 0, 4, &mut steps);
+    if !all_roomy(&named) {
+        return Ok(None);
+    }
+    split_all(alloc, table, &mut named, &mut steps)?;
+    let split = link_at(&named, 1);
     Ok(Some(Played {
         answer,
         first,
         second,
         again,
+        alone,
+        split,
     }))
 }
 
@@ -147,6 +180,13 @@ fn items_of_one_offset_get_one_link(rt: HostRuntime) -> Result<(), Fail> {
     assert_eq!(rt; played.second, Some(made));
     let linked = Refusal::AlreadyLinked { track: 0, item: 0 };
     assert_eq!(rt; played.again, Err(EditFault::Refused(linked)));
+    let outside = Refusal::LinkOutside {
+        home: 0,
+        number: 0,
+        track: 1,
+    };
+    assert_eq!(rt; played.alone, Some(outside));
+    assert_eq!(rt; played.split, Some(Link { number: 1, ..made }));
     Ok(())
 }
 

@@ -1,6 +1,7 @@
 -- Edits of one track, dissolves, and links taken away.
-use Rattle.std.proofs.Common.{◌≡◌, ℕ, zero, suc, ◌+◌, ◌-◌, ◌<◌, ◌≤◌, ◌⊎◌, inl, inr, ℤ, pos, negsuc, Bool, true, false, cond, ltb, nat_lt, nat_le, ◌&&◌, min, List, [], ◌∷◌, map, length, Option, Some, None, Result, Ok, Err, refl, sym, ap, ◌∙◌, arith, subst}
+use Rattle.std.proofs.Common.{◌≡◌, ℕ, zero, suc, ◌+◌, ◌-◌, ◌<◌, ◌≤◌, ◌⊎◌, inl, inr, ℤ, pos, negsuc, Bool, true, false, cond, ltb, nat_lt, nat_le, ◌&&◌, min, List, [], ◌∷◌, ◌++◌, take, drop, map, length, Option, Some, None, Result, Ok, Err, refl, sym, ap, ◌∙◌, arith, subst}
 use Rattle.std.proofs.lemmas.Bool.{cases_lt, leb-true, ltb-true}
+use Rattle.std.proofs.lemmas.List.{length-append, length-drop, length-take-le}
 use Rattle.frame_meaning.specs.declared.cells.Cell.{Cell}
 use Rattle.frame_meaning.specs.declared.cells.Link.{Link}
 use Rattle.frame_meaning.specs.declared.cells.Mark.{Mark}
@@ -51,17 +52,22 @@ use Rattle.edit_splice.proofs.Bridging.{for-found}
 use Rattle.edit_splice.proofs.Padding.{frames-gap}
 use Rattle.edit_trim.specs.Darkness.{dark_before}
 use Rattle.edit_trim.specs.Trimming.{trim_allows, trim_end, trim_track, trimmed}
-use Rattle.link_groups.specs.LinkedItems.{item_of, linked_cell, linked_item}
+use Rattle.link_groups.specs.LinkedItems.{item_of, linked_found, linked_item, linked_on}
 use Rattle.link_groups.specs.Linking.{unlink_on, where_there}
 use Rattle.link_laws.specs.Laws.{DissolvingKeepsTogether, MovingAnEndKeepsTogether, PuttingInKeepsTogether, UnlinkingKeepsTogether}
 use Rattle.link_laws.specs.Rooms.{AreAmong, IsRoom, KeepsTogether, LeavesTogether, with_tracks}
-use Rattle.link_laws.proofs.Sights.{Alike, Shows, alike-self, shows-alike}
-use Rattle.link_laws.proofs.Splices.{gap-bare, keeps-bare, keeps-padded, keeps-spliced, length-pad, seen-back, seen-on}
+use Rattle.link_laws.specs.Together.{Together}
+use Rattle.link_laws.proofs.FreeRanges.{frames-all, gap-within, item-range, range-item, ranged}
+use Rattle.link_laws.proofs.LinkedRuns.{grown-on}
+use Rattle.link_laws.proofs.Runs.{runs-alike}
+use Rattle.link_laws.proofs.Sights.{Alike, Shows, alike-self, shows-alike, shows-append, shows-at, shows-drop, shows-take}
+use Rattle.link_laws.proofs.Splices.{gap-bare, keeps-bare, keeps-one, keeps-padded, length-pad, padded-runs, seen-back, seen-on}
 use Rattle.link_laws.proofs.Tied.{Each, Keeps, among-numbered, each-left, each-with, good-found, kept-tied, keeps-self, keeps-then, numbered-is, tied-of, together-of}
+use Rattle.link_laws.proofs.Weighing.{kept-little, numbered-of}
 
 -- what a call leaves, if it is done, and where it is for one track
 
-abbrev KeptOne : TrackState → Result (TrackState × Done) Refusal → Type 0
+abbrev pub KeptOne : TrackState → Result (TrackState × Done) Refusal → Type 0
 KeptOne t (Ok (u, d)) = (u.number ≡ t.number) × Keeps t u
 KeptOne t (Err r) = Unit {0}
 
@@ -69,30 +75,32 @@ abbrev pub KeptAll : List TrackState → Applied → Type 0
 KeptAll ts (Ok (us, d)) = Each Keeps ts us
 KeptAll ts (Err r) = Unit {0}
 
+pub kept-leaves : (table : Table) (all named : List TrackState) (r : Applied) → IsRoom table all → AreAmong all named → Together all → KeptAll named r → LeavesTogether all r
+kept-leaves table all named (Ok (us, d)) room among g k =
+    let each = each-left Keeps keeps-self all named us all among k room.apart in
+    record { together = together-of (with_tracks all us) (kept-tied all (with_tracks all us) each (tied-of all g)); little = kept-little all (with_tracks all us) (numbered-of table all room) each }
+kept-leaves table all named (Err r) room among g k = tt
+
 pub kept-law : (table : Table) (meant : List TrackState → Applied) → ((all named : List TrackState) → IsRoom table all → AreAmong all named → KeptAll named (meant named)) → KeepsTogether table meant
-kept-law table meant h all named room names g = by (meant named) (h all named room names.among) where
-  by : (r : Applied) → KeptAll named r → LeavesTogether all r
-  by (Ok (us, d)) k =
-      together-of (with_tracks all us) (kept-tied all (with_tracks all us) (each-left Keeps keeps-self all named us all names.among k room.apart) (tied-of all g))
-  by (Err r) k = tt
+kept-law table meant h all named room names g = kept-leaves table all named (meant named) room names.among g (h all named room names.among)
 
 pub not-found : (own : ℕ) (meant : TrackState → Applied) (ts : List TrackState) → track_numbered own ts ≡ None → for_own own meant ts ≡ Err (NoTrack own)
 not-found own meant ts e = rw e refl
 
-among_kept : (own : ℕ) (ts : List TrackState) (t : TrackState) (r : Result (TrackState × Done) Refusal) → track_numbered own ts ≡ Some t → KeptOne t r → KeptAll ts (among_named ts r)
-among_kept own ts t (Ok (u, d)) e k =
+pub among-kept : (own : ℕ) (ts : List TrackState) (t : TrackState) (r : Result (TrackState × Done) Refusal) → track_numbered own ts ≡ Some t → KeptOne t r → KeptAll ts (among_named ts r)
+among-kept own ts t (Ok (u, d)) e k =
     each-with Keeps keeps-self ts t u (ap (λ (m : ℕ). track_numbered m ts) (k.0 ∙ numbered-is own ts t e) ∙ e) k.0 k.1
-among_kept own ts t (Err r) e k = tt
+among-kept own ts t (Err r) e k = tt
 
-own_kept : (own : ℕ) (meant : TrackState → Result (TrackState × Done) Refusal) (ts : List TrackState)
+pub own-kept : (own : ℕ) (meant : TrackState → Result (TrackState × Done) Refusal) (ts : List TrackState)
     → ((t : TrackState) → track_numbered own ts ≡ Some t → KeptOne t (meant t)) → KeptAll ts (on_own own meant ts)
-own_kept own meant ts each = by (track_numbered own ts) refl where
+own-kept own meant ts each = by (track_numbered own ts) refl where
   all : TrackState → Applied
   all t = among_named ts (meant t)
 
   by : (o : Option TrackState) → track_numbered own ts ≡ o → KeptAll ts (on_own own meant ts)
   by None e = subst (KeptAll ts) (sym (not-found own all ts e)) tt
-  by (Some t) e = subst (KeptAll ts) (sym (for-found own all ts t e)) (among_kept own ts t (meant t) e (each t e))
+  by (Some t) e = subst (KeptAll ts) (sym (for-found own all ts t e)) (among-kept own ts t (meant t) e (each t e))
 
 pub room-good : (table : Table) (all named : List TrackState) (own : ℕ) (t : TrackState) → IsRoom table all → AreAmong all named → track_numbered own named ≡ Some t → IsGood table t
 room-good table all named own t room among e = (good-found table all own t room.tracks (among-numbered all named own t among e)).1
@@ -100,7 +108,7 @@ room-good table all named own t room among e = (good-found table all own t room.
 own_law : (table : Table) (own : ℕ) (meant : TrackState → Result (TrackState × Done) Refusal) → ((t : TrackState) → IsGood table t → KeptOne t (meant t))
     → KeepsTogether table (λ named. on_own own meant named)
 own_law table own meant each =
-    kept-law table (λ named. on_own own meant named) (λ all named room among. own_kept own meant named (λ t e. each t (room-good table all named own t room among e)))
+    kept-law table (λ named. on_own own meant named) (λ all named room among. own-kept own meant named (λ t e. each t (room-good table all named own t room among e)))
 
 unless_kept : (t : TrackState) (why : Option Refusal) (meant : Result (TrackState × Done) Refusal) → KeptOne t meant → KeptOne t (unless why meant)
 unless_kept t None meant h = h
@@ -109,48 +117,6 @@ unless_kept t (Some r) meant h = tt
 within_kept : (t u : TrackState) (done : Done) → u.number ≡ t.number → Keeps t u → KeptOne t (track_within_limits u done)
 within_kept t u done n k =
     unless_kept t (too_long (u ∷ [])) (unless (too_many (u ∷ [])) (Ok (u, done))) (unless_kept t (too_many (u ∷ [])) (Ok (u, done)) (n, k))
-
--- where an item or a gap stands
-
-abbrev first_of : Option (ℕ × ℕ) → ℕ
-first_of None = 0
-first_of (Some r) = r.0
-
-abbrev end_of : Option (ℕ × ℕ) → ℕ
-end_of None = 0
-end_of (Some r) = r.1
-
-range_within : (vs : List ItemView) (p i x y : ℕ) → EachHolds vs → range_from p vs i ≡ Some (x, y) → (p ≤ x) × (x < y) × (y ≤ p + frames_in vs)
-range_within [] p i x y e h = absurd cc
-range_within (v ∷ vs) p i x y e h = by (same_number v.item (Some i)) h (range_within vs (p + v.len) i x y e.1) where
-  by : (b : Bool) → cond b (Some (p, p + v.len)) (range_from (p + v.len) vs i) ≡ Some (x, y)
-      → (range_from (p + v.len) vs i ≡ Some (x, y) → (p + v.len ≤ x) × (x < y) × (y ≤ p + v.len + frames_in vs))
-      → (p ≤ x) × (x < y) × (y ≤ p + (v.len + frames_in vs))
-  by true k later =
-      let a : p ≡ x = ap first_of k in
-      let b : p + v.len ≡ y = ap end_of k in
-      (omega (arith, a), omega (arith, a, b, e.0.filled), omega (arith, a, b))
-  by false k later =
-      let r = later k in
-      (omega (arith, r.0), r.1, omega (arith, r.2))
-
-frames_all : (table : Table) (t : TrackState) → IsGood table t → frames_in (items_of t.cells) ≡ length t.cells
-frames_all table t g = omega (arith, length-cells_of (items_of t.cells), ap length g.kept.whole)
-
-pub item-range : (table : Table) (t : TrackState) (i x y : ℕ) → IsGood table t → range_of t.cells i ≡ Some (x, y) → (x < y) × (y ≤ length t.cells)
-item-range table t i x y g e =
-    let r = range_within (items_of t.cells) 0 i x y g.kept.each e in
-    (r.1, omega (arith, r.2, frames_all table t g))
-
-gap_within : (vs : List ItemView) (p q x y : ℕ) → gap_from p vs q ≡ Some (x, y) → (p ≤ x) × (x ≤ p + frames_in vs)
-gap_within [] p q x y e = absurd cc
-gap_within (v ∷ vs) p q x y e = by (nat_lt q v.len) (same_number v.item None) e (gap_within vs (p + v.len) (q - v.len) x y) where
-  by : (b c : Bool) → cond b (cond c (Some (p, p + v.len)) None) (gap_from (p + v.len) vs (q - v.len)) ≡ Some (x, y)
-      → (gap_from (p + v.len) vs (q - v.len) ≡ Some (x, y) → (p + v.len ≤ x) × (x ≤ p + v.len + frames_in vs))
-      → (p ≤ x) × (x ≤ p + (v.len + frames_in vs))
-  by true true k later = let a : p ≡ x = ap first_of k in (omega (arith, a), omega (arith, a))
-  by true false k later = absurd cc
-  by false c k later = let r = later k in (omega (arith, r.0), omega (arith, r.1))
 
 pub and-both : (a b : Bool) → (a && b) ≡ true → (a ≡ true) × (b ≡ true)
 and-both true true h = (refl, refl)
@@ -165,61 +131,61 @@ up_to x n end = by (cases_lt end (x + n)) where
   by (inl less) = inr (omega (arith, less))
   by (inr le) = inl (omega (arith, le))
 
-overwrite_one : (table : Table) (c : Overwrite) (t : TrackState) → IsGood table t → KeptOne t (overwrite_track table c t)
-overwrite_one table c t g =
+pub overwrite-one : (table : Table) (c : Overwrite) (t : TrackState) → KeptOne t (overwrite_track table c t)
+overwrite-one table c t =
     let p : TrackState = padded_track t c.at in
     let clip : List ItemView = clip_view t.next_item c.what c.from c.len ∷ [] in
     let one : c.at + frames_in clip ≡ c.at + c.len = omega arith in
     unless_kept t (source_refusal table t.number c.what c.from c.len) (track_within_limits (overwritten t c.at c.what c.from c.len) (Item t.next_item))
     (within_kept t (overwritten t c.at c.what c.from c.len) (Item t.next_item) refl
-    (keeps-then t p (overwritten t c.at c.what c.from c.len) (keeps-padded t c.at)
+    (keeps-then t p (overwritten t c.at c.what c.from c.len) (keeps-padded t c.at) (padded-runs t c.at)
     (keeps-bare p c.at (min (c.at + c.len) (length p.cells)) clip (omega (arith, length-pad t c.at))
     (subst (λ (k : ℕ). (k ≡ min (c.at + c.len) (length p.cells)) ⊎ (length p.cells ≤ min (c.at + c.len) (length p.cells))) (sym one) (up_to c.at c.len (length p.cells)))
     (refl, tt))))
 
-remove_one : (table : Table) (c : Remove) (t : TrackState) → IsGood table t → KeptOne t (remove_track c t)
-remove_one table c t g = by (range_of t.cells c.item) refl where
+pub remove-one : (table : Table) (c : Remove) (t : TrackState) → KeptOne t (remove_track c t)
+remove-one table c t = by (range_of t.cells c.item) refl where
   by : (o : Option (ℕ × ℕ)) → range_of t.cells c.item ≡ o
       → KeptOne t (for_range (λ x y. track_within_limits (spliced_track t x y (gap_views (y - x))) Plain) o)
   by None e = tt
   by (Some (x, y)) e =
-      let r = item-range table t c.item x y g e in
+      let r = item-range t c.item x y e in
       within_kept t (spliced_track t x y (gap_views (y - x))) Plain refl
       (keeps-bare t x y (gap_views (y - x)) (omega (arith, r.0, r.1)) (inl (omega (arith, r.0, frames-gap (y - x)))) (gap-bare (y - x)))
 
-slice_one : (table : Table) (c : Slice) (t : TrackState) → IsGood table t → KeptOne t (slice_track c t)
-slice_one table c t g = by (ltb c.at (length t.cells)) refl where
+pub slice-one : (table : Table) (c : Slice) (t : TrackState) → KeptOne t (slice_track c t)
+slice-one table c t = by (ltb c.at (length t.cells)) refl where
   by : (b : Bool) → ltb c.at (length t.cells) ≡ b → KeptOne t (cond b (track_within_limits (spliced_track t c.at c.at []) Plain) (Err NoItem))
   by true e =
       within_kept t (spliced_track t c.at c.at []) Plain refl
       (keeps-bare t c.at c.at [] (omega (arith, ltb-true c.at (length t.cells) e)) (inl (omega arith)) tt)
   by false e = tt
 
-fill_one : (table : Table) (c : Fill) (t : TrackState) → IsGood table t → KeptOne t (fill_track table c t)
-fill_one table c t g = by (gap_at t.cells c.at) refl where
+pub fill-one : (table : Table) (c : Fill) (t : TrackState) → KeptOne t (fill_track table c t)
+fill-one table c t = by (gap_at t.cells c.at) refl where
   by : (o : Option (ℕ × ℕ)) → gap_at t.cells c.at ≡ o → KeptOne t (fill_at table c t o)
   by None e = tt
   by (Some (x, y)) e =
-      let r = gap_within (items_of t.cells) 0 c.at x y e in
+      let r = gap-within (items_of t.cells) 0 c.at x y e in
       let asked : ℕ = frames_asked c.length (y - x) in
       let len : ℕ = min asked (y - x) in
       unless_kept t (source_refusal table t.number c.what c.from asked) (track_within_limits (filled t c x len) (Item t.next_item))
       (within_kept t (filled t c x len) (Item t.next_item) refl
-      (keeps-bare t x (x + len) (clip_view t.next_item c.what c.from len ∷ []) (omega (arith, r.1, frames_all table t g)) (inl (omega arith)) (refl, tt)))
+      (keeps-bare t x (x + len) (clip_view t.next_item c.what c.from len ∷ []) (omega (arith, r.1, frames-all t.cells)) (inl (omega arith)) (refl, tt)))
 
 pub putting-keeps : PuttingInKeepsTogether
 putting-keeps = record {
-  overwrite = λ table c. own_law table c.track (overwrite_track table c) (overwrite_one table c);
-  fill = λ table c. own_law table c.track (fill_track table c) (fill_one table c);
-  remove = λ table c. own_law table c.track (remove_track c) (remove_one table c);
-  slice = λ table c. own_law table c.track (slice_track c) (slice_one table c);
+  overwrite = λ table c. own_law table c.track (overwrite_track table c) (λ t g. overwrite-one table c t);
+  fill = λ table c. own_law table c.track (fill_track table c) (λ t g. fill-one table c t);
+  remove = λ table c. own_law table c.track (remove_track c) (λ t g. remove-one table c t);
+  slice = λ table c. own_law table c.track (slice_track c) (λ t g. slice-one table c t);
 }
 
 -- an end of an item, and a cut, moved
 
-used_kept : (t : TrackState) (moved : ℤ → TrackState) (allowed : ℤ → Bool) (by : ℤ)
+pub used-kept : (t : TrackState) (moved : ℤ → TrackState) (allowed : ℤ → Bool) (by : ℤ)
     → ((d : ℤ) → allowed d ≡ true → ((moved d).number ≡ t.number) × Keeps t (moved d)) → KeptOne t (used_on t moved (nearest allowed by))
-used_kept t moved allowed by each = at (nearest allowed by) (is-nearest allowed by).member where
+used-kept t moved allowed by each = at (nearest allowed by) (is-nearest allowed by).member where
   at : (d : ℤ) → (d ≡ pos 0) ⊎ (allowed d ≡ true) → KeptOne t (used_on t moved d)
   at (pos zero) m = (refl, keeps-self t)
   at (pos (suc k)) (inl e) = absurd cc
@@ -230,14 +196,14 @@ used_kept t moved allowed by each = at (nearest allowed by) (is-nearest allowed 
 back_kept : (table : Table) (t : TrackState) (x n : ℕ) → n ≤ x → x ≤ length t.cells → has_before table (cell_at t.cells x).side n ≡ true
     → Keeps t (spliced_track t (x - n) x (reaching_back (cell_at t.cells x) n ∷ []))
 back_kept table t x n le within has =
-    keeps-spliced t (x - n) x (reaching_back (cell_at t.cells x) n ∷ []) (omega (arith, within)) (inl (omega (arith, le)))
+    keeps-one t (x - n) x (reaching_back (cell_at t.cells x) n) (omega (arith, within)) (inl (omega (arith, le)))
     (λ l o h. seen-back table t x (x - n) n l o (omega (arith, le)) has h)
 
 on_kept : (t : TrackState) (y z n : ℕ) → 0 < y → y ≤ length t.cells → (y + n ≡ z) ⊎ (length t.cells ≤ z)
     → Keeps t (spliced_track t y z (going_on (cell_at t.cells (y - 1)) n ∷ []))
 on_kept t y z n some within way =
     let one : y + n ≡ y + (n + 0) = omega arith in
-    keeps-spliced t y z (going_on (cell_at t.cells (y - 1)) n ∷ []) within (subst (λ (k : ℕ). (k ≡ z) ⊎ (length t.cells ≤ z)) one way)
+    keeps-one t y z (going_on (cell_at t.cells (y - 1)) n) within (subst (λ (k : ℕ). (k ≡ z) ⊎ (length t.cells ≤ z)) one way)
     (λ l o h. seen-on t y n l o some h)
 
 dark_kept : (t : TrackState) (x y n : ℕ) → x ≤ length t.cells → x + n ≡ y → Keeps t (spliced_track t x y (gap_views n))
@@ -255,13 +221,13 @@ trim_kept table t x y Tail (negsuc k) less within e =
     let fits : x + suc k < y = ltb-true (x + suc k) y e in
     (refl, dark_kept t (y - suc k) y (suc k) (omega (arith, within)) (omega (arith, fits)))
 
-trim_one : (table : Table) (c : Trim) (t : TrackState) → IsGood table t → KeptOne t (trim_track table c t)
-trim_one table c t g = by (range_of t.cells c.item) refl where
+pub trim-one : (table : Table) (c : Trim) (t : TrackState) → KeptOne t (trim_track table c t)
+trim-one table c t = by (range_of t.cells c.item) refl where
   by : (o : Option (ℕ × ℕ)) → range_of t.cells c.item ≡ o → KeptOne t (on_range (trim_end table t c.end c.by) o)
   by None e = tt
   by (Some (x, y)) e =
-      let r = item-range table t c.item x y g e in
-      used_kept t (trimmed t x y c.end) (trim_allows table t x y c.end) c.by (λ d a. trim_kept table t x y c.end d r.0 r.1 a)
+      let r = item-range t c.item x y e in
+      used-kept t (trimmed t x y c.end) (trim_allows table t x y c.end) c.by (λ d a. trim_kept table t x y c.end d r.0 r.1 a)
 
 roll_kept : (table : Table) (t : TrackState) (at : ℕ) (d : ℤ) → 0 < at → at ≤ length t.cells → move_allows table t at at d ≡ true
     → ((rolled t at d).number ≡ t.number) × Keeps t (rolled t at d)
@@ -271,20 +237,20 @@ roll_kept table t at (negsuc k) some within e =
     let fits : begin_at t.cells (at - 1) + suc k < at = ltb-true (begin_at t.cells (at - 1) + suc k) at a.0 in
     (refl, back_kept table t at (suc k) (omega (arith, fits)) within a.1)
 
-roll_one : (table : Table) (c : Roll) (t : TrackState) → IsGood table t → KeptOne t (roll_track table c t)
-roll_one table c t g = by (is_cut t.cells c.at) refl where
+pub roll-one : (table : Table) (c : Roll) (t : TrackState) → KeptOne t (roll_track table c t)
+roll-one table c t = by (is_cut t.cells c.at) refl where
   by : (b : Bool) → is_cut t.cells c.at ≡ b → KeptOne t (cond b (roll_cut table t c.by c.at) (Err (NotACut c.at)))
   by true e =
       let a = and-both (ltb 0 c.at && ltb c.at (length t.cells)) _ e in
       let b = and-both (ltb 0 c.at) (ltb c.at (length t.cells)) a.0 in
       let within = ltb-true c.at (length t.cells) b.1 in
-      used_kept t (rolled t c.at) (move_allows table t c.at c.at) c.by (λ d m. roll_kept table t c.at d (ltb-true 0 c.at b.0) (omega (arith, within)) m)
+      used-kept t (rolled t c.at) (move_allows table t c.at c.at) c.by (λ d m. roll_kept table t c.at d (ltb-true 0 c.at b.0) (omega (arith, within)) m)
   by false e = tt
 
 pub moving-keeps : MovingAnEndKeepsTogether
 moving-keeps = record {
-  trim = λ table c. own_law table c.track (trim_track table c) (trim_one table c);
-  roll = λ table c. own_law table c.track (roll_track table c) (roll_one table c);
+  trim = λ table c. own_law table c.track (trim_track table c) (λ t g. trim-one table c t);
+  roll = λ table c. own_law table c.track (roll_track table c) (λ t g. roll-one table c t);
 }
 
 -- dissolves
@@ -295,41 +261,71 @@ alike_marked (c ∷ cs) zero mark = (refl, refl, alike-self cs)
 alike_marked (c ∷ cs) (suc p) mark = (refl, refl, alike_marked cs p mark)
 
 marked_kept : (t : TrackState) (p : ℕ) (mark : Option Mark) → Keeps t (marked_track t p mark)
-marked_kept t p mark = record { shows = λ l o h. shows-alike 0 (mark_at_place t.cells p mark) t.cells l o (alike_marked t.cells p mark) h; next = omega arith }
+marked_kept t p mark = record {
+  shows = λ l o h. shows-alike 0 (mark_at_place t.cells p mark) t.cells l o (alike_marked t.cells p mark) h;
+  next = refl;
+  grown = ([], omega arith, λ h n. omega (arith, runs-alike h n false (mark_at_place t.cells p mark) t.cells (alike_marked t.cells p mark)));
+}
 
-dissolve_one : (table : Table) (c : Dissolve) (t : TrackState) → IsGood table t → KeptOne t (dissolve_on table t c)
-dissolve_one table c t g =
+pub dissolve-one : (table : Table) (c : Dissolve) (t : TrackState) → KeptOne t (dissolve_on table t c)
+dissolve-one table c t =
     unless_kept t (dissolve_refusal table t.cells c.at (mark_asked c)) (Ok (marked_track t c.at (Some (mark_asked c)), Plain)) (refl, marked_kept t c.at (Some (mark_asked c)))
 
-undissolve_one : (table : Table) (c : Undissolve) (t : TrackState) → IsGood table t → KeptOne t (undissolve_on t c)
-undissolve_one table c t g =
+pub undissolve-one : (table : Table) (c : Undissolve) (t : TrackState) → KeptOne t (undissolve_on t c)
+undissolve-one table c t =
     unless_kept t (undissolve_refusal (cell_at t.cells c.at).mark c.at) (Ok (marked_track t c.at None, Plain)) (refl, marked_kept t c.at None)
 
 pub dissolving-keeps : DissolvingKeepsTogether
 dissolving-keeps = record {
-  dissolve = λ table c. own_law table c.track (λ t. dissolve_on table t c) (dissolve_one table c);
-  undissolve = λ table c. own_law table c.track (λ t. undissolve_on t c) (undissolve_one table c);
+  dissolve = λ table c. own_law table c.track (λ t. dissolve_on table t c) (λ t g. dissolve-one table c t);
+  undissolve = λ table c. own_law table c.track (λ t. undissolve_on t c) (λ t g. undissolve-one table c t);
 }
 
 -- a link taken away
 
-unlinked_shows : (i p : ℕ) (cs : List Cell) (l : Link) (o : Option ℤ) → Shows p (map (linked_cell i None) cs) l o → Shows p cs l o
-unlinked_shows i p [] l o h = h
-unlinked_shows i p (c ∷ cs) l o h = by (same_number c.item (Some i)) h (λ k. unlinked_shows i (p + 1) cs l o k) where
-  by : (b : Bool) → Shows p (cond b (record c { link = None }) c ∷ map (linked_cell i None) cs) l o → (Shows (p + 1) (map (linked_cell i None) cs) l o → Shows (p + 1) cs l o) → Shows p (c ∷ cs) l o
-  by true (inl k) later = absurd (Prim.grind (arith, k.0))
-  by true (inr k) later = inr (later k)
-  by false (inl k) later = inl k
-  by false (inr k) later = inr (later k)
+set_shows : (p : ℕ) (cs : List Cell) (l : Link) (o : Option ℤ) → Shows p (map (λ (c : Cell). record c { link = None }) cs) l o → ⊥
+set_shows p [] l o h = h
+set_shows p (c ∷ cs) l o (inl h) = Prim.grind (arith, h.0)
+set_shows p (c ∷ cs) l o (inr h) = set_shows (p + 1) cs l o h
 
-unlink_one : (table : Table) (c : Unlink) (t : TrackState) → IsGood table t → KeptOne t (unlink_on c t)
-unlink_one table c t g = by (item_of t c.item) where
-  kept : Keeps t (linked_item t c.item None)
-  kept = record { shows = λ l o h. unlinked_shows c.item 0 t.cells l o h; next = omega arith }
+map_long : (f : Cell → Cell) (cs : List Cell) → length (map f cs) ≡ length cs
+map_long f [] = refl
+map_long f (c ∷ cs) = ap suc (map_long f cs)
 
-  by : (o : Option (ℕ × ItemView)) → KeptOne t (where_there o (Ok (linked_item t c.item None, Plain)))
-  by None = tt
-  by (Some p) = (refl, kept)
+unlinked_keeps : (t : TrackState) (x y : ℕ) → x ≤ y → y ≤ length t.cells → Keeps t (record t { cells = linked_on x y None t.cells })
+unlinked_keeps t x y le within = record { shows = shows; next = refl; grown = grown-on t x y None le } where
+  mid : List Cell
+  mid = map (λ (c : Cell). record c { link = None }) (drop x (take y t.cells))
+
+  long : length (take x t.cells ++ mid) ≡ y
+  long =
+      omega (
+        arith,
+        length-append (take x t.cells) mid,
+        map_long (λ (c : Cell). record c { link = None }) (drop x (take y t.cells)),
+        length-drop x (take y t.cells),
+        length-take-le y t.cells within,
+        length-take-le x t.cells (omega (arith, le, within)),
+        le,
+      )
+
+  shows : (l : Link) (o : Option ℤ) → Shows 0 ((take x t.cells ++ mid) ++ drop y t.cells) l o → Shows 0 t.cells l o
+  shows l o h = outer (shows-append 0 (take x t.cells ++ mid) (drop y t.cells) l o h) where
+    inner : Shows 0 (take x t.cells) l o ⊎ Shows (0 + length (take x t.cells)) mid l o → Shows 0 t.cells l o
+    inner (inl a) = shows-take x 0 t.cells l o a
+    inner (inr b) = absurd (set_shows (0 + length (take x t.cells)) (drop x (take y t.cells)) l o b)
+
+    outer : Shows 0 (take x t.cells ++ mid) l o ⊎ Shows (0 + length (take x t.cells ++ mid)) (drop y t.cells) l o → Shows 0 t.cells l o
+    outer (inl a) = inner (shows-append 0 (take x t.cells) mid l o a)
+    outer (inr b) = shows-drop y 0 t.cells l o (shows-at (0 + length (take x t.cells ++ mid)) (0 + y) (drop y t.cells) l o (omega (arith, long)) b)
+
+pub unlink-one : (c : Unlink) (t : TrackState) → KeptOne t (unlink_on c t)
+unlink-one c t = by (item_of t c.item) refl where
+  by : (o : Option (ℕ × ItemView)) → item_of t c.item ≡ o → KeptOne t (where_there o (Ok (record t { cells = linked_found t.cells None o }, Plain)))
+  by None e = tt
+  by (Some (x, v)) e =
+      let r = item-range t c.item x (x + v.len) (range-item (items_of t.cells) 0 c.item ∙ ap ranged e) in
+      (refl, unlinked_keeps t x (x + v.len) (omega arith) r.1)
 
 pub unlinking-keeps : UnlinkingKeepsTogether
-unlinking-keeps table c = own_law table c.track (unlink_on c) (unlink_one table c)
+unlinking-keeps table c = own_law table c.track (unlink_on c) (λ t g. unlink-one c t)

@@ -80,10 +80,10 @@ any-same k l [] s h = absurd h
 any-same k l (m ∷ ms) s (inl h) = inl (same-then l k m (same-sym k l s) h)
 any-same k l (m ∷ ms) s (inr h) = inr (any-same k l ms s h)
 
-any_true : (l : Link) (ls : List Link) → AnySame l ls → list_any (same_link l) ls ≡ true
-any_true l [] h = absurd h
-any_true l (k ∷ ks) (inl h) = ap (λ (b : Bool). b || list_any (same_link l) ks) (same-is-link l k h)
-any_true l (k ∷ ks) (inr h) = ap (λ (b : Bool). same_link l k || b) (any_true l ks h) ∙ or_true (same_link l k) where
+pub any-true : (l : Link) (ls : List Link) → AnySame l ls → list_any (same_link l) ls ≡ true
+any-true l [] h = absurd h
+any-true l (k ∷ ks) (inl h) = ap (λ (b : Bool). b || list_any (same_link l) ks) (same-is-link l k h)
+any-true l (k ∷ ks) (inr h) = ap (λ (b : Bool). same_link l k || b) (any-true l ks h) ∙ or_true (same_link l k) where
   or_true : (b : Bool) → b || true ≡ true
   or_true true = refl
   or_true false = refl
@@ -118,9 +118,9 @@ abbrev pub AllLinks : (Link → Type 0) → List Link → Type 0
 AllLinks P [] = Unit {0}
 AllLinks P (l ∷ ls) = P l × AllLinks P ls
 
-all_with : (P : Link → Type 0) (l : Link) (ls : List Link) → P l → AllLinks P ls → AllLinks P (with_link l ls)
-all_with P l [] p h = (p, tt)
-all_with P l (k ∷ ks) p h = by (same_link l k) (link_before l k) (all_with P l ks p h.1) where
+pub all-with : (P : Link → Type 0) (l : Link) (ls : List Link) → P l → AllLinks P ls → AllLinks P (with_link l ls)
+all-with P l [] p h = (p, tt)
+all-with P l (k ∷ ks) p h = by (same_link l k) (link_before l k) (all-with P l ks p h.1) where
   by : (a b : Bool) → AllLinks P (with_link l ks) → AllLinks P (cond a (k ∷ ks) (cond b (l ∷ k ∷ ks) (k ∷ with_link l ks)))
   by true b later = h
   by false true later = (p, h)
@@ -131,7 +131,7 @@ all-links P [] h = tt
 all-links P (c ∷ cs) h = by c.link refl (all-links P cs (λ l k. h l (inr k))) where
   by : (o : Option Link) → c.link ≡ o → AllLinks P (links_in cs) → AllLinks P (with_link_of o (links_in cs))
   by None e rest = rest
-  by (Some l) e rest = all_with P l (links_in cs) (h l (inl e)) rest
+  by (Some l) e rest = all-with P l (links_in cs) (h l (inl e)) rest
 
 pub all-filter : (P : Link → Type 0) (f : Link → Bool) (ls : List Link) → AllLinks P ls → AllLinks P (filter f ls)
 all-filter P f [] h = tt
@@ -148,7 +148,7 @@ same-filter l (k ∷ ks) bs h g = by (list_any (same_link k) bs) refl h (λ s. s
       → AnySame l (cond b (k ∷ filter (λ (m : Link). list_any (same_link m) bs) ks) (filter (λ (m : Link). list_any (same_link m) bs) ks))
   by true e (inl s) later = inl s
   by true e (inr s) later = inr (later s)
-  by false e (inl s) later = absurd (differ (sym e ∙ any_true k bs (any-same l k bs s g))) where
+  by false e (inl s) later = absurd (differ (sym e ∙ any-true k bs (any-same l k bs s g))) where
     differ : false ≡ true → ⊥
     differ z = cc
   by false e (inr s) later = later s
@@ -226,9 +226,9 @@ named_from named set t (suc n) k e le lt h =
         at (inl less) = later g less
         at (inr more) = let same : t ≡ k = omega (arith, le, more) in absurd (differ (sym f ∙ (ap (has_track set) same ∙ h)))
 
-all_named : (named : List TrackState) (set k : ℕ) → first_unnamed named (tracks_in set) ≡ None → k < 32 → IsBitSet set k → is_named named k ≡ true
+pub all-named : (named : List TrackState) (set k : ℕ) → first_unnamed named (tracks_in set) ≡ None → k < 32 → IsBitSet set k → is_named named k ≡ true
 unfolding tracks_in
-all_named named set k e lt h = named_from named set 0 32 k e (omega arith) (omega (arith, lt)) (has_bit set k h)
+all-named named set k e lt h = named_from named set 0 32 k e (omega arith) (omega (arith, lt)) (has_bit set k h)
 
 pub named-inside : (named : List TrackState) (cs : List Cell) (l : Link) (k : ℕ) → link_outside named cs ≡ None → Carries cs l → k < 32 → IsBitSet l.tracks k → is_named named k ≡ true
-named-inside named cs l k e h lt bit = all_named named l.tracks k (each_none named cs l (none_least named cs e) h) lt bit
+named-inside named cs l k e h lt bit = all-named named l.tracks k (each_none named cs l (none_least named cs e) h) lt bit

@@ -1,6 +1,7 @@
 -- A link that is new, on items of one offset.
-use Rattle.std.proofs.Common.{◌≡◌, ℕ, zero, suc, ◌+◌, ◌<◌, ◌≤◌, ◌⊎◌, inl, inr, ⊎_elim, ℤ, Bool, true, false, cond, eqb, List, [], ◌∷◌, ◌++◌, map, length, unwrap_or, Option, Some, None, refl, sym, ap, ◌∙◌, arith, subst}
+use Rattle.std.proofs.Common.{◌≡◌, ℕ, zero, suc, ◌+◌, ◌*◌, max, ◌<◌, ◌≤◌, ◌⊎◌, inl, inr, ⊎_elim, ℤ, Bool, true, false, cond, eqb, List, [], ◌∷◌, ◌++◌, map, length, unwrap_or, Option, Some, None, refl, sym, ap, ◌∙◌, arith, subst}
 use Rattle.std.proofs.lemmas.Bool.Decides.{Decides-int_eq}
+use Rattle.std.proofs.lemmas.List.{length-append}
 use Rattle.std.specs.Ordering.{int_eq}
 use Rattle.frame_meaning.specs.declared.cells.Cell.{Cell}
 use Rattle.frame_meaning.specs.declared.cells.Link.{Link}
@@ -23,14 +24,18 @@ use Rattle.composables.specs.Ranges.{offset_of}
 use Rattle.composables.specs.TrackFacts.{Apart, EachHolds, Lacks, ShowsAsItem}
 use Rattle.composables.specs.TrackState.{TrackState}
 use Rattle.composables.proofs.Joining.{eqb-refl, length-view_cells, same-is}
-use Rattle.link_groups.specs.LinkedItems.{item_from, linked_cell, linked_item}
+use Rattle.link_groups.specs.LinkedItems.{item_from, item_of, linked_found, linked_item, linked_on}
 use Rattle.link_groups.specs.Linking.{all_linked, already_linked, are_there, found_offset, home_risen, item_offset, link_named, linked, new_link, offsets_differ, or_else, other_offset, shown_offset}
-use Rattle.link_groups.proofs.Relinked.{lacks_of}
+use Rattle.link_groups.proofs.Relinked.{lacks_of, linked-is, linked_cell}
 use Rattle.link_laws.specs.Laws.{LinkingKeepsTogether}
-use Rattle.link_laws.specs.Rooms.{AreAmong, AreNamed, AreTracks, IsRoom, LeavesTogether, as_left, with_tracks}
+use Rattle.link_laws.specs.Rooms.{AreAmong, AreNamed, AreTracks, IsNumbered, IsRoom, LeavesTogether, StaysTogether, as_left, with_tracks}
 use Rattle.link_laws.specs.Together.{Together}
+use Rattle.link_laws.specs.Weights.{given, most_added, runs_on, weight, weight_of}
+use Rattle.link_laws.proofs.LinkedRuns.{grown-linked}
+use Rattle.link_laws.proofs.Runs.{Grown, count, count-append, grown-self}
 use Rattle.link_laws.proofs.Sights.{Shows, offset-next}
 use Rattle.link_laws.proofs.Tied.{Each, IsTied, Sees, each-left, good-found, next-more, numbered-is, some-is, tied-of, together-of}
+use Rattle.link_laws.proofs.Weighing.{Below, count-few, fresh-runs, numbered-of, tracks-few, weight-more}
 
 -- the offset of an item is that of each of its frames
 
@@ -91,10 +96,11 @@ has_item p (v ∷ vs) i o a e h = by (same_number v.item (Some i)) refl (has_app
 
 pub record Gains (made : Link) (off : ℤ) (t u : TrackState) : Type 0 where
   pub shows : (l : Link) (o : Option ℤ) → Shows 0 u.cells l o → Shows 0 t.cells l o ⊎ ((l ≡ made) × (o ≡ Some off))
-  pub next : t.next_link ≤ u.next_link
+  pub next : (u.next_link ≡ t.next_link) ⊎ ((u.next_link ≡ t.next_link + 1) × (t.number ≡ made.home) × (t.next_link ≡ made.number))
+  pub grown : Grown t u
 
 gains_self : (made : Link) (off : ℤ) (t : TrackState) → Gains made off t t
-gains_self made off t = record { shows = λ l o h. inl h; next = omega arith }
+gains_self made off t = record { shows = λ l o h. inl h; next = inl refl; grown = grown-self t }
 
 linked_shows : (made : Link) (i p : ℕ) (cs : List Cell) (l : Link) (o : Option ℤ) → Shows p (map (linked_cell i (Some made)) cs) l o → Shows p cs l o ⊎ ((l ≡ made) × Has p cs i o)
 linked_shows made i p [] l o h = absurd h
@@ -110,9 +116,12 @@ linked_shows made i p (c ∷ cs) l o h = by (same_number c.item (Some i)) refl h
   by false f (inl k) later = inl (inl k)
   by false f (inr k) later = one (later k)
 
-item_gains : (table : Table) (made : Link) (off : ℤ) (t : TrackState) (i next : ℕ) → IsGood table t → item_offset t i ≡ off → t.next_link ≤ next
-    → Gains made off t (record (linked_item t i (Some made)) { next_link = next })
-item_gains table made off t i next g e le = record { shows = λ l o h. by l o (linked_shows made i 0 t.cells l o h); next = le } where
+item_gains : (table : Table) (made : Link) (off : ℤ) (t : TrackState) (i : ℕ) → IsGood table t → item_offset t i ≡ off → Gains made off t (linked_item t i (Some made))
+item_gains table made off t i g e = record {
+  shows = λ l o h. by l o (linked_shows made i 0 t.cells l o (subst (λ (u : TrackState). Shows 0 u.cells l o) (linked-is t i (Some made) g.kept) h));
+  next = inl refl;
+  grown = grown-linked t i (Some made);
+} where
   by : (l : Link) (o : Option ℤ) → Shows 0 t.cells l o ⊎ ((l ≡ made) × Has 0 t.cells i o) → Shows 0 t.cells l o ⊎ ((l ≡ made) × (o ≡ Some off))
   by l o (inl a) = inl a
   by l o (inr b) =
@@ -129,7 +138,7 @@ all_gain table all made off (t ∷ ts) [] g a e = each_same (t ∷ ts) where
 all_gain table all made off (t ∷ ts) (i ∷ is) g a e = by (int_eq (item_offset t i) off) refl e (λ k. all_gain table all made off ts is g a.1 k) where
   by : (b : Bool) → int_eq (item_offset t i) off ≡ b → cond b (other_offset off ts is) (Some (OffsetsDiffer off (item_offset t i))) ≡ None
       → (other_offset off ts is ≡ None → Each (Gains made off) ts (all_linked made ts is)) → Each (Gains made off) (t ∷ ts) (linked_item t i (Some made) ∷ all_linked made ts is)
-  by true f k later = (refl, item_gains table made off t i t.next_link (good_at t.number t a.0) ((Decides-int_eq (item_offset t i) off).0 f) (omega arith), later k) where
+  by true f k later = (refl, item_gains table made off t i (good_at t.number t a.0) ((Decides-int_eq (item_offset t i) off).0 f), later k) where
     good_at : (n : ℕ) (u : TrackState) → track_numbered n all ≡ Some u → IsGood table u
     good_at n u h = (good-found table all n u g h).1
   by false f k later = absurd cc
@@ -176,7 +185,10 @@ gain_next : (made : Link) (off : ℤ) (ts us : List TrackState) → Each (Gains 
 gain_next made off [] [] each = tt
 gain_next made off [] (u ∷ us) each = absurd each
 gain_next made off (t ∷ ts) [] each = absurd each
-gain_next made off (t ∷ ts) (u ∷ us) each = (each.0, each.1.next, gain_next made off ts us each.2)
+gain_next made off (t ∷ ts) (u ∷ us) each = (each.0, by each.1.next, gain_next made off ts us each.2) where
+  by : (u.next_link ≡ t.next_link) ⊎ ((u.next_link ≡ t.next_link + 1) × (t.number ≡ made.home) × (t.next_link ≡ made.number)) → t.next_link ≤ u.next_link
+  by (inl e) = omega (arith, e)
+  by (inr e) = omega (arith, e.0)
 
 gained_tied : (made : Link) (off : ℤ) (ts us : List TrackState) → Each (Gains made off) ts us → made.number ≡ next_link_at made.home ts → made.number < next_link_at made.home us
     → IsTied ts → IsTied us
@@ -201,38 +213,104 @@ gained_tied made off ts us each fresh risen g = record {
   below l a (inl s) = omega (arith, g.below l a s, next-more l.home ts us (gain_next made off ts us each))
   below l a (inr s) = subst (λ (k : Link). k.number < next_link_at k.home us) (sym s.0) risen
 
+-- the weight of all links: the new one has few runs
+
+-- a track with few runs more, or the home of the link that is made, which gives its number away
+pub record Rising (made : Link) (t u : TrackState) : Type 0 where
+  pub next : (u.next_link ≡ t.next_link) ⊎ ((u.next_link ≡ t.next_link + 1) × (t.number ≡ made.home) × (t.next_link ≡ made.number))
+  pub grown : Grown t u
+
+rising_runs : (made : Link) (ts us : List TrackState) → Each (Rising made) ts us
+    → (os : List (Option Link)) × (length os ≤ 4 * length ts) × ((h n : ℕ) → runs_on h n us ≤ runs_on h n ts + count h n os)
+rising_runs made [] [] e = ([], omega arith, λ h n. omega arith)
+rising_runs made [] (u ∷ us) e = absurd e
+rising_runs made (t ∷ ts) [] e = absurd e
+rising_runs made (t ∷ ts) (u ∷ us) e =
+    let a = e.1.grown in
+    let r = rising_runs made ts us e.2 in
+    (a.0 ++ r.0, omega (arith, length-append a.0 r.0, a.1, r.1), λ h n. omega (arith, count-append h n a.0 r.0, a.2 h n, r.2 h n))
+
+rising_given : (made : Link) (f : ℕ → ℕ → ℕ) (t u : TrackState) → f made.home made.number ≤ 128 → u.number ≡ t.number → Rising made t u
+    → given (f u.number) u.next_link ≤ given (f t.number) t.next_link + 129
+rising_given made f t u few e g = by g.next where
+  number : given (f u.number) u.next_link ≡ given (f t.number) u.next_link
+  number = ap (λ (m : ℕ). given (f m) u.next_link) e
+
+  by : (u.next_link ≡ t.next_link) ⊎ ((u.next_link ≡ t.next_link + 1) × (t.number ≡ made.home) × (t.next_link ≡ made.number))
+      → given (f u.number) u.next_link ≤ given (f t.number) t.next_link + 129
+  by (inl h) = omega (arith, number, ap (given (f t.number)) h)
+  by (inr h) =
+      let up : u.next_link ≡ suc t.next_link = omega (arith, h.0) in
+      let same : f t.number t.next_link ≡ f made.home made.number = ap (λ (m : ℕ). f m t.next_link) h.1 ∙ ap (f made.home) h.2 in
+      let more : given (f t.number) u.next_link ≡ max 1 (f t.number t.next_link) + given (f t.number) t.next_link = ap (given (f t.number)) up in
+      omega (arith, number, more, same, few)
+
+rising_weight : (made : Link) (f : ℕ → ℕ → ℕ) (ts us : List TrackState) → f made.home made.number ≤ 128 → Each (Rising made) ts us
+    → weight_of f us ≤ weight_of f ts + 129 * length ts
+rising_weight made f [] [] few e = omega arith
+rising_weight made f [] (u ∷ us) few e = absurd e
+rising_weight made f (t ∷ ts) [] few e = absurd e
+rising_weight made f (t ∷ ts) (u ∷ us) few e =
+    omega (arith, rising_given made f t u few e.0 e.1, rising_weight made f ts us few e.2)
+
+pub rising-little : (made : Link) (ts us : List TrackState) → IsNumbered ts → Below ts → made.number ≡ next_link_at made.home ts → Each (Rising made) ts us
+    → weight us ≤ weight ts + most_added
+rising-little made ts us room g fresh each =
+    let r = rising_runs made ts us each in
+    let tracks = tracks-few ts room in
+    let none : runs_on made.home made.number ts ≡ 0 = fresh-runs ts made.home made.number g (omega (arith, fresh)) in
+    let few : runs_on made.home made.number us ≤ 128 = omega (arith, none, r.2 made.home made.number, count-few made.home made.number r.0, r.1, tracks) in
+    omega (
+      arith,
+      rising_weight made (λ (h n : ℕ). runs_on h n us) ts us few each,
+      weight-more (λ (h n : ℕ). runs_on h n ts) (λ (h n : ℕ). runs_on h n us) ts r.0 room.ascend r.2,
+      r.1,
+      tracks,
+    )
+
+gained_rising : (made : Link) (off : ℤ) (ts us : List TrackState) → Each (Gains made off) ts us → Each (Rising made) ts us
+gained_rising made off [] [] e = tt
+gained_rising made off [] (u ∷ us) e = absurd e
+gained_rising made off (t ∷ ts) [] e = absurd e
+gained_rising made off (t ∷ ts) (u ∷ us) e = (e.0, record { next = e.1.next; grown = e.1.grown }, gained_rising made off ts us e.2)
+
 -- the call
 
 head_gains : (table : Table) (all : List TrackState) (made : Link) (off : ℤ) (t : TrackState) (ts : List TrackState) (is : List ℕ) → AreTracks table all → AreAmong all (t ∷ ts)
-    → other_offset off (t ∷ ts) is ≡ None → Each (Gains made off) (t ∷ ts) (home_risen (all_linked made (t ∷ ts) is))
-head_gains table all made off t ts [] g a e = by (all_gain table all made off (t ∷ ts) [] g a e) where
+    → t.number ≡ made.home → t.next_link ≡ made.number → other_offset off (t ∷ ts) is ≡ None → Each (Gains made off) (t ∷ ts) (home_risen (all_linked made (t ∷ ts) is))
+head_gains table all made off t ts [] g a home number e = by (all_gain table all made off (t ∷ ts) [] g a e) where
   by : Each (Gains made off) (t ∷ ts) (t ∷ ts) → Each (Gains made off) (t ∷ ts) (record t { next_link = t.next_link + 1 } ∷ ts)
-  by r = (refl, record { shows = λ l o h. inl h; next = omega arith }, r.2)
-head_gains table all made off t ts (i ∷ is) g a e = by (all_gain table all made off (t ∷ ts) (i ∷ is) g a e) where
+  by r = (refl, record { shows = λ l o h. inl h; next = inr (refl, home, number); grown = grown-self t }, r.2)
+head_gains table all made off t ts (i ∷ is) g a home number e = by (all_gain table all made off (t ∷ ts) (i ∷ is) g a e) where
   by : Each (Gains made off) (t ∷ ts) (linked_item t i (Some made) ∷ all_linked made ts is)
       → Each (Gains made off) (t ∷ ts) (record (linked_item t i (Some made)) { next_link = t.next_link + 1 } ∷ all_linked made ts is)
-  by r = (refl, record { shows = λ l o h. r.1.shows l o h; next = omega arith }, r.2)
+  by r = (refl, record { shows = λ l o h. r.1.shows l o h; next = inr (refl, home, number); grown = r.1.grown }, r.2)
 
-head_is : (made : Link) (t : TrackState) (ts : List TrackState) (is : List ℕ) → (u : TrackState) × (track_numbered t.number (home_risen (all_linked made (t ∷ ts) is)) ≡ Some u) × (u.next_link ≡ t.next_link + 1)
-head_is made t ts [] =
+pub head-is : (made : Link) (t : TrackState) (ts : List TrackState) (is : List ℕ) → (u : TrackState) × (track_numbered t.number (home_risen (all_linked made (t ∷ ts) is)) ≡ Some u) × (u.next_link ≡ t.next_link + 1)
+head-is made t ts [] =
     let u : TrackState = record t { next_link = t.next_link + 1 } in
     (u, ap (λ (b : Bool). cond b (Some u) (track_numbered t.number ts)) (eqb-refl t.number), refl)
-head_is made t ts (i ∷ is) =
+head-is made t ts (i ∷ is) =
     let u : TrackState = record (linked_item t i (Some made)) { next_link = t.next_link + 1 } in
     (u, ap (λ (b : Bool). cond b (Some u) (track_numbered t.number (all_linked made ts is))) (eqb-refl t.number), refl)
 
 link_done : (table : Table) (all : List TrackState) (t : TrackState) (ts : List TrackState) (c : Link3) (off : ℤ) → IsRoom table all → AreAmong all (t ∷ ts) → Together all
-    → other_offset off (t ∷ ts) c.items ≡ None → Together (with_tracks all (home_risen (all_linked (new_link t c.tracks) (t ∷ ts) c.items)))
+    → other_offset off (t ∷ ts) c.items ≡ None → StaysTogether all (with_tracks all (home_risen (all_linked (new_link t c.tracks) (t ∷ ts) c.items)))
 link_done table all t ts c off room among g e =
     let made : Link = new_link t c.tracks in
     let news : List TrackState = home_risen (all_linked made (t ∷ ts) c.items) in
-    let each = head_gains table all made off t ts c.items room.tracks among e in
+    let each = head_gains table all made off t ts c.items room.tracks among refl refl e in
     let whole = each-left (Gains made off) (gains_self made off) all (t ∷ ts) news all among each room.apart in
-    let head = head_is made t ts c.items in
+    let head = head-is made t ts c.items in
     let left : as_left news t ≡ head.0 = ap (λ (o : Option TrackState). unwrap_or o t) head.1 in
     let there : next_link_at t.number (with_tracks all news) ≡ head.0.next_link =
     next-numbered t.number (with_tracks all news) head.0 (numbered-left t.number news all t among.0 ∙ ap Some left) in
-    together-of (with_tracks all news) (gained_tied made off all (with_tracks all news) whole (sym (next-numbered t.number all t among.0)) (omega (arith, there, head.2)) (tied-of all g))
+    let tied : IsTied all = tied-of all g in
+    let fresh : made.number ≡ next_link_at made.home all = sym (next-numbered t.number all t among.0) in
+    record {
+      together = together-of (with_tracks all news) (gained_tied made off all (with_tracks all news) whole fresh (omega (arith, there, head.2)) tied);
+      little = rising-little made all (with_tracks all news) (numbered-of table all room) tied.below fresh (gained_rising made off all (with_tracks all news) whole);
+    }
 
 or_none : (a b : Option Refusal) → or_else a b ≡ None → a ≡ None
 or_none None b e = refl

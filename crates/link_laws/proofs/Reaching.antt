@@ -6,7 +6,6 @@ use Rattle.std.proofs.lemmas.List.{append-nil, drop-append-le, drop_all, length-
 use Rattle.std.specs.List.{list_any}
 use Rattle.frame_meaning.specs.declared.cells.Cell.{Cell}
 use Rattle.frame_meaning.specs.declared.cells.Link.{Link}
-use Rattle.frame_meaning.specs.declared.cells.Mark.{Mark}
 use Rattle.frame_meaning.specs.declared.cells.What.{What}
 use Rattle.frame_meaning.specs.declared.frames.Side.{Side}
 use Rattle.frame_meaning.specs.Render.{cell_at}
@@ -15,7 +14,7 @@ use Rattle.composables.specs.declared.items.ItemView.{ItemView}
 use Rattle.composables.specs.declared.media.Table.{Table}
 use Rattle.composables.specs.Items.{cells_of}
 use Rattle.composables.specs.Joined.{frames_in}
-use Rattle.composables.specs.Links.{cells_before, cells_from, each_split, link_split, links_in, links_split, next_link_at, relinked, same_link, split_links, with_link_of}
+use Rattle.composables.specs.Links.{cells_before, cells_from, count_at_home, earlier_at_home, links_in, links_split, moved_cell, moved_link, next_link_at, same_link, split_links, split_track, with_link_of}
 use Rattle.composables.specs.OwnTracks.{track_numbered}
 use Rattle.composables.specs.Ranges.{offset_of}
 use Rattle.composables.specs.TrackState.{TrackState, next_past_all}
@@ -29,7 +28,7 @@ use Rattle.edit_trim.specs.Rippling.{as_split}
 use Rattle.link_laws.proofs.ShiftTracks.{HasPlace, shifted-number}
 use Rattle.link_laws.proofs.Sights.{Alike, Shows, alike-drop, alike-length, alike-marks, alike-numbers, alike-sym, alike-take, alike-then, none-some, shows-alike}
 use Rattle.link_laws.proofs.Splices.{shows-back}
-use Rattle.link_laws.proofs.Splitting.{SeesFrom, numbered_link, split-is, splitting}
+use Rattle.link_laws.proofs.Splitting.{SeesFrom, split-drop}
 use Rattle.link_laws.proofs.Tied.{Each, numbered-is, some-is}
 
 -- cells that are alike have one list of links
@@ -47,46 +46,21 @@ alike_append [] (y ∷ ys) cs ds h k = absurd h
 alike_append (x ∷ xs) [] cs ds h k = absurd h
 alike_append (x ∷ xs) (y ∷ ys) cs ds h k = (h.0, h.1, alike_append xs ys cs ds h.2 k)
 
--- cells of one link and side are relinked alike
+-- cells of one link and side are moved alike
 
-abbrev relinked_by : Link → Link → Option Link → Option Link
-relinked_by old new None = None
-relinked_by old new (Some l) = cond (same_link l old) (Some new) (Some l)
-
-relinked_is : (old new : Link) (i : Option ℕ) (s : Side What) (m : Option Mark) (o : Option Link)
-    → ((relinked old new (record { item = i; side = s; mark = m; link = o })).link ≡ relinked_by old new o)
-    × ((relinked old new (record { item = i; side = s; mark = m; link = o })).side ≡ s)
-relinked_is old new i s m None = (refl, refl)
-relinked_is old new i s m (Some l) = by (same_link l old) where
-  c : Cell
-  c = record { item = i; side = s; mark = m; link = Some l }
-
-  by : (b : Bool) → ((cond b (record c { link = Some new }) c).link ≡ cond b (Some new) (Some l)) × ((cond b (record c { link = Some new }) c).side ≡ s)
-  by true = (refl, refl)
-  by false = (refl, refl)
-
-cell_relinked : (old new : Link) (c : Cell) → ((relinked old new c).link ≡ relinked_by old new c.link) × ((relinked old new c).side ≡ c.side)
-cell_relinked old new c = relinked_is old new c.item c.side c.mark c.link
-
-alike_relinked : (old new : Link) (cs ds : List Cell) → Alike cs ds → Alike (map (relinked old new) cs) (map (relinked old new) ds)
-alike_relinked old new [] [] a = tt
-alike_relinked old new [] (d ∷ ds) a = absurd a
-alike_relinked old new (c ∷ cs) [] a = absurd a
-alike_relinked old new (c ∷ cs) (d ∷ ds) a =
-    let x = cell_relinked old new c in
-    let y = cell_relinked old new d in
-    (x.0 ∙ (ap (relinked_by old new) a.0 ∙ sym y.0), x.1 ∙ (a.1 ∙ sym y.1), alike_relinked old new cs ds a.2)
+alike_moved : (ts us : List TrackState) (ls : List Link) (cs ds : List Cell) → ((o : Option Link) → moved_link ts ls o ≡ moved_link us ls o) → Alike cs ds
+    → Alike (map (moved_cell ts ls) cs) (map (moved_cell us ls) ds)
+alike_moved ts us ls [] [] e a = tt
+alike_moved ts us ls [] (d ∷ ds) e a = absurd a
+alike_moved ts us ls (c ∷ cs) [] e a = absurd a
+alike_moved ts us ls (c ∷ cs) (d ∷ ds) e a =
+    (ap (moved_link ts ls) a.0 ∙ e d.link, a.1, alike_moved ts us ls cs ds e a.2)
 
 -- two states of the tracks that are alike from a place on, each from its own
 
 pub record Follows (x z : ℕ) (t u : TrackState) : Type 0 where
   pub next : t.next_link ≡ u.next_link
   pub cells : Alike (drop x t.cells) (drop z u.cells)
-
-split_drop : (z : ℕ) (f : Cell → Cell) (cs : List Cell) → drop z (take z cs ++ map f (drop z cs)) ≡ map f (drop z cs)
-split_drop zero f cs = refl
-split_drop (suc z) f [] = refl
-split_drop (suc z) f (c ∷ cs) = split_drop z f cs
 
 follows_next : (x z h : ℕ) (ts us : List TrackState) → Each (Follows x z) ts us → next_link_at h ts ≡ next_link_at h us
 follows_next x z h [] [] each = refl
@@ -97,35 +71,35 @@ follows_next x z h (t ∷ ts) (u ∷ us) each =
     ∙ (ap (λ (m : ℕ). cond (eqb u.number h) m (next_link_at h ts)) each.1.next
     ∙ ap (λ (m : ℕ). cond (eqb u.number h) u.next_link m) (follows_next x z h ts us each.2))
 
-follows_one : (x z n : ℕ) (l : Link) (t u : TrackState) → u.number ≡ t.number → Follows x z t u → Follows x z (splitting x l n t) (splitting z l n u)
-follows_one x z n l t u e f = record {
-  next = ap (λ (m : ℕ). cond (eqb m l.home) (n + 1) t.next_link) (sym e) ∙ ap (λ (m : ℕ). cond (eqb u.number l.home) (n + 1) m) f.next;
+follows_link : (x z : ℕ) (ls : List Link) (ts us : List TrackState) → Each (Follows x z) ts us → (o : Option Link) → moved_link ts ls o ≡ moved_link us ls o
+follows_link x z ls ts us each None = refl
+follows_link x z ls ts us each (Some l) =
+    ap (λ (n : ℕ). cond (list_any (same_link l) ls) (Some (record l { number = n + earlier_at_home ls l })) (Some l)) (follows_next x z l.home ts us each)
+
+follows_one : (x z : ℕ) (ls : List Link) (ts us : List TrackState) (t u : TrackState) → ((o : Option Link) → moved_link ts ls o ≡ moved_link us ls o) → u.number ≡ t.number
+    → Follows x z t u → Follows x z (split_track x ts ls t) (split_track z us ls u)
+follows_one x z ls ts us t u same e f = record {
+  next = ap (λ (m : ℕ). m + count_at_home ls t.number) f.next ∙ ap (λ (m : ℕ). u.next_link + count_at_home ls m) (sym e);
   cells = cells;
 } where
-  cells : Alike (drop x (take x t.cells ++ map (relinked l (numbered_link l n)) (drop x t.cells))) (drop z (take z u.cells ++ map (relinked l (numbered_link l n)) (drop z u.cells)))
+  left : drop x (take x t.cells ++ map (moved_cell ts ls) (drop x t.cells)) ≡ map (moved_cell ts ls) (drop x t.cells)
+  left = split-drop x (moved_cell ts ls) t.cells
+
+  right : drop z (take z u.cells ++ map (moved_cell us ls) (drop z u.cells)) ≡ map (moved_cell us ls) (drop z u.cells)
+  right = split-drop z (moved_cell us ls) u.cells
+
+  cells : Alike (drop x (take x t.cells ++ map (moved_cell ts ls) (drop x t.cells))) (drop z (take z u.cells ++ map (moved_cell us ls) (drop z u.cells)))
   cells =
-      let a = alike_relinked l (numbered_link l n) (drop x t.cells) (drop z u.cells) f.cells in
-      subst (λ (cs : List Cell). Alike cs (drop z (take z u.cells ++ map (relinked l (numbered_link l n)) (drop z u.cells)))) (sym (split_drop x (relinked l (numbered_link l n)) t.cells))
-      (subst (Alike (map (relinked l (numbered_link l n)) (drop x t.cells))) (sym (split_drop z (relinked l (numbered_link l n)) u.cells)) a)
+      subst (λ (cs : List Cell). Alike cs (drop z (take z u.cells ++ map (moved_cell us ls) (drop z u.cells)))) (sym left)
+      (subst (Alike (map (moved_cell ts ls) (drop x t.cells))) (sym right) (alike_moved ts us ls (drop x t.cells) (drop z u.cells) same f.cells))
 
-follows_map : (x z n : ℕ) (l : Link) (ts us : List TrackState) → Each (Follows x z) ts us → Each (Follows x z) (map (splitting x l n) ts) (map (splitting z l n) us)
-follows_map x z n l [] [] each = tt
-follows_map x z n l [] (u ∷ us) each = absurd each
-follows_map x z n l (t ∷ ts) [] each = absurd each
-follows_map x z n l (t ∷ ts) (u ∷ us) each = (each.0, follows_one x z n l t u each.0 each.1, follows_map x z n l ts us each.2)
-
-follows_split : (x z : ℕ) (l : Link) (ts us : List TrackState) → Each (Follows x z) ts us → Each (Follows x z) (link_split x ts l) (link_split z us l)
-follows_split x z l ts us each =
-    let n = follows_next x z l.home ts us each in
-    let a : Each (Follows x z) (map (splitting x l (next_link_at l.home us)) ts) (map (splitting z l (next_link_at l.home us)) us) = follows_map x z (next_link_at l.home us) l ts us each in
-    let b : Each (Follows x z) (map (splitting x l (next_link_at l.home ts)) ts) (map (splitting z l (next_link_at l.home us)) us) =
-    subst (λ (m : ℕ). Each (Follows x z) (map (splitting x l m) ts) (map (splitting z l (next_link_at l.home us)) us)) (sym n) a in
-    subst (λ (vs : List TrackState). Each (Follows x z) vs (link_split z us l)) (sym (split-is x ts l))
-    (subst (Each (Follows x z) (map (splitting x l (next_link_at l.home ts)) ts)) (sym (split-is z us l)) b)
-
-follows_all : (x z : ℕ) (ls : List Link) (ts us : List TrackState) → Each (Follows x z) ts us → Each (Follows x z) (each_split x ts ls) (each_split z us ls)
-follows_all x z [] ts us each = each
-follows_all x z (l ∷ ls) ts us each = follows_all x z ls (link_split x ts l) (link_split z us l) (follows_split x z l ts us each)
+follows_all : (x z : ℕ) (ls : List Link) (ts us ps qs : List TrackState) → ((o : Option Link) → moved_link ts ls o ≡ moved_link us ls o) → Each (Follows x z) ps qs
+    → Each (Follows x z) (map (split_track x ts ls) ps) (map (split_track z us ls) qs)
+follows_all x z ls ts us [] [] same each = tt
+follows_all x z ls ts us [] (q ∷ qs) same each = absurd each
+follows_all x z ls ts us (p ∷ ps) [] same each = absurd each
+follows_all x z ls ts us (p ∷ ps) (q ∷ qs) same each =
+    (each.0, follows_one x z ls ts us p q same each.0 each.1, follows_all x z ls ts us ps qs same each.2)
 
 -- the same links are split
 
@@ -153,7 +127,8 @@ same_split x z ts us each fronts =
 
 pub follows-splits : (x z : ℕ) (ts us : List TrackState) → Each (Follows x z) ts us → Each (Fronts x) ts us → Each (Follows x z) (links_split x x ts) (links_split x z us)
 follows-splits x z ts us each fronts =
-    subst (λ (ls : List Link). Each (Follows x z) (links_split x x ts) (each_split z us ls)) (same_split x z ts us each fronts) (follows_all x z (split_links x x ts) ts us each)
+    subst (λ (ls : List Link). Each (Follows x z) (links_split x x ts) (map (split_track z us ls) us)) (same_split x z ts us each fronts)
+    (follows_all x z (split_links x x ts) ts us ts us (follows_link x z (split_links x x ts) ts us each) each)
 
 -- the tracks after the shift
 
@@ -268,46 +243,18 @@ SameSides [] (d ∷ ds) = ⊥
 SameSides (c ∷ cs) [] = ⊥
 SameSides (c ∷ cs) (d ∷ ds) = (c.side ≡ d.side) × SameSides cs ds
 
-sides_self : (cs : List Cell) → SameSides cs cs
-sides_self [] = tt
-sides_self (c ∷ cs) = (refl, sides_self cs)
-
-sides_then : (bs cs ds : List Cell) → SameSides bs cs → SameSides cs ds → SameSides bs ds
-sides_then [] [] ds h k = k
-sides_then [] (c ∷ cs) ds h k = absurd h
-sides_then (b ∷ bs) [] ds h k = absurd h
-sides_then (b ∷ bs) (c ∷ cs) [] h k = absurd k
-sides_then (b ∷ bs) (c ∷ cs) (d ∷ ds) h k = (h.0 ∙ k.0, sides_then bs cs ds h.1 k.1)
-
-sides_split : (z : ℕ) (old new : Link) (cs : List Cell) → SameSides cs (take z cs ++ map (relinked old new) (drop z cs))
-sides_split zero old new [] = tt
-sides_split zero old new (c ∷ cs) = (sym (cell_relinked old new c).1, sides_split zero old new cs)
-sides_split (suc z) old new [] = tt
-sides_split (suc z) old new (c ∷ cs) = (refl, sides_split z old new cs)
+sides_split : (z : ℕ) (us : List TrackState) (ls : List Link) (cs : List Cell) → SameSides cs (take z cs ++ map (moved_cell us ls) (drop z cs))
+sides_split zero us ls [] = tt
+sides_split zero us ls (c ∷ cs) = (refl, sides_split zero us ls cs)
+sides_split (suc z) us ls [] = tt
+sides_split (suc z) us ls (c ∷ cs) = (refl, sides_split z us ls cs)
 
 abbrev Shown : TrackState → TrackState → Type 0
 Shown t u = SameSides t.cells u.cells
 
-shown_map : (z n : ℕ) (l : Link) (ts : List TrackState) → Each Shown ts (map (splitting z l n) ts)
-shown_map z n l [] = tt
-shown_map z n l (t ∷ ts) = (refl, sides_split z l (numbered_link l n) t.cells, shown_map z n l ts)
-
-shown_self : (ts : List TrackState) → Each Shown ts ts
-shown_self [] = tt
-shown_self (t ∷ ts) = (refl, sides_self t.cells, shown_self ts)
-
-shown_then : (ts us vs : List TrackState) → Each Shown ts us → Each Shown us vs → Each Shown ts vs
-shown_then [] [] vs h g = g
-shown_then [] (u ∷ us) vs h g = absurd h
-shown_then (t ∷ ts) [] vs h g = absurd h
-shown_then (t ∷ ts) (u ∷ us) [] h g = absurd g
-shown_then (t ∷ ts) (u ∷ us) (v ∷ vs) h g = (g.0 ∙ h.0, sides_then t.cells u.cells v.cells h.1 g.1, shown_then ts us vs h.2 g.2)
-
-shown_all : (z : ℕ) (ls : List Link) (ts : List TrackState) → Each Shown ts (each_split z ts ls)
-shown_all z [] ts = shown_self ts
-shown_all z (l ∷ ls) ts =
-    shown_then ts (link_split z ts l) (each_split z (link_split z ts l) ls)
-    (subst (Each Shown ts) (sym (split-is z ts l)) (shown_map z (next_link_at l.home ts) l ts)) (shown_all z ls (link_split z ts l))
+shown_all : (z : ℕ) (us : List TrackState) (ls : List Link) (ts : List TrackState) → Each Shown ts (map (split_track z us ls) ts)
+shown_all z us ls [] = tt
+shown_all z us ls (t ∷ ts) = (refl, sides_split z us ls t.cells, shown_all z us ls ts)
 
 sides_at : (cs ds : List Cell) (p : ℕ) → SameSides cs ds → (cell_at cs p).side ≡ (cell_at ds p).side
 sides_at [] [] p h = refl
@@ -361,7 +308,7 @@ reached table named t own x n l o e has before h = numbered_from own z vs after.
   vs = links_split x z (shifted own x x views named)
 
   found : (u : TrackState) × (track_numbered own ps ≡ Some u) × Shown t u
-  found = following Shown own named ps t (shown_all x (split_links x x named) named) e
+  found = following Shown own named ps t (shown_all x named (split_links x x named) named) e
 
   is : as_split x named t ≡ found.0
   is =

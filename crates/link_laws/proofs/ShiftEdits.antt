@@ -1,4 +1,4 @@
--- Edits that move what is behind them on all named tracks.
+-- Edits that move what is behind them on all named tracks keep these together.
 use Rattle.std.proofs.Common.{◌≡◌, ℕ, zero, suc, ◌+◌, ◌-◌, ◌<◌, ◌≤◌, ◌⊎◌, inl, inr, ℤ, Bool, true, false, cond, eqb, List, [], ◌∷◌, drop, length, slice_get, Option, Some, None, Ok, refl, sym, ap, ◌∙◌, arith, subst, IsBitSet}
 use Rattle.std.proofs.lemmas.Bool.{eqb-true}
 use Rattle.frame_meaning.specs.declared.cells.Link.{Link}
@@ -27,52 +27,37 @@ use Rattle.edit_splice.specs.Padding.{padded_track}
 use Rattle.edit_splice.specs.Shifts.{after_shift, shift_of, shift_refusal, shifted, shifted_track}
 use Rattle.edit_splice.proofs.Bridging.{for-found}
 use Rattle.link_laws.specs.Laws.{ShiftingKeepsTogether}
-use Rattle.link_laws.specs.Rooms.{AreAmong, AreNamed, Ascend, IsRoom, KeepsTogether, LeavesTogether, with_tracks}
+use Rattle.link_laws.specs.Rooms.{AreNamed, Ascend, IsRoom, KeepsTogether, LeavesTogether, StaysTogether, with_tracks}
 use Rattle.link_laws.specs.Together.{Together}
-use Rattle.link_laws.proofs.Edits.{item-range, not-found, room-good}
+use Rattle.link_laws.proofs.ShiftCases.{ByShifts, PutAt, ShiftCase, extract-leaves, insert-leaves, leaves-own, leaves-unless, shift-leaves}
+use Rattle.link_laws.proofs.Edits.{not-found}
+use Rattle.link_laws.proofs.FreeRanges.{item-range}
 use Rattle.link_laws.proofs.LinkLists.{named-inside}
 use Rattle.link_laws.proofs.Sights.{Shows, shows-none}
 use Rattle.link_laws.proofs.Shifting.{Shifts, Stays, from-carries, named-each, shift-end, shift-start}
-use Rattle.link_laws.proofs.ShiftTracks.{HasPlace, has-place, padded-carries, shifted-number, shifts-each, shifts-one, shifts-padded}
+use Rattle.link_laws.proofs.ShiftTracks.{HasFew, HasPlace, few-none, has-place, padded-carries, shifted-number, shifts-each, shifts-one, shifts-padded}
 use Rattle.link_laws.proofs.Splices.{length-pad}
-use Rattle.link_laws.proofs.Splitting.{SeesFrom, all-split, splits-before}
-use Rattle.link_laws.proofs.Tied.{Each, IsTied, among-numbered, each-with, numbered-is, some-is, tied-of, together-of}
+use Rattle.link_laws.proofs.ShiftWeight.{shift-little, split-order}
+use Rattle.link_laws.proofs.Splitting.{SeesFrom, split-law, splits-before}
+use Rattle.link_laws.proofs.Weighing.{numbered-of}
+use Rattle.link_laws.proofs.Tied.{Each, among-numbered, each-with, numbered-is, some-is, tied-of, together-of}
 
--- what a call leaves
 
 pub unless-leaves : (all : List TrackState) (why : Option Refusal) (meant : Applied) → (why ≡ None → LeavesTogether all meant) → LeavesTogether all (unless why meant)
-unless-leaves all None meant h = h refl
-unless-leaves all (Some r) meant h = tt
-
-within_leaves : (all us : List TrackState) (done : Done) → Together (with_tracks all us) → LeavesTogether all (within_limits us done)
-within_leaves all us done h =
-    unless-leaves all (too_long us) (unless (too_many us) (Ok (us, done))) (λ e. unless-leaves all (too_many us) (Ok (us, done)) (λ f. h))
+unless-leaves all why meant h = leaves-unless (λ (news : List TrackState). StaysTogether all (with_tracks all news)) why meant h
 
 pub own-room : (table : Table) (own : ℕ) (meant : List TrackState → TrackState → Applied)
     → ((all named : List TrackState) (t : TrackState) → IsRoom table all → AreNamed all named → Together all → track_numbered own named ≡ Some t → LeavesTogether all (meant named t))
     → KeepsTogether table (λ named. for_own own (meant named) named)
-own-room table own meant each all named room names g = by (track_numbered own named) refl where
-  by : (o : Option TrackState) → track_numbered own named ≡ o → LeavesTogether all (for_own own (meant named) named)
-  by None e = subst (LeavesTogether all) (sym (not-found own (meant named) named e)) tt
-  by (Some t) e = subst (LeavesTogether all) (sym (for-found own (meant named) named t e)) (each all named t room names g e)
+own-room table own meant each all named room names g =
+    leaves-own (λ (news : List TrackState). StaysTogether all (with_tracks all news)) own (meant named) named (λ t e. each all named t room names g e)
 
 -- a shift that moves something
 
-not_eqb : (m n : ℕ) → (m ≡ n → ⊥) → eqb m n ≡ false
-not_eqb m n differs = by (eqb m n) refl where
-  by : (b : Bool) → eqb m n ≡ b → b ≡ false
-  by true e = absurd (differs (eqb-true m n e))
-  by false e = refl
-
-pub shift-law : (table : Table) (all named ts : List TrackState) (own x y : ℕ) (views : List ItemView) (done : Done) (Put : Link → Option ℤ → Type 0)
-    → IsRoom table all → AreAmong all named → Together all → (frames_in views ≡ y - x → ⊥)
-    → Each (Shifts x y (x + frames_in views) Put) named (shifted own x y views ts)
-    → ((l : Link) (b : Option ℤ) → SeesFrom y named l b → SeesFrom y ts l b) → ((n : ℕ) → is_named ts n ≡ is_named named n)
-    → ((l : Link) (o : Option ℤ) → Put l o → Stays x named all l o ⊎ SeesFrom (x + frames_in views) (links_split x (x + frames_in views) (shifted own x y views ts)) l o)
-    → LeavesTogether all (shift_of own x y views done ts)
-shift-law table all named ts own x y views done Put room among g moves each sees same put =
-    unless-leaves all (shift_refusal x y (frames_in views) ts) (within_limits (after_shift own x y views ts) done)
-    (λ e. subst (λ (ws : List TrackState). LeavesTogether all (within_limits ws done)) (sym split) (within_leaves all vs done (together-of (with_tracks all vs) (tied e)))) where
+pub shifts-together : (table : Table) (all named : List TrackState) → IsRoom table all → AreNamed all named → Together all
+    → ByShifts (λ (news : List TrackState). StaysTogether all (with_tracks all news)) all named
+shifts-together table all named room names g ts own x y views done c =
+    shift-leaves (λ (news : List TrackState). StaysTogether all (with_tracks all news)) all named ts own x y views done c stays where
       z : ℕ
       z = x + frames_in views
 
@@ -82,133 +67,26 @@ shift-law table all named ts own x y views done Put room among g moves each sees
       vs : List TrackState
       vs = links_split x z us
 
-      differs : eqb (frames_in views) (y - x) ≡ false
-      differs = not_eqb (frames_in views) (y - x) moves
+      ls : List Link
+      ls = split_links x z us
 
-      split : after_shift own x y views ts ≡ vs
-      split = ap (λ (b : Bool). cond b us vs) differs
-
-      told : shift_refusal x y (frames_in views) ts ≡ None → link_outside ts (cells_from y ts) ≡ None
-      told e = sym (ap (λ (b : Bool). cond b None (link_outside ts (cells_from y ts))) differs) ∙ e
-
-      tied : shift_refusal x y (frames_in views) ts ≡ None → IsTied (with_tracks all vs)
-      tied e =
+      stays : link_outside ts (cells_from y ts) ≡ None → StaysTogether all (with_tracks all vs)
+      stays told =
           let inside : (l : Link) (b : Option ℤ) → SeesFrom y named l b → (n : ℕ) → n < 32 → IsBitSet l.tracks n → is_named named n ≡ true =
-          λ l b s n lt bit. sym (same n) ∙ named-inside ts (cells_from y ts) l n (told e) (from-carries y ts l b (sees l b s)) lt bit in
-          let start = shift-start table all named us x y z Put room.tracks among (tied-of all g) each inside in
-          let end = all-split (Stays x named all) z us (split_links x z us) start in
-          shift-end all named us vs x y z Put among (tied-of all g) each (splits-before z us (split_links x z us)) end put
-
--- extract
-
-pub nothing-each : (table : Table) (all named : List TrackState) (t : TrackState) (own x y : ℕ) (done : Done) → IsRoom table all → AreNamed all named → Together all → track_numbered own named ≡ Some t
-    → x < y → x ≤ length t.cells → LeavesTogether all (shift_of own x y [] done named)
-nothing-each table all named t own x y done room names g e less le =
-    shift-law table all named named own x y [] done (λ l o. ⊥) room names.among g (λ z. omega (arith, z, less))
-    (shifts-each own x y [] (λ l o. ⊥) named (omega (arith, less)) (has-place all own x named t names.among (among-numbered all named own t names.among e) le) (λ l o h. h))
-    (λ l b s. s) (λ n. refl) (λ l o h. absurd h)
-
-extract_keeps : (table : Table) (c : Extract) (all named : List TrackState) (t : TrackState) → IsRoom table all → AreNamed all named → Together all → track_numbered c.track named ≡ Some t
-    → LeavesTogether all (extracted c named t)
-extract_keeps table c all named t room names g e = by (range_of t.cells c.item) refl where
-  by : (o : Option (ℕ × ℕ)) → range_of t.cells c.item ≡ o → LeavesTogether all (for_range (λ x y. shift_of c.track x y [] Plain named) o)
-  by None f = tt
-  by (Some (x, y)) f =
-      let r = item-range table t c.item x y (room-good table all named c.track t room names.among e) f in
-      nothing-each table all named t c.track x y Plain room names g e r.0 (omega (arith, r.0, r.1))
-
--- insert
-
-source_some : (table : Table) (track : ℕ) (what : What) (from len : ℕ) → source_refusal table track what from len ≡ None → 0 < len
-source_some table track what from (suc n) e = omega arith
-source_some table track what from zero e = by (bounds_of table what) (suits (slice_get table.kinds track) what) e where
-  by : (o : Option (ℕ × ℕ)) (b : Bool) → refusal_in o b from 0 ≡ None → 0 < 0
-  by None b e = absurd cc
-  by (Some (low, high)) true e = absurd cc
-  by (Some (low, high)) false e = absurd cc
-
-none_place : (own x least : ℕ) (ts : List TrackState) → Ascend least ts → own < least → HasPlace own x ts
-none_place own x least [] a lt = tt
-none_place own x least (t ∷ ts) a lt = ((λ e. absurd (differ e)), none_place own x (t.number + 1) ts a.1 (omega (arith, a.0, lt))) where
-  differ : t.number ≡ own → ⊥
-  differ e = omega (arith, e, a.0, lt)
-
-padded_each : (at least : ℕ) (views : List ItemView) (Put : Link → Option ℤ → Type 0) (ts : List TrackState) (t : TrackState) → Ascend least ts → track_numbered t.number ts ≡ Some t
-    → ((l : Link) (o : Option ℤ) → Shows at (cells_of views) l o → Put l o)
-    → Each (Shifts at at (at + frames_in views) Put) ts (shifted t.number at at views (with_track ts (padded_track t at)))
-padded_each at least views Put [] t a e put = absurd cc
-padded_each at least views Put (w ∷ ws) t a e put = by (eqb w.number t.number) refl e (λ k. padded_each at (w.number + 1) views Put ws t a.1 k put) where
-  p : TrackState
-  p = padded_track t at
-
-  z : ℕ
-  z = at + frames_in views
-
-  R : TrackState → TrackState → Type 0
-  R = Shifts at at z Put
-
-  long : at ≤ length p.cells
-  long = omega (arith, length-pad t at)
-
-  there : R t (shifted_track t.number at at views p)
-  there = shifts-padded t (shifted_track t.number at at views p) at at at z Put (shifts-one t.number at at views Put p (omega arith) (λ n. long) put)
-
-  by : (b : Bool) → eqb w.number t.number ≡ b → cond b (Some w) (track_numbered t.number ws) ≡ Some t
-      → (track_numbered t.number ws ≡ Some t → Each R ws (shifted t.number at at views (with_track ws p)))
-      → Each R (w ∷ ws) (shifted t.number at at views (cond b (p ∷ ws) (w ∷ with_track ws p)))
-  by true f k later =
-      let same : w ≡ t = some-is w t k in
-      let n : w.number ≡ t.number = eqb-true w.number t.number f in (
-        shifted-number t.number at at views p ∙ sym n,
-        subst (λ (v : TrackState). R v (shifted_track t.number at at views p)) (sym same) there,
-        shifts-each t.number at at views Put ws (omega arith) (none_place t.number at (w.number + 1) ws a.1 (omega (arith, n))) put,
-      )
-  by false f k later =
-      (shifted-number t.number at at views w, shifts-one t.number at at views Put w (omega arith) (λ n. absurd (differ n)) put, later k) where
-        differ : w.number ≡ t.number → ⊥
-        differ n = apart (eqb w.number t.number) f (ap (λ (m : ℕ). eqb m t.number) n ∙ self t.number) where
-          apart : (b : Bool) → b ≡ false → b ≡ true → ⊥
-          apart b e g = Prim.grind (arith, e, g)
-
-          self : (m : ℕ) → eqb m m ≡ true
-          self m = eqb-refl m
-
-abbrev Sees : ℕ → TrackState → TrackState → Type 0
-Sees y t u = (l : Link) (o : Option ℤ) → Shows y (drop y t.cells) l o → Shows y (drop y u.cells) l o
-
-from_each : (y : ℕ) (ts us : List TrackState) (l : Link) (o : Option ℤ) → Each (Sees y) ts us → SeesFrom y ts l o → SeesFrom y us l o
-from_each y [] us l o each h = absurd h
-from_each y (t ∷ ts) [] l o each h = absurd each
-from_each y (t ∷ ts) (u ∷ us) l o each (inl h) = inl (each.1 l o h)
-from_each y (t ∷ ts) (u ∷ us) l o each (inr h) = inr (from_each y ts us l o each.2 h)
-
-insert_keeps : (table : Table) (c : Insert) (all named : List TrackState) (t : TrackState) → IsRoom table all → AreNamed all named → Together all → track_numbered c.track named ≡ Some t
-    → LeavesTogether all (inserted table c named t)
-insert_keeps table c all named t room names g e =
-    unless-leaves all (source_refusal table t.number c.what c.from c.len) (shift_of c.track c.at c.at clip (Item t.next_item) ts)
-    (λ f. shift-law table all named ts c.track c.at c.at clip (Item t.next_item) (λ l o. ⊥) room names.among g (λ z. omega (arith, z, source_some table t.number c.what c.from c.len f))
-    (subst (λ (n : ℕ). Each (Shifts c.at c.at (c.at + frames_in clip) (λ l o. ⊥)) named (shifted n c.at c.at clip ts)) own each)
-    (λ l b s. from_each c.at named ts l b padded s) (λ n. named-each (Sees c.at) named ts n padded) (λ l o h. absurd h)) where
-      clip : List ItemView
-      clip = clip_view t.next_item c.what c.from c.len ∷ []
-
-      ts : List TrackState
-      ts = with_track named (padded_track t c.at)
-
-      own : t.number ≡ c.track
-      own = numbered-is c.track named t e
-
-      found : track_numbered t.number named ≡ Some t
-      found = ap (λ (n : ℕ). track_numbered n named) own ∙ e
-
-      each : Each (Shifts c.at c.at (c.at + frames_in clip) (λ l o. ⊥)) named (shifted t.number c.at c.at clip ts)
-      each = padded_each c.at 0 clip (λ l o. ⊥) named t names.ascend found (λ l o h. shows-none c.at clip l o (refl, tt) h)
-
-      padded : Each (Sees c.at) named ts
-      padded = each-with (Sees c.at) (λ u l o h. h) named t (padded_track t c.at) found refl (λ l o h. padded-carries t c.at c.at l o h)
+          λ l b s n lt bit. sym (c.same n) ∙ named-inside ts (cells_from y ts) l n told (from-carries y ts l b (c.sees l b s)) lt bit in
+          let start = shift-start table all named us x y z (PutAt x views) room.tracks names.among (tied-of all g) c.each inside in
+          let end = split-law us ls (split-order x z us) start.each (Stays x named all) z start in
+          record {
+            together = together-of (with_tracks all vs) (shift-end all named us vs x y z (PutAt x views) names.among (tied-of all g) c.each (splits-before us ls z us) end c.put);
+            little = shift-little all named us x y z (PutAt x views) (numbered-of table all room) names (tied-of all g).below c.each start.high;
+          }
 
 pub shifting-keeps : ShiftingKeepsTogether
 shifting-keeps = record {
-  insert = λ table c. own-room table c.track (inserted table c) (insert_keeps table c);
-  extract = λ table c. own-room table c.track (extracted c) (extract_keeps table c);
+  insert = λ table c. own-room table c.track (inserted table c)
+      (λ all named t room names g e.
+      insert-leaves (λ (news : List TrackState). StaysTogether all (with_tracks all news)) table c all named t names e (shifts-together table all named room names g));
+  extract = λ table c. own-room table c.track (extracted c)
+      (λ all named t room names g e.
+      extract-leaves (λ (news : List TrackState). StaysTogether all (with_tracks all news)) c all named t names e (shifts-together table all named room names g));
 }

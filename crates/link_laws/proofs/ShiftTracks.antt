@@ -4,8 +4,10 @@ use Rattle.std.proofs.lemmas.Bool.{cases_lt, eqb-true, ltb-false, ltb-true}
 use Rattle.std.proofs.lemmas.List.{append-nil, drop-append-le, drop_all, length-append, length-take-le, take-append-le, take_all, take_at}
 use Rattle.frame_meaning.specs.declared.cells.Cell.{Cell}
 use Rattle.frame_meaning.specs.declared.cells.Link.{Link}
+use Rattle.frame_meaning.specs.Render.{cell_at}
 use Rattle.frame_meaning.specs.Splice.{kept_or_dropped, renumbered, split_item, with_marks}
 use Rattle.composables.specs.declared.items.ItemView.{ItemView}
+use Rattle.composables.specs.Good.{AllUnlinked}
 use Rattle.composables.specs.Items.{cells_of}
 use Rattle.composables.specs.Joined.{frames_in}
 use Rattle.composables.specs.OwnTracks.{track_numbered}
@@ -17,17 +19,37 @@ use Rattle.edit_splice.specs.Shifts.{shifted, shifted_along, shifted_track}
 use Rattle.edit_splice.specs.Splicing.{spliced_track}
 use Rattle.edit_splice.proofs.Padding.{frames-gap}
 use Rattle.link_laws.specs.Rooms.{AreAmong}
+use Rattle.link_laws.specs.Weights.{runs_in}
+use Rattle.link_laws.proofs.Runs.{count, runs-alike, runs-append, runs-bare, runs-cut, runs-one, runs-take-left, runs-take-more}
 use Rattle.link_laws.proofs.LinkLists.{Carries, carries-shows, shows-carries}
 use Rattle.link_laws.proofs.Shifting.{Shifts}
 use Rattle.link_laws.proofs.Sights.{Alike, Shows, alike-drop, alike-length, alike-marks, alike-numbers, alike-sym, alike-take, alike-then, rebased, shows-alike, shows-append, shows-at, shows-left, shows-moved, shows-none, shows-take}
-use Rattle.link_laws.proofs.Splices.{gap-bare}
+use Rattle.link_laws.proofs.Splices.{dark-runs, gap-bare, padded-runs}
 use Rattle.link_laws.proofs.Tied.{Each, some-is}
 
 -- a splice within a track
 
+-- what is put in has few runs
+abbrev pub HasFew : List ItemView → Type 0
+HasFew views = (ws : List (Option Link)) × (length ws ≤ 4) × ((h n : ℕ) → runs_in h n false (cells_of views) ≤ count h n ws)
+
+pub few-none : (views : List ItemView) → AllUnlinked views → HasFew views
+few-none views bare = ([], omega arith, λ h n. omega (arith, runs-bare h n views bare))
+
+pub few-one : (v : ItemView) → HasFew (v ∷ [])
+few-one v = (v.link ∷ [], omega arith, λ h n. omega (arith, runs-one h n v))
+
 pub shifts-in : (t : TrackState) (x y past z : ℕ) (views : List ItemView) (Put : Link → Option ℤ → Type 0) → x ≤ length t.cells → drop past t.cells ≡ drop y t.cells
-    → x + frames_in views ≡ z → ((l : Link) (o : Option ℤ) → Shows x (cells_of views) l o → Put l o) → Shifts x y z Put t (spliced_track t x past views)
-shifts-in t x y past z views Put le same sum put = record { low = low; high = high; back = back; next = refl } where
+    → x + frames_in views ≡ z → ((l : Link) (o : Option ℤ) → Shows x (cells_of views) l o → Put l o) → x ≤ past → HasFew views → Shifts x y z Put t (spliced_track t x past views)
+shifts-in t x y past z views Put le same sum put order few = record {
+  low = low;
+  high = high;
+  back = back;
+  forth = forth;
+  next = refl;
+  put = (few.0, few.1, runs_low);
+  parts = ((cell_at t.cells past).link ∷ [], omega arith, runs_parts);
+} where
   all : List Cell
   all = with_marks kept_or_dropped x past 0 t.cells
 
@@ -78,11 +100,42 @@ shifts-in t x y past z views Put le same sum put = record { low = low; high = hi
   back : (l : Link) (o : Option ℤ) → Shows 0 (take x t.cells) l o → Shows 0 (take x ((front ++ cells_of views) ++ tail)) l o
   back l o h = subst (λ (cs : List Cell). Shows 0 cs l o) (sym first) (shows-alike 0 (take x t.cells) front l o (alike-sym front (take x t.cells) fronts) h)
 
+  forth : (l : Link) (o : Option ℤ) → Shows 0 (take x ((front ++ cells_of views) ++ tail)) l o → Shows 0 (take x t.cells) l o
+  forth l o h = shows-alike 0 front (take x t.cells) l o fronts (subst (λ (cs : List Cell). Shows 0 cs l o) first h)
+
+  runs_low : (h n : ℕ) → runs_in h n false (take z ((front ++ cells_of views) ++ tail)) ≤ runs_in h n false (take x t.cells) + count h n few.0
+  runs_low h n =
+      omega (
+        arith,
+        ap (runs_in h n false) (take_at (front ++ cells_of views) tail z till),
+        runs-append h n false front (cells_of views),
+        runs-alike h n false front (take x t.cells) fronts,
+        few.2 h n,
+      )
+
+  runs_parts : (h n : ℕ) → runs_in h n false (take x t.cells) + runs_in h n false (drop z ((front ++ cells_of views) ++ tail))
+      ≤ runs_in h n false t.cells + count h n ((cell_at t.cells past).link ∷ [])
+  runs_parts h n =
+      omega (
+        arith,
+        ap (runs_in h n false) behind,
+        runs-alike h n false tail (drop past t.cells) tails,
+        runs-cut h n x past false t.cells order,
+      )
+
 -- a track that does not have the place
 
 shifts_past : (t : TrackState) (x y z k past : ℕ) (Put : Link → Option ℤ → Type 0) → length t.cells ≤ x → x ≤ z → k ≡ length t.cells → length t.cells ≤ past
     → Shifts x y z Put t (spliced_track t k past [])
-shifts_past t x y z k past Put short le is beyond = record { low = low; high = high; back = back; next = refl } where
+shifts_past t x y z k past Put short le is beyond = record {
+  low = low;
+  high = high;
+  back = back;
+  forth = forth;
+  next = refl;
+  put = ([], omega arith, runs_low);
+  parts = ([], omega arith, runs_parts);
+} where
   all : List Cell
   all = with_marks kept_or_dropped k past 0 t.cells
 
@@ -111,6 +164,26 @@ shifts_past t x y z k past Put short le is beyond = record { low = low; high = h
       let shown = shows-alike 0 t.cells all l o (alike-sym all t.cells marks) (shows-take x 0 t.cells l o h) in
       subst (λ (cs : List Cell). Shows 0 cs l o) (sym (ap (take x) whole ∙ take_all x all (omega (arith, long, short)))) shown
 
+  forth : (l : Link) (o : Option ℤ) → Shows 0 (take x (spliced_track t k past []).cells) l o → Shows 0 (take x t.cells) l o
+  forth l o h =
+      let shown = subst (λ (cs : List Cell). Shows 0 cs l o) (ap (take x) whole ∙ take_all x all (omega (arith, long, short))) h in
+      subst (λ (cs : List Cell). Shows 0 cs l o) (sym (take_all x t.cells short)) (shows-alike 0 all t.cells l o marks shown)
+
+  runs_low : (h n : ℕ) → runs_in h n false (take z (spliced_track t k past []).cells) ≤ runs_in h n false (take x t.cells) + count h n []
+  runs_low h n =
+      omega (
+        arith,
+        ap (λ (cs : List Cell). runs_in h n false (take z cs)) whole,
+        ap (runs_in h n false) (take_all z all (omega (arith, long, short, le))),
+        ap (runs_in h n false) (take_all x t.cells short),
+        runs-alike h n false all t.cells marks,
+      )
+
+  runs_parts : (h n : ℕ) → runs_in h n false (take x t.cells) + runs_in h n false (drop z (spliced_track t k past []).cells) ≤ runs_in h n false t.cells + count h n []
+  runs_parts h n =
+      let none : runs_in h n false (drop z (spliced_track t k past []).cells) ≡ 0 = ap (runs_in h n false) (ap (drop z) whole ∙ drop_all z all (omega (arith, long, short, le))) in
+      omega (arith, none, ap (runs_in h n false) (take_all x t.cells short))
+
 drop_least : (y : ℕ) (cs : List Cell) → drop (min y (length cs)) cs ≡ drop y cs
 drop_least y cs = by (cases_lt (length cs) y) where
   by : (length cs < y) ⊎ (y ≤ length cs) → drop (min y (length cs)) cs ≡ drop y cs
@@ -125,7 +198,7 @@ shifts_along t x y n Put le = by (ltb x (length t.cells)) refl where
       let at : x ≡ min x (length t.cells) = omega (arith, inside) in
       subst (λ (k : ℕ). Shifts x y (x + n) Put t (spliced_track t k (min y (length t.cells)) (gap_views n))) at
       (shifts-in t x y (min y (length t.cells)) (x + n) (gap_views n) Put (omega (arith, inside)) (drop_least y t.cells) (omega (arith, frames-gap n))
-      (λ l o h. absurd (shows-none x (gap_views n) l o (gap-bare n) h)))
+      (λ l o h. absurd (shows-none x (gap_views n) l o (gap-bare n) h)) (omega (arith, inside, le)) (few-none (gap_views n) (gap-bare n)))
   by false e =
       let past = ltb-false x (length t.cells) e in
       shifts_past t x y (x + n) (min x (length t.cells)) (min y (length t.cells)) Put (omega (arith, past)) (omega arith) (omega (arith, past)) (omega (arith, past, le))
@@ -138,10 +211,10 @@ HasPlace own x [] = Unit {0}
 HasPlace own x (t ∷ ts) = (t.number ≡ own → x ≤ length t.cells) × HasPlace own x ts
 
 pub shifts-one : (own x y : ℕ) (views : List ItemView) (Put : Link → Option ℤ → Type 0) (t : TrackState) → x ≤ y → (t.number ≡ own → x ≤ length t.cells)
-    → ((l : Link) (o : Option ℤ) → Shows x (cells_of views) l o → Put l o) → Shifts x y (x + frames_in views) Put t (shifted_track own x y views t)
-shifts-one own x y views Put t le has put = by (eqb t.number own) refl where
+    → ((l : Link) (o : Option ℤ) → Shows x (cells_of views) l o → Put l o) → HasFew views → Shifts x y (x + frames_in views) Put t (shifted_track own x y views t)
+shifts-one own x y views Put t le has put few = by (eqb t.number own) refl where
   by : (b : Bool) → eqb t.number own ≡ b → Shifts x y (x + frames_in views) Put t (cond b (spliced_track t x y views) (shifted_along t x y (frames_in views)))
-  by true e = shifts-in t x y y (x + frames_in views) views Put (has (eqb-true t.number own e)) refl refl put
+  by true e = shifts-in t x y y (x + frames_in views) views Put (has (eqb-true t.number own e)) refl refl put le few
   by false e = shifts_along t x y (frames_in views) Put le
 
 pub shifted-number : (own x y : ℕ) (views : List ItemView) (t : TrackState) → (shifted_track own x y views t).number ≡ t.number
@@ -151,10 +224,10 @@ shifted-number own x y views t = by (eqb t.number own) where
   by false = refl
 
 pub shifts-each : (own x y : ℕ) (views : List ItemView) (Put : Link → Option ℤ → Type 0) (ts : List TrackState) → x ≤ y → HasPlace own x ts
-    → ((l : Link) (o : Option ℤ) → Shows x (cells_of views) l o → Put l o) → Each (Shifts x y (x + frames_in views) Put) ts (shifted own x y views ts)
-shifts-each own x y views Put [] le has put = tt
-shifts-each own x y views Put (t ∷ ts) le has put =
-    (shifted-number own x y views t, shifts-one own x y views Put t le has.0 put, shifts-each own x y views Put ts le has.1 put)
+    → ((l : Link) (o : Option ℤ) → Shows x (cells_of views) l o → Put l o) → HasFew views → Each (Shifts x y (x + frames_in views) Put) ts (shifted own x y views ts)
+shifts-each own x y views Put [] le has put few = tt
+shifts-each own x y views Put (t ∷ ts) le has put few =
+    (shifted-number own x y views t, shifts-one own x y views Put t le has.0 put few, shifts-each own x y views Put ts le has.1 put few)
 
 pub has-place : (all : List TrackState) (own x : ℕ) (ts : List TrackState) (t : TrackState) → AreAmong all ts → track_numbered own all ≡ Some t → x ≤ length t.cells → HasPlace own x ts
 has-place all own x [] t a e le = tt
@@ -203,7 +276,15 @@ no_dark : (n : ℕ) (l : Link) → Carries (cells_of (gap_views n)) l → ⊥
 no_dark n l h = let r = carries-shows 0 (cells_of (gap_views n)) l h in shows-none 0 (gap_views n) l r.0 (gap-bare n) r.1
 
 pub shifts-padded : (t u : TrackState) (at x y z : ℕ) (Put : Link → Option ℤ → Type 0) → Shifts x y z Put (padded_track t at) u → Shifts x y z Put t u
-shifts-padded t u at x y z Put s = record { low = low; high = high; back = back; next = s.next } where
+shifts-padded t u at x y z Put s = record {
+  low = low;
+  high = high;
+  back = back;
+  forth = forth;
+  next = s.next;
+  put = (s.put.0, s.put.1, runs_low);
+  parts = (s.parts.0, s.parts.1, runs_parts);
+} where
   dark : List Cell
   dark = cells_of (gap_views (at - length t.cells))
 
@@ -227,6 +308,18 @@ shifts-padded t u at x y z Put s = record { low = low; high = high; back = back;
 
   back : (l : Link) (o : Option ℤ) → Shows 0 (take x t.cells) l o → Shows 0 (take x u.cells) l o
   back l o h = s.back l o (take_left x 0 t.cells dark l o h)
+
+  forth : (l : Link) (o : Option ℤ) → Shows 0 (take x u.cells) l o → Shows 0 (take x t.cells) l o
+  forth l o h = by (take_more x 0 t.cells dark l o (s.forth l o h)) where
+    by : Shows 0 (take x t.cells) l o ⊎ Carries dark l → Shows 0 (take x t.cells) l o
+    by (inl a) = a
+    by (inr b) = absurd (no_dark (at - length t.cells) l b)
+
+  runs_low : (h n : ℕ) → runs_in h n false (take z u.cells) ≤ runs_in h n false (take x t.cells) + count h n s.put.0
+  runs_low h n = omega (arith, s.put.2 h n, runs-take-more h n x false t.cells dark (λ c. dark-runs h n (at - length t.cells) c))
+
+  runs_parts : (h n : ℕ) → runs_in h n false (take x t.cells) + runs_in h n false (drop z u.cells) ≤ runs_in h n false t.cells + count h n s.parts.0
+  runs_parts h n = omega (arith, s.parts.2 h n, runs-take-left h n x false t.cells dark, padded-runs t at h n)
 
 pub padded-carries : (t : TrackState) (at y : ℕ) (l : Link) (o : Option ℤ) → Shows y (drop y t.cells) l o → Shows y (drop y (padded_track t at).cells) l o
 padded-carries t at y l o h = drop_left y y t.cells (cells_of (gap_views (at - length t.cells))) l o h

@@ -1,5 +1,5 @@
 -- A shift of all named tracks of a room: links that it splits, and those of which it moves all.
-use Rattle.std.proofs.Common.{◌≡◌, ℕ, zero, suc, ◌+◌, ◌<◌, ◌⊎◌, inl, inr, ⊎_elim, ℤ, Bool, true, false, cond, eqb, ◌||◌, List, [], ◌∷◌, take, drop, length, unwrap_or, Option, Some, None, refl, sym, ap, ◌∙◌, arith, subst, IsBitSet}
+use Rattle.std.proofs.Common.{◌≡◌, ℕ, zero, suc, ◌+◌, ◌<◌, ◌≤◌, ◌⊎◌, inl, inr, ⊎_elim, ℤ, Bool, true, false, cond, eqb, ◌||◌, List, [], ◌∷◌, take, drop, length, unwrap_or, Option, Some, None, refl, sym, ap, ◌∙◌, arith, subst, IsBitSet}
 use Rattle.std.proofs.lemmas.Bool.{eqb-true}
 use Rattle.std.specs.List.{list_any}
 use Rattle.frame_meaning.specs.declared.cells.Cell.{Cell}
@@ -12,6 +12,8 @@ use Rattle.composables.specs.Links.{cells_before, cells_from, is_named, links_in
 use Rattle.composables.specs.OwnTracks.{track_numbered}
 use Rattle.composables.specs.TrackState.{TrackState}
 use Rattle.link_laws.specs.Rooms.{AreAmong, AreTracks, as_left, with_tracks}
+use Rattle.link_laws.specs.Weights.{runs_in}
+use Rattle.link_laws.proofs.Runs.{count}
 use Rattle.link_laws.proofs.LinkLists.{AllLinks, AnySame, Carries, Same, all-filter, all-links, any-same, carries-append, carries-left, carries-right, carries-shows, in-links, same-filter, shows-carries}
 use Rattle.link_laws.proofs.Linking.{left-number, next-numbered, numbered-left}
 use Rattle.link_laws.proofs.Sights.{Shows, rebased, shows-append, shows-at, shows-drop, shows-take, shows-view}
@@ -19,12 +21,17 @@ use Rattle.link_laws.proofs.Splitting.{MaySplit, SameBefore, SeesFrom, Splits}
 use Rattle.link_laws.proofs.Tied.{Each, IsTied, Sees, among-numbered, numbered-is, some-is}
 
 -- a track of which the places [x, y) are replaced, so that what stood from y on stands from z on, by its links and offsets:
--- of what is put in it has those that Put tells
+-- of what is put in it has those that Put tells. It has few runs more of its links: those of two lists, one for what is put
+-- in, and one for what stays and what is moved, apart from each other
 pub record Shifts (x y z : ℕ) (Put : Link → Option ℤ → Type 0) (t u : TrackState) : Type 0 where
   pub low : (l : Link) (o : Option ℤ) → Shows 0 (take z u.cells) l o → Shows 0 (take x t.cells) l o ⊎ Put l o
   pub high : (l : Link) (o : Option ℤ) → Shows z (drop z u.cells) l o → (b : Option ℤ) × Shows y (drop y t.cells) l b × (o ≡ rebased y z b)
   pub back : (l : Link) (o : Option ℤ) → Shows 0 (take x t.cells) l o → Shows 0 (take x u.cells) l o
+  pub forth : (l : Link) (o : Option ℤ) → Shows 0 (take x u.cells) l o → Shows 0 (take x t.cells) l o
   pub next : u.next_link ≡ t.next_link
+  pub put : (ws : List (Option Link)) × (length ws ≤ 4) × ((h n : ℕ) → runs_in h n false (take z u.cells) ≤ runs_in h n false (take x t.cells) + count h n ws)
+  pub parts : (os : List (Option Link)) × (length os ≤ 4)
+      × ((h n : ℕ) → runs_in h n false (take x t.cells) + runs_in h n false (drop z u.cells) ≤ runs_in h n false t.cells + count h n os)
 
 -- what stays: cells of the named tracks before a place, and of tracks that are not named
 
@@ -53,20 +60,20 @@ before_all x all [] l o a h = absurd h
 before_all x all (t ∷ ts) l o a (inl h) = numbered-sees t.number all t l o a.0 (shows-take x 0 t.cells l o h)
 before_all x all (t ∷ ts) l o a (inr h) = before_all x all ts l o a.1 h
 
-from_all : (y : ℕ) (all ts : List TrackState) (l : Link) (o : Option ℤ) → AreAmong all ts → SeesFrom y ts l o → Sees all l o
-from_all y all [] l o a h = absurd h
-from_all y all (t ∷ ts) l o a (inl h) =
+pub from-all : (y : ℕ) (all ts : List TrackState) (l : Link) (o : Option ℤ) → AreAmong all ts → SeesFrom y ts l o → Sees all l o
+from-all y all [] l o a h = absurd h
+from-all y all (t ∷ ts) l o a (inl h) =
     numbered-sees t.number all t l o a.0 (shows-drop y 0 t.cells l o (shows-at y (0 + y) (drop y t.cells) l o (omega arith) h))
-from_all y all (t ∷ ts) l o a (inr h) = from_all y all ts l o a.1 h
+from-all y all (t ∷ ts) l o a (inr h) = from-all y all ts l o a.1 h
 
-rest_all : (named ts : List TrackState) (l : Link) (o : Option ℤ) → SeesRest named ts l o → Sees ts l o
-rest_all named [] l o h = h
-rest_all named (t ∷ ts) l o (inl h) = inl h.1
-rest_all named (t ∷ ts) l o (inr h) = inr (rest_all named ts l o h)
+pub rest-all : (named ts : List TrackState) (l : Link) (o : Option ℤ) → SeesRest named ts l o → Sees ts l o
+rest-all named [] l o h = h
+rest-all named (t ∷ ts) l o (inl h) = inl h.1
+rest-all named (t ∷ ts) l o (inr h) = inr (rest-all named ts l o h)
 
-stays_all : (x : ℕ) (named all : List TrackState) (l : Link) (o : Option ℤ) → AreAmong all named → Stays x named all l o → Sees all l o
-stays_all x named all l o a (inl h) = before_all x all named l o a h
-stays_all x named all l o a (inr h) = rest_all named all l o h
+pub stays-all : (x : ℕ) (named all : List TrackState) (l : Link) (o : Option ℤ) → AreAmong all named → Stays x named all l o → Sees all l o
+stays-all x named all l o a (inl h) = before_all x all named l o a h
+stays-all x named all l o a (inr h) = rest-all named all l o h
 
 -- numbers of tracks, and links of good tracks
 
@@ -91,8 +98,8 @@ found-named n (u ∷ us) t e = by (eqb u.number n) e (λ k. found-named n us t k
   by true k later = refl
   by false k later = later k
 
-none_named : (n : ℕ) (ts : List TrackState) → is_named ts n ≡ false → track_numbered n ts ≡ None
-none_named n ts e = by (track_numbered n ts) refl where
+pub none-named : (n : ℕ) (ts : List TrackState) → is_named ts n ≡ false → track_numbered n ts ≡ None
+none-named n ts e = by (track_numbered n ts) refl where
   differ : false ≡ true → ⊥
   differ z = cc
 
@@ -100,19 +107,19 @@ none_named n ts e = by (track_numbered n ts) refl where
   by None f = refl
   by (Some t) f = absurd (differ (sym e ∙ found-named n ts t f))
 
-next_among : (all ts : List TrackState) (h : ℕ) → AreAmong all ts → is_named ts h ≡ true → next_link_at h ts ≡ next_link_at h all
-next_among all ts h a e =
+pub next-among : (all ts : List TrackState) (h : ℕ) → AreAmong all ts → is_named ts h ≡ true → next_link_at h ts ≡ next_link_at h all
+next-among all ts h a e =
     let r = named-found h ts e in
     next-numbered h ts r.0 r.1 ∙ sym (next-numbered h all r.0 (among-numbered all ts h r.0 a r.1))
 
-next_shifts : (x y z : ℕ) (Put : Link → Option ℤ → Type 0) (ts us : List TrackState) (h : ℕ) → Each (Shifts x y z Put) ts us → next_link_at h us ≡ next_link_at h ts
-next_shifts x y z Put [] [] h each = refl
-next_shifts x y z Put [] (u ∷ us) h each = absurd each
-next_shifts x y z Put (t ∷ ts) [] h each = absurd each
-next_shifts x y z Put (t ∷ ts) (u ∷ us) h each =
+pub next-shifts : (x y z : ℕ) (Put : Link → Option ℤ → Type 0) (ts us : List TrackState) (h : ℕ) → Each (Shifts x y z Put) ts us → next_link_at h us ≡ next_link_at h ts
+next-shifts x y z Put [] [] h each = refl
+next-shifts x y z Put [] (u ∷ us) h each = absurd each
+next-shifts x y z Put (t ∷ ts) [] h each = absurd each
+next-shifts x y z Put (t ∷ ts) (u ∷ us) h each =
     ap (λ (m : ℕ). cond (eqb m h) u.next_link (next_link_at h us)) each.0
     ∙ (ap (λ (m : ℕ). cond (eqb t.number h) m (next_link_at h us)) each.1.next
-    ∙ ap (λ (m : ℕ). cond (eqb t.number h) t.next_link m) (next_shifts x y z Put ts us h each.2))
+    ∙ ap (λ (m : ℕ). cond (eqb t.number h) t.next_link m) (next-shifts x y z Put ts us h each.2))
 
 link_of : (n p : ℕ) (vs : List ItemView) (l : Link) (o : Option ℤ) → EachLinkOf n vs → Shows p (cells_of vs) l o → IsLinkOf n (Some l)
 link_of n p [] l o e h = absurd h
@@ -127,11 +134,11 @@ home_bit table [] l o a h = absurd h
 home_bit table (t ∷ ts) l o a (inl h) = (good_link table t l o a.1 h).1
 home_bit table (t ∷ ts) l o a (inr h) = home_bit table ts l o a.2 h
 
-rest_bit : (table : Table) (named ts : List TrackState) (l : Link) (o : Option ℤ) → AreTracks table ts → SeesRest named ts l o
+pub rest-bit : (table : Table) (named ts : List TrackState) (l : Link) (o : Option ℤ) → AreTracks table ts → SeesRest named ts l o
     → (n : ℕ) × (n < 32) × (track_numbered n named ≡ None) × IsBitSet l.tracks n
-rest_bit table named [] l o a h = absurd h
-rest_bit table named (t ∷ ts) l o a (inl h) = (t.number, a.0, h.0, (good_link table t l o a.1 h.1).0)
-rest_bit table named (t ∷ ts) l o a (inr h) = rest_bit table named ts l o a.2 h
+rest-bit table named [] l o a h = absurd h
+rest-bit table named (t ∷ ts) l o a (inl h) = (t.number, a.0, h.0, (good_link table t l o a.1 h.1).0)
+rest-bit table named (t ∷ ts) l o a (inr h) = rest-bit table named ts l o a.2 h
 
 home_low : (table : Table) (ts : List TrackState) (h n : ℕ) → AreTracks table ts → n < next_link_at h ts → h < 32
 home_low table [] h n a lt = absurd (omega (arith, lt))
@@ -142,13 +149,13 @@ home_low table (t ∷ ts) h n a lt = by (eqb t.number h) refl lt (λ k. home_low
 
 -- what is moved, and what stays, before and after the shift
 
-high_all : (x y z : ℕ) (Put : Link → Option ℤ → Type 0) (ts us : List TrackState) (l : Link) (o : Option ℤ) → Each (Shifts x y z Put) ts us → SeesFrom z us l o
+pub high-all : (x y z : ℕ) (Put : Link → Option ℤ → Type 0) (ts us : List TrackState) (l : Link) (o : Option ℤ) → Each (Shifts x y z Put) ts us → SeesFrom z us l o
     → (b : Option ℤ) × SeesFrom y ts l b × (o ≡ rebased y z b)
-high_all x y z Put [] [] l o each h = absurd h
-high_all x y z Put [] (u ∷ us) l o each h = absurd each
-high_all x y z Put (t ∷ ts) [] l o each h = absurd h
-high_all x y z Put (t ∷ ts) (u ∷ us) l o each (inl h) = let r = each.1.high l o h in (r.0, inl r.1, r.2)
-high_all x y z Put (t ∷ ts) (u ∷ us) l o each (inr h) = let r = high_all x y z Put ts us l o each.2 h in (r.0, inr r.1, r.2)
+high-all x y z Put [] [] l o each h = absurd h
+high-all x y z Put [] (u ∷ us) l o each h = absurd each
+high-all x y z Put (t ∷ ts) [] l o each h = absurd h
+high-all x y z Put (t ∷ ts) (u ∷ us) l o each (inl h) = let r = each.1.high l o h in (r.0, inl r.1, r.2)
+high-all x y z Put (t ∷ ts) (u ∷ us) l o each (inr h) = let r = high-all x y z Put ts us l o each.2 h in (r.0, inr r.1, r.2)
 
 back_all : (x y z : ℕ) (Put : Link → Option ℤ → Type 0) (ts us : List TrackState) (l : Link) (o : Option ℤ) → Each (Shifts x y z Put) ts us → SeesBefore x ts l o → SeesBefore x us l o
 back_all x y z Put [] us l o each h = absurd h
@@ -161,9 +168,9 @@ from-carries z [] l o h = absurd h
 from-carries z (u ∷ us) l o (inl h) = carries-left (drop z u.cells) (cells_from z us) l (shows-carries z (drop z u.cells) l o h)
 from-carries z (u ∷ us) l o (inr h) = carries-right (drop z u.cells) (cells_from z us) l (from-carries z us l o h)
 
-carries_from : (z : ℕ) (us : List TrackState) (l : Link) → Carries (cells_from z us) l → (o : Option ℤ) × SeesFrom z us l o
-carries_from z [] l h = absurd h
-carries_from z (u ∷ us) l h = by (carries-append (drop z u.cells) (cells_from z us) l h) (λ k. carries_from z us l k) where
+pub carries-from : (z : ℕ) (us : List TrackState) (l : Link) → Carries (cells_from z us) l → (o : Option ℤ) × SeesFrom z us l o
+carries-from z [] l h = absurd h
+carries-from z (u ∷ us) l h = by (carries-append (drop z u.cells) (cells_from z us) l h) (λ k. carries-from z us l k) where
   by : Carries (drop z u.cells) l ⊎ Carries (cells_from z us) l → (Carries (cells_from z us) l → (o : Option ℤ) × SeesFrom z us l o) → (o : Option ℤ) × SeesFrom z (u ∷ us) l o
   by (inl a) later = let r = carries-shows z (drop z u.cells) l a in (r.0, inl r.1)
   by (inr b) later = let r = later b in (r.0, inr r.1)
@@ -181,16 +188,16 @@ pub shift-start : (table : Table) (all named us : List TrackState) (x y z : ℕ)
     → Splits (Stays x named all) z us (split_links x z us)
 shift-start table all named us x y z Put tracks among g each inside = record { after = after; cross = cross; low = low; high = high; each = may } where
   moved : (l : Link) (a : Option ℤ) → SeesFrom z us l a → (b : Option ℤ) × SeesFrom y named l b × (a ≡ rebased y z b)
-  moved l a s = high_all x y z Put named us l a each s
+  moved l a s = high-all x y z Put named us l a each s
 
   seen : (l : Link) (b : Option ℤ) → SeesFrom y named l b → Sees all l b
-  seen l b s = from_all y all named l b among s
+  seen l b s = from-all y all named l b among s
 
   stay : (l : Link) (b : Option ℤ) → Stays x named all l b → Sees all l b
-  stay l b s = stays_all x named all l b among s
+  stay l b s = stays-all x named all l b among s
 
   next : (h : ℕ) → is_named named h ≡ true → next_link_at h us ≡ next_link_at h all
-  next h e = next_shifts x y z Put named us h each ∙ next_among all named h among e
+  next h e = next-shifts x y z Put named us h each ∙ next-among all named h among e
 
   same : (h : ℕ) → is_named us h ≡ is_named named h
   same h = named-each (Shifts x y z Put) named us h each
@@ -219,7 +226,7 @@ shift-start table all named us x y z Put tracks among g each inside = record { a
         by : Stays x named all k a → (c : Option ℤ) → SeesFrom y named l c → k.tracks ≡ l.tracks → AnySame l before
         by (inl h) c m w = any-same k l before e (in-links (cells_before x us) k (before_carries x us k a (back_all x y z Put named us k a each h)))
         by (inr h) c m w =
-            let r = rest_bit table named all k a tracks h in
+            let r = rest-bit table named all k a tracks h in
             let n = named-found r.0 named (inside l c m r.0 r.1 (subst (λ (v : ℕ). IsBitSet v r.0) w r.3)) in
             absurd (differ (track_numbered r.0 named) n.0 r.2 n.1)
 
@@ -233,14 +240,17 @@ shift-start table all named us x y z Put tracks among g each inside = record { a
       let home = inside l r.0 r.1 l.home (home_low table all l.home l.number tracks below) (home_bit table all l r.0 tracks (seen l r.0 r.1)) in
       (same l.home ∙ home, omega (arith, below, next l.home home))
 
-  one : (l : Link) → Carries (cells_from z us) l → MaySplit z us l
-  one l h =
-      let r = carries_from z us l h in
-      let p = high l r.0 r.1 in
-      (p.0, p.1, λ k a s e. (after k l a r.0 s r.1 e).0)
+  one : (l : Link) → Carries (cells_from z us) l → MaySplit us l
+  one l h = let r = carries-from z us l h in high l r.0 r.1
 
-  may : AllLinks (MaySplit z us) (split_links x z us)
-  may = all-filter (MaySplit z us) (λ (l : Link). list_any (same_link l) before) behind (all-links (MaySplit z us) (cells_from z us) one)
+  may : AllLinks (MaySplit us) (split_links x z us)
+  may = all-filter (MaySplit us) (λ (l : Link). list_any (same_link l) before) behind (all-links (MaySplit us) (cells_from z us) one)
+
+-- they may be split where all that is moved has links that were given away
+pub may-split : (x z : ℕ) (us : List TrackState) → ((l : Link) (a : Option ℤ) → SeesFrom z us l a → MaySplit us l) → AllLinks (MaySplit us) (split_links x z us)
+may-split x z us high =
+    all-filter (MaySplit us) (λ (l : Link). list_any (same_link l) (links_in (cells_before x us))) (links_in (cells_from z us))
+    (all-links (MaySplit us) (cells_from z us) (λ l c. high l (carries-from z us l c).0 (carries-from z us l c).1))
 
 -- once they are split all tracks are together
 
@@ -272,20 +282,20 @@ sides x y z Put (t ∷ ts) (u ∷ us) (v ∷ vs) l o e f (inr h) = by (sides x y
   by (inl (inr p)) = inl (inr p)
   by (inr b) = inr (inr b)
 
-left_sees : (named vs ts : List TrackState) (l : Link) (o : Option ℤ) → ((n : ℕ) → track_numbered n vs ≡ None → track_numbered n named ≡ None)
+pub left-sees : (named vs ts : List TrackState) (l : Link) (o : Option ℤ) → ((n : ℕ) → track_numbered n vs ≡ None → track_numbered n named ≡ None)
     → Sees (with_tracks ts vs) l o → SeesRest named ts l o ⊎ Sees vs l o
-left_sees named vs [] l o none h = absurd h
-left_sees named vs (t ∷ ts) l o none (inl h) = by (track_numbered t.number vs) refl h where
+left-sees named vs [] l o none h = absurd h
+left-sees named vs (t ∷ ts) l o none (inl h) = by (track_numbered t.number vs) refl h where
   by : (found : Option TrackState) → track_numbered t.number vs ≡ found → Shows 0 (unwrap_or found t).cells l o → SeesRest named (t ∷ ts) l o ⊎ Sees vs l o
   by None e k = inl (inl (none t.number e, k))
   by (Some v) e k = inr (numbered-sees t.number vs v l o e k)
-left_sees named vs (t ∷ ts) l o none (inr h) = by (left_sees named vs ts l o none h) where
+left-sees named vs (t ∷ ts) l o none (inr h) = by (left-sees named vs ts l o none h) where
   by : SeesRest named ts l o ⊎ Sees vs l o → SeesRest named (t ∷ ts) l o ⊎ Sees vs l o
   by (inl a) = inl (inr a)
   by (inr b) = inr b
 
-next_named : (all named vs : List TrackState) (h : ℕ) → AreAmong all named → is_named named h ≡ true → is_named vs h ≡ true → next_link_at h (with_tracks all vs) ≡ next_link_at h vs
-next_named all named vs h among e f =
+pub next-named : (all named vs : List TrackState) (h : ℕ) → AreAmong all named → is_named named h ≡ true → is_named vs h ≡ true → next_link_at h (with_tracks all vs) ≡ next_link_at h vs
+next-named all named vs h among e f =
     let r = named-found h named e in
     let q = named-found h vs f in
     let there = among-numbered all named h r.0 among r.1 in
@@ -304,13 +314,10 @@ next_unnamed vs (t ∷ ts) h e =
           ap (λ (o : Option TrackState). (unwrap_or o t).next_link) none
       by false f later = later
 
-pub shift-end : (all named us vs : List TrackState) (x y z : ℕ) (Put : Link → Option ℤ → Type 0) → AreAmong all named → IsTied all
-    → Each (Shifts x y z Put) named us → Each (SameBefore z) us vs → Splits (Stays x named all) z vs []
-    → ((l : Link) (o : Option ℤ) → Put l o → Stays x named all l o ⊎ SeesFrom z vs l o) → IsTied (with_tracks all vs)
-shift-end all named us vs x y z Put among g each same inv put = record {
-  one = λ k l a b s t h n. one k l a b h n (split k a s) (split l b t);
-  below = λ l a s. below l a (split l a s);
-} where
+pub end-split : (all named us vs : List TrackState) (x y z : ℕ) (Put : Link → Option ℤ → Type 0) → Each (Shifts x y z Put) named us → Each (SameBefore z) us vs
+    → ((l : Link) (o : Option ℤ) → Put l o → Stays x named all l o ⊎ SeesFrom z vs l o)
+    → (l : Link) (o : Option ℤ) → Sees (with_tracks all vs) l o → Stays x named all l o ⊎ SeesFrom z vs l o
+end-split all named us vs x y z Put each same put = split where
   named_same : (n : ℕ) → is_named vs n ≡ is_named named n
   named_same n = named-each (SameBefore z) us vs n same ∙ named-each (Shifts x y z Put) named us n each
 
@@ -321,10 +328,10 @@ shift-end all named us vs x y z Put among g each same inv put = record {
 
     by : (b : Bool) → is_named named n ≡ b → track_numbered n named ≡ None
     by true f = let r = named-found n vs (named_same n ∙ f) in absurd (differ (track_numbered n vs) r.0 e r.1)
-    by false f = none_named n named f
+    by false f = none-named n named f
 
   split : (l : Link) (o : Option ℤ) → Sees (with_tracks all vs) l o → Stays x named all l o ⊎ SeesFrom z vs l o
-  split l o s = outer (left_sees named vs all l o none s) where
+  split l o s = outer (left-sees named vs all l o none s) where
     inner : (SeesBefore x named l o ⊎ Put l o) ⊎ SeesFrom z vs l o → Stays x named all l o ⊎ SeesFrom z vs l o
     inner (inl (inl a)) = inl (inl a)
     inner (inl (inr p)) = put l o p
@@ -334,8 +341,21 @@ shift-end all named us vs x y z Put among g each same inv put = record {
     outer (inl r) = inl (inr r)
     outer (inr s) = inner (sides x y z Put named us vs l o each same s)
 
+pub shift-end : (all named us vs : List TrackState) (x y z : ℕ) (Put : Link → Option ℤ → Type 0) → AreAmong all named → IsTied all
+    → Each (Shifts x y z Put) named us → Each (SameBefore z) us vs → Splits (Stays x named all) z vs []
+    → ((l : Link) (o : Option ℤ) → Put l o → Stays x named all l o ⊎ SeesFrom z vs l o) → IsTied (with_tracks all vs)
+shift-end all named us vs x y z Put among g each same inv put = record {
+  one = λ k l a b s t h n. one k l a b h n (split k a s) (split l b t);
+  below = λ l a s. below l a (split l a s);
+} where
+  named_same : (n : ℕ) → is_named vs n ≡ is_named named n
+  named_same n = named-each (SameBefore z) us vs n same ∙ named-each (Shifts x y z Put) named us n each
+
+  split : (l : Link) (o : Option ℤ) → Sees (with_tracks all vs) l o → Stays x named all l o ⊎ SeesFrom z vs l o
+  split = end-split all named us vs x y z Put each same put
+
   stay : (l : Link) (b : Option ℤ) → Stays x named all l b → Sees all l b
-  stay l b s = stays_all x named all l b among s
+  stay l b s = stays-all x named all l b among s
 
   one : (k l : Link) (a b : Option ℤ) → k.home ≡ l.home → k.number ≡ l.number → Stays x named all k a ⊎ SeesFrom z vs k a → Stays x named all l b ⊎ SeesFrom z vs l b
       → (k.tracks ≡ l.tracks) × (a ≡ b)
@@ -347,8 +367,8 @@ shift-end all named us vs x y z Put among g each same inv put = record {
   below : (l : Link) (a : Option ℤ) → Stays x named all l a ⊎ SeesFrom z vs l a → l.number < next_link_at l.home (with_tracks all vs)
   below l a (inl s) = by (is_named vs l.home) refl where
     by : (b : Bool) → is_named vs l.home ≡ b → l.number < next_link_at l.home (with_tracks all vs)
-    by true e = omega (arith, inv.low l a s e, next_named all named vs l.home among (sym (named_same l.home) ∙ e) e)
-    by false e = omega (arith, g.below l a (stay l a s), next_unnamed vs all l.home (none_named l.home vs e))
+    by true e = omega (arith, inv.low l a s e, next-named all named vs l.home among (sym (named_same l.home) ∙ e) e)
+    by false e = omega (arith, g.below l a (stay l a s), next_unnamed vs all l.home (none-named l.home vs e))
   below l a (inr s) =
       let p = inv.high l a s in
-      omega (arith, p.1, next_named all named vs l.home among (sym (named_same l.home) ∙ p.0) p.0)
+      omega (arith, p.1, next-named all named vs l.home among (sym (named_same l.home) ∙ p.0) p.0)

@@ -154,13 +154,13 @@ abbrev pub rebased : ℕ → ℕ → Option ℤ → Option ℤ
 rebased y z None = None
 rebased y z (Some d) = Some (d +ℤ (pos z -ℤ pos y))
 
-offset_moved : (s : Side What) (y z k : ℕ) → offset_of s (z + k) ≡ rebased y z (offset_of s (y + k))
-offset_moved Dark y z k = refl
-offset_moved (Pic w s) y z k = ap Some (moved_int y z k s)
+pub offset-moved : (s : Side What) (y z k : ℕ) → offset_of s (z + k) ≡ rebased y z (offset_of s (y + k))
+offset-moved Dark y z k = refl
+offset-moved (Pic w s) y z k = ap Some (moved_int y z k s)
 
 shows_moved : (y z k : ℕ) (cs : List Cell) (l : Link) (o : Option ℤ) → Shows (z + k) cs l o → (b : Option ℤ) × Shows (y + k) cs l b × (o ≡ rebased y z b)
 shows_moved y z k [] l o h = absurd h
-shows_moved y z k (c ∷ cs) l o (inl h) = (offset_of c.side (y + k), inl (h.0, refl), sym h.1 ∙ offset_moved c.side y z k)
+shows_moved y z k (c ∷ cs) l o (inl h) = (offset_of c.side (y + k), inl (h.0, refl), sym h.1 ∙ offset-moved c.side y z k)
 shows_moved y z k (c ∷ cs) l o (inr h) =
     let r : (b : Option ℤ) × Shows (y + (k + 1)) cs l b × (o ≡ rebased y z b) = shows_moved y z (k + 1) cs l o (shows-at (z + k + 1) (z + (k + 1)) cs l o (omega arith) h) in
     (r.0, inr (shows-at (y + (k + 1)) (y + k + 1) cs l r.0 (omega arith) r.1), r.2)

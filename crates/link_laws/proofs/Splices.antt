@@ -24,6 +24,8 @@ use Rattle.edit_delta.specs.Reaching.{earlier_side, going_on, has_before, has_be
 use Rattle.edit_splice.specs.Padding.{padded_track}
 use Rattle.edit_splice.specs.Splicing.{spliced_track}
 use Rattle.edit_splice.proofs.Padding.{frames-gap}
+use Rattle.link_laws.specs.Weights.{runs_in}
+use Rattle.link_laws.proofs.Runs.{count, runs-append, runs-bare, runs-first, runs-one, runs-spliced}
 use Rattle.link_laws.proofs.Sights.{Alike, Shows, alike-drop, alike-length, alike-marks, alike-numbers, alike-take, alike-then, int-shift, offset-next, shows-alike, shows-append, shows-at, shows-cell, shows-drop, shows-none, shows-take, shows-view}
 use Rattle.link_laws.proofs.Tied.{Keeps}
 
@@ -71,8 +73,17 @@ spliced-parts t x y views l o h = outer (shows-append 0 (take x all ++ cells_of 
 
 -- where what stands behind the range stays at its place, or nothing does, and what is put in has no other link or offset
 pub keeps-spliced : (t : TrackState) (x y : ℕ) (views : List ItemView) → x ≤ length t.cells → (x + frames_in views ≡ y) ⊎ (length t.cells ≤ y)
-    → ((l : Link) (o : Option ℤ) → Shows x (cells_of views) l o → Shows 0 t.cells l o) → Keeps t (spliced_track t x y views)
-keeps-spliced t x y views le way each = record { shows = λ l o h. by l o way (spliced-parts t x y views l o h); next = omega arith } where
+    → ((l : Link) (o : Option ℤ) → Shows x (cells_of views) l o → Shows 0 t.cells l o)
+    → (ws : List (Option Link)) → length ws ≤ 3 → ((h n : ℕ) → runs_in h n false (cells_of views) ≤ count h n ws) → Keeps t (spliced_track t x y views)
+keeps-spliced t x y views le way each ws few put = record {
+  shows = λ l o h. by l o way (spliced-parts t x y views l o h);
+  next = refl;
+  grown = ((cell_at t.cells y).link ∷ ws, omega (arith, few), λ h n. omega (arith, runs-spliced h n t x y views (order way), put h n));
+} where
+  order : (x + frames_in views ≡ y) ⊎ (length t.cells ≤ y) → x ≤ y
+  order (inl e) = omega (arith, e)
+  order (inr past) = omega (arith, past, le)
+
   at : start_of t x ≡ x
   at = length-take-le x t.cells le
 
@@ -93,13 +104,27 @@ gap-bare n = by (eqb n 0) where
 -- without links in what is put in
 pub keeps-bare : (t : TrackState) (x y : ℕ) (views : List ItemView) → x ≤ length t.cells → (x + frames_in views ≡ y) ⊎ (length t.cells ≤ y) → AllUnlinked views
     → Keeps t (spliced_track t x y views)
-keeps-bare t x y views le way bare = keeps-spliced t x y views le way (λ l o h. absurd (shows-none x views l o bare h))
+keeps-bare t x y views le way bare =
+    keeps-spliced t x y views le way (λ l o h. absurd (shows-none x views l o bare h)) [] (omega arith) (λ h n. omega (arith, runs-bare h n views bare))
+
+-- with one item or gap put in
+pub keeps-one : (t : TrackState) (x y : ℕ) (v : ItemView) → x ≤ length t.cells → (x + frames_in (v ∷ []) ≡ y) ⊎ (length t.cells ≤ y)
+    → ((l : Link) (o : Option ℤ) → Shows x (cells_of (v ∷ [])) l o → Shows 0 t.cells l o) → Keeps t (spliced_track t x y (v ∷ []))
+keeps-one t x y v le way each = keeps-spliced t x y (v ∷ []) le way each (v.link ∷ []) (omega arith) (λ h n. omega (arith, runs-one h n v))
+
+-- dark frames have no run of a link
+pub dark-runs : (h n k : ℕ) (b : Bool) → runs_in h n b (cells_of (gap_views k)) ≤ 0
+dark-runs h n k b = omega (arith, (runs-first h n b (cells_of (gap_views k))).0, runs-bare h n (gap_views k) (gap-bare k))
+
+pub padded-runs : (t : TrackState) (at h n : ℕ) → runs_in h n false (padded_track t at).cells ≤ runs_in h n false t.cells
+padded-runs t at h n =
+    omega (arith, runs-append h n false t.cells (cells_of (gap_views (at - length t.cells))), dark-runs h n (at - length t.cells) false)
 
 pub length-pad : (t : TrackState) (at : ℕ) → length (padded_track t at).cells ≡ length t.cells + (at - length t.cells)
 length-pad t at = omega (arith, length-append t.cells (cells_of (gap_views (at - length t.cells))), length-cells_of (gap_views (at - length t.cells)), frames-gap (at - length t.cells))
 
 pub keeps-padded : (t : TrackState) (at : ℕ) → Keeps t (padded_track t at)
-keeps-padded t at = record { shows = λ l o h. by l o (shows-append 0 t.cells (cells_of (gap_views (at - length t.cells))) l o h); next = omega arith } where
+keeps-padded t at = record { shows = λ l o h. by l o (shows-append 0 t.cells (cells_of (gap_views (at - length t.cells))) l o h); next = refl; grown = ([], omega arith, λ h n. omega (arith, padded-runs t at h n)) } where
   by : (l : Link) (o : Option ℤ) → Shows 0 t.cells l o ⊎ Shows (0 + length t.cells) (cells_of (gap_views (at - length t.cells))) l o → Shows 0 t.cells l o
   by l o (inl a) = a
   by l o (inr g) = absurd (shows-none (0 + length t.cells) (gap_views (at - length t.cells)) l o (gap-bare (at - length t.cells)) g)

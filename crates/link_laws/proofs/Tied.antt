@@ -11,6 +11,8 @@ use Rattle.composables.specs.Ranges.{offset_of}
 use Rattle.composables.specs.TrackState.{TrackState}
 use Rattle.link_laws.specs.Together.{StandsOn, Together}
 use Rattle.link_laws.specs.Rooms.{AreAmong, AreTracks, as_left, with_tracks}
+use Rattle.link_laws.specs.Weights.{runs_in}
+use Rattle.link_laws.proofs.Runs.{Grown, grown-from, grown-self}
 use Rattle.link_laws.proofs.Sights.{Shows}
 
 -- a cell of these tracks has this link and this offset
@@ -41,38 +43,38 @@ found_shows p (d ∷ ds) (suc k) c l e h =
     let z : p + 1 + k ≡ p + suc k = omega arith in
     inr (subst (λ (n : ℕ). Shows (p + 1) ds l (offset_of c.side n)) z (found_shows (p + 1) ds k c l e h))
 
-sees_found : (ts : List TrackState) (l : Link) (o : Option ℤ) → Sees ts l o
+pub sees-found : (ts : List TrackState) (l : Link) (o : Option ℤ) → Sees ts l o
     → (p : ℕ) × (c : Cell) × StandsOn ts p c × (c.link ≡ Some l) × (offset_of c.side p ≡ o)
-sees_found [] l o h = absurd h
-sees_found (t ∷ ts) l o (inl h) =
+sees-found [] l o h = absurd h
+sees-found (t ∷ ts) l o (inl h) =
     let r = shows_found 0 t.cells l o h in
     let z : r.0 ≡ 0 + r.0 = omega arith in
     (r.0, r.1, inl r.2, r.3, ap (λ (n : ℕ). offset_of r.1.side n) z ∙ r.4)
-sees_found (t ∷ ts) l o (inr h) = let r = sees_found ts l o h in (r.0, r.1, inr r.2, r.3, r.4)
+sees-found (t ∷ ts) l o (inr h) = let r = sees-found ts l o h in (r.0, r.1, inr r.2, r.3, r.4)
 
-stands_sees : (ts : List TrackState) (p : ℕ) (c : Cell) (l : Link) → StandsOn ts p c → c.link ≡ Some l → Sees ts l (offset_of c.side p)
-stands_sees [] p c l h e = absurd h
-stands_sees (t ∷ ts) p c l (inl h) e =
+pub stands-sees : (ts : List TrackState) (p : ℕ) (c : Cell) (l : Link) → StandsOn ts p c → c.link ≡ Some l → Sees ts l (offset_of c.side p)
+stands-sees [] p c l h e = absurd h
+stands-sees (t ∷ ts) p c l (inl h) e =
     let z : 0 + p ≡ p = omega arith in
     inl (subst (λ (n : ℕ). Shows 0 t.cells l (offset_of c.side n)) z (found_shows 0 t.cells p c l h e))
-stands_sees (t ∷ ts) p c l (inr h) e = inr (stands_sees ts p c l h e)
+stands-sees (t ∷ ts) p c l (inr h) e = inr (stands-sees ts p c l h e)
 
 pub tied-of : (ts : List TrackState) → Together ts → IsTied ts
 tied-of ts g = record { one = one; below = below } where
   one : (k l : Link) (a b : Option ℤ) → Sees ts k a → Sees ts l b → k.home ≡ l.home → k.number ≡ l.number → (k.tracks ≡ l.tracks) × (a ≡ b)
   one k l a b s t h n =
-      let r = sees_found ts k a s in
-      let q = sees_found ts l b t in
+      let r = sees-found ts k a s in
+      let q = sees-found ts l b t in
       let e = g.tied r.0 q.0 r.1 q.1 k l r.2 q.2 r.3 q.3 h n in
       (e.0, sym r.4 ∙ (e.1 ∙ q.4))
 
   below : (l : Link) (a : Option ℤ) → Sees ts l a → l.number < next_link_at l.home ts
-  below l a s = let r = sees_found ts l a s in g.below r.0 r.1 l r.2 r.3
+  below l a s = let r = sees-found ts l a s in g.below r.0 r.1 l r.2 r.3
 
 pub together-of : (ts : List TrackState) → IsTied ts → Together ts
 together-of ts g = record {
-  tied = λ p q c d k l s t e f h n. g.one k l (offset_of c.side p) (offset_of d.side q) (stands_sees ts p c k s e) (stands_sees ts q d l t f) h n;
-  below = λ p c l s e. g.below l (offset_of c.side p) (stands_sees ts p c l s e);
+  tied = λ p q c d k l s t e f h n. g.one k l (offset_of c.side p) (offset_of d.side q) (stands-sees ts p c k s e) (stands-sees ts q d l t f) h n;
+  below = λ p c l s e. g.below l (offset_of c.side p) (stands-sees ts p c l s e);
 }
 
 -- tracks that are changed one by one
@@ -153,23 +155,25 @@ each-with R self (w ∷ ws) t u e n r = by (eqb w.number u.number) refl e (λ k.
   by true f h later = (sym (eqb-true w.number u.number f), subst (λ (s : TrackState). R s u) (sym (some-is w t h)) r, each-self R self ws)
   by false f h later = (refl, self w, later h)
 
--- a track that has no link with an offset that it had not, and gives no link number again
+-- a track that has no link with an offset that it had not, few runs more of its links, and gives no link number away
 pub record Keeps (t u : TrackState) : Type 0 where
   pub shows : (l : Link) (o : Option ℤ) → Shows 0 u.cells l o → Shows 0 t.cells l o
-  pub next : t.next_link ≤ u.next_link
+  pub next : u.next_link ≡ t.next_link
+  pub grown : Grown t u
 
 pub keeps-self : (t : TrackState) → Keeps t t
-keeps-self t = record { shows = λ l o h. h; next = omega arith }
+keeps-self t = record { shows = λ l o h. h; next = refl; grown = grown-self t }
 
-pub keeps-then : (t u v : TrackState) → Keeps t u → Keeps u v → Keeps t v
-keeps-then t u v a b = record { shows = λ l o h. a.shows l o (b.shows l o h); next = omega (arith, a.next, b.next) }
+-- a track without more runs, and then one that is kept
+pub keeps-then : (t u v : TrackState) → Keeps t u → ((h n : ℕ) → runs_in h n false u.cells ≤ runs_in h n false t.cells) → Keeps u v → Keeps t v
+keeps-then t u v a le b = record { shows = λ l o h. a.shows l o (b.shows l o h); next = b.next ∙ a.next; grown = grown-from t u v le b.grown }
 
-sees_less : (ts us : List TrackState) (l : Link) (o : Option ℤ) → Each Keeps ts us → Sees us l o → Sees ts l o
-sees_less [] [] l o each h = absurd h
-sees_less [] (u ∷ us) l o each h = absurd each
-sees_less (t ∷ ts) [] l o each h = absurd h
-sees_less (t ∷ ts) (u ∷ us) l o each (inl h) = inl (each.1.shows l o h)
-sees_less (t ∷ ts) (u ∷ us) l o each (inr h) = inr (sees_less ts us l o each.2 h)
+pub sees-kept : (ts us : List TrackState) (l : Link) (o : Option ℤ) → Each Keeps ts us → Sees us l o → Sees ts l o
+sees-kept [] [] l o each h = absurd h
+sees-kept [] (u ∷ us) l o each h = absurd each
+sees-kept (t ∷ ts) [] l o each h = absurd h
+sees-kept (t ∷ ts) (u ∷ us) l o each (inl h) = inl (each.1.shows l o h)
+sees-kept (t ∷ ts) (u ∷ us) l o each (inr h) = inr (sees-kept ts us l o each.2 h)
 
 pub next-more : (home : ℕ) (ts us : List TrackState) → Each (λ (t u : TrackState). t.next_link ≤ u.next_link) ts us → next_link_at home ts ≤ next_link_at home us
 next-more home [] [] each = omega arith
@@ -185,10 +189,10 @@ each_next : (ts us : List TrackState) → Each Keeps ts us → Each (λ (t u : T
 each_next [] [] each = tt
 each_next [] (u ∷ us) each = absurd each
 each_next (t ∷ ts) [] each = absurd each
-each_next (t ∷ ts) (u ∷ us) each = (each.0, each.1.next, each_next ts us each.2)
+each_next (t ∷ ts) (u ∷ us) each = (each.0, omega (arith, each.1.next), each_next ts us each.2)
 
 pub kept-tied : (ts us : List TrackState) → Each Keeps ts us → IsTied ts → IsTied us
 kept-tied ts us each g = record {
-  one = λ k l a b s t h n. g.one k l a b (sees_less ts us k a each s) (sees_less ts us l b each t) h n;
-  below = λ l a s. (let low = g.below l a (sees_less ts us l a each s) in omega (arith, low, next-more l.home ts us (each_next ts us each)));
+  one = λ k l a b s t h n. g.one k l a b (sees-kept ts us k a each s) (sees-kept ts us l b each t) h n;
+  below = λ l a s. (let low = g.below l a (sees-kept ts us l a each s) in omega (arith, low, next-more l.home ts us (each_next ts us each)));
 }

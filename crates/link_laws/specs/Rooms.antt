@@ -6,6 +6,7 @@ use Rattle.composables.specs.Good.{IsGood}
 use Rattle.composables.specs.OwnTracks.{track_numbered}
 use Rattle.composables.specs.TrackState.{TrackState}
 use Rattle.link_laws.specs.Together.{Together}
+use Rattle.link_laws.specs.Weights.{most_added, weight}
 
 -- each of these tracks is the one with its number among all
 abbrev pub AreAmong : List TrackState → List TrackState → Type 0
@@ -27,9 +28,21 @@ abbrev pub AreTracks : Table → List TrackState → Type 0
 AreTracks table [] = Unit {0}
 AreTracks table (t ∷ ts) = (t.number < 32) × IsGood table t × AreTracks table ts
 
--- the tracks of a room, each with a number of its own
+-- each has a number that a set of tracks can have
+abbrev pub AreLow : List TrackState → Type 0
+AreLow [] = Unit {0}
+AreLow (t ∷ ts) = (t.number < 32) × AreLow ts
+
+-- tracks in ascending order, each with a number of its own
+pub record IsNumbered (all : List TrackState) : Type 0 where
+  pub apart : AreAmong all all
+  pub ascend : Ascend 0 all
+  pub low : AreLow all
+
+-- the tracks of a room, in ascending order, each with a number of its own
 pub record IsRoom (table : Table) (all : List TrackState) : Type 0 where
   pub apart : AreAmong all all
+  pub ascend : Ascend 0 all
   pub tracks : AreTracks table all
 
 -- the tracks, with each of these in place of the one with its number
@@ -39,10 +52,19 @@ as_left news t = unwrap_or (track_numbered t.number news) t
 abbrev pub with_tracks : List TrackState → List TrackState → List TrackState
 with_tracks all news = map (as_left news) all
 
--- a call that leaves these on the tracks that it names leaves all together, and a refusal leaves them as they are
+-- all tracks are together after a call, and the weight of their links is little more than before
+pub record StaysTogether (before after : List TrackState) : Type 0 where
+  pub together : Together after
+  pub little : weight after ≤ weight before + most_added
+
+-- this is so of what a call that is done leaves on the tracks that it names; a refusal leaves them as they are
+abbrev pub Leaves : (List TrackState → Type 0) → Applied → Type 0
+Leaves P (Ok (news, done)) = P news
+Leaves P (Err why) = Unit {0}
+
+-- a call leaves all together
 abbrev pub LeavesTogether : List TrackState → Applied → Type 0
-LeavesTogether all (Ok (news, done)) = Together (with_tracks all news)
-LeavesTogether all (Err why) = Unit {0}
+LeavesTogether all meant = Leaves (λ news. StaysTogether all (with_tracks all news)) meant
 
 -- what a call means for the tracks that it names keeps the tracks of a room together
 abbrev pub KeepsTogether : Table → (List TrackState → Applied) → Type 0

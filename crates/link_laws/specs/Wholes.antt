@@ -8,7 +8,7 @@ use Rattle.composables.specs.OwnTracks.{numbers_of}
 use Rattle.composables.specs.TrackState.{TrackState}
 use Rattle.room_core.specs.Parts.{AscendBetween}
 use Rattle.room_core.specs.Whole.{on_whole, picked}
-use Rattle.link_laws.specs.Rooms.{AreTracks, KeepsTogether}
+use Rattle.link_laws.specs.Rooms.{AreTracks, KeepsTogether, StaysTogether}
 use Rattle.link_laws.specs.Together.{Together}
 
 -- the first has this number, and each behind it the next one
@@ -21,10 +21,10 @@ abbrev pub KeepsNumbers : List ℕ → Applied → Type 0
 KeepsNumbers names (Ok (us, done)) = numbers_of us ≡ names
 KeepsNumbers names (Err why) = Unit {0}
 
--- a call that is done leaves all tracks together
-abbrev pub StayTogether : Applied → Type 0
-StayTogether (Ok (us, done)) = Together us
-StayTogether (Err why) = Unit {0}
+-- a call that is done leaves all tracks together, with little more weight of their links
+abbrev pub StayTogether : List TrackState → Applied → Type 0
+StayTogether all (Ok (us, done)) = StaysTogether all us
+StayTogether all (Err why) = Unit {0}
 
 -- A meaning that keeps the tracks of a room together does so where its named tracks are picked by their numbers, and
 -- what it leaves is put back.
@@ -32,7 +32,7 @@ abbrev pub WholesKeepTogether : Type 0
 WholesKeepTogether = (table : Table) (meant : List TrackState → Applied) (all : List TrackState) (names : List ℕ)
     → KeepsTogether table meant → Numbered 0 all → AreTracks table all → AscendBetween 0 (length all) names
     → KeepsNumbers names (meant (picked all names)) → Together all
-    → StayTogether (on_whole all names (meant (picked all names)))
+    → StayTogether all (on_whole all names (meant (picked all names)))
 
 -- tracks that are good in a table, and without links
 abbrev pub AreBare : Table → List TrackState → Type 0

@@ -6,4 +6,4 @@
 
 mod laws;
 
-pub use laws::{together_law, wholes_law};
+pub use laws::{given_law, histories_law, together_law, wholes_law};

@@ -94,9 +94,9 @@ entry_kept media e i m h = by_place (position (same_media e) media) where
 
 same_entry : (e m : Media) → same_media e m ≡ true → m ≡ e
 same_entry e m h =
-    let p = and_parts (eqb m.reel e.reel) (eqb m.from e.from && eqb m.to e.to) h in
-    let q = and_parts (eqb m.from e.from) (eqb m.to e.to) p.1 in
-    λ i. record { reel = eqb-true m.reel e.reel p.0 i; from = eqb-true m.from e.from q.0 i; to = eqb-true m.to e.to q.1 i }
+    let p = and_parts (eqb e.reel m.reel && eqb e.from m.from) (eqb e.to m.to) h in
+    let q = and_parts (eqb e.reel m.reel) (eqb e.from m.from) p.0 in
+    λ i. record { reel = sym (eqb-true e.reel m.reel q.0) i; from = sym (eqb-true e.from m.from q.1) i; to = sym (eqb-true e.to m.to p.1) i }
 
 entry_found : (media : List Media) (e : Media) → slice_get (with_entry media e) (entry_number media e) ≡ Some e
 entry_found media e = by_place (position (same_media e) media) refl where

@@ -24,7 +24,8 @@ use Rattle.otio_tracks.specs.Parts.{enabled_if, enabled_read}
 use Rattle.otio_text.specs.Documents.{kind_at}
 use Rattle.otio_json.specs.Nests.{nests_in, track_read}
 use Rattle.otio_json.specs.Soundness.{SideHas, EachHas, IsDeep, IsReadTrack, IsSoundTable, levels_of_kind, AreTracksFrom}
-use Rattle.otio_json.specs.Timelines.{untrimmed_if, untrimmed, kind_named, kind_read, nesting_of, head_of_track, with_kind, next_track}
+use Rattle.otio_tracks.specs.Clips.{with_kind}
+use Rattle.otio_json.specs.Timelines.{untrimmed_if, untrimmed, kind_named, kind_read, nesting_of, head_of_track, next_track}
 use Rattle.otio_again.specs.CutTrees.{text_tree, list_tree, item_trees, nest_trees, kind_name, track_of_items, track_tree, track_trees}
 use Rattle.otio_again.specs.SameCut.{SameCells, SameThing, SameTracks}
 use Rattle.otio_again.proofs.Walk.{goes, Has, HasNo, IsOf, needed_back, given_null, given_none, expected_back}

@@ -151,9 +151,9 @@ entry_grows media e i m h = by_place (position (same_media e) media) where
 
 same_range : (e m : Media) → same_media e m ≡ true → ◌≡◌ {A = ℕ × ℕ} (m.from, m.to) (e.from, e.to)
 same_range e m h =
-    let p = and_parts (eqb m.reel e.reel) (eqb m.from e.from && eqb m.to e.to) h in
-    let q = and_parts (eqb m.from e.from) (eqb m.to e.to) p.1 in
-    ap (λ a. (a, m.to)) (eqb-true m.from e.from q.0) ∙ ap (λ b. (e.from, b)) (eqb-true m.to e.to q.1)
+    let p = and_parts (eqb e.reel m.reel && eqb e.from m.from) (eqb e.to m.to) h in
+    let q = and_parts (eqb e.reel m.reel) (eqb e.from m.from) p.0 in
+    ap (λ a. (a, m.to)) (sym (eqb-true e.from m.from q.1)) ∙ ap (λ b. (e.from, b)) (sym (eqb-true e.to m.to p.1))
 
 entry_bounds : (media : List Media) (e : Media) → option_map {U = ℕ × ℕ} (λ (m : Media). (m.from, m.to)) (slice_get (with_entry media e) (entry_number media e)) ≡ Some (e.from, e.to)
 entry_bounds media e = by_place (position (same_media e) media) refl where

@@ -25,7 +25,8 @@ use Rattle.otio_tracks.specs.Values.{given, needed, list_read, expected}
 use Rattle.otio_tracks.specs.Times.{frame_read}
 use Rattle.otio_json.specs.declared.opening.Opening.{Opening}
 use Rattle.otio_json.specs.Nests.{track_read}
-use Rattle.otio_json.specs.Timelines.{in_day, untrimmed, start_if, start_read, rate_counted, nesting_of, head_of_track, with_kind, next_track, tracks_read, empty_table, opened, sequence_read, timeline_read, tree_read, document_read}
+use Rattle.otio_tracks.specs.Clips.{with_kind, empty_table}
+use Rattle.otio_json.specs.Timelines.{in_day, untrimmed, start_if, start_read, rate_counted, nesting_of, head_of_track, next_track, tracks_read, opened, sequence_read, timeline_read, tree_read, document_read}
 use Rattle.otio_json.specs.Soundness.{IsReadTrack, IsSoundMedia, IsSoundNest, IsSoundTable, levels_of_kind, AreTracksFrom, IsSoundOpening}
 use Rattle.otio_json.proofs.Growth.{Keeps, track_kept, nest_kept, media_kept, Grown, grown_self}
 use Rattle.otio_json.proofs.SoundTracks.{IsNumbered}

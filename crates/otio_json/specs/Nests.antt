@@ -22,7 +22,7 @@ use Rattle.otio_tracks.specs.Reading.{Read, refuse, or_refuse, each}
 use Rattle.otio_tracks.specs.Values.{given, needed, list_read, schema_read}
 use Rattle.otio_tracks.specs.Times.{gap_read}
 use Rattle.otio_tracks.specs.Parts.{head_read, trim_read, frames_within}
-use Rattle.otio_tracks.specs.Clips.{clip_read}
+use Rattle.otio_tracks.specs.Clips.{clip_read, with_nest_last}
 use Rattle.otio_tracks.specs.Rows.{RowState, empty_row, waits, row_with, row_end}
 use Rattle.otio_tracks.specs.Building.{track_fit}
 
@@ -87,7 +87,7 @@ nest_part number length frames = record { first = Pic (NestOf number) frames.0; 
 
 -- nests are numbered when their own part has been read, so those inside come first
 abbrev pub with_nest : Table → Nest → ℕ × ℕ → Part × Table
-with_nest table nest frames = (nest_part (length table.nests) nest.length frames, record table { nests = table.nests ++ nest ∷ [] })
+with_nest table nest frames = (nest_part (length table.nests) nest.length frames, with_nest_last table nest)
 
 module _ (rate : ℕ × ℕ) (inner : Result Inner DocCode) where
   abbrev pub nest_item_in : Schema → Table → Tree → Read (Part × Table)

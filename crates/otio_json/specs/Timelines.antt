@@ -21,6 +21,7 @@ use Rattle.otio_json.specs.declared.opening.Opening.{Opening}
 use Rattle.otio_tracks.specs.Reading.{Read, refuse, each}
 use Rattle.otio_tracks.specs.Values.{given, needed, text_read, list_read, expected}
 use Rattle.otio_tracks.specs.Times.{frame_read}
+use Rattle.otio_tracks.specs.Clips.{with_kind, empty_table}
 use Rattle.otio_tracks.specs.Parts.{enabled_read}
 use Rattle.otio_json.specs.Nests.{track_read}
 
@@ -75,9 +76,6 @@ head_of_track t = do
   _ ← untrimmed t
   kind_read t
 
-abbrev pub with_kind : Table → Kind → Table
-with_kind table kind = record table { kinds = table.kinds ++ kind ∷ [] }
-
 -- a track more
 unfoldable pub next_track : ℕ × ℕ → List TrackState × Table → Tree → Read (List TrackState × Table)
 next_track rate state t = do
@@ -91,9 +89,6 @@ abbrev pub tracks_read : ℕ × ℕ → Table → List Tree → Read (List Track
 tracks_read rate table children = each (next_track rate) ([], table) children
 
 -- ---- the timeline
-
-abbrev pub empty_table : Table
-empty_table = record { kinds = []; reels = []; media = []; nests = [] }
 
 abbrev pub opened : Counted → ℕ → List TrackState × Table → Opening
 opened c start state = record { table = state.1; tracks = state.0; counting = c; start = start }

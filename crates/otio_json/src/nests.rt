@@ -9,12 +9,12 @@ ghost use Rattle.otio_tracks.specs.Times.{rate_pair};
 ghost use Rattle.otio_tracks.specs.Clips.{entries};
 ghost use Rattle.otio_json.specs.Nests.{gap_part_read, item_read, child_read, row_read, track_read, layer_of, one_layer_read, layer_read, track_layer_read, layers_read, longest, nest_frames, levels_inside, nest_read, nest_item_read, whole_layer};
 
-use composables::{Layer, Listed, Nest, Table, Track};
+use composables::{Layer, Listed, Nest, Track};
 use frame_meaning::{Side, What};
 use json_tree::Json;
 use otio_tracks::{
-    DocCode, DocFault, Fault, Part, Row, Schema, Span, clip, fault_at, frames_within, gap_length,
-    given, head, list, needed, schema_of, track_of, trim,
+    DocCode, DocFault, Entries, Fault, Part, Row, Schema, Span, clip, fault_at, frames_within,
+    gap_length, given, head, list, needed, schema_of, track_of, trim,
 };
 use ratio_time::Rate;
 use std::alloc::Global;
@@ -93,7 +93,7 @@ fn item(
     rate: &Rate,
     nesting: Nesting,
     found: (Schema, u32),
-    table: &mut Table,
+    table: &mut Entries,
     json: &Json,
 ) -> Result<Part, DocFault>
     requires few { entries table.old + 2 * tree_size (tree_of json.now) < 2 ^ 31 }
@@ -132,7 +132,7 @@ fn nest_item(
     rate: &Rate,
     nesting: Nesting,
     schema: Schema,
-    table: &mut Table,
+    table: &mut Entries,
     json: &Json,
 ) -> Result<Part, DocFault>
     requires { entries table.old + 2 * tree_size (tree_of json.now) < 2 ^ 31 }
@@ -149,8 +149,7 @@ fn nest_item(
     let nest = nest(alloc, rate, levels, schema, table, json)?;
     let length = nest.length;
     let (source, len) = nest_frames(length, trim)?;
-    let number = table.nests.as_slice().len() as u32;
-    table.nests.push(nest)?;
+    let number = table.add_nest(nest)?;
     Ok(Part {
         first: Side::Pic {
             what: What::Nest(number),
@@ -171,7 +170,7 @@ fn nest(
     rate: &Rate,
     levels: u32,
     schema: Schema,
-    table: &mut Table,
+    table: &mut Entries,
     json: &Json,
 ) -> Result<Nest, DocFault>
     requires { entries table.old + 2 * tree_size (tree_of json.now) < 2 ^ 31 }
@@ -196,7 +195,7 @@ fn one_layer(
     alloc: Global,
     rate: &Rate,
     levels: u32,
-    table: &mut Table,
+    table: &mut Entries,
     children: &[Json],
     at: u32,
 ) -> Result<Listed<Layer>, DocFault>
@@ -225,7 +224,7 @@ fn layers(
     alloc: Global,
     rate: &Rate,
     levels: u32,
-    table: &mut Table,
+    table: &mut Entries,
     children: &[Json],
 ) -> Result<Listed<Layer>, DocFault>
     requires { entries table.old + 2 * items_size (map tree_of children.now) < 2 ^ 31 }
@@ -251,7 +250,7 @@ fn layer(
     rate: &Rate,
     levels: u32,
     number: u32,
-    table: &mut Table,
+    table: &mut Entries,
     json: &Json,
 ) -> Result<Layer, DocFault>
     requires { entries table.old + 2 * tree_size (tree_of json.now) < 2 ^ 31 }
@@ -291,7 +290,7 @@ fn track_layer(
     rate: &Rate,
     levels: u32,
     number: u32,
-    table: &mut Table,
+    table: &mut Entries,
     json: &Json,
 ) -> Result<Layer, DocFault>
     requires { entries table.old + 2 * tree_size (tree_of json.now) < 2 ^ 31 }
@@ -328,7 +327,7 @@ pub(crate) fn track(
     rate: &Rate,
     nesting: Nesting,
     number: u32,
-    table: &mut Table,
+    table: &mut Entries,
     children: &[Json],
     at: u32,
 ) -> Result<Track, DocFault>
@@ -349,7 +348,7 @@ fn row(
     alloc: Global,
     rate: &Rate,
     nesting: Nesting,
-    table: &mut Table,
+    table: &mut Entries,
     children: &[Json],
 ) -> Result<Row, DocFault>
     requires { entries table.old + 2 * items_size (map tree_of children.now) < 2 ^ 31 }
@@ -375,7 +374,7 @@ fn child(
     rate: &Rate,
     nesting: Nesting,
     row: &mut Row,
-    table: &mut Table,
+    table: &mut Entries,
     json: &Json,
 ) -> Result<(), DocFault>
     requires few { entries table.old + 2 * tree_size (tree_of json.now) < 2 ^ 31 }

@@ -5,16 +5,16 @@ ghost use Rattle.json_tree.specs.Size.{tree_size, items_size};
 ghost use Rattle.json_tree.specs.View.{tree_of};
 ghost use Rattle.otio_tracks.specs.Reading.{Reads, Gives};
 ghost use Rattle.otio_tracks.specs.Times.{rate_pair};
-ghost use Rattle.otio_tracks.specs.Clips.{entries};
+ghost use Rattle.otio_tracks.specs.Clips.{entries, empty_table};
 ghost use Rattle.otio_json.specs.Soundness.{IsSoundOpening};
-ghost use Rattle.otio_json.specs.Timelines.{rate_counted, start_read, untrimmed, kind_read, nesting_of, empty_table, head_of_track, next_track, tracks_read, timeline_read, tree_read, doc_fault, document_read};
+ghost use Rattle.otio_json.specs.Timelines.{rate_counted, start_read, untrimmed, kind_read, nesting_of, head_of_track, next_track, tracks_read, sequence_read, timeline_read, tree_read, doc_fault, document_read};
 
 use crate::nests::{Nesting, track};
 use crate::opening::Opening;
-use composables::{Kind, Listed, Reels, Table, Track};
+use composables::{Kind, Listed, Table, Track};
 use json_tree::{Json, JsonFault, read};
 use otio_tracks::{
-    DocCode, DocFault, Fault, enabled, expect, fault_at, frame, given, list, needed, text,
+    DocCode, DocFault, Entries, Fault, enabled, expect, fault_at, frame, given, list, needed, text,
 };
 use ratio_time::Rate;
 use std::alloc::Global;
@@ -90,7 +90,7 @@ fn head_of_track(json: &Json) -> Result<Kind, Fault>
 fn add_track(
     alloc: Global,
     rate: &Rate,
-    table: &mut Table,
+    table: &mut Entries,
     tracks: &mut Listed<Track>,
     json: &Json,
 ) -> Result<(), DocFault>
@@ -115,7 +115,7 @@ fn add_track(
         json.at,
     )?;
     tracks.push(track)?;
-    table.kinds.push(kind)?;
+    table.add_kind(kind)?;
     Ok(())
 }
 
@@ -123,7 +123,7 @@ fn add_track(
 fn add_tracks(
     alloc: Global,
     rate: &Rate,
-    table: &mut Table,
+    table: &mut Entries,
     children: &[Json],
 ) -> Result<Listed<Track>, DocFault>
     requires few { entries table.old + 2 * items_size (map tree_of children.now) < 2 ^ 31 }
@@ -138,15 +138,41 @@ fn add_tracks(
     Ok(tracks)
 }
 
-fn empty_table(alloc: Global) -> Table
-    ensures { result ≡ empty_table }
+// The tracks of the sequence, and the table that they use.
+fn read_tracks(
+    alloc: Global,
+    rate: &Rate,
+    children: &[Json],
+) -> Result<(Listed<Track>, Table), DocFault>
+    requires few { 2 * items_size (map tree_of children.now) < 2 ^ 31 }
+    requires count { length children.now ≤ MAX_TRACKS }
+    ensures { Gives (λ state. state) result
+        (tracks_read (rate_pair rate.now) empty_table (map tree_of children.now)) }
 {
-    Table {
-        kinds: Listed::new(alloc),
-        reels: Reels::new(alloc),
-        media: Listed::new(alloc),
-        nests: Listed::new(alloc),
+    let mut table = Entries::new(alloc);
+    let tracks = add_tracks(alloc, rate, &mut table, children)?;
+    let table = table.finish()?;
+    Ok((tracks, table))
+}
+
+// The same, if there is one track and not too many. Their list stands at `at`.
+fn sequence(
+    alloc: Global,
+    rate: &Rate,
+    children: &[Json],
+    at: u32,
+) -> Result<(Listed<Track>, Table), DocFault>
+    requires { 2 * items_size (map tree_of children.now) < 2 ^ 31 }
+    ensures { Gives (λ state. state) result
+        (sequence_read (rate_pair rate.now) (map tree_of children.now) at) }
+{
+    if children.is_empty() || children.len() > MAX_TRACKS as usize {
+        return Err(DocFault::Refused {
+            code: DocCode::O10,
+            at,
+        });
     }
+    read_tracks(alloc, rate, children)
 }
 
 #[tactic(auto, unfolding(crate::specs::Timelines::timeline_read))]
@@ -162,11 +188,7 @@ fn timeline(alloc: Global, counting: &Counting, json: &Json) -> Result<Opening, 
     untrimmed(stack)?;
     let children = needed(stack, "children")?;
     let items = list(children)?;
-    if items.is_empty() || items.len() > MAX_TRACKS as usize {
-        return Err(fault_at(DocCode::O10, children).into());
-    }
-    let mut table = empty_table(alloc);
-    let tracks = add_tracks(alloc, &rate, &mut table, items)?;
+    let (tracks, table) = sequence(alloc, &rate, items, children.at)?;
     Ok(Opening {
         table,
         tracks,

@@ -3,3 +3,4 @@ pub mod TimeLaws
 pub mod RowSound
 pub mod TrackSound
 pub mod ReelLaws
+pub mod MediaKeys

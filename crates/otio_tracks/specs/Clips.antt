@@ -3,6 +3,8 @@ use Rattle.std.specs.Prelude.{ℕ, zero, suc, ◌+◌, ◌-◌, ℤ, pos, ◌+�
 use Rattle.ratio_time.specs.Division.{near_pair}
 use Rattle.frame_meaning.specs.declared.cells.What.TheVariants.{Media as MediaOf}
 use Rattle.frame_meaning.specs.declared.frames.Side.TheVariants.{Pic}
+use Rattle.composables.specs.declared.media.Kind.{Kind}
+use Rattle.composables.specs.declared.media.Nest.{Nest}
 use Rattle.composables.specs.declared.media.Table.{Table}
 use Rattle.composables.specs.declared.media.Media.{Media}
 use Rattle.composables.specs.ReelNames.{with_name}
@@ -123,7 +125,7 @@ name_at [] name = 0
 name_at (n ∷ ns) name = if bytes_eq name n then 0 else suc (name_at ns name)
 
 abbrev pub same_media : Media → Media → Bool
-same_media entry m = eqb m.reel entry.reel && (eqb m.from entry.from && eqb m.to entry.to)
+same_media entry m = (eqb entry.reel m.reel && eqb entry.from m.from) && eqb entry.to m.to
 
 abbrev pub number_or : Option ℕ → ℕ → ℕ
 number_or (Some i) count = i
@@ -143,6 +145,25 @@ with_entry media entry = unless_there (position (same_media entry) media) media 
 -- how many entries a table has
 abbrev pub entries : Table → ℕ
 entries table = length table.reels + (length table.media + length table.nests)
+
+abbrev pub empty_table : Table
+empty_table = record { kinds = []; reels = []; media = []; nests = [] }
+
+abbrev pub with_kind : Table → Kind → Table
+with_kind table kind = record table { kinds = table.kinds ++ kind ∷ [] }
+
+abbrev pub with_reel : Table → List ℕ → Table
+with_reel table name = record table { reels = with_name table.reels name }
+
+abbrev pub with_media : Table → Media → Table
+with_media table entry = record table { media = with_entry table.media entry }
+
+abbrev pub with_nest_last : Table → Nest → Table
+with_nest_last table nest = record table { nests = table.nests ++ nest ∷ [] }
+
+-- a reel's number, and the frames [from, to) that are there of it
+abbrev pub media_of : ℕ × ℕ × ℕ → Media
+media_of key = record { reel = key.0; from = key.1; to = key.2 }
 
 abbrev pub entry_of : Table → List ℕ → Frames → Media
 entry_of table reel frames = record { reel = name_at table.reels reel; from = frames.from; to = frames.to }

@@ -9,3 +9,4 @@ pub mod SoundParts
 pub mod SoundRows
 pub mod RowInside
 pub mod Building
+pub mod EntriesInside

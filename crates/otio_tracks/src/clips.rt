@@ -2,17 +2,17 @@
 ghost use Rattle.std.specs.Prelude.{◌≡◌, ◌+◌, ◌*◌, ◌<◌, ◌≤◌, ◌^◌, length, position, unsigned_abs, IfOk, IfSome, OnOk, OnErr, option_map, Some};
 ghost use Rattle.json_tree.specs.Size.{tree_size};
 ghost use Rattle.json_tree.specs.View.{tree_of};
-ghost use Rattle.composables.specs.ReelNames.{with_name};
 ghost use Rattle.otio_tracks.specs.Reading.{Reads, Gives};
 ghost use Rattle.otio_tracks.specs.SoundParts.{IsItemPart};
 ghost use Rattle.otio_tracks.specs.Times.{moment_of, rate_pair};
-ghost use Rattle.otio_tracks.specs.Clips.{source_frames, source_read, clamped, in_media, media_if, narrowed, available_read, reference_read, widened, clip_frames, reel_text, named_reel, name_at, same_media, entry_number, with_entry, entries, entered, clip_read};
+ghost use Rattle.otio_tracks.specs.Clips.{source_frames, source_read, clamped, in_media, media_if, narrowed, available_read, reference_read, widened, clip_frames, reel_text, named_reel, entries, entered, clip_read};
 
+use crate::entries::Entries;
 use crate::faults::{DocCode, DocFault, Fault};
 use crate::parts::{Part, frames_within, trim};
 use crate::times::{Span, moment};
 use crate::values::{expect, fault_at, given, needed};
-use composables::{Listed, Media, Memory, Reels, Table};
+use composables::{Media, Memory};
 use frame_meaning::{Side, What};
 use json_tree::{Json, Value};
 use ratio_time::{Rate, RationalTime, TimeRange};
@@ -163,7 +163,8 @@ fn clip_frames(source: Option<(u32, u32)>, available: Option<(u32, u32)>) -> Opt
     requires available { IfSome available (λ f. (f.0 < f.1) × (f.1 ≤ MOST_SOURCE)) }
     ensures frames { result ≡ clip_frames source available }
     ensures short { IfSome result (λ f. f.len ≤ MOST_SOURCE) }
-    ensures within { IfSome result (λ f. 0 < f.len → (f.from ≤ f.source) × (f.source + f.len ≤ f.to)) }
+    ensures within { IfSome result (λ f. 0 < f.len → (f.from ≤ f.source)
+        × (f.source + f.len ≤ f.to)) }
 {
     match (source, available) {
         (Some(source), Some(available)) => {
@@ -223,60 +224,23 @@ fn reel(clip: &Json) -> &str
     }
 }
 
-// Where the entry stands.
-fn entry_at(media: &[Media], entry: &Media) -> Option<usize>
-    ensures place { result ≡ position (same_media entry.now) media.now }
-    ensures within { IfSome result (λ i. i < length media.now) }
-{
-    let Media { reel, from, to } = *entry;
-    media
-        .iter()
-        .position(|m| m.reel == reel && m.from == from && m.to == to)
-}
-
-// The number of an entry. One that is there keeps its number, another goes last.
-fn enter_media(media: &mut Listed<Media>, entry: Media) -> Result<u32, Memory>
-    requires { length media.old < 4294967295 }
-    ensures number { IfOk result (λ n. n ≡ entry_number media.old entry) }
-    ensures ok { OnOk result (media.new ≡ with_entry media.old entry) }
-{
-    match entry_at(media.as_slice(), &entry) {
-        Some(at) => return Ok(at as u32),
-        None => {}
-    }
-    let number = media.as_slice().len() as u32;
-    media.push(entry)?;
-    Ok(number)
-}
-
-// The number of a reel. One that is there keeps its number, another goes last.
-fn enter_reel(reels: &mut Reels, name: &str) -> Result<u32, Memory>
-    requires { length reels.old < 4294967295 }
-    ensures number { IfOk result (λ n. n ≡ name_at reels.old name.now) }
-    ensures ok { OnOk result (reels.new ≡ with_name reels.old name.now) }
-{
-    let count = reels.count();
-    let number = reels.add(name)?;
-    prove!(number <= count);
-    Ok(number)
-}
-
 /// The item of a clip on this reel, which is entered in the table.
-fn enter(table: &mut Table, reel: &str, frames: Frames) -> Result<Part, Memory>
+fn enter(table: &mut Entries, reel: &str, frames: Frames) -> Result<Part, Memory>
     requires few { entries table.old + 2 < 2 ^ 32 }
-    requires within { 0 < frames.len → (frames.from ≤ frames.source) × (frames.source + frames.len ≤ frames.to) }
+    requires within { 0 < frames.len → (frames.from ≤ frames.source)
+        × (frames.source + frames.len ≤ frames.to) }
     ensures ok { IfOk result (λ part. (part, table.new) ≡ entered table.old reel.now frames) }
     ensures few { OnOk result (entries table.new ≤ entries table.old + 2) }
     ensures short { IfOk result (λ part. part.len ≡ frames.len) }
     ensures sound { IfOk result IsItemPart }
 {
-    let reel = enter_reel(&mut table.reels, reel)?;
+    let reel = table.enter_reel(reel)?;
     let entry = Media {
         reel,
         from: frames.from,
         to: frames.to,
     };
-    let number = enter_media(&mut table.media, entry)?;
+    let number = table.enter_media(entry)?;
     Ok(Part {
         first: Side::Pic {
             what: What::Media(number),
@@ -291,9 +255,10 @@ fn enter(table: &mut Table, reel: &str, frames: Frames) -> Result<Part, Memory>
 
 /// A clip's own part.
 #[tactic(auto, unfolding(crate::specs::Clips::clip_read))]
-pub fn clip(rate: &Rate, table: &mut Table, json: &Json) -> Result<Part, DocFault>
+pub fn clip(rate: &Rate, table: &mut Entries, json: &Json) -> Result<Part, DocFault>
     requires { entries table.old + 2 < 2 ^ 32 }
-    ensures read { Gives (λ part. (part, table.new)) result (clip_read (rate_pair rate.now) table.old (tree_of json.now)) }
+    ensures read { Gives (λ part. (part, table.new)) result
+        (clip_read (rate_pair rate.now) table.old (tree_of json.now)) }
     ensures few { OnOk result (entries table.new ≤ entries table.old + 2) }
     ensures short { IfOk result (λ part. part.len ≤ 2147483647) }
     ensures sound { IfOk result IsItemPart }

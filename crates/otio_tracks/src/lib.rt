@@ -7,6 +7,7 @@
 
 mod building;
 mod clips;
+mod entries;
 mod faults;
 mod parts;
 mod rows;
@@ -16,6 +17,7 @@ mod values;
 
 pub use building::track_of;
 pub use clips::{Frames, clip};
+pub use entries::Entries;
 pub use faults::{DocCode, DocFault, Fault};
 pub use parts::{Part, enabled, frames_within, head, trim};
 pub use rows::Row;

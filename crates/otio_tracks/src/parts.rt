@@ -118,7 +118,8 @@ pub fn head(json: &Json) -> Result<(), Fault>
 #[tactic(auto, unfolding(crate::specs::Parts::trim_read))]
 pub fn trim(rate: &Rate, json: &Json) -> Result<Option<Span>, Fault>
     ensures trim { result ≡ trim_read (rate_pair rate.now) (tree_of json.now) }
-    ensures near { IfOk result (λ o. IfSome o (λ s. (unsigned_abs s.start ≤ 2147483647) × (s.len ≤ 2147483647))) }
+    ensures near { IfOk result (λ o. IfSome o (λ s. (unsigned_abs s.start ≤ 2147483647)
+        × (s.len ≤ 2147483647))) }
 {
     match given(json, "source_range") {
         Some(range) => Ok(Some(whole_span(rate, range)?)),

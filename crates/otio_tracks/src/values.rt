@@ -49,7 +49,8 @@ fn is_object(json: &Json) -> bool
 /// A member, where it is there and is not null.
 pub fn given<'a>(json: &'a Json, name: &str) -> Option<&'a Json>
     ensures member { option_map (λ j. tree_of j.now) result ≡ given name.now (tree_of json.now) }
-    ensures smaller { IfSome result (λ j. tree_size (tree_of j.now) < tree_size (tree_of json.now)) }
+    ensures smaller { IfSome result (λ j. tree_size (tree_of j.now)
+        < tree_size (tree_of json.now)) }
 {
     let member = json.member(name)?;
     if is_null(member) {
@@ -82,7 +83,8 @@ pub fn text(json: &Json) -> Result<&str, Fault>
 /// The values of a list.
 pub fn list(json: &Json) -> Result<&[Json], Fault>
     ensures items { Reads (λ js. map tree_of js.now) result (list_read (tree_of json.now)) }
-    ensures smaller { IfOk result (λ js. items_size (map tree_of js.now) < tree_size (tree_of json.now)) }
+    ensures smaller { IfOk result (λ js. items_size (map tree_of js.now)
+        < tree_size (tree_of json.now)) }
 {
     match json.items() {
         Some(items) => Ok(items),

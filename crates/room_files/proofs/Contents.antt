@@ -1,8 +1,8 @@
 -- What files hold after a write.
-use Rattle.std.proofs.Common.{◌≡◌, ◌≢◌, ℕ, Bool, true, false, List, [], ◌∷◌, ◌++◌, Option, Some, None, option_map, refl, sym, ap, ◌∙◌, subst, if◌then◌else◌}
+use Rattle.std.proofs.Common.{◌≡◌, ◌≢◌, ℕ, Bool, true, false, true≢false, List, [], ◌∷◌, ◌++◌, Option, Some, None, option_map, refl, sym, ap, ◌∙◌, subst, if◌then◌else◌}
 use Rattle.std.specs.Str.{bytes_eq}
 use Rattle.std.proofs.lemmas.Slice.Eq.{bytes_eq-Decides}
-use Rattle.room_files.specs.Files.{Content, Untold, Missing, Bytes, IsWhole, IsUnchanged, OthersUnchanged, Keeps, or_earlier, content_in, content_of, with_file}
+use Rattle.room_files.specs.Files.{Content, Untold, Missing, Bytes, IsWhole, IsUnchanged, OthersUnchanged, Keeps, KeepsWithin, or_earlier, or_empty, content_in, content_of, with_file}
 
 last_is : (fs : List (List ℕ × List ℕ)) (name bytes : List ℕ)
     → content_in (fs ++ (name, bytes) ∷ []) name ≡ Bytes bytes
@@ -52,3 +52,41 @@ pub put-keeps : (before after : Option (List (List ℕ × List ℕ))) (name byte
     → after ≡ option_map (with_file name bytes) before → Keeps before after name bytes
 put-keeps None after name bytes e = subst (λ a. Keeps None a name bytes) (sym e) tt
 put-keeps (Some old) after name bytes e = subst (λ a. Keeps (Some old) a name bytes) (sym e) refl
+
+-- ---- where a name that was not written is an empty file
+
+or_empty-whole : (c : Content) (bytes : List ℕ) → IsWhole c bytes → IsWhole (or_empty c) bytes
+or_empty-whole Untold bytes h = tt
+or_empty-whole Missing bytes h = absurd h
+or_empty-whole (Bytes all) bytes h = h
+
+or_empty-unchanged : (old new : Content) → IsUnchanged old new → IsUnchanged (or_empty old) (or_empty new)
+or_empty-unchanged old Untold h = tt
+or_empty-unchanged old Missing h = ap or_empty h
+or_empty-unchanged old (Bytes all) h = ap or_empty h
+
+is_told : Option (List (List ℕ × List ℕ)) → Bool
+is_told None = false
+is_told (Some fs) = true
+
+some≢none : {fs : List (List ℕ × List ℕ)} → Some fs ≡ None → ⊥
+unfolding is_told
+some≢none e = true≢false (ap is_told e)
+
+within-keeps : (room : ℕ) (before after : Option (List (List ℕ × List ℕ))) (name bytes : List ℕ)
+    → KeepsWithin room before after name bytes → Keeps before after name bytes
+within-keeps room before None name bytes h = tt
+within-keeps room None (Some fs) name bytes h = absurd (some≢none h)
+within-keeps room (Some old) (Some fs) name bytes h = h.0
+
+pub within-whole : (room : ℕ) (before after : Option (List (List ℕ × List ℕ))) (name bytes : List ℕ)
+    → KeepsWithin room before after name bytes → IsWhole (or_empty (content_of after name)) bytes
+within-whole room before after name bytes h =
+    or_empty-whole (content_of after name) bytes (keeps-whole before after name bytes (within-keeps room before after name bytes h))
+
+pub within-others : (room : ℕ) (before after : Option (List (List ℕ × List ℕ))) (name bytes : List ℕ)
+    → KeepsWithin room before after name bytes
+    → OthersUnchanged name (λ n. or_empty (content_of before n)) (λ n. or_empty (content_of after n))
+within-others room before after name bytes h other apart =
+    or_empty-unchanged (content_of before other) (content_of after other)
+    (keeps-others before after name bytes (within-keeps room before after name bytes h) other apart)

@@ -1,1 +1,3 @@
 pub mod Contents
+pub mod Cutting
+pub mod Finding

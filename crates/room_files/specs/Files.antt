@@ -1,5 +1,5 @@
 -- What files hold, by their names, where that is told.
-use Rattle.std.specs.Prelude.{◌≡◌, ◌≢◌, ℕ, ◌<◌, ◌++◌, List, [], ◌∷◌, Option, Some, None, Result, Ok, Err, Vec, ◌≤◌, length, IfSome, bytes_eq, if◌then◌else◌}
+use Rattle.std.specs.Prelude.{◌≡◌, ◌≢◌, ℕ, ◌+◌, ◌<◌, ◌++◌, List, [], ◌∷◌, Option, Some, None, Result, Ok, Err, Vec, ◌≤◌, length, IfSome, bytes_eq, if◌then◌else◌}
 use Rattle.std.specs.Option.{IsSomeAnd}
 use Rattle.std.specs.Global.{Global}
 use Rattle.room_files.specs.declared.files.FileFault.{FileFault}
@@ -95,3 +95,32 @@ ReadsFile content limit (Ok v) = IsWhole content v.items × (length v.items ≤ 
 ReadsFile content limit (Err Failed) = content ≡ Missing
 ReadsFile content limit (Err TooLarge) = IsLonger content limit × (content ≢ Missing)
 ReadsFile content limit (Err Memory) = FitsIn content limit × (content ≢ Missing)
+
+-- ---- files over memory that is there from the beginning
+
+-- the bytes of the names of all writes, and those that they wrote
+abbrev pub all_names : List (List ℕ × List ℕ) → ℕ
+all_names [] = 0
+all_names (f ∷ fs) = length f.0 + all_names fs
+
+abbrev pub all_bytes : List (List ℕ × List ℕ) → ℕ
+all_bytes [] = 0
+all_bytes (f ∷ fs) = length f.1 + all_bytes fs
+
+-- At most 64 writes are told, whose names have at most 4,096 bytes together, and which wrote at most so many.
+pub record FitsWithin (room : ℕ) (files : List (List ℕ × List ℕ)) : Type 0 where
+  pub writes : length files ≤ 64
+  pub names : all_names files ≤ 4096
+  pub bytes : all_bytes files ≤ room
+
+-- The files are told exactly while they fit; once they do not, they tell nothing from then on.
+abbrev pub KeepsWithin : ℕ → Option (List (List ℕ × List ℕ)) → Option (List (List ℕ × List ℕ)) → List ℕ → List ℕ → Type 0
+KeepsWithin room None after name bytes = after ≡ None
+KeepsWithin room (Some old) None name bytes = FitsWithin room (with_file name bytes old) → ⊥
+KeepsWithin room (Some old) (Some now) name bytes = (now ≡ with_file name bytes old) × FitsWithin room now
+
+-- a name that was not written is an empty file
+abbrev pub or_empty : Content → Content
+or_empty Untold = Untold
+or_empty Missing = Bytes []
+or_empty (Bytes all) = Bytes all

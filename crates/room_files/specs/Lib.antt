@@ -1,3 +1,4 @@
 pub mod Files
 pub mod FilesInside
 pub mod States
+pub mod WrittenInside

@@ -9,3 +9,9 @@ pub record FilesState : Type 0 where
   pub calls : Calls
   pub read_faults : ℕ
   pub write_faults : ℕ
+
+-- files that never fail: what was written, or None where they tell nothing any more, and how many bytes they have room
+-- for
+pub record SureFilesState : Type 0 where
+  pub files : Option (List (List ℕ × List ℕ))
+  pub room : ℕ

@@ -6,9 +6,12 @@
 mod files;
 mod memory_files;
 mod standard_files;
+mod sure_files;
 #[cfg(test)]
 mod tests;
+mod written;
 
 pub use files::{FileFault, Files};
 pub use memory_files::MemFiles;
 pub use standard_files::StdFiles;
+pub use sure_files::SureFiles;

@@ -64,7 +64,10 @@ impl MemFiles {
     /// Places a file. It is no call.
     pub fn put(&mut self, name: &str, bytes: &[u8]) -> Result<(), Memory>
         ensures ok { OnOk result (self.new
-            ≡ record self.old { files = option_map (with_file name.now bytes.now) self.old.files }) }
+            ≡ record self.old {
+              files = option_map
+                  (with_file name.now bytes.now) self.old.files;
+            }) }
         ensures err { OnErr result (self.new ≡ self.old) }
     {
         match &mut self.files {
@@ -124,7 +127,8 @@ impl Files for MemFiles {
 
         // What all files promise.
         ensures holds { OnOk result (IsWhole (content_of self.new.files name.now) bytes.now) }
-        ensures others { OthersUnchanged name.now (content_of self.old.files) (content_of self.new.files) }
+        ensures others { OthersUnchanged name.now (content_of self.old.files)
+            (content_of self.new.files) }
         ensures cause { OnErr result (HasRisen self.old.write_faults self.new.write_faults) }
         ensures quiet { OnOk result (self.new.write_faults ≡ self.old.write_faults) }
         ensures apart { self.new.read_faults ≡ self.old.read_faults }
@@ -151,7 +155,8 @@ fn read_in(
     name: &str,
     limit: u32,
 ) -> Result<Vec<u8>, FileFault>
-    ensures { ReadsFile (content_of (option_map (λ v. map named v.items) files.now) name.now) limit result }
+    ensures { ReadsFile (content_of (option_map (λ v. map named v.items) files.now) name.now) limit
+        result }
 {
     let files = match files {
         Some(files) => files,
@@ -170,7 +175,8 @@ fn read_in(
 
 // The bytes of the file of a name, which are those that were written last.
 fn find<'a>(files: &'a [NamedFile], name: &str) -> Option<&'a [u8]>
-    ensures { found_content (option_map (λ b. b.now) result) ≡ content_in (map named files.now) name.now }
+    ensures { found_content (option_map (λ b. b.now) result)
+        ≡ content_in (map named files.now) name.now }
 {
     let mut found = None;
     for file in files {
@@ -183,7 +189,8 @@ fn find<'a>(files: &'a [NamedFile], name: &str) -> Option<&'a [u8]>
 
 // Puts a file behind the others.
 fn add(alloc: Global, files: &mut Vec<NamedFile>, name: &str, bytes: &[u8]) -> Result<(), Memory>
-    ensures ok { OnOk result (map named files.new.items ≡ with_file name.now bytes.now (map named files.old.items)) }
+    ensures ok { OnOk result (map named files.new.items
+        ≡ with_file name.now bytes.now (map named files.old.items)) }
     ensures err { OnErr result (map named files.new.items ≡ map named files.old.items) }
 {
     let name = String::from_str(alloc, name)?;
@@ -192,7 +199,7 @@ fn add(alloc: Global, files: &mut Vec<NamedFile>, name: &str, bytes: &[u8]) -> R
     Ok(())
 }
 
-fn copied(alloc: Global, bytes: &[u8]) -> Result<Vec<u8>, Memory>
+pub(crate) fn copied(alloc: Global, bytes: &[u8]) -> Result<Vec<u8>, Memory>
     ensures { IfOk result (λ v. v.items ≡ bytes.now) }
 {
     Ok(Vec::from_slice(alloc, bytes)?)

@@ -1,5 +1,5 @@
 // What files answer, call by call.
-use crate::{FileFault, Files, MemFiles, StdFiles};
+use crate::{FileFault, Files, MemFiles, StdFiles, SureFiles};
 use room_ports::Memory;
 use std::alloc::{AllocError, Global};
 
@@ -96,6 +96,54 @@ fn files_over_memory_hold_what_was_written_last(rt: HostRuntime) -> Result<(), M
         failing_calls.extend_from_slice(failing)?;
         let mut files = MemFiles::new(alloc, failing_calls);
         files.put("put", "here".as_bytes())?;
+        let answers = files_log(alloc, &mut files, steps)?;
+        assert_eq!(rt; answers.as_str(), log);
+    }
+    Ok(())
+}
+
+#[test]
+fn files_that_never_fail_tell_up_to_their_room(rt: HostRuntime) -> Result<(), Memory> {
+    use Step::{Read, Write};
+    let alloc = rt.alloc();
+    // room, calls, what they answer
+    let cases: [(u32, &[Step], &str); 4] = [
+        (
+            6,
+            &[
+                Read("a", 0),
+                Write("a", "abc"),
+                Write("b", "def"),
+                Read("a", 3),
+                Read("b", 2),
+            ],
+            "/..abc/>",
+        ),
+        (
+            6,
+            &[
+                Write("a", "abc"),
+                Write("a", "def"),
+                Read("a", 9),
+                Read("b", 0),
+            ],
+            "..def//",
+        ),
+        (
+            5,
+            &[
+                Write("a", "abc"),
+                Write("b", "de"),
+                Read("b", 9),
+                Write("c", "f"),
+                Read("a", 9),
+            ],
+            "..de/.?",
+        ),
+        (0, &[Write("a", ""), Read("a", 0)], "./"),
+    ];
+    for (room, steps, log) in cases {
+        let mut files = SureFiles::new(alloc, room)?;
         let answers = files_log(alloc, &mut files, steps)?;
         assert_eq!(rt; answers.as_str(), log);
     }

@@ -4,7 +4,7 @@ ghost use Rattle.room_ports.specs.Counts.{HasRisen};
 ghost use Rattle.room_halls.specs.declared.hall.HallFault.TheVariants as faults;
 ghost use Rattle.room_halls.specs.Stations.{Station, CountsSeat, NoneMoves, OthersStay, line_told};
 
-use room_ports::{Failed, Line, Memory};
+use room_ports::{Failed, Line, MemLine, Memory};
 use std::alloc::{AllocError, AllocFailed, Global};
 
 /// Why a station was not seated.
@@ -40,10 +40,26 @@ impl<T: Drop> From<AllocFailed<T>> for HallFault {
     }
 }
 
+/// The line of a station of a hall.
+pub trait HallLine: Line {
+    /// Told when the session over the line has ended, after which nothing is read of it or written to it. What is told of
+    /// the line stays.
+    fn leave(&mut self)
+        ensures read { (Self.left self.new ≡ Self.left self.old)
+            × (Self.read_faults self.new ≡ Self.read_faults self.old) }
+        ensures written { (Self.taken self.new ≡ Self.taken self.old)
+            × (Self.write_faults self.new ≡ Self.write_faults self.old) };
+}
+
+// Over memory nobody waits for the end of a session.
+impl HallLine for MemLine {
+    fn leave(&mut self) {}
+}
+
 /// A line for each station, by the station's number from 0 on.
 pub trait Hall {
     /// What a station speaks over.
-    type Line: Line + Send;
+    type Line: HallLine + Send + Drop;
 
     /// What is told of a station.
     ghost told: { Self → ℕ → Station };
@@ -51,13 +67,13 @@ pub trait Hall {
     /// How often an `open` or a `seat_station` has failed.
     ghost faults: { Self → ℕ };
 
-    /// Opens the hall at an address, as `localhost:7000`.
+    /// Opens the hall at an address, as `localhost:7000`. Nothing that is told of a station changes.
     fn open(&mut self, address: &str) -> Result<(), Failed>
-        ensures same { OnOk result (NoneMoves (told self.old) (told self.new)) }
+        ensures same { NoneMoves (told self.old) (told self.new) }
         ensures cause { OnErr result (HasRisen (faults self.old) (faults self.new)) }
         ensures quiet { OnOk result (faults self.new ≡ faults self.old) };
 
-    /// Hands out the line of a station. It may wait for one.
+    /// Hands out the line of a station. It may wait for one. Where it hands out none, nothing that is told changes.
     fn seat_station(&mut self, alloc: Global, station: u32) -> Result<Self::Line, HallFault>
         // The line stands as the hall told of it.
         ensures line { IfOk result (λ l. (told self.old station).line
@@ -65,6 +81,7 @@ pub trait Hall {
             (Self.Line.write_faults l)) }
         ensures seated { OnOk result ((told self.new station).seated ≡ true) }
         ensures others { OnOk result (OthersStay station (told self.old) (told self.new)) }
+        ensures stays { OnErr result (NoneMoves (told self.old) (told self.new)) }
         ensures counts { CountsSeat result (faults self.old) (faults self.new) };
 
     /// Takes the line of a station back that was seated, and keeps what it took, has left and counted.

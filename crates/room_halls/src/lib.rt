@@ -7,6 +7,7 @@
 mod gate;
 mod hall;
 mod memory_hall;
+mod report;
 mod seats;
 mod sure_hall;
 mod sure_line;
@@ -16,7 +17,7 @@ mod tcp_line;
 mod tests;
 
 pub use gate::{Gate, OpenGate};
-pub use hall::{Hall, HallFault};
+pub use hall::{Hall, HallFault, HallLine};
 pub use memory_hall::MemHall;
 pub use sure_hall::SureHall;
 pub use sure_line::Pair2;

@@ -5,6 +5,7 @@ ghost use Rattle.room_ports.specs.Pieces.{Reads, joined};
 ghost use Rattle.room_ports.specs.Sides.{owned};
 ghost use Rattle.room_ports.specs.States.{kept};
 
+use crate::HallLine;
 use room_ports::{Failed, Line, Sink, Source, SureSink, SureSource};
 use std::alloc::Global;
 
@@ -86,4 +87,9 @@ impl Line for Pair2 {
     ghost source_side = { λ line. refl };
 
     ghost sink_side = { λ line. refl };
+}
+
+// Over memory nobody waits for the end of a session.
+impl HallLine for Pair2 {
+    fn leave(&mut self) {}
 }

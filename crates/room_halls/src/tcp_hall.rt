@@ -4,25 +4,28 @@ ghost use Rattle.room_ports.specs.Counts.{HasRisen, counted};
 ghost use Rattle.room_halls.specs.Connections.{tcp_hall_tells};
 ghost use Rattle.room_halls.specs.Stations.{CountsSeat, NoneMoves, OthersStay, line_told};
 
+use crate::report::Report;
 use crate::seats::Seats;
 use crate::tcp_line::{LineFaults, TcpLine};
 use crate::{Hall, HallFault};
 use room_ports::Failed;
 use std::alloc::Global;
-use std::io;
+use std::io::{self, Write};
 use std::marker::Model;
 use std::net::{Net, SocketAddr, TcpListener, TcpStream};
 
-/// A hall that listens at an address. Each seat takes the next connection that comes, whoever makes it.
+/// A hall that listens at an address. Each seat takes the next connection that comes, whoever makes it. It tells where it
+/// listens, and of each station who sits down and how it leaves.
 #[derive(Drop)]
-pub struct TcpHall<'a, R: Net> {
+pub struct TcpHall<'a, R: Net, W> {
     net: &'a R,
+    report: Report<W>,
     listener: Option<TcpListener>,
     seated: Seats<LineFaults>,
     faults: u64,
 }
 
-impl<'a, R: Net> Model for TcpHall<'a, R> {
+impl<'a, R: Net, W> Model for TcpHall<'a, R, W> {
     ghost use Rattle.room_halls.specs.Connections.{TcpHallState};
 
     ghost Value = { TcpHallState };
@@ -30,14 +33,15 @@ impl<'a, R: Net> Model for TcpHall<'a, R> {
     ghost view = { λ h. record { seated = h.seated; faults = h.faults } };
 }
 
-impl<'a, R: Net<Listener = TcpListener, Stream = TcpStream>> TcpHall<'a, R> {
-    /// A hall that is not open yet, without a fault so far.
-    pub fn new(alloc: Global, net: &'a R) -> Self
+impl<'a, R: Net<Listener = TcpListener, Stream = TcpStream>, W> TcpHall<'a, R, W> {
+    /// A hall that is not open yet, without a fault so far, which tells of itself to this writer.
+    pub fn new(alloc: Global, net: &'a R, to: W) -> Self
         ensures seated { result.seated ≡ [] }
         ensures faults { result.faults ≡ 0 }
     {
         TcpHall {
             net,
+            report: Report::new(alloc, to),
             listener: None,
             seated: Seats::new(alloc),
             faults: 0,
@@ -53,8 +57,9 @@ impl<'a, R: Net<Listener = TcpListener, Stream = TcpStream>> TcpHall<'a, R> {
     }
 }
 
-impl<R: Net<Listener = TcpListener, Stream = TcpStream>> Hall for TcpHall<'_, R> {
-    type Line = TcpLine;
+impl<R: Net<Listener = TcpListener, Stream = TcpStream>, W: Write + Copy + Send> Hall
+    for TcpHall<'_, R, W> {
+    type Line = TcpLine<W>;
 
     ghost told = { λ h s. tcp_hall_tells h s };
 
@@ -64,10 +69,12 @@ impl<R: Net<Listener = TcpListener, Stream = TcpStream>> Hall for TcpHall<'_, R>
     fn open(&mut self, address: &str) -> Result<(), Failed> {
         match TcpListener::bind(self.net, address) {
             Ok(listener) => {
+                tell_address(self.report, &listener);
                 self.listener = Some(listener);
                 Ok(())
             }
-            Err(_) => {
+            Err(error) => {
+                self.report.refuses(address, &error);
                 self.faults = self.faults.saturating_add(1);
                 Err(Failed)
             }
@@ -76,18 +83,20 @@ impl<R: Net<Listener = TcpListener, Stream = TcpStream>> Hall for TcpHall<'_, R>
 
     /// Waits for the next connection, and sends what is written to it without delay. It fails where the hall is not
     /// open or the system refuses it.
-    fn seat_station(&mut self, _alloc: Global, station: u32) -> Result<TcpLine, HallFault> {
+    fn seat_station(&mut self, _alloc: Global, station: u32) -> Result<TcpLine<W>, HallFault> {
         self.seated.make_room(station)?;
         let faults = match self.seated.get(station) {
             Some(faults) => faults,
             None => LineFaults::none(),
         };
         match next_connection(&self.listener) {
-            Ok(stream) => {
+            Ok((stream, peer)) => {
+                self.report.seats(station, peer);
                 self.seated.set(station, faults);
-                Ok(TcpLine::new(stream, faults))
+                Ok(TcpLine::new(stream, faults, station, self.report))
             }
             Err(_) => {
+                self.report.station(station, "got no connection");
                 self.faults = self.faults.saturating_add(1);
                 Err(HallFault::Failed)
             }
@@ -95,17 +104,25 @@ impl<R: Net<Listener = TcpListener, Stream = TcpStream>> Hall for TcpHall<'_, R>
     }
 
     /// Keeps the line's counts and closes it.
-    fn stand_up(&mut self, station: u32, line: TcpLine) {
+    fn stand_up(&mut self, station: u32, line: TcpLine<W>) {
         self.seated.set(station, line.faults());
     }
 }
 
 // The next connection, which sends without delay.
-fn next_connection(listener: &Option<TcpListener>) -> io::Result<TcpStream> {
+fn next_connection(listener: &Option<TcpListener>) -> io::Result<(TcpStream, SocketAddr)> {
     let Some(listener) = listener else {
         return Err(io::Error::from(io::ErrorKind::NotConnected));
     };
-    let (stream, _) = listener.accept()?;
-    stream.set_nodelay(true)?;
-    Ok(stream)
+    let (stream, peer) = listener.accept()?;
+    let _ = stream.set_nodelay(true);
+    Ok((stream, peer))
+}
+
+// Tells where a hall listens, with the port that the system gave where port 0 was asked for.
+fn tell_address<W: Write + Copy>(report: Report<W>, listener: &TcpListener) {
+    match listener.local_addr() {
+        Ok(address) => report.listens(address),
+        Err(_) => {}
+    }
 }

@@ -3,10 +3,12 @@ ghost use Rattle.std.specs.Prelude.{◌≡◌, ◌<◌, ◌≤◌, None, length,
 ghost use Rattle.room_ports.specs.Counts.{HasRisen, counted};
 ghost use Rattle.room_ports.specs.Sides.{owned};
 
+use crate::HallLine;
+use crate::report::Report;
 use room_ports::{Failed, Line, Sink, Source};
 use std::io::{Read, Write};
 use std::marker::Model;
-use std::net::TcpStream;
+use std::net::{Shutdown, TcpStream};
 
 /// How often reads and writes of a line have failed.
 #[derive(Clone, Copy, Debug, PartialEq, Eq)]
@@ -28,15 +30,39 @@ impl LineFaults {
     }
 }
 
+/// What came of the last read or write of a line that is worth telling.
+#[derive(Clone, Copy, Debug, PartialEq, Eq)]
+enum Came {
+    Bytes,
+    End,
+    ReadFault,
+    WriteFault,
+}
+
+impl Came {
+    // How a session over the line ended, in words.
+    fn text(self) -> &'static str {
+        match self {
+            Came::Bytes => "left after more than 64 MiB",
+            Came::End => "left, its lines are read to their end",
+            Came::ReadFault => "left, a read of its line failed",
+            Came::WriteFault => "left, a write to its line failed",
+        }
+    }
+}
+
 /// A line over a connection, which tells no bytes. Each read and each write that fails is counted as a fault, and so is
 /// a write that takes nothing of a piece that is not empty.
 #[derive(Drop)]
-pub struct TcpLine {
+pub struct TcpLine<W> {
     stream: TcpStream,
     faults: LineFaults,
+    station: u32,
+    came: Came,
+    report: Report<W>,
 }
 
-impl Model for TcpLine {
+impl<W> Model for TcpLine<W> {
     ghost use Rattle.room_halls.specs.declared.tcp_line.LineFaults.{LineFaults};
 
     ghost Value = { LineFaults };
@@ -44,12 +70,23 @@ impl Model for TcpLine {
     ghost view = { λ l. l.faults };
 }
 
-impl TcpLine {
-    /// A line over this connection, with these faults so far.
-    pub(crate) fn new(stream: TcpStream, faults: LineFaults) -> TcpLine
+impl<W> TcpLine<W> {
+    /// The line of a station over this connection, with these faults so far.
+    pub(crate) fn new(
+        stream: TcpStream,
+        faults: LineFaults,
+        station: u32,
+        report: Report<W>,
+    ) -> TcpLine<W>
         ensures { result ≡ faults }
     {
-        TcpLine { stream, faults }
+        TcpLine {
+            stream,
+            faults,
+            station,
+            came: Came::Bytes,
+            report,
+        }
     }
 
     /// How often its reads and writes have failed.
@@ -60,7 +97,7 @@ impl TcpLine {
     }
 }
 
-impl Source for TcpLine {
+impl<W> Source for TcpLine<W> {
     ghost left = { λ _. None };
 
     ghost read_faults = { λ l. l.reads };
@@ -70,8 +107,12 @@ impl Source for TcpLine {
     /// Reads once from the connection.
     fn read(&mut self, into: &mut [u8]) -> Result<usize, Failed> {
         match self.stream.read(into) {
-            Ok(n) => Ok(n),
+            Ok(n) => {
+                self.came = if n == 0 { Came::End } else { Came::Bytes };
+                Ok(n)
+            }
             Err(_) => {
+                self.came = Came::ReadFault;
                 self.faults.reads = self.faults.reads.saturating_add(1);
                 Err(Failed)
             }
@@ -79,7 +120,7 @@ impl Source for TcpLine {
     }
 }
 
-impl Sink for TcpLine {
+impl<W> Sink for TcpLine<W> {
     ghost taken = { λ _. None };
 
     ghost write_faults = { λ l. l.writes };
@@ -91,6 +132,7 @@ impl Sink for TcpLine {
         match self.stream.write(piece) {
             Ok(n) if n > 0 || piece.is_empty() => Ok(n),
             _ => {
+                self.came = Came::WriteFault;
                 self.faults.writes = self.faults.writes.saturating_add(1);
                 Err(Failed)
             }
@@ -98,10 +140,18 @@ impl Sink for TcpLine {
     }
 }
 
-impl Line for TcpLine {
+impl<W> Line for TcpLine<W> {
     ghost lent = { λ _. owned };
 
     ghost source_side = { λ line. refl };
 
     ghost sink_side = { λ line. refl };
+}
+
+impl<W: Write + Copy> HallLine for TcpLine<W> {
+    /// Tells how the session ended, and lets the peer read to the end of the replies.
+    fn leave(&mut self) {
+        self.report.station(self.station, self.came.text());
+        let _ = self.stream.shutdown(Shutdown::Both);
+    }
 }

@@ -125,7 +125,7 @@ fn a_hall_that_never_fails_has_a_line_for_everybody(rt: HostRuntime) -> Result<(
 #[test]
 fn a_connection_is_a_line(rt: HostRuntime) -> io::Result<()> {
     let alloc = rt.alloc();
-    let mut hall = TcpHall::new(alloc, &rt);
+    let mut hall = TcpHall::new(alloc, &rt, io::sink());
     let answers = hall_log(alloc, &mut hall, "no address", &[0])?;
     assert_eq!(rt; answers.as_str(), "!!");
     let answers = hall_log(alloc, &mut hall, "127.0.0.1:0", &[])?;

@@ -37,12 +37,14 @@ members count set = filter (has_bit set) (numbers 0 count)
 -- a part is what these entries come to at its number
 abbrev pub IsAt : {O P C D R : Type 0} → (O → Meaning P C D R) → Option (Opening O P) → ℕ → List (Entry C) → P → Type 0
 IsAt {O} {P} meaning opening number entries part =
-    (o : Opening O P) × (opening ≡ Some o) × (now : List P) × (replay (whole (meaning o.0)) o.1 entries ≡ Some now) × (slice_get now number ≡ Some part)
+    (o : Opening O P) × (opening ≡ Some o) × (now : List P)
+    × (replay (whole (meaning o.0)) o.1 entries ≡ Some now) × (slice_get now number ≡ Some part)
 
 -- how many of these entries name a part
 abbrev pub IsVersion : {O P C D R : Type 0} → (O → Meaning P C D R) → Option (Opening O P) → ℕ → List (Entry C) → ℕ → Type 0
 IsVersion {O} {P} meaning opening number entries version =
-    (o : Opening O P) × (opening ≡ Some o) × (version ≡ length (of_part (meaning o.0).names number entries))
+    (o : Opening O P) × (opening ≡ Some o)
+    × (version ≡ length (of_part (meaning o.0).names number entries))
 
 -- a part is good at its number, for the object of the opening
 abbrev pub IsGoodAt : {O P : Type 0} → (O → ℕ → P → Type 0) → Option (Opening O P) → ℕ → P → Type 0
@@ -55,7 +57,8 @@ AreGoodAt {O} {P} good opening ns ps = (o : Opening O P) → opening ≡ Some o 
 -- a legal history of the opening
 abbrev pub IsHistory : {O P C D R : Type 0} → (O → Meaning P C D R) → (O → List P → Type 0) → Option (Opening O P) → List (Entry C) → Type 0
 IsHistory {O} {P} meaning opens opening entries =
-    (o : Opening O P) × (opening ≡ Some o) × opens o.0 o.1 × IsLegal (whole (meaning o.0)) o.1 entries
+    (o : Opening O P) × (opening ≡ Some o) × opens o.0 o.1
+    × IsLegal (whole (meaning o.0)) o.1 entries
 
 -- a home: its part is what the entries that its seat knows come to at it, and its version counts those that name it
 pub record IsHome {O P C D R : Type 0} (meaning : O → Meaning P C D R) (opens : O → List P → Type 0) (opening : Option (Opening O P)) (number : ℕ) (part : P) (version : ℕ) (entries : List (Entry C)) : Type 0 where
@@ -95,5 +98,6 @@ CanGive (n ∷ ns) names = In (Part n) names × CanGive ns (without (Part n) nam
 -- each of these parts is what the entries come to at its number, and its version counts those that name it
 abbrev pub StandFor : {O P C D R : Type 0} → (O → Meaning P C D R) → Option (Opening O P) → List (Entry C) → List ℕ → List P → List ℕ → Type 0
 StandFor {O} {P} meaning opening entries ns ps vs =
-    (k n : ℕ) (p : P) (v : ℕ) → slice_get ns k ≡ Some n → slice_get ps k ≡ Some p → slice_get vs k ≡ Some v
+    (k n : ℕ) (p : P) (v : ℕ) → slice_get ns k ≡ Some n → slice_get ps k ≡ Some p
+    → slice_get vs k ≡ Some v
     → IsAt meaning opening n entries p × IsVersion meaning opening n entries v

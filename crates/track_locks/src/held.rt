@@ -29,9 +29,11 @@ impl<'a, O: PartObject, J: Naming<O, O::Part>> Model for Held<'a, O, J> {
 
     ghost Value = { HeldParts O O.Part O.Call };
 
-    ghost view = { λ h. record { numbers = h.numbers.items; parts = h.parts.items; versions = h.versions.items; seats = h.seats.items } };
+    ghost view = { λ h. record { numbers = h.numbers.items; parts = h.parts.items;
+        versions = h.versions.items; seats = h.seats.items } };
 
-    ghost invariant = { λ h. AscendBetween 0 h.tracks.now h.numbers.items × (length h.numbers.items ≤ vec_capacity h.seats) };
+    ghost invariant = { λ h. AscendBetween 0 h.tracks.now h.numbers.items
+        × (length h.numbers.items ≤ vec_capacity h.seats) };
 }
 
 impl<'a, O: PartObject, J: Naming<O, O::Part>> Held<'a, O, J> {
@@ -47,7 +49,8 @@ impl<'a, O: PartObject, J: Naming<O, O::Part>> Held<'a, O, J> {
         requires tokens { turn.old.tokens + length self.old.seats < 4294967296 }
         ensures seats { self.new ≡ record self.old { seats = [] } }
         ensures journal { turn.new.journal ≡ all_gathered self.old.seats turn.old.journal }
-        ensures tokens { (turn.new.tokens ≡ turn.old.tokens + length self.old.seats) × (turn.new.room ≡ turn.old.room) }
+        ensures tokens { (turn.new.tokens ≡ turn.old.tokens + length self.old.seats)
+            × (turn.new.room ≡ turn.old.room) }
     {
         gather_all(&mut self.seats, turn);
     }
@@ -59,10 +62,13 @@ impl<'a, O: PartObject, J: Naming<O, O::Part>> Held<'a, O, J> {
         requires tokens { length self.old.numbers ≤ turn.old.tokens }
 
         ensures journal { turn.new.journal ≡ all_given self.old.numbers turn.old.journal }
-        ensures tokens { (turn.new.tokens + length self.old.numbers ≡ turn.old.tokens) × (turn.new.room ≡ turn.old.room) }
+        ensures tokens { (turn.new.tokens + length self.old.numbers ≡ turn.old.tokens)
+            × (turn.new.room ≡ turn.old.room) }
         ensures seats { map (λ s. s.number) self.new.seats ≡ self.old.numbers }
-        ensures know { All (λ s. (s.opening ≡ turn.old.journal.opening) × (s.entries ≡ turn.old.journal.entries)) self.new.seats }
-        ensures same { (self.new.numbers ≡ self.old.numbers) × (self.new.parts ≡ self.old.parts) × (self.new.versions ≡ self.old.versions) }
+        ensures know { All (λ s. (s.opening ≡ turn.old.journal.opening)
+            × (s.entries ≡ turn.old.journal.entries)) self.new.seats }
+        ensures same { (self.new.numbers ≡ self.old.numbers) × (self.new.parts ≡ self.old.parts)
+            × (self.new.versions ≡ self.old.versions) }
     {
         give_all(&self.numbers, &mut self.seats, turn);
     }
@@ -70,8 +76,10 @@ impl<'a, O: PartObject, J: Naming<O, O::Part>> Held<'a, O, J> {
     /// Puts parts in the places of those that are held, after a commit, when the seats are back: each is what the entries
     /// that its seat knows come to, and one entry more names it.
     pub fn put(&mut self, parts: Vec<O::Part>)
-        requires { AreHomes O.meaning O.opens J.opening self.old.numbers parts.items (map (λ v. v + 1) self.old.versions) self.old.seats }
-        ensures { self.new ≡ record self.old { parts = parts.items; versions = map (λ v. v + 1) self.old.versions } }
+        requires { AreHomes O.meaning O.opens J.opening self.old.numbers parts.items
+            (map (λ v. v + 1) self.old.versions) self.old.seats }
+        ensures { self.new ≡ record self.old { parts = parts.items;
+            versions = map (λ v. v + 1) self.old.versions } }
     {
         self.parts = parts;
         one_more(&mut self.versions);
@@ -79,7 +87,8 @@ impl<'a, O: PartObject, J: Naming<O, O::Part>> Held<'a, O, J> {
 
     /// Puts each part with its seat back into its lock.
     pub fn release<R: Wait>(self, rt: &R)
-        requires homes { AreHomes O.meaning O.opens J.opening self.numbers self.parts self.versions self.seats }
+        requires homes { AreHomes O.meaning O.opens J.opening self.numbers self.parts self.versions
+            self.seats }
         requires good { AreGoodAt O.good J.opening self.numbers self.parts }
     {
         let Held {
@@ -115,7 +124,8 @@ fn gather_all<O: PartObject, J: Naming<O, O::Part>>(
     ensures none { seats.new.items ≡ [] }
     ensures room { vec_capacity seats.new ≡ vec_capacity seats.old }
     ensures journal { turn.new.journal ≡ all_gathered seats.old.items turn.old.journal }
-    ensures tokens { (turn.new.tokens ≡ turn.old.tokens + length seats.old.items) × (turn.new.room ≡ turn.old.room) }
+    ensures tokens { (turn.new.tokens ≡ turn.old.tokens + length seats.old.items)
+        × (turn.new.room ≡ turn.old.room) }
 {
     while let Some(seat) = seats.pop() {
         turn.gather_seat(seat);
@@ -132,9 +142,11 @@ fn give_all<O: PartObject, J: Naming<O, O::Part>>(
     requires names { CanGive numbers.now turn.old.journal.names }
     requires tokens { length numbers.now ≤ turn.old.tokens }
     ensures journal { turn.new.journal ≡ all_given numbers.now turn.old.journal }
-    ensures tokens { (turn.new.tokens + length numbers.now ≡ turn.old.tokens) × (turn.new.room ≡ turn.old.room) }
+    ensures tokens { (turn.new.tokens + length numbers.now ≡ turn.old.tokens)
+        × (turn.new.room ≡ turn.old.room) }
     ensures seats { map (λ s. s.number) seats.new.items ≡ numbers.now }
-    ensures know { All (λ s. (s.opening ≡ turn.old.journal.opening) × (s.entries ≡ turn.old.journal.entries)) seats.new.items }
+    ensures know { All (λ s. (s.opening ≡ turn.old.journal.opening)
+        × (s.entries ≡ turn.old.journal.entries)) seats.new.items }
     ensures room { vec_capacity seats.new ≡ vec_capacity seats.old }
 {
     for number in numbers {
@@ -160,7 +172,8 @@ fn put_back<O: PartObject, J: Naming<O, O::Part>, R: Wait>(
     mut seats: Vec<PartSeat<O, J>>,
 )
     requires within { All (λ n. n < length places.now) numbers.items }
-    requires homes { AreHomes O.meaning O.opens J.opening numbers.items parts.items versions.items seats.items }
+    requires homes { AreHomes O.meaning O.opens J.opening numbers.items parts.items versions.items
+        seats.items }
     requires good { AreGoodAt O.good J.opening numbers.items parts.items }
 {
     while let (Some(number), Some(part), Some(version), Some(seat)) = (

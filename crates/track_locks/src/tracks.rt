@@ -63,7 +63,8 @@ impl<O: PartObject, J: Naming<O, O::Part>> Tracks<O, J> {
     pub fn hold<R: Wait>(&self, rt: &R, alloc: Global, set: u32) -> Result<Held<'_, O, J>, Memory>
         ensures numbers { IfOk result (λ h. h.numbers ≡ members self.now set) }
         ensures few { IfOk result (λ h. length h.numbers ≤ 32) }
-        ensures homes { IfOk result (λ h. AreHomes O.meaning O.opens J.opening h.numbers h.parts h.versions h.seats) }
+        ensures homes { IfOk result
+            (λ h. AreHomes O.meaning O.opens J.opening h.numbers h.parts h.versions h.seats) }
         ensures good { IfOk result (λ h. AreGoodAt O.good J.opening h.numbers h.parts) }
     {
         let count = self.places.len();

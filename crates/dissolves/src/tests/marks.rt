@@ -1,15 +1,13 @@
 // Dissolves put at every place of small tracks and taken away, against a plain program over cells.
-ghost use Rattle.std.specs.Prelude.{◌≡◌, ◌<◌, IfOk, true};
-ghost use Rattle.composables.specs.Good.{AllUnlinked, EachLiesIn, IsGood};
+ghost use Rattle.std.specs.Prelude.{◌≡◌, ◌<◌, [], ◌∷◌, All, map};
+ghost use Rattle.composables.specs.Good.{IsGood};
+ghost use Rattle.composables.specs.TrackState.{TrackState};
 
-use crate::cuts::{after_cut, before_cut};
-use crate::tests::laying::{clip, gap, mark, mark_at, nest, track_of};
+use crate::tests::tracks::{CODES, marked, nest, table};
 use crate::{dissolve, undissolve};
-use composables::{
-    Dissolve, Done, EditFault, ItemView, Kind, Layer, Listed, MAX_FRAMES, MAX_ITEMS, Media, Nest,
-    Reels, Refusal, Table, Track, Undissolve, Which,
-};
+use composables::{Dissolve, Done, EditFault, ItemView, Refusal, Table, Track, Undissolve, Which};
 use frame_meaning::{Cell, Mark, Memory, Side, What, same_item};
+use laid_tracks::{clip, dissolve as with_dissolve, gap, laid_track};
 use std::alloc::Global;
 use std::marker::Brand;
 use std::sync::ledger::{Blank, Ledger};
@@ -20,68 +18,6 @@ use step_count::Steps;
 enum Call {
     Put(Mark),
     Take,
-}
-
-// Media 0 to 2 and a nest, with few source frames more than the clips show.
-fn table(alloc: Global) -> Result<Table, Memory> {
-    let mut kinds = Listed::new(alloc);
-    kinds.push(Kind::Video)?;
-    let mut media = Listed::new(alloc);
-    for (from, to) in [(8, 13), (19, 40), (0, 33)] {
-        media.push(Media { reel: 0, from, to })?;
-    }
-    let mut nests = Listed::new(alloc);
-    let layers: Listed<Layer> = Listed::new(alloc);
-    nests.push(Nest {
-        layers,
-        length: 100,
-    })?;
-    Ok(Table {
-        kinds,
-        reels: Reels::new(alloc),
-        media,
-        nests,
-    })
-}
-
-// Whether a track is good in the table, and without links.
-fn is_good(alloc: Global, table: &Table, track: &Track) -> Result<bool, Memory>
-    ensures { IfOk result (λ b. b ≡ true → IsGood table.now track.now) }
-{
-    let views = track.items(alloc)?;
-    if track.length() > MAX_FRAMES {
-        return Ok(false);
-    }
-    if track.count() > MAX_ITEMS {
-        return Ok(false);
-    }
-    if !all_lie(table, &views) {
-        return Ok(false);
-    }
-    Ok(are_unlinked(&views))
-}
-
-fn all_lie(table: &Table, views: &[ItemView]) -> bool
-    ensures { result ≡ true → EachLiesIn table.now views.now }
-{
-    for (index, view) in views.iter().enumerate() {
-        let tail = mark_at(views, index + 1);
-        if !table.lies_in(view.first, view.len, before_cut(view.mark), after_cut(tail)) {
-            return false;
-        }
-    }
-    true
-}
-
-fn are_unlinked(views: &[ItemView]) -> bool
-    ensures { result ≡ true → AllUnlinked views.now }
-{
-    for view in views {
-        if view.link.is_some() {
-            return false;
-        }
-    }
-    true
 }
 
 // What a call answers, and the cells of the track after it.
@@ -100,23 +36,36 @@ fn played<L: Ledger>(
     let number = track.number();
     let mut named = Vec::new(alloc);
     named.push(track)?;
-    let answer = match call {
+    let answer = answered(alloc, table, &mut named, number, at, call, &mut steps);
+    let cells = match named.first() {
+        Some(track) => track.cells(alloc)?,
+        None => Vec::new(alloc),
+    };
+    Ok((answer, cells))
+}
+
+fn answered<L: Ledger>(
+    alloc: Global,
+    table: &Table,
+    named: &mut Vec<Track>,
+    track: u32,
+    at: u32,
+    call: Call,
+    steps: &mut Steps<L>,
+) -> Result<Done, EditFault>
+    requires named { map (λ (t : TrackState). t.number) named.old.items ≡ track ∷ [] }
+    requires good { All (λ t. IsGood table.now t) named.old.items }
+{
+    match call {
         Call::Put(Mark { a, b }) => {
-            let call = Dissolve {
-                track: number,
-                at,
-                a,
-                b,
-            };
-            dissolve(alloc, table, &mut named, &call, &mut steps)
+            let call = Dissolve { track, at, a, b };
+            dissolve(alloc, table, named, &call, steps)
         }
         Call::Take => {
-            let call = Undissolve { track: number, at };
-            undissolve(alloc, table, &mut named, &call, &mut steps)
+            let call = Undissolve { track, at };
+            undissolve(alloc, table, named, &call, steps)
         }
-    };
-    let cells = named[0].cells(alloc)?;
-    Ok((answer, cells))
+    }
 }
 
 fn tried(
@@ -296,24 +245,15 @@ fn mistake(alloc: Global, table: &Table, track: &Track) -> Result<Option<u32>, M
 
 // Of the tracks of three with dissolves of up to two frames on each side of their cuts, how many are edited as wanted
 // and how many are not.
-fn edited(alloc: Global, table: &Table, items: [ItemView; 3]) -> Result<(u32, u32), Memory> {
-    let mut right = 0;
-    let mut wrong = 0;
-    for code in 0..81 {
-        let [first, second, third] = items;
-        let mut views = Vec::new(alloc);
-        views.push(first)?;
-        views.push(ItemView {
-            mark: mark(code % 3, code / 3 % 3),
-            ..second
-        })?;
-        views.push(ItemView {
-            mark: mark(code / 9 % 3, code / 27),
-            ..third
-        })?;
-        match is_right(alloc, table, views)? {
-            Some(true) => right += 1,
-            Some(false) => wrong += 1,
+fn edited(alloc: Global, items: [ItemView; 3]) -> Result<(u32, u32), Memory> {
+    // Few source frames more than the clips show: media 0 has one after the first clip, media 1 one before the second.
+    let table = table(alloc, &[(8, 13), (19, 40), (0, 33)])?;
+    let mut right = 0_u32;
+    let mut wrong = 0_u32;
+    for code in 0..CODES {
+        match is_right(alloc, &table, &marked(items, code))? {
+            Some(true) => right = right.saturating_add(1),
+            Some(false) => wrong = wrong.saturating_add(1),
             None => {}
         }
     }
@@ -321,21 +261,16 @@ fn edited(alloc: Global, table: &Table, items: [ItemView; 3]) -> Result<(u32, u3
 }
 
 // Whether all its edits are as wanted, where there is such a track.
-fn is_right(alloc: Global, table: &Table, views: Vec<ItemView>) -> Result<Option<bool>, Memory> {
-    let Some(track) = track_of(alloc, views)? else {
+fn is_right(alloc: Global, table: &Table, views: &[ItemView]) -> Result<Option<bool>, Memory> {
+    let Some(track) = laid_track(alloc, table, 0, views)? else {
         return Ok(None);
     };
-    if !is_good(alloc, table, &track)? {
-        return Ok(None);
-    }
     Ok(Some(mistake(alloc, table, &track)? == None))
 }
 
 #[test]
 fn dissolves_are_put_where_there_is_room(rt: HostRuntime) -> Result<(), Fail> {
-    let table = table(rt.alloc())?;
     let rows = [
-        // Media 0 has one source frame after the first clip, and media 1 one before the second.
         (
             [clip(0, 0, 10, 2), clip(1, 1, 20, 3), clip(2, 2, 30, 2)],
             36,
@@ -347,34 +282,108 @@ fn dissolves_are_put_where_there_is_room(rt: HostRuntime) -> Result<(), Fail> {
         ([clip(0, 2, 2, 4), clip(1, 2, 6, 4), nest(2, 4)], 9),
     ];
     for (items, want) in rows {
-        assert_eq!(rt; edited(rt.alloc(), &table, items)?, (want, 0), "{items:?}");
+        assert_eq!(rt; edited(rt.alloc(), items)?, (want, 0), "{items:?}");
     }
     Ok(())
 }
 
-#[test]
-fn a_dissolve_is_put_and_taken_away(rt: HostRuntime) -> Result<(), Fail> {
-    let table = table(rt.alloc())?;
-    let mut views = Vec::new(rt.alloc());
-    views.push(gap(10))?;
-    views.push(clip(0, 1, 29, 10))?;
-    let track = track_of(rt.alloc(), views)?.ok_or("these can be laid")?;
-    if !is_good(rt.alloc(), &table, &track)? {
-        return Err("this track is good".into());
+// The most frames before and behind a cut that a dissolve may have for one side of it.
+type Room = (u32, u32);
+
+fn has_room(room: Room, mark: Mark) -> bool {
+    mark.a <= room.0 && mark.b <= room.1
+}
+
+// Why a dissolve is refused at a cut whose sides have this room.
+fn refused_in(left: Room, right: Room, mark: Mark) -> Option<Refusal> {
+    if mark.a == 0 && mark.b == 0 {
+        return Some(Refusal::EmptyRange);
     }
-    let rows = [
-        (10, 2, 3, None),
-        (10, 10, 10, None),
-        (10, 0, 0, Some(Refusal::EmptyRange)),
-        (9, 2, 3, Some(Refusal::NotACut(9))),
-        (20, 2, 3, Some(Refusal::NotACut(20))),
-        (10, 11, 11, Some(Refusal::DissolveRoom(Which::Left))),
-        (10, 10, 11, Some(Refusal::DissolveRoom(Which::Right))),
+    if !has_room(left, mark) {
+        return Some(Refusal::DissolveRoom(Which::Left));
+    }
+    if !has_room(right, mark) {
+        return Some(Refusal::DissolveRoom(Which::Right));
+    }
+    None
+}
+
+// Whether each dissolve of up to seven frames on each side of the cut is put exactly where its sides have this room.
+fn has_exactly(
+    alloc: Global,
+    views: &[ItemView],
+    at: u32,
+    left: Room,
+    right: Room,
+) -> Result<bool, Memory> {
+    let table = table(alloc, &[(10, 30), (0, 100)])?;
+    let Some(track) = laid_track(alloc, &table, 0, views)? else {
+        return Ok(false);
+    };
+    for code in 0..64 {
+        let mark = Mark {
+            a: code % 8,
+            b: code / 8,
+        };
+        let refusal = refused_in(left, right, mark);
+        if !is_as_wanted(alloc, &table, &track, at, Call::Put(mark), refusal)? {
+            return Ok(false);
+        }
+    }
+    Ok(true)
+}
+
+#[test]
+fn a_dissolve_may_take_all_the_room_there_is(rt: HostRuntime) -> Result<(), Fail> {
+    let handles = [clip(0, 0, 11, 16), clip(1, 0, 12, 16)];
+    let neighbours = [
+        clip(0, 1, 20, 4),
+        with_dissolve(1, 2, clip(1, 1, 40, 6)),
+        clip(2, 1, 60, 5),
+        with_dissolve(3, 1, clip(3, 1, 80, 4)),
     ];
-    for (at, a, b, want) in rows {
-        let put = Call::Put(Mark { a, b });
-        let right = is_as_wanted(rt.alloc(), &table, &track, at, put, want)?;
-        assert!(rt; right, "dissolve at {at}, {a} and {b}");
+    let fades = [gap(5), clip(0, 0, 12, 6), gap(4)];
+    let rows = [
+        // three source frames behind the first clip, two before the second
+        (handles.as_slice(), 16, (16, 3), (2, 16)),
+        // the dissolve before takes two of six frames, the one behind three of five
+        (&neighbours, 10, (4, 7), (7, 2)),
+        // beside a gap: from black, and to black
+        (&fades, 5, (5, 7), (2, 6)),
+        (&fades, 11, (6, 7), (7, 4)),
+    ];
+    for (views, at, left, right) in rows {
+        assert!(rt; has_exactly(rt.alloc(), views, at, left, right)?, "at {at}");
+    }
+    Ok(())
+}
+
+// Whether a dissolve at a place of a track with one cut, that at 10, is answered so.
+fn is_answered(alloc: Global, at: u32, want: Option<Refusal>) -> Result<bool, Memory> {
+    let table = table(alloc, &[(8, 13), (19, 40)])?;
+    let Some(track) = laid_track(alloc, &table, 0, &[gap(10), clip(0, 1, 29, 10)])? else {
+        return Ok(false);
+    };
+    is_as_wanted(
+        alloc,
+        &table,
+        &track,
+        at,
+        Call::Put(Mark { a: 2, b: 3 }),
+        want,
+    )
+}
+
+#[test]
+fn a_dissolve_stands_at_a_cut(rt: HostRuntime) -> Result<(), Fail> {
+    let rows = [
+        (10, None),
+        (0, Some(Refusal::NotACut(0))),
+        (9, Some(Refusal::NotACut(9))),
+        (20, Some(Refusal::NotACut(20))),
+    ];
+    for (at, want) in rows {
+        assert!(rt; is_answered(rt.alloc(), at, want)?, "dissolve at {at}");
     }
     Ok(())
 }

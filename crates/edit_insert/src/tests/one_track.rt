@@ -4,7 +4,7 @@ ghost use Rattle.composables.specs.Good.{AllUnlinked, AreUnlinked, IsGood};
 ghost use Rattle.composables.specs.Items.{items_of};
 ghost use Rattle.composables.specs.OwnTracks.{numbers_of};
 
-use crate::tests::tracks::{all_roomy, dark, item, shown_items, small_table};
+use crate::tests::tracks::{all_roomy, item, shown_items, small_table, told_all};
 use crate::{fill, overwrite, remove, slice};
 use composables::{
     Done, EditFault, Fill, FillLength, ItemView, MAX_FRAMES, Memory, Overwrite, Refusal, Remove,
@@ -173,16 +173,42 @@ fn play_from_empty(
     play::<Brand>(rt, alloc, Blank::new(1), &table, track, number, edits)
 }
 
+// An edit of a row: a new item over a place, of source frames from one on, so many; an item away; a cut at a place; a gap
+// filled from a place in it, with source frames from one on, so many or all.
+#[derive(Clone, Copy, Debug, PartialEq, Eq)]
+enum Op {
+    Over(u32, u32, u32),
+    Out(u32),
+    Cut(u32),
+    Part(u32, u32, u32),
+    Whole(u32, u32),
+}
+
+fn edit_of(op: Op) -> OnOne {
+    match op {
+        Op::Over(at, from, len) => over(at, from, len),
+        Op::Out(item) => out(item),
+        Op::Cut(at) => cut(at),
+        Op::Part(at, from, len) => part(at, from, len),
+        Op::Whole(at, from) => whole(at, from),
+    }
+}
+
 // Whether edits of a track without frames leave these items and gaps, and the last is answered so.
 fn leave(
     rt: &impl Abort,
     alloc: Global,
-    edits: &[OnOne],
-    items: &[ItemView],
+    ops: &[Op],
+    items: &str,
     last: Done,
 ) -> Result<bool, Memory> {
-    let played = play_from_empty(rt, alloc, 0, edits)?;
-    Ok(played.last == Ok(last) && played.items.as_slice() == items)
+    let mut edits = Vec::new(alloc);
+    for op in ops {
+        edits.push(edit_of(*op))?;
+    }
+    let played = play_from_empty(rt, alloc, 0, &edits)?;
+    let told = told_all(alloc, &played.items)?;
+    Ok(played.last == Ok(last) && told.as_str() == items)
 }
 
 // Whether an edit of a track of one item of four frames is refused so, and leaves it as it is.
@@ -200,141 +226,110 @@ fn is_refused(
 
 #[test]
 fn an_overwrite_cuts_what_stands_at_its_ends(rt: HostRuntime) -> Result<(), Fail> {
-    for (row, edits, items, last) in [
+    use Op::{Cut, Over};
+    for (ops, items, last) in [
         // behind the end, right at it, past it
         (
-            0u32,
-            [over(10, 100, 5), cut(0), cut(0)].as_slice(),
-            [dark(10), item(0, 100, 5)].as_slice(),
+            [Over(10, 100, 5), Cut(0), Cut(0)].as_slice(),
+            " +10 0@100+5",
             Done::Plain,
         ),
         (
-            1,
-            [over(0, 100, 5), over(5, 200, 1)].as_slice(),
-            [item(0, 100, 5), item(1, 200, 1)].as_slice(),
+            [Over(0, 100, 5), Over(4, 200, 3)].as_slice(),
+            " 0@100+4 1@200+3",
             Done::Item(1),
         ),
         (
-            2,
-            [over(0, 100, 5), over(4, 200, 3)].as_slice(),
-            [item(0, 100, 4), item(1, 200, 3)].as_slice(),
-            Done::Item(1),
-        ),
-        (
-            3,
-            [over(0, 100, 5), over(7, 200, 3)].as_slice(),
-            [item(0, 100, 5), dark(2), item(1, 200, 3)].as_slice(),
+            [Over(0, 100, 5), Over(7, 200, 3)].as_slice(),
+            " 0@100+5 +2 1@200+3",
             Done::Item(1),
         ),
         // inside an item, inside a gap, over several
         (
-            4,
-            [over(10, 100, 5), over(12, 500, 1)].as_slice(),
-            [dark(10), item(0, 100, 2), item(1, 500, 1), item(2, 103, 2)].as_slice(),
+            [Over(10, 100, 5), Over(12, 500, 1)].as_slice(),
+            " +10 0@100+2 1@500+1 2@103+2",
             Done::Item(1),
         ),
         (
-            5,
-            [over(10, 100, 5), over(3, 500, 4)].as_slice(),
-            [dark(3), item(1, 500, 4), dark(3), item(0, 100, 5)].as_slice(),
+            [Over(10, 100, 5), Over(3, 500, 4)].as_slice(),
+            " +3 1@500+4 +3 0@100+5",
             Done::Item(1),
         ),
         (
-            6,
             [
-                over(0, 0, 3),
-                over(3, 10, 3),
-                over(6, 20, 3),
-                over(2, 500, 5),
+                Over(0, 0, 3),
+                Over(3, 10, 3),
+                Over(6, 20, 3),
+                Over(2, 500, 5),
             ]
             .as_slice(),
-            [item(0, 0, 2), item(3, 500, 5), item(2, 21, 2)].as_slice(),
+            " 0@0+2 3@500+5 2@21+2",
             Done::Item(3),
         ),
     ] {
-        assert!(rt; leave(&rt, rt.alloc(), edits, items, last)?, "row {row}");
+        assert!(rt; leave(&rt, rt.alloc(), ops, items, last)?, "{ops:?}");
     }
     Ok(())
 }
 
 #[test]
 fn what_is_removed_is_dark_and_a_slice_cuts(rt: HostRuntime) -> Result<(), Fail> {
-    for (row, edits, items, last) in [
+    use Op::{Cut, Out, Over};
+    for (ops, items) in [
         // remove: between items, beside a gap, at the end
         (
-            0u32,
-            [over(0, 0, 3), over(3, 10, 3), over(6, 20, 3), out(1)].as_slice(),
-            [item(0, 0, 3), dark(3), item(2, 20, 3)].as_slice(),
-            Done::Plain,
+            [Over(0, 0, 3), Over(3, 10, 3), Over(6, 20, 3), Out(1)].as_slice(),
+            " 0@0+3 +3 2@20+3",
         ),
         (
-            1,
-            [over(2, 0, 3), over(5, 10, 3), out(0)].as_slice(),
-            [dark(5), item(1, 10, 3)].as_slice(),
-            Done::Plain,
+            [Over(2, 0, 3), Over(5, 10, 3), Out(0)].as_slice(),
+            " +5 1@10+3",
         ),
         (
-            2,
-            [over(2, 0, 3), over(5, 10, 3), out(1)].as_slice(),
-            [dark(2), item(0, 0, 3), dark(3)].as_slice(),
-            Done::Plain,
+            [Over(2, 0, 3), Over(5, 10, 3), Out(1)].as_slice(),
+            " +2 0@0+3 +3",
         ),
         // slice: in an item, at its ends, in a gap
         (
-            3,
-            [over(2, 0, 3), cut(3)].as_slice(),
-            [dark(2), item(0, 0, 1), item(1, 1, 2)].as_slice(),
-            Done::Plain,
-        ),
-        (
-            4,
-            [over(2, 0, 3), cut(2), cut(1), cut(0), cut(4)].as_slice(),
-            [dark(2), item(0, 0, 2), item(1, 2, 1)].as_slice(),
-            Done::Plain,
+            [Over(2, 0, 3), Cut(2), Cut(1), Cut(0), Cut(4)].as_slice(),
+            " +2 0@0+2 1@2+1",
         ),
     ] {
-        assert!(rt; leave(&rt, rt.alloc(), edits, items, last)?, "row {row}");
+        assert!(rt; leave(&rt, rt.alloc(), ops, items, Done::Plain)?, "{ops:?}");
     }
     Ok(())
 }
 
 #[test]
 fn a_fill_takes_of_its_gap_what_it_has_frames_for(rt: HostRuntime) -> Result<(), Fail> {
-    for (row, edits, items, last) in [
-        // fill: fewer frames than the gap has, more, and all; from any place of it
+    use Op::{Out, Over, Part, Whole};
+    for (ops, items, last) in [
+        // fewer frames than the gap has, more, and all; from any place of it
         (
-            0u32,
-            [over(2, 0, 3), over(9, 10, 1), part(6, 500, 3)].as_slice(),
-            [
-                dark(2),
-                item(0, 0, 3),
-                item(2, 500, 3),
-                dark(1),
-                item(1, 10, 1),
-            ]
-            .as_slice(),
-            Done::Item(2),
-        ),
-        (
-            1,
-            [over(2, 0, 3), over(9, 10, 1), part(8, 500, 9)].as_slice(),
-            [dark(2), item(0, 0, 3), item(2, 500, 4), item(1, 10, 1)].as_slice(),
-            Done::Item(2),
-        ),
-        (
+            [Over(2, 0, 3), Over(9, 10, 1), Part(6, 500, 3)].as_slice(),
+            " +2 0@0+3 2@500+3 +1 1@10+1",
             2,
-            [over(2, 0, 3), over(9, 10, 1), whole(5, 86_396)].as_slice(),
-            [dark(2), item(0, 0, 3), item(2, 86_396, 4), item(1, 10, 1)].as_slice(),
-            Done::Item(2),
         ),
         (
-            3,
-            [over(0, 0, 3), out(0), whole(2, 500)].as_slice(),
-            [item(1, 500, 3)].as_slice(),
-            Done::Item(1),
+            [Over(2, 0, 3), Over(9, 10, 1), Part(8, 500, 9)].as_slice(),
+            " +2 0@0+3 2@500+4 1@10+1",
+            2,
+        ),
+        (
+            [Over(2, 0, 3), Over(9, 10, 1), Whole(5, 86_396)].as_slice(),
+            " +2 0@0+3 2@86396+4 1@10+1",
+            2,
+        ),
+        (
+            [Over(0, 0, 3), Out(0), Whole(2, 500)].as_slice(),
+            " 1@500+3",
+            1,
         ),
     ] {
-        assert!(rt; leave(&rt, rt.alloc(), edits, items, last)?, "row {row}");
+        assert!(rt;
+            leave(&rt, rt.alloc(), ops, items, Done::Item(last))?,
+            "{ops:?}"
+        );
     }
     Ok(())
 }
@@ -483,10 +478,10 @@ fn a_fill_asks_for_its_source_before_its_gap(rt: HostRuntime) -> Result<(), Fail
 
 #[test]
 fn an_item_may_end_at_the_last_frame_of_a_track(rt: HostRuntime) -> Result<(), Fail> {
-    let longest = play_from_empty(&rt, rt.alloc(), 0, &[over(2_591_999, 0, 1)])?;
-    assert_eq!(rt;
-        longest.items.as_slice(),
-        [dark(2_591_999), item(0, 0, 1)].as_slice()
+    let ops = [Op::Over(2_591_999, 0, 1)];
+    assert!(rt;
+        leave(&rt, rt.alloc(), &ops, " +2591999 0@0+1", Done::Item(0))?,
+        "{ops:?}"
     );
     Ok(())
 }

@@ -1,15 +1,17 @@
-// Worked examples of insert and extract over three tracks.
+// Worked examples of insert and extract over three tracks, also of linked items.
 ghost use Rattle.std.specs.Prelude.{◌≡◌, ◌<◌, All, IfOk, IfSome};
-ghost use Rattle.composables.specs.Good.{AllUnlinked, AreUnlinked, IsGood};
-ghost use Rattle.composables.specs.Items.{items_of};
+ghost use Rattle.composables.specs.Good.{IsGood};
 ghost use Rattle.composables.specs.OwnTracks.{numbers_of};
 ghost use Rattle.composables.specs.TrackSets.{tracks_in};
 
-use crate::tests::tracks::{all_roomy, dark, item, small_table};
+use crate::tests::tracks::{all_roomy, item, small_table, told_all};
 use crate::{extract, insert};
-use composables::{Done, EditFault, Extract, Insert, ItemView, Memory, Refusal, Table, Track};
+use composables::{
+    Done, EditFault, Extract, Insert, Link3, Memory, Numbers, Refusal, Table, Track,
+};
 use frame_meaning::What;
 use laid_tracks::laid_track;
+use link_groups::link;
 use std::alloc::Global;
 use std::marker::Brand;
 use std::process::Abort;
@@ -17,69 +19,84 @@ use std::sync::ledger::{Blank, Ledger};
 use std::test::Fail;
 use step_count::Steps;
 
-// Inserts and extracts over the tracks 0, 1 and 2.
+// An edit over the tracks 0, 1 and 2: a new item on a track, at a place, of source frames from one on, so many; an item
+// taken out of a track; and an item of each track linked.
 #[derive(Clone, Copy, Debug, PartialEq, Eq)]
 enum OnThree {
-    In(Insert),
-    Out(Extract),
+    Put(u32, u32, u32, u32),
+    Take(u32, u32),
+    Tie(u32, u32, u32),
 }
 
-fn put(track: u32, at: u32, from: u32, len: u32) -> OnThree {
-    OnThree::In(Insert {
+fn must_be_of_three(rt: &impl Abort, track: u32)
+    ensures { track < 3 }
+{
+    assert!(rt; track < 3);
+}
+
+fn put(track: u32, at: u32, from: u32, len: u32) -> Insert
+    ensures tracks { result.tracks ≡ 7 }
+    ensures track { result.track ≡ track }
+{
+    Insert {
         tracks: 7,
         track,
         at,
         what: What::Media(0),
         from,
         len,
-    })
+    }
 }
 
-fn take(track: u32, item: u32) -> OnThree {
-    OnThree::Out(Extract {
+fn take(track: u32, item: u32) -> Extract
+    ensures tracks { result.tracks ≡ 7 }
+    ensures track { result.track ≡ track }
+{
+    Extract {
         tracks: 7,
         track,
         item,
-    })
+    }
 }
 
-fn must_be_of_three(rt: &impl Abort, tracks: u32, track: u32)
-    ensures tracks { tracks ≡ 7 }
-    ensures track { track < 3 }
+fn tie(alloc: Global, items: [u32; 3]) -> Result<Link3, Memory>
+    ensures { IfOk result (λ call. call.tracks ≡ 7) }
 {
-    assert!(rt; tracks == 7);
-    assert!(rt; track < 3);
+    let items = Numbers::from_vec(Vec::from_slice(alloc, &items)?);
+    Ok(Link3 { tracks: 7, items })
 }
 
-fn shift_three<L: Ledger>(
+fn edit_three<L: Ledger>(
     rt: &impl Abort,
     alloc: Global,
     table: &Table,
     named: &mut Vec<Track>,
-    edit: &OnThree,
+    edit: OnThree,
     steps: &mut Steps<L>,
 ) -> Result<Done, EditFault>
     requires named { numbers_of named.old.items ≡ tracks_in 7 }
     requires good { All (λ t. IsGood table.now t) named.old.items }
-    requires unlinked { AreUnlinked named.old.items }
     ensures named { numbers_of named.new.items ≡ tracks_in 7 }
     ensures good { All (λ t. IsGood table.now t) named.new.items }
-    ensures unlinked { AreUnlinked named.new.items }
 {
     assert!(rt; all_roomy(named));
     match edit {
-        OnThree::In(call) => {
-            must_be_of_three(rt, call.tracks, call.track);
-            insert(alloc, table, named, call, steps)
+        OnThree::Put(track, at, from, len) => {
+            must_be_of_three(rt, track);
+            insert(alloc, table, named, &put(track, at, from, len), steps)
         }
-        OnThree::Out(call) => {
-            must_be_of_three(rt, call.tracks, call.track);
-            extract(alloc, table, named, call, steps)
+        OnThree::Take(track, item) => {
+            must_be_of_three(rt, track);
+            extract(alloc, table, named, &take(track, item), steps)
         }
+        OnThree::Tie(a, b, c) => match tie(alloc, [a, b, c]) {
+            Ok(call) => link(alloc, table, named, &call, steps),
+            Err(_) => Err(EditFault::Memory),
+        },
     }
 }
 
-fn shift_all_three<L: Ledger>(
+fn edit_all_three<L: Ledger>(
     rt: &impl Abort,
     alloc: Global,
     blank: Blank,
@@ -90,12 +107,11 @@ fn shift_all_three<L: Ledger>(
     requires blank { (blank.name ≡ L.name) × (blank.parts ≡ L.parts) × (0 < blank.parts) }
     requires named { numbers_of named.old.items ≡ tracks_in 7 }
     requires good { All (λ t. IsGood table.now t) named.old.items }
-    requires unlinked { AreUnlinked named.old.items }
 {
     let mut steps = Steps::<L>::new(blank);
     let mut last = Ok(Done::Plain);
     for edit in edits {
-        last = shift_three(rt, alloc, table, named, edit, &mut steps);
+        last = edit_three(rt, alloc, table, named, *edit, &mut steps);
     }
     last
 }
@@ -104,7 +120,6 @@ fn shift_all_three<L: Ledger>(
 fn start(alloc: Global, table: &Table, number: u32, len: u32) -> Result<Option<Track>, Memory>
     ensures number { IfOk result (λ o. IfSome o (λ t. t.number ≡ number)) }
     ensures good { IfOk result (λ o. IfSome o (λ t. IsGood table.now t)) }
-    ensures unlinked { IfOk result (λ o. IfSome o (λ t. AllUnlinked (items_of t.cells))) }
 {
     if len == 0 {
         laid_track(alloc, table, number, &[])
@@ -113,23 +128,24 @@ fn start(alloc: Global, table: &Table, number: u32, len: u32) -> Result<Option<T
     }
 }
 
-// What edits leave of the three tracks, and what the last was answered.
-#[derive(Drop)]
-struct Played {
-    first: Vec<ItemView>,
-    second: Vec<ItemView>,
-    third: Vec<ItemView>,
-    answer: Result<Done, EditFault>,
-}
-
-fn shown(alloc: Global, named: &[Track], index: usize) -> Result<Vec<ItemView>, Memory> {
+// The items and gaps of a track as text.
+fn shown(alloc: Global, named: &[Track], index: usize) -> Result<String, Memory> {
     match named.get(index) {
-        Some(track) => track.items(alloc),
-        None => Ok(Vec::new(alloc)),
+        Some(track) => told_all(alloc, &track.items(alloc)?),
+        None => Ok(String::new(alloc)),
     }
 }
 
-// Tracks of so many frames, shifted one edit after another.
+// What edits leave of the three tracks, and what the last was answered.
+#[derive(Drop)]
+struct Played {
+    first: String,
+    second: String,
+    third: String,
+    answer: Result<Done, EditFault>,
+}
+
+// Tracks of so many frames, edited one edit after another.
 fn play_three(
     rt: &impl Abort,
     alloc: Global,
@@ -150,7 +166,7 @@ fn play_three(
     named.push(a)?;
     named.push(b)?;
     named.push(c)?;
-    let answer = shift_all_three::<Brand>(rt, alloc, Blank::new(1), &table, &mut named, edits);
+    let answer = edit_all_three::<Brand>(rt, alloc, Blank::new(1), &table, &mut named, edits);
     Ok(Some(Played {
         first: shown(alloc, &named, 0)?,
         second: shown(alloc, &named, 1)?,
@@ -165,7 +181,7 @@ fn leave(
     alloc: Global,
     lens: [u32; 3],
     edits: &[OnThree],
-    items: [&[ItemView]; 3],
+    items: [&str; 3],
     last: Result<Done, EditFault>,
 ) -> Result<bool, Memory> {
     let Some(played) = play_three(rt, alloc, lens, edits)? else {
@@ -173,228 +189,113 @@ fn leave(
     };
     Ok(
         played.answer == last
-            && played.first.as_slice() == items[0]
-            && played.second.as_slice() == items[1]
-            && played.third.as_slice() == items[2],
+            && played.first.as_str() == items[0]
+            && played.second.as_str() == items[1]
+            && played.third.as_str() == items[2],
     )
-}
-
-#[test]
-fn an_insert_moves_what_is_behind_its_place_on_each_track(rt: HostRuntime) -> Result<(), Fail> {
-    for (row, edits, first, second, third, last) in [
-        // one track alone has the places: pads, cuts, goes before
-        (
-            0u32,
-            [
-                put(0, 0, 0, 4),
-                put(0, 2, 50, 1),
-                put(0, 5, 60, 1),
-                put(0, 0, 70, 1),
-            ]
-            .as_slice(),
-            [
-                item(4, 70, 1),
-                item(0, 0, 2),
-                item(1, 50, 1),
-                item(2, 2, 2),
-                item(3, 60, 1),
-            ]
-            .as_slice(),
-            [].as_slice(),
-            [].as_slice(),
-            Ok(Done::Item(4)),
-        ),
-        (
-            1,
-            [put(1, 3, 0, 2)].as_slice(),
-            [].as_slice(),
-            [dark(3), item(0, 0, 2)].as_slice(),
-            [].as_slice(),
-            Ok(Done::Item(0)),
-        ),
-        // an item on another track is cut, a shorter track stays
-        (
-            2,
-            [put(0, 0, 0, 4), put(1, 4, 10, 4), put(0, 2, 50, 3)].as_slice(),
-            [item(0, 0, 2), item(1, 50, 3), item(2, 2, 2)].as_slice(),
-            [dark(7), item(0, 10, 4)].as_slice(),
-            [].as_slice(),
-            Ok(Done::Item(1)),
-        ),
-        (
-            3,
-            [
-                put(0, 0, 0, 4),
-                put(1, 4, 10, 4),
-                put(2, 9, 20, 1),
-                put(0, 5, 50, 3),
-            ]
-            .as_slice(),
-            [item(0, 0, 4), dark(1), item(1, 50, 3)].as_slice(),
-            [dark(4), item(0, 10, 1), dark(3), item(1, 11, 3)].as_slice(),
-            [dark(12), item(0, 20, 1)].as_slice(),
-            Ok(Done::Item(1)),
-        ),
-    ] {
-        let items = [first, second, third];
-        assert!(rt;
-            leave(&rt, rt.alloc(), [0, 0, 0], edits, items, last)?,
-            "row {row}"
-        );
-    }
-    Ok(())
-}
-
-#[test]
-fn an_extract_takes_its_places_from_each_track(rt: HostRuntime) -> Result<(), Fail> {
-    for (row, edits, first, second, third, last) in [
-        // an extract takes the places from each track that has them
-        (
-            0u32,
-            [
-                put(0, 0, 0, 4),
-                put(1, 4, 10, 4),
-                put(0, 2, 50, 3),
-                take(0, 1),
-            ]
-            .as_slice(),
-            [item(0, 0, 2), item(2, 2, 2)].as_slice(),
-            [dark(4), item(0, 10, 4)].as_slice(),
-            [].as_slice(),
-            Ok(Done::Plain),
-        ),
-        (
-            1,
-            [put(0, 0, 0, 4), put(1, 6, 10, 4), take(1, 0)].as_slice(),
-            [item(0, 0, 4)].as_slice(),
-            [dark(6)].as_slice(),
-            [].as_slice(),
-            Ok(Done::Plain),
-        ),
-    ] {
-        let items = [first, second, third];
-        assert!(rt;
-            leave(&rt, rt.alloc(), [0, 0, 0], edits, items, last)?,
-            "row {row}"
-        );
-    }
-    Ok(())
-}
-
-#[test]
-fn a_refused_insert_or_extract_changes_nothing(rt: HostRuntime) -> Result<(), Fail> {
-    for (row, edits, first, second, third, last) in [
-        // refusals change nothing
-        (
-            0u32,
-            [put(0, 0, 0, 4), take(1, 0)].as_slice(),
-            [item(0, 0, 4)].as_slice(),
-            [].as_slice(),
-            [].as_slice(),
-            Err(EditFault::Refused(Refusal::NoItem)),
-        ),
-        (
-            1,
-            [put(0, 0, 0, 4), put(1, 0, 0, 0)].as_slice(),
-            [item(0, 0, 4)].as_slice(),
-            [].as_slice(),
-            [].as_slice(),
-            Err(EditFault::Refused(Refusal::EmptyRange)),
-        ),
-        (
-            2,
-            [put(0, 0, 0, 4), put(1, 0, 86_399, 2)].as_slice(),
-            [item(0, 0, 4)].as_slice(),
-            [].as_slice(),
-            [].as_slice(),
-            Err(EditFault::Refused(Refusal::MediaEnds)),
-        ),
-        (
-            3,
-            [put(1, 2_591_999, 0, 1), put(2, 0, 0, 1)].as_slice(),
-            [].as_slice(),
-            [dark(2_591_999), item(0, 0, 1)].as_slice(),
-            [].as_slice(),
-            Err(EditFault::Refused(Refusal::TooLong(1))),
-        ),
-        (
-            4,
-            [put(2, 2_591_999, 0, 2)].as_slice(),
-            [].as_slice(),
-            [].as_slice(),
-            [].as_slice(),
-            Err(EditFault::Refused(Refusal::TooLong(2))),
-        ),
-    ] {
-        let items = [first, second, third];
-        assert!(rt;
-            leave(&rt, rt.alloc(), [0, 0, 0], edits, items, last)?,
-            "row {row}"
-        );
-    }
-    Ok(())
 }
 
 // Tracks 1 and 2 begin with items of two and five frames.
 #[test]
-fn a_track_that_ends_before_the_place_stays(rt: HostRuntime) -> Result<(), Fail> {
-    let [short, whole] = [item(0, 0, 2), item(0, 0, 5)];
-    for (row, edits, first, second, third, last) in [
-        // within the third track, at its end
+fn inserts_and_extracts_move_what_is_behind_on_each_track(rt: HostRuntime) -> Result<(), Fail> {
+    use OnThree::{Put, Take};
+    for (row, edits, items, last) in [
+        // an item on another track is cut, a shorter track stays
         (
             0u32,
-            [put(0, 4, 50, 3)].as_slice(),
-            [item(0, 0, 4), item(1, 50, 3), item(2, 4, 5)].as_slice(),
-            [short].as_slice(),
-            [item(0, 0, 4), dark(3), item(1, 4, 1)].as_slice(),
-            Ok(Done::Item(1)),
-        ),
-        (
-            1,
-            [put(0, 5, 50, 3)].as_slice(),
-            [item(0, 0, 5), item(1, 50, 3), item(2, 5, 4)].as_slice(),
-            [short].as_slice(),
-            [whole].as_slice(),
+            [Put(0, 4, 50, 3)].as_slice(),
+            [" 0@0+4 1@50+3 2@4+5", " 0@0+2", " 0@0+4 +3 1@4+1"],
             Ok(Done::Item(1)),
         ),
         // the own track is the one that is shorter
         (
-            2,
-            [put(1, 4, 50, 3)].as_slice(),
-            [item(0, 0, 4), dark(3), item(1, 4, 5)].as_slice(),
-            [short, dark(2), item(1, 50, 3)].as_slice(),
-            [item(0, 0, 4), dark(3), item(1, 4, 1)].as_slice(),
+            1,
+            [Put(1, 4, 50, 3)].as_slice(),
+            [" 0@0+4 +3 1@4+5", " 0@0+2 +2 1@50+3", " 0@0+4 +3 1@4+1"],
             Ok(Done::Item(1)),
         ),
-        // an extract of what was put in, and of frames within which the third track ends
+        // what was put in is taken out again
+        (
+            2,
+            [Put(0, 3, 50, 4), Take(0, 1)].as_slice(),
+            [" 0@0+3 2@3+6", " 0@0+2", " 0@0+3 1@3+2"],
+            Ok(Done::Plain),
+        ),
+        // refusals change nothing
         (
             3,
-            [put(0, 3, 50, 4), take(0, 1)].as_slice(),
-            [item(0, 0, 3), item(2, 3, 6)].as_slice(),
-            [short].as_slice(),
-            [item(0, 0, 3), item(1, 3, 2)].as_slice(),
-            Ok(Done::Plain),
+            [Take(1, 3)].as_slice(),
+            [" 0@0+9", " 0@0+2", " 0@0+5"],
+            Err(EditFault::Refused(Refusal::NoItem)),
         ),
         (
             4,
-            [put(1, 3, 50, 1), take(0, 1)].as_slice(),
-            [item(0, 0, 3), dark(1)].as_slice(),
-            [short, dark(1), item(1, 50, 1)].as_slice(),
-            [item(0, 0, 3), dark(1)].as_slice(),
-            Ok(Done::Plain),
+            [Put(1, 2_591_999, 0, 2)].as_slice(),
+            [" 0@0+9", " 0@0+2", " 0@0+5"],
+            Err(EditFault::Refused(Refusal::TooLong(1))),
         ),
+    ] {
+        assert!(rt;
+            leave(&rt, rt.alloc(), [9, 2, 5], edits, items, last)?,
+            "row {row}"
+        );
+    }
+    Ok(())
+}
+
+// Three items of six frames, linked, and an insert at each of their places.
+#[test]
+fn an_insert_splits_a_link_where_some_of_it_stays(rt: HostRuntime) -> Result<(), Fail> {
+    use OnThree::{Put, Tie};
+    for (at, own, other) in [
+        (0, " 1@50+2 0@0+6#0", " +2 0@0+6#0"),
+        (1, " 0@0+1#0 1@50+2 2@1+5#1", " 0@0+1#0 +2 1@1+5#1"),
+        (5, " 0@0+5#0 1@50+2 2@5+1#1", " 0@0+5#0 +2 1@5+1#1"),
+        (6, " 0@0+6#0 1@50+2", " 0@0+6#0"),
+    ] {
+        let edits = [Tie(0, 0, 0), Put(1, at, 50, 2)];
+        let items = [other, own, other];
+        let last = Ok(Done::Item(1));
+        assert!(rt;
+            leave(&rt, rt.alloc(), [6, 6, 6], &edits, items, last)?,
+            "at {at}"
+        );
+    }
+    Ok(())
+}
+
+// Each split gives the next number of the link's home, in the order of the links' numbers.
+#[test]
+fn links_that_are_split_get_their_numbers_in_order(rt: HostRuntime) -> Result<(), Fail> {
+    use OnThree::{Put, Take, Tie};
+    for (row, edits, items, last) in [
+        // cut behind a cut, and before both
         (
-            5,
-            [take(0, 0)].as_slice(),
-            [].as_slice(),
-            [].as_slice(),
-            [].as_slice(),
+            0u32,
+            [
+                Tie(0, 0, 0),
+                Put(0, 2, 50, 1),
+                Put(0, 5, 60, 1),
+                Put(0, 1, 70, 1),
+            ]
+            .as_slice(),
+            [
+                " 0@0+1#0 5@70+1 6@1+1#3 1@50+1 2@2+2#1 3@60+1 4@4+2#2",
+                " 0@0+1#0 +1 3@1+1#3 +1 1@2+2#1 +1 2@4+2#2",
+                " 0@0+1#0 +1 3@1+1#3 +1 1@2+2#1 +1 2@4+2#2",
+            ],
+            Ok(Done::Item(5)),
+        ),
+        // an item taken out between two parts of a link
+        (
+            1,
+            [Tie(0, 0, 0), Put(0, 2, 50, 1), Take(0, 1)].as_slice(),
+            [" 0@0+2#0 2@2+4#1", " 0@0+2#0 1@2+4#1", " 0@0+2#0 1@2+4#1"],
             Ok(Done::Plain),
         ),
     ] {
-        let items = [first, second, third];
         assert!(rt;
-            leave(&rt, rt.alloc(), [9, 2, 5], edits, items, last)?,
+            leave(&rt, rt.alloc(), [6, 6, 6], edits, items, last)?,
             "row {row}"
         );
     }

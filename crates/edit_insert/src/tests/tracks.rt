@@ -4,7 +4,7 @@ ghost use Rattle.composables.specs.Bounds.{bounds_of};
 ghost use Rattle.composables.specs.Roomy.{IsRoomy};
 
 use composables::{ItemView, Kind, Listed, Media, Memory, Nest, Reels, Table, Track};
-use frame_meaning::What;
+use frame_meaning::{Side, What};
 use std::alloc::Global;
 
 // Track 0 is video and track 1 audio; media 0 has the frames [0, 86400), media 1 [50, 60), nest 0 has 50 frames.
@@ -38,10 +38,6 @@ pub fn small_table(alloc: Global) -> Result<Table, Memory>
     })
 }
 
-pub fn dark(len: u32) -> ItemView {
-    ItemView::gap(len)
-}
-
 pub fn item(number: u32, source: u32, len: u32) -> ItemView {
     ItemView::clip(number, What::Media(0), source, len)
 }
@@ -66,4 +62,26 @@ pub fn shown_items(alloc: Global, track: &Track) -> Result<Vec<ItemView>, Memory
         }
     }
     Ok(items)
+}
+
+// An item or gap as text: its frames, of an item after its number and its first source frame, and the number of its
+// link.
+fn told(alloc: Global, view: &ItemView) -> Result<String, Memory> {
+    let Side::Pic { source, .. } = view.first else {
+        return Ok(format!(in alloc; " +{}", view.len)?);
+    };
+    let item = view.item.unwrap_or(0);
+    match view.link {
+        Some(link) => Ok(format!(in alloc; " {item}@{source}+{}#{}", view.len, link.number)?),
+        None => Ok(format!(in alloc; " {item}@{source}+{}", view.len)?),
+    }
+}
+
+// All of them as text, one behind another.
+pub fn told_all(alloc: Global, items: &[ItemView]) -> Result<String, Memory> {
+    let mut text = String::new(alloc);
+    for view in items {
+        text.push_str(told(alloc, view)?.as_str())?;
+    }
+    Ok(text)
 }

@@ -1,15 +1,14 @@
 // Worked examples of ripple, on two tracks.
 ghost use Rattle.std.specs.Prelude.{◌≡◌, ◌<◌};
-ghost use Rattle.composables.specs.Good.{AllUnlinked, IsGood};
-ghost use Rattle.composables.specs.Items.{items_of};
+ghost use Rattle.composables.specs.Good.{IsGood};
 ghost use Rattle.composables.specs.Roomy.{IsRoomy};
 
 use crate::ripple;
 use composables::{
     Done, EditFault, End, ItemView, Kind, Listed, Media, Nest, Reels, Refusal, Ripple, Table, Track,
 };
-use frame_meaning::Memory;
-use laid_tracks::{clip, dissolve, gap, laid_track};
+use frame_meaning::{Link, Memory};
+use laid_tracks::{clip, dissolve, gap, linked, linked_track};
 use std::alloc::Global;
 use std::marker::Brand;
 use std::sync::ledger::{Blank, Ledger};
@@ -62,7 +61,6 @@ fn play<L: Ledger>(
     requires numbers { (first.number ≡ 0) × (second.number ≡ 1) }
     requires good { IsGood table.now first × IsGood table.now second }
     requires roomy { IsRoomy first × IsRoomy second }
-    requires unlinked { AllUnlinked (items_of first.cells) × AllUnlinked (items_of second.cells) }
 {
     let mut steps = Steps::<L>::new(blank);
     let mut named = Vec::new(alloc);
@@ -88,10 +86,10 @@ fn tried(
     end: End,
     by: i32,
 ) -> Result<Option<Both>, Memory> {
-    let Some(first) = laid_track(alloc, table, 0, first)? else {
+    let Some(first) = linked_track(alloc, table, 0, first)? else {
         return Ok(None);
     };
-    let Some(second) = laid_track(alloc, table, 1, second)? else {
+    let Some(second) = linked_track(alloc, table, 1, second)? else {
         return Ok(None);
     };
     let call = Ripple {
@@ -273,5 +271,65 @@ fn an_item_that_is_not_there_is_refused(rt: HostRuntime) -> Result<(), Fail> {
     let refused = Err(EditFault::Refused(Refusal::NoItem));
     assert_eq!(rt; played.answer, refused);
     assert_eq!(rt; played.first.as_slice(), first.as_slice());
+    Ok(())
+}
+
+// The number of its link, if it has one.
+fn link_of(view: Option<&ItemView>) -> Option<u32> {
+    Some(view?.link?.number)
+}
+
+// The item of the first track is [3, 7); its partner on the second stands before it, at it, behind it or around it.
+#[test]
+fn a_ripple_splits_a_link_where_some_of_it_stays(rt: HostRuntime) -> Result<(), Fail> {
+    let table = table(rt.alloc())?;
+    let tied = Link {
+        home: 0,
+        number: 4,
+        tracks: 3,
+    };
+    let first = [gap(3), linked(tied, clip(0, 0, 10, 4))];
+    let before = [gap(1), linked(tied, clip(0, 0, 8, 2))];
+    let behind = [gap(9), linked(tied, clip(0, 0, 16, 4))];
+    let around = [gap(1), linked(tied, clip(0, 0, 8, 9))];
+    for (row, second, end, by, own, last) in [
+        // the head moves with all of its item: what stays is before it
+        (0u32, before.as_slice(), End::Head, -2, Some(0), Some(4)),
+        (1, first.as_slice(), End::Head, -2, Some(4), Some(4)),
+        (2, behind.as_slice(), End::Head, -2, Some(4), Some(4)),
+        (3, around.as_slice(), End::Head, -2, Some(0), Some(0)),
+        // the tail moves what is behind its item, which stays
+        (4, before.as_slice(), End::Tail, 2, Some(4), Some(4)),
+        (5, first.as_slice(), End::Tail, -2, Some(4), Some(4)),
+        (6, behind.as_slice(), End::Tail, 2, Some(4), Some(0)),
+        (7, around.as_slice(), End::Tail, 2, Some(4), Some(0)),
+    ] {
+        let played = tried(rt.alloc(), &table, &first, second, 0, end, by)?.ok_or("laid")?;
+        assert_eq!(rt; played.answer, Ok(Done::By(by)), "row {row}");
+        assert_eq!(rt; link_of(played.first.get(1)), own, "row {row}");
+        assert_eq!(rt; link_of(played.second.last()), last, "row {row}");
+    }
+    Ok(())
+}
+
+#[test]
+fn a_ripple_that_moves_a_link_to_other_tracks_is_refused(rt: HostRuntime) -> Result<(), Fail> {
+    let table = table(rt.alloc())?;
+    let wide = Link {
+        home: 1,
+        number: 2,
+        tracks: 14,
+    };
+    let first = [clip(0, 0, 10, 4)];
+    let second = [gap(4), linked(wide, clip(0, 0, 16, 4))];
+    let played = tried(rt.alloc(), &table, &first, &second, 0, End::Tail, 1)?.ok_or("laid")?;
+    let outside = Refusal::LinkOutside {
+        home: 1,
+        number: 2,
+        track: 2,
+    };
+    assert_eq!(rt; played.answer, Err(EditFault::Refused(outside)));
+    assert_eq!(rt; played.first.as_slice(), first.as_slice());
+    assert_eq!(rt; played.second.as_slice(), second.as_slice());
     Ok(())
 }

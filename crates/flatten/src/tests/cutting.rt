@@ -1,9 +1,9 @@
 // Worked channels, cut into segments.
-use crate::tests::laying::{clip, marked};
 use crate::tests::tables::{add_track, are_short, are_sound, table_of};
 use crate::{Segment, SegmentFault, Shown, flatten, segments};
-use composables::{ItemView, Kind, Listed, Memory, Table, Track};
+use composables::{ItemView, Kind, Memory, Table, Track};
 use frame_meaning::Side;
+use laid_tracks::{clip, dissolve as with_dissolve, gap};
 use std::alloc::Global;
 use std::test::Fail;
 
@@ -42,46 +42,50 @@ fn cut(alloc: Global, table: &Table, tracks: &[Track]) -> Result<Vec<Segment>, S
 
 // The segments of a track with two dissolves, over which another lies.
 fn cut_below(alloc: Global, upper: &[ItemView]) -> Result<Vec<Segment>, SegmentFault> {
-    let table = table_of(alloc, &[Kind::Video, Kind::Video], Listed::new(alloc))?;
+    let table = table_of(alloc, &[Kind::Video, Kind::Video])?;
     let mut tracks = Vec::new(alloc);
     let lower = [
         clip(0, 0, 10, 4),
-        marked(clip(1, 2, 50, 6), 1, 2),
-        marked(ItemView::gap(3), 2, 1),
+        with_dissolve(1, 2, clip(1, 2, 50, 6)),
+        with_dissolve(2, 1, gap(3)),
     ];
-    add_track(&mut tracks, alloc, &lower)?;
-    add_track(&mut tracks, alloc, upper)?;
+    add_track(&mut tracks, alloc, &table, &lower)?;
+    add_track(&mut tracks, alloc, &table, upper)?;
     cut(alloc, &table, &tracks)
 }
 
 #[test]
 fn a_dissolve_has_what_goes_on_behind_it(rt: HostRuntime) -> Result<(), Fail> {
-    let want = [
-        run_of(0, 3, pic(0, 10)),
-        dissolve(3, 3, 5, pic(0, 13), pic(1, 49)),
-        dissolve(8, 3, 5, pic(1, 54), Side::Dark),
-    ];
-    assert_eq!(rt; cut_below(rt.alloc(), &[])?.as_slice(), want.as_slice());
-    Ok(())
-}
-
-#[test]
-fn another_reel_ends_what_goes_on(rt: HostRuntime) -> Result<(), Fail> {
-    let upper = [ItemView::gap(6), clip(0, 4, 70, 1)];
-    let want = [
-        run_of(0, 3, pic(0, 10)),
-        dissolve(3, 3, 3, pic(0, 13), pic(1, 49)),
-        run_of(6, 1, pic(2, 70)),
-        run_of(7, 1, pic(1, 53)),
-        dissolve(8, 3, 5, pic(1, 54), Side::Dark),
-    ];
-    assert_eq!(rt; cut_below(rt.alloc(), &upper)?.as_slice(), want.as_slice());
+    for (upper, want) in [
+        (
+            [].as_slice(),
+            [
+                run_of(0, 3, pic(0, 10)),
+                dissolve(3, 3, 5, pic(0, 13), pic(1, 49)),
+                dissolve(8, 3, 5, pic(1, 54), Side::Dark),
+            ]
+            .as_slice(),
+        ),
+        // until another reel is seen
+        (
+            &[gap(6), clip(0, 4, 70, 1)],
+            &[
+                run_of(0, 3, pic(0, 10)),
+                dissolve(3, 3, 3, pic(0, 13), pic(1, 49)),
+                run_of(6, 1, pic(2, 70)),
+                run_of(7, 1, pic(1, 53)),
+                dissolve(8, 3, 5, pic(1, 54), Side::Dark),
+            ],
+        ),
+    ] {
+        assert_eq!(rt; cut_below(rt.alloc(), upper)?.as_slice(), want, "{want:?}");
+    }
     Ok(())
 }
 
 // The place where a part of a dissolve is seen, below a picture of one frame.
 fn part_below(alloc: Global, place: u32) -> Result<Option<u32>, Memory> {
-    match cut_below(alloc, &[ItemView::gap(place), clip(0, 4, 70, 1)]) {
+    match cut_below(alloc, &[gap(place), clip(0, 4, 70, 1)]) {
         Ok(_) => Ok(None),
         Err(SegmentFault::PartialDissolve(part)) => Ok(Some(part)),
         Err(SegmentFault::Memory) => Err(Memory),

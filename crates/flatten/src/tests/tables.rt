@@ -2,39 +2,69 @@
 ghost use Rattle.std.specs.Prelude.{IsTrue};
 ghost use Rattle.flatten.specs.Channels.{AreSound, EachIsShort, EachLiesInTrack};
 
-use crate::tests::laying::track_of;
 use crate::{Shown, flatten};
 use composables::{ItemView, Kind, Layer, Listed, Media, Memory, Nest, Reels, Table, Track};
+use frame_meaning::What;
+use laid_tracks::laid_track;
 use std::alloc::Global;
 
-// Tracks of these kinds; media m is of reel m / 2, so that two entries are of one reel.
-pub fn table_of(alloc: Global, kinds: &[Kind], nests: Listed<Nest>) -> Result<Table, Memory> {
-    let mut all = Listed::new(alloc);
+/// A layer: the places [from, to) of a track of these.
+pub type LayerRow<'a> = (&'a [ItemView], u32, u32);
+
+pub fn nest(number: u32, nest: u32, source: u32, len: u32) -> ItemView {
+    ItemView::clip(number, What::Nest(nest), source, len)
+}
+
+// Tracks of these kinds, and no nests; media m is of reel m / 2, so that two entries are of one reel.
+pub fn table_of(alloc: Global, kinds: &[Kind]) -> Result<Table, Memory> {
+    let mut table = Table {
+        kinds: Listed::new(alloc),
+        reels: Reels::new(alloc),
+        media: Listed::new(alloc),
+        nests: Listed::new(alloc),
+    };
     for kind in kinds {
-        all.push(*kind)?;
+        table.kinds.push(*kind)?;
     }
-    let mut media = Listed::new(alloc);
     for m in 0..6 {
-        media.push(Media {
+        table.media.push(Media {
             reel: m / 2,
             from: 0,
             to: 100,
         })?;
     }
-    Ok(Table {
-        kinds: all,
-        reels: Reels::new(alloc),
-        media,
-        nests,
-    })
+    Ok(table)
 }
 
-fn track(alloc: Global, views: &[ItemView]) -> Result<Option<Track>, Memory> {
-    track_of(alloc, Vec::from_slice(alloc, views)?)
+/// Adds a nest behind those of a table, without the layers that can't be laid.
+pub fn add_nest(
+    table: &mut Table,
+    alloc: Global,
+    length: u32,
+    rows: &[LayerRow<'_>],
+) -> Result<(), Memory> {
+    let mut layers = Listed::new(alloc);
+    for (views, from, to) in rows {
+        match laid_track(alloc, table, 0, views)? {
+            Some(track) => layers.push(Layer {
+                track,
+                from: *from,
+                to: *to,
+            })?,
+            None => {}
+        }
+    }
+    table.nests.push(Nest { layers, length })
 }
 
-pub fn add_track(tracks: &mut Vec<Track>, alloc: Global, views: &[ItemView]) -> Result<(), Memory> {
-    match track(alloc, views)? {
+/// Adds a track of these, if they can be laid.
+pub fn add_track(
+    tracks: &mut Vec<Track>,
+    alloc: Global,
+    table: &Table,
+    views: &[ItemView],
+) -> Result<(), Memory> {
+    match laid_track(alloc, table, 0, views)? {
         Some(track) => {
             tracks.push(track)?;
             Ok(())
@@ -43,26 +73,15 @@ pub fn add_track(tracks: &mut Vec<Track>, alloc: Global, views: &[ItemView]) -> 
     }
 }
 
-// Adds the layer that shows the places [from, to) of a track of these, if they can be laid.
-pub fn add_layer(
-    layers: &mut Listed<Layer>,
-    alloc: Global,
-    views: &[ItemView],
-    from: u32,
-    to: u32,
-) -> Result<(), Memory> {
-    match track(alloc, views)? {
-        Some(track) => layers.push(Layer { track, from, to }),
-        None => Ok(()),
-    }
-}
-
-// What the tracks show, or none where a layer of the table does not lie in its track.
-pub fn shown(alloc: Global, table: &Table, tracks: &[Track]) -> Result<Option<Shown>, Memory> {
+// What the tracks show, and nothing where a layer of the table does not lie in its track.
+pub fn shown(alloc: Global, table: &Table, tracks: &[Track]) -> Result<Shown, Memory> {
     if !are_sound(table.nests.as_slice()) || !are_short(tracks) {
-        return Ok(None);
+        return Ok(Shown {
+            video: Listed::new(alloc),
+            audio: Listed::new(alloc),
+        });
     }
-    Ok(Some(flatten(alloc, table, tracks)?))
+    flatten(alloc, table, tracks)
 }
 
 pub fn are_sound(nests: &[Nest]) -> bool

@@ -1,6 +1,6 @@
-use Rattle.std.proofs.Common.{◌≡◌, sym, ap, ◌∙◌}
+use Rattle.std.proofs.Common.{◌≡◌, ◌∙◌}
 use Rattle.call_text.specs.Journals.{journal_text_of}
-use Rattle.cut_server.proofs.Inputs.{source_same}
+use Rattle.station_sessions.proofs.Inputs.{source_same}
 use Rattle.cut_server.proofs.main_call.put_journal.Goals as goal
 
 pub returns-in-Ok-put-clause-ends : goal.returns-in-Ok-put-clause-ends

@@ -1,5 +1,9 @@
-use Rattle.cut_server.proofs.Telling.{run_begun}
+use Rattle.std.proofs.Common.{refl}
+use Rattle.cut_server.proofs.Openings.{sound_opens}
 use Rattle.cut_server.proofs.main_call.run_opened.Goals as goal
 
+pub new-requires-clause-opens : goal.new-requires-clause-opens
+new-requires-clause-opens g c = rw c.into_vec.ensures (sound_opens c.args.opening c.requires.sound c.requires.some)
+
 pub returns : goal.returns
-returns g c = run_begun c.args.opening _ _ _ c.run_over.result (c.run_over.ensures c.args.opening c.in-Ok.ensures)
+returns g c = c.run_blank.ensures c.args.opening _ c.in-Ok.ensures.opening (record { setting = refl; tracks = c.into_vec.ensures })

@@ -1,26 +1,54 @@
-use Rattle.std.proofs.Common.{◌≡◌, refl, inl, subst, ◌∙◌}
-use Rattle.cut_server.specs.Outside.{Outside, outside}
-use Rattle.cut_server.specs.Rooms.{History}
+use Rattle.std.proofs.Common.{◌++◌, ◌∷◌, [], inl, ap, subst, ◌∙◌}
+use Rattle.station_sessions.specs.Outside.{Outside, outside}
+use Rattle.station_sessions.specs.Rooms.{History}
 use Rattle.cut_server.specs.Runs.{JournalEnds}
-use Rattle.cut_server.specs.declared.serve.End.TheVariants as end
+use Rattle.station_sessions.specs.declared.serve.End.TheVariants as end
+use Rattle.cut_server.proofs.Closing.{closed, has_zero}
 use Rattle.cut_server.proofs.Telling.{session_ends, run_ends}
 use Rattle.cut_server.proofs.main_call.run_session.Goals as goal
 
+pub close-entries-requires : goal.close-entries-requires
+close-entries-requires g c =
+    let are = c.push_reserved.ensures.items ∙ ap (λ ps. ps ++ c.serve_session-pass.result.0 ∷ []) c.only_pass-passes.ensures.none in
+    rw (c.requires.stations, are, c.serve_session-pass.ensures.station, c.only_pass-passes.ensures.pass.0) (record { all = has_zero })
+
 pub returns-in-Ended-clause-ends : goal.returns-in-Ended-clause-ends
-returns-in-Ended-clause-ends g c = λ o fresh.
-    let mid : Outside = outside (g.L.Source.left c.serve.new.line) (g.L.Source.read_faults c.serve.new.line) (g.L.Sink.taken c.serve.new.line) (g.L.Sink.write_faults c.serve.new.line) in
+returns-in-Ended-clause-ends g c = λ o is.
+    let are = c.push_reserved.ensures.items ∙ ap (λ ps. ps ++ c.serve_session-pass.result.0 ∷ []) c.only_pass-passes.ensures.none in
+    let journal = c.close-entries.ensures in
+    let closes = closed o c.args.room c.args.setting.counting c.args.setting.start c.push_reserved.new.self.items c.serve_session-pass.result.0 c.close-entries.result.items is are
+    (c.serve_session-pass.ensures.station ∙ c.only_pass-passes.ensures.pass.0) journal.legal journal.passes journal.stations in
+    let ended = rw (c.only_pass-passes.ensures.pass.0, c.in-Ended.is) at (c.serve_session-pass.ensures.ends o is) in
+    let mid : Outside = outside (g.L.Source.left c.serve_session-pass.new.line) (g.L.Source.read_faults c.serve_session-pass.new.line) (g.L.Sink.taken c.serve_session-pass.new.line) (g.L.Sink.write_faults c.serve_session-pass.new.line) in
     let new : Outside = outside (g.L.Source.left c.put_journal.new.line) (g.L.Source.read_faults c.put_journal.new.line) (g.L.Sink.taken c.put_journal.new.line) (g.L.Sink.write_faults c.put_journal.new.line) in
-    let journal : c.deref.result.now ≡ c.serve.new.session.course.journal = c.deref.ensures.value ∙ c.close.ensures in
-    run_ends o c.args.session c.serve.new.session
+    run_ends o c.serve_session-pass.result.0.entries c.close-entries.result.items
     (outside (g.L.Source.left c.args.line.now) (g.L.Source.read_faults c.args.line.now) (g.L.Sink.taken c.args.line.now) (g.L.Sink.write_faults c.args.line.now))
-    mid new c.put_journal.result fresh c.in-Ended.ensures.ends
-    (subst (λ (h : History). JournalEnds h mid new c.put_journal.result) journal c.put_journal.ensures.ends)
+    mid new c.put_journal.result closes ended
+    (subst (λ (h : History). JournalEnds h mid new c.put_journal.result) c.deref.ensures.value c.put_journal.ensures.ends)
 
 pub returns-in-ReadFault-clause-ends : goal.returns-in-ReadFault-clause-ends
-returns-in-ReadFault-clause-ends g c = λ o fresh. session_ends o c.args.session c.serve.new.session _ _ end.ReadFault fresh c.in-ReadFault.ensures.ends
+returns-in-ReadFault-clause-ends g c = λ o is.
+    let are = c.push_reserved.ensures.items ∙ ap (λ ps. ps ++ c.serve_session-pass.result.0 ∷ []) c.only_pass-passes.ensures.none in
+    let journal = c.close-entries.ensures in
+    let closes = closed o c.args.room c.args.setting.counting c.args.setting.start c.push_reserved.new.self.items c.serve_session-pass.result.0 c.close-entries.result.items is are
+    (c.serve_session-pass.ensures.station ∙ c.only_pass-passes.ensures.pass.0) journal.legal journal.passes journal.stations in
+    let ended = rw (c.only_pass-passes.ensures.pass.0, c.in-ReadFault.is) at (c.serve_session-pass.ensures.ends o is) in
+    session_ends o c.serve_session-pass.result.0.entries c.close-entries.result.items _ _ end.ReadFault closes ended
 
 pub returns-in-WriteFault-clause-ends : goal.returns-in-WriteFault-clause-ends
-returns-in-WriteFault-clause-ends g c = λ o fresh. inl (session_ends o c.args.session c.serve.new.session _ _ end.WriteFault fresh c.in-WriteFault.ensures.ends)
+returns-in-WriteFault-clause-ends g c = λ o is.
+    let are = c.push_reserved.ensures.items ∙ ap (λ ps. ps ++ c.serve_session-pass.result.0 ∷ []) c.only_pass-passes.ensures.none in
+    let journal = c.close-entries.ensures in
+    let closes = closed o c.args.room c.args.setting.counting c.args.setting.start c.push_reserved.new.self.items c.serve_session-pass.result.0 c.close-entries.result.items is are
+    (c.serve_session-pass.ensures.station ∙ c.only_pass-passes.ensures.pass.0) journal.legal journal.passes journal.stations in
+    let ended = rw (c.only_pass-passes.ensures.pass.0, c.in-WriteFault.is) at (c.serve_session-pass.ensures.ends o is) in
+    inl (session_ends o c.serve_session-pass.result.0.entries c.close-entries.result.items _ _ end.WriteFault closes ended)
 
-pub returns-in-TooMuchInput-clause-ends : goal.returns-in-TooMuchInput-clause-ends
-returns-in-TooMuchInput-clause-ends g c = λ o fresh. session_ends o c.args.session c.serve.new.session _ _ end.TooMuchInput fresh c.in-TooMuchInput.ensures.ends
+pub returns-clause-ends : goal.returns-clause-ends
+returns-clause-ends g c = λ o is.
+    let are = c.push_reserved.ensures.items ∙ ap (λ ps. ps ++ c.serve_session-pass.result.0 ∷ []) c.only_pass-passes.ensures.none in
+    let journal = c.close-entries.ensures in
+    let closes = closed o c.args.room c.args.setting.counting c.args.setting.start c.push_reserved.new.self.items c.serve_session-pass.result.0 c.close-entries.result.items is are
+    (c.serve_session-pass.ensures.station ∙ c.only_pass-passes.ensures.pass.0) journal.legal journal.passes journal.stations in
+    let ended = rw (c.only_pass-passes.ensures.pass.0, c.in-TooMuchInput.is) at (c.serve_session-pass.ensures.ends o is) in
+    session_ends o c.serve_session-pass.result.0.entries c.close-entries.result.items _ _ end.TooMuchInput closes ended

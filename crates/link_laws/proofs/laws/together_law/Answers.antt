@@ -2,6 +2,8 @@ use Rattle.link_laws.proofs.Edits.{dissolving-keeps, moving-keeps, putting-keeps
 use Rattle.link_laws.proofs.Linking.{linking-keeps}
 use Rattle.link_laws.proofs.RippleLaw.{ripple-keeps}
 use Rattle.link_laws.proofs.ShiftEdits.{shifting-keeps}
+use Rattle.link_laws.proofs.SlideLaw.{sliding-keeps}
+use Rattle.link_laws.proofs.SlipLaw.{slipping-keeps}
 use Rattle.link_laws.proofs.laws.together_law.Goals as goal
 
 pub returns-clause-putting_in : goal.returns-clause-putting_in
@@ -24,3 +26,9 @@ returns-clause-shifting c = shifting-keeps
 
 pub returns-clause-ripple : goal.returns-clause-ripple
 returns-clause-ripple c = ripple-keeps
+
+pub returns-clause-slipping : goal.returns-clause-slipping
+returns-clause-slipping c = slipping-keeps
+
+pub returns-clause-sliding : goal.returns-clause-sliding
+returns-clause-sliding c = sliding-keeps

@@ -1,5 +1,5 @@
 use Rattle.edit_apply.specs.Apply.{names_of}
-use Rattle.edit_apply.specs.RoomyLaws.{tracks-good, tracks-unlinked}
+use Rattle.edit_apply.specs.RoomyLaws.{tracks-good}
 use Rattle.edit_apply.proofs.Standing.{tracks-again, tracks-named}
 use Rattle.edit_apply.proofs.editor.EditorPartObject.apply.Goals as goal
 
@@ -11,10 +11,6 @@ pub edit-requires-clause-good : goal.edit-requires-clause-good
 edit-requires-clause-good g c =
     tracks-good c.args.self.now.table (names_of c.args.call.now) c.args.parts.now.items c.requires.good
 
-pub edit-requires-clause-unlinked : goal.edit-requires-clause-unlinked
-edit-requires-clause-unlinked g c =
-    tracks-unlinked c.args.self.now.table (names_of c.args.call.now) c.args.parts.now.items c.requires.good
-
 pub returns-clause-good : goal.returns-clause-good
 returns-clause-good g c =
-    tracks-again c.args.self.now.table (names_of c.args.call.now) c.edit.new.parts.items c.edit.ensures.named c.edit.ensures.good c.edit.ensures.unlinked
+    tracks-again c.args.self.now.table (names_of c.args.call.now) c.edit.new.parts.items c.edit.ensures.named c.edit.ensures.good

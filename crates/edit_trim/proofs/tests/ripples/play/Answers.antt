@@ -1,5 +1,4 @@
-use Rattle.composables.specs.Good.{AllUnlinked, IsGood}
-use Rattle.composables.specs.Items.{items_of}
+use Rattle.composables.specs.Good.{IsGood}
 use Rattle.composables.specs.Roomy.{IsRoomy}
 use Rattle.composables.specs.TrackState.{TrackState}
 use Rattle.edit_trim.proofs.TestTracks.{all-two, two-numbers, two-own}
@@ -22,8 +21,3 @@ pub ripple-answer-requires-clause-roomy : goal.ripple-answer-requires-clause-roo
 ripple-answer-requires-clause-roomy g c =
     all-two (λ (t : TrackState). IsRoomy t) c.new-named.result.items c.push.new.self.items c.push-2.new.self.items c.args.first c.args.second c.new-named.ensures.items c.in_ok-push.ensures.items c.in_ok-push-2.ensures.items
     c.requires.roomy.0 c.requires.roomy.1
-
-pub ripple-answer-requires-clause-unlinked : goal.ripple-answer-requires-clause-unlinked
-ripple-answer-requires-clause-unlinked g c =
-    all-two (λ (t : TrackState). AllUnlinked (items_of t.cells)) c.new-named.result.items c.push.new.self.items c.push-2.new.self.items c.args.first c.args.second c.new-named.ensures.items c.in_ok-push.ensures.items c.in_ok-push-2.ensures.items
-    c.requires.unlinked.0 c.requires.unlinked.1

@@ -1,6 +1,0 @@
-use Rattle.std.proofs.Common.{drop}
-use Rattle.composables.specs.Good.{AllUnlinked}
-use Rattle.dissolves.proofs.tests.marks.are_unlinked.Given as goal
-
-abbrev pub invariant-loop-view : goal.invariant-loop-view
-invariant-loop-view l = AllUnlinked (drop l.view-index l.views) → AllUnlinked l.views

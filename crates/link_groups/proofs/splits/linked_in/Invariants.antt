@@ -1,0 +1,16 @@
+use Rattle.std.proofs.Common.{◌≡◌, ℕ, ◌+◌, ◌≤◌, length, take, sum_by}
+use Rattle.std.specs.List.{list_any}
+use Rattle.std.specs.BTreeSet.{btree_set_len, contains}
+use Rattle.composables.specs.Items.{items_of}
+use Rattle.composables.specs.Sizes.{size_of}
+use Rattle.composables.specs.TrackState.{TrackState}
+use Rattle.link_groups.specs.Splits.{cells_between, has_key, key_cmp}
+use Rattle.link_groups.proofs.splits.linked_in.Given as goal
+
+abbrev pub invariant-loop-track : goal.invariant-loop-track
+invariant-loop-track g l = record {
+  links : (q : ℕ × ℕ) → contains key_cmp l.links q ≡ list_any (has_key q) (cells_between l.from l.to (take l.track-index l.named));
+  few : btree_set_len l.links ≤ sum_by (λ (t : TrackState). length (items_of t.cells)) (take l.track-index l.named);
+  least : l.fn.steps ≤ l.steps;
+  most : l.steps ≤ l.fn.steps + sum_by size_of (take l.track-index l.named);
+}

@@ -1,0 +1,16 @@
+use Rattle.std.proofs.Common.{ap, ◌∙◌, arith}
+use Rattle.std.specs.List.{list_any}
+use Rattle.link_groups.specs.Splits.{has_key}
+use Rattle.link_groups.proofs.LinkedCells.{all-before, all-from}
+use Rattle.link_groups.proofs.SplitKeys.{ok-splits, sum-few}
+use Rattle.link_groups.proofs.splits.splits_at.Goals as goal
+
+pub number_splits-requires-clause-few : goal.number_splits-requires-clause-few
+number_splits-requires-clause-few g c = omega (arith, c.in_ok-moved.ensures.few, sum-few c.args.named.now c.requires.room.items, c.requires.room.few)
+
+pub returns-clause-splits : goal.returns-clause-splits
+returns-clause-splits g c =
+    ok-splits c.args.named.now c.args.x c.args.y c.in_ok-before.before c.in_ok-moved.moved c.number_splits.result
+    (λ q. c.in_ok-before.ensures.links q ∙ ap (list_any (has_key q)) (all-before c.args.x c.args.named.now))
+    (λ q. c.in_ok-moved.ensures.links q ∙ ap (list_any (has_key q)) (all-from c.args.y c.args.named.now c.requires.room.kept))
+    c.number_splits.ensures.given c.number_splits.ensures.ordered

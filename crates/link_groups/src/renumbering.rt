@@ -1,0 +1,117 @@
+// New links for the moved items of links that also have items which stay.
+ghost use Rattle.std.specs.Prelude.{◌≡◌, ◌+◌, ◌*◌, ◌<◌, ◌≤◌, ◌^◌, All, OnErr, OnOk, Some, None, length, map, slice_get, unwrap_or};
+ghost use Rattle.std.specs.BTreeMap.{get};
+ghost use Rattle.std.specs.Ordering.{nat_cmp};
+ghost use Rattle.composables.specs.Changes.{changed_track, with_link};
+ghost use Rattle.composables.specs.Good.{EachLinkOf};
+ghost use Rattle.composables.specs.Items.{items_of};
+ghost use Rattle.composables.specs.Links.{cells_from, link_outside, links_split};
+ghost use Rattle.composables.specs.Sizes.{size_of, sizes_of};
+ghost use Rattle.composables.specs.TrackFacts.{IsKept};
+ghost use Rattle.link_groups.specs.Renumbering.{MayBeSplit, IsUncut};
+ghost use Rattle.link_groups.specs.Splits.{new_link, relinked_cells, relinked_track};
+
+use crate::splits::{Splits, splits_at};
+use composables::{ItemView, Memory, Track};
+use frame_meaning::Link;
+use std::alloc::Global;
+use std::sync::ledger::Ledger;
+use step_count::Steps;
+
+/// Gives the items from the record frame `y` on new links where others of their links stand before `x`: with the same
+/// home and tracks, and the next numbers of the home, in the order of the links. For want of memory the tracks are as
+/// they were.
+pub fn renumber<L: Ledger>(
+    alloc: Global,
+    named: &mut Vec<Track>,
+    x: u32,
+    y: u32,
+    steps: &mut Steps<L>,
+) -> Result<(), Memory>
+    requires room { MayBeSplit named.old.items }
+    requires inside { link_outside named.old.items (cells_from y named.old.items) ≡ None }
+    requires own { All (λ t. EachLinkOf t.number (items_of t.cells)) named.old.items }
+    requires uncut { All (λ t. IsUncut y t) named.old.items }
+    ensures split { OnOk result (named.new.items ≡ links_split x y named.old.items) }
+    ensures memory { OnErr result (named.new.items ≡ named.old.items) }
+    ensures least { steps.old ≤ steps.new }
+    ensures most { steps.new ≤ steps.old + 3 * sizes_of named.old.items }
+{
+    let splits = splits_at(alloc, named, x, y, steps)?;
+    relink_all(named, u64::from(y), &splits, steps);
+    Ok(())
+}
+
+// Gives the items that end past a place their new links, on each track.
+pub(crate) fn relink_all<L: Ledger>(
+    named: &mut Vec<Track>,
+    place: u64,
+    splits: &Splits,
+    steps: &mut Steps<L>,
+)
+    requires next { All (λ t. t.next_link + unwrap_or (get nat_cmp splits.now.counts t.number) 0
+        < 2 ^ 32) named.old.items }
+    ensures relinked { named.new.items ≡ map (relinked_track splits.now place) named.old.items }
+    ensures least { steps.old ≤ steps.new }
+    ensures most { steps.new ≤ steps.old + sizes_of named.old.items }
+{
+    for index in 0..named.len() {
+        relink_track(&mut named[index], place, splits, steps);
+    }
+}
+
+fn relink_track<L: Ledger>(track: &mut Track, place: u64, splits: &Splits, steps: &mut Steps<L>)
+    requires next { track.old.next_link + unwrap_or (get nat_cmp splits.now.counts track.old.number) 0
+        < 2 ^ 32 }
+    ensures relinked { track.new ≡ relinked_track splits.now place track.old }
+    ensures least { steps.old ≤ steps.new }
+    ensures most { steps.new ≤ steps.old + size_of track.old }
+{
+    relink_items(track, place, splits, steps);
+    let count = splits.counts.get(&track.number()).copied().unwrap_or(0);
+    track.set_next_link(track.next_link() + count);
+}
+
+fn relink_items<L: Ledger>(track: &mut Track, place: u64, splits: &Splits, steps: &mut Steps<L>)
+    ensures relinked { track.new ≡ relinked_cells splits.now place track.old }
+    ensures least { steps.old ≤ steps.new }
+    ensures most { steps.new ≤ steps.old + size_of track.old }
+{
+    let _ = track.length();
+    let mut end: u64 = 0;
+    for index in 0..track.count() {
+        steps.tick();
+        let Some(view) = track.item(index) else {
+            unreachable!()
+        };
+        end += u64::from(view.len);
+        if end > place {
+            relink_item(track, index, &view, splits);
+        }
+    }
+}
+
+fn relink_item(track: &mut Track, index: u32, view: &ItemView, splits: &Splits)
+    requires read { slice_get (items_of track.old.cells) index ≡ Some view.now }
+    requires kept { IsKept track.old }
+    ensures { track.new ≡ changed_track track.old index (with_link (new_link splits.now view.now.link)) }
+{
+    match view.link {
+        Some(link) => {
+            track.set_link(index, Some(numbered(link, splits)));
+        }
+        None => {}
+    }
+}
+
+fn numbered(link: Link, splits: &Splits) -> Link
+    ensures { new_link splits.now (Some link) ≡ Some result }
+{
+    match splits.numbers.get(&(link.home, link.number)) {
+        Some(number) => Link {
+            number: *number,
+            ..link
+        },
+        None => link,
+    }
+}

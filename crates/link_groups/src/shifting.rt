@@ -1,0 +1,66 @@
+// A shift of several tracks, and of the links of what it moves.
+ghost use Rattle.std.specs.Prelude.{◌≡◌, ◌+◌, ◌-◌, ◌*◌, ◌≤◌, All, nat_eq};
+ghost use Rattle.composables.specs.Answers.{Answers};
+ghost use Rattle.composables.specs.Sizes.{sizes_of};
+ghost use Rattle.edit_splice.specs.Moves.{IsShiftOf};
+ghost use Rattle.edit_splice.specs.Padding.{new_len};
+ghost use Rattle.link_groups.specs.LinkedShifts.{linked_refusal, linked_shift};
+ghost use Rattle.link_groups.specs.Renumbering.{MayBeSplit};
+
+use crate::outside::check;
+use crate::renumbering::relink_all;
+use crate::splits::splits_at;
+use composables::{Done, EditFault, ItemView, Refusal, Track};
+use edit_splice::{Shift, shift_tracks};
+use std::alloc::Global;
+use std::sync::ledger::Ledger;
+use step_count::Steps;
+
+/// Shifts all these tracks, or none, with the links of what is moved: where others of its link stay before the shift,
+/// an item that ends past the record frame `place` after it gets a new link. `place` is the end of what is put in, or its
+/// start where that belongs to an item which is moved.
+///
+/// The first link of what is moved that has a track which is not among these is told, and else the first track that
+/// would be too long, and else the first that would have too many items and gaps, and want of memory, before any of
+/// them is changed.
+pub fn shift_linked<L: Ledger>(
+    alloc: Global,
+    named: &mut Vec<Track>,
+    shift: &Shift,
+    place: u64,
+    done: Done,
+    steps: &mut Steps<L>,
+) -> Result<Done, EditFault>
+    requires order { shift.now.x ≤ shift.now.y }
+    requires fits { All (λ t. IsShiftOf shift.now t) named.old.items }
+    requires split { MayBeSplit named.old.items }
+    ensures answers { Answers (linked_shift shift.now place done named.old.items)
+        named.old.items named.new.items result }
+    ensures least { steps.old ≤ steps.new }
+    ensures most { steps.new ≤ steps.old + 21 * sizes_of named.old.items }
+{
+    if len_of(shift.new) == shift.y - shift.x {
+        return shift_tracks(alloc, named, shift, done, steps);
+    }
+    match check(named, shift.x, shift.y, steps) {
+        Some(refusal) => return Err(EditFault::Refused(refusal)),
+        None => {}
+    }
+    match splits_at(alloc, named, shift.x, shift.y, steps) {
+        Ok(splits) => {
+            let done = shift_tracks(alloc, named, shift, done, steps)?;
+            relink_all(named, place, &splits, steps);
+            Ok(done)
+        }
+        Err(_) => Err(EditFault::Memory),
+    }
+}
+
+fn len_of(new: Option<ItemView>) -> u32
+    ensures { result ≡ new_len new }
+{
+    match new {
+        Some(view) => view.len,
+        None => 0,
+    }
+}

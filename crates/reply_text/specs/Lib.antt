@@ -1,0 +1,4 @@
+pub mod LineFaults
+pub mod Replies
+pub mod Sights
+pub mod Things

@@ -1,0 +1,21 @@
+//! Replies of a cutting room as text.
+//!
+//! The main contract is that of `answer_text`: the reply to an edit is a text that is defined case by case, in `specs/`,
+//! has at most 128 bytes, and takes no memory. Replies to questions do take memory (`sight_text`).
+#![tactic(auto)]
+
+mod bytes;
+mod line_fault;
+mod replies;
+mod short_text;
+mod sights;
+
+pub use bytes::{put, put_number, put_what};
+pub use composables::Memory;
+pub use line_fault::LineFault;
+pub use replies::{answer_text, fault_text, point_text};
+pub use short_text::{MAX_SHORT, MAX_SHORT_LINE, Short};
+pub use sights::sight_text;
+
+#[cfg(test)]
+mod tests;

@@ -1,0 +1,254 @@
+-- A station that has answered some lines, and what it does for one more.
+use Rattle.std.proofs.Common.{◌≡◌, ℕ, ◌+◌, ◌<◌, ◌≤◌, Bool, inl, inr, List, [], ◌∷◌, ◌++◌, length, max, take, Option, Some, Ok, refl, sym, ap, ◌∙◌, subst, arith, option_map, fold, cond, eqb, true, false}
+use Rattle.std.proofs.lemmas.List.{append-nil, length-append}
+use Rattle.std.proofs.lemmas.List.Sums.{fold-append}
+use Rattle.line_words.specs.Lines.{Line as InputLine}
+use Rattle.room_core.specs.declared.entry.Entry.{Entry}
+use Rattle.room_core.specs.History.{most_entries, replay, after_entry, answer_in, state_in, RiseAfter, NumbersRise, IsLegal}
+use Rattle.room_core.specs.Projection.{of_station}
+use Rattle.station_sessions.specs.Transcript.{Wish, Do, See, Point, Write, Bad, Kind, answer_at, sight_at, BearsNone, IsDone, IsRefused, IsFull, IsMemory, IsSeen, IsPoint, IsDocument, IsPastEnd, IsBad, Row, Rows, Transcript, points_from}
+use Rattle.station_sessions.specs.Session.{Course, past_line, Commits, Does, Step, Grows}
+use Rattle.station_sessions.specs.Served.{OwnBefore, Served}
+use Rattle.station_sessions.proofs.Transcripts.{OwnFrom, get_last, answer_more, rows_more, one_row_more, points_append, points_one, no_own, replay_more, state_now}
+
+before_later : {C : Type 0} (station m n : ℕ) (h : List (Entry C)) → m ≤ n → OwnBefore station m h → OwnBefore station n h
+before_later station m n [] le b = tt
+before_later station m n (e ∷ es) le b = (λ is. omega (arith, b.0 is, le), before_later station m n es le b.1)
+
+before_more : {C : Type 0} (station n : ℕ) (h : List (Entry C)) (e : Entry C) → e.number < n → OwnBefore station n h → OwnBefore station n (h ++ e ∷ [])
+before_more station n [] e less b = (λ is. less, tt)
+before_more station n (f ∷ fs) e less b = (b.0, before_more station n fs e less b.1)
+
+own_none : {C : Type 0} (station n : ℕ) (e : Entry C) (es : List (Entry C)) (b : Bool) → eqb e.station station ≡ b → cond b (e ∷ of_station station es) (of_station station es) ≡ []
+    → (e.station ≡ station → e.number < n) × (of_station station es ≡ [])
+own_none station n e es true is h = cc
+own_none station n e es false is h = ((λ same. absurd (grind (arith, is, same))), h)
+
+none_before : {C : Type 0} (station n : ℕ) (more : List (Entry C)) → of_station station more ≡ [] → OwnBefore station n more
+none_before station n [] none = tt
+none_before station n (e ∷ es) none = let one = own_none station n e es (eqb e.station station) refl none in (one.0, none_before station n es one.1)
+
+before_others : {C : Type 0} (station n : ℕ) (h more : List (Entry C)) → of_station station more ≡ [] → OwnBefore station n h → OwnBefore station n (h ++ more)
+before_others station n [] more none b = none_before station n more none
+before_others station n (e ∷ es) more none b = (b.0, before_others station n es more none b.1)
+
+bears_none : {C : Type 0} (station n : ℕ) (h : List (Entry C)) → OwnBefore station n h → BearsNone h station n
+bears_none station n [] b = tt
+bears_none station n (e ∷ es) b = (λ same is. absurd (omega (arith, is, b.0 same)), bears_none station n es b.1)
+
+rise_after : {C : Type 0} (f : Entry C) (h : List (Entry C)) (e : Entry C) → (f.station ≡ e.station → f.number < e.number) → RiseAfter f h → RiseAfter f (h ++ e ∷ [])
+rise_after f [] e less r = (λ same. less (sym same), tt)
+rise_after f (g ∷ gs) e less r = (r.0, rise_after f gs e less r.1)
+
+rise_more : {C : Type 0} (h : List (Entry C)) (e : Entry C) → OwnBefore e.station e.number h → NumbersRise h → NumbersRise (h ++ e ∷ [])
+rise_more [] e b r = (tt, tt)
+rise_more (f ∷ fs) e b r = (rise_after f fs e b.0 r.0, rise_more fs e b.1 r.1)
+
+zero_plus : (n : ℕ) → 0 + n ≡ n
+zero_plus n = omega arith
+
+module _ {S C D R Q X Y : Type 0} (k : Kind S C D R Q X Y) (station : ℕ) (o : S) where
+  pub served_none : (s : Course S C) → s.opening ≡ o → s.state ≡ o → s.journal ≡ [] → s.line ≡ 1 → Served k station o s [] [] 0
+  served_none s from is j first = record {
+    opening = from;
+    state = ap (λ (h : List (Entry C)). replay k.apply o h) j ∙ ap Some (sym is);
+    rows = (refl, ap (points_from 0 station) j);
+    told = omega arith;
+    line = first;
+    before = rw j tt;
+    rise = rw j tt;
+    within = omega (arith, ap length j);
+  }
+
+  -- others have committed more
+  pub served_grows : (old new : Course S C) (ls : List InputLine) (rs : List (List ℕ)) (last : ℕ)
+      → Served k station o old ls rs last → Grows k station old new → Served k station o new ls rs last
+  served_grows old new ls rs last w g =
+      let h : List (Entry C) = old.journal in
+      let more : List (Entry C) = g.more in
+      let later = no_own station (0 + length h) (1 + length ls) more g.others in
+      let points : points_from 0 station (h ++ more) ≡ points_from 0 station h =
+      points_append 0 station h more ∙ (ap (λ ps. points_from 0 station h ++ ps) later.0 ∙ append-nil (points_from 0 station h)) in
+      let count = ap length g.journal in
+      let within : length (h ++ more) ≤ most_entries = omega (arith, count, g.within) in
+      let state : replay k.apply o (h ++ more) ≡ Some new.state =
+      fold-append (after_entry k.apply) (Some o) h more ∙ (ap (λ (x : Option S). fold (after_entry k.apply) x more) w.state ∙ g.state) in
+      let rows : Rows k o (h ++ more) station 1 0 ls rs last (points_from 0 station (h ++ more)) =
+      subst (λ ps. Rows k o (h ++ more) station 1 0 ls rs last ps) (sym points) (rows_more k o h more station 1 0 ls rs last (points_from 0 station h) within later.1 w.rows) in
+      record {
+        opening = g.opening ∙ w.opening;
+        state = rw g.journal state;
+        rows = rw g.journal rows;
+        told = omega (arith, w.told, count, length-append h more);
+        line = g.line ∙ w.line;
+        before = rw g.journal (before_others station (1 + length ls) h more g.others w.before);
+        rise = g.rise;
+        within = g.within;
+      }
+
+  answer_now : (s : Course S C) (c : C) → replay k.apply o s.journal ≡ Some s.state → answer_at k o s.journal (length s.journal) c ≡ Some (answer_in (k.apply s.state c))
+  answer_now s c state = ap (option_map (λ x. answer_in (k.apply x c))) (state_now k o s.journal ∙ state)
+
+  sight_now : (s : Course S C) (q : Q) → replay k.apply o s.journal ≡ Some s.state → sight_at k o s.journal (length s.journal) q ≡ Some (k.see s.state q)
+  sight_now s q state = ap (option_map (λ x. k.see x q)) (state_now k o s.journal ∙ state)
+
+  -- a reply that commits nothing
+  served_same : (s : Course S C) (ls : List InputLine) (rs : List (List ℕ)) (last : ℕ) (l : InputLine) (reply : List ℕ) (after : ℕ)
+      → Served k station o s ls rs last → Row k o s.journal station (1 + length ls) last reply after [] l → after ≤ length s.journal
+      → Served k station o (past_line s) (ls ++ l ∷ []) (rs ++ reply ∷ []) after
+  served_same s ls rs last l reply after w row told = record {
+    opening = w.opening;
+    state = w.state;
+    rows = rw append-nil at (one_row_more k o s.journal station 1 0 ls rs last (points_from 0 station s.journal) l reply after [] w.rows row);
+    told = told;
+    line = omega (arith, w.line, length-append ls (l ∷ []));
+    before = before_later station (1 + length ls) (1 + length (ls ++ l ∷ [])) s.journal (omega (arith, length-append ls (l ∷ []))) w.before;
+    rise = w.rise;
+    within = w.within;
+  }
+
+  -- one line more that commits a call
+  served_commit : (old new : Course S C) (ls : List InputLine) (rs : List (List ℕ)) (last : ℕ) (l : InputLine) (reply : List ℕ) (c : C) (d : D)
+      → Served k station o old ls rs last → k.wish l ≡ Do c → Commits k station old new reply c d
+      → Served k station o (past_line new) (ls ++ l ∷ []) (rs ++ reply ∷ []) (length old.journal + 1)
+  served_commit old new ls rs last l reply c d w says m =
+      let h : List (Entry C) = old.journal in
+      let n : ℕ = length h in
+      let e : Entry C = record { station = station; number = 1 + length ls; call = c } in
+      let j : new.journal ≡ h ++ e ∷ [] = m.journal ∙ ap (λ (n : ℕ). h ++ record { station = station; number = n; call = c } ∷ []) w.line in
+      let counted : length (h ++ e ∷ []) ≡ n + 1 = length-append h (e ∷ []) in
+      let state : replay k.apply o (h ++ e ∷ []) ≡ Some new.state =
+      replay_more k o h e ∙ (ap (λ (x : Option S). after_entry k.apply x e) w.state ∙ ap state_in m.applies) in
+      let answer : answer_at k o (h ++ e ∷ []) n c ≡ Some (Ok d) =
+      answer_more k o h (e ∷ []) n c (omega arith) ∙ (answer_now old c w.state ∙ ap (λ x. Some (answer_in x)) m.applies) in
+      let done : IsDone k o (h ++ e ∷ []) station (1 + length ls) last reply (n + 1) (n ∷ []) c n d = record {
+        told_of = w.told;
+        entry = get_last h e;
+        answer = answer;
+        reply_is = m.reply_is;
+        after_is = refl;
+        points_are = refl;
+      } in
+      let row : Row k o (h ++ e ∷ []) station (1 + length ls) last reply (n + 1) (n ∷ []) l = inl (rw says (inl (n, d, done))) in
+      let own : OwnFrom station (1 + length ls) (e ∷ []) = (λ is. omega arith, tt) in
+      let older = rows_more k o h (e ∷ []) station 1 0 ls rs last (points_from 0 station h) (omega (arith, counted, m.room)) own w.rows in
+      let rows = one_row_more k o (h ++ e ∷ []) station 1 0 ls rs last (points_from 0 station h) l reply (n + 1) (n ∷ []) older row in
+      let points : points_from 0 station (h ++ e ∷ []) ≡ points_from 0 station h ++ n ∷ [] =
+      points_append 0 station h (e ∷ []) ∙ (ap (λ ps. points_from 0 station h ++ ps) (points_one (0 + length h) station e refl) ∙ ap (λ i. points_from 0 station h ++ i ∷ []) (zero_plus n)) in
+      record {
+        opening = m.opening ∙ w.opening;
+        state = rw j state;
+        rows = rw (j, points) rows;
+        told = omega (arith, ap length j, counted);
+        line = omega (arith, m.line, w.line, length-append ls (l ∷ []));
+        before = rw j (before_more station (1 + length (ls ++ l ∷ [])) h e (omega (arith, length-append ls (l ∷ []))) (before_later station (1 + length ls) (1 + length (ls ++ l ∷ [])) h (omega (arith, length-append ls (l ∷ []))) w.before));
+        rise = rw j (rise_more h e w.before w.rise);
+        within = omega (arith, ap length j, counted, m.room);
+      }
+
+  -- one line more that commits nothing
+  served_quiet : (old new : Course S C) (ls : List InputLine) (rs : List (List ℕ)) (last : ℕ) (l : InputLine) (reply : List ℕ) (after : ℕ)
+      → new ≡ old → Served k station o old ls rs last → Row k o old.journal station (1 + length ls) last reply after [] l → after ≤ length old.journal
+      → Served k station o (past_line new) (ls ++ l ∷ []) (rs ++ reply ∷ []) after
+  served_quiet old new ls rs last l reply after same w row told =
+      subst (λ (s : Course S C). Served k station o (past_line s) (ls ++ l ∷ []) (rs ++ reply ∷ []) after) (sym same) (served_same old ls rs last l reply after w row told)
+
+  served_does : (old new : Course S C) (ls : List InputLine) (rs : List (List ℕ)) (last : ℕ) (l : InputLine) (reply : List ℕ) (wish : Wish C Q)
+      → Served k station o old ls rs last → k.wish l ≡ wish → Does k station old new reply wish
+      → (after : ℕ) × Served k station o (past_line new) (ls ++ l ∷ []) (rs ++ reply ∷ []) after
+  served_does old new ls rs last l reply (Do c) w says (inl (d, m)) =
+      (length old.journal + 1, served_commit old new ls rs last l reply c d w says m)
+  served_does old new ls rs last l reply (Do c) w says (inr (inl (r, m))) =
+      let n : ℕ = length old.journal in
+      let refused : IsRefused k o old.journal station (1 + length ls) last reply n [] c n r = record {
+        told_of = w.told;
+        within = omega arith;
+        answer = answer_now old c w.state ∙ ap (λ x. Some (answer_in x)) m.refused;
+        reply_is = m.reply_is;
+        after_is = refl;
+        points_are = refl;
+      } in
+      (n, served_quiet old new ls rs last l reply n m.same w (inl (rw says (inr (inl (n, r, refused))))) (omega arith))
+  served_does old new ls rs last l reply (Do c) w says (inr (inr (d, m))) =
+      let full : IsFull k o old.journal station (1 + length ls) last reply most_entries [] c d = record {
+        told_of = omega (arith, w.told, m.full);
+        full = m.full;
+        answer = rw m.full at (answer_now old c w.state ∙ ap Some m.applies);
+        reply_is = m.reply_is;
+        after_is = refl;
+        points_are = refl;
+      } in
+      (most_entries, served_quiet old new ls rs last l reply most_entries m.same w (inl (rw says (inr (inr (d, full))))) (omega (arith, m.full)))
+  served_does old new ls rs last l reply (See q) w says m =
+      let n : ℕ = length old.journal in
+      let seen : IsSeen k o old.journal station (1 + length ls) last reply n [] q n (k.see old.state q) = record {
+        told_of = w.told;
+        within = omega arith;
+        sight = sight_now old q w.state;
+        reply_is = m.reply_is;
+        after_is = refl;
+        points_are = refl;
+      } in
+      (n, served_quiet old new ls rs last l reply n m.same w (inl (rw says (n, k.see old.state q, seen))) (omega arith))
+  served_does old new ls rs last l reply Point w says m =
+      let n : ℕ = length old.journal in
+      let point : IsPoint k o old.journal station (1 + length ls) last reply n [] n = record {
+        told_of = w.told;
+        within = omega arith;
+        reply_is = m.reply_is;
+        after_is = refl;
+        points_are = refl;
+      } in
+      (n, served_quiet old new ls rs last l reply n m.same w (inl (rw says (n, point))) (omega arith))
+  served_does old new ls rs last l reply (Write n) w says (inl (s, m)) =
+      let told : max last n ≤ length old.journal = omega (arith, w.told, m.within) in
+      let document : IsDocument k o old.journal station (1 + length ls) last reply (max last n) [] n s = record {
+        within = m.within;
+        state = ap (λ (x : S). replay k.apply x (take n old.journal)) (sym w.opening) ∙ m.state;
+        reply_is = m.reply_is;
+        after_is = refl;
+        points_are = refl;
+      } in
+      (max last n, served_quiet old new ls rs last l reply (max last n) m.same w (inl (rw says (inl (s, document)))) told)
+  served_does old new ls rs last l reply (Write n) w says (inr m) =
+      let at : ℕ = length old.journal in
+      let past : IsPastEnd k o old.journal station (1 + length ls) last reply at [] n at = record {
+        told_of = w.told;
+        within = omega arith;
+        past = m.past;
+        reply_is = m.reply_is;
+        after_is = refl;
+        points_are = refl;
+      } in
+      (at, served_quiet old new ls rs last l reply at m.same w (inl (rw says (inr (at, past)))) (omega arith))
+  served_does old new ls rs last l reply (Bad text) w says m =
+      let bad : IsBad k o old.journal station (1 + length ls) last reply last [] text = record {
+        reply_is = m.reply_is;
+        after_is = refl;
+        points_are = refl;
+      } in
+      (last, served_quiet old new ls rs last l reply last m.same w (inl (rw says bad)) w.told)
+
+  -- one line more, whatever it asks for
+  pub served_more : (old new : Course S C) (ls : List InputLine) (rs : List (List ℕ)) (last : ℕ) (l : InputLine) (reply : List ℕ)
+      → Served k station o old ls rs last → Step k station old new reply (k.wish l) (k.takes_memory l)
+      → (after : ℕ) × Served k station o (past_line new) (ls ++ l ∷ []) (rs ++ reply ∷ []) after
+  served_more old new ls rs last l reply w (inl m) = served_does old new ls rs last l reply (k.wish l) w refl m
+  served_more old new ls rs last l reply w (inr (takes, m)) =
+      let memory : IsMemory k o old.journal station (1 + length ls) last reply last [] = record {
+        none = bears_none station (1 + length ls) old.journal w.before;
+        reply_is = m.reply_is;
+        after_is = refl;
+        points_are = refl;
+      } in
+      (last, served_quiet old new ls rs last l reply last m.same w (inr (takes, memory)) w.told)
+
+  pub transcript_served : (s : Course S C) (ls : List InputLine) (rs : List (List ℕ)) (last : ℕ) → Served k station o s ls rs last → Transcript k o s.journal station ls rs
+  transcript_served s ls rs last w = (last, w.rows)
+
+  pub legal_served : (s : Course S C) (ls : List InputLine) (rs : List (List ℕ)) (last : ℕ) → Served k station o s ls rs last → IsLegal k.apply o s.journal
+  legal_served s ls rs last w = record {
+    within = w.within;
+    applies = rw w.state refl;
+    rise = w.rise;
+  }

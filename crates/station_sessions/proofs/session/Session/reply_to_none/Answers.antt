@@ -1,0 +1,11 @@
+use Rattle.reply_text.specs.Replies.{fault_of}
+use Rattle.station_sessions.proofs.Replying.{bad_replied, same_seated}
+use Rattle.station_sessions.proofs.session.Session.reply_to_none.Goals as goal
+
+pub returns-clause-replies : goal.returns-clause-replies
+returns-clause-replies g c =
+    let s = c.self.inside in
+    rw (← c.self.view_is) (bad_replied s.room.now s.pass s.counting s.start s.line (fault_of c.args.fault.now) c.fault_text.result c.self.invariant c.fault_text.ensures.text)
+
+pub invariant_of-self : goal.invariant_of-self
+invariant_of-self g c = same_seated c.self.inside.room.now c.self.inside.pass c.self.inside.line c.self.invariant

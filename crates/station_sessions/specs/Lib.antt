@@ -1,0 +1,9 @@
+pub mod Transcript
+pub mod DocumentReplies
+pub mod Rooms
+pub mod Longer
+pub mod Session
+pub mod SessionInside
+pub mod Served
+pub mod Outside
+pub mod Serving

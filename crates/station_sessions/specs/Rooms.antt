@@ -1,0 +1,109 @@
+-- The kind of history of a room: edits of its tracks, questions to them, and the lines of the protocol.
+use Rattle.std.specs.Prelude.{ℕ, Bool, true, false, ◌||◌, List, [], ◌∷◌, Some, None, Result, Ok, Err}
+use Rattle.line_words.specs.Lines.{Line as InputLine}
+use Rattle.timecode12.specs.Numbers.{Counted}
+use Rattle.composables.specs.declared.media.Table.{Table}
+use Rattle.composables.specs.declared.refusals.Refusal.{Refusal}
+use Rattle.composables.specs.declared.refusals.Done.{Done}
+use Rattle.composables.specs.TrackState.{TrackState}
+use Rattle.otio_json.specs.declared.opening.Opening.{Opening}
+use Rattle.edit_apply.specs.declared.asks.Call.{Call}
+use Rattle.edit_apply.specs.declared.asks.Ask.{Ask}
+use Rattle.edit_apply.specs.declared.asks.Seen.{Seen}
+use Rattle.edit_apply.specs.declared.asks.AskRefusal.{AskRefusal}
+use Rattle.edit_apply.specs.Apply.{editing}
+use Rattle.edit_apply.specs.See.{seen_in}
+use Rattle.room_core.specs.declared.entry.Entry.{Entry}
+use Rattle.call_text.specs.declared.lines.Line.{Line}
+use Rattle.call_text.specs.declared.lines.Line.TheVariants.{Edit, Ask as AskOf, Point as PointOf, Otio}
+use Rattle.reply_text.specs.declared.line_fault.LineFault.{LineFault}
+use Rattle.reply_text.specs.declared.line_fault.LineFault.TheVariants.{B5}
+use Rattle.call_text.specs.Labels.{place_by}
+use Rattle.call_text.specs.Reading.{are_linking, line_of}
+use Rattle.line_words.specs.Blanks.{words_of}
+use Rattle.otio_text.specs.Documents.{timeline_text}
+use Rattle.station_sessions.specs.DocumentReplies.{document_reply, no_point_reply}
+use Rattle.cut_room.specs.declared.answers.Answer.TheVariants as answer
+use Rattle.cut_room.specs.declared.answers.Sight.TheVariants as sight
+use Rattle.call_text.specs.CallTexts.{IsWritten}
+use Rattle.reply_text.specs.Replies.{answer_text_of, fault_of}
+use Rattle.reply_text.specs.Sights.{sight_text_of}
+use Rattle.room_core.specs.History.{IsLegal, most_entries}
+use Rattle.room_core.specs.Whole.{whole}
+use Rattle.station_sessions.specs.Transcript.{Wish, Do, See, Point, Write, Bad, Kind, Transcript}
+
+-- what stays as it is in a room: its table, how its frames are counted, and the frame at which its record starts
+pub record Setting : Type 0 where
+  pub table : Table
+  pub counting : Counted
+  pub start : ℕ
+
+-- what stays as it is in a room that is opened so
+abbrev pub setting_of : Opening → Setting
+setting_of o = record { table = o.table; counting = o.counting; start = o.start }
+
+abbrev pub History : Type 0
+History = List (Entry Call)
+
+-- what a line of the input says; one that is too long says nothing
+abbrev pub meaning_of : Setting → InputLine → Result Line LineFault
+meaning_of setting None = Err B5
+meaning_of setting (Some bytes) = line_of (place_by setting.counting setting.start) bytes
+
+abbrev pub wish_in : Result Line LineFault → Wish Call Ask
+wish_in (Ok (Edit c)) = Do c
+wish_in (Ok (AskOf q)) = See q
+wish_in (Ok PointOf) = Point
+wish_in (Ok (Otio n)) = Write n
+wish_in (Err fault) = Bad (fault_of fault)
+
+-- an edit, a question and a document may find no memory
+abbrev pub finds_memory : Wish Call Ask → Bool
+finds_memory (Do c) = true
+finds_memory (See q) = true
+finds_memory Point = false
+finds_memory (Write n) = true
+finds_memory (Bad text) = false
+
+-- a line whose first word is `link` may find none either, whatever it asks for
+abbrev pub is_linking : InputLine → Bool
+is_linking None = false
+is_linking (Some bytes) = are_linking (words_of bytes)
+
+-- the reply to an edit at a point, and to a question
+abbrev pub reply_of : ℕ → Result Done Refusal → List ℕ
+reply_of n (Ok d) = answer_text_of (answer.Done n d)
+reply_of n (Err r) = answer_text_of (answer.Refused n r)
+
+abbrev pub seen_of : ℕ → Result Seen AskRefusal → List ℕ
+seen_of n (Ok s) = sight_text_of (sight.Seen n s)
+seen_of n (Err r) = sight_text_of (sight.Refused n r)
+
+-- the document of a cut in a room
+abbrev pub document_of : Setting → List TrackState → List ℕ
+document_of setting tracks = timeline_text setting.table tracks setting.counting setting.start
+
+abbrev pub room_of : Setting → Kind (List TrackState) Call Done Refusal Ask Seen AskRefusal
+room_of setting = record {
+  apply = whole (editing setting.table);
+  see = seen_in setting.table;
+  wish = λ l. wish_in (meaning_of setting l);
+  takes_memory = λ l. finds_memory (wish_in (meaning_of setting l)) || is_linking l;
+  answer_text = reply_of;
+  full_text = answer_text_of (answer.Full most_entries);
+  sight_text = seen_of;
+  document_text = λ n tracks. document_reply n (document_of setting tracks);
+  no_point_text = no_point_reply;
+}
+
+-- the transcript of a station of a room
+abbrev pub RoomTranscript : Opening → History → ℕ → List InputLine → List (List ℕ) → Type 0
+RoomTranscript o h station lines replies = Transcript (room_of (setting_of o)) o.tracks h station lines replies
+
+abbrev pub IsLegalIn : Opening → History → Type 0
+IsLegalIn o h = IsLegal (whole (editing o.table)) o.tracks h
+
+-- each entry's call can be written as a line, and read again
+abbrev pub AreWritten : History → Type 0
+AreWritten [] = Unit {0}
+AreWritten (e ∷ es) = IsWritten e.call × AreWritten es

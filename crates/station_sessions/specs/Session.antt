@@ -1,0 +1,138 @@
+-- What a session does for one line: others may have committed more, and then it answers the line, and at most commits one
+-- call.
+use Rattle.std.specs.Prelude.{◌≡◌, ℕ, ◌+◌, ◌<◌, ◌≤◌, ◌⊎◌, Bool, IsTrue, List, [], ◌∷◌, ◌++◌, Vec, Some, Result, Ok, Err, length, take, codes, decimal}
+use Rattle.std.specs.Global.{Global}
+use Rattle.composables.specs.TrackState.{TrackState}
+use Rattle.edit_apply.specs.declared.asks.Call.{Call}
+use Rattle.edit_apply.specs.declared.asks.Ask.{Ask}
+use Rattle.room_core.specs.declared.entry.Entry.{Entry}
+use Rattle.reply_text.specs.declared.short_text.Short.{Short}
+use Rattle.reply_text.specs.Sights.{TrackSight, sight_text_of}
+use Rattle.room_core.specs.History.{answer_in, most_entries, replay, NumbersRise}
+use Rattle.room_core.specs.Projection.{of_station}
+use Rattle.station_sessions.specs.Transcript.{Wish, Do, See, Point, Write, Bad, Kind}
+use Rattle.cut_room.specs.declared.answers.CutFault.{CutFault}
+use Rattle.cut_room.specs.declared.answers.CutFault.TheVariants as fault
+use Rattle.station_sessions.specs.DocumentReplies.{document_reply, no_point_reply}
+use Rattle.station_sessions.specs.Rooms.{Setting, AreWritten, document_of, room_of, finds_memory}
+use Rattle.station_sessions.specs.declared.reply.Reply.{Reply}
+use Rattle.station_sessions.specs.declared.reply.Reply.TheVariants as reply
+
+-- how far a station has come: the state that it began with, the state as it is, the journal, and the number of its next
+-- line
+pub record Course (S C : Type 0) : Type 0 where
+  pub opening : S
+  pub state : S
+  pub journal : List (Entry C)
+  pub line : ℕ
+
+-- Others have committed more: what the station knows begins what it knows then, which has no further entry of its own, and
+-- the state is what their entries leave.
+pub record Grows {S C D R Q X Y : Type 0} (k : Kind S C D R Q X Y) (station : ℕ) (old new : Course S C) : Type 0 where
+  pub more : List (Entry C)
+  pub opening : new.opening ≡ old.opening
+  pub journal : new.journal ≡ old.journal ++ more
+  pub others : of_station station more ≡ []
+  pub state : replay k.apply old.state more ≡ Some new.state
+  pub rise : NumbersRise new.journal
+  pub within : length new.journal ≤ most_entries
+  pub line : new.line ≡ old.line
+
+-- the number of the next line rises
+abbrev pub past_line : {S C : Type 0} → Course S C → Course S C
+past_line s = record { opening = s.opening; state = s.state; journal = s.journal; line = s.line + 1 }
+
+module _ {S C D R Q X Y : Type 0} (k : Kind S C D R Q X Y) (station : ℕ) (old new : Course S C) (reply : List ℕ) where
+  -- the call was done on the state and stands in the journal
+  pub record Commits (c : C) (d : D) : Type 0 where
+    pub opening : new.opening ≡ old.opening
+    pub applies : k.apply old.state c ≡ Ok (new.state, d)
+    pub journal : new.journal ≡ old.journal ++ record { station = station; number = old.line; call = c } ∷ []
+    pub room : length old.journal < most_entries
+    pub line : new.line ≡ old.line
+    pub reply_is : reply ≡ k.answer_text (length old.journal) (Ok d)
+
+  pub record Refuses (c : C) (r : R) : Type 0 where
+    pub refused : k.apply old.state c ≡ Err r
+    pub same : new ≡ old
+    pub reply_is : reply ≡ k.answer_text (length old.journal) (Err r)
+
+  -- the call would apply, and the journal is full
+  pub record HasNoRoom (c : C) (d : D) : Type 0 where
+    pub applies : answer_in (k.apply old.state c) ≡ Ok d
+    pub full : length old.journal ≡ most_entries
+    pub same : new ≡ old
+    pub reply_is : reply ≡ k.full_text
+
+  -- the state after so many entries is told as a document
+  pub record Writes (n : ℕ) (s : S) : Type 0 where
+    pub within : n ≤ length old.journal
+    pub state : replay k.apply old.opening (take n old.journal) ≡ Some s
+    pub same : new ≡ old
+    pub reply_is : reply ≡ k.document_text n s
+
+  -- there are fewer entries
+  pub record HasNoPoint (n : ℕ) : Type 0 where
+    pub past : length old.journal < n
+    pub same : new ≡ old
+    pub reply_is : reply ≡ k.no_point_text (length old.journal)
+
+  pub record Says (text : List ℕ) : Type 0 where
+    pub same : new ≡ old
+    pub reply_is : reply ≡ text
+
+  -- an answer to what the line asks for
+  abbrev pub Does : Wish C Q → Type 0
+  Does (Do c) = ((d : D) × Commits c d) ⊎ (((r : R) × Refuses c r) ⊎ ((d : D) × HasNoRoom c d))
+  Does (See q) = Says (k.sight_text (length old.journal) (k.see old.state q))
+  Does Point = Says (codes "point " ++ decimal (length old.journal))
+  Does (Write n) = ((s : S) × Writes n s) ⊎ HasNoPoint n
+  Does (Bad text) = Says text
+
+  -- answering a line, before the number of the next line rises
+  abbrev pub Step : Wish C Q → Bool → Type 0
+  Step wish takes_memory = Does wish ⊎ (IsTrue takes_memory × Says (codes "memory"))
+
+-- a station's session: the room's setting, the station's number, and how far it has come
+pub record SessionState : Type 0 where
+  pub setting : Setting
+  pub station : ℕ
+  pub course : Course (List TrackState) Call
+
+-- a reply with this text, which ends with its line feed
+abbrev pub IsReply : Reply → List ℕ → Type 0
+IsReply (reply.Short short) text = short ≡ text ++ codes "\n"
+IsReply (reply.Text bytes) text = bytes.items ≡ text ++ codes "\n"
+
+-- what a question was answered, or that there was no memory to write it
+abbrev pub IsSightReply : TrackSight → Reply → Type 0
+IsSightReply sight answer = IsReply answer (sight_text_of sight) ⊎ IsReply answer (codes "memory")
+
+-- A reply of this text to what a line asks for, after others have committed what they have, and then the line is past.
+-- The station's own entries can be written.
+pub record RepliesWith (old new : SessionState) (wish : Wish Call Ask) (text : List ℕ) : Type 0 where
+  pub setting : new.setting ≡ old.setting
+  pub station : new.station ≡ old.station
+  pub written : AreWritten (of_station old.station old.course.journal) → AreWritten (of_station old.station new.course.journal)
+  pub met : Course (List TrackState) Call
+  pub grows : Grows (room_of old.setting) old.station old.course met
+  pub answered : Course (List TrackState) Call
+  pub step : Step (room_of old.setting) old.station met answered text wish (finds_memory wish)
+  pub passed : new.course ≡ past_line answered
+  pub line : new.course.line ≡ old.course.line + 1
+
+abbrev pub RepliesShort : SessionState → SessionState → Wish Call Ask → Short → Type 0
+RepliesShort old new wish text = RepliesWith old new wish text
+
+abbrev pub Replies : SessionState → SessionState → Wish Call Ask → Reply → Type 0
+Replies old new wish answer = (text : List ℕ) × IsReply answer text × RepliesWith old new wish text
+
+-- this reply, or that there was no memory for it
+abbrev pub IsReplyIfMemory : List ℕ → Reply → Type 0
+IsReplyIfMemory text answer = IsReply answer text ⊎ IsReply answer (codes "memory")
+
+-- the reply to a wish for the document after n entries, where this cut was found
+abbrev pub IsCutReply : Setting → ℕ → Result (Vec TrackState Global) CutFault → Reply → Type 0
+IsCutReply setting n (Ok tracks) answer = IsReplyIfMemory (document_reply n (document_of setting tracks.items)) answer
+IsCutReply setting n (Err (fault.NoPoint count)) answer = IsReply answer (no_point_reply count)
+IsCutReply setting n (Err fault.Memory) answer = IsReply answer (codes "memory")

@@ -1,0 +1,61 @@
+-- A station's session as the code keeps it: the room, the station's pass, and the number of its next line.
+use Rattle.std.specs.Prelude.{ℕ, ◌<◌, List, [], Option, Some, None}
+use Rattle.timecode12.specs.Numbers.{Counted}
+use Rattle.composables.specs.TrackState.{TrackState}
+use Rattle.edit_apply.specs.declared.asks.Call.{Call}
+use Rattle.edit_apply.specs.declared.editor.Editor.{Editor}
+use Rattle.edit_apply.specs.Apply.{editing}
+use Rattle.edit_journal.specs.Seats.{Opening as RoomOpening}
+use Rattle.edit_journal.specs.Turns.{Known, last_of}
+use Rattle.room_core.specs.History.{IsLegal, replay}
+use Rattle.room_core.specs.Whole.{whole}
+use Rattle.station_sessions.specs.Rooms.{History, Setting}
+use Rattle.station_sessions.specs.Session.{Course, SessionState}
+
+-- a room of tracks, by its opening, and what a station's pass knows
+abbrev pub TrackRoom : Type 0
+TrackRoom = RoomOpening Editor TrackState
+
+abbrev pub TrackPass : Type 0
+TrackPass = Known Editor TrackState Call
+
+abbrev pub known_by : Option TrackPass → History
+known_by None = []
+known_by (Some pass) = pass.entries
+
+abbrev pub station_of : Option TrackPass → ℕ
+station_of None = 0
+station_of (Some pass) = pass.number
+
+abbrev pub or_opening : List TrackState → Option (List TrackState) → List TrackState
+or_opening opening None = opening
+or_opening opening (Some tracks) = tracks
+
+-- the tracks that these entries come to
+abbrev pub tracks_at : TrackRoom → History → List TrackState
+tracks_at room h = or_opening room.1 (replay (whole (editing room.0.table)) room.1 h)
+
+-- how far a station has come that knows these entries
+abbrev pub course_at : TrackRoom → History → ℕ → Course (List TrackState) Call
+course_at room h line = record { opening = room.1; state = tracks_at room h; journal = h; line = line }
+
+abbrev pub setting_at : TrackRoom → Counted → ℕ → Setting
+setting_at room counting start = record { table = room.0.table; counting = counting; start = start }
+
+-- a session in a room, with the number of its next line
+abbrev pub session_at : TrackRoom → Option TrackPass → Counted → ℕ → ℕ → SessionState
+session_at room pass counting start line = record {
+  setting = setting_at room counting start;
+  station = station_of pass;
+  course = course_at room (known_by pass) line;
+}
+
+-- the entries that the pass knows are legal, and its own are of lines before the next
+pub record IsSeated (room : TrackRoom) (line : ℕ) (pass : TrackPass) : Type 0 where
+  pub legal : IsLegal (whole (editing room.0.table)) room.1 pass.entries
+  pub before : last_of pass.number pass.entries < line
+
+-- the session has its pass
+abbrev pub IsSession : TrackRoom → ℕ → Option TrackPass → Type 0
+IsSession room line None = ⊥
+IsSession room line (Some pass) = IsSeated room line pass

@@ -1,0 +1,99 @@
+// Replies to a wish for the document of a cut.
+ghost use Rattle.std.specs.Prelude.{◌≡◌, ◌≤◌, ◌++◌, codes, decimal, length, IfOk};
+ghost use Rattle.otio_text.specs.Documents.{timeline_text};
+ghost use Rattle.station_sessions.specs.DocumentReplies.{document_reply, no_point_reply};
+ghost use Rattle.station_sessions.specs.Session.{IsCutReply, IsReply, IsReplyIfMemory};
+
+use crate::reply::Reply;
+use call_text::Short;
+use composables::{Memory, Table, Track};
+use cut_room::CutFault;
+use otio_json::{WriteFault, write_timeline};
+use std::alloc::Global;
+use timecode12::Counting;
+
+/// The reply with the document of this cut, which stands after `n` entries, or why there is none.
+pub(crate) fn cut_reply(
+    alloc: Global,
+    n: u32,
+    table: &Table,
+    cut: Result<Vec<Track>, CutFault>,
+    counting: &Counting,
+    start: u32,
+) -> Reply
+    ensures { IsCutReply (record { table = table.now; counting = counting.now; start = start })
+        n cut result }
+{
+    match cut {
+        Ok(tracks) => document_reply(alloc, n, table, &tracks, counting, start),
+        Err(CutFault::NoPoint(length)) => no_point_reply(length),
+        Err(CutFault::Memory) => memory_reply(),
+    }
+}
+
+/// The reply with the document of these tracks, which stand after `n` entries, or that it is too long, or that there is
+/// no memory for it.
+fn document_reply(
+    alloc: Global,
+    n: u32,
+    table: &Table,
+    tracks: &[Track],
+    counting: &Counting,
+    start: u32,
+) -> Reply
+    ensures { IsReplyIfMemory (document_reply n
+        (timeline_text table.now tracks.now counting.now start)) result }
+{
+    match write_timeline(alloc, table, tracks, counting, start) {
+        Ok(text) => match document_line(alloc, n, &text) {
+            Ok(line) => Reply::Text(line),
+            Err(_) => memory_reply(),
+        },
+        Err(WriteFault::TooLarge) => Reply::Short(refused_at(n, b" V4")),
+        Err(WriteFault::Memory) => memory_reply(),
+    }
+}
+
+/// The reply where there are only so many entries.
+fn no_point_reply(length: u32) -> Reply
+    ensures { IsReply result (no_point_reply length) }
+{
+    Reply::Short(refused_at(length, b" V3"))
+}
+
+/// The reply where there is no memory.
+fn memory_reply() -> Reply
+    ensures { IsReply result (codes "memory") }
+{
+    let mut line = Short::new();
+    line.push(b"memory\n");
+    Reply::Short(line)
+}
+
+// `no`, the point and a code, with the line feed.
+fn refused_at(point: u32, code: &[u8]) -> Short
+    requires { length code.now ≤ 8 }
+    ensures { result ≡ codes "no " ++ decimal point ++ code.now ++ codes "\n" }
+{
+    let mut line = Short::new();
+    line.push(b"no ");
+    line.push_number(point);
+    line.push(code);
+    line.push(b"\n");
+    line
+}
+
+// `otio`, the point and the document, with the line feed.
+fn document_line(alloc: Global, point: u32, text: &[u8]) -> Result<Vec<u8>, Memory>
+    ensures { IfOk result (λ line. line.items ≡
+        (codes "otio " ++ decimal point ++ codes " " ++ text.now) ++ codes "\n") }
+{
+    let mut front = Short::new();
+    front.push(b"otio ");
+    front.push_number(point);
+    front.push(b" ");
+    let mut line = Vec::from_slice(alloc, front.as_bytes())?;
+    line.extend_from_slice(text)?;
+    line.push(b'\n')?;
+    Ok(line)
+}

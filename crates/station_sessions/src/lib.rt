@@ -1,0 +1,16 @@
+//! The session of one station in a room: its lines, in whatever pieces they come, each with its reply, and at most one
+//! entry of the journal for each.
+//!
+//! The main contract is that of `serve_session`: what the station's pass knows at the end tells the reply to every line,
+//! whatever other stations commit meanwhile. `laws::transcripts_stay` carries this to any legal history that goes on from
+//! there without an entry of the station.
+#![tactic(auto)]
+
+mod document_reply;
+pub mod laws;
+mod reply;
+mod serve;
+mod session;
+
+pub use serve::{End, serve_session};
+pub use session::Setting;

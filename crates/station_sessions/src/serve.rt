@@ -1,0 +1,213 @@
+// The session over a whole input: its lines, in whatever pieces they come, each with its reply.
+ghost use Rattle.std.specs.Prelude.{◌≡◌, ◌+◌, ◌<◌, ◌≤◌, ◌^◌, ◌∷◌, [], List, length, OnOk, OnErr};
+ghost use Rattle.line_words.specs.Lines.{Line as InputLine, last_line};
+ghost use Rattle.line_words.specs.Pieces.{ended, pending_after};
+ghost use Rattle.line_words.specs.Told.{line_told};
+ghost use Rattle.room_ports.specs.Counts.{HasRisen};
+ghost use Rattle.room_core.specs.Projection.{of_station};
+ghost use Rattle.station_sessions.specs.Outside.{outside, AreSent, LastIsCut};
+ghost use Rattle.station_sessions.specs.Rooms.{AreWritten};
+ghost use Rattle.station_sessions.specs.Served.{IsRoomOf, Knows, ServesTo, StaysWritten};
+ghost use Rattle.otio_json.specs.declared.opening.Opening.{Opening as OpeningOf};
+ghost use Rattle.station_sessions.specs.Serving.{StopsWithin, SessionEnds};
+
+use crate::session::{Session, Setting};
+use composables::Track;
+use cut_room::Room;
+use edit_apply::Editor;
+use edit_journal::{Naming, Pass};
+use line_words::{LineEnd, LineReader};
+use room_halls::Gate;
+use room_ports::{Failed, Line, Sink};
+use std::alloc::Global;
+use std::sync::Wait;
+
+/// How a session ended.
+#[derive(Clone, Copy, Debug, PartialEq, Eq)]
+pub enum End {
+    /// The input was read to its end, and each of its lines was answered.
+    Ended,
+    /// A read failed.
+    ReadFault,
+    /// A write failed.
+    WriteFault,
+    /// The input gave more than 64 MiB.
+    TooMuchInput,
+}
+
+/// The most bytes of one input.
+const MOST_INPUT: usize = 67_108_864;
+
+/// The most bytes of one read.
+const MOST_READ: usize = 8_192;
+
+// Answers a line that has ended.
+fn answer_line<R: Wait, G: Gate, J: Naming<Editor, Track>, K: Sink>(
+    session: &mut Session<'_, R, G, J>,
+    end: LineEnd,
+    text: &[u8],
+    output: &mut K,
+) -> Result<(), Failed>
+    requires { session.old.course.line + 1 < 2 ^ 32 }
+
+    ensures ok { OnOk result (ServesTo session.old session.new (line_told end text.now ∷ [])
+        (AreSent (K.taken output.old) (K.taken output.new))) }
+    ensures err { OnErr result (ServesTo session.old session.new (line_told end text.now ∷ [])
+        (LastIsCut (K.taken output.old) (K.taken output.new))) }
+    ensures number { session.new.course.line ≡ session.old.course.line + 1 }
+    ensures station { session.new.station ≡ session.old.station }
+
+    ensures cause { OnErr result (HasRisen (K.write_faults output.old)
+        (K.write_faults output.new)) }
+    ensures quiet { OnOk result (K.write_faults output.new ≡ K.write_faults output.old) }
+    ensures apart { K.as_source output.new ≡ K.as_source output.old }
+{
+    let reply = session.answer(end, text);
+    reply.send(output)
+}
+
+// Answers the lines that end within a piece.
+fn answer_piece<R: Wait, G: Gate, J: Naming<Editor, Track>, K: Sink>(
+    reader: &mut LineReader,
+    session: &mut Session<'_, R, G, J>,
+    piece: &[u8],
+    output: &mut K,
+) -> Result<(), Failed>
+    requires { session.old.course.line + length piece.now < 2 ^ 32 }
+
+    ensures ok { OnOk result (ServesTo session.old session.new (ended reader.old.pending piece.now)
+        (AreSent (K.taken output.old) (K.taken output.new))) }
+    ensures err { OnErr result ((lines : List InputLine)
+        × StopsWithin reader.old.pending piece.now lines
+        × ServesTo session.old session.new lines
+        (LastIsCut (K.taken output.old) (K.taken output.new))) }
+    ensures pending { OnOk result (reader.new.pending
+        ≡ pending_after reader.old.pending piece.now) }
+    ensures number { session.new.course.line ≤ session.old.course.line + length piece.now }
+    ensures station { session.new.station ≡ session.old.station }
+
+    ensures cause { OnErr result (HasRisen (K.write_faults output.old)
+        (K.write_faults output.new)) }
+    ensures quiet { OnOk result (K.write_faults output.new ≡ K.write_faults output.old) }
+    ensures apart { K.as_source output.new ≡ K.as_source output.old }
+{
+    let mut at = 0;
+    while at < piece.len() {
+        let (_, rest) = piece.split_at(at);
+        let fed = reader.feed(rest);
+        at += fed.taken;
+        match fed.line {
+            Some(end) => match answer_line(session, end, reader.line(), output) {
+                Ok(()) => {}
+                Err(failed) => return Err(failed),
+            },
+            None => {}
+        }
+    }
+    Ok(())
+}
+
+// Answers a last line without a line feed.
+fn finish<R: Wait, G: Gate, J: Naming<Editor, Track>, K: Sink>(
+    reader: &mut LineReader,
+    session: &mut Session<'_, R, G, J>,
+    output: &mut K,
+) -> Result<(), Failed>
+    requires { session.old.course.line + 1 < 2 ^ 32 }
+
+    ensures ok { OnOk result (ServesTo session.old session.new (last_line reader.old.pending)
+        (AreSent (K.taken output.old) (K.taken output.new))) }
+    ensures err { OnErr result ((line : InputLine) × (last_line reader.old.pending ≡ line ∷ [])
+        × ServesTo session.old session.new (line ∷ [])
+        (LastIsCut (K.taken output.old) (K.taken output.new))) }
+    ensures station { session.new.station ≡ session.old.station }
+
+    ensures cause { OnErr result (HasRisen (K.write_faults output.old)
+        (K.write_faults output.new)) }
+    ensures quiet { OnOk result (K.write_faults output.new ≡ K.write_faults output.old) }
+    ensures apart { K.as_source output.new ≡ K.as_source output.old }
+{
+    match reader.finish() {
+        Some(end) => answer_line(session, end, reader.line(), output),
+        None => Ok(()),
+    }
+}
+
+/// Answers each line of an input, in order, until the input's end, a fault, or more than 64 MiB.
+fn serve<R: Wait, G: Gate, J: Naming<Editor, Track>, L: Line>(
+    session: &mut Session<'_, R, G, J>,
+    line: &mut L,
+) -> End
+    requires { session.old.course.line ≡ 1 }
+    ensures ends { SessionEnds (ServesTo session.old session.new)
+        (outside (L.left line.old) (L.read_faults line.old) (L.taken line.old)
+        (L.write_faults line.old))
+        (outside (L.left line.new) (L.read_faults line.new) (L.taken line.new)
+        (L.write_faults line.new)) result }
+    ensures station { session.new.station ≡ session.old.station }
+    ensures written { StaysWritten session.old session.new }
+    ensures lent { L.lent line.new ≡ L.lent line.old }
+{
+    let mut reader = LineReader::new();
+    let mut buffer = [0; MOST_READ];
+    let mut total = 0;
+    while total <= MOST_INPUT {
+        let n = match line.read(&mut buffer) {
+            Ok(n) => n,
+            Err(_) => return End::ReadFault,
+        };
+        if n == 0 {
+            return match finish(&mut reader, session, line) {
+                Ok(()) => End::Ended,
+                Err(_) => End::WriteFault,
+            };
+        }
+        let fits = n.min(MOST_INPUT - total);
+        let (piece, _) = buffer.split_at(fits);
+        match answer_piece(&mut reader, session, piece, line) {
+            Ok(()) => {}
+            Err(_) => return End::WriteFault,
+        }
+        if fits < n {
+            return End::TooMuchInput;
+        }
+        total += n;
+    }
+    unreachable!()
+}
+
+/// The session of a station that has no entry yet, over a line, from the line's first byte to its end, a fault, or more
+/// than 64 MiB. The pass knows then what the last of its answers told of.
+pub fn serve_session<R: Wait, G: Gate, J: Naming<Editor, Track>, L: Line>(
+    rt: &R,
+    alloc: Global,
+    room: &Room<Editor, J>,
+    gate: &G,
+    pass: Pass<Editor, J>,
+    setting: Setting,
+    line: &mut L,
+) -> (Pass<Editor, J>, End)
+    requires { pass.entries ≡ [] }
+    ensures ends { (o : OpeningOf) → IsRoomOf o room.now setting.counting setting.start
+        → SessionEnds (Knows o pass.number result.0.entries)
+        (outside (L.left line.old) (L.read_faults line.old) (L.taken line.old)
+        (L.write_faults line.old))
+        (outside (L.left line.new) (L.read_faults line.new) (L.taken line.new)
+        (L.write_faults line.new)) result.1 }
+    ensures station { result.0.number ≡ pass.number }
+    ensures written { AreWritten (of_station pass.number result.0.entries) }
+    ensures lent { L.lent line.new ≡ L.lent line.old }
+{
+    let mut session = Session {
+        rt,
+        alloc,
+        room,
+        gate,
+        pass: Some(pass),
+        counting: setting.counting,
+        start: setting.start,
+        line: 1,
+    };
+    let end = serve(&mut session, line);
+    (session.into_pass(), end)
+}

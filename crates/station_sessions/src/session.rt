@@ -1,0 +1,242 @@
+// The session of one station in a room, and the answer to each of its lines.
+ghost use Rattle.std.specs.Prelude.{◌≡◌, ◌<◌, ◌++◌, IfOk, codes};
+ghost use Rattle.reply_text.specs.Sights.{sight_text_of};
+ghost use Rattle.cut_room.specs.Rooms.{Edited};
+ghost use Rattle.edit_apply.specs.Apply.{editing};
+ghost use Rattle.edit_journal.specs.Turns.{last_of};
+ghost use Rattle.station_sessions.specs.Session.{IsSightReply};
+
+use crate::document_reply::cut_reply;
+use crate::reply::{Reply, ended};
+use call_text::{
+    Line, LineFault, Short, answer_text, fault_text, point_text, read_line, sight_text,
+};
+use composables::{Memory, Track};
+use cut_room::{Answer, Room, Sight};
+use edit_apply::{Ask, Call, Editor};
+use edit_journal::{Naming, Pass};
+use line_words::LineEnd;
+use room_halls::Gate;
+use std::alloc::Global;
+use std::marker::{Brand, Model};
+use std::sync::Wait;
+use std::sync::ledger::{Blank, Ledger};
+use step_count::Steps;
+use timecode12::Counting;
+
+/// How a room counts frames, and the frame at which its record starts.
+#[derive(Clone, Copy, Debug)]
+pub struct Setting {
+    pub counting: Counting,
+    pub start: u32,
+}
+
+/// A station in a room. Contracts see the room's setting, the station's number, what it knows of the journal, and the
+/// number of its next line.
+pub(crate) struct Session<'a, R, G, J: Naming<Editor, Track>> {
+    pub(crate) rt: &'a R,
+    pub(crate) alloc: Global,
+    pub(crate) room: &'a Room<Editor, J>,
+    pub(crate) gate: &'a G,
+    pub(crate) pass: Option<Pass<Editor, J>>,
+    pub(crate) counting: Counting,
+    pub(crate) start: u32,
+    pub(crate) line: u32,
+}
+
+impl<'a, R, G, J: Naming<Editor, Track>> Model for Session<'a, R, G, J> {
+    ghost use Rattle.station_sessions.specs.Session.{SessionState};
+    ghost use Rattle.station_sessions.specs.SessionInside.{session_at, IsSession};
+
+    ghost Value = { SessionState };
+
+    ghost view = { λ s. session_at s.room.now s.pass s.counting s.start s.line };
+
+    ghost invariant = { λ s. IsSession s.room.now s.line s.pass };
+}
+
+impl<'a, R: Wait, G: Gate, J: Naming<Editor, Track>> Session<'a, R, G, J> {
+    ghost use Rattle.std.specs.Prelude.{◌≡◌, ◌+◌, ◌<◌, ◌≤◌, ◌^◌, ◌++◌, IfOk, codes, decimal, length};
+    ghost use Rattle.line_words.specs.Told.{line_told};
+    ghost use Rattle.call_text.specs.CallTexts.{IsWritten, NamesWritten};
+    ghost use Rattle.reply_text.specs.Replies.{fault_of};
+    ghost use Rattle.station_sessions.specs.Rooms.{meaning_of, wish_in};
+    ghost use Rattle.station_sessions.specs.Session.{Replies, RepliesShort};
+    ghost use Rattle.station_sessions.specs.Transcript.{Bad, Do, Point, See, Write};
+
+    /// The station's pass.
+    pub(crate) fn into_pass(self) -> Pass<Editor, J>
+        ensures entries { result.entries ≡ self.entry.course.journal }
+        ensures number { result.number ≡ self.entry.station }
+    {
+        let Session {
+            rt: _,
+            alloc: _,
+            room: _,
+            gate: _,
+            pass,
+            counting: _,
+            start: _,
+            line: _,
+        } = self;
+        match pass {
+            Some(pass) => pass,
+            None => unreachable!(),
+        }
+    }
+
+    /// What a line of the input says.
+    fn said(&self, end: LineEnd, text: &[u8]) -> Result<Line, LineFault>
+        ensures meant { result ≡ meaning_of self.now.setting (line_told end text.now) }
+        ensures written { IfOk result (λ line. NamesWritten line) }
+    {
+        match end {
+            LineEnd::Whole => read_line(self.alloc, text, &self.counting, self.start),
+            LineEnd::TooLong => Err(LineFault::B5),
+        }
+    }
+
+    fn reply_to_edit(&mut self, call: Call) -> Short
+        requires written { IsWritten call }
+        requires line { self.old.course.line + 1 < 2 ^ 32 }
+        ensures replies { RepliesShort self.old self.new (Do call) result }
+        ensures short { length result ≤ 128 }
+    {
+        let pass = match self.pass.take() {
+            Some(pass) => pass,
+            None => unreachable!(),
+        };
+        let (rt, room, gate) = (self.rt, self.room, self.gate);
+        let (pass, answer) = edit_uncounted(rt, self.alloc, room, gate, pass, self.line, call);
+        self.pass = Some(pass);
+        self.line += 1;
+        answer_text(&answer)
+    }
+
+    fn reply_to_ask(&mut self, ask: &Ask) -> Reply
+        requires { self.old.course.line + 1 < 2 ^ 32 }
+        ensures { Replies self.old self.new (See ask.now) result }
+    {
+        let pass = match self.pass.take() {
+            Some(pass) => pass,
+            None => unreachable!(),
+        };
+        let (pass, sight) = self.room.see(self.rt, self.alloc, pass, ask);
+        self.pass = Some(pass);
+        self.line += 1;
+        sight_reply(self.alloc, &sight)
+    }
+
+    fn reply_to_point(&mut self) -> Short
+        requires { self.old.course.line + 1 < 2 ^ 32 }
+        ensures replies { RepliesShort self.old self.new Point result }
+        ensures short { length result ≤ 128 }
+    {
+        let pass = match self.pass.take() {
+            Some(pass) => pass,
+            None => unreachable!(),
+        };
+        let (pass, point) = self.room.point(self.rt, pass);
+        self.pass = Some(pass);
+        self.line += 1;
+        point_text(point)
+    }
+
+    // The reply with the document of the cut after `n` entries.
+    fn reply_to_otio(&mut self, n: u32) -> Reply
+        requires { self.old.course.line + 1 < 2 ^ 32 }
+        ensures { Replies self.old self.new (Write n) result }
+    {
+        let pass = match self.pass.take() {
+            Some(pass) => pass,
+            None => unreachable!(),
+        };
+        let (pass, cut) = self.room.cut_at(self.rt, self.alloc, pass, n);
+        self.pass = Some(pass);
+        self.line += 1;
+        let table = &self.room.object().table;
+        cut_reply(self.alloc, n, table, cut, &self.counting, self.start)
+    }
+
+    // The reply to a line that is none of the table.
+    fn reply_to_none(&mut self, fault: &LineFault) -> Short
+        requires { self.old.course.line + 1 < 2 ^ 32 }
+        ensures replies { RepliesShort self.old self.new (Bad (fault_of fault.now)) result }
+        ensures short { length result ≤ 128 }
+    {
+        self.line += 1;
+        fault_text(fault)
+    }
+
+    /// Answers a line, and commits it where it is an edit that applies. The next line has the next number.
+    pub(crate) fn answer(&mut self, end: LineEnd, text: &[u8]) -> Reply
+        requires { self.old.course.line + 1 < 2 ^ 32 }
+        ensures { Replies self.old self.new (wish_in
+            (meaning_of self.old.setting (line_told end text.now))) result }
+    {
+        match self.said(end, text) {
+            Ok(line) => match line {
+                Line::Edit(call) => Reply::Short(ended(self.reply_to_edit(call))),
+                Line::Ask(ask) => self.reply_to_ask(&ask),
+                Line::Point => Reply::Short(ended(self.reply_to_point())),
+                Line::Otio(n) => self.reply_to_otio(n),
+            },
+            Err(fault) => Reply::Short(ended(self.reply_to_none(&fault))),
+        }
+    }
+}
+
+fn edit_counted<R: Wait, G: Gate, J: Naming<Editor, Track>, L: Ledger>(
+    ledger: Blank,
+    rt: &R,
+    alloc: Global,
+    room: &Room<Editor, J>,
+    gate: &G,
+    pass: Pass<Editor, J>,
+    number: u32,
+    call: Call,
+) -> (Pass<Editor, J>, Answer<Editor>)
+    requires ledger { (ledger.name ≡ L.name) × (ledger.parts ≡ L.parts) × (0 < ledger.parts) }
+    requires number { last_of pass.number pass.entries < number }
+    ensures { Edited (editing room.now.0.table) room.now.1
+        (record { station = pass.number; number = number; call = call }) pass result.0 result.1 }
+{
+    let mut steps = Steps::<L>::new(ledger);
+    room.edit(rt, alloc, pass, number, call, gate, &mut steps)
+}
+
+// An edit of the room under a number, which counts no steps.
+fn edit_uncounted<R: Wait, G: Gate, J: Naming<Editor, Track>>(
+    rt: &R,
+    alloc: Global,
+    room: &Room<Editor, J>,
+    gate: &G,
+    pass: Pass<Editor, J>,
+    number: u32,
+    call: Call,
+) -> (Pass<Editor, J>, Answer<Editor>)
+    requires { last_of pass.number pass.entries < number }
+    ensures { Edited (editing room.now.0.table) room.now.1
+        (record { station = pass.number; number = number; call = call }) pass result.0 result.1 }
+{
+    edit_counted::<R, G, J, Brand>(Blank::new(1), rt, alloc, room, gate, pass, number, call)
+}
+
+// The reply to a question, or to one for whose reply there is no memory.
+fn sight_reply(alloc: Global, sight: &Sight<Editor>) -> Reply
+    ensures { IsSightReply sight.now result }
+{
+    match sight_line(alloc, sight) {
+        Ok(text) => Reply::Text(text),
+        Err(_) => Reply::Short(ended(answer_text(&Answer::Memory))),
+    }
+}
+
+// The text of the reply to a question, with its line feed.
+fn sight_line(alloc: Global, sight: &Sight<Editor>) -> Result<Vec<u8>, Memory>
+    ensures { IfOk result (λ text. text.items ≡ sight_text_of sight.now ++ codes "\n") }
+{
+    let mut text = sight_text(alloc, sight)?;
+    text.push(b'\n')?;
+    Ok(text)
+}
