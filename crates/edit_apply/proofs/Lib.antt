@@ -2,3 +2,5 @@ pub mod Sets
 pub mod SetNames
 pub mod Standing
 pub mod Pushed
+pub mod Lowest
+pub mod Together

@@ -5,4 +5,6 @@ pub mod Faults
 pub mod NamingLaws
 pub mod PlainCells
 pub mod YoungTracks
+pub mod LinkLaws
 pub mod RoomyLaws
+pub mod TogetherLaws

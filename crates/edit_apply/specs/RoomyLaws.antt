@@ -1,6 +1,6 @@
 -- The law of an editor as an object that all tracks of a history have room among their numbers for one edit more: each
 -- entry raises the next item number of a track by two at most, and link numbers do not run out.
-use Rattle.std.proofs.Common.{◌≡◌, ℕ, zero, suc, ◌+◌, ◌*◌, ◌^◌, ◌≤◌, List, [], ◌∷◌, All, fold, length, Option, Some, None, Result, Ok, Err, slice_set, refl, sym, ap, ◌∙◌, arith, subst}
+use Rattle.std.proofs.Common.{◌≡◌, ℕ, zero, suc, ◌+◌, ◌*◌, ◌^◌, ◌≤◌, List, [], ◌∷◌, All, fold, length, Option, Some, None, Result, Ok, Err, slice_set, refl, sym, ◌∙◌, arith, subst}
 use Rattle.std.proofs.lemmas.List.Elements.{All-cons}
 use Rattle.frame_meaning.specs.declared.cells.Cell.{Cell}
 use Rattle.composables.specs.declared.media.Table.{Table}
@@ -8,31 +8,21 @@ use Rattle.composables.specs.declared.refusals.Refusal.{Refusal}
 use Rattle.composables.specs.Answers.{Applied}
 use Rattle.composables.specs.Good.{IsGood}
 use Rattle.composables.specs.Items.{items_of}
-use Rattle.composables.specs.OwnTracks.{numbers_of}
 use Rattle.composables.specs.Roomy.{IsRoomy}
 use Rattle.composables.specs.TrackState.{TrackState}
 use Rattle.edit_splice.proofs.Standing.{all_head, all_none, all_tail}
 use Rattle.room_core.specs.declared.entry.Entry.{Entry}
-use Rattle.room_core.specs.History.{IsLegal, after_entry, most_entries, replay, state_in}
-use Rattle.room_core.specs.Parts.{AreGood, numbers}
+use Rattle.room_core.specs.History.{IsLegal, after_entry, replay, state_in}
+use Rattle.room_core.specs.Parts.{numbers}
 use Rattle.room_core.specs.Whole.{on_whole, picked, put_back, unless_refused, whole}
 use Rattle.room_core.proofs.WholeParts.{roomy_picked}
-use Rattle.link_laws.specs.Given.{AreGiven, LeavesGiven}
-use Rattle.link_laws.specs.Histories.{CallsKeepGiven}
-use Rattle.link_laws.specs.Rooms.{AreNamed, IsNumbered}
 use Rattle.link_laws.specs.Weights.{NextsWithin}
-use Rattle.link_laws.specs.Wholes.{AreBare, Numbered}
-use Rattle.link_laws.proofs.GivenLaw.{edits-keep-given}
-use Rattle.link_laws.proofs.GivenLinks.{linking-given, unlinking-given}
-use Rattle.link_laws.proofs.GivenSlips.{sliding-given, slipping-given}
-use Rattle.link_laws.proofs.Histories.{numbers-last}
-use Rattle.link_laws.proofs.Openings.{are-in, bare-given}
 use Rattle.edit_apply.specs.declared.asks.Call.{Call}
 use Rattle.edit_apply.specs.declared.asks.Call.TheVariants as call
 use Rattle.edit_apply.specs.Apply.{applied_on, editing, names_of, refuse_names_of, track_count}
+use Rattle.edit_apply.specs.LinkLaws.{links-last, tracks-good}
 use Rattle.edit_apply.specs.PlainCells.{ArePlain, plain-more, plain-views}
-use Rattle.edit_apply.specs.NamingLaws.{editing-named}
-use Rattle.edit_apply.specs.RoomTracks.{IsOpening, IsTrackOf, IsUnlinked}
+use Rattle.edit_apply.specs.RoomTracks.{IsOpening}
 use Rattle.edit_apply.specs.YoungTracks.{AreYoung, IsYoung, all-more, young-dissolve, young-extract, young-fill, young-insert, young-link, young-overwrite, young-remove, young-ripple, young-roll, young-slice, young-slide, young-slip, young-trim, young-undissolve, young-unlink}
 
 -- a call on the named tracks
@@ -103,14 +93,7 @@ young_history n table ps qs [] h comes =
 young_history n table ps qs (e ∷ es) h comes =
     young_next n table qs e es (whole (editing table) ps e.call) (λ ts y c. young_history (n + 2) table ts qs es y c) (young_call n table ps e.call h) comes
 
--- an opening
-pub tracks-good : (table : Table) (ns : List ℕ) (ts : List TrackState) → AreGood (IsTrackOf table) ns ts → All (λ (t : TrackState). IsGood table t) ts
-tracks-good table [] [] h = all_none (IsGood table)
-tracks-good table [] (t ∷ ts) h = absurd h
-tracks-good table (n ∷ ns) [] h = absurd h
-tracks-good table (n ∷ ns) (t ∷ ts) h = All-cons (IsGood table) t ts h.0.good (tracks-good table ns ts h.1)
-
--- its cells have the numbers that were given away
+-- an opening: its cells have the numbers that were given away
 plain_good : (table : Table) (t : TrackState) → IsGood table t → ArePlain t.next_item t.cells
 plain_good table t g =
     subst (λ (cs : List Cell). ArePlain t.next_item cs) g.kept.whole (plain-views t.next_item (items_of t.cells) g.kept.below)
@@ -123,54 +106,7 @@ young_opening table (t ∷ ts) i g =
     (record { item = item; plain = plain-more t.next_item 65536 t.cells item (plain_good table t (all_head (IsGood table) t ts g)) })
     (young_opening table ts (all_tail (λ (t : TrackState). t.next_item ≤ 65536) t ts i) (all_tail (IsGood table) t ts g))
 
--- links, by the law that link numbers do not run out
-
-given_applied : (table : Table) (c : Call) (all named : List TrackState) → numbers_of named ≡ names_of c → IsNumbered all → AreNamed all named → AreGiven all
-    → LeavesGiven all named (applied_on table named c)
-given_applied table (call.Overwrite c) all named e room names g = edits-keep-given.overwrite table c all named room names g
-given_applied table (call.Insert c) all named e room names g = edits-keep-given.insert table c all named room names g
-given_applied table (call.Remove c) all named e room names g = edits-keep-given.remove table c all named room names g
-given_applied table (call.Extract c) all named e room names g = edits-keep-given.extract table c all named room names g
-given_applied table (call.Slice c) all named e room names g = edits-keep-given.slice table c all named room names g
-given_applied table (call.Dissolve c) all named e room names g = edits-keep-given.dissolve table c all named room names g
-given_applied table (call.Undissolve c) all named e room names g = edits-keep-given.undissolve table c all named room names g
-given_applied table (call.Trim c) all named e room names g = edits-keep-given.trim table c all named room names g
-given_applied table (call.Slip c) all named e room names g = slipping-given table c all named room names g
-given_applied table (call.Roll c) all named e room names g = edits-keep-given.roll table c all named room names g
-given_applied table (call.Slide c) all named e room names g = sliding-given table c all named room names g
-given_applied table (call.Fill c) all named e room names g = edits-keep-given.fill table c all named room names g
-given_applied table (call.Ripple c) all named e room names g = edits-keep-given.ripple table c all named room names g
-given_applied table (call.Link3 c) all named e room names g = linking-given c all named room names (are-in c.tracks named e) g
-given_applied table (call.Unlink c) all named e room names g = unlinking-given c all named room names g
-
-editing_given : (table : Table) → CallsKeepGiven (track_count table) (editing table)
-editing_given table = record { keeps = λ c all named e room names g. given_applied table c all named e room names g; names = λ c h. (editing-named table c h).ascend }
-
-tracks_numbered : (table : Table) (from count : ℕ) (ts : List TrackState) → AreGood (IsTrackOf table) (numbers from count) ts → Numbered from ts × (length ts ≡ count)
-tracks_numbered table from zero [] h = (tt, refl)
-tracks_numbered table from zero (t ∷ ts) h = absurd h
-tracks_numbered table from (suc count) [] h = absurd h
-tracks_numbered table from (suc count) (t ∷ ts) h =
-    let r = tracks_numbered table (from + 1) count ts h.1 in ((h.0.number_is, r.0), ap suc r.1)
-
-tracks_bare : (table : Table) (ts : List TrackState) → All (λ (t : TrackState). IsGood table t) ts → All IsUnlinked ts → AreBare table ts
-tracks_bare table [] g u = tt
-tracks_bare table (t ∷ ts) g u =
-    (all_head (IsGood table) t ts g, all_head IsUnlinked t ts u, tracks_bare table ts (all_tail (IsGood table) t ts g) (all_tail IsUnlinked t ts u))
-
-nexts_none : (ts : List TrackState) → All (λ (t : TrackState). t.next_link ≡ 0) ts → NextsWithin 0 ts
-nexts_none [] l = tt
-nexts_none (t ∷ ts) l =
-    (omega (arith, all_head (λ (t : TrackState). t.next_link ≡ 0) t ts l), nexts_none ts (all_tail (λ (t : TrackState). t.next_link ≡ 0) t ts l))
-
-links_last : (table : Table) (ps qs : List TrackState) (entries : List (Entry Call)) → IsOpening table ps → length entries ≤ most_entries
-    → replay (whole (editing table)) ps entries ≡ Some qs → NextsWithin (2 ^ 31) qs
-links_last table ps qs entries opens within comes =
-    let r = tracks_numbered table 0 (track_count table) ps opens.good in
-    let good = tracks-good table (numbers 0 (track_count table)) ps opens.good in
-    let keeps : CallsKeepGiven (length ps) (editing table) = subst (λ (n : ℕ). CallsKeepGiven n (editing table)) (sym r.1) (editing_given table) in
-    numbers-last (editing table) ps qs entries keeps r.0 (omega (arith, r.1)) (bare-given table ps (tracks_bare table ps good opens.unlinked)) (nexts_none ps opens.links) within comes
-
+-- all together
 roomy_young : (n : ℕ) (ts : List TrackState) → n ≤ 2 ^ 31 → All (IsYoung n) ts → NextsWithin (2 ^ 31) ts → All IsRoomy ts
 roomy_young n [] le h l = all_none IsRoomy
 roomy_young n (t ∷ ts) le h l =
@@ -183,4 +119,4 @@ pub editing-roomy : (table : Table) (ps qs : List TrackState) (entries : List (E
 editing-roomy table ps qs entries opens legal comes =
     let names : List ℕ = numbers 0 (track_count table) in
     let young = young_opening table ps opens.items (tracks-good table names ps opens.good) in
-    roomy_young (65536 + 2 * length entries) qs (omega (arith, legal.within)) (young_history 65536 table ps qs entries young comes) (links_last table ps qs entries opens legal.within comes)
+    roomy_young (65536 + 2 * length entries) qs (omega (arith, legal.within)) (young_history 65536 table ps qs entries young comes) (links-last table ps qs entries opens legal.within comes)

@@ -7,11 +7,13 @@
 mod asks;
 mod editor;
 mod edits;
+mod laws;
 mod naming;
 mod sights;
 
 pub use asks::{Ask, AskRefusal, Call, Seen};
 pub use editor::Editor;
+pub use laws::together_law;
 
 #[cfg(test)]
 mod tests;

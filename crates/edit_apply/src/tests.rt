@@ -8,8 +8,8 @@ ghost use Rattle.edit_apply.specs.RoomTracks.{IsTrackOf};
 
 use crate::{Ask, AskRefusal, Call, Editor};
 use composables::{
-    Done, Insert, ItemView, Kind, Listed, MAX_ITEMS, Media, Memory, Overwrite, Reels, Refusal,
-    Table, Track,
+    Done, Insert, ItemView, Kind, Link3, Listed, MAX_ITEMS, Media, Memory, Overwrite, Reels,
+    Refusal, Table, Track,
 };
 use frame_meaning::What;
 use room_core::{Fault, PartObject};
@@ -64,6 +64,13 @@ fn insert_on(tracks: u32, track: u32) -> Call {
     })
 }
 
+fn link_on(alloc: Global, tracks: u32) -> Call {
+    Call::Link3(Link3 {
+        tracks,
+        items: Listed::new(alloc),
+    })
+}
+
 fn view_of(track: u32) -> Ask {
     Ask::View { track, a: 5, b: 4 }
 }
@@ -100,6 +107,27 @@ fn the_first_wrong_track_is_told(rt: HostRuntime) -> Result<(), Fail> {
             refusal,
             "{tracks} {track}"
         );
+    }
+    Ok(())
+}
+
+#[test]
+fn a_link_names_its_tracks(rt: HostRuntime) -> Result<(), Fail> {
+    let editor = two_tracks(rt.alloc())?;
+    for (tracks, wrong) in [
+        (3u32, None),
+        (2, None),
+        (0, Some(0u32)),
+        (6, Some(2)),
+        (2_147_483_648, Some(31)),
+    ] {
+        let call = link_on(rt.alloc(), tracks);
+        let refusal = match wrong {
+            Some(n) => Some(Refusal::NoTrack(n)),
+            None => None,
+        };
+        assert_eq!(rt; editor.names(&call), tracks, "{tracks}");
+        assert_eq!(rt; editor.refuse_names(&call), refusal, "{tracks}");
     }
     Ok(())
 }

@@ -1,5 +1,5 @@
 use Rattle.edit_apply.specs.Apply.{names_of}
-use Rattle.edit_apply.specs.RoomyLaws.{tracks-good}
+use Rattle.edit_apply.specs.LinkLaws.{tracks-good}
 use Rattle.edit_apply.proofs.Standing.{tracks-again, tracks-named}
 use Rattle.edit_apply.proofs.editor.EditorPartObject.apply.Goals as goal
 
