@@ -1,5 +1,5 @@
 -- Lists of the one, two or three tracks of a test, and the calls that name them.
-use Rattle.std.proofs.Common.{◌≡◌, ℕ, suc, zero, true, List, [], ◌∷◌, ◌++◌, All, map, nat_eq, sym, ap, ◌∙◌, refl, arith, subst}
+use Rattle.std.proofs.Common.{◌≡◌, ℕ, suc, zero, true, List, [], ◌∷◌, ◌++◌, All, nat_eq, sym, ap, ◌∙◌, refl, arith, subst}
 use Rattle.std.specs.List.{list_any}
 use Rattle.std.proofs.lemmas.List.Elements.{All-append, All-cons}
 use Rattle.composables.specs.OwnTracks.{numbers_of}
