@@ -60,6 +60,7 @@ impl<'a, R: Wait, G: Gate, J: Naming<Editor, Track>> Session<'a, R, G, J> {
     ghost use Rattle.line_words.specs.Told.{line_told};
     ghost use Rattle.call_text.specs.CallTexts.{IsWritten, NamesWritten};
     ghost use Rattle.reply_text.specs.Replies.{fault_of};
+    ghost use Rattle.station_sessions.specs.Rooms.{wish_in};
     ghost use Rattle.station_sessions.specs.Session.{IsMeant, Replies, RepliesShort, RepliesTo};
     ghost use Rattle.station_sessions.specs.Transcript.{Bad, Do, Point, See, Write};
 
@@ -172,7 +173,17 @@ impl<'a, R: Wait, G: Gate, J: Naming<Editor, Track>> Session<'a, R, G, J> {
         requires { self.old.course.line + 1 < 2 ^ 32 }
         ensures { RepliesTo self.old self.new (line_told end text.now) result }
     {
-        match self.said(end, text) {
+        let read = self.said(end, text);
+        self.reply_to(read)
+    }
+
+    // The reply to what a line was read as.
+    fn reply_to(&mut self, read: Result<Line, LineFault>) -> Reply
+        requires written { IfOk read (λ line. NamesWritten line) }
+        requires line { self.old.course.line + 1 < 2 ^ 32 }
+        ensures { Replies self.old self.new (wish_in read) result }
+    {
+        match read {
             Ok(line) => match line {
                 Line::Edit(call) => Reply::Short(ended(self.reply_to_edit(call))),
                 Line::Ask(ask) => self.reply_to_ask(&ask),
