@@ -289,6 +289,12 @@ all_kept room counting start stations before after items old new n passes same m
       kept = subst (λ (l : List SeatState). map Some passes ≡ map (λ (s : SeatState). s.pass) l) there kept;
     }
 
+pub held_back : (items old new : List SeatState) (n k : ℕ) → old ≡ items → n ≡ length items → length new ≡ length old → k < length (take n (new ++ drop (length new) items)) → k < length items
+held_back items old new n k same count all low =
+    let many : length new ≡ length items = all ∙ ap length same in
+    let there : length (take n (new ++ drop (length new) items)) ≡ length new = ap length (back items new n count many) in
+    omega (arith, low, there, many)
+
 pub fault_back : (items old new : List SeatState) (n : ℕ) (fault : Status) → old ≡ items → n ≡ length items → length new ≡ length old
     → fault ≡ first_fault (map status_of (map (λ (s : SeatState). s.end) (take n (new ++ drop (length new) items)))) → fault ≡ first_fault (map status_of (map (λ (s : SeatState). s.end) new))
 fault_back items old new n fault same count all first =

@@ -1,7 +1,7 @@
 -- What words ask for, by how many there are.
-use Rattle.std.proofs.Common.{◌≡◌, ◌≢◌, ℕ, Bool, true, false, List, [], ◌∷◌, length, drop, Option, Some, None, slice_get, refl, sym, ◌∙◌, arith}
-use Rattle.std.specs.Prelude.{codes, if◌then◌else◌}
-use Rattle.std.specs.Str.{bytes_eq}
+use Rattle.std.proofs.Common.{◌≡◌, ◌≢◌, ℕ, Bool, true, false, if◌then◌else◌, List, [], ◌∷◌, length, drop, Option, Some, None, slice_get, refl, ap, ◌∙◌, arith}
+use Rattle.std.specs.Prelude.{codes, bytes_eq}
+use Rattle.std.proofs.lemmas.Option.{none-some, same_Some}
 use Rattle.std.proofs.lemmas.Slice.Eq.{bytes_eq-Decides}
 use Rattle.cut_server.specs.Commands.{Asked, command_of, run_of, serve_of, hall_of}
 
@@ -33,18 +33,23 @@ no_serve_words (a ∷ p ∷ q ∷ r ∷ s ∷ t ∷ []) n = refl
 no_serve_words (a ∷ p ∷ q ∷ r ∷ s ∷ t ∷ u ∷ []) n = absurd (n refl)
 no_serve_words (a ∷ p ∷ q ∷ r ∷ s ∷ t ∷ u ∷ v ∷ ws) n = refl
 
-some_same : {A : Type 0} (a b : A) → ◌≡◌ {A = Option A} (Some a) (Some b) → a ≡ b
-some_same a b h = cc
+unlike : (a b : List ℕ) → (a ≡ b → ⊥) → bytes_eq a b ≡ false
+unlike a b other = at (bytes_eq a b) refl
+  where
+    at : (t : Bool) → bytes_eq a b ≡ t → bytes_eq a b ≡ false
+    at true e = absurd (other ((bytes_eq-Decides a b).0 e))
+    at false e = e
 
-neither : (r s : Bool) (x y : Option Asked) → (r ≡ true → ⊥) → (s ≡ true → ⊥) → (if r then x else (if s then y else None)) ≡ None
-neither true s x y a b = absurd (a refl)
-neither false true x y a b = absurd (b refl)
-neither false false x y a b = refl
+neither_at : (run serve : Bool) (ws : List (List ℕ)) → run ≡ false → serve ≡ false
+    → ◌≡◌ {A = Option Asked} None (if run then run_of ws else (if serve then serve_of ws else None))
+neither_at true serve ws r s = absurd (Prim.grind (arith, r))
+neither_at false true ws r s = absurd (Prim.grind (arith, s))
+neither_at false false ws r s = refl
 
--- words that begin with no command
-pub no_command : (ws : List (List ℕ)) (w : List ℕ) → slice_get ws 0 ≡ Some w → w ≢ codes "run" → w ≢ codes "serve" → command_of ws ≡ None
-no_command [] w first a b = refl
-no_command (x ∷ xs) w first a b =
-    let same : x ≡ w = some_same x w first in
-    neither (bytes_eq x (codes "run")) (bytes_eq x (codes "serve")) (run_of xs) (serve_of xs)
-    (λ e. a (sym same ∙ (bytes_eq-Decides x (codes "run")).0 e)) (λ e. b (sym same ∙ (bytes_eq-Decides x (codes "serve")).0 e))
+-- words whose first is neither of these two ask for nothing
+pub neither : (ws : List (List ℕ)) (first : List ℕ) → slice_get ws 0 ≡ Some first → (first ≡ codes "run" → ⊥) → (first ≡ codes "serve" → ⊥) → None ≡ command_of ws
+neither [] first is r s = absurd (none-some first is)
+neither (a ∷ ws) first is r s =
+    let same : a ≡ first = same_Some a first is in
+    neither_at (bytes_eq a (codes "run")) (bytes_eq a (codes "serve")) ws (ap (λ (w : List ℕ). bytes_eq w (codes "run")) same ∙ unlike first (codes "run") r)
+    (ap (λ (w : List ℕ). bytes_eq w (codes "serve")) same ∙ unlike first (codes "serve") s)

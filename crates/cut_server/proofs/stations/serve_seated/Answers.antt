@@ -3,7 +3,7 @@ use Rattle.cut_server.specs.Documents.{files_told}
 use Rattle.cut_server.specs.Halls.{FileEnds, hall_told}
 use Rattle.cut_server.specs.Seated.{IsReady, SeatState}
 use Rattle.station_sessions.specs.Rooms.{History}
-use Rattle.cut_server.proofs.AllStations.{all_in, all_kept, all_served, fault_back, has_served, is_closed, numbers_back}
+use Rattle.cut_server.proofs.AllStations.{all_in, all_kept, all_served, fault_back, has_served, held_back, is_closed, numbers_back}
 use Rattle.cut_server.proofs.Seating.{seated_ready}
 use Rattle.cut_server.proofs.stations.serve_seated.Goals as goal
 
@@ -15,6 +15,10 @@ pub stand_all_up-fault-requires-clause-numbers : goal.stand_all_up-fault-require
 stand_all_up-fault-requires-clause-numbers g c κs within =
     numbers_back c.args.room c.args.setting.counting c.args.setting.start c.requires.seated.0 c.args.seats.items c.deref_mut.result.now c.serve_seats.new.seats c.args.seats.len
     c.deref_mut.ensures.value c.args.seats.ok.0 c.serve_seats.ensures.all c.requires.seated.1 c.serve_seats.ensures.served
+
+pub stand_all_up-fault-requires-clause-held : goal.stand_all_up-fault-requires-clause-held
+stand_all_up-fault-requires-clause-held g c κs within = λ k low.
+    c.requires.held k (held_back c.args.seats.items c.deref_mut.result.now c.serve_seats.new.seats c.args.seats.len k c.deref_mut.ensures.value c.args.seats.ok.0 c.serve_seats.ensures.all low)
 
 pub close-entries-requires : goal.close-entries-requires
 close-entries-requires g c =
