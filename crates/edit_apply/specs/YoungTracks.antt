@@ -1,5 +1,5 @@
 -- How far the item numbers of tracks have risen: each call raises the next item number of a track by two at most.
-use Rattle.std.proofs.Common.{◌≡◌, ℕ, zero, suc, ℤ, pos, negsuc, ◌+◌, ◌-◌, ◌<◌, ◌≤◌, Bool, true, false, cond, eqb, min, List, [], ◌∷◌, ◌++◌, All, length, map, take, drop, Option, Some, None, IfSome, Result, Ok, Err, refl, sym, ◌∙◌, arith, subst, nat_lt, unwrap_or}
+use Rattle.std.proofs.Common.{◌≡◌, ℕ, zero, suc, ℤ, pos, negsuc, ◌+◌, ◌-◌, ◌<◌, ◌≤◌, Bool, true, false, cond, eqb, min, List, [], ◌∷◌, All, length, map, take, drop, Option, Some, None, IfSome, Result, Ok, Err, refl, sym, arith, subst, nat_lt, unwrap_or}
 use Rattle.std.proofs.lemmas.List.Elements.{All-cons}
 use Rattle.frame_meaning.specs.declared.cells.What.{What}
 use Rattle.composables.specs.declared.calls.Overwrite.{Overwrite}
@@ -111,7 +111,6 @@ gap_young n k = by (eqb k 0) where
 pub young-padded : (n : ℕ) (t : TrackState) (at : ℕ) → IsYoung n t → IsYoung n (padded_track t at)
 young-padded n t at h = record {
   item = h.item;
- 
   plain = plain-append n t.cells (cells_of (gap_views (at - length t.cells))) h.plain
       (plain-views n (gap_views (at - length t.cells)) (gap_young n (at - length t.cells)));
 }
@@ -264,7 +263,6 @@ young-slice n ts c h = on-own-young n (n + 2) c.track (slice_track c) ts (omega 
 young_marked : (n : ℕ) (t : TrackState) (p : ℕ) (mark : Option Mark) → IsYoung n t → IsYoung (n + 2) (marked_track t p mark)
 young_marked n t p mark y = record {
   item = omega (arith, y.item);
- 
   plain = plain-marked (n + 2) t.cells p mark (plain-more n (n + 2) t.cells (omega arith) y.plain);
 }
 
@@ -328,7 +326,6 @@ young-trim n table ts c h = on-own-young n (n + 2) c.track (trim_track table c) 
 young_moved : (n : ℕ) (t : TrackState) (x y on back : ℕ) → IsYoung n t → IsYoung (n + 2) (slipped_by t x y on back)
 young_moved n t x y on back h = record {
   item = omega (arith, h.item);
- 
   plain = plain-changed (n + 2) x y on back t.cells (plain-more n (n + 2) t.cells (omega arith) h.plain);
 }
 
@@ -353,7 +350,6 @@ young_linked n l on back (t ∷ ts) h =
       moved : IsYoung (n + 2) (track_moved l on back t)
       moved = record {
         item = omega (arith, y.item);
-       
         plain = plain_linked (n + 2) l on back t.cells (plain-more n (n + 2) t.cells (omega arith) y.plain);
       }
 
