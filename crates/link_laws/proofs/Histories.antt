@@ -130,15 +130,15 @@ module _ {C : Type 0} (table : Table) (m : Meaning TrackState C Done Refusal) wh
       record { together = subst Together same g; little = omega (arith, ap weight same) }
   history all qs (e ∷ es) k h few v g good comes =
       by (whole m all e.call) (one_call all e.call k h few v good.0 g) (given_call m all e.call k.given h few v) good.1 comes (λ us l. history us qs es l) where
-    by : (r : Applied) → StayTogether all r → GivenIn all r × Ordered (length all) r → GoodBefore table (whole m) (state_in r) es
-        → fold (after_entry (whole m)) (state_in r) es ≡ Some qs
-        → ((us : List TrackState) → CallsKeepTogether table (length us) m → Numbered 0 us → length us ≤ 32 → AreGiven us → Together us → GoodBefore table (whole m) (Some us) es
-        → replay (whole m) us es ≡ Some qs → AreAfter us qs (length es))
-        → AreAfter all qs (length (e ∷ es))
-    by (Ok (us, d)) s v gs cs later =
-        let r = later us (subst (λ (n : ℕ). CallsKeepTogether table n m) (sym v.1.1) k) v.1.0 (omega (arith, v.1.1, few)) v.0.0 s.together gs cs in
-        record { together = r.together; little = omega (arith, r.little, s.little) }
-    by (Err why) s v gs cs later = let none = sym (past_state m es) ∙ cs in absurd (Prim.grind (arith, none))
+        by : (r : Applied) → StayTogether all r → GivenIn all r × Ordered (length all) r → GoodBefore table (whole m) (state_in r) es
+            → fold (after_entry (whole m)) (state_in r) es ≡ Some qs
+            → ((us : List TrackState) → CallsKeepTogether table (length us) m → Numbered 0 us → length us ≤ 32 → AreGiven us → Together us → GoodBefore table (whole m) (Some us) es
+            → replay (whole m) us es ≡ Some qs → AreAfter us qs (length es))
+            → AreAfter all qs (length (e ∷ es))
+        by (Ok (us, d)) s v gs cs later =
+            let r = later us (subst (λ (n : ℕ). CallsKeepTogether table n m) (sym v.1.1) k) v.1.0 (omega (arith, v.1.1, few)) v.0.0 s.together gs cs in
+            record { together = r.together; little = omega (arith, r.little, s.little) }
+        by (Err why) s v gs cs later = let none = sym (past_state m es) ∙ cs in absurd (Prim.grind (arith, none))
 
 pub histories-together : {C : Type 0} → HistoriesStayTogether C
 histories-together table m all qs es k h few v g good comes = history table m all qs es k h few v g good comes
