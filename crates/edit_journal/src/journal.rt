@@ -29,8 +29,12 @@ impl<O: PartObject> Model for Blank<O> {
 
     ghost Value = { Fresh O O.Part };
 
-    ghost view = { λ b. record { table = b.words.shared.table_id; opening = b.seat.me.0.opening;
-        parts = b.parts; stations = b.stations } };
+    ghost view = { λ b. record {
+      table = b.words.shared.table_id;
+      opening = b.seat.me.0.opening;
+      parts = b.parts;
+      stations = b.stations;
+    } };
 
     ghost invariant = { λ b. (b.words.shared.table_id.words ≡ 1)
         × (b.seat.table_id ≡ b.words.shared.table_id)

@@ -28,8 +28,11 @@ pub fn open<O: PartObject>(
 ) -> Result<(Words<O>, Token<O>), AllocError>
     ensures { IfOk result (λ r. (r.0.shared.table_id.words ≡ 1)
         × (r.1.table_id ≡ r.0.shared.table_id)
-        × (r.1.me ≡ (keeper (Some (beginning.now.object, beginning.now.parts.items))
-        (all_names beginning.now.part_count beginning.now.station_count) [], []))) }
+        × (r.1.me ≡ (
+          keeper (Some (beginning.now.object, beginning.now.parts.items))
+              (all_names beginning.now.part_count beginning.now.station_count) [],
+          [],
+        ))) }
 {
     Words::<O>::of_words(alloc, &[0], beginning)
 }

@@ -24,8 +24,11 @@ impl<O: PartObject, J: Naming<O, O::Part>> Model for PartSeat<O, J> {
 
     ghost Value = { Known O O.Part O.Call };
 
-    ghost view = { λ t. record { number = t.part; opening = t.token.me.0.opening;
-        entries = t.token.me.0.entries } };
+    ghost view = { λ t. record {
+      number = t.part;
+      opening = t.token.me.0.opening;
+      entries = t.token.me.0.entries;
+    } };
 
     ghost invariant = { λ t. (t.token.table_id ≡ J.table) × IsSome J.opening
         × (t.token.me ≡ (bearer J.opening (Part t.part ∷ []) t.token.me.0.entries, [])) };
@@ -59,8 +62,11 @@ impl<O: PartObject, J: Naming<O, O::Part>> Model for Pass<O, J> {
 
     ghost Value = { Known O O.Part O.Call };
 
-    ghost view = { λ t. record { number = t.station; opening = t.token.me.0.opening;
-        entries = t.token.me.0.entries } };
+    ghost view = { λ t. record {
+      number = t.station;
+      opening = t.token.me.0.opening;
+      entries = t.token.me.0.entries;
+    } };
 
     ghost invariant = { λ t. (t.token.table_id ≡ J.table) × IsSome J.opening
         × (t.token.me ≡ (bearer J.opening (Station t.station ∷ []) t.token.me.0.entries, []))

@@ -27,8 +27,11 @@ impl<'a, O: PartObject, J: Naming<O, O::Part>> Model for Turn<'a, O, J> {
 
     ghost Value = { AtJournal O O.Part O.Call };
 
-    ghost view = { λ t. record { journal = (mutex_guard_value t.log).0;
-        room = (mutex_guard_value t.log).1; tokens = t.tokens } };
+    ghost view = { λ t. record {
+      journal = (mutex_guard_value t.log).0;
+      room = (mutex_guard_value t.log).1;
+      tokens = t.tokens;
+    } };
 
     ghost invariant = { λ t. (t.words.now.shared.table_id ≡ J.table) × (J.table.words ≡ 1) };
 }

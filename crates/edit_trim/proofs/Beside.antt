@@ -1,6 +1,6 @@
 -- How many dark places stand beside an item.
-use Rattle.std.proofs.Common.{◌≡◌, ◌≢◌, ℕ, zero, suc, ◌+◌, ◌-◌, ◌<◌, ◌≤◌, ◌^◌, ◌⊎◌, ⊎_elim, Bool, true, false, ◌&&◌, leb, ltb, List, [], ◌∷◌, length, take, drop, Option, Some, None, IsSome, IsNone, slice_get, refl, sym, ap, ◌∙◌, arith, subst, get_or}
-use Rattle.std.proofs.lemmas.Bool.{leb-true, leb-false, le-leb, lt-leb, lt-ltb, cases_lt}
+use Rattle.std.proofs.Common.{◌≡◌, ◌≢◌, ℕ, zero, suc, ◌+◌, ◌-◌, ◌<◌, ◌≤◌, ⊎_elim, Bool, true, false, ◌&&◌, leb, List, [], ◌∷◌, length, take, Option, Some, None, slice_get, refl, sym, ap, ◌∙◌, arith, subst, get_or}
+use Rattle.std.proofs.lemmas.Bool.{le-leb, lt-leb, cases_lt}
 use Rattle.std.proofs.lemmas.List.{take_all}
 use Rattle.std.proofs.lemmas.Option.{slice_get_within, slice_get-get_or, get_or_from_slice_get}
 use Rattle.frame_meaning.specs.declared.cells.Cell.{Cell}
@@ -10,7 +10,7 @@ use Rattle.composables.specs.declared.items.ItemView.{ItemView}
 use Rattle.composables.specs.declared.items.Place.{Place}
 use Rattle.composables.specs.Places.{StandsAt}
 use Rattle.composables.specs.declared.TheConstants.{MAX_FRAMES}
-use Rattle.composables.specs.Items.{cell_in, items_of}
+use Rattle.composables.specs.Items.{items_of}
 use Rattle.composables.specs.Joined.{AllFilled, IsTight, frames_in}
 use Rattle.composables.specs.TrackFacts.{IsKept}
 use Rattle.composables.specs.TrackState.{TrackState}

@@ -1,5 +1,5 @@
 -- Tracks on which all that has a link shows other source frames.
-use Rattle.std.proofs.Common.{◌≡◌, ℕ, zero, suc, ◌+◌, ◌-◌, ◌<◌, ◌≤◌, Bool, true, false, cond, List, [], ◌∷◌, ◌++◌, All, length, map, take, get_or, Option, Some, None, slice_get, refl, sym, ap, ◌∙◌, arith, subst}
+use Rattle.std.proofs.Common.{◌≡◌, ℕ, zero, suc, ◌+◌, ◌-◌, ◌<◌, ◌≤◌, Bool, true, false, cond, List, [], ◌∷◌, ◌++◌, All, length, map, get_or, Option, Some, None, slice_get, refl, sym, ap, ◌∙◌, arith, subst}
 use Rattle.std.proofs.Math.ListN.{set}
 use Rattle.std.proofs.lemmas.List.{map-append}
 use Rattle.std.proofs.lemmas.Option.{slice_get_within}
@@ -16,7 +16,7 @@ use Rattle.composables.specs.declared.media.Table.{Table}
 use Rattle.composables.specs.Changes.{changed_at, changed_track, side_from, with_source}
 use Rattle.composables.specs.Good.{AllUnlinked, IsGood, SideLiesIn}
 use Rattle.composables.specs.Items.{cells_of, items_of, marked, view_cells}
-use Rattle.composables.specs.TrackFacts.{HasSource, first_mark, left_reach, right_reach}
+use Rattle.composables.specs.TrackFacts.{HasSource, left_reach, right_reach}
 use Rattle.composables.specs.TrackState.{TrackState}
 use Rattle.edit_splice.specs.Standing.{EachStaysGood, StaysGood}
 use Rattle.edit_splice.proofs.Standing.{all_head, all_tail}

@@ -151,9 +151,11 @@ moves_more : (table : Table) (l : Link) (i : ℕ) (vs : List ItemView) (v : Item
     → (carries l v.link ≡ true → ShowsMoved table v (mark_of (slice_get vs (suc i))) on back) → FrontMoves table l (suc i) vs on back
 moves_more table l i [] v on back e k h = absurd (omega (arith, slice_get_within [] i v e))
 moves_more table l zero (w ∷ ws) v on back e k h =
-    let same : w ≡ v = cc in
-    (λ c. subst (λ (m : Option Mark). ShowsMoved table w m on back) (sym (first-of-rest ws))
-        (subst (λ (u : ItemView). ShowsMoved table u (mark_of (slice_get ws 0)) on back) (sym same) (h (subst (λ (u : ItemView). carries l u.link ≡ true) same c))), tt)
+    let same : w ≡ v = cc in (
+      λ c. subst (λ (m : Option Mark). ShowsMoved table w m on back) (sym (first-of-rest ws))
+          (subst (λ (u : ItemView). ShowsMoved table u (mark_of (slice_get ws 0)) on back) (sym same) (h (subst (λ (u : ItemView). carries l u.link ≡ true) same c))),
+      tt,
+    )
 moves_more table l (suc i) (w ∷ ws) v on back e k h = (k.0, moves_more table l i ws v on back e k.1 h)
 
 pub front-start : (table : Table) (l : Link) (vs : List ItemView) (r : Room) → r.earlier ≡ 4294967295 → r.later ≡ 4294967295 → RoomFront table l 0 vs r

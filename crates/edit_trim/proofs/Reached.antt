@@ -1,11 +1,10 @@
 -- A ripple's shift splits links as they are split cell by cell, also where an item reaches back.
-use Rattle.std.proofs.Common.{◌≡◌, ◌≢◌, ℕ, zero, suc, ◌+◌, ◌-◌, ◌<◌, ◌≤◌, ◌⊎◌, inl, inr, Bool, true, false, cond, eqb, ltb, min, max, List, [], ◌∷◌, ◌++◌, All, take, drop, map, length, get_or, unwrap_or, Option, Some, None, IfSome, Result, Ok, slice_get, refl, sym, ap, ◌∙◌, arith, subst, append_assoc, ⊎_elim}
-use Rattle.std.proofs.lemmas.Bool.{cases_lt, eqb-false, eqb-true, ltb-false, ltb-true, ne_eqb}
-use Rattle.std.proofs.lemmas.List.{append-nil, drop-append-le, drop_all, get_or-append-add, get_or-drop, get_or-map, length-append, length-drop, length-take, length-take-le, map-append, take-append-le, take_all, take_at}
+use Rattle.std.proofs.Common.{◌≡◌, ◌≢◌, ℕ, zero, suc, ◌+◌, ◌-◌, ◌<◌, ◌≤◌, Bool, true, false, cond, eqb, ltb, min, List, [], ◌∷◌, ◌++◌, All, take, drop, map, length, get_or, unwrap_or, Option, Some, None, IfSome, Ok, slice_get, refl, sym, ap, ◌∙◌, arith, subst, append_assoc}
+use Rattle.std.proofs.lemmas.Bool.{eqb-false, eqb-true, ltb-false, ltb-true, ne_eqb}
+use Rattle.std.proofs.lemmas.List.{append-nil, drop-append-le, drop_all, get_or-append-add, get_or-drop, get_or-map, length-append, length-drop, length-take, map-append, take_all, take_at}
 use Rattle.std.proofs.lemmas.Option.{slice_get_within}
 use Rattle.frame_meaning.specs.declared.cells.Cell.{Cell}
 use Rattle.frame_meaning.specs.declared.cells.Link.{Link}
-use Rattle.frame_meaning.specs.declared.cells.Mark.{Mark}
 use Rattle.frame_meaning.specs.declared.cells.What.{What}
 use Rattle.frame_meaning.specs.declared.frames.Side.{Side}
 use Rattle.frame_meaning.specs.Cells.{dark_cell, next_side, span}
@@ -33,22 +32,22 @@ use Rattle.edit_delta.specs.Reaching.{going_on, reaching_back}
 use Rattle.edit_delta.proofs.Spots.{Spot, spot-head}
 use Rattle.edit_splice.specs.declared.shifting.Shift.{Shift}
 use Rattle.edit_splice.specs.Moves.{IsShiftOf, all_moved, moved, put_views}
-use Rattle.edit_splice.specs.Padding.{new_len, new_views}
-use Rattle.edit_splice.specs.Shifts.{after_shift, shift_of, shift_refusal, shifted}
+use Rattle.edit_splice.specs.Padding.{new_views}
+use Rattle.edit_splice.specs.Shifts.{shift_of, shift_refusal, shifted}
 use Rattle.edit_splice.specs.Splicing.{spliced_track}
 use Rattle.edit_splice.proofs.Bridging.{extract-moved}
 use Rattle.edit_splice.proofs.Cellwise.{cell-before, cell-between}
 use Rattle.edit_splice.proofs.Keeping.{length-spliced}
 use Rattle.edit_splice.proofs.Numbers.{next-append}
-use Rattle.edit_splice.proofs.Moving.{frames-put, length-none, put-along, put-none, put-own}
+use Rattle.edit_splice.proofs.Moving.{frames-put, length-none, put-along, put-own}
 use Rattle.edit_splice.proofs.Padding.{frames-gap}
 use Rattle.edit_splice.proofs.Surviving.{length-marks}
 use Rattle.edit_trim.specs.Rippling.{as_split}
-use Rattle.link_groups.specs.LinkedShifts.{linked_after, linked_refusal, linked_shift, split_items}
+use Rattle.link_groups.specs.LinkedShifts.{linked_shift, split_items}
 use Rattle.link_groups.specs.Renumbering.{IsUncut}
 use Rattle.link_groups.proofs.ItemCounts.{SameItems, count-same, same-append, same-items, same-length}
 use Rattle.link_groups.proofs.LinkedShifts.{EachUncut, long-same, many-same, tracks-same, within-kept}
-use Rattle.link_groups.proofs.Meant.{ends-new, ends-none, shift-meant, uncut-beyond, uncut-moved}
+use Rattle.link_groups.proofs.Meant.{ends-new, ends-none, uncut-beyond, uncut-moved}
 use Rattle.link_groups.proofs.ShiftLinks.{splits-moved}
 use Rattle.link_groups.proofs.SplitCells.{items-cells, view-moved}
 use Rattle.link_groups.proofs.Uncut.{EndsApart, cell-there, uncut-by}

@@ -1,5 +1,5 @@
 -- The tracks on which a ripple's shift is made.
-use Rattle.std.proofs.Common.{◌≡◌, ◌≢◌, ℕ, zero, suc, ◌+◌, ◌-◌, ◌<◌, ◌≤◌, ◌^◌, Bool, true, false, cond, eqb, leb, ltb, ◌&&◌, ◌||◌, min, List, [], ◌∷◌, ◌++◌, All, length, get_or, Option, Some, None, refl, sym, ap, ◌∙◌, arith, subst, slice_get}
+use Rattle.std.proofs.Common.{◌≡◌, ◌≢◌, ℕ, zero, suc, ◌+◌, ◌-◌, ◌<◌, ◌≤◌, ◌^◌, Bool, true, false, cond, eqb, leb, ltb, ◌&&◌, ◌||◌, min, List, [], ◌∷◌, ◌++◌, All, length, get_or, Some, refl, sym, ap, ◌∙◌, arith, subst, slice_get}
 use Rattle.std.proofs.lemmas.Bool.{eq-eqb, eqb-true, eqb-false, leb-true}
 use Rattle.frame_meaning.specs.declared.cells.What.{What}
 use Rattle.frame_meaning.specs.declared.frames.Side.{Side}
@@ -25,7 +25,7 @@ use Rattle.edit_splice.specs.declared.shifting.Shift.{Shift}
 use Rattle.edit_splice.specs.Laws.{IsWithinLimits}
 use Rattle.edit_splice.specs.Moves.{IsShiftOf, moved, put_views}
 use Rattle.edit_splice.specs.Padding.{new_len, new_views}
-use Rattle.edit_splice.specs.PutIn.{alone, reaching_back as reaches, ReachesBack, StandAlone}
+use Rattle.edit_splice.specs.PutIn.{alone, reaching_back as reaches, StandAlone}
 use Rattle.edit_splice.specs.Splicing.{spliced_track}
 use Rattle.edit_splice.specs.Standing.{StaysGood}
 use Rattle.edit_splice.proofs.Bridging.{StaysMoved, is-shift, put-moved}

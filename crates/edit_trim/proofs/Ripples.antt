@@ -1,6 +1,6 @@
 -- A ripple as it is meant, and as a shift of all named tracks.
-use Rattle.std.proofs.Common.{◌≡◌, ◌≢◌, ℕ, zero, suc, ◌+◌, ◌-◌, ◌<◌, ◌≤◌, ◌^◌, Bool, true, false, cond, eqb, leb, ltb, ◌&&◌, min, ℤ, pos, negsuc, neg_ℤ, nat_abs, List, [], ◌∷◌, ◌++◌, All, drop, length, map, get_or, Option, Some, None, Result, Ok, Err, refl, sym, ap, ◌∙◌, arith, subst, w32, SFits, to_z, of_z, unwrap_or, ⊎_elim}
-use Rattle.std.proofs.lemmas.Bool.{eq-eqb, eqb-true, leb-false, leb-true, le-leb, le-ltb, lt-leb, lt-ltb, cases_lt}
+use Rattle.std.proofs.Common.{◌≡◌, ℕ, zero, suc, ◌+◌, ◌-◌, ◌<◌, ◌≤◌, ◌^◌, Bool, true, false, leb, ltb, ◌&&◌, min, ℤ, pos, neg_ℤ, nat_abs, List, [], ◌∷◌, ◌++◌, All, drop, length, get_or, Option, Some, None, Ok, refl, sym, ap, ◌∙◌, arith, subst, w32, SFits, to_z, of_z, ⊎_elim}
+use Rattle.std.proofs.lemmas.Bool.{leb-false, leb-true, le-leb, le-ltb, lt-leb, lt-ltb, cases_lt}
 use Rattle.std.proofs.lemmas.List.{drop_all, drop_more}
 use Rattle.std.proofs.lemmas.Int.{to_z-of_z}
 use Rattle.std.specs.Int.Signed.{nat_abs-le}
@@ -18,11 +18,9 @@ use Rattle.composables.specs.declared.items.Place.{Place}
 use Rattle.composables.specs.declared.media.Table.{Table}
 use Rattle.composables.specs.declared.refusals.Done.{Done}
 use Rattle.composables.specs.declared.refusals.Done.TheVariants.{By}
-use Rattle.composables.specs.declared.refusals.Refusal.{Refusal}
-use Rattle.composables.specs.declared.TheConstants.{MAX_FRAMES}
 use Rattle.composables.specs.Answers.{Applied}
-use Rattle.composables.specs.Good.{AllUnlinked, IsGood}
-use Rattle.composables.specs.Items.{cell_in, items_of}
+use Rattle.composables.specs.Good.{IsGood}
+use Rattle.composables.specs.Items.{cell_in}
 use Rattle.composables.specs.OwnTracks.{track_numbered}
 use Rattle.composables.specs.TrackFacts.{HasSource}
 use Rattle.composables.specs.TrackState.{TrackState}

@@ -1,5 +1,5 @@
 -- What a slip of an item at its place means, and the source frames that it shows after it.
-use Rattle.std.proofs.Common.{◌≡◌, ℕ, zero, suc, ◌+◌, ◌-◌, ◌<◌, ◌≤◌, ◌^◌, Bool, true, List, [], ◌∷◌, length, ℤ, Option, Some, None, IfSome, Result, Ok, slice_get, take, refl, sym, ap, ◌∙◌, arith, subst, w32, to_z, of_z, SFits}
+use Rattle.std.proofs.Common.{◌≡◌, ℕ, zero, suc, ◌+◌, ◌-◌, ◌<◌, ◌≤◌, ◌^◌, Bool, true, List, [], ◌∷◌, length, ℤ, Option, Some, None, IfSome, Ok, slice_get, take, refl, sym, ap, ◌∙◌, arith, subst, w32, to_z, of_z, SFits}
 use Rattle.std.proofs.lemmas.Bool.{leb-true, ltb-true}
 use Rattle.std.proofs.lemmas.List.{take_all}
 use Rattle.std.proofs.lemmas.Option.{slice_get_within}
@@ -14,7 +14,6 @@ use Rattle.composables.specs.declared.items.ItemView.{ItemView}
 use Rattle.composables.specs.declared.items.Place.{Place}
 use Rattle.composables.specs.declared.media.Table.{Table}
 use Rattle.composables.specs.declared.refusals.Done.{Done}
-use Rattle.composables.specs.declared.refusals.Refusal.{Refusal}
 use Rattle.composables.specs.Bounds.{bounds_of}
 use Rattle.composables.specs.Changes.{changed_track, side_from, with_source}
 use Rattle.composables.specs.Good.{EachLiesIn, IsGood, LiesIn, SideLiesIn}

@@ -1,5 +1,5 @@
 -- A track of which an item shows other source frames.
-use Rattle.std.proofs.Common.{◌≡◌, ℕ, zero, suc, ◌+◌, ◌-◌, ◌<◌, ◌≤◌, ◌^◌, Bool, true, false, List, [], ◌∷◌, ◌++◌, length, length-append, map, take, drop, Option, Some, None, IfSome, slice_get, refl, sym, ap, ◌∙◌, arith, subst, append_assoc}
+use Rattle.std.proofs.Common.{◌≡◌, ℕ, zero, suc, ◌+◌, ◌-◌, ◌≤◌, List, [], ◌∷◌, ◌++◌, length, length-append, map, take, drop, Option, Some, None, IfSome, slice_get, refl, sym, ap, ◌∙◌, arith, subst, append_assoc}
 use Rattle.std.proofs.Math.Seq.{take-append-add, take-append_seam, drop-append-add, drop-append_seam}
 use Rattle.std.proofs.lemmas.Option.{slice_get_within}
 use Rattle.frame_meaning.specs.declared.cells.What.{What}
@@ -10,18 +10,16 @@ use Rattle.frame_meaning.specs.declared.cells.Cell.{Cell}
 use Rattle.frame_meaning.specs.declared.frames.Side.{Side}
 use Rattle.frame_meaning.specs.declared.frames.Side.TheVariants.{Dark, Pic}
 use Rattle.frame_meaning.specs.Cells.{next_side, span}
-use Rattle.frame_meaning.specs.Render.{cell_at, moved}
+use Rattle.frame_meaning.specs.Render.{moved}
 use Rattle.composables.specs.declared.items.ItemView.{ItemView}
 use Rattle.composables.specs.declared.media.Table.{Table}
-use Rattle.composables.specs.Bounds.{bounds_of}
 use Rattle.composables.specs.Changes.{changed_at, changed_track, side_from, with_source}
-use Rattle.composables.specs.Good.{AllUnlinked, EachLiesIn, EachLinkOf, IsGood, LiesIn, SideLiesIn}
+use Rattle.composables.specs.Good.{AllUnlinked, EachLiesIn, EachLinkOf, IsGood, SideLiesIn}
 use Rattle.composables.specs.Items.{cells_of, items_of, marked, view_cells}
-use Rattle.composables.specs.Joined.{AllFilled, IsTight, frames_in}
+use Rattle.composables.specs.Joined.{frames_in}
 use Rattle.composables.specs.TrackFacts.{Apart, EachHolds, HasSource, Holds, IsKept, IsNoNest, Lacks, NumbersBelow, ShowsAsItem, first_mark, left_reach, right_reach}
 use Rattle.composables.specs.TrackState.{TrackState}
 use Rattle.composables.proofs.Changing.{LeavesShape, filled-changed, frames_in-changed, tight-changed}
-use Rattle.composables.proofs.Frames.{no_view}
 use Rattle.composables.proofs.Joining.{items_of-tight, length-cells_of}
 use Rattle.edit_splice.specs.Standing.{StaysGood}
 use Rattle.edit_splice.proofs.Keeping.{stand_of}

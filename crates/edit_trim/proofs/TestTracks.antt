@@ -1,6 +1,7 @@
 -- Lists of the one, two or three tracks of a test, and the calls that name them.
-use Rattle.std.proofs.Common.{◌≡◌, ℕ, suc, zero, true, List, [], ◌∷◌, ◌++◌, All, map, nat_eq, sym, ap, ◌∙◌, refl, arith, subst}
+use Rattle.std.proofs.Common.{◌≡◌, ℕ, suc, zero, true, List, [], ◌∷◌, ◌++◌, All, nat_eq, sym, ap, ◌∙◌, refl, arith, subst}
 use Rattle.std.specs.List.{list_any}
+use Rattle.std.proofs.lemmas.List.Elements.{All-append, All-cons}
 use Rattle.composables.specs.OwnTracks.{numbers_of}
 use Rattle.composables.specs.TrackSets.{tracks_in}
 use Rattle.composables.specs.TrackState.{TrackState}
@@ -35,10 +36,6 @@ all-two P us vs ws t u e f g p q =
       each (suc (suc k)) d lt = absurd (omega (arith, lt))
 
 -- a set that names them
-pub named-one : (ns : List ℕ) (tracks : ℕ) → ns ≡ 0 ∷ [] → tracks ≡ 1 → ns ≡ tracks_in tracks
-unfolding tracks_in
-named-one ns tracks e f = e ∙ ap tracks_in (sym f)
-
 pub named-two : (ns : List ℕ) (tracks : ℕ) → ns ≡ 0 ∷ 1 ∷ [] → tracks ≡ 3 → ns ≡ tracks_in tracks
 unfolding tracks_in
 named-two ns tracks e f = e ∙ ap tracks_in (sym f)
@@ -47,6 +44,12 @@ pub named-three : (ns : List ℕ) (tracks : ℕ) → ns ≡ 0 ∷ 1 ∷ 2 ∷ []
 unfolding tracks_in
 named-three ns tracks e f = e ∙ ap tracks_in (sym f)
 
-pub first-named : (ns : List ℕ) (own tracks : ℕ) → ns ≡ tracks_in tracks → own ≡ 0 → (n : ℕ) → (ms : List ℕ) → ns ≡ 0 ∷ ms → list_any (nat_eq own) (tracks_in tracks) ≡ true
-first-named ns own tracks e f n ms g =
-    ap (list_any (nat_eq own)) (sym e) ∙ (ap (list_any (nat_eq own)) g ∙ ap (λ (k : ℕ). list_any (nat_eq k) (0 ∷ ms)) f)
+pub third-own : list_any (nat_eq 2) (tracks_in 7) ≡ true
+unfolding tracks_in
+third-own = refl
+
+-- one track more
+pub all-more : (P : TrackState → Type 0) (us vs : List TrackState) (t : TrackState) → All P us → vs ≡ us ++ t ∷ [] → P t → All P vs
+all-more P us vs t h f p = subst (λ (l : List TrackState). All P l) (sym f) (All-append P us (t ∷ []) h (All-cons P t [] p none)) where
+  none : All P []
+  none k d lt = absurd (omega (arith, lt))

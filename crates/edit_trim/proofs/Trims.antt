@@ -1,12 +1,10 @@
 -- What a trim of an item at its place means, and what it puts in.
-use Rattle.std.proofs.Common.{◌≡◌, ℕ, zero, suc, ◌+◌, ◌-◌, ◌<◌, ◌≤◌, ◌^◌, Bool, true, false, ◌&&◌, leb, ltb, min, ℤ, pos, neg_ℤ, List, [], ◌∷◌, length, Option, Some, None, Result, Ok, Err, refl, sym, ap, ◌∙◌, arith, subst, ⊎_elim, w32, SFits, to_z, of_z, option_map}
+use Rattle.std.proofs.Common.{◌≡◌, ℕ, ◌+◌, ◌-◌, ◌<◌, ◌≤◌, ◌^◌, Bool, true, false, ◌&&◌, leb, min, ℤ, List, [], ◌∷◌, length, Option, Some, None, Result, Ok, Err, refl, sym, ap, ◌∙◌, arith, subst, w32, SFits, to_z, of_z, option_map}
 use Rattle.std.proofs.lemmas.Int.{to_z-of_z}
-use Rattle.std.proofs.lemmas.Bool.{leb-true, le-leb, lt-leb, lt-ltb, le-ltb, cases_lt}
+use Rattle.std.proofs.lemmas.Bool.{leb-true}
 use Rattle.frame_meaning.specs.declared.cells.Cell.{Cell}
 use Rattle.frame_meaning.specs.declared.cells.What.{What}
 use Rattle.frame_meaning.specs.declared.frames.Side.{Side}
-use Rattle.frame_meaning.specs.declared.frames.Side.TheVariants.{Dark, Pic}
-use Rattle.frame_meaning.specs.Numbered.{SideIsNumbered}
 use Rattle.frame_meaning.specs.Cells.{later_side}
 use Rattle.frame_meaning.specs.Render.{cell_at}
 use Rattle.composables.specs.declared.calls.End.TheVariants.{Head, Tail}
@@ -19,14 +17,12 @@ use Rattle.composables.specs.Ranges.{range_of}
 use Rattle.edit_delta.specs.Using.{on_range}
 use Rattle.composables.specs.declared.media.Table.{Table}
 use Rattle.composables.specs.declared.refusals.Done.{Done}
-use Rattle.composables.specs.declared.refusals.Done.TheVariants.{By}
 use Rattle.composables.specs.declared.refusals.Refusal.{Refusal}
 use Rattle.composables.specs.declared.TheConstants.{MAX_FRAMES}
-use Rattle.composables.specs.Items.{cell_in, items_of}
+use Rattle.composables.specs.Items.{cell_in}
 use Rattle.composables.specs.Limits.{track_within_limits}
-use Rattle.composables.specs.TrackFacts.{HasSource}
 use Rattle.composables.specs.TrackState.{TrackState}
-use Rattle.composables.specs.Views.{gap_view, gap_views}
+use Rattle.composables.specs.Views.{gap_view}
 use Rattle.edit_delta.specs.declared.deltas.Way.TheVariants.{Earlier, Later, Still}
 use Rattle.edit_delta.specs.Nearest.{AreUpTo, lies_within, nearest}
 use Rattle.edit_delta.specs.Reaching.{going_on, has_after, has_before, keeps_a_cell, reaching_back}

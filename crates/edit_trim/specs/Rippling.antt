@@ -1,6 +1,6 @@
 -- What a ripple means, as OpenTimelineIO's editAlgorithm names it; its limits and named tracks are this project's own. An
 -- end of the item moves, and all that is behind it comes as much later or earlier on all named tracks.
-use Rattle.std.specs.Prelude.{◌≡◌, ◌<◌, ◌≤◌, Some, None, ℕ, zero, suc, ◌+◌, ◌-◌, ◌^◌, ℤ, pos, negsuc, nat_abs, Bool, true, ◌&&◌, ◌||◌, List, [], ◌∷◌, Option, Result, Ok, nat_eq, nat_le, nat_lt, length, unwrap_or, if◌then◌else◌}
+use Rattle.std.specs.Prelude.{◌≡◌, ◌<◌, ◌≤◌, Some, None, ℕ, zero, suc, ◌+◌, ◌-◌, ◌^◌, ℤ, pos, negsuc, nat_abs, Bool, true, ◌&&◌, ◌||◌, List, [], ◌∷◌, Option, Ok, nat_eq, nat_le, nat_lt, length, unwrap_or, if◌then◌else◌}
 use Rattle.frame_meaning.specs.Cells.{later_side}
 use Rattle.frame_meaning.specs.Numbered.{SideIsNumbered}
 use Rattle.frame_meaning.specs.Render.{cell_at}

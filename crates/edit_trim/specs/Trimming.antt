@@ -1,6 +1,6 @@
 -- What a trim means, as OpenTimelineIO's editAlgorithm names it; its limits are this project's own. The item's head or
 -- tail moves and nothing else. Frames that the item gives up become dark, and it grows only over dark frames.
-use Rattle.std.specs.Prelude.{ℕ, ◌+◌, ◌-◌, ℤ, Bool, ◌&&◌, List, [], ◌∷◌, Result, min, nat_lt, length}
+use Rattle.std.specs.Prelude.{ℕ, ◌+◌, ◌-◌, ℤ, Bool, ◌&&◌, List, [], ◌∷◌, Result, min, length}
 use Rattle.frame_meaning.specs.Render.{cell_at}
 use Rattle.composables.specs.declared.calls.End.{End}
 use Rattle.composables.specs.declared.calls.End.TheVariants.{Head, Tail}

@@ -52,12 +52,7 @@ pub fn slip_linked<L: Ledger>(
 }
 
 // The room that suits all that has the link on these tracks.
-fn room_among<L: Ledger>(
-    table: &Table,
-    named: &[Track],
-    link: Link,
-    steps: &mut Steps<L>,
-) -> Room
+fn room_among<L: Ledger>(table: &Table, named: &[Track], link: Link, steps: &mut Steps<L>) -> Room
     requires good { All (λ t. IsGood table.now t) named.now }
     ensures room { RoomAmong table.now link named.now result }
     ensures least { steps.old ≤ steps.new }
@@ -141,13 +136,7 @@ fn move_all<L: Ledger>(
 }
 
 // The same on one of the tracks.
-fn move_on<L: Ledger>(
-    table: &Table,
-    track: &mut Track,
-    link: Link,
-    way: Way,
-    steps: &mut Steps<L>,
-)
+fn move_on<L: Ledger>(table: &Table, track: &mut Track, link: Link, way: Way, steps: &mut Steps<L>)
     requires good { IsGood table.now track.old }
     requires moves { EachMoves table.now link (items_of track.old.cells)
         (on_of way) (back_of way) }

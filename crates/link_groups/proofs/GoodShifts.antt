@@ -1,5 +1,5 @@
 -- A shift of good tracks leaves good tracks, also where it splits links.
-use Rattle.std.proofs.Common.{◌≡◌, ℕ, ◌+◌, ◌-◌, ◌≤◌, Bool, true, false, cond, eqb, List, [], ◌∷◌, All, length, map, Option, Some, None, Result, Ok, Err, refl, sym, ap, ◌∙◌, arith, subst}
+use Rattle.std.proofs.Common.{◌≡◌, ℕ, ◌+◌, ◌-◌, Bool, true, false, cond, eqb, List, [], ◌∷◌, All, map, Option, Some, None, Result, Ok, Err, refl, sym, ap, ◌∙◌, arith, subst}
 use Rattle.std.proofs.lemmas.List.Elements.{All-cons}
 use Rattle.frame_meaning.specs.declared.cells.Link.{Link}
 use Rattle.composables.specs.declared.items.ItemView.{ItemView}
@@ -22,7 +22,7 @@ use Rattle.edit_splice.proofs.Bridging.{StaysMoved, each-shifted}
 use Rattle.edit_splice.proofs.Standing.{all_head, all_none, all_tail, each-self}
 use Rattle.link_groups.specs.LinkedShifts.{linked_after, linked_refusal, linked_shift, split_items}
 use Rattle.link_groups.specs.Shifted.{EachStaysShifted, NextItemsRise, StaysShifted}
-use Rattle.link_groups.proofs.Relinking.{good-linked, items-linked, like-links, like-moved, linked_each, linked_track, moved-linked, new_links, unlinked-linked}
+use Rattle.link_groups.proofs.Relinking.{good-linked, items-linked, like-links, like-moved, linked_track, moved-linked, new_links, unlinked-linked}
 
 -- a track with another next link number is as good
 with_next : (table : Table) (t : TrackState) (n : ℕ) → IsGood table t → IsGood table (record t { next_link = n })

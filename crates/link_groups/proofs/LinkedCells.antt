@@ -1,7 +1,7 @@
 -- The links of what stands in a range of record frames, item by item and track by track.
-use Rattle.std.proofs.Common.{◌≡◌, ℕ, zero, suc, ◌+◌, ◌-◌, ◌<◌, ◌≤◌, ◌^◌, ◌⊎◌, max, min, Bool, true, false, cond, ltb, ◌||◌, List, [], ◌∷◌, ◌++◌, All, length, take, drop, get_or, Option, Some, None, slice_get, refl, sym, ap, ◌∙◌, arith, subst, append_assoc, ⊎_elim}
-use Rattle.std.specs.List.{flat_map, list_any}
-use Rattle.std.proofs.lemmas.Bool.{cases_lt, ltb-true, ltb-false}
+use Rattle.std.proofs.Common.{◌≡◌, ℕ, zero, suc, ◌+◌, ◌-◌, ◌<◌, ◌≤◌, max, min, Bool, true, false, ◌||◌, List, [], ◌∷◌, ◌++◌, All, length, take, drop, get_or, Option, Some, slice_get, refl, sym, ap, ◌∙◌, arith, append_assoc, ⊎_elim}
+use Rattle.std.specs.List.{list_any}
+use Rattle.std.proofs.lemmas.Bool.{cases_lt}
 use Rattle.std.proofs.lemmas.List.{append-nil, drop_all, drop-append-le, take-append-le, take_all, take_more}
 use Rattle.std.proofs.lemmas.List.Folds.{list_any-append}
 use Rattle.std.proofs.lemmas.Option.{get_or_from_slice_get, slice_get_within}
@@ -18,9 +18,8 @@ use Rattle.composables.specs.Joined.{frames_in}
 use Rattle.composables.specs.Links.{cells_before, cells_from}
 use Rattle.composables.specs.TrackFacts.{IsKept}
 use Rattle.composables.specs.TrackState.{TrackState}
-use Rattle.composables.proofs.Frames.{frames_in-append, frames_in-take_le, no_view}
+use Rattle.composables.proofs.Frames.{no_view}
 use Rattle.composables.proofs.Joining.{cells_of-append, length-cells_of, length-view_cells}
-use Rattle.link_groups.proofs.LeastLinks.{frames-more}
 use Rattle.link_groups.specs.Splits.{cells_between, has_key, is_key_of}
 
 -- cells that all have one link

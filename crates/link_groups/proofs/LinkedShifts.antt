@@ -3,27 +3,26 @@ use Rattle.std.proofs.Common.{◌≡◌, ℕ, zero, suc, ◌+◌, ◌-◌, ◌*�
 use Rattle.std.specs.List.{list_any}
 use Rattle.std.specs.BTreeMap.{get}
 use Rattle.std.specs.Ordering.{nat_cmp}
-use Rattle.std.proofs.lemmas.List.{length-append, take-append-drop}
+use Rattle.std.proofs.lemmas.List.{take-append-drop}
 use Rattle.frame_meaning.specs.declared.cells.Cell.{Cell}
 use Rattle.frame_meaning.specs.declared.cells.Link.{Link}
 use Rattle.composables.specs.declared.refusals.Done.{Done}
 use Rattle.composables.specs.declared.refusals.Refusal.{Refusal}
 use Rattle.composables.specs.declared.refusals.Refusal.TheVariants.{TooLong, TooManyItems}
 use Rattle.composables.specs.declared.TheConstants.{MAX_FRAMES, MAX_ITEMS}
-use Rattle.composables.specs.Answers.{Applied, unless}
+use Rattle.composables.specs.Answers.{unless}
 use Rattle.composables.specs.Items.{items_of}
 use Rattle.composables.specs.Limits.{too_long, too_many, unless_over, within_limits}
-use Rattle.composables.specs.Links.{cells_from, count_at_home, earlier_at_home, link_outside, links_split, moved_cell, moved_link, next_link_at, same_link, split_links, split_number, split_track}
+use Rattle.composables.specs.Links.{cells_from, count_at_home, earlier_at_home, link_outside, links_split, moved_cell, moved_link, same_link, split_links, split_track}
 use Rattle.composables.specs.TrackFacts.{IsKept}
 use Rattle.composables.specs.TrackState.{TrackState}
 use Rattle.edit_splice.specs.declared.shifting.Shift.{Shift}
-use Rattle.edit_splice.specs.Laws.{IsWithinLimits}
 use Rattle.edit_splice.specs.Moves.{IsShiftOf, all_moved, moved}
 use Rattle.edit_splice.specs.Padding.{new_len}
 use Rattle.edit_splice.proofs.Firsts.{few-all, short-all}
 use Rattle.link_groups.specs.declared.splits.Splits.{Splits}
 use Rattle.link_groups.specs.LinkedShifts.{linked_after, linked_refusal, linked_shift, split_items}
-use Rattle.link_groups.specs.Renumbering.{IsUncut, MayBeSplit}
+use Rattle.link_groups.specs.Renumbering.{IsUncut}
 use Rattle.link_groups.specs.Splits.{AreSplits, HasFew, relinked_track}
 use Rattle.composables.specs.Sizes.{sizes_of}
 use Rattle.link_groups.proofs.ItemCounts.{count-same, same-append, same-items, same-length, same-map, sizes-moved}

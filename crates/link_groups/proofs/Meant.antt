@@ -1,7 +1,6 @@
 -- A shift as it is meant is the shift item by item.
-use Rattle.std.proofs.Common.{◌≡◌, ◌≢◌, ℕ, zero, suc, ◌+◌, ◌-◌, ◌<◌, ◌≤◌, ◌^◌, ◌⊎◌, inl, inr, Bool, true, false, cond, eqb, ltb, ◌||◌, min, max, List, [], ◌∷◌, ◌++◌, All, take, drop, map, length, is_some, Option, Some, None, slice_get, refl, sym, ap, ◌∙◌, arith, subst, get_or, unwrap_or}
-use Rattle.std.specs.List.{list_any}
-use Rattle.std.proofs.lemmas.Bool.{cases_lt, eqb-false, eqb-true, ltb-true, ltb-false}
+use Rattle.std.proofs.Common.{◌≡◌, ◌≢◌, ℕ, zero, suc, ◌+◌, ◌-◌, ◌<◌, ◌≤◌, inl, inr, Bool, true, false, cond, eqb, ltb, ◌||◌, min, max, List, [], ◌∷◌, ◌++◌, All, take, drop, map, length, is_some, Option, Some, None, slice_get, refl, sym, ap, ◌∙◌, arith, subst}
+use Rattle.std.proofs.lemmas.Bool.{eqb-false, eqb-true, ltb-true, ltb-false}
 use Rattle.std.proofs.lemmas.List.{append-nil, map-append}
 use Rattle.frame_meaning.specs.declared.cells.Cell.{Cell}
 use Rattle.frame_meaning.specs.declared.cells.Link.{Link}
@@ -12,11 +11,11 @@ use Rattle.composables.specs.declared.refusals.Done.{Done}
 use Rattle.composables.specs.declared.refusals.Refusal.{Refusal}
 use Rattle.composables.specs.Answers.{unless}
 use Rattle.composables.specs.Good.{IsGood}
-use Rattle.composables.specs.Items.{cell_in, cells_of, items_of}
+use Rattle.composables.specs.Items.{cells_of, items_of}
 use Rattle.composables.specs.Joined.{frames_in}
 use Rattle.composables.specs.Limits.{within_limits}
 use Rattle.composables.specs.Links.{cells_from, first_unnamed, is_named, least_link, least_outside, link_outside, links_split, outside, outside_at, outside_refusal}
-use Rattle.composables.specs.OwnTracks.{track_numbered, with_track}
+use Rattle.composables.specs.OwnTracks.{with_track}
 use Rattle.composables.specs.Roomy.{IsRoomy}
 use Rattle.composables.specs.TrackFacts.{IsKept}
 use Rattle.composables.specs.TrackSets.{has_track, tracks_from, tracks_in}
@@ -27,12 +26,11 @@ use Rattle.composables.proofs.Joining.{length-cells_of}
 use Rattle.edit_splice.specs.declared.shifting.Shift.{Shift}
 use Rattle.edit_splice.specs.Moves.{IsShiftOf, all_moved, moved, put_views}
 use Rattle.edit_splice.specs.Padding.{new_len, new_views, padded_track}
-use Rattle.edit_splice.specs.Shifts.{after_shift, shift_of, shift_refusal, shifted}
-use Rattle.edit_splice.specs.Splicing.{spliced_track}
-use Rattle.edit_splice.proofs.Moving.{frames-put, length-none, put-along, put-none, put-own}
-use Rattle.edit_splice.proofs.Numbers.{next-append, next-rises}
+use Rattle.edit_splice.specs.Shifts.{shift_of, shift_refusal, shifted}
+use Rattle.edit_splice.proofs.Moving.{frames-put, length-none, put-along, put-own}
+use Rattle.edit_splice.proofs.Numbers.{next-append}
 use Rattle.edit_splice.proofs.Padding.{frames-gap}
-use Rattle.link_groups.specs.LinkedShifts.{linked_refusal, linked_shift}
+use Rattle.link_groups.specs.LinkedShifts.{linked_shift}
 use Rattle.link_groups.specs.Renumbering.{IsUncut, MayBeSplit}
 use Rattle.link_groups.proofs.LeastLinks.{frames-more}
 use Rattle.link_groups.proofs.LinkedShifts.{EachUncut, shift-items}

@@ -1,5 +1,5 @@
 -- Items of which each gets a link, with the home and the tracks of the one that it had: what stays as it was.
-use Rattle.std.proofs.Common.{◌≡◌, ℕ, zero, suc, ◌+◌, ◌-◌, ◌<◌, ◌≤◌, Bool, true, false, cond, ltb, List, [], ◌∷◌, ◌++◌, length, take, Option, Some, None, IfSome, slice_get, refl, sym, ap, ◌∙◌, arith, subst, IsBitSet}
+use Rattle.std.proofs.Common.{◌≡◌, ℕ, zero, suc, ◌+◌, ◌-◌, ◌<◌, ◌≤◌, Bool, true, false, cond, ltb, List, [], ◌∷◌, length, take, Option, Some, None, IfSome, slice_get, refl, sym, ap, ◌∙◌, arith, subst, IsBitSet}
 use Rattle.std.proofs.lemmas.List.{take_all}
 use Rattle.std.proofs.lemmas.Option.{slice_get_within}
 use Rattle.std.specs.BTreeMap.{get}
@@ -12,7 +12,6 @@ use Rattle.frame_meaning.specs.declared.cells.Mark.{Mark}
 use Rattle.frame_meaning.specs.declared.cells.What.{What}
 use Rattle.frame_meaning.specs.declared.frames.Side.{Side}
 use Rattle.frame_meaning.specs.declared.frames.Side.TheVariants.{Dark, Pic}
-use Rattle.frame_meaning.specs.Cells.{same_number}
 use Rattle.composables.specs.declared.items.ItemView.{ItemView}
 use Rattle.composables.specs.declared.media.Table.{Table}
 use Rattle.composables.specs.Changes.{changed_at, changed_track, with_link}
@@ -23,7 +22,7 @@ use Rattle.composables.specs.TrackFacts.{Apart, EachHolds, Holds, IsKept, Lacks,
 use Rattle.composables.specs.TrackState.{TrackState}
 use Rattle.composables.proofs.Joining.{items_of-cells_of, items_of-tight, length-cells_of, tight-joined}
 use Rattle.link_groups.specs.declared.splits.Splits.{Splits}
-use Rattle.link_groups.specs.Splits.{key_cmp, key_of, new_link, relinked_cells, relinked_view, relinked_views, with_number}
+use Rattle.link_groups.specs.Splits.{key_cmp, key_of, new_link, relinked_cells, relinked_views, with_number}
 
 -- each of these, as far as there are so many links, with its link
 abbrev pub linked_each : List (Option Link) → List ItemView → List ItemView

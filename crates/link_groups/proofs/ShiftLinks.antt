@@ -1,8 +1,8 @@
 -- A shift leaves the links before its place and behind its range as they were.
-use Rattle.std.proofs.Common.{◌≡◌, ◌≢◌, ℕ, zero, suc, ◌+◌, ◌-◌, ◌<◌, ◌≤◌, ◌⊎◌, inl, inr, Bool, true, false, cond, eqb, ltb, min, List, [], ◌∷◌, ◌++◌, take, drop, map, filter, length, Option, Some, None, refl, sym, ap, ◌∙◌, arith, subst, append_assoc}
-use Rattle.std.specs.List.{flat_map, list_any}
-use Rattle.std.proofs.lemmas.Bool.{cases_lt, eqb-true, eqb-false, ltb-false, ltb-true}
-use Rattle.std.proofs.lemmas.List.{append-nil, drop-append-le, drop_all, length-append, length-take-le, map-append, take-append-le, take_all, take_at}
+use Rattle.std.proofs.Common.{◌≡◌, ℕ, zero, suc, ◌+◌, ◌-◌, ◌<◌, ◌≤◌, ◌⊎◌, inl, inr, Bool, true, false, cond, eqb, ltb, min, List, [], ◌∷◌, ◌++◌, take, drop, map, filter, length, Option, Some, None, refl, sym, ap, ◌∙◌, arith, subst, append_assoc}
+use Rattle.std.specs.List.{list_any}
+use Rattle.std.proofs.lemmas.Bool.{cases_lt, ltb-false, ltb-true}
+use Rattle.std.proofs.lemmas.List.{append-nil, drop-append-le, drop_all, length-append, length-take-le, map-append, take_all, take_at}
 use Rattle.frame_meaning.specs.declared.cells.Cell.{Cell}
 use Rattle.frame_meaning.specs.declared.cells.Link.{Link}
 use Rattle.frame_meaning.specs.declared.cells.Mark.{Mark}
@@ -11,19 +11,17 @@ use Rattle.frame_meaning.specs.declared.frames.Side.{Side}
 use Rattle.frame_meaning.specs.Splice.{Rule, kept_or_dropped, renumbered, split_item, with_marks}
 use Rattle.frame_meaning.specs.Cells.{next_side, same_number, span}
 use Rattle.composables.specs.declared.items.ItemView.{ItemView}
-use Rattle.composables.specs.declared.refusals.Refusal.{Refusal}
 use Rattle.composables.specs.Good.{AllUnlinked}
 use Rattle.composables.specs.Items.{cells_of, marked, view_cells}
 use Rattle.composables.specs.Joined.{frames_in}
-use Rattle.composables.specs.Links.{cells_before, cells_from, least_link, least_outside, link_outside, links_in, next_link_at, outside, outside_refusal, same_link, split_links, with_link, with_link_of}
+use Rattle.composables.specs.Links.{cells_before, cells_from, least_link, least_outside, links_in, next_link_at, outside, same_link, split_links, with_link, with_link_of}
 use Rattle.composables.specs.TrackState.{TrackState, next_past_all}
 use Rattle.composables.specs.Views.{gap_view, gap_views}
 use Rattle.composables.proofs.Joining.{cells_of-append, length-cells_of}
 use Rattle.edit_splice.specs.declared.shifting.Shift.{Shift}
-use Rattle.edit_splice.specs.Moves.{all_moved, moved, put_views}
+use Rattle.edit_splice.specs.Moves.{all_moved, moved}
 use Rattle.edit_splice.specs.Padding.{new_len, new_views}
 use Rattle.edit_splice.specs.Splicing.{spliced_track}
-use Rattle.edit_splice.proofs.Moving.{frames-put, put-along, put-none, put-own}
 use Rattle.edit_splice.proofs.Padding.{frames-gap}
 
 -- the links of cells, and those that are there

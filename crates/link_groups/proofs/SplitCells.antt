@@ -1,7 +1,6 @@
 -- The cells of moved items get new links where the items do.
-use Rattle.std.proofs.Common.{◌≡◌, ℕ, zero, suc, ◌+◌, ◌-◌, ◌<◌, ◌≤◌, ◌⊎◌, Bool, true, false, cond, ltb, List, [], ◌∷◌, ◌++◌, All, length, map, take, drop, Option, Some, None, slice_get, refl, sym, ap, ◌∙◌, arith, subst, append_assoc, ⊎_elim}
+use Rattle.std.proofs.Common.{◌≡◌, ℕ, zero, suc, ◌+◌, ◌-◌, ◌<◌, ◌≤◌, Bool, true, false, cond, ltb, List, [], ◌∷◌, ◌++◌, All, length, map, take, drop, Option, Some, None, slice_get, refl, sym, ap, ◌∙◌, arith, append_assoc}
 use Rattle.std.specs.List.{list_any}
-use Rattle.std.specs.BTreeMap.{get}
 use Rattle.std.proofs.lemmas.Bool.{ltb-true, ltb-false}
 use Rattle.std.proofs.lemmas.List.{drop-append-le, map-append, take-append-drop, take-append-le}
 use Rattle.std.proofs.Math.Seq.{drop-append-add, take-append-add}
@@ -22,7 +21,7 @@ use Rattle.composables.proofs.Joining.{length-view_cells}
 use Rattle.link_groups.specs.LinkedShifts.{moved_views, split_items}
 use Rattle.link_groups.specs.declared.splits.Splits.{Splits}
 use Rattle.link_groups.specs.Renumbering.{IsUncut}
-use Rattle.link_groups.specs.Splits.{AreSplits, key_cmp, key_of, new_link, relinked_track, relinked_views, with_number}
+use Rattle.link_groups.specs.Splits.{AreSplits, new_link, relinked_track, relinked_views, with_number}
 
 -- cells of one item
 

@@ -1,12 +1,12 @@
 -- Links in order are their keys in order, and the links that are split by their keys.
-use Rattle.std.proofs.Common.{◌≡◌, ◌≢◌, ℕ, zero, suc, ◌+◌, ◌<◌, ◌≤◌, Bool, true, false, cond, eqb, ltb, ◌&&◌, ◌||◌, List, [], ◌∷◌, ◌++◌, All, length, map, filter, sum_by, unwrap_or, ◌*◌, ◌^◌, Option, Some, None, Result, Ok, Err, IfOk, refl, sym, ap, ◌∙◌, arith, subst, append_assoc, nat_eq, nat_lt, Ordering, Less, Equal, Greater}
+use Rattle.std.proofs.Common.{◌≡◌, ℕ, suc, ◌+◌, ◌≤◌, Bool, true, false, cond, eqb, ltb, ◌&&◌, ◌||◌, List, [], ◌∷◌, ◌++◌, All, length, map, filter, sum_by, unwrap_or, ◌*◌, ◌^◌, Option, Some, None, Result, Ok, Err, IfOk, refl, sym, ap, ◌∙◌, arith, subst, append_assoc, nat_eq, nat_lt, Ordering, Less, Equal, Greater}
 use Rattle.std.specs.List.{AllByRecursion, list_any}
 use Rattle.std.specs.List.Sorted.{IsStrictlySortedBy}
 use Rattle.std.specs.Cmp.{IsTotalOrder, nat_cmp_total, on_total, then_total}
 use Rattle.std.specs.Ordering.{is_eq, match_ordering, nat_cmp, ordering_reverse, ordering_then}
 use Rattle.std.specs.BTreeMap.{is_at}
 use Rattle.std.specs.BTreeSet.{BTreeSet, IsOrdered, contains, insert_key}
-use Rattle.std.proofs.lemmas.Bool.{eqb-true, eqb-false, ltb-true, ltb-false}
+use Rattle.std.proofs.lemmas.Bool.{eqb-true, ltb-true}
 use Rattle.std.proofs.lemmas.List.{append-nil}
 use Rattle.std.proofs.lemmas.List.Sums.{sum_by-cons}
 use Rattle.std.proofs.lemmas.Map.Lookups.{CmpEqualImpliesEq, btree_set_from_contains, exact_pairs, exact_unsigned}
@@ -15,7 +15,7 @@ use Rattle.frame_meaning.specs.declared.cells.Link.{Link}
 use Rattle.frame_meaning.specs.declared.plain.Memory.{Memory}
 use Rattle.composables.specs.declared.TheConstants.{MAX_ITEMS}
 use Rattle.composables.specs.Items.{items_of}
-use Rattle.composables.specs.Links.{cells_before, cells_from, count_at_home, earlier_at_home, link_before, links_in, next_link_at, same_link, split_links, split_number, with_link, with_link_of}
+use Rattle.composables.specs.Links.{cells_before, cells_from, link_before, links_in, next_link_at, same_link, split_links, split_number, with_link, with_link_of}
 use Rattle.composables.specs.TrackState.{TrackState}
 use Rattle.composables.proofs.Joining.{eqb-refl}
 use Rattle.link_groups.specs.declared.splits.Splits.{Splits}

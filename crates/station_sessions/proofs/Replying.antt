@@ -24,12 +24,15 @@ use Rattle.cut_room.specs.declared.answers.CutFault.{CutFault}
 use Rattle.cut_room.specs.declared.answers.CutFault.TheVariants as fault
 use Rattle.cut_room.specs.Rooms.{Edited, IsAtPoint, IsCut, Looked, Stays, told}
 use Rattle.call_text.specs.CallTexts.{IsWritten}
+use Rattle.call_text.specs.declared.lines.Line.{Line}
+use Rattle.line_words.specs.Lines.{Line as InputLine}
+use Rattle.reply_text.specs.declared.line_fault.LineFault.{LineFault}
 use Rattle.reply_text.specs.Replies.{EditAnswer, answer_text_of}
 use Rattle.reply_text.specs.Sights.{TrackSight, sight_text_of}
 use Rattle.station_sessions.specs.declared.reply.Reply.{Reply}
 use Rattle.station_sessions.specs.DocumentReplies.{document_reply, no_point_reply}
-use Rattle.station_sessions.specs.Rooms.{History, AreWritten, document_of, finds_memory, room_of, seen_of}
-use Rattle.station_sessions.specs.Session.{Grows, IsCutReply, IsReply, IsReplyIfMemory, IsSightReply, Replies, RepliesWith, Step}
+use Rattle.station_sessions.specs.Rooms.{History, AreWritten, document_of, finds_memory, room_of, seen_of, wish_in}
+use Rattle.station_sessions.specs.Session.{Grows, IsCutReply, IsMeant, IsReply, IsReplyIfMemory, IsSightReply, Replies, RepliesTo, RepliesWith, Step}
 use Rattle.station_sessions.specs.SessionInside.{IsSeated, IsSession, TrackPass, TrackRoom, course_at, or_opening, session_at, setting_at, tracks_at}
 use Rattle.station_sessions.specs.Transcript.{Wish, Do, See, Point, Write, Bad}
 use Rattle.station_sessions.proofs.Transcripts.{nothing_behind, own_append}
@@ -269,3 +272,8 @@ module _ (room : TrackRoom) (before after : TrackPass) (counting : Counted) (sta
 
   pub cut_seated : (n : ℕ) (r : Result (Vec TrackState Global) CutFault) → IsCut (editing room.0.table) room.1 n before after r → IsSeated room (line + 1) after
   cut_seated n r e = seated_stays room before after line seated (cut_stays n r e)
+
+-- the reply to what a line was read as is the reply to the line
+pub told_line : (old new : SessionState) (line : InputLine) (r : Result Line LineFault) (reply : Reply) → IsMeant old.setting line r → Replies old new (wish_in r) reply → RepliesTo old new line reply
+told_line old new line r reply (inl is) h = inl (subst (λ (x : Result Line LineFault). Replies old new (wish_in x) reply) is h)
+told_line old new line r reply (inr (linking, none)) h = inr (linking, subst (λ (x : Result Line LineFault). Replies old new (wish_in x) reply) none h)

@@ -1,6 +1,6 @@
 -- What a session answered, line after line.
-use Rattle.std.proofs.Common.{◌≡◌, ℕ, ◌+◌, List, [], ◌∷◌, ◌++◌, take, Option, Some, None, Result, Ok, Err, refl, sym, ap, ◌∙◌, append_assoc, subst, OnOk, OnErr}
-use Rattle.std.specs.Prelude.{codes}
+use Rattle.std.proofs.Common.{◌≡◌, ℕ, Bool, true, false, ◌||◌, inl, inr, ◌+◌, List, [], ◌∷◌, ◌++◌, take, Option, Some, None, Result, Ok, Err, refl, sym, ap, ◌∙◌, append_assoc, subst, OnOk, OnErr}
+use Rattle.std.specs.Prelude.{IsTrue, codes}
 use Rattle.std.proofs.lemmas.List.{append-nil}
 use Rattle.room_ports.specs.Bytes.{Takes, TakesFront}
 use Rattle.room_ports.proofs.Fronts.{takes-nothing, takes-takes}
@@ -9,10 +9,10 @@ use Rattle.line_words.specs.Told.{line_told, lines_told}
 use Rattle.line_words.specs.declared.line.LineEnd.{LineEnd}
 use Rattle.station_sessions.specs.declared.reply.Reply.{Reply}
 use Rattle.station_sessions.specs.Outside.{AreSent, TakesThenFront, LastIsCut}
-use Rattle.station_sessions.specs.Transcript.{Kind, sent}
-use Rattle.station_sessions.specs.Rooms.{Setting, AreWritten, room_of, meaning_of, wish_in}
+use Rattle.station_sessions.specs.Transcript.{Bad, Kind, Wish, sent}
+use Rattle.station_sessions.specs.Rooms.{Setting, AreWritten, finds_memory, is_linking, room_of, meaning_of, wish_in}
 use Rattle.room_core.specs.Projection.{of_station}
-use Rattle.station_sessions.specs.Session.{Course, Grows, SessionState, past_line, IsReply, Replies, Step}
+use Rattle.station_sessions.specs.Session.{Course, Grows, SessionState, past_line, IsReply, RepliesTo, Step}
 use Rattle.station_sessions.specs.Served.{Serves, ServesTo, StaysWritten}
 use Rattle.station_sessions.proofs.Serving.{served_grows, served_more}
 
@@ -75,26 +75,58 @@ module _ {S C D R Q X Y : Type 0} (k : Kind S C D R Q X Y) (station : ℕ) where
       let s = served_more k station o met mid ls rs last l text (served_grows k station o old met ls rs last w grows) step in
       (text ∷ [], s.0, rw next s.1, taken)
 
+true_before : (a b : Bool) → IsTrue a → IsTrue (a || b)
+true_before true b t = tt
+true_before false b t = absurd t
+
+true_behind : (a b : Bool) → IsTrue b → IsTrue (a || b)
+true_behind true b t = tt
+true_behind false b t = t
+
+-- a step of a line that may find no memory for one more reason
+module _ {S C D R Q X Y : Type 0} (k : Kind S C D R Q X Y) (station : ℕ) (old new : Course S C) (text : List ℕ) where
+  wider : (wish : Wish C Q) (a b : Bool) → Step k station old new text wish a → Step k station old new text wish (a || b)
+  wider wish a b (inl does) = inl does
+  wider wish a b (inr (t, says)) = inr (true_before a b t, says)
+
+  for_memory : (wish : Wish C Q) (a b : Bool) → IsTrue b → Step k station old new text (Bad (codes "memory")) false → Step k station old new text wish (a || b)
+  for_memory wish a b t (inl says) = inr (true_behind a b t, says)
+  for_memory wish a b t (inr (never, says)) = absurd never
+
 pub serves_none : (s : SessionState) (t : Option (List ℕ)) → ServesTo s s [] (AreSent t t)
 serves_none s t = record { setting = refl; station = refl; written = λ w. w; serves = λ o ls rs last w. ([], last, rw (append-nil, append-nil) w, takes-nothing t) }
 
 pub serves_one : (old new : SessionState) (l : InputLine) (reply : Reply) (Taken : List (List ℕ) → Type 0)
-    → Replies old new (wish_in (meaning_of old.setting l)) reply → ((text : List ℕ) → IsReply reply text → Taken (text ∷ []))
+    → RepliesTo old new l reply → ((text : List ℕ) → IsReply reply text → Taken (text ∷ []))
     → ServesTo old new (l ∷ []) Taken
-serves_one old new l reply Taken (text, is, r) taken = record {
-  setting = r.setting;
-  station = r.station;
-  written = r.written;
-  serves = one_serves (room_of old.setting) old.station old.course r.met r.answered new.course l text Taken r.grows r.step r.passed (taken text is);
-}
+serves_one old new l reply Taken (inl (text, is, r)) taken =
+    let wish = wish_in (meaning_of old.setting l) in
+    let step = wider (room_of old.setting) old.station r.met r.answered text wish (finds_memory wish) (is_linking l) r.step in
+    record {
+      setting = r.setting;
+      station = r.station;
+      written = r.written;
+      serves = one_serves (room_of old.setting) old.station old.course r.met r.answered new.course l text Taken r.grows step r.passed (taken text is);
+    }
+serves_one old new l reply Taken (inr (linking, (text, is, r))) taken =
+    let wish = wish_in (meaning_of old.setting l) in
+    let step = for_memory (room_of old.setting) old.station r.met r.answered text wish (finds_memory wish) (is_linking l) linking r.step in
+    record {
+      setting = r.setting;
+      station = r.station;
+      written = r.written;
+      serves = one_serves (room_of old.setting) old.station old.course r.met r.answered new.course l text Taken r.grows step r.passed (taken text is);
+    }
 
 -- the station
-pub same_station : (old new : SessionState) (l : InputLine) (reply : Reply) → Replies old new (wish_in (meaning_of old.setting l)) reply → new.station ≡ old.station
-same_station old new l reply (text, is, r) = r.station
+pub same_station : (old new : SessionState) (l : InputLine) (reply : Reply) → RepliesTo old new l reply → new.station ≡ old.station
+same_station old new l reply (inl (text, is, r)) = r.station
+same_station old new l reply (inr (linking, (text, is, r))) = r.station
 
 -- the number of the next line
-pub next_number : (old new : SessionState) (l : InputLine) (reply : Reply) → Replies old new (wish_in (meaning_of old.setting l)) reply → new.course.line ≡ old.course.line + 1
-next_number old new l reply (text, is, r) = r.line
+pub next_number : (old new : SessionState) (l : InputLine) (reply : Reply) → RepliesTo old new l reply → new.course.line ≡ old.course.line + 1
+next_number old new l reply (inl (text, is, r)) = r.line
+next_number old new l reply (inr (linking, (text, is, r))) = r.line
 
 serves_then : (a b c : SessionState) (xs ys : List InputLine) (P V W : List (List ℕ) → Type 0) → ((us vs : List (List ℕ)) → P us → V vs → W (us ++ vs))
     → ServesTo a b xs P → ServesTo b c ys V → ServesTo a c (xs ++ ys) W

@@ -8,13 +8,17 @@ use Rattle.edit_apply.specs.declared.asks.Ask.{Ask}
 use Rattle.room_core.specs.declared.entry.Entry.{Entry}
 use Rattle.reply_text.specs.declared.short_text.Short.{Short}
 use Rattle.reply_text.specs.Sights.{TrackSight, sight_text_of}
+use Rattle.reply_text.specs.declared.line_fault.LineFault.{LineFault}
+use Rattle.reply_text.specs.declared.line_fault.LineFault.TheVariants.{Memory as NoMemory}
+use Rattle.call_text.specs.declared.lines.Line.{Line}
+use Rattle.line_words.specs.Lines.{Line as InputLine}
 use Rattle.room_core.specs.History.{answer_in, most_entries, replay, NumbersRise}
 use Rattle.room_core.specs.Projection.{of_station}
 use Rattle.station_sessions.specs.Transcript.{Wish, Do, See, Point, Write, Bad, Kind}
 use Rattle.cut_room.specs.declared.answers.CutFault.{CutFault}
 use Rattle.cut_room.specs.declared.answers.CutFault.TheVariants as fault
 use Rattle.station_sessions.specs.DocumentReplies.{document_reply, no_point_reply}
-use Rattle.station_sessions.specs.Rooms.{Setting, AreWritten, document_of, room_of, finds_memory}
+use Rattle.station_sessions.specs.Rooms.{Setting, AreWritten, document_of, room_of, finds_memory, is_linking, meaning_of, wish_in}
 use Rattle.station_sessions.specs.declared.reply.Reply.{Reply}
 use Rattle.station_sessions.specs.declared.reply.Reply.TheVariants as reply
 
@@ -126,6 +130,17 @@ RepliesShort old new wish text = RepliesWith old new wish text
 
 abbrev pub Replies : SessionState → SessionState → Wish Call Ask → Reply → Type 0
 Replies old new wish answer = (text : List ℕ) × IsReply answer text × RepliesWith old new wish text
+
+-- what a line says, or that there was no memory to read a line whose first word is `link`
+abbrev pub IsMeant : Setting → InputLine → Result Line LineFault → Type 0
+IsMeant setting line result =
+    (result ≡ meaning_of setting line) ⊎ (IsTrue (is_linking line) × (result ≡ Err NoMemory))
+
+-- the reply to a line; where there was no memory to read it, that reply
+abbrev pub RepliesTo : SessionState → SessionState → InputLine → Reply → Type 0
+RepliesTo old new line answer =
+    Replies old new (wish_in (meaning_of old.setting line)) answer
+    ⊎ (IsTrue (is_linking line) × Replies old new (Bad (codes "memory")) answer)
 
 -- this reply, or that there was no memory for it
 abbrev pub IsReplyIfMemory : List ℕ → Reply → Type 0

@@ -60,8 +60,7 @@ impl<'a, R: Wait, G: Gate, J: Naming<Editor, Track>> Session<'a, R, G, J> {
     ghost use Rattle.line_words.specs.Told.{line_told};
     ghost use Rattle.call_text.specs.CallTexts.{IsWritten, NamesWritten};
     ghost use Rattle.reply_text.specs.Replies.{fault_of};
-    ghost use Rattle.station_sessions.specs.Rooms.{meaning_of, wish_in};
-    ghost use Rattle.station_sessions.specs.Session.{Replies, RepliesShort};
+    ghost use Rattle.station_sessions.specs.Session.{IsMeant, Replies, RepliesShort, RepliesTo};
     ghost use Rattle.station_sessions.specs.Transcript.{Bad, Do, Point, See, Write};
 
     /// The station's pass.
@@ -87,7 +86,7 @@ impl<'a, R: Wait, G: Gate, J: Naming<Editor, Track>> Session<'a, R, G, J> {
 
     /// What a line of the input says.
     fn said(&self, end: LineEnd, text: &[u8]) -> Result<Line, LineFault>
-        ensures meant { result ≡ meaning_of self.now.setting (line_told end text.now) }
+        ensures meant { IsMeant self.now.setting (line_told end text.now) result }
         ensures written { IfOk result (λ line. NamesWritten line) }
     {
         match end {
@@ -171,8 +170,7 @@ impl<'a, R: Wait, G: Gate, J: Naming<Editor, Track>> Session<'a, R, G, J> {
     /// Answers a line, and commits it where it is an edit that applies. The next line has the next number.
     pub(crate) fn answer(&mut self, end: LineEnd, text: &[u8]) -> Reply
         requires { self.old.course.line + 1 < 2 ^ 32 }
-        ensures { Replies self.old self.new (wish_in
-            (meaning_of self.old.setting (line_told end text.now))) result }
+        ensures { RepliesTo self.old self.new (line_told end text.now) result }
     {
         match self.said(end, text) {
             Ok(line) => match line {

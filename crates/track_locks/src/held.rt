@@ -29,8 +29,12 @@ impl<'a, O: PartObject, J: Naming<O, O::Part>> Model for Held<'a, O, J> {
 
     ghost Value = { HeldParts O O.Part O.Call };
 
-    ghost view = { λ h. record { numbers = h.numbers.items; parts = h.parts.items;
-        versions = h.versions.items; seats = h.seats.items } };
+    ghost view = { λ h. record {
+      numbers = h.numbers.items;
+      parts = h.parts.items;
+      versions = h.versions.items;
+      seats = h.seats.items;
+    } };
 
     ghost invariant = { λ h. AscendBetween 0 h.tracks.now h.numbers.items
         × (length h.numbers.items ≤ vec_capacity h.seats) };
@@ -78,8 +82,10 @@ impl<'a, O: PartObject, J: Naming<O, O::Part>> Held<'a, O, J> {
     pub fn put(&mut self, parts: Vec<O::Part>)
         requires { AreHomes O.meaning O.opens J.opening self.old.numbers parts.items
             (map (λ v. v + 1) self.old.versions) self.old.seats }
-        ensures { self.new ≡ record self.old { parts = parts.items;
-            versions = map (λ v. v + 1) self.old.versions } }
+        ensures { self.new ≡ record self.old {
+          parts = parts.items;
+          versions = map (λ v. v + 1) self.old.versions;
+        } }
     {
         self.parts = parts;
         one_more(&mut self.versions);

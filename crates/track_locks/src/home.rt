@@ -21,8 +21,12 @@ impl<O: PartObject, J: Naming<O, O::Part>> Model for Home<O, J> {
 
     ghost Value = { Homed O.Part O.Call };
 
-    ghost view = { λ h. record { number = h.seat.number; part = h.part; version = h.version;
-        entries = h.seat.entries } };
+    ghost view = { λ h. record {
+      number = h.seat.number;
+      part = h.part;
+      version = h.version;
+      entries = h.seat.entries;
+    } };
 
     ghost invariant = { λ h. (h.seat.opening ≡ J.opening)
         × IsHome O.meaning O.opens J.opening h.seat.number h.part h.version h.seat.entries

@@ -115,7 +115,11 @@ fn play<L: Ledger>(
 fn slip_used(own: &Cell, cells: &[Cell], by: i64) -> i64 {
     let mut nearest = 0;
     for frames in 1..40 {
-        let delta = if by < 0 { 0i64.saturating_sub(frames) } else { frames };
+        let delta = if by < 0 {
+            0i64.saturating_sub(frames)
+        } else {
+            frames
+        };
         if frames <= by.saturating_abs() && may_slip(own, cells, delta) {
             nearest = delta;
         }

@@ -75,7 +75,8 @@ struct Played {
     cells: Vec<Vec<Cell>>,
 }
 
-fn cells_of(alloc: Global, named: &[Track]) -> Result<Vec<Vec<Cell>>, Memory> {
+/// The cells of each of these tracks.
+pub fn cells_of(alloc: Global, named: &[Track]) -> Result<Vec<Vec<Cell>>, Memory> {
     let mut all = Vec::new(alloc);
     for track in named {
         all.push(track.cells(alloc)?)?;
@@ -127,7 +128,11 @@ fn plainly(alloc: Global, tracks: &[Vec<Cell>], item: u32, by: i32) -> Result<Pl
 fn used_on_all(own: &Cell, tracks: &[Vec<Cell>], by: i64) -> i64 {
     let mut nearest = 0;
     for frames in 1..40 {
-        let delta = if by < 0 { 0i64.saturating_sub(frames) } else { frames };
+        let delta = if by < 0 {
+            0i64.saturating_sub(frames)
+        } else {
+            frames
+        };
         if frames <= by.saturating_abs() && suits_all(own, tracks, delta) {
             nearest = delta;
         }
@@ -234,9 +239,18 @@ fn linked_items_slip_by_one_delta_that_suits_all(rt: HostRuntime) -> Result<(), 
 // The second track's dissolve ends it later, and the third track's first item earlier.
 #[test]
 fn a_link_slips_as_far_as_its_shortest_handle(rt: HostRuntime) -> Result<(), Fail> {
-    for (item, by, used) in [(0, 12, 1), (0, -12, -3), (1, i32::MAX, 1), (1, i32::MIN, -3)] {
+    for (item, by, used) in [
+        (0, 12, 1),
+        (0, -12, -3),
+        (1, i32::MAX, 1),
+        (1, i32::MIN, -3),
+    ] {
         let all = slipped_on_third(rt.alloc(), item, by)?.ok_or("these can be laid")?;
-        assert_eq!(rt; all.played.answer, Ok(Done::By(used)), "item {item} by {by}");
+        assert_eq!(rt;
+            all.played.answer,
+            Ok(Done::By(used)),
+            "item {item} by {by}"
+        );
     }
     Ok(())
 }

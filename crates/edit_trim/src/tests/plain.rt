@@ -1,4 +1,4 @@
-// Trim and slip frame by frame: a plain program to compare with.
+// Trim, slip and ripple frame by frame: a plain program to compare with.
 use composables::{End, MAX_FRAMES, Memory};
 use frame_meaning::{Cell, Side, What};
 use std::alloc::Global;
@@ -86,7 +86,11 @@ fn may_have(cells: &[Cell], x: i64, y: i64, from: i64, to: i64) -> bool {
 pub fn trim_used(cells: &[Cell], x: i64, y: i64, end: End, by: i64) -> i64 {
     let mut nearest = 0;
     for frames in 1..40 {
-        let delta = if by < 0 { 0i64.saturating_sub(frames) } else { frames };
+        let delta = if by < 0 {
+            0i64.saturating_sub(frames)
+        } else {
+            frames
+        };
         let (from, to) = ends(x, y, end, delta);
         if frames <= by.saturating_abs() && may_have(cells, x, y, from, to) {
             nearest = delta;
@@ -199,6 +203,115 @@ pub fn slipped(alloc: Global, own: &Cell, cells: &[Cell], by: i64) -> Result<Vec
             cell.side
         };
         after.push(Cell { side, ..*cell })?;
+    }
+    Ok(after)
+}
+
+// Whether an end of the item on [x, y) may move so far with all that is behind it.
+fn may_ripple(cells: &[Cell], x: i64, y: i64, end: End, by: i64) -> bool {
+    let (from, to) = ends(x, y, end, by);
+    let first = cell_at(cells, x).side;
+    let last = to.saturating_sub(x).saturating_sub(1);
+    from < to
+        && moved_side(first, from.saturating_sub(x)) != None
+        && moved_side(first, last) != None
+}
+
+/// The delta used of the one asked for by a ripple of the item on [x, y), where no track comes near its limit.
+pub fn ripple_used(cells: &[Cell], x: i64, y: i64, end: End, by: i64) -> i64 {
+    let mut nearest = 0;
+    for frames in 1..40 {
+        let delta = if by < 0 {
+            0i64.saturating_sub(frames)
+        } else {
+            frames
+        };
+        if frames <= by.saturating_abs() && may_ripple(cells, x, y, end, delta) {
+            nearest = delta;
+        }
+    }
+    nearest
+}
+
+/// The places that a ripple of the item on [x, y) takes out, from one up to before another, and how many come there.
+pub fn shift(x: i64, y: i64, end: End, by: i64) -> (i64, i64, i64) {
+    let place = match end {
+        End::Head => x,
+        End::Tail => y,
+    };
+    let less = match end {
+        End::Head => by.max(0),
+        End::Tail => 0i64.saturating_sub(by).max(0),
+    };
+    let more = by.saturating_abs().saturating_sub(less);
+    match end {
+        End::Head => (place, place.saturating_add(less), more),
+        End::Tail => (place.saturating_sub(less), place, more),
+    }
+}
+
+/// The cells of the own track after an end of the item on [x, y) has moved so far, with all that is behind it.
+pub fn rippled(
+    alloc: Global,
+    cells: &[Cell],
+    x: i64,
+    y: i64,
+    end: End,
+    by: i64,
+) -> Result<Vec<Cell>, Memory> {
+    let (from, to, more) = shift(x, y, end, by);
+    let first = cell_at(cells, x);
+    let start = match end {
+        End::Head => by,
+        End::Tail => y.saturating_sub(x),
+    };
+    let mut after = Vec::new(alloc);
+    for place in 0..from {
+        after.push(kept(cell_at(cells, place), place, from, to))?;
+    }
+    for frame in 0..more {
+        let side = moved_side(first.side, start.saturating_add(frame)).unwrap_or(first.side);
+        after.push(Cell {
+            side,
+            mark: None,
+            ..first
+        })?;
+    }
+    for place in to..cells.len() as i64 {
+        after.push(kept(cell_at(cells, place), place, from, to))?;
+    }
+    Ok(after)
+}
+
+/// The cells of another track after the same: dark ones come there if it has the place, and the later part of an item
+/// that is cut in two gets the number `fresh`.
+pub fn shifted(
+    alloc: Global,
+    cells: &[Cell],
+    shift: (i64, i64, i64),
+    fresh: u32,
+) -> Result<Vec<Cell>, Memory> {
+    let len = cells.len() as i64;
+    let from = shift.0.min(len);
+    let to = shift.1.min(len);
+    let more = if shift.0 < len { shift.2 } else { 0 };
+    let before = cell_at(cells, from.saturating_sub(1)).item;
+    let split = from > 0 && before == cell_at(cells, to).item;
+    let mut after = Vec::new(alloc);
+    for place in 0..from {
+        after.push(kept(cell_at(cells, place), place, from, to))?;
+    }
+    for _ in 0..more {
+        after.push(dark())?;
+    }
+    for place in to..len {
+        let cell = kept(cell_at(cells, place), place, from, to);
+        let item = if split && cell.item == before {
+            cell.item.map(|_| fresh)
+        } else {
+            cell.item
+        };
+        after.push(Cell { item, ..cell })?;
     }
     Ok(after)
 }

@@ -1,13 +1,17 @@
-// Worked examples of ripple, on two tracks.
-ghost use Rattle.std.specs.Prelude.{◌≡◌, ◌<◌};
+// Ripple of every item by every delta on two tracks, beside a plain program; and of linked items.
+ghost use Rattle.std.specs.Prelude.{◌≡◌, ◌<◌, [], ◌∷◌, All, IfOk, IfSome, nat_eq, true};
+ghost use Rattle.std.specs.List.{list_any};
 ghost use Rattle.composables.specs.Good.{IsGood};
+ghost use Rattle.composables.specs.OwnTracks.{numbers_of};
 ghost use Rattle.composables.specs.Roomy.{IsRoomy};
+ghost use Rattle.composables.specs.TrackSets.{tracks_in};
 
 use crate::ripple;
-use composables::{
-    Done, EditFault, End, ItemView, Kind, Listed, Media, Nest, Reels, Refusal, Ripple, Table, Track,
-};
-use frame_meaning::{Link, Memory};
+use crate::tests::edits::table;
+use crate::tests::links::cells_of;
+use crate::tests::plain::{range, ripple_used, rippled, shift, shifted};
+use composables::{Done, EditFault, End, ItemView, Refusal, Ripple, Table, Track};
+use frame_meaning::{Cell, Link, Memory};
 use laid_tracks::{clip, dissolve, gap, linked, linked_track};
 use std::alloc::Global;
 use std::marker::Brand;
@@ -15,81 +19,65 @@ use std::sync::ledger::{Blank, Ledger};
 use std::test::Fail;
 use step_count::Steps;
 
-// Media 0 has the source frames [8, 60), media 1 [0, 86400).
-fn table(alloc: Global) -> Result<Table, Memory> {
-    let mut kinds = Listed::new(alloc);
-    kinds.push(Kind::Video)?;
-    let mut media = Listed::new(alloc);
-    for (from, to) in [(8, 60), (0, 86_400)] {
-        media.push(Media { reel: 0, from, to })?;
-    }
-    let nests: Listed<Nest> = Listed::new(alloc);
-    Ok(Table {
-        kinds,
-        reels: Reels::new(alloc),
-        media,
-        nests,
-    })
+// Two tracks of these items and gaps, if there are such tracks.
+fn pair(
+    alloc: Global,
+    table: &Table,
+    first: &[ItemView],
+    second: &[ItemView],
+) -> Result<Option<Vec<Track>>, Memory>
+    ensures numbers { IfOk result (λ o. IfSome o (λ v. numbers_of v.items ≡ 0 ∷ 1 ∷ [])) }
+    ensures good { IfOk result (λ o. IfSome o (λ v. All (λ t. IsGood table.now t) v.items)) }
+    ensures roomy { IfOk result (λ o. IfSome o (λ v. All (λ t. IsRoomy t) v.items)) }
+{
+    let Some(first) = linked_track(alloc, table, 0, first)? else {
+        return Ok(None);
+    };
+    let Some(second) = linked_track(alloc, table, 1, second)? else {
+        return Ok(None);
+    };
+    let mut named = Vec::new(alloc);
+    named.push(first)?;
+    named.push(second)?;
+    Ok(Some(named))
 }
 
-// What a ripple answers, and the items and gaps of both tracks after it.
+// What a ripple answers, and the tracks after it.
 #[derive(Drop)]
-struct Both {
+struct Played {
     answer: Result<Done, EditFault>,
-    first: Vec<ItemView>,
-    second: Vec<ItemView>,
+    named: Vec<Track>,
 }
 
-fn items_at(alloc: Global, named: &[Track], index: usize) -> Result<Vec<ItemView>, Memory> {
-    match named.get(index) {
-        Some(track) => track.items(alloc),
-        None => Ok(Vec::new(alloc)),
-    }
-}
-
-// A ripple of an item of the first track, on both.
 fn play<L: Ledger>(
     alloc: Global,
     blank: Blank,
     table: &Table,
-    first: Track,
-    second: Track,
+    mut named: Vec<Track>,
     call: &Ripple,
-) -> Result<Both, Memory>
+) -> Played
     requires blank { (blank.name ≡ L.name) × (blank.parts ≡ L.parts) × (0 < blank.parts) }
-    requires call { (call.now.track ≡ 0) × (call.now.tracks ≡ 3) }
-    requires numbers { (first.number ≡ 0) × (second.number ≡ 1) }
-    requires good { IsGood table.now first × IsGood table.now second }
-    requires roomy { IsRoomy first × IsRoomy second }
+    requires named { numbers_of named.items ≡ tracks_in call.now.tracks }
+    requires own { list_any (nat_eq call.now.track) (tracks_in call.now.tracks) ≡ true }
+    requires good { All (λ t. IsGood table.now t) named.items }
+    requires roomy { All (λ t. IsRoomy t) named.items }
 {
     let mut steps = Steps::<L>::new(blank);
-    let mut named = Vec::new(alloc);
-    named.push(first)?;
-    named.push(second)?;
     let answer = ripple(alloc, table, &mut named, call, &mut steps);
-    let first = items_at(alloc, &named, 0)?;
-    let second = items_at(alloc, &named, 1)?;
-    Ok(Both {
-        answer,
-        first,
-        second,
-    })
+    Played { answer, named }
 }
 
-// A ripple of the tracks of these items and gaps, where there are such tracks.
+// A ripple of an item of the first track, on both.
 fn tried(
     alloc: Global,
-    table: &Table,
     first: &[ItemView],
     second: &[ItemView],
     item: u32,
     end: End,
     by: i32,
-) -> Result<Option<Both>, Memory> {
-    let Some(first) = linked_track(alloc, table, 0, first)? else {
-        return Ok(None);
-    };
-    let Some(second) = linked_track(alloc, table, 1, second)? else {
+) -> Result<Option<Played>, Memory> {
+    let table = table(alloc)?;
+    let Some(named) = pair(alloc, &table, first, second)? else {
         return Ok(None);
     };
     let call = Ripple {
@@ -99,222 +87,196 @@ fn tried(
         end,
         by,
     };
-    let played = play::<Brand>(alloc, Blank::new(1), table, first, second, &call)?;
+    let played = play::<Brand>(alloc, Blank::new(1), &table, named, &call);
     Ok(Some(played))
 }
 
-// A ripple of the two tracks of these examples.
-fn rippled(
+// Items of short media and gaps, with dissolves, on both tracks.
+fn own_views() -> [ItemView; 5] {
+    [
+        gap(3),
+        clip(0, 0, 10, 5),
+        dissolve(1, 1, clip(1, 0, 11, 6)),
+        dissolve(1, 2, gap(4)),
+        clip(2, 0, 9, 3),
+    ]
+}
+
+fn other_views() -> [ItemView; 4] {
+    [
+        clip(0, 1, 2, 6),
+        dissolve(1, 1, clip(1, 1, 9, 5)),
+        gap(2),
+        clip(2, 1, 4, 4),
+    ]
+}
+
+// The cells of each track before a ripple.
+fn cells_before(alloc: Global) -> Result<Option<Vec<Vec<Cell>>>, Memory> {
+    let table = table(alloc)?;
+    match pair(alloc, &table, &own_views(), &other_views())? {
+        Some(named) => Ok(Some(cells_of(alloc, &named)?)),
+        None => Ok(None),
+    }
+}
+
+// Whether the ripple of an item of the first track leaves on both tracks what the plain program says.
+fn agrees(alloc: Global, item: u32, end: End, by: i32) -> Result<bool, Memory> {
+    let Some(before) = cells_before(alloc)? else {
+        return Ok(false);
+    };
+    let Some(played) = tried(alloc, &own_views(), &other_views(), item, end, by)? else {
+        return Ok(false);
+    };
+    let after = cells_of(alloc, &played.named)?;
+    let (Some(own), Some(other)) = (before.first(), before.get(1)) else {
+        return Ok(false);
+    };
+    let (x, y) = range(own, item);
+    if x == y {
+        let refused = Err(EditFault::Refused(Refusal::NoItem));
+        return Ok(played.answer == refused && after == before);
+    }
+    let used = ripple_used(own, x, y, end, i64::from(by));
+    let done = Ok(Done::By(i32::try_from(used).unwrap_or(0)));
+    if used == 0 {
+        return Ok(played.answer == done && after == before);
+    }
+    let mut want = Vec::new(alloc);
+    want.push(rippled(alloc, own, x, y, end, used)?)?;
+    want.push(shifted(alloc, other, shift(x, y, end, used), 3)?)?;
+    Ok(played.answer == done && after == want)
+}
+
+// The first delta by which a ripple of an item does something else than the plain program.
+fn difference(alloc: Global, item: u32, end: End) -> Result<Option<i32>, Memory> {
+    for by in -12..13 {
+        if !agrees(alloc, item, end, by)? {
+            return Ok(Some(by));
+        }
+    }
+    for by in [i32::MIN, i32::MAX] {
+        if !agrees(alloc, item, end, by)? {
+            return Ok(Some(by));
+        }
+    }
+    Ok(None)
+}
+
+#[test]
+fn ripples_by_every_delta_agree_with_a_plain_program(rt: HostRuntime) -> Result<(), Fail> {
+    for item in 0..4 {
+        let head = difference(rt.alloc(), item, End::Head)?;
+        assert_eq!(rt; head, None, "head of item {item}");
+        let tail = difference(rt.alloc(), item, End::Tail)?;
+        assert_eq!(rt; tail, None, "tail of item {item}");
+    }
+    Ok(())
+}
+
+// What a ripple of the tail of an item of 10 frames answers, where there are gaps of these lengths before it on the
+// first track, and before another such item on the second.
+fn beyond(
     alloc: Global,
-    table: &Table,
-    item: u32,
-    end: End,
+    own: u32,
+    other: u32,
     by: i32,
-) -> Result<Option<Both>, Memory> {
-    let first = [gap(3), clip(0, 0, 10, 4), dissolve(1, 1, clip(1, 1, 50, 5))];
-    let second = [clip(0, 1, 200, 5), gap(2), clip(1, 1, 300, 4)];
-    tried(alloc, table, &first, &second, item, end, by)
-}
-
-#[test]
-fn a_head_moves_what_is_behind_it(rt: HostRuntime) -> Result<(), Fail> {
-    let table = table(rt.alloc())?;
-    for (by, used, own, other) in [
-        (
-            i32::MIN,
-            -2,
-            [gap(3), clip(0, 0, 8, 6), dissolve(1, 1, clip(1, 1, 50, 5))].as_slice(),
-            [
-                clip(0, 1, 200, 3),
-                gap(2),
-                clip(2, 1, 203, 2),
-                gap(2),
-                clip(1, 1, 300, 4),
-            ]
-            .as_slice(),
-        ),
-        (
-            2,
-            2,
-            [gap(3), clip(0, 0, 12, 2), dissolve(1, 1, clip(1, 1, 50, 5))].as_slice(),
-            [clip(0, 1, 200, 3), gap(2), clip(1, 1, 300, 4)].as_slice(),
-        ),
-    ] {
-        let played = rippled(rt.alloc(), &table, 0, End::Head, by)?.ok_or("these can be laid")?;
-        assert_eq!(rt; played.answer, Ok(Done::By(used)), "{by}");
-        assert_eq!(rt; played.first.as_slice(), own, "{by}");
-        assert_eq!(rt; played.second.as_slice(), other, "{by}");
+) -> Result<Option<Result<Done, EditFault>>, Memory> {
+    let first = [gap(own), clip(0, 1, 0, 10)];
+    let second = [gap(other), clip(0, 1, 0, 10)];
+    match tried(alloc, &first, &second, 0, End::Tail, by)? {
+        Some(played) => Ok(Some(played.answer)),
+        None => Ok(None),
     }
-    Ok(())
 }
 
-#[test]
-fn a_tail_moves_what_is_behind_it(rt: HostRuntime) -> Result<(), Fail> {
-    let table = table(rt.alloc())?;
-    for (by, used, own, other) in [
-        (
-            i32::MIN,
-            -3,
-            [gap(3), clip(0, 0, 10, 1), clip(1, 1, 50, 5)].as_slice(),
-            [clip(0, 1, 200, 4), clip(1, 1, 300, 4)].as_slice(),
-        ),
-        (
-            i32::MAX,
-            46,
-            [gap(3), clip(0, 0, 10, 50), clip(1, 1, 50, 5)].as_slice(),
-            [clip(0, 1, 200, 5), gap(48), clip(1, 1, 300, 4)].as_slice(),
-        ),
-    ] {
-        let played = rippled(rt.alloc(), &table, 0, End::Tail, by)?.ok_or("these can be laid")?;
-        assert_eq!(rt; played.answer, Ok(Done::By(used)), "{by}");
-        assert_eq!(rt; played.first.as_slice(), own, "{by}");
-        assert_eq!(rt; played.second.as_slice(), other, "{by}");
-    }
-    Ok(())
-}
-
-#[test]
-fn a_head_at_a_dissolve_drops_it(rt: HostRuntime) -> Result<(), Fail> {
-    let table = table(rt.alloc())?;
-    for (by, used, own, other) in [
-        (
-            i32::MIN,
-            -50,
-            [gap(3), clip(0, 0, 10, 4), clip(1, 1, 0, 55)].as_slice(),
-            [clip(0, 1, 200, 5), gap(52), clip(1, 1, 300, 4)].as_slice(),
-        ),
-        (
-            2,
-            2,
-            [gap(3), clip(0, 0, 10, 4), clip(1, 1, 52, 3)].as_slice(),
-            [clip(0, 1, 200, 5), gap(2), clip(1, 1, 302, 2)].as_slice(),
-        ),
-    ] {
-        let played = rippled(rt.alloc(), &table, 1, End::Head, by)?.ok_or("these can be laid")?;
-        assert_eq!(rt; played.answer, Ok(Done::By(used)), "{by}");
-        assert_eq!(rt; played.first.as_slice(), own, "{by}");
-        assert_eq!(rt; played.second.as_slice(), other, "{by}");
-    }
-    Ok(())
-}
-
-#[test]
-fn a_last_tail_moves_the_end_of_its_track(rt: HostRuntime) -> Result<(), Fail> {
-    let table = table(rt.alloc())?;
-    for (by, used, own, other) in [
-        (
-            -2,
-            -2,
-            [gap(3), clip(0, 0, 10, 4), dissolve(1, 1, clip(1, 1, 50, 3))].as_slice(),
-            [clip(0, 1, 200, 5), gap(2), clip(1, 1, 300, 3)].as_slice(),
-        ),
-        (
-            0,
-            0,
-            [gap(3), clip(0, 0, 10, 4), dissolve(1, 1, clip(1, 1, 50, 5))].as_slice(),
-            [clip(0, 1, 200, 5), gap(2), clip(1, 1, 300, 4)].as_slice(),
-        ),
-    ] {
-        let played = rippled(rt.alloc(), &table, 1, End::Tail, by)?.ok_or("these can be laid")?;
-        assert_eq!(rt; played.answer, Ok(Done::By(used)), "{by}");
-        assert_eq!(rt; played.first.as_slice(), own, "{by}");
-        assert_eq!(rt; played.second.as_slice(), other, "{by}");
-    }
-    Ok(())
-}
-
-// The tail of the item of the first track is moved later.
+// A track has at most 2,592,000 frames.
 #[test]
 fn no_named_track_becomes_too_long(rt: HostRuntime) -> Result<(), Fail> {
-    let table = table(rt.alloc())?;
-    for (first, second, by, used) in [
-        (
-            [gap(2_591_990), clip(0, 1, 100, 10)].as_slice(),
-            [clip(0, 1, 0, 10)].as_slice(),
-            3,
-            0,
-        ),
-        (
-            [gap(2_591_988), clip(0, 1, 100, 10)].as_slice(),
-            [clip(0, 1, 0, 10)].as_slice(),
-            3,
-            2,
-        ),
-        (
-            [gap(10), clip(0, 1, 100, 5)].as_slice(),
-            [gap(2_591_990), clip(0, 1, 0, 10)].as_slice(),
-            1,
-            0,
-        ),
-        (
-            [gap(2_591_000), clip(0, 1, 100, 5)].as_slice(),
-            [gap(2_590_980), clip(0, 1, 0, 10)].as_slice(),
-            2000,
-            995,
-        ),
+    for (own, other, by, used) in [
+        (2_591_990, 10, 3, 0),
+        (2_591_988, 10, 3, 2),
+        (10, 2_591_990, 1, 0),
+        (2_591_000, 2_591_983, 20, 7),
+        (2_591_000, 2_590_989, 20, 20),
     ] {
-        let played = tried(rt.alloc(), &table, first, second, 0, End::Tail, by)?.ok_or(
-            "these can be laid",
-        )?;
-        assert_eq!(rt; played.answer, Ok(Done::By(used)), "{by} of {first:?}");
+        let answer = beyond(rt.alloc(), own, other, by)?;
+        assert_eq!(rt;
+            answer,
+            Some(Ok(Done::By(used))),
+            "{own} and {other} by {by}"
+        );
     }
     Ok(())
 }
 
-#[test]
-fn an_item_that_is_not_there_is_refused(rt: HostRuntime) -> Result<(), Fail> {
-    let table = table(rt.alloc())?;
-    let first = [gap(3), clip(0, 0, 10, 4)];
-    let played = tried(rt.alloc(), &table, &first, &first, 9, End::Head, 1)?.ok_or(
-        "these can be laid",
-    )?;
-    let refused = Err(EditFault::Refused(Refusal::NoItem));
-    assert_eq!(rt; played.answer, refused);
-    assert_eq!(rt; played.first.as_slice(), first.as_slice());
-    Ok(())
+// What a ripple of the item [3, 7) of the first track by a delta answers, and then the numbers of the links of that item
+// and of its partner, which stands on the second track from a place on and has a length and the same offset.
+#[derive(Drop)]
+struct Split {
+    answer: Result<Done, EditFault>,
+    own: Option<u32>,
+    last: Option<u32>,
 }
 
-// The number of its link, if it has one.
-fn link_of(view: Option<&ItemView>) -> Option<u32> {
+fn link_number(view: Option<ItemView>) -> Option<u32> {
     Some(view?.link?.number)
 }
 
-// The item of the first track is [3, 7); its partner on the second stands before it, at it, behind it or around it.
-#[test]
-fn a_ripple_splits_a_link_where_some_of_it_stays(rt: HostRuntime) -> Result<(), Fail> {
-    let table = table(rt.alloc())?;
+fn split_by(alloc: Global, at: u32, len: u32, end: End, by: i32) -> Result<Option<Split>, Memory> {
     let tied = Link {
         home: 0,
         number: 4,
         tracks: 3,
     };
     let first = [gap(3), linked(tied, clip(0, 0, 10, 4))];
-    let before = [gap(1), linked(tied, clip(0, 0, 8, 2))];
-    let behind = [gap(9), linked(tied, clip(0, 0, 16, 4))];
-    let around = [gap(1), linked(tied, clip(0, 0, 8, 9))];
-    for (row, second, end, by, own, last) in [
+    let second = [gap(at), linked(tied, clip(0, 0, at.saturating_add(7), len))];
+    let Some(played) = tried(alloc, &first, &second, 0, end, by)? else {
+        return Ok(None);
+    };
+    let (Some(first), Some(second)) = (played.named.first(), played.named.get(1)) else {
+        return Ok(None);
+    };
+    Ok(Some(Split {
+        answer: played.answer,
+        own: link_number(first.item(1)),
+        last: link_number(second.item(second.count().saturating_sub(1))),
+    }))
+}
+
+// The partner stands before the item, at it, behind it or around it.
+#[test]
+fn a_ripple_splits_a_link_where_some_of_it_stays(rt: HostRuntime) -> Result<(), Fail> {
+    for (at, len, end, by, own, last) in [
         // the head moves with all of its item: what stays is before it
-        (0u32, before.as_slice(), End::Head, -2, Some(0), Some(4)),
-        (1, first.as_slice(), End::Head, -2, Some(4), Some(4)),
-        (2, behind.as_slice(), End::Head, -2, Some(4), Some(4)),
-        (3, around.as_slice(), End::Head, -2, Some(0), Some(0)),
+        (1, 2, End::Head, -2, 0, 4),
+        (3, 4, End::Head, -2, 4, 4),
+        (9, 4, End::Head, -2, 4, 4),
+        (1, 9, End::Head, -2, 0, 0),
         // the tail moves what is behind its item, which stays
-        (4, before.as_slice(), End::Tail, 2, Some(4), Some(4)),
-        (5, first.as_slice(), End::Tail, -2, Some(4), Some(4)),
-        (6, behind.as_slice(), End::Tail, 2, Some(4), Some(0)),
-        (7, around.as_slice(), End::Tail, 2, Some(4), Some(0)),
+        (1, 2, End::Tail, 2, 4, 4),
+        (3, 4, End::Tail, -2, 4, 4),
+        (9, 4, End::Tail, 2, 4, 0),
+        (1, 9, End::Tail, 2, 4, 0),
     ] {
-        let played = tried(rt.alloc(), &table, &first, second, 0, end, by)?.ok_or("laid")?;
-        assert_eq!(rt; played.answer, Ok(Done::By(by)), "row {row}");
-        assert_eq!(rt; link_of(played.first.get(1)), own, "row {row}");
-        assert_eq!(rt; link_of(played.second.last()), last, "row {row}");
+        let split = split_by(rt.alloc(), at, len, end, by)?.ok_or("these can be laid")?;
+        assert_eq!(rt;
+            split.answer,
+            Ok(Done::By(by)),
+            "{end:?} by {by}, {len} from {at} on"
+        );
+        assert_eq!(rt; split.own, Some(own), "{end:?} by {by}, {len} from {at} on");
+        assert_eq!(rt;
+            split.last,
+            Some(last),
+            "{end:?} by {by}, {len} from {at} on"
+        );
     }
     Ok(())
 }
 
 #[test]
 fn a_ripple_that_moves_a_link_to_other_tracks_is_refused(rt: HostRuntime) -> Result<(), Fail> {
-    let table = table(rt.alloc())?;
     let wide = Link {
         home: 1,
         number: 2,
@@ -322,14 +284,12 @@ fn a_ripple_that_moves_a_link_to_other_tracks_is_refused(rt: HostRuntime) -> Res
     };
     let first = [clip(0, 0, 10, 4)];
     let second = [gap(4), linked(wide, clip(0, 0, 16, 4))];
-    let played = tried(rt.alloc(), &table, &first, &second, 0, End::Tail, 1)?.ok_or("laid")?;
+    let played = tried(rt.alloc(), &first, &second, 0, End::Tail, 1)?.ok_or("laid")?;
     let outside = Refusal::LinkOutside {
         home: 1,
         number: 2,
         track: 2,
     };
     assert_eq!(rt; played.answer, Err(EditFault::Refused(outside)));
-    assert_eq!(rt; played.first.as_slice(), first.as_slice());
-    assert_eq!(rt; played.second.as_slice(), second.as_slice());
     Ok(())
 }

@@ -1,4 +1,4 @@
-use Rattle.std.proofs.Common.{◌≡◌, ℕ, [], take, sym, ap, ◌∙◌, arith}
+use Rattle.std.proofs.Common.{ℕ, take, sym, ap, ◌∙◌, arith}
 use Rattle.composables.specs.Items.{items_of}
 use Rattle.composables.specs.Joined.{frames_in}
 use Rattle.edit_trim.proofs.Beside.{first-before, found-gap-before, found-item-before, found-there}

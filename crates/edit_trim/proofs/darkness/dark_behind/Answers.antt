@@ -1,6 +1,4 @@
 use Rattle.std.proofs.Common.{sym, ◌∙◌, arith}
-use Rattle.std.proofs.lemmas.Option.{slice_get_within}
-use Rattle.composables.specs.Items.{items_of}
 use Rattle.composables.proofs.Joining.{length-items_of}
 use Rattle.edit_trim.proofs.Beside.{ends-within, found-end-behind, found-gap-behind, found-item-behind, found-last-behind}
 use Rattle.edit_trim.proofs.darkness.dark_behind.Goals as goal

@@ -1,4 +1,4 @@
-use Rattle.std.proofs.Common.{◌≡◌, ℕ, Option, ap, sym, ◌∙◌, arith, subst, slice_get, ◌+◌}
+use Rattle.std.proofs.Common.{◌≡◌, Option, ap, ◌∙◌, arith, subst, slice_get, ◌+◌}
 use Rattle.frame_meaning.specs.declared.cells.Mark.{Mark}
 use Rattle.composables.specs.Items.{items_of}
 use Rattle.composables.specs.TrackFacts.{left_reach, right_reach}

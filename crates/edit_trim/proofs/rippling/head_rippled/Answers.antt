@@ -1,4 +1,4 @@
-use Rattle.std.proofs.Common.{◌≡◌, ◌<◌, ◌^◌, refl, rules, w32, SFits}
+use Rattle.std.proofs.Common.{◌<◌, ◌^◌, refl, rules, w32, SFits}
 use Rattle.edit_trim.proofs.Ripples.{head-can, head-rippled}
 use Rattle.edit_trim.proofs.rippling.head_rippled.Goals as goal
 

@@ -1,4 +1,3 @@
-use Rattle.std.proofs.Common.{◌≡◌, arith}
 use Rattle.edit_trim.proofs.Ripples.{room-all, room-more, room-none}
 use Rattle.edit_trim.proofs.rippling.room_at.Goals as goal
 

@@ -1,4 +1,4 @@
-use Rattle.std.proofs.Common.{◌≡◌, ◌<◌, ◌^◌, refl, rules, w32, SFits}
+use Rattle.std.proofs.Common.{refl, rules, w32, SFits}
 use Rattle.edit_trim.proofs.Ripples.{tail-can, tail-rippled}
 use Rattle.edit_trim.proofs.rippling.tail_rippled.Goals as goal
 

@@ -1,4 +1,4 @@
-use Rattle.std.proofs.Common.{◌≡◌, ◌+◌, ◌-◌, ◌<◌, ◌≤◌, ℕ, ap, sym, ◌∙◌, arith, subst}
+use Rattle.std.proofs.Common.{◌+◌, ◌-◌, ap, sym, ◌∙◌, arith, subst}
 use Rattle.edit_delta.proofs.Answered.{earlier-most, later-most}
 use Rattle.edit_delta.proofs.Spots.{spot-at}
 use Rattle.edit_splice.specs.Standing.{StaysGood}

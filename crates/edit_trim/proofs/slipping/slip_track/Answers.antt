@@ -1,4 +1,4 @@
-use Rattle.std.proofs.Common.{◌≡◌, sym, ◌∙◌}
+use Rattle.std.proofs.Common.{sym, ◌∙◌}
 use Rattle.edit_trim.proofs.Slipped.{no-dark}
 use Rattle.edit_trim.proofs.slipping.slip_track.Goals as goal
 

@@ -1,4 +1,4 @@
-use Rattle.std.proofs.Common.{◌≡◌, ◌+◌, ◌-◌, ◌<◌, ◌≤◌, ℕ, List, [], ◌∷◌, length, min, ap, sym, ◌∙◌, arith, subst, refl, Result}
+use Rattle.std.proofs.Common.{◌+◌, ◌-◌, [], ◌∷◌, sym, arith, subst, refl, Result}
 use Rattle.composables.specs.declared.items.ItemView.{ItemView}
 use Rattle.composables.specs.declared.refusals.Done.{Done}
 use Rattle.composables.specs.declared.refusals.Refusal.{Refusal}
@@ -6,7 +6,7 @@ use Rattle.composables.specs.Answers.{Answers}
 use Rattle.composables.specs.TrackState.{TrackState}
 use Rattle.edit_delta.specs.Parts.{AreParts}
 use Rattle.edit_delta.proofs.Answered.{earlier-most, later-most}
-use Rattle.edit_delta.proofs.Pieces.{back-parts, gap-parts, grown-after, grown-before, numbered-after, on-parts}
+use Rattle.edit_delta.proofs.Pieces.{back-parts, gap-parts, grown-before}
 use Rattle.edit_delta.proofs.Spots.{spot-at}
 use Rattle.edit_splice.proofs.Standing.{stays-self}
 use Rattle.edit_trim.proofs.Trims.{dark-there, head-earlier, head-later, head-still, head-used}

@@ -1,10 +1,9 @@
-use Rattle.std.proofs.Common.{◌≡◌, Some, Result, ap, sym, ◌∙◌, subst, w32, SFits, rules}
+use Rattle.std.proofs.Common.{Result, sym, subst, w32, SFits, rules}
 use Rattle.composables.specs.declared.calls.End.TheVariants.{Head, Tail}
 use Rattle.composables.specs.declared.refusals.Done.{Done}
 use Rattle.composables.specs.declared.refusals.Refusal.{Refusal}
 use Rattle.composables.specs.Answers.{Answers}
 use Rattle.composables.specs.TrackState.{TrackState}
-use Rattle.edit_splice.proofs.Standing.{stays-self}
 use Rattle.edit_trim.proofs.Trims.{track-means}
 use Rattle.edit_trim.proofs.trimming.trim_track.Goals as goal
 

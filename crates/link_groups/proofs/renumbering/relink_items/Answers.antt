@@ -1,4 +1,4 @@
-use Rattle.std.proofs.Common.{◌≡◌, ◌<◌, Some, length, slice_get, sym, ◌∙◌, arith}
+use Rattle.std.proofs.Common.{◌≡◌, Some, slice_get, sym, ◌∙◌, arith}
 use Rattle.composables.specs.Items.{items_of}
 use Rattle.link_groups.proofs.LeastLinks.{frames-more, frames-within}
 use Rattle.link_groups.proofs.Relinking.{all-links, kept-now, more-met, more-past, none-there, read-now}

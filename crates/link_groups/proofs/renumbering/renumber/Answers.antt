@@ -1,5 +1,4 @@
-use Rattle.std.proofs.Common.{◌≡◌, ℕ, List, map, sym, ap, ◌∙◌, subst}
-use Rattle.frame_meaning.specs.declared.cells.Link.{Link}
+use Rattle.std.proofs.Common.{ℕ, List, map, ap, ◌∙◌, subst}
 use Rattle.composables.specs.Links.{split_links}
 use Rattle.composables.specs.TrackState.{TrackState}
 use Rattle.link_groups.specs.Splits.{AreSplits, relinked_track}

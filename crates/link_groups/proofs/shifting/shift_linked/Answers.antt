@@ -1,11 +1,9 @@
-use Rattle.std.proofs.Common.{◌≡◌, ◌≢◌, ℕ, ◌-◌, Bool, false, eqb, Option, Some, None, List, Result, Ok, sym, ap, ◌∙◌, arith, subst}
+use Rattle.std.proofs.Common.{◌≡◌, ◌-◌, false, eqb, None, List, sym, ap, ◌∙◌, arith, subst}
 use Rattle.std.proofs.lemmas.Bool.{ne_eqb}
-use Rattle.composables.specs.declared.refusals.Refusal.{Refusal}
 use Rattle.composables.specs.Links.{cells_from, link_outside, split_links}
 use Rattle.composables.specs.Sizes.{sizes_of}
 use Rattle.composables.specs.TrackState.{TrackState}
 use Rattle.edit_splice.specs.Padding.{new_len}
-use Rattle.link_groups.specs.LinkedShifts.{linked_refusal}
 use Rattle.link_groups.specs.Splits.{AreSplits}
 use Rattle.link_groups.proofs.LinkedShifts.{moving-refusal, next-fits, shift-done, sizes-done}
 use Rattle.link_groups.proofs.shifting.shift_linked.Goals as goal

@@ -3,7 +3,7 @@ use Rattle.std.specs.BTreeSet.{btree_set_len, contains}
 use Rattle.composables.specs.Items.{items_of}
 use Rattle.link_groups.specs.Splits.{is_key_of, key_cmp}
 use Rattle.link_groups.proofs.LeastLinks.{frames-more, frames-within}
-use Rattle.link_groups.proofs.LinkedCells.{or-again, range-met, range-passed}
+use Rattle.link_groups.proofs.LinkedCells.{or-again, range-passed}
 use Rattle.link_groups.proofs.splits.add_linked.Goals as goal
 use Rattle.link_groups.proofs.splits.add_linked.Goals.{then-max-min+in_ok-add_link, else-max-min}
 

@@ -1,4 +1,4 @@
-use Rattle.std.proofs.Common.{◌≡◌, ℕ, ◌+◌, List, ◌∷◌, Option, Some, length, refl, sym, ap, ◌∙◌, arith, rules, cond, eqb, unwrap_or}
+use Rattle.std.proofs.Common.{◌≡◌, ℕ, ◌+◌, ◌∷◌, Option, Some, length, sym, ap, ◌∙◌, arith, rules, cond, eqb, unwrap_or}
 use Rattle.std.specs.BTreeMap.{get, is_at}
 use Rattle.std.specs.BTreeSet.{IsOrdered, btree_set_len, contains}
 use Rattle.std.specs.Map.Iter.{deref}
