@@ -1,5 +1,5 @@
 -- The lowest track of a set, once its tracks below t were looked at.
-use Rattle.std.proofs.Common.{◌≡◌, ℕ, suc, ◌+◌, ◌-◌, ◌<◌, Bool, true, false, List, ◌∷◌, refl, sym, ap, ◌∙◌, arith, if◌then◌else◌}
+use Rattle.std.proofs.Common.{◌≡◌, ℕ, suc, ◌+◌, ◌-◌, ◌<◌, Bool, true, false, List, ◌∷◌, refl, ap, ◌∙◌, arith, if◌then◌else◌}
 use Rattle.composables.specs.TrackSets.{has_track, tracks_from}
 use Rattle.edit_apply.specs.Apply.{lowest}
 use Rattle.edit_apply.proofs.Sets.{tracks_after}

@@ -1,7 +1,6 @@
 -- Each call keeps the tracks of a room together.
-use Rattle.std.proofs.Common.{◌≡◌, ℕ, List, length, sym, arith, subst}
+use Rattle.std.proofs.Common.{ℕ, length, sym, arith, subst}
 use Rattle.composables.specs.declared.media.Table.{Table}
-use Rattle.composables.specs.TrackState.{TrackState}
 use Rattle.room_core.specs.Parts.{numbers}
 use Rattle.link_laws.specs.Histories.{CallsKeepTogether}
 use Rattle.link_laws.specs.Rooms.{KeepsTogether}

@@ -1,5 +1,5 @@
 -- How far the item numbers of tracks have risen: each call raises the next item number of a track by two at most.
-use Rattle.std.proofs.Common.{◌≡◌, ℕ, zero, suc, ℤ, pos, negsuc, ◌+◌, ◌-◌, ◌<◌, ◌≤◌, Bool, true, false, cond, eqb, min, List, [], ◌∷◌, ◌++◌, All, length, map, take, drop, Option, Some, None, IfSome, Result, Ok, Err, refl, sym, ◌∙◌, arith, subst, nat_lt, unwrap_or}
+use Rattle.std.proofs.Common.{◌≡◌, ℕ, zero, suc, ℤ, pos, negsuc, ◌+◌, ◌-◌, ◌<◌, ◌≤◌, Bool, true, false, cond, eqb, min, List, [], ◌∷◌, All, length, map, take, drop, Option, Some, None, IfSome, Result, Ok, Err, refl, sym, arith, subst, nat_lt, unwrap_or}
 use Rattle.std.proofs.lemmas.List.Elements.{All-cons}
 use Rattle.frame_meaning.specs.declared.cells.What.{What}
 use Rattle.composables.specs.declared.calls.Overwrite.{Overwrite}
