@@ -99,13 +99,20 @@ fn overwrite(words: &[&[u8]], counting: &Counting, start: u32) -> Result<Line, L
     ensures written { IfOk result (λ read. NamesWritten read) }
 {
     match words {
-        [track_word, at, thing, from, len] => Ok(Line::Edit(Call::Overwrite(Overwrite {
-            track: track(track_word)?,
-            at: place(at, counting, start)?,
-            what: what(thing)?,
-            from: numeral(from)?,
-            len: numeral(len)?,
-        }))),
+        [track_word, at, thing, from, len] => {
+            let track = track(track_word)?;
+            let at = place(at, counting, start)?;
+            let what = what(thing)?;
+            let from = numeral(from)?;
+            let len = numeral(len)?;
+            Ok(Line::Edit(Call::Overwrite(Overwrite {
+                track,
+                at,
+                what,
+                from,
+                len,
+            })))
+        }
         _ => Err(LineFault::B2),
     }
 }
@@ -116,14 +123,22 @@ fn insert(words: &[&[u8]], counting: &Counting, start: u32) -> Result<Line, Line
     ensures written { IfOk result (λ read. NamesWritten read) }
 {
     match words {
-        [list, track_word, at, thing, from, len] => Ok(Line::Edit(Call::Insert(Insert {
-            tracks: tracks(list)?,
-            track: track(track_word)?,
-            at: place(at, counting, start)?,
-            what: what(thing)?,
-            from: numeral(from)?,
-            len: numeral(len)?,
-        }))),
+        [list, track_word, at, thing, from, len] => {
+            let tracks = tracks(list)?;
+            let track = track(track_word)?;
+            let at = place(at, counting, start)?;
+            let what = what(thing)?;
+            let from = numeral(from)?;
+            let len = numeral(len)?;
+            Ok(Line::Edit(Call::Insert(Insert {
+                tracks,
+                track,
+                at,
+                what,
+                from,
+                len,
+            })))
+        }
         _ => Err(LineFault::B2),
     }
 }
@@ -134,10 +149,11 @@ fn remove(words: &[&[u8]]) -> Result<Line, LineFault>
     ensures written { IfOk result (λ read. NamesWritten read) }
 {
     match words {
-        [track_word, item] => Ok(Line::Edit(Call::Remove(Remove {
-            track: track(track_word)?,
-            item: numeral(item)?,
-        }))),
+        [track_word, item] => {
+            let track = track(track_word)?;
+            let item = numeral(item)?;
+            Ok(Line::Edit(Call::Remove(Remove { track, item })))
+        }
         _ => Err(LineFault::B2),
     }
 }
@@ -148,11 +164,16 @@ fn extract(words: &[&[u8]]) -> Result<Line, LineFault>
     ensures written { IfOk result (λ read. NamesWritten read) }
 {
     match words {
-        [list, track_word, item] => Ok(Line::Edit(Call::Extract(Extract {
-            tracks: tracks(list)?,
-            track: track(track_word)?,
-            item: numeral(item)?,
-        }))),
+        [list, track_word, item] => {
+            let tracks = tracks(list)?;
+            let track = track(track_word)?;
+            let item = numeral(item)?;
+            Ok(Line::Edit(Call::Extract(Extract {
+                tracks,
+                track,
+                item,
+            })))
+        }
         _ => Err(LineFault::B2),
     }
 }
@@ -163,10 +184,11 @@ fn slice(words: &[&[u8]], counting: &Counting, start: u32) -> Result<Line, LineF
     ensures written { IfOk result (λ read. NamesWritten read) }
 {
     match words {
-        [track_word, at] => Ok(Line::Edit(Call::Slice(Slice {
-            track: track(track_word)?,
-            at: place(at, counting, start)?,
-        }))),
+        [track_word, at] => {
+            let track = track(track_word)?;
+            let at = place(at, counting, start)?;
+            Ok(Line::Edit(Call::Slice(Slice { track, at })))
+        }
         _ => Err(LineFault::B2),
     }
 }
@@ -177,12 +199,13 @@ fn dissolve(words: &[&[u8]], counting: &Counting, start: u32) -> Result<Line, Li
     ensures written { IfOk result (λ read. NamesWritten read) }
 {
     match words {
-        [track_word, at, before, after] => Ok(Line::Edit(Call::Dissolve(Dissolve {
-            track: track(track_word)?,
-            at: place(at, counting, start)?,
-            a: numeral(before)?,
-            b: numeral(after)?,
-        }))),
+        [track_word, at, before, after] => {
+            let track = track(track_word)?;
+            let at = place(at, counting, start)?;
+            let a = numeral(before)?;
+            let b = numeral(after)?;
+            Ok(Line::Edit(Call::Dissolve(Dissolve { track, at, a, b })))
+        }
         _ => Err(LineFault::B2),
     }
 }
@@ -193,10 +216,11 @@ fn undissolve(words: &[&[u8]], counting: &Counting, start: u32) -> Result<Line, 
     ensures written { IfOk result (λ read. NamesWritten read) }
 {
     match words {
-        [track_word, at] => Ok(Line::Edit(Call::Undissolve(Undissolve {
-            track: track(track_word)?,
-            at: place(at, counting, start)?,
-        }))),
+        [track_word, at] => {
+            let track = track(track_word)?;
+            let at = place(at, counting, start)?;
+            Ok(Line::Edit(Call::Undissolve(Undissolve { track, at })))
+        }
         _ => Err(LineFault::B2),
     }
 }
@@ -207,12 +231,18 @@ fn trim(words: &[&[u8]]) -> Result<Line, LineFault>
     ensures written { IfOk result (λ read. NamesWritten read) }
 {
     match words {
-        [track_word, item, last, by] => Ok(Line::Edit(Call::Trim(Trim {
-            track: track(track_word)?,
-            item: numeral(item)?,
-            end: end(last)?,
-            by: delta(by)?,
-        }))),
+        [track_word, item, last, by] => {
+            let track = track(track_word)?;
+            let item = numeral(item)?;
+            let end = end(last)?;
+            let by = delta(by)?;
+            Ok(Line::Edit(Call::Trim(Trim {
+                track,
+                item,
+                end,
+                by,
+            })))
+        }
         _ => Err(LineFault::B2),
     }
 }
@@ -223,12 +253,18 @@ fn slip(words: &[&[u8]]) -> Result<Line, LineFault>
     ensures written { IfOk result (λ read. NamesWritten read) }
 {
     match words {
-        [list, track_word, item, by] => Ok(Line::Edit(Call::Slip(Slip {
-            tracks: tracks(list)?,
-            track: track(track_word)?,
-            item: numeral(item)?,
-            by: delta(by)?,
-        }))),
+        [list, track_word, item, by] => {
+            let tracks = tracks(list)?;
+            let track = track(track_word)?;
+            let item = numeral(item)?;
+            let by = delta(by)?;
+            Ok(Line::Edit(Call::Slip(Slip {
+                tracks,
+                track,
+                item,
+                by,
+            })))
+        }
         _ => Err(LineFault::B2),
     }
 }
@@ -239,11 +275,12 @@ fn roll(words: &[&[u8]], counting: &Counting, start: u32) -> Result<Line, LineFa
     ensures written { IfOk result (λ read. NamesWritten read) }
 {
     match words {
-        [track_word, at, by] => Ok(Line::Edit(Call::Roll(Roll {
-            track: track(track_word)?,
-            at: place(at, counting, start)?,
-            by: delta(by)?,
-        }))),
+        [track_word, at, by] => {
+            let track = track(track_word)?;
+            let at = place(at, counting, start)?;
+            let by = delta(by)?;
+            Ok(Line::Edit(Call::Roll(Roll { track, at, by })))
+        }
         _ => Err(LineFault::B2),
     }
 }
@@ -254,12 +291,18 @@ fn slide(words: &[&[u8]]) -> Result<Line, LineFault>
     ensures written { IfOk result (λ read. NamesWritten read) }
 {
     match words {
-        [list, track_word, item, by] => Ok(Line::Edit(Call::Slide(Slide {
-            tracks: tracks(list)?,
-            track: track(track_word)?,
-            item: numeral(item)?,
-            by: delta(by)?,
-        }))),
+        [list, track_word, item, by] => {
+            let tracks = tracks(list)?;
+            let track = track(track_word)?;
+            let item = numeral(item)?;
+            let by = delta(by)?;
+            Ok(Line::Edit(Call::Slide(Slide {
+                tracks,
+                track,
+                item,
+                by,
+            })))
+        }
         _ => Err(LineFault::B2),
     }
 }
@@ -310,13 +353,20 @@ fn ripple(words: &[&[u8]]) -> Result<Line, LineFault>
     ensures written { IfOk result (λ read. NamesWritten read) }
 {
     match words {
-        [list, track_word, item, last, by] => Ok(Line::Edit(Call::Ripple(Ripple {
-            tracks: tracks(list)?,
-            track: track(track_word)?,
-            item: numeral(item)?,
-            end: end(last)?,
-            by: delta(by)?,
-        }))),
+        [list, track_word, item, last, by] => {
+            let tracks = tracks(list)?;
+            let track = track(track_word)?;
+            let item = numeral(item)?;
+            let end = end(last)?;
+            let by = delta(by)?;
+            Ok(Line::Edit(Call::Ripple(Ripple {
+                tracks,
+                track,
+                item,
+                end,
+                by,
+            })))
+        }
         _ => Err(LineFault::B2),
     }
 }
@@ -345,10 +395,11 @@ fn unlink(words: &[&[u8]]) -> Result<Line, LineFault>
     ensures written { IfOk result (λ read. NamesWritten read) }
 {
     match words {
-        [track_word, item] => Ok(Line::Edit(Call::Unlink(Unlink {
-            track: track(track_word)?,
-            item: numeral(item)?,
-        }))),
+        [track_word, item] => {
+            let track = track(track_word)?;
+            let item = numeral(item)?;
+            Ok(Line::Edit(Call::Unlink(Unlink { track, item })))
+        }
         _ => Err(LineFault::B2),
     }
 }
@@ -359,11 +410,12 @@ fn view(words: &[&[u8]], counting: &Counting, start: u32) -> Result<Line, LineFa
     ensures written { IfOk result (λ read. NamesWritten read) }
 {
     match words {
-        [track_word, from, to] => Ok(Line::Ask(Ask::View {
-            track: track(track_word)?,
-            a: place(from, counting, start)?,
-            b: place(to, counting, start)?,
-        })),
+        [track_word, from, to] => {
+            let track = track(track_word)?;
+            let a = place(from, counting, start)?;
+            let b = place(to, counting, start)?;
+            Ok(Line::Ask(Ask::View { track, a, b }))
+        }
         _ => Err(LineFault::B2),
     }
 }
@@ -374,9 +426,10 @@ fn items(words: &[&[u8]]) -> Result<Line, LineFault>
     ensures written { IfOk result (λ read. NamesWritten read) }
 {
     match words {
-        [track_word] => Ok(Line::Ask(Ask::Items {
-            track: track(track_word)?,
-        })),
+        [track_word] => {
+            let track = track(track_word)?;
+            Ok(Line::Ask(Ask::Items { track }))
+        }
         _ => Err(LineFault::B2),
     }
 }
