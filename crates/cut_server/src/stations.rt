@@ -227,6 +227,13 @@ fn unseated(fault: HallFault) -> Status
     }
 }
 
+// Where a room is served, and the name of the file in which its journal is kept.
+#[derive(Clone, Copy)]
+struct Place<'a> {
+    address: &'a str,
+    journal: &'a str,
+}
+
 // Serves so many stations in the room of a blank.
 fn serve_blank<
     R: Threads + Wait + Sync,
@@ -239,8 +246,7 @@ fn serve_blank<
     alloc: Global,
     blank: RoomBlank<Editor>,
     setting: Setting,
-    address: &str,
-    name: &str,
+    place: &Place<'_>,
     files: &mut F,
     hall: &mut H,
     gate: &G,
@@ -250,7 +256,7 @@ fn serve_blank<
     requires stations { J.stations ≡ blank.stations }
     ensures { (o : OpeningOf) (room : TrackRoom) → blank.opening ≡ Some room
         → IsRoomOf o room setting.counting setting.start
-        → HallEnds o blank.stations name.now
+        → HallEnds o blank.stations place.now.journal.now
         (files_told (F.file files.old) (F.read_faults files.old) (F.write_faults files.old))
         (files_told (F.file files.new) (F.read_faults files.new) (F.write_faults files.new))
         (files.new ≡ files.old)
@@ -262,7 +268,16 @@ fn serve_blank<
         Err(_) => return Status::OutOfMemory,
     };
     serve_room(
-        rt, alloc, room, passes, setting, address, name, files, hall, gate,
+        rt,
+        alloc,
+        room,
+        passes,
+        setting,
+        place.address,
+        place.journal,
+        files,
+        hall,
+        gate,
     )
 }
 
@@ -300,5 +315,9 @@ pub(crate) fn serve_opened<R: Threads + Wait + Sync, F: Files, H: Hall, G: Gate 
         Ok(blank) => blank,
         Err(_) => return Status::OutOfMemory,
     };
-    serve_blank::<R, F, H, G, Brand>(rt, alloc, blank, setting, address, name, files, hall, gate)
+    let place = Place {
+        address,
+        journal: name,
+    };
+    serve_blank::<R, F, H, G, Brand>(rt, alloc, blank, setting, &place, files, hall, gate)
 }
