@@ -68,6 +68,21 @@ went_without out lead all s t low not so_far = ap (λ text. out ++ text) (sym (t
 pub ended : (out lead all : List ℕ) (s t : ℕ) → t ≡ 32 → out ++ numbers_after lead (tracks_after s t) ≡ all → out ≡ all
 ended out lead all s t last so_far = sym (append-nil out) ∙ ap (λ ts. out ++ numbers_after lead ts) (sym (after_last s t last)) ∙ so_far
 
+-- the text of numbers, while it is written
+pub first_number : (out lead : List ℕ) (ns : List ℕ) → lead ≡ [] → out ++ numbers_after lead ns ≡ out ++ numbers_after [] ns
+first_number out lead ns none = ap (λ text. out ++ numbers_after text ns) none
+
+pub next_number : (out lead out' lead' all ns rest : List ℕ) (n : ℕ) → ns ≡ n ∷ rest → out' ≡ out ++ (lead ++ decimal n) → lead' ≡ codes ","
+    → out ++ numbers_after lead ns ≡ all → out' ++ numbers_after lead' rest ≡ all
+next_number out lead out' lead' all ns rest n is written comma so_far =
+    rw (written, comma) (regrouped out lead (decimal n) (numbers_after (codes ",") rest) ∙ ap (λ ms. out ++ numbers_after lead ms) (sym is) ∙ so_far)
+  where
+    regrouped : (a b c d : List ℕ) → (a ++ (b ++ c)) ++ d ≡ a ++ (b ++ c ++ d)
+    regrouped a b c d = simp append_assoc refl
+
+pub no_number : (out lead all ns : List ℕ) → ns ≡ [] → out ++ numbers_after lead ns ≡ all → out ≡ all
+no_number out lead all ns none so_far = sym (append-nil out) ∙ ap (λ ms. out ++ numbers_after lead ms) (sym none) ∙ so_far
+
 -- tracks counted, while a set is gone over
 with_length : (b : Bool) (t : ℕ) (ts : List ℕ) → b ≡ true → length (if b then t ∷ ts else ts) ≡ 1 + length ts
 with_length true t ts e = refl
