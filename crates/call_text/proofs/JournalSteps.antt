@@ -1,5 +1,5 @@
 -- The steps of a reader of journals.
-use Rattle.std.proofs.Common.{◌≡◌, ◌≢◌, ℕ, ◌+◌, ◌<◌, ◌≤◌, ◌⊎◌, List, [], ◌∷◌, ◌++◌, Bool, true, false, not, ◌&&◌, Option, Some, None, Ok, Err, length, get_or, set, take, drop, inl, inr, refl, sym, ap, ◌∙◌, arith, append_assoc, length-append, codes}
+use Rattle.std.proofs.Common.{◌≡◌, ◌≢◌, ℕ, ◌+◌, ◌<◌, ◌≤◌, ◌⊎◌, List, [], ◌∷◌, ◌++◌, Bool, true, false, not, ◌&&◌, Option, Some, None, Ok, Err, length, get_or, set, take, drop, inl, inr, refl, sym, ap, ◌∙◌, arith, subst, append_assoc, length-append, codes}
 use Rattle.std.specs.Fmt.{decimal}
 use Rattle.std.specs.List.{flat_map, position, All}
 use Rattle.std.proofs.lemmas.Bool.Decides.{nat_tests}
@@ -190,3 +190,22 @@ module _ (es : List (Entry Call)) (i : ℕ) (d : Entry Call) (l : List ℕ) (num
       by (inr other) =
           let held = get_or-set_other l (get_or es i d).station s (number + 1) 0 (λ e. other (sym e)) in
           rw held (least_other (take i es) (get_or es i d) s (get_or l s 0) (least s small) other)
+
+-- the same of an entry that is the one at this place
+module _ (es : List (Entry Call)) (i : ℕ) (e : Entry Call) (l : List ℕ) (number : ℕ) (is : e ≡ get_or es i e) where
+  pub late_at : All HasLine es → i < length es → NumbersRise (take i es) → ((s : ℕ) → s < 16 → IsLeast (take i es) s (get_or l s 0))
+      → number ≡ e.number → number < get_or l e.station 0 → IsFirstLate es (take i es)
+  late_at lines inside rise least same low =
+      late_found es i e l number lines inside rise least (same ∙ ap (λ (f : Entry Call). f.number) is) (subst (λ (f : Entry Call). number < get_or l f.station 0) is low)
+
+  pub rise_at : All HasLine es → i < length es → NumbersRise (take i es) → ((s : ℕ) → s < 16 → IsLeast (take i es) s (get_or l s 0))
+      → number ≡ e.number → get_or l e.station 0 ≤ number → NumbersRise (take (i + 1) es)
+  rise_at lines inside rise least same up =
+      rise_next es i e l number lines inside rise least (same ∙ ap (λ (f : Entry Call). f.number) is) (subst (λ (f : Entry Call). get_or l f.station 0 ≤ number) is up)
+
+  pub least_behind : All HasLine es → i < length es → length l ≡ 16 → ((s : ℕ) → s < 16 → IsLeast (take i es) s (get_or l s 0))
+      → number ≡ e.number → get_or l e.station 0 ≤ number
+      → (s : ℕ) → s < 16 → IsLeast (take (i + 1) es) s (get_or (set l e.station (number + 1)) s 0)
+  least_behind lines inside slots least same up =
+      subst (λ (f : Entry Call). (s : ℕ) → s < 16 → IsLeast (take (i + 1) es) s (get_or (set l f.station (number + 1)) s 0)) (sym is)
+      (least_next es i e l number lines inside slots least (same ∙ ap (λ (f : Entry Call). f.number) is) (subst (λ (f : Entry Call). get_or l f.station 0 ≤ number) is up))

@@ -76,8 +76,8 @@ command_read command.Otio = refl
 
 -- the first word of a line of this command
 pub linking : (first : List ℕ) (words : List (List ℕ)) (k : Command) → command_of first ≡ Some k → k ≡ command.Link → are_linking (first ∷ words) ≡ true
-linking first words k named link =
-    let same = command_spelled first k named in
+linking first words k found link =
+    let same = command_spelled first k found in
     let word = ap word_of link in
     (bytes_eq-Decides first (codes "link")).1 (same ∙ word)
 
@@ -540,7 +540,7 @@ words_read place_at words (Edit (call.Ripple c)) h =
     let end = end_read c.end in
     let delta = delta_read h.3 c.by h.8 in
     rw (h.4, tracks, track, item, end, delta) refl
-words_read place_at words (Edit (call.Link3 c)) (list, items, same, is_tracks, is_numbers, even) =
+words_read place_at words (Edit (call.Link3 c)) (list, items, same, is_tracks, (is_numbers, even)) =
     let tracks = tracks_read list c.tracks is_tracks in
     let numbers = numerals_read (slice_split is_comma items) c.items is_numbers in
     let count = eq-eqb (length c.items) (length (tracks_in c.tracks)) even in
@@ -563,8 +563,8 @@ line_read place_at bytes line h = let short = le-leb (length bytes) 1024 h.short
 
 -- a line is read as its row is, and as its words are
 pub row_read : (place_at : List ℕ → Option ℕ) (first : List ℕ) (words : List (List ℕ)) (k : Command) (r : Result Line LineFault) → command_of first ≡ Some k → IsRowRead place_at k words r → AreRead place_at (first ∷ words) r
-row_read place_at first words k r named (inl is) = inl (rw named is)
-row_read place_at first words k r named (inr (link, none)) = let word = linking first words k named link in inr (rw word tt, none)
+row_read place_at first words k r found (inl is) = inl (rw found is)
+row_read place_at first words k r found (inr (link, none)) = inr (linking first words k found link, none)
 
 pub short_read : (place_at : List ℕ → Option ℕ) (bytes : List ℕ) (r : Result Line LineFault) → length bytes ≤ 1024 → AreRead place_at (words_of bytes) r → IsRead place_at bytes r
 short_read place_at bytes r short (inl is) = let within = le-leb (length bytes) 1024 short in inl (rw within is)

@@ -85,7 +85,7 @@ no_number out lead all ns none so_far = sym (append-nil out) ∙ ap (λ ms. out 
 
 -- tracks counted, while a set is gone over
 with_length : (b : Bool) (t : ℕ) (ts : List ℕ) → b ≡ true → length (if b then t ∷ ts else ts) ≡ 1 + length ts
-with_length true t ts e = refl
+with_length true t ts e = omega arith
 with_length false t ts e = absurd cc
 
 without_length : (b : Bool) (t : ℕ) (ts : List ℕ) → b ≡ false → length (if b then t ∷ ts else ts) ≡ length ts

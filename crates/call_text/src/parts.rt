@@ -89,7 +89,7 @@ pub(crate) fn tracks(list: &[u8]) -> Result<u32, LineFault>
 
 // Numbers, parted by commas. It takes memory for them.
 pub(crate) fn numbers(alloc: Global, list: &[u8]) -> Result<Numbers, LineFault>
-    ensures read { IsOrMemory (numbers_of list.now) result }
+    ensures { IsOrMemory (numbers_of list.now) result }
 {
     let mut numbers = Vec::new(alloc);
     let mut rest = Some(list);

@@ -6,8 +6,11 @@ use Rattle.call_text.proofs.journal_reading.told_entry.Goals as goal
 
 pub returns-else-told : goal.returns-else-told
 returns-else-told c =
-    other_loose (place_by c.args.counting.now 0) c.args.line.now c.in-Some.entry c.in-Some.ensures.read
+    let read = rw c.in-Some.is at c.in_ok-entry.ensures.read in
+    other_loose (place_by c.args.counting.now 0) c.args.line.now c.in-Some.entry read
     (λ same. differ (entry_text c.in-Some.entry) c.args.line.now (sym c.in_ok-told-in-Some.ensures ∙ c.if-told.false) same)
 
 pub returns-in-None : goal.returns-in-None
-returns-in-None c = none_loose (place_by c.args.counting.now 0) c.args.line.now c.in-None.ensures.read
+returns-in-None c =
+    let none = rw c.in-None.is at c.in_ok-entry.ensures.read in
+    none_loose (place_by c.args.counting.now 0) c.args.line.now none

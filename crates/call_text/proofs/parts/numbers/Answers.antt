@@ -4,16 +4,17 @@ use Rattle.call_text.proofs.ListWords.{all_numerals, next_numeral, no_numeral, n
 use Rattle.call_text.proofs.parts.numbers.Goals as goal
 
 pub loop-rest-init : goal.loop-rest-init
-loop-rest-init c = none_behind (numbers_of c.args.list.now)
+loop-rest-init c = rw c.new-numbers.ensures.items (none_behind (numbers_of c.args.list.now))
 
 pub loop-rest-preserved : goal.loop-rest-preserved
 loop-rest-preserved c =
     let left = rw c.in-Some.is at c.loop-rest.invariant in
     rw c.in_ok-push.ensures.items (
-      next_numeral c.loop-rest.numbers.items c.in_ok-number.number c.in-Some.listed.now c.first_listed.result.0.now _ _ c.first_listed.ensures.words c.in_ok-number.ensures left
+    next_numeral c.loop-rest.numbers.items c.in_ok-number.number c.in-Some.listed.now c.first_listed.result.0.now _ _ c.first_listed.ensures.words c.in_ok-number.ensures left
     )
 
 pub returns-in_err-number : goal.returns-in_err-number
 returns-in_err-number c =
     let left = rw c.in-Some.is at c.loop-rest.invariant in
-    inl (no_numeral c.loop-rest.numbers.items c.in-Some.listed.now c.first_listed.result.0.now _ _ _ c.first_listed.ensures.words c.in_err-number.ensures left)
+    let fault = no_numeral c.loop-rest.numbers.items c.in-Some.listed.now c.first_listed.result.0.now _ _ _ c.first_listed.ensures.words c.in_err-number.ensures left in
+    inl (search rules)

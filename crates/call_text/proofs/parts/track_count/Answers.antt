@@ -9,13 +9,13 @@ loop-track-init c = (none_counted c.args.tracks 0 refl, omega arith)
 pub loop-track-preserved : goal.loop-track-preserved
 loop-track-preserved c = elim c.if-has_track.branch [
   | then-has_track w ↦ rw w.count-is (
-      counted_with c.args.tracks c.loop-track.track c.loop-track.count _ c.loop-track-test.true (sym c.has_track.ensures ∙ w.if-has_track.true) c.loop-track.invariant.0,
-      omega (arith, c.loop-track.invariant.1),
-    )
+    counted_with c.args.tracks c.loop-track.track c.loop-track.count _ c.loop-track-test.true (sym c.has_track.ensures ∙ w.if-has_track.true) c.loop-track.invariant.0,
+    omega (arith, c.loop-track.invariant.1),
+  )
   | else-has_track w ↦ rw w.count-is (
-      counted_without c.args.tracks c.loop-track.track c.loop-track.count _ c.loop-track-test.true (sym c.has_track.ensures ∙ w.if-has_track.false) c.loop-track.invariant.0,
-      omega (arith, c.loop-track.invariant.1),
-    )
+    counted_without c.args.tracks c.loop-track.track c.loop-track.count _ c.loop-track-test.true (sym c.has_track.ensures ∙ w.if-has_track.false) c.loop-track.invariant.0,
+    omega (arith, c.loop-track.invariant.1),
+  )
 ]
 
 pub returns : goal.returns
