@@ -76,11 +76,11 @@ module _ {S C D R Q X Y : Type 0} (k : Kind S C D R Q X Y) (station : ℕ) where
       (text ∷ [], s.0, rw next s.1, taken)
 
 true_before : (a b : Bool) → IsTrue a → IsTrue (a || b)
-true_before true b t = tt
-true_before false b t = absurd t
+true_before true b t = refl
+true_before false b t = absurd cc
 
 true_behind : (a b : Bool) → IsTrue b → IsTrue (a || b)
-true_behind true b t = tt
+true_behind true b t = refl
 true_behind false b t = t
 
 -- a step of a line that may find no memory for one more reason
@@ -91,7 +91,7 @@ module _ {S C D R Q X Y : Type 0} (k : Kind S C D R Q X Y) (station : ℕ) (old 
 
   for_memory : (wish : Wish C Q) (a b : Bool) → IsTrue b → Step k station old new text (Bad (codes "memory")) false → Step k station old new text wish (a || b)
   for_memory wish a b t (inl says) = inr (true_behind a b t, says)
-  for_memory wish a b t (inr (never, says)) = absurd never
+  for_memory wish a b t (inr (never, says)) = absurd cc
 
 pub serves_none : (s : SessionState) (t : Option (List ℕ)) → ServesTo s s [] (AreSent t t)
 serves_none s t = record { setting = refl; station = refl; written = λ w. w; serves = λ o ls rs last w. ([], last, rw (append-nil, append-nil) w, takes-nothing t) }
