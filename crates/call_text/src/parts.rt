@@ -1,8 +1,9 @@
 // The parts of a line.
-ghost use Rattle.std.specs.Prelude.{◌≡◌, ◌<◌, ◌≤◌, ◌∷◌, FitsSigned, IfOk, IfSome, length, option_map, position};
+ghost use Rattle.std.specs.Prelude.{◌≡◌, ◌<◌, ◌≤◌, ◌∷◌, All, FitsSigned, IfOk, IfSome, length, option_map, position};
 ghost use Rattle.std.specs.Int.{w32};
 ghost use Rattle.std.specs.List.{slice_split};
 ghost use Rattle.composables.specs.TrackSets.{tracks_in};
+ghost use Rattle.call_text.specs.CallTexts.{IsSmall};
 ghost use Rattle.call_text.specs.Labels.{place_by};
 ghost use Rattle.call_text.specs.Spelling.{IsOrMemory, numeral_of, delta_of, end_of, given_of, numbers_of, track_of, is_comma, listed_in, tracks_of, place_of, what_of};
 
@@ -89,7 +90,8 @@ pub(crate) fn tracks(list: &[u8]) -> Result<u32, LineFault>
 
 // Numbers, parted by commas. It takes memory for them.
 pub(crate) fn numbers(alloc: Global, list: &[u8]) -> Result<Numbers, LineFault>
-    ensures { IsOrMemory (numbers_of list.now) result }
+    ensures read { IsOrMemory (numbers_of list.now) result }
+    ensures small { IfOk result (λ numbers. All IsSmall numbers) }
 {
     let mut numbers = Vec::new(alloc);
     let mut rest = Some(list);

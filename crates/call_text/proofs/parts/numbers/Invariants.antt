@@ -1,11 +1,13 @@
-use Rattle.std.proofs.Common.{◌≡◌, ℕ, ◌+◌, List, Option, Some, None, Bor, length, option_map}
+use Rattle.std.proofs.Common.{◌≡◌, ℕ, ◌+◌, List, Option, Some, None, Bor, All, length, option_map}
+use Rattle.call_text.specs.CallTexts.{IsSmall}
 use Rattle.call_text.specs.Spelling.{listed_in, numbers_of, numerals_of}
 use Rattle.call_text.proofs.ListWords.{behind}
 use Rattle.call_text.proofs.parts.numbers.Given as goal
 
 -- the numbers so far, and the words to come
 abbrev pub invariant-loop-rest : goal.invariant-loop-rest
-invariant-loop-rest l = behind l.numbers.items (numerals_of (listed_in (option_map (λ more. more.now) l.rest))) ≡ numbers_of l.list
+invariant-loop-rest l =
+    (behind l.numbers.items (numerals_of (listed_in (option_map (λ more. more.now) l.rest))) ≡ numbers_of l.list) × All IsSmall l.numbers.items
 
 abbrev bytes_left : Option (Bor (List ℕ)) → ℕ
 bytes_left None = 0
