@@ -18,6 +18,8 @@ pub use main_call::cut_main;
 #[cfg(test)]
 mod document_tests;
 #[cfg(test)]
+mod replay_tests;
+#[cfg(test)]
 mod serve_tests;
 #[cfg(test)]
 mod talk_tests;
