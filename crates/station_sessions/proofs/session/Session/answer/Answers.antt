@@ -1,5 +1,7 @@
+use Rattle.line_words.specs.Told.{line_told}
 use Rattle.station_sessions.proofs.Replying.{told_line}
 use Rattle.station_sessions.proofs.session.Session.answer.Goals as goal
 
 pub returns : goal.returns
-returns g c = told_line _ _ _ c.said-read.result c.reply_to.result c.said-read.ensures.meant c.reply_to.ensures
+returns g c =
+    told_line _ _ (line_told c.args.end c.args.text.now) c.said-read.result c.reply_to.result c.said-read.ensures.meant c.reply_to.ensures
