@@ -32,7 +32,7 @@ use Rattle.reply_text.specs.Sights.{TrackSight, sight_text_of}
 use Rattle.station_sessions.specs.declared.reply.Reply.{Reply}
 use Rattle.station_sessions.specs.DocumentReplies.{document_reply, no_point_reply}
 use Rattle.station_sessions.specs.Rooms.{History, AreWritten, document_of, finds_memory, room_of, seen_of, wish_in}
-use Rattle.station_sessions.specs.Session.{Grows, IsCutReply, IsMeant, IsReply, IsReplyIfMemory, IsSightReply, Replies, RepliesTo, RepliesWith, Step}
+use Rattle.station_sessions.specs.Session.{Grows, IsCutReply, IsMeant, IsReply, IsReplyIfMemory, IsSightReply, Replies, RepliesTo, RepliesWith, SessionState, Step}
 use Rattle.station_sessions.specs.SessionInside.{IsSeated, IsSession, TrackPass, TrackRoom, course_at, or_opening, session_at, setting_at, tracks_at}
 use Rattle.station_sessions.specs.Transcript.{Wish, Do, See, Point, Write, Bad}
 use Rattle.station_sessions.proofs.Transcripts.{nothing_behind, own_append}
