@@ -34,11 +34,7 @@ fn replayed(
 }
 
 // The same from a plain opening of two tracks and one reel.
-fn plain_replayed(
-    alloc: Global,
-    entries: &[Entry<Call>],
-    n: u32,
-) -> Result<Vec<Track>, ReplayFault>
+fn plain_replayed(alloc: Global, entries: &[Entry<Call>], n: u32) -> Result<Vec<Track>, ReplayFault>
     requires within { n ≤ length entries.now }
     requires most { n ≤ 100000 }
 {
