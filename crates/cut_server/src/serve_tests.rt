@@ -33,7 +33,7 @@ fn lines_of(alloc: Global, sent: &[&str], writes: &[u32]) -> Result<Vec<MemLine>
 }
 
 // Serves stations that send these texts, where these writes of each line and these calls of the hall fail.
-fn served<R: Threads + Wait + Sync>(
+fn serve_all<R: Threads + Wait + Sync>(
     rt: &R,
     alloc: Global,
     sent: &[&str],
@@ -74,7 +74,7 @@ fn served<R: Threads + Wait + Sync>(
 #[test]
 fn a_cut_reply_leaves_its_edit(rt: HostRuntime) -> Result<(), Fail> {
     let alloc = rt.alloc();
-    let ended = served(&rt, alloc, &["slice 0 2\nslice 0 3\n"], &[2], &[])?;
+    let ended = serve_all(&rt, alloc, &["slice 0 2\nslice 0 3\n"], &[2], &[])?;
     assert_eq!(rt; ended.status, 2);
     assert_eq!(rt; ended.taken.len(), 1);
     for taken in &ended.taken {
@@ -93,7 +93,7 @@ fn a_cut_reply_leaves_its_edit(rt: HostRuntime) -> Result<(), Fail> {
 fn a_hall_that_fails_begins_no_session(rt: HostRuntime) -> Result<(), Fail> {
     let alloc = rt.alloc();
     for call in 1..4u32 {
-        let ended = served(&rt, alloc, &["slice 0 2\n", "point\n"], &[], &[call])?;
+        let ended = serve_all(&rt, alloc, &["slice 0 2\n", "point\n"], &[], &[call])?;
         assert_eq!(rt; ended.status, 5, "call {call}");
         assert!(rt; ended.journal.is_none(), "call {call}");
         for taken in &ended.taken {
@@ -107,7 +107,7 @@ fn a_hall_that_fails_begins_no_session(rt: HostRuntime) -> Result<(), Fail> {
 #[test]
 fn two_stations_have_one_journal(rt: HostRuntime) -> Result<(), Fail> {
     let alloc = rt.alloc();
-    let ended = served(&rt, alloc, &["slice 0 2\n", "slice 0 2\n"], &[], &[])?;
+    let ended = serve_all(&rt, alloc, &["slice 0 2\n", "slice 0 2\n"], &[], &[])?;
     assert_eq!(rt; ended.status, 0);
     assert_eq!(rt; ended.taken.len(), 2);
     let journal = ended.journal.ok_or("a journal")?;
