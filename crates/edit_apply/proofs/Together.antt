@@ -18,6 +18,7 @@ use Rattle.edit_apply.specs.declared.asks.Call.TheVariants as call
 use Rattle.edit_apply.specs.Apply.{applied_on, editing, track_count}
 use Rattle.edit_apply.specs.LinkLaws.{editing-given, tracks-bare, tracks-good, tracks-numbered}
 use Rattle.edit_apply.specs.TogetherLaws.{RoomsStayTogether}
+use Rattle.edit_apply.proofs.Goodness.{good-before}
 
 together_applied : (table : Table) (c : Call) → KeepsTogether table (λ named. applied_on table named c)
 together_applied table (call.Overwrite c) = putting-keeps.overwrite table c
@@ -41,8 +42,8 @@ editing_together table = record { keeps = together_applied table; given = editin
 
 -- a history that begins with an opening
 pub rooms-together : RoomsStayTogether
-rooms-together table ps qs entries opens good comes =
+rooms-together table ps qs entries opens comes =
     let r = tracks-numbered table 0 (track_count table) ps opens.good in
     let bare = tracks-bare table ps (tracks-good table (numbers 0 (track_count table)) ps opens.good) opens.unlinked in
     let keeps : CallsKeepTogether table (length ps) (editing table) = subst (λ (n : ℕ). CallsKeepTogether table n (editing table)) (sym r.1) (editing_together table) in
-    (histories-together table (editing table) ps qs entries keeps r.0 (omega (arith, r.1)) (bare-given table ps bare) (unlinked-together table ps bare) good comes).together
+    (histories-together table (editing table) ps qs entries keeps r.0 (omega (arith, r.1)) (bare-given table ps bare) (unlinked-together table ps bare) (good-before table ps qs entries opens comes) comes).together

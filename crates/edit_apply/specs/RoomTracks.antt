@@ -5,6 +5,7 @@ use Rattle.composables.specs.Good.{AllUnlinked, IsGood}
 use Rattle.composables.specs.Items.{items_of}
 use Rattle.composables.specs.TrackState.{TrackState}
 use Rattle.room_core.specs.Parts.{AreGood, numbers}
+use Rattle.track_laws.specs.Goods.{IsBounded}
 use Rattle.edit_apply.specs.declared.asks.Call.{Call}
 use Rattle.edit_apply.specs.Apply.{names_of, track_count}
 
@@ -22,10 +23,11 @@ abbrev pub AreNamed : Call → List TrackState → Type 0
 AreNamed c named = map (λ (t : TrackState). t.number) named ≡ names_of c
 
 -- Tracks that a history can begin with: those of the table, in order, from 1 to 32; they have given away at most 65,536
--- item numbers and no link number, and have no links.
+-- item numbers and no link number, and have no links. The source frames of each thing of the table end by 2^32.
 pub record IsOpening (table : Table) (tracks : List TrackState) : Type 0 where
   pub some : 0 < length table.kinds
   pub most : length table.kinds ≤ 32
+  pub bounded : IsBounded table
   pub good : AreGood (IsTrackOf table) (numbers 0 (track_count table)) tracks
   pub items : All (λ (t : TrackState). t.next_item ≤ 65536) tracks
   pub links : All (λ (t : TrackState). t.next_link ≡ 0) tracks

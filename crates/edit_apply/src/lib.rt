@@ -13,7 +13,7 @@ mod sights;
 
 pub use asks::{Ask, AskRefusal, Call, Seen};
 pub use editor::Editor;
-pub use laws::together_law;
+pub use laws::{good_law, together_law};
 
 #[cfg(test)]
 mod tests;

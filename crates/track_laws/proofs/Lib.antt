@@ -1,0 +1,13 @@
+pub mod Own
+pub mod Putting
+pub mod Marking
+pub mod Linking
+pub mod Shifting
+pub mod DeltaSteps
+pub mod DeltaTrim
+pub mod DeltaRoll
+pub mod DeltaSlide
+pub mod DeltaSlip
+pub mod DeltaReach
+pub mod DeltaRipple
+pub mod DeltaLaw

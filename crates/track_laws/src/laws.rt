@@ -1,0 +1,13 @@
+// What is true of tracks under the calls of a room, whatever numbers they have given away.
+ghost use Rattle.track_laws.specs.Goods.{DissolvingKeepsGood, LinkingKeepsGood};
+ghost use Rattle.track_laws.specs.Goods.{MovingKeepsGood, PuttingInKeepsGood, ShiftingKeepsGood};
+
+/// Where the tracks that a call names are all good in a table whose ranges end by 2^32, they are all good after the call
+/// where it is done.
+pub fn good_law()
+    ensures putting_in { PuttingInKeepsGood }
+    ensures shifting { ShiftingKeepsGood }
+    ensures moving { MovingKeepsGood }
+    ensures dissolving { DissolvingKeepsGood }
+    ensures linking { LinkingKeepsGood }
+{}
