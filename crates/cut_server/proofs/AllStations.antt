@@ -9,6 +9,7 @@ use Rattle.composables.specs.declared.media.Table.{Table}
 use Rattle.timecode12.specs.Numbers.{Counted}
 use Rattle.edit_apply.specs.declared.asks.Call.{Call}
 use Rattle.edit_apply.specs.Apply.{editing}
+use Rattle.edit_apply.specs.RoomTracks.{IsOpening}
 use Rattle.edit_journal.specs.declared.name.Name.TheVariants.{Station}
 use Rattle.edit_journal.specs.Seats.{Agrees, In}
 use Rattle.room_core.specs.declared.entry.Entry.{Entry}
@@ -29,6 +30,7 @@ use Rattle.station_sessions.specs.Served.{IsRoomOf, Knows}
 use Rattle.station_sessions.specs.Serving.{SessionEnds}
 use Rattle.station_sessions.specs.SessionInside.{TrackPass, TrackRoom}
 use Rattle.cut_server.specs.Stations.{AreOfStations}
+use Rattle.cut_server.proofs.Sound.{stay_sound}
 use Rattle.cut_server.proofs.Seating.{at_place, fault_more, some_at}
 use Rattle.station_sessions.proofs.Knowing.{session_told}
 use Rattle.station_sessions.proofs.Transcripts.{transcript_more}
@@ -127,6 +129,7 @@ pub record IsTold (o : Opening) (stations : ℕ) (h : History) (k : ℕ) (old ne
 
 -- the passes of a closed room and its journal
 pub record IsClosed (o : Opening) (passes : List TrackPass) (h : History) : Type 0 where
+  pub opens : IsOpening o.table o.tracks
   pub legal : IsLegalIn o h
   pub agree : All (λ (p : TrackPass). Agrees (editing o.table).names h (Station p.number) p.entries) passes
   pub stations : All (λ (e : Entry Call). In e.station (map (λ (p : TrackPass). p.number) passes)) h
@@ -137,6 +140,7 @@ pub is_closed : (o : Opening) (room : TrackRoom) (counting : Counted) (start : �
 is_closed o room counting start passes h is legal agree stations =
     let table = ap (λ (s : Setting). s.table) is.setting in
     record {
+      opens = is.opens;
       legal = subst (λ (x : Table × List TrackState). IsLegal (whole (editing x.0)) x.1 h) (λ i. (table i, is.tracks i)) legal;
       agree = subst (λ (x : Table). All (λ (p : TrackPass). Agrees (editing x).names h (Station p.number) p.entries) passes) table agree;
       stations = stations;
@@ -234,7 +238,7 @@ module _ (room : TrackRoom) (counting : Counted) (start stations : ℕ) (before 
         subst (λ (n : ℕ). Agrees (editing o.table).names h (Station n) p.0.entries) p.2 (at_place (λ (q : TrackPass). Agrees (editing o.table).names h (Station q.number) q.entries) passes k p.0 closed.agree p.1) in
         record {
           known = p.0.entries;
-          closes = record { legal = closed.legal; seated = of_seats; more = agrees.front.0; journal = agrees.front.1; own = sym agrees.same };
+          closes = record { opens = closed.opens; legal = closed.legal; seated = of_seats; more = agrees.front.0; journal = agrees.front.1; own = sym agrees.same };
           ends = p.3;
           written = p.4;
         }
@@ -247,9 +251,7 @@ module _ (room : TrackRoom) (counting : Counted) (start stations : ℕ) (before 
 
     pub all_served : AreServed o stations h before after (map (λ (s : SeatState). s.end) left)
     all_served = record {
-      legal = closed.legal;
-      seated = of_seats;
-      written = written;
+      journal = record { legal = closed.legal; seated = of_seats; written = written; sound = stay_sound o h closed.opens closed.legal };
       count = length-map left (λ (s : SeatState). s.end) ∙ (a.all ∙ a.count);
       each = λ s e at. end_at s e (some_end left s e at);
     }

@@ -1,5 +1,5 @@
 -- What words ask for, by how many there are.
-use Rattle.std.proofs.Common.{◌≡◌, ◌≢◌, ℕ, Bool, true, false, if◌then◌else◌, List, [], ◌∷◌, length, drop, Option, Some, None, slice_get, refl, ap, ◌∙◌, arith}
+use Rattle.std.proofs.Common.{◌≡◌, ℕ, Bool, true, false, if◌then◌else◌, List, [], ◌∷◌, length, drop, Option, Some, None, slice_get, refl, ap, ◌∙◌, arith}
 use Rattle.std.specs.Prelude.{codes, bytes_eq}
 use Rattle.std.proofs.lemmas.Option.{none-some, same_Some}
 use Rattle.std.proofs.lemmas.Slice.Eq.{bytes_eq-Decides}
@@ -21,17 +21,6 @@ six_behind (a ∷ p ∷ q ∷ r ∷ s ∷ t ∷ u ∷ v ∷ ws) b c d e f g n x1
 pub serve_words : (ws : List (List ℕ)) (b c d e f g : List ℕ) → length ws ≡ 7 → slice_get ws 1 ≡ Some b → slice_get ws 2 ≡ Some c → slice_get ws 3 ≡ Some d
     → slice_get ws 4 ≡ Some e → slice_get ws 5 ≡ Some f → slice_get ws 6 ≡ Some g → hall_of b c d e f g ≡ serve_of (drop 1 ws)
 serve_words ws b c d e f g n x1 x2 x3 x4 x5 x6 = rw (six_behind ws b c d e f g n x1 x2 x3 x4 x5 x6) refl
-
-pub no_serve_words : (ws : List (List ℕ)) → length ws ≢ 7 → serve_of (drop 1 ws) ≡ None
-no_serve_words [] n = refl
-no_serve_words (a ∷ []) n = refl
-no_serve_words (a ∷ p ∷ []) n = refl
-no_serve_words (a ∷ p ∷ q ∷ []) n = refl
-no_serve_words (a ∷ p ∷ q ∷ r ∷ []) n = refl
-no_serve_words (a ∷ p ∷ q ∷ r ∷ s ∷ []) n = refl
-no_serve_words (a ∷ p ∷ q ∷ r ∷ s ∷ t ∷ []) n = refl
-no_serve_words (a ∷ p ∷ q ∷ r ∷ s ∷ t ∷ u ∷ []) n = absurd (n refl)
-no_serve_words (a ∷ p ∷ q ∷ r ∷ s ∷ t ∷ u ∷ v ∷ ws) n = refl
 
 unlike : (a b : List ℕ) → (a ≡ b → ⊥) → bytes_eq a b ≡ false
 unlike a b other = at (bytes_eq a b) refl

@@ -38,6 +38,7 @@ closed o room counting start passes p h is are first legal agree stations =
     subst (λ (n : ℕ). Agrees (editing room.0.table).names h (Station n) p.entries) first (All-head (λ q. Agrees (editing room.0.table).names h (Station q.number) q.entries) p [] all) in
     let numbers : map (λ (q : TrackPass). q.number) passes ≡ 0 ∷ [] = ap (map (λ (q : TrackPass). q.number)) are ∙ ap (λ (n : ℕ). n ∷ []) first in
     record {
+      opens = is.opens;
       legal = subst (λ (x : Table × List TrackState). IsLegal (whole (editing x.0)) x.1 h) (λ i. (table i, is.tracks i)) legal;
       seated = of_one_station h (subst (λ (ns : List ℕ). All (λ e. In e.station ns) h) numbers stations);
       more = mine.front.0;

@@ -1,6 +1,6 @@
 -- From what came of a document's file, and then of the stations of a hall, to how the program ends.
-use Rattle.std.proofs.Common.{◌≡◌, ℕ, inl, inr, List, sym, ap, ◌∙◌, subst}
-use Rattle.room_files.specs.Files.{Content, Untold, Missing, Bytes, IsUnchanged, NoneChanged, OthersUnchanged}
+use Rattle.std.proofs.Common.{◌≡◌, ℕ, inl, inr, List, sym, ◌∙◌, subst}
+use Rattle.room_files.specs.Files.{Content, Untold, Missing, Bytes, IsUnchanged, OthersUnchanged}
 use Rattle.room_ports.specs.Counts.{HasRisen}
 use Rattle.timecode12.specs.Numbers.{Counted}
 use Rattle.otio_tracks.specs.declared.faults.DocCode.{DocCode}
@@ -11,7 +11,7 @@ use Rattle.cut_server.specs.Documents.{FilesTold, OnlyRead, Describes, IsRefused
 use Rattle.cut_server.specs.Halls.{EndsUnserved, FileEnds, HallEnds, HallTold, HasServed, IsUnserved}
 use Rattle.station_sessions.specs.Outside.{Outside}
 use Rattle.station_sessions.specs.Rooms.{History}
-use Rattle.cut_server.specs.Runs.{LineEnds, RefusesDocument, ServeEnds}
+use Rattle.cut_server.specs.Runs.{LineEnds, ServeEnds}
 
 unchanged_then : (a b c : Content) → IsUnchanged a b → IsUnchanged b c → IsUnchanged a c
 unchanged_then a b Untold x y = tt

@@ -4,6 +4,7 @@ pub mod Asking
 pub mod Telling
 pub mod DocumentRuns
 pub mod HallRuns
+pub mod Sound
 pub mod Closing
 pub mod Seating
 pub mod AllStations

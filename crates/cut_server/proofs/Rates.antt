@@ -1,6 +1,6 @@
 -- The rate of a sequence that a word spells, and the counting at it.
-use Rattle.std.proofs.Common.{◌≡◌, ℕ, Bool, true, false, List, Option, Some, None, IfSome, refl, sym, ap, ◌∙◌}
-use Rattle.std.specs.Prelude.{◌↔◌, IsTrue, IsNone, option_and_then}
+use Rattle.std.proofs.Common.{◌≡◌, ℕ, Bool, true, false, List, Option, Some, None, IfSome, refl, ap, ◌∙◌}
+use Rattle.std.specs.Prelude.{◌↔◌, IsNone, option_and_then}
 use Rattle.ratio_time.specs.declared.numeral.Numeral.{Numeral}
 use Rattle.ratio_time.specs.Rates.{rate_value}
 use Rattle.json_tokens.specs.ReadingNumerals.{numeral_in}
@@ -8,7 +8,7 @@ use Rattle.otio_tracks.specs.Times.{rate_meant}
 use Rattle.timecode12.specs.Numbers.{Counted}
 use Rattle.timecode12.specs.declared.rate.SequenceRate.{SequenceRate}
 use Rattle.timecode12.specs.declared.rate.SequenceRate.TheVariants.{F23976, F24, F25, F2997, F30}
-use Rattle.cut_server.specs.Commands.{sequence_of, rate_of_word, drop_frame_at, counted_by}
+use Rattle.cut_server.specs.Commands.{sequence_of, rate_of_word, drop_frame_at}
 
 rate_is_meant : (n : Numeral) → rate_value n ≡ rate_meant (n.mantissa, n.places)
 unfolding rate_value rate_meant
@@ -41,9 +41,3 @@ dropped F2997 None none some = absurd (none.0 refl refl)
 dropped F2997 (Some c) none some = same_counting c F2997 true some.0 some.1
 dropped F30 None none some = refl
 dropped F30 (Some c) none some = absurd (no_none (none.1 (λ e. cc)))
-
-pub counting_told : (rate : SequenceRate) (drop : Bool) (r : Option Counted) → (IsNone r ↔ (IsTrue drop × (rate ≡ F2997 → ⊥)))
-    → IfSome r (λ c. (c.rate ≡ rate) × (c.drop_frame ≡ drop)) → r ≡ counted_by rate drop
-counting_told rate false None none some = absurd (no_none (sym (none.0 refl).0))
-counting_told rate false (Some c) none some = same_counting c rate false some.0 some.1
-counting_told rate true r none some = dropped rate r (λ n. (none.0 n).1, λ no. none.1 (refl, no)) some

@@ -1,8 +1,7 @@
 -- Stations that are seated and stand up, one after the other.
-use Rattle.std.proofs.Common.{◌≡◌, ◌≢◌, ℕ, zero, suc, nat_lt, ◌+◌, ◌<◌, ◌≤◌, ◌⊎◌, inl, inr, Bool, true, false, ◌==◌, List, [], ◌∷◌, ◌++◌, All, length, map, slice_get, Option, Some, None, IfOk, Result, Ok, Err, refl, sym, ap, ◌∙◌, arith, subst, ⊎_elim}
+use Rattle.std.proofs.Common.{◌≡◌, ◌≢◌, ℕ, zero, suc, nat_lt, ◌+◌, ◌<◌, ◌≤◌, ◌⊎◌, inl, inr, Bool, true, false, ◌==◌, List, [], ◌∷◌, ◌++◌, All, length, map, slice_get, Option, Some, Result, Ok, Err, refl, sym, ap, ◌∙◌, arith, subst, ⊎_elim}
 use Rattle.std.proofs.lemmas.Bool.Decides.{nat_tests}
 use Rattle.std.proofs.lemmas.Option.{none-some, same_Some, slice_get_within, get_or_from_slice_get}
-use Rattle.edit_apply.specs.declared.asks.Call.{Call}
 use Rattle.room_core.specs.Parts.{numbers}
 use Rattle.room_ports.specs.Counts.{HasRisen}
 use Rattle.room_halls.specs.Stations.{LineTold, Station, CountsSeat, NoneMoves, OthersStay, line_told}
@@ -11,7 +10,7 @@ use Rattle.room_halls.specs.declared.hall.HallFault.TheVariants.{Failed, Memory}
 use Rattle.cut_server.specs.declared.status.Status.{Status}
 use Rattle.cut_server.specs.declared.status.Status.TheVariants.{Done, ReadFault, WriteFault, NoCommand, Refused, NotSeated, OutOfMemory, TooMuchInput}
 use Rattle.cut_server.specs.Documents.{FilesTold}
-use Rattle.cut_server.specs.Halls.{HallEnds, HallTold, Unheard, first_fault, hall_told, line_at, line_of, or_next}
+use Rattle.cut_server.specs.Halls.{HallEnds, HallTold, Unheard, first_fault, hall_told, line_of, or_next}
 use Rattle.otio_json.specs.declared.opening.Opening.{Opening}
 use Rattle.line_words.specs.Lines.{Line as InputLine}
 use Rattle.station_sessions.specs.declared.serve.End.{End}

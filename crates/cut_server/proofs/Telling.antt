@@ -21,6 +21,7 @@ use Rattle.station_sessions.specs.Transcript.{sent}
 use Rattle.station_sessions.specs.Served.{Knows}
 use Rattle.station_sessions.specs.Serving.{SessionEnds}
 use Rattle.cut_server.specs.Runs.{IsTold, TellsOne, Tells, IsWhole, JournalIsCut, JournalEnds, RunEnds}
+use Rattle.cut_server.proofs.Sound.{stay_sound}
 use Rattle.station_sessions.proofs.Serves.{takes-then_front}
 use Rattle.station_sessions.proofs.Knowing.{got_map, session_told}
 use Rattle.station_sessions.proofs.Transcripts.{transcript_more}
@@ -42,9 +43,12 @@ tells_by o g h ls Taken c k =
     transcript_more (room_of (setting_of o)) o.tracks g c.more 0 ls k.0 k.1 (rw (← c.journal) c.legal.within) (ap (λ (l : History). of_station 0 l) (sym c.journal) ∙ c.own) in (
       k.0,
       record {
-        legal = c.legal;
-        seated = c.seated;
-        written = subst AreWritten (sym c.own ∙ own_all h c.seated) k.2;
+        journal = record {
+          legal = c.legal;
+          seated = c.seated;
+          written = subst AreWritten (sym c.own ∙ own_all h c.seated) k.2;
+          sound = stay_sound o h c.opens c.legal;
+        };
         transcript = rw c.journal there;
       },
       k.3,

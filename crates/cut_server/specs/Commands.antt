@@ -34,21 +34,21 @@ most_tracks = 16
 abbrev pub most_reels : ℕ
 most_reels = 999
 
-abbrev pub size_in : Result ℕ NumberFault → ℕ → ℕ → Option ℕ
-size_in (Ok n) least most = if nat_le least n && nat_le n most then Some n else None
-size_in (Err fault) least most = None
+abbrev pub within : Result ℕ NumberFault → ℕ → ℕ → Option ℕ
+within (Ok n) least most = if nat_le least n && nat_le n most then Some n else None
+within (Err fault) least most = None
 
 -- a word that is a number within bounds
-abbrev pub size_of : List ℕ → ℕ → ℕ → Option ℕ
-size_of word least most = size_in (number_of word) least most
+abbrev pub number_within : List ℕ → ℕ → ℕ → Option ℕ
+number_within word least most = within (number_of word) least most
 
-abbrev pub sizes_of : Option ℕ → Option ℕ → Option Asked
-sizes_of None reels = None
-sizes_of (Some tracks) None = None
-sizes_of (Some tracks) (Some reels) = Some (RunPlain tracks reels)
+abbrev pub plain_asked : Option ℕ → Option ℕ → Option Asked
+plain_asked None reels = None
+plain_asked (Some tracks) None = None
+plain_asked (Some tracks) (Some reels) = Some (RunPlain tracks reels)
 
 abbrev pub plain_of : List ℕ → List ℕ → Option Asked
-plain_of tracks reels = sizes_of (size_of tracks least_tracks most_tracks) (size_of reels 0 most_reels)
+plain_of tracks reels = plain_asked (number_within tracks least_tracks most_tracks) (number_within reels 0 most_reels)
 
 -- ---- the room of a document
 
@@ -106,7 +106,7 @@ served_so document address journal (Some counting) (Some stations) = Some (Serve
 
 abbrev pub hall_of : List ℕ → List ℕ → List ℕ → List ℕ → List ℕ → List ℕ → Option Asked
 hall_of document rate drop stations address journal =
-    served_so document address journal (counting_of rate drop) (size_of stations least_stations most_stations)
+    served_so document address journal (counting_of rate drop) (number_within stations least_stations most_stations)
 
 -- ---- the table
 

@@ -12,9 +12,9 @@ use Rattle.cut_server.specs.declared.status.Status.{Status}
 use Rattle.cut_server.specs.declared.status.Status.TheVariants.{Done, ReadFault, WriteFault, NoCommand, Refused, NotSeated, OutOfMemory, TooMuchInput}
 use Rattle.cut_server.specs.Documents.{FilesTold}
 use Rattle.station_sessions.specs.Outside.{Outside, outside}
-use Rattle.station_sessions.specs.Rooms.{History, AreWritten, IsLegalIn, RoomTranscript}
+use Rattle.station_sessions.specs.Rooms.{History, RoomTranscript}
 use Rattle.station_sessions.specs.Serving.{SessionEnds}
-use Rattle.cut_server.specs.Stations.{AreOfStations}
+use Rattle.cut_server.specs.Journals.{IsJournalOf}
 
 -- what a hall tells: of each station, and how often a call of it has failed
 pub record HallTold : Type 0 where
@@ -40,12 +40,10 @@ Unheard before after = (station : ℕ) → line_at after station ≡ line_at bef
 abbrev pub TellsStation : Opening → History → ℕ → List InputLine → (List (List ℕ) → Type 0) → Type 0
 TellsStation o h station lines Taken = (replies : List (List ℕ)) × RoomTranscript o h station lines replies × Taken replies
 
--- One legal serial history, with entries of these stations alone, each of which can be written and read again, tells what
--- each of them was answered over its line, whatever the others sent meanwhile; and the session of each ended so.
+-- One journal tells what each of these stations was answered over its line, whatever the others sent meanwhile; and the
+-- session of each ended so.
 pub record AreServed (o : Opening) (stations : ℕ) (h : History) (before after : HallTold) (ends : List End) : Type 0 where
-  pub legal : IsLegalIn o h
-  pub seated : AreOfStations stations h
-  pub written : AreWritten h
+  pub journal : IsJournalOf o stations h
   pub count : length ends ≡ stations
   pub each : (s : ℕ) (e : End) → slice_get ends s ≡ Some e → SessionEnds (TellsStation o h s) (line_at before s) (line_at after s) e
 

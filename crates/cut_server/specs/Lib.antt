@@ -1,4 +1,5 @@
 pub mod Stations
+pub mod Journals
 pub mod Commands
 pub mod Documents
 pub mod Closed

@@ -14,20 +14,17 @@ use Rattle.cut_server.specs.Documents.{FilesTold, OnlyRead, Describes, IsRefused
 use Rattle.station_sessions.specs.declared.serve.End.TheVariants as end
 use Rattle.cut_server.specs.declared.status.Status.{Status}
 use Rattle.cut_server.specs.declared.status.Status.TheVariants.{Done, ReadFault, WriteFault, NoCommand, Refused, NotSeated, OutOfMemory, TooMuchInput}
-use Rattle.cut_server.specs.Stations.{AreOfStations}
+use Rattle.cut_server.specs.Journals.{IsJournalOf}
 use Rattle.cut_server.specs.Halls.{HallEnds, HallTold}
 use Rattle.station_sessions.specs.Outside.{Outside, outside, NoFault, WriteFailed, AtEnd, TakesThenFront}
-use Rattle.station_sessions.specs.Rooms.{History, AreWritten, IsLegalIn, RoomTranscript}
+use Rattle.station_sessions.specs.Rooms.{History, RoomTranscript}
 use Rattle.station_sessions.specs.Serving.{SessionEnds}
 use Rattle.cut_server.specs.Statuses.{number_of}
 use Rattle.station_sessions.specs.Transcript.{sent}
 
--- the journal is a legal serial history of the opening with entries of these stations alone, each of which can be written
--- and read again, and it tells the replies to the lines of one station
+-- the journal of a room with so many stations tells the replies to the lines of one of them
 pub record IsTold (o : Opening) (stations : ℕ) (h : History) (station : ℕ) (lines : List InputLine) (replies : List (List ℕ)) : Type 0 where
-  pub legal : IsLegalIn o h
-  pub seated : AreOfStations stations h
-  pub written : AreWritten h
+  pub journal : IsJournalOf o stations h
   pub transcript : RoomTranscript o h station lines replies
 
 -- there are a journal of one station and replies to these lines that it tells, of which this holds

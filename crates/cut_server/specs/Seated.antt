@@ -14,7 +14,6 @@ use Rattle.station_sessions.specs.Outside.{Outside}
 use Rattle.station_sessions.specs.Rooms.{AreWritten}
 use Rattle.station_sessions.specs.Served.{IsRoomOf, Knows}
 use Rattle.station_sessions.specs.Serving.{SessionEnds}
-use Rattle.station_sessions.specs.Session.{SessionState}
 use Rattle.station_sessions.specs.SessionInside.{TrackPass, TrackRoom}
 
 -- a station with its pass and its line, and how its session ended

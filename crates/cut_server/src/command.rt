@@ -2,7 +2,7 @@
 ghost use Rattle.std.specs.Prelude.{◌≡◌, ◌<◌, IfSome, drop, length, option_and_then, option_map};
 ghost use Rattle.ratio_time.specs.Rates.{rate_value};
 ghost use Rattle.cut_server.specs.Commands.{command_of, run_of, serve_of, plain_of, document_of, hall_of};
-ghost use Rattle.cut_server.specs.Commands.{counting_of, rate_of_word, sequence_of, size_of, asked_by, HasBounds};
+ghost use Rattle.cut_server.specs.Commands.{counting_of, rate_of_word, sequence_of, number_within, asked_by, HasBounds};
 
 use json_tree::numeral;
 use line_words::{Words, number};
@@ -45,8 +45,8 @@ pub(crate) enum Command<'a> {
 }
 
 // A number of at least `least` and at most `most`.
-fn size(word: &str, least: u32, most: u32) -> Option<u32>
-    ensures { result ≡ size_of word.now least most }
+fn number_within(word: &str, least: u32, most: u32) -> Option<u32>
+    ensures { result ≡ number_within word.now least most }
 {
     match number(word.as_bytes()) {
         Ok(n) => {
@@ -96,8 +96,8 @@ fn plain_room<'a>(tracks: &str, reels: &str) -> Option<Command<'a>>
     ensures command { option_map asked_by result ≡ plain_of tracks.now reels.now }
     ensures bound { IfSome result HasBounds }
 {
-    let tracks = size(tracks, LEAST_TRACKS, MOST_TRACKS)?;
-    let reels = size(reels, 0, MOST_REELS)?;
+    let tracks = number_within(tracks, LEAST_TRACKS, MOST_TRACKS)?;
+    let reels = number_within(reels, 0, MOST_REELS)?;
     Some(Command::Run { tracks, reels })
 }
 
@@ -122,7 +122,7 @@ fn hall_of<'a>(
     ensures bound { IfSome result HasBounds }
 {
     let counting = counting(rate, drop)?;
-    let stations = size(stations, LEAST_STATIONS, MOST_STATIONS)?;
+    let stations = number_within(stations, LEAST_STATIONS, MOST_STATIONS)?;
     Some(Command::Serve {
         document,
         counting,

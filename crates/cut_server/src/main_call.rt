@@ -381,8 +381,8 @@ pub fn cut_main<R: Threads + Wait + Sync, F: Files, S: Source, K: Sink, H: Hall,
 ) -> u8
     // The headline: whatever the stations send at once, in whatever pieces, the room's journal is one legal serial history,
     // each committed edit stands in it once, after all its station had been told of, and every reply names its point there
-    // and says what the entries before it give. `CommandEnds` says for each command and each status what was read, what
-    // was written and which count of faults rose.
+    // and says what the entries before it give. Linked items keep one offset at every point of it. `CommandEnds` says for
+    // each command and each status what was read, what was written and which count of faults rose.
     ensures { EndsWith result (CommandEnds
         (files_told (F.file files.old) (F.read_faults files.old) (F.write_faults files.old))
         (files_told (F.file files.new) (F.read_faults files.new) (F.write_faults files.new))

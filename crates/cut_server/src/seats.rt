@@ -32,7 +32,8 @@ impl<L: Line, J: Naming<Editor, Track>> Model for Seat<L, J> {
 
     ghost view = { λ s. record {
       pass = s.pass;
-      line = outside (L.left s.line) (L.read_faults s.line) (L.taken s.line) (L.write_faults s.line);
+      line = outside (L.left s.line) (L.read_faults s.line) (L.taken s.line)
+          (L.write_faults s.line);
       end = s.end;
     } };
 }

@@ -1,5 +1,5 @@
 -- A session that begins, and what it answered told by what its station knows.
-use Rattle.std.proofs.Common.{◌≡◌, ℕ, ◌⊎◌, inl, inr, List, [], ◌∷◌, ◌++◌, Option, Some, None, IfSome, refl, ap, ◌∙◌, subst, arith}
+use Rattle.std.proofs.Common.{◌≡◌, ℕ, ◌⊎◌, inl, inr, List, [], ◌++◌, Option, Some, None, IfSome, refl, ap, ◌∙◌, subst}
 use Rattle.std.specs.Option.{IsSomeAnd}
 use Rattle.timecode12.specs.Numbers.{Counted}
 use Rattle.line_words.specs.Lines.{Line as InputLine}
@@ -11,16 +11,10 @@ use Rattle.station_sessions.specs.Outside.{Outside, Got}
 use Rattle.station_sessions.specs.Rooms.{History, Setting, AreWritten, room_of}
 use Rattle.station_sessions.specs.Transcript.{Transcript}
 use Rattle.station_sessions.specs.Session.{SessionState}
-use Rattle.station_sessions.specs.SessionInside.{IsSeated, TrackPass, TrackRoom, session_at, tracks_at}
+use Rattle.station_sessions.specs.SessionInside.{TrackPass, TrackRoom, session_at, tracks_at}
 use Rattle.station_sessions.specs.Served.{IsFresh, IsRoomOf, Knows, Serves, ServesTo}
 use Rattle.station_sessions.specs.Serving.{StopsInPiece, StopsAtEnd, SessionEnds}
 use Rattle.station_sessions.proofs.Serving.{served_none, transcript_served}
-
-pub fresh_seated : (room : TrackRoom) (pass : TrackPass) → pass.entries ≡ [] → IsSeated room 1 pass
-fresh_seated room pass none = record {
-  legal = rw none (record { within = omega arith; applies = refl; rise = tt });
-  before = rw none (omega arith);
-}
 
 pub fresh_session : (o : Opening) (room : TrackRoom) (pass : TrackPass) (counting : Counted) (start : ℕ) → IsRoomOf o room counting start → pass.entries ≡ []
     → IsFresh o pass.number (session_at room (Some pass) counting start 1)

@@ -1,5 +1,5 @@
 -- What a room did for a session's line, and what the reply to it says.
-use Rattle.std.proofs.Common.{◌≡◌, ℕ, max, ◌+◌, ◌<◌, ◌≤◌, inl, inr, List, [], ◌∷◌, ◌++◌, Vec, length, take, Option, Some, None, Result, Ok, Err, IsSome, slice_get, option_map, fold, refl, sym, ap, ◌∙◌, arith, subst}
+use Rattle.std.proofs.Common.{◌≡◌, ℕ, max, ◌+◌, ◌≤◌, inl, inr, List, [], ◌∷◌, ◌++◌, Vec, length, take, Option, Some, None, Result, Ok, Err, IsSome, slice_get, option_map, fold, refl, sym, ap, ◌∙◌, arith, subst}
 use Rattle.std.specs.Prelude.{codes, decimal}
 use Rattle.std.specs.Global.{Global}
 use Rattle.std.proofs.lemmas.List.{append-nil}

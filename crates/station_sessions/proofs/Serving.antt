@@ -4,7 +4,7 @@ use Rattle.std.proofs.lemmas.List.{append-nil, length-append}
 use Rattle.std.proofs.lemmas.List.Sums.{fold-append}
 use Rattle.line_words.specs.Lines.{Line as InputLine}
 use Rattle.room_core.specs.declared.entry.Entry.{Entry}
-use Rattle.room_core.specs.History.{most_entries, replay, after_entry, answer_in, state_in, RiseAfter, NumbersRise, IsLegal}
+use Rattle.room_core.specs.History.{most_entries, replay, after_entry, answer_in, state_in, RiseAfter, NumbersRise}
 use Rattle.room_core.specs.Projection.{of_station}
 use Rattle.station_sessions.specs.Transcript.{Wish, Do, See, Point, Write, Bad, Kind, answer_at, sight_at, BearsNone, IsDone, IsRefused, IsFull, IsMemory, IsSeen, IsPoint, IsDocument, IsPastEnd, IsBad, Row, Rows, Transcript, points_from}
 use Rattle.station_sessions.specs.Session.{Course, past_line, Commits, Does, Step, Grows}
@@ -245,10 +245,3 @@ module _ {S C D R Q X Y : Type 0} (k : Kind S C D R Q X Y) (station : ℕ) (o : 
 
   pub transcript_served : (s : Course S C) (ls : List InputLine) (rs : List (List ℕ)) (last : ℕ) → Served k station o s ls rs last → Transcript k o s.journal station ls rs
   transcript_served s ls rs last w = (last, w.rows)
-
-  pub legal_served : (s : Course S C) (ls : List InputLine) (rs : List (List ℕ)) (last : ℕ) → Served k station o s ls rs last → IsLegal k.apply o s.journal
-  legal_served s ls rs last w = record {
-    within = w.within;
-    applies = rw w.state refl;
-    rise = w.rise;
-  }

@@ -17,10 +17,6 @@ abbrev pub OwnFrom : {C : Type 0} → ℕ → ℕ → List (Entry C) → Type 0
 OwnFrom station line [] = Unit {0}
 OwnFrom station line (e ∷ es) = (e.station ≡ station → line ≤ e.number) × OwnFrom station line es
 
-pub own_later : {C : Type 0} (station line later : ℕ) (es : List (Entry C)) → line ≤ later → OwnFrom station later es → OwnFrom station line es
-own_later station line later [] le own = tt
-own_later station line later (e ∷ es) le own = (λ is. omega (arith, own.0 is, le), own_later station line later es le own.1)
-
 take_more : {C : Type 0} (h more : List (Entry C)) (n : ℕ) → n ≤ length h → take n (h ++ more) ≡ take n h
 take_more h more n le = take-append-le n h more le
 

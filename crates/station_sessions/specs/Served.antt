@@ -1,6 +1,7 @@
 -- A session that has answered some lines: what has held since it began.
 use Rattle.std.specs.Prelude.{◌≡◌, ℕ, ◌+◌, ◌<◌, ◌≤◌, List, [], ◌∷◌, ◌++◌, Some, length}
 use Rattle.line_words.specs.Lines.{Line as InputLine}
+use Rattle.edit_apply.specs.RoomTracks.{IsOpening}
 use Rattle.room_core.specs.declared.entry.Entry.{Entry}
 use Rattle.room_core.specs.History.{most_entries, replay, NumbersRise}
 use Rattle.room_core.specs.Projection.{of_station}
@@ -54,8 +55,10 @@ pub record ServesTo (old new : SessionState) (lines : List InputLine) (Taken : L
   pub written : AreWritten (of_station old.station old.course.journal) → AreWritten (of_station old.station new.course.journal)
   pub serves : Serves (room_of old.setting) old.station old.course new.course lines Taken
 
--- the room was opened from this opening, and its frames are counted and its record starts so
+-- the room was opened from this opening, with which a history can begin, and its frames are counted and its record starts
+-- so
 pub record IsRoomOf (o : Opening) (room : TrackRoom) (counting : Counted) (start : ℕ) : Type 0 where
+  pub opens : IsOpening o.table o.tracks
   pub setting : setting_at room counting start ≡ setting_of o
   pub tracks : room.1 ≡ o.tracks
 

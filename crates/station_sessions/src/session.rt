@@ -85,8 +85,8 @@ impl<'a, R: Wait, G: Gate, J: Naming<Editor, Track>> Session<'a, R, G, J> {
         }
     }
 
-    /// What a line of the input says.
-    fn said(&self, end: LineEnd, text: &[u8]) -> Result<Line, LineFault>
+    /// What a line of the input says, or its fault.
+    fn meaning_of(&self, end: LineEnd, text: &[u8]) -> Result<Line, LineFault>
         ensures meant { IsMeant self.now.setting (line_told end text.now) result }
         ensures written { IfOk result (λ line. NamesWritten line) }
     {
@@ -173,7 +173,7 @@ impl<'a, R: Wait, G: Gate, J: Naming<Editor, Track>> Session<'a, R, G, J> {
         requires { self.old.course.line + 1 < 2 ^ 32 }
         ensures { RepliesTo self.old self.new (line_told end text.now) result }
     {
-        let read = self.said(end, text);
+        let read = self.meaning_of(end, text);
         self.reply_to(read)
     }
 

@@ -6,4 +6,4 @@ pub new-requires-clause-opens : goal.new-requires-clause-opens
 new-requires-clause-opens g c = rw c.into_vec.ensures (sound_opens c.args.opening c.requires.sound c.requires.some)
 
 pub returns : goal.returns
-returns g c = c.run_blank.ensures c.args.opening _ c.in-Ok.ensures.opening (record { setting = refl; tracks = c.into_vec.ensures })
+returns g c = c.run_blank.ensures c.args.opening _ c.in-Ok.ensures.opening (record { opens = sound_opens c.args.opening c.requires.sound c.requires.some; setting = refl; tracks = c.into_vec.ensures })

@@ -14,4 +14,4 @@ returns g c =
     let before = hall_told (g.H.Hall.told c.args.hall.now) (g.H.Hall.faults c.args.hall.now) in
     let after = hall_told (g.H.Hall.told c.serve_blank.new.hall) (g.H.Hall.faults c.serve_blank.new.hall) in
     subst (λ (n : ℕ). HallEnds c.args.opening n c.args.name.now was now (c.serve_blank.new.files ≡ c.args.files.now) before after c.serve_blank.result) c.in-Ok.ensures.stations
-    (c.serve_blank.ensures c.args.opening _ c.in-Ok.ensures.opening (record { setting = refl; tracks = c.into_vec.ensures }))
+    (c.serve_blank.ensures c.args.opening _ c.in-Ok.ensures.opening (record { opens = sound_opens c.args.opening c.requires.sound c.requires.some; setting = refl; tracks = c.into_vec.ensures }))

@@ -1,4 +1,4 @@
-use Rattle.std.proofs.Common.{◌≡◌, ℕ, subst, sym, ◌∙◌, inl, length, refl}
+use Rattle.std.proofs.Common.{ℕ, subst, sym, ◌∙◌, inl, refl}
 use Rattle.edit_journal.specs.Turns.{AreFresh}
 use Rattle.cut_server.specs.Halls.{hall_told}
 use Rattle.cut_server.proofs.Seating.{ends_unserved, fresh_count, seated_as, seated_number, seats_quiet, unheard}

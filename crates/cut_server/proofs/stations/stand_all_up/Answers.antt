@@ -1,8 +1,8 @@
-use Rattle.std.proofs.Common.{◌≡◌, ◌+◌, ◌<◌, ◌++◌, ◌∷◌, [], List, Some, length, map, refl, sym, ap, ◌∙◌, append_assoc, arith, subst}
+use Rattle.std.proofs.Common.{◌+◌, ◌++◌, ◌∷◌, [], length, map, sym, ap, ◌∙◌, append_assoc, arith}
 use Rattle.std.specs.Vec.Iter.{into_iter_items}
 use Rattle.std.proofs.lemmas.List.{length-append, append-nil, nil_from_length}
-use Rattle.cut_server.specs.Halls.{first_fault, line_of, or_next, status_of}
-use Rattle.cut_server.specs.Seated.{HasNumber, SeatState}
+use Rattle.cut_server.specs.Halls.{first_fault, or_next, status_of}
+use Rattle.cut_server.specs.Seated.{SeatState}
 use Rattle.cut_server.specs.declared.status.Status.{Status}
 use Rattle.cut_server.proofs.AllStations.{as_many, ends_more, has_pass, number_is}
 use Rattle.cut_server.proofs.Seating.{behind_at, fault_more, free_more, held_on, is_within, line_more, passes_more, told_line}

@@ -1,4 +1,4 @@
-use Rattle.std.proofs.Common.{◌≡◌, sym, ◌∙◌}
+use Rattle.std.proofs.Common.{sym, ◌∙◌}
 use Rattle.station_sessions.specs.Outside.{outside}
 use Rattle.station_sessions.specs.Served.{Knows}
 use Rattle.cut_server.proofs.Seating.{still_ends}
