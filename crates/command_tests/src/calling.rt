@@ -1,0 +1,125 @@
+// The program's call over objects in memory.
+use cut_server::cut_main;
+use line_words::Words;
+use room_files::MemFiles;
+use room_halls::{MemHall, OpenGate};
+use room_ports::{MemSink, MemSource};
+use std::alloc::Global;
+use std::sync::Wait;
+use std::test::Fail;
+use std::thread::Threads;
+
+// The words of a text, parted by single spaces.
+pub(crate) fn parted(alloc: Global, text: &str) -> Result<Vec<&str>, Fail> {
+    let mut words = Vec::new(alloc);
+    for word in text.split(' ') {
+        words.push(word)?;
+    }
+    Ok(words)
+}
+
+pub(crate) fn words_of(alloc: Global, texts: &[&str]) -> Result<Words, Fail> {
+    let mut words = Words::new(alloc);
+    for text in texts {
+        if words.count() < 10 {
+            words.push(text)?;
+        }
+    }
+    Ok(words)
+}
+
+// The words of a text, parted by single spaces.
+pub(crate) fn words_in(alloc: Global, text: &str) -> Result<Words, Fail> {
+    let texts = parted(alloc, text)?;
+    words_of(alloc, &texts)
+}
+
+pub(crate) fn no_files(alloc: Global) -> MemFiles {
+    MemFiles::new(alloc, Vec::new(alloc))
+}
+
+pub(crate) fn no_hall(alloc: Global) -> MemHall {
+    MemHall::new(alloc, Vec::new(alloc), Vec::new(alloc))
+}
+
+// The status and the output of a run with these words, over these pieces of input and these calls that fail.
+pub(crate) fn ended<R: Threads + Wait + Sync>(
+    rt: &R,
+    alloc: Global,
+    words: &[&str],
+    pieces: &[&[u8]],
+    reads: &[u32],
+    writes: &[u32],
+) -> Result<(u8, Vec<u8>), Fail> {
+    ended_over(
+        rt,
+        alloc,
+        words,
+        &mut no_files(alloc),
+        pieces,
+        reads,
+        writes,
+    )
+}
+
+// The same over these files.
+pub(crate) fn ended_over<R: Threads + Wait + Sync>(
+    rt: &R,
+    alloc: Global,
+    words: &[&str],
+    files: &mut MemFiles,
+    pieces: &[&[u8]],
+    reads: &[u32],
+    writes: &[u32],
+) -> Result<(u8, Vec<u8>), Fail> {
+    let mut input = Vec::new(alloc);
+    for piece in pieces {
+        input.push(piece.to_vec(alloc)?)?;
+    }
+    let mut input = MemSource::new(input, reads.to_vec(alloc)?);
+    let mut output = MemSink::new(alloc, writes.to_vec(alloc)?);
+    let words = words_of(alloc, words)?;
+    let status = cut_main(
+        rt,
+        alloc,
+        &words,
+        files,
+        &mut input,
+        &mut output,
+        &mut no_hall(alloc),
+        &OpenGate,
+    );
+    let bytes = match output.bytes() {
+        Some(bytes) => bytes.to_vec(alloc)?,
+        None => Vec::new(alloc),
+    };
+    Ok((status, bytes))
+}
+
+/// Whether a run with these words ends with status 0 and answers so, in a text of what is sent, each line behind `> `,
+/// and of what is answered.
+pub(crate) fn is_answered<R: Threads + Wait + Sync>(
+    rt: &R,
+    alloc: Global,
+    words: &str,
+    talk: &str,
+) -> Result<bool, Fail> {
+    let mut sent = Vec::new(alloc);
+    let mut wanted = Vec::new(alloc);
+    for line in talk.split('\n') {
+        match line.as_bytes().strip_prefix(b"> ".as_slice()) {
+            Some(line) => {
+                sent.extend_from_slice(line)?;
+                sent.push(b'\n')?;
+            }
+            None => {
+                wanted.extend_from_slice(line.as_bytes())?;
+                wanted.push(b'\n')?;
+            }
+        }
+    }
+    wanted.pop();
+    let texts = parted(alloc, words)?;
+    let (status, output) = ended(rt, alloc, &texts, &[&sent], &[], &[])?;
+    Ok(status == 0 && output.as_slice() == wanted.as_slice())
+}

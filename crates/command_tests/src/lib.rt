@@ -1,0 +1,22 @@
+//! Tests of the program's call over objects in memory: what is sent, and what is answered, written and kept. There is
+//! nothing here to run besides.
+#![tactic(auto)]
+
+#[cfg(test)]
+mod calling;
+#[cfg(test)]
+mod documents;
+#[cfg(test)]
+mod links;
+#[cfg(test)]
+mod replays;
+#[cfg(test)]
+mod runs;
+#[cfg(test)]
+mod soak;
+#[cfg(test)]
+mod stations;
+#[cfg(test)]
+mod talks;
+#[cfg(test)]
+mod turns;

@@ -1,0 +1,211 @@
+// Lines and a gate that wait until others have done something: by turns, and not by time.
+ghost use Rattle.room_ports.specs.Sides.{owned};
+ghost use Rattle.std.specs.Prelude.{refl};
+
+use room_halls::{Gate, Hall, HallFault, HallLine, MemHall};
+use room_ports::{Failed, Line, MemLine, Sink, Source};
+use std::alloc::Global;
+use std::sync::Arc;
+use std::sync::atomic::{AtomicBool, AtomicU32, Ordering};
+
+// How often one that waits looks, before it goes on all the same.
+const MOST_LOOKS: u32 = 1_000_000_000;
+
+/// What the stations have done, of the first two whether an edit has come to the gate and whether a reply was written.
+#[derive(Drop)]
+pub(crate) struct Deeds {
+    came: [AtomicBool; 2],
+    replied: [AtomicBool; 2],
+    left: AtomicU32,
+    gave_up: AtomicBool,
+}
+
+/// What is waited for: an edit of a station at the gate, its first reply, or the ends of so many sessions.
+#[derive(Clone, Copy)]
+pub(crate) enum Until {
+    Comes(u32),
+    Replied(u32),
+    Left(u32),
+}
+
+/// A station that waits.
+#[derive(Clone, Copy)]
+pub(crate) struct Hold {
+    pub(crate) station: u32,
+    pub(crate) until: Until,
+}
+
+impl Deeds {
+    pub(crate) fn none() -> Deeds {
+        Deeds {
+            came: [AtomicBool::new(false), AtomicBool::new(false)],
+            replied: [AtomicBool::new(false), AtomicBool::new(false)],
+            left: AtomicU32::new(0),
+            gave_up: AtomicBool::new(false),
+        }
+    }
+
+    /// Whether one that waited went on before it had come.
+    pub(crate) fn gave_up(&self) -> bool {
+        self.gave_up.load(Ordering::SeqCst)
+    }
+
+    fn has_come(&self, until: Until) -> bool {
+        match until {
+            Until::Comes(station) => is_noted(&self.came, station),
+            Until::Replied(station) => is_noted(&self.replied, station),
+            Until::Left(count) => self.left.load(Ordering::SeqCst) >= count,
+        }
+    }
+
+    fn wait(&self, until: Until) {
+        for _ in 0..MOST_LOOKS {
+            if self.has_come(until) {
+                return;
+            }
+        }
+        self.gave_up.store(true, Ordering::SeqCst);
+    }
+
+    // Waits for what this station is held for, if anything.
+    fn wait_for(&self, station: u32, holds: &[Hold]) {
+        for hold in holds {
+            if hold.station == station {
+                self.wait(hold.until);
+            }
+        }
+    }
+}
+
+fn is_noted(notes: &[AtomicBool; 2], station: u32) -> bool {
+    match notes.get(station as usize) {
+        Some(note) => note.load(Ordering::SeqCst),
+        None => false,
+    }
+}
+
+fn note(notes: &[AtomicBool; 2], station: u32) {
+    match notes.get(station as usize) {
+        Some(note) => note.store(true, Ordering::SeqCst),
+        None => {}
+    }
+}
+
+/// A gate at which some stations wait.
+#[derive(Clone, Copy)]
+pub(crate) struct HoldingGate<'a> {
+    pub(crate) deeds: &'a Deeds,
+    pub(crate) holds: &'a [Hold],
+}
+
+impl Gate for HoldingGate<'_> {
+    fn at_commit(&self, station: u32) {
+        note(&self.deeds.came, station);
+        self.deeds.wait_for(station, self.holds);
+    }
+}
+
+/// A line over memory, whose station may wait before its first read.
+#[derive(Drop)]
+pub(crate) struct HeldLine {
+    pub(crate) line: MemLine,
+    station: u32,
+    hold: Option<Until>,
+    deeds: Arc<Deeds, Global>,
+}
+
+impl Source for HeldLine {
+    ghost left = { λ l. ⟦<MemLine as Source>⟧.left l.line };
+
+    ghost read_faults = { λ l. ⟦<MemLine as Source>⟧.read_faults l.line };
+
+    ghost as_sink = { λ l. ⟦<MemLine as Source>⟧.as_sink l.line };
+
+    fn read(&mut self, into: &mut [u8]) -> Result<usize, Failed> {
+        match self.hold {
+            Some(until) => self.deeds.wait(until),
+            None => {}
+        }
+        self.line.read(into)
+    }
+}
+
+impl Sink for HeldLine {
+    ghost taken = { λ l. ⟦<MemLine as Sink>⟧.taken l.line };
+
+    ghost write_faults = { λ l. ⟦<MemLine as Sink>⟧.write_faults l.line };
+
+    ghost as_source = { λ l. ⟦<MemLine as Sink>⟧.as_source l.line };
+
+    fn write(&mut self, piece: &[u8]) -> Result<usize, Failed> {
+        let written = self.line.write(piece);
+        note(&self.deeds.replied, self.station);
+        written
+    }
+}
+
+impl Line for HeldLine {
+    ghost lent = { λ _. owned };
+
+    ghost source_side = { λ line. refl };
+
+    ghost sink_side = { λ line. refl };
+}
+
+impl HallLine for HeldLine {
+    fn leave(&mut self) {
+        self.deeds.left.fetch_add(1, Ordering::SeqCst);
+    }
+}
+
+/// A hall over memory, at whose lines some stations wait.
+#[derive(Drop)]
+pub(crate) struct HeldHall {
+    pub(crate) hall: MemHall,
+    pub(crate) holds: Vec<Hold>,
+    pub(crate) deeds: Arc<Deeds, Global>,
+}
+
+impl HeldHall {
+    fn hold_of(&self, station: u32) -> Option<Until> {
+        for hold in &self.holds {
+            if hold.station == station {
+                return Some(hold.until);
+            }
+        }
+        None
+    }
+}
+
+impl Hall for HeldHall {
+    type Line = HeldLine;
+
+    ghost told = { λ h s. ⟦<MemHall as Hall>⟧.told h.hall s };
+
+    ghost faults = { λ h. ⟦<MemHall as Hall>⟧.faults h.hall };
+
+    fn open(&mut self, address: &str) -> Result<(), Failed> {
+        self.hall.open(address)
+    }
+
+    fn seat_station(&mut self, alloc: Global, station: u32) -> Result<HeldLine, HallFault> {
+        let deeds = match Arc::try_clone(&self.deeds) {
+            Ok(deeds) => deeds,
+            Err(_) => return Err(HallFault::Memory),
+        };
+        let hold = self.hold_of(station);
+        match self.hall.seat_station(alloc, station) {
+            Ok(line) => Ok(HeldLine {
+                line,
+                station,
+                hold,
+                deeds,
+            }),
+            Err(fault) => Err(fault),
+        }
+    }
+
+    fn stand_up(&mut self, station: u32, line: HeldLine) {
+        self.hall.stand_up(station, line.line)
+    }
+}
