@@ -19,7 +19,8 @@ use Rattle.otio_tracks.specs.declared.faults.DocCode.TheVariants.{O10, O11}
 use Rattle.otio_tracks.specs.Reading.{refuse}
 use Rattle.otio_tracks.specs.Values.{is_null, needed, expected}
 use Rattle.otio_tracks.specs.Times.{frame_read}
-use Rattle.otio_json.specs.Soundness.{IsSoundOpening}
+use Rattle.otio_again.specs.SoundCuts.{IsSoundCut}
+use Rattle.otio_again.proofs.DeepTracks.{tracks_deep}
 use Rattle.otio_json.specs.declared.opening.Opening.{Opening}
 use Rattle.otio_tracks.specs.Clips.{empty_table}
 use Rattle.otio_json.specs.Timelines.{rate_counted, in_day, start_if, start_read, untrimmed, tracks_read, opened, sequence_read, timeline_read, json_read, tree_read, document_read}
@@ -87,7 +88,7 @@ sequence_known : (rate : ℕ × ℕ) (children : List Tree) (at : ℕ) → 0 < l
 sequence_known rate children at some few =
     λ i. if lt-ltb 0 (length children) some i && le-leb (length children) 16 few i then tracks_read rate empty_table children else refuse O10 at
 
-timeline_back : (o : Opening) → IsSoundOpening o → 0 < length o.tracks → (at : ℕ)
+timeline_back : (o : Opening) → IsSoundCut o → 0 < length o.tracks → (at : ℕ)
     → (p : Opening) × (timeline_read o.counting (placed at (tree_of_cut o)) ≡ Ok p) × SameCut o p
 unfolding timeline_read
 timeline_back o sound some at =
@@ -102,7 +103,7 @@ timeline_back o sound some at =
     let ch = needed_back (codes "children") (stack_of_tracks tracks) (list_tree tracks) st.0 (stack_children tracks) in
     let children = in_trees (placed_trees (ch.0 + 1) (trees tracks)) in
     let count = count_trees o.table r 0 (ch.0 + 1) o.tracks in
-    let b = tracks_back r o.table sound.table 0 0 o.table.kinds o.tracks empty_table [] (ch.0 + 1) (some_kinds o.table) sound.tracks refl in
+    let b = tracks_back r o.table sound.table 0 0 o.table.kinds o.tracks empty_table [] (ch.0 + 1) (some_kinds o.table) (tracks_deep o.table sound.table 0 o.table.kinds o.tracks sound.tracks) refl in
     let new = opened c o.start (b.made, b.table) in (
       new,
       goes (expected (codes "Timeline.1") text) _ tt _ (expected_back (codes "Timeline.1") bare at (timeline_is time tracks))
@@ -129,7 +130,7 @@ text_spelled t w s = record {
   value = tree_spelled t 64 0 w s;
 }
 
-tree_back : (o : Opening) → IsSoundOpening o → AreTexts o.table.reels → length (text_of_cut o) ≤ 33554432 → tree_read (text_of_cut o) ≡ Ok (placed 0 (tree_of_cut o))
+tree_back : (o : Opening) → IsSoundCut o → AreTexts o.table.reels → length (text_of_cut o) ≤ 33554432 → tree_read (text_of_cut o) ≡ Ok (placed 0 (tree_of_cut o))
 unfolding tree_read
 tree_back o sound texts fits =
     let small : o.start < 10 ^ 18 = omega (arith, start_small o sound) in

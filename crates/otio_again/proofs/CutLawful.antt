@@ -24,7 +24,9 @@ use Rattle.composables.specs.TrackFacts.{left_reach, right_reach, first_mark, Ha
 use Rattle.composables.specs.TrackState.{TrackState}
 use Rattle.json_tree.specs.Tree.{Tree, At, Null}
 use Rattle.otio_text.specs.Documents.{text_or_none, reel_name, kind_at}
-use Rattle.otio_json.specs.Soundness.{SideHas, EachHas, IsDeep, IsReadTrack, IsSoundLayer, IsSoundNest, IsSoundTable, levels_of_kind, AreTracksFrom, IsSoundOpening}
+use Rattle.otio_json.specs.Soundness.{SideHas, EachHas, IsDeep, levels_of_kind}
+use Rattle.otio_again.specs.SoundCuts.{IsCutTrack, IsCutLayer, IsCutNest, IsCutTable, IsSoundCut}
+use Rattle.otio_again.proofs.DeepTracks.{AreCutTracksFrom, tracks_deep}
 use Rattle.otio_json.specs.declared.opening.Opening.{Opening}
 use Rattle.otio_json.proofs.Growth.{deep_more}
 use Rattle.otio_again.specs.CutTrees.{time_tree, range_tree, clip_tree_of, transition_tree, mark_trees, layer_range_tree, thing_tree, side_tree, item_tree, later_item_trees, item_trees, layer_tree, layer_trees, layer_trees_if, nest_trees, track_tree, track_trees, timeline_tree}
@@ -54,7 +56,7 @@ reel_utf8 reels n h = by_name (slice_get reels n) refl where
   by_name None e = empty_utf8
   by_name (Some name) e = all_at IsUtf8 reels n name h e
 
-module _ (table : Table) (rate : SequenceRate) (sound : IsSoundTable table) (texts : AreTexts table.reels) (tree : ℕ → List Tree) where
+module _ (table : Table) (rate : SequenceRate) (sound : IsCutTable table) (texts : AreTexts table.reels) (tree : ℕ → List Tree) where
   -- what stands in a nest with so many nests in it at most
   abbrev Inside : ℕ → ℕ → Type 0
   Inside zero m = Unit {0}
@@ -71,7 +73,7 @@ module _ (table : Table) (rate : SequenceRate) (sound : IsSoundTable table) (tex
     thing_lawful (MediaOf i) s len before after small short h d =
         let k = shows_media table sound i s len before after h in
         subst (λ (o : Option Media). IsLawful (levels_for n m) (clip_tree_of table.reels rate o s len)) (sym k.there)
-        (clip_lawful (more_levels n m) rate (reel_name table.reels k.entry.reel) s len k.entry (reel_utf8 table.reels k.entry.reel texts) small short (omega (arith, k.sound.filled, k.sound.within)) (omega (arith, k.sound.within)))
+        (clip_lawful (more_levels n m) rate (reel_name table.reels k.entry.reel) s len k.entry (reel_utf8 table.reels k.entry.reel texts) small short (omega (arith, k.from, small)) (omega (arith, k.sound.within)))
     thing_lawful (NestOf j) s len before after small short h d = nest_in n m j s len inside d small short
 
     side_lawful : (side : Side What) (len before after : ℕ) → len < 10 ^ 18 → HasSource side len before after → SideLiesIn table side len before after → SideHas (IsDeep table.nests n) side
@@ -96,40 +98,40 @@ module _ (table : Table) (rate : SequenceRate) (sound : IsSoundTable table) (tex
         let later = later_lawful vs (omega (arith, h.0.holds.room, h.0.short)) h.1 d.1 in
         more_lawful (levels_for n m) (item_tree table rate tree v) (later_item_trees table rate tree vs) (item_lawful v (first_mark vs) h.0 d.0) later
 
-    layer_in_lawful : (l : Layer) → IsSoundLayer table 7 l → EachHas (IsDeep table.nests n) (items_of l.track.cells) → IsLawful (suc (suc (levels_for n m))) (layer_tree table rate tree l)
+    layer_in_lawful : (l : Layer) → IsCutLayer table 7 l → EachHas (IsDeep table.nests n) (items_of l.track.cells) → IsLawful (suc (suc (levels_for n m))) (layer_tree table rate tree l)
     layer_in_lawful l h d =
         let frames = h.track.good.frames in
         layer_lawful (levels_for n m) (layer_range_tree rate l) (item_trees table rate tree (items_of l.track.cells))
         (range_if (nat_eq l.from 0 && nat_eq l.to (length l.track.cells)) (suc (suc (suc (more_levels n m)))) rate l.from (l.to - l.from) (omega (arith, h.ordered, h.within, frames)) (omega (arith, h.within, frames)))
         (items_lawful (items_of l.track.cells) (track_shown table l.track h.track.good) d)
 
-    layers_lawful : (ls : List Layer) → All (IsSoundLayer table 7) ls → All (λ (l : Layer). EachHas (IsDeep table.nests n) (items_of l.track.cells)) ls → AreLawful (suc (suc (levels_for n m))) (layer_trees table rate tree ls)
+    layers_lawful : (ls : List Layer) → All (IsCutLayer table 7) ls → All (λ (l : Layer). EachHas (IsDeep table.nests n) (items_of l.track.cells)) ls → AreLawful (suc (suc (levels_for n m))) (layer_trees table rate tree ls)
     layers_lawful [] h d = none_lawful (suc (suc (levels_for n m)))
     layers_lawful (l ∷ ls) h d =
         more_lawful (suc (suc (levels_for n m))) (layer_tree table rate tree l) (layer_trees table rate tree ls)
-        (layer_in_lawful l (All-head (IsSoundLayer table 7) l ls h) (All-head (λ (k : Layer). EachHas (IsDeep table.nests n) (items_of k.track.cells)) l ls d))
-        (layers_lawful ls (All-tail (IsSoundLayer table 7) l ls h) (All-tail (λ (k : Layer). EachHas (IsDeep table.nests n) (items_of k.track.cells)) l ls d))
+        (layer_in_lawful l (All-head (IsCutLayer table 7) l ls h) (All-head (λ (k : Layer). EachHas (IsDeep table.nests n) (items_of k.track.cells)) l ls d))
+        (layers_lawful ls (All-tail (IsCutLayer table 7) l ls h) (All-tail (λ (k : Layer). EachHas (IsDeep table.nests n) (items_of k.track.cells)) l ls d))
 
 -- ---- nests
 
-inside_of : (table : Table) (tree : ℕ → List Tree) (rate : SequenceRate) (sound : IsSoundTable table) (texts : AreTexts table.reels)
+inside_of : (table : Table) (tree : ℕ → List Tree) (rate : SequenceRate) (sound : IsCutTable table) (texts : AreTexts table.reels)
     → ((n m j : ℕ) → IsDeep table.nests (suc n) (NestOf j) → AreLawful (suc (suc (levels_for n m))) (tree j)) → (n m : ℕ) → Inside table rate sound texts tree n m
 inside_of table tree rate sound texts h zero m = tt
 inside_of table tree rate sound texts h (suc n) m = h n m
 
-nests_lawful : (table : Table) (rate : SequenceRate) (sound : IsSoundTable table) (texts : AreTexts table.reels) (levels n m j : ℕ) → IsDeep table.nests (suc n) (NestOf j) → AreLawful (suc (suc (levels_for n m))) (nest_trees table rate levels j)
+nests_lawful : (table : Table) (rate : SequenceRate) (sound : IsCutTable table) (texts : AreTexts table.reels) (levels n m j : ℕ) → IsDeep table.nests (suc n) (NestOf j) → AreLawful (suc (suc (levels_for n m))) (nest_trees table rate levels j)
 unfolding nest_trees
 nests_lawful table rate sound texts zero n m j d = none_lawful (suc (suc (levels_for n m)))
 nests_lawful table rate sound texts (suc levels) n m j d =
     let inner = nest_trees table rate levels in
     let inside = inside_of table inner rate sound texts (nests_lawful table rate sound texts levels) n m in
-    let s : IsSoundNest table 7 d.0 = subst (λ (o : Option Nest). IfSome o (IsSoundNest table 7)) d.1 (nest_if table sound j) in
+    let s : IsCutNest table 7 d.0 = subst (λ (o : Option Nest). IfSome o (IsCutNest table 7)) d.1 (nest_if table sound j) in
     subst (λ (o : Option Nest). AreLawful (suc (suc (levels_for n m))) (layer_trees_if table rate inner o)) (sym d.1)
     (layers_lawful table rate sound texts inner n m inside d.0.layers s.layers d.2)
 
 -- ---- the sequence
 
-track_in_lawful : (table : Table) (rate : SequenceRate) (sound : IsSoundTable table) (texts : AreTexts table.reels) (kind : Option TrackKind) (n m : ℕ) (t : TrackState) → IsReadTrack table n t
+track_in_lawful : (table : Table) (rate : SequenceRate) (sound : IsCutTable table) (texts : AreTexts table.reels) (kind : Option TrackKind) (n m : ℕ) (t : TrackState) → IsCutTrack table n t
     → IsLawful (suc (suc (levels_for n m))) (track_tree table rate kind t)
 track_in_lawful table rate sound texts kind n m t h =
     let inner = nest_trees table rate (length table.nests) in
@@ -137,13 +139,10 @@ track_in_lawful table rate sound texts kind n m t h =
     track_lawful (levels_for n m) kind (item_trees table rate inner (items_of t.cells)) (items_lawful table rate sound texts inner n m inside (items_of t.cells) (track_shown table t h.good) h.deep)
 
 -- a track of either kind has at most 8 nests in one another
-at_most_eight : (table : Table) (k : TrackKind) (t : TrackState) → IsReadTrack table (levels_of_kind k) t → IsReadTrack table 8 t
+at_most_eight : (table : Table) (k : TrackKind) (t : TrackState) → IsCutTrack table (levels_of_kind k) t → IsCutTrack table 8 t
 at_most_eight table k t h = record {
   good = h.good;
-  unlinked = h.unlinked;
   deep = each_deeper (items_of t.cells) h.deep;
-  next_item = h.next_item;
-  next_link = h.next_link;
 }
   where
     levels_few : (k : TrackKind) → levels_of_kind k ≤ 8
@@ -158,7 +157,7 @@ at_most_eight table k t h = record {
     each_deeper [] d = tt
     each_deeper (v ∷ vs) d = (side_deeper v.first d.0, each_deeper vs d.1)
 
-tracks_lawful : (table : Table) (rate : SequenceRate) (sound : IsSoundTable table) (texts : AreTexts table.reels) (m i n : ℕ) (ks : List TrackKind) (ts : List TrackState) → AreTracksFrom table n ks ts
+tracks_lawful : (table : Table) (rate : SequenceRate) (sound : IsCutTable table) (texts : AreTexts table.reels) (m i n : ℕ) (ks : List TrackKind) (ts : List TrackState) → AreCutTracksFrom table n ks ts
     → AreLawful (suc (suc (levels_for 8 m))) (track_trees table rate i ts)
 tracks_lawful table rate sound texts m i n ks [] h = none_lawful (suc (suc (levels_for 8 m)))
 tracks_lawful table rate sound texts m i n [] (t ∷ ts) h = absurd h
@@ -167,9 +166,9 @@ tracks_lawful table rate sound texts m i n (k ∷ ks) (t ∷ ts) h =
     (track_in_lawful table rate sound texts (kind_at table i) 8 m t (at_most_eight table k t h.1))
     (tracks_lawful table rate sound texts m (i + 1) (n + 1) ks ts h.2)
 
-pub cut_lawful : (o : Opening) → IsSoundOpening o → AreTexts o.table.reels → o.start < 10 ^ 18 → IsLawful 64 (timeline_tree o.table o.tracks o.counting o.start)
+pub cut_lawful : (o : Opening) → IsSoundCut o → AreTexts o.table.reels → o.start < 10 ^ 18 → IsLawful 64 (timeline_tree o.table o.tracks o.counting o.start)
 cut_lawful o sound texts small =
     let rate = o.counting.rate in
     timeline_lawful (suc (suc (levels_for 8 23))) (time_tree rate o.start) (track_trees o.table rate 0 o.tracks)
     (time_lawful (suc (suc (suc (levels_for 8 23)))) rate o.start small)
-    (tracks_lawful o.table rate sound.table texts 23 0 0 o.table.kinds o.tracks sound.tracks)
+    (tracks_lawful o.table rate sound.table texts 23 0 0 o.table.kinds o.tracks (tracks_deep o.table sound.table 0 o.table.kinds o.tracks sound.tracks))

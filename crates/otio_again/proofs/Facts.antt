@@ -16,7 +16,7 @@ use Rattle.composables.specs.Joined.{frames_in}
 use Rattle.composables.specs.TrackFacts.{left_reach, right_reach, first_mark, Holds, EachHolds}
 use Rattle.composables.specs.TrackState.{TrackState}
 use Rattle.composables.proofs.Joining.{length-cells_of}
-use Rattle.otio_json.specs.Soundness.{IsSoundMedia, IsSoundNest, IsSoundTable}
+use Rattle.otio_again.specs.SoundCuts.{IsCutMedia, IsCutNest, IsCutTable}
 
 pub all_at : {X : Type 0} (P : X → Type 0) (xs : List X) (i : ℕ) (x : X) → All P xs → slice_get xs i ≡ Some x → P x
 all_at P xs i x h e = subst P (get_or_from_slice_get xs i x x e) (All-get_or P xs i x (slice_get_within xs i x e) h)
@@ -46,31 +46,31 @@ track_shown table t g = each_shown table (items_of t.cells) g.kept.each g.ranges
 pub record ShowsMedia (table : Table) (m s len before after : ℕ) : Type 0 where
   pub entry : Media
   pub there : slice_get table.media m ≡ Some entry
-  pub sound : IsSoundMedia table entry
+  pub sound : IsCutMedia table entry
   pub from : entry.from + before ≤ s
   pub to : s + len + after ≤ entry.to
 
-pub shows_media : (table : Table) → IsSoundTable table → (m s len before after : ℕ) → LiesIn (bounds_of table (MediaOf m)) s len before after → ShowsMedia table m s len before after
+pub shows_media : (table : Table) → IsCutTable table → (m s len before after : ℕ) → LiesIn (bounds_of table (MediaOf m)) s len before after → ShowsMedia table m s len before after
 shows_media table sound m s len before after h = by_entry (slice_get table.media m) refl h where
   by_entry : (o : Option Media) → slice_get table.media m ≡ o → LiesIn (option_map (λ (e : Media). (e.from, e.to)) o) s len before after → ShowsMedia table m s len before after
   by_entry None e l = absurd l
-  by_entry (Some entry) e l = record { entry = entry; there = e; sound = all_at (IsSoundMedia table) table.media m entry sound.media e; from = l.0; to = l.1 }
+  by_entry (Some entry) e l = record { entry = entry; there = e; sound = all_at (IsCutMedia table) table.media m entry sound.media e; from = l.0; to = l.1 }
 
 pub record ShowsNest (table : Table) (j s len before after : ℕ) : Type 0 where
   pub entry : Nest
   pub there : slice_get table.nests j ≡ Some entry
-  pub sound : IsSoundNest table 7 entry
+  pub sound : IsCutNest table 7 entry
   pub from : before ≤ s
   pub to : s + len + after ≤ entry.length
 
-pub shows_nest : (table : Table) → IsSoundTable table → (j s len before after : ℕ) → LiesIn (bounds_of table (NestOf j)) s len before after → ShowsNest table j s len before after
+pub shows_nest : (table : Table) → IsCutTable table → (j s len before after : ℕ) → LiesIn (bounds_of table (NestOf j)) s len before after → ShowsNest table j s len before after
 shows_nest table sound j s len before after h = by_entry (slice_get table.nests j) refl h where
   by_entry : (o : Option Nest) → slice_get table.nests j ≡ o → LiesIn (option_map (λ (e : Nest). (0, e.length)) o) s len before after → ShowsNest table j s len before after
   by_entry None e l = absurd l
-  by_entry (Some entry) e l = record { entry = entry; there = e; sound = all_at (IsSoundNest table 7) table.nests j entry sound.nests e; from = omega (arith, l.0); to = l.1 }
+  by_entry (Some entry) e l = record { entry = entry; there = e; sound = all_at (IsCutNest table 7) table.nests j entry sound.nests e; from = omega (arith, l.0); to = l.1 }
 
-pub nest_if : (table : Table) → IsSoundTable table → (j : ℕ) → IfSome (slice_get table.nests j) (IsSoundNest table 7)
+pub nest_if : (table : Table) → IsCutTable table → (j : ℕ) → IfSome (slice_get table.nests j) (IsCutNest table 7)
 nest_if table sound j = by_entry (slice_get table.nests j) refl where
-  by_entry : (o : Option Nest) → slice_get table.nests j ≡ o → IfSome o (IsSoundNest table 7)
+  by_entry : (o : Option Nest) → slice_get table.nests j ≡ o → IfSome o (IsCutNest table 7)
   by_entry None e = tt
-  by_entry (Some entry) e = all_at (IsSoundNest table 7) table.nests j entry sound.nests e
+  by_entry (Some entry) e = all_at (IsCutNest table 7) table.nests j entry sound.nests e

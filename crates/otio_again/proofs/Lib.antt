@@ -1,6 +1,7 @@
 pub mod Decimals
 pub mod PartTexts
 pub mod Facts
+pub mod DeepTracks
 pub mod CutTexts
 pub mod Lawful
 pub mod CutLawful
@@ -16,4 +17,5 @@ pub mod NestsBack
 pub mod Depth
 pub mod SequenceBack
 pub mod CutBack
+pub mod SoundOpenings
 pub mod Examples

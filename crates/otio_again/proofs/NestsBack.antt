@@ -33,7 +33,8 @@ use Rattle.otio_tracks.specs.Reading.{Read, or_refuse, each}
 use Rattle.otio_tracks.specs.Values.{needed, schema_read}
 use Rattle.otio_tracks.specs.Parts.{head_read, trim_read}
 use Rattle.otio_json.specs.Nests.{Inner, nest_frames, trimmed_layer, longest_from, nest_of, nest_part, item_in, track_in, track_layer_in, layer_in, next_layer, nest_in, levels_in}
-use Rattle.otio_json.specs.Soundness.{SideHas, EachHas, IsDeep, IsSoundLayer, IsSoundNest, IsSoundTable}
+use Rattle.otio_json.specs.Soundness.{SideHas, EachHas, IsDeep}
+use Rattle.otio_again.specs.SoundCuts.{IsCutLayer, IsCutNest, IsCutTable}
 use Rattle.otio_json.proofs.Growth.{get_last, HasBounds}
 use Rattle.otio_again.specs.CutTrees.{list_tree, range_tree, clip_tree_of, nest_of_layers, layer_of_items, layer_range_tree, side_tree, item_tree, item_trees, layer_tree, layer_trees, layer_trees_if, nest_trees}
 use Rattle.otio_again.specs.SameCut.{SameSide, SameLayer, SameLayers, SameNest, SameThing}
@@ -57,7 +58,7 @@ NestReads r inner t levels tree n =
 abbrev pub Deep : Table → ℕ → ItemView → Type 0
 Deep t n v = SideHas (IsDeep t.nests n) v.first
 
-pub item_child : (r : SequenceRate) (inner : Result Inner DocCode) (t : Table) (levels : ℕ) (tree : ℕ → List Tree) (n : ℕ) → IsSoundTable t → NestReads r inner t levels tree n
+pub item_child : (r : SequenceRate) (inner : Result Inner DocCode) (t : Table) (levels : ℕ) (tree : ℕ → List Tree) (n : ℕ) → IsCutTable t → NestReads r inner t levels tree n
     → (v : ItemView) (tail : Option Mark) (u : Table) (at : ℕ) → IsShown t v tail → Deep t n v → ChildBack (pair_of r) inner t u levels v (placed at (item_tree t r tree v))
 item_child r inner t levels tree n sound nests v tail u at h d = by_side v.first refl d
   where
@@ -130,8 +131,8 @@ trim_of r l items at false e ordered within short =
       );
     }
 
-pub layer_back : (r : SequenceRate) (inner : Result Inner DocCode) (t : Table) (levels : ℕ) (tree : ℕ → List Tree) (n : ℕ) → IsSoundTable t → NestReads r inner t levels tree n
-    → (l : Layer) (u : Table) (number at : ℕ) → IsSoundLayer t 7 l → EachHas (IsDeep t.nests n) (items_of l.track.cells)
+pub layer_back : (r : SequenceRate) (inner : Result Inner DocCode) (t : Table) (levels : ℕ) (tree : ℕ → List Tree) (n : ℕ) → IsCutTable t → NestReads r inner t levels tree n
+    → (l : Layer) (u : Table) (number at : ℕ) → IsCutLayer t 7 l → EachHas (IsDeep t.nests n) (items_of l.track.cells)
     → LayerBack (pair_of r) inner t u levels l number (placed at (layer_tree t r tree l))
 layer_back r inner t levels tree n sound nests l u number at h d =
     let vs = items_of l.track.cells in
@@ -168,8 +169,8 @@ pub record LayersBack (rate : ℕ × ℕ) (inner : Result Inner DocCode) (t u : 
 layer_on : (t a b : Table) (levels : ℕ) → Extends a b → (l k : Layer) → SameLayer (SameThing t a levels) l k → SameLayer (SameThing t b levels) l k
 layer_on t a b levels h l k s = record { from = s.from; to = s.to; cells = cells_on (SameThing t a levels) (SameThing t b levels) (thing_on t a b h levels) l.track.cells k.track.cells s.cells }
 
-layers_back : (r : SequenceRate) (inner : Result Inner DocCode) (t : Table) (levels : ℕ) (tree : ℕ → List Tree) (n : ℕ) → IsSoundTable t → NestReads r inner t levels tree n
-    → (ls : List Layer) (before : List Layer) (u : Table) (q : ℕ) → All (IsSoundLayer t 7) ls → All (λ (l : Layer). EachHas (IsDeep t.nests n) (items_of l.track.cells)) ls
+layers_back : (r : SequenceRate) (inner : Result Inner DocCode) (t : Table) (levels : ℕ) (tree : ℕ → List Tree) (n : ℕ) → IsCutTable t → NestReads r inner t levels tree n
+    → (ls : List Layer) (before : List Layer) (u : Table) (q : ℕ) → All (IsCutLayer t 7) ls → All (λ (l : Layer). EachHas (IsDeep t.nests n) (items_of l.track.cells)) ls
     → LayersBack (pair_of r) inner t u levels ls before (in_trees (placed_trees q (trees (layer_trees t r tree ls))))
 layers_back r inner t levels tree n sound nests [] before u q h d = record {
   made = [];
@@ -180,8 +181,8 @@ layers_back r inner t levels tree n sound nests [] before u q h d = record {
 }
 layers_back r inner t levels tree n sound nests (l ∷ ls) before u q h d =
     let Shallow : Layer → Type 0 = λ k. EachHas (IsDeep t.nests n) (items_of k.track.cells) in
-    let one = layer_back r inner t levels tree n sound nests l u (length before) q (All-head (IsSoundLayer t 7) l ls h) (All-head Shallow l ls d) in
-    let rest = layers_back r inner t levels tree n sound nests ls (before ++ one.made ∷ []) one.table (q + length (tree_text (layer_tree t r tree l)) + 1) (All-tail (IsSoundLayer t 7) l ls h) (All-tail Shallow l ls d) in
+    let one = layer_back r inner t levels tree n sound nests l u (length before) q (All-head (IsCutLayer t 7) l ls h) (All-head Shallow l ls d) in
+    let rest = layers_back r inner t levels tree n sound nests ls (before ++ one.made ∷ []) one.table (q + length (tree_text (layer_tree t r tree l)) + 1) (All-tail (IsCutLayer t 7) l ls h) (All-tail Shallow l ls d) in
     let step : next_layer (pair_of r) inner (before, u) (placed q (layer_tree t r tree l)) ≡ Ok (before ++ one.made ∷ [], one.table) =
     ap (λ (x : Read (Layer × Table)). x >>= λ layer. Ok (before ++ layer.0 ∷ [], layer.1)) one.read in
     record {
@@ -202,13 +203,13 @@ longest_same Same (l ∷ ls) [] most h = absurd h
 longest_same Same (l ∷ ls) (k ∷ ks) most h =
     (λ i. longest_from (max most (h.0.to i - h.0.from i)) ls) ∙ longest_same Same ls ks (max most (k.to - k.from)) h.1
 
-longest_short : (t : Table) (ls : List Layer) (most : ℕ) → All (IsSoundLayer t 7) ls → most ≤ 2592000 → longest_from most ls ≤ 2592000
+longest_short : (t : Table) (ls : List Layer) (most : ℕ) → All (IsCutLayer t 7) ls → most ≤ 2592000 → longest_from most ls ≤ 2592000
 longest_short t [] most h le = le
 longest_short t (l ∷ ls) most h le =
-    let one = All-head (IsSoundLayer t 7) l ls h in
-    longest_short t ls (max most (l.to - l.from)) (All-tail (IsSoundLayer t 7) l ls h) (omega (arith, one.within, one.track.good.frames))
+    let one = All-head (IsCutLayer t 7) l ls h in
+    longest_short t ls (max most (l.to - l.from)) (All-tail (IsCutLayer t 7) l ls h) (omega (arith, one.within, one.track.good.frames))
 
-nest_short : (t : Table) (nest : Nest) → IsSoundNest t 7 nest → nest.length ≤ 2592000
+nest_short : (t : Table) (nest : Nest) → IsCutNest t 7 nest → nest.length ≤ 2592000
 nest_short t nest h = omega (arith, h.as_long, longest_short t nest.layers 0 h.layers (omega arith))
 
 -- The nest's own part is read as the same nest.
@@ -232,8 +233,8 @@ nest_children : (range : Tree) (layers : List Tree) → Has (codes "children") (
 unfolding nest_of_layers
 nest_children range layers = refl
 
-own_back : (r : SequenceRate) (inner : Result Inner DocCode) (t : Table) (levels : ℕ) (tree : ℕ → List Tree) (n : ℕ) → IsSoundTable t → NestReads r inner t levels tree n
-    → (nest : Nest) (range : Tree) (u : Table) (at : ℕ) → IsSoundNest t 7 nest → All (λ (l : Layer). EachHas (IsDeep t.nests n) (items_of l.track.cells)) nest.layers
+own_back : (r : SequenceRate) (inner : Result Inner DocCode) (t : Table) (levels : ℕ) (tree : ℕ → List Tree) (n : ℕ) → IsCutTable t → NestReads r inner t levels tree n
+    → (nest : Nest) (range : Tree) (u : Table) (at : ℕ) → IsCutNest t 7 nest → All (λ (l : Layer). EachHas (IsDeep t.nests n) (items_of l.track.cells)) nest.layers
     → OwnBack (nest_in (pair_of r) inner) t u levels nest (placed at (nest_of_layers range (layer_trees t r tree nest.layers)))
 own_back r inner t levels tree n sound nests nest range u at h d =
     let layers = layer_trees t r tree nest.layers in
@@ -289,7 +290,7 @@ nest_child r own t u levels j s v before after at layers k pic short small b =
     }
 
 -- nests in one another are read, where so many may be read and were written
-pub nests_read : (r : SequenceRate) (t : Table) → IsSoundTable t → (n most levels fuel : ℕ) → n ≤ most → n ≤ levels → n ≤ fuel → NestReads r (levels_in (pair_of r) most) t levels (nest_trees t r fuel) n
+pub nests_read : (r : SequenceRate) (t : Table) → IsCutTable t → (n most levels fuel : ℕ) → n ≤ most → n ≤ levels → n ≤ fuel → NestReads r (levels_in (pair_of r) most) t levels (nest_trees t r fuel) n
 unfolding levels_in nest_trees
 nests_read r t sound zero most levels fuel a b c j s v tail u at h pic d = absurd d
 nests_read r t sound (suc n) zero levels fuel a b c j s v tail u at h pic d = absurd (omega (arith, a))

@@ -23,7 +23,9 @@ use Rattle.otio_tracks.specs.Values.{given, needed, expected}
 use Rattle.otio_tracks.specs.Parts.{enabled_if, enabled_read}
 use Rattle.otio_text.specs.Documents.{kind_at}
 use Rattle.otio_json.specs.Nests.{nests_in, track_read}
-use Rattle.otio_json.specs.Soundness.{SideHas, EachHas, IsDeep, IsReadTrack, IsSoundTable, levels_of_kind, AreTracksFrom}
+use Rattle.otio_json.specs.Soundness.{SideHas, EachHas, IsDeep, levels_of_kind}
+use Rattle.otio_again.specs.SoundCuts.{IsCutTrack, IsCutTable}
+use Rattle.otio_again.proofs.DeepTracks.{AreCutTracksFrom}
 use Rattle.otio_tracks.specs.Clips.{with_kind}
 use Rattle.otio_json.specs.Timelines.{untrimmed_if, untrimmed, kind_named, kind_read, nesting_of, head_of_track, next_track}
 use Rattle.otio_again.specs.CutTrees.{text_tree, list_tree, item_trees, nest_trees, kind_name, track_of_items, track_tree, track_trees}
@@ -48,13 +50,13 @@ least_deep t n (v ∷ vs) h = (by_side v.first h.0, least_deep t n vs h.1) where
   by_side Dark d = tt
   by_side (Pic w s) d = deep_least t.nests n w d
 
-kind_reads : (r : SequenceRate) (t : Table) → IsSoundTable t → (k : TrackKind) → NestReads r (nests_in (pair_of r) (nesting_of k)) t 8 (nest_trees t r (length t.nests)) (depth_of k t)
+kind_reads : (r : SequenceRate) (t : Table) → IsCutTable t → (k : TrackKind) → NestReads r (nests_in (pair_of r) (nesting_of k)) t 8 (nest_trees t r (length t.nests)) (depth_of k t)
 kind_reads r t sound Video = nests_read r t sound (min 8 (length t.nests)) 8 8 (length t.nests) (omega arith) (omega arith) (omega arith)
 kind_reads r t sound Audio = λ j s v tail u at h pic d.
     let none : min 0 (length t.nests) ≡ 0 = omega arith in
     absurd (subst (λ (n : ℕ). IsDeep t.nests n (NestOf j)) none d)
 
-kind_track : (r : SequenceRate) (t : Table) → IsSoundTable t → (k : TrackKind) (u : Table) (x : TrackState) (number q at : ℕ) → IsReadTrack t (levels_of_kind k) x
+kind_track : (r : SequenceRate) (t : Table) → IsCutTable t → (k : TrackKind) (u : Table) (x : TrackState) (number q at : ℕ) → IsCutTrack t (levels_of_kind k) x
     → TrackBack (pair_of r) (nests_in (pair_of r) (nesting_of k)) t u 8 x number (in_trees (placed_trees q (trees (item_trees t r (nest_trees t r (length t.nests)) (items_of x.cells))))) at
 kind_track r t sound k u x number q at h =
     let inner = nests_in (pair_of r) (nesting_of k) in
@@ -120,7 +122,7 @@ record NextBack (r : SequenceRate) (t u : Table) (k : TrackKind) (x : TrackState
   pub number_is : made.number ≡ length before
   pub same : SameCells (SameThing t table 8) x.cells made.cells
 
-next_back : (r : SequenceRate) (t : Table) → IsSoundTable t → (k : TrackKind) (u : Table) (x : TrackState) (before : List TrackState) (at : ℕ) → IsReadTrack t (levels_of_kind k) x
+next_back : (r : SequenceRate) (t : Table) → IsCutTable t → (k : TrackKind) (u : Table) (x : TrackState) (before : List TrackState) (at : ℕ) → IsCutTrack t (levels_of_kind k) x
     → NextBack r t u k x before (placed at (track_tree t r (Some k) x))
 unfolding next_track track_read
 next_back r t sound k u x before at h =
@@ -164,7 +166,7 @@ abbrev pub AreKinds : Table → ℕ → List TrackKind → Type 0
 AreKinds t i [] = Unit {0}
 AreKinds t i (k ∷ ks) = (kind_at t i ≡ Some k) × AreKinds t (i + 1) ks
 
-pub tracks_back : (r : SequenceRate) (t : Table) → IsSoundTable t → (i n : ℕ) (ks : List TrackKind) (xs : List TrackState) (u : Table) (before : List TrackState) (q : ℕ) → AreKinds t i ks → AreTracksFrom t n ks xs → length before ≡ n
+pub tracks_back : (r : SequenceRate) (t : Table) → IsCutTable t → (i n : ℕ) (ks : List TrackKind) (xs : List TrackState) (u : Table) (before : List TrackState) (q : ℕ) → AreKinds t i ks → AreCutTracksFrom t n ks xs → length before ≡ n
     → AllBack r t u ks xs before (in_trees (placed_trees q (trees (track_trees t r i xs))))
 tracks_back r t sound i n [] [] u before q kinds h e = record {
   made = [];

@@ -8,7 +8,7 @@ use Rattle.timecode12.specs.Places.{hour}
 use Rattle.timecode12.proofs.Places.{dropped_by}
 use Rattle.timecode12.proofs.Told.{day_is}
 use Rattle.json_tree.proofs.WriteLaws.{spelled_again}
-use Rattle.otio_json.specs.Soundness.{IsSoundOpening}
+use Rattle.otio_again.specs.SoundCuts.{IsSoundCut}
 use Rattle.otio_json.specs.declared.opening.Opening.{Opening}
 use Rattle.otio_again.specs.Meanings.{text_of_cut, tree_of_cut, WrittenIsSpelled}
 use Rattle.otio_again.proofs.CutTexts.{timeline_spelled}
@@ -28,7 +28,7 @@ day_short c =
     let e : 24 * hour n d ≡ length (day_of c) = day_is c n d (24 * hour n d) refl refl refl in
     omega (arith, e, numbers_few c.rate)
 
-pub start_small : (o : Opening) → IsSoundOpening o → o.start < 2592000
+pub start_small : (o : Opening) → IsSoundCut o → o.start < 2592000
 start_small o sound = omega (arith, sound.start, day_short o.counting)
 
 pub written_is_spelled : WrittenIsSpelled

@@ -1,3 +1,4 @@
 pub mod CutTrees
+pub mod SoundCuts
 pub mod SameCut
 pub mod Meanings

@@ -5,7 +5,7 @@ use Rattle.std.specs.Str.{IsUtf8}
 use Rattle.json_tree.specs.Tree.{Tree}
 use Rattle.json_tree.specs.Sound.{SpellsAgain}
 use Rattle.otio_text.specs.Documents.{timeline_text}
-use Rattle.otio_json.specs.Soundness.{IsSoundOpening}
+use Rattle.otio_again.specs.SoundCuts.{IsSoundCut}
 use Rattle.otio_json.specs.declared.opening.Opening.{Opening}
 use Rattle.otio_json.specs.Timelines.{document_read}
 use Rattle.otio_again.specs.CutTrees.{timeline_tree}
@@ -24,9 +24,9 @@ tree_of_cut o = timeline_tree o.table o.tracks o.counting o.start
 
 -- The text of a sound cut is JSON with at most 64 levels, which spells the tree of the cut, places aside.
 abbrev pub WrittenIsSpelled : Type 0
-WrittenIsSpelled = (o : Opening) → IsSoundOpening o → AreTexts o.table.reels → SpellsAgain 64 (text_of_cut o) (tree_of_cut o)
+WrittenIsSpelled = (o : Opening) → IsSoundCut o → AreTexts o.table.reels → SpellsAgain 64 (text_of_cut o) (tree_of_cut o)
 
 -- The text of a sound cut with a track, if it has at most 32 MiB, is opened at the same counting as the same cut.
 abbrev pub WrittenIsReadAgain : Type 0
-WrittenIsReadAgain = (o : Opening) → IsSoundOpening o → AreTexts o.table.reels → 0 < length o.tracks → length (text_of_cut o) ≤ 33554432
+WrittenIsReadAgain = (o : Opening) → IsSoundCut o → AreTexts o.table.reels → 0 < length o.tracks → length (text_of_cut o) ≤ 33554432
     → (p : Opening) × (document_read o.counting (text_of_cut o) ≡ Ok p) × SameCut o p

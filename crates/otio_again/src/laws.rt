@@ -1,5 +1,6 @@
 // What is true of every cut and its text.
 ghost use Rattle.otio_again.specs.Meanings.{WrittenIsReadAgain, WrittenIsSpelled};
+ghost use Rattle.otio_again.specs.SoundCuts.{OpeningsAreSoundCuts};
 
 /// What is written of a sound cut is JSON, with at most 64 lists and objects in one another: the grammar spells by it
 /// the tree of the cut, places aside.
@@ -12,4 +13,10 @@ pub fn what_is_written_is_spelled()
 /// are compared by what they are, items by the order in which they come, and links are left out.
 pub fn a_written_cut_is_read_again()
     ensures { WrittenIsReadAgain }
+{}
+
+/// What a document describes, and what a plain room begins with, is a sound cut. A sound cut may besides have links, and
+/// items of any numbers, as a cut has behind some edits.
+pub fn a_sound_opening_is_a_sound_cut()
+    ensures { OpeningsAreSoundCuts }
 {}

@@ -1,0 +1,3 @@
+-- To be read, all of it: the laws.
+pub mod Meanings
+pub mod Tokens
