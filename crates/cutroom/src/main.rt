@@ -4,6 +4,7 @@
 
 mod answer;
 mod arguments;
+mod memory;
 mod notice;
 #[cfg(test)]
 mod tests;
@@ -11,6 +12,7 @@ mod tests;
 use answer::{answer, complaint};
 use arguments::command_words;
 use line_words::Memory;
+use memory::keep_freed_memory;
 use room_files::StdFiles;
 use room_halls::TcpHall;
 use room_ports::{StdSink, StdSource, put};
@@ -21,6 +23,7 @@ const NO_WORDS: u8 = 6;
 
 fn main(rt: HostRuntime) -> ExitCode {
     let alloc = rt.alloc();
+    keep_freed_memory(alloc);
     let words = match command_words(&rt, alloc) {
         Ok(words) => words,
         Err(Memory) => return ExitCode::from(NO_WORDS),
