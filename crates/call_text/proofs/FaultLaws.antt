@@ -15,14 +15,14 @@ use Rattle.composables.specs.declared.calls.End.{End}
 use Rattle.call_text.specs.declared.lines.Line.{Line}
 use Rattle.reply_text.specs.declared.line_fault.LineFault.{LineFault}
 use Rattle.reply_text.specs.declared.line_fault.LineFault.TheVariants.{B1, B2, B3, B4, B5, B6}
-use Rattle.call_text.specs.declared.commands.Command.{Command}
-use Rattle.call_text.specs.declared.commands.Command.TheVariants as command
+use Rattle.call_text.specs.declared.first_words.FirstWord.{FirstWord}
+use Rattle.call_text.specs.declared.first_words.FirstWord.TheVariants as first_word
 use Rattle.call_text.specs.Spelling.{◌>>=◌, number_or_fault, numeral_of, numerals_of, numbers_of, delta_of, end_of, given_of, track_of, is_comma, set_with, tracks_of, number_or_label, place_of, what_of}
-use Rattle.call_text.specs.Reading.{command_of, overwrite_of, insert_of, fill_of, link_of, row_of, row_if, line_of_words, line_of}
+use Rattle.call_text.specs.Reading.{first_word_of, overwrite_of, insert_of, fill_of, link_of, row_of, row_if, line_of_words, line_of}
 use Rattle.call_text.specs.Table.{IsLine, end_word, word_of}
 use Rattle.call_text.specs.Faults.{Part, Tracks, Track, Place, Thing, Number, Numbers, Ending, Delta, Given, rows_of, IsNoNumeral, IsTooLarge, IsNoDelta, IsDeltaTooLarge, IsBadTrack, AreBadTracks, AreBadNumerals, AreUneven, HasDigits, IsBadPart, IsPart, FirstIsBad, AreNoRow, AreBad, IsBad}
 use Rattle.call_text.proofs.ReadParts.{chosen, ok_same, err_ok, numeral_spelled, numeral_read, numerals_spelled, numerals_read, delta_spelled, delta_read, end_spelled, end_read, given_spelled, given_read, track_spelled, track_read, tracks_spelled, tracks_read, place_spelled, place_read, thing_spelled, thing_read}
-use Rattle.call_text.proofs.TableLaws.{command_spelled, command_read, line_spelled, line_read}
+use Rattle.call_text.proofs.TableLaws.{first_spelled, first_read, line_spelled, line_read}
 
 -- the fault of what was not read
 abbrev pub error_of : {A : Type 0} → Result A LineFault → Option LineFault
@@ -378,7 +378,7 @@ bad_rows place_at (row ∷ rows) words e (inr (other, more)) =
     rw not (bad_rows place_at rows words e more)
 
 -- the fault that is told of words is that of the table
-overwrite_error : (place_at : List ℕ → Option ℕ) (words : List (List ℕ)) → error_of (overwrite_of place_at words) ≡ rows_error place_at (rows_of command.Overwrite) words
+overwrite_error : (place_at : List ℕ → Option ℕ) (words : List (List ℕ)) → error_of (overwrite_of place_at words) ≡ rows_error place_at (rows_of first_word.Overwrite) words
 overwrite_error place_at [] = refl
 overwrite_error place_at (a ∷ []) = refl
 overwrite_error place_at (a ∷ b ∷ []) = refl
@@ -388,7 +388,7 @@ overwrite_error place_at (a ∷ b ∷ c ∷ d ∷ e ∷ []) =
     error_bind (track_of a) _ _ (λ track. error_bind (place_of place_at b) _ _ (λ at. error_bind (what_of c) _ _ (λ what. error_bind (numeral_of d) _ _ (λ from. error_bind (numeral_of e) _ _ (λ len. refl)))))
 overwrite_error place_at (a ∷ b ∷ c ∷ d ∷ e ∷ f ∷ words) = refl
 
-insert_error : (place_at : List ℕ → Option ℕ) (words : List (List ℕ)) → error_of (insert_of place_at words) ≡ rows_error place_at (rows_of command.Insert) words
+insert_error : (place_at : List ℕ → Option ℕ) (words : List (List ℕ)) → error_of (insert_of place_at words) ≡ rows_error place_at (rows_of first_word.Insert) words
 insert_error place_at [] = refl
 insert_error place_at (a ∷ []) = refl
 insert_error place_at (a ∷ b ∷ []) = refl
@@ -399,7 +399,7 @@ insert_error place_at (a ∷ b ∷ c ∷ d ∷ e ∷ f ∷ []) =
     error_bind (tracks_of a) _ _ (λ tracks. error_bind (track_of b) _ _ (λ track. error_bind (place_of place_at c) _ _ (λ at. error_bind (what_of d) _ _ (λ what. error_bind (numeral_of e) _ _ (λ from. error_bind (numeral_of f) _ _ (λ len. refl))))))
 insert_error place_at (a ∷ b ∷ c ∷ d ∷ e ∷ f ∷ g ∷ words) = refl
 
-fill_error : (place_at : List ℕ → Option ℕ) (words : List (List ℕ)) → error_of (fill_of place_at words) ≡ rows_error place_at (rows_of command.Fill) words
+fill_error : (place_at : List ℕ → Option ℕ) (words : List (List ℕ)) → error_of (fill_of place_at words) ≡ rows_error place_at (rows_of first_word.Fill) words
 fill_error place_at [] = refl
 fill_error place_at (a ∷ []) = refl
 fill_error place_at (a ∷ b ∷ []) = refl
@@ -440,7 +440,7 @@ link_parts (Ok set) (Err e) = refl
 link_parts (Err e) s = refl
 
 link_error : (place_at : List ℕ → Option ℕ) (words : List (List ℕ))
-    → error_of (link_of words) ≡ or_later (rows_error place_at (rows_of command.Link) words) (uneven_words words)
+    → error_of (link_of words) ≡ or_later (rows_error place_at (rows_of first_word.Link) words) (uneven_words words)
 link_error place_at [] = refl
 link_error place_at (a ∷ []) = refl
 link_error place_at (a ∷ b ∷ []) = link_parts (tracks_of a) (numbers_of b)
@@ -484,102 +484,102 @@ bad_uneven (a ∷ b ∷ []) e (set, items, is_tracks, are_numbers, uneven, is) =
     rw (tracks, numbers, count, is) refl
 bad_uneven (a ∷ b ∷ c ∷ words) e h = absurd h
 
-row_error : (place_at : List ℕ → Option ℕ) (k : Command) (words : List (List ℕ)) → error_of (row_of place_at k words) ≡ or_later (rows_error place_at (rows_of k) words) (uneven_error (word_of k) words)
-row_error place_at command.Overwrite words = alone _ _ (overwrite_error place_at words)
-row_error place_at command.Insert words = alone _ _ (insert_error place_at words)
-row_error place_at command.Remove [] = refl
-row_error place_at command.Remove (a ∷ []) = refl
-row_error place_at command.Remove (a ∷ b ∷ []) = alone _ _ (error_bind (track_of a) _ _ (λ track. error_bind (numeral_of b) _ _ (λ item. refl)))
-row_error place_at command.Remove (a ∷ b ∷ c ∷ words) = refl
-row_error place_at command.Extract [] = refl
-row_error place_at command.Extract (a ∷ []) = refl
-row_error place_at command.Extract (a ∷ b ∷ []) = refl
-row_error place_at command.Extract (a ∷ b ∷ c ∷ []) = alone _ _ (error_bind (tracks_of a) _ _ (λ tracks. error_bind (track_of b) _ _ (λ track. error_bind (numeral_of c) _ _ (λ item. refl))))
-row_error place_at command.Extract (a ∷ b ∷ c ∷ d ∷ words) = refl
-row_error place_at command.Slice [] = refl
-row_error place_at command.Slice (a ∷ []) = refl
-row_error place_at command.Slice (a ∷ b ∷ []) = alone _ _ (error_bind (track_of a) _ _ (λ track. error_bind (place_of place_at b) _ _ (λ at. refl)))
-row_error place_at command.Slice (a ∷ b ∷ c ∷ words) = refl
-row_error place_at command.Dissolve [] = refl
-row_error place_at command.Dissolve (a ∷ []) = refl
-row_error place_at command.Dissolve (a ∷ b ∷ []) = refl
-row_error place_at command.Dissolve (a ∷ b ∷ c ∷ []) = refl
-row_error place_at command.Dissolve (a ∷ b ∷ c ∷ d ∷ []) =
+row_error : (place_at : List ℕ → Option ℕ) (k : FirstWord) (words : List (List ℕ)) → error_of (row_of place_at k words) ≡ or_later (rows_error place_at (rows_of k) words) (uneven_error (word_of k) words)
+row_error place_at first_word.Overwrite words = alone _ _ (overwrite_error place_at words)
+row_error place_at first_word.Insert words = alone _ _ (insert_error place_at words)
+row_error place_at first_word.Remove [] = refl
+row_error place_at first_word.Remove (a ∷ []) = refl
+row_error place_at first_word.Remove (a ∷ b ∷ []) = alone _ _ (error_bind (track_of a) _ _ (λ track. error_bind (numeral_of b) _ _ (λ item. refl)))
+row_error place_at first_word.Remove (a ∷ b ∷ c ∷ words) = refl
+row_error place_at first_word.Extract [] = refl
+row_error place_at first_word.Extract (a ∷ []) = refl
+row_error place_at first_word.Extract (a ∷ b ∷ []) = refl
+row_error place_at first_word.Extract (a ∷ b ∷ c ∷ []) = alone _ _ (error_bind (tracks_of a) _ _ (λ tracks. error_bind (track_of b) _ _ (λ track. error_bind (numeral_of c) _ _ (λ item. refl))))
+row_error place_at first_word.Extract (a ∷ b ∷ c ∷ d ∷ words) = refl
+row_error place_at first_word.Slice [] = refl
+row_error place_at first_word.Slice (a ∷ []) = refl
+row_error place_at first_word.Slice (a ∷ b ∷ []) = alone _ _ (error_bind (track_of a) _ _ (λ track. error_bind (place_of place_at b) _ _ (λ at. refl)))
+row_error place_at first_word.Slice (a ∷ b ∷ c ∷ words) = refl
+row_error place_at first_word.Dissolve [] = refl
+row_error place_at first_word.Dissolve (a ∷ []) = refl
+row_error place_at first_word.Dissolve (a ∷ b ∷ []) = refl
+row_error place_at first_word.Dissolve (a ∷ b ∷ c ∷ []) = refl
+row_error place_at first_word.Dissolve (a ∷ b ∷ c ∷ d ∷ []) =
     alone _ _ (error_bind (track_of a) _ _ (λ track. error_bind (place_of place_at b) _ _ (λ at. error_bind (numeral_of c) _ _ (λ before. error_bind (numeral_of d) _ _ (λ after. refl)))))
-row_error place_at command.Dissolve (a ∷ b ∷ c ∷ d ∷ e ∷ words) = refl
-row_error place_at command.Undissolve [] = refl
-row_error place_at command.Undissolve (a ∷ []) = refl
-row_error place_at command.Undissolve (a ∷ b ∷ []) = alone _ _ (error_bind (track_of a) _ _ (λ track. error_bind (place_of place_at b) _ _ (λ at. refl)))
-row_error place_at command.Undissolve (a ∷ b ∷ c ∷ words) = refl
-row_error place_at command.Trim [] = refl
-row_error place_at command.Trim (a ∷ []) = refl
-row_error place_at command.Trim (a ∷ b ∷ []) = refl
-row_error place_at command.Trim (a ∷ b ∷ c ∷ []) = refl
-row_error place_at command.Trim (a ∷ b ∷ c ∷ d ∷ []) =
+row_error place_at first_word.Dissolve (a ∷ b ∷ c ∷ d ∷ e ∷ words) = refl
+row_error place_at first_word.Undissolve [] = refl
+row_error place_at first_word.Undissolve (a ∷ []) = refl
+row_error place_at first_word.Undissolve (a ∷ b ∷ []) = alone _ _ (error_bind (track_of a) _ _ (λ track. error_bind (place_of place_at b) _ _ (λ at. refl)))
+row_error place_at first_word.Undissolve (a ∷ b ∷ c ∷ words) = refl
+row_error place_at first_word.Trim [] = refl
+row_error place_at first_word.Trim (a ∷ []) = refl
+row_error place_at first_word.Trim (a ∷ b ∷ []) = refl
+row_error place_at first_word.Trim (a ∷ b ∷ c ∷ []) = refl
+row_error place_at first_word.Trim (a ∷ b ∷ c ∷ d ∷ []) =
     alone _ _ (error_bind (track_of a) _ _ (λ track. error_bind (numeral_of b) _ _ (λ item. error_bind (end_of c) _ _ (λ end. error_bind (delta_of d) _ _ (λ delta. refl)))))
-row_error place_at command.Trim (a ∷ b ∷ c ∷ d ∷ e ∷ words) = refl
-row_error place_at command.Slip [] = refl
-row_error place_at command.Slip (a ∷ []) = refl
-row_error place_at command.Slip (a ∷ b ∷ []) = refl
-row_error place_at command.Slip (a ∷ b ∷ c ∷ []) = refl
-row_error place_at command.Slip (a ∷ b ∷ c ∷ d ∷ []) =
+row_error place_at first_word.Trim (a ∷ b ∷ c ∷ d ∷ e ∷ words) = refl
+row_error place_at first_word.Slip [] = refl
+row_error place_at first_word.Slip (a ∷ []) = refl
+row_error place_at first_word.Slip (a ∷ b ∷ []) = refl
+row_error place_at first_word.Slip (a ∷ b ∷ c ∷ []) = refl
+row_error place_at first_word.Slip (a ∷ b ∷ c ∷ d ∷ []) =
     alone _ _ (error_bind (tracks_of a) _ _ (λ tracks. error_bind (track_of b) _ _ (λ track. error_bind (numeral_of c) _ _ (λ item. error_bind (delta_of d) _ _ (λ delta. refl)))))
-row_error place_at command.Slip (a ∷ b ∷ c ∷ d ∷ e ∷ words) = refl
-row_error place_at command.Roll [] = refl
-row_error place_at command.Roll (a ∷ []) = refl
-row_error place_at command.Roll (a ∷ b ∷ []) = refl
-row_error place_at command.Roll (a ∷ b ∷ c ∷ []) = alone _ _ (error_bind (track_of a) _ _ (λ track. error_bind (place_of place_at b) _ _ (λ at. error_bind (delta_of c) _ _ (λ delta. refl))))
-row_error place_at command.Roll (a ∷ b ∷ c ∷ d ∷ words) = refl
-row_error place_at command.Slide [] = refl
-row_error place_at command.Slide (a ∷ []) = refl
-row_error place_at command.Slide (a ∷ b ∷ []) = refl
-row_error place_at command.Slide (a ∷ b ∷ c ∷ []) = refl
-row_error place_at command.Slide (a ∷ b ∷ c ∷ d ∷ []) =
+row_error place_at first_word.Slip (a ∷ b ∷ c ∷ d ∷ e ∷ words) = refl
+row_error place_at first_word.Roll [] = refl
+row_error place_at first_word.Roll (a ∷ []) = refl
+row_error place_at first_word.Roll (a ∷ b ∷ []) = refl
+row_error place_at first_word.Roll (a ∷ b ∷ c ∷ []) = alone _ _ (error_bind (track_of a) _ _ (λ track. error_bind (place_of place_at b) _ _ (λ at. error_bind (delta_of c) _ _ (λ delta. refl))))
+row_error place_at first_word.Roll (a ∷ b ∷ c ∷ d ∷ words) = refl
+row_error place_at first_word.Slide [] = refl
+row_error place_at first_word.Slide (a ∷ []) = refl
+row_error place_at first_word.Slide (a ∷ b ∷ []) = refl
+row_error place_at first_word.Slide (a ∷ b ∷ c ∷ []) = refl
+row_error place_at first_word.Slide (a ∷ b ∷ c ∷ d ∷ []) =
     alone _ _ (error_bind (tracks_of a) _ _ (λ tracks. error_bind (track_of b) _ _ (λ track. error_bind (numeral_of c) _ _ (λ item. error_bind (delta_of d) _ _ (λ delta. refl)))))
-row_error place_at command.Slide (a ∷ b ∷ c ∷ d ∷ e ∷ words) = refl
-row_error place_at command.Fill words = alone _ _ (fill_error place_at words)
-row_error place_at command.Ripple [] = refl
-row_error place_at command.Ripple (a ∷ []) = refl
-row_error place_at command.Ripple (a ∷ b ∷ []) = refl
-row_error place_at command.Ripple (a ∷ b ∷ c ∷ []) = refl
-row_error place_at command.Ripple (a ∷ b ∷ c ∷ d ∷ []) = refl
-row_error place_at command.Ripple (a ∷ b ∷ c ∷ d ∷ e ∷ []) =
+row_error place_at first_word.Slide (a ∷ b ∷ c ∷ d ∷ e ∷ words) = refl
+row_error place_at first_word.Fill words = alone _ _ (fill_error place_at words)
+row_error place_at first_word.Ripple [] = refl
+row_error place_at first_word.Ripple (a ∷ []) = refl
+row_error place_at first_word.Ripple (a ∷ b ∷ []) = refl
+row_error place_at first_word.Ripple (a ∷ b ∷ c ∷ []) = refl
+row_error place_at first_word.Ripple (a ∷ b ∷ c ∷ d ∷ []) = refl
+row_error place_at first_word.Ripple (a ∷ b ∷ c ∷ d ∷ e ∷ []) =
     alone _ _ (error_bind (tracks_of a) _ _ (λ tracks. error_bind (track_of b) _ _ (λ track. error_bind (numeral_of c) _ _ (λ item. error_bind (end_of d) _ _ (λ end. error_bind (delta_of e) _ _ (λ delta. refl))))))
-row_error place_at command.Ripple (a ∷ b ∷ c ∷ d ∷ e ∷ f ∷ words) = refl
-row_error place_at command.Link words = link_error place_at words
-row_error place_at command.Unlink [] = refl
-row_error place_at command.Unlink (a ∷ []) = refl
-row_error place_at command.Unlink (a ∷ b ∷ []) = alone _ _ (error_bind (track_of a) _ _ (λ track. error_bind (numeral_of b) _ _ (λ item. refl)))
-row_error place_at command.Unlink (a ∷ b ∷ c ∷ words) = refl
-row_error place_at command.View [] = refl
-row_error place_at command.View (a ∷ []) = refl
-row_error place_at command.View (a ∷ b ∷ []) = refl
-row_error place_at command.View (a ∷ b ∷ c ∷ []) = alone _ _ (error_bind (track_of a) _ _ (λ track. error_bind (place_of place_at b) _ _ (λ from. error_bind (place_of place_at c) _ _ (λ to. refl))))
-row_error place_at command.View (a ∷ b ∷ c ∷ d ∷ words) = refl
-row_error place_at command.Items [] = refl
-row_error place_at command.Items (a ∷ []) = alone _ _ (error_bind (track_of a) _ _ (λ track. refl))
-row_error place_at command.Items (a ∷ b ∷ words) = refl
-row_error place_at command.Point [] = refl
-row_error place_at command.Point (a ∷ words) = refl
-row_error place_at command.Otio [] = refl
-row_error place_at command.Otio (a ∷ []) = alone _ _ (error_bind (numeral_of a) _ _ (λ point. refl))
-row_error place_at command.Otio (a ∷ b ∷ words) = refl
+row_error place_at first_word.Ripple (a ∷ b ∷ c ∷ d ∷ e ∷ f ∷ words) = refl
+row_error place_at first_word.Link words = link_error place_at words
+row_error place_at first_word.Unlink [] = refl
+row_error place_at first_word.Unlink (a ∷ []) = refl
+row_error place_at first_word.Unlink (a ∷ b ∷ []) = alone _ _ (error_bind (track_of a) _ _ (λ track. error_bind (numeral_of b) _ _ (λ item. refl)))
+row_error place_at first_word.Unlink (a ∷ b ∷ c ∷ words) = refl
+row_error place_at first_word.View [] = refl
+row_error place_at first_word.View (a ∷ []) = refl
+row_error place_at first_word.View (a ∷ b ∷ []) = refl
+row_error place_at first_word.View (a ∷ b ∷ c ∷ []) = alone _ _ (error_bind (track_of a) _ _ (λ track. error_bind (place_of place_at b) _ _ (λ from. error_bind (place_of place_at c) _ _ (λ to. refl))))
+row_error place_at first_word.View (a ∷ b ∷ c ∷ d ∷ words) = refl
+row_error place_at first_word.Items [] = refl
+row_error place_at first_word.Items (a ∷ []) = alone _ _ (error_bind (track_of a) _ _ (λ track. refl))
+row_error place_at first_word.Items (a ∷ b ∷ words) = refl
+row_error place_at first_word.Point [] = refl
+row_error place_at first_word.Point (a ∷ words) = refl
+row_error place_at first_word.Otio [] = refl
+row_error place_at first_word.Otio (a ∷ []) = alone _ _ (error_bind (numeral_of a) _ _ (λ point. refl))
+row_error place_at first_word.Otio (a ∷ b ∷ words) = refl
 
 -- the whole line
-none_named : (first : List ℕ) → command_of first ≡ None → (k : Command) → first ≢ word_of k
-none_named first none k = λ same. absurd (none_some k (sym none ∙ (ap command_of same ∙ command_read k)))
+none_named : (first : List ℕ) → first_word_of first ≡ None → (k : FirstWord) → first ≢ word_of k
+none_named first none k = λ same. absurd (none_some k (sym none ∙ (ap first_word_of same ∙ first_read k)))
   where
-    none_some : (k : Command) → None ≡ Some k → ⊥
+    none_some : (k : FirstWord) → None ≡ Some k → ⊥
     none_some k h = cc
 
-named_none : (first : List ℕ) (o : Option Command) → command_of first ≡ o → ((k : Command) → first ≢ word_of k) → command_of first ≡ None
+named_none : (first : List ℕ) (o : Option FirstWord) → first_word_of first ≡ o → ((k : FirstWord) → first ≢ word_of k) → first_word_of first ≡ None
 named_none first None is none = is
-named_none first (Some k) is none = absurd (none k (command_spelled first k is))
+named_none first (Some k) is none = absurd (none k (first_spelled first k is))
 
-if_bad : (place_at : List ℕ → Option ℕ) (first : List ℕ) (o : Option Command) (words : List (List ℕ)) (e : LineFault) → command_of first ≡ o → row_if place_at o words ≡ Err e → AreBad place_at (first ∷ words) e
+if_bad : (place_at : List ℕ → Option ℕ) (first : List ℕ) (o : Option FirstWord) (words : List (List ℕ)) (e : LineFault) → first_word_of first ≡ o → row_if place_at o words ≡ Err e → AreBad place_at (first ∷ words) e
 if_bad place_at first None words e is h = inl (none_named first is, sym (err_same B1 e h))
 if_bad place_at first (Some k) words e is h =
-    let same = command_spelled first k is in
+    let same = first_spelled first k is in
     elim (or_told (rows_error place_at (rows_of k) words) (uneven_error (word_of k) words) e (sym (row_error place_at k words) ∙ ap error_of h)) [
       | inl here ↦ inr (inl (k, same, rows_bad place_at (rows_of k) words e here))
       | inr later ↦ let uneven = uneven_bad (word_of k) words e later.1 in inr (inr (same ∙ uneven.0, uneven.1))
@@ -587,18 +587,18 @@ if_bad place_at first (Some k) words e is h =
 
 words_bad : (place_at : List ℕ → Option ℕ) (words : List (List ℕ)) (e : LineFault) → line_of_words place_at words ≡ Err e → AreBad place_at words e
 words_bad place_at [] e h = sym (err_same B2 e h)
-words_bad place_at (first ∷ words) e h = if_bad place_at first (command_of first) words e refl h
+words_bad place_at (first ∷ words) e h = if_bad place_at first (first_word_of first) words e refl h
 
 bad_words : (place_at : List ℕ → Option ℕ) (words : List (List ℕ)) (e : LineFault) → AreBad place_at words e → line_of_words place_at words ≡ Err e
 bad_words place_at [] e h = rw h refl
-bad_words place_at (first ∷ words) e (inl (none, is)) = let no = named_none first (command_of first) refl none in rw (no, is) refl
+bad_words place_at (first ∷ words) e (inl (none, is)) = let no = named_none first (first_word_of first) refl none in rw (no, is) refl
 bad_words place_at (first ∷ words) e (inr (inl (k, same, more))) =
-    let named : command_of first ≡ Some k = ap command_of same ∙ command_read k in
+    let named : first_word_of first ≡ Some k = ap first_word_of same ∙ first_read k in
     let here : or_later (rows_error place_at (rows_of k) words) (uneven_error (word_of k) words) ≡ Some e = rw (bad_rows place_at (rows_of k) words e more) refl in
     let read = error_told (row_of place_at k words) e (row_error place_at k words ∙ here) in
     rw (named, read) refl
 bad_words place_at (first ∷ words) e (inr (inr (same, uneven))) =
-    let named : command_of first ≡ Some command.Link = ap command_of same in
+    let named : first_word_of first ≡ Some first_word.Link = ap first_word_of same in
     let read = bad_uneven words e uneven in
     rw (named, read) refl
 

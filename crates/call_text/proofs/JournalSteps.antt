@@ -18,10 +18,8 @@ use Rattle.edit_apply.specs.declared.asks.Call.{Call}
 use Rattle.room_core.specs.declared.entry.Entry.{Entry}
 use Rattle.room_core.specs.History.{NumbersRise, most_entries}
 use Rattle.call_text.specs.declared.journal_fault.JournalCode.TheVariants.{H2}
-use Rattle.call_text.specs.declared.journal_fault.JournalFault.{JournalFault}
-use Rattle.call_text.specs.declared.journal_fault.JournalFault.TheVariants.{Refused, Memory}
 use Rattle.call_text.specs.CallTexts.{IsSmall}
-use Rattle.call_text.specs.JournalFaults.{HasNoLineFeed, HasNoCount, HasNoEntry, IsNoEntry, AreLines, Begins, IsFaulty, StopsFor, IsFirstLate, IsRefusedFor}
+use Rattle.call_text.specs.JournalFaults.{HasNoLineFeed, HasNoCount, HasNoEntry, IsNoEntry, AreLines, Begins, IsFaulty, IsFirstLate}
 use Rattle.call_text.specs.Journals.{entry_text, entry_line, count_text, count_line, journal_text_of, HasLine}
 use Rattle.call_text.specs.LooseEntries.{loose_entry}
 use Rattle.call_text.proofs.LateEntries.{IsLeast, is_late, rise_more, least_at, least_other}
@@ -41,10 +39,6 @@ no_number word fault is n small same =
     let first = ap number_of same in
     let second = number_of-decimal n small in
     cc
-
--- the line of a count
-pub no_front : (line : List ℕ) → ((rest : List ℕ) → line ≢ codes "journal " ++ rest) → (n : ℕ) → IsSmall n → line ≢ count_text n
-no_front line none n small same = none (decimal n) same
 
 pub no_digits : (line digits : List ℕ) → line ≡ codes "journal " ++ digits → ((n : ℕ) → IsSmall n → digits ≢ decimal n) → (n : ℕ) → IsSmall n → line ≢ count_text n
 no_digits line digits is none n small same =
@@ -119,12 +113,6 @@ shorter e rest more is =
     let whole = ap length (is ∙ line_parts (entry_text e) more) in
     let parts = length-append (entry_text e) (10 ∷ more) in
     omega (arith, whole, parts)
-
--- the faults of a whole text
-pub stops_for : (text rest : List ℕ) (count : ℕ) (fault : JournalFault) → IsSmall count → text ≡ count_line count ++ rest → StopsFor rest fault → IsRefusedFor text fault
-stops_for text rest count (Refused code line) small is (h1, es, more, lines, spelled, some, none, at) =
-    rw h1 (inr (count, es, more, (record { small = small; lines = lines; spelled = is ∙ ap (λ r. count_line count ++ r) spelled }, some, none), at))
-stops_for text rest count Memory small is h = tt
 
 pub begins_whole : (text rest : List ℕ) (count : ℕ) (es : List (Entry Call)) → IsSmall count → text ≡ count_line count ++ rest → AreLines rest es → Begins text count es []
 begins_whole text rest count es small is h = record {

@@ -19,9 +19,6 @@ pub record IsLeast (before : List (Entry Call)) (s n : ℕ) : Type 0 where
   pub below : AreBelow before s n
   pub next : (n ≡ 0) ⊎ IsNext before s n
 
-pub least_first : (s : ℕ) → IsLeast [] s 0
-least_first s = record { below = tt; next = inl refl }
-
 -- a number below the least one is late
 next_late : (before : List (Entry Call)) (e : Entry Call) (s n : ℕ) → e.station ≡ s → e.number < n → IsNext before s n → IsLate before e
 next_late [] e s n same low h = absurd h

@@ -4,7 +4,7 @@ use Rattle.std.specs.List.{slice_split, position, All}
 use Rattle.std.proofs.Math.Nat.{mod-eq_of_lt, pow-suc}
 use Rattle.std.proofs.Math.Pow.{pow-lt, pow_mono}
 use Rattle.std.proofs.lemmas.Bool.{ltb-true, ltb-false, le-leb}
-use Rattle.std.proofs.lemmas.List.{append-nil, get_or-take, length-take}
+use Rattle.std.proofs.lemmas.List.{get_or-take, length-take}
 use Rattle.std.proofs.lemmas.List.Quantifiers.{position-Some}
 use Rattle.std.proofs.lemmas.List.Sums.{fails_before_first}
 use Rattle.std.proofs.lemmas.List.Splits.{slice_split_first, slice_split_none}
@@ -100,7 +100,3 @@ no_numeral ns listed word rest fault all words read h =
 pub none_behind : (r : Result (List ℕ) LineFault) → behind [] r ≡ r
 none_behind (Ok more) = refl
 none_behind (Err fault) = refl
-
--- no word is left
-pub all_numerals : (ns : List ℕ) (all : Result (List ℕ) LineFault) → behind ns (numerals_of []) ≡ all → Ok ns ≡ all
-all_numerals ns all h = ap Ok (sym (append-nil ns)) ∙ h

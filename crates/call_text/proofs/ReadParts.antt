@@ -15,7 +15,7 @@ use Rattle.frame_meaning.specs.declared.cells.What.TheVariants.{Media, Nest}
 use Rattle.reply_text.specs.declared.line_fault.LineFault.{LineFault}
 use Rattle.reply_text.specs.declared.line_fault.LineFault.TheVariants.{B1, B3, B4, B6}
 use Rattle.call_text.specs.Spelling.{◌>>=◌, number_or_fault, numeral_of, numerals_of, delta_of, end_of, given_of, track_of, is_comma, set_with, tracks_of, place_or_fault, number_or_label, place_of, what_of}
-use Rattle.call_text.specs.Table.{AreNumerals, IsDelta, IsNumeral, IsTrack, IsTracks, IsPlace, IsThing, end_word}
+use Rattle.call_text.specs.Table.{AreNumerals, IsDelta, IsNumeral, NamesTrack, NamesTracks, IsPlace, IsThing, end_word}
 use Rattle.call_text.proofs.TrackSets.{AreRising, rising, set_below, spells}
 
 -- what was read first, where all was read
@@ -76,13 +76,13 @@ bounded : (b : Bool) (m n : ℕ) → (if b then Ok m else Err B4) ≡ Ok n → (
 bounded true m n h = (refl, cc)
 bounded false m n h = absurd cc
 
-pub track_spelled : (word : List ℕ) (n : ℕ) → track_of word ≡ Ok n → IsTrack word n
+pub track_spelled : (word : List ℕ) (n : ℕ) → track_of word ≡ Ok n → NamesTrack word n
 track_spelled word n h =
     let first = bind_ok (numeral_of word) _ n h in
     let low = bounded (nat_le first.0 31) first.0 n first.2 in
     rw (sym low.1) (numeral_spelled word first.0 first.1, leb-true first.0 31 low.0)
 
-pub track_read : (word : List ℕ) (n : ℕ) → IsTrack word n → track_of word ≡ Ok n
+pub track_read : (word : List ℕ) (n : ℕ) → NamesTrack word n → track_of word ≡ Ok n
 track_read word n h =
     let number = numeral_read word n h.0 in
     let low = le-leb n 31 h.1 in
@@ -114,13 +114,13 @@ tracks_rise word set h =
     let same : more.0 ≡ set = omega (arith, more.1) in
     subst (AreRising 0 (slice_split is_comma word)) same more.2
 
-pub tracks_spelled : (word : List ℕ) (set : ℕ) → tracks_of word ≡ Ok set → IsTracks word set
+pub tracks_spelled : (word : List ℕ) (set : ℕ) → tracks_of word ≡ Ok set → NamesTracks word set
 tracks_spelled word set h =
     let rise = tracks_rise word set h in
     let small = set_below (slice_split is_comma word) 0 0 set rise (omega arith) (omega arith) in
     (omega (arith, small), spells (slice_split is_comma word) set rise)
 
-pub tracks_read : (word : List ℕ) (set : ℕ) → IsTracks word set → tracks_of word ≡ Ok set
+pub tracks_read : (word : List ℕ) (set : ℕ) → NamesTracks word set → tracks_of word ≡ Ok set
 tracks_read word set h =
     let same : 0 + set ≡ set = omega arith in
     with_read (slice_split is_comma word) 0 0 set (rising set (slice_split is_comma word) h.0 h.1) ∙ ap Ok same

@@ -1,5 +1,5 @@
 -- What is read of a line is spelled there, and what is spelled there is read.
-use Rattle.std.proofs.Common.{◌≡◌, ◌≤◌, ℕ, true, Result, ◌∙◌, List, [], ◌∷◌, Option, Some, None, Ok, length, nat_eq, nat_le, inl, inr, refl, ap, if◌then◌else◌, codes}
+use Rattle.std.proofs.Common.{◌≡◌, ℕ, true, Result, ◌∙◌, List, [], ◌∷◌, Option, Some, None, Ok, length, nat_eq, nat_le, inl, inr, refl, ap, if◌then◌else◌, codes}
 use Rattle.std.proofs.lemmas.Bool.{eqb-true, eq-eqb, leb-true, le-leb}
 use Rattle.std.proofs.lemmas.Slice.Eq.{bytes_eq-Decides}
 use Rattle.std.specs.Str.{bytes_eq}
@@ -15,73 +15,73 @@ use Rattle.call_text.specs.declared.lines.Line.{Line}
 use Rattle.call_text.specs.declared.lines.Line.TheVariants.{Edit, Ask, Point, Otio}
 use Rattle.reply_text.specs.declared.line_fault.LineFault.{LineFault}
 use Rattle.reply_text.specs.declared.line_fault.LineFault.TheVariants.{B1, B2, B5}
-use Rattle.call_text.specs.declared.commands.Command.{Command}
-use Rattle.call_text.specs.declared.commands.Command.TheVariants as command
-use Rattle.call_text.specs.Spelling.{IsOrMemory, is_comma, numeral_of, numbers_of, delta_of, end_of, given_of, track_of, tracks_of, place_of, what_of}
-use Rattle.call_text.specs.Reading.{AreRead, IsRead, IsRowRead, overwrite_of, insert_of, remove_of, extract_of, slice_of, dissolve_of, undissolve_of, trim_of, slip_of, roll_of, slide_of, fill_of, ripple_of, link_of, unlink_of, view_of, items_of, point_of, otio_of, are_linking, command_of, row_of, row_if, line_of_words, line_of}
+use Rattle.call_text.specs.declared.first_words.FirstWord.{FirstWord}
+use Rattle.call_text.specs.declared.first_words.FirstWord.TheVariants as first_word
+use Rattle.call_text.specs.Spelling.{is_comma, numeral_of, numbers_of, delta_of, end_of, given_of, track_of, tracks_of, place_of, what_of}
+use Rattle.call_text.specs.Reading.{AreRead, IsRowRead, overwrite_of, insert_of, remove_of, extract_of, slice_of, dissolve_of, undissolve_of, trim_of, slip_of, roll_of, slide_of, fill_of, ripple_of, link_of, unlink_of, view_of, items_of, point_of, otio_of, are_linking, first_word_of, row_of, row_if, line_of_words, line_of}
 use Rattle.call_text.specs.Table.{AreLength, AreWords, IsLine, word_of}
 use Rattle.call_text.proofs.ReadParts.{bind_ok, chosen, ok_same, err_ok, numeral_spelled, numeral_read, numerals_spelled, numerals_read, delta_spelled, delta_read, end_spelled, end_read, given_spelled, track_spelled, track_read, tracks_spelled, tracks_read, place_spelled, place_read, thing_spelled, thing_read}
 
 some_same : {A : Type 0} (x y : A) → Some x ≡ Some y → x ≡ y
 some_same x y h = cc
 
--- the word is this command's, or one of the others
-named : (word : List ℕ) (j k : Command) (others : Option Command) → (others ≡ Some k → word ≡ word_of k) → (if bytes_eq word (word_of j) then Some j else others) ≡ Some k → word ≡ word_of k
+-- the word is this one, or one of the others
+named : (word : List ℕ) (j k : FirstWord) (others : Option FirstWord) → (others ≡ Some k → word ≡ word_of k) → (if bytes_eq word (word_of j) then Some j else others) ≡ Some k → word ≡ word_of k
 named word j k others more h = elim (chosen (bytes_eq word (word_of j)) _ _ (Some k) h) [
   | inl this ↦ let same = some_same j k this.1 in rw (← same) ((bytes_eq-Decides word (word_of j)).0 this.0)
   | inr other ↦ more other.1
 ]
 
-pub command_spelled : (word : List ℕ) (k : Command) → command_of word ≡ Some k → word ≡ word_of k
-command_spelled word k h = named word command.Overwrite k _
-    (named word command.Insert k _
-    (named word command.Remove k _
-    (named word command.Extract k _
-    (named word command.Slice k _
-    (named word command.Dissolve k _
-    (named word command.Undissolve k _
-    (named word command.Trim k _
-    (named word command.Slip k _
-    (named word command.Roll k _
-    (named word command.Slide k _
-    (named word command.Fill k _
-    (named word command.Ripple k _
-    (named word command.Link k _
-    (named word command.Unlink k _
-    (named word command.View k _
-    (named word command.Items k _
-    (named word command.Point k _
-    (named word command.Otio k None (λ none. absurd cc))))))))))))))))))) h
+pub first_spelled : (word : List ℕ) (k : FirstWord) → first_word_of word ≡ Some k → word ≡ word_of k
+first_spelled word k h = named word first_word.Overwrite k _
+    (named word first_word.Insert k _
+    (named word first_word.Remove k _
+    (named word first_word.Extract k _
+    (named word first_word.Slice k _
+    (named word first_word.Dissolve k _
+    (named word first_word.Undissolve k _
+    (named word first_word.Trim k _
+    (named word first_word.Slip k _
+    (named word first_word.Roll k _
+    (named word first_word.Slide k _
+    (named word first_word.Fill k _
+    (named word first_word.Ripple k _
+    (named word first_word.Link k _
+    (named word first_word.Unlink k _
+    (named word first_word.View k _
+    (named word first_word.Items k _
+    (named word first_word.Point k _
+    (named word first_word.Otio k None (λ none. absurd cc))))))))))))))))))) h
 
-pub command_read : (k : Command) → command_of (word_of k) ≡ Some k
-command_read command.Overwrite = refl
-command_read command.Insert = refl
-command_read command.Remove = refl
-command_read command.Extract = refl
-command_read command.Slice = refl
-command_read command.Dissolve = refl
-command_read command.Undissolve = refl
-command_read command.Trim = refl
-command_read command.Slip = refl
-command_read command.Roll = refl
-command_read command.Slide = refl
-command_read command.Fill = refl
-command_read command.Ripple = refl
-command_read command.Link = refl
-command_read command.Unlink = refl
-command_read command.View = refl
-command_read command.Items = refl
-command_read command.Point = refl
-command_read command.Otio = refl
+pub first_read : (k : FirstWord) → first_word_of (word_of k) ≡ Some k
+first_read first_word.Overwrite = refl
+first_read first_word.Insert = refl
+first_read first_word.Remove = refl
+first_read first_word.Extract = refl
+first_read first_word.Slice = refl
+first_read first_word.Dissolve = refl
+first_read first_word.Undissolve = refl
+first_read first_word.Trim = refl
+first_read first_word.Slip = refl
+first_read first_word.Roll = refl
+first_read first_word.Slide = refl
+first_read first_word.Fill = refl
+first_read first_word.Ripple = refl
+first_read first_word.Link = refl
+first_read first_word.Unlink = refl
+first_read first_word.View = refl
+first_read first_word.Items = refl
+first_read first_word.Point = refl
+first_read first_word.Otio = refl
 
--- the first word of a line of this command
-pub linking : (first : List ℕ) (words : List (List ℕ)) (k : Command) → command_of first ≡ Some k → k ≡ command.Link → are_linking (first ∷ words) ≡ true
+-- the first word of a line of this row
+pub linking : (first : List ℕ) (words : List (List ℕ)) (k : FirstWord) → first_word_of first ≡ Some k → k ≡ first_word.Link → are_linking (first ∷ words) ≡ true
 linking first words k found link =
-    let same = command_spelled first k found in
+    let same = first_spelled first k found in
     let word = ap word_of link in
     (bytes_eq-Decides first (codes "link")).1 (same ∙ word)
 
-overwrite_spelled : (place_at : List ℕ → Option ℕ) (words : List (List ℕ)) (line : Line) → overwrite_of place_at words ≡ Ok line → AreWords place_at (word_of command.Overwrite ∷ words) line
+overwrite_spelled : (place_at : List ℕ → Option ℕ) (words : List (List ℕ)) (line : Line) → overwrite_of place_at words ≡ Ok line → AreWords place_at (word_of first_word.Overwrite ∷ words) line
 overwrite_spelled place_at [] line h = absurd (err_ok B2 line h)
 overwrite_spelled place_at (a ∷ []) line h = absurd (err_ok B2 line h)
 overwrite_spelled place_at (a ∷ b ∷ []) line h = absurd (err_ok B2 line h)
@@ -109,7 +109,7 @@ overwrite_spelled place_at (a ∷ b ∷ c ∷ d ∷ e ∷ []) line h =
     )
 overwrite_spelled place_at (a ∷ b ∷ c ∷ d ∷ e ∷ f ∷ words) line h = absurd (err_ok B2 line h)
 
-insert_spelled : (place_at : List ℕ → Option ℕ) (words : List (List ℕ)) (line : Line) → insert_of place_at words ≡ Ok line → AreWords place_at (word_of command.Insert ∷ words) line
+insert_spelled : (place_at : List ℕ → Option ℕ) (words : List (List ℕ)) (line : Line) → insert_of place_at words ≡ Ok line → AreWords place_at (word_of first_word.Insert ∷ words) line
 insert_spelled place_at [] line h = absurd (err_ok B2 line h)
 insert_spelled place_at (a ∷ []) line h = absurd (err_ok B2 line h)
 insert_spelled place_at (a ∷ b ∷ []) line h = absurd (err_ok B2 line h)
@@ -141,7 +141,7 @@ insert_spelled place_at (a ∷ b ∷ c ∷ d ∷ e ∷ f ∷ []) line h =
     )
 insert_spelled place_at (a ∷ b ∷ c ∷ d ∷ e ∷ f ∷ g ∷ words) line h = absurd (err_ok B2 line h)
 
-remove_spelled : (place_at : List ℕ → Option ℕ) (words : List (List ℕ)) (line : Line) → remove_of words ≡ Ok line → AreWords place_at (word_of command.Remove ∷ words) line
+remove_spelled : (place_at : List ℕ → Option ℕ) (words : List (List ℕ)) (line : Line) → remove_of words ≡ Ok line → AreWords place_at (word_of first_word.Remove ∷ words) line
 remove_spelled place_at [] line h = absurd (err_ok B2 line h)
 remove_spelled place_at (a ∷ []) line h = absurd (err_ok B2 line h)
 remove_spelled place_at (a ∷ b ∷ []) line h =
@@ -151,7 +151,7 @@ remove_spelled place_at (a ∷ b ∷ []) line h =
     rw (← same) (a, b, refl, track_spelled a track.0 track.1, numeral_spelled b item.0 item.1)
 remove_spelled place_at (a ∷ b ∷ c ∷ words) line h = absurd (err_ok B2 line h)
 
-extract_spelled : (place_at : List ℕ → Option ℕ) (words : List (List ℕ)) (line : Line) → extract_of words ≡ Ok line → AreWords place_at (word_of command.Extract ∷ words) line
+extract_spelled : (place_at : List ℕ → Option ℕ) (words : List (List ℕ)) (line : Line) → extract_of words ≡ Ok line → AreWords place_at (word_of first_word.Extract ∷ words) line
 extract_spelled place_at [] line h = absurd (err_ok B2 line h)
 extract_spelled place_at (a ∷ []) line h = absurd (err_ok B2 line h)
 extract_spelled place_at (a ∷ b ∷ []) line h = absurd (err_ok B2 line h)
@@ -163,7 +163,7 @@ extract_spelled place_at (a ∷ b ∷ c ∷ []) line h =
     rw (← same) (a, b, c, refl, tracks_spelled a tracks.0 tracks.1, track_spelled b track.0 track.1, numeral_spelled c item.0 item.1)
 extract_spelled place_at (a ∷ b ∷ c ∷ d ∷ words) line h = absurd (err_ok B2 line h)
 
-slice_spelled : (place_at : List ℕ → Option ℕ) (words : List (List ℕ)) (line : Line) → slice_of place_at words ≡ Ok line → AreWords place_at (word_of command.Slice ∷ words) line
+slice_spelled : (place_at : List ℕ → Option ℕ) (words : List (List ℕ)) (line : Line) → slice_of place_at words ≡ Ok line → AreWords place_at (word_of first_word.Slice ∷ words) line
 slice_spelled place_at [] line h = absurd (err_ok B2 line h)
 slice_spelled place_at (a ∷ []) line h = absurd (err_ok B2 line h)
 slice_spelled place_at (a ∷ b ∷ []) line h =
@@ -173,7 +173,7 @@ slice_spelled place_at (a ∷ b ∷ []) line h =
     rw (← same) (a, b, refl, track_spelled a track.0 track.1, place_spelled place_at b at.0 at.1)
 slice_spelled place_at (a ∷ b ∷ c ∷ words) line h = absurd (err_ok B2 line h)
 
-dissolve_spelled : (place_at : List ℕ → Option ℕ) (words : List (List ℕ)) (line : Line) → dissolve_of place_at words ≡ Ok line → AreWords place_at (word_of command.Dissolve ∷ words) line
+dissolve_spelled : (place_at : List ℕ → Option ℕ) (words : List (List ℕ)) (line : Line) → dissolve_of place_at words ≡ Ok line → AreWords place_at (word_of first_word.Dissolve ∷ words) line
 dissolve_spelled place_at [] line h = absurd (err_ok B2 line h)
 dissolve_spelled place_at (a ∷ []) line h = absurd (err_ok B2 line h)
 dissolve_spelled place_at (a ∷ b ∷ []) line h = absurd (err_ok B2 line h)
@@ -197,7 +197,7 @@ dissolve_spelled place_at (a ∷ b ∷ c ∷ d ∷ []) line h =
     )
 dissolve_spelled place_at (a ∷ b ∷ c ∷ d ∷ e ∷ words) line h = absurd (err_ok B2 line h)
 
-undissolve_spelled : (place_at : List ℕ → Option ℕ) (words : List (List ℕ)) (line : Line) → undissolve_of place_at words ≡ Ok line → AreWords place_at (word_of command.Undissolve ∷ words) line
+undissolve_spelled : (place_at : List ℕ → Option ℕ) (words : List (List ℕ)) (line : Line) → undissolve_of place_at words ≡ Ok line → AreWords place_at (word_of first_word.Undissolve ∷ words) line
 undissolve_spelled place_at [] line h = absurd (err_ok B2 line h)
 undissolve_spelled place_at (a ∷ []) line h = absurd (err_ok B2 line h)
 undissolve_spelled place_at (a ∷ b ∷ []) line h =
@@ -207,7 +207,7 @@ undissolve_spelled place_at (a ∷ b ∷ []) line h =
     rw (← same) (a, b, refl, track_spelled a track.0 track.1, place_spelled place_at b at.0 at.1)
 undissolve_spelled place_at (a ∷ b ∷ c ∷ words) line h = absurd (err_ok B2 line h)
 
-trim_spelled : (place_at : List ℕ → Option ℕ) (words : List (List ℕ)) (line : Line) → trim_of words ≡ Ok line → AreWords place_at (word_of command.Trim ∷ words) line
+trim_spelled : (place_at : List ℕ → Option ℕ) (words : List (List ℕ)) (line : Line) → trim_of words ≡ Ok line → AreWords place_at (word_of first_word.Trim ∷ words) line
 trim_spelled place_at [] line h = absurd (err_ok B2 line h)
 trim_spelled place_at (a ∷ []) line h = absurd (err_ok B2 line h)
 trim_spelled place_at (a ∷ b ∷ []) line h = absurd (err_ok B2 line h)
@@ -222,14 +222,14 @@ trim_spelled place_at (a ∷ b ∷ c ∷ d ∷ []) line h =
       a,
       b,
       d,
-      ap (λ (w : List ℕ). word_of command.Trim ∷ a ∷ b ∷ w ∷ d ∷ []) (end_spelled c end.0 end.1),
+      ap (λ (w : List ℕ). word_of first_word.Trim ∷ a ∷ b ∷ w ∷ d ∷ []) (end_spelled c end.0 end.1),
       track_spelled a track.0 track.1,
       numeral_spelled b item.0 item.1,
       delta_spelled d delta.0 delta.1,
     )
 trim_spelled place_at (a ∷ b ∷ c ∷ d ∷ e ∷ words) line h = absurd (err_ok B2 line h)
 
-slip_spelled : (place_at : List ℕ → Option ℕ) (words : List (List ℕ)) (line : Line) → slip_of words ≡ Ok line → AreWords place_at (word_of command.Slip ∷ words) line
+slip_spelled : (place_at : List ℕ → Option ℕ) (words : List (List ℕ)) (line : Line) → slip_of words ≡ Ok line → AreWords place_at (word_of first_word.Slip ∷ words) line
 slip_spelled place_at [] line h = absurd (err_ok B2 line h)
 slip_spelled place_at (a ∷ []) line h = absurd (err_ok B2 line h)
 slip_spelled place_at (a ∷ b ∷ []) line h = absurd (err_ok B2 line h)
@@ -253,7 +253,7 @@ slip_spelled place_at (a ∷ b ∷ c ∷ d ∷ []) line h =
     )
 slip_spelled place_at (a ∷ b ∷ c ∷ d ∷ e ∷ words) line h = absurd (err_ok B2 line h)
 
-roll_spelled : (place_at : List ℕ → Option ℕ) (words : List (List ℕ)) (line : Line) → roll_of place_at words ≡ Ok line → AreWords place_at (word_of command.Roll ∷ words) line
+roll_spelled : (place_at : List ℕ → Option ℕ) (words : List (List ℕ)) (line : Line) → roll_of place_at words ≡ Ok line → AreWords place_at (word_of first_word.Roll ∷ words) line
 roll_spelled place_at [] line h = absurd (err_ok B2 line h)
 roll_spelled place_at (a ∷ []) line h = absurd (err_ok B2 line h)
 roll_spelled place_at (a ∷ b ∷ []) line h = absurd (err_ok B2 line h)
@@ -265,7 +265,7 @@ roll_spelled place_at (a ∷ b ∷ c ∷ []) line h =
     rw (← same) (a, b, c, refl, track_spelled a track.0 track.1, place_spelled place_at b at.0 at.1, delta_spelled c delta.0 delta.1)
 roll_spelled place_at (a ∷ b ∷ c ∷ d ∷ words) line h = absurd (err_ok B2 line h)
 
-slide_spelled : (place_at : List ℕ → Option ℕ) (words : List (List ℕ)) (line : Line) → slide_of words ≡ Ok line → AreWords place_at (word_of command.Slide ∷ words) line
+slide_spelled : (place_at : List ℕ → Option ℕ) (words : List (List ℕ)) (line : Line) → slide_of words ≡ Ok line → AreWords place_at (word_of first_word.Slide ∷ words) line
 slide_spelled place_at [] line h = absurd (err_ok B2 line h)
 slide_spelled place_at (a ∷ []) line h = absurd (err_ok B2 line h)
 slide_spelled place_at (a ∷ b ∷ []) line h = absurd (err_ok B2 line h)
@@ -289,7 +289,7 @@ slide_spelled place_at (a ∷ b ∷ c ∷ d ∷ []) line h =
     )
 slide_spelled place_at (a ∷ b ∷ c ∷ d ∷ e ∷ words) line h = absurd (err_ok B2 line h)
 
-fill_spelled : (place_at : List ℕ → Option ℕ) (words : List (List ℕ)) (line : Line) → fill_of place_at words ≡ Ok line → AreWords place_at (word_of command.Fill ∷ words) line
+fill_spelled : (place_at : List ℕ → Option ℕ) (words : List (List ℕ)) (line : Line) → fill_of place_at words ≡ Ok line → AreWords place_at (word_of first_word.Fill ∷ words) line
 fill_spelled place_at [] line h = absurd (err_ok B2 line h)
 fill_spelled place_at (a ∷ []) line h = absurd (err_ok B2 line h)
 fill_spelled place_at (a ∷ b ∷ []) line h = absurd (err_ok B2 line h)
@@ -338,7 +338,7 @@ fill_spelled place_at (a ∷ b ∷ c ∷ d ∷ e ∷ f ∷ []) line h =
     )
 fill_spelled place_at (a ∷ b ∷ c ∷ d ∷ e ∷ f ∷ g ∷ words) line h = absurd (err_ok B2 line h)
 
-ripple_spelled : (place_at : List ℕ → Option ℕ) (words : List (List ℕ)) (line : Line) → ripple_of words ≡ Ok line → AreWords place_at (word_of command.Ripple ∷ words) line
+ripple_spelled : (place_at : List ℕ → Option ℕ) (words : List (List ℕ)) (line : Line) → ripple_of words ≡ Ok line → AreWords place_at (word_of first_word.Ripple ∷ words) line
 ripple_spelled place_at [] line h = absurd (err_ok B2 line h)
 ripple_spelled place_at (a ∷ []) line h = absurd (err_ok B2 line h)
 ripple_spelled place_at (a ∷ b ∷ []) line h = absurd (err_ok B2 line h)
@@ -356,7 +356,7 @@ ripple_spelled place_at (a ∷ b ∷ c ∷ d ∷ e ∷ []) line h =
       b,
       c,
       e,
-      ap (λ (w : List ℕ). word_of command.Ripple ∷ a ∷ b ∷ c ∷ w ∷ e ∷ []) (end_spelled d end.0 end.1),
+      ap (λ (w : List ℕ). word_of first_word.Ripple ∷ a ∷ b ∷ c ∷ w ∷ e ∷ []) (end_spelled d end.0 end.1),
       tracks_spelled a tracks.0 tracks.1,
       track_spelled b track.0 track.1,
       numeral_spelled c item.0 item.1,
@@ -364,7 +364,7 @@ ripple_spelled place_at (a ∷ b ∷ c ∷ d ∷ e ∷ []) line h =
     )
 ripple_spelled place_at (a ∷ b ∷ c ∷ d ∷ e ∷ f ∷ words) line h = absurd (err_ok B2 line h)
 
-link_spelled : (place_at : List ℕ → Option ℕ) (words : List (List ℕ)) (line : Line) → link_of words ≡ Ok line → AreWords place_at (word_of command.Link ∷ words) line
+link_spelled : (place_at : List ℕ → Option ℕ) (words : List (List ℕ)) (line : Line) → link_of words ≡ Ok line → AreWords place_at (word_of first_word.Link ∷ words) line
 link_spelled place_at [] line h = absurd (err_ok B2 line h)
 link_spelled place_at (a ∷ []) line h = absurd (err_ok B2 line h)
 link_spelled place_at (a ∷ b ∷ []) line h =
@@ -379,7 +379,7 @@ link_spelled place_at (a ∷ b ∷ []) line h =
     ]
 link_spelled place_at (a ∷ b ∷ c ∷ words) line h = absurd (err_ok B2 line h)
 
-unlink_spelled : (place_at : List ℕ → Option ℕ) (words : List (List ℕ)) (line : Line) → unlink_of words ≡ Ok line → AreWords place_at (word_of command.Unlink ∷ words) line
+unlink_spelled : (place_at : List ℕ → Option ℕ) (words : List (List ℕ)) (line : Line) → unlink_of words ≡ Ok line → AreWords place_at (word_of first_word.Unlink ∷ words) line
 unlink_spelled place_at [] line h = absurd (err_ok B2 line h)
 unlink_spelled place_at (a ∷ []) line h = absurd (err_ok B2 line h)
 unlink_spelled place_at (a ∷ b ∷ []) line h =
@@ -389,7 +389,7 @@ unlink_spelled place_at (a ∷ b ∷ []) line h =
     rw (← same) (a, b, refl, track_spelled a track.0 track.1, numeral_spelled b item.0 item.1)
 unlink_spelled place_at (a ∷ b ∷ c ∷ words) line h = absurd (err_ok B2 line h)
 
-view_spelled : (place_at : List ℕ → Option ℕ) (words : List (List ℕ)) (line : Line) → view_of place_at words ≡ Ok line → AreWords place_at (word_of command.View ∷ words) line
+view_spelled : (place_at : List ℕ → Option ℕ) (words : List (List ℕ)) (line : Line) → view_of place_at words ≡ Ok line → AreWords place_at (word_of first_word.View ∷ words) line
 view_spelled place_at [] line h = absurd (err_ok B2 line h)
 view_spelled place_at (a ∷ []) line h = absurd (err_ok B2 line h)
 view_spelled place_at (a ∷ b ∷ []) line h = absurd (err_ok B2 line h)
@@ -401,7 +401,7 @@ view_spelled place_at (a ∷ b ∷ c ∷ []) line h =
     rw (← same) (a, b, c, refl, track_spelled a track.0 track.1, place_spelled place_at b from.0 from.1, place_spelled place_at c to.0 to.1)
 view_spelled place_at (a ∷ b ∷ c ∷ d ∷ words) line h = absurd (err_ok B2 line h)
 
-items_spelled : (place_at : List ℕ → Option ℕ) (words : List (List ℕ)) (line : Line) → items_of words ≡ Ok line → AreWords place_at (word_of command.Items ∷ words) line
+items_spelled : (place_at : List ℕ → Option ℕ) (words : List (List ℕ)) (line : Line) → items_of words ≡ Ok line → AreWords place_at (word_of first_word.Items ∷ words) line
 items_spelled place_at [] line h = absurd (err_ok B2 line h)
 items_spelled place_at (a ∷ []) line h =
     let track = bind_ok (track_of a) _ line h in
@@ -409,11 +409,11 @@ items_spelled place_at (a ∷ []) line h =
     rw (← same) (a, refl, track_spelled a track.0 track.1)
 items_spelled place_at (a ∷ b ∷ words) line h = absurd (err_ok B2 line h)
 
-point_spelled : (place_at : List ℕ → Option ℕ) (words : List (List ℕ)) (line : Line) → point_of words ≡ Ok line → AreWords place_at (word_of command.Point ∷ words) line
+point_spelled : (place_at : List ℕ → Option ℕ) (words : List (List ℕ)) (line : Line) → point_of words ≡ Ok line → AreWords place_at (word_of first_word.Point ∷ words) line
 point_spelled place_at [] line h = let same = ok_same Point line h in rw (← same) refl
 point_spelled place_at (a ∷ words) line h = absurd (err_ok B2 line h)
 
-otio_spelled : (place_at : List ℕ → Option ℕ) (words : List (List ℕ)) (line : Line) → otio_of words ≡ Ok line → AreWords place_at (word_of command.Otio ∷ words) line
+otio_spelled : (place_at : List ℕ → Option ℕ) (words : List (List ℕ)) (line : Line) → otio_of words ≡ Ok line → AreWords place_at (word_of first_word.Otio ∷ words) line
 otio_spelled place_at [] line h = absurd (err_ok B2 line h)
 otio_spelled place_at (a ∷ []) line h =
     let point = bind_ok (numeral_of a) _ line h in
@@ -421,35 +421,35 @@ otio_spelled place_at (a ∷ []) line h =
     rw (← same) (a, refl, numeral_spelled a point.0 point.1)
 otio_spelled place_at (a ∷ b ∷ words) line h = absurd (err_ok B2 line h)
 
-row_spelled : (place_at : List ℕ → Option ℕ) (k : Command) (words : List (List ℕ)) (line : Line) → row_of place_at k words ≡ Ok line → AreWords place_at (word_of k ∷ words) line
-row_spelled place_at command.Overwrite words line h = overwrite_spelled place_at words line h
-row_spelled place_at command.Insert words line h = insert_spelled place_at words line h
-row_spelled place_at command.Remove words line h = remove_spelled place_at words line h
-row_spelled place_at command.Extract words line h = extract_spelled place_at words line h
-row_spelled place_at command.Slice words line h = slice_spelled place_at words line h
-row_spelled place_at command.Dissolve words line h = dissolve_spelled place_at words line h
-row_spelled place_at command.Undissolve words line h = undissolve_spelled place_at words line h
-row_spelled place_at command.Trim words line h = trim_spelled place_at words line h
-row_spelled place_at command.Slip words line h = slip_spelled place_at words line h
-row_spelled place_at command.Roll words line h = roll_spelled place_at words line h
-row_spelled place_at command.Slide words line h = slide_spelled place_at words line h
-row_spelled place_at command.Fill words line h = fill_spelled place_at words line h
-row_spelled place_at command.Ripple words line h = ripple_spelled place_at words line h
-row_spelled place_at command.Link words line h = link_spelled place_at words line h
-row_spelled place_at command.Unlink words line h = unlink_spelled place_at words line h
-row_spelled place_at command.View words line h = view_spelled place_at words line h
-row_spelled place_at command.Items words line h = items_spelled place_at words line h
-row_spelled place_at command.Point words line h = point_spelled place_at words line h
-row_spelled place_at command.Otio words line h = otio_spelled place_at words line h
+row_spelled : (place_at : List ℕ → Option ℕ) (k : FirstWord) (words : List (List ℕ)) (line : Line) → row_of place_at k words ≡ Ok line → AreWords place_at (word_of k ∷ words) line
+row_spelled place_at first_word.Overwrite words line h = overwrite_spelled place_at words line h
+row_spelled place_at first_word.Insert words line h = insert_spelled place_at words line h
+row_spelled place_at first_word.Remove words line h = remove_spelled place_at words line h
+row_spelled place_at first_word.Extract words line h = extract_spelled place_at words line h
+row_spelled place_at first_word.Slice words line h = slice_spelled place_at words line h
+row_spelled place_at first_word.Dissolve words line h = dissolve_spelled place_at words line h
+row_spelled place_at first_word.Undissolve words line h = undissolve_spelled place_at words line h
+row_spelled place_at first_word.Trim words line h = trim_spelled place_at words line h
+row_spelled place_at first_word.Slip words line h = slip_spelled place_at words line h
+row_spelled place_at first_word.Roll words line h = roll_spelled place_at words line h
+row_spelled place_at first_word.Slide words line h = slide_spelled place_at words line h
+row_spelled place_at first_word.Fill words line h = fill_spelled place_at words line h
+row_spelled place_at first_word.Ripple words line h = ripple_spelled place_at words line h
+row_spelled place_at first_word.Link words line h = link_spelled place_at words line h
+row_spelled place_at first_word.Unlink words line h = unlink_spelled place_at words line h
+row_spelled place_at first_word.View words line h = view_spelled place_at words line h
+row_spelled place_at first_word.Items words line h = items_spelled place_at words line h
+row_spelled place_at first_word.Point words line h = point_spelled place_at words line h
+row_spelled place_at first_word.Otio words line h = otio_spelled place_at words line h
 
-if_spelled : (place_at : List ℕ → Option ℕ) (first : List ℕ) (o : Option Command) (words : List (List ℕ)) (line : Line)
-    → command_of first ≡ o → row_if place_at o words ≡ Ok line → AreWords place_at (first ∷ words) line
+if_spelled : (place_at : List ℕ → Option ℕ) (first : List ℕ) (o : Option FirstWord) (words : List (List ℕ)) (line : Line)
+    → first_word_of first ≡ o → row_if place_at o words ≡ Ok line → AreWords place_at (first ∷ words) line
 if_spelled place_at first None words line is h = absurd (err_ok B1 line h)
-if_spelled place_at first (Some k) words line is h = let same = command_spelled first k is in rw same (row_spelled place_at k words line h)
+if_spelled place_at first (Some k) words line is h = let same = first_spelled first k is in rw same (row_spelled place_at k words line h)
 
 words_spelled : (place_at : List ℕ → Option ℕ) (words : List (List ℕ)) (line : Line) → line_of_words place_at words ≡ Ok line → AreWords place_at words line
 words_spelled place_at [] line h = absurd (err_ok B2 line h)
-words_spelled place_at (first ∷ words) line h = if_spelled place_at first (command_of first) words line refl h
+words_spelled place_at (first ∷ words) line h = if_spelled place_at first (first_word_of first) words line refl h
 
 pub line_spelled : (place_at : List ℕ → Option ℕ) (bytes : List ℕ) (line : Line) → line_of place_at bytes ≡ Ok line → IsLine place_at bytes line
 line_spelled place_at bytes line h = elim (chosen (nat_le (length bytes) 1024) _ _ (Ok line) h) [
@@ -562,18 +562,6 @@ pub line_read : (place_at : List ℕ → Option ℕ) (bytes : List ℕ) (line : 
 line_read place_at bytes line h = let short = le-leb (length bytes) 1024 h.short in rw short (words_read place_at (words_of bytes) line h.words)
 
 -- a line is read as its row is, and as its words are
-pub row_read : (place_at : List ℕ → Option ℕ) (first : List ℕ) (words : List (List ℕ)) (k : Command) (r : Result Line LineFault) → command_of first ≡ Some k → IsRowRead place_at k words r → AreRead place_at (first ∷ words) r
+pub row_read : (place_at : List ℕ → Option ℕ) (first : List ℕ) (words : List (List ℕ)) (k : FirstWord) (r : Result Line LineFault) → first_word_of first ≡ Some k → IsRowRead place_at k words r → AreRead place_at (first ∷ words) r
 row_read place_at first words k r found (inl is) = inl (rw found is)
 row_read place_at first words k r found (inr (link, none)) = inr (linking first words k found link, none)
-
-pub short_read : (place_at : List ℕ → Option ℕ) (bytes : List ℕ) (r : Result Line LineFault) → length bytes ≤ 1024 → AreRead place_at (words_of bytes) r → IsRead place_at bytes r
-short_read place_at bytes r short (inl is) = let within = le-leb (length bytes) 1024 short in inl (rw within is)
-short_read place_at bytes r short (inr linking) = inr linking
-
--- a row other than `link` is read as it says
-pub exact_row : (place_at : List ℕ → Option ℕ) (k : Command) (words : List (List ℕ)) (r : Result Line LineFault) → r ≡ row_of place_at k words → IsRowRead place_at k words r
-exact_row place_at k words r is = inl is
-
-pub link_row : (place_at : List ℕ → Option ℕ) (k : Command) (words : List (List ℕ)) (r : Result Line LineFault) → k ≡ command.Link → IsOrMemory (link_of words) r → IsRowRead place_at k words r
-link_row place_at k words r link (inl is) = inl (rw link is)
-link_row place_at k words r link (inr none) = inr (link, none)

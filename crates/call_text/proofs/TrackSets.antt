@@ -13,7 +13,7 @@ use Rattle.composables.specs.TrackSets.{has_track, tracks_from, tracks_in}
 use Rattle.std.proofs.lemmas.List.{append-nil}
 use Rattle.call_text.specs.CallTexts.{numbers_after, tracks_text}
 use Rattle.call_text.proofs.ListWords.{set_within}
-use Rattle.call_text.specs.Table.{IsNumeral, IsTrack, AreNumerals}
+use Rattle.call_text.specs.Table.{IsNumeral, NamesTrack, AreNumerals}
 
 -- the tracks of a set from t on
 unfoldable pub tracks_after : ℕ → ℕ → List ℕ
@@ -157,7 +157,7 @@ all_bits s h =
 abbrev pub AreRising : ℕ → List (List ℕ) → ℕ → Type 0
 AreRising least [] set = set ≡ 0
 AreRising least (word ∷ words) set =
-    (track : ℕ) × (others : ℕ) × IsTrack word track × (least ≤ track) × (set ≡ 2 ^ track + others) × AreRising (track + 1) words others
+    (track : ℕ) × (others : ℕ) × NamesTrack word track × (least ≤ track) × (set ≡ 2 ^ track + others) × AreRising (track + 1) words others
 
 -- words that spell the tracks of a set rise, and the set is theirs
 are_rising : (s t n least : ℕ) (words : List (List ℕ)) → t + n ≤ 32 → least ≤ t → AreNumerals words (tracks_from s t n) → AreRising least words (bits s t n)

@@ -15,7 +15,7 @@ use Rattle.call_text.specs.Reading.{line_of}
 use Rattle.call_text.specs.Table.{AreCall, AreLength, end_word}
 use Rattle.call_text.proofs.TableLaws.{line_read}
 use Rattle.call_text.proofs.TrackSets.{tracks_in_count}
-use Rattle.call_text.proofs.WrittenParts.{IsNumbers-numbers_after, IsWord-numbers_after, length-numbers_after, some_tracks_in, IsWord-end, IsWord-signed, length-end, length-signed, length-decimal, IsWord-tested, IsWord-decimal, IsWord-what_text, length-what_text, IsThing-what_text, IsTracks-tracks_text, IsWord-tracks_text, length-tracks_text}
+use Rattle.call_text.proofs.WrittenParts.{IsNumbers-numbers_after, IsWord-numbers_after, length-numbers_after, some_tracks_in, IsWord-end, IsWord-signed, length-end, length-signed, length-decimal, IsWord-tested, IsWord-decimal, IsWord-what_text, length-what_text, IsThing-what_text, NamesTracks-tracks_text, IsWord-tracks_text, length-tracks_text}
 
 -- words with one space between
 abbrev spaced : List ℕ → List (List ℕ) → List ℕ
@@ -123,7 +123,7 @@ written_call place_at (call.Insert c) ((some, tracks), track, at, what, from, le
       decimal c.from,
       decimal c.len,
       refl,
-      IsTracks-tracks_text c.tracks some tracks,
+      NamesTracks-tracks_text c.tracks some tracks,
       (number_of-decimal c.track (low c.track track), track),
       inl (number_of-decimal c.at at),
       IsThing-what_text c.what what,
@@ -168,7 +168,7 @@ written_call place_at (call.Extract c) ((some, tracks), track, item) =
       decimal c.track,
       decimal c.item,
       refl,
-      IsTracks-tracks_text c.tracks some tracks,
+      NamesTracks-tracks_text c.tracks some tracks,
       (number_of-decimal c.track (low c.track track), track),
       number_of-decimal c.item item,
     )
@@ -278,7 +278,7 @@ written_call place_at (call.Slip c) ((some, tracks), track, item, by) =
       decimal c.item,
       signed_decimal c.by,
       refl,
-      IsTracks-tracks_text c.tracks some tracks,
+      NamesTracks-tracks_text c.tracks some tracks,
       (number_of-decimal c.track (low c.track track), track),
       number_of-decimal c.item item,
       signed_of-signed_decimal c.by by,
@@ -333,7 +333,7 @@ written_call place_at (call.Slide c) ((some, tracks), track, item, by) =
       decimal c.item,
       signed_decimal c.by,
       refl,
-      IsTracks-tracks_text c.tracks some tracks,
+      NamesTracks-tracks_text c.tracks some tracks,
       (number_of-decimal c.track (low c.track track), track),
       number_of-decimal c.item item,
       signed_of-signed_decimal c.by by,
@@ -392,7 +392,7 @@ written_call place_at (call.Ripple c) ((some, tracks), track, item, by) =
       decimal c.item,
       signed_decimal c.by,
       refl,
-      IsTracks-tracks_text c.tracks some tracks,
+      NamesTracks-tracks_text c.tracks some tracks,
       (number_of-decimal c.track (low c.track track), track),
       number_of-decimal c.item item,
       signed_of-signed_decimal c.by by,
@@ -416,7 +416,7 @@ written_call place_at (call.Link3 c) ((some, tracks), items, even) =
       tracks_in_count c.tracks,
       even,
     ))
-    (tracks_text c.tracks, numbers_after [] c.items, refl, IsTracks-tracks_text c.tracks some tracks, (IsNumbers-numbers_after c.items filled items, even))
+    (tracks_text c.tracks, numbers_after [] c.items, refl, NamesTracks-tracks_text c.tracks some tracks, (IsNumbers-numbers_after c.items filled items, even))
   where
     filled : 0 < length c.items
     filled = let there = some_tracks_in c.tracks some tracks in omega (arith, there, even)

@@ -21,7 +21,7 @@ use Rattle.frame_meaning.specs.declared.cells.What.TheVariants.{Media, Nest}
 use Rattle.reply_text.specs.Things.{what_text}
 use Rattle.call_text.specs.CallTexts.{numbers_after, tracks_text, IsSmall, IsSmallWhat}
 use Rattle.call_text.specs.Spelling.{is_comma}
-use Rattle.call_text.specs.Table.{IsThing, AreNumerals, IsNumbers, IsTracks, end_word}
+use Rattle.call_text.specs.Table.{IsThing, AreNumerals, IsNumbers, NamesTracks, end_word}
 use Rattle.composables.specs.declared.calls.End.{End}
 use Rattle.composables.specs.declared.calls.End.TheVariants.{Head, Tail}
 use Rattle.composables.specs.TrackSets.{tracks_in}
@@ -132,8 +132,8 @@ module _ (s : ℕ) (some : 0 < s) (small : s < 2 ^ 32) where
       by [] e = let none : s ≡ 0 = rising s [] small (subst (AreNumerals []) (sym e) tt) in absurd (omega (arith, some, none))
       by (n ∷ ns) e = rw e (omega arith)
 
-  pub IsTracks-tracks_text : IsTracks (tracks_text s) s
-  IsTracks-tracks_text = (small, IsNumbers-numbers_after (tracks_in s) some_tracks_in (tracks_small s))
+  pub NamesTracks-tracks_text : NamesTracks (tracks_text s) s
+  NamesTracks-tracks_text = (small, IsNumbers-numbers_after (tracks_in s) some_tracks_in (tracks_small s))
 
   pub IsWord-tracks_text : IsWord (tracks_text s)
   IsWord-tracks_text = IsWord-numbers_after (tracks_in s) some_tracks_in (tracks_small s)

@@ -14,10 +14,10 @@ use Rattle.frame_meaning.specs.declared.cells.What.{What}
 use Rattle.call_text.specs.declared.parts.TheConstants.{LAST_TRACK}
 use Rattle.reply_text.specs.declared.line_fault.LineFault.{LineFault}
 use Rattle.reply_text.specs.declared.line_fault.LineFault.TheVariants.{B1, B2, B3, B4, B5, B6}
-use Rattle.call_text.specs.declared.commands.Command.{Command}
-use Rattle.call_text.specs.declared.commands.Command.TheVariants as command
+use Rattle.call_text.specs.declared.first_words.FirstWord.{FirstWord}
+use Rattle.call_text.specs.declared.first_words.FirstWord.TheVariants as first_word
 use Rattle.call_text.specs.Spelling.{Naming, is_comma}
-use Rattle.call_text.specs.Table.{IsDelta, IsNumbers, IsNumeral, IsTrack, IsTracks, IsPlace, IsThing, end_word, word_of}
+use Rattle.call_text.specs.Table.{IsDelta, IsNumbers, IsNumeral, NamesTrack, NamesTracks, IsPlace, IsThing, end_word, word_of}
 
 -- what a word of a row is to be: TS, T, P, WHAT, a number (I, FROM, LEN, A, B), IS, END, D, or this word
 pub data Part : Type 0 where
@@ -31,29 +31,29 @@ pub data Part : Type 0 where
   Delta : Part
   Given : List ℕ → Part
 
--- the rows that begin with a command's word, without it
-abbrev pub rows_of : Command → List (List Part)
-rows_of command.Overwrite = (Track ∷ Place ∷ Thing ∷ Number ∷ Number ∷ []) ∷ []
-rows_of command.Insert = (Tracks ∷ Track ∷ Place ∷ Thing ∷ Number ∷ Number ∷ []) ∷ []
-rows_of command.Remove = (Track ∷ Number ∷ []) ∷ []
-rows_of command.Extract = (Tracks ∷ Track ∷ Number ∷ []) ∷ []
-rows_of command.Slice = (Track ∷ Place ∷ []) ∷ []
-rows_of command.Dissolve = (Track ∷ Place ∷ Number ∷ Number ∷ []) ∷ []
-rows_of command.Undissolve = (Track ∷ Place ∷ []) ∷ []
-rows_of command.Trim = (Track ∷ Number ∷ Ending ∷ Delta ∷ []) ∷ []
-rows_of command.Slip = (Tracks ∷ Track ∷ Number ∷ Delta ∷ []) ∷ []
-rows_of command.Roll = (Track ∷ Place ∷ Delta ∷ []) ∷ []
-rows_of command.Slide = (Tracks ∷ Track ∷ Number ∷ Delta ∷ []) ∷ []
-rows_of command.Fill =
+-- the rows that begin with a first word, without it
+abbrev pub rows_of : FirstWord → List (List Part)
+rows_of first_word.Overwrite = (Track ∷ Place ∷ Thing ∷ Number ∷ Number ∷ []) ∷ []
+rows_of first_word.Insert = (Tracks ∷ Track ∷ Place ∷ Thing ∷ Number ∷ Number ∷ []) ∷ []
+rows_of first_word.Remove = (Track ∷ Number ∷ []) ∷ []
+rows_of first_word.Extract = (Tracks ∷ Track ∷ Number ∷ []) ∷ []
+rows_of first_word.Slice = (Track ∷ Place ∷ []) ∷ []
+rows_of first_word.Dissolve = (Track ∷ Place ∷ Number ∷ Number ∷ []) ∷ []
+rows_of first_word.Undissolve = (Track ∷ Place ∷ []) ∷ []
+rows_of first_word.Trim = (Track ∷ Number ∷ Ending ∷ Delta ∷ []) ∷ []
+rows_of first_word.Slip = (Tracks ∷ Track ∷ Number ∷ Delta ∷ []) ∷ []
+rows_of first_word.Roll = (Track ∷ Place ∷ Delta ∷ []) ∷ []
+rows_of first_word.Slide = (Tracks ∷ Track ∷ Number ∷ Delta ∷ []) ∷ []
+rows_of first_word.Fill =
     (Track ∷ Place ∷ Thing ∷ Number ∷ Given (codes "sequence") ∷ [])
     ∷ (Track ∷ Place ∷ Thing ∷ Number ∷ Given (codes "source") ∷ Number ∷ []) ∷ []
-rows_of command.Ripple = (Tracks ∷ Track ∷ Number ∷ Ending ∷ Delta ∷ []) ∷ []
-rows_of command.Link = (Tracks ∷ Numbers ∷ []) ∷ []
-rows_of command.Unlink = (Track ∷ Number ∷ []) ∷ []
-rows_of command.View = (Track ∷ Place ∷ Place ∷ []) ∷ []
-rows_of command.Items = (Track ∷ []) ∷ []
-rows_of command.Point = [] ∷ []
-rows_of command.Otio = (Number ∷ []) ∷ []
+rows_of first_word.Ripple = (Tracks ∷ Track ∷ Number ∷ Ending ∷ Delta ∷ []) ∷ []
+rows_of first_word.Link = (Tracks ∷ Numbers ∷ []) ∷ []
+rows_of first_word.Unlink = (Track ∷ Number ∷ []) ∷ []
+rows_of first_word.View = (Track ∷ Place ∷ Place ∷ []) ∷ []
+rows_of first_word.Items = (Track ∷ []) ∷ []
+rows_of first_word.Point = [] ∷ []
+rows_of first_word.Otio = (Number ∷ []) ∷ []
 
 -- the word is not one or more decimal digits
 abbrev pub IsNoNumeral : List ℕ → Type 0
@@ -83,7 +83,7 @@ abbrev pub AreBadTracks : ℕ → List (List ℕ) → LineFault → Type 0
 AreBadTracks least [] fault = ⊥
 AreBadTracks least (word ∷ words) fault =
     IsBadTrack word fault
-    ⊎ ((track : ℕ) × IsTrack word track
+    ⊎ ((track : ℕ) × NamesTrack word track
     × (((track < least) × (fault ≡ B6)) ⊎ ((least ≤ track) × AreBadTracks (track + 1) words fault)))
 
 abbrev pub IsBadNumeral : List ℕ → LineFault → Type 0
@@ -119,8 +119,8 @@ IsBadPart place_at (Given given) word fault = (word ≢ given) × (fault ≡ B1)
 abbrev pub IsPart : Naming → Part → List ℕ → Type 0
 IsPart place_at Number word = (n : ℕ) × IsNumeral word n
 IsPart place_at Numbers word = (ns : List ℕ) × IsNumbers word ns
-IsPart place_at Track word = (n : ℕ) × IsTrack word n
-IsPart place_at Tracks word = (set : ℕ) × IsTracks word set
+IsPart place_at Track word = (n : ℕ) × NamesTrack word n
+IsPart place_at Tracks word = (set : ℕ) × NamesTracks word set
 IsPart place_at Place word = (n : ℕ) × IsPlace place_at word n
 IsPart place_at Thing word = (w : What) × IsThing word w
 IsPart place_at Ending word = (end : End) × (word ≡ end_word end)
@@ -145,16 +145,16 @@ AreNoRow place_at (row ∷ rows) words fault =
 -- the words of `link` are right, but there are not as many items as tracks
 abbrev pub AreUneven : List (List ℕ) → LineFault → Type 0
 AreUneven (list ∷ numbers ∷ []) fault =
-    (set : ℕ) × (items : List ℕ) × IsTracks list set × IsNumbers numbers items
+    (set : ℕ) × (items : List ℕ) × NamesTracks list set × IsNumbers numbers items
     × (length items ≢ length (tracks_in set)) × (fault ≡ B2)
 AreUneven words fault = ⊥
 
 abbrev pub AreBad : Naming → List (List ℕ) → LineFault → Type 0
 AreBad place_at [] fault = fault ≡ B2
 AreBad place_at (first ∷ words) fault =
-    (((k : Command) → first ≢ word_of k) × (fault ≡ B1))
-    ⊎ ((k : Command) × (first ≡ word_of k) × AreNoRow place_at (rows_of k) words fault)
-    ⊎ ((first ≡ word_of command.Link) × AreUneven words fault)
+    (((k : FirstWord) → first ≢ word_of k) × (fault ≡ B1))
+    ⊎ ((k : FirstWord) × (first ≡ word_of k) × AreNoRow place_at (rows_of k) words fault)
+    ⊎ ((first ≡ word_of first_word.Link) × AreUneven words fault)
 
 -- the bytes are no line of the table, and this is why
 abbrev pub IsBad : Naming → List ℕ → LineFault → Type 0

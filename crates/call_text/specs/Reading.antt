@@ -14,8 +14,8 @@ use Rattle.call_text.specs.declared.lines.Line.{Line}
 use Rattle.call_text.specs.declared.lines.Line.TheVariants.{Edit, Ask, Point, Otio}
 use Rattle.reply_text.specs.declared.line_fault.LineFault.{LineFault}
 use Rattle.reply_text.specs.declared.line_fault.LineFault.TheVariants.{B1, B2, B5, Memory}
-use Rattle.call_text.specs.declared.commands.Command.{Command}
-use Rattle.call_text.specs.declared.commands.Command.TheVariants as command
+use Rattle.call_text.specs.declared.first_words.FirstWord.{FirstWord}
+use Rattle.call_text.specs.declared.first_words.FirstWord.TheVariants as first_word
 use Rattle.call_text.specs.Spelling.{Naming, ◌>>=◌, numeral_of, delta_of, end_of, given_of, numbers_of, track_of, tracks_of, place_of, what_of}
 
 -- the bytes of words
@@ -235,58 +235,58 @@ otio_of (point ∷ []) = do
 otio_of words = Err B2
 
 -- the first words of the table
-abbrev pub command_of : List ℕ → Option Command
-command_of word =
-    if bytes_eq word (codes "overwrite") then Some command.Overwrite
-    else if bytes_eq word (codes "insert") then Some command.Insert
-    else if bytes_eq word (codes "remove") then Some command.Remove
-    else if bytes_eq word (codes "extract") then Some command.Extract
-    else if bytes_eq word (codes "slice") then Some command.Slice
-    else if bytes_eq word (codes "dissolve") then Some command.Dissolve
-    else if bytes_eq word (codes "undissolve") then Some command.Undissolve
-    else if bytes_eq word (codes "trim") then Some command.Trim
-    else if bytes_eq word (codes "slip") then Some command.Slip
-    else if bytes_eq word (codes "roll") then Some command.Roll
-    else if bytes_eq word (codes "slide") then Some command.Slide
-    else if bytes_eq word (codes "fill") then Some command.Fill
-    else if bytes_eq word (codes "ripple") then Some command.Ripple
-    else if bytes_eq word (codes "link") then Some command.Link
-    else if bytes_eq word (codes "unlink") then Some command.Unlink
-    else if bytes_eq word (codes "view") then Some command.View
-    else if bytes_eq word (codes "items") then Some command.Items
-    else if bytes_eq word (codes "point") then Some command.Point
-    else if bytes_eq word (codes "otio") then Some command.Otio
+abbrev pub first_word_of : List ℕ → Option FirstWord
+first_word_of word =
+    if bytes_eq word (codes "overwrite") then Some first_word.Overwrite
+    else if bytes_eq word (codes "insert") then Some first_word.Insert
+    else if bytes_eq word (codes "remove") then Some first_word.Remove
+    else if bytes_eq word (codes "extract") then Some first_word.Extract
+    else if bytes_eq word (codes "slice") then Some first_word.Slice
+    else if bytes_eq word (codes "dissolve") then Some first_word.Dissolve
+    else if bytes_eq word (codes "undissolve") then Some first_word.Undissolve
+    else if bytes_eq word (codes "trim") then Some first_word.Trim
+    else if bytes_eq word (codes "slip") then Some first_word.Slip
+    else if bytes_eq word (codes "roll") then Some first_word.Roll
+    else if bytes_eq word (codes "slide") then Some first_word.Slide
+    else if bytes_eq word (codes "fill") then Some first_word.Fill
+    else if bytes_eq word (codes "ripple") then Some first_word.Ripple
+    else if bytes_eq word (codes "link") then Some first_word.Link
+    else if bytes_eq word (codes "unlink") then Some first_word.Unlink
+    else if bytes_eq word (codes "view") then Some first_word.View
+    else if bytes_eq word (codes "items") then Some first_word.Items
+    else if bytes_eq word (codes "point") then Some first_word.Point
+    else if bytes_eq word (codes "otio") then Some first_word.Otio
     else None
 
 -- the words after the first, by the row of the first
-abbrev pub row_of : Naming → Command → List (List ℕ) → Result Line LineFault
-row_of place_at command.Overwrite words = overwrite_of place_at words
-row_of place_at command.Insert words = insert_of place_at words
-row_of place_at command.Remove words = remove_of words
-row_of place_at command.Extract words = extract_of words
-row_of place_at command.Slice words = slice_of place_at words
-row_of place_at command.Dissolve words = dissolve_of place_at words
-row_of place_at command.Undissolve words = undissolve_of place_at words
-row_of place_at command.Trim words = trim_of words
-row_of place_at command.Slip words = slip_of words
-row_of place_at command.Roll words = roll_of place_at words
-row_of place_at command.Slide words = slide_of words
-row_of place_at command.Fill words = fill_of place_at words
-row_of place_at command.Ripple words = ripple_of words
-row_of place_at command.Link words = link_of words
-row_of place_at command.Unlink words = unlink_of words
-row_of place_at command.View words = view_of place_at words
-row_of place_at command.Items words = items_of words
-row_of place_at command.Point words = point_of words
-row_of place_at command.Otio words = otio_of words
+abbrev pub row_of : Naming → FirstWord → List (List ℕ) → Result Line LineFault
+row_of place_at first_word.Overwrite words = overwrite_of place_at words
+row_of place_at first_word.Insert words = insert_of place_at words
+row_of place_at first_word.Remove words = remove_of words
+row_of place_at first_word.Extract words = extract_of words
+row_of place_at first_word.Slice words = slice_of place_at words
+row_of place_at first_word.Dissolve words = dissolve_of place_at words
+row_of place_at first_word.Undissolve words = undissolve_of place_at words
+row_of place_at first_word.Trim words = trim_of words
+row_of place_at first_word.Slip words = slip_of words
+row_of place_at first_word.Roll words = roll_of place_at words
+row_of place_at first_word.Slide words = slide_of words
+row_of place_at first_word.Fill words = fill_of place_at words
+row_of place_at first_word.Ripple words = ripple_of words
+row_of place_at first_word.Link words = link_of words
+row_of place_at first_word.Unlink words = unlink_of words
+row_of place_at first_word.View words = view_of place_at words
+row_of place_at first_word.Items words = items_of words
+row_of place_at first_word.Point words = point_of words
+row_of place_at first_word.Otio words = otio_of words
 
-abbrev pub row_if : Naming → Option Command → List (List ℕ) → Result Line LineFault
+abbrev pub row_if : Naming → Option FirstWord → List (List ℕ) → Result Line LineFault
 row_if place_at None words = Err B1
 row_if place_at (Some k) words = row_of place_at k words
 
 abbrev pub line_of_words : Naming → List (List ℕ) → Result Line LineFault
 line_of_words place_at [] = Err B2
-line_of_words place_at (first ∷ words) = row_if place_at (command_of first) words
+line_of_words place_at (first ∷ words) = row_if place_at (first_word_of first) words
 
 -- the line that these bytes are, where place_at says which place a label names
 abbrev pub line_of : Naming → List ℕ → Result Line LineFault
@@ -298,11 +298,11 @@ abbrev pub are_linking : List (List ℕ) → Bool
 are_linking [] = false
 are_linking (first ∷ words) = bytes_eq first (codes "link")
 
--- The words behind a command's, the words of a line, and a line are read as they say. Of a line whose first word is
+-- The words behind the first, the words of a line, and a line are read as they say. Of a line whose first word is
 -- `link` there may be want of memory in place of that.
-abbrev pub IsRowRead : Naming → Command → List (List ℕ) → Result Line LineFault → Type 0
+abbrev pub IsRowRead : Naming → FirstWord → List (List ℕ) → Result Line LineFault → Type 0
 IsRowRead place_at k words result =
-    (result ≡ row_of place_at k words) ⊎ ((k ≡ command.Link) × (result ≡ Err Memory))
+    (result ≡ row_of place_at k words) ⊎ ((k ≡ first_word.Link) × (result ≡ Err Memory))
 
 abbrev pub AreRead : Naming → List (List ℕ) → Result Line LineFault → Type 0
 AreRead place_at words result =

@@ -18,8 +18,8 @@ use Rattle.edit_apply.specs.declared.asks.Ask.TheVariants as ask
 use Rattle.call_text.specs.declared.parts.TheConstants.{LAST_TRACK}
 use Rattle.call_text.specs.declared.lines.Line.{Line}
 use Rattle.call_text.specs.declared.lines.Line.TheVariants.{Edit, Ask, Point, Otio}
-use Rattle.call_text.specs.declared.commands.Command.{Command}
-use Rattle.call_text.specs.declared.commands.Command.TheVariants as command
+use Rattle.call_text.specs.declared.first_words.FirstWord.{FirstWord}
+use Rattle.call_text.specs.declared.first_words.FirstWord.TheVariants as first_word
 use Rattle.call_text.specs.Spelling.{Naming, is_comma}
 
 -- the word is this number, with leading zeros or without
@@ -35,8 +35,8 @@ abbrev pub end_word : End → List ℕ
 end_word Head = codes "head"
 end_word Tail = codes "tail"
 
-abbrev pub IsTrack : List ℕ → ℕ → Type 0
-IsTrack word track = IsNumeral word track × (track ≤ LAST_TRACK)
+abbrev pub NamesTrack : List ℕ → ℕ → Type 0
+NamesTrack word track = IsNumeral word track × (track ≤ LAST_TRACK)
 
 -- each word is the number beside it
 abbrev pub AreNumerals : List (List ℕ) → List ℕ → Type 0
@@ -46,8 +46,8 @@ AreNumerals (word ∷ words) [] = ⊥
 AreNumerals (word ∷ words) (n ∷ ns) = IsNumeral word n × AreNumerals words ns
 
 -- the word is the tracks of the set, ascending, parted by commas
-abbrev pub IsTracks : List ℕ → ℕ → Type 0
-IsTracks word set = (set < 2 ^ 32) × AreNumerals (slice_split is_comma word) (tracks_in set)
+abbrev pub NamesTracks : List ℕ → ℕ → Type 0
+NamesTracks word set = (set < 2 ^ 32) × AreNumerals (slice_split is_comma word) (tracks_in set)
 
 -- the word is these numbers, parted by commas
 abbrev pub IsNumbers : List ℕ → List ℕ → Type 0
@@ -71,27 +71,27 @@ abbrev pub AreLength : List (List ℕ) → FillLength → Type 0
 AreLength words (Source n) = (len : List ℕ) × (words ≡ codes "source" ∷ len ∷ []) × IsNumeral len n
 AreLength words Sequence = words ≡ codes "sequence" ∷ []
 
--- the first word of a command's lines
-abbrev pub word_of : Command → List ℕ
-word_of command.Overwrite = codes "overwrite"
-word_of command.Insert = codes "insert"
-word_of command.Remove = codes "remove"
-word_of command.Extract = codes "extract"
-word_of command.Slice = codes "slice"
-word_of command.Dissolve = codes "dissolve"
-word_of command.Undissolve = codes "undissolve"
-word_of command.Trim = codes "trim"
-word_of command.Slip = codes "slip"
-word_of command.Roll = codes "roll"
-word_of command.Slide = codes "slide"
-word_of command.Fill = codes "fill"
-word_of command.Ripple = codes "ripple"
-word_of command.Link = codes "link"
-word_of command.Unlink = codes "unlink"
-word_of command.View = codes "view"
-word_of command.Items = codes "items"
-word_of command.Point = codes "point"
-word_of command.Otio = codes "otio"
+-- the bytes of a first word
+abbrev pub word_of : FirstWord → List ℕ
+word_of first_word.Overwrite = codes "overwrite"
+word_of first_word.Insert = codes "insert"
+word_of first_word.Remove = codes "remove"
+word_of first_word.Extract = codes "extract"
+word_of first_word.Slice = codes "slice"
+word_of first_word.Dissolve = codes "dissolve"
+word_of first_word.Undissolve = codes "undissolve"
+word_of first_word.Trim = codes "trim"
+word_of first_word.Slip = codes "slip"
+word_of first_word.Roll = codes "roll"
+word_of first_word.Slide = codes "slide"
+word_of first_word.Fill = codes "fill"
+word_of first_word.Ripple = codes "ripple"
+word_of first_word.Link = codes "link"
+word_of first_word.Unlink = codes "unlink"
+word_of first_word.View = codes "view"
+word_of first_word.Items = codes "items"
+word_of first_word.Point = codes "point"
+word_of first_word.Otio = codes "otio"
 
 -- overwrite T P WHAT FROM LEN · insert TS T P WHAT FROM LEN · remove T I · extract TS T I · slice T P
 -- · dissolve T P A B · undissolve T P · trim T I END D · slip TS T I D · roll T P D · slide TS T I D
@@ -100,71 +100,71 @@ word_of command.Otio = codes "otio"
 abbrev pub AreCall : Naming → List (List ℕ) → Call → Type 0
 AreCall place_at words (call.Overwrite c) =
     (track at what from len : List ℕ)
-    × (words ≡ word_of command.Overwrite ∷ track ∷ at ∷ what ∷ from ∷ len ∷ [])
-    × IsTrack track c.track × IsPlace place_at at c.at
+    × (words ≡ word_of first_word.Overwrite ∷ track ∷ at ∷ what ∷ from ∷ len ∷ [])
+    × NamesTrack track c.track × IsPlace place_at at c.at
     × IsThing what c.what × IsNumeral from c.from × IsNumeral len c.len
 AreCall place_at words (call.Insert c) =
     (tracks track at what from len : List ℕ)
-    × (words ≡ word_of command.Insert ∷ tracks ∷ track ∷ at ∷ what ∷ from ∷ len ∷ [])
-    × IsTracks tracks c.tracks × IsTrack track c.track × IsPlace place_at at c.at
+    × (words ≡ word_of first_word.Insert ∷ tracks ∷ track ∷ at ∷ what ∷ from ∷ len ∷ [])
+    × NamesTracks tracks c.tracks × NamesTrack track c.track × IsPlace place_at at c.at
     × IsThing what c.what × IsNumeral from c.from × IsNumeral len c.len
 AreCall place_at words (call.Remove c) =
-    (track item : List ℕ) × (words ≡ word_of command.Remove ∷ track ∷ item ∷ [])
-    × IsTrack track c.track × IsNumeral item c.item
+    (track item : List ℕ) × (words ≡ word_of first_word.Remove ∷ track ∷ item ∷ [])
+    × NamesTrack track c.track × IsNumeral item c.item
 AreCall place_at words (call.Extract c) =
-    (tracks track item : List ℕ) × (words ≡ word_of command.Extract ∷ tracks ∷ track ∷ item ∷ [])
-    × IsTracks tracks c.tracks × IsTrack track c.track × IsNumeral item c.item
+    (tracks track item : List ℕ) × (words ≡ word_of first_word.Extract ∷ tracks ∷ track ∷ item ∷ [])
+    × NamesTracks tracks c.tracks × NamesTrack track c.track × IsNumeral item c.item
 AreCall place_at words (call.Slice c) =
-    (track at : List ℕ) × (words ≡ word_of command.Slice ∷ track ∷ at ∷ [])
-    × IsTrack track c.track × IsPlace place_at at c.at
+    (track at : List ℕ) × (words ≡ word_of first_word.Slice ∷ track ∷ at ∷ [])
+    × NamesTrack track c.track × IsPlace place_at at c.at
 AreCall place_at words (call.Dissolve c) =
-    (track at a b : List ℕ) × (words ≡ word_of command.Dissolve ∷ track ∷ at ∷ a ∷ b ∷ [])
-    × IsTrack track c.track × IsPlace place_at at c.at × IsNumeral a c.a × IsNumeral b c.b
+    (track at a b : List ℕ) × (words ≡ word_of first_word.Dissolve ∷ track ∷ at ∷ a ∷ b ∷ [])
+    × NamesTrack track c.track × IsPlace place_at at c.at × IsNumeral a c.a × IsNumeral b c.b
 AreCall place_at words (call.Undissolve c) =
-    (track at : List ℕ) × (words ≡ word_of command.Undissolve ∷ track ∷ at ∷ [])
-    × IsTrack track c.track × IsPlace place_at at c.at
+    (track at : List ℕ) × (words ≡ word_of first_word.Undissolve ∷ track ∷ at ∷ [])
+    × NamesTrack track c.track × IsPlace place_at at c.at
 AreCall place_at words (call.Trim c) =
     (track item by : List ℕ)
-    × (words ≡ word_of command.Trim ∷ track ∷ item ∷ end_word c.end ∷ by ∷ [])
-    × IsTrack track c.track × IsNumeral item c.item × IsDelta by c.by
+    × (words ≡ word_of first_word.Trim ∷ track ∷ item ∷ end_word c.end ∷ by ∷ [])
+    × NamesTrack track c.track × IsNumeral item c.item × IsDelta by c.by
 AreCall place_at words (call.Slip c) =
     (tracks track item by : List ℕ)
-    × (words ≡ word_of command.Slip ∷ tracks ∷ track ∷ item ∷ by ∷ [])
-    × IsTracks tracks c.tracks × IsTrack track c.track × IsNumeral item c.item × IsDelta by c.by
+    × (words ≡ word_of first_word.Slip ∷ tracks ∷ track ∷ item ∷ by ∷ [])
+    × NamesTracks tracks c.tracks × NamesTrack track c.track × IsNumeral item c.item × IsDelta by c.by
 AreCall place_at words (call.Roll c) =
-    (track at by : List ℕ) × (words ≡ word_of command.Roll ∷ track ∷ at ∷ by ∷ [])
-    × IsTrack track c.track × IsPlace place_at at c.at × IsDelta by c.by
+    (track at by : List ℕ) × (words ≡ word_of first_word.Roll ∷ track ∷ at ∷ by ∷ [])
+    × NamesTrack track c.track × IsPlace place_at at c.at × IsDelta by c.by
 AreCall place_at words (call.Slide c) =
     (tracks track item by : List ℕ)
-    × (words ≡ word_of command.Slide ∷ tracks ∷ track ∷ item ∷ by ∷ [])
-    × IsTracks tracks c.tracks × IsTrack track c.track × IsNumeral item c.item × IsDelta by c.by
+    × (words ≡ word_of first_word.Slide ∷ tracks ∷ track ∷ item ∷ by ∷ [])
+    × NamesTracks tracks c.tracks × NamesTrack track c.track × IsNumeral item c.item × IsDelta by c.by
 AreCall place_at words (call.Fill c) =
     (track at what from : List ℕ) × (rest : List (List ℕ))
-    × (words ≡ word_of command.Fill ∷ track ∷ at ∷ what ∷ from ∷ rest)
-    × IsTrack track c.track × IsPlace place_at at c.at
+    × (words ≡ word_of first_word.Fill ∷ track ∷ at ∷ what ∷ from ∷ rest)
+    × NamesTrack track c.track × IsPlace place_at at c.at
     × IsThing what c.what × IsNumeral from c.from × AreLength rest c.length
 AreCall place_at words (call.Ripple c) =
     (tracks track item by : List ℕ)
-    × (words ≡ word_of command.Ripple ∷ tracks ∷ track ∷ item ∷ end_word c.end ∷ by ∷ [])
-    × IsTracks tracks c.tracks × IsTrack track c.track × IsNumeral item c.item × IsDelta by c.by
+    × (words ≡ word_of first_word.Ripple ∷ tracks ∷ track ∷ item ∷ end_word c.end ∷ by ∷ [])
+    × NamesTracks tracks c.tracks × NamesTrack track c.track × IsNumeral item c.item × IsDelta by c.by
 AreCall place_at words (call.Link3 c) =
-    (tracks items : List ℕ) × (words ≡ word_of command.Link ∷ tracks ∷ items ∷ [])
-    × IsTracks tracks c.tracks × AreItems items c.tracks c.items
+    (tracks items : List ℕ) × (words ≡ word_of first_word.Link ∷ tracks ∷ items ∷ [])
+    × NamesTracks tracks c.tracks × AreItems items c.tracks c.items
 AreCall place_at words (call.Unlink c) =
-    (track item : List ℕ) × (words ≡ word_of command.Unlink ∷ track ∷ item ∷ [])
-    × IsTrack track c.track × IsNumeral item c.item
+    (track item : List ℕ) × (words ≡ word_of first_word.Unlink ∷ track ∷ item ∷ [])
+    × NamesTrack track c.track × IsNumeral item c.item
 
 -- a call · view T P P · items T · point · otio N
 abbrev pub AreWords : Naming → List (List ℕ) → Line → Type 0
 AreWords place_at words (Edit c) = AreCall place_at words c
 AreWords place_at words (Ask (ask.View track a b)) =
-    (named from to : List ℕ) × (words ≡ word_of command.View ∷ named ∷ from ∷ to ∷ [])
-    × IsTrack named track × IsPlace place_at from a × IsPlace place_at to b
+    (named from to : List ℕ) × (words ≡ word_of first_word.View ∷ named ∷ from ∷ to ∷ [])
+    × NamesTrack named track × IsPlace place_at from a × IsPlace place_at to b
 AreWords place_at words (Ask (ask.Items track)) =
-    (named : List ℕ) × (words ≡ word_of command.Items ∷ named ∷ []) × IsTrack named track
-AreWords place_at words Point = words ≡ word_of command.Point ∷ []
+    (named : List ℕ) × (words ≡ word_of first_word.Items ∷ named ∷ []) × NamesTrack named track
+AreWords place_at words Point = words ≡ word_of first_word.Point ∷ []
 AreWords place_at words (Otio n) =
-    (named : List ℕ) × (words ≡ word_of command.Otio ∷ named ∷ []) × IsNumeral named n
+    (named : List ℕ) × (words ≡ word_of first_word.Otio ∷ named ∷ []) × IsNumeral named n
 
 -- the bytes are this line
 pub record IsLine (place_at : Naming) (bytes : List ℕ) (line : Line) : Type 0 where

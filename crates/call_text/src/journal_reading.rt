@@ -17,6 +17,7 @@ use crate::words::first_word;
 use crate::{Entry, JournalCode, JournalFault, Line, LineFault};
 use composables::Memory;
 use edit_apply::Call;
+use edit_journal::MOST_ENTRIES;
 use itoa::Buffer;
 use line_words::number;
 use std::alloc::Global;
@@ -30,9 +31,6 @@ pub const LAST_STATION: u32 = 15;
 
 /// How many stations there are at most.
 const STATIONS: usize = 16;
-
-/// The most entries of a journal.
-const MOST_ENTRIES: usize = 100_000;
 
 /// The entries of the journal whose text this is, or the first fault of the text.
 ///
@@ -48,7 +46,7 @@ pub fn read_journal(alloc: Global, bytes: &[u8]) -> Result<Vec<Entry<Call>>, Jou
         None => return Err(refused(JournalCode::H1, 0)),
     };
     let entries = entries_in(alloc, rest)?;
-    if count as usize != entries.len() || entries.len() > MOST_ENTRIES {
+    if count as usize != entries.len() || entries.len() > MOST_ENTRIES as usize {
         return Err(refused(JournalCode::H2, 0));
     }
     match first_late(&entries) {
@@ -199,7 +197,8 @@ fn loose_entry(
     line: &[u8],
     counting: &Counting,
 ) -> Result<Option<Entry<Call>>, Memory>
-    ensures read { IfOk result (λ found. found ≡ loose_entry (place_by counting.now 0) (words_of line.now)) }
+    ensures read { IfOk result (λ found. found
+        ≡ loose_entry (place_by counting.now 0) (words_of line.now)) }
     ensures line { IfOk result (λ found. IfSome found (λ entry. HasLine entry)) }
 {
     let (station, rest) = match first_number(line) {
@@ -239,7 +238,8 @@ fn first_number(line: &[u8]) -> Option<(u32, &[u8])>
 }
 
 fn edit_of(alloc: Global, line: &[u8], counting: &Counting) -> Result<Option<Call>, Memory>
-    ensures read { IfOk result (λ found. found ≡ edit_in (line_of_words (place_by counting.now 0) (words_of line.now))) }
+    ensures read { IfOk result (λ found. found
+        ≡ edit_in (line_of_words (place_by counting.now 0) (words_of line.now))) }
     ensures written { IfOk result (λ found. IfSome found (λ call. IsWritten call)) }
 {
     match table_line(alloc, line, counting, 0) {

@@ -1,12 +1,11 @@
-//! Lines and replies of a cutting room as text, and its journal as text.
+//! Lines of a cutting room, and its journal as text. The replies are those of `reply_text`.
 //!
 //! The main contract is that of `read_line`: a line is read by the table, or refused by the first fault of it. What
-//! `call_text` writes is read again as that call: the law `written_calls_are_read`. Each reply is a text that is
-//! defined case by case, in `specs/`.
+//! `call_text` writes is read again as that call: the law `written_calls_are_read`.
 #![tactic(auto)]
 
 mod calls;
-mod commands;
+mod first_words;
 mod journal;
 mod journal_fault;
 mod journal_reading;
@@ -19,8 +18,8 @@ mod reading;
 mod words;
 
 pub use calls::call_text;
-pub use commands::Command;
 pub use composables::Memory;
+pub use first_words::FirstWord;
 pub use journal::journal_text;
 pub use journal_fault::{JournalCode, JournalFault};
 pub use journal_reading::{LAST_STATION, MAX_JOURNAL, read_journal};

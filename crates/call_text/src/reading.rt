@@ -8,7 +8,7 @@ ghost use Rattle.call_text.specs.Spelling.{IsOrMemory};
 
 use crate::parts::{delta, end, given, numbers, numeral, place, track, track_count, tracks, what};
 use crate::words::{first_word, line_words};
-use crate::{Command, Line, LineFault};
+use crate::{FirstWord, Line, LineFault};
 use composables::{
     Dissolve, Extract, Fill, FillLength, Insert, Link3, Overwrite, Remove, Ripple, Roll, Slice,
     Slide, Slip, Trim, Undissolve, Unlink,
@@ -48,8 +48,8 @@ pub(crate) fn table_line(
     ensures written { IfOk result (λ read. NamesWritten read) }
 {
     let (first, rest) = first_word(line)?;
-    match Command::of_word(first) {
-        Some(command) => row(alloc, command, rest, counting, start),
+    match FirstWord::of_word(first) {
+        Some(named) => row(alloc, named, rest, counting, start),
         None => Err(LineFault::B1),
     }
 }
@@ -57,12 +57,12 @@ pub(crate) fn table_line(
 // The line whose words behind the first stand here.
 fn row(
     alloc: Global,
-    command: Command,
+    named: FirstWord,
     rest: &[u8],
     counting: &Counting,
     start: u32,
 ) -> Result<Line, LineFault>
-    ensures read { IsRowRead (place_by counting.now start) command (words_of rest.now) result }
+    ensures read { IsRowRead (place_by counting.now start) named (words_of rest.now) result }
     ensures written { IfOk result (λ read. NamesWritten read) }
 {
     let kept = match line_words(rest) {
@@ -70,26 +70,26 @@ fn row(
         None => return Err(LineFault::B2),
     };
     let words = kept.as_slice();
-    match command {
-        Command::Overwrite => overwrite(words, counting, start),
-        Command::Insert => insert(words, counting, start),
-        Command::Remove => remove(words),
-        Command::Extract => extract(words),
-        Command::Slice => slice(words, counting, start),
-        Command::Dissolve => dissolve(words, counting, start),
-        Command::Undissolve => undissolve(words, counting, start),
-        Command::Trim => trim(words),
-        Command::Slip => slip(words),
-        Command::Roll => roll(words, counting, start),
-        Command::Slide => slide(words),
-        Command::Fill => fill(words, counting, start),
-        Command::Ripple => ripple(words),
-        Command::Link => link(alloc, words),
-        Command::Unlink => unlink(words),
-        Command::View => view(words, counting, start),
-        Command::Items => items(words),
-        Command::Point => point(words),
-        Command::Otio => otio(words),
+    match named {
+        FirstWord::Overwrite => overwrite(words, counting, start),
+        FirstWord::Insert => insert(words, counting, start),
+        FirstWord::Remove => remove(words),
+        FirstWord::Extract => extract(words),
+        FirstWord::Slice => slice(words, counting, start),
+        FirstWord::Dissolve => dissolve(words, counting, start),
+        FirstWord::Undissolve => undissolve(words, counting, start),
+        FirstWord::Trim => trim(words),
+        FirstWord::Slip => slip(words),
+        FirstWord::Roll => roll(words, counting, start),
+        FirstWord::Slide => slide(words),
+        FirstWord::Fill => fill(words, counting, start),
+        FirstWord::Ripple => ripple(words),
+        FirstWord::Link => link(alloc, words),
+        FirstWord::Unlink => unlink(words),
+        FirstWord::View => view(words, counting, start),
+        FirstWord::Items => items(words),
+        FirstWord::Point => point(words),
+        FirstWord::Otio => otio(words),
     }
 }
 

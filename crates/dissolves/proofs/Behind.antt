@@ -129,9 +129,6 @@ one_run f (suc n) =
     ∙ (with_onto f (record { frame = later_frame f 1; len = suc n }) [] (frame_next f)
     ∙ ap (λ (k : ℕ). record { frame = f; len = k } ∷ []) e)
 
-push_single : Frame What → ℕ → Run What → Bool → List (Run What)
-push_single f n r b = cond b (record { frame = f; len = n + r.len } ∷ []) (record { frame = f; len = n } ∷ r ∷ [])
-
 -- the last frame of a run that has one frame more in front
 last_more : (f : Frame What) (s : Run What) → 0 < s.len → frame_goes_on same_what f s.frame ≡ true → last_frame s ≡ later_frame f (s.len + 1 - 1)
 last_more f s h g =

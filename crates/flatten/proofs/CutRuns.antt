@@ -1,7 +1,6 @@
 -- A channel cut into segments run by run.
-use Rattle.std.proofs.Common.{◌≡◌, ℕ, zero, suc, ◌+◌, ◌<◌, ◌≤◌, Bool, true, false, cond, List, [], ◌∷◌, ◌++◌, Option, Some, None, length, get_or, drop, sym, ap, ◌∙◌, arith, subst, append_assoc}
-use Rattle.std.proofs.lemmas.List.{append-nil, length-append}
-use Rattle.std.proofs.Math.ListN.{drop_of_length-le}
+use Rattle.std.proofs.Common.{◌≡◌, ℕ, zero, suc, ◌+◌, ◌<◌, ◌≤◌, Bool, true, cond, List, [], ◌∷◌, ◌++◌, Option, Some, length, get_or, drop, sym, ap, ◌∙◌, arith, subst, append_assoc}
+use Rattle.std.proofs.lemmas.List.{length-append}
 use Rattle.std.specs.List.{flat_map}
 use Rattle.frame_meaning.specs.declared.frames.Frame.{Frame}
 use Rattle.frame_meaning.specs.declared.frames.Run.{Run}
@@ -42,22 +41,6 @@ pub partial_more : (at : ℕ) (rs : List (Run ℕ)) (i : ℕ) (d : Run ℕ) (mea
 partial_more at rs i d meant h whole same =
     sym (ap (λ (b : Bool). cond b (first_partial (at + (get_or rs i d).len) (drop (i + 1) rs)) (Some at)) whole)
     ∙ (sym (ap (first_partial at) (next_run rs i d h)) ∙ same)
-
-pub partial_here : (at : ℕ) (rs : List (Run ℕ)) (i : ℕ) (d : Run ℕ) (meant : Option ℕ) → i < length rs → is_whole (get_or rs i d).frame (get_or rs i d).len ≡ false
-    → first_partial at (drop i rs) ≡ meant → meant ≡ Some at
-partial_here at rs i d meant h part same =
-    sym same
-    ∙ (ap (first_partial at) (next_run rs i d h)
-    ∙ ap (λ (b : Bool). cond b (first_partial (at + (get_or rs i d).len) (drop (i + 1) rs)) (Some at)) part)
-
-pub partial_end : (at : ℕ) (rs : List (Run ℕ)) (i : ℕ) (meant : Option ℕ) → length rs ≤ i → first_partial at (drop i rs) ≡ meant → meant ≡ None
-partial_end at rs i meant h same = sym same ∙ ap (first_partial at) (drop_of_length-le rs h)
-
-pub frames_end : (ss : List Segment) (rs : List (Run ℕ)) (i : ℕ) (meant : List (Frame ℕ)) → length rs ≤ i → flat_map segment_frames ss ++ frames_of (drop i rs) ≡ meant
-    → flat_map segment_frames ss ≡ meant
-frames_end ss rs i meant h same =
-    sym (append-nil (flat_map segment_frames ss))
-    ∙ (sym (ap (λ (qs : List (Run ℕ)). flat_map segment_frames ss ++ frames_of qs) (drop_of_length-le rs h)) ∙ same)
 
 -- the next run lies within the channel
 pub within : (ss : List Segment) (at : ℕ) (rs : List (Run ℕ)) (i : ℕ) (d : Run ℕ) (meant : List (Frame ℕ)) → i < length rs → EachIsSegment ss → lens_of ss ≡ at

@@ -85,7 +85,3 @@ pub each_fit : (rss : List (List (Run ℕ))) (i : ℕ) (rs : List (Run ℕ)) →
 each_fit [] i rs h is f = absurd (omega arith)
 each_fit (qs ∷ rss) zero rs h is f = subst AreFit (sym is) f.0
 each_fit (qs ∷ rss) (suc i) rs h is f = each_fit rss i rs (omega arith) is f.1
-
-pub over_more : (rs : List (Run ℕ)) (i : ℕ) (d : Run ℕ) (lower : List (Frame ℕ)) → i < length rs
-    → laid_over (run_frames (get_or rs i d) ++ frames_of (drop (suc i) rs)) lower ≡ laid_over (frames_of (drop i rs)) lower
-over_more rs i d lower h = sym (ap (λ (qs : List (Run ℕ)). laid_over (frames_of qs) lower) (drop_at rs i d h))

@@ -119,3 +119,19 @@ fn a_full_journal_is_read_and_a_longer_one_is_not(rt: HostRuntime) -> Result<(),
     assert_eq!(rt; said.as_slice(), b"H2 1".as_slice());
     Ok(())
 }
+
+#[test]
+fn faults_of_journals_are_told_apart(rt: HostRuntime) {
+    let fault = |code: JournalCode, number: u32| JournalFault::Refused { code, number };
+    let first = fault(JournalCode::H1, 1);
+    assert!(rt; first == fault(JournalCode::H1, 1));
+    let others = [
+        fault(JournalCode::H2, 1),
+        fault(JournalCode::H4, 1),
+        fault(JournalCode::H1, 2),
+        JournalFault::Memory,
+    ];
+    for (row, other) in others.into_iter().enumerate() {
+        assert!(rt; first != other, "row {row}");
+    }
+}

@@ -161,7 +161,7 @@ fn agrees(alloc: Global, edit: Edit, by: i32) -> Result<bool, Memory> {
 
 // The first delta by which an edit does something else than the plain program.
 fn difference(alloc: Global, edit: Edit) -> Result<Option<i32>, Memory> {
-    for by in -8..9 {
+    for by in -12..13 {
         if !agrees(alloc, edit, by)? {
             return Ok(Some(by));
         }

@@ -1,6 +1,4 @@
-use Rattle.std.proofs.Common.{rules, refl, arith}
-use Rattle.std.proofs.lemmas.List.{drop_more}
-use Rattle.call_text.proofs.TrackSets.{first_number, next_number, no_number}
+use Rattle.call_text.proofs.TrackSets.{first_number}
 use Rattle.call_text.proofs.calls.put_items.Goals as goal
 
 pub loop-item-init : goal.loop-item-init

@@ -1,8 +1,8 @@
-use Rattle.std.proofs.Common.{◌≡◌, Ok, inl, inr, rules, sym, arith}
+use Rattle.std.proofs.Common.{inl, rules, arith}
 use Rattle.std.proofs.lemmas.List.Elements.{All-nil, All-push}
 use Rattle.call_text.specs.CallTexts.{IsSmall}
 use Rattle.call_text.specs.Spelling.{numbers_of}
-use Rattle.call_text.proofs.ListWords.{all_numerals, next_numeral, no_numeral, none_behind}
+use Rattle.call_text.proofs.ListWords.{next_numeral, no_numeral, none_behind}
 use Rattle.call_text.proofs.parts.numbers.Goals as goal
 
 pub loop-rest-init : goal.loop-rest-init

@@ -1,10 +1,10 @@
 // The first words of lines.
 ghost use Rattle.std.specs.Prelude.{◌≡◌};
-ghost use Rattle.call_text.specs.Reading.{command_of};
+ghost use Rattle.call_text.specs.Reading.{first_word_of};
 
 /// The first word of a line, which says what the line asks for.
 #[derive(Clone, Copy, Debug, PartialEq, Eq)]
-pub enum Command {
+pub enum FirstWord {
     Overwrite,
     Insert,
     Remove,
@@ -26,49 +26,49 @@ pub enum Command {
     Otio,
 }
 
-impl Command {
-    /// The command that a word is, if it is one.
-    pub fn of_word(word: &[u8]) -> Option<Command>
-        ensures { result ≡ command_of word.now }
+impl FirstWord {
+    /// The first word that these bytes are, if they are one.
+    pub fn of_word(word: &[u8]) -> Option<FirstWord>
+        ensures { result ≡ first_word_of word.now }
     {
         if word == b"overwrite".as_slice() {
-            Some(Command::Overwrite)
+            Some(FirstWord::Overwrite)
         } else if word == b"insert".as_slice() {
-            Some(Command::Insert)
+            Some(FirstWord::Insert)
         } else if word == b"remove".as_slice() {
-            Some(Command::Remove)
+            Some(FirstWord::Remove)
         } else if word == b"extract".as_slice() {
-            Some(Command::Extract)
+            Some(FirstWord::Extract)
         } else if word == b"slice".as_slice() {
-            Some(Command::Slice)
+            Some(FirstWord::Slice)
         } else if word == b"dissolve".as_slice() {
-            Some(Command::Dissolve)
+            Some(FirstWord::Dissolve)
         } else if word == b"undissolve".as_slice() {
-            Some(Command::Undissolve)
+            Some(FirstWord::Undissolve)
         } else if word == b"trim".as_slice() {
-            Some(Command::Trim)
+            Some(FirstWord::Trim)
         } else if word == b"slip".as_slice() {
-            Some(Command::Slip)
+            Some(FirstWord::Slip)
         } else if word == b"roll".as_slice() {
-            Some(Command::Roll)
+            Some(FirstWord::Roll)
         } else if word == b"slide".as_slice() {
-            Some(Command::Slide)
+            Some(FirstWord::Slide)
         } else if word == b"fill".as_slice() {
-            Some(Command::Fill)
+            Some(FirstWord::Fill)
         } else if word == b"ripple".as_slice() {
-            Some(Command::Ripple)
+            Some(FirstWord::Ripple)
         } else if word == b"link".as_slice() {
-            Some(Command::Link)
+            Some(FirstWord::Link)
         } else if word == b"unlink".as_slice() {
-            Some(Command::Unlink)
+            Some(FirstWord::Unlink)
         } else if word == b"view".as_slice() {
-            Some(Command::View)
+            Some(FirstWord::View)
         } else if word == b"items".as_slice() {
-            Some(Command::Items)
+            Some(FirstWord::Items)
         } else if word == b"point".as_slice() {
-            Some(Command::Point)
+            Some(FirstWord::Point)
         } else if word == b"otio".as_slice() {
-            Some(Command::Otio)
+            Some(FirstWord::Otio)
         } else {
             None
         }
