@@ -230,16 +230,15 @@ class Reader:
                 self.fault(start)
             self.at += 1
         second = 0
-        for _ in range(4):
+        hexadecimal = "0123456789abcdefABCDEF"
+        for allowed in ("dD", "cdefCDEF", hexadecimal, hexadecimal):
             byte = self.peek()
             if byte is None:
                 self.fault()
-            if chr(byte) not in "0123456789abcdefABCDEF":
+            if chr(byte) not in allowed:
                 self.fault(start)
             second = second * 16 + int(chr(byte), 16)
             self.at += 1
-        if not 0xDC00 <= second < 0xE000:
-            self.fault(start)
         return chr(0x10000 + (first - 0xD800) * 0x400 + second - 0xDC00)
 
     def utf8(self):
