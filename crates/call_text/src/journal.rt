@@ -1,6 +1,5 @@
 // A journal as text.
 ghost use Rattle.std.specs.Prelude.{◌≡◌, ◌++◌, IfOk, OnOk};
-ghost use Rattle.std.specs.List.{flat_map};
 ghost use Rattle.call_text.specs.Journals.{entry_line, entry_text, journal_text_of};
 
 use crate::Entry;

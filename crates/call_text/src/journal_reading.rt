@@ -1,6 +1,6 @@
 // A journal read from its text.
-ghost use Rattle.std.specs.Prelude.{◌≡◌, ◌≢◌, ℕ, ◌+◌, ◌<◌, ◌∷◌, ◌++◌, ◌≤◌, List, [], length, option_map, codes, decimal, bytes_eq, IfErr, IfOk, IfSome, MatchOption, None, take, position};
-ghost use Rattle.std.specs.List.{All, flat_map};
+ghost use Rattle.std.specs.Prelude.{◌≡◌, ◌≢◌, ℕ, ◌+◌, ◌<◌, ◌∷◌, ◌++◌, ◌≤◌, length, option_map, decimal, bytes_eq, IfErr, IfOk, IfSome, MatchOption, None, take, position};
+ghost use Rattle.std.specs.List.{All};
 ghost use Rattle.line_words.specs.Blanks.{words_of};
 ghost use Rattle.line_words.specs.Lines.{is_lf};
 ghost use Rattle.room_core.specs.History.{NumbersRise};

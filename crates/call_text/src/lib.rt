@@ -34,6 +34,3 @@ pub use reply_text::{
     LineFault, MAX_SHORT, MAX_SHORT_LINE, Short, answer_text, fault_text, point_text, sight_text,
 };
 pub use room_core::Entry;
-
-#[cfg(test)]
-mod tests;

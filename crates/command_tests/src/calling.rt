@@ -2,7 +2,7 @@
 use cut_server::cut_main;
 use line_words::Words;
 use room_files::MemFiles;
-use room_halls::{MemHall, OpenGate};
+use room_halls::{Gate, Hall, MemHall, OpenGate};
 use room_ports::{MemSink, MemSource};
 use std::alloc::Global;
 use std::sync::Wait;
@@ -42,6 +42,21 @@ pub(crate) fn no_hall(alloc: Global) -> MemHall {
     MemHall::new(alloc, Vec::new(alloc), Vec::new(alloc))
 }
 
+/// The status of the program's call over objects in memory. What its contract says is not told to the tests, which hold
+/// it against what they want.
+pub(crate) fn status_of<R: Threads + Wait + Sync, H: Hall, G: Gate + Sync>(
+    rt: &R,
+    alloc: Global,
+    words: &Words,
+    files: &mut MemFiles,
+    input: &mut MemSource,
+    output: &mut MemSink,
+    hall: &mut H,
+    gate: &G,
+) -> u8 {
+    cut_main(rt, alloc, words, files, input, output, hall, gate)
+}
+
 // The status and the output of a run with these words, over these pieces of input and these calls that fail.
 pub(crate) fn ended<R: Threads + Wait + Sync>(
     rt: &R,
@@ -79,7 +94,7 @@ pub(crate) fn ended_over<R: Threads + Wait + Sync>(
     let mut input = MemSource::new(input, reads.to_vec(alloc)?);
     let mut output = MemSink::new(alloc, writes.to_vec(alloc)?);
     let words = words_of(alloc, words)?;
-    let status = cut_main(
+    let status = status_of(
         rt,
         alloc,
         &words,
@@ -94,32 +109,4 @@ pub(crate) fn ended_over<R: Threads + Wait + Sync>(
         None => Vec::new(alloc),
     };
     Ok((status, bytes))
-}
-
-/// Whether a run with these words ends with status 0 and answers so, in a text of what is sent, each line behind `> `,
-/// and of what is answered.
-pub(crate) fn is_answered<R: Threads + Wait + Sync>(
-    rt: &R,
-    alloc: Global,
-    words: &str,
-    talk: &str,
-) -> Result<bool, Fail> {
-    let mut sent = Vec::new(alloc);
-    let mut wanted = Vec::new(alloc);
-    for line in talk.split('\n') {
-        match line.as_bytes().strip_prefix(b"> ".as_slice()) {
-            Some(line) => {
-                sent.extend_from_slice(line)?;
-                sent.push(b'\n')?;
-            }
-            None => {
-                wanted.extend_from_slice(line.as_bytes())?;
-                wanted.push(b'\n')?;
-            }
-        }
-    }
-    wanted.pop();
-    let texts = parted(alloc, words)?;
-    let (status, output) = ended(rt, alloc, &texts, &[&sent], &[], &[])?;
-    Ok(status == 0 && output.as_slice() == wanted.as_slice())
 }

@@ -7,8 +7,6 @@ mod calling;
 #[cfg(test)]
 mod documents;
 #[cfg(test)]
-mod links;
-#[cfg(test)]
 mod replays;
 #[cfg(test)]
 mod runs;
@@ -16,7 +14,5 @@ mod runs;
 mod soak;
 #[cfg(test)]
 mod stations;
-#[cfg(test)]
-mod talks;
 #[cfg(test)]
 mod turns;

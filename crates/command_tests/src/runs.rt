@@ -1,9 +1,9 @@
 // Runs of one station: its input in pieces, faults at each call, words and limits.
-use crate::calling::{ended, no_files, no_hall, parted, words_of};
-use cut_server::cut_main;
+use crate::calling::{ended, no_files, no_hall, parted, status_of, words_of};
 use room_halls::OpenGate;
 use room_ports::{MemSink, MemSource};
 use std::alloc::Global;
+use std::process::Abort;
 use std::sync::Wait;
 use std::test::Fail;
 use std::thread::Threads;
@@ -170,41 +170,56 @@ fn each_call_may_fail(rt: HostRuntime) -> Result<(), Fail> {
     Ok(())
 }
 
+/// Words that are no command, a row each; the first row has none.
+const NO_COMMAND: &str = "
+run
+run 2
+run 0 1
+run 17 1
+run 2 1000
+run 2 -1
+run 2\t 1
+run 2 1 1
+Run 2 1
+serve cut 24 ndf 1 a
+serve cut 24 ndf 0 a b
+serve cut 24 ndf 17 a b
+serve cut 24 drop 1 a b
+serve cut 24 ndf 1 a b c
+run cut 24 ndf 1 a b
+";
+
+/// Words of runs in a plain room.
+const RUNS: &str = "\
+run 1 0
+run 16 999
+run 02 1
+run 2 000
+";
+
+// Each row of words ends with this status and answers so to `point`.
+fn end_so<R: Threads + Wait + Sync + Abort>(
+    rt: &R,
+    alloc: Global,
+    rows: &str,
+    status: u8,
+    wanted: &str,
+) -> Result<(), Fail> {
+    for row in rows.lines() {
+        let words = parted(alloc, row)?;
+        let (ended_with, output) = ended(rt, alloc, &words, &["point\n".as_bytes()], &[], &[])?;
+        assert_eq!(rt; ended_with, status, "{row:?}");
+        assert_eq!(rt; output.as_slice(), wanted.as_bytes(), "{row:?}");
+    }
+    Ok(())
+}
+
 #[test]
 fn words_are_a_run_or_refused(rt: HostRuntime) -> Result<(), Fail> {
     let alloc = rt.alloc();
-    let refused = "refused words\n";
-    let ran = "point 0\njournal 0\n";
-    let table = [
-        ("", 3u8, refused),
-        ("run", 3, refused),
-        ("run 2", 3, refused),
-        ("run 0 1", 3, refused),
-        ("run 17 1", 3, refused),
-        ("run 2 1000", 3, refused),
-        ("run 2 -1", 3, refused),
-        ("run 2\t 1", 3, refused),
-        ("run 2 1 1", 3, refused),
-        ("Run 2 1", 3, refused),
-        ("serve cut 24 ndf 1 a", 3, refused),
-        ("serve cut 24 ndf 0 a b", 3, refused),
-        ("serve cut 24 ndf 17 a b", 3, refused),
-        ("serve cut 24 drop 1 a b", 3, refused),
-        ("serve cut 24 ndf 1 a b c", 3, refused),
-        ("run cut 24 ndf 1 a b", 3, refused),
-        ("serve cut 24 ndf 16 a b", 1, ""),
-        ("run 1 0", 0, ran),
-        ("run 16 999", 0, ran),
-        ("run 02 1", 0, ran),
-        ("run 2 000", 0, ran),
-    ];
-    for (words, status, wanted) in table {
-        let words = parted(alloc, words)?;
-        let (ended_with, output) = ended(&rt, alloc, &words, &["point\n".as_bytes()], &[], &[])?;
-        assert_eq!(rt; ended_with, status, "{words:?}");
-        assert_eq!(rt; output.as_slice(), wanted.as_bytes(), "{words:?}");
-    }
-    Ok(())
+    end_so(&rt, alloc, NO_COMMAND, 3, "refused words\n")?;
+    end_so(&rt, alloc, "serve cut 24 ndf 16 a b", 1, "")?;
+    end_so(&rt, alloc, RUNS, 0, "point 0\njournal 0\n")
 }
 
 #[test]
@@ -235,7 +250,7 @@ fn long_input<R: Threads + Wait + Sync>(
     let mut input = MemSource::new(pieces, Vec::new(alloc));
     let mut output = MemSink::new(alloc, Vec::new(alloc));
     let words = words_of(alloc, &["run", "1", "1"])?;
-    let status = cut_main(
+    let status = status_of(
         rt,
         alloc,
         &words,

@@ -1,8 +1,7 @@
 // Stations of a hall over memory, served at once.
-use crate::calling::words_in;
+use crate::calling::{status_of, words_in};
 use crate::documents::document_of;
 use crate::turns::{Deeds, HeldHall, Hold, HoldingGate, Until};
-use cut_server::cut_main;
 use room_files::{Files, MemFiles};
 use room_halls::{Hall, MemHall};
 use room_ports::{MemLine, MemSink, MemSource};
@@ -79,35 +78,66 @@ fn taken_of(alloc: Global, hall: &mut MemHall, stations: usize) -> Result<Vec<St
     Ok(taken)
 }
 
+// The files, of which one is the document.
+fn files_of(alloc: Global, serving: &Serving<'_>) -> Result<MemFiles, Fail> {
+    let mut files = MemFiles::new(alloc, serving.files.to_vec(alloc)?);
+    files.put("cut", &document_of(alloc, serving.tracks, serving.clips)?)?;
+    Ok(files)
+}
+
+// The hall, over whose lines the stations send.
+fn hall_of(
+    alloc: Global,
+    serving: &Serving<'_>,
+    deeds: &Arc<Deeds, Global>,
+) -> Result<HeldHall, Fail> {
+    let lines = lines_of(alloc, serving.sent, serving.writes)?;
+    Ok(HeldHall {
+        hall: MemHall::new(alloc, lines, serving.calls.to_vec(alloc)?),
+        holds: serving.held.to_vec(alloc)?,
+        deeds: Arc::try_clone(deeds)?,
+    })
+}
+
+// The status of so many stations that are served over these files and this hall.
+fn status_over<R: Threads + Wait + Sync>(
+    rt: &R,
+    alloc: Global,
+    stations: usize,
+    files: &mut MemFiles,
+    hall: &mut HeldHall,
+    gate: &HoldingGate<'_>,
+) -> Result<u8, Fail> {
+    let command = format!(in alloc; "serve cut 24 ndf {stations} hall out.journal")?;
+    let words = words_in(alloc, command.as_str())?;
+    let mut input = MemSource::new(Vec::new(alloc), Vec::new(alloc));
+    let mut output = MemSink::new(alloc, Vec::new(alloc));
+    Ok(status_of(
+        rt,
+        alloc,
+        &words,
+        files,
+        &mut input,
+        &mut output,
+        hall,
+        gate,
+    ))
+}
+
 pub(crate) fn serve<R: Threads + Wait + Sync>(
     rt: &R,
     alloc: Global,
     serving: &Serving<'_>,
 ) -> Result<Served, Fail> {
-    let mut files = MemFiles::new(alloc, serving.files.to_vec(alloc)?);
-    files.put("cut", &document_of(alloc, serving.tracks, serving.clips)?)?;
     let deeds = Arc::new(alloc, Deeds::none())?;
-    let lines = lines_of(alloc, serving.sent, serving.writes)?;
-    let mut hall = HeldHall {
-        hall: MemHall::new(alloc, lines, serving.calls.to_vec(alloc)?),
-        holds: serving.held.to_vec(alloc)?,
-        deeds: Arc::try_clone(&deeds)?,
+    let mut files = files_of(alloc, serving)?;
+    let mut hall = hall_of(alloc, serving, &deeds)?;
+    let gate = HoldingGate {
+        deeds: &deeds,
+        holds: serving.at_gate,
     };
     let stations = serving.sent.len();
-    let command = format!(in alloc; "serve cut 24 ndf {stations} hall out.journal")?;
-    let status = cut_main(
-        rt,
-        alloc,
-        &words_in(alloc, command.as_str())?,
-        &mut files,
-        &mut MemSource::new(Vec::new(alloc), Vec::new(alloc)),
-        &mut MemSink::new(alloc, Vec::new(alloc)),
-        &mut hall,
-        &HoldingGate {
-            deeds: &deeds,
-            holds: serving.at_gate,
-        },
-    );
+    let status = status_over(rt, alloc, stations, &mut files, &mut hall, &gate)?;
     Ok(Served {
         status,
         taken: taken_of(alloc, &mut hall.hall, stations)?,

@@ -69,12 +69,12 @@ first-marked : (mark : Option Mark) (i : ℕ) (vs : List ItemView) → first_mar
 first-marked mark i [] = refl
 first-marked mark i (v ∷ vs) = refl
 
-filled_of : (vs : List ItemView) → EachHolds vs → AllFilled vs
+pub filled_of : (vs : List ItemView) → EachHolds vs → AllFilled vs
 filled_of [] e = tt
 filled_of (v ∷ vs) e = (e.0.filled, filled_of vs e.1)
 
 -- the items and gaps of a track are tight
-tight_of : (t : TrackState) → IsKept t → IsTight (items_of t.cells)
+pub tight_of : (t : TrackState) → IsKept t → IsTight (items_of t.cells)
 tight_of t k =
     let P : List ItemView → Type 0 = λ vs. IsTight vs in
     let is : joined (items_of t.cells) ≡ items_of t.cells = sym (items_of-cells_of (items_of t.cells) (filled_of (items_of t.cells) k.each)) ∙ ap items_of k.whole in

@@ -43,11 +43,6 @@ pub record IsGood (table : Table) (t : TrackState) : Type 0 where
   pub frames : length t.cells ≤ MAX_FRAMES
   pub items : length (items_of t.cells) ≤ MAX_ITEMS
 
--- no dissolve stands on the track
-abbrev pub AllUnmarked : List ItemView → Type 0
-AllUnmarked [] = Unit {0}
-AllUnmarked (v ∷ vs) = (v.mark ≡ None) × AllUnmarked vs
-
 -- no item of the track is linked
 abbrev pub AllUnlinked : List ItemView → Type 0
 AllUnlinked [] = Unit {0}

@@ -1,3 +1,4 @@
+-- To be read: public clauses speak of these.
 pub mod ReelNames
 pub mod Bounds
 pub mod Items
@@ -8,10 +9,8 @@ pub mod Sizes
 pub mod Joined
 pub mod Places
 pub mod Good
-pub mod TrackInside
 pub mod Roomy
 pub mod SpareState
-pub mod SpareInside
 pub mod Ranges
 pub mod Changes
 pub mod Standing
@@ -20,3 +19,6 @@ pub mod Limits
 pub mod OwnTracks
 pub mod TrackSets
 pub mod Links
+-- For the steps of the code, for proofs and for tests.
+pub mod TrackInside
+pub mod SpareInside

@@ -16,18 +16,19 @@ same_link k l = nat_eq k.home l.home && nat_eq k.number l.number
 abbrev pub link_before : Link → Link → Bool
 link_before k l = nat_lt k.home l.home || (nat_eq k.home l.home && nat_lt k.number l.number)
 
-abbrev pub with_link : Link → List Link → List Link
-with_link l [] = l ∷ []
-with_link l (k ∷ ks) = if same_link l k then k ∷ ks else (if link_before l k then l ∷ k ∷ ks else k ∷ with_link l ks)
+-- these links and this one, in order and each once
+abbrev pub links_with : Link → List Link → List Link
+links_with l [] = l ∷ []
+links_with l (k ∷ ks) = if same_link l k then k ∷ ks else (if link_before l k then l ∷ k ∷ ks else k ∷ links_with l ks)
 
-abbrev pub with_link_of : Option Link → List Link → List Link
-with_link_of None ls = ls
-with_link_of (Some l) ls = with_link l ls
+abbrev pub links_with_any : Option Link → List Link → List Link
+links_with_any None ls = ls
+links_with_any (Some l) ls = links_with l ls
 
 -- the links of cells, in order and each once
 abbrev pub links_in : List Cell → List Link
 links_in [] = []
-links_in (c ∷ cs) = with_link_of c.link (links_in cs)
+links_in (c ∷ cs) = links_with_any c.link (links_in cs)
 
 -- the cells of these tracks from a place on, and before a place
 abbrev pub cells_from : ℕ → List TrackState → List Cell

@@ -11,6 +11,15 @@ ghost use Rattle.composables.specs.Standing.{HaveRoom};
 ghost use Rattle.composables.specs.TrackFacts.{IsKept};
 ghost use Rattle.composables.specs.TrackState.{TrackState};
 
+use crate::Track;
+
+/// Whoever changes a track, it keeps what every track keeps.
+pub fn a_track_is_kept(track: &Track)
+    ensures { IsKept track.now }
+{
+    let _ = track.length(); // its clause says so
+}
+
 /// A place lies in one item or gap at most.
 pub fn a_place_lies_in_one_item()
     ensures { (cells : List Cell) (p q : Place) (at : ℕ) → IsPlaceOf cells p → IsPlaceOf cells q

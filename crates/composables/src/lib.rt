@@ -28,7 +28,9 @@ pub use calls::{
 pub use facts::holds;
 pub use frame_meaning::Memory;
 pub use items::{ItemView, Place};
-pub use laws::{a_dissolve_may_stand_at_a_cut, a_place_lies_in_one_item, limits_are_these};
+pub use laws::{
+    a_dissolve_may_stand_at_a_cut, a_place_lies_in_one_item, a_track_is_kept, limits_are_these,
+};
 pub use lists::Listed;
 pub use media::{Kind, Layer, Media, Nest, Table};
 pub use named_tracks::{has_track, own_index};
@@ -43,6 +45,3 @@ pub const MAX_FRAMES: u32 = 2_592_000;
 
 /// The most items of a track, gaps counted.
 pub const MAX_ITEMS: u32 = 65_536;
-
-#[cfg(test)]
-mod tests;

@@ -8,6 +8,3 @@ mod stations;
 
 pub use object::Counters;
 pub use stations::{Event, Stations};
-
-#[cfg(test)]
-mod tests;

@@ -253,12 +253,3 @@ sight_of_none m opening asked seen before after point r at none =
 pub behind_point : {C : Type 0} (entries after : List (Entry C)) (e : Entry C) (point : ℕ) → after ≡ entries ++ e ∷ [] → point ≡ length entries → take point after ≡ entries
 behind_point {C} entries after e point is count =
     ap (λ n. take n after) count ∙ (ap (λ (l : List (Entry C)). take (length entries) l) is ∙ take-append_seam entries (e ∷ []))
-
--- the steps on copies of the held parts are those on what the entries left
-pub steps_on : {P C D R : Type 0} (m : Meaning P C D R) (opening : List P) (size : P → ℕ) (call : C) (entries : List (Entry C)) (names : List ℕ) (ps copies : List P) (before after : ℕ)
-    → ComesTo m opening entries names ps → names ≡ m.names call → copies ≡ ps → after ≤ before + 32 * sum_by (λ p. size p + 64) copies
-    → TakesAtMost m opening size call entries before after
-steps_on {P} m opening size call entries names ps copies before after comes is same most now h =
-    let one = one_opening (replay (whole m) opening entries) comes.now now comes.comes h in
-    let are : copies ≡ picked now (m.names call) = same ∙ (sym comes.picked_is ∙ (ap (λ l. picked l names) one ∙ ap (λ n. picked now n) is)) in
-    subst (λ (l : List P). after ≤ before + 32 * sum_by (λ p. size p + 64) l) are most

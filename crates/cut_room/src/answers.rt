@@ -13,7 +13,7 @@ pub enum Answer<O: PartObject> {
     Refused { point: u32, refusal: O::Refusal },
     /// The edit would be done, and the journal has its most entries, as many as the point says.
     Full { point: u32 },
-    /// Want of memory; nothing has changed.
+    /// Want of memory; the station has no entry more.
     Memory,
 }
 

@@ -1,6 +1,6 @@
 //! A cutting room over any object of parts, for many stations at once: the locks of its parts and its journal. The pass
 //! of a station knows how the journal goes on, from answer to answer. [`Room::edit`] does a call and puts it into the
-//! journal, or changes nothing and says why. Nothing here knows what a part is.
+//! journal, or adds no entry and says why. Nothing here knows what a part is.
 #![tactic(auto)]
 
 mod answers;
@@ -9,8 +9,3 @@ mod room;
 
 pub use answers::{Answer, CutFault, Sight};
 pub use room::{Room, RoomBlank};
-
-#[cfg(test)]
-mod flag_tests;
-#[cfg(test)]
-mod room_tests;

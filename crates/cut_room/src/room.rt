@@ -149,7 +149,8 @@ impl<O: PartObject + Drop, J: Naming<O, O::Part>> Room<O, J> {
     }
 
     /// Does a call of a station under a number above its last, and puts it into the journal. After each answer but `Done`
-    /// nothing has changed. The gate is called once where the call applies, before it is put into the journal.
+    /// the station has no entry more. The gate is called once where the call applies, before it is put into the journal; no
+    /// clause speaks of it.
     pub fn edit<R: Wait, G: Gate, L: Ledger>(
         &self,
         rt: &R,

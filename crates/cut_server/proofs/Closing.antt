@@ -15,8 +15,8 @@ use Rattle.room_core.specs.Whole.{whole}
 use Rattle.otio_json.specs.declared.opening.Opening.{Opening}
 use Rattle.cut_server.specs.Closed.{Closes}
 use Rattle.station_sessions.specs.Rooms.{History, Setting}
-use Rattle.station_sessions.specs.Served.{IsFresh, IsRoomOf}
-use Rattle.station_sessions.specs.SessionInside.{IsSeated, TrackPass, TrackRoom, session_at, tracks_at}
+use Rattle.station_sessions.specs.Served.{IsRoomOf}
+use Rattle.station_sessions.specs.SessionInside.{TrackPass, TrackRoom}
 use Rattle.cut_server.specs.Stations.{AreOfStations}
 
 one_station : (s : ℕ) → In s (0 ∷ []) → s < 1

@@ -1,5 +1,5 @@
 -- A room of several stations, each over its line of a hall, and its journal kept in a file.
-use Rattle.std.specs.Prelude.{◌≡◌, ℕ, ◌<◌, ◌⊎◌, List, [], ◌∷◌, ◌++◌, Some, length, map, slice_get}
+use Rattle.std.specs.Prelude.{◌≡◌, ℕ, ◌⊎◌, List, [], ◌∷◌, ◌++◌, Some, length, map, slice_get}
 use Rattle.line_words.specs.Lines.{Line as InputLine}
 use Rattle.room_files.specs.Files.{IsWhole, OthersUnchanged}
 use Rattle.room_halls.specs.Stations.{LineTold, Station}

@@ -1,9 +1,11 @@
+-- To be read: public clauses speak of these.
 pub mod Stations
 pub mod Journals
 pub mod Commands
 pub mod Documents
-pub mod Closed
 pub mod Statuses
 pub mod Runs
 pub mod Halls
+-- For the steps of the code, for proofs and for tests.
+pub mod Closed
 pub mod Seated

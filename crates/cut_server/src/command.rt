@@ -1,5 +1,5 @@
 // The words of the program's command line.
-ghost use Rattle.std.specs.Prelude.{◌≡◌, ◌<◌, IfSome, drop, length, option_and_then, option_map};
+ghost use Rattle.std.specs.Prelude.{◌≡◌, IfSome, drop, option_and_then, option_map};
 ghost use Rattle.ratio_time.specs.Rates.{rate_value};
 ghost use Rattle.cut_server.specs.Commands.{command_of, run_of, serve_of, plain_of, document_of, hall_of};
 ghost use Rattle.cut_server.specs.Commands.{counting_of, rate_of_word, sequence_of, number_within, asked_by, HasBounds};

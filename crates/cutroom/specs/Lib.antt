@@ -1,2 +1,3 @@
+-- To be read: public clauses speak of each of these.
 pub mod Notices
 pub mod Answers

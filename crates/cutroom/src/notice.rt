@@ -1,5 +1,5 @@
 // What the program tells of itself.
-ghost use Rattle.std.specs.Prelude.{◌≡◌, ◌≤◌, ◌⊎◌};
+ghost use Rattle.std.specs.Prelude.{◌≡◌, ◌⊎◌};
 ghost use Rattle.room_ports.specs.Bytes.{Takes, TakesFront};
 ghost use Rattle.room_ports.specs.Counts.{HasRisen};
 ghost use Rattle.cutroom.specs.Notices.{text_of};

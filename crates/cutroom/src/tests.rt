@@ -7,6 +7,8 @@ use room_files::MemFiles;
 use room_halls::MemHall;
 use room_ports::{MemSink, MemSource};
 use std::alloc::Global;
+use std::sync::Wait;
+use std::thread::Threads;
 
 fn words_in(alloc: Global, texts: &[&str]) -> Result<Words, Memory> {
     let mut words = Words::new(alloc);
@@ -72,6 +74,38 @@ fn the_first_argument_is_no_word(rt: HostRuntime) -> Result<(), Memory> {
     Ok(())
 }
 
+// The status of an answer to words over this input and this output, with no file and no hall.
+fn status_of<R: Threads + Wait + Sync>(
+    rt: &R,
+    alloc: Global,
+    words: &Words,
+    input: &mut MemSource,
+    output: &mut MemSink,
+) -> u8 {
+    let mut files = MemFiles::new(alloc, Vec::new(alloc));
+    let mut hall = MemHall::new(alloc, Vec::new(alloc), Vec::new(alloc));
+    answer(rt, alloc, words, &mut files, input, output, &mut hall)
+}
+
+// The status of an answer to these words over the line `point`, where these reads and writes fail, and whether this text
+// was written.
+fn answered<R: Threads + Wait + Sync>(
+    rt: &R,
+    alloc: Global,
+    texts: &[&str],
+    reads: &[u32],
+    writes: &[u32],
+    text: &str,
+) -> Result<(u8, bool), Memory> {
+    let words = words_in(alloc, texts)?;
+    let mut pieces = Vec::new(alloc);
+    pieces.push(b"point\n".to_vec(alloc)?)?;
+    let mut input = MemSource::new(pieces, reads.to_vec(alloc)?);
+    let mut output = MemSink::new(alloc, writes.to_vec(alloc)?);
+    let status = status_of(rt, alloc, &words, &mut input, &mut output);
+    Ok((status, output.bytes() == Some(text.as_bytes())))
+}
+
 // The status, what was written, and whether standard error is told something.
 #[test]
 fn words_are_answered_once(rt: HostRuntime) -> Result<(), Memory> {
@@ -94,24 +128,9 @@ fn words_are_answered_once(rt: HostRuntime) -> Result<(), Memory> {
         (&["run", "1", "0"], &[], &[1], 2, "", true),
     ];
     for (texts, reads, writes, status, text, complains) in cases {
-        let words = words_in(alloc, texts)?;
-        let mut pieces = Vec::new(alloc);
-        pieces.push(b"point\n".to_vec(alloc)?)?;
-        let mut input = MemSource::new(pieces, reads.to_vec(alloc)?);
-        let mut output = MemSink::new(alloc, writes.to_vec(alloc)?);
-        let mut files = MemFiles::new(alloc, Vec::new(alloc));
-        let mut hall = MemHall::new(alloc, Vec::new(alloc), Vec::new(alloc));
-        let ended = answer(
-            &rt,
-            alloc,
-            &words,
-            &mut files,
-            &mut input,
-            &mut output,
-            &mut hall,
-        );
+        let (ended, is_written) = answered(&rt, alloc, texts, reads, writes, text)?;
         assert_eq!(rt; ended, status, "{texts:?}");
-        assert!(rt; output.bytes() == Some(text.as_bytes()), "{texts:?}");
+        assert!(rt; is_written, "{texts:?}");
         assert!(rt; complaint(ended).is_empty() != complains, "{texts:?}");
     }
     Ok(())

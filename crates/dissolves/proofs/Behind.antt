@@ -11,6 +11,7 @@ use Rattle.frame_meaning.specs.declared.frames.Run.{Run}
 use Rattle.frame_meaning.specs.Cells.{later_side}
 use Rattle.frame_meaning.specs.Going.{same_what, side_goes_on, frame_goes_on}
 use Rattle.frame_meaning.specs.Runs.{with_frame, runs}
+use Rattle.composables.proofs.Spans.{later-zero}
 use Rattle.dissolves.specs.Pieces.{later_frame, frames_from, run_frames, last_frame, push_run, len_of}
 
 -- one thing
@@ -73,17 +74,13 @@ frame_is_next (frame.Mix l r n d) (frame.Mix l' r' n' d') h =
 
 -- later by zero, and later twice
 
-pub side-zero : (s : Side What) → later_side s 0 ≡ s
-side-zero side.Dark = refl
-side-zero (side.Pic w s) = let e : s + 0 ≡ s = omega arith in ap (λ (n : ℕ). side.Pic w n) e
-
 pub frame-zero : (f : Frame What) → later_frame f 0 ≡ f
 frame-zero frame.Dark = refl
 frame-zero (frame.Pic w s) = let e : s + 0 ≡ s = omega arith in ap (λ (n : ℕ). frame.Pic w n) e
 frame-zero (frame.Mix l r n d) =
     let e : n + 0 ≡ n = omega arith in
-    ap (λ (x : Side What). frame.Mix x (later_side r 0) (n + 0) d) (side-zero l)
-    ∙ (ap (λ (x : Side What). frame.Mix l x (n + 0) d) (side-zero r) ∙ ap (λ (k : ℕ). frame.Mix l r k d) e)
+    ap (λ (x : Side What). frame.Mix x (later_side r 0) (n + 0) d) (later-zero l)
+    ∙ (ap (λ (x : Side What). frame.Mix l x (n + 0) d) (later-zero r) ∙ ap (λ (k : ℕ). frame.Mix l r k d) e)
 
 pub side-twice : (s : Side What) (j k : ℕ) → later_side (later_side s j) k ≡ later_side s (j + k)
 side-twice side.Dark j k = refl

@@ -20,10 +20,11 @@ use Rattle.composables.specs.Items.{marked, view_cells, cells_of}
 use Rattle.composables.specs.Joined.{frames_in}
 use Rattle.composables.specs.TrackFacts.{EachHolds, HasSource, first_mark, left_reach, right_reach}
 use Rattle.composables.proofs.Joining.{length-view_cells, length-cells_of}
+use Rattle.composables.proofs.Spans.{later-zero}
 use Rattle.dissolves.specs.Pieces.{later_frame, frames_from}
 use Rattle.dissolves.specs.Parts.{earlier_side, first_of, item_before, head_frames, mix_before, tail_frames, own_frames, item_frames, frames_shown, HoldsBefore, EachBetween}
 use Rattle.dissolves.proofs.Whole.{mark-first, each_numbered, between_all, unmarked_reach}
-use Rattle.dissolves.proofs.Behind.{frame-zero, frame-twice, side-zero, side-twice}
+use Rattle.dissolves.proofs.Behind.{frame-zero, frame-twice, side-twice}
 
 -- where a mark is looked for
 
@@ -75,7 +76,7 @@ none_ahead p (v ∷ vs) q h far =
 
 side_in_span : (i : Option ℕ) (s : Side What) (l : Option Link) (n k : ℕ) (ys : List Cell) → k < n → (get_or (span i s l n ++ ys) k dark_cell).side ≡ later_side s k
 side_in_span i s l zero k ys h = absurd (omega arith)
-side_in_span i s l (suc n) zero ys h = sym (side-zero s)
+side_in_span i s l (suc n) zero ys h = sym (later-zero s)
 side_in_span i s l (suc n) (suc k) ys h =
     let e : 1 + k ≡ suc k = omega arith in
     side_in_span i (next_side s) l n k ys (omega arith) ∙ (ap (λ (t : Side What). later_side t k) (one_later s) ∙ (side-twice s 1 k ∙ ap (later_side s) e)) where
@@ -85,7 +86,7 @@ side_in_span i s l (suc n) (suc k) ys h =
 
 side_in_marked : (m : Option Mark) (i : Option ℕ) (s : Side What) (l : Option Link) (n k : ℕ) (ys : List Cell) → k < n → (get_or (marked m (span i s l n) ++ ys) k dark_cell).side ≡ later_side s k
 side_in_marked m i s l zero k ys h = absurd (omega arith)
-side_in_marked m i s l (suc n) zero ys h = sym (side-zero s)
+side_in_marked m i s l (suc n) zero ys h = sym (later-zero s)
 side_in_marked m i s l (suc n) (suc k) ys h = side_in_span i s l (suc n) (suc k) ys h
 
 side_in_view : (cs : List Cell) (p : ℕ) (v : ItemView) (ys : List Cell) (k : ℕ) → drop p cs ≡ view_cells v ++ ys → k < v.len → (cell_at cs (p + k)).side ≡ later_side v.first k
@@ -167,7 +168,7 @@ head_shown cs p before v vs st = by_mark v.mark refl before refl where
       let held = subst (λ (u : Option ItemView). HoldsBefore u v.mark) f st.held in
       let found = st.passed (p + k) (omega arith) ∙ on_view p v m (cells_of vs) (p + k) st.each.0.filled e (omega arith) (omega arith) in
       let here : p + 0 ≡ p = omega arith in
-      let first = ap (λ (x : ℕ). (cell_at cs x).side) (sym here) ∙ (side_in_view cs p v (cells_of vs) 0 st.rest st.each.0.filled ∙ side-zero v.first) in
+      let first = ap (λ (x : ℕ). (cell_at cs x).side) (sym here) ∙ (side_in_view cs p v (cells_of vs) 0 st.rest st.each.0.filled ∙ later-zero v.first) in
       let num : p + k + m.a - p + 1 ≡ m.a + 1 + k = omega arith in
       shown_as cs p (p + k) m found
       ∙ mixes _ _ _ _ _ _ (m.a + m.b + 1)
@@ -227,7 +228,7 @@ tail_shown cs p before v (r ∷ rs) st = by_mark r.mark refl where
       ∙ (past_view p v (cells_of (r ∷ rs)) q st.each.0.filled (not_behind v.mark p q (omega arith))
       ∙ on_view (p + v.len) r m (cells_of rs) q next.each.0.filled e (omega arith) (omega arith)) in
       let here : p + v.len + 0 ≡ p + v.len = omega arith in
-      let first = ap (λ (x : ℕ). (cell_at cs x).side) (sym here) ∙ (side_in_view cs (p + v.len) r (cells_of rs) 0 next.rest next.each.0.filled ∙ side-zero r.first) in
+      let first = ap (λ (x : ℕ). (cell_at cs x).side) (sym here) ∙ (side_in_view cs (p + v.len) r (cells_of rs) 0 next.rest next.each.0.filled ∙ later-zero r.first) in
       let source = subst (λ (n : ℕ). HasSource r.first r.len n (right_reach (first_mark rs))) reach next.each.0.source in
       let num : q + m.a - (p + v.len) + 1 ≡ 1 + k = omega arith in
       shown_as cs (p + v.len) q m found

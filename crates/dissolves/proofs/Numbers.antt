@@ -19,7 +19,7 @@ use Rattle.dissolves.specs.Parts.{earlier_side, first_of, mark_of, mix_after, he
 use Rattle.dissolves.proofs.Dissolved.{render_shown}
 use Rattle.dissolves.proofs.Whole.{EachMarkIsNumbered, each_numbered, frames_of_items, unmarked_reach}
 
-abbrev EachIsNumbered : List (Frame What) → Type 0
+abbrev pub EachIsNumbered : List (Frame What) → Type 0
 EachIsNumbered [] = Unit {0}
 EachIsNumbered (f ∷ fs) = IsNumbered f × EachIsNumbered fs
 

@@ -13,6 +13,3 @@ mod shown;
 
 pub use marking::{dissolve, undissolve};
 pub use shown::runs_in;
-
-#[cfg(test)]
-mod tests;

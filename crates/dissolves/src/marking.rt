@@ -14,7 +14,7 @@ use std::sync::ledger::Ledger;
 use step_count::Steps;
 
 /// Puts a dissolve at the cut at `at` of the one track that is named, from `a` frames before the cut to `b` frames
-/// after it, in place of an earlier one there. Beside a gap it is a fade. It takes no memory.
+/// after it, in place of an earlier one there. Beside a gap it is a fade. The allocator is not used.
 ///
 /// It answers the first of these refusals that holds: `EmptyRange`, where it has no frame; `NotACut`; `DissolveRoom` of
 /// the left side, and else of the right, where that side is a nest, is too short for its frames and those of the
@@ -45,8 +45,8 @@ pub fn dissolve<L: Ledger>(
     dissolve_track(table, &mut named[0], call, steps)
 }
 
-/// Takes the dissolve at `at` of the one track that is named away. It takes no memory. It is refused by `NotACut` where
-/// none stands there.
+/// Takes the dissolve at `at` of the one track that is named away. The allocator is not used. It is refused by
+/// `NotACut` where none stands there.
 pub fn undissolve<L: Ledger>(
     _alloc: Global,
     table: &Table,

@@ -1,16 +1,10 @@
 -- Tracks of a room, as an object's parts and as an edit asks for them.
-use Rattle.std.proofs.Common.{◌≡◌, ℕ, List, [], ◌∷◌, All, map, Result, Ok, Err, refl, ap, ◌∙◌, arith}
+use Rattle.std.proofs.Common.{◌≡◌, ℕ, List, [], ◌∷◌, All, map, refl, ap, ◌∙◌, arith}
 use Rattle.composables.specs.declared.media.Table.{Table}
-use Rattle.composables.specs.declared.refusals.Done.{Done}
-use Rattle.composables.specs.declared.refusals.EditFault.{EditFault}
-use Rattle.composables.specs.declared.refusals.EditFault.TheVariants as edit
-use Rattle.composables.specs.Answers.{Answers as EditAnswers, Applied}
 use Rattle.composables.specs.Good.{IsGood}
 use Rattle.composables.specs.TrackState.{TrackState}
 use Rattle.edit_splice.proofs.Standing.{all_head, all_tail}
-use Rattle.room_core.specs.Answers.{Answers}
 use Rattle.room_core.specs.Parts.{AreGood}
-use Rattle.edit_apply.specs.Faults.{answer_of}
 use Rattle.edit_apply.specs.RoomTracks.{IsTrackOf}
 
 pub tracks-named : (table : Table) (ns : List ℕ) (ts : List TrackState) → AreGood (IsTrackOf table) ns ts → map (λ (t : TrackState). t.number) ts ≡ ns
@@ -30,9 +24,3 @@ tracks-again table (n ∷ ns) (t ∷ ts) e g = (
   record { good = all_head (IsGood table) t ts g; number_is = Prim.grind (arith, e) },
   tracks-again table ns ts (Prim.grind (arith, e)) (all_tail (IsGood table) t ts g),
 )
-
--- an edit's answer is the object's
-pub edit-answers : (meant : Applied) (old new : List TrackState) (result : Result Done EditFault) → EditAnswers meant old new result → Answers meant old new (answer_of result)
-edit-answers meant old new (Ok d) h = h
-edit-answers meant old new (Err (edit.Refused why)) h = h
-edit-answers meant old new (Err edit.Memory) h = h

@@ -14,6 +14,3 @@ mod sights;
 pub use asks::{Ask, AskRefusal, Call, Seen};
 pub use editor::Editor;
 pub use laws::{good_law, together_law};
-
-#[cfg(test)]
-mod tests;

@@ -20,10 +20,6 @@ end_later (negsuc k) earlier later n sign is lt = differ sign
 not_less : (k : ℕ) → int_lt (pos k) (pos 0) ≡ false
 not_less k = lt-leb (suc k) 0 (omega arith)
 
-asked_earlier : (by : ℤ) (earlier later n : ℕ) → int_lt by (pos 0) ≡ true → n ≡ nat_abs by → n ≤ earlier → nearest (lies_within earlier later) by ≡ by
-asked_earlier (pos k) earlier later n sign is le = differ (sym sign ∙ not_less k)
-asked_earlier (negsuc k) earlier later n sign is le = let e : min (suc k) earlier ≡ suc k = omega (arith, is, le) in within-earlier earlier later k ∙ ap (λ (k : ℕ). neg_ℤ (pos k)) e
-
 end_earlier : (by : ℤ) (earlier later n : ℕ) → int_lt by (pos 0) ≡ true → n ≡ nat_abs by → earlier < n → nearest (lies_within earlier later) by ≡ neg_ℤ (pos earlier)
 end_earlier (pos k) earlier later n sign is lt = differ (sym sign ∙ not_less k)
 end_earlier (negsuc k) earlier later n sign is lt = let e : min (suc k) earlier ≡ earlier = omega (arith, is, lt) in within-earlier earlier later k ∙ ap (λ (k : ℕ). neg_ℤ (pos k)) e
@@ -43,12 +39,6 @@ pub is-end-later : (by : ℤ) (earlier later n : ℕ) → SFits w32 by → int_l
 is-end-later by earlier later n fits sign is lt small =
     let r = read_back by fits in
     to_z_pos w32 later (omega (arith, lt, small)) ∙ sym (end_later by earlier later n (sym (ap (λ (z : ℤ). int_lt z (pos 0)) r) ∙ sign) (is ∙ ap nat_abs r) lt)
-
-pub is-asked-earlier : (by : ℤ) (earlier later n : ℕ) → SFits w32 by → int_lt (to_z w32 (of_z w32 by)) (pos 0) ≡ true → n ≡ nat_abs (to_z w32 (of_z w32 by)) → n ≤ earlier
-    → to_z w32 (of_z w32 by) ≡ nearest (lies_within earlier later) by
-is-asked-earlier by earlier later n fits sign is le =
-    let r = read_back by fits in
-    r ∙ sym (asked_earlier by earlier later n (sym (ap (λ (z : ℤ). int_lt z (pos 0)) r) ∙ sign) (is ∙ ap nat_abs r) le)
 
 -- less than nothing
 less_none : (n : ℕ) → pos 0 -ℤ pos n ≡ neg_ℤ (pos n)

@@ -29,8 +29,8 @@ gap-alone n h = by (eqb n 0) refl where
   by true e = let z = eqb-true n 0 e in absurd (omega (arith, z, h))
   by false e = refl
 
-none_alone : (table : Table) (t : TrackState) (x y : ℕ) → StandAlone table t x y []
-none_alone table t x y = record { each = tt; first = refl; meet = tt; apart = tt; free = tt; ranges = tt; links = tt }
+pub none-alone : (table : Table) (t : TrackState) (x y : ℕ) → StandAlone table t x y []
+none-alone table t x y = record { each = tt; first = refl; meet = tt; apart = tt; free = tt; ranges = tt; links = tt }
 
 holds_gap : (n : ℕ) → 0 < n → Holds (gap_view n) None
 holds_gap n h = record { filled = h; shows = tt; mark_filled = tt; room = omega arith; source = tt; head_no_nest = tt; tail_no_nest = tt }
@@ -112,36 +112,59 @@ keeps-up table t i v x y s n small =
     (λ (le : n ≤ v.len - 1). lt-ltb (x + n) y (omega (arith, le, s.long, s.filled)) ∙ sym (le-leb n (v.len - 1) le))
     (cases_lt (v.len - 1) n)
 
+-- what goes on behind a place, and what reaches back before it
+pub goes-on : (table : Table) (t : TrackState) (i : ℕ) (v : ItemView) (x y n : ℕ) → Spot table t i v x y → 0 < n → After table v.first v.len n → GoesOn table t y (going_on (cell_in v (v.len - 1)) n)
+goes-on table t i v x y n s h a = record {
+  part = record {
+    filled = h;
+    bare = refl;
+    source = subst (λ (d : Side What). HasSource d n 0 0) (sym same) a.part;
+    range = subst (λ (d : Side What). SideLiesIn table d n 0 0) (sym same) a.lies;
+  };
+  index = i;
+  before = v;
+  from = x;
+  stands = record { read = s.read; starts = s.starts; stops = s.stops };
+  item = refl;
+  link = refl;
+  side = same;
+} where
+  e : v.len - 1 + 1 ≡ v.len
+  e = omega (arith, s.filled)
+
+  same : next_side (cell_in v (v.len - 1)).side ≡ later_side v.first v.len
+  same = next-later v.first (v.len - 1) ∙ ap (later_side v.first) e
+
+pub reaches-back : (table : Table) (t : TrackState) (i : ℕ) (v : ItemView) (x y n : ℕ) → Spot table t i v x y → 0 < n → Before table v.first n → ReachesBack table t x (reaching_back (cell_in v 0) n)
+reaches-back table t i v x y n s h before = record {
+  part = record {
+    filled = h;
+    bare = refl;
+    source = subst (λ (d : Side What). HasSource d n 0 0) (sym same) before.part;
+    range = subst (λ (d : Side What). SideLiesIn table d n 0 0) (sym same) before.lies;
+  };
+  index = i;
+  after = v;
+  to = y;
+  stands = record { read = s.read; starts = s.starts; stops = s.stops };
+  item = refl;
+  link = refl;
+  side = before.side ∙ ap (λ (d : Side What). later_side d n) (sym same);
+} where
+  same : earlier_side (cell_in v 0).side n ≡ earlier_side v.first n
+  same = ap (λ (d : Side What). earlier_side d n) (later-zero v.first)
+
+-- each put in by itself
 pub back-parts : (table : Table) (t : TrackState) (i : ℕ) (v b : ItemView) (x y z n : ℕ) → IsGood table t → Spot table t i v x y → 0 < n → x ≡ z + n → Before table v.first n → b ≡ reaching_back (cell_in v 0) n
     → AreParts table t z x (b ∷ [])
 back-parts table t i v b x y z n good s h e before is = subst (λ (u : ItemView). AreParts table t z x (u ∷ [])) (sym is) back where
-  zero_later : (cell_in v 0).side ≡ v.first
-  zero_later = later-zero v.first
-
-  same : earlier_side (cell_in v 0).side n ≡ earlier_side v.first n
-  same = ap (λ (d : Side What). earlier_side d n) zero_later
-
   back : AreParts table t z x (reaching_back (cell_in v 0) n ∷ [])
   back = record {
     order = omega (arith, e);
     within = omega (arith, s.within, s.long);
     few = omega arith;
     filled = (h, tt);
-    may = reaches {views = []} (record {
-      part = record {
-        filled = h;
-        bare = refl;
-        source = subst (λ (d : Side What). HasSource d n 0 0) (sym same) before.part;
-        range = subst (λ (d : Side What). SideLiesIn table d n 0 0) (sym same) before.lies;
-      };
-      index = i;
-      after = v;
-      to = y;
-      stands = record { read = s.read; starts = s.starts; stops = s.stops };
-      item = refl;
-      link = refl;
-      side = before.side ∙ ap (λ (d : Side What). later_side d n) (sym same);
-    }) (none_alone table t z x);
+    may = reaches {views = []} (reaches-back table t i v x y n s h before) (none-alone table t z x);
     numbers = (s.number, tt);
     short = omega (arith, e, s.within, s.long, good.frames);
     unlinked = λ u. (unlinked-there (items_of t.cells) i v s.read u, tt);
@@ -150,33 +173,13 @@ back-parts table t i v b x y z n good s h e before is = subst (λ (u : ItemView)
 pub on-parts : (table : Table) (t : TrackState) (i : ℕ) (v g : ItemView) (x y z n : ℕ) → Spot table t i v x y → 0 < n → y ≤ z → z ≤ length t.cells → y + n + (length t.cells - z) ≤ MAX_FRAMES → After table v.first v.len n
     → g ≡ going_on (cell_in v (v.len - 1)) n → AreParts table t y z (g ∷ [])
 on-parts table t i v g x y z n s h le within short a is = subst (λ (u : ItemView). AreParts table t y z (u ∷ [])) (sym is) on where
-  e : v.len - 1 + 1 ≡ v.len
-  e = omega (arith, s.filled)
-
-  same : next_side (cell_in v (v.len - 1)).side ≡ later_side v.first v.len
-  same = next-later v.first (v.len - 1) ∙ ap (later_side v.first) e
-
   on : AreParts table t y z (going_on (cell_in v (v.len - 1)) n ∷ [])
   on = record {
     order = le;
     within = within;
     few = omega arith;
     filled = (h, tt);
-    may = goes {views = []} (record {
-      part = record {
-        filled = h;
-        bare = refl;
-        source = subst (λ (d : Side What). HasSource d n 0 0) (sym same) a.part;
-        range = subst (λ (d : Side What). SideLiesIn table d n 0 0) (sym same) a.lies;
-      };
-      index = i;
-      before = v;
-      from = x;
-      stands = record { read = s.read; starts = s.starts; stops = s.stops };
-      item = refl;
-      link = refl;
-      side = same;
-    }) (none_alone table t y z);
+    may = goes {views = []} (goes-on table t i v x y n s h a) (none-alone table t y z);
     numbers = (s.number, tt);
     short = omega (arith, short);
     unlinked = λ u. (unlinked-there (items_of t.cells) i v s.read u, tt);

@@ -1,5 +1,5 @@
 -- An item or gap of a track that is good in a table, with its place and its cells.
-use Rattle.std.proofs.Common.{◌≡◌, ℕ, zero, suc, ◌+◌, ◌-◌, ◌<◌, ◌≤◌, List, [], ◌∷◌, ◌++◌, take, length, Option, Some, None, IfSome, slice_get, sym, ap, ◌∙◌, arith, subst}
+use Rattle.std.proofs.Common.{◌≡◌, ℕ, zero, suc, ◌+◌, ◌-◌, ◌<◌, ◌≤◌, false, List, [], ◌∷◌, ◌++◌, take, length, Option, Some, None, IfSome, slice_get, sym, ap, ◌∙◌, arith, subst}
 use Rattle.std.proofs.Math.ListN.{get_or-append}
 use Rattle.std.proofs.lemmas.List.{get_or-append-add}
 use Rattle.std.proofs.lemmas.Option.{slice_get_within, get_or_from_slice_get}
@@ -7,7 +7,7 @@ use Rattle.frame_meaning.specs.declared.cells.What.{What}
 use Rattle.frame_meaning.specs.declared.cells.Cell.{Cell}
 use Rattle.frame_meaning.specs.declared.frames.Side.{Side}
 use Rattle.frame_meaning.specs.declared.frames.Side.TheVariants.{Dark, Pic}
-use Rattle.frame_meaning.specs.Cells.{dark_cell}
+use Rattle.frame_meaning.specs.Cells.{dark_cell, same_number}
 use Rattle.frame_meaning.specs.Render.{cell_at}
 use Rattle.composables.specs.declared.items.ItemView.{ItemView}
 use Rattle.composables.specs.declared.items.Place.{Place}
@@ -15,7 +15,7 @@ use Rattle.composables.specs.declared.media.Table.{Table}
 use Rattle.composables.specs.Bounds.{bounds_of}
 use Rattle.composables.specs.Good.{AllUnlinked, EachLiesIn, IsGood, LiesIn, SideLiesIn}
 use Rattle.composables.specs.Items.{cell_in, cells_of, items_of, view_cells}
-use Rattle.composables.specs.Joined.{frames_in}
+use Rattle.composables.specs.Joined.{IsTight, frames_in}
 use Rattle.composables.specs.Places.{StandsAt}
 use Rattle.composables.specs.TrackFacts.{EachHolds, HasSource, IsKept, NumbersBelow, first_mark, left_reach, right_reach}
 use Rattle.composables.specs.TrackState.{TrackState}
@@ -49,6 +49,16 @@ cell-there (w ∷ ws) (suc i) k v e h =
     let p : w.len + frames_in (take i ws) + k ≡ length (view_cells w) + (frames_in (take i ws) + k) = omega (arith, length-view_cells w) in
     ap (λ (p : ℕ). cell_at (view_cells w ++ cells_of ws) p) p
     ∙ (get_or-append-add (view_cells w) (cells_of ws) (frames_in (take i ws) + k) dark_cell ∙ cell-there ws i k v e h)
+
+-- of two neighbours not both are gaps
+pub apart-next : (vs : List ItemView) (i : ℕ) (v w : ItemView) → IsTight vs → slice_get vs i ≡ Some v → slice_get vs (suc i) ≡ Some w → same_number v.item w.item ≡ false
+apart-next [] i v w h e f = absurd (omega (arith, slice_get_within [] i v e))
+apart-next (a ∷ []) i v w h e f = absurd (omega (arith, slice_get_within (a ∷ []) (suc i) w f))
+apart-next (a ∷ b ∷ cs) zero v w h e f =
+    let one : a ≡ v = cc in
+    let two : b ≡ w = cc in
+    sym (ap (λ (u : ItemView). same_number u.item b.item) one ∙ ap (λ (u : ItemView). same_number v.item u.item) two) ∙ h.0
+apart-next (a ∷ b ∷ cs) (suc i) v w h e f = apart-next (b ∷ cs) i v w h.1 e f
 
 -- what each item and gap of a good track keeps
 lies_less : (table : Table) (s : Side What) (len before after : ℕ) → SideLiesIn table s len before after → SideLiesIn table s len 0 0

@@ -14,6 +14,3 @@ pub use deltas::{Used, Way, nearest_within, used_within, way_of};
 pub use laws::a_set_of_deltas_has_one_nearest;
 pub use placing::place_parts;
 pub use reaching::{frames_after, frames_before, going_on, reaching_back};
-
-#[cfg(test)]
-mod tests;

@@ -69,9 +69,9 @@ shift_at c v = record { own = c.track; x = c.at; y = c.at; new = Some v }
 
 -- the shift of an insert splits links as they are split cell by cell: what is put into the own track ends with an item
 -- that is new to it
-insert_uncut : (table : Table) (c : Insert) (ts : List TrackState) (own : TrackState) (v : ItemView) (number : ℕ) → IsOwn c.track ts own → 0 < c.len
+pub insert-uncut : (table : Table) (c : Insert) (ts : List TrackState) (own : TrackState) (v : ItemView) (number : ℕ) → IsOwn c.track ts own → 0 < c.len
     → number ≡ own.next_item → v ≡ clip_view number c.what c.from c.len → All (IsGood table) ts → EachUncut (shift_at c v) ts
-insert_uncut table c ts own v number o some f g good k d lt after =
+insert-uncut table c ts own v number o some f g good k d lt after =
     uncut-moved (shift_at c v) (get_or ts k d) (good k d lt).kept (omega arith) on_own after where
       on_own : (get_or ts k d).number ≡ c.track → EndsApart (get_or ts k d) (min c.at (length (get_or ts k d).cells)) (gap_views (c.at - length (get_or ts k d).cells) ++ new_views (Some v))
       on_own e =
@@ -94,7 +94,7 @@ insert-allowed table c tracks ts own v number o e some numbers good fits kept f 
     ∙ shift-meant (shift_at c v) (Item number) ts (with_track ts (padded_track own c.at))
     (insert-moved (shift_at c v) ts own (subst Rise (sym numbers) (tracks-rise tracks)) o.found kept refl)
     (outside-padded ts own c.at c.at (subst (λ (n : ℕ). All (λ (t : TrackState). t.number ≡ n → t ≡ own) ts) (sym o.number) o.only))
-    (omega arith) fits (insert_uncut table c ts own v number o some f g good))))
+    (omega arith) fits (insert-uncut table c ts own v number o some f g good))))
 
 pub insert-put : (table : Table) (c : Insert) (ts : List TrackState) (own : TrackState) (v : ItemView) (number : ℕ) → IsOwn c.track ts own → Clip table c.what c.from c.len
     → number ≡ own.next_item → v ≡ clip_view number c.what c.from c.len → All (λ (t : TrackState). PutIn table t (put_views (shift_at c v) t)) ts
@@ -113,27 +113,25 @@ extract-missing c ts own o e =
     for-found c.track (extracted c ts) ts own o.found
     ∙ ap (λ (r : Option (ℕ × ℕ)). for_range (λ x y. shift_of c.track x y [] Plain ts) r) e
 
+-- the range of an item that is taken out there lies on its own track, and no link is split within an item by it
+pub out-long : (c : Extract) (ts : List TrackState) (own : TrackState) (x y : ℕ) → IsOwn c.track ts own → (x ≤ y) × (y ≤ length own.cells)
+    → All (λ (t : TrackState). t.number ≡ c.track → (x ≤ length t.cells) × (y ≤ length t.cells)) ts
+out-long c ts own x y o within k d lt n =
+    let l : length (get_or ts k d).cells ≡ length own.cells = ap (λ (t : TrackState). length t.cells) (o.only k d lt n) in
+    (omega (arith, within.0, within.1, l), omega (arith, within.1, l))
+
+pub out-uncut : (table : Table) (c : Extract) (ts : List TrackState) (own : TrackState) (x y : ℕ) → IsOwn c.track ts own → (x ≤ y) × (y ≤ length own.cells) → All (IsGood table) ts → EachUncut (shift_out c x y) ts
+out-uncut table c ts own x y o within good k d lt after =
+    uncut-moved (shift_out c x y) (get_or ts k d) (good k d lt).kept within.0
+    (λ n some. absurd (omega (arith, some, frames-put (x - length (get_or ts k d).cells) None, (out-long c ts own x y o within k d lt n).0))) after
+
 pub extract-found : (table : Table) (c : Extract) (ts : List TrackState) (own : TrackState) (x y : ℕ) → IsOwn c.track ts own → range_of own.cells c.item ≡ Some (x, y) → All (IsGood table) ts
     → All (IsShiftOf (shift_out c x y)) ts → IsKept own → extract_named ts c ≡ linked_shift (shift_out c x y) (x + 0) Plain ts
 extract-found table c ts own x y o e good fits kept =
+    let within = range-within own c.item x y kept e in
     for-found c.track (extracted c ts) ts own o.found
     ∙ (ap (λ (r : Option (ℕ × ℕ)). for_range (λ x y. shift_of c.track x y [] Plain ts) r) e
-    ∙ shift-meant (shift_out c x y) Plain ts ts (extract-moved (shift_out c x y) ts long) refl within.0 fits uncut) where
-      within : (x ≤ y) × (y ≤ length own.cells)
-      within = range-within own c.item x y kept e
-
-      has : (k : ℕ) (d : TrackState) → k < length ts → (get_or ts k d).number ≡ c.track → (x ≤ length (get_or ts k d).cells) × (y ≤ length (get_or ts k d).cells)
-      has k d lt n =
-          let l : length (get_or ts k d).cells ≡ length own.cells = ap (λ (t : TrackState). length t.cells) (o.only k d lt n) in
-          (omega (arith, within.0, within.1, l), omega (arith, within.1, l))
-
-      long : All (λ (t : TrackState). t.number ≡ c.track → (x ≤ length t.cells) × (y ≤ length t.cells)) ts
-      long k d lt n = has k d lt n
-
-      uncut : EachUncut (shift_out c x y) ts
-      uncut k d lt after =
-          uncut-moved (shift_out c x y) (get_or ts k d) (good k d lt).kept within.0
-          (λ n some. absurd (omega (arith, some, frames-put (x - length (get_or ts k d).cells) None, (has k d lt n).0))) after
+    ∙ shift-meant (shift_out c x y) Plain ts ts (extract-moved (shift_out c x y) ts (out-long c ts own x y o within)) refl within.0 fits (out-uncut table c ts own x y o within good))
 
 pub extract-put : (table : Table) (c : Extract) (ts : List TrackState) (x y : ℕ) → All (λ (t : TrackState). PutIn table t (put_views (shift_out c x y) t)) ts
 extract-put table c ts x y k d lt = put-shift table (shift_out c x y) (get_or ts k d) (λ e. put-only table (get_or ts k d) (x - length (get_or ts k d).cells))

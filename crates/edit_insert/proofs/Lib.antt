@@ -2,5 +2,4 @@ pub mod OverPlaces
 pub mod SourceRanges
 pub mod Removals
 pub mod Inserts
-pub mod TestTracks
 pub mod Filled

@@ -37,9 +37,6 @@ pub over-allowed : (table : Table) (c : Overwrite) (t : TrackState) → source_r
     → overwrite_track table c t ≡ track_within_limits (overwritten t c.at c.what c.from c.len) (Item t.next_item)
 over-allowed table c t e = ap (λ (r : Option Refusal). unless r (track_within_limits (overwritten t c.at c.what c.from c.len) (Item t.next_item))) e
 
-pub over-refused : (table : Table) (c : Overwrite) (t : TrackState) (why : Refusal) → source_refusal table t.number c.what c.from c.len ≡ Some why → overwrite_track table c t ≡ Err why
-over-refused table c t why e = ap (λ (r : Option Refusal). unless r (track_within_limits (overwritten t c.at c.what c.from c.len) (Item t.next_item))) e
-
 -- what the code puts in, where it tells each part
 pub over-parts : (table : Table) (c : Overwrite) (t : TrackState) (x y number : ℕ) (items : List ItemView) → source_refusal table t.number c.what c.from c.len ≡ None → IsKept t
     → x ≡ min c.at (length t.cells) → y ≡ min (c.at + c.len) (length t.cells) → number ≡ t.next_item

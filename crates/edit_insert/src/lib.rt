@@ -14,6 +14,3 @@ pub use filling::fill;
 pub use inserting::{extract, insert};
 pub use overwriting::overwrite;
 pub use removing::{remove, slice};
-
-#[cfg(test)]
-mod tests;

@@ -8,9 +8,6 @@ use Rattle.room_core.specs.Machine.{is_above}
 use Rattle.room_core.specs.Projection.{of_station}
 use Rattle.edit_journal.specs.Turns.{last_of}
 
-greater : {C : Type 0} → ℕ → Entry C → ℕ
-greater m e = max m e.number
-
 above_step : {C : Type 0} (b : Bool) (m n : ℕ) (e : Entry C) (kept : List (Entry C)) (rest : Bool)
     → ((k : ℕ) → fold (λ m e. max m e.number) k kept < n → (k < n) × (rest ≡ true))
     → fold (λ m e. max m e.number) m (cond b (e ∷ kept) kept) < n → (m < n) × ((not b || nat_lt e.number n) && rest ≡ true)

@@ -1,6 +1,6 @@
-pub mod Names
+-- To be read: public clauses speak of these.
 pub mod Seats
 pub mod Turns
 pub mod Faults
-pub mod Registers
-pub mod RegisterLaws
+-- For the steps of the code, for proofs and for tests.
+pub mod Names

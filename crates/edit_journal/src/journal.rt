@@ -105,7 +105,7 @@ impl<O: PartObject, J: Naming<O, O::Part>> Journal<O, J> {
         Ok((Journal { log, words }, seats, passes))
     }
 
-    /// Waits for a turn at the journal.
+    /// Waits for a turn at the journal. No clause says that it comes.
     pub fn lock<R: Wait>(&self, rt: &R) -> Turn<'_, O, J>
         ensures { result.tokens ≡ 0 }
     {

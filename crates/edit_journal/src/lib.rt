@@ -20,6 +20,3 @@ pub use name::{Name, Naming};
 pub use token::{PartSeat, Pass};
 pub use turn::Turn;
 pub use view::Beginning;
-
-#[cfg(test)]
-mod tests;

@@ -7,8 +7,8 @@ use crate::seats::Token;
 use room_core::PartObject;
 use std::marker::{Model, PhantomData};
 
-/// The seat of a part. Who holds it is the only one that can commit a call that names the part. Contracts see the part's
-/// number, the journal's opening, and the entries that were there when the seat was given out.
+/// The seat of a part. An entry whose call names the part is added only in a turn that gathered it. Contracts see the
+/// part's number, the journal's opening, and the entries that were there when the seat was given out.
 #[derive(Drop)]
 pub struct PartSeat<O: PartObject, J: Naming<O, O::Part>> {
     pub(crate) part: u32,
@@ -44,7 +44,7 @@ impl<O: PartObject, J: Naming<O, O::Part>> PartSeat<O, J> {
     }
 }
 
-/// The pass of a station. Who holds it is the only one that can commit in the station's name. Contracts see the station's
+/// The pass of a station. An entry of the station is added only in a turn that gathered it. Contracts see the station's
 /// number, the journal's opening, and the entries that were there when the pass was given out.
 #[derive(Drop)]
 pub struct Pass<O: PartObject, J: Naming<O, O::Part>> {

@@ -13,7 +13,7 @@ use std::alloc::Global;
 use std::marker::Model;
 use std::sync::MutexGuard;
 
-/// A turn at the journal. It has to be released, and each token that it gathered has to be given back before.
+/// A turn at the journal. It has to be released, and as many tokens as it gathered have to be given back before.
 pub struct Turn<'a, O: PartObject, J: Naming<O, O::Part>> {
     pub(crate) log: MutexGuard<'a, Log<O, J>>,
     pub(crate) words: &'a Words<O>,

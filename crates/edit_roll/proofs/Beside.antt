@@ -11,13 +11,13 @@ use Rattle.composables.specs.declared.items.Place.{Place}
 use Rattle.composables.specs.declared.media.Table.{Table}
 use Rattle.composables.specs.Good.{IsGood}
 use Rattle.composables.specs.Items.{items_of}
-use Rattle.composables.specs.Joined.{AllFilled, IsTight, frames_in}
+use Rattle.composables.specs.Joined.{AllFilled, frames_in}
 use Rattle.composables.specs.Places.{StandsAt}
 use Rattle.composables.specs.Ranges.{is_cut}
 use Rattle.composables.specs.TrackFacts.{IsKept}
 use Rattle.composables.specs.TrackState.{TrackState}
 use Rattle.composables.proofs.Frames.{frames_in-take_more, frames_in-take_le, no_view}
-use Rattle.edit_delta.proofs.Spots.{Spot, cell-there, length-frames, spot-of}
+use Rattle.edit_delta.proofs.Spots.{Spot, apart-next, cell-there, length-frames, spot-of}
 use Rattle.edit_splice.proofs.Keeping.{stand_of}
 use Rattle.edit_splice.proofs.Meeting.{filled-each}
 use Rattle.edit_roll.specs.declared.neighbours.Sides.{Sides}
@@ -67,13 +67,6 @@ right-spot table t x y s good b =
 pub whole-of : (table : Table) (t : TrackState) (i : ℕ) (v : ItemView) (x y : ℕ) → Spot table t i v x y → IsWhole table v
 whole-of table t i v x y s = record { filled = s.filled; lies = s.lies; source = s.source }
 
--- no cut stands before the first frame, beyond the last, or within an item or gap
-pub no-cut-past : (cells : List Cell) (p : ℕ) → length cells ≤ p → is_cut cells p ≡ false
-no-cut-past cells p h = ap (λ (b : Bool). (ltb 0 p && b) && not (belong (cell_at cells (p - 1)) (cell_at cells p))) (le-ltb p (length cells) h) ∙ none (ltb 0 p) where
-  none : (a : Bool) → (a && false) && not (belong (cell_at cells (p - 1)) (cell_at cells p)) ≡ false
-  none true = refl
-  none false = refl
-
 pub no-cut-before : (cells : List Cell) (p : ℕ) → p ≡ 0 → is_cut cells p ≡ false
 no-cut-before cells p h = ap (λ (b : Bool). (b && ltb p (length cells)) && not (belong (cell_at cells (p - 1)) (cell_at cells p))) (le-ltb 0 p (omega (arith, h)))
 
@@ -109,15 +102,6 @@ no-cut-inside t p at kept stands lo hi =
     no_cut_inside t p at.index v kept read (omega (arith, stands.from, lo)) (omega (arith, stands.to, stops_of vs at.index v read, hi))
 
 -- a cut stands between two neighbours
-apart_next : (vs : List ItemView) (i : ℕ) (v w : ItemView) → IsTight vs → slice_get vs i ≡ Some v → slice_get vs (suc i) ≡ Some w → same_number v.item w.item ≡ false
-apart_next [] i v w h e f = absurd (omega (arith, slice_get_within [] i v e))
-apart_next (a ∷ []) i v w h e f = absurd (omega (arith, slice_get_within (a ∷ []) (suc i) w f))
-apart_next (a ∷ b ∷ cs) zero v w h e f =
-    let one : a ≡ v = cc in
-    let two : b ≡ w = cc in
-    sym (ap (λ (u : ItemView). same_number u.item b.item) one ∙ ap (λ (u : ItemView). same_number v.item u.item) two) ∙ h.0
-apart_next (a ∷ b ∷ cs) (suc i) v w h e f = apart_next (b ∷ cs) i v w h.1 e f
-
 filled_there : (vs : List ItemView) (i : ℕ) (v : ItemView) → AllFilled vs → slice_get vs i ≡ Some v → 0 < v.len
 filled_there [] i v f e = absurd (omega (arith, slice_get_within [] i v e))
 filled_there (w ∷ ws) zero v f e = let same : w ≡ v = cc in omega (arith, f.0, ap (λ (u : ItemView). u.len) same)
@@ -139,7 +123,7 @@ cut-between t p i l r kept left right is =
     let one : (cell_at t.cells (p - 1)).item ≡ l.item = number_there t i l (p - 1) (l.len - 1) kept left (omega (arith, is, step, some_l)) (omega (arith, some_l)) in
     let two : (cell_at t.cells p).item ≡ r.item = number_there t (suc i) r p 0 kept right (omega (arith, is)) some_r in
     let apart : belong (cell_at t.cells (p - 1)) (cell_at t.cells p) ≡ false =
-    ap (λ (o : Option ℕ). same_number o (cell_at t.cells p).item) one ∙ (ap (same_number l.item) two ∙ apart_next vs i l r (stand_of t kept).tight left right) in
+    ap (λ (o : Option ℕ). same_number o (cell_at t.cells p).item) one ∙ (ap (same_number l.item) two ∙ apart-next vs i l r (stand_of t kept).tight left right) in
     three_true (ltb 0 p) (ltb p (length t.cells)) (belong (cell_at t.cells (p - 1)) (cell_at t.cells p)) (lt-ltb 0 p (omega (arith, is, step, some_l))) (lt-ltb p (length t.cells) inside) apart
 
 cut_beside : (t : TrackState) (p n : ℕ) (s : Sides) → IsKept t → AreBeside (items_of t.cells) n n s → p ≡ frames_in (take n (items_of t.cells)) → is_cut t.cells p ≡ true

@@ -1,35 +1,33 @@
 -- An item that slides between its neighbours, and what is put in.
-use Rattle.std.proofs.Common.{◌≡◌, ℕ, zero, suc, ◌+◌, ◌-◌, ◌<◌, ◌≤◌, Bool, true, false, ◌&&◌, ℤ, pos, negsuc, neg_ℤ, List, [], ◌∷◌, slice_get, Option, Some, None, IfSome, Ok, refl, sym, ap, ◌∙◌, arith, subst, inr, ◌⊎◌, w32, SFits, to_z, of_z, option_map, cond}
+use Rattle.std.proofs.Common.{◌≡◌, ℕ, zero, suc, ◌+◌, ◌-◌, ◌≤◌, Bool, true, false, ◌&&◌, ℤ, pos, negsuc, neg_ℤ, List, [], ◌∷◌, slice_get, Option, Some, None, IfSome, Ok, refl, sym, ap, ◌∙◌, arith, subst, inr, ◌⊎◌, w32, SFits, to_z, of_z, option_map, cond}
 use Rattle.std.proofs.lemmas.Int.{to_z-of_z}
 use Rattle.std.proofs.lemmas.Option.{slice_get_within}
 use Rattle.frame_meaning.specs.declared.cells.Cell.{Cell}
 use Rattle.frame_meaning.specs.declared.cells.What.{What}
 use Rattle.frame_meaning.specs.declared.frames.Side.{Side}
-use Rattle.frame_meaning.specs.Cells.{later_side, next_side}
 use Rattle.frame_meaning.specs.Render.{cell_at}
 use Rattle.composables.specs.declared.calls.Slide.{Slide}
 use Rattle.composables.specs.declared.items.ItemView.{ItemView}
 use Rattle.composables.specs.declared.items.Place.{Place}
 use Rattle.composables.specs.declared.media.Table.{Table}
 use Rattle.composables.specs.declared.refusals.Done.TheVariants.{By}
-use Rattle.composables.specs.Good.{EachLinkOf, IsGood, IsLinkOf, SideLiesIn}
+use Rattle.composables.specs.Good.{EachLinkOf, IsGood, IsLinkOf}
 use Rattle.composables.specs.Items.{cell_in, items_of}
 use Rattle.composables.specs.Limits.{track_within_limits}
 use Rattle.composables.specs.Ranges.{range_of}
-use Rattle.composables.specs.TrackFacts.{EachHolds, HasSource, ShowsAsItem}
+use Rattle.composables.specs.TrackFacts.{EachHolds, ShowsAsItem}
 use Rattle.composables.specs.TrackState.{TrackState}
-use Rattle.composables.proofs.Spans.{later-zero, next-later}
 use Rattle.edit_delta.specs.declared.deltas.Used.{Used}
 use Rattle.edit_delta.specs.declared.deltas.Way.TheVariants.{Earlier, Later, Still}
 use Rattle.edit_delta.specs.Nearest.{by_sign, greatest, nearest}
 use Rattle.edit_delta.specs.Parts.{AreParts}
-use Rattle.edit_delta.specs.Reaching.{earlier_side, going_on, reaching_back}
+use Rattle.edit_delta.specs.Reaching.{going_on, reaching_back}
 use Rattle.edit_delta.specs.Using.{IsUsed, on_range, used_on}
 use Rattle.edit_delta.proofs.Answered.{IsUsedOf, earlier-means, later-means, still-means}
 use Rattle.edit_delta.proofs.Greatest.{nearest-same}
-use Rattle.edit_delta.proofs.Pieces.{After, Before}
+use Rattle.edit_delta.proofs.Pieces.{goes-on, reaches-back}
 use Rattle.edit_delta.proofs.Spots.{Spot, side-head, spot-head, spot-last, unlinked-there}
-use Rattle.edit_splice.specs.PutIn.{going_on as goes, reaching_back as reaches, GoesOn, ReachesBack, StandAlone, StandsWithin}
+use Rattle.edit_splice.specs.PutIn.{going_on as goes, reaching_back as reaches, StandAlone, StandsWithin}
 use Rattle.edit_splice.specs.Splicing.{spliced_track}
 use Rattle.edit_roll.specs.Neighbours.{FitsBetween, fits_between, has_neighbours, may_move_earlier, may_move_later, move_allows}
 use Rattle.edit_roll.specs.Sliding.{bare_item, bare_view, slid_earlier, slid_later, slide_allows, slide_range, slide_track}
@@ -117,48 +115,6 @@ bare-alone table t i v x y a b good s le ge = record {
   ranges = (s.lies, tt);
   links = (link_there t.number (items_of t.cells) i v s.read good.links, tt);
 }
-
--- what goes on behind a place, and what reaches back before it
-pub goes-on : (table : Table) (t : TrackState) (i : ℕ) (v : ItemView) (x y n : ℕ) → Spot table t i v x y → 0 < n → After table v.first v.len n → GoesOn table t y (going_on (cell_in v (v.len - 1)) n)
-goes-on table t i v x y n s h a = record {
-  part = record {
-    filled = h;
-    bare = refl;
-    source = subst (λ (d : Side What). HasSource d n 0 0) (sym same) a.part;
-    range = subst (λ (d : Side What). SideLiesIn table d n 0 0) (sym same) a.lies;
-  };
-  index = i;
-  before = v;
-  from = x;
-  stands = record { read = s.read; starts = s.starts; stops = s.stops };
-  item = refl;
-  link = refl;
-  side = same;
-} where
-  e : v.len - 1 + 1 ≡ v.len
-  e = omega (arith, s.filled)
-
-  same : next_side (cell_in v (v.len - 1)).side ≡ later_side v.first v.len
-  same = next-later v.first (v.len - 1) ∙ ap (later_side v.first) e
-
-pub reaches-back : (table : Table) (t : TrackState) (i : ℕ) (v : ItemView) (x y n : ℕ) → Spot table t i v x y → 0 < n → Before table v.first n → ReachesBack table t x (reaching_back (cell_in v 0) n)
-reaches-back table t i v x y n s h before = record {
-  part = record {
-    filled = h;
-    bare = refl;
-    source = subst (λ (d : Side What). HasSource d n 0 0) (sym same) before.part;
-    range = subst (λ (d : Side What). SideLiesIn table d n 0 0) (sym same) before.lies;
-  };
-  index = i;
-  after = v;
-  to = y;
-  stands = record { read = s.read; starts = s.starts; stops = s.stops };
-  item = refl;
-  link = refl;
-  side = before.side ∙ ap (λ (d : Side What). later_side d n) (sym same);
-} where
-  same : earlier_side (cell_in v 0).side n ≡ earlier_side v.first n
-  same = ap (λ (d : Side What). earlier_side d n) (later-zero v.first)
 
 -- the two parts of a slide
 pub slide-on : (table : Table) (t : TrackState) (i : ℕ) (v l r g b : ItemView) (x y n : ℕ) → IsGood table t → Spot table t i v x y → Around table t x y l r → FitsBetween table l r (Later n)

@@ -14,6 +14,3 @@ mod sliding;
 pub use laws::{a_roll_keeps_the_length, a_slide_keeps_the_length};
 pub use rolling::roll;
 pub use sliding::slide;
-
-#[cfg(test)]
-mod tests;

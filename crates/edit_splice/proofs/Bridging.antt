@@ -224,10 +224,6 @@ each-shifted table s ts us done (Ok d) g p a =
 each-shifted table s ts us done (Err (Refused why)) g p a = subst (EachStaysGood table ts) (sym a.1) (each-self table ts g)
 each-shifted table s ts us done (Err Memory) g p a = subst (EachStaysGood table ts) (sym a) (each-self table ts g)
 
-pub each-shift : (table : Table) (s : Shift) (ts us : List TrackState) (done : Done) (result : Result Done EditFault) → s.x ≤ s.y → All (IsGood table) ts
-    → All (λ (t : TrackState). PutIn table t (put_views s t)) ts → Answers (within_limits (all_moved s ts) done) ts us result → EachStaysGood table ts us
-each-shift table s ts us done result le g p a = each-shifted table s ts us done result g (λ k d lt. put-moved table s (get_or ts k d) le (g k d lt) (p k d lt)) a
-
 -- the own track is found
 pub for-found : (n : ℕ) (meant : TrackState → Result (List TrackState × Done) Refusal) (ts : List TrackState) (own : TrackState) → track_numbered n ts ≡ Some own → for_own n meant ts ≡ meant own
 for-found n meant ts own e = rw e refl

@@ -36,9 +36,6 @@ source_later : (s : Side What) (len k before after : ℕ) → k < len → HasSou
 source_later Dark len k before after lt h = tt
 source_later (Pic w s) len k before after lt h = let end : s + k + (len - k) + after ≤ 2 ^ 32 = omega (arith, lt, h.1) in (omega arith, end)
 
-no_mark_no_nest : (s : Side What) → IsNoNest s None
-no_mark_no_nest s = tt
-
 later_no_nest : (s : Side What) (k : ℕ) (m : Option Mark) → IsNoNest s m → IsNoNest (later_side s k) m
 later_no_nest s k None h = tt
 later_no_nest Dark k (Some m) h = tt

@@ -15,41 +15,6 @@ use Rattle.edit_splice.specs.declared.shifting.Shift.{Shift}
 use Rattle.composables.specs.Limits.{too_long, too_many}
 use Rattle.edit_splice.specs.Moves.{HasRooms, all_moved, moved}
 
-pub drop-here : (ts : List TrackState) (i : ℕ) (t : TrackState) → i < length ts → t ≡ get_or ts i t → drop i ts ≡ t ∷ drop (i + 1) ts
-drop-here ts i t h is =
-    let e : suc i ≡ i + 1 = omega arith in
-    drop-cons ts i t h ∙ ap (λ (u : TrackState). u ∷ drop (suc i) ts) (sym is) ∙ ap (λ (k : ℕ). t ∷ drop k ts) e
-
-pub long-passed : (s : Shift) (ts : List TrackState) (i : ℕ) (t : TrackState) → i < length ts → t ≡ get_or ts i t → length (moved s t).cells ≤ MAX_FRAMES
-    → too_long (all_moved s (drop i ts)) ≡ too_long (all_moved s (drop (i + 1) ts))
-long-passed s ts i t h is short =
-    ap (λ (l : List TrackState). too_long (all_moved s l)) (drop-here ts i t h is)
-    ∙ ap (λ (b : Bool). cond b (Some (TooLong t.number)) (too_long (all_moved s (drop (i + 1) ts)))) (le-ltb MAX_FRAMES (length (moved s t).cells) short)
-
-pub long-found : (s : Shift) (ts : List TrackState) (i : ℕ) (t : TrackState) → i < length ts → t ≡ get_or ts i t → MAX_FRAMES < length (moved s t).cells
-    → too_long (all_moved s (drop i ts)) ≡ Some (TooLong t.number)
-long-found s ts i t h is long =
-    ap (λ (l : List TrackState). too_long (all_moved s l)) (drop-here ts i t h is)
-    ∙ ap (λ (b : Bool). cond b (Some (TooLong t.number)) (too_long (all_moved s (drop (i + 1) ts)))) (lt-ltb MAX_FRAMES (length (moved s t).cells) long)
-
-pub long-none : (s : Shift) (ts : List TrackState) (i : ℕ) → length ts ≤ i → too_long (all_moved s (drop i ts)) ≡ None
-long-none s ts i h = ap (λ (l : List TrackState). too_long (all_moved s l)) (drop_all i ts h)
-
-pub many-passed : (s : Shift) (ts : List TrackState) (i : ℕ) (t : TrackState) → i < length ts → t ≡ get_or ts i t → length (items_of (moved s t).cells) ≤ MAX_ITEMS
-    → too_many (all_moved s (drop i ts)) ≡ too_many (all_moved s (drop (i + 1) ts))
-many-passed s ts i t h is few =
-    ap (λ (l : List TrackState). too_many (all_moved s l)) (drop-here ts i t h is)
-    ∙ ap (λ (b : Bool). cond b (Some (TooManyItems t.number)) (too_many (all_moved s (drop (i + 1) ts)))) (le-ltb MAX_ITEMS (length (items_of (moved s t).cells)) few)
-
-pub many-found : (s : Shift) (ts : List TrackState) (i : ℕ) (t : TrackState) → i < length ts → t ≡ get_or ts i t → MAX_ITEMS < length (items_of (moved s t).cells)
-    → too_many (all_moved s (drop i ts)) ≡ Some (TooManyItems t.number)
-many-found s ts i t h is many =
-    ap (λ (l : List TrackState). too_many (all_moved s l)) (drop-here ts i t h is)
-    ∙ ap (λ (b : Bool). cond b (Some (TooManyItems t.number)) (too_many (all_moved s (drop (i + 1) ts)))) (lt-ltb MAX_ITEMS (length (items_of (moved s t).cells)) many)
-
-pub many-none : (s : Shift) (ts : List TrackState) (i : ℕ) → length ts ≤ i → too_many (all_moved s (drop i ts)) ≡ None
-many-none s ts i h = ap (λ (l : List TrackState). too_many (all_moved s l)) (drop_all i ts h)
-
 -- memory for one track more
 pub rooms-more : (ss : List SpareState) (ts : List TrackState) (s : SpareState) (t : TrackState) → HasRooms ss ts → HasRoom s t 2 → HasRooms (ss ++ s ∷ []) (ts ++ t ∷ [])
 rooms-more [] [] s t h r = (r, tt)

@@ -24,7 +24,7 @@ no_eqb a b n = by (eqb a b) refl where
   by true e = absurd (n (eqb-true a b e))
   by false e = e
 
-frames_new : (o : Option ItemView) → frames_in (new_views o) ≡ new_len o
+pub frames_new : (o : Option ItemView) → frames_in (new_views o) ≡ new_len o
 frames_new None = refl
 frames_new (Some v) = omega arith
 

@@ -10,7 +10,7 @@ ghost use Rattle.edit_splice.specs.Splicing.{spliced_track};
 
 use crate::parts::{renumbered, split_number};
 use crate::seams::{Held, seams_of};
-use composables::{ItemView, Track, number_past_all};
+use composables::{ItemView, Track, a_track_is_kept, number_past_all};
 use frame_meaning::same_item;
 use std::sync::ledger::Ledger;
 use step_count::Steps;
@@ -35,7 +35,7 @@ pub fn count_after<L: Ledger>(
     ensures least { steps.old ≤ steps.new }
     ensures most { steps.new ≤ steps.old + 2 * size_of track.now + length items.now }
 {
-    let _ = track.length(); // its clause says what the track keeps
+    a_track_is_kept(track);
     let seams = seams_of(track, x, y, steps);
     let fresh = number_past_all(track.next_item(), items);
     let split = split_number(seams.left, seams.right);

@@ -28,6 +28,3 @@ pub use laws::{
 pub use placing::place;
 pub use shifting::{Shift, shift_tracks};
 pub use splicing::{spare_for, splice, splice_in};
-
-#[cfg(test)]
-mod tests;

@@ -7,7 +7,7 @@ ghost use Rattle.edit_splice.specs.Splicing.{HasRoom, spliced_track};
 
 use crate::parts::{end_index, first_index, lay_parts};
 use crate::seams::seams_of;
-use composables::{ItemView, Memory, Spare, Track, number_past_all};
+use composables::{ItemView, Memory, Spare, Track, a_track_is_kept, number_past_all};
 use std::alloc::Global;
 use std::sync::ledger::Ledger;
 use step_count::Steps;
@@ -81,7 +81,7 @@ pub fn splice_in<L: Ledger>(
     ensures least { steps.old + 1 ≤ steps.new }
     ensures most { steps.new + 1 ≤ steps.old + 6 * size_of track.old + length items.now }
 {
-    let _ = track.length(); // its clause says what the track keeps
+    a_track_is_kept(track);
     let seams = seams_of(track, x, y, steps);
     let fresh = number_past_all(track.next_item(), items);
     let mut spare = spare;

@@ -15,7 +15,7 @@ use Rattle.composables.specs.Joined.{AllFilled, IsTight, frames_in}
 use Rattle.composables.specs.TrackFacts.{IsKept}
 use Rattle.composables.specs.TrackState.{TrackState}
 use Rattle.composables.proofs.Frames.{frames_in-take_more, frames_in-take_le, no_view}
-use Rattle.edit_delta.proofs.Spots.{cell-there, length-frames}
+use Rattle.edit_delta.proofs.Spots.{apart-next, cell-there, length-frames}
 use Rattle.edit_splice.proofs.Keeping.{stand_of}
 use Rattle.edit_splice.proofs.Meeting.{filled-each}
 use Rattle.edit_trim.specs.Darkness.{all_of, is_dark, dark_before, dark_behind}
@@ -105,19 +105,10 @@ filled_there t i v kept read = by (items_of t.cells) i read (filled-each (items_
   by (w ∷ ws) (suc i) e f = by ws i e f.1
 
 -- of two neighbours not both are gaps
-apart_next : (vs : List ItemView) (i : ℕ) (v w : ItemView) → IsTight vs → slice_get vs i ≡ Some v → slice_get vs (suc i) ≡ Some w → same_number v.item w.item ≡ false
-apart_next [] i v w h e f = absurd (omega (arith, slice_get_within [] i v e))
-apart_next (a ∷ []) i v w h e f = absurd (omega (arith, slice_get_within (a ∷ []) (suc i) w f))
-apart_next (a ∷ b ∷ cs) zero v w h e f =
-    let one : a ≡ v = cc in
-    let two : b ≡ w = cc in
-    sym (ap (λ (u : ItemView). same_number u.item b.item) one ∙ ap (λ (u : ItemView). same_number v.item u.item) two) ∙ h.0
-apart_next (a ∷ b ∷ cs) (suc i) v w h e f = apart_next (b ∷ cs) i v w h.1 e f
-
 apart_there : (vs : List ItemView) (i : ℕ) (v w : ItemView) → IsTight vs → slice_get vs i ≡ Some v → slice_get vs (i + 1) ≡ Some w → same_number v.item w.item ≡ false
 apart_there vs i v w h e f =
     let next : i + 1 ≡ suc i = omega arith in
-    apart_next vs i v w h e (subst (λ (k : ℕ). slice_get vs k ≡ Some w) next f)
+    apart-next vs i v w h e (subst (λ (k : ℕ). slice_get vs k ≡ Some w) next f)
 
 some_not_dark : (o : Option ℕ) → o ≢ None → same_number o None ≡ false
 some_not_dark None h = absurd (h refl)

@@ -1,5 +1,4 @@
 pub mod Beside
-pub mod TestTracks
 pub mod Trims
 pub mod Slips
 pub mod Slipped

@@ -1,6 +1,5 @@
 -- Tracks on which all that has a link shows other source frames.
 use Rattle.std.proofs.Common.{◌≡◌, ℕ, zero, suc, ◌+◌, ◌-◌, ◌<◌, ◌≤◌, Bool, true, false, cond, List, [], ◌∷◌, ◌++◌, All, length, map, get_or, Option, Some, None, slice_get, refl, sym, ap, ◌∙◌, arith, subst}
-use Rattle.std.proofs.Math.ListN.{set}
 use Rattle.std.proofs.lemmas.List.{map-append}
 use Rattle.std.proofs.lemmas.Option.{slice_get_within}
 use Rattle.frame_meaning.specs.declared.cells.Cell.{Cell}
@@ -260,9 +259,6 @@ whole_part table l on back i t g h le =
     ap (λ (ws : List ItemView). record t { cells = cells_of ws }) (part_all l on back i (items_of t.cells) le)
     ∙ ap (λ (cs : List Cell). record t { cells = cs }) (sym (cells_slipped table l on back (items_of t.cells) h) ∙ ap (map (linked_moved l on back)) g.kept.whole)
 
-pub start-part : (table : Table) (l : Link) (on back : ℕ) (t : TrackState) → IsGood table t → t ≡ partly l on back 0 t
-start-part table l on back t g = ap (λ (cs : List Cell). record t { cells = cs }) (sym g.kept.whole)
-
 pub end-part : (table : Table) (l : Link) (on back i : ℕ) (t u : TrackState) → IsGood table t → EachMoves table l (items_of t.cells) on back → u ≡ partly l on back i t → length (items_of t.cells) ≤ i → u ≡ track_moved l on back t
 end-part table l on back i t u g h is le = is ∙ whole_part table l on back i t g h le
 
@@ -298,41 +294,3 @@ pub moves-there : (table : Table) (l : Link) (on back n : ℕ) (ts : List TrackS
 moves-there table l on back n [] d lt h = absurd (omega (arith, lt))
 moves-there table l on back zero (t ∷ ts) d lt h = h.0
 moves-there table l on back (suc n) (t ∷ ts) d lt h = moves-there table l on back n ts d (omega (arith, lt)) h.1
-
--- the first of these tracks changed, the others as they were
-
-abbrev pub part_mapped : (TrackState → TrackState) → ℕ → List TrackState → List TrackState
-part_mapped f zero ts = ts
-part_mapped f (suc n) [] = []
-part_mapped f (suc n) (t ∷ ts) = f t ∷ part_mapped f n ts
-
-mapped_read : (f : TrackState → TrackState) (n : ℕ) (ts : List TrackState) (d : TrackState) → get_or (part_mapped f n ts) n d ≡ get_or ts n d
-mapped_read f zero ts d = refl
-mapped_read f (suc n) [] d = refl
-mapped_read f (suc n) (t ∷ ts) d = mapped_read f n ts d
-
-pub mapped-there : (f : TrackState → TrackState) (n : ℕ) (ts us : List TrackState) (t : TrackState) → us ≡ part_mapped f n ts → t ≡ get_or us n t → t ≡ get_or ts n t
-mapped-there f n ts us t e is = is ∙ (ap (λ (l : List TrackState). get_or l n t) e ∙ mapped_read f n ts t)
-
-pub mapped-length : (f : TrackState → TrackState) (n : ℕ) (ts : List TrackState) → length (part_mapped f n ts) ≡ length ts
-mapped-length f zero ts = refl
-mapped-length f (suc n) [] = refl
-mapped-length f (suc n) (t ∷ ts) = ap suc (mapped-length f n ts)
-
-mapped_set : (f : TrackState → TrackState) (n : ℕ) (ts : List TrackState) (d : TrackState) → n < length ts → set (part_mapped f n ts) n (f (get_or ts n d)) ≡ part_mapped f (suc n) ts
-mapped_set f n [] d h = absurd (omega (arith, h))
-mapped_set f zero (t ∷ ts) d h = refl
-mapped_set f (suc n) (t ∷ ts) d h = ap (λ (us : List TrackState). f t ∷ us) (mapped_set f n ts d (omega (arith, h)))
-
-pub mapped-more : (f : TrackState → TrackState) (n : ℕ) (ts us : List TrackState) (t u : TrackState) → n < length ts → us ≡ part_mapped f n ts → t ≡ get_or us n t → u ≡ f t → set us n u ≡ part_mapped f (n + 1) ts
-mapped-more f n ts us t u h e is made =
-    let more : suc n ≡ n + 1 = omega arith in
-    ap (λ (l : List TrackState). set l n u) e
-    ∙ (ap (set (part_mapped f n ts) n) (made ∙ ap f (mapped-there f n ts us t e is))
-    ∙ (mapped_set f n ts t h ∙ ap (λ (m : ℕ). part_mapped f m ts) more))
-
-pub mapped-all : (f : TrackState → TrackState) (n : ℕ) (ts : List TrackState) → length ts ≤ n → part_mapped f n ts ≡ map f ts
-mapped-all f zero [] h = refl
-mapped-all f zero (t ∷ ts) h = absurd (omega (arith, h))
-mapped-all f (suc n) [] h = refl
-mapped-all f (suc n) (t ∷ ts) h = ap (λ (us : List TrackState). f t ∷ us) (mapped-all f n ts (omega (arith, h)))

@@ -31,7 +31,7 @@ use Rattle.link_groups.proofs.LeastLinks.{filled-at}
 
 -- what a side shows later, and earlier, of its thing
 
-abbrev Shows : Table → Side What → ℕ → ℕ → ℕ → ℕ → ℕ → Type 0
+abbrev pub Shows : Table → Side What → ℕ → ℕ → ℕ → ℕ → ℕ → Type 0
 Shows table d len a b on back = ReachesBack d back × HasSource (moved d on back) len a b × SideLiesIn table (moved d on back) len a b
 
 shows_later : (table : Table) (d : Side What) (len a b n room : ℕ) → 0 < len → SideLiesIn table d len a b → HasSource d len a b → HasSource d len 0 (b + room) → n ≤ room
@@ -44,17 +44,17 @@ shows_later table (Pic w s) len a b n room f l k h le e = (omega arith, (omega (
       let lt : s + (len - 1) + (b + n) < q.1 = ltb-true (s + (len - 1) + (b + n)) q.1 e in
       (omega (arith, h.0), omega (arith, lt, f))
 
-shows_earlier : (table : Table) (d : Side What) (len a b n : ℕ) → SideLiesIn table d len a b → HasSource d len a b → has_before table d (a + n) ≡ true → Shows table d len a b 0 n
-shows_earlier table Dark len a b n l k e = (tt, tt, tt)
-shows_earlier table (Pic w s) len a b n l k e = by (bounds_of table w) e l where
+pub shows-earlier : (table : Table) (d : Side What) (len a b n : ℕ) → SideLiesIn table d len a b → HasSource d len a b → has_before table d (a + n) ≡ true → Shows table d len a b 0 n
+shows-earlier table Dark len a b n l k e = (tt, tt, tt)
+shows-earlier table (Pic w s) len a b n l k e = by (bounds_of table w) e l where
   by : (o : Option (ℕ × ℕ)) → has_before_in o s (a + n) ≡ true → LiesIn o s len a b → (n ≤ s) × ((a ≤ s + 0 - n) × (s + 0 - n + len + b ≤ 2 ^ 32)) × LiesIn o (s + 0 - n) len a b
   by None e h = absurd h
   by (Some q) e h =
       let le : q.0 + (a + n) ≤ s = leb-true (q.0 + (a + n)) s e in
       (omega (arith, le), (omega (arith, le), omega (arith, k.1)), (omega (arith, le), omega (arith, h.1)))
 
-shows_moved : (table : Table) (v : ItemView) (tail : Option Mark) (on back : ℕ) → Shows table v.first v.len (left_reach v.mark) (right_reach tail) on back → ShowsMoved table v tail on back
-shows_moved table v tail on back h = record { reaches = h.0; source = h.1; lies = h.2 }
+pub shows-moved : (table : Table) (v : ItemView) (tail : Option Mark) (on back : ℕ) → Shows table v.first v.len (left_reach v.mark) (right_reach tail) on back → ShowsMoved table v tail on back
+shows-moved table v tail on back h = record { reaches = h.0; source = h.1; lies = h.2 }
 
 pub room-of : (table : Table) (v : ItemView) (tail : Option Mark) (e l : ℕ) → 0 < v.len → SideLiesIn table v.first v.len (left_reach v.mark) (right_reach tail) → HasSource v.first v.len (left_reach v.mark) (right_reach tail)
     → AreUpTo (may_slip_earlier table v.first v.mark) e → AreUpTo (may_slip_later table (later_side v.first (v.len - 1)) tail) l → HasSource v.first v.len 0 (right_reach tail + l) → e < 2 ^ 32 → l < 2 ^ 32
@@ -62,10 +62,10 @@ pub room-of : (table : Table) (v : ItemView) (tail : Option Mark) (e l : ℕ) �
 room-of table v tail e l filled lies source up down numbered es ls = record {
   later = down;
   earlier = up;
-  on = λ n le. shows_moved table v tail n 0
+  on = λ n le. shows-moved table v tail n 0
       (shows_later table v.first v.len (left_reach v.mark) (right_reach tail) n l filled lies source numbered le (up-true (may_slip_later table (later_side v.first (v.len - 1)) tail) l n down le ls));
-  back = λ n le. shows_moved table v tail 0 n
-      (shows_earlier table v.first v.len (left_reach v.mark) (right_reach tail) n lies source (up-true (may_slip_earlier table v.first v.mark) e n up le es));
+  back = λ n le. shows-moved table v tail 0 n
+      (shows-earlier table v.first v.len (left_reach v.mark) (right_reach tail) n lies source (up-true (may_slip_earlier table v.first v.mark) e n up le es));
 }
 
 -- an item of a good track lies in the range of its thing with what the dissolves at its ends show past it

@@ -78,9 +78,5 @@ pub linked-answers : (table : Table) (c : Slip) (ts us : List TrackState) (t : T
     → Answers (slip_linked table ts l (to_z w32 (of_z w32 c.by))) ts us r → Answers (slip_named table ts c) ts us r
 linked-answers table c ts us t l r fits found some a = subst (λ (m : Applied). Answers m ts us r) (sym (linked-means table c ts t l fits found some)) a
 
--- and for all that has a link
-pub link-refused : (table : Table) (ts : List TrackState) (l : Link) (by : ℤ) (why : Refusal) → outside_refusal ts (Some l) ≡ Some why → slip_linked table ts l by ≡ Err why
-link-refused table ts l by why e = ap (λ (o : Option Refusal). unless o (slip_link table ts l by)) e
-
 pub link-done : (table : Table) (ts : List TrackState) (l : Link) (by : ℤ) (u : Used) → outside_refusal ts (Some l) ≡ None → IsLinkSlip table l ts by u → slip_linked table ts l by ≡ Ok (map (moved_by l u.way) ts, u.done)
 link-done table ts l by u e s = ap (λ (o : Option Refusal). unless o (slip_link table ts l by)) e ∙ s.meant

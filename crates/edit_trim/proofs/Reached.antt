@@ -128,12 +128,12 @@ ends-nothing t y n e some = absurd (omega (arith, some, frames-put n None, e))
 
 -- where an item reaches back, with its link or with the one that its frames get
 
-abbrev back_shift : ℕ → ℕ → ItemView → Shift
+abbrev pub back_shift : ℕ → ℕ → ItemView → Shift
 back_shift own x g = record { own = own; x = x; y = x; new = Some g }
 
-join : (f : Cell → Cell) (front put after tail : List Cell) (x z : ℕ) → length front ≡ x → x + length after ≡ z → map f put ≡ after
+put_changed : (f : Cell → Cell) (front put after tail : List Cell) (x z : ℕ) → length front ≡ x → x + length after ≡ z → map f put ≡ after
     → take z ((front ++ after) ++ tail) ++ map f (drop z ((front ++ after) ++ tail)) ≡ take x ((front ++ put) ++ tail) ++ map f (drop x ((front ++ put) ++ tail))
-join f front put after tail x z long sum same =
+put_changed f front put after tail x z long sum same =
     let all : length (front ++ after) ≡ z = omega (arith, length-append front after, long, sum) in
     ap (λ (cs : List Cell). cs ++ map f (drop z ((front ++ after) ++ tail))) (take_at (front ++ after) tail z all)
     ∙ (ap (λ (cs : List Cell). (front ++ after) ++ map f cs) (behind (front ++ after) tail z all)
@@ -162,6 +162,19 @@ one_moved tracks splits g = map-append (moved_cell tracks splits) (view_cells g)
 front_long : (t : TrackState) (x y : ℕ) → x ≤ length t.cells → length (take x (with_marks kept_or_dropped x y 0 t.cells)) ≡ x
 front_long t x y le = omega (arith, length-take x (with_marks kept_or_dropped x y 0 t.cells), length-marks kept_or_dropped x y 0 t.cells, le)
 
+-- a track into which frames are put at x is split behind them or, where they have got no link yet, before them
+spliced_reach : (tracks : List TrackState) (splits : List Link) (x : ℕ) (g : ItemView) (t : TrackState) (ws vs : List ItemView) → next_past_all t.next_item ws ≡ next_past_all t.next_item vs → x ≤ length t.cells → frames_in ws ≡ g.len
+    → map (moved_cell tracks splits) (cells_of vs) ≡ cells_of ws → split_track (x + g.len) tracks splits (spliced_track t x x ws) ≡ split_track x tracks splits (spliced_track t x x vs)
+spliced_reach tracks splits x g t ws vs e le sum same =
+    ap (λ (n : ℕ). split_track (x + g.len) tracks splits (record t { cells = (take x (with_marks kept_or_dropped x x 0 t.cells) ++ cells_of ws) ++ map (renumbered (split_item t.cells x x) n) (drop x (with_marks kept_or_dropped x x 0 t.cells)); next_item = next_after_splice t.cells x x n })) e
+    ∙ ap (λ (cs : List Cell). record t { cells = cs; next_item = next_after_splice t.cells x x (next_past_all t.next_item vs); next_link = t.next_link + count_at_home splits t.number })
+    (put_changed (moved_cell tracks splits) (take x (with_marks kept_or_dropped x x 0 t.cells)) (cells_of vs) (cells_of ws) (map (renumbered (split_item t.cells x x) (next_past_all t.next_item vs)) (drop x (with_marks kept_or_dropped x x 0 t.cells))) x (x + g.len)
+    (front_long t x x le) (omega (arith, length-cells_of ws, sum)) same)
+
+pub own-reach : (tracks : List TrackState) (splits : List Link) (x : ℕ) (g : ItemView) (t : TrackState) → x ≤ length t.cells
+    → split_track (x + g.len) tracks splits (spliced_track t x x (with_link (moved_link tracks splits g.link) g ∷ [])) ≡ split_track x tracks splits (spliced_track t x x (g ∷ []))
+own-reach tracks splits x g t le = spliced_reach tracks splits x g t (with_link (moved_link tracks splits g.link) g ∷ []) (g ∷ []) refl le (omega arith) (one_moved tracks splits g)
+
 -- the cells of one track
 reach_cells : (tracks : List TrackState) (splits : List Link) (own x : ℕ) (g : ItemView) (t : TrackState) → 0 < g.len → (t.number ≡ own → x ≤ length t.cells)
     → split_track (x + g.len) tracks splits (moved (back_shift own x (with_link (moved_link tracks splits g.link) g)) t) ≡ split_track x tracks splits (moved (back_shift own x g) t)
@@ -182,10 +195,7 @@ reach_cells tracks splits own x g t some has = by (eqb t.number own) refl (ltb x
   same_next ws vs e le sum same =
       let at : min x (length t.cells) ≡ x = omega (arith, le) in
       subst (λ (m : ℕ). split_track (x + g.len) tracks splits (spliced_track t m m ws) ≡ split_track x tracks splits (spliced_track t m m vs)) (sym at)
-      (ap (λ (n : ℕ). split_track (x + g.len) tracks splits (record t { cells = (take x (with_marks kept_or_dropped x x 0 t.cells) ++ cells_of ws) ++ map (renumbered (split_item t.cells x x) n) (drop x (with_marks kept_or_dropped x x 0 t.cells)); next_item = next_after_splice t.cells x x n })) e
-      ∙ ap (λ (cs : List Cell). record t { cells = cs; next_item = next_after_splice t.cells x x (next_past_all t.next_item vs); next_link = t.next_link + count_at_home splits t.number })
-      (join (moved_cell tracks splits) (take x (with_marks kept_or_dropped x x 0 t.cells)) (cells_of vs) (cells_of ws) (map (renumbered (split_item t.cells x x) (next_past_all t.next_item vs)) (drop x (with_marks kept_or_dropped x x 0 t.cells))) x (x + g.len)
-      (front_long t x x le) (omega (arith, length-cells_of ws, sum)) same))
+      (spliced_reach tracks splits x g t ws vs e le sum same)
 
   by : (a : Bool) → eqb t.number own ≡ a → (b : Bool) → ltb x (length t.cells) ≡ b
       → Goal (cond a (gap_views (x - length t.cells) ++ with_link (moved_link tracks splits g.link) g ∷ []) (cond b (gap_views g.len) [])) (cond a (gap_views (x - length t.cells) ++ g ∷ []) (cond b (gap_views g.len) []))

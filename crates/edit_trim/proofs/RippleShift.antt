@@ -150,11 +150,6 @@ pub ready-none : (table : Table) (ts : List TrackState) (i : ℕ) (t : TrackStat
 ready-none table ts i t v c p r k none =
     means_end table ts i t v c p r k ∙ end_none table ts t v p k.among.room c r c.end k.spot k.among.has k.among.is none
 
--- an item that is not there
-pub ripple-missing : (table : Table) (ts : List TrackState) (i : ℕ) (t : TrackState) (c : Ripple) → IsNamed c.track i ts t → range_of t.cells c.item ≡ None → ripple_named table ts c ≡ Err NoItem
-ripple-missing table ts i t c own e =
-    for-found c.track (ripple_own table c ts) ts t own.found ∙ ap (on_range (ripple_end table c.track ts t c.end c.by)) e
-
 -- the facts at a place that was found
 pub ready-at : (table : Table) (ts : List TrackState) (i : ℕ) (t : TrackState) (v : ItemView) (c : Ripple) (p : Place) (r : Rippled) (found : Option Place) → All (IsGood table) ts → IsNamed c.track i ts t
     → StandsAt (items_of t.cells) p → slice_get (items_of t.cells) p.index ≡ Some v → range_of t.cells c.item ≡ option_map (λ (p : Place). (p.from, p.to)) found → found ≡ Some p

@@ -1,31 +1,27 @@
 -- The tracks on which a ripple's shift is made.
 use Rattle.std.proofs.Common.{◌≡◌, ◌≢◌, ℕ, zero, suc, ◌+◌, ◌-◌, ◌<◌, ◌≤◌, ◌^◌, Bool, true, false, cond, eqb, leb, ltb, ◌&&◌, ◌||◌, min, List, [], ◌∷◌, ◌++◌, All, length, get_or, Some, refl, sym, ap, ◌∙◌, arith, subst, slice_get}
 use Rattle.std.proofs.lemmas.Bool.{eq-eqb, eqb-true, eqb-false, leb-true}
-use Rattle.frame_meaning.specs.declared.cells.What.{What}
-use Rattle.frame_meaning.specs.declared.frames.Side.{Side}
-use Rattle.frame_meaning.specs.Cells.{later_side}
 use Rattle.composables.specs.declared.items.ItemView.{ItemView}
 use Rattle.composables.specs.declared.media.Table.{Table}
 use Rattle.composables.specs.declared.TheConstants.{MAX_FRAMES}
-use Rattle.composables.specs.Good.{IsGood, SideLiesIn}
+use Rattle.composables.specs.Good.{IsGood}
 use Rattle.composables.specs.Items.{cell_in, items_of}
 use Rattle.composables.specs.Joined.{AllFilled}
 use Rattle.composables.specs.Roomy.{IsRoomy}
-use Rattle.composables.specs.TrackFacts.{HasSource, IsKept, NumbersBelow}
+use Rattle.composables.specs.TrackFacts.{IsKept, NumbersBelow}
 use Rattle.composables.specs.TrackState.{TrackState}
 use Rattle.composables.specs.Views.{gap_views}
-use Rattle.composables.proofs.Spans.{later-zero}
 use Rattle.edit_delta.specs.Nearest.{AreUpTo}
 use Rattle.edit_delta.specs.Parts.{AreParts}
-use Rattle.edit_delta.specs.Reaching.{earlier_side, reaching_back}
+use Rattle.edit_delta.specs.Reaching.{reaching_back}
 use Rattle.edit_delta.proofs.Bounded.{below-more, parts-kept, stays-spliced}
-use Rattle.edit_delta.proofs.Pieces.{Before, up-true}
+use Rattle.edit_delta.proofs.Pieces.{Before, none-alone, reaches-back, up-true}
 use Rattle.edit_delta.proofs.Spots.{Spot, unlinked-there}
 use Rattle.edit_splice.specs.declared.shifting.Shift.{Shift}
 use Rattle.edit_splice.specs.Laws.{IsWithinLimits}
 use Rattle.edit_splice.specs.Moves.{IsShiftOf, moved, put_views}
 use Rattle.edit_splice.specs.Padding.{new_len, new_views}
-use Rattle.edit_splice.specs.PutIn.{alone, reaching_back as reaches, StandAlone}
+use Rattle.edit_splice.specs.PutIn.{alone, reaching_back as reaches}
 use Rattle.edit_splice.specs.Splicing.{spliced_track}
 use Rattle.edit_splice.specs.Standing.{StaysGood}
 use Rattle.edit_splice.proofs.Bridging.{StaysMoved, is-shift, put-moved}
@@ -36,9 +32,6 @@ use Rattle.edit_trim.specs.Rippling.{has_room, have_room}
 abbrev pub no_track : TrackState
 no_track = record { number = 0; cells = []; next_item = 0; next_link = 0 }
 
-none_alone : (table : Table) (t : TrackState) (x y : ℕ) → StandAlone table t x y []
-none_alone table t x y = record { each = tt; first = refl; meet = tt; apart = tt; free = tt; ranges = tt; links = tt }
-
 -- nothing in place of some frames
 pub none-parts : (table : Table) (t : TrackState) (x y : ℕ) → IsGood table t → x ≤ y → y ≤ length t.cells → AreParts table t x y []
 none-parts table t x y good le within = record {
@@ -46,7 +39,7 @@ none-parts table t x y good le within = record {
   within = within;
   few = omega arith;
   filled = tt;
-  may = alone (none_alone table t x y);
+  may = alone (none-alone table t x y);
   numbers = tt;
   short = omega (arith, le, within, good.frames);
   unlinked = λ u. tt;
@@ -56,30 +49,13 @@ none-parts table t x y good le within = record {
 pub before-parts : (table : Table) (t : TrackState) (i : ℕ) (v b : ItemView) (x y n : ℕ) → Spot table t i v x y → 0 < n → length t.cells + n ≤ MAX_FRAMES → Before table v.first n → b ≡ reaching_back (cell_in v 0) n
     → AreParts table t x x (b ∷ [])
 before-parts table t i v b x y n s h room before is = subst (λ (u : ItemView). AreParts table t x x (u ∷ [])) (sym is) back where
-  same : earlier_side (cell_in v 0).side n ≡ earlier_side v.first n
-  same = ap (λ (d : Side What). earlier_side d n) (later-zero v.first)
-
   back : AreParts table t x x (reaching_back (cell_in v 0) n ∷ [])
   back = record {
     order = omega arith;
     within = omega (arith, s.within, s.long);
     few = omega arith;
     filled = (h, tt);
-    may = reaches {views = []} (record {
-      part = record {
-        filled = h;
-        bare = refl;
-        source = subst (λ (d : Side What). HasSource d n 0 0) (sym same) before.part;
-        range = subst (λ (d : Side What). SideLiesIn table d n 0 0) (sym same) before.lies;
-      };
-      index = i;
-      after = v;
-      to = y;
-      stands = record { read = s.read; starts = s.starts; stops = s.stops };
-      item = refl;
-      link = refl;
-      side = before.side ∙ ap (λ (d : Side What). later_side d n) (sym same);
-    }) (none_alone table t x x);
+    may = reaches {views = []} (reaches-back table t i v x y n s h before) (none-alone table t x x);
     numbers = (s.number, tt);
     short = omega (arith, room, s.within, s.long);
     unlinked = λ u. (unlinked-there (items_of t.cells) i v s.read u, tt);

@@ -241,9 +241,3 @@ sourced-slipped t i x y s on back k w v kept e from to first le is =
     ap (λ (d : Side What). view_cells (record v { first = d })) (behind_of s on back k w v first le is) ∙ sym (view_moved v on back (first_behind s back w v first le)) in
     ap (λ (cs : List Cell). record t { cells = cs })
     (cells_changed (cell_moved on back) (with_source k) i x y (items_of t.cells) v e from to view ∙ ap (changed_on x y (cell_moved on back)) kept.whole)
-
-pub slipped-frames : (t : TrackState) (i s : ℕ) → IsKept t → length (changed_track t i (with_source s)).cells ≡ length t.cells
-slipped-frames t i s k = length_sourced t s i k
-
-pub slipped-count : (t : TrackState) (i s : ℕ) → IsKept t → length (items_of (changed_track t i (with_source s)).cells) ≡ length (items_of t.cells)
-slipped-count t i s k = ap length (items-sourced t s i k) ∙ length_changed (with_source s) i (items_of t.cells)

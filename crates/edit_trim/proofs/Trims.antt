@@ -118,7 +118,3 @@ track-means table c t o p e fits range found is =
     ap (on_range (trim_end table t c.end c.by)) (range ∙ ap (option_map (λ (p : Place). (p.from, p.to))) found)
     ∙ (ap (λ (z : End). trim_end table t z c.by p.from p.to) is
     ∙ ap (λ (z : ℤ). trim_end table t e z p.from p.to) (sym (to_z-of_z w32 c.by fits)))
-
-pub track-refused : (table : Table) (c : Trim) (t : TrackState) (o : Option Place) → range_of t.cells c.item ≡ option_map (λ (p : Place). (p.from, p.to)) o → o ≡ None
-    → trim_track table c t ≡ Err NoItem
-track-refused table c t o range none = ap (on_range (trim_end table t c.end c.by)) (range ∙ ap (option_map (λ (p : Place). (p.from, p.to))) none)

@@ -16,6 +16,3 @@ mod trimming;
 pub use rippling::ripple;
 pub use slipping::slip;
 pub use trimming::trim;
-
-#[cfg(test)]
-mod tests;

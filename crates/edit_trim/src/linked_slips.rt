@@ -85,7 +85,7 @@ fn room_on<L: Ledger>(table: &Table, track: &Track, link: Link, steps: &mut Step
             unreachable!()
         };
         if carries(link, view.link) {
-            room = narrower(room, room_at(table, track, index, &view));
+            room = narrower(room, room_to_slip(table, track, index, &view));
         }
     }
     room
@@ -102,7 +102,7 @@ fn narrower(one: Room, other: Room) -> Room
 }
 
 // The room of the item with an index, with the dissolves at its two ends.
-fn room_at(table: &Table, track: &Track, index: u32, view: &ItemView) -> Room
+fn room_to_slip(table: &Table, track: &Track, index: u32, view: &ItemView) -> Room
     requires good { IsGood table.now track.now }
     requires within { index < length (items_of track.now.cells) }
     requires view { slice_get (items_of track.now.cells) index ≡ Some view.now }

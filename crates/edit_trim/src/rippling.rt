@@ -140,11 +140,11 @@ fn rippled_among(
 {
     match call.end {
         End::Head => {
-            let room = room_at(named, call.track, found.from);
+            let room = room_to_grow(named, call.track, found.from);
             head_rippled(table, call, found, view, room)
         }
         End::Tail => {
-            let room = room_at(named, call.track, found.to);
+            let room = room_to_grow(named, call.track, found.to);
             tail_rippled(table, call, found, view, room)
         }
     }
@@ -227,7 +227,7 @@ fn tail_shift(own: u32, found: Place, view: &ItemView, way: Way) -> Option<Shift
 }
 
 // How many frames more each named track has room for at a place.
-fn room_at(named: &[Track], own: u32, place: u32) -> u32
+fn room_to_grow(named: &[Track], own: u32, place: u32) -> u32
     requires { All (λ t. length t.cells ≤ MAX_FRAMES) named.now }
     ensures { AreUpTo (have_room own place named.now) result }
 {

@@ -25,7 +25,7 @@ use step_count::Steps;
 
 /// Adds the delta used to the source frames of an item of its own track and, where it has a link, of all items of the
 /// link on the named tracks. All stay where they are, by one delta that suits each of them. A dissolve at their ends
-/// stays, and the frames that it shows past them stay in the thing's range too. It takes no memory.
+/// stays, and the frames that it shows past them stay in the thing's range too. The allocator is not used.
 ///
 /// It answers the delta used, or the first of these refusals that holds: `NoItem`, where its own track has no such item;
 /// `LinkOutside`, where the item's link has a track that is not named.
@@ -154,7 +154,8 @@ pub fn room_later(table: &Table, view: &ItemView, tail: Option<Mark>) -> u32
     requires filled { 0 < view.now.len }
     requires lies { SideLiesIn table.now view.now.first view.now.len 0 (right_reach tail) }
     requires source { HasSource view.now.first view.now.len 0 (right_reach tail) }
-    ensures reach { AreUpTo (may_slip_later table.now (later_side view.now.first (view.now.len - 1)) tail) result }
+    ensures reach { AreUpTo (may_slip_later table.now (later_side view.now.first (view.now.len - 1))
+        tail) result }
     ensures numbered { HasSource view.now.first view.now.len 0 (right_reach tail + result) }
 {
     match view.first {

@@ -1,11 +1,12 @@
 // Trim: an end of an item moved, and nothing else.
-ghost use Rattle.std.specs.Prelude.{◌≡◌, ◌+◌, ◌*◌, ◌<◌, ◌≤◌, [], ◌∷◌, All, length, map, sum_by, slice_get, Some};
+ghost use Rattle.std.specs.Prelude.{◌≡◌, ◌+◌, ◌*◌, ◌≤◌, [], ◌∷◌, All, Some, slice_get};
 ghost use Rattle.composables.specs.Answers.{Answers, NextRises};
-ghost use Rattle.composables.specs.Good.{IsGood, AllUnlinked};
+ghost use Rattle.composables.specs.Good.{AreUnlinked, IsGood};
 ghost use Rattle.composables.specs.Items.{items_of};
+ghost use Rattle.composables.specs.OwnTracks.{numbers_of};
 ghost use Rattle.composables.specs.Places.{IsPlaceOf};
 ghost use Rattle.composables.specs.Roomy.{IsRoomy};
-ghost use Rattle.composables.specs.TrackState.{TrackState};
+ghost use Rattle.composables.specs.Sizes.{size_of, sizes_of};
 ghost use Rattle.edit_splice.specs.Standing.{StaysGood};
 ghost use Rattle.edit_trim.specs.Trimming.{trim_end, trim_named, trim_track};
 ghost use Rattle.composables.specs.declared.calls.End.TheVariants.{Head, Tail};
@@ -32,19 +33,20 @@ pub fn trim<L: Ledger>(
     call: &Trim,
     steps: &mut Steps<L>,
 ) -> Result<Done, EditFault>
-    requires named { map (λ (t : TrackState). t.number) named.old.items ≡ call.now.track ∷ [] }
+    requires named { numbers_of named.old.items ≡ call.now.track ∷ [] }
     requires good { All (λ t. IsGood table.now t) named.old.items }
     requires roomy { All (λ t. IsRoomy t) named.old.items }
 
-    ensures answers { Answers (trim_named table.now named.old.items call.now) named.old.items named.new.items result }
+    ensures answers { Answers (trim_named table.now named.old.items call.now)
+        named.old.items named.new.items result }
 
-    ensures named { map (λ (t : TrackState). t.number) named.new.items ≡ call.now.track ∷ [] }
+    ensures named { numbers_of named.new.items ≡ call.now.track ∷ [] }
     ensures good { All (λ t. IsGood table.now t) named.new.items }
-    ensures unlinked { All (λ t. AllUnlinked (items_of t.cells)) named.old.items → All (λ t. AllUnlinked (items_of t.cells)) named.new.items }
+    ensures unlinked { AreUnlinked named.old.items → AreUnlinked named.new.items }
     ensures numbers { NextRises 2 named.old.items named.new.items }
 
     ensures least { steps.old + 1 ≤ steps.new }
-    ensures most { steps.new ≤ steps.old + 32 * sum_by (λ t. length (items_of t.cells) + 64) named.old.items }
+    ensures most { steps.new ≤ steps.old + 32 * sizes_of named.old.items }
 {
     steps.tick();
     trim_track(alloc, table, &mut named[0], call, steps)
@@ -63,7 +65,7 @@ fn trim_track<L: Ledger>(
     ensures answers { Answers (trim_track table.now call.now track.old) track.old track.new result }
     ensures good { StaysGood table.now track.old track.new }
     ensures least { steps.old ≤ steps.new }
-    ensures most { steps.new ≤ steps.old + 20 * (length (items_of track.old.cells) + 64) }
+    ensures most { steps.new ≤ steps.old + 20 * size_of track.old }
 {
     let Some(found) = track.item_by_id(call.item, steps) else {
         return Err(EditFault::Refused(Refusal::NoItem));
@@ -91,10 +93,11 @@ fn trim_head<L: Ledger>(
     requires roomy { IsRoomy track.old }
     requires place { IsPlaceOf track.old.cells found }
     requires view { slice_get (items_of track.old.cells) found.index ≡ Some view.now }
-    ensures answers { Answers (trim_end table.now track.old Head by found.from found.to) track.old track.new result }
+    ensures answers { Answers (trim_end table.now track.old Head by found.from found.to)
+        track.old track.new result }
     ensures good { StaysGood table.now track.old track.new }
     ensures least { steps.old ≤ steps.new }
-    ensures most { steps.new ≤ steps.old + 16 * (length (items_of track.old.cells) + 64) }
+    ensures most { steps.new ≤ steps.old + 16 * size_of track.old }
 {
     let earlier = dark_before(track, found).min(frames_before(table, view));
     let used = used_within(by, earlier, view.len - 1);
@@ -129,10 +132,11 @@ fn trim_tail<L: Ledger>(
     requires roomy { IsRoomy track.old }
     requires place { IsPlaceOf track.old.cells found }
     requires view { slice_get (items_of track.old.cells) found.index ≡ Some view.now }
-    ensures answers { Answers (trim_end table.now track.old Tail by found.from found.to) track.old track.new result }
+    ensures answers { Answers (trim_end table.now track.old Tail by found.from found.to)
+        track.old track.new result }
     ensures good { StaysGood table.now track.old track.new }
     ensures least { steps.old ≤ steps.new }
-    ensures most { steps.new ≤ steps.old + 16 * (length (items_of track.old.cells) + 64) }
+    ensures most { steps.new ≤ steps.old + 16 * size_of track.old }
 {
     let later = dark_behind(track, found).min(frames_after(table, view));
     let used = used_within(by, view.len - 1, later);

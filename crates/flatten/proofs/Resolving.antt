@@ -21,7 +21,7 @@ use Rattle.composables.specs.declared.media.Media.{Media}
 use Rattle.composables.specs.TrackFacts.{IsKept}
 use Rattle.composables.specs.TrackState.{TrackState}
 use Rattle.dissolves.specs.Pieces.{Reaches, SideReaches, cut}
-use Rattle.dissolves.proofs.Numbers.{kept_numbered}
+use Rattle.dissolves.proofs.Numbers.{EachIsNumbered, kept_numbered}
 use Rattle.flatten.specs.Nests.{nest_in, reel_frame, reel_of, reel_side, resolved}
 use Rattle.flatten.specs.Strips.{AreTrackRuns, IsTrackRun, padded}
 use Rattle.flatten.proofs.Over.{drop_at}
@@ -105,10 +105,6 @@ frame_reaches media (frame.Pic w s) n h = whole_reaches (reel_side media (side.P
 frame_reaches media (frame.Mix l r k d) n h = (side_reaches media l n h.0, side_reaches media r n h.1, h.2)
 
 -- the runs of frames whose numbers are kept
-
-abbrev EachIsNumbered : List (Frame What) → Type 0
-EachIsNumbered [] = Unit {0}
-EachIsNumbered (f ∷ fs) = IsNumbered f × EachIsNumbered fs
 
 front_numbered : (fs gs : List (Frame What)) → EachIsNumbered (fs ++ gs) → EachIsNumbered fs
 front_numbered [] gs h = tt

@@ -70,8 +70,8 @@ fn segment_of(run: Run<u32>, at: u32) -> Result<Segment, SegmentFault>
 {
     let len = run.len;
     match run.frame {
-        Frame::Dark => Ok(plain(at, len, Side::Dark)),
-        Frame::Pic { what, source } => Ok(plain(at, len, Side::Pic { what, source })),
+        Frame::Dark => Ok(without_dissolve(at, len, Side::Dark)),
+        Frame::Pic { what, source } => Ok(without_dissolve(at, len, Side::Pic { what, source })),
         Frame::Mix {
             left,
             right,
@@ -92,7 +92,7 @@ fn segment_of(run: Run<u32>, at: u32) -> Result<Segment, SegmentFault>
     }
 }
 
-fn plain(at: u32, len: u32, side: Side<u32>) -> Segment
+fn without_dissolve(at: u32, len: u32, side: Side<u32>) -> Segment
     ensures { result ≡ record { at = at; len = len; from = None; frames = 0; side = side } }
 {
     Segment {

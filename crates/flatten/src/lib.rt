@@ -21,6 +21,3 @@ pub use laws::{
     a_channel_has_one_cutting, a_part_of_a_dissolve_has_no_cutting,
     the_runs_of_a_channel_are_its_frames,
 };
-
-#[cfg(test)]
-mod tests;

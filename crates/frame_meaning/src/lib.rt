@@ -15,6 +15,3 @@ pub use cells::{Cell, Link, Mark, What, same_item};
 pub use frames::{Frame, Run, Side, goes_on};
 pub use laws::runs_are_maximal_and_all;
 pub use plain::{Memory, rendered, runs_of};
-
-#[cfg(test)]
-mod tests;

@@ -3,8 +3,7 @@ use Rattle.std.proofs.Common.{◌≡◌, ℕ, zero, suc, ◌+◌, ◌<◌, List,
 use Rattle.std.proofs.Math.ListN.{length-set}
 use Rattle.std.proofs.lemmas.List.{length-map}
 use Rattle.std.proofs.lemmas.List.Elements.{All-nil, All-cons}
-use Rattle.room_core.specs.Answers.{Answers, Tells}
-use Rattle.room_core.specs.History.{answer_in}
+use Rattle.room_core.specs.Answers.{Follows}
 use Rattle.room_core.specs.Parts.{AreGood, AscendBetween, numbers}
 use Rattle.room_core.specs.Whole.{Meaning, picked, put_back, on_whole, unless_refused, whole}
 use Rattle.room_core.specs.declared.fault.Fault.{Fault}
@@ -44,20 +43,12 @@ unrefused m ps c none = ap (λ r. unless_refused r (on_whole ps (m.names c) (m.a
 -- what a call answers on its parts it answers on all
 pub answers_whole : {P C D R : Type 0} (m : Meaning P C D R) (ps ts : List P) (c : C) (least : ℕ) (result : Result D (Fault R))
     → m.refuses c ≡ None → AscendBetween least (length ps) (m.names c)
-    → Answers (m.applied (picked ps (m.names c)) c) (picked ps (m.names c)) ts result
-    → Answers (whole m ps c) ps (put_back ps (m.names c) ts) result
+    → Follows (m.applied (picked ps (m.names c)) c) (picked ps (m.names c)) ts result
+    → Follows (whole m ps c) ps (put_back ps (m.names c) ts) result
 answers_whole m ps ts c least (Ok d) none a h = unrefused m ps c none ∙ ap (on_whole ps (m.names c)) h
 answers_whole m ps ts c least (Err (Refused r)) none a h =
     (unrefused m ps c none ∙ ap (on_whole ps (m.names c)) h.0, ap (put_back ps (m.names c)) h.1 ∙ put_same ps least (m.names c) a)
 answers_whole m ps ts c least (Err Memory) none a h = ap (put_back ps (m.names c)) h ∙ put_same ps least (m.names c) a
-
--- a call that is tried tells its answer
-pub tells_whole : {P C D R : Type 0} (m : Meaning P C D R) (ps qs ts : List P) (c : C) (result : Result D (Fault R))
-    → m.refuses c ≡ None → qs ≡ picked ps (m.names c)
-    → Answers (m.applied qs c) qs ts result → Tells (answer_in (whole m ps c)) result
-tells_whole m ps qs ts c (Ok d) none is h = ap answer_in (unrefused m ps c none ∙ ap (λ rs. on_whole ps (m.names c) (m.applied rs c)) (sym is) ∙ ap (on_whole ps (m.names c)) h)
-tells_whole m ps qs ts c (Err (Refused r)) none is h = ap answer_in (unrefused m ps c none ∙ ap (λ rs. on_whole ps (m.names c) (m.applied rs c)) (sym is) ∙ ap (on_whole ps (m.names c)) h.0)
-tells_whole m ps qs ts c (Err Memory) none is h = tt
 
 -- the places after the named parts were put back
 pub now_filled : {P : Type 0} (before after : List (Option P)) (least count : ℕ) (names : List ℕ) (ts : List P) → IsWhole before

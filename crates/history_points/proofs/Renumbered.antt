@@ -40,11 +40,3 @@ pub comes_to : {S C D R : Type 0} (apply : S → C → Result (S × D) R) (s t :
 comes_to apply s t Holds es law few comes =
     let same = after-renumbered apply (Some s) 0 es ∙ comes in
     law (renumbered 0 es) (record { within = omega (arith, length-renumbered 0 es, few); applies = is_some _ t same; rise = rise-renumbered 0 es }) same
-
--- one entry more
-pub replay_next : {S C D R : Type 0} (apply : S → C → Result (S × D) R) (s t : S) (es : List (Entry C)) (k : ℕ) (d : Entry C) → k < length es
-    → replay apply s (take k es) ≡ Some t → replay apply s (take (k + 1) es) ≡ state_in (apply t (get_or es k d).call)
-replay_next apply s t es k d h comes =
-    let next : k + 1 ≡ suc k = omega arith in
-    ap (λ (n : ℕ). replay apply s (take n es)) next ∙ (ap (replay apply s) (take-suc es k d h)
-    ∙ (replay-more apply s (take k es) (get_or es k d) ∙ ap (λ o. after_entry apply o (get_or es k d)) comes))

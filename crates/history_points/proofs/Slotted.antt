@@ -20,11 +20,6 @@ standing_in [] n d h = absurd (omega (arith, h))
 standing_in (p ∷ ps) zero d h = (p, refl, refl)
 standing_in (p ∷ ps) (suc n) d h = standing_in ps n d (omega (arith, h))
 
--- the part at a place
-pub standing : {P : Type 0} (slots : List (Option P)) (n : ℕ) (d : Option P) → IsWhole slots → n < length (present slots)
-    → (p : P) × (get_or slots n d ≡ Some p) × (slice_get (present slots) n ≡ Some p)
-standing slots n d whole h = subst (λ xs. (p : _) × (get_or xs n d ≡ Some p) × (slice_get (present slots) n ≡ Some p)) whole (standing_in (present slots) n d h)
-
 no_hole_in : {P : Type 0} (ps : List P) (n : ℕ) → slice_get (map Some ps) n ≡ Some None → ⊥
 no_hole_in [] n e = absurd (Prim.grind (arith, e))
 no_hole_in (p ∷ ps) zero e = absurd (Prim.grind (arith, e))
@@ -50,17 +45,6 @@ pub record Taking {P : Type 0} (before : List (Option P)) (names : List ℕ) (i 
   pub left : emptied slots (drop i names) ≡ emptied before names
   pub taken : named ++ picked (present before) (drop i names) ≡ picked (present before) names
   pub as_many : length slots ≡ length before
-
-pub none_taken : {P : Type 0} (before : List (Option P)) (names : List ℕ) (named : List P) → AscendBetween 0 (length before) names → named ≡ []
-    → Taking before names 0 before named
-none_taken before names named a e = record {
-  least = 0;
-  ascend = a;
-  stands = λ k le. refl;
-  left = refl;
-  taken = ap (λ ps. ps ++ picked (present before) names) e;
-  as_many = refl;
-}
 
 next_name : {P : Type 0} (before : List (Option P)) (names : List ℕ) (i d : ℕ) (slots : List (Option P)) (named : List P)
     → i < length names → Taking before names i slots named → (t : Taking before names i slots named) × (drop i names ≡ get_or names i d ∷ drop (i + 1) names)
@@ -142,21 +126,9 @@ put_same ps least (n ∷ ns) a =
     let found = standing_in ps n None a.1 in
     rw (picked_cons ps n ns found.0 found.2, set_same ps n found.0 found.2) (put_same ps (n + 1) ns a.2)
 
-pub not_standing : {P : Type 0} (slots : List (Option P)) (n : ℕ) (d : Option P) → IsWhole slots → n < length (present slots) → get_or slots n d ≡ None → ⊥
-not_standing slots n d whole h none = let found = standing slots n d whole h in let e = sym found.1 ∙ none in absurd (Prim.grind (arith, e))
-
-pub stands_as : {P : Type 0} (slots : List (Option P)) (n : ℕ) (d : Option P) (p : P) → IsWhole slots → n < length (present slots) → get_or slots n d ≡ Some p
-    → slice_get (present slots) n ≡ Some p
-stands_as slots n d p whole h is =
-    let found = standing slots n d whole h in
-    let e = sym found.1 ∙ is in let same : found.0 ≡ p = Prim.grind (arith, e) in found.2 ∙ ap Some same
-
 -- moving the parts out of their places, one after another
 pub no_hole_first : {P : Type 0} (slots rest : List (Option P)) → IsWhole slots → slots ≡ None ∷ rest → ⊥
 no_hole_first slots rest whole is = no_hole_in (present slots) 0 (ap (λ xs. slice_get xs 0) (whole ∙ is))
-
-pub rest_whole : {P : Type 0} (slots rest : List (Option P)) (p : P) → IsWhole slots → slots ≡ Some p ∷ rest → IsWhole rest
-rest_whole slots rest p whole is = let e : IsWhole (Some p ∷ rest) = subst IsWhole is whole in ap (drop 1) e
 
 -- one place more
 pub present-more : {P : Type 0} (slots : List (Option P)) (p : P) → present (slots ++ Some p ∷ []) ≡ present slots ++ p ∷ []

@@ -1,2 +1,4 @@
+-- To be read: public clauses speak of these.
 pub mod Replays
+-- For the steps of the code, for proofs and for tests.
 pub mod Slots

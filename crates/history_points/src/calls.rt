@@ -1,7 +1,6 @@
 // One call on all parts of an object.
-ghost use Rattle.std.specs.Prelude.{◌≡◌, ◌+◌, ◌*◌, ◌≤◌, ◌<◌, None, All, IfOk, length, sum_by};
-ghost use Rattle.room_core.specs.Answers.{Answers, Tells};
-ghost use Rattle.room_core.specs.History.{answer_in};
+ghost use Rattle.std.specs.Prelude.{◌≡◌, ◌+◌, ◌*◌, ◌≤◌, None, All, sum_by};
+ghost use Rattle.room_core.specs.Answers.{Follows};
 ghost use Rattle.room_core.specs.Parts.{AreGood, numbers};
 ghost use Rattle.room_core.specs.Whole.{picked, whole};
 ghost use Rattle.history_points.specs.Slots.{present, IsWhole};
@@ -9,7 +8,7 @@ ghost use Rattle.history_points.specs.Slots.{present, IsWhole};
 use crate::Places;
 use crate::naming::named_parts;
 use crate::places::{put_in, take_out};
-use room_core::{Fault, Memory, PartObject};
+use room_core::{Fault, PartObject};
 use std::alloc::Global;
 use std::sync::ledger::Ledger;
 use step_count::Steps;
@@ -30,7 +29,7 @@ fn apply_named<O: PartObject, L: Ledger>(
         (present slots.old.items) }
     requires roomy { All (O.roomy object.now) (present slots.old.items) }
     ensures whole { IsWhole slots.new.items }
-    ensures meant { Answers (whole (O.meaning object.now) (present slots.old.items) call.now)
+    ensures meant { Follows (whole (O.meaning object.now) (present slots.old.items) call.now)
         (present slots.old.items) (present slots.new.items) result }
     ensures good { AreGood (O.good object.now) (numbers 0 (O.count object.now))
         (present slots.new.items) }
@@ -56,7 +55,7 @@ pub fn apply_in_place<O: PartObject, L: Ledger>(
     requires count { O.count object.now ≤ 32 }
     requires good { AreGood (O.good object.now) (numbers 0 (O.count object.now)) parts.old }
     requires roomy { All (O.roomy object.now) parts.old }
-    ensures meant { Answers (whole (O.meaning object.now) parts.old call.now) parts.old parts.new
+    ensures meant { Follows (whole (O.meaning object.now) parts.old call.now) parts.old parts.new
         result }
     ensures good { AreGood (O.good object.now) (numbers 0 (O.count object.now)) parts.new }
     ensures most { steps.new ≤ steps.old + 32 * sum_by
@@ -68,45 +67,4 @@ pub fn apply_in_place<O: PartObject, L: Ledger>(
     }
     let names = named_parts(alloc, object, call)?;
     apply_named(alloc, object, &mut parts.slots, &names, call, steps)
-}
-
-// Copies of the parts with these numbers.
-fn copies<O: PartObject>(
-    alloc: Global,
-    object: &O,
-    parts: &Places<O::Part>,
-    names: &[u32],
-) -> Result<Vec<O::Part>, Memory>
-    requires { All (λ n. n < length parts.now) names.now }
-    ensures { IfOk result (λ v. v.items ≡ picked parts.now names.now) }
-{
-    let mut copies = Vec::new(alloc);
-    for name in names {
-        copies.push(object.copy_part(alloc, parts.get(*name))?)?;
-    }
-    Ok(copies)
-}
-
-/// What a call on these parts answers. It is tried on copies.
-pub fn try_call<O: PartObject, L: Ledger>(
-    alloc: Global,
-    object: &O,
-    parts: &Places<O::Part>,
-    call: &O::Call,
-    steps: &mut Steps<L>,
-) -> Result<O::Done, Fault<O::Refusal>>
-    requires count { O.count object.now ≤ 32 }
-    requires good { AreGood (O.good object.now) (numbers 0 (O.count object.now)) parts.now }
-    requires roomy { All (O.roomy object.now) parts.now }
-    ensures answer { Tells (answer_in (whole (O.meaning object.now) parts.now call.now)) result }
-    ensures most { steps.new ≤ steps.old + 32 * sum_by
-        (λ p. O.size p + 64) (picked parts.now ((O.meaning object.now).names call.now)) }
-{
-    match object.refuse_names(call) {
-        Some(refusal) => return Err(Fault::Refused(refusal)),
-        None => {}
-    }
-    let names = named_parts(alloc, object, call)?;
-    let mut named = copies(alloc, object, parts, &names)?;
-    object.apply(alloc, &mut named, call, steps)
 }

@@ -8,10 +8,7 @@ mod naming;
 mod places;
 mod replaying;
 
-pub use calls::{apply_in_place, try_call};
+pub use calls::apply_in_place;
 pub use fault::ReplayFault;
 pub use places::Places;
 pub use replaying::{copy_parts, replay};
-
-#[cfg(test)]
-mod tests;

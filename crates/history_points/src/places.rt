@@ -1,5 +1,5 @@
 // The parts of an object, each in its place, and taken out of it while a call changes them.
-ghost use Rattle.std.specs.Prelude.{◌≡◌, ◌+◌, ◌<◌, ◌≤◌, ℕ, [], Some, All, IfOk, map, length, slice_get};
+ghost use Rattle.std.specs.Prelude.{◌≡◌, ◌+◌, ◌<◌, ◌≤◌, ℕ, [], Some, All, IfOk, map, length};
 ghost use Rattle.std.specs.Vec.{vec_len, vec_capacity};
 ghost use Rattle.room_core.specs.Parts.{AscendBetween};
 ghost use Rattle.room_core.specs.Whole.{picked, put_back};
@@ -36,17 +36,6 @@ impl<P: Drop> Places<P> {
             slots.push(Some(part))?;
         }
         Ok(Places { slots })
-    }
-
-    /// The part at a number.
-    pub fn get(&self, number: u32) -> &P
-        requires { number < length self.now }
-        ensures { slice_get self.now number ≡ Some result.now }
-    {
-        match &self.slots[number as usize] {
-            Some(part) => part,
-            None => unreachable!(),
-        }
     }
 
     /// The parts, in their order.

@@ -1,5 +1,5 @@
 -- Bytes spell at most one tree, and spell one or have a fault.
-use Rattle.std.proofs.Common.{◌≡◌, ◌≢◌, ℕ, ◌≤◌, ◌⊎◌, inl, inr, List, length, Result, Ok, Err, refl, sym, ◌∙◌, subst}
+use Rattle.std.proofs.Common.{◌≡◌, ◌≢◌, ◌⊎◌, inl, inr, Result, Ok, Err, refl, ◌∙◌, subst}
 use Rattle.json_tokens.specs.declared.fault.JsonFault.{JsonFault}
 use Rattle.json_tokens.specs.declared.fault.JsonFault.TheVariants.{Memory}
 use Rattle.json_tree.specs.Faults.{IsPlaced}

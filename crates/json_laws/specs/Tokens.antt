@@ -1,5 +1,5 @@
 -- Texts and numbers at the front of bytes, read and spelled.
-use Rattle.std.specs.Prelude.{◌≡◌, ◌≢◌, ℕ, ℤ, ◌+◌, ◌⊎◌, List, [], ◌∷◌, ◌++◌, Option, Some, None, Ok, length}
+use Rattle.std.specs.Prelude.{◌≡◌, ◌≢◌, ℕ, ℤ, ◌+◌, List, [], ◌∷◌, ◌++◌, Option, Some, None, Ok, length}
 use Rattle.json_tokens.specs.Decimal.{Digits}
 use Rattle.json_tokens.specs.Grammar.{IsDigit, IsText, IsNumber, IsKept}
 use Rattle.json_tokens.specs.ReadingTexts.{text_at}

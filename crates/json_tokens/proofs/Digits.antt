@@ -7,9 +7,6 @@ use Rattle.std.specs.List.{AllByRecursion}
 use Rattle.json_tokens.specs.ReadingNumerals.{digits_of, past_digits, is_digit, AreDigits}
 use Rattle.json_tokens.specs.Decimal.{number_from}
 
-abbrev cons_if : Bool → ℕ → List ℕ → List ℕ
-cons_if t b bs = cond t (b ∷ digits_of bs) []
-
 split_if : (t : Bool) (b : ℕ) (bs : List ℕ) → digits_of bs ++ past_digits bs ≡ bs → cond t (b ∷ digits_of bs) [] ++ cond t (past_digits bs) (b ∷ bs) ≡ b ∷ bs
 split_if true b bs e = ap (λ (r : List ℕ). b ∷ r) e
 split_if false b bs e = refl
@@ -44,12 +41,6 @@ behind_digits n bs e = ap (drop n) (sym (digits_split bs)) ∙ drop_at (digits_o
 pub few_digits : (bs : List ℕ) → length (digits_of bs) ≤ length bs
 few_digits bs = omega (arith, length-append (digits_of bs) (past_digits bs), ap length (digits_split bs))
 
-pub no_digit_on : (bs : List ℕ) (i : ℕ) → i < length bs → is_digit (get_or bs i 0) ≡ false → length (digits_of (drop i bs)) ≡ 0
-no_digit_on bs i lt e = ap length (at_drop_more digits_of bs i 0 lt ∙ ap (λ t. cond t (get_or bs i 0 ∷ digits_of (drop (i + 1) bs)) []) e)
-
-pub digit_on : (bs : List ℕ) (i : ℕ) → i < length bs → is_digit (get_or bs i 0) ≡ true → length (digits_of (drop i bs)) ≡ 1 + length (digits_of (drop (i + 1) bs))
-digit_on bs i lt e = ap length (at_drop_more digits_of bs i 0 lt ∙ ap (λ t. cond t (get_or bs i 0 ∷ digits_of (drop (i + 1) bs)) []) e) ∙ omega arith
-
 pub none_left : (bs : List ℕ) (i : ℕ) → length bs ≤ i → length (digits_of (drop i bs)) ≡ 0
 none_left bs i le = ap length (at_drop_all digits_of bs i le)
 
@@ -60,9 +51,6 @@ number_append n (e ∷ ds) d = number_append (n * 10 + (e - 48)) ds d
 
 pub number_more : (n : ℕ) (ds : List ℕ) (i : ℕ) → i < length ds → number_from n (take (i + 1) ds) ≡ number_from n (take i ds) * 10 + (get_or ds i 0 - 48)
 number_more n ds i lt = ap (number_from n) (take_more ds i 0 lt) ∙ number_append n (take i ds) (get_or ds i 0)
-
-pub number_all : (n : ℕ) (ds : List ℕ) (i : ℕ) → length ds ≤ i → number_from n (take i ds) ≡ number_from n ds
-number_all n ds i le = ap (number_from n) (take_all i ds le)
 
 pub digit_in : (ds : List ℕ) (i : ℕ) → AreDigits ds → i < length ds → (48 ≤ get_or ds i 0) × (get_or ds i 0 ≤ 57)
 digit_in ds i h lt = h i 0 lt

@@ -27,48 +27,6 @@ record Reads (most at : ℕ) (bytes : List ℕ) (x : List ℕ × ℕ × List ℕ
   pub place : x.1 ≡ at + length front
   pub same : (other : List ℕ) → text_at most at (front ++ other) ≡ Ok (found_text x.0 x.1 other)
 
-reads_closed : (most at : ℕ) (bytes : List ℕ) (after : ℕ × List ℕ) (x : List ℕ × ℕ × List ℕ) → byte_at 34 at bytes ≡ Some after → ◌≡◌ {A = Read (List ℕ)} (Ok (found_text [] after.0 after.1)) (Ok x) → Reads (suc most) at bytes x
-unfolding text_at found_text
-reads_closed most at bytes after x e h =
-    let b = byte_took 34 at bytes after e in
-    subst (Reads (suc most) at bytes) (ok_is (found_text [] after.0 after.1) x h)
-    (record { front = 34 ∷ []; parts = b.0; place = omega (arith, b.1); same = λ other. ap (λ (n : ℕ). Ok (found_text [] n other)) (sym b.1) })
-
-reads_more : (most at : ℕ) (bytes : List ℕ) (c : ℕ × ℕ × List ℕ) (s x : List ℕ × ℕ × List ℕ) → CharacterTook [] at bytes c → Reads most c.1 c.2 s → ◌≡◌ {A = Read (List ℕ)} (Ok (found_text (encode_utf8 c.0 ++ s.0) s.1 s.2)) (Ok x)
-    → Reads (suc most) at bytes x
-unfolding text_at found_text
-reads_more most at bytes c s x h r e =
-    let again = character_again (h.spelling, c.0) h.is in
-    subst (Reads (suc most) at bytes) (ok_is (found_text (encode_utf8 c.0 ++ s.0) s.1 s.2) x e)
-    (record {
-      front = h.spelling ++ r.front;
-      parts = h.parts ∙ ap (λ (l : List ℕ). h.spelling ++ l) r.parts ∙ sym (append_assoc h.spelling r.front s.2);
-      place = omega (arith, h.place, r.place, length-append h.spelling r.front);
-      same = λ other.
-          let one = again.1 at (r.front ++ other) in
-          ap (text_at (suc most) at) (append_assoc h.spelling r.front other)
-          ∙ rw (one.0, one.1) (ap (λ (n : ℕ). with_character c.0 (text_at most n (r.front ++ other))) (sym h.place) ∙ ap (with_character c.0) (r.same other));
-    })
-
-text_reads : (most at : ℕ) (bytes : List ℕ) (x : List ℕ × ℕ × List ℕ) → text_at most at bytes ≡ Ok x → Reads most at bytes x
-unfolding text_at found_text
-text_reads zero at bytes x e = absurd cc
-text_reads (suc most) at bytes x e = by_quote (byte_at 34 at bytes) refl e (λ c s h. text_reads most c.1 c.2 s h)
-  where
-    by_quote : (o : Option (ℕ × List ℕ)) → byte_at 34 at bytes ≡ o → unless_closed o (character_at at bytes >>= λ c. with_character c.0 (text_at most c.1 c.2)) ≡ Ok x
-        → ((c : ℕ × ℕ × List ℕ) (s : List ℕ × ℕ × List ℕ) → text_at most c.1 c.2 ≡ Ok s → Reads most c.1 c.2 s) → Reads (suc most) at bytes x
-    by_quote (Some after) is h rec = reads_closed most at bytes after x is h
-    by_quote None is h rec =
-        let a = bind_ok (character_at at bytes) (λ c. with_character c.0 (text_at most c.1 c.2)) x h in
-        let b = bind_ok (text_at most a.0.1 a.0.2) (λ s. Ok (encode_utf8 a.0.0 ++ s.0, s.1, s.2)) x a.2 in
-        reads_more most at bytes a.0 b.0 x (character_took at bytes a.0 (no_quote at bytes is) a.1) (rec a.0 b.0 b.1) b.2
-
-pub text_alike : (most at : ℕ) (bytes : List ℕ) (x : List ℕ) (after b : ℕ) (rest : List ℕ) → text_at most at bytes ≡ Ok (x, after, b ∷ rest) → Alike (text_at most) at bytes x after b rest
-unfolding found_text
-text_alike most at bytes x after b rest h =
-    let r = text_reads most at bytes (found_text x after (b ∷ rest)) h in
-    record { front = r.front; parts = r.parts; place = r.place; same = λ more. r.same (b ∷ more) }
-
 pub quoted_text_alike : (at : ℕ) (bytes : List ℕ) (x : List ℕ) (after b : ℕ) (rest : List ℕ) → text_at (length bytes) at bytes ≡ Ok (x, after, b ∷ rest) → Alike (λ at bytes. text_at (length bytes) at bytes) at bytes x after b rest
 unfolding found_text
 quoted_text_alike at bytes x after b rest h =
@@ -197,12 +155,6 @@ read_again : (read : ℕ → List ℕ → Read (List ℕ)) (at : ℕ) (bytes : L
 read_again read at bytes e h front [] parts same other f = subst (λ (l : List ℕ). read at l ≡ Err e) (parts ∙ ap (λ (l : List ℕ). front ++ l) (sym (same_none other f))) h
 read_again read at bytes e h front (b ∷ bs) parts same [] f = absurd f
 read_again read at bytes e h front (b ∷ bs) parts same (c ∷ cs) f = same c cs (omega (arith, ap length parts, length-append front (b ∷ bs))) f
-
-pub text_stuck : (Deeper : List ℕ → Type 0) (most at : ℕ) (bytes : List ℕ) (e : JsonFault) → length bytes ≤ most → text_at most at bytes ≡ Err e → Stuck (text_at most) BeginsText Deeper at bytes e
-text_stuck Deeper most at bytes e le h =
-    let t = text_halts most at bytes e le h in
-    halt_stuck (text_at most) BeginsText Deeper at bytes t.front t.rest e t.parts t.lawful t.told
-    (read_again (text_at most) at bytes e h t.front t.rest t.parts (λ b more lt f. t.same most (b ∷ more) (omega arith) f))
 
 pub quoted_text_stuck : (Deeper : List ℕ → Type 0) (at : ℕ) (bytes : List ℕ) (e : JsonFault) → text_at (length bytes) at bytes ≡ Err e → Stuck (λ at bytes. text_at (length bytes) at bytes) BeginsText Deeper at bytes e
 quoted_text_stuck Deeper at bytes e h =

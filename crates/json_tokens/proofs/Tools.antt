@@ -63,10 +63,6 @@ word_took (w ∷ ws) at bytes x e =
     let c = word_took ws a.0.0 a.0.1 x a.2 in
     (b.0 ∙ ap (λ (r : List ℕ). w ∷ r) c.0, omega (arith, b.1, c.1))
 
-pub word_again : (word : List ℕ) (at : ℕ) (rest : List ℕ) → word_at word at (word ++ rest) ≡ Ok (at + length word, rest)
-word_again [] at rest = ap (λ (n : ℕ). Ok (n, rest)) (omega arith)
-word_again (w ∷ ws) at rest = rw (byte_again w at (ws ++ rest), word_again ws (at + 1) rest) (ap (λ (n : ℕ). Ok (n, rest)) (omega arith))
-
 -- ---- blanks
 
 test_blank : (b : ℕ) → is_blank b ≡ true → IsBlank b

@@ -15,6 +15,3 @@ pub use fault::{JsonFault, Memory};
 pub use numerals::{numeral, numeral_value};
 pub use rest::{Rest, past_blanks, past_byte, word};
 pub use text::Text;
-
-#[cfg(test)]
-mod tests;

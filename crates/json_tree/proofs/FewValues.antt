@@ -1,5 +1,5 @@
 -- A text has at least two bytes for each list and object in it.
-use Rattle.std.proofs.Common.{◌≡◌, ℕ, zero, suc, ◌+◌, ◌<◌, ◌≤◌, true, false, List, [], ◌∷◌, ◌++◌, length, refl, sym, ap, ◌∙◌, arith, length-append, Result, Ok, Err, IfOk}
+use Rattle.std.proofs.Common.{◌≡◌, ℕ, zero, suc, ◌+◌, ◌≤◌, List, [], ◌∷◌, ◌++◌, length, refl, ap, arith, length-append, Result, Ok, Err, IfOk}
 use Rattle.json_tokens.specs.declared.fault.JsonFault.{JsonFault}
 use Rattle.json_tree.specs.Tree.{Tree, Kind, Trees, Members, At, Null, Bool_of, Numeral_of, Wide, Text_of, List_of, Object_of, no_trees, more_trees, no_members, more_members, in_trees, in_members}
 use Rattle.json_tree.specs.Size.{tree_size, kind_size, trees_size, members_size}

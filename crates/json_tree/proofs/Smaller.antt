@@ -1,8 +1,8 @@
 -- What stands in a list or an object is smaller than it.
-use Rattle.std.proofs.Common.{if◌then◌else◌, ◌≡◌, ℕ, ◌+◌, ◌<◌, ◌≤◌, List, [], ◌∷◌, Bool, true, false, Option, Some, None, IfSome, option_map, refl, sym, ap, ◌∙◌, arith, subst}
+use Rattle.std.proofs.Common.{if◌then◌else◌, ◌≡◌, ℕ, ◌+◌, ◌<◌, ◌≤◌, List, [], ◌∷◌, Bool, true, false, Option, Some, None, IfSome, option_map, sym, ap, arith}
 use Rattle.std.specs.Option.{option_or}
 use Rattle.std.specs.Str.{bytes_eq}
-use Rattle.json_tree.specs.Tree.{Tree, Members, last_named, members}
+use Rattle.json_tree.specs.Tree.{Tree, last_named}
 use Rattle.json_tree.specs.Size.{tree_size, named_size}
 
 or_member : (m : List ℕ × Tree) (later : Option Tree) (b : Bool) (t : Tree) (n : ℕ) → (later ≡ Some t → tree_size t ≤ n)

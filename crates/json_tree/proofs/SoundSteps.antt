@@ -1,9 +1,9 @@
 -- One more in a list or an object.
-use Rattle.std.proofs.Common.{◌≡◌, ℕ, zero, suc, ◌-◌, ◌<◌, false, List, [], ◌∷◌, ◌++◌, map, refl, ap, sym, arith}
+use Rattle.std.proofs.Common.{◌≡◌, ℕ, suc, ◌-◌, List, [], ◌∷◌, ◌++◌, map, arith}
 use Rattle.std.specs.Str.{IsUtf8}
 use Rattle.std.proofs.lemmas.List.{map_push}
-use Rattle.json_tree.specs.Tree.{Tree, Trees, Members, List_of, Object_of, trees, members}
-use Rattle.json_tree.specs.Sound.{IsSound, AreSound, AreSoundMembers, is_kind_writable, are_writable, are_members_writable}
+use Rattle.json_tree.specs.Tree.{Tree, trees, members}
+use Rattle.json_tree.specs.Sound.{IsSound, AreSound, AreSoundMembers}
 use Rattle.json_tree.specs.View.{tree_of, member_of}
 use Rattle.json_tree.specs.declared.tree.Json.{Json}
 use Rattle.json_tree.specs.declared.tree.Member.{Member}
@@ -24,19 +24,3 @@ members_sound ms m h u s = rw (map_push member_of ms m) (named_more (map member_
 
 one_less : (levels : ℕ) → suc levels - 1 ≡ levels
 one_less levels = omega arith
-
-pub list_writable : (ts : Trees) (levels : ℕ) → 0 < levels → is_kind_writable (List_of ts) levels ≡ are_writable ts (levels - 1)
-list_writable ts zero h = absurd (omega arith)
-list_writable ts (suc levels) h = ap (are_writable ts) (sym (one_less levels))
-
-pub object_writable : (ms : Members) (levels : ℕ) → 0 < levels → is_kind_writable (Object_of ms) levels ≡ are_members_writable ms (levels - 1)
-object_writable ms zero h = absurd (omega arith)
-object_writable ms (suc levels) h = ap (are_members_writable ms) (sym (one_less levels))
-
-pub list_too_deep : (ts : Trees) (levels : ℕ) → levels ≡ 0 → is_kind_writable (List_of ts) levels ≡ false
-list_too_deep ts zero h = refl
-list_too_deep ts (suc levels) h = absurd (omega arith)
-
-pub object_too_deep : (ms : Members) (levels : ℕ) → levels ≡ 0 → is_kind_writable (Object_of ms) levels ≡ false
-object_too_deep ms zero h = refl
-object_too_deep ms (suc levels) h = absurd (omega arith)

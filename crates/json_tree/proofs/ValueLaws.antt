@@ -18,10 +18,6 @@ use Rattle.json_tokens.proofs.Tools.{Took, bind_ok, ok_is, chosen, byte_took, wo
 use Rattle.json_tokens.proofs.TextLaws.{text_took}
 use Rattle.json_tokens.proofs.NumeralLaws.{IsNumeralAt, numeral_took}
 
-module _ (Nested : Type 0) (Inner : ℕ → List ℕ → Tree → Type 0) where
-  abbrev Kinds : ℕ → List ℕ → Kind → Type 0
-  Kinds = IsKind Nested Inner
-
 -- ---- values that hold no others
 
 found_kind : Kind → ℕ → List ℕ → Kind × ℕ × List ℕ

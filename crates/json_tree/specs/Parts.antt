@@ -1,6 +1,6 @@
 -- What stands in a value, by its kind.
-use Rattle.std.specs.Prelude.{ℕ, List, Option, Some, None}
-use Rattle.json_tree.specs.Tree.{Tree, Kind, At, Null, Bool_of, Numeral_of, Wide, Text_of, List_of, Object_of, in_trees, in_members, last_named}
+use Rattle.std.specs.Prelude.{ℕ, ℤ, List, Option, Some, None}
+use Rattle.json_tree.specs.Tree.{Tree, Kind, At, Numeral_of, Text_of, List_of, Object_of, in_trees, in_members, last_named}
 
 -- how many bytes of the text stand before a value
 abbrev pub place_of : Tree → ℕ
@@ -23,3 +23,8 @@ items_in _ = None
 abbrev pub text_in : Kind → Option (List ℕ)
 text_in (Text_of s) = Some s
 text_in _ = None
+
+-- the number m/10^p of a numeral, as (m, p), where it is kept
+abbrev pub numeral_in : Kind → Option (ℤ × ℕ)
+numeral_in (Numeral_of m p) = Some (m, p)
+numeral_in _ = None

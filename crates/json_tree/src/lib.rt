@@ -7,9 +7,11 @@ mod document;
 mod laws;
 mod lookup;
 mod parts;
+mod slack;
 mod tree;
 mod values;
 mod writable;
+mod write_fault;
 mod writing;
 
 pub use document::{MOST_BYTES, MOST_LEVELS, read};
@@ -17,7 +19,5 @@ pub use json_tokens::{JsonFault, Memory, Text, numeral};
 pub use laws::{bytes_have_one_fault, limits_are_these};
 pub use tree::{Items, Json, Member, Members, Value};
 pub use writable::is_writable;
-pub use writing::{quote, write};
-
-#[cfg(test)]
-mod tests;
+pub use write_fault::WriteFault;
+pub use writing::{quote, write, write_behind};

@@ -1,10 +1,11 @@
 // What stands in a value, by its kind.
 ghost use Rattle.std.specs.Prelude.{◌≡◌, ◌<◌, map, option_map, IfSome};
-ghost use Rattle.json_tree.specs.Parts.{kind_in, member_in, items_in, text_in};
+ghost use Rattle.json_tree.specs.Parts.{kind_in, member_in, items_in, text_in, numeral_in};
 ghost use Rattle.json_tree.specs.Size.{tree_size, items_size};
 ghost use Rattle.json_tree.specs.View.{tree_of};
 
 use crate::tree::{Json, Value};
+use ratio_time::Numeral;
 
 impl Json {
     /// The last member of that name, or `None` where there is none or the value is no object.
@@ -39,6 +40,17 @@ impl Json {
     {
         match &self.value {
             Value::Text(text) => Some(text.as_str()),
+            _ => None,
+        }
+    }
+
+    /// The number of a numeral, or `None` where the value is none or is `Wide`.
+    pub fn numeral(&self) -> Option<Numeral>
+        ensures { option_map (λ n. (n.mantissa, n.places)) result
+            ≡ numeral_in (kind_in (tree_of self.now)) }
+    {
+        match &self.value {
+            Value::Numeral(numeral) => Some(*numeral),
             _ => None,
         }
     }

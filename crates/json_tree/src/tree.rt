@@ -1,5 +1,6 @@
 // The tree that a text in JSON stands for.
 use crate::lookup::last_of;
+use crate::slack::without_slack;
 use json_tokens::{Memory, Text};
 use ratio_time::Numeral;
 use std::alloc::Global;
@@ -112,8 +113,8 @@ impl Json {
     ghost use Rattle.json_tree.specs.Sound.{IsSound};
     ghost use Rattle.json_tree.specs.View.{tree_of};
 
-    /// Nothing is done. A proof learns what each tree keeps.
-    pub(crate) fn is_sound(&self)
+    /// Tells that each text in it is UTF-8, and that each numeral has its least places. Nothing is done.
+    pub(crate) fn keeps_utf8_and_least_places(&self)
         ensures { IsSound (tree_of self.now) }
     {
         match &self.value {
@@ -128,6 +129,22 @@ impl Json {
                 let _ = members.as_slice();
             }
         }
+    }
+}
+
+impl Member {
+    ghost use Rattle.std.specs.Str.{IsUtf8};
+    ghost use Rattle.json_tree.specs.Sound.{IsSound};
+    ghost use Rattle.json_tree.specs.View.{tree_of};
+
+    /// Tells that its name and each text in its value are UTF-8, and that each numeral has its least places. Nothing is
+    /// done.
+    fn keeps_utf8_and_least_places(&self)
+        ensures name { IsUtf8 self.now.name }
+        ensures value { IsSound (tree_of self.now.value) }
+    {
+        let _ = self.name.as_str();
+        self.value.keeps_utf8_and_least_places();
     }
 }
 
@@ -159,9 +176,18 @@ impl Items {
         ensures ok { OnOk result (self.new ≡ self.old ++ tree_of item ∷ []) }
         ensures err { OnErr result (self.new ≡ self.old) }
     {
-        item.is_sound();
+        item.keeps_utf8_and_least_places();
         self.list.push(item)?;
         Ok(())
+    }
+
+    /// The same values, in a block of no more memory than they need, as far as the allocator gives one.
+    pub(crate) fn without_slack(self, alloc: Global) -> Items
+        ensures { result ≡ self }
+    {
+        Items {
+            list: without_slack(alloc, self.list),
+        }
     }
 }
 
@@ -193,10 +219,18 @@ impl Members {
         ensures ok { OnOk result (self.new ≡ self.old ++ member_of member ∷ []) }
         ensures err { OnErr result (self.new ≡ self.old) }
     {
-        let _ = member.name.as_str();
-        member.value.is_sound();
+        member.keeps_utf8_and_least_places();
         self.list.push(member)?;
         Ok(())
+    }
+
+    /// The same members, in a block of no more memory than they need, as far as the allocator gives one.
+    pub(crate) fn without_slack(self, alloc: Global) -> Members
+        ensures { result ≡ self }
+    {
+        Members {
+            list: without_slack(alloc, self.list),
+        }
     }
 
     /// The value of the last member of that name.

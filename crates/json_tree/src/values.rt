@@ -159,7 +159,10 @@ fn items(alloc: Global, levels: u32, rest: Rest<'_>) -> Result<(Items, Rest<'_>)
     let rest = past_blanks(rest);
     match past_byte(b']', rest) {
         Some(after) => Ok((Items::new(alloc), after)),
-        None => some_items(alloc, levels, rest),
+        None => {
+            let (items, rest) = some_items(alloc, levels, rest)?;
+            Ok((items.without_slack(alloc), rest))
+        }
     }
 }
 
@@ -229,7 +232,10 @@ fn members(alloc: Global, levels: u32, rest: Rest<'_>) -> Result<(Members, Rest<
     let rest = past_blanks(rest);
     match past_byte(b'}', rest) {
         Some(after) => Ok((Members::new(alloc), after)),
-        None => some_members(alloc, levels, rest),
+        None => {
+            let (members, rest) = some_members(alloc, levels, rest)?;
+            Ok((members.without_slack(alloc), rest))
+        }
     }
 }
 

@@ -1,5 +1,5 @@
 // The canonical text of a tree.
-ghost use Rattle.std.specs.Prelude.{◌≡◌, ◌+◌, ◌/◌, ◌<◌, ◌≤◌, ◌^◌, ◌++◌, ◌∷◌, [], map, OnOk, IfOk, IsTrue};
+ghost use Rattle.std.specs.Prelude.{◌≡◌, ◌+◌, ◌/◌, ◌<◌, ◌≤◌, ◌^◌, ◌++◌, ◌∷◌, [], map, length, Err, OnOk, OnErr, IfOk, IsTrue};
 ghost use Rattle.std.specs.List.{flat_map};
 ghost use Rattle.json_tree.specs.Sound.{is_writable, SpellsAgain};
 ghost use Rattle.json_tree.specs.View.{tree_of, member_of, kind_of};
@@ -7,6 +7,7 @@ ghost use Rattle.json_tree.specs.Writing.{tree_text, kind_text, member_text, joi
 
 use crate::document::MOST_LEVELS;
 use crate::tree::{Items, Json, Member, Members, Value};
+use crate::write_fault::WriteFault;
 use json_tokens::Memory;
 use ratio_time::Numeral;
 use std::alloc::Global;
@@ -19,10 +20,35 @@ pub fn write(alloc: Global, tree: &Json) -> Result<Vec<u8>, Memory>
     // It is spelled by the grammar as the same tree, places aside.
     ensures spelled { IfOk result (λ v. SpellsAgain MOST_LEVELS v.items (tree_of tree.now)) }
 {
-    tree.is_sound();
+    tree.keeps_utf8_and_least_places();
     let mut out = Vec::new(alloc);
     put_tree(&mut out, tree)?;
     Ok(out)
+}
+
+/// Puts the text of the tree, as `write` gives it, behind what is written, if there are then at most `most` bytes.
+/// After a fault nothing has changed: the text is made apart first, so for a moment it stands in memory twice.
+pub fn write_behind(
+    alloc: Global,
+    out: &mut Vec<u8>,
+    tree: &Json,
+    most: usize,
+) -> Result<(), WriteFault>
+    requires { IsTrue (is_writable (tree_of tree.now) MOST_LEVELS) }
+    // What was written stands before the text.
+    ensures behind { OnOk result (out.new.items ≡ out.old.items ++ tree_text (tree_of tree.now)) }
+    ensures fits { OnOk result (length out.new.items ≤ most) }
+
+    ensures same { OnErr result (out.new.items ≡ out.old.items) }
+    ensures too_long { result ≡ Err WriteFault.TooLong
+        → most < length (out.old.items ++ tree_text (tree_of tree.now)) }
+{
+    let text = write(alloc, tree)?;
+    if out.len() > most || text.len() > most - out.len() {
+        return Err(WriteFault::TooLong);
+    }
+    out.extend_from_slice(&text)?;
+    Ok(())
 }
 
 #[cycle(put)]

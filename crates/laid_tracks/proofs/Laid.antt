@@ -1,8 +1,9 @@
 -- A track of items and gaps that can be laid.
-use Rattle.std.proofs.Common.{◌≡◌, ◌≢◌, ℕ, zero, suc, ◌+◌, ◌<◌, ◌≤◌, ◌/◌, ◌^◌, max, Bool, true, false, List, [], ◌∷◌, ◌++◌, length, drop, get_or, Option, Some, None, IfSome, refl, sym, ap, ◌∙◌, arith, subst, IsBitSet}
-use Rattle.std.proofs.lemmas.Bool.{eqb-true, ne_eqb}
+use Rattle.std.proofs.Common.{◌≡◌, ◌≢◌, ◌↔◌, IsTrue, ℕ, zero, suc, ◌+◌, ◌<◌, ◌≤◌, ◌/◌, ◌^◌, max, Bool, true, false, ltb, List, [], ◌∷◌, ◌++◌, length, drop, get_or, Option, Some, None, IfSome, refl, sym, ap, ◌∙◌, arith, subst, IsBitSet}
+use Rattle.std.proofs.lemmas.Bool.{eq-eqb, eqb-true, ltb-false, ltb-true, ne_eqb}
+use Rattle.std.proofs.Math.Nat.{div-eq_of_lt, pow-le-pow_right}
 use Rattle.std.proofs.lemmas.Nat.{bit_set_by_shift}
-use Rattle.std.specs.Int.Bits.{bit_and}
+use Rattle.std.specs.Int.Bits.{and_zero_l, bit_and}
 use Rattle.std.specs.List.{slice_get}
 use Rattle.std.proofs.lemmas.List.{append-nil, drop_more}
 use Rattle.frame_meaning.specs.declared.cells.Mark.{Mark}
@@ -10,7 +11,7 @@ use Rattle.frame_meaning.specs.declared.cells.Cell.{Cell}
 use Rattle.frame_meaning.specs.Cells.{same_number}
 use Rattle.composables.specs.declared.items.ItemView.{ItemView}
 use Rattle.composables.specs.declared.media.Table.{Table}
-use Rattle.composables.specs.Good.{AllUnlinked, EachLiesIn, EachLinkOf, IsLinkOf, SideLiesIn}
+use Rattle.composables.specs.Good.{EachLiesIn, SideLiesIn}
 use Rattle.composables.specs.Items.{cells_of, items_of}
 use Rattle.composables.specs.Joined.{IsTight, AllFilled}
 use Rattle.composables.specs.TrackFacts.{Holds, EachHolds, Lacks, Apart, NumbersBelow, IsKept, first_mark, left_reach, right_reach}
@@ -116,35 +117,75 @@ items_laid vs t number is h =
     ap (λ (u : TrackState). items_of (replaced u 0 0 vs).cells) is
     ∙ (ap items_of (append-nil (cells_of vs)) ∙ items_of-tight vs (filled_of 0 false vs h.each) (tight_of 0 false vs h.each))
 
+-- those from an index on can be laid behind what is before them where the first holds and the others can
+pub laid_at : (vs : List ItemView) (i next : ℕ) (gap : Bool) (d : ItemView) (tail : Option Mark) → i < length vs → tail ≡ mark_of (slice_get vs (i + 1))
+    → (Laid next gap (drop i vs)
+    ↔ (Holds (get_or vs i d) tail × Follows (get_or vs i d).item next gap × Laid (number_after (get_or vs i d).item next) (is_gap (get_or vs i d).item) (drop (i + 1) vs)))
+laid_at vs i next gap d tail inside is =
+    let v = get_or vs i d in
+    let after : tail ≡ first_mark (drop (i + 1) vs) = is ∙ mark_after vs (i + 1) in (
+      λ h. let all = subst (Laid next gap) (drop_more vs i d inside) h in (subst (λ (m : Option Mark). Holds v m) (sym after) all.0, all.1, all.2),
+      λ h. subst (Laid next gap) (sym (drop_more vs i d inside)) (subst (λ (m : Option Mark). Holds v m) after h.0, h.1, h.2),
+    )
+
 -- one item or gap more was found to hold, of those from an index on
 pub laid_more : (vs : List ItemView) (i next number : ℕ) (gap dark : Bool) (d : ItemView) (tail : Option Mark) → i < length vs → tail ≡ mark_of (slice_get vs (i + 1))
     → Holds (get_or vs i d) tail → Follows (get_or vs i d).item next gap → number ≡ number_after (get_or vs i d).item next → dark ≡ is_gap (get_or vs i d).item
-    → (Laid next gap (drop i vs) → Laid 0 false vs) → Laid number dark (drop (i + 1) vs) → Laid 0 false vs
-laid_more vs i next number gap dark d tail inside is_tail holds follows is_number is_dark so_far rest =
+    → (Laid next gap (drop i vs) ↔ Laid 0 false vs) → (Laid number dark (drop (i + 1) vs) ↔ Laid 0 false vs)
+laid_more vs i next number gap dark d tail inside is_tail holds follows is_number is_dark so_far =
     let v = get_or vs i d in
-    let after : tail ≡ first_mark (drop (i + 1) vs) = is_tail ∙ mark_after vs (i + 1) in
-    let held = subst (λ (m : Option Mark). Holds v m) after holds in
-    let numbered = subst (λ (n : ℕ). Laid n dark (drop (i + 1) vs)) is_number rest in
-    let all = subst (λ (b : Bool). Laid (number_after v.item next) b (drop (i + 1) vs)) is_dark numbered in
-    so_far (subst (Laid next gap) (sym (drop_more vs i d inside)) (held, follows, all))
+    let at = laid_at vs i next gap d tail inside is_tail in
+    let after = drop (i + 1) vs in (
+      λ rest. so_far.0 (at.1 (holds, follows, subst (λ (b : Bool). Laid (number_after v.item next) b after) is_dark (subst (λ (n : ℕ). Laid n dark after) is_number rest))),
+      λ all. subst (λ (n : ℕ). Laid n dark after) (sym is_number) (subst (λ (b : Bool). Laid (number_after v.item next) b after) (sym is_dark) (at.0 (so_far.1 all)).2),
+    )
 
 -- and what each shows to lie in the ranges of a table
-pub lies_more : (table : Table) (vs : List ItemView) (i : ℕ) (d : ItemView) (tail : Option Mark) → i < length vs → tail ≡ mark_of (slice_get vs (i + 1))
-    → SideLiesIn table (get_or vs i d).first (get_or vs i d).len (left_reach (get_or vs i d).mark) (right_reach tail)
-    → (EachLiesIn table (drop i vs) → EachLiesIn table vs) → EachLiesIn table (drop (i + 1) vs) → EachLiesIn table vs
-lies_more table vs i d tail inside is lies so_far rest =
+pub lies_at : (table : Table) (vs : List ItemView) (i : ℕ) (d : ItemView) (tail : Option Mark) → i < length vs → tail ≡ mark_of (slice_get vs (i + 1))
+    → (EachLiesIn table (drop i vs)
+    ↔ (SideLiesIn table (get_or vs i d).first (get_or vs i d).len (left_reach (get_or vs i d).mark) (right_reach tail) × EachLiesIn table (drop (i + 1) vs)))
+lies_at table vs i d tail inside is =
     let v = get_or vs i d in
     let after : tail ≡ first_mark (drop (i + 1) vs) = is ∙ mark_after vs (i + 1) in
-    let own = subst (λ (m : Option Mark). SideLiesIn table v.first v.len (left_reach v.mark) (right_reach m)) after lies in
-    so_far (subst (EachLiesIn table) (sym (drop_more vs i d inside)) (own, rest))
+    let P : Option Mark → Type 0 = λ m. SideLiesIn table v.first v.len (left_reach v.mark) (right_reach m) in (
+      λ h. let all = subst (EachLiesIn table) (drop_more vs i d inside) h in (subst P (sym after) all.0, all.1),
+      λ h. subst (EachLiesIn table) (sym (drop_more vs i d inside)) (subst P after h.0, h.1),
+    )
 
-pub unlinked_more : (vs : List ItemView) (i : ℕ) (d : ItemView) → i < length vs → (get_or vs i d).link ≡ None
-    → (AllUnlinked (drop i vs) → AllUnlinked vs) → AllUnlinked (drop (i + 1) vs) → AllUnlinked vs
-unlinked_more vs i d inside none so_far rest = so_far (subst AllUnlinked (sym (drop_more vs i d inside)) (none, rest))
+pub lies_more : (table : Table) (vs : List ItemView) (i : ℕ) (d : ItemView) (tail : Option Mark) → i < length vs → tail ≡ mark_of (slice_get vs (i + 1))
+    → SideLiesIn table (get_or vs i d).first (get_or vs i d).len (left_reach (get_or vs i d).mark) (right_reach tail)
+    → (EachLiesIn table (drop i vs) ↔ EachLiesIn table vs) → (EachLiesIn table (drop (i + 1) vs) ↔ EachLiesIn table vs)
+lies_more table vs i d tail inside is lies so_far =
+    let at = lies_at table vs i d tail inside is in
+    (λ rest. so_far.0 (at.1 (lies, rest)), λ all. (at.0 (so_far.1 all)).1)
 
-pub links_more : (n : ℕ) (vs : List ItemView) (i : ℕ) (d : ItemView) → i < length vs → IsLinkOf n (get_or vs i d).link
-    → (EachLinkOf n (drop i vs) → EachLinkOf n vs) → EachLinkOf n (drop (i + 1) vs) → EachLinkOf n vs
-links_more n vs i d inside own so_far rest = so_far (subst (EachLinkOf n) (sym (drop_more vs i d inside)) (own, rest))
+-- what does not hold of one is not to be had of all
+pub unequal : IsTrue false → ⊥
+unequal e = cc
 
-pub bit_is_set : (set n : ℕ) → has_track set n ≡ true → IsBitSet set n
-bit_is_set set n e = (bit_set_by_shift set n).0 (eqb-true (bit_and (set / 2 ^ n) 1) 1 e)
+pub not_laid : (vs : List ItemView) (i next : ℕ) (gap : Bool) (d : ItemView) (tail : Option Mark) (found : Bool) → i < length vs → tail ≡ mark_of (slice_get vs (i + 1))
+    → (IsTrue found ↔ Holds (get_or vs i d) tail) → found ≡ false → (Laid next gap (drop i vs) ↔ Laid 0 false vs) → (IsTrue false ↔ Laid 0 false vs)
+not_laid vs i next gap d tail found inside is holds none so_far =
+    (λ e. absurd (unequal e), λ all. sym none ∙ holds.1 ((laid_at vs i next gap d tail inside is).0 (so_far.1 all)).0)
+
+pub not_inside : (table : Table) (vs : List ItemView) (i : ℕ) (d : ItemView) (tail : Option Mark) (found : Bool) → i < length vs → tail ≡ mark_of (slice_get vs (i + 1))
+    → (IsTrue found ↔ SideLiesIn table (get_or vs i d).first (get_or vs i d).len (left_reach (get_or vs i d).mark) (right_reach tail)) → found ≡ false
+    → (EachLiesIn table (drop i vs) ↔ EachLiesIn table vs) → (IsTrue false ↔ EachLiesIn table vs)
+not_inside table vs i d tail found inside is lies none so_far =
+    (λ e. absurd (unequal e), λ all. sym none ∙ lies.1 ((lies_at table vs i d tail inside is).0 (so_far.1 all)).0)
+
+pub bit_is_set : (set n : ℕ) → (has_track set n ≡ true) ↔ IsBitSet set n
+bit_is_set set n = (
+  λ e. (bit_set_by_shift set n).0 (eqb-true (bit_and (set / 2 ^ n) 1) 1 e),
+  λ is. eq-eqb (bit_and (set / 2 ^ n) 1) 1 ((bit_set_by_shift set n).1 is),
+)
+
+pub bit_below : (set n : ℕ) → set < 2 ^ 32 → IsBitSet set n → n < 32
+bit_below set n short is = by (ltb n 32) refl where
+  by : (b : Bool) → ltb n 32 ≡ b → n < 32
+  by true e = ltb-true n 32 e
+  by false e =
+      let more : 2 ^ 32 ≤ 2 ^ n = pow-le-pow_right (omega arith) (ltb-false n 32 e) in
+      let less : set < 2 ^ n = omega (arith, short, more) in
+      let none : bit_and 0 1 ≡ 1 = ap (λ (k : ℕ). bit_and k 1) (sym (div-eq_of_lt less)) ∙ (bit_set_by_shift set n).1 is in
+      absurd (omega (arith, and_zero_l 1, none))

@@ -1,5 +1,5 @@
 -- Items and gaps that can be laid one after another on an empty track.
-use Rattle.std.specs.Prelude.{◌≡◌, ℕ, ◌+◌, ◌<◌, ◌≤◌, Bool, true, false, List, [], ◌∷◌, Option, Some, None}
+use Rattle.std.specs.Prelude.{◌≡◌, ℕ, ◌+◌, ◌<◌, ◌≤◌, Bool, true, false, List, [], ◌∷◌, Option, Some, None, IfSome}
 use Rattle.frame_meaning.specs.declared.cells.Mark.{Mark}
 use Rattle.composables.specs.declared.items.ItemView.{ItemView}
 use Rattle.composables.specs.declared.media.Table.{Table}
@@ -52,3 +52,15 @@ pub record IsLinked (table : Table) (n : ℕ) (vs : List ItemView) (t : TrackSta
   pub items : items_of t.cells ≡ vs
   pub good : IsGood table t
   pub roomy : IsRoomy t
+
+-- each item's number is this one at least, and past those of the items before it
+abbrev pub NumbersRise : ℕ → List ItemView → Type 0
+NumbersRise next [] = Unit {0}
+NumbersRise next (v ∷ vs) = IfSome v.item (λ i. next ≤ i) × NumbersRise (number_after v.item next) vs
+
+-- the numbers of these do not rise, or no track is laid of them; and the same of items of which some may be linked
+abbrev pub NoneIsLaid : Table → ℕ → List ItemView → Type 0
+NoneIsLaid table n vs = NumbersRise 0 vs → (t : TrackState) → IsLaid table n vs t → ⊥
+
+abbrev pub NoneIsLinked : Table → ℕ → List ItemView → Type 0
+NoneIsLinked table n vs = NumbersRise 0 vs → (t : TrackState) → IsLinked table n vs t → ⊥

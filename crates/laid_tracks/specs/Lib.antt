@@ -1,1 +1,2 @@
+-- To be read: public clauses speak of it.
 pub mod Laid

@@ -1,11 +1,15 @@
 // Tracks laid from items and gaps, and when there is one.
-ghost use Rattle.std.specs.Prelude.{◌≡◌, ◌<◌, ◌≤◌, IfOk, IfSome, IsBitSet, false, length, slice_get, true};
+ghost use Rattle.std.specs.Prelude.{◌≡◌, ◌↔◌, ◌<◌, ◌≤◌, IfOk, IfSome, IsBitSet, IsNone, IsTrue, None, Some, false, slice_get};
+ghost use Rattle.frame_meaning.specs.declared.cells.What.TheVariants.{Media};
+ghost use Rattle.composables.specs.Changes.{with_link, with_mark};
 ghost use Rattle.composables.specs.Good.{AllUnlinked, EachLiesIn, EachLinkOf, IsGood, IsLinkOf};
 ghost use Rattle.composables.specs.Items.{items_of};
 ghost use Rattle.composables.specs.Roomy.{IsRoomy};
 ghost use Rattle.composables.specs.Joined.{frames_in};
-ghost use Rattle.composables.specs.TrackFacts.{first_mark, left_reach, right_reach};
-ghost use Rattle.laid_tracks.specs.Laid.{CanBeLaid, Follows, IsLaid, IsLinked, Laid, is_gap, mark_of, number_after};
+ghost use Rattle.composables.specs.TrackFacts.{IsKept, first_mark, left_reach, right_reach};
+ghost use Rattle.composables.specs.TrackState.{next_past_all};
+ghost use Rattle.composables.specs.Views.{clip_view, gap_view};
+ghost use Rattle.laid_tracks.specs.Laid.{CanBeLaid, Follows, IsLaid, IsLinked, Laid, NoneIsLaid, NoneIsLinked, is_gap, mark_of, number_after};
 
 use composables::{ItemView, MAX_FRAMES, MAX_ITEMS, Table, Track, has_track, holds};
 use frame_meaning::{Link, Mark, Memory, What};
@@ -15,17 +19,23 @@ use std::sync::ledger::{Blank, Ledger};
 use step_count::Steps;
 
 /// An item that shows `len` frames of a media from the source frame `source` on.
-pub fn clip(number: u32, media: u32, source: u32, len: u32) -> ItemView {
+pub fn clip(number: u32, media: u32, source: u32, len: u32) -> ItemView
+    ensures { result ≡ clip_view number (Media media) source len }
+{
     ItemView::clip(number, What::Media(media), source, len)
 }
 
 /// A gap of `len` frames.
-pub fn gap(len: u32) -> ItemView {
+pub fn gap(len: u32) -> ItemView
+    ensures { result ≡ gap_view len }
+{
     ItemView::gap(len)
 }
 
 /// The same with a dissolve at the cut before it, of `a` frames before and `b` behind.
-pub fn dissolve(a: u32, b: u32, view: ItemView) -> ItemView {
+pub fn dissolve(a: u32, b: u32, view: ItemView) -> ItemView
+    ensures { result ≡ with_mark (Some (record { a = a; b = b })) view }
+{
     ItemView {
         mark: Some(Mark { a, b }),
         ..view
@@ -33,7 +43,8 @@ pub fn dissolve(a: u32, b: u32, view: ItemView) -> ItemView {
 }
 
 /// The track with this number that has these items and gaps, if there is one without links that is good in the table
-/// and has next numbers of at most 2,147,483,648. The item numbers have to rise.
+/// and has next numbers of at most 2,147,483,648. The item numbers have to rise; `None` where they do not, or where there
+/// is no such track.
 pub fn laid_track(
     alloc: Global,
     table: &Table,
@@ -41,6 +52,7 @@ pub fn laid_track(
     views: &[ItemView],
 ) -> Result<Option<Track>, Memory>
     ensures track { IfOk result (λ o. IfSome o (λ t. IsLaid table.now number views.now t)) }
+    ensures none { IfOk result (λ o. IsNone o → NoneIsLaid table.now number views.now) }
 {
     if !can_be_laid(views) {
         return Ok(None);
@@ -63,6 +75,7 @@ pub fn linked_track(
     views: &[ItemView],
 ) -> Result<Option<Track>, Memory>
     ensures track { IfOk result (λ o. IfSome o (λ t. IsLinked table.now number views.now t)) }
+    ensures none { IfOk result (λ o. IsNone o → NoneIsLinked table.now number views.now) }
 {
     if !can_be_laid(views) {
         return Ok(None);
@@ -77,7 +90,9 @@ pub fn linked_track(
 }
 
 /// The same item with a link.
-pub fn linked(link: Link, view: ItemView) -> ItemView {
+pub fn linked(link: Link, view: ItemView) -> ItemView
+    ensures { result ≡ with_link (Some link) view }
+{
     ItemView {
         link: Some(link),
         ..view
@@ -95,6 +110,8 @@ fn laid<L: Ledger>(
     requires laid { CanBeLaid items.items }
     ensures number { IfOk result (λ t. t.number ≡ number) }
     ensures items { IfOk result (λ t. items_of t.cells ≡ items.items) }
+    ensures kept { IfOk result (λ t. IsKept t) }
+    ensures next { IfOk result (λ t. t.next_item ≡ next_past_all 0 items.items) }
     ensures link { IfOk result (λ t. t.next_link ≡ 0) }
 {
     let mut steps = Steps::<L>::new(blank);
@@ -104,13 +121,13 @@ fn laid<L: Ledger>(
 }
 
 fn can_be_laid(items: &[ItemView]) -> bool
-    ensures { result ≡ true → CanBeLaid items.now }
+    ensures { IsTrue result ↔ CanBeLaid items.now }
 {
     are_laid(items) && are_short(items) && begin_unmarked(items)
 }
 
 fn are_laid(items: &[ItemView]) -> bool
-    ensures { result ≡ true → Laid 0 false items.now }
+    ensures { IsTrue result ↔ Laid 0 false items.now }
 {
     let mut next = 0;
     let mut after_gap = false;
@@ -128,7 +145,7 @@ fn are_laid(items: &[ItemView]) -> bool
 }
 
 fn are_short(items: &[ItemView]) -> bool
-    ensures { result ≡ true → frames_in items.now ≤ 4294967294 }
+    ensures { IsTrue result ↔ (frames_in items.now ≤ 4294967294) }
 {
     let mut left = 4_294_967_294;
     for view in items {
@@ -141,7 +158,7 @@ fn are_short(items: &[ItemView]) -> bool
 }
 
 fn begin_unmarked(items: &[ItemView]) -> bool
-    ensures { result ≡ true → first_mark items.now ≡ None }
+    ensures { IsTrue result ↔ (first_mark items.now ≡ None) }
 {
     match items.first() {
         Some(view) => view.mark.is_none(),
@@ -187,6 +204,7 @@ fn is_dark(item: Option<u32>) -> bool
 
 fn number_behind(item: Option<u32>, next: u32, after_gap: bool) -> Option<u32>
     ensures follows { IfSome result (λ _. Follows item next after_gap) }
+    ensures none { IsNone result → Follows item next after_gap → ⊥ }
     ensures number { IfSome result (λ n. n ≡ number_after item next) }
 {
     match item {
@@ -209,31 +227,21 @@ fn number_behind(item: Option<u32>, next: u32, after_gap: bool) -> Option<u32>
 fn is_good(table: &Table, track: &Track, views: &[ItemView]) -> bool
     requires items { items_of track.now.cells ≡ views.now }
     requires link { track.now.next_link ≡ 0 }
-    ensures good { result ≡ true → IsGood table.now track.now }
-    ensures roomy { result ≡ true → IsRoomy track.now }
+    ensures { IsTrue result ↔ (IsGood table.now track.now × IsRoomy track.now) }
 {
-    if track.length() > MAX_FRAMES {
-        return false;
-    }
-    if track.count() > MAX_ITEMS {
-        return false;
-    }
-    if track.next_item() > 2_147_483_648 {
-        return false;
-    }
-    if !all_lie(table, views) {
-        return false;
-    }
-    have_own_links(track.number(), views)
+    track.length() <= MAX_FRAMES
+        && track.count() <= MAX_ITEMS
+        && track.next_item() <= 2_147_483_648
+        && all_lie(table, views)
+        && have_own_links(track.number(), views)
 }
 
 // Whether it is so, and without links.
 fn is_bare(table: &Table, track: &Track, views: &[ItemView]) -> bool
     requires items { items_of track.now.cells ≡ views.now }
     requires link { track.now.next_link ≡ 0 }
-    ensures good { result ≡ true → IsGood table.now track.now }
-    ensures roomy { result ≡ true → IsRoomy track.now }
-    ensures unlinked { result ≡ true → AllUnlinked (items_of track.now.cells) }
+    ensures { IsTrue result ↔ (IsGood table.now track.now × IsRoomy track.now
+        × AllUnlinked (items_of track.now.cells)) }
 {
     if !is_good(table, track, views) {
         return false;
@@ -243,7 +251,7 @@ fn is_bare(table: &Table, track: &Track, views: &[ItemView]) -> bool
 
 // Whether each link has this track and its home among its tracks.
 fn have_own_links(number: u32, views: &[ItemView]) -> bool
-    ensures { result ≡ true → EachLinkOf number views.now }
+    ensures { IsTrue result ↔ EachLinkOf number views.now }
 {
     for view in views {
         if !is_own_link(number, view.link) {
@@ -254,7 +262,7 @@ fn have_own_links(number: u32, views: &[ItemView]) -> bool
 }
 
 fn is_own_link(number: u32, link: Option<Link>) -> bool
-    ensures { result ≡ true → IsLinkOf number link }
+    ensures { IsTrue result ↔ IsLinkOf number link }
 {
     match link {
         Some(l) => has_bit(l.tracks, number) && has_bit(l.tracks, l.home),
@@ -263,13 +271,13 @@ fn is_own_link(number: u32, link: Option<Link>) -> bool
 }
 
 fn has_bit(tracks: u32, track: u32) -> bool
-    ensures { result ≡ true → IsBitSet tracks track }
+    ensures { IsTrue result ↔ IsBitSet tracks track }
 {
     track < 32 && has_track(tracks, track)
 }
 
 fn all_lie(table: &Table, views: &[ItemView]) -> bool
-    ensures { result ≡ true → EachLiesIn table.now views.now }
+    ensures { IsTrue result ↔ EachLiesIn table.now views.now }
 {
     for (index, view) in views.iter().enumerate() {
         let tail = mark_at(views, index + 1);
@@ -286,7 +294,7 @@ fn all_lie(table: &Table, views: &[ItemView]) -> bool
 }
 
 fn are_unlinked(views: &[ItemView]) -> bool
-    ensures { result ≡ true → AllUnlinked views.now }
+    ensures { IsTrue result ↔ AllUnlinked views.now }
 {
     for view in views {
         if view.link.is_some() {

@@ -7,6 +7,3 @@
 mod laying;
 
 pub use laying::{clip, dissolve, gap, laid_track, linked, linked_track};
-
-#[cfg(test)]
-mod tests;

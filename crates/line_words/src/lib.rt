@@ -1,10 +1,10 @@
-//! Lines, words and numbers of a text, read without memory.
+//! Lines, words and numbers of a text.
 //!
 //! A [`LineReader`] takes a text in whatever pieces it comes and tells each line that ends. What it tells are the lines of
 //! the joined pieces: each call of `feed` tells the lines that end in the bytes that it took, and
 //! `lines_are_the_same_in_any_pieces` says that these are the lines of the text, however it was cut. [`next_word`] goes
 //! over the words of a line, and [`number`] and [`signed`] read a word as a number, of any count of digits. [`Words`] is a
-//! list of words, and its `push` alone takes memory.
+//! list of words; it alone is given an allocator.
 #![tactic(auto)]
 
 mod buffer;
@@ -30,6 +30,3 @@ pub use reader::LineReader;
 
 /// The most bytes of a line. Its line feed is not counted, and a carriage return before that is.
 pub const MAX_LINE: usize = 1024;
-
-#[cfg(test)]
-mod tests;

@@ -59,10 +59,6 @@ rest_met f (w ∷ ws) zero v e k h =
     ∙ ap (λ (b : Bool). b || list_any (on_cell f) (cells_of ws)) (view_some f w k.0.filled (ap (λ (u : ItemView). f u.item u.link) same ∙ h))
 rest_met f (w ∷ ws) (suc i) v e k h = rest_met f ws i v e k.1 h
 
-pub any-start : (f : Option ℕ → Option Link → Bool) (t : TrackState) → IsKept t
-    → list_any (λ (c : Cell). f c.item c.link) t.cells ≡ list_any (λ (c : Cell). f c.item c.link) (cells_of (drop 0 (items_of t.cells)))
-any-start f t kept = ap (list_any (on_cell f)) (sym kept.whole)
-
 pub any-passed : (f : Option ℕ → Option Link → Bool) (vs : List ItemView) (i : ℕ) (v : ItemView) → slice_get vs i ≡ Some v → f v.item v.link ≡ false
     → list_any (λ (c : Cell). f c.item c.link) (cells_of (drop i vs)) ≡ list_any (λ (c : Cell). f c.item c.link) (cells_of (drop (i + 1) vs))
 any-passed f vs i v e h =
@@ -72,6 +68,3 @@ any-passed f vs i v e h =
 pub any-met : (f : Option ℕ → Option Link → Bool) (vs : List ItemView) (i : ℕ) (v : ItemView) → slice_get vs i ≡ Some v → EachHolds vs → f v.item v.link ≡ true
     → list_any (λ (c : Cell). f c.item c.link) (cells_of (drop i vs)) ≡ true
 any-met f vs i v e k h = rest_met f vs i v e k h
-
-pub any-end : (f : Option ℕ → Option Link → Bool) (vs : List ItemView) (i : ℕ) → length vs ≤ i → list_any (λ (c : Cell). f c.item c.link) (cells_of (drop i vs)) ≡ false
-any-end f vs i h = ap (λ (us : List ItemView). list_any (on_cell f) (cells_of us)) (drop_all i vs h)

@@ -25,7 +25,7 @@ use Rattle.link_groups.specs.Shifted.{EachStaysShifted, NextItemsRise, StaysShif
 use Rattle.link_groups.proofs.Relinking.{good-linked, items-linked, like-links, like-moved, linked_track, moved-linked, new_links, unlinked-linked}
 
 -- a track with another next link number is as good
-with_next : (table : Table) (t : TrackState) (n : ℕ) → IsGood table t → IsGood table (record t { next_link = n })
+pub with_next : (table : Table) (t : TrackState) (n : ℕ) → IsGood table t → IsGood table (record t { next_link = n })
 with_next table t n g = record {
   kept = record { whole = g.kept.whole; not_before = g.kept.not_before; each = g.kept.each; apart = g.kept.apart; below = g.kept.below; short = g.kept.short };
   ranges = g.ranges;

@@ -163,7 +163,7 @@ frames-more vs i v e =
     ap frames_in (take_more vs i no_view lt ∙ ap (λ (u : ItemView). take i vs ++ u ∷ []) (get_or_from_slice_get vs i v no_view e))
     ∙ (frames_in-append (take i vs) (v ∷ []) ∙ ap (λ (n : ℕ). frames_in (take i vs) + n) one)
 
-drop_over : (y : ℕ) (cs ds : List Cell) → drop y (cs ++ ds) ≡ drop y cs ++ drop (y - length cs) ds
+pub drop_over : (y : ℕ) (cs ds : List Cell) → drop y (cs ++ ds) ≡ drop y cs ++ drop (y - length cs) ds
 drop_over y cs ds = ⊎_elim before behind (cases_lt (length cs) y) where
   before : length cs < y → drop y (cs ++ ds) ≡ drop y cs ++ drop (y - length cs) ds
   before less =
@@ -195,10 +195,6 @@ item-met named y i vs v e less some =
     ∙ (ap (least_outside named) (drop_over y (cells_of (take i vs)) (view_cells v))
     ∙ (outside-append named (drop y (cells_of (take i vs))) (drop (y - length (cells_of (take i vs))) (view_cells v))
     ∙ ap (least_link (least_outside named (drop y (cells_of (take i vs))))) (view_outside named v (y - length (cells_of (take i vs))) within)))
-
-pub items-all : (named : List TrackState) (y i : ℕ) (t : TrackState) → IsKept t → length (items_of t.cells) ≤ i → least_outside named (drop y (cells_of (take i (items_of t.cells)))) ≡ least_outside named (drop y t.cells)
-items-all named y i t kept le =
-    ap (λ (vs : List ItemView). least_outside named (drop y (cells_of vs))) (take_all i (items_of t.cells) le) ∙ ap (λ (cs : List Cell). least_outside named (drop y cs)) kept.whole
 
 -- the tracks up to an index, and one more
 
@@ -268,6 +264,3 @@ filled-at (w ∷ ws) (suc i) v e h = filled-at ws i v e h.1
 
 pub frames-within : (t : TrackState) (i : ℕ) → IsKept t → frames_in (take i (items_of t.cells)) < 2 ^ 32
 frames-within t i kept = omega (arith, frames_in-take_le i (items_of t.cells), length-cells_of (items_of t.cells), ap length kept.whole, kept.short)
-
-pub none-behind : (named : List TrackState) (y : ℕ) (t : TrackState) → length t.cells ≤ y → least_outside named (drop y t.cells) ≡ None
-none-behind named y t le = ap (least_outside named) (drop_all y t.cells le)

@@ -11,7 +11,6 @@ pub mod SplitCells
 pub mod LinkedCells
 pub mod PartTracks
 pub mod ShiftLinks
-pub mod TestTracks
 pub mod ItemCounts
 pub mod LinkedShifts
 pub mod Uncut

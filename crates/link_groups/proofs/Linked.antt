@@ -13,6 +13,7 @@ use Rattle.composables.specs.TrackState.{TrackState}
 use Rattle.composables.proofs.Joining.{same-is}
 use Rattle.link_groups.specs.LinkedItems.{item_from, item_of, linked_item}
 use Rattle.link_groups.specs.Linking.{NextLinkRises, all_linked, already_linked, are_there, home_risen, link_refusal, offsets_differ, or_else}
+use Rattle.link_groups.proofs.GoodShifts.{with_next}
 use Rattle.link_groups.proofs.Relinked.{relinked}
 
 -- where there are more of one than of the other, or fewer, not all are there
@@ -130,19 +131,10 @@ all-good table made (t ∷ ts) (i ∷ is) g e of =
     (good_linked table t i made (all_first (IsGood table) t ts g) (and_one (is_some (item_of t i)) (are_there ts is) e) (all_first (λ (t : TrackState). IsLinkOf t.number (Some made)) t ts of))
     (all-good table made ts is (all_rest (IsGood table) t ts g) (and_both (is_some (item_of t i)) (are_there ts is) e) (all_rest (λ (t : TrackState). IsLinkOf t.number (Some made)) t ts of))
 
-good_risen : (table : Table) (t : TrackState) (n : ℕ) → IsGood table t → IsGood table (record t { next_link = n })
-good_risen table t n g = record {
-  kept = record { whole = g.kept.whole; not_before = g.kept.not_before; each = g.kept.each; apart = g.kept.apart; below = g.kept.below; short = g.kept.short };
-  ranges = g.ranges;
-  links = g.links;
-  frames = g.frames;
-  items = g.items;
-}
-
 pub risen-good : (table : Table) (ts : List TrackState) → All (IsGood table) ts → All (IsGood table) (home_risen ts)
 risen-good table [] g = g
 risen-good table (t ∷ ts) g =
-    All-cons (IsGood table) (record t { next_link = t.next_link + 1 }) ts (good_risen table t (t.next_link + 1) (all_first (IsGood table) t ts g)) (all_rest (IsGood table) t ts g)
+    All-cons (IsGood table) (record t { next_link = t.next_link + 1 }) ts (with_next table t (t.next_link + 1) (all_first (IsGood table) t ts g)) (all_rest (IsGood table) t ts g)
 
 -- their numbers
 

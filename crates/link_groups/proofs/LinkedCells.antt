@@ -1,11 +1,11 @@
 -- The links of what stands in a range of record frames, item by item and track by track.
-use Rattle.std.proofs.Common.{◌≡◌, ℕ, zero, suc, ◌+◌, ◌-◌, ◌<◌, ◌≤◌, max, min, Bool, true, false, ◌||◌, List, [], ◌∷◌, ◌++◌, All, length, take, drop, get_or, Option, Some, slice_get, refl, sym, ap, ◌∙◌, arith, append_assoc, ⊎_elim}
+use Rattle.std.proofs.Common.{◌≡◌, ℕ, zero, suc, ◌+◌, ◌-◌, ◌<◌, ◌≤◌, max, min, Bool, true, false, ◌||◌, List, [], ◌∷◌, ◌++◌, All, length, take, drop, Option, Some, slice_get, refl, sym, ap, ◌∙◌, arith, ⊎_elim}
 use Rattle.std.specs.List.{list_any}
 use Rattle.std.proofs.lemmas.Bool.{cases_lt}
-use Rattle.std.proofs.lemmas.List.{append-nil, drop_all, drop-append-le, take-append-le, take_all, take_more}
+use Rattle.std.proofs.lemmas.List.{append-nil, take-append-le, take_all, take_more}
 use Rattle.std.proofs.lemmas.List.Folds.{list_any-append}
 use Rattle.std.proofs.lemmas.Option.{get_or_from_slice_get, slice_get_within}
-use Rattle.std.proofs.Math.Seq.{drop-append-add, take-append-add}
+use Rattle.std.proofs.Math.Seq.{take-append-add}
 use Rattle.frame_meaning.specs.declared.cells.Cell.{Cell}
 use Rattle.frame_meaning.specs.declared.cells.Link.{Link}
 use Rattle.frame_meaning.specs.declared.cells.Mark.{Mark}
@@ -13,7 +13,7 @@ use Rattle.frame_meaning.specs.declared.cells.What.{What}
 use Rattle.frame_meaning.specs.declared.frames.Side.{Side}
 use Rattle.frame_meaning.specs.Cells.{next_side, span}
 use Rattle.composables.specs.declared.items.ItemView.{ItemView}
-use Rattle.composables.specs.Items.{cells_of, items_of, marked, view_cells}
+use Rattle.composables.specs.Items.{cells_of, marked, view_cells}
 use Rattle.composables.specs.Joined.{frames_in}
 use Rattle.composables.specs.Links.{cells_before, cells_from}
 use Rattle.composables.specs.TrackFacts.{IsKept}
@@ -21,6 +21,7 @@ use Rattle.composables.specs.TrackState.{TrackState}
 use Rattle.composables.proofs.Frames.{no_view}
 use Rattle.composables.proofs.Joining.{cells_of-append, length-cells_of, length-view_cells}
 use Rattle.link_groups.specs.Splits.{cells_between, has_key, is_key_of}
+use Rattle.link_groups.proofs.LeastLinks.{drop_over}
 
 -- cells that all have one link
 
@@ -66,19 +67,6 @@ any_none q [] e = refl
 any_none q (c ∷ cs) e = absurd (omega (arith, e))
 
 -- ranges of cells one after another
-
-drop_over : (y : ℕ) (cs ds : List Cell) → drop y (cs ++ ds) ≡ drop y cs ++ drop (y - length cs) ds
-drop_over y cs ds = ⊎_elim before behind (cases_lt (length cs) y) where
-  before : length cs < y → drop y (cs ++ ds) ≡ drop y cs ++ drop (y - length cs) ds
-  before less =
-      let e : y ≡ length cs + (y - length cs) = omega (arith, less) in
-      ap (λ (n : ℕ). drop n (cs ++ ds)) e
-      ∙ (drop-append-add cs ds (y - length cs) ∙ ap (λ (l : List Cell). l ++ drop (y - length cs) ds) (sym (drop_all y cs (omega (arith, less)))))
-
-  behind : y ≤ length cs → drop y (cs ++ ds) ≡ drop y cs ++ drop (y - length cs) ds
-  behind le =
-      let z : y - length cs ≡ 0 = omega (arith, le) in
-      drop-append-le y cs ds le ∙ ap (λ (n : ℕ). drop y cs ++ drop n ds) (sym z)
 
 take_over : (y : ℕ) (cs ds : List Cell) → take y (cs ++ ds) ≡ take y cs ++ take (y - length cs) ds
 take_over y cs ds = ⊎_elim before behind (cases_lt (length cs) y) where
@@ -163,34 +151,7 @@ range-passed q from to i vs v e passed =
     (any_none q (drop (from - min to (frames_in (take i vs))) (take (to - frames_in (take i vs)) (view_cells v))) (omega (arith, part_long from to (frames_in (take i vs)) v, passed)))
     ∙ or_none (list_any (has_key q) (drop from (take to (cells_of (take i vs))))))
 
-pub range-all : (q : ℕ × ℕ) (from to i : ℕ) (t : TrackState) → IsKept t → length (items_of t.cells) ≤ i
-    → list_any (has_key q) (drop from (take to (cells_of (take i (items_of t.cells))))) ≡ list_any (has_key q) (drop from (take to t.cells))
-range-all q from to i t kept le =
-    ap (λ (vs : List ItemView). list_any (has_key q) (drop from (take to (cells_of vs)))) (take_all i (items_of t.cells) le)
-    ∙ ap (λ (cs : List Cell). list_any (has_key q) (drop from (take to cs))) kept.whole
-
-pub range-none : (q : ℕ × ℕ) (from to : ℕ) → list_any (has_key q) (drop from (take to [])) ≡ false
-range-none q zero zero = refl
-range-none q zero (suc to) = refl
-range-none q (suc from) zero = refl
-range-none q (suc from) (suc to) = refl
-
 -- the tracks up to an index, and one more
-
-between_append : (from to : ℕ) (ts : List TrackState) (t : TrackState) → cells_between from to (ts ++ t ∷ []) ≡ cells_between from to ts ++ drop from (take to t.cells)
-between_append from to [] t = append-nil (drop from (take to t.cells))
-between_append from to (u ∷ us) t =
-    ap (λ (cs : List Cell). drop from (take to u.cells) ++ cs) (between_append from to us t) ∙ sym (append_assoc (drop from (take to u.cells)) (cells_between from to us) (drop from (take to t.cells)))
-
-pub between-more : (q : ℕ × ℕ) (from to i : ℕ) (ts : List TrackState) (t : TrackState) → i < length ts → t ≡ get_or ts i t
-    → list_any (has_key q) (cells_between from to (take (i + 1) ts)) ≡ (list_any (has_key q) (cells_between from to (take i ts)) || list_any (has_key q) (drop from (take to t.cells)))
-between-more q from to i ts t lt is =
-    ap (λ (us : List TrackState). list_any (has_key q) (cells_between from to us)) (take_more ts i t lt ∙ ap (λ (u : TrackState). take i ts ++ u ∷ []) (sym is))
-    ∙ (ap (list_any (has_key q)) (between_append from to (take i ts) t)
-    ∙ list_any-append (has_key q) (cells_between from to (take i ts)) (drop from (take to t.cells)))
-
-pub between-all : (q : ℕ × ℕ) (from to i : ℕ) (ts : List TrackState) → length ts ≤ i → list_any (has_key q) (cells_between from to (take i ts)) ≡ list_any (has_key q) (cells_between from to ts)
-between-all q from to i ts le = ap (λ (us : List TrackState). list_any (has_key q) (cells_between from to us)) (take_all i ts le)
 
 -- all before a place, and all from one on
 

@@ -140,20 +140,6 @@ is-done s done ts new d = by (too_long (all_moved s ts)) (too_many (all_moved s 
   by None (Some r) e f k = absurd (Prim.grind (arith, k))
   by None None e f k = record { same = Prim.grind (arith, k); answer = Prim.grind (arith, k); long = e; many = f }
 
-pub refused-done : (s : Shift) (place : ℕ) (done : Done) (ts : List TrackState) (why : Refusal) → linked_refusal s ts ≡ None → within_limits (all_moved s ts) done ≡ Err why → linked_shift s place done ts ≡ Err why
-refused-done s place done ts why none = by (too_long (all_moved s ts)) (too_many (all_moved s ts)) refl refl where
-  to : (r : Result (List TrackState × Done) Refusal) → linked_shift s place done ts ≡ unless_over (all_moved s ts) (Ok (linked_after s place ts, done))
-  to r = ap (λ (o : Option Refusal). unless {A = List TrackState × Done} o (unless_over (all_moved s ts) (Ok (linked_after s place ts, done)))) none
-
-  by : (a b : Option Refusal) → too_long (all_moved s ts) ≡ a → too_many (all_moved s ts) ≡ b
-      → unless {A = List TrackState × Done} a (unless {A = List TrackState × Done} b (Ok (all_moved s ts, done))) ≡ Err why → linked_shift s place done ts ≡ Err why
-  by (Some r) b e f k =
-      to (Err why) ∙ (ap (λ (o : Option Refusal). unless {A = List TrackState × Done} o (unless {A = List TrackState × Done} (too_many (all_moved s ts)) (Ok (linked_after s place ts, done)))) e ∙ k)
-  by None (Some r) e f k =
-      to (Err why) ∙ (ap (λ (o : Option Refusal). unless {A = List TrackState × Done} o (unless {A = List TrackState × Done} (too_many (all_moved s ts)) (Ok (linked_after s place ts, done)))) e
-      ∙ (ap (λ (o : Option Refusal). unless {A = List TrackState × Done} o (Ok (linked_after s place ts, done))) f ∙ k))
-  by None None e f k = absurd (Prim.grind (arith, k))
-
 pub done-after : (s : Shift) (place : ℕ) (done : Done) (ts : List TrackState) → linked_refusal s ts ≡ None → too_long (all_moved s ts) ≡ None → too_many (all_moved s ts) ≡ None → linked_shift s place done ts ≡ Ok (linked_after s place ts, done)
 done-after s place done ts none e f =
     ap (λ (o : Option Refusal). unless {A = List TrackState × Done} o (unless_over (all_moved s ts) (Ok (linked_after s place ts, done)))) none
@@ -166,19 +152,8 @@ after-code s place ts p e a =
     relinked-each ts (split_links s.x s.y ts) p place (all_moved s ts) a
     ∙ sym (ap (λ (b : Bool). cond b (all_moved s ts) (map (split_items ts (split_links s.x s.y ts) place) (all_moved s ts))) e)
 
-pub still-refusal : (s : Shift) (ts : List TrackState) → eqb (new_len s.new) (s.y - s.x) ≡ true → linked_refusal s ts ≡ None
-still-refusal s ts e = ap (λ (b : Bool). cond b None (link_outside ts (cells_from s.y ts))) e
-
-pub still-shift : (s : Shift) (place : ℕ) (done : Done) (ts : List TrackState) → eqb (new_len s.new) (s.y - s.x) ≡ true → linked_shift s place done ts ≡ within_limits (all_moved s ts) done
-still-shift s place done ts e =
-    ap (λ (o : Option Refusal). unless {A = List TrackState × Done} o (unless_over (all_moved s ts) (Ok (linked_after s place ts, done)))) (still-refusal s ts e)
-    ∙ ap (λ (b : Bool). unless_over (all_moved s ts) (Ok (cond b (all_moved s ts) (map (split_items ts (split_links s.x s.y ts) place) (all_moved s ts)), done))) e
-
 pub moving-refusal : (s : Shift) (ts : List TrackState) (r : Option Refusal) → eqb (new_len s.new) (s.y - s.x) ≡ false → r ≡ link_outside ts (cells_from s.y ts) → linked_refusal s ts ≡ r
 moving-refusal s ts r e f = ap (λ (b : Bool). cond b None (link_outside ts (cells_from s.y ts))) e ∙ sym f
-
-pub refused-shift : (s : Shift) (place : ℕ) (done : Done) (ts : List TrackState) (why : Refusal) → linked_refusal s ts ≡ Some why → linked_shift s place done ts ≡ Err why
-refused-shift s place done ts why e = ap (λ (o : Option Refusal). unless {A = List TrackState × Done} o (unless_over (all_moved s ts) (Ok (linked_after s place ts, done)))) e
 
 pub numbers-fit : (s : Shift) (ts : List TrackState) (p : Splits) → All (λ (t : TrackState). t.next_link ≤ 2 ^ 31) ts → HasFew p
     → All (λ (t : TrackState). t.next_link + unwrap_or (get nat_cmp p.counts t.number) 0 < 2 ^ 32) (all_moved s ts)

@@ -27,7 +27,7 @@ use Rattle.edit_splice.specs.declared.shifting.Shift.{Shift}
 use Rattle.edit_splice.specs.Moves.{IsShiftOf, all_moved, moved, put_views}
 use Rattle.edit_splice.specs.Padding.{new_len, new_views, padded_track}
 use Rattle.edit_splice.specs.Shifts.{shift_of, shift_refusal, shifted}
-use Rattle.edit_splice.proofs.Moving.{frames-put, length-none, put-along, put-own}
+use Rattle.edit_splice.proofs.Moving.{frames-put, frames_new, length-none, put-along, put-own}
 use Rattle.edit_splice.proofs.Numbers.{next-append}
 use Rattle.edit_splice.proofs.Padding.{frames-gap}
 use Rattle.link_groups.specs.LinkedShifts.{linked_shift}
@@ -37,15 +37,11 @@ use Rattle.link_groups.proofs.LinkedShifts.{EachUncut, shift-items}
 use Rattle.link_groups.proofs.ShiftLinks.{gap-there, least-there, links, links-drop, there, there-append}
 use Rattle.link_groups.proofs.Uncut.{EndsApart, cell-there, uncut-spliced}
 
-len_new : (o : Option ItemView) → frames_in (new_views o) ≡ new_len o
-len_new None = refl
-len_new (Some v) = omega arith
-
 pub shift-meant : (s : Shift) (done : Done) (ts named : List TrackState) → shifted s.own s.x s.y (new_views s.new) named ≡ all_moved s ts
     → link_outside named (cells_from s.y named) ≡ link_outside ts (cells_from s.y ts) → s.x ≤ s.y → All (IsShiftOf s) ts → EachUncut s ts
     → shift_of s.own s.x s.y (new_views s.new) done named ≡ linked_shift s (s.x + new_len s.new) done ts
 shift-meant s done ts named same outside order fits uncut =
-    ap (λ (n : ℕ). unless (shift_refusal s.x s.y n named) (within_limits (cond (eqb n (s.y - s.x)) (shifted s.own s.x s.y (new_views s.new) named) (links_split s.x (s.x + n) (shifted s.own s.x s.y (new_views s.new) named))) done)) (len_new s.new)
+    ap (λ (n : ℕ). unless (shift_refusal s.x s.y n named) (within_limits (cond (eqb n (s.y - s.x)) (shifted s.own s.x s.y (new_views s.new) named) (links_split s.x (s.x + n) (shifted s.own s.x s.y (new_views s.new) named))) done)) (frames_new s.new)
     ∙ (ap (λ (us : List TrackState). unless (shift_refusal s.x s.y (new_len s.new) named) (within_limits (cond (eqb (new_len s.new) (s.y - s.x)) us (links_split s.x (s.x + new_len s.new) us)) done)) same
     ∙ (ap (λ (r : Option Refusal). unless (cond (eqb (new_len s.new) (s.y - s.x)) None r) (within_limits (cond (eqb (new_len s.new) (s.y - s.x)) (all_moved s ts) (links_split s.x (s.x + new_len s.new) (all_moved s ts))) done)) outside
     ∙ shift-items s done ts order fits uncut))

@@ -19,7 +19,7 @@ part-length f zero ts = refl
 part-length f (suc n) [] = refl
 part-length f (suc n) (t ∷ ts) = ap suc (part-length f n ts)
 
-part_set : (f : TrackState → TrackState) (n : ℕ) (ts : List TrackState) (d : TrackState) → n < length ts → set (part_changed f n ts) n (f (get_or ts n d)) ≡ part_changed f (suc n) ts
+pub part_set : (f : TrackState → TrackState) (n : ℕ) (ts : List TrackState) (d : TrackState) → n < length ts → set (part_changed f n ts) n (f (get_or ts n d)) ≡ part_changed f (suc n) ts
 part_set f n [] d h = absurd (omega (arith, h))
 part_set f zero (t ∷ ts) d h = refl
 part_set f (suc n) (t ∷ ts) d h = ap (λ (us : List TrackState). f t ∷ us) (part_set f n ts d (omega (arith, h)))

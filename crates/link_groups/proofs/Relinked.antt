@@ -14,11 +14,11 @@ use Rattle.composables.specs.declared.media.Table.{Table}
 use Rattle.composables.specs.Changes.{changed_at, changed_track, with_link}
 use Rattle.composables.specs.Good.{AllUnlinked, EachLiesIn, EachLinkOf, IsGood, IsLinkOf, SideLiesIn}
 use Rattle.composables.specs.Items.{cells_of, items_of, marked, view_cells}
-use Rattle.composables.specs.Joined.{AllFilled, IsTight, joined}
 use Rattle.composables.specs.TrackFacts.{Apart, EachHolds, Holds, IsKept, Lacks, NumbersBelow, ShowsAsItem, first_mark, left_reach, right_reach}
 use Rattle.composables.specs.TrackState.{TrackState}
 use Rattle.composables.proofs.Changing.{LeavesShape, filled-changed, frames_in-changed, tight-changed}
-use Rattle.composables.proofs.Joining.{items_of-cells_of, items_of-tight, length-cells_of, length-view_cells, same-is, same-refl, tight-joined}
+use Rattle.composables.proofs.Joining.{items_of-tight, length-cells_of, length-view_cells, same-is, same-refl}
+use Rattle.composables.proofs.MarkStanding.{filled_of, tight_of}
 use Rattle.link_groups.specs.LinkedItems.{item_from, item_of, linked_found, linked_item, linked_on}
 
 -- a cell of the item with this number gets this link, or loses its own
@@ -110,14 +110,14 @@ set_marked link m (c ∷ cs) = refl
 set_view : (link : Option Link) (v : ItemView) → map (λ (c : Cell). record c { link = link }) (view_cells v) ≡ view_cells (with_link link v)
 set_view link v = set_marked link v.mark (span v.item v.first v.link v.len) ∙ ap (marked v.mark) (set_span link v.item v.first v.link v.len)
 
-take_past : (n : ℕ) (cs ds : List Cell) → length cs ≤ n → take n (cs ++ ds) ≡ cs ++ take (n - length cs) ds
+pub take_past : (n : ℕ) (cs ds : List Cell) → length cs ≤ n → take n (cs ++ ds) ≡ cs ++ take (n - length cs) ds
 take_past n [] ds le = let e : n ≡ n - 0 = omega arith in ap (λ (k : ℕ). take k ds) e
 take_past zero (c ∷ cs) ds le = absurd (omega (arith, le))
 take_past (suc n) (c ∷ cs) ds le =
     let e : n - length cs ≡ suc n - length (c ∷ cs) = omega arith in
     ap (λ (xs : List Cell). c ∷ xs) (take_past n cs ds (omega (arith, le)) ∙ ap (λ (k : ℕ). cs ++ take k ds) e)
 
-drop_past : (n : ℕ) (cs ds : List Cell) → length cs ≤ n → drop n (cs ++ ds) ≡ drop (n - length cs) ds
+pub drop_past : (n : ℕ) (cs ds : List Cell) → length cs ≤ n → drop n (cs ++ ds) ≡ drop (n - length cs) ds
 drop_past n [] ds le = let e : n ≡ n - 0 = omega arith in ap (λ (k : ℕ). drop k ds) e
 drop_past zero (c ∷ cs) ds le = absurd (omega (arith, le))
 drop_past (suc n) (c ∷ cs) ds le =
@@ -283,16 +283,6 @@ unlinked_relinked : (k : ℕ) (vs : List ItemView) → AllUnlinked vs → AllUnl
 unlinked_relinked k [] h = tt
 unlinked_relinked zero (v ∷ vs) h = (refl, h.1)
 unlinked_relinked (suc k) (v ∷ vs) h = (h.0, unlinked_relinked k vs h.1)
-
-filled_of : (vs : List ItemView) → EachHolds vs → AllFilled vs
-filled_of [] e = tt
-filled_of (v ∷ vs) e = (e.0.filled, filled_of vs e.1)
-
-tight_of : (t : TrackState) → IsKept t → IsTight (items_of t.cells)
-tight_of t k =
-    let P : List ItemView → Type 0 = λ vs. IsTight vs in
-    let is : joined (items_of t.cells) ≡ items_of t.cells = sym (items_of-cells_of (items_of t.cells) (filled_of (items_of t.cells) k.each)) ∙ ap items_of k.whole in
-    subst P is (tight-joined (items_of t.cells))
 
 items_relinked : (t : TrackState) (link : Option Link) (k : ℕ) → IsKept t → items_of (changed_track t k (with_link link)).cells ≡ changed_at (with_link link) k (items_of t.cells)
 items_relinked t link k kept =

@@ -17,12 +17,13 @@ use Rattle.composables.specs.declared.media.Table.{Table}
 use Rattle.composables.specs.Changes.{changed_at, changed_track, with_link}
 use Rattle.composables.specs.Good.{AllUnlinked, EachLiesIn, EachLinkOf, IsGood, IsLinkOf, SideLiesIn}
 use Rattle.composables.specs.Items.{cells_of, items_of}
-use Rattle.composables.specs.Joined.{AllFilled, IsTight, frames_in, joined}
+use Rattle.composables.specs.Joined.{AllFilled, IsTight, frames_in}
 use Rattle.composables.specs.TrackFacts.{Apart, EachHolds, Holds, IsKept, Lacks, NumbersBelow, ShowsAsItem, first_mark, left_reach, right_reach}
 use Rattle.composables.specs.TrackState.{TrackState}
-use Rattle.composables.proofs.Joining.{items_of-cells_of, items_of-tight, length-cells_of, tight-joined}
+use Rattle.composables.proofs.Joining.{items_of-tight, length-cells_of}
+use Rattle.composables.proofs.MarkStanding.{filled_of, tight_of}
 use Rattle.link_groups.specs.declared.splits.Splits.{Splits}
-use Rattle.link_groups.specs.Splits.{key_cmp, key_of, new_link, relinked_cells, relinked_views, with_number}
+use Rattle.link_groups.specs.Splits.{key_cmp, key_of, given_link, relinked_cells, relinked_views, with_number}
 
 -- each of these, as far as there are so many links, with its link
 abbrev pub linked_each : List (Option Link) → List ItemView → List ItemView
@@ -141,16 +142,6 @@ tight_linked (l ∷ ls) (v ∷ []) h = tt
 tight_linked (l ∷ []) (v ∷ w ∷ vs) h = h
 tight_linked (l ∷ m ∷ ls) (v ∷ w ∷ vs) h = (h.0, tight_linked (m ∷ ls) (w ∷ vs) h.1)
 
-filled_of : (vs : List ItemView) → EachHolds vs → AllFilled vs
-filled_of [] e = tt
-filled_of (v ∷ vs) e = (e.0.filled, filled_of vs e.1)
-
-tight_of : (t : TrackState) → IsKept t → IsTight (items_of t.cells)
-tight_of t k =
-    let P : List ItemView → Type 0 = λ vs. IsTight vs in
-    let is : joined (items_of t.cells) ≡ items_of t.cells = sym (items_of-cells_of (items_of t.cells) (filled_of (items_of t.cells) k.each)) ∙ ap items_of k.whole in
-    subst P is (tight-joined (items_of t.cells))
-
 -- a track whose items get these links
 abbrev pub linked_track : List (Option Link) → TrackState → TrackState
 linked_track ls t = record t { cells = cells_of (linked_each ls (items_of t.cells)) }
@@ -221,7 +212,7 @@ pub same-track : (t : TrackState) (i : ℕ) (v : ItemView) → IsKept t → slic
 same-track t i v k e n =
     sym (ap (λ (l : Option Link). changed_track t i (with_link l)) (sym n) ∙ ap (λ (vs : List ItemView). record t { cells = cells_of vs }) (own-link i (items_of t.cells) v e) ∙ ap (λ (cs : List _). record t { cells = cs }) k.whole)
 
-shows_at : (vs : List ItemView) (i : ℕ) (v : ItemView) → slice_get vs i ≡ Some v → EachHolds vs → ShowsAsItem v.item v.first v.link
+pub shows_at : (vs : List ItemView) (i : ℕ) (v : ItemView) → slice_get vs i ≡ Some v → EachHolds vs → ShowsAsItem v.item v.first v.link
 shows_at [] i v e h = absurd (omega (arith, slice_get_within [] i v e))
 shows_at (w ∷ ws) zero v e h = let same : w ≡ v = cc in subst (λ (u : ItemView). ShowsAsItem u.item u.first u.link) same h.0.shows
 shows_at (w ∷ ws) (suc i) v e h = shows_at ws i v e h.1
@@ -266,11 +257,11 @@ one_linked : (b : Bool) (l : Option Link) (v : ItemView) → cond b (with_link l
 one_linked true l v = refl
 one_linked false l v = refl
 
-pub views-linked : (s : Splits) (place : ℕ) (vs : List ItemView) → relinked_views s place vs ≡ linked_each (new_links (new_link s) place vs) vs
+pub views-linked : (s : Splits) (place : ℕ) (vs : List ItemView) → relinked_views s place vs ≡ linked_each (new_links (given_link s) place vs) vs
 views-linked s place [] = refl
 views-linked s place (v ∷ vs) =
-    ap (λ (u : ItemView). u ∷ relinked_views s (place - v.len) vs) (one_linked (ltb place v.len) (new_link s v.link) v)
-    ∙ ap (λ (us : List ItemView). with_link (cond (ltb place v.len) (new_link s v.link) v.link) v ∷ us) (views-linked s (place - v.len) vs)
+    ap (λ (u : ItemView). u ∷ relinked_views s (place - v.len) vs) (one_linked (ltb place v.len) (given_link s v.link) v)
+    ∙ ap (λ (us : List ItemView). with_link (cond (ltb place v.len) (given_link s v.link) v.link) v ∷ us) (views-linked s (place - v.len) vs)
 
 pub moved-linked : (tracks : List TrackState) (splits : List Link) (place : ℕ) (vs : List ItemView) → moved_views tracks splits place vs ≡ linked_each (new_links (moved_link tracks splits) place vs) vs
 moved-linked tracks splits place [] = refl
@@ -282,7 +273,7 @@ like_number : (l : Link) (n : Option ℕ) → IsLike (Some l) (Some (with_number
 like_number l None = (refl, refl)
 like_number l (Some n) = (refl, refl)
 
-pub like-new : (s : Splits) (l : Option Link) → IsLike l (new_link s l)
+pub like-new : (s : Splits) (l : Option Link) → IsLike l (given_link s l)
 like-new s None = tt
 like-new s (Some l) = like_number l (get key_cmp s.numbers (key_of l))
 
@@ -330,9 +321,9 @@ link-passed f place vs i v e passed = link-at f place vs i v e ∙ ap (λ (b : B
     by false k = refl
 
 -- all of them
-pub all-links : (s : Splits) (place : ℕ) (t : TrackState) (i : ℕ) → length (items_of t.cells) ≤ i → linked_track (take i (new_links (new_link s) place (items_of t.cells))) t ≡ relinked_cells s place t
+pub all-links : (s : Splits) (place : ℕ) (t : TrackState) (i : ℕ) → length (items_of t.cells) ≤ i → linked_track (take i (new_links (given_link s) place (items_of t.cells))) t ≡ relinked_cells s place t
 all-links s place t i le =
-    ap (λ (ls : List (Option Link)). linked_track ls t) (take_all i (new_links (new_link s) place (items_of t.cells)) (omega (arith, le, length-links (new_link s) place (items_of t.cells))))
+    ap (λ (ls : List (Option Link)). linked_track ls t) (take_all i (new_links (given_link s) place (items_of t.cells)) (omega (arith, le, length-links (given_link s) place (items_of t.cells))))
     ∙ ap (λ (vs : List ItemView). record t { cells = cells_of vs }) (sym (views-linked s place (items_of t.cells)))
 
 -- the items one after another
@@ -343,17 +334,17 @@ none-there (v ∷ vs) zero h e = absurd cc
 none-there (v ∷ vs) (suc i) h e = none-there vs i (omega (arith, h)) e
 
 abbrev pub first_links : Splits → ℕ → TrackState → ℕ → List (Option Link)
-first_links s place t i = take i (new_links (new_link s) place (items_of t.cells))
+first_links s place t i = take i (new_links (given_link s) place (items_of t.cells))
 
 items_now : (s : Splits) (place : ℕ) (t u : TrackState) (i : ℕ) → IsKept t → u ≡ linked_track (first_links s place t i) t → items_of u.cells ≡ linked_each (first_links s place t i) (items_of t.cells)
 items_now s place t u i k e = ap (λ (w : TrackState). items_of w.cells) e ∙ items-linked (first_links s place t i) t k
 
 pub read-now : (s : Splits) (place : ℕ) (t u : TrackState) (i : ℕ) → IsKept t → u ≡ linked_track (first_links s place t i) t → slice_get (items_of u.cells) i ≡ slice_get (items_of t.cells) i
-read-now s place t u i k e = ap (λ (vs : List ItemView). slice_get vs i) (items_now s place t u i k e) ∙ read-linked i (new_links (new_link s) place (items_of t.cells)) (items_of t.cells)
+read-now s place t u i k e = ap (λ (vs : List ItemView). slice_get vs i) (items_now s place t u i k e) ∙ read-linked i (new_links (given_link s) place (items_of t.cells)) (items_of t.cells)
 
 pub kept-now : (s : Splits) (place : ℕ) (t u : TrackState) (i : ℕ) → IsKept t → u ≡ linked_track (first_links s place t i) t → IsKept u
 kept-now s place t u i k e =
-    subst IsKept (sym e) (kept-linked (first_links s place t i) t (like-first i (new_links (new_link s) place (items_of t.cells)) (items_of t.cells) (like-links (new_link s) (like-new s) place (items_of t.cells))) k)
+    subst IsKept (sym e) (kept-linked (first_links s place t i) t (like-first i (new_links (given_link s) place (items_of t.cells)) (items_of t.cells) (like-links (given_link s) (like-new s) place (items_of t.cells))) k)
 
 filled_at : (vs : List ItemView) (i : ℕ) (v : ItemView) → slice_get vs i ≡ Some v → EachHolds vs → 0 < v.len
 filled_at [] i v e h = absurd (omega (arith, slice_get_within [] i v e))
@@ -361,13 +352,13 @@ filled_at (w ∷ ws) zero v e h = let same : w ≡ v = cc in subst (λ (u : Item
 filled_at (w ∷ ws) (suc i) v e h = filled_at ws i v e h.1
 
 pub more-met : (s : Splits) (place : ℕ) (t u : TrackState) (i : ℕ) (v : ItemView) → IsKept t → u ≡ linked_track (first_links s place t i) t → slice_get (items_of t.cells) i ≡ Some v
-    → place < frames_in (take i (items_of t.cells)) + v.len → changed_track u i (with_link (new_link s v.link)) ≡ linked_track (first_links s place t (i + 1)) t
+    → place < frames_in (take i (items_of t.cells)) + v.len → changed_track u i (with_link (given_link s v.link)) ≡ linked_track (first_links s place t (i + 1)) t
 more-met s place t u i v k e read met =
-    let ls : List (Option Link) = new_links (new_link s) place (items_of t.cells) in
+    let ls : List (Option Link) = new_links (given_link s) place (items_of t.cells) in
     let next : suc i ≡ i + 1 = omega arith in
-    ap (λ (w : TrackState). changed_track w i (with_link (new_link s v.link))) e
-    ∙ (ap (λ (vs : List ItemView). record t { cells = cells_of (changed_at (with_link (new_link s v.link)) i vs) }) (items-linked (first_links s place t i) t k)
-    ∙ (ap (λ (vs : List ItemView). record t { cells = cells_of vs }) (sym (linked-more i (new_links (new_link s) place (items_of t.cells)) (items_of t.cells) (new_link s v.link) (link-met (new_link s) place (items_of t.cells) i v read (filled_at (items_of t.cells) i v read k.each) met)))
+    ap (λ (w : TrackState). changed_track w i (with_link (given_link s v.link))) e
+    ∙ (ap (λ (vs : List ItemView). record t { cells = cells_of (changed_at (with_link (given_link s v.link)) i vs) }) (items-linked (first_links s place t i) t k)
+    ∙ (ap (λ (vs : List ItemView). record t { cells = cells_of vs }) (sym (linked-more i (new_links (given_link s) place (items_of t.cells)) (items_of t.cells) (given_link s v.link) (link-met (given_link s) place (items_of t.cells) i v read (filled_at (items_of t.cells) i v read k.each) met)))
     ∙ ap (λ (n : ℕ). linked_track (first_links s place t n) t) next))
 
 pub more-past : (s : Splits) (place : ℕ) (t u : TrackState) (i : ℕ) (v : ItemView) → IsKept t → u ≡ linked_track (first_links s place t i) t → slice_get (items_of t.cells) i ≡ Some v
@@ -376,6 +367,6 @@ more-past s place t u i v k e read past =
     let next : suc i ≡ i + 1 = omega arith in
     e
     ∙ (ap (λ (vs : List ItemView). record t { cells = cells_of vs })
-    (sym (linked-more i (new_links (new_link s) place (items_of t.cells)) (items_of t.cells) v.link (link-passed (new_link s) place (items_of t.cells) i v read past)
-    ∙ own-link i (linked_each (first_links s place t i) (items_of t.cells)) v (read-linked i (new_links (new_link s) place (items_of t.cells)) (items_of t.cells) ∙ read)))
+    (sym (linked-more i (new_links (given_link s) place (items_of t.cells)) (items_of t.cells) v.link (link-passed (given_link s) place (items_of t.cells) i v read past)
+    ∙ own-link i (linked_each (first_links s place t i) (items_of t.cells)) v (read-linked i (new_links (given_link s) place (items_of t.cells)) (items_of t.cells) ∙ read)))
     ∙ ap (λ (n : ℕ). linked_track (first_links s place t n) t) next)

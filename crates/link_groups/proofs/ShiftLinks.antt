@@ -14,7 +14,7 @@ use Rattle.composables.specs.declared.items.ItemView.{ItemView}
 use Rattle.composables.specs.Good.{AllUnlinked}
 use Rattle.composables.specs.Items.{cells_of, marked, view_cells}
 use Rattle.composables.specs.Joined.{frames_in}
-use Rattle.composables.specs.Links.{cells_before, cells_from, least_link, least_outside, links_in, next_link_at, outside, same_link, split_links, with_link, with_link_of}
+use Rattle.composables.specs.Links.{cells_before, cells_from, least_link, least_outside, links_in, links_with, links_with_any, next_link_at, outside, same_link, split_links}
 use Rattle.composables.specs.TrackState.{TrackState, next_past_all}
 use Rattle.composables.specs.Views.{gap_view, gap_views}
 use Rattle.composables.proofs.Joining.{cells_of-append, length-cells_of}
@@ -22,6 +22,7 @@ use Rattle.edit_splice.specs.declared.shifting.Shift.{Shift}
 use Rattle.edit_splice.specs.Moves.{all_moved, moved}
 use Rattle.edit_splice.specs.Padding.{new_len, new_views}
 use Rattle.edit_splice.specs.Splicing.{spliced_track}
+use Rattle.edit_splice.proofs.Moving.{frames_new}
 use Rattle.edit_splice.proofs.Padding.{frames-gap}
 
 -- the links of cells, and those that are there
@@ -36,14 +37,14 @@ there (Some l ∷ ls) = l ∷ there ls
 
 abbrev in_order : List Link → List Link
 in_order [] = []
-in_order (l ∷ ls) = with_link l (in_order ls)
+in_order (l ∷ ls) = links_with l (in_order ls)
 
 links_in_there : (cs : List Cell) → links_in cs ≡ in_order (there (links cs))
 links_in_there [] = refl
 links_in_there (c ∷ cs) = by c.link (links_in_there cs) where
-  by : (o : Option Link) → links_in cs ≡ in_order (there (links cs)) → with_link_of o (links_in cs) ≡ in_order (there (o ∷ links cs))
+  by : (o : Option Link) → links_in cs ≡ in_order (there (links cs)) → links_with_any o (links_in cs) ≡ in_order (there (o ∷ links cs))
   by None e = e
-  by (Some l) e = ap (with_link l) e
+  by (Some l) e = ap (links_with l) e
 
 abbrev least_of : List TrackState → List Link → Option Link
 least_of named [] = None
@@ -194,10 +195,6 @@ drop_least y ls n e = by (cases_lt (length ls) y) where
   by (inl less) = drop_all (min y n) ls (omega (arith, less, e)) ∙ sym (drop_all y ls (omega (arith, less)))
   by (inr le) = let f : min y n ≡ y = omega (arith, le, e) in ap (λ (k : ℕ). drop k ls) f
 
-len_new : (o : Option ItemView) → frames_in (new_views o) ≡ new_len o
-len_new None = refl
-len_new (Some v) = omega arith
-
 ends_spliced : (t : TrackState) (x y k past z : ℕ) (views : List ItemView)
     → Ends x y z (links t.cells) (take k (links t.cells) ++ (links (cells_of views) ++ drop past (links t.cells))) → Ends x y z (links t.cells) (links (spliced_track t k past views).cells)
 ends_spliced t x y k past z views h = subst (Ends x y z (links t.cells)) (sym (links-spliced t k past views)) h
@@ -220,7 +217,7 @@ ends-moved s t order = by (eqb t.number s.own) refl (cases_lt (length t.cells) s
   own : (length t.cells < s.x) ⊎ (s.x ≤ length t.cells) → Goal (gap_views (s.x - length t.cells) ++ new_views s.new)
   own (inr le) =
       let z : s.x - length t.cells ≡ 0 = omega (arith, le) in
-      subst (λ (n : ℕ). Goal (gap_views n ++ new_views s.new)) (sym z) (here (new_views s.new) le (len_new s.new))
+      subst (λ (n : ℕ). Goal (gap_views n ++ new_views s.new)) (sym z) (here (new_views s.new) le (frames_new s.new))
   own (inl less) =
       let dark : List ItemView = gap_views (s.x - length t.cells) in
       let both : cells_of (gap_views (s.x - length t.cells) ++ new_views s.new) ≡ cells_of (gap_views (s.x - length t.cells)) ++ cells_of (new_views s.new) = cells_of-append (gap_views (s.x - length t.cells)) (new_views s.new) in
@@ -230,7 +227,7 @@ ends-moved s t order = by (eqb t.number s.own) refl (cases_lt (length t.cells) s
       (beyond (links t.cells) (links (cells_of (gap_views (s.x - length t.cells)))) (links (cells_of (new_views s.new))) s.x s.y (min s.x (length t.cells)) (min s.y (length t.cells)) (s.x + new_len s.new)
       (omega (arith, less, long)) (omega (arith, less, long)) (omega (arith, less, long, order)) order (gap-there (s.x - length t.cells))
       (inl (omega (arith, less, long, long_of (gap_views (s.x - length t.cells)), frames-gap (s.x - length t.cells))))
-      (inl (omega (arith, long_of (new_views s.new), len_new s.new)))))
+      (inl (omega (arith, long_of (new_views s.new), frames_new s.new)))))
 
   other : (b : Bool) → ltb s.x (length t.cells) ≡ b → Goal (cond b (gap_views (new_len s.new)) [])
   other true e = here (gap_views (new_len s.new)) (omega (arith, ltb-true s.x (length t.cells) e)) (frames-gap (new_len s.new))

@@ -21,7 +21,7 @@ use Rattle.composables.proofs.Joining.{length-view_cells}
 use Rattle.link_groups.specs.LinkedShifts.{moved_views, split_items}
 use Rattle.link_groups.specs.declared.splits.Splits.{Splits}
 use Rattle.link_groups.specs.Renumbering.{IsUncut}
-use Rattle.link_groups.specs.Splits.{AreSplits, new_link, relinked_track, relinked_views, with_number}
+use Rattle.link_groups.specs.Splits.{AreSplits, given_link, relinked_track, relinked_views, with_number}
 
 -- cells of one item
 
@@ -120,7 +120,7 @@ each-cells tracks splits place (t ∷ ts) kept uncut =
 
 -- what the code gives
 
-new_moved : (tracks : List TrackState) (splits : List Link) (s : Splits) → AreSplits tracks splits s → (o : Option Link) → new_link s o ≡ moved_link tracks splits o
+new_moved : (tracks : List TrackState) (splits : List Link) (s : Splits) → AreSplits tracks splits s → (o : Option Link) → given_link s o ≡ moved_link tracks splits o
 new_moved tracks splits s a None = refl
 new_moved tracks splits s a (Some l) = ap (λ (n : Option ℕ). Some (with_number l n)) (a.numbers l) ∙ by (list_any (same_link l) splits) where
   by : (b : Bool) → Some (with_number l (cond b (Some (split_number tracks splits l)) None)) ≡ cond b (Some (record l { number = split_number tracks splits l })) (Some l)

@@ -15,7 +15,7 @@ use Rattle.frame_meaning.specs.declared.cells.Link.{Link}
 use Rattle.frame_meaning.specs.declared.plain.Memory.{Memory}
 use Rattle.composables.specs.declared.TheConstants.{MAX_ITEMS}
 use Rattle.composables.specs.Items.{items_of}
-use Rattle.composables.specs.Links.{cells_before, cells_from, link_before, links_in, next_link_at, same_link, split_links, split_number, with_link, with_link_of}
+use Rattle.composables.specs.Links.{cells_before, cells_from, link_before, links_in, links_with, links_with_any, next_link_at, same_link, split_links, split_number}
 use Rattle.composables.specs.TrackState.{TrackState}
 use Rattle.composables.proofs.Joining.{eqb-refl}
 use Rattle.link_groups.specs.declared.splits.Splits.{Splits}
@@ -52,12 +52,12 @@ key-exact = exact_pairs nat_cmp nat_cmp exact_unsigned exact_unsigned
 
 -- a link put in its place is its key put in its place
 
-key_insert : (l : Link) (ks : List Link) → map key_of (with_link l ks) ≡ insert_key key_cmp (map key_of ks) (key_of l)
+key_insert : (l : Link) (ks : List Link) → map key_of (links_with l ks) ≡ insert_key key_cmp (map key_of ks) (key_of l)
 key_insert l [] = refl
 key_insert l (k ∷ ks) = by (ltb l.home k.home) (eqb l.home k.home) (ltb l.number k.number) (eqb l.number k.number) refl refl refl refl (key_insert l ks) where
   by : (a b c d : Bool) → ltb l.home k.home ≡ a → eqb l.home k.home ≡ b → ltb l.number k.number ≡ c → eqb l.number k.number ≡ d
-      → map key_of (with_link l ks) ≡ insert_key key_cmp (map key_of ks) (key_of l)
-      → map key_of (cond (b && d) (k ∷ ks) (cond (a || (b && c)) (l ∷ k ∷ ks) (k ∷ with_link l ks)))
+      → map key_of (links_with l ks) ≡ insert_key key_cmp (map key_of ks) (key_of l)
+      → map key_of (cond (b && d) (k ∷ ks) (cond (a || (b && c)) (l ∷ k ∷ ks) (k ∷ links_with l ks)))
       ≡ match_ordering (ordering_then (cond a Less (cond b Equal Greater)) (cond c Less (cond d Equal Greater))) (key_of l ∷ key_of k ∷ map key_of ks) (key_of k ∷ map key_of ks) (key_of k ∷ insert_key key_cmp (map key_of ks) (key_of l))
   by true true c d e f g h i = absurd (omega (arith, ltb-true l.home k.home e, eqb-true l.home k.home f))
   by true false c d e f g h i = refl
@@ -99,7 +99,7 @@ sorted_links : (cs : List Cell) → IsStrictlySortedBy key_cmp (map key_of (link
 unfolding IsStrictlySortedBy
 sorted_links [] = tt
 sorted_links (c ∷ cs) = by c.link (sorted_links cs) where
-  by : (o : Option Link) → IsStrictlySortedBy key_cmp (map key_of (links_in cs)) → IsStrictlySortedBy key_cmp (map key_of (with_link_of o (links_in cs)))
+  by : (o : Option Link) → IsStrictlySortedBy key_cmp (map key_of (links_in cs)) → IsStrictlySortedBy key_cmp (map key_of (links_with_any o (links_in cs)))
   by None s = s
   by (Some l) s = subst (IsStrictlySortedBy key_cmp) (sym (key_insert l (links_in cs))) (sorted_insert (key_of l) (map key_of (links_in cs)) s)
 
@@ -121,14 +121,14 @@ or_swap true true r = refl
 or_swap true false r = refl
 or_swap false m r = refl
 
-any_with : (q : ℕ × ℕ) (m : Link) (ks : List Link) → list_any (λ (l : Link). is_key_of q (Some l)) (with_link m ks) ≡ (is_key_of q (Some m) || list_any (λ (l : Link). is_key_of q (Some l)) ks)
+any_with : (q : ℕ × ℕ) (m : Link) (ks : List Link) → list_any (λ (l : Link). is_key_of q (Some l)) (links_with m ks) ≡ (is_key_of q (Some m) || list_any (λ (l : Link). is_key_of q (Some l)) ks)
 any_with q m [] = refl
 any_with q m (k ∷ ks) = by (same_link m k) (link_before m k) refl (any_with q m ks) where
   test : Link → Bool
   test l = is_key_of q (Some l)
 
-  by : (a b : Bool) → same_link m k ≡ a → list_any test (with_link m ks) ≡ (test m || list_any test ks)
-      → list_any test (cond a (k ∷ ks) (cond b (m ∷ k ∷ ks) (k ∷ with_link m ks))) ≡ (test m || (test k || list_any test ks))
+  by : (a b : Bool) → same_link m k ≡ a → list_any test (links_with m ks) ≡ (test m || list_any test ks)
+      → list_any test (cond a (k ∷ ks) (cond b (m ∷ k ∷ ks) (k ∷ links_with m ks))) ≡ (test m || (test k || list_any test ks))
   by true b e i = or_absorb (test k) (list_any test ks) (test m) (same_trans q.0 q.1 m.home m.number k.home k.number e)
   by false true e i = refl
   by false false e i = ap (λ (r : Bool). test k || r) i ∙ or_swap (test k) (test m) (list_any test ks)
@@ -137,7 +137,7 @@ pub any-links : (q : ℕ × ℕ) (cs : List Cell) → list_any (λ (l : Link). i
 any-links q [] = refl
 any-links q (c ∷ cs) = by c.link (any-links q cs) where
   by : (o : Option Link) → list_any (λ (l : Link). is_key_of q (Some l)) (links_in cs) ≡ list_any (has_key q) cs
-      → list_any (λ (l : Link). is_key_of q (Some l)) (with_link_of o (links_in cs)) ≡ (is_key_of q o || list_any (has_key q) cs)
+      → list_any (λ (l : Link). is_key_of q (Some l)) (links_with_any o (links_in cs)) ≡ (is_key_of q o || list_any (has_key q) cs)
   by None i = i
   by (Some l) i = any_with q l (links_in cs) ∙ ap (λ (b : Bool). is_key_of q (Some l) || b) i
 

@@ -16,7 +16,7 @@ use Rattle.frame_meaning.specs.Splice.{kept_or_dropped, renumbered, split_item, 
 use Rattle.composables.specs.declared.items.ItemView.{ItemView}
 use Rattle.composables.specs.Items.{cell_in, cells_of, items_of, marked, view_cells}
 use Rattle.composables.specs.Joined.{frames_in}
-use Rattle.composables.specs.TrackFacts.{EachHolds, IsKept, NumbersBelow, ShowsAsItem}
+use Rattle.composables.specs.TrackFacts.{IsKept, NumbersBelow, ShowsAsItem}
 use Rattle.composables.specs.TrackState.{TrackState, next_past_all}
 use Rattle.composables.proofs.Frames.{frames_in-take_le}
 use Rattle.composables.proofs.Joining.{length-cells_of, length-view_cells, same-is, same-refl}
@@ -27,6 +27,7 @@ use Rattle.edit_splice.proofs.Cellwise.{cell-before, cell-behind, cell-between}
 use Rattle.edit_splice.proofs.Numbers.{next-rises}
 use Rattle.edit_splice.proofs.Keeping.{length-spliced}
 use Rattle.link_groups.proofs.LeastLinks.{frames-more}
+use Rattle.link_groups.proofs.Relinking.{shows_at}
 use Rattle.link_groups.specs.Renumbering.{IsUncut}
 
 -- the cells of an item or gap
@@ -55,11 +56,6 @@ cell-there (w ∷ ws) (suc i) k v e h =
     let p : w.len + frames_in (take i ws) + k ≡ length (view_cells w) + (frames_in (take i ws) + k) = omega (arith, length-view_cells w) in
     ap (λ (p : ℕ). cell_at (view_cells w ++ cells_of ws) p) p
     ∙ (get_or-append-add (view_cells w) (cells_of ws) (frames_in (take i ws) + k) dark_cell ∙ cell-there ws i k v e h)
-
-shows_at : (vs : List ItemView) (i : ℕ) (v : ItemView) → slice_get vs i ≡ Some v → EachHolds vs → ShowsAsItem v.item v.first v.link
-shows_at [] i v e h = absurd (omega (arith, slice_get_within [] i v e))
-shows_at (w ∷ ws) zero v e h = let same : w ≡ v = cc in subst (λ (u : ItemView). ShowsAsItem u.item u.first u.link) same h.0.shows
-shows_at (w ∷ ws) (suc i) v e h = shows_at ws i v e h.1
 
 no_link : (o : Option ℕ) (d : Side What) (l : Option Link) → o ≡ None → ShowsAsItem o d l → l ≡ None
 no_link None Dark None e s = refl

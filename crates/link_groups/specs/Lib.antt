@@ -1,7 +1,9 @@
+-- To be read: public clauses speak of these.
 pub mod LinkedItems
 pub mod Linking
 pub mod ItemLinks
-pub mod Splits
 pub mod Renumbering
 pub mod LinkedShifts
 pub mod Shifted
+-- For the steps of the code, for proofs and for tests.
+pub mod Splits

@@ -69,13 +69,13 @@ with_number l None = l
 with_number l (Some n) = record l { number = n }
 
 -- a link as it is where these are split
-abbrev pub new_link : Splits → Option Link → Option Link
-new_link s None = None
-new_link s (Some l) = Some (with_number l (get key_cmp s.numbers (key_of l)))
+abbrev pub given_link : Splits → Option Link → Option Link
+given_link s None = None
+given_link s (Some l) = Some (with_number l (get key_cmp s.numbers (key_of l)))
 
 -- items and gaps, of which those that end past a place get their new links
 abbrev pub relinked_view : Splits → ℕ → ItemView → ItemView
-relinked_view s place v = if nat_lt place v.len then with_link (new_link s v.link) v else v
+relinked_view s place v = if nat_lt place v.len then with_link (given_link s v.link) v else v
 
 abbrev pub relinked_views : Splits → ℕ → List ItemView → List ItemView
 relinked_views s place [] = []

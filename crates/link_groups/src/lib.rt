@@ -22,6 +22,3 @@ pub use outside::{check, outside_refusal};
 pub use renumbering::renumber;
 pub use shifting::shift_linked;
 pub use unlinking::unlink;
-
-#[cfg(test)]
-mod tests;

@@ -19,8 +19,8 @@ use std::sync::ledger::Ledger;
 use step_count::Steps;
 
 /// Links items, one on each named track, in the order of the tracks, which must have one offset and no link yet. Their
-/// new link has the lowest named track as its home, the next link number of that track, and the named tracks. It takes
-/// no memory.
+/// new link has the lowest named track as its home, the next link number of that track, and the named tracks. The
+/// allocator is not used.
 ///
 /// It answers the link, or the first of these refusals that holds: `NoTrack(0)`, where no track is named; `NoItem`,
 /// also where there is not one item for each named track; `OffsetsDiffer`; `AlreadyLinked`.

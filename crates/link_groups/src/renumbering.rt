@@ -9,10 +9,10 @@ ghost use Rattle.composables.specs.Links.{cells_from, link_outside, links_split}
 ghost use Rattle.composables.specs.Sizes.{size_of, sizes_of};
 ghost use Rattle.composables.specs.TrackFacts.{IsKept};
 ghost use Rattle.link_groups.specs.Renumbering.{MayBeSplit, IsUncut};
-ghost use Rattle.link_groups.specs.Splits.{new_link, relinked_cells, relinked_track};
+ghost use Rattle.link_groups.specs.Splits.{given_link, relinked_cells, relinked_track};
 
 use crate::splits::{Splits, splits_at};
-use composables::{ItemView, Memory, Track};
+use composables::{ItemView, Memory, Track, a_track_is_kept};
 use frame_meaning::Link;
 use std::alloc::Global;
 use std::sync::ledger::Ledger;
@@ -61,8 +61,8 @@ pub(crate) fn relink_all<L: Ledger>(
 }
 
 fn relink_track<L: Ledger>(track: &mut Track, place: u64, splits: &Splits, steps: &mut Steps<L>)
-    requires next { track.old.next_link + unwrap_or (get nat_cmp splits.now.counts track.old.number) 0
-        < 2 ^ 32 }
+    requires next { track.old.next_link
+        + unwrap_or (get nat_cmp splits.now.counts track.old.number) 0 < 2 ^ 32 }
     ensures relinked { track.new ≡ relinked_track splits.now place track.old }
     ensures least { steps.old ≤ steps.new }
     ensures most { steps.new ≤ steps.old + size_of track.old }
@@ -77,7 +77,7 @@ fn relink_items<L: Ledger>(track: &mut Track, place: u64, splits: &Splits, steps
     ensures least { steps.old ≤ steps.new }
     ensures most { steps.new ≤ steps.old + size_of track.old }
 {
-    let _ = track.length();
+    a_track_is_kept(track);
     let mut end: u64 = 0;
     for index in 0..track.count() {
         steps.tick();
@@ -94,7 +94,8 @@ fn relink_items<L: Ledger>(track: &mut Track, place: u64, splits: &Splits, steps
 fn relink_item(track: &mut Track, index: u32, view: &ItemView, splits: &Splits)
     requires read { slice_get (items_of track.old.cells) index ≡ Some view.now }
     requires kept { IsKept track.old }
-    ensures { track.new ≡ changed_track track.old index (with_link (new_link splits.now view.now.link)) }
+    ensures { track.new
+        ≡ changed_track track.old index (with_link (given_link splits.now view.now.link)) }
 {
     match view.link {
         Some(link) => {
@@ -105,7 +106,7 @@ fn relink_item(track: &mut Track, index: u32, view: &ItemView, splits: &Splits)
 }
 
 fn numbered(link: Link, splits: &Splits) -> Link
-    ensures { new_link splits.now (Some link) ≡ Some result }
+    ensures { given_link splits.now (Some link) ≡ Some result }
 {
     match splits.numbers.get(&(link.home, link.number)) {
         Some(number) => Link {

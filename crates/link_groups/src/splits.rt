@@ -8,7 +8,7 @@ ghost use Rattle.composables.specs.Sizes.{size_of, sizes_of};
 ghost use Rattle.link_groups.specs.Renumbering.{MayBeSplit};
 ghost use Rattle.link_groups.specs.Splits.{AreGiven, AreSplits, HasFew, cells_between, has_key, is_key_of, key_cmp};
 
-use composables::{Memory, Track};
+use composables::{Memory, Track, a_track_is_kept};
 use frame_meaning::Link;
 use std::alloc::Global;
 use std::collections::{BTreeMap, BTreeSet};
@@ -72,13 +72,14 @@ fn add_linked<L: Ledger>(
     steps: &mut Steps<L>,
 ) -> Result<(), Memory>
     ensures links { OnOk result ((q : ℕ × ℕ) → contains key_cmp links.new q
-        ≡ (contains key_cmp links.old q || list_any (has_key q) (drop from (take to track.now.cells)))) }
+        ≡ (contains key_cmp links.old q
+        || list_any (has_key q) (drop from (take to track.now.cells)))) }
     ensures few { OnOk result (btree_set_len links.new
         ≤ btree_set_len links.old + length (items_of track.now.cells)) }
     ensures least { steps.old ≤ steps.new }
     ensures most { steps.new ≤ steps.old + size_of track.now }
 {
-    let _ = track.length();
+    a_track_is_kept(track);
     let mut at: u64 = 0;
     for index in 0..track.count() {
         steps.tick();

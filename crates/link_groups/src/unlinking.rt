@@ -14,7 +14,7 @@ use std::sync::ledger::Ledger;
 use step_count::Steps;
 
 /// Takes the link from an item of the one track that is named; an item without one stays as it is. The other items of
-/// the link keep it. It takes no memory. It answers `NoItem` where the track has no such item.
+/// the link keep it. The allocator is not used. It answers `NoItem` where the track has no such item.
 pub fn unlink<L: Ledger>(
     _alloc: Global,
     table: &Table,

@@ -1,7 +1,7 @@
 -- Edits of one track, dissolves, and links taken away.
 use Rattle.std.proofs.Common.{◌≡◌, ℕ, zero, suc, ◌+◌, ◌-◌, ◌<◌, ◌≤◌, ◌⊎◌, inl, inr, ℤ, pos, negsuc, Bool, true, false, cond, ltb, nat_le, ◌&&◌, min, List, [], ◌∷◌, ◌++◌, take, drop, map, length, Option, Some, None, Result, Ok, Err, refl, sym, ap, ◌∙◌, arith, subst}
-use Rattle.std.proofs.lemmas.Bool.{cases_lt, leb-true, ltb-true}
-use Rattle.std.proofs.lemmas.List.{length-append, length-drop, length-take-le}
+use Rattle.std.proofs.lemmas.Bool.{and_parts, cases_lt, leb-true, ltb-true}
+use Rattle.std.proofs.lemmas.List.{length-append, length-drop, length-map, length-take-le}
 use Rattle.frame_meaning.specs.declared.cells.Cell.{Cell}
 use Rattle.frame_meaning.specs.declared.cells.Link.{Link}
 use Rattle.frame_meaning.specs.declared.cells.Mark.{Mark}
@@ -45,7 +45,7 @@ use Rattle.edit_roll.specs.Neighbours.{begin_at, move_allows}
 use Rattle.edit_roll.specs.Rolling.{roll_cut, roll_track, rolled}
 use Rattle.edit_splice.specs.Padding.{padded_track}
 use Rattle.edit_splice.specs.Splicing.{spliced_track}
-use Rattle.edit_splice.proofs.Bridging.{for-found}
+use Rattle.edit_splice.proofs.Bridging.{for-found, is-numbered}
 use Rattle.edit_splice.proofs.Padding.{frames-gap}
 use Rattle.edit_trim.specs.Darkness.{dark_before}
 use Rattle.edit_trim.specs.Trimming.{trim_allows, trim_end, trim_track, trimmed}
@@ -59,7 +59,7 @@ use Rattle.link_laws.proofs.LinkedRuns.{grown-on}
 use Rattle.link_laws.proofs.Runs.{runs-alike}
 use Rattle.link_laws.proofs.Sights.{Alike, Shows, alike-self, shows-alike, shows-append, shows-at, shows-drop, shows-take}
 use Rattle.link_laws.proofs.Splices.{gap-bare, keeps-bare, keeps-one, keeps-padded, length-pad, padded-runs, seen-back, seen-on}
-use Rattle.link_laws.proofs.Tied.{Each, Keeps, among-numbered, each-left, each-with, good-found, kept-tied, keeps-self, keeps-then, numbered-is, tied-of, together-of}
+use Rattle.link_laws.proofs.Tied.{Each, Keeps, among-numbered, each-left, each-with, good-found, kept-tied, keeps-self, keeps-then, tied-of, together-of}
 use Rattle.link_laws.proofs.Weighing.{kept-little, numbered-of}
 
 -- what a call leaves, if it is done, and where it is for one track
@@ -86,7 +86,7 @@ not-found own meant ts e = rw e refl
 
 pub among-kept : (own : ℕ) (ts : List TrackState) (t : TrackState) (r : Result (TrackState × Done) Refusal) → track_numbered own ts ≡ Some t → KeptOne t r → KeptAll ts (among_named ts r)
 among-kept own ts t (Ok (u, d)) e k =
-    each-with Keeps keeps-self ts t u (ap (λ (m : ℕ). track_numbered m ts) (k.0 ∙ numbered-is own ts t e) ∙ e) k.0 k.1
+    each-with Keeps keeps-self ts t u (ap (λ (m : ℕ). track_numbered m ts) (k.0 ∙ is-numbered own ts t e) ∙ e) k.0 k.1
 among-kept own ts t (Err r) e k = tt
 
 pub own-kept : (own : ℕ) (meant : TrackState → Result (TrackState × Done) Refusal) (ts : List TrackState)
@@ -114,11 +114,6 @@ unless_kept t (Some r) meant h = tt
 within_kept : (t u : TrackState) (done : Done) → u.number ≡ t.number → Keeps t u → KeptOne t (track_within_limits u done)
 within_kept t u done n k =
     unless_kept t (too_long (u ∷ [])) (unless (too_many (u ∷ [])) (Ok (u, done))) (unless_kept t (too_many (u ∷ [])) (Ok (u, done)) (n, k))
-
-pub and-both : (a b : Bool) → (a && b) ≡ true → (a ≡ true) × (b ≡ true)
-and-both true true h = (refl, refl)
-and-both true false h = absurd cc
-and-both false b h = absurd cc
 
 -- items put in, taken out and cut in two
 
@@ -210,8 +205,8 @@ trim_kept : (table : Table) (t : TrackState) (x y : ℕ) (end : End) (d : ℤ) �
     → ((trimmed t x y end d).number ≡ t.number) × Keeps t (trimmed t x y end d)
 trim_kept table t x y Head (pos k) less within e = (refl, dark_kept t x (x + k) k (omega (arith, less, within)) refl)
 trim_kept table t x y Head (negsuc k) less within e =
-    let a = and-both (dark_before t.cells x (suc k)) (has_before table (cell_at t.cells x).side (suc k)) e in
-    let le = leb-true (suc k) x (and-both (nat_le (suc k) x) _ a.0).0 in
+    let a = and_parts (dark_before t.cells x (suc k)) (has_before table (cell_at t.cells x).side (suc k)) e in
+    let le = leb-true (suc k) x (and_parts (nat_le (suc k) x) _ a.0).0 in
     (refl, back_kept table t x (suc k) le (omega (arith, less, within)) a.1)
 trim_kept table t x y Tail (pos k) less within e = (refl, on_kept t y (min (y + k) (length t.cells)) k (omega (arith, less)) within (up_to y k (length t.cells)))
 trim_kept table t x y Tail (negsuc k) less within e =
@@ -230,7 +225,7 @@ roll_kept : (table : Table) (t : TrackState) (at : ℕ) (d : ℤ) → 0 < at →
     → ((rolled t at d).number ≡ t.number) × Keeps t (rolled t at d)
 roll_kept table t at (pos k) some within e = (refl, on_kept t at (at + k) k some within (inl refl))
 roll_kept table t at (negsuc k) some within e =
-    let a = and-both (keeps_a_cell (begin_at t.cells (at - 1)) at (suc k)) (has_before table (cell_at t.cells at).side (suc k)) e in
+    let a = and_parts (keeps_a_cell (begin_at t.cells (at - 1)) at (suc k)) (has_before table (cell_at t.cells at).side (suc k)) e in
     let fits : begin_at t.cells (at - 1) + suc k < at = ltb-true (begin_at t.cells (at - 1) + suc k) at a.0 in
     (refl, back_kept table t at (suc k) (omega (arith, fits)) within a.1)
 
@@ -238,8 +233,8 @@ pub roll-one : (table : Table) (c : Roll) (t : TrackState) → KeptOne t (roll_t
 roll-one table c t = by (is_cut t.cells c.at) refl where
   by : (b : Bool) → is_cut t.cells c.at ≡ b → KeptOne t (cond b (roll_cut table t c.by c.at) (Err (NotACut c.at)))
   by true e =
-      let a = and-both (ltb 0 c.at && ltb c.at (length t.cells)) _ e in
-      let b = and-both (ltb 0 c.at) (ltb c.at (length t.cells)) a.0 in
+      let a = and_parts (ltb 0 c.at && ltb c.at (length t.cells)) _ e in
+      let b = and_parts (ltb 0 c.at) (ltb c.at (length t.cells)) a.0 in
       let within = ltb-true c.at (length t.cells) b.1 in
       used-kept t (rolled t c.at) (move_allows table t c.at c.at) c.by (λ d m. roll_kept table t c.at d (ltb-true 0 c.at b.0) (omega (arith, within)) m)
   by false e = tt
@@ -285,10 +280,6 @@ set_shows p [] l o h = h
 set_shows p (c ∷ cs) l o (inl h) = Prim.grind (arith, h.0)
 set_shows p (c ∷ cs) l o (inr h) = set_shows (p + 1) cs l o h
 
-map_long : (f : Cell → Cell) (cs : List Cell) → length (map f cs) ≡ length cs
-map_long f [] = refl
-map_long f (c ∷ cs) = ap suc (map_long f cs)
-
 unlinked_keeps : (t : TrackState) (x y : ℕ) → x ≤ y → y ≤ length t.cells → Keeps t (record t { cells = linked_on x y None t.cells })
 unlinked_keeps t x y le within = record { shows = shows; next = refl; grown = grown-on t x y None le } where
   mid : List Cell
@@ -299,7 +290,7 @@ unlinked_keeps t x y le within = record { shows = shows; next = refl; grown = gr
       omega (
         arith,
         length-append (take x t.cells) mid,
-        map_long (λ (c : Cell). record c { link = None }) (drop x (take y t.cells)),
+        length-map (drop x (take y t.cells)) (λ (c : Cell). record c { link = None }),
         length-drop x (take y t.cells),
         length-take-le y t.cells within,
         length-take-le x t.cells (omega (arith, le, within)),

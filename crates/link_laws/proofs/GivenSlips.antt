@@ -32,8 +32,9 @@ use Rattle.link_laws.proofs.LinkLists.{Carries, carries-shows, shows-carries}
 use Rattle.link_laws.proofs.ShiftCases.{leaves-unless}
 use Rattle.link_laws.proofs.SlideLaw.{Moved, Slides, carries-drop, carries-take, mid-carries, slid-slides}
 use Rattle.link_laws.proofs.SlipLaw.{moved-runs}
-use Rattle.link_laws.proofs.Tied.{Each, Sees, each-left, each-with, next-more, numbered-is}
+use Rattle.link_laws.proofs.Tied.{Each, Sees, each-left, each-with, next-more}
 use Rattle.link_laws.proofs.Weighing.{Light, light-little, light-more, light-self}
+use Rattle.edit_splice.proofs.Bridging.{is-numbered}
 
 -- a track with no other links, and little more weight of them
 
@@ -104,7 +105,7 @@ tame_among : (all named : List TrackState) (own : ℕ) (t : TrackState) (r : Res
     → track_numbered own named ≡ Some t → TameOne t r → LeavesGiven all named (among_named named r)
 tame_among all named own t (Ok (u, d)) room among are e k =
     tame-given all named (with_track named u) room among are
-    (each-with Tame tame-self named t u (ap (λ (m : ℕ). track_numbered m named) (k.0 ∙ numbered-is own named t e) ∙ e) k.0 k.1)
+    (each-with Tame tame-self named t u (ap (λ (m : ℕ). track_numbered m named) (k.0 ∙ is-numbered own named t e) ∙ e) k.0 k.1)
 tame_among all named own t (Err r) room among are e k = tt
 
 -- cells that show other source frames

@@ -1,4 +1,5 @@
 pub mod Sights
+pub mod Parting
 pub mod LinkLists
 pub mod Ranks
 pub mod Runs

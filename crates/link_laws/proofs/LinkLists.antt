@@ -6,7 +6,7 @@ use Rattle.std.specs.Int.Bits.{bit_and}
 use Rattle.std.specs.List.{list_any}
 use Rattle.frame_meaning.specs.declared.cells.Cell.{Cell}
 use Rattle.frame_meaning.specs.declared.cells.Link.{Link}
-use Rattle.composables.specs.Links.{first_unnamed, is_named, least_link, least_outside, link_before, link_outside, links_in, outside, outside_at, outside_refusal, same_link, with_link, with_link_of}
+use Rattle.composables.specs.Links.{first_unnamed, is_named, least_link, least_outside, link_before, link_outside, links_in, links_with, links_with_any, outside, outside_at, outside_refusal, same_link}
 use Rattle.composables.specs.Ranges.{offset_of}
 use Rattle.composables.specs.TrackSets.{has_track, tracks_from, tracks_in}
 use Rattle.composables.specs.TrackState.{TrackState}
@@ -32,11 +32,6 @@ is-same k l e = by (eqb k.home l.home) (eqb k.number l.number) refl refl e where
 pub same-is-link : (k l : Link) → Same k l → same_link k l ≡ true
 same-is-link k l h =
     ap (λ (b : Bool). b && eqb k.number l.number) (eq-eqb k.home l.home h.0) ∙ eq-eqb k.number l.number h.1
-
-pub not-same : (k l : Link) → same_link k l ≡ false → Same k l → ⊥
-not-same k l e h = differ (sym e ∙ same-is-link k l h) where
-  differ : false ≡ true → ⊥
-  differ z = cc
 
 -- a cell of these has this link
 abbrev pub Carries : List Cell → Link → Type 0
@@ -88,18 +83,18 @@ any-true l (k ∷ ks) (inr h) = ap (λ (b : Bool). same_link l k || b) (any-true
   or_true true = refl
   or_true false = refl
 
-same_new : (l : Link) (ls : List Link) → AnySame l (with_link l ls)
+same_new : (l : Link) (ls : List Link) → AnySame l (links_with l ls)
 same_new l [] = inl (refl, refl)
 same_new l (k ∷ ks) = by (same_link l k) (link_before l k) refl (same_new l ks) where
-  by : (a b : Bool) → same_link l k ≡ a → AnySame l (with_link l ks) → AnySame l (cond a (k ∷ ks) (cond b (l ∷ k ∷ ks) (k ∷ with_link l ks)))
+  by : (a b : Bool) → same_link l k ≡ a → AnySame l (links_with l ks) → AnySame l (cond a (k ∷ ks) (cond b (l ∷ k ∷ ks) (k ∷ links_with l ks)))
   by true b e later = inl (is-same l k e)
   by false true e later = inl (refl, refl)
   by false false e later = inr later
 
-same_old : (l m : Link) (ls : List Link) → AnySame l ls → AnySame l (with_link m ls)
+same_old : (l m : Link) (ls : List Link) → AnySame l ls → AnySame l (links_with m ls)
 same_old l m [] h = absurd h
 same_old l m (k ∷ ks) h = by (same_link m k) (link_before m k) h (λ g. same_old l m ks g) where
-  by : (a b : Bool) → AnySame l (k ∷ ks) → (AnySame l ks → AnySame l (with_link m ks)) → AnySame l (cond a (k ∷ ks) (cond b (m ∷ k ∷ ks) (k ∷ with_link m ks)))
+  by : (a b : Bool) → AnySame l (k ∷ ks) → (AnySame l ks → AnySame l (links_with m ks)) → AnySame l (cond a (k ∷ ks) (cond b (m ∷ k ∷ ks) (k ∷ links_with m ks)))
   by true b h later = h
   by false true h later = inr h
   by false false (inl h) later = inl h
@@ -107,9 +102,9 @@ same_old l m (k ∷ ks) h = by (same_link m k) (link_before m k) h (λ g. same_o
 
 pub in-links : (cs : List Cell) (l : Link) → Carries cs l → AnySame l (links_in cs)
 in-links [] l h = absurd h
-in-links (c ∷ cs) l (inl h) = subst (λ (o : Option Link). AnySame l (with_link_of o (links_in cs))) (sym h) (same_new l (links_in cs))
+in-links (c ∷ cs) l (inl h) = subst (λ (o : Option Link). AnySame l (links_with_any o (links_in cs))) (sym h) (same_new l (links_in cs))
 in-links (c ∷ cs) l (inr h) = by c.link (in-links cs l h) where
-  by : (o : Option Link) → AnySame l (links_in cs) → AnySame l (with_link_of o (links_in cs))
+  by : (o : Option Link) → AnySame l (links_in cs) → AnySame l (links_with_any o (links_in cs))
   by None later = later
   by (Some m) later = same_old l m (links_in cs) later
 
@@ -118,10 +113,10 @@ abbrev pub AllLinks : (Link → Type 0) → List Link → Type 0
 AllLinks P [] = Unit {0}
 AllLinks P (l ∷ ls) = P l × AllLinks P ls
 
-pub all-with : (P : Link → Type 0) (l : Link) (ls : List Link) → P l → AllLinks P ls → AllLinks P (with_link l ls)
+pub all-with : (P : Link → Type 0) (l : Link) (ls : List Link) → P l → AllLinks P ls → AllLinks P (links_with l ls)
 all-with P l [] p h = (p, tt)
 all-with P l (k ∷ ks) p h = by (same_link l k) (link_before l k) (all-with P l ks p h.1) where
-  by : (a b : Bool) → AllLinks P (with_link l ks) → AllLinks P (cond a (k ∷ ks) (cond b (l ∷ k ∷ ks) (k ∷ with_link l ks)))
+  by : (a b : Bool) → AllLinks P (links_with l ks) → AllLinks P (cond a (k ∷ ks) (cond b (l ∷ k ∷ ks) (k ∷ links_with l ks)))
   by true b later = h
   by false true later = (p, h)
   by false false later = (h.0, later)
@@ -129,7 +124,7 @@ all-with P l (k ∷ ks) p h = by (same_link l k) (link_before l k) (all-with P l
 pub all-links : (P : Link → Type 0) (cs : List Cell) → ((l : Link) → Carries cs l → P l) → AllLinks P (links_in cs)
 all-links P [] h = tt
 all-links P (c ∷ cs) h = by c.link refl (all-links P cs (λ l k. h l (inr k))) where
-  by : (o : Option Link) → c.link ≡ o → AllLinks P (links_in cs) → AllLinks P (with_link_of o (links_in cs))
+  by : (o : Option Link) → c.link ≡ o → AllLinks P (links_in cs) → AllLinks P (links_with_any o (links_in cs))
   by None e rest = rest
   by (Some l) e rest = all-with P l (links_in cs) (h l (inl e)) rest
 

@@ -2,6 +2,7 @@
 use Rattle.std.proofs.Common.{◌≡◌, ℕ, zero, suc, ◌+◌, ◌*◌, max, ◌<◌, ◌≤◌, ◌⊎◌, inl, inr, ⊎_elim, ℤ, Bool, true, false, cond, eqb, List, [], ◌∷◌, ◌++◌, map, length, unwrap_or, Option, Some, None, refl, sym, ap, ◌∙◌, arith, subst}
 use Rattle.std.proofs.lemmas.Bool.Decides.{Decides-int_eq}
 use Rattle.std.proofs.lemmas.List.{length-append}
+use Rattle.std.proofs.lemmas.Option.{same_Some}
 use Rattle.std.specs.Ordering.{int_eq}
 use Rattle.frame_meaning.specs.declared.cells.Cell.{Cell}
 use Rattle.frame_meaning.specs.declared.cells.Link.{Link}
@@ -34,8 +35,9 @@ use Rattle.link_laws.specs.Weights.{given, most_added, runs_on, weight, weight_o
 use Rattle.link_laws.proofs.LinkedRuns.{grown-linked}
 use Rattle.link_laws.proofs.Runs.{Grown, count, count-append, grown-self}
 use Rattle.link_laws.proofs.Sights.{Shows, offset-next}
-use Rattle.link_laws.proofs.Tied.{Each, IsTied, Sees, each-left, good-found, next-more, numbered-is, some-is, tied-of, together-of}
+use Rattle.link_laws.proofs.Tied.{Each, IsTied, Sees, each-left, good-found, next-more, tied-of, together-of}
 use Rattle.link_laws.proofs.Weighing.{Below, count-few, fresh-runs, numbered-of, tracks-few, weight-more}
+use Rattle.edit_splice.proofs.Bridging.{is-numbered}
 
 -- the offset of an item is that of each of its frames
 
@@ -111,7 +113,7 @@ linked_shows made i p (c ∷ cs) l o h = by (same_number c.item (Some i)) refl h
 
   by : (b : Bool) → same_number c.item (Some i) ≡ b → Shows p (cond b (record c { link = Some made }) c ∷ map (linked_cell i (Some made)) cs) l o
       → (Shows (p + 1) (map (linked_cell i (Some made)) cs) l o → Shows (p + 1) cs l o ⊎ ((l ≡ made) × Has (p + 1) cs i o)) → Shows p (c ∷ cs) l o ⊎ ((l ≡ made) × Has p (c ∷ cs) i o)
-  by true f (inl k) later = inr (sym (some-is made l k.0), inl (f, k.1))
+  by true f (inl k) later = inr (sym (same_Some made l k.0), inl (f, k.1))
   by true f (inr k) later = one (later k)
   by false f (inl k) later = inl (inl k)
   by false f (inr k) later = one (later k)
@@ -149,21 +151,21 @@ pub left-number : (news : List TrackState) (t : TrackState) → (as_left news t)
 left-number news t = by (track_numbered t.number news) refl where
   by : (o : Option TrackState) → track_numbered t.number news ≡ o → (unwrap_or o t).number ≡ t.number
   by None e = refl
-  by (Some u) e = numbered-is t.number news u e
+  by (Some u) e = is-numbered t.number news u e
 
 pub numbered-left : (n : ℕ) (news ts : List TrackState) (t : TrackState) → track_numbered n ts ≡ Some t → track_numbered n (with_tracks ts news) ≡ Some (as_left news t)
 numbered-left n news [] t e = absurd cc
 numbered-left n news (u ∷ us) t e =
     ap (λ (m : ℕ). cond (eqb m n) (Some (as_left news u)) (track_numbered n (with_tracks us news))) (left-number news u) ∙ by (eqb u.number n) e (λ k. numbered-left n news us t k) where
       by : (b : Bool) → cond b (Some u) (track_numbered n us) ≡ Some t → (track_numbered n us ≡ Some t → track_numbered n (with_tracks us news) ≡ Some (as_left news t)) → cond b (Some (as_left news u)) (track_numbered n (with_tracks us news)) ≡ Some (as_left news t)
-      by true h later = ap (λ (v : TrackState). Some (as_left news v)) (some-is u t h)
+      by true h later = ap (λ (v : TrackState). Some (as_left news v)) (same_Some u t h)
       by false h later = later h
 
 pub next-numbered : (n : ℕ) (ts : List TrackState) (t : TrackState) → track_numbered n ts ≡ Some t → next_link_at n ts ≡ t.next_link
 next-numbered n [] t e = absurd cc
 next-numbered n (u ∷ us) t e = by (eqb u.number n) e (λ k. next-numbered n us t k) where
   by : (b : Bool) → cond b (Some u) (track_numbered n us) ≡ Some t → (track_numbered n us ≡ Some t → next_link_at n us ≡ t.next_link) → cond b u.next_link (next_link_at n us) ≡ t.next_link
-  by true h later = ap (λ (v : TrackState). v.next_link) (some-is u t h)
+  by true h later = ap (λ (v : TrackState). v.next_link) (same_Some u t h)
   by false h later = later h
 
 -- all tracks of the room

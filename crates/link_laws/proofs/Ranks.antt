@@ -1,10 +1,11 @@
 -- Split links are numbered in their order: how many of them have the home of one and a smaller number.
 use Rattle.std.proofs.Common.{◌≡◌, ℕ, zero, suc, ◌+◌, ◌<◌, ◌≤◌, ◌⊎◌, inl, inr, Bool, true, false, cond, eqb, ltb, ◌&&◌, ◌||◌, max, List, [], ◌∷◌, filter, length, Option, Some, None, refl, sym, ap, ◌∙◌, arith}
+use Rattle.std.proofs.Math.Bool.{or-true}
 use Rattle.std.proofs.lemmas.Bool.{cases_lt, eq-eqb, eqb-true, le-ltb, lt-ltb, ltb-true}
 use Rattle.std.specs.List.{list_any}
 use Rattle.frame_meaning.specs.declared.cells.Cell.{Cell}
 use Rattle.frame_meaning.specs.declared.cells.Link.{Link}
-use Rattle.composables.specs.Links.{link_before, links_in, same_link, with_link, with_link_of}
+use Rattle.composables.specs.Links.{link_before, links_in, links_with, links_with_any, same_link}
 use Rattle.link_laws.specs.Weights.{given}
 use Rattle.link_laws.proofs.LinkLists.{AllLinks, AnySame, all-filter, all-with, any-same, is-same, same-is-link}
 
@@ -72,15 +73,11 @@ given-split f g s top old new = omega (arith, given_add g top (rank s top), spli
 abbrev pub Before : Link → Link → Type 0
 Before l k = (l.home < k.home) ⊎ ((l.home ≡ k.home) × (l.number < k.number))
 
-or_right : (b : Bool) → (b || true) ≡ true
-or_right true = refl
-or_right false = refl
-
 is_before : (l k : Link) → Before l k → link_before l k ≡ true
 is_before l k (inl lt) = ap (λ (b : Bool). b || (eqb l.home k.home && ltb l.number k.number)) (lt-ltb l.home k.home lt)
 is_before l k (inr h) =
     ap (λ (b : Bool). ltb l.home k.home || (b && ltb l.number k.number)) (eq-eqb l.home k.home h.0)
-    ∙ (ap (λ (b : Bool). ltb l.home k.home || b) (lt-ltb l.number k.number h.1) ∙ or_right (ltb l.home k.home))
+    ∙ (ap (λ (b : Bool). ltb l.home k.home || b) (lt-ltb l.number k.number h.1) ∙ or-true (ltb l.home k.home))
 
 before_is : (l k : Link) → link_before l k ≡ true → Before l k
 before_is l k e = by (ltb l.home k.home) (eqb l.home k.home) (ltb l.number k.number) refl refl refl e where
@@ -122,10 +119,10 @@ after_all : (l k : Link) (ls : List Link) → Before l k → AllLinks (Before k)
 after_all l k [] b h = tt
 after_all l k (m ∷ ms) b h = (before_then l k m b h.0, after_all l k ms b h.1)
 
-order_with : (l : Link) (ls : List Link) → InOrder ls → InOrder (with_link l ls)
+order_with : (l : Link) (ls : List Link) → InOrder ls → InOrder (links_with l ls)
 order_with l [] h = (tt, tt)
 order_with l (k ∷ ks) h = by (same_link l k) (link_before l k) refl refl (order_with l ks h.1) where
-  by : (a b : Bool) → same_link l k ≡ a → link_before l k ≡ b → InOrder (with_link l ks) → InOrder (cond a (k ∷ ks) (cond b (l ∷ k ∷ ks) (k ∷ with_link l ks)))
+  by : (a b : Bool) → same_link l k ≡ a → link_before l k ≡ b → InOrder (links_with l ks) → InOrder (cond a (k ∷ ks) (cond b (l ∷ k ∷ ks) (k ∷ links_with l ks)))
   by true b e f later = h
   by false true e f later = let c = before_is l k f in ((c, after_all l k ks c h.0), h)
   by false false e f later = (all-with (Before k) l ks (or_after l k e f) h.0, later)
@@ -133,7 +130,7 @@ order_with l (k ∷ ks) h = by (same_link l k) (link_before l k) refl refl (orde
 pub links-order : (cs : List Cell) → InOrder (links_in cs)
 links-order [] = tt
 links-order (c ∷ cs) = by c.link (links-order cs) where
-  by : (o : Option Link) → InOrder (links_in cs) → InOrder (with_link_of o (links_in cs))
+  by : (o : Option Link) → InOrder (links_in cs) → InOrder (links_with_any o (links_in cs))
   by None h = h
   by (Some l) h = order_with l (links_in cs) h
 

@@ -1,35 +1,36 @@
 -- Where an item reaches back, its new frames have the link and the offset of its frames that are moved: links are split alike
 -- before the shift and after it.
-use Rattle.std.proofs.Common.{◌≡◌, ℕ, zero, suc, ◌+◌, ◌<◌, ◌≤◌, ◌⊎◌, inl, inr, ℤ, Bool, true, false, cond, eqb, ltb, min, List, [], ◌∷◌, ◌++◌, take, drop, map, filter, length, unwrap_or, Option, Some, None, refl, sym, ap, ◌∙◌, arith, subst}
-use Rattle.std.proofs.lemmas.Bool.{cases_lt, eqb-true, ltb-false, ltb-true}
-use Rattle.std.proofs.lemmas.List.{append-nil, drop-append-le, drop_all, length-append, length-take-le, take-append-le, take_all, take_at}
+use Rattle.std.proofs.Common.{◌≡◌, ℕ, zero, suc, ◌+◌, ◌≤◌, inl, inr, ℤ, Bool, true, false, cond, eqb, ltb, min, List, [], ◌∷◌, ◌++◌, take, drop, map, filter, length, unwrap_or, Option, Some, None, refl, sym, ap, ◌∙◌, arith, subst}
+use Rattle.std.proofs.lemmas.Bool.{eqb-true, ltb-false, ltb-true}
+use Rattle.std.proofs.lemmas.List.{drop_all}
+use Rattle.std.proofs.lemmas.Option.{same_Some}
 use Rattle.std.specs.List.{list_any}
 use Rattle.frame_meaning.specs.declared.cells.Cell.{Cell}
 use Rattle.frame_meaning.specs.declared.cells.Link.{Link}
 use Rattle.frame_meaning.specs.declared.cells.What.{What}
 use Rattle.frame_meaning.specs.declared.frames.Side.{Side}
 use Rattle.frame_meaning.specs.Render.{cell_at}
-use Rattle.frame_meaning.specs.Splice.{kept_or_dropped, renumbered, split_item, with_marks}
 use Rattle.composables.specs.declared.items.ItemView.{ItemView}
 use Rattle.composables.specs.declared.media.Table.{Table}
 use Rattle.composables.specs.Items.{cells_of}
 use Rattle.composables.specs.Joined.{frames_in}
-use Rattle.composables.specs.Links.{cells_before, cells_from, count_at_home, earlier_at_home, links_in, links_split, moved_cell, moved_link, next_link_at, same_link, split_links, split_track, with_link_of}
+use Rattle.composables.specs.Links.{cells_before, cells_from, count_at_home, earlier_at_home, links_in, links_split, links_with_any, moved_cell, moved_link, next_link_at, same_link, split_links, split_track}
 use Rattle.composables.specs.OwnTracks.{track_numbered}
 use Rattle.composables.specs.Ranges.{offset_of}
-use Rattle.composables.specs.TrackState.{TrackState, next_past_all}
+use Rattle.composables.specs.TrackState.{TrackState}
 use Rattle.composables.specs.Views.{gap_views}
-use Rattle.composables.proofs.Joining.{length-cells_of}
 use Rattle.edit_delta.specs.Reaching.{has_before, reaching_back}
 use Rattle.edit_splice.specs.Shifts.{shifted, shifted_along, shifted_track}
 use Rattle.edit_splice.specs.Splicing.{spliced_track}
+use Rattle.edit_splice.proofs.Bridging.{is-numbered}
 use Rattle.edit_splice.proofs.Padding.{frames-gap}
 use Rattle.edit_trim.specs.Rippling.{as_split}
+use Rattle.link_laws.proofs.Parting.{behind-alike, behind_of, drop-least, front-alike, front_of, is-parted, stays-past}
 use Rattle.link_laws.proofs.ShiftTracks.{HasPlace, shifted-number}
-use Rattle.link_laws.proofs.Sights.{Alike, Shows, alike-drop, alike-length, alike-marks, alike-numbers, alike-sym, alike-take, alike-then, none-some, shows-alike}
+use Rattle.link_laws.proofs.Sights.{Alike, Shows, alike-length, alike-sym, alike-take, none-some, shows-alike}
 use Rattle.link_laws.proofs.Splices.{shows-back}
 use Rattle.link_laws.proofs.Splitting.{SeesFrom, split-drop}
-use Rattle.link_laws.proofs.Tied.{Each, numbered-is, some-is}
+use Rattle.link_laws.proofs.Tied.{Each}
 
 -- cells that are alike have one list of links
 
@@ -38,7 +39,7 @@ links_alike [] [] a = refl
 links_alike [] (d ∷ ds) a = absurd a
 links_alike (c ∷ cs) [] a = absurd a
 links_alike (c ∷ cs) (d ∷ ds) a =
-    ap (λ (o : Option Link). with_link_of o (links_in cs)) a.0 ∙ ap (with_link_of d.link) (links_alike cs ds a.2)
+    ap (λ (o : Option Link). links_with_any o (links_in cs)) a.0 ∙ ap (links_with_any d.link) (links_alike cs ds a.2)
 
 alike_append : (xs ys cs ds : List Cell) → Alike xs ys → Alike cs ds → Alike (xs ++ cs) (ys ++ ds)
 alike_append [] [] cs ds h k = k
@@ -136,70 +137,22 @@ abbrev Parted : ℕ → ℕ → TrackState → TrackState → Type 0
 Parted x z t u = Alike (take x t.cells) (take x u.cells) × Alike (drop x t.cells) (drop z u.cells)
 
 parted_in : (t : TrackState) (x past z : ℕ) (views : List ItemView) → x ≤ length t.cells → drop past t.cells ≡ drop x t.cells → x + frames_in views ≡ z → Parted x z t (spliced_track t x past views)
-parted_in t x past z views le same sum = (fronts, behinds) where
-  all : List Cell
-  all = with_marks kept_or_dropped x past 0 t.cells
-
-  rest : List Cell
-  rest = drop past all
-
-  tail : List Cell
-  tail = map (renumbered (split_item t.cells x past) (next_past_all t.next_item views)) rest
-
-  front : List Cell
-  front = take x all
-
-  marks : Alike all t.cells
-  marks = alike-marks kept_or_dropped x past 0 t.cells
-
-  start : length front ≡ x
-  start = alike-length front (take x t.cells) (alike-take x all t.cells marks) ∙ length-take-le x t.cells le
-
-  till : length (front ++ cells_of views) ≡ z
-  till = omega (arith, length-append front (cells_of views), length-cells_of views, start, sum)
-
-  fronts : Alike (take x t.cells) (take x ((front ++ cells_of views) ++ tail))
-  fronts =
-      subst (Alike (take x t.cells)) (sym (take-append-le x (front ++ cells_of views) tail (omega (arith, till, sum)) ∙ take_at front (cells_of views) x start))
-      (alike-sym front (take x t.cells) (alike-take x all t.cells marks))
-
-  tails : Alike tail (drop past t.cells)
-  tails = alike-then tail rest (drop past t.cells) (alike-numbers (split_item t.cells x past) (next_past_all t.next_item views) rest) (alike-drop past all t.cells marks)
-
-  behinds : Alike (drop x t.cells) (drop z ((front ++ cells_of views) ++ tail))
-  behinds =
-      subst (Alike (drop x t.cells)) (sym (drop-append-le z (front ++ cells_of views) tail (omega (arith, till)) ∙ ap (λ (cs : List Cell). cs ++ tail) (drop_all z (front ++ cells_of views) (omega (arith, till)))))
-      (subst (λ (cs : List Cell). Alike cs tail) same (alike-sym tail (drop past t.cells) tails))
+parted_in t x past z views le same sum =
+    let parts = is-parted t x past z views le sum in
+    let front = alike-sym (front_of t x past) (take x t.cells) (front-alike t x past) in
+    let behind = alike-sym (behind_of t x past views) (drop past t.cells) (behind-alike t x past views) in (
+      subst (Alike (take x t.cells)) (sym parts.before) front,
+      subst (Alike (drop x t.cells)) (sym parts.behind) (subst (λ (cs : List Cell). Alike cs (behind_of t x past views)) same behind),
+    )
 
 parted_past : (t : TrackState) (x z k past : ℕ) → length t.cells ≤ x → x ≤ z → k ≡ length t.cells → length t.cells ≤ past → Parted x z t (spliced_track t k past [])
-parted_past t x z k past short le is beyond = (fronts, behinds) where
-  all : List Cell
-  all = with_marks kept_or_dropped k past 0 t.cells
-
-  marks : Alike all t.cells
-  marks = alike-marks kept_or_dropped k past 0 t.cells
-
-  long : length all ≡ length t.cells
-  long = alike-length all t.cells marks
-
-  whole : (spliced_track t k past []).cells ≡ all
-  whole =
-      ap (λ (cs : List Cell). (take k all ++ []) ++ map (renumbered (split_item t.cells k past) t.next_item) cs) (drop_all past all (omega (arith, long, beyond)))
-      ∙ (append-nil (take k all ++ []) ∙ (append-nil (take k all) ∙ take_all k all (omega (arith, long, is))))
-
-  fronts : Alike (take x t.cells) (take x (spliced_track t k past []).cells)
-  fronts = subst (λ (cs : List Cell). Alike (take x t.cells) (take x cs)) (sym whole) (alike-take x t.cells all (alike-sym all t.cells marks))
-
-  behinds : Alike (drop x t.cells) (drop z (spliced_track t k past []).cells)
-  behinds =
-      subst (λ (cs : List Cell). Alike cs (drop z (spliced_track t k past []).cells)) (sym (drop_all x t.cells short))
-      (subst (Alike []) (sym (ap (drop z) whole ∙ drop_all z all (omega (arith, long, short, le)))) tt)
-
-drop_least : (y : ℕ) (cs : List Cell) → drop (min y (length cs)) cs ≡ drop y cs
-drop_least y cs = by (cases_lt (length cs) y) where
-  by : (length cs < y) ⊎ (y ≤ length cs) → drop (min y (length cs)) cs ≡ drop y cs
-  by (inl less) = drop_all (min y (length cs)) cs (omega (arith, less)) ∙ sym (drop_all y cs (omega (arith, less)))
-  by (inr le) = let e : min y (length cs) ≡ y = omega (arith, le) in ap (λ (n : ℕ). drop n cs) e
+parted_past t x z k past short le is beyond =
+    let same = stays-past t k past is beyond in
+    let long = alike-length (spliced_track t k past []).cells t.cells same in
+    let past_end : drop z (spliced_track t k past []).cells ≡ [] = drop_all z (spliced_track t k past []).cells (omega (arith, long, short, le)) in (
+      alike-take x t.cells (spliced_track t k past []).cells (alike-sym (spliced_track t k past []).cells t.cells same),
+      subst (λ (cs : List Cell). Alike cs (drop z (spliced_track t k past []).cells)) (sym (drop_all x t.cells short)) (subst (Alike []) (sym past_end) tt),
+    )
 
 parted_along : (t : TrackState) (x n : ℕ) → Parted x (x + n) t (shifted_along t x x n)
 parted_along t x n = by (ltb x (length t.cells)) refl where
@@ -208,7 +161,7 @@ parted_along t x n = by (ltb x (length t.cells)) refl where
       let inside = ltb-true x (length t.cells) e in
       let at : x ≡ min x (length t.cells) = omega (arith, inside) in
       subst (λ (k : ℕ). Parted x (x + n) t (spliced_track t k (min x (length t.cells)) (gap_views n))) at
-      (parted_in t x (min x (length t.cells)) (x + n) (gap_views n) (omega (arith, inside)) (drop_least x t.cells) (omega (arith, frames-gap n)))
+      (parted_in t x (min x (length t.cells)) (x + n) (gap_views n) (omega (arith, inside)) (drop-least x t.cells) (omega (arith, frames-gap n)))
   by false e =
       let past = ltb-false x (length t.cells) e in
       parted_past t x (x + n) (min x (length t.cells)) (min x (length t.cells)) (omega (arith, past)) (omega arith) (omega (arith, past)) (omega (arith, past))
@@ -274,7 +227,7 @@ numbered_from : (n z : ℕ) (ts : List TrackState) (t : TrackState) (l : Link) (
 numbered_from n z [] t l o e h = absurd cc
 numbered_from n z (u ∷ us) t l o e h = by (eqb u.number n) e (λ k. numbered_from n z us t l o k h) where
   by : (b : Bool) → cond b (Some u) (track_numbered n us) ≡ Some t → (track_numbered n us ≡ Some t → SeesFrom z us l o) → SeesFrom z (u ∷ us) l o
-  by true k later = inl (subst (λ (v : TrackState). Shows z (drop z v.cells) l o) (sym (some-is u t k)) h)
+  by true k later = inl (subst (λ (v : TrackState). Shows z (drop z v.cells) l o) (sym (same_Some u t k)) h)
   by false k later = inr (later k)
 
 -- a track of the first is followed by one of the second
@@ -287,7 +240,7 @@ following R n (t ∷ ts) (u ∷ us) s each e = by (eqb t.number n) refl e (λ k.
 
   by : (b : Bool) → eqb t.number n ≡ b → cond b (Some t) (track_numbered n ts) ≡ Some s → (track_numbered n ts ≡ Some s → (v : TrackState) × (track_numbered n us ≡ Some v) × R s v)
       → (v : TrackState) × (track_numbered n (u ∷ us) ≡ Some v) × R s v
-  by true f k later = (u, head true f, subst (λ (w : TrackState). R w u) (some-is t s k) each.1)
+  by true f k later = (u, head true f, subst (λ (w : TrackState). R w u) (same_Some t s k) each.1)
   by false f k later = let r = later k in (r.0, head false f ∙ r.1, r.2)
 
 pub reached : (table : Table) (named : List TrackState) (t : TrackState) (own x n : ℕ) (l : Link) (o : Option ℤ) → track_numbered own named ≡ Some t → HasPlace own x named
@@ -312,7 +265,7 @@ reached table named t own x n l o e has before h = numbered_from own z vs after.
 
   is : as_split x named t ≡ found.0
   is =
-      ap (λ (m : ℕ). unwrap_or (track_numbered m ps) t) (numbered-is own named t e) ∙ ap (λ (p : Option TrackState). unwrap_or p t) found.1
+      ap (λ (m : ℕ). unwrap_or (track_numbered m ps) t) (is-numbered own named t e) ∙ ap (λ (p : Option TrackState). unwrap_or p t) found.1
 
   side : (cell_at t.cells x).side ≡ (cell_at (as_split x named t).cells x).side
   side = sides_at t.cells found.0.cells x found.2 ∙ ap (λ (u : TrackState). (cell_at u.cells x).side) (sym is)

@@ -1,7 +1,8 @@
 -- A ripple: an end of an item moves, and all that is behind it, on all named tracks. What it is by its shifts.
 use Rattle.std.proofs.Common.{◌≡◌, ℕ, zero, suc, ◌+◌, ◌-◌, ◌<◌, ◌≤◌, ◌⊎◌, inl, inr, ℤ, pos, negsuc, Bool, true, false, cond, eqb, List, [], ◌∷◌, take, length, Option, Some, None, refl, sym, ap, ◌∙◌, arith, subst}
-use Rattle.std.proofs.lemmas.Bool.{ltb-true}
+use Rattle.std.proofs.lemmas.Bool.{and_parts, ltb-true}
 use Rattle.std.proofs.lemmas.List.{get_or-take}
+use Rattle.std.proofs.lemmas.Option.{same_Some}
 use Rattle.frame_meaning.specs.declared.cells.Cell.{Cell}
 use Rattle.frame_meaning.specs.declared.cells.Link.{Link}
 use Rattle.frame_meaning.specs.Cells.{dark_cell}
@@ -23,7 +24,6 @@ use Rattle.edit_delta.specs.Using.{on_range}
 use Rattle.edit_delta.proofs.Greatest.{is-nearest}
 use Rattle.edit_trim.specs.Rippling.{as_split, have_room, ripple_allows, ripple_end, ripple_own, rippled, used_on_all}
 use Rattle.link_laws.specs.Rooms.{AreNamed, Leaves}
-use Rattle.link_laws.proofs.Edits.{and-both}
 use Rattle.link_laws.proofs.FreeRanges.{item-range}
 use Rattle.link_laws.proofs.Reaching.{reached}
 use Rattle.link_laws.proofs.Sights.{Shows, shows-cell}
@@ -31,13 +31,13 @@ use Rattle.link_laws.proofs.ShiftCases.{ByShifts, PutAt, ShiftCase, nothing-case
 use Rattle.link_laws.proofs.Shifting.{SeesBefore}
 use Rattle.link_laws.proofs.ShiftTracks.{HasPlace, few-one, has-place, shifts-each}
 use Rattle.link_laws.proofs.Splices.{shows-on}
-use Rattle.link_laws.proofs.Tied.{among-numbered, some-is}
+use Rattle.link_laws.proofs.Tied.{among-numbered}
 
 numbered_before : (n x : ℕ) (ts : List TrackState) (t : TrackState) (l : Link) (o : Option ℤ) → track_numbered n ts ≡ Some t → Shows 0 (take x t.cells) l o → SeesBefore x ts l o
 numbered_before n x [] t l o e h = absurd cc
 numbered_before n x (u ∷ us) t l o e h = by (eqb u.number n) e (λ k. numbered_before n x us t l o k h) where
   by : (b : Bool) → cond b (Some u) (track_numbered n us) ≡ Some t → (track_numbered n us ≡ Some t → SeesBefore x us l o) → SeesBefore x (u ∷ us) l o
-  by true k later = inl (subst (λ (v : TrackState). Shows 0 (take x v.cells) l o) (sym (some-is u t k)) h)
+  by true k later = inl (subst (λ (v : TrackState). Shows 0 (take x v.cells) l o) (sym (same_Some u t k)) h)
   by false k later = inr (later k)
 
 -- the last frame before a place stands before it
@@ -82,7 +82,7 @@ rippled_leaves P table all named t own x y Head done (pos (suc k)) names e less 
     shifts named own x (x + suc k) [] done (nothing-case all named t own x (x + suc k) names e (omega arith) (omega (arith, less, within)))
 rippled_leaves P table all named t own x y Head done (negsuc k) names e less within a differs shifts =
     shifts named own x x (reaching_back (cell_at (as_split x named t).cells x) (suc k) ∷ []) done
-    (back_case all named t own names e table x (suc k) (omega arith) (omega (arith, less, within)) (and-both (have_room own x named (suc k)) (has_before table (cell_at t.cells x).side (suc k)) a).1)
+    (back_case all named t own names e table x (suc k) (omega arith) (omega (arith, less, within)) (and_parts (have_room own x named (suc k)) (has_before table (cell_at t.cells x).side (suc k)) a).1)
 rippled_leaves P table all named t own x y Tail done (pos (suc k)) names e less within a differs shifts =
     shifts named own y y (going_on (cell_at t.cells (y - 1)) (suc k) ∷ []) done (on_case all named t own names e y (suc k) (omega (arith, less)) (omega arith) within)
 rippled_leaves P table all named t own x y Tail done (negsuc k) names e less within a differs shifts =

@@ -1,5 +1,5 @@
 -- Runs of cells with one link, after cells were taken out, put in, and cut in two.
-use Rattle.std.proofs.Common.{◌≡◌, ℕ, zero, suc, ◌+◌, ◌≤◌, Bool, true, false, List, [], ◌∷◌, ◌++◌, take, drop, map, length, Option, None, refl, sym, ap, ◌∙◌, arith, subst}
+use Rattle.std.proofs.Common.{◌≡◌, ℕ, zero, suc, ◌+◌, ◌≤◌, Bool, true, false, List, [], ◌∷◌, ◌++◌, take, drop, length, Option, None, refl, sym, ap, ◌∙◌, arith, subst}
 use Rattle.frame_meaning.specs.declared.cells.Cell.{Cell}
 use Rattle.frame_meaning.specs.declared.cells.Link.{Link}
 use Rattle.frame_meaning.specs.declared.cells.Mark.{Mark}
@@ -7,14 +7,14 @@ use Rattle.frame_meaning.specs.declared.cells.What.{What}
 use Rattle.frame_meaning.specs.declared.frames.Side.{Side}
 use Rattle.frame_meaning.specs.Cells.{next_side, span}
 use Rattle.frame_meaning.specs.Render.{cell_at}
-use Rattle.frame_meaning.specs.Splice.{kept_or_dropped, renumbered, split_item, with_marks}
 use Rattle.composables.specs.declared.items.ItemView.{ItemView}
 use Rattle.composables.specs.Good.{AllUnlinked}
 use Rattle.composables.specs.Items.{cells_of, marked, view_cells}
-use Rattle.composables.specs.TrackState.{TrackState, next_past_all}
+use Rattle.composables.specs.TrackState.{TrackState}
 use Rattle.edit_splice.specs.Splicing.{spliced_track}
 use Rattle.link_laws.specs.Weights.{begins, is_link, runs_in}
-use Rattle.link_laws.proofs.Sights.{Alike, alike-drop, alike-marks, alike-numbers, alike-take, alike-then}
+use Rattle.link_laws.proofs.Parting.{behind-alike, behind_of, front-alike, front_of}
+use Rattle.link_laws.proofs.Sights.{Alike}
 
 -- 1 where it is the link
 abbrev pub one : ℕ → ℕ → Option Link → ℕ
@@ -57,14 +57,6 @@ module _ (h n : ℕ) where
   pub runs-append : (b : Bool) (cs ds : List Cell) → runs_in h n b (cs ++ ds) ≤ runs_in h n b cs + runs_in h n false ds
   runs-append b [] ds = omega (arith, (runs-first b ds).0)
   runs-append b (c ∷ cs) ds = omega (arith, runs-append (has c) cs ds)
-
-  pub runs-prefix : (e : ℕ) (b : Bool) (cs xs ys : List Cell) → ((c : Bool) → runs_in h n c xs ≤ runs_in h n c ys + e) → runs_in h n b (cs ++ xs) ≤ runs_in h n b (cs ++ ys) + e
-  runs-prefix e b [] xs ys f = f b
-  runs-prefix e b (c ∷ cs) xs ys f = omega (arith, runs-prefix e (has c) cs xs ys f)
-
-  pub runs-tail : (b : Bool) (cs ds : List Cell) → runs_in h n false ds ≤ runs_in h n b (cs ++ ds) + one h n (cell_at ds 0).link
-  runs-tail b [] ds = (runs-first b ds).1
-  runs-tail b (c ∷ cs) ds = omega (arith, runs-tail (has c) cs ds)
 
   runs_drop : (y : ℕ) (b : Bool) (cs : List Cell) → runs_in h n false (drop y cs) ≤ runs_in h n b cs + one h n (cell_at cs y).link
   runs_drop zero b cs = (runs-first b cs).1
@@ -149,18 +141,11 @@ module _ (h n : ℕ) where
   pub runs-spliced : (t : TrackState) (x y : ℕ) (views : List ItemView) → x ≤ y
       → runs_in h n false (spliced_track t x y views).cells ≤ runs_in h n false t.cells + one h n (cell_at t.cells y).link + runs_in h n false (cells_of views)
   runs-spliced t x y views le =
-      let all : List Cell = with_marks kept_or_dropped x y 0 t.cells in
-      let rest : List Cell = drop y all in
-      let s : Option ℕ = split_item t.cells x y in
-      let fresh : ℕ = next_past_all t.next_item views in
-      let tail : List Cell = map (renumbered s fresh) rest in
-      let marks : Alike all t.cells = alike-marks kept_or_dropped x y 0 t.cells in
-      let tails : Alike tail (drop y t.cells) = alike-then tail rest (drop y t.cells) (alike-numbers s fresh rest) (alike-drop y all t.cells marks) in
       omega (
         arith,
-        runs-append false (take x all ++ cells_of views) tail,
-        runs-append false (take x all) (cells_of views),
-        runs-alike false (take x all) (take x t.cells) (alike-take x all t.cells marks),
-        runs-alike false tail (drop y t.cells) tails,
+        runs-append false (front_of t x y ++ cells_of views) (behind_of t x y views),
+        runs-append false (front_of t x y) (cells_of views),
+        runs-alike false (front_of t x y) (take x t.cells) (front-alike t x y),
+        runs-alike false (behind_of t x y views) (drop y t.cells) (behind-alike t x y views),
         runs-cut x y false t.cells le,
       )

@@ -1,6 +1,7 @@
 -- Shifts by which edits move what is behind them on all named tracks: what is true of each, whatever it is to leave.
 use Rattle.std.proofs.Common.{◌≡◌, ℕ, zero, suc, ◌+◌, ◌-◌, ◌<◌, ◌≤◌, ◌⊎◌, inl, inr, ℤ, Bool, true, false, cond, eqb, List, [], ◌∷◌, drop, length, slice_get, Option, Some, None, Ok, refl, sym, ap, ◌∙◌, arith, subst}
-use Rattle.std.proofs.lemmas.Bool.{eqb-true}
+use Rattle.std.proofs.lemmas.Bool.{eqb-true, ne_eqb}
+use Rattle.std.proofs.lemmas.Option.{same_Some}
 use Rattle.frame_meaning.specs.declared.cells.Link.{Link}
 use Rattle.frame_meaning.specs.declared.cells.What.{What}
 use Rattle.composables.specs.declared.calls.Extract.{Extract}
@@ -25,7 +26,7 @@ use Rattle.edit_insert.specs.Edits.{extracted, for_range, inserted}
 use Rattle.edit_insert.specs.Sources.{refusal_in, source_refusal, suits}
 use Rattle.edit_splice.specs.Padding.{padded_track}
 use Rattle.edit_splice.specs.Shifts.{after_shift, shift_of, shift_refusal, shifted, shifted_track}
-use Rattle.edit_splice.proofs.Bridging.{for-found}
+use Rattle.edit_splice.proofs.Bridging.{for-found, is-numbered}
 use Rattle.link_laws.specs.Rooms.{AreNamed, Ascend, Leaves}
 use Rattle.link_laws.proofs.Edits.{not-found}
 use Rattle.link_laws.proofs.FreeRanges.{item-range}
@@ -34,7 +35,7 @@ use Rattle.link_laws.proofs.Shifting.{Shifts, Stays, named-each}
 use Rattle.link_laws.proofs.ShiftTracks.{HasFew, HasPlace, few-none, has-place, padded-carries, shifted-number, shifts-each, shifts-one, shifts-padded}
 use Rattle.link_laws.proofs.Splices.{length-pad}
 use Rattle.link_laws.proofs.Splitting.{SeesFrom}
-use Rattle.link_laws.proofs.Tied.{Each, among-numbered, each-with, numbered-is, some-is}
+use Rattle.link_laws.proofs.Tied.{Each, among-numbered, each-with}
 
 -- what a call leaves
 
@@ -54,12 +55,6 @@ leaves-own P own meant named each = by (track_numbered own named) refl where
   by (Some t) e = subst (Leaves P) (sym (for-found own meant named t e)) (each t e)
 
 -- a shift that moves something
-
-not_eqb : (m n : ℕ) → (m ≡ n → ⊥) → eqb m n ≡ false
-not_eqb m n differs = by (eqb m n) refl where
-  by : (b : Bool) → eqb m n ≡ b → b ≡ false
-  by true e = absurd (differs (eqb-true m n e))
-  by false e = refl
 
 -- what these items and gaps show where they are put in
 abbrev pub PutAt : ℕ → List ItemView → Link → Option ℤ → Type 0
@@ -87,7 +82,7 @@ shift-leaves P all named ts own x y views done c h =
       vs = links_split x (x + frames_in views) us
 
       differs : eqb (frames_in views) (y - x) ≡ false
-      differs = not_eqb (frames_in views) (y - x) c.moves
+      differs = ne_eqb (frames_in views) (y - x) c.moves
 
       split : after_shift own x y views ts ≡ vs
       split = ap (λ (b : Bool). cond b us vs) differs
@@ -160,7 +155,7 @@ padded_each at least views Put (w ∷ ws) t a e put few = by (eqb w.number t.num
       → (track_numbered t.number ws ≡ Some t → Each R ws (shifted t.number at at views (with_track ws p)))
       → Each R (w ∷ ws) (shifted t.number at at views (cond b (p ∷ ws) (w ∷ with_track ws p)))
   by true f k later =
-      let same : w ≡ t = some-is w t k in
+      let same : w ≡ t = same_Some w t k in
       let n : w.number ≡ t.number = eqb-true w.number t.number f in (
         shifted-number t.number at at views p ∙ sym n,
         subst (λ (v : TrackState). R v (shifted_track t.number at at views p)) (sym same) there,
@@ -203,7 +198,7 @@ insert-leaves P table c all named t names e shifts =
       ts = with_track named (padded_track t c.at)
 
       own : t.number ≡ c.track
-      own = numbered-is c.track named t e
+      own = is-numbered c.track named t e
 
       found : track_numbered t.number named ≡ Some t
       found = ap (λ (n : ℕ). track_numbered n named) own ∙ e

@@ -1,19 +1,18 @@
 -- What a shift does to each track, by its links and offsets.
-use Rattle.std.proofs.Common.{◌≡◌, ℕ, zero, suc, ◌+◌, ◌-◌, ◌<◌, ◌≤◌, ◌⊎◌, inl, inr, ℤ, Bool, true, false, cond, eqb, ltb, min, List, [], ◌∷◌, ◌++◌, take, drop, map, length, Option, Some, refl, sym, ap, ◌∙◌, arith, subst}
-use Rattle.std.proofs.lemmas.Bool.{cases_lt, eqb-true, ltb-false, ltb-true}
-use Rattle.std.proofs.lemmas.List.{append-nil, drop-append-le, drop_all, length-append, length-take-le, take-append-le, take_all, take_at}
+use Rattle.std.proofs.Common.{◌≡◌, ℕ, zero, suc, ◌+◌, ◌-◌, ◌≤◌, ◌⊎◌, inl, inr, ℤ, Bool, true, false, cond, eqb, ltb, min, List, [], ◌∷◌, ◌++◌, take, drop, length, Option, Some, refl, sym, ap, ◌∙◌, arith, subst}
+use Rattle.std.proofs.lemmas.Bool.{eqb-true, ltb-false, ltb-true}
+use Rattle.std.proofs.lemmas.List.{drop_all, take_all}
+use Rattle.std.proofs.lemmas.Option.{same_Some}
 use Rattle.frame_meaning.specs.declared.cells.Cell.{Cell}
 use Rattle.frame_meaning.specs.declared.cells.Link.{Link}
 use Rattle.frame_meaning.specs.Render.{cell_at}
-use Rattle.frame_meaning.specs.Splice.{kept_or_dropped, renumbered, split_item, with_marks}
 use Rattle.composables.specs.declared.items.ItemView.{ItemView}
 use Rattle.composables.specs.Good.{AllUnlinked}
 use Rattle.composables.specs.Items.{cells_of}
 use Rattle.composables.specs.Joined.{frames_in}
 use Rattle.composables.specs.OwnTracks.{track_numbered}
-use Rattle.composables.specs.TrackState.{TrackState, next_past_all}
+use Rattle.composables.specs.TrackState.{TrackState}
 use Rattle.composables.specs.Views.{gap_views}
-use Rattle.composables.proofs.Joining.{length-cells_of}
 use Rattle.edit_splice.specs.Padding.{padded_track}
 use Rattle.edit_splice.specs.Shifts.{shifted, shifted_along, shifted_track}
 use Rattle.edit_splice.specs.Splicing.{spliced_track}
@@ -22,10 +21,11 @@ use Rattle.link_laws.specs.Rooms.{AreAmong}
 use Rattle.link_laws.specs.Weights.{runs_in}
 use Rattle.link_laws.proofs.Runs.{count, runs-alike, runs-append, runs-bare, runs-cut, runs-one, runs-take-left, runs-take-more}
 use Rattle.link_laws.proofs.LinkLists.{Carries, carries-shows, shows-carries}
+use Rattle.link_laws.proofs.Parting.{IsParted, behind-alike, behind_of, drop-least, front-alike, front_of, is-parted, stays-past}
 use Rattle.link_laws.proofs.Shifting.{Shifts}
-use Rattle.link_laws.proofs.Sights.{Alike, Shows, alike-drop, alike-length, alike-marks, alike-numbers, alike-sym, alike-take, alike-then, rebased, shows-alike, shows-append, shows-at, shows-left, shows-moved, shows-none, shows-take}
+use Rattle.link_laws.proofs.Sights.{Alike, Shows, alike-length, alike-sym, rebased, shows-alike, shows-append, shows-at, shows-left, shows-moved, shows-none, shows-take}
 use Rattle.link_laws.proofs.Splices.{dark-runs, gap-bare, padded-runs}
-use Rattle.link_laws.proofs.Tied.{Each, some-is}
+use Rattle.link_laws.proofs.Tied.{Each}
 
 -- a splice within a track
 
@@ -50,76 +50,47 @@ shifts-in t x y past z views Put le same sum put order few = record {
   put = (few.0, few.1, runs_low);
   parts = ((cell_at t.cells past).link ∷ [], omega arith, runs_parts);
 } where
-  all : List Cell
-  all = with_marks kept_or_dropped x past 0 t.cells
+  parts : IsParted t x past z views
+  parts = is-parted t x past z views le sum
 
-  rest : List Cell
-  rest = drop past all
+  low : (l : Link) (o : Option ℤ) → Shows 0 (take z (spliced_track t x past views).cells) l o → Shows 0 (take x t.cells) l o ⊎ Put l o
+  low l o h = by (shows-append 0 (front_of t x past) (cells_of views) l o (subst (λ (cs : List Cell). Shows 0 cs l o) parts.through h)) where
+    by : Shows 0 (front_of t x past) l o ⊎ Shows (0 + length (front_of t x past)) (cells_of views) l o → Shows 0 (take x t.cells) l o ⊎ Put l o
+    by (inl a) = inl (shows-alike 0 (front_of t x past) (take x t.cells) l o (front-alike t x past) a)
+    by (inr b) = inr (put l o (shows-at (0 + length (front_of t x past)) x (cells_of views) l o (omega (arith, parts.start)) b))
 
-  tail : List Cell
-  tail = map (renumbered (split_item t.cells x past) (next_past_all t.next_item views)) rest
-
-  front : List Cell
-  front = take x all
-
-  marks : Alike all t.cells
-  marks = alike-marks kept_or_dropped x past 0 t.cells
-
-  fronts : Alike front (take x t.cells)
-  fronts = alike-take x all t.cells marks
-
-  tails : Alike tail (drop past t.cells)
-  tails = alike-then tail rest (drop past t.cells) (alike-numbers (split_item t.cells x past) (next_past_all t.next_item views) rest) (alike-drop past all t.cells marks)
-
-  start : length front ≡ x
-  start = alike-length front (take x t.cells) fronts ∙ length-take-le x t.cells le
-
-  till : length (front ++ cells_of views) ≡ z
-  till = omega (arith, length-append front (cells_of views), length-cells_of views, start, sum)
-
-  low : (l : Link) (o : Option ℤ) → Shows 0 (take z ((front ++ cells_of views) ++ tail)) l o → Shows 0 (take x t.cells) l o ⊎ Put l o
-  low l o h = by (shows-append 0 front (cells_of views) l o (subst (λ (cs : List Cell). Shows 0 cs l o) (take_at (front ++ cells_of views) tail z till) h)) where
-    by : Shows 0 front l o ⊎ Shows (0 + length front) (cells_of views) l o → Shows 0 (take x t.cells) l o ⊎ Put l o
-    by (inl a) = inl (shows-alike 0 front (take x t.cells) l o fronts a)
-    by (inr b) = inr (put l o (shows-at (0 + length front) x (cells_of views) l o (omega (arith, start)) b))
-
-  behind : drop z ((front ++ cells_of views) ++ tail) ≡ tail
-  behind =
-      drop-append-le z (front ++ cells_of views) tail (omega (arith, till))
-      ∙ ap (λ (cs : List Cell). cs ++ tail) (drop_all z (front ++ cells_of views) (omega (arith, till)))
-
-  high : (l : Link) (o : Option ℤ) → Shows z (drop z ((front ++ cells_of views) ++ tail)) l o → (b : Option ℤ) × Shows y (drop y t.cells) l b × (o ≡ rebased y z b)
+  high : (l : Link) (o : Option ℤ) → Shows z (drop z (spliced_track t x past views).cells) l o → (b : Option ℤ) × Shows y (drop y t.cells) l b × (o ≡ rebased y z b)
   high l o h =
       shows-moved y z (drop y t.cells) l o
-      (subst (λ (cs : List Cell). Shows z cs l o) same (shows-alike z tail (drop past t.cells) l o tails (subst (λ (cs : List Cell). Shows z cs l o) behind h)))
+      (subst (λ (cs : List Cell). Shows z cs l o) same
+      (shows-alike z (behind_of t x past views) (drop past t.cells) l o (behind-alike t x past views) (subst (λ (cs : List Cell). Shows z cs l o) parts.behind h)))
 
-  first : take x ((front ++ cells_of views) ++ tail) ≡ front
-  first =
-      take-append-le x (front ++ cells_of views) tail (omega (arith, till, sum)) ∙ take_at front (cells_of views) x start
+  back : (l : Link) (o : Option ℤ) → Shows 0 (take x t.cells) l o → Shows 0 (take x (spliced_track t x past views).cells) l o
+  back l o h =
+      subst (λ (cs : List Cell). Shows 0 cs l o) (sym parts.before)
+      (shows-alike 0 (take x t.cells) (front_of t x past) l o (alike-sym (front_of t x past) (take x t.cells) (front-alike t x past)) h)
 
-  back : (l : Link) (o : Option ℤ) → Shows 0 (take x t.cells) l o → Shows 0 (take x ((front ++ cells_of views) ++ tail)) l o
-  back l o h = subst (λ (cs : List Cell). Shows 0 cs l o) (sym first) (shows-alike 0 (take x t.cells) front l o (alike-sym front (take x t.cells) fronts) h)
+  forth : (l : Link) (o : Option ℤ) → Shows 0 (take x (spliced_track t x past views).cells) l o → Shows 0 (take x t.cells) l o
+  forth l o h =
+      shows-alike 0 (front_of t x past) (take x t.cells) l o (front-alike t x past) (subst (λ (cs : List Cell). Shows 0 cs l o) parts.before h)
 
-  forth : (l : Link) (o : Option ℤ) → Shows 0 (take x ((front ++ cells_of views) ++ tail)) l o → Shows 0 (take x t.cells) l o
-  forth l o h = shows-alike 0 front (take x t.cells) l o fronts (subst (λ (cs : List Cell). Shows 0 cs l o) first h)
-
-  runs_low : (h n : ℕ) → runs_in h n false (take z ((front ++ cells_of views) ++ tail)) ≤ runs_in h n false (take x t.cells) + count h n few.0
+  runs_low : (h n : ℕ) → runs_in h n false (take z (spliced_track t x past views).cells) ≤ runs_in h n false (take x t.cells) + count h n few.0
   runs_low h n =
       omega (
         arith,
-        ap (runs_in h n false) (take_at (front ++ cells_of views) tail z till),
-        runs-append h n false front (cells_of views),
-        runs-alike h n false front (take x t.cells) fronts,
+        ap (runs_in h n false) parts.through,
+        runs-append h n false (front_of t x past) (cells_of views),
+        runs-alike h n false (front_of t x past) (take x t.cells) (front-alike t x past),
         few.2 h n,
       )
 
-  runs_parts : (h n : ℕ) → runs_in h n false (take x t.cells) + runs_in h n false (drop z ((front ++ cells_of views) ++ tail))
+  runs_parts : (h n : ℕ) → runs_in h n false (take x t.cells) + runs_in h n false (drop z (spliced_track t x past views).cells)
       ≤ runs_in h n false t.cells + count h n ((cell_at t.cells past).link ∷ [])
   runs_parts h n =
       omega (
         arith,
-        ap (runs_in h n false) behind,
-        runs-alike h n false tail (drop past t.cells) tails,
+        ap (runs_in h n false) parts.behind,
+        runs-alike h n false (behind_of t x past views) (drop past t.cells) (behind-alike t x past views),
         runs-cut h n x past false t.cells order,
       )
 
@@ -136,59 +107,44 @@ shifts_past t x y z k past Put short le is beyond = record {
   put = ([], omega arith, runs_low);
   parts = ([], omega arith, runs_parts);
 } where
-  all : List Cell
-  all = with_marks kept_or_dropped k past 0 t.cells
+  same : Alike (spliced_track t k past []).cells t.cells
+  same = stays-past t k past is beyond
 
-  marks : Alike all t.cells
-  marks = alike-marks kept_or_dropped k past 0 t.cells
-
-  long : length all ≡ length t.cells
-  long = alike-length all t.cells marks
-
-  whole : (spliced_track t k past []).cells ≡ all
-  whole =
-      ap (λ (cs : List Cell). (take k all ++ []) ++ map (renumbered (split_item t.cells k past) t.next_item) cs) (drop_all past all (omega (arith, long, beyond)))
-      ∙ (append-nil (take k all ++ []) ∙ (append-nil (take k all) ∙ take_all k all (omega (arith, long, is))))
+  long : length (spliced_track t k past []).cells ≡ length t.cells
+  long = alike-length (spliced_track t k past []).cells t.cells same
 
   low : (l : Link) (o : Option ℤ) → Shows 0 (take z (spliced_track t k past []).cells) l o → Shows 0 (take x t.cells) l o ⊎ Put l o
   low l o h =
-      let shown = subst (λ (cs : List Cell). Shows 0 cs l o) whole (shows-take z 0 (spliced_track t k past []).cells l o h) in
-      inl (subst (λ (cs : List Cell). Shows 0 cs l o) (sym (take_all x t.cells short)) (shows-alike 0 all t.cells l o marks shown))
+      let shown = shows-take z 0 (spliced_track t k past []).cells l o h in
+      inl (subst (λ (cs : List Cell). Shows 0 cs l o) (sym (take_all x t.cells short)) (shows-alike 0 (spliced_track t k past []).cells t.cells l o same shown))
 
   high : (l : Link) (o : Option ℤ) → Shows z (drop z (spliced_track t k past []).cells) l o → (b : Option ℤ) × Shows y (drop y t.cells) l b × (o ≡ rebased y z b)
   high l o h =
-      absurd (subst (λ (cs : List Cell). Shows z cs l o) (ap (drop z) whole ∙ drop_all z all (omega (arith, long, short, le))) h)
+      absurd (subst (λ (cs : List Cell). Shows z cs l o) (drop_all z (spliced_track t k past []).cells (omega (arith, long, short, le))) h)
 
   back : (l : Link) (o : Option ℤ) → Shows 0 (take x t.cells) l o → Shows 0 (take x (spliced_track t k past []).cells) l o
   back l o h =
-      let shown = shows-alike 0 t.cells all l o (alike-sym all t.cells marks) (shows-take x 0 t.cells l o h) in
-      subst (λ (cs : List Cell). Shows 0 cs l o) (sym (ap (take x) whole ∙ take_all x all (omega (arith, long, short)))) shown
+      let shown = shows-alike 0 t.cells (spliced_track t k past []).cells l o (alike-sym (spliced_track t k past []).cells t.cells same) (shows-take x 0 t.cells l o h) in
+      subst (λ (cs : List Cell). Shows 0 cs l o) (sym (take_all x (spliced_track t k past []).cells (omega (arith, long, short)))) shown
 
   forth : (l : Link) (o : Option ℤ) → Shows 0 (take x (spliced_track t k past []).cells) l o → Shows 0 (take x t.cells) l o
   forth l o h =
-      let shown = subst (λ (cs : List Cell). Shows 0 cs l o) (ap (take x) whole ∙ take_all x all (omega (arith, long, short))) h in
-      subst (λ (cs : List Cell). Shows 0 cs l o) (sym (take_all x t.cells short)) (shows-alike 0 all t.cells l o marks shown)
+      let shown = subst (λ (cs : List Cell). Shows 0 cs l o) (take_all x (spliced_track t k past []).cells (omega (arith, long, short))) h in
+      subst (λ (cs : List Cell). Shows 0 cs l o) (sym (take_all x t.cells short)) (shows-alike 0 (spliced_track t k past []).cells t.cells l o same shown)
 
   runs_low : (h n : ℕ) → runs_in h n false (take z (spliced_track t k past []).cells) ≤ runs_in h n false (take x t.cells) + count h n []
   runs_low h n =
       omega (
         arith,
-        ap (λ (cs : List Cell). runs_in h n false (take z cs)) whole,
-        ap (runs_in h n false) (take_all z all (omega (arith, long, short, le))),
+        ap (runs_in h n false) (take_all z (spliced_track t k past []).cells (omega (arith, long, short, le))),
         ap (runs_in h n false) (take_all x t.cells short),
-        runs-alike h n false all t.cells marks,
+        runs-alike h n false (spliced_track t k past []).cells t.cells same,
       )
 
   runs_parts : (h n : ℕ) → runs_in h n false (take x t.cells) + runs_in h n false (drop z (spliced_track t k past []).cells) ≤ runs_in h n false t.cells + count h n []
   runs_parts h n =
-      let none : runs_in h n false (drop z (spliced_track t k past []).cells) ≡ 0 = ap (runs_in h n false) (ap (drop z) whole ∙ drop_all z all (omega (arith, long, short, le))) in
+      let none : runs_in h n false (drop z (spliced_track t k past []).cells) ≡ 0 = ap (runs_in h n false) (drop_all z (spliced_track t k past []).cells (omega (arith, long, short, le))) in
       omega (arith, none, ap (runs_in h n false) (take_all x t.cells short))
-
-drop_least : (y : ℕ) (cs : List Cell) → drop (min y (length cs)) cs ≡ drop y cs
-drop_least y cs = by (cases_lt (length cs) y) where
-  by : (length cs < y) ⊎ (y ≤ length cs) → drop (min y (length cs)) cs ≡ drop y cs
-  by (inl less) = drop_all (min y (length cs)) cs (omega (arith, less)) ∙ sym (drop_all y cs (omega (arith, less)))
-  by (inr le) = let e : min y (length cs) ≡ y = omega (arith, le) in ap (λ (n : ℕ). drop n cs) e
 
 shifts_along : (t : TrackState) (x y n : ℕ) (Put : Link → Option ℤ → Type 0) → x ≤ y → Shifts x y (x + n) Put t (shifted_along t x y n)
 shifts_along t x y n Put le = by (ltb x (length t.cells)) refl where
@@ -197,7 +153,7 @@ shifts_along t x y n Put le = by (ltb x (length t.cells)) refl where
       let inside = ltb-true x (length t.cells) e in
       let at : x ≡ min x (length t.cells) = omega (arith, inside) in
       subst (λ (k : ℕ). Shifts x y (x + n) Put t (spliced_track t k (min y (length t.cells)) (gap_views n))) at
-      (shifts-in t x y (min y (length t.cells)) (x + n) (gap_views n) Put (omega (arith, inside)) (drop_least y t.cells) (omega (arith, frames-gap n))
+      (shifts-in t x y (min y (length t.cells)) (x + n) (gap_views n) Put (omega (arith, inside)) (drop-least y t.cells) (omega (arith, frames-gap n))
       (λ l o h. absurd (shows-none x (gap_views n) l o (gap-bare n) h)) (omega (arith, inside, le)) (few-none (gap_views n) (gap-bare n)))
   by false e =
       let past = ltb-false x (length t.cells) e in
@@ -234,7 +190,7 @@ has-place all own x [] t a e le = tt
 has-place all own x (u ∷ us) t a e le = (one, has-place all own x us t a.1 e le) where
   one : u.number ≡ own → x ≤ length u.cells
   one n =
-      let same : u ≡ t = some-is u t (sym a.0 ∙ (ap (λ (m : ℕ). track_numbered m all) n ∙ e)) in
+      let same : u ≡ t = same_Some u t (sym a.0 ∙ (ap (λ (m : ℕ). track_numbered m all) n ∙ e)) in
       subst (λ (v : TrackState). x ≤ length v.cells) (sym same) le
 
 -- a track that was made longer by dark frames

@@ -3,6 +3,7 @@
 use Rattle.std.proofs.Common.{◌≡◌, ℕ, ◌+◌, ◌*◌, ◌<◌, ◌≤◌, ◌⊎◌, inl, inr, ℤ, Bool, true, false, cond, eqb, ◌&&◌, max, List, [], ◌∷◌, ◌++◌, filter, length, take, drop, map, unwrap_or, Option, Some, None, refl, sym, ap, ◌∙◌, arith, subst}
 use Rattle.std.proofs.lemmas.Bool.{eqb-true}
 use Rattle.std.proofs.lemmas.List.{length-append}
+use Rattle.std.proofs.lemmas.Option.{same_Some}
 use Rattle.std.specs.List.{list_any}
 use Rattle.frame_meaning.specs.declared.cells.Cell.{Cell}
 use Rattle.frame_meaning.specs.declared.cells.Link.{Link}
@@ -20,8 +21,9 @@ use Rattle.link_laws.proofs.Runs.{count, count-append, runs-append}
 use Rattle.link_laws.proofs.Shifting.{Shifts, may-split, found-named, named-each, named-found, next-among, next-shifts}
 use Rattle.link_laws.proofs.Sights.{Shows, shows-take}
 use Rattle.link_laws.proofs.Splitting.{MaySplit, SeesFrom, count-is, number-is, number-past}
-use Rattle.link_laws.proofs.Tied.{Each, Sees, among-numbered, found-of, numbered-is, some-is}
+use Rattle.link_laws.proofs.Tied.{Each, Sees, among-numbered, found-of}
 use Rattle.link_laws.proofs.Weighing.{Below, past-none, tracks-few, weight-more}
+use Rattle.edit_splice.proofs.Bridging.{is-numbered}
 
 differ : false ≡ true → ⊥
 differ e = cc
@@ -44,7 +46,7 @@ total_some : (f : TrackState → ℕ) (ts : List TrackState) (n : ℕ) (t : Trac
 total_some f [] n t e = absurd cc
 total_some f (u ∷ us) n t e = by (eqb u.number n) e (λ k. total_some f us n t k) where
   by : (b : Bool) → cond b (Some u) (track_numbered n us) ≡ Some t → (track_numbered n us ≡ Some t → f t ≤ total f us) → f t ≤ f u + total f us
-  by true k later = omega (arith, ap f (some-is u t k))
+  by true k later = omega (arith, ap f (same_Some u t k))
   by false k later = omega (arith, later k)
 
 total_runs : (h n : ℕ) (ts : List TrackState) → runs_on h n ts ≡ total (λ t. runs_in h n false t.cells) ts
@@ -121,7 +123,7 @@ numbered_from : (z n : ℕ) (ts : List TrackState) (t : TrackState) (l : Link) (
 numbered_from z n [] t l o e h = absurd cc
 numbered_from z n (u ∷ us) t l o e h = by (eqb u.number n) e (λ k. numbered_from z n us t l o k h) where
   by : (b : Bool) → cond b (Some u) (track_numbered n us) ≡ Some t → (track_numbered n us ≡ Some t → SeesFrom z us l o) → SeesFrom z (u ∷ us) l o
-  by true k later = inl (subst (λ (v : TrackState). Shows z (drop z v.cells) l o) (sym (some-is u t k)) h)
+  by true k later = inl (subst (λ (v : TrackState). Shows z (drop z v.cells) l o) (sym (same_Some u t k)) h)
   by false k later = inr (later k)
 
 -- a link in a list of which something is true
@@ -249,7 +251,7 @@ split_some z us ls n [] u e = absurd cc
 split_some z us ls n (t ∷ ts) u e = by (eqb t.number n) e (λ k. split_some z us ls n ts u k) where
   by : (b : Bool) → cond b (Some t) (track_numbered n ts) ≡ Some u → (track_numbered n ts ≡ Some u → track_numbered n (map (split_track z us ls) ts) ≡ Some (split_track z us ls u))
       → cond b (Some (split_track z us ls t)) (track_numbered n (map (split_track z us ls) ts)) ≡ Some (split_track z us ls u)
-  by true k later = ap (λ (v : TrackState). Some (split_track z us ls v)) (some-is t u k)
+  by true k later = ap (λ (v : TrackState). Some (split_track z us ls v)) (same_Some t u k)
   by false k later = later k
 
 -- the shift
@@ -304,8 +306,8 @@ module _ (all named us : List TrackState) (x y z : ℕ) (Put : Link → Option �
     by None f = inl (f, not_named t.number f)
     by (Some u) f =
         let r = found-of (Shifts x y z Put) t.number named us u each f in
-        let same : r.0 ≡ t = some-is r.0 t (sym (among-numbered all named t.number r.0 names.among r.1) ∙ e) in
-        inr (u, f, found-named t.number named r.0 r.1, numbered-is t.number us u f, subst (λ (s : TrackState). Shifts x y z Put s u) same r.2)
+        let same : r.0 ≡ t = same_Some r.0 t (sym (among-numbered all named t.number r.0 names.among r.1) ∙ e) in
+        inr (u, f, found-named t.number named r.0 r.1, is-numbered t.number us u f, subst (λ (s : TrackState). Shifts x y z Put s u) same r.2)
 
   -- a track after the shift, and before it
 
@@ -377,14 +379,14 @@ module _ (all named us : List TrackState) (x y z : ℕ) (Put : Link → Option �
   high_some h n l e f c =
       let r = from_found z us us l apart c in
       let s = source r.0 r.1 in
-      let there : track_numbered s.0.number us ≡ Some r.0 = ap (λ (m : ℕ). track_numbered m us) (numbered-is r.0.number all s.0 s.1) ∙ r.1 in
+      let there : track_numbered s.0.number us ≡ Some r.0 = ap (λ (m : ℕ). track_numbered m us) (is-numbered r.0.number all s.0 s.1) ∙ r.1 in
       omega (arith, total_some (raised h n) all r.0.number s.0 s.1, ap (high_of h n) there, runs-some h n (drop z r.0.cells) l e f r.2)
 
   low_some : (h n : ℕ) (l : Link) → l.home ≡ h → l.number ≡ n → Carries (cells_before x us) l → 1 ≤ total (low h n) all
   low_some h n l e f c =
       let r = before_found x us us l apart c in
       let s = source r.0 r.1 in
-      let number : s.0.number ≡ r.0.number = numbered-is r.0.number all s.0 s.1 in
+      let number : s.0.number ≡ r.0.number = is-numbered r.0.number all s.0 s.1 in
       let there : is_named named s.0.number ≡ true = ap (is_named named) number ∙ found-named r.0.number named s.0 s.2 in
       let shown = carries-shows 0 (take x r.0.cells) l r.2 in
       let stays : Carries (take x s.0.cells) l = shows-carries 0 (take x s.0.cells) l shown.0 (s.3.forth l shown.0 shown.1) in

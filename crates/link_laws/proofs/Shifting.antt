@@ -1,6 +1,7 @@
 -- A shift of all named tracks of a room: links that it splits, and those of which it moves all.
 use Rattle.std.proofs.Common.{◌≡◌, ℕ, zero, suc, ◌+◌, ◌<◌, ◌≤◌, ◌⊎◌, inl, inr, ⊎_elim, ℤ, Bool, true, false, cond, eqb, ◌||◌, List, [], ◌∷◌, take, drop, length, unwrap_or, Option, Some, None, refl, sym, ap, ◌∙◌, arith, subst, IsBitSet}
 use Rattle.std.proofs.lemmas.Bool.{eqb-true}
+use Rattle.std.proofs.lemmas.Option.{same_Some}
 use Rattle.std.specs.List.{list_any}
 use Rattle.frame_meaning.specs.declared.cells.Cell.{Cell}
 use Rattle.frame_meaning.specs.declared.cells.Link.{Link}
@@ -18,7 +19,8 @@ use Rattle.link_laws.proofs.LinkLists.{AllLinks, AnySame, Carries, Same, all-fil
 use Rattle.link_laws.proofs.Linking.{left-number, next-numbered, numbered-left}
 use Rattle.link_laws.proofs.Sights.{Shows, rebased, shows-append, shows-at, shows-drop, shows-take, shows-view}
 use Rattle.link_laws.proofs.Splitting.{MaySplit, SameBefore, SeesFrom, Splits}
-use Rattle.link_laws.proofs.Tied.{Each, IsTied, Sees, among-numbered, numbered-is, some-is}
+use Rattle.link_laws.proofs.Tied.{Each, IsTied, Sees, among-numbered}
+use Rattle.edit_splice.proofs.Bridging.{is-numbered}
 
 -- a track of which the places [x, y) are replaced, so that what stood from y on stands from z on, by its links and offsets:
 -- of what is put in it has those that Put tells. It has few runs more of its links: those of two lists, one for what is put
@@ -52,7 +54,7 @@ pub numbered-sees : (n : ℕ) (ts : List TrackState) (t : TrackState) (l : Link)
 numbered-sees n [] t l o e h = absurd cc
 numbered-sees n (u ∷ us) t l o e h = by (eqb u.number n) e (λ k. numbered-sees n us t l o k h) where
   by : (b : Bool) → cond b (Some u) (track_numbered n us) ≡ Some t → (track_numbered n us ≡ Some t → Sees us l o) → Sees (u ∷ us) l o
-  by true k later = inl (subst (λ (v : TrackState). Shows 0 v.cells l o) (sym (some-is u t k)) h)
+  by true k later = inl (subst (λ (v : TrackState). Shows 0 v.cells l o) (sym (same_Some u t k)) h)
   by false k later = inr (later k)
 
 before_all : (x : ℕ) (all ts : List TrackState) (l : Link) (o : Option ℤ) → AreAmong all ts → SeesBefore x ts l o → Sees all l o
@@ -299,7 +301,7 @@ next-named all named vs h among e f =
     let r = named-found h named e in
     let q = named-found h vs f in
     let there = among-numbered all named h r.0 among r.1 in
-    let left : as_left vs r.0 ≡ q.0 = ap (λ (n : ℕ). unwrap_or (track_numbered n vs) r.0) (numbered-is h named r.0 r.1) ∙ ap (λ (o : Option TrackState). unwrap_or o r.0) q.1 in
+    let left : as_left vs r.0 ≡ q.0 = ap (λ (n : ℕ). unwrap_or (track_numbered n vs) r.0) (is-numbered h named r.0 r.1) ∙ ap (λ (o : Option TrackState). unwrap_or o r.0) q.1 in
     next-numbered h (with_tracks all vs) q.0 (numbered-left h vs all r.0 there ∙ ap Some left) ∙ sym (next-numbered h vs q.0 q.1)
 
 next_unnamed : (vs ts : List TrackState) (h : ℕ) → track_numbered h vs ≡ None → next_link_at h (with_tracks ts vs) ≡ next_link_at h ts

@@ -34,10 +34,6 @@ shows-left p [] ds l o h = absurd h
 shows-left p (c ∷ cs) ds l o (inl h) = inl h
 shows-left p (c ∷ cs) ds l o (inr h) = inr (shows-left (p + 1) cs ds l o h)
 
-pub shows-right : (p : ℕ) (cs ds : List Cell) (l : Link) (o : Option ℤ) → Shows (p + length cs) ds l o → Shows p (cs ++ ds) l o
-shows-right p [] ds l o h = shows-at (p + 0) p ds l o (omega arith) h
-shows-right p (c ∷ cs) ds l o h = inr (shows-right (p + 1) cs ds l o (shows-at (p + suc (length cs)) (p + 1 + length cs) ds l o (omega arith) h))
-
 pub shows-take : (n p : ℕ) (cs : List Cell) (l : Link) (o : Option ℤ) → Shows p (take n cs) l o → Shows p cs l o
 shows-take zero p cs l o h = absurd h
 shows-take (suc n) p [] l o h = absurd h

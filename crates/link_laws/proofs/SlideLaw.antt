@@ -1,7 +1,8 @@
 -- A slide: an item moves between its neighbours, and nothing else has its link.
 use Rattle.std.proofs.Common.{◌≡◌, ℕ, zero, suc, ◌+◌, ◌-◌, ◌<◌, ◌≤◌, ◌⊎◌, inl, inr, ℤ, pos, negsuc, Bool, true, false, cond, eqb, ltb, not, ◌&&◌, ◌||◌, List, [], ◌∷◌, ◌++◌, take, drop, length, Option, Some, None, Result, Ok, refl, sym, ap, ◌∙◌, arith, subst}
-use Rattle.std.proofs.lemmas.Bool.{eqb-true, ltb-true}
+use Rattle.std.proofs.lemmas.Bool.{and_parts, eqb-true, ltb-true, or_parts}
 use Rattle.std.proofs.lemmas.List.{length-take-le}
+use Rattle.std.proofs.lemmas.Option.{same_Some}
 use Rattle.std.specs.List.{list_any}
 use Rattle.frame_meaning.specs.declared.cells.Cell.{Cell}
 use Rattle.frame_meaning.specs.declared.cells.Link.{Link}
@@ -34,15 +35,16 @@ use Rattle.edit_delta.proofs.Greatest.{is-nearest}
 use Rattle.edit_roll.specs.Neighbours.{begin_at, end_at, has_neighbours, may_move_earlier, may_move_later, range_at}
 use Rattle.edit_roll.specs.Sliding.{bare_item, broken_by, link_broken, links_refuse, slid, slid_earlier, slid_later, slide_allows, slide_own, slide_range, slide_track}
 use Rattle.edit_splice.specs.Splicing.{spliced_track}
+use Rattle.edit_splice.proofs.Bridging.{is-numbered}
 use Rattle.link_groups.specs.ItemLinks.{carried_on, carried_outside, carries, link_found, link_of}
 use Rattle.link_groups.specs.LinkedItems.{item_of}
 use Rattle.link_groups.specs.Linking.{or_else, shown_offset}
-use Rattle.link_groups.proofs.Relinked.{lacks_of}
+use Rattle.link_groups.proofs.Relinked.{drop_past, lacks_of, take_past}
 use Rattle.link_laws.specs.SlipLaws.{SlidingKeepsTogether}
 use Rattle.link_laws.specs.Rooms.{AreAmong, AreNamed, Ascend, IsRoom, LeavesTogether, StaysTogether, with_tracks}
 use Rattle.link_laws.specs.Together.{Together}
 use Rattle.link_laws.specs.Weights.{runs_in}
-use Rattle.link_laws.proofs.Edits.{KeptOne, among-kept, and-both, kept-leaves, room-good}
+use Rattle.link_laws.proofs.Edits.{KeptOne, among-kept, kept-leaves, room-good}
 use Rattle.link_laws.proofs.FreeRanges.{filled-all, frames-all, item-range, range-item, range-within, ranged}
 use Rattle.link_laws.proofs.LinkLists.{Carries, is-same, same-is-link, shows-carries}
 use Rattle.link_laws.proofs.Runs.{count, runs-all, runs-append, runs-one, runs-spliced, view-have}
@@ -51,7 +53,7 @@ use Rattle.link_laws.proofs.ShiftEdits.{own-room, unless-leaves}
 use Rattle.link_laws.proofs.Sights.{Shows, shows-append, shows-at, shows-drop, shows-left, shows-take}
 use Rattle.link_laws.proofs.SlipLaw.{alone-named, link-seen, range-link}
 use Rattle.link_laws.proofs.Splices.{seen-back, seen-on, shows-one, spliced-parts, start_of}
-use Rattle.link_laws.proofs.Tied.{Each, IsTied, Keeps, Sees, among-numbered, each-left, each-with, keeps-self, next-more, numbered-is, some-is, tied-of, together-of}
+use Rattle.link_laws.proofs.Tied.{Each, IsTied, Keeps, Sees, among-numbered, each-left, each-with, keeps-self, next-more, tied-of, together-of}
 use Rattle.link_laws.proofs.Weighing.{Light, light-little, light-more, light-none, light-self, numbered-of}
 
 differ : false ≡ true → ⊥
@@ -130,20 +132,6 @@ others_lacks i (v ∷ vs) l = others_append i (view_cells v) (cells_of vs) (othe
   by true e = absurd (l.0 (same-is v.item (Some i) e))
   by false e = e
 
-take_past : (n : ℕ) (cs ds : List Cell) → length cs ≤ n → take n (cs ++ ds) ≡ cs ++ take (n - length cs) ds
-take_past n [] ds le = let e : n ≡ n - 0 = omega arith in ap (λ (k : ℕ). take k ds) e
-take_past zero (c ∷ cs) ds le = absurd (omega (arith, le))
-take_past (suc n) (c ∷ cs) ds le =
-    let e : n - length cs ≡ suc n - length (c ∷ cs) = omega arith in
-    ap (λ (xs : List Cell). c ∷ xs) (take_past n cs ds (omega (arith, le)) ∙ ap (λ (k : ℕ). cs ++ take k ds) e)
-
-drop_over : (n : ℕ) (cs ds : List Cell) → length cs ≤ n → drop n (cs ++ ds) ≡ drop (n - length cs) ds
-drop_over n [] ds le = let e : n ≡ n - 0 = omega arith in ap (λ (k : ℕ). drop k ds) e
-drop_over zero (c ∷ cs) ds le = absurd (omega (arith, le))
-drop_over (suc n) (c ∷ cs) ds le =
-    let e : n - length cs ≡ suc n - length (c ∷ cs) = omega arith in
-    drop_over n cs ds (omega (arith, le)) ∙ ap (λ (k : ℕ). drop k ds) e
-
 abbrev first_of : Option (ℕ × ℕ) → ℕ
 first_of None = 0
 first_of (Some r) = r.0
@@ -176,13 +164,13 @@ others_back (v ∷ vs) p i x y apart g e = by (same_number v.item (Some i)) refl
   by true f k later =
       let long = length-view_cells v in
       let a : 0 ≡ y - p - length (view_cells v) = omega (arith, ap end_of k, long) in
-      subst (Others i) (sym (drop_over (y - p) (view_cells v) (cells_of vs) (omega (arith, ap end_of k, long))))
+      subst (Others i) (sym (drop_past (y - p) (view_cells v) (cells_of vs) (omega (arith, ap end_of k, long))))
       (subst (λ (n : ℕ). Others i (drop n (cells_of vs))) a (others_lacks i vs (lacks_of v.item i vs apart.0 (same-is v.item (Some i) f))))
   by false f k later =
       let r = range-within vs (p + v.len) i x y g.1 k in
       let long = length-view_cells v in
       let a : y - (p + v.len) ≡ y - p - length (view_cells v) = omega (arith, long) in
-      subst (Others i) (sym (drop_over (y - p) (view_cells v) (cells_of vs) (omega (arith, r.0, r.1, long))))
+      subst (Others i) (sym (drop_past (y - p) (view_cells v) (cells_of vs) (omega (arith, r.0, r.1, long))))
       (subst (λ (n : ℕ). Others i (drop n (cells_of vs))) a (later k))
 
 -- the frames before an item and behind it are not its own
@@ -198,10 +186,6 @@ others_of table t i x y g e =
 
 -- where no cell outside an item has a link
 
-or_both : (a b : Bool) → (a || b) ≡ false → (a ≡ false) × (b ≡ false)
-or_both true b e = absurd cc
-or_both false b e = (refl, e)
-
 -- a list of cells has no cell with it, but of the item
 abbrev Free : Link → ℕ → Bool → List Cell → Bool
 Free l i own cs = list_any (λ (c : Cell). carries l c.link && not (own && same_number c.item (Some i))) cs
@@ -210,14 +194,14 @@ free_take : (l : Link) (i : ℕ) (own : Bool) (n : ℕ) (cs : List Cell) → Fre
 free_take l i own zero cs h = refl
 free_take l i own (suc n) [] h = refl
 free_take l i own (suc n) (c ∷ cs) h =
-    let r = or_both (carries l c.link && not (own && same_number c.item (Some i))) (Free l i own cs) h in
+    let r = or_parts (carries l c.link && not (own && same_number c.item (Some i))) (Free l i own cs) h in
     ap (λ (b : Bool). b || Free l i own (take n cs)) r.0 ∙ free_take l i own n cs r.1
 
 free_drop : (l : Link) (i : ℕ) (own : Bool) (n : ℕ) (cs : List Cell) → Free l i own cs ≡ false → Free l i own (drop n cs) ≡ false
 free_drop l i own zero cs h = h
 free_drop l i own (suc n) [] h = refl
 free_drop l i own (suc n) (c ∷ cs) h =
-    free_drop l i own n cs (or_both (carries l c.link && not (own && same_number c.item (Some i))) (Free l i own cs) h).1
+    free_drop l i own n cs (or_parts (carries l c.link && not (own && same_number c.item (Some i))) (Free l i own cs) h).1
 
 and_true : (a b : Bool) → (a && b) ≡ false → b ≡ true → a ≡ false
 and_true true true e f = absurd cc
@@ -231,18 +215,18 @@ not_and false b e = refl
 others_free : (l : Link) (i : ℕ) (own : Bool) (cs : List Cell) (m : Link) → Free l i own cs ≡ false → Others i cs → Carries cs m → same_link l m ≡ false
 others_free l i own [] m f o h = absurd h
 others_free l i own (c ∷ cs) m f o (inl h) =
-    let r = or_both (carries l c.link && not (own && same_number c.item (Some i))) (Free l i own cs) f in
+    let r = or_parts (carries l c.link && not (own && same_number c.item (Some i))) (Free l i own cs) f in
     sym (ap (carries l) h) ∙ and_true (carries l c.link) (not (own && same_number c.item (Some i))) r.0 (not_and own (same_number c.item (Some i)) o.0)
 others_free l i own (c ∷ cs) m f o (inr h) =
-    others_free l i own cs m (or_both (carries l c.link && not (own && same_number c.item (Some i))) (Free l i own cs) f).1 o.1 h
+    others_free l i own cs m (or_parts (carries l c.link && not (own && same_number c.item (Some i))) (Free l i own cs) f).1 o.1 h
 
 other_free : (l : Link) (i : ℕ) (cs : List Cell) (m : Link) → Free l i false cs ≡ false → Carries cs m → same_link l m ≡ false
 other_free l i [] m f h = absurd h
 other_free l i (c ∷ cs) m f (inl h) =
-    let r = or_both (carries l c.link && not (false && same_number c.item (Some i))) (Free l i false cs) f in
+    let r = or_parts (carries l c.link && not (false && same_number c.item (Some i))) (Free l i false cs) f in
     sym (ap (carries l) h) ∙ and_true (carries l c.link) (not (false && same_number c.item (Some i))) r.0 refl
 other_free l i (c ∷ cs) m f (inr h) =
-    other_free l i cs m (or_both (carries l c.link && not (false && same_number c.item (Some i))) (Free l i false cs) f).1 h
+    other_free l i cs m (or_parts (carries l c.link && not (false && same_number c.item (Some i))) (Free l i false cs) f).1 h
 
 -- what a slide leaves on the own track
 
@@ -349,14 +333,14 @@ slid-slides table t x y (pos n) less within a = record {
   light = spliced_light t x (y + n) (going_on (cell_at t.cells (x - 1)) n) (bare_item (cell_at t.cells x) (y - x)) (omega (arith, less));
 } where
   both : (has_neighbours t.cells x y ≡ true) × (may_move_later table t x y n ≡ true)
-  both = and-both (has_neighbours t.cells x y) (may_move_later table t x y n) a
+  both = and_parts (has_neighbours t.cells x y) (may_move_later table t x y n) a
 
   some : 0 < x
-  some = ltb-true 0 x (and-both (ltb 0 x) (ltb y (length t.cells)) both.0).0
+  some = ltb-true 0 x (and_parts (ltb 0 x) (ltb y (length t.cells)) both.0).0
 
   fits : y + n ≤ length t.cells
   fits =
-      let keeps = and-both (keeps_a_cell y (end_at t.cells y) n) (has_after table (cell_at t.cells (x - 1)).side n) both.1 in
+      let keeps = and_parts (keeps_a_cell y (end_at t.cells y) n) (has_after table (cell_at t.cells (x - 1)).side n) both.1 in
       let lt : y + n < end_at t.cells y = ltb-true (y + n) (end_at t.cells y) keeps.0 in
       omega (arith, lt, ends_within (items_of t.cells) 0 y, frames-all t.cells)
 slid-slides table t x y (negsuc k) less within a = record {
@@ -366,10 +350,10 @@ slid-slides table t x y (negsuc k) less within a = record {
   light = spliced_light t (x - suc k) y (bare_item (cell_at t.cells x) (y - x)) (reaching_back (cell_at t.cells y) (suc k)) (omega (arith, less));
 } where
   both : (has_neighbours t.cells x y ≡ true) × (may_move_earlier table t x y (suc k) ≡ true)
-  both = and-both (has_neighbours t.cells x y) (may_move_earlier table t x y (suc k)) a
+  both = and_parts (has_neighbours t.cells x y) (may_move_earlier table t x y (suc k)) a
 
   moves : (keeps_a_cell (begin_at t.cells (x - 1)) x (suc k) ≡ true) × (has_before table (cell_at t.cells y).side (suc k) ≡ true)
-  moves = and-both (keeps_a_cell (begin_at t.cells (x - 1)) x (suc k)) (has_before table (cell_at t.cells y).side (suc k)) both.1
+  moves = and_parts (keeps_a_cell (begin_at t.cells (x - 1)) x (suc k)) (has_before table (cell_at t.cells y).side (suc k)) both.1
 
   fits : suc k ≤ x
   fits = let lt : begin_at t.cells (x - 1) + suc k < x = ltb-true (begin_at t.cells (x - 1) + suc k) x moves.0 in omega (arith, lt)
@@ -417,15 +401,15 @@ with_sees least (t ∷ ts) u m o a h = by (eqb t.number u.number) refl h (λ k. 
 other_none : (l : Link) (own i : ℕ) (ts : List TrackState) (m : Link) (o : Option ℤ) → carried_outside l own i ts ≡ false → SeesOther own ts m o → same_link l m ≡ false
 other_none l own i [] m o e h = absurd h
 other_none l own i (t ∷ ts) m o e (inl h) =
-    let r = or_both (carried_on l own i t) (carried_outside l own i ts) e in
+    let r = or_parts (carried_on l own i t) (carried_outside l own i ts) e in
     other_free l i t.cells m (sym (ap (λ (b : Bool). Free l i b t.cells) h.0) ∙ r.0) (shows-carries 0 t.cells m o h.1)
-other_none l own i (t ∷ ts) m o e (inr h) = other_none l own i ts m o (or_both (carried_on l own i t) (carried_outside l own i ts) e).1 h
+other_none l own i (t ∷ ts) m o e (inr h) = other_none l own i ts m o (or_parts (carried_on l own i t) (carried_outside l own i ts) e).1 h
 
 own_free : (l : Link) (own i : ℕ) (ts : List TrackState) (t : TrackState) → carried_outside l own i ts ≡ false → track_numbered own ts ≡ Some t → Free l i (eqb t.number own) t.cells ≡ false
 own_free l own i [] t e f = absurd cc
-own_free l own i (w ∷ ws) t e f = by (eqb w.number own) f (λ k. own_free l own i ws t (or_both (carried_on l own i w) (carried_outside l own i ws) e).1 k) where
+own_free l own i (w ∷ ws) t e f = by (eqb w.number own) f (λ k. own_free l own i ws t (or_parts (carried_on l own i w) (carried_outside l own i ws) e).1 k) where
   by : (b : Bool) → cond b (Some w) (track_numbered own ws) ≡ Some t → (track_numbered own ws ≡ Some t → Free l i (eqb t.number own) t.cells ≡ false) → Free l i (eqb t.number own) t.cells ≡ false
-  by true k later = subst (λ (s : TrackState). Free l i (eqb s.number own) s.cells ≡ false) (some-is w t k) (or_both (carried_on l own i w) (carried_outside l own i ws) e).0
+  by true k later = subst (λ (s : TrackState). Free l i (eqb s.number own) s.cells ≡ false) (same_Some w t k) (or_parts (carried_on l own i w) (carried_outside l own i ws) e).0
   by false k later = later k
 
 slides_stay : (table : Table) (all named : List TrackState) (t u : TrackState) (own i x y : ℕ) (l : Link) → IsRoom table all → AreNamed all named → Together all
@@ -442,7 +426,7 @@ slides_stay table all named t u own i x y l room names g e good range less has t
   tied = tied-of all g
 
   number : u.number ≡ own
-  number = s.number ∙ numbered-is own named t e
+  number = s.number ∙ is-numbered own named t e
 
   found : track_numbered u.number named ≡ Some t
   found = ap (λ (n : ℕ). track_numbered n named) number ∙ e
@@ -472,7 +456,7 @@ slides_stay table all named t u own i x y l room names g e good range less has t
   moved : (m : Link) (o : Option ℤ) → Moved t.cells (cell_at t.cells x).link s.off x y m o → Was m o
   moved m o (inl r) =
       let own_link : link_of t i ≡ Some m = range-link table t i x y m good range (mid-carries t.cells x y m less r.0) in
-      inl (some-is m l (sym own_link ∙ has), r.1)
+      inl (same_Some m l (sym own_link ∙ has), r.1)
   moved m o (inr r) = inr (outside m r.0, numbered-sees own all t m o (among-numbered all named own t names.among e) r.1)
 
   was : (m : Link) (o : Option ℤ) → Sees (with_tracks all (with_track named u)) m o → Was m o
@@ -570,7 +554,7 @@ module _ (table : Table) (c : Slide) (all named : List TrackState) (t : TrackSta
         → cond (carried_outside l c.track c.item named) (broken_by l (shown_offset (offset_of v.first x)) (nearest (slide_allows table t x (x + v.len)) c.by)) None ≡ None
     still None l k w = absurd cc
     still (Some j) l k w =
-        subst (λ (h : Link). cond (carried_outside h c.track c.item named) (broken_by h (shown_offset (offset_of v.first x)) (nearest (slide_allows table t x (x + v.len)) c.by)) None ≡ None) (some-is j l k) w
+        subst (λ (h : Link). cond (carried_outside h c.track c.item named) (broken_by h (shown_offset (offset_of v.first x)) (nearest (slide_allows table t x (x + v.len)) c.by)) None ≡ None) (same_Some j l k) w
 
     free : (l : Link) (d : ℤ) → o ≡ Some l → (d ≡ pos 0 → ⊥) → cond (carried_outside l c.track c.item named) (broken_by l (shown_offset (offset_of v.first x)) d) None ≡ None
         → carried_outside l c.track c.item named ≡ false

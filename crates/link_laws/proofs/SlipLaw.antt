@@ -1,7 +1,7 @@
 -- A slip: all that has the link of an item shows other source frames, by one delta.
 use Rattle.std.proofs.Common.{◌≡◌, ℕ, zero, suc, ◌+◌, ◌-◌, ◌<◌, ◌≤◌, ◌⊎◌, inl, inr, ℤ, pos, negsuc, Bool, true, false, cond, ◌&&◌, List, [], ◌∷◌, ◌++◌, take, drop, map, length, Option, Some, None, refl, sym, ap, ◌∙◌, arith, subst, IsBitSet}
-use Rattle.std.proofs.lemmas.Bool.{leb-true}
-use Rattle.std.proofs.lemmas.List.{length-append, length-drop, length-take-le, take_at}
+use Rattle.std.proofs.lemmas.Bool.{and_parts}
+use Rattle.std.proofs.lemmas.List.{length-append, length-drop, length-map, length-take-le, take_at}
 use Rattle.frame_meaning.specs.declared.cells.Cell.{Cell}
 use Rattle.frame_meaning.specs.declared.cells.Link.{Link}
 use Rattle.frame_meaning.specs.declared.cells.Mark.{Mark}
@@ -25,7 +25,7 @@ use Rattle.composables.specs.TrackSets.{tracks_in}
 use Rattle.composables.specs.TrackState.{TrackState}
 use Rattle.composables.proofs.Joining.{length-view_cells}
 use Rattle.edit_delta.specs.Nearest.{nearest}
-use Rattle.edit_delta.specs.Reaching.{has_before, has_before_in}
+use Rattle.edit_delta.specs.Reaching.{has_before}
 use Rattle.edit_delta.specs.Using.{on_range}
 use Rattle.edit_delta.proofs.Greatest.{is-nearest}
 use Rattle.edit_trim.specs.Slipping.{cell_moved, each_linked, each_linked_on, item_may_slip_earlier, link_allows, linked_moved, slip_allows, slip_link, slip_link_by, slip_own, slip_range, slip_track, slip_with, slipped, slipped_by, track_moved}
@@ -43,6 +43,7 @@ use Rattle.link_laws.proofs.Runs.{count, runs-append, runs-cut}
 use Rattle.link_laws.proofs.Shifting.{SeesRest, left-sees, named-found, numbered-sees, rest-all, rest-bit}
 use Rattle.link_laws.proofs.ShiftEdits.{own-room, unless-leaves}
 use Rattle.link_laws.proofs.Sights.{Shows, int-shift, offset-moved, rebased, shows-append, shows-at, shows-drop, shows-take}
+use Rattle.link_laws.proofs.Splices.{has-frames}
 use Rattle.link_laws.proofs.Tied.{Each, IsTied, Keeps, Sees, among-numbered, each-left, good-found, next-more, tied-of, together-of}
 use Rattle.link_laws.proofs.Weighing.{Light, light-little, light-more, light-none, light-self, numbered-of}
 
@@ -109,18 +110,9 @@ behind_marked : (l : Link) (n : ℕ) (m : Option Mark) (cs : List Cell) → AllB
 behind_marked l n m [] h = tt
 behind_marked l n m (c ∷ cs) h = h
 
-in_range : (o : Option (ℕ × ℕ)) (s n : ℕ) → has_before_in o s n ≡ true → n ≤ s
-in_range None s n h = absurd cc
-in_range (Some (a, b)) s n h = omega (arith, leb-true (a + n) s h)
-
 side_behind : (table : Table) (s : Side What) (reach n : ℕ) → has_before table s (reach + n) ≡ true → Behind s n
 side_behind table Dark reach n h = tt
-side_behind table (Pic w s) reach n h = omega (arith, in_range (bounds_of table w) s (reach + n) h)
-
-and_both : (a b : Bool) → (a && b) ≡ true → (a ≡ true) × (b ≡ true)
-and_both true true h = (refl, refl)
-and_both true false h = absurd cc
-and_both false b h = absurd cc
+side_behind table (Pic w s) reach n h = omega (arith, has-frames (bounds_of table w) s (reach + n) h)
 
 behind_views : (table : Table) (l : Link) (n : ℕ) (vs : List ItemView) → each_linked l (item_may_slip_earlier table n) vs ≡ true → AllBehind l n (cells_of vs)
 behind_views table l n [] h = tt
@@ -133,7 +125,7 @@ behind_views table l n (v ∷ vs) h = by (carries l v.link) refl h (λ k. behind
   by : (b : Bool) → carries l v.link ≡ b → (cond b (item_may_slip_earlier table n v (first_mark vs)) true && each_linked l (item_may_slip_earlier table n) vs) ≡ true
       → (each_linked l (item_may_slip_earlier table n) vs ≡ true → AllBehind l n (cells_of vs)) → AllBehind l n (view_cells v ++ cells_of vs)
   by true e k later =
-      let r = and_both (item_may_slip_earlier table n v (first_mark vs)) (each_linked l (item_may_slip_earlier table n) vs) k in
+      let r = and_parts (item_may_slip_earlier table n v (first_mark vs)) (each_linked l (item_may_slip_earlier table n) vs) k in
       rest (later r.1) (λ f. side_behind table v.first (left_reach v.mark) n r.0)
   by false e k later = rest (later k) (λ f. absurd (differ (sym e ∙ f)))
 
@@ -201,7 +193,7 @@ each_behind : (table : Table) (all : List TrackState) (l : Link) (n : ℕ) (ts :
     → each_linked_on l (item_may_slip_earlier table n) ts ≡ true → EachBehind l n ts
 each_behind table all l n [] g a h = tt
 each_behind table all l n (t ∷ ts) g a h =
-    let r = and_both (each_linked l (item_may_slip_earlier table n) (items_of t.cells)) (each_linked_on l (item_may_slip_earlier table n) ts) h in
+    let r = and_parts (each_linked l (item_may_slip_earlier table n) (items_of t.cells)) (each_linked_on l (item_may_slip_earlier table n) ts) h in
     let good : IsGood table t = (good-found table all t.number t g a.0).1 in
     (subst (AllBehind l n) good.kept.whole (behind_views table l n (items_of t.cells) r.0), each_behind table all l n ts g a.1 r.1)
 
@@ -415,10 +407,6 @@ map_carries on back [] m h = h
 map_carries on back (c ∷ cs) m (inl h) = inl h
 map_carries on back (c ∷ cs) m (inr h) = inr (map_carries on back cs m h)
 
-map_long : (f : Cell → Cell) (cs : List Cell) → length (map f cs) ≡ length cs
-map_long f [] = refl
-map_long f (c ∷ cs) = ap suc (map_long f cs)
-
 moved_keeps : (t : TrackState) (x y on back : ℕ) → x ≤ y → y ≤ length t.cells → ((m : Link) → Carries (drop x (take y t.cells)) m → ⊥) → Keeps t (slipped_by t x y on back)
 moved_keeps t x y on back le within bare = record { shows = shows; next = refl; grown = ((cell_at t.cells y).link ∷ [], omega arith, most) } where
   front : List Cell
@@ -435,7 +423,7 @@ moved_keeps t x y on back le within bare = record { shows = shows; next = refl; 
       omega (
         arith,
         length-append (take x t.cells) (map (cell_moved on back) (drop x (take y t.cells))),
-        map_long (cell_moved on back) (drop x (take y t.cells)),
+        length-map (drop x (take y t.cells)) (cell_moved on back),
         length-drop x (take y t.cells),
         length-take-le y t.cells within,
         length-take-le x t.cells (omega (arith, le, within)),

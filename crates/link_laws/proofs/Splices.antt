@@ -1,5 +1,5 @@
 -- The links and offsets of a track of which a range was replaced.
-use Rattle.std.proofs.Common.{◌≡◌, ℕ, ◌+◌, ◌-◌, ◌<◌, ◌≤◌, ◌⊎◌, inl, inr, ℤ, pos, ◌-ℤ◌, Bool, true, false, cond, eqb, List, [], ◌∷◌, ◌++◌, take, drop, map, length, Option, Some, None, refl, sym, ap, ◌∙◌, arith, subst}
+use Rattle.std.proofs.Common.{◌≡◌, ℕ, ◌+◌, ◌-◌, ◌<◌, ◌≤◌, ◌⊎◌, inl, inr, ℤ, pos, ◌-ℤ◌, Bool, true, false, cond, eqb, List, [], ◌∷◌, ◌++◌, take, drop, length, Option, Some, None, refl, sym, ap, ◌∙◌, arith, subst}
 use Rattle.std.proofs.lemmas.Bool.{leb-true}
 use Rattle.std.proofs.lemmas.List.{drop_all, length-append, length-take-le}
 use Rattle.frame_meaning.specs.declared.cells.Cell.{Cell}
@@ -9,7 +9,6 @@ use Rattle.frame_meaning.specs.declared.frames.Side.{Side}
 use Rattle.frame_meaning.specs.declared.frames.Side.TheVariants.{Dark, Pic}
 use Rattle.frame_meaning.specs.Cells.{next_side}
 use Rattle.frame_meaning.specs.Render.{cell_at}
-use Rattle.frame_meaning.specs.Splice.{kept_or_dropped, renumbered, split_item, with_marks}
 use Rattle.composables.specs.declared.items.ItemView.{ItemView}
 use Rattle.composables.specs.declared.media.Table.{Table}
 use Rattle.composables.specs.Bounds.{bounds_of}
@@ -17,7 +16,7 @@ use Rattle.composables.specs.Good.{AllUnlinked}
 use Rattle.composables.specs.Items.{cells_of, view_cells}
 use Rattle.composables.specs.Joined.{frames_in}
 use Rattle.composables.specs.Ranges.{offset_of}
-use Rattle.composables.specs.TrackState.{TrackState, next_past_all}
+use Rattle.composables.specs.TrackState.{TrackState}
 use Rattle.composables.specs.Views.{gap_view, gap_views}
 use Rattle.composables.proofs.Joining.{length-cells_of}
 use Rattle.edit_delta.specs.Reaching.{earlier_side, going_on, has_before, has_before_in, reaching_back}
@@ -25,8 +24,9 @@ use Rattle.edit_splice.specs.Padding.{padded_track}
 use Rattle.edit_splice.specs.Splicing.{spliced_track}
 use Rattle.edit_splice.proofs.Padding.{frames-gap}
 use Rattle.link_laws.specs.Weights.{runs_in}
+use Rattle.link_laws.proofs.Parting.{behind-alike, behind_of, front-alike, front_of}
 use Rattle.link_laws.proofs.Runs.{count, runs-append, runs-bare, runs-first, runs-one, runs-spliced}
-use Rattle.link_laws.proofs.Sights.{Alike, Shows, alike-drop, alike-length, alike-marks, alike-numbers, alike-take, alike-then, int-shift, offset-next, shows-alike, shows-append, shows-at, shows-cell, shows-drop, shows-none, shows-take, shows-view}
+use Rattle.link_laws.proofs.Sights.{Shows, alike-length, int-shift, offset-next, shows-alike, shows-append, shows-at, shows-cell, shows-drop, shows-none, shows-take, shows-view}
 use Rattle.link_laws.proofs.Tied.{Keeps}
 
 -- what stands before the range, what is put in, and what stands behind it
@@ -36,40 +36,23 @@ start_of t x = length (take x t.cells)
 
 pub spliced-parts : (t : TrackState) (x y : ℕ) (views : List ItemView) (l : Link) (o : Option ℤ) → Shows 0 (spliced_track t x y views).cells l o
     → Shows 0 (take x t.cells) l o ⊎ (Shows (start_of t x) (cells_of views) l o ⊎ Shows (start_of t x + frames_in views) (drop y t.cells) l o)
-spliced-parts t x y views l o h = outer (shows-append 0 (take x all ++ cells_of views) tail l o h) where
-  all : List Cell
-  all = with_marks kept_or_dropped x y 0 t.cells
-
-  rest : List Cell
-  rest = drop y all
-
-  tail : List Cell
-  tail = map (renumbered (split_item t.cells x y) (next_past_all t.next_item views)) rest
-
-  marks : Alike all t.cells
-  marks = alike-marks kept_or_dropped x y 0 t.cells
-
-  front : Alike (take x all) (take x t.cells)
-  front = alike-take x all t.cells marks
-
-  behind : Alike tail (drop y t.cells)
-  behind = alike-then tail rest (drop y t.cells) (alike-numbers (split_item t.cells x y) (next_past_all t.next_item views) rest) (alike-drop y all t.cells marks)
-
-  same : length (take x all) ≡ start_of t x
-  same = alike-length (take x all) (take x t.cells) front
+spliced-parts t x y views l o h = outer (shows-append 0 (front_of t x y ++ cells_of views) (behind_of t x y views) l o h) where
+  same : length (front_of t x y) ≡ start_of t x
+  same = alike-length (front_of t x y) (take x t.cells) (front-alike t x y)
 
   Found : Type 0
   Found = Shows 0 (take x t.cells) l o ⊎ (Shows (start_of t x) (cells_of views) l o ⊎ Shows (start_of t x + frames_in views) (drop y t.cells) l o)
 
-  inner : Shows 0 (take x all) l o ⊎ Shows (0 + length (take x all)) (cells_of views) l o → Found
-  inner (inl a) = inl (shows-alike 0 (take x all) (take x t.cells) l o front a)
-  inner (inr m) = inr (inl (shows-at (0 + length (take x all)) (start_of t x) (cells_of views) l o (omega (arith, same)) m))
+  inner : Shows 0 (front_of t x y) l o ⊎ Shows (0 + length (front_of t x y)) (cells_of views) l o → Found
+  inner (inl a) = inl (shows-alike 0 (front_of t x y) (take x t.cells) l o (front-alike t x y) a)
+  inner (inr m) = inr (inl (shows-at (0 + length (front_of t x y)) (start_of t x) (cells_of views) l o (omega (arith, same)) m))
 
-  outer : Shows 0 (take x all ++ cells_of views) l o ⊎ Shows (0 + length (take x all ++ cells_of views)) tail l o → Found
-  outer (inl a) = inner (shows-append 0 (take x all) (cells_of views) l o a)
+  outer : Shows 0 (front_of t x y ++ cells_of views) l o ⊎ Shows (0 + length (front_of t x y ++ cells_of views)) (behind_of t x y views) l o → Found
+  outer (inl a) = inner (shows-append 0 (front_of t x y) (cells_of views) l o a)
   outer (inr b) =
-      let e : 0 + length (take x all ++ cells_of views) ≡ start_of t x + frames_in views = omega (arith, same, length-append (take x all) (cells_of views), length-cells_of views) in
-      inr (inr (shows-alike (start_of t x + frames_in views) tail (drop y t.cells) l o behind (shows-at (0 + length (take x all ++ cells_of views)) (start_of t x + frames_in views) tail l o e b)))
+      let e : 0 + length (front_of t x y ++ cells_of views) ≡ start_of t x + frames_in views = omega (arith, same, length-append (front_of t x y) (cells_of views), length-cells_of views) in
+      let there = shows-at (0 + length (front_of t x y ++ cells_of views)) (start_of t x + frames_in views) (behind_of t x y views) l o e b in
+      inr (inr (shows-alike (start_of t x + frames_in views) (behind_of t x y views) (drop y t.cells) l o (behind-alike t x y views) there))
 
 -- where what stands behind the range stays at its place, or nothing does, and what is put in has no other link or offset
 pub keeps-spliced : (t : TrackState) (x y : ℕ) (views : List ItemView) → x ≤ length t.cells → (x + frames_in views ≡ y) ⊎ (length t.cells ≤ y)
@@ -149,14 +132,14 @@ seen-on t y n l o some h =
     let r = shows-on t y n l o some h in
     subst (λ (a : Option ℤ). Shows 0 t.cells l a) r.1 (shows-cell (y - 1) t.cells l r.0)
 
-has_frames : (o : Option (ℕ × ℕ)) (s n : ℕ) → has_before_in o s n ≡ true → n ≤ s
-has_frames None s n h = absurd cc
-has_frames (Some (a, b)) s n h = omega (arith, leb-true (a + n) s h)
+pub has-frames : (o : Option (ℕ × ℕ)) (s n : ℕ) → has_before_in o s n ≡ true → n ≤ s
+has-frames None s n h = absurd cc
+has-frames (Some (a, b)) s n h = omega (arith, leb-true (a + n) s h)
 
 pub offset-earlier : (table : Table) (s : Side What) (z n : ℕ) → has_before table s n ≡ true → offset_of (earlier_side s n) z ≡ offset_of s (z + n)
 offset-earlier table Dark z n h = refl
 offset-earlier table (Pic w s) z n h =
-    let e : s - n + n ≡ s = omega (arith, has_frames (bounds_of table w) s n h) in
+    let e : s - n + n ≡ s = omega (arith, has-frames (bounds_of table w) s n h) in
     ap Some (sym (int-shift z (s - n) n) ∙ ap (λ (k : ℕ). pos (z + n) -ℤ pos k) e)
 
 pub shows-back : (table : Table) (c : Cell) (z n : ℕ) (l : Link) (o : Option ℤ) → has_before table c.side n ≡ true → Shows z (cells_of (reaching_back c n ∷ [])) l o

@@ -1,6 +1,7 @@
 -- Tracks that are together, by their links and offsets alone, and changes of tracks that keep them so.
 use Rattle.std.proofs.Common.{◌≡◌, ℕ, zero, suc, ◌+◌, ◌<◌, ◌≤◌, ◌⊎◌, inl, inr, ℤ, Bool, true, false, cond, eqb, List, [], ◌∷◌, slice_get, unwrap_or, Option, Some, None, refl, sym, ap, ◌∙◌, arith, subst}
 use Rattle.std.proofs.lemmas.Bool.{eqb-true}
+use Rattle.std.proofs.lemmas.Option.{same_Some}
 use Rattle.frame_meaning.specs.declared.cells.Cell.{Cell}
 use Rattle.frame_meaning.specs.declared.cells.Link.{Link}
 use Rattle.composables.specs.declared.media.Table.{Table}
@@ -14,6 +15,7 @@ use Rattle.link_laws.specs.Rooms.{AreAmong, AreTracks, as_left, with_tracks}
 use Rattle.link_laws.specs.Weights.{runs_in}
 use Rattle.link_laws.proofs.Runs.{Grown, grown-from, grown-self}
 use Rattle.link_laws.proofs.Sights.{Shows}
+use Rattle.edit_splice.proofs.Bridging.{is-numbered}
 
 -- a cell of these tracks has this link and this offset
 abbrev pub Sees : List TrackState → Link → Option ℤ → Type 0
@@ -89,16 +91,6 @@ pub each-self : (R : TrackState → TrackState → Type 0) → ((t : TrackState)
 each-self R self [] = tt
 each-self R self (t ∷ ts) = (refl, self t, each-self R self ts)
 
-pub some-is : {A : Type 0} (a b : A) → Some a ≡ Some b → a ≡ b
-some-is {A} a b e = ap (λ (o : Option A). unwrap_or o a) e
-
-pub numbered-is : (n : ℕ) (ts : List TrackState) (t : TrackState) → track_numbered n ts ≡ Some t → t.number ≡ n
-numbered-is n [] t e = absurd cc
-numbered-is n (u ∷ us) t e = by (eqb u.number n) refl e (λ k. numbered-is n us t k) where
-  by : (b : Bool) → eqb u.number n ≡ b → cond b (Some u) (track_numbered n us) ≡ Some t → (track_numbered n us ≡ Some t → t.number ≡ n) → t.number ≡ n
-  by true f h later = ap (λ (v : TrackState). v.number) (sym (some-is u t h)) ∙ eqb-true u.number n f
-  by false f h later = later h
-
 pub among-numbered : (all ts : List TrackState) (n : ℕ) (t : TrackState) → AreAmong all ts → track_numbered n ts ≡ Some t → track_numbered n all ≡ Some t
 among-numbered all [] n t a e = absurd cc
 among-numbered all (u ∷ us) n t a e = by (eqb u.number n) refl e (λ k. among-numbered all us n t a.1 k) where
@@ -110,7 +102,7 @@ pub good-found : (table : Table) (ts : List TrackState) (n : ℕ) (t : TrackStat
 good-found table [] n t a e = absurd cc
 good-found table (u ∷ us) n t a e = by (eqb u.number n) e (λ k. good-found table us n t a.2 k) where
   by : (b : Bool) → cond b (Some u) (track_numbered n us) ≡ Some t → (track_numbered n us ≡ Some t → (t.number < 32) × IsGood table t) → (t.number < 32) × IsGood table t
-  by true h later = subst (λ (v : TrackState). (v.number < 32) × IsGood table v) (some-is u t h) (a.0, a.1)
+  by true h later = subst (λ (v : TrackState). (v.number < 32) × IsGood table v) (same_Some u t h) (a.0, a.1)
   by false h later = later h
 
 pub found-of : (R : TrackState → TrackState → Type 0) (n : ℕ) (ts us : List TrackState) (u : TrackState) → Each R ts us → track_numbered n us ≡ Some u
@@ -126,7 +118,7 @@ found-of R n (t ∷ ts) (v ∷ vs) u each e = by (eqb v.number n) refl e (λ k. 
 
   by : (b : Bool) → eqb v.number n ≡ b → cond b (Some v) (track_numbered n vs) ≡ Some u
       → (track_numbered n vs ≡ Some u → (s : TrackState) × (track_numbered n ts ≡ Some s) × R s u) → (s : TrackState) × (track_numbered n (t ∷ ts) ≡ Some s) × R s u
-  by true f h later = (t, head true f, subst (R t) (some-is v u h) each.1)
+  by true f h later = (t, head true f, subst (R t) (same_Some v u h) each.1)
   by false f h later = let r = later h in (r.0, head false f ∙ r.1, r.2)
 
 pub as-left : (R : TrackState → TrackState → Type 0) → ((t : TrackState) → R t t) → (all named news : List TrackState) → AreAmong all named → Each R named news
@@ -136,8 +128,8 @@ as-left R self all named news among each t e = by (track_numbered t.number news)
   by None f = (refl, self t)
   by (Some u) f =
       let r = found-of R t.number named news u each f in
-      let same : r.0 ≡ t = some-is r.0 t (sym (among-numbered all named t.number r.0 among r.1) ∙ e) in
-      (numbered-is t.number news u f, subst (λ (s : TrackState). R s u) same r.2)
+      let same : r.0 ≡ t = same_Some r.0 t (sym (among-numbered all named t.number r.0 among r.1) ∙ e) in
+      (is-numbered t.number news u f, subst (λ (s : TrackState). R s u) same r.2)
 
 pub each-left : (R : TrackState → TrackState → Type 0) → ((t : TrackState) → R t t) → (all named news ts : List TrackState) → AreAmong all named → Each R named news
     → AreAmong all ts → Each R ts (with_tracks ts news)
@@ -152,7 +144,7 @@ pub each-with : (R : TrackState → TrackState → Type 0) → ((t : TrackState)
 each-with R self [] t u e n r = absurd cc
 each-with R self (w ∷ ws) t u e n r = by (eqb w.number u.number) refl e (λ k. each-with R self ws t u k n r) where
   by : (b : Bool) → eqb w.number u.number ≡ b → cond b (Some w) (track_numbered u.number ws) ≡ Some t → (track_numbered u.number ws ≡ Some t → Each R ws (with_track ws u)) → Each R (w ∷ ws) (cond b (u ∷ ws) (w ∷ with_track ws u))
-  by true f h later = (sym (eqb-true w.number u.number f), subst (λ (s : TrackState). R s u) (sym (some-is w t h)) r, each-self R self ws)
+  by true f h later = (sym (eqb-true w.number u.number f), subst (λ (s : TrackState). R s u) (sym (same_Some w t h)) r, each-self R self ws)
   by false f h later = (refl, self w, later h)
 
 -- a track that has no link with an offset that it had not, few runs more of its links, and gives no link number away

@@ -1,6 +1,6 @@
 -- Named tracks picked by their numbers, and put back.
-use Rattle.std.proofs.Common.{◌≡◌, ℕ, zero, suc, ◌+◌, ◌<◌, inl, inr, ℤ, Bool, true, false, cond, eqb, List, [], ◌∷◌, drop, length, slice_get, slice_set, unwrap_or, Option, Some, None, Ok, Err, refl, sym, ap, ◌∙◌, arith, subst}
-use Rattle.std.proofs.lemmas.Bool.{eqb-true}
+use Rattle.std.proofs.Common.{◌≡◌, ℕ, zero, suc, ◌+◌, ◌<◌, inl, inr, ℤ, Bool, cond, eqb, List, [], ◌∷◌, drop, length, slice_get, slice_set, unwrap_or, Option, Some, None, Ok, Err, refl, sym, ap, ◌∙◌, arith, subst}
+use Rattle.std.proofs.lemmas.Bool.{ne_eqb}
 use Rattle.frame_meaning.specs.declared.cells.Cell.{Cell}
 use Rattle.frame_meaning.specs.declared.cells.Link.{Link}
 use Rattle.composables.specs.declared.media.Table.{Table}
@@ -15,12 +15,6 @@ use Rattle.link_laws.specs.Rooms.{AreAmong, AreNamed, Ascend, IsRoom, LeavesToge
 use Rattle.link_laws.proofs.Sights.{Shows, shows-none}
 use Rattle.link_laws.proofs.Tied.{Sees, together-of}
 use Rattle.link_laws.specs.Wholes.{AreBare, KeepsNumbers, Numbered, StayTogether, UnlinkedAreTogether, WholesKeepTogether}
-
-differ_eqb : (m n : ℕ) → (m ≡ n → ⊥) → eqb m n ≡ false
-differ_eqb m n apart = by (eqb m n) refl where
-  by : (b : Bool) → eqb m n ≡ b → b ≡ false
-  by true e = absurd (apart (eqb-true m n e))
-  by false e = refl
 
 -- tracks by their places
 
@@ -39,7 +33,7 @@ numbered_at from (u ∷ us) (suc k) t h e =
     let z : from + 1 + k ≡ from + suc k = omega arith in
     let apart : u.number ≡ from + suc k → ⊥ = λ n. omega (arith, n, h.0) in (
       r.0 ∙ z,
-      ap (λ (b : Bool). cond b (Some u) (track_numbered (from + suc k) us)) (differ_eqb u.number (from + suc k) apart)
+      ap (λ (b : Bool). cond b (Some u) (track_numbered (from + suc k) us)) (ne_eqb u.number (from + suc k) apart)
           ∙ (ap (λ (m : ℕ). track_numbered m us) (sym z) ∙ r.1),
     )
 
@@ -88,10 +82,10 @@ above_of : (least count : ℕ) (ts : List TrackState) → AscendBetween least co
 above_of least count [] a m lt = refl
 above_of least count (t ∷ ts) a m lt =
     let apart : t.number ≡ m → ⊥ = λ e. omega (arith, e, a.0, lt) in
-    ap (λ (b : Bool). cond b (Some t) (track_numbered m ts)) (differ_eqb t.number m apart) ∙ above_of (t.number + 1) count ts a.2 m (omega (arith, a.0, lt))
+    ap (λ (b : Bool). cond b (Some t) (track_numbered m ts)) (ne_eqb t.number m apart) ∙ above_of (t.number + 1) count ts a.2 m (omega (arith, a.0, lt))
 
 left_past : (p : TrackState) (ps : List TrackState) (t : TrackState) → (p.number ≡ t.number → ⊥) → as_left (p ∷ ps) t ≡ as_left ps t
-left_past p ps t apart = ap (λ (b : Bool). unwrap_or (cond b (Some p) (track_numbered t.number ps)) t) (differ_eqb p.number t.number apart)
+left_past p ps t apart = ap (λ (b : Bool). unwrap_or (cond b (Some p) (track_numbered t.number ps)) t) (ne_eqb p.number t.number apart)
 
 left_here : (p : TrackState) (ps : List TrackState) (t : TrackState) → p.number ≡ t.number → as_left (p ∷ ps) t ≡ p
 left_here p ps t e =

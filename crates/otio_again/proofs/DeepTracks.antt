@@ -1,6 +1,6 @@
 -- The tracks of a sound cut, each with how many nests stand in one another in it: at most 8 in one of pictures, since
 -- each nest of the table has at most 7 in what its layers show, and none in one of sound.
-use Rattle.std.specs.Prelude.{◌≡◌, ℕ, ◌+◌, List, [], ◌∷◌, slice_index_or}
+use Rattle.std.specs.Prelude.{ℕ, ◌+◌, List, [], ◌∷◌, slice_index_or}
 use Rattle.std.specs.List.{All}
 use Rattle.frame_meaning.specs.declared.cells.What.{What}
 use Rattle.frame_meaning.specs.declared.cells.What.TheVariants.{Media as MediaOf, Nest as NestOf}
@@ -16,20 +16,24 @@ use Rattle.composables.specs.Good.{LiesIn, SideLiesIn, EachLiesIn, IsGood}
 use Rattle.composables.specs.Items.{items_of}
 use Rattle.composables.specs.TrackFacts.{left_reach, right_reach, first_mark}
 use Rattle.composables.specs.TrackState.{TrackState}
-use Rattle.otio_json.specs.Soundness.{SideHas, EachHas, IsDeep, levels_of_kind}
+use Rattle.otio_json.specs.Soundness.{SideHas, EachHas, IsDeep, levels_of_kind, AreTracksOf}
 use Rattle.otio_again.specs.SoundCuts.{IsCutTrack, IsCutLayer, IsCutTable, IsMedia, SuitsKind, AreGoodFrom}
 use Rattle.otio_again.proofs.Facts.{shows_nest}
 
--- the tracks have these kinds, and these numbers on
+-- so many tracks of these kinds, with these numbers on
 abbrev pub AreCutTracksFrom : Table → ℕ → List Kind → List TrackState → Type 0
-AreCutTracksFrom table n [] [] = Unit {0}
-AreCutTracksFrom table n [] (t ∷ ts) = ⊥
-AreCutTracksFrom table n (k ∷ ks) [] = ⊥
-AreCutTracksFrom table n (k ∷ ks) (t ∷ ts) = (t.number ≡ n) × IsCutTrack table (levels_of_kind k) t × AreCutTracksFrom table (n + 1) ks ts
+AreCutTracksFrom table = AreTracksOf (λ k t. IsCutTrack table (levels_of_kind k) t)
 
 -- what holds of each, where it follows of one
 pub each : {X : Type 0} (P Q : X → Type 0) → ((x : X) → P x → Q x) → (xs : List X) → All P xs → All Q xs
 each P Q f xs h = λ k d lt. f (slice_index_or xs k d) (h k d lt)
+
+pub each_of : (P Q : Kind → TrackState → Type 0) → ((k : Kind) (t : TrackState) → P k t → Q k t)
+    → (n : ℕ) (ks : List Kind) (ts : List TrackState) → AreTracksOf P n ks ts → AreTracksOf Q n ks ts
+each_of P Q f n [] [] h = tt
+each_of P Q f n [] (t ∷ ts) h = absurd h
+each_of P Q f n (k ∷ ks) [] h = absurd h
+each_of P Q f n (k ∷ ks) (t ∷ ts) h = (h.0, f k t h.1, each_of P Q f (n + 1) ks ts h.2)
 
 module _ (table : Table) (sound : IsCutTable table) where
   thing_deep : (w : What) (s len before after : ℕ) → LiesIn (bounds_of table w) s len before after → IsDeep table.nests 8 w
@@ -63,7 +67,4 @@ module _ (table : Table) (sound : IsCutTable table) where
   track_deep Audio t good suits = record { good = good; deep = each_flat (items_of t.cells) suits }
 
   pub tracks_deep : (n : ℕ) (ks : List Kind) (ts : List TrackState) → AreGoodFrom table n ks ts → AreCutTracksFrom table n ks ts
-  tracks_deep n [] [] h = tt
-  tracks_deep n [] (t ∷ ts) h = absurd h
-  tracks_deep n (k ∷ ks) [] h = absurd h
-  tracks_deep n (k ∷ ks) (t ∷ ts) h = (h.0, track_deep k t h.1 h.2, tracks_deep (n + 1) ks ts h.3)
+  tracks_deep = each_of (λ k t. IsGood table t × SuitsKind k t) (λ k t. IsCutTrack table (levels_of_kind k) t) (λ k t h. track_deep k t h.0 h.1)

@@ -225,12 +225,6 @@ pub record RowBack (r : SequenceRate) (inner : Result Inner DocCode) (t : Table)
 
 module _ (r : SequenceRate) (inner : Result Inner DocCode) (t : Table) (levels : ℕ) (tree : ℕ → List Tree) (Can : ItemView → Type 0)
     (child : (v : ItemView) (tail : Option Mark) (u : Table) (at : ℕ) → IsShown t v tail → Can v → ChildBack (pair_of r) inner t u levels v (placed at (item_tree t r tree v))) where
-  parts_on : (a b : Table) → Extends a b → (vs : List ItemView) (ps : List Part) → AreParts t a levels vs ps → AreParts t b levels vs ps
-  parts_on a b h [] [] k = tt
-  parts_on a b h [] (p ∷ ps) k = k
-  parts_on a b h (v ∷ vs) [] k = k
-  parts_on a b h (v ∷ vs) (p ∷ ps) k = (part_on t a b levels h v p k.0, k.1, parts_on a b h vs ps k.2)
-
   marked_part : (u : Table) (v : ItemView) (p : Part) (mark : Option Mark) → IsPartOf t u levels v p → IsPartOf t u levels v (with_mark p mark)
   marked_part u v p mark k = record { side = k.side; len = k.len; bounds = k.bounds }
 

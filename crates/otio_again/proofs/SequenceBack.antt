@@ -147,12 +147,6 @@ next_back r t sound k u x before at h =
 
 -- ---- all tracks
 
-tracks_on : (t a b : Table) → Keeps a b → (xs ys : List TrackState) → SameTracks t a xs ys → SameTracks t b xs ys
-tracks_on t a b h [] [] s = tt
-tracks_on t a b h [] (y ∷ ys) s = s
-tracks_on t a b h (x ∷ xs) [] s = s
-tracks_on t a b h (x ∷ xs) (y ∷ ys) s = (s.0, cells_on (SameThing t a 8) (SameThing t b 8) (thing_keeps t a b h 8) x.cells y.cells s.1, tracks_on t a b h xs ys s.2)
-
 pub record AllBack (r : SequenceRate) (t u : Table) (ks : List TrackKind) (xs before : List TrackState) (children : List Tree) : Type 0 where
   pub made : List TrackState
   pub table : Table

@@ -1,5 +1,5 @@
 -- A sound opening is a sound cut: of each part less is asked.
-use Rattle.std.specs.Prelude.{ℕ, ◌+◌, List, [], ◌∷◌}
+use Rattle.std.specs.Prelude.{ℕ, List, [], ◌∷◌}
 use Rattle.frame_meaning.specs.declared.cells.What.{What}
 use Rattle.frame_meaning.specs.declared.cells.What.TheVariants.{Media as MediaOf, Nest as NestOf}
 use Rattle.frame_meaning.specs.declared.frames.Side.{Side}
@@ -11,11 +11,12 @@ use Rattle.composables.specs.declared.media.Layer.{Layer}
 use Rattle.composables.specs.declared.media.Nest.{Nest}
 use Rattle.composables.specs.declared.media.Kind.{Kind}
 use Rattle.composables.specs.declared.media.Kind.TheVariants.{Video, Audio}
+use Rattle.composables.specs.Good.{IsGood}
 use Rattle.composables.specs.Items.{items_of}
 use Rattle.composables.specs.TrackState.{TrackState}
 use Rattle.otio_json.specs.Soundness.{SideHas, EachHas, IsDeep, levels_of_kind, IsReadTrack, IsSoundMedia, IsSoundLayer, IsSoundNest, AreTracksFrom}
 use Rattle.otio_again.specs.SoundCuts.{IsCutTrack, IsCutMedia, IsCutLayer, IsCutNest, IsMedia, SuitsKind, AreGoodFrom, OpeningsAreSoundCuts}
-use Rattle.otio_again.proofs.DeepTracks.{each}
+use Rattle.otio_again.proofs.DeepTracks.{each, each_of}
 
 track_is : (table : Table) (levels : ℕ) (t : TrackState) → IsReadTrack table levels t → IsCutTrack table levels t
 track_is table levels t h = record { good = h.good; deep = h.deep }
@@ -50,10 +51,7 @@ module _ (table : Table) where
   suits Audio t h = each_is (items_of t.cells) h.deep
 
   tracks_are : (n : ℕ) (ks : List Kind) (ts : List TrackState) → AreTracksFrom table n ks ts → AreGoodFrom table n ks ts
-  tracks_are n [] [] h = tt
-  tracks_are n [] (t ∷ ts) h = absurd h
-  tracks_are n (k ∷ ks) [] h = absurd h
-  tracks_are n (k ∷ ks) (t ∷ ts) h = (h.0, h.1.good, suits k t h.1, tracks_are (n + 1) ks ts h.2)
+  tracks_are = each_of (λ k t. IsReadTrack table (levels_of_kind k) t) (λ k t. IsGood table t × SuitsKind k t) (λ k t h. (h.good, suits k t h))
 
 pub openings_are_sound_cuts : OpeningsAreSoundCuts
 openings_are_sound_cuts o h = record {

@@ -119,15 +119,6 @@ given_none name t at h = ap unless_null (no_member_back name t at h)
 
 -- ---- values
 
-pub text_back : (t : Tree) (s : List ℕ) (at : ℕ) → kind_in t ≡ Text_of s → text_read (placed at t) ≡ Ok s
-text_back t s at h = ap (λ (k : Kind). or_refuse (text_in k) O3 (place_of (placed at t))) (kind_placed t at ∙ ap (placed_kind at) h)
-
-pub list_back : (t : Tree) (ts : Trees) (at : ℕ) → kind_in t ≡ List_of ts → list_read (placed at t) ≡ Ok (in_trees (placed_trees (at + 1) ts))
-list_back t ts at h = ap (λ (k : Kind). or_refuse (items_in k) O3 (place_of (placed at t))) (kind_placed t at ∙ ap (placed_kind at) h)
-
-pub numeral_back : (t : Tree) (m : ℤ) (q at : ℕ) → kind_in t ≡ Numeral_of m q → numeral_read (placed at t) ≡ Ok (m, q)
-numeral_back t m q at h = ap (numeral_kind (place_of (placed at t))) (kind_placed t at ∙ ap (placed_kind at) h)
-
 object_placed : (k : Kind) (at : ℕ) → is_object (placed_kind at k) ≡ is_object k
 object_placed Null at = refl
 object_placed (Bool_of b) at = refl

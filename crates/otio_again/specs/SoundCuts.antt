@@ -1,7 +1,6 @@
 -- What a cut is at any point of a history: tracks that are good in a sound table. Items may be linked and have any
 -- numbers. An opening that is sound is such a cut.
-use Rattle.std.specs.Prelude.{◌≡◌, ℕ, ◌+◌, ◌<◌, ◌≤◌, List, [], ◌∷◌, length}
-use Rattle.std.specs.List.{All}
+use Rattle.std.specs.Prelude.{ℕ, ◌<◌, ◌≤◌, List, length}
 use Rattle.timecode12.specs.Labels.{day_of}
 use Rattle.frame_meaning.specs.declared.cells.What.{What}
 use Rattle.frame_meaning.specs.declared.cells.What.TheVariants.{Media as MediaOf, Nest as NestOf}
@@ -14,8 +13,7 @@ use Rattle.composables.specs.declared.media.Kind.TheVariants.{Video, Audio}
 use Rattle.composables.specs.Good.{IsGood}
 use Rattle.composables.specs.Items.{items_of}
 use Rattle.composables.specs.TrackState.{TrackState}
-use Rattle.otio_json.specs.Nests.{longest}
-use Rattle.otio_json.specs.Soundness.{EachHas, IsDeep, IsSoundOpening}
+use Rattle.otio_json.specs.Soundness.{EachHas, IsDeep, IsLayerOf, IsNestOf, IsTableOf, AreTracksOf, IsSoundOpening}
 use Rattle.otio_json.specs.declared.opening.Opening.{Opening}
 
 -- what a layer shows: a track that is good in the table, with at most so many nests in one another
@@ -28,21 +26,15 @@ pub record IsCutMedia (table : Table) (m : Media) : Type 0 where
   pub reel : m.reel < length table.reels
   pub within : m.to ≤ 16777216
 
--- its range lies in its track
-pub record IsCutLayer (table : Table) (levels : ℕ) (l : Layer) : Type 0 where
-  pub track : IsCutTrack table levels l.track
-  pub ordered : l.from ≤ l.to
-  pub within : l.to ≤ length l.track.cells
+abbrev pub IsCutLayer : Table → ℕ → Layer → Type 0
+IsCutLayer table levels = IsLayerOf (IsCutTrack table levels)
 
--- it is as long as its longest layer
-pub record IsCutNest (table : Table) (levels : ℕ) (nest : Nest) : Type 0 where
-  pub layers : All (IsCutLayer table levels) nest.layers
-  pub as_long : nest.length ≡ longest nest.layers
+abbrev pub IsCutNest : Table → ℕ → Nest → Type 0
+IsCutNest table levels = IsNestOf (IsCutTrack table levels)
 
 -- at most 8 nests stand in one another, so at most 7 in what a layer shows
-pub record IsCutTable (table : Table) : Type 0 where
-  pub media : All (IsCutMedia table) table.media
-  pub nests : All (IsCutNest table 7) table.nests
+abbrev pub IsCutTable : Table → Type 0
+IsCutTable table = IsTableOf (IsCutMedia table) (IsCutTrack table 7) table
 
 -- a track of pictures may show nests, one of sound shows media alone
 abbrev pub IsMedia : What → Type 0
@@ -55,10 +47,7 @@ SuitsKind Audio t = EachHas IsMedia (items_of t.cells)
 
 -- the tracks are good in the table, suit these kinds, and have these numbers on
 abbrev pub AreGoodFrom : Table → ℕ → List Kind → List TrackState → Type 0
-AreGoodFrom table n [] [] = Unit {0}
-AreGoodFrom table n [] (t ∷ ts) = ⊥
-AreGoodFrom table n (k ∷ ks) [] = ⊥
-AreGoodFrom table n (k ∷ ks) (t ∷ ts) = (t.number ≡ n) × IsGood table t × SuitsKind k t × AreGoodFrom table (n + 1) ks ts
+AreGoodFrom table = AreTracksOf (λ k t. IsGood table t × SuitsKind k t)
 
 -- a table, tracks, a counting and a start that a cut can have; at most 16 tracks, as many as a room may have
 pub record IsSoundCut (o : Opening) : Type 0 where

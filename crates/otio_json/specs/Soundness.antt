@@ -36,7 +36,31 @@ IsDeep nests n (MediaOf m) = Unit {0}
 IsDeep nests zero (NestOf j) = ⊥
 IsDeep nests (suc n) (NestOf j) = (nest : Nest) × (slice_get nests j ≡ Some nest) × All (λ (l : Layer). EachHas (IsDeep nests n) (items_of l.track.cells)) nest.layers
 
--- ---- the parts
+-- ---- the parts, whatever is asked of a media entry, and of a track by its kind or in a layer
+
+-- its range lies in its track
+pub record IsLayerOf (P : TrackState → Type 0) (l : Layer) : Type 0 where
+  pub track : P l.track
+  pub ordered : l.from ≤ l.to
+  pub within : l.to ≤ length l.track.cells
+
+-- it is as long as its longest layer
+pub record IsNestOf (P : TrackState → Type 0) (nest : Nest) : Type 0 where
+  pub layers : All (IsLayerOf P) nest.layers
+  pub as_long : nest.length ≡ longest nest.layers
+
+pub record IsTableOf (M : Media → Type 0) (P : TrackState → Type 0) (table : Table) : Type 0 where
+  pub media : All M table.media
+  pub nests : All (IsNestOf P) table.nests
+
+-- the tracks have these kinds, and these numbers on
+abbrev pub AreTracksOf : (Kind → TrackState → Type 0) → ℕ → List Kind → List TrackState → Type 0
+AreTracksOf P n [] [] = Unit {0}
+AreTracksOf P n [] (t ∷ ts) = ⊥
+AreTracksOf P n (k ∷ ks) [] = ⊥
+AreTracksOf P n (k ∷ ks) (t ∷ ts) = (t.number ≡ n) × P k t × AreTracksOf P (n + 1) ks ts
+
+-- ---- the parts of a document that was read
 
 -- good in the table, without links, and with so many nests in one another at most
 pub record IsReadTrack (table : Table) (levels : ℕ) (t : TrackState) : Type 0 where
@@ -52,21 +76,15 @@ pub record IsSoundMedia (table : Table) (m : Media) : Type 0 where
   pub filled : m.from < m.to
   pub within : m.to ≤ 16777216
 
--- its range lies in its track
-pub record IsSoundLayer (table : Table) (levels : ℕ) (l : Layer) : Type 0 where
-  pub track : IsReadTrack table levels l.track
-  pub ordered : l.from ≤ l.to
-  pub within : l.to ≤ length l.track.cells
+abbrev pub IsSoundLayer : Table → ℕ → Layer → Type 0
+IsSoundLayer table levels = IsLayerOf (IsReadTrack table levels)
 
--- it is as long as its longest layer
-pub record IsSoundNest (table : Table) (levels : ℕ) (nest : Nest) : Type 0 where
-  pub layers : All (IsSoundLayer table levels) nest.layers
-  pub as_long : nest.length ≡ longest nest.layers
+abbrev pub IsSoundNest : Table → ℕ → Nest → Type 0
+IsSoundNest table levels = IsNestOf (IsReadTrack table levels)
 
 -- at most 8 nests stand in one another, so at most 7 in what a layer shows
-pub record IsSoundTable (table : Table) : Type 0 where
-  pub media : All (IsSoundMedia table) table.media
-  pub nests : All (IsSoundNest table 7) table.nests
+abbrev pub IsSoundTable : Table → Type 0
+IsSoundTable table = IsTableOf (IsSoundMedia table) (IsReadTrack table 7) table
 
 -- ---- the whole
 
@@ -75,12 +93,8 @@ abbrev pub levels_of_kind : Kind → ℕ
 levels_of_kind Video = 8
 levels_of_kind Audio = 0
 
--- the tracks have these kinds, and these numbers on
 abbrev pub AreTracksFrom : Table → ℕ → List Kind → List TrackState → Type 0
-AreTracksFrom table n [] [] = Unit {0}
-AreTracksFrom table n [] (t ∷ ts) = ⊥
-AreTracksFrom table n (k ∷ ks) [] = ⊥
-AreTracksFrom table n (k ∷ ks) (t ∷ ts) = (t.number ≡ n) × IsReadTrack table (levels_of_kind k) t × AreTracksFrom table (n + 1) ks ts
+AreTracksFrom table = AreTracksOf (λ k t. IsReadTrack table (levels_of_kind k) t)
 
 -- The table is sound, track t has number t and is as its kind t says, there are at most as many as a room may have,
 -- and the start is a frame of the day.

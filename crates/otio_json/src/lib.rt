@@ -12,6 +12,3 @@ pub use opening::Opening;
 pub use otio_text::{WriteFault, write_timeline};
 pub use otio_tracks::{DocCode, DocFault};
 pub use timeline::{MAX_NESTS, MAX_TRACKS, read_timeline};
-
-#[cfg(test)]
-mod tests;

@@ -35,7 +35,7 @@ impl Opening {
         ensures plain { IfOk result (λ opening. opening ≡ plain_opening tracks reels) }
         ensures sound { IfOk result IsSoundOpening }
     {
-        let table = plain(alloc, tracks, reels)?;
+        let table = plain_table(alloc, tracks, reels)?;
         let tracks = empty_tracks(alloc, tracks)?;
         Ok(Opening {
             table,
@@ -99,7 +99,7 @@ fn plain_reels(alloc: Global, count: u32) -> Result<Reels, Memory>
 }
 
 /// The table of a plain room: video tracks, and reels of which each has one media entry with its first 86,400 frames.
-fn plain(alloc: Global, tracks: u32, reels: u32) -> Result<Table, Memory>
+fn plain_table(alloc: Global, tracks: u32, reels: u32) -> Result<Table, Memory>
     requires { reels ≤ 999 }
     ensures { IfOk result (λ table. table ≡ plain_table tracks reels) }
 {

@@ -37,11 +37,6 @@ grown_nothing (Some t) =
     let fits : nat_le 0 (33554432 - length t) ≡ true = to_le 0 (33554432 - length t) (omega arith) in
     rw fits (ap Some (append-nil t))
 
--- a text that is too long stays so
-pub over_stays : (t : Option (List ℕ)) (more : List ℕ) → is_over t ≡ true → t ≡ grown t more
-over_stays None more e = refl
-over_stays (Some text) more e = cc
-
 pub stays : (t : Option (List ℕ)) (more : List ℕ) → more ≡ [] → t ≡ grown t more
 stays t more e = sym (ap (grown t) e ∙ grown_nothing t)
 

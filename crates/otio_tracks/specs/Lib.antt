@@ -1,3 +1,4 @@
+-- To be read: public clauses speak of these.
 pub mod Reading
 pub mod Values
 pub mod Times
@@ -6,7 +7,8 @@ pub mod Clips
 pub mod Transitions
 pub mod Rows
 pub mod SoundParts
+pub mod Building
+-- For the steps of the code, for proofs and for tests.
 pub mod SoundRows
 pub mod RowInside
-pub mod Building
 pub mod EntriesInside

@@ -48,9 +48,6 @@ under_bits p a b hp ha hb =
 pub one_positive : (p : ℕ) → 1 ≤ 10 ^ p
 one_positive p = one-le-pow p 10 (omega arith)
 
-product_small : (a b m n : ℕ) → a ≤ m → b ≤ n → a * b ≤ m * n
-product_small a b m n h k = mul-le a b m n h k
-
 apart_small : (m : ℤ) (den num ten : ℕ) → unsigned_abs m < 10 ^ 18 → den ≤ 10 ^ 6 → num ≤ 10 ^ 12 → ten ≤ 10 ^ 18
     → unsigned_abs (m *ℤ pos den -ℤ pos (num * ten)) ≤ 2 * 10 ^ 30
 apart_small m den num ten hm hd hn ht =

@@ -26,11 +26,6 @@ floor_greatest (negsuc a) (pos u) (negsuc b) h k =
     omega (arith, ints, div_below a u (suc b) some below)
 floor_greatest o (negsuc u) g h k = absurd (omega (arith, ints))
 
-pub floor_size : (o d : ℤ) (n : ℕ) → pos 1 ≤ℤ d → unsigned_abs o ≤ n → unsigned_abs (int_div_euclid o d) ≤ n
-floor_size (pos a) (pos u) n h k = omega (arith, div-le_self a u)
-floor_size (negsuc a) (pos u) n h k = omega (arith, div-le_self a u)
-floor_size o (negsuc u) n h k = absurd (omega (arith, ints))
-
 times_neg : (g : ℤ) (u : ℕ) → neg_ℤ g *ℤ pos u ≡ neg_ℤ (g *ℤ pos u)
 times_neg (pos zero) u = let e : zero * u ≡ zero = omega arith in rw e refl
 times_neg (pos (suc n)) u = refl

@@ -100,8 +100,8 @@ impl RationalTime {
 }
 
 impl TimeRange {
-    /// The range's frames of `rate`, from the first on that starts in it to before the second number:
-    /// none, where that is not the greater one.
+    /// The range's frames of `rate`: from its start rounded up, to before its start and its duration, each
+    /// rounded down, together. Where the second number is not the greater one the range has no frame.
     pub fn narrowed_at(&self, rate: &Rate) -> Result<(i64, i64), TooFar>
         ensures ok { (from to : ℤ) → (result ≡ Ok (from, to))
             ↔ IsNarrowedNear self.now rate.now from to }

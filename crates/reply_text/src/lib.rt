@@ -16,6 +16,3 @@ pub use line_fault::LineFault;
 pub use replies::{answer_text, fault_text, point_text};
 pub use short_text::{MAX_SHORT, MAX_SHORT_LINE, Short};
 pub use sights::sight_text;
-
-#[cfg(test)]
-mod tests;

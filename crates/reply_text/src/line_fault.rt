@@ -1,6 +1,5 @@
 // Why a line is none of the table.
 ghost use Rattle.std.specs.Prelude.{◌≡◌};
-ghost use Rattle.line_words.specs.declared.numbers.NumberFault.{NumberFault as Fault};
 ghost use Rattle.reply_text.specs.LineFaults.{number_fault};
 ghost use Rattle.reply_text.specs.declared.line_fault.LineFault.TheVariants.{Memory as NoMemory};
 

@@ -1,8 +1,10 @@
+-- To be read: public clauses speak of these.
 pub mod Answers
 pub mod Totals
-pub mod TotalLaws
 pub mod History
 pub mod Machine
 pub mod Parts
 pub mod Projection
 pub mod Whole
+-- For the steps of the code, for proofs and for tests.
+pub mod TotalLaws

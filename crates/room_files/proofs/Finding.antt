@@ -40,9 +40,3 @@ module _ (ls : List Lengths) (i : ℕ) (d : Lengths) (within : i < length ls) wh
       let one : Content = if bytes_eq (take l.name names) name then Bytes (take l.bytes bytes) else Missing in
       sym (ap (λ k. or_earlier (content_in (cut names bytes k) name) found) lengths_from
       ∙ (or_earlier-assoc rest one found ∙ ap (or_earlier rest) (here (bytes_eq (take l.name names) name) (take l.bytes bytes) found)))
-
--- looked for in nothing, what was found so far is all
-pub from_nothing : (c : Content) → or_earlier c (Bytes []) ≡ or_empty c
-from_nothing Untold = refl
-from_nothing Missing = refl
-from_nothing (Bytes x) = refl

@@ -7,8 +7,6 @@ mod files;
 mod memory_files;
 mod standard_files;
 mod sure_files;
-#[cfg(test)]
-mod tests;
 mod written;
 
 pub use files::{FileFault, Files};

@@ -84,7 +84,7 @@ impl Files for MemFiles {
 
     ghost write_faults = { λ f. f.write_faults };
 
-    /// Fails exactly where the number of the call is listed or there is no such file.
+    /// Answers `Failed` exactly where the number of the call is listed or there is no such file.
     fn read_file(&mut self, alloc: Global, name: &str, limit: u32) -> Result<Vec<u8>, FileFault>
         ensures fails { (result ≡ Err faults.Failed)
             ↔ (FailsNext self.old.calls ⊎ (content_of self.old.files name.now ≡ Missing)) }
@@ -116,8 +116,8 @@ impl Files for MemFiles {
         }
     }
 
-    /// Fails exactly where the number of the call is listed, and changes nothing then. Where its memory is refused
-    /// the files tell nothing from then on.
+    /// Fails exactly where the number of the call is listed, and changes no file then. Where its memory is refused, of
+    /// which no clause says when, the files tell nothing from then on.
     fn write_file(&mut self, name: &str, bytes: &[u8]) -> Result<(), Failed>
         ensures fails { IsErr result ↔ FailsNext self.old.calls }
         ensures keeps { OnOk result (Keeps self.old.files self.new.files name.now bytes.now) }

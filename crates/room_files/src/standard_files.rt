@@ -41,7 +41,7 @@ impl<R: System> Files for StdFiles<'_, R> {
 
     ghost write_faults = { λ f. f.write_faults };
 
-    /// Reads to the end of the file, or to the first byte that is too much.
+    /// Reads the file piece by piece, to its end or until it has more bytes than the limit. What is read no clause says.
     fn read_file(&mut self, alloc: Global, name: &str, limit: u32) -> Result<Vec<u8>, FileFault> {
         match read_whole(self.system, alloc, name, limit) {
             Err(FileFault::Failed) => {
@@ -53,7 +53,7 @@ impl<R: System> Files for StdFiles<'_, R> {
         }
     }
 
-    /// Makes the file, or empties it, and writes the bytes to it.
+    /// Makes the file, or empties it, and writes the bytes to it. What it holds then no clause says.
     fn write_file(&mut self, name: &str, bytes: &[u8]) -> Result<(), Failed> {
         match fs::write(self.system, name, bytes) {
             Ok(()) => Ok(()),

@@ -11,9 +11,9 @@ use room_ports::{Failed, Memory};
 use std::alloc::Global;
 use std::marker::Model;
 
-/// Files over memory that they have from their beginning, which never fail. A name that was not written is an empty
-/// file. They tell what they hold while at most 64 writes were made, under names of at most 4,096 bytes together, which
-/// wrote at most as many bytes as there is room for; from then on they tell nothing, and a read finds no memory.
+/// Files over memory that never fail. A name that was not written is an empty file. They tell what they hold while at
+/// most 64 writes were made, under names of at most 4,096 bytes together, which wrote at most as many bytes as there is
+/// room for; from then on they tell nothing, and a read finds no memory.
 #[derive(Drop)]
 pub struct SureFiles {
     written: Option<Written>,
@@ -33,7 +33,7 @@ impl Model for SureFiles {
 }
 
 impl SureFiles {
-    /// No files, with memory for so many bytes.
+    /// No files, with room for so many bytes.
     pub fn new(alloc: Global, room: u32) -> Result<SureFiles, Memory>
         ensures files { IfOk result (λ f. f.files ≡ Some []) }
         ensures room { IfOk result (λ f. f.room ≡ room) }
@@ -54,7 +54,7 @@ impl Files for SureFiles {
 
     ghost write_faults = { λ _. 0 };
 
-    /// Never fails.
+    /// Never answers `Failed`.
     fn read_file(&mut self, alloc: Global, name: &str, limit: u32) -> Result<Vec<u8>, FileFault>
         ensures sure { (result ≡ Err faults.Failed) → ⊥ }
         ensures stays { self.new ≡ self.old }

@@ -15,11 +15,3 @@ get-other xs i j x ne = elim (leb_tells (length xs) j) [
   | inr h ↦ slice_get-get_or (slice_set xs i x) j x (omega (arith, length-set xs i x, h.1))
       ∙ (ap Some (get_or-set_other xs i j x x ne) ∙ sym (slice_get-get_or xs j x h.1))
 ]
-
--- what is told of the place that was added is what was told where there was none
-pub told-grown : {X Y : Type 0} (told : Option X → Y) (blank : X) → told (Some blank) ≡ told None
-    → (xs : List X) (i : ℕ) → told (slice_get (xs ++ blank ∷ []) i) ≡ told (slice_get xs i)
-told-grown told blank e [] zero = e
-told-grown told blank e [] (suc i) = refl
-told-grown told blank e (x ∷ xs) zero = refl
-told-grown told blank e (x ∷ xs) (suc i) = told-grown told blank e xs i

@@ -2,7 +2,8 @@
 
 /// Where a station waits before it commits, if the gate lets it wait.
 pub trait Gate {
-    /// Called once by each edit that applies, before it is appended. It answers nothing, and may wait.
+    /// To be called once by each edit that applies, before it is appended; no clause says that it is. It answers
+    /// nothing, and may wait.
     fn at_commit(&self, station: u32);
 }
 

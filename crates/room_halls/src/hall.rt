@@ -42,8 +42,8 @@ impl<T: Drop> From<AllocFailed<T>> for HallFault {
 
 /// The line of a station of a hall.
 pub trait HallLine: Line {
-    /// Told when the session over the line has ended, after which nothing is read of it or written to it. What is told of
-    /// the line stays.
+    /// To be called when the session over the line has ended; no clause says that nothing is read of it or written to it
+    /// after that. What is told of the line stays.
     fn leave(&mut self)
         ensures read { (Self.left self.new ≡ Self.left self.old)
             × (Self.read_faults self.new ≡ Self.read_faults self.old) }

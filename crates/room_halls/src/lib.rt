@@ -13,8 +13,6 @@ mod sure_hall;
 mod sure_line;
 mod tcp_hall;
 mod tcp_line;
-#[cfg(test)]
-mod tests;
 
 pub use gate::{Gate, OpenGate};
 pub use hall::{Hall, HallFault, HallLine};

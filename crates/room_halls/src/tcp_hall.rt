@@ -14,8 +14,9 @@ use std::io::{self, Write};
 use std::marker::Model;
 use std::net::{Net, SocketAddr, TcpListener, TcpStream};
 
-/// A hall that listens at an address. Each seat takes the next connection that comes, whoever makes it. It tells where it
-/// listens, and of each station who sits down and how it leaves.
+/// A hall that listens at an address. Each seat takes the next connection that comes, whoever makes it. It tells its
+/// writer where it listens, and of each station who sits down and how it leaves. No clause says what connections bring
+/// nor what the writer is told.
 #[derive(Drop)]
 pub struct TcpHall<'a, R: Net, W> {
     net: &'a R,
@@ -48,7 +49,8 @@ impl<'a, R: Net<Listener = TcpListener, Stream = TcpStream>, W> TcpHall<'a, R, W
         }
     }
 
-    /// The address at which it listens, with the port that the system gave where port 0 was asked for.
+    /// The address at which it listens, with the port that the system gave where port 0 was asked for. No clause says
+    /// which that is.
     pub fn address(&self) -> Option<SocketAddr> {
         match &self.listener {
             Some(listener) => listener.local_addr().ok(),
@@ -65,7 +67,7 @@ impl<R: Net<Listener = TcpListener, Stream = TcpStream>, W: Write + Copy + Send>
 
     ghost faults = { λ h. h.faults };
 
-    /// Listens at the address. It fails where the system refuses it.
+    /// Listens at the address. It fails where the system refuses it, of which no clause says when.
     fn open(&mut self, address: &str) -> Result<(), Failed> {
         match TcpListener::bind(self.net, address) {
             Ok(listener) => {
@@ -82,7 +84,7 @@ impl<R: Net<Listener = TcpListener, Stream = TcpStream>, W: Write + Copy + Send>
     }
 
     /// Waits for the next connection, and sends what is written to it without delay. It fails where the hall is not
-    /// open or the system refuses it.
+    /// open or the system refuses it, of which no clause says when.
     fn seat_station(&mut self, _alloc: Global, station: u32) -> Result<TcpLine<W>, HallFault> {
         self.seated.make_room(station)?;
         let faults = match self.seated.get(station) {

@@ -104,7 +104,7 @@ impl<W> Source for TcpLine<W> {
 
     ghost as_sink = { λ l. record { taken = None; faults = l.writes; lent = owned } };
 
-    /// Reads once from the connection.
+    /// Reads once from the connection, which no clause says.
     fn read(&mut self, into: &mut [u8]) -> Result<usize, Failed> {
         match self.stream.read(into) {
             Ok(n) => {
@@ -127,7 +127,7 @@ impl<W> Sink for TcpLine<W> {
 
     ghost as_source = { λ l. record { left = None; faults = l.reads; lent = owned } };
 
-    /// Writes once to the connection.
+    /// Writes once to the connection, which no clause says.
     fn write(&mut self, piece: &[u8]) -> Result<usize, Failed> {
         match self.stream.write(piece) {
             Ok(n) if n > 0 || piece.is_empty() => Ok(n),
@@ -149,7 +149,7 @@ impl<W> Line for TcpLine<W> {
 }
 
 impl<W: Write + Copy> HallLine for TcpLine<W> {
-    /// Tells how the session ended, and lets the peer read to the end of the replies.
+    /// Tells how the session ended, and lets the peer read to the end of the replies. No clause says either.
     fn leave(&mut self) {
         self.report.station(self.station, self.came.text());
         let _ = self.stream.shutdown(Shutdown::Both);

@@ -17,13 +17,6 @@ gives-gives (Some a) None after xs ys h k = absurd h
 gives-gives (Some a) (Some b) None xs ys h k = absurd k
 gives-gives (Some a) (Some b) (Some c) xs ys h k = h ∙ (ap (λ t. xs ++ t) k ∙ sym (append_assoc xs ys c))
 
--- where no byte is left, all have been given
-pub gives-all : (before after : Option (List ℕ)) (xs : List ℕ)
-    → Gives before after xs → IfSome after (λ left. left ≡ []) → IfSome before (λ bytes. bytes ≡ xs)
-gives-all None after xs h k = tt
-gives-all (Some a) None xs h k = absurd h
-gives-all (Some a) (Some b) xs h k = h ∙ (ap (λ t. xs ++ t) k ∙ append-nil xs)
-
 -- nothing was taken
 pub takes-nothing : (told : Option (List ℕ)) → Takes told told []
 takes-nothing None = tt
@@ -36,12 +29,6 @@ takes-takes before mid None xs ys h k = tt
 takes-takes before None (Some c) xs ys h k = absurd k
 takes-takes None (Some b) (Some c) xs ys h k = absurd h
 takes-takes (Some a) (Some b) (Some c) xs ys h k = k ∙ (ap (λ t. t ++ ys) h ∙ append_assoc a xs ys)
-
--- all of the bytes is a front of them
-pub takes-front : (before after : Option (List ℕ)) (xs : List ℕ) → Takes before after xs → TakesFront before after xs
-takes-front before None xs h = tt
-takes-front None (Some b) xs h = absurd h
-takes-front (Some a) (Some b) xs h = (length xs, h ∙ ap (λ t. a ++ t) (sym (take-length xs)))
 
 -- these bytes, and then a front of those
 pub takes-takes_front : (before mid after : Option (List ℕ)) (xs ys : List ℕ)

@@ -14,8 +14,6 @@ mod ports;
 mod sink;
 mod source;
 mod standard;
-#[cfg(test)]
-mod tests;
 
 pub use calls::FailingCalls;
 pub use failed::{Failed, Memory};

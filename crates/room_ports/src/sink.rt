@@ -43,7 +43,7 @@ impl MemSink {
         }
     }
 
-    /// The bytes that it has taken; `None` from a write on whose memory was refused.
+    /// The bytes that it has taken; `None` from a write on whose memory was refused, of which no clause says when.
     pub fn bytes(&self) -> Option<&[u8]>
         ensures { option_copied result ≡ self.now.bytes }
     {
@@ -59,7 +59,7 @@ impl Sink for MemSink {
     ghost as_source = { λ _. no_source };
 
     /// Fails exactly where the number of the call is listed, and takes else the whole piece. Where its memory is
-    /// refused the sink tells nothing from then on.
+    /// refused, of which no clause says when, the sink tells nothing from then on.
     fn write(&mut self, piece: &[u8]) -> Result<usize, Failed>
         ensures fails { IsErr result ↔ FailsNext self.old.calls }
         ensures whole { IfOk result (λ n. n ≡ length piece.now) }
@@ -78,7 +78,7 @@ impl Sink for MemSink {
     }
 }
 
-/// Takes each piece whole into memory that it has from its beginning, and never fails.
+/// Takes each piece whole and never fails. It tells its bytes while they are no more than it has room for.
 #[derive(Drop)]
 pub struct SureSink {
     bytes: Option<Vec<u8>>,
@@ -99,13 +99,13 @@ impl Model for SureSink {
 }
 
 impl SureSink {
-    /// A sink that has taken nothing, with memory for so many bytes.
+    /// A sink that has taken nothing, with room for so many bytes.
     pub fn new(alloc: Global, room: u32) -> Result<SureSink, Memory>
         ensures bytes { IfOk result (λ s. s.bytes ≡ Some []) }
         ensures room { IfOk result (λ s. s.room ≡ room) }
         ensures taken { IfOk result (λ s. ⟦<SureSink as Sink>⟧.taken s ≡ Some []) }
 
-        // No room takes no memory.
+        // With no room it is always made.
         ensures none { room ≡ 0 → IsOk result }
     {
         let room = room as usize;

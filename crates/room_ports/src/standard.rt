@@ -40,7 +40,7 @@ impl<R: Read + Drop> Source for StdSource<R> {
 
     ghost as_sink = { λ _. no_sink };
 
-    /// Reads once from the reader.
+    /// Reads from the reader. That it does so once is tested, and no clause says it.
     fn read(&mut self, into: &mut [u8]) -> Result<usize, Failed>
         ensures reads { ReadConsumes
             (R.remaining self.old.inner) (R.remaining self.new.inner) result into.new }
@@ -90,7 +90,7 @@ impl<W: Write + Drop> Sink for StdSink<W> {
 
     ghost as_source = { λ _. no_source };
 
-    /// Writes once to the writer.
+    /// Writes to the writer. That it does so once is tested, and no clause says it.
     fn write(&mut self, piece: &[u8]) -> Result<usize, Failed>
         ensures writes { WriteAppends
             (W.contents self.old.inner) (W.contents self.new.inner) result piece.now }

@@ -56,7 +56,7 @@ impl<'a, R, G, J: Naming<Editor, Track>> Model for Session<'a, R, G, J> {
 }
 
 impl<'a, R: Wait, G: Gate, J: Naming<Editor, Track>> Session<'a, R, G, J> {
-    ghost use Rattle.std.specs.Prelude.{◌≡◌, ◌+◌, ◌<◌, ◌≤◌, ◌^◌, ◌++◌, IfOk, codes, decimal, length};
+    ghost use Rattle.std.specs.Prelude.{◌≡◌, ◌+◌, ◌<◌, ◌≤◌, ◌^◌, ◌++◌, IfOk, codes, length};
     ghost use Rattle.line_words.specs.Told.{line_told};
     ghost use Rattle.call_text.specs.CallTexts.{IsWritten, NamesWritten};
     ghost use Rattle.reply_text.specs.Replies.{fault_of};

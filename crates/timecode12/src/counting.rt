@@ -45,7 +45,8 @@ pub enum LabelFault {
 }
 
 impl Counting {
-    /// Counts at a rate, by drop-frame or not; none, where the rate has no drop-frame.
+    /// Counts at a rate, by drop-frame or not: `None` where drop-frame is asked for at another rate than
+    /// 30000/1001.
     pub fn new(rate: SequenceRate, drop: bool) -> Option<Counting>
         ensures none { IsNone result ↔ (IsTrue drop × (rate ≡ SequenceRate.F2997 → ⊥)) }
         ensures some { IfSome result (λ c. (c.rate ≡ rate) × (c.drop_frame ≡ drop)) }

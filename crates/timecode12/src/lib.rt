@@ -1,8 +1,8 @@
 //! Labels of the frames of a day, by SMPTE ST 12-1, with and without drop-frame. The day is defined
 //! as the ascending list of its labels, of which frame n has the n-th. The main contracts are those of
 //! [`Counting::label_of`] and [`Counting::frame_of`], which are exact and inverse to each other over
-//! the whole day; the second pair, [`read_label`] and [`label_text`], spells labels. Nothing here
-//! takes memory.
+//! the whole day; the second pair, [`read_label`] and [`label_text`], spells labels. No call here is
+//! given an allocator.
 #![tactic(auto)]
 
 mod counting;
@@ -17,6 +17,3 @@ pub use label::Label;
 pub use laws::{frames_and_labels, texts_and_labels};
 pub use rate::SequenceRate;
 pub use spelling::{label_text, read_label};
-
-#[cfg(test)]
-mod tests;

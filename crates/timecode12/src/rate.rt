@@ -20,7 +20,8 @@ pub enum SequenceRate {
 }
 
 impl SequenceRate {
-    /// The rate of a sequence that has so many frames a second, or `None` where no sequence has.
+    /// The rate of a sequence that has this numerator and denominator, or `None` where none has them:
+    /// 24/1 is one, and 48/2 is none.
     pub fn of(rate: &Rate) -> Option<SequenceRate>
         ensures { result ≡ sequence_rate rate.now.num rate.now.den }
     {

@@ -4,7 +4,7 @@ ghost use Rattle.timecode12.specs.Spelling.{IsMark, HasTwoDigits, Spells, text_o
 
 use crate::label::Label;
 
-/// The label that a text writes, which need be no label of any day.
+/// The label that a text writes, which need be no label of any day, or `None` where it writes none.
 pub fn read_label(text: &[u8]) -> Option<Label>
     ensures some { (label : Label) → (result ≡ Some label) ↔ Spells text.now label }
     ensures none { IsNone result ↔ ((label : Label) → Spells text.now label → ⊥) }

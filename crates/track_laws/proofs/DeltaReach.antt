@@ -1,14 +1,13 @@
 -- The shift by which an item reaches back, with the link that its frames get, leaves good tracks.
-use Rattle.std.proofs.Common.{◌≡◌, ◌≢◌, ℕ, zero, suc, ◌+◌, ◌-◌, ◌<◌, ◌≤◌, Bool, true, false, not, cond, eqb, ltb, ◌&&◌, min, List, [], ◌∷◌, ◌++◌, All, take, drop, map, length, get_or, Option, Some, None, Ok, refl, sym, ap, ◌∙◌, arith, subst, append_assoc}
-use Rattle.std.proofs.lemmas.Bool.{eqb-false, eqb-true, le-ltb, ltb-false, ne_eqb}
-use Rattle.std.proofs.lemmas.List.{drop-append-le, drop_all, length-append, length-take, map-append, take_at}
-use Rattle.std.proofs.lemmas.List.Elements.{All-cons}
+use Rattle.std.proofs.Common.{◌≡◌, ◌≢◌, ℕ, zero, suc, ◌+◌, ◌-◌, ◌<◌, ◌≤◌, Bool, true, false, not, cond, eqb, ltb, ◌&&◌, min, List, [], ◌∷◌, ◌++◌, All, map, length, get_or, Option, Some, None, Ok, refl, sym, ap, ◌∙◌, arith, subst}
+use Rattle.std.proofs.lemmas.Bool.{and_parts, eqb-false, eqb-true, le-ltb, ltb-false, ne_eqb}
+use Rattle.std.proofs.lemmas.List.Elements.{All-map}
 use Rattle.std.proofs.lemmas.Option.{slice_get-get_or, slice_get_within}
 use Rattle.frame_meaning.specs.declared.cells.Cell.{Cell}
 use Rattle.frame_meaning.specs.declared.cells.Link.{Link}
 use Rattle.frame_meaning.specs.Cells.{belong, same_number}
 use Rattle.frame_meaning.specs.Render.{cell_at}
-use Rattle.frame_meaning.specs.Splice.{kept_or_dropped, next_after_splice, renumbered, split_item, with_marks}
+use Rattle.frame_meaning.specs.Splice.{kept_or_dropped}
 use Rattle.composables.specs.declared.items.ItemView.{ItemView}
 use Rattle.composables.specs.declared.media.Table.{Table}
 use Rattle.composables.specs.declared.refusals.Done.{Done}
@@ -18,9 +17,9 @@ use Rattle.composables.specs.declared.TheConstants.{MAX_FRAMES, MAX_ITEMS}
 use Rattle.composables.specs.Answers.{unless}
 use Rattle.composables.specs.Changes.{with_link}
 use Rattle.composables.specs.Good.{IsGood}
-use Rattle.composables.specs.Items.{cell_in, cells_of, items_of, view_cells}
+use Rattle.composables.specs.Items.{cell_in, cells_of, items_of}
 use Rattle.composables.specs.Limits.{too_long, too_many, within_limits}
-use Rattle.composables.specs.Links.{count_at_home, links_split, moved_cell, moved_link, split_links, split_track}
+use Rattle.composables.specs.Links.{count_at_home, links_split, moved_link, split_links, split_track}
 use Rattle.composables.specs.Ranges.{is_cut}
 use Rattle.composables.specs.TrackFacts.{IsKept}
 use Rattle.composables.specs.TrackState.{TrackState, next_past_all}
@@ -33,7 +32,6 @@ use Rattle.edit_delta.proofs.Bounded.{stays-spliced}
 use Rattle.edit_delta.proofs.Pieces.{Before}
 use Rattle.edit_delta.proofs.Spots.{Spot, spot-head}
 use Rattle.edit_roll.proofs.Beside.{cut-between}
-use Rattle.edit_splice.specs.declared.shifting.Shift.{Shift}
 use Rattle.edit_splice.specs.Laws.{IsWithinLimits}
 use Rattle.edit_splice.specs.Moves.{all_moved, moved, put_views}
 use Rattle.edit_splice.specs.Shifts.{shift_of, shift_refusal, shifted}
@@ -42,29 +40,20 @@ use Rattle.edit_splice.proofs.Bridging.{extract-moved, put-moved}
 use Rattle.edit_splice.proofs.Cellwise.{cell-before, cell-between}
 use Rattle.edit_splice.proofs.Firsts.{few-all, short-all}
 use Rattle.edit_splice.proofs.Moving.{put-own}
-use Rattle.edit_splice.proofs.Standing.{all_head, all_tail}
-use Rattle.edit_splice.proofs.Surviving.{length-marks}
+use Rattle.edit_trim.proofs.Reached.{back_shift, own-reach}
 use Rattle.edit_trim.proofs.RippleTracks.{before-parts, other-put}
 use Rattle.link_groups.specs.LinkedShifts.{split_items}
 use Rattle.link_groups.specs.Renumbering.{IsUncut}
+use Rattle.link_groups.proofs.GoodShifts.{with_next}
 use Rattle.link_groups.proofs.LinkedShifts.{long-same, many-same, tracks-same}
 use Rattle.link_groups.proofs.Meant.{uncut-moved}
 use Rattle.link_groups.proofs.Relinking.{good-linked, like-links, like-moved, linked_track, moved-linked, new_links}
 use Rattle.link_groups.proofs.ShiftLinks.{splits-moved}
-use Rattle.link_groups.proofs.SplitCells.{items-cells, view-moved}
+use Rattle.link_groups.proofs.SplitCells.{items-cells}
 use Rattle.link_groups.proofs.Uncut.{cell-there, uncut-by}
-use Rattle.track_laws.proofs.DeltaSteps.{GoodAll, both-true, unless-good}
+use Rattle.track_laws.proofs.DeltaSteps.{GoodAll, unless-good}
 
 -- links split on a good track, where no item with a link stands on both sides of the place
-
-with_next : (table : Table) (t : TrackState) (n : ℕ) → IsGood table t → IsGood table (record t { next_link = n })
-with_next table t n g = record {
-  kept = record { whole = g.kept.whole; not_before = g.kept.not_before; each = g.kept.each; apart = g.kept.apart; below = g.kept.below; short = g.kept.short };
-  ranges = g.ranges;
-  links = g.links;
-  frames = g.frames;
-  items = g.items;
-}
 
 split_good : (table : Table) (tracks : List TrackState) (splits : List Link) (place : ℕ) (u : TrackState) → IsGood table u → IsUncut place u → IsGood table (split_track place tracks splits u)
 split_good table tracks splits place u good uncut =
@@ -73,38 +62,6 @@ split_good table tracks splits place u good uncut =
     let same : record (linked_track (new_links (moved_link tracks splits) place (items_of u.cells)) u) { next_link = u.next_link + count_at_home splits u.number } ≡ split_items tracks splits place u =
     ap (λ (vs : List ItemView). record u { cells = cells_of vs; next_link = u.next_link + count_at_home splits u.number }) (sym (moved-linked tracks splits place (items_of u.cells))) in
     subst (IsGood table) (same ∙ items-cells tracks splits place u good.kept uncut) one
-
--- the shift on the own track: its frames get the new link where they are put in, or where they are moved
-
-abbrev back_shift : ℕ → ℕ → ItemView → Shift
-back_shift own x g = record { own = own; x = x; y = x; new = Some g }
-
-join : (f : Cell → Cell) (front put after tail : List Cell) (x z : ℕ) → length front ≡ x → x + length after ≡ z → map f put ≡ after
-    → take z ((front ++ after) ++ tail) ++ map f (drop z ((front ++ after) ++ tail)) ≡ take x ((front ++ put) ++ tail) ++ map f (drop x ((front ++ put) ++ tail))
-join f front put after tail x z long sum same =
-    let all : length (front ++ after) ≡ z = omega (arith, length-append front after, long, sum) in
-    ap (λ (cs : List Cell). cs ++ map f (drop z ((front ++ after) ++ tail))) (take_at (front ++ after) tail z all)
-    ∙ (ap (λ (cs : List Cell). (front ++ after) ++ map f cs) (behind (front ++ after) tail z all)
-    ∙ (append_assoc front after (map f tail)
-    ∙ (ap (λ (cs : List Cell). front ++ (cs ++ map f tail)) (sym same)
-    ∙ (ap (λ (cs : List Cell). front ++ cs) (sym (map-append f put tail))
-    ∙ sym (ap (λ (cs : List Cell). take x cs ++ map f (drop x cs)) (append_assoc front put tail)
-    ∙ (ap (λ (cs : List Cell). cs ++ map f (drop x (front ++ (put ++ tail)))) (take_at front (put ++ tail) x long)
-    ∙ ap (λ (cs : List Cell). front ++ map f cs) (behind front (put ++ tail) x long))))))) where
-      behind : (ks ls : List Cell) (n : ℕ) → length ks ≡ n → drop n (ks ++ ls) ≡ ls
-      behind ks ls n e = drop-append-le n ks ls (omega (arith, e)) ∙ ap (λ (cs : List Cell). cs ++ ls) (drop_all n ks (omega (arith, e)))
-
-one_moved : (tracks : List TrackState) (splits : List Link) (g : ItemView) → map (moved_cell tracks splits) (cells_of (g ∷ [])) ≡ cells_of (with_link (moved_link tracks splits g.link) g ∷ [])
-one_moved tracks splits g = map-append (moved_cell tracks splits) (view_cells g) [] ∙ ap (λ (cs : List Cell). cs ++ []) (view-moved tracks splits g)
-
-own_reach : (tracks : List TrackState) (splits : List Link) (x : ℕ) (g : ItemView) (t : TrackState) → x ≤ length t.cells
-    → split_track (x + g.len) tracks splits (spliced_track t x x (with_link (moved_link tracks splits g.link) g ∷ [])) ≡ split_track x tracks splits (spliced_track t x x (g ∷ []))
-own_reach tracks splits x g t le =
-    ap (λ (cs : List Cell). record t { cells = cs; next_item = next_after_splice t.cells x x (next_past_all t.next_item (g ∷ [])); next_link = t.next_link + count_at_home splits t.number })
-    (join (moved_cell tracks splits) (take x (with_marks kept_or_dropped x x 0 t.cells)) (cells_of (g ∷ [])) (cells_of (with_link (moved_link tracks splits g.link) g ∷ []))
-    (map (renumbered (split_item t.cells x x) (next_past_all t.next_item (g ∷ []))) (drop x (with_marks kept_or_dropped x x 0 t.cells))) x (x + g.len)
-    (omega (arith, length-take x (with_marks kept_or_dropped x x 0 t.cells), length-marks kept_or_dropped x x 0 t.cells, le))
-    (omega (arith, length-cells_of (with_link (moved_link tracks splits g.link) g ∷ []))) (one_moved tracks splits g))
 
 -- what stands before an item is not the item
 
@@ -121,7 +78,7 @@ no_true false h e = cc
 item_apart : (table : Table) (t : TrackState) (i : ℕ) (v : ItemView) (x y : ℕ) → IsGood table t → Spot table t i v x y → 0 < x → (cell_at t.cells (x - 1)).item ≡ v.item → ⊥
 item_apart table t i v x y good s some e =
     let cut = cut_before table t i v x y good s some in
-    let apart = (both-true (ltb 0 x && ltb x (length t.cells)) (not (belong (cell_at t.cells (x - 1)) (cell_at t.cells x))) cut).1 in
+    let apart = (and_parts (ltb 0 x && ltb x (length t.cells)) (not (belong (cell_at t.cells (x - 1)) (cell_at t.cells x))) cut).1 in
     let here : (cell_at t.cells x).item ≡ v.item = ap (λ (c : Cell). c.item) (spot-head table t i v x y s) in
     no_true (same_number (cell_at t.cells (x - 1)).item (cell_at t.cells x).item) apart
     (ap (λ (o : Option ℕ). same_number o (cell_at t.cells x).item) e ∙ (ap (same_number v.item) here ∙ same-refl v.item))
@@ -178,7 +135,7 @@ own_back : (table : Table) (tracks : List TrackState) (splits : List Link) (t : 
     → IsWithinLimits (spliced_track t x x (with_link (moved_link tracks splits v.link) (reaching_back (cell_in v 0) n) ∷ []))
     → IsGood table (split_track (x + n) tracks splits (spliced_track t x x (with_link (moved_link tracks splits v.link) (reaching_back (cell_in v 0) n) ∷ [])))
 own_back table tracks splits t i v x y n good s some room before limits =
-    let same = own_reach tracks splits x (reaching_back (cell_in v 0) n) t (omega (arith, s.within, s.long)) in
+    let same = own-reach tracks splits x (reaching_back (cell_in v 0) n) t (omega (arith, s.within, s.long)) in
     let parts : AreParts table t x x (reaching_back (cell_in v 0) n ∷ []) = before-parts table t i v (reaching_back (cell_in v 0) n) x y n s some room before refl in
     let after = (stays-spliced table t x x (reaching_back (cell_in v 0) n ∷ []) good parts
     (same_limits tracks splits (x + n) x (spliced_track t x x (with_link (moved_link tracks splits v.link) (reaching_back (cell_in v 0) n) ∷ [])) (spliced_track t x x (reaching_back (cell_in v 0) n ∷ [])) same limits)).good in
@@ -224,10 +181,6 @@ one_back table ts splits own t i v x y n u r good here limits = by (eqb u.number
       (own_back table ts splits t i v x y n r.good r.spot r.some r.room r.before (subst IsWithinLimits same limits))
   by false e = other_back table ts splits own x (with_link (moved_link ts splits v.link) (reaching_back (cell_in v 0) n)) u good (eqb-false u.number own e) limits
 
-all_mapped : (P : TrackState → Type 0) (f : TrackState → TrackState) (ts : List TrackState) → All (λ (t : TrackState). P (f t)) ts → All P (map f ts)
-all_mapped P f [] h = λ k d lt. absurd (omega (arith, lt))
-all_mapped P f (t ∷ ts) h = All-cons P (f t) (map f ts) (all_head (λ (t : TrackState). P (f t)) t ts h) (all_mapped P f ts (all_tail (λ (t : TrackState). P (f t)) t ts h))
-
 all_back : (table : Table) (ts : List TrackState) (splits : List Link) (own : ℕ) (t : TrackState) (i : ℕ) (v : ItemView) (x y n : ℕ) → ReachesAmong table ts own t i v x y n → All (IsGood table) ts
     → too_long (all_moved (back_shift own x (with_link (moved_link ts splits v.link) (reaching_back (cell_in v 0) n))) ts) ≡ None
     → too_many (all_moved (back_shift own x (with_link (moved_link ts splits v.link) (reaching_back (cell_in v 0) n))) ts) ≡ None
@@ -235,8 +188,8 @@ all_back : (table : Table) (ts : List TrackState) (splits : List Link) (own : �
 all_back table ts splits own t i v x y n r good long many =
     let short = short-all (back_shift own x (with_link (moved_link ts splits v.link) (reaching_back (cell_in v 0) n))) ts long in
     let few = few-all (back_shift own x (with_link (moved_link ts splits v.link) (reaching_back (cell_in v 0) n))) ts many in
-    all_mapped (IsGood table) (split_track (x + n) ts splits) (all_moved (back_shift own x (with_link (moved_link ts splits v.link) (reaching_back (cell_in v 0) n))) ts)
-    (all_mapped (λ (u : TrackState). IsGood table (split_track (x + n) ts splits u)) (moved (back_shift own x (with_link (moved_link ts splits v.link) (reaching_back (cell_in v 0) n)))) ts
+    All-map (IsGood table) (split_track (x + n) ts splits) (all_moved (back_shift own x (with_link (moved_link ts splits v.link) (reaching_back (cell_in v 0) n))) ts)
+    (All-map (λ (u : TrackState). IsGood table (split_track (x + n) ts splits u)) (moved (back_shift own x (with_link (moved_link ts splits v.link) (reaching_back (cell_in v 0) n)))) ts
     (λ k d lt. one_back table ts splits own t i v x y n (get_or ts k d) r (good k d lt) (r.only k d lt) (record { frames = short k d lt; items = few k d lt })))
 
 limits_good : (table : Table) (us : List TrackState) (done : Done) → (too_long us ≡ None → too_many us ≡ None → All (IsGood table) us) → GoodAll table (within_limits us done)

@@ -1,6 +1,6 @@
 -- A ripple leaves good tracks.
 use Rattle.std.proofs.Common.{◌≡◌, ℕ, zero, suc, ◌+◌, ◌-◌, ◌<◌, ◌≤◌, ◌⊎◌, inl, inr, ℤ, pos, negsuc, Bool, true, false, cond, eqb, leb, ltb, ◌&&◌, ◌||◌, min, List, [], ◌∷◌, ◌++◌, All, length, get_or, Option, Some, None, refl, sym, ap, ◌∙◌, arith, subst}
-use Rattle.std.proofs.lemmas.Bool.{eq-eqb, eqb-true, leb-true, ltb-true}
+use Rattle.std.proofs.lemmas.Bool.{and_parts, eq-eqb, eqb-true, leb-true, ltb-true}
 use Rattle.frame_meaning.specs.declared.cells.Cell.{Cell}
 use Rattle.frame_meaning.specs.declared.cells.What.{What}
 use Rattle.frame_meaning.specs.declared.frames.Side.{Side}
@@ -39,7 +39,7 @@ use Rattle.edit_trim.proofs.RippleTracks.{all-stay, none-parts, own-stays}
 use Rattle.link_groups.proofs.Uncut.{EndsApart}
 use Rattle.track_laws.specs.Goods.{IsBounded, KeepsGood}
 use Rattle.track_laws.proofs.DeltaReach.{back-good}
-use Rattle.track_laws.proofs.DeltaSteps.{GoodAll, all-good, all-leave, both-true, for-good, found-spot, goes-after}
+use Rattle.track_laws.proofs.DeltaSteps.{GoodAll, all-good, all-leave, for-good, found-spot, goes-after}
 use Rattle.track_laws.proofs.Own.{found-good}
 use Rattle.track_laws.proofs.Shifting.{shift-good}
 
@@ -59,11 +59,11 @@ own_has own place n t number e =
 
 own_room : (own place n : ℕ) (ts : List TrackState) (t : TrackState) → track_numbered own ts ≡ Some t → have_room own place ts n ≡ true → length t.cells + n ≤ MAX_FRAMES
 own_room own place n [] t e h = absurd cc
-own_room own place n (u ∷ us) t e h = by (eqb u.number own) refl e (λ k. own_room own place n us t k (both-true (has_room own place n u) (have_room own place us n) h).1) where
+own_room own place n (u ∷ us) t e h = by (eqb u.number own) refl e (λ k. own_room own place n us t k (and_parts (has_room own place n u) (have_room own place us n) h).1) where
   by : (c : Bool) → eqb u.number own ≡ c → cond c (Some u) (track_numbered own us) ≡ Some t → (track_numbered own us ≡ Some t → length t.cells + n ≤ MAX_FRAMES) → length t.cells + n ≤ MAX_FRAMES
   by true f k later =
       let same : u ≡ t = cc in
-      subst (λ (w : TrackState). length w.cells + n ≤ MAX_FRAMES) same (own_has own place n u (eqb-true u.number own f) (both-true (has_room own place n u) (have_room own place us n) h).0)
+      subst (λ (w : TrackState). length w.cells + n ≤ MAX_FRAMES) same (own_has own place n u (eqb-true u.number own f) (and_parts (has_room own place n u) (have_room own place us n) h).0)
   by false f k later = later k
 
 -- a shift that puts these parts into the own track
@@ -99,7 +99,7 @@ head_later table ts own t i v x y n done o keeps =
 head_earlier : (table : Table) (ts : List TrackState) (own : ℕ) (t : TrackState) (i : ℕ) (v : ItemView) (x y n : ℕ) (done : Done) → Owned table ts own t i v x y → 0 < n
     → have_room own x ts n && has_before table (cell_at t.cells x).side n ≡ true → GoodAll table (shift_of own x x (reaching_back (cell_at (as_split x ts t).cells x) n ∷ []) done ts)
 head_earlier table ts own t i v x y n done o some e =
-    let b = both-true (have_room own x ts n) (has_before table (cell_at t.cells x).side n) e in
+    let b = and_parts (have_room own x ts n) (has_before table (cell_at t.cells x).side n) e in
     let side : (cell_at t.cells x).side ≡ v.first = ap (λ (c : Cell). c.side) (spot-head table t i v x y o.spot) ∙ side-head v in
     let has : has_before table v.first n ≡ true = subst (λ (d : Side What). has_before table d n ≡ true) side b.1 in
     let found : track_numbered t.number ts ≡ Some t = ap (λ (k : ℕ). track_numbered k ts) o.number ∙ o.found in
@@ -112,7 +112,7 @@ head_earlier table ts own t i v x y n done o some e =
 tail_later : (table : Table) (ts : List TrackState) (own : ℕ) (t : TrackState) (i : ℕ) (v : ItemView) (x y n : ℕ) (done : Done) → IsBounded table → Owned table ts own t i v x y → 0 < n
     → have_room own y ts n && has_after table (cell_at t.cells (y - 1)).side n ≡ true → GoodAll table (shift_of own y y (going_on (cell_at t.cells (y - 1)) n ∷ []) done ts)
 tail_later table ts own t i v x y n done bounded o some e =
-    let b = both-true (have_room own y ts n) (has_after table (cell_at t.cells (y - 1)).side n) e in
+    let b = and_parts (have_room own y ts n) (has_after table (cell_at t.cells (y - 1)).side n) e in
     let last = spot-last table t i v x y o.spot in
     let side : (cell_at t.cells (y - 1)).side ≡ later_side v.first (v.len - 1) = ap (λ (c : Cell). c.side) last in
     let has : has_after table (later_side v.first (v.len - 1)) n ≡ true = subst (λ (d : Side What). has_after table d n ≡ true) side b.1 in

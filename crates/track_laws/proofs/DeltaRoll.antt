@@ -1,6 +1,6 @@
 -- A roll leaves good tracks; and what stands beside record frames of a track.
 use Rattle.std.proofs.Common.{◌≡◌, ℕ, zero, suc, ◌+◌, ◌-◌, ◌<◌, ◌≤◌, ℤ, pos, negsuc, Bool, true, false, not, cond, ltb, ◌&&◌, List, [], ◌∷◌, take, length, get_or, Some, Err, refl, sym, ap, ◌∙◌, arith, slice_get, ⊎_elim}
-use Rattle.std.proofs.lemmas.Bool.{cases_lt, ltb-false, ltb-true}
+use Rattle.std.proofs.lemmas.Bool.{and_parts, cases_lt, ltb-false, ltb-true}
 use Rattle.std.proofs.lemmas.Option.{slice_get-get_or}
 use Rattle.frame_meaning.specs.declared.cells.Cell.{Cell}
 use Rattle.frame_meaning.specs.Cells.{belong, later_side}
@@ -26,7 +26,7 @@ use Rattle.edit_roll.specs.Rolling.{roll_cut, roll_named, roll_track, rolled, ro
 use Rattle.edit_roll.proofs.Beside.{no-cut-inside}
 use Rattle.edit_roll.proofs.Moves.{Around, around-of, roll-back, roll-on, same-moves}
 use Rattle.track_laws.specs.Goods.{IsBounded, KeepsGood}
-use Rattle.track_laws.proofs.DeltaSteps.{GoodOne, all-good, both-true, numbered-after, own-leaves, used-good}
+use Rattle.track_laws.proofs.DeltaSteps.{GoodOne, all-good, numbered-after, own-leaves, used-good}
 use Rattle.track_laws.proofs.DeltaTrim.{parts-good}
 
 -- the delta that is allowed between two neighbours fits
@@ -34,13 +34,13 @@ use Rattle.track_laws.proofs.DeltaTrim.{parts-good}
 pub fits-on : (table : Table) (t : TrackState) (x y : ℕ) (l r : ItemView) (n : ℕ) → IsBounded table → Around table t x y l r → move_allows table t x y (pos (suc n)) ≡ true → FitsBetween table l r (Later (suc n))
 fits-on table t x y l r n bounded a e =
     let f : fits_later table l r (suc n) ≡ true = same-moves table t x y l r (pos (suc n)) a ∙ e in
-    let b = both-true (ltb (suc n) r.len) (has_after table (later_side l.first (l.len - 1)) (suc n)) f in
+    let b = and_parts (ltb (suc n) r.len) (has_after table (later_side l.first (l.len - 1)) (suc n)) f in
     (omega arith, ltb-true (suc n) r.len b.0, b.1, numbered-after table l.first l.len (suc n) bounded a.left.filled b.1)
 
 pub fits-back : (table : Table) (t : TrackState) (x y : ℕ) (l r : ItemView) (n : ℕ) → Around table t x y l r → move_allows table t x y (negsuc n) ≡ true → FitsBetween table l r (Earlier (suc n))
 fits-back table t x y l r n a e =
     let f : fits_earlier table l r (suc n) ≡ true = same-moves table t x y l r (negsuc n) a ∙ e in
-    let b = both-true (ltb (suc n) l.len) (has_before table r.first (suc n)) f in
+    let b = and_parts (ltb (suc n) l.len) (has_before table r.first (suc n)) f in
     (omega arith, ltb-true (suc n) l.len b.0, b.1)
 
 -- what holds a place
@@ -89,13 +89,13 @@ neighbours-of table t x y from to good some before behind ends begins =
 
 cut_inside : (cells : List Cell) (p : ℕ) → is_cut cells p ≡ true → (0 < p) × (p < length cells)
 cut_inside cells p e =
-    let a = both-true (ltb 0 p && ltb p (length cells)) (not (belong (cell_at cells (p - 1)) (cell_at cells p))) e in
-    let b = both-true (ltb 0 p) (ltb p (length cells)) a.0 in
+    let a = and_parts (ltb 0 p && ltb p (length cells)) (not (belong (cell_at cells (p - 1)) (cell_at cells p))) e in
+    let b = and_parts (ltb 0 p) (ltb p (length cells)) a.0 in
     (ltb-true 0 p b.0, ltb-true p (length cells) b.1)
 
-some_index : (vs : List ItemView) (i p : ℕ) → 0 < p → p ≡ frames_in (take i vs) → 0 < i
-some_index vs zero p h e = absurd (omega (arith, h, e))
-some_index vs (suc i) p h e = omega arith
+pub some-index : (vs : List ItemView) (i p : ℕ) → 0 < p → p ≡ frames_in (take i vs) → 0 < i
+some-index vs zero p h e = absurd (omega (arith, h, e))
+some-index vs (suc i) p h e = omega arith
 
 differ : true ≡ false → ⊥
 differ e = cc
@@ -110,7 +110,7 @@ cut_at table t p good cut h =
     (λ (less : frames_in (take h.index (items_of t.cells)) < p). absurd (differ (sym cut ∙ no-cut-inside t p place good.kept stands less (omega (arith, h.ends, to)))))
     (λ (le : p ≤ frames_in (take h.index (items_of t.cells))).
     (let here : p ≡ frames_in (take h.index (items_of t.cells)) = omega (arith, le, h.begins) in
-    let some = some_index (items_of t.cells) h.index p (cut_inside t.cells p cut).0 here in
+    let some = some-index (items_of t.cells) h.index p (cut_inside t.cells p cut).0 here in
     neighbours-of table t p p h.index h.index good some (omega (arith, h.inside)) h.inside here here))
     (cases_lt (frames_in (take h.index (items_of t.cells))) p)
 

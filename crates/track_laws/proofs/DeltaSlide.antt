@@ -1,6 +1,6 @@
 -- A slide leaves good tracks.
-use Rattle.std.proofs.Common.{◌≡◌, ℕ, zero, suc, ◌+◌, ◌-◌, ◌<◌, ◌≤◌, ◌⊎◌, inl, inr, ℤ, pos, negsuc, true, ltb, List, [], ◌∷◌, take, length, None, ap, ◌∙◌, arith}
-use Rattle.std.proofs.lemmas.Bool.{cases_lt, ltb-true}
+use Rattle.std.proofs.Common.{◌≡◌, ℕ, suc, ◌+◌, ◌-◌, ◌<◌, ◌≤◌, ◌⊎◌, inl, inr, ℤ, pos, negsuc, true, ltb, [], ◌∷◌, length, None, ap, ◌∙◌, arith}
+use Rattle.std.proofs.lemmas.Bool.{and_parts, cases_lt, ltb-true}
 use Rattle.std.proofs.lemmas.List.{take_all}
 use Rattle.std.proofs.lemmas.Option.{slice_get_within}
 use Rattle.frame_meaning.specs.declared.cells.Cell.{Cell}
@@ -25,23 +25,19 @@ use Rattle.edit_roll.proofs.Slides.{slide-back, slide-on}
 use Rattle.link_groups.specs.LinkedItems.{item_of}
 use Rattle.track_laws.specs.Goods.{IsBounded, KeepsGood}
 use Rattle.track_laws.proofs.Own.{found-good}
-use Rattle.track_laws.proofs.DeltaSteps.{GoodOne, SpotOf, all-good, among-good, both-true, for-good, range-good, unless-good, used-good}
-use Rattle.track_laws.proofs.DeltaRoll.{Neighbours, fits-back, fits-on, neighbours-of}
+use Rattle.track_laws.proofs.DeltaSteps.{GoodOne, SpotOf, all-good, among-good, for-good, range-good, unless-good, used-good}
+use Rattle.track_laws.proofs.DeltaRoll.{Neighbours, fits-back, fits-on, neighbours-of, some-index}
 use Rattle.track_laws.proofs.DeltaTrim.{parts-good}
 
 -- the neighbours of an item
 
-some_before : (vs : List ItemView) (i x : ℕ) → 0 < x → x ≡ frames_in (take i vs) → 0 < i
-some_before vs zero x h e = absurd (omega (arith, h, e))
-some_before vs (suc i) x h e = omega arith
-
 item_beside : (table : Table) (t : TrackState) (i : ℕ) (v : ItemView) (x y : ℕ) → IsGood table t → Spot table t i v x y → has_neighbours t.cells x y ≡ true → Neighbours table t x y
 item_beside table t i v x y good s both =
-    let b = both-true (ltb 0 x) (ltb y (length t.cells)) both in
+    let b = and_parts (ltb 0 x) (ltb y (length t.cells)) both in
     let more : 0 < x = ltb-true 0 x b.0 in
     let less : y < length t.cells = ltb-true y (length t.cells) b.1 in
     let inside : i < length (items_of t.cells) = slice_get_within (items_of t.cells) i v s.read in
-    neighbours-of table t x y i (i + 1) good (some_before (items_of t.cells) i x more s.starts) (omega (arith, inside)) (after less (cases_lt (i + 1) (length (items_of t.cells)))) s.starts s.stops where
+    neighbours-of table t x y i (i + 1) good (some-index (items_of t.cells) i x more s.starts) (omega (arith, inside)) (after less (cases_lt (i + 1) (length (items_of t.cells)))) s.starts s.stops where
       after : y < length t.cells → (i + 1 < length (items_of t.cells)) ⊎ (length (items_of t.cells) ≤ i + 1) → i + 1 < length (items_of t.cells)
       after less (inl lt) = lt
       after less (inr le) = absurd (omega (arith, less, s.stops, ap frames_in (take_all (i + 1) (items_of t.cells) le), length-frames t good.kept))
@@ -57,7 +53,7 @@ bare_is table t i v x y s =
 slid_on_good : (table : Table) (t : TrackState) (i : ℕ) (v : ItemView) (x y n : ℕ) → IsBounded table → IsGood table t → Spot table t i v x y → slide_allows table t x y (pos (suc n)) ≡ true
     → IsWithinLimits (slid_later t x y (suc n)) → IsGood table (slid_later t x y (suc n))
 slid_on_good table t i v x y n bounded good s e limits =
-    let b = both-true (has_neighbours t.cells x y) (may_move_later table t x y (suc n)) e in
+    let b = and_parts (has_neighbours t.cells x y) (may_move_later table t x y (suc n)) e in
     let k = item_beside table t i v x y good s b.0 in
     parts-good table t x (y + suc n) (going_on (cell_at t.cells (x - 1)) (suc n) ∷ bare_item (cell_at t.cells x) (y - x) ∷ []) good
     (slide-on table t i v k.left k.right (going_on (cell_at t.cells (x - 1)) (suc n)) (bare_item (cell_at t.cells x) (y - x)) x y (suc n) good s k.around
@@ -67,7 +63,7 @@ slid_on_good table t i v x y n bounded good s e limits =
 slid_back_good : (table : Table) (t : TrackState) (i : ℕ) (v : ItemView) (x y n : ℕ) → IsGood table t → Spot table t i v x y → slide_allows table t x y (negsuc n) ≡ true
     → IsWithinLimits (slid_earlier t x y (suc n)) → IsGood table (slid_earlier t x y (suc n))
 slid_back_good table t i v x y n good s e limits =
-    let b = both-true (has_neighbours t.cells x y) (may_move_earlier table t x y (suc n)) e in
+    let b = and_parts (has_neighbours t.cells x y) (may_move_earlier table t x y (suc n)) e in
     let k = item_beside table t i v x y good s b.0 in
     parts-good table t (x - suc n) y (bare_item (cell_at t.cells x) (y - x) ∷ reaching_back (cell_at t.cells y) (suc n) ∷ []) good
     (slide-back table t i v k.left k.right (reaching_back (cell_at t.cells y) (suc n)) (bare_item (cell_at t.cells x) (y - x)) x y (suc n) good s k.around

@@ -1,6 +1,6 @@
 -- A slip leaves good tracks, of an item alone and of all that has its link.
 use Rattle.std.proofs.Common.{◌≡◌, ℕ, suc, ◌+◌, ◌-◌, ◌<◌, ◌≤◌, ◌^◌, ◌⊎◌, inl, inr, ℤ, pos, negsuc, Bool, true, false, cond, ◌&&◌, List, [], ◌∷◌, All, map, Option, Some, None, IfSome, slice_get, refl, sym, ap, ◌∙◌, arith, subst}
-use Rattle.std.proofs.lemmas.Bool.{leb-true, ltb-true}
+use Rattle.std.proofs.lemmas.Bool.{and_parts, ltb-true}
 use Rattle.std.proofs.lemmas.Option.{slice_get_within}
 use Rattle.frame_meaning.specs.declared.cells.Cell.{Cell}
 use Rattle.frame_meaning.specs.declared.cells.Link.{Link}
@@ -24,24 +24,22 @@ use Rattle.composables.specs.TrackFacts.{EachHolds, HasSource, first_mark, left_
 use Rattle.composables.specs.TrackSets.{tracks_in}
 use Rattle.composables.specs.TrackState.{TrackState}
 use Rattle.edit_delta.specs.Nearest.{nearest}
-use Rattle.edit_delta.specs.Reaching.{has_after, has_after_in, has_before, has_before_in}
+use Rattle.edit_delta.specs.Reaching.{has_after, has_after_in}
 use Rattle.edit_delta.proofs.Greatest.{is-nearest}
 use Rattle.edit_delta.proofs.Spots.{side-head, spot-head, spot-last}
 use Rattle.edit_splice.proofs.Standing.{all_head, all_tail, each-good}
 use Rattle.edit_trim.specs.LinkedSlips.{AllMove, EachMoves, ReachesBack, ShowsMoved}
 use Rattle.edit_trim.specs.Slipping.{each_linked, each_linked_on, item_may_slip_earlier, item_may_slip_later, link_allows, mark_of, may_slip_earlier, may_slip_later, shows_from, slip_allows, slip_link, slip_link_by, slip_named, slip_own, slip_range, slip_track, slip_with, slipped, slipped_by, track_moved}
 use Rattle.edit_trim.proofs.LinkedMoves.{all-stay}
+use Rattle.edit_trim.proofs.LinkedRooms.{Shows, shows-earlier, shows-moved}
 use Rattle.edit_trim.proofs.Slipped.{Ready, no-dark, ready}
 use Rattle.edit_trim.proofs.Slips.{Reaches, sourced-good, sourced-slipped}
 use Rattle.link_groups.specs.ItemLinks.{carries, link_of}
 use Rattle.track_laws.specs.Goods.{IsBounded, KeepsGood}
 use Rattle.track_laws.proofs.Own.{found-good}
-use Rattle.track_laws.proofs.DeltaSteps.{GoodAll, GoodOne, SpotOf, all-good, among-good, both-true, for-good, range-good, unless-good, used-good}
+use Rattle.track_laws.proofs.DeltaSteps.{GoodAll, GoodOne, SpotOf, all-good, among-good, for-good, range-good, unless-good, used-good}
 
 -- an item that shows its thing later, earlier, and as it did
-
-abbrev Shows : Table → Side What → ℕ → ℕ → ℕ → ℕ → ℕ → Type 0
-Shows table d len a b on back = ReachesBack d back × HasSource (moved d on back) len a b × SideLiesIn table (moved d on back) len a b
 
 shows_later : (table : Table) (d : Side What) (len a b n : ℕ) → IsBounded table → 0 < len → SideLiesIn table d len a b → HasSource d len a b
     → has_after table (later_side d (len - 1)) (b + n) ≡ true → Shows table d len a b n 0
@@ -54,23 +52,11 @@ shows_later table (Pic w s) len a b n bounded f l k e = by (bounds_of table w) (
       let lt : s + (len - 1) + (b + n) < q.1 = ltb-true (s + (len - 1) + (b + n)) q.1 e in
       (omega arith, (omega (arith, k.0), omega (arith, lt, g, f)), (omega (arith, h.0), omega (arith, lt, f)))
 
-shows_earlier : (table : Table) (d : Side What) (len a b n : ℕ) → SideLiesIn table d len a b → HasSource d len a b → has_before table d (a + n) ≡ true → Shows table d len a b 0 n
-shows_earlier table Dark len a b n l k e = (tt, tt, tt)
-shows_earlier table (Pic w s) len a b n l k e = by (bounds_of table w) e l where
-  by : (o : Option (ℕ × ℕ)) → has_before_in o s (a + n) ≡ true → LiesIn o s len a b → (n ≤ s) × ((a ≤ s + 0 - n) × (s + 0 - n + len + b ≤ 2 ^ 32)) × LiesIn o (s + 0 - n) len a b
-  by None e h = absurd h
-  by (Some q) e h =
-      let le : q.0 + (a + n) ≤ s = leb-true (q.0 + (a + n)) s e in
-      (omega (arith, le), (omega (arith, le), omega (arith, k.1)), (omega (arith, le), omega (arith, h.1)))
-
 shows_still : (table : Table) (d : Side What) (len a b : ℕ) → SideLiesIn table d len a b → HasSource d len a b → Shows table d len a b 0 0
 shows_still table Dark len a b l k = (tt, tt, tt)
 shows_still table (Pic w s) len a b l k =
     let same : s ≡ s + 0 - 0 = omega arith in
     (omega arith, subst (λ (m : ℕ). HasSource (Pic w m) len a b) same k, subst (λ (m : ℕ). SideLiesIn table (Pic w m) len a b) same l)
-
-shows_moved : (table : Table) (v : ItemView) (tail : Option Mark) (on back : ℕ) → Shows table v.first v.len (left_reach v.mark) (right_reach tail) on back → ShowsMoved table v tail on back
-shows_moved table v tail on back h = record { reaches = h.0; source = h.1; lies = h.2 }
 
 -- all that has a link
 
@@ -82,7 +68,7 @@ each_moves : (table : Table) (l : Link) (on back : ℕ) (holds : ItemView → Op
     → EachHolds vs → EachLiesIn table vs → each_linked l holds vs ≡ true → EachMoves table l vs on back
 each_moves table l on back holds [] f h r e = tt
 each_moves table l on back holds (v ∷ vs) f h r e =
-    let b = both-true (cond (carries l v.link) (holds v (first_mark vs)) true) (each_linked l holds vs) e in
+    let b = and_parts (cond (carries l v.link) (holds v (first_mark vs)) true) (each_linked l holds vs) e in
     (λ c. f v (first_mark vs) h.0.filled r.0 h.0.source (here (carries l v.link) c b.0), each_moves table l on back holds vs f h.1 r.1 b.1) where
       here : (q : Bool) → q ≡ true → cond q (holds v (first_mark vs)) true ≡ true → holds v (first_mark vs) ≡ true
       here true c k = k
@@ -92,18 +78,18 @@ all_move : (table : Table) (l : Link) (on back : ℕ) (holds : ItemView → Opti
     → All (IsGood table) ts → each_linked_on l holds ts ≡ true → AllMove table l ts on back
 all_move table l on back holds [] f g e = tt
 all_move table l on back holds (t ∷ ts) f g e =
-    let b = both-true (each_linked l holds (items_of t.cells)) (each_linked_on l holds ts) e in
+    let b = and_parts (each_linked l holds (items_of t.cells)) (each_linked_on l holds ts) e in
     let here = all_head (IsGood table) t ts g in
     (each_moves table l on back holds (items_of t.cells) f here.kept.each here.ranges b.0, all_move table l on back holds ts f (all_tail (IsGood table) t ts g) b.1)
 
 item_later : (table : Table) (n : ℕ) → IsBounded table → (v : ItemView) (tail : Option Mark) → Moves table v tail n 0 (item_may_slip_later table n)
-item_later table n bounded v tail f l k e = shows_moved table v tail n 0 (shows_later table v.first v.len (left_reach v.mark) (right_reach tail) n bounded f l k e)
+item_later table n bounded v tail f l k e = shows-moved table v tail n 0 (shows_later table v.first v.len (left_reach v.mark) (right_reach tail) n bounded f l k e)
 
 item_earlier : (table : Table) (n : ℕ) (v : ItemView) (tail : Option Mark) → Moves table v tail 0 n (item_may_slip_earlier table n)
-item_earlier table n v tail f l k e = shows_moved table v tail 0 n (shows_earlier table v.first v.len (left_reach v.mark) (right_reach tail) n l k e)
+item_earlier table n v tail f l k e = shows-moved table v tail 0 n (shows-earlier table v.first v.len (left_reach v.mark) (right_reach tail) n l k e)
 
 item_still : (table : Table) (v : ItemView) (tail : Option Mark) → Moves table v tail 0 0 (λ v tail. true)
-item_still table v tail f l k e = shows_moved table v tail 0 0 (shows_still table v.first v.len (left_reach v.mark) (right_reach tail) l k)
+item_still table v tail f l k e = shows-moved table v tail 0 0 (shows_still table v.first v.len (left_reach v.mark) (right_reach tail) l k)
 
 all_linked : (l : Link) (vs : List ItemView) → each_linked l (λ v tail. true) vs ≡ true
 all_linked l [] = refl
@@ -154,7 +140,7 @@ later_good table t p v s tail n bounded good r e =
     subst (λ (m : Option Mark). may_slip_later table (later_side v.first (v.len - 1)) m (suc n) ≡ true) r.behind
     (subst (λ (d : Side What). may_slip_later table d (cell_at t.cells p.to).mark (suc n) ≡ true) side e) in
     slipped_good table t p v s tail (suc n) 0 good r
-    (shows_moved table v tail (suc n) 0 (shows_later table v.first v.len (left_reach v.mark) (right_reach tail) (suc n) bounded r.spot.filled r.lies r.source has))
+    (shows-moved table v tail (suc n) 0 (shows_later table v.first v.len (left_reach v.mark) (right_reach tail) (suc n) bounded r.spot.filled r.lies r.source has))
 
 earlier_good : (table : Table) (t : TrackState) (p : Place) (v : ItemView) (s : ℕ) (tail : Option Mark) (n : ℕ) → IsGood table t → Ready table t p v s tail
     → slip_allows table t p.from p.to (negsuc n) ≡ true → IsGood table (slipped_by t p.from p.to 0 (suc n))
@@ -166,7 +152,7 @@ earlier_good table t p v s tail n good r e =
     subst (λ (m : Option Mark). may_slip_earlier table v.first m (suc n) ≡ true) mark
     (subst (λ (d : Side What). may_slip_earlier table d (cell_at t.cells p.from).mark (suc n) ≡ true) side e) in
     slipped_good table t p v s tail 0 (suc n) good r
-    (shows_moved table v tail 0 (suc n) (shows_earlier table v.first v.len (left_reach v.mark) (right_reach tail) (suc n) r.lies r.source has))
+    (shows-moved table v tail 0 (suc n) (shows-earlier table v.first v.len (left_reach v.mark) (right_reach tail) (suc n) r.lies r.source has))
 
 -- the item that was found is at a place, and shows a thing
 

@@ -1,5 +1,5 @@
 -- What calls by a delta leave of good tracks: on the own track, by the delta used, and of items where they are found.
-use Rattle.std.proofs.Common.{◌≡◌, ℕ, zero, suc, ◌+◌, ◌-◌, ◌<◌, ◌≤◌, ◌^◌, ◌⊎◌, inl, inr, ℤ, pos, negsuc, Bool, true, false, cond, ◌&&◌, List, [], ◌∷◌, All, take, Option, Some, None, IfSome, Result, Ok, Err, refl, sym, ap, arith, subst, slice_get}
+use Rattle.std.proofs.Common.{◌≡◌, ℕ, zero, suc, ◌+◌, ◌-◌, ◌<◌, ◌≤◌, ◌^◌, ◌⊎◌, inl, inr, ℤ, pos, negsuc, Bool, true, false, cond, List, [], ◌∷◌, All, take, Option, Some, None, IfSome, Result, Ok, Err, refl, sym, ap, arith, subst, slice_get}
 use Rattle.std.proofs.lemmas.Bool.{ltb-true}
 use Rattle.frame_meaning.specs.declared.cells.What.{What}
 use Rattle.frame_meaning.specs.declared.frames.Side.{Side}
@@ -90,11 +90,6 @@ used-good table t moved allowed by good later earlier = at (nearest allowed by) 
   at (pos (suc n)) (inr e) = within_good table (moved (pos (suc n))) (By (pos (suc n))) (later n e)
   at (negsuc n) (inl e) = absurd cc
   at (negsuc n) (inr e) = within_good table (moved (negsuc n)) (By (negsuc n)) (earlier n e)
-
-pub both-true : (a b : Bool) → (a && b) ≡ true → (a ≡ true) × (b ≡ true)
-both-true true true h = (refl, refl)
-both-true true false h = absurd cc
-both-true false b h = absurd cc
 
 -- source frames after an item's, in a table whose ranges end by 2^32
 

@@ -1,6 +1,6 @@
 -- A trim leaves good tracks.
 use Rattle.std.proofs.Common.{◌≡◌, ℕ, suc, ◌+◌, ◌-◌, ◌<◌, ◌≤◌, ℤ, true, leb, min, List, [], ◌∷◌, length, refl, sym, ap, ◌∙◌, arith, subst}
-use Rattle.std.proofs.lemmas.Bool.{leb-true, ltb-true}
+use Rattle.std.proofs.lemmas.Bool.{and_parts, leb-true, ltb-true}
 use Rattle.frame_meaning.specs.declared.cells.Cell.{Cell}
 use Rattle.frame_meaning.specs.declared.cells.What.{What}
 use Rattle.frame_meaning.specs.declared.frames.Side.{Side}
@@ -25,7 +25,7 @@ use Rattle.edit_splice.specs.Splicing.{spliced_track}
 use Rattle.edit_trim.specs.Darkness.{dark_before, dark_behind}
 use Rattle.edit_trim.specs.Trimming.{head_earlier, head_later, head_may_grow, tail_earlier, tail_later, tail_may_grow, trim_allows, trim_end, trim_named, trim_track, trimmed}
 use Rattle.track_laws.specs.Goods.{IsBounded, KeepsGood}
-use Rattle.track_laws.proofs.DeltaSteps.{GoodOne, all-good, both-true, goes-after, own-leaves, range-good, used-good}
+use Rattle.track_laws.proofs.DeltaSteps.{GoodOne, all-good, goes-after, own-leaves, range-good, used-good}
 
 -- parts of items in place of some frames
 pub parts-good : (table : Table) (t : TrackState) (x y : ℕ) (views : List ItemView) → IsGood table t → AreParts table t x y views → IsWithinLimits (spliced_track t x y views) → IsGood table (spliced_track t x y views)
@@ -48,8 +48,8 @@ head_down table t i v x y n good s keeps limits =
 head_up : (table : Table) (t : TrackState) (i : ℕ) (v : ItemView) (x y n : ℕ) → IsGood table t → Spot table t i v x y → head_may_grow table t x (suc n) ≡ true
     → IsWithinLimits (head_earlier t x (suc n)) → IsGood table (head_earlier t x (suc n))
 head_up table t i v x y n good s grows limits =
-    let a = both-true (dark_before t.cells x (suc n)) (has_before table (cell_at t.cells x).side (suc n)) grows in
-    let le : suc n ≤ x = leb-true (suc n) x (both-true (leb (suc n) x) _ a.0).0 in
+    let a = and_parts (dark_before t.cells x (suc n)) (has_before table (cell_at t.cells x).side (suc n)) grows in
+    let le : suc n ≤ x = leb-true (suc n) x (and_parts (leb (suc n) x) _ a.0).0 in
     let side : (cell_at t.cells x).side ≡ v.first = ap (λ (c : Cell). c.side) (spot-head table t i v x y s) ∙ side-head v in
     let has : has_before table v.first (suc n) ≡ true = subst (λ (d : Side What). has_before table d (suc n) ≡ true) side a.1 in
     parts-good table t (x - suc n) x (reaching_back (cell_at t.cells x) (suc n) ∷ []) good
@@ -59,8 +59,8 @@ head_up table t i v x y n good s grows limits =
 tail_up : (table : Table) (t : TrackState) (i : ℕ) (v : ItemView) (x y n : ℕ) → IsBounded table → IsGood table t → Spot table t i v x y → tail_may_grow table t y (suc n) ≡ true
     → IsWithinLimits (tail_later t y (suc n)) → IsGood table (tail_later t y (suc n))
 tail_up table t i v x y n bounded good s grows limits =
-    let a = both-true (dark_behind t.cells y (suc n)) (has_after table (cell_at t.cells (y - 1)).side (suc n)) grows in
-    let le : y + suc n ≤ MAX_FRAMES = leb-true (y + suc n) MAX_FRAMES (both-true (leb (y + suc n) MAX_FRAMES) _ a.0).0 in
+    let a = and_parts (dark_behind t.cells y (suc n)) (has_after table (cell_at t.cells (y - 1)).side (suc n)) grows in
+    let le : y + suc n ≤ MAX_FRAMES = leb-true (y + suc n) MAX_FRAMES (and_parts (leb (y + suc n) MAX_FRAMES) _ a.0).0 in
     let side : (cell_at t.cells (y - 1)).side ≡ later_side v.first (v.len - 1) = ap (λ (c : Cell). c.side) (spot-last table t i v x y s) in
     let has : has_after table (later_side v.first (v.len - 1)) (suc n) ≡ true = subst (λ (d : Side What). has_after table d (suc n) ≡ true) side a.1 in
     parts-good table t y (min (y + suc n) (length t.cells)) (going_on (cell_at t.cells (y - 1)) (suc n) ∷ []) good

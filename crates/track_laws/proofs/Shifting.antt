@@ -1,6 +1,5 @@
 -- Insert and extract: what moves on all named tracks, with links split, leaves them good.
-use Rattle.std.proofs.Common.{◌≡◌, ℕ, ◌+◌, ◌-◌, ◌<◌, ◌≤◌, Bool, true, false, cond, eqb, min, List, [], ◌∷◌, ◌++◌, All, length, map, Option, Some, None, Ok, refl, sym, ap, ◌∙◌, arith, subst, get_or}
-use Rattle.frame_meaning.specs.Render.{cell_at}
+use Rattle.std.proofs.Common.{◌≡◌, ℕ, ◌+◌, ◌-◌, ◌≤◌, Bool, true, false, cond, eqb, List, [], ◌∷◌, All, map, Option, Some, None, Ok, refl, sym, ap, ◌∙◌, arith, subst}
 use Rattle.composables.specs.declared.calls.Extract.{Extract}
 use Rattle.composables.specs.declared.calls.Insert.{Insert}
 use Rattle.composables.specs.declared.items.ItemView.{ItemView}
@@ -10,7 +9,6 @@ use Rattle.composables.specs.declared.refusals.Done.TheVariants.{Item, Plain}
 use Rattle.composables.specs.declared.refusals.Refusal.{Refusal}
 use Rattle.composables.specs.Answers.{unless}
 use Rattle.composables.specs.Good.{IsGood}
-use Rattle.composables.specs.Joined.{frames_in}
 use Rattle.composables.specs.Limits.{too_long, too_many, unless_over, within_limits}
 use Rattle.composables.specs.Links.{cells_from, link_outside, links_split, split_links}
 use Rattle.composables.specs.OwnTracks.{numbers_of, track_numbered, with_track}
@@ -18,23 +16,22 @@ use Rattle.composables.specs.Ranges.{range_of}
 use Rattle.composables.specs.TrackFacts.{IsKept}
 use Rattle.composables.specs.TrackSets.{tracks_in}
 use Rattle.composables.specs.TrackState.{TrackState}
-use Rattle.composables.specs.Views.{clip_view, gap_views}
+use Rattle.composables.specs.Views.{clip_view}
 use Rattle.edit_splice.specs.declared.shifting.Shift.{Shift}
 use Rattle.edit_splice.specs.Moves.{all_moved, moved}
 use Rattle.edit_splice.specs.Padding.{new_len, new_views, padded_track}
 use Rattle.edit_splice.specs.Shifts.{shift_of, shift_refusal, shifted}
 use Rattle.edit_splice.proofs.Bridging.{Rise, StaysMoved, extract-moved, insert-moved, is-numbered, only-one, tracks-rise}
 use Rattle.edit_splice.proofs.Firsts.{few-all, short-all}
-use Rattle.edit_splice.proofs.Moving.{frames-put}
+use Rattle.edit_splice.proofs.Moving.{frames_new}
 use Rattle.edit_insert.specs.Edits.{extracted, for_range, inserted}
 use Rattle.edit_insert.specs.Sources.{source_refusal}
-use Rattle.edit_insert.proofs.Inserts.{IsOwn, each-stays, extract-put, insert-put, shift_at, shift_out}
+use Rattle.edit_insert.proofs.Inserts.{IsOwn, each-stays, extract-put, insert-put, insert-uncut, out-long, out-uncut, shift_at, shift_out}
 use Rattle.edit_insert.proofs.Removals.{range-within}
 use Rattle.link_groups.specs.LinkedShifts.{linked_after, linked_refusal, linked_shift, split_items}
 use Rattle.link_groups.proofs.GoodShifts.{each-linked, shifted-good}
 use Rattle.link_groups.proofs.LinkedShifts.{EachUncut, long-same, many-same, split-moved}
-use Rattle.link_groups.proofs.Meant.{ends-new, outside-padded, uncut-moved}
-use Rattle.link_groups.proofs.Uncut.{EndsApart, cell-below, some_below}
+use Rattle.link_groups.proofs.Meant.{outside-padded}
 use Rattle.track_laws.specs.Goods.{IsBounded, ShiftingKeepsGood}
 use Rattle.track_laws.proofs.Own.{found-good, own-done}
 use Rattle.track_laws.proofs.Putting.{clip-there, none-refused}
@@ -43,10 +40,6 @@ use Rattle.track_laws.proofs.Putting.{clip-there, none-refused}
 
 kept_within : (table : Table) (s : Shift) (ts : List TrackState) → All (StaysMoved table s) ts → too_long (all_moved s ts) ≡ None → too_many (all_moved s ts) ≡ None → All (λ (t : TrackState). IsKept (moved s t)) ts
 kept_within table s ts stays long many k d lt = (stays k d lt (record { frames = short-all s ts long k d lt; items = few-all s ts many k d lt })).good.kept
-
-len_new : (o : Option ItemView) → frames_in (new_views o) ≡ new_len o
-len_new None = refl
-len_new (Some v) = omega arith
 
 shift_items : (table : Table) (s : Shift) (done : Done) (ts : List TrackState) → s.x ≤ s.y → All (StaysMoved table s) ts → EachUncut s ts
     → within_limits (cond (eqb (new_len s.new) (s.y - s.x)) (all_moved s ts) (links_split s.x (s.x + new_len s.new) (all_moved s ts))) done
@@ -73,7 +66,7 @@ shift_meant : (table : Table) (s : Shift) (done : Done) (ts named : List TrackSt
     → link_outside named (cells_from s.y named) ≡ link_outside ts (cells_from s.y ts) → s.x ≤ s.y → All (StaysMoved table s) ts → EachUncut s ts
     → shift_of s.own s.x s.y (new_views s.new) done named ≡ linked_shift s (s.x + new_len s.new) done ts
 shift_meant table s done ts named same outside order stays uncut =
-    ap (λ (n : ℕ). unless (shift_refusal s.x s.y n named) (within_limits (cond (eqb n (s.y - s.x)) (shifted s.own s.x s.y (new_views s.new) named) (links_split s.x (s.x + n) (shifted s.own s.x s.y (new_views s.new) named))) done)) (len_new s.new)
+    ap (λ (n : ℕ). unless (shift_refusal s.x s.y n named) (within_limits (cond (eqb n (s.y - s.x)) (shifted s.own s.x s.y (new_views s.new) named) (links_split s.x (s.x + n) (shifted s.own s.x s.y (new_views s.new) named))) done)) (frames_new s.new)
     ∙ (ap (λ (us : List TrackState). unless (shift_refusal s.x s.y (new_len s.new) named) (within_limits (cond (eqb (new_len s.new) (s.y - s.x)) us (links_split s.x (s.x + new_len s.new) us)) done)) same
     ∙ (ap (λ (r : Option Refusal). unless (cond (eqb (new_len s.new) (s.y - s.x)) None r) (within_limits (cond (eqb (new_len s.new) (s.y - s.x)) (all_moved s ts) (links_split s.x (s.x + new_len s.new) (all_moved s ts))) done)) outside
     ∙ ap (unless (linked_refusal s ts)) (shift_items table s done ts order stays uncut)))
@@ -90,23 +83,6 @@ shift-good table s done d ts named us same outside order good stays uncut k =
 owned : (n tracks : ℕ) (ts : List TrackState) (own : TrackState) → numbers_of ts ≡ tracks_in tracks → track_numbered n ts ≡ Some own → IsOwn n ts own
 owned n tracks ts own names found = record { found = found; number = is-numbered n ts own found; only = only-one n ts own (subst Rise (sym names) (tracks-rise tracks)) found }
 
--- what an insert puts in ends with an item that is new to the track
-insert_uncut : (table : Table) (c : Insert) (ts : List TrackState) (own : TrackState) → IsOwn c.track ts own → 0 < c.len → All (IsGood table) ts
-    → EachUncut (shift_at c (clip_view own.next_item c.what c.from c.len)) ts
-insert_uncut table c ts own o some good k d lt after =
-    uncut-moved (shift_at c (clip_view own.next_item c.what c.from c.len)) (get_or ts k d) (good k d lt).kept (omega arith) on_own after where
-      v : ItemView
-      v = clip_view own.next_item c.what c.from c.len
-
-      on_own : (get_or ts k d).number ≡ c.track
-          → EndsApart (get_or ts k d) (min c.at (length (get_or ts k d).cells)) (gap_views (c.at - length (get_or ts k d).cells) ++ new_views (Some (clip_view own.next_item c.what c.from c.len)))
-      on_own e =
-          let here : get_or ts k d ≡ own = o.only k d lt e in
-          let next : own.next_item ≡ (get_or ts k d).next_item = ap (λ (t : TrackState). t.next_item) (sym here) in
-          ends-new (get_or ts k d) (min c.at (length (get_or ts k d).cells)) (c.at - length (get_or ts k d).cells) own.next_item (clip_view own.next_item c.what c.from c.len) some refl
-          (λ is. omega (arith, next, some_below (cell_at (get_or ts k d).cells (min c.at (length (get_or ts k d).cells))).item (get_or ts k d).next_item own.next_item (cell-below (get_or ts k d) (min c.at (length (get_or ts k d).cells)) (good k d lt).kept) is))
-          (λ is. omega (arith, is, next))
-
 insert_good : (table : Table) (c : Insert) (ts us : List TrackState) (own : TrackState) (done : Done) → IsBounded table → numbers_of ts ≡ tracks_in c.tracks → All (IsGood table) ts → IsOwn c.track ts own
     → inserted table c ts own ≡ Ok (us, done) → All (IsGood table) us
 insert_good table c ts us own done bounded names good o k =
@@ -120,29 +96,16 @@ insert_good table c ts us own done bounded names good o k =
     shift-good table (shift_at c (clip_view own.next_item c.what c.from c.len)) (Item own.next_item) done ts (with_track ts (padded_track own c.at)) us
     (insert-moved (shift_at c (clip_view own.next_item c.what c.from c.len)) ts own (subst Rise (sym names) (tracks-rise c.tracks)) o.found kept refl)
     (outside-padded ts own c.at c.at (subst (λ (n : ℕ). All (λ (t : TrackState). t.number ≡ n → t ≡ own) ts) (sym o.number) o.only))
-    (omega arith) good stays (insert_uncut table c ts own o clip.filled good) r.1
+    (omega arith) good stays (insert-uncut table c ts own (clip_view own.next_item c.what c.from c.len) own.next_item o clip.filled refl refl good) r.1
 
 extract_good : (table : Table) (c : Extract) (ts us : List TrackState) (own : TrackState) (done : Done) → All (IsGood table) ts → IsOwn c.track ts own → extracted c ts own ≡ Ok (us, done) → All (IsGood table) us
 extract_good table c ts us own done good o k = by (range_of own.cells c.item) refl k where
   by : (r : Option (ℕ × ℕ)) → range_of own.cells c.item ≡ r → for_range (λ x y. shift_of c.track x y [] Plain ts) r ≡ Ok (us, done) → All (IsGood table) us
   by None e k = absurd (Prim.grind (arith, k))
   by (Some (x, y)) e k =
-      shift-good table (shift_out c x y) Plain done ts ts us (extract-moved (shift_out c x y) ts long) refl within.0 good (each-stays table (shift_out c x y) ts within.0 good (extract-put table c ts x y)) uncut k where
-        within : (x ≤ y) × (y ≤ length own.cells)
-        within = range-within own c.item x y (found-good table c.track ts own good o.found).kept e
-
-        has : (k : ℕ) (d : TrackState) → k < length ts → (get_or ts k d).number ≡ c.track → (x ≤ length (get_or ts k d).cells) × (y ≤ length (get_or ts k d).cells)
-        has k d lt n =
-            let l : length (get_or ts k d).cells ≡ length own.cells = ap (λ (t : TrackState). length t.cells) (o.only k d lt n) in
-            (omega (arith, within.0, within.1, l), omega (arith, within.1, l))
-
-        long : All (λ (t : TrackState). t.number ≡ c.track → (x ≤ length t.cells) × (y ≤ length t.cells)) ts
-        long k d lt n = has k d lt n
-
-        uncut : EachUncut (shift_out c x y) ts
-        uncut k d lt after =
-            uncut-moved (shift_out c x y) (get_or ts k d) (good k d lt).kept within.0
-            (λ n some. absurd (omega (arith, some, frames-put (x - length (get_or ts k d).cells) None, (has k d lt n).0))) after
+      let within = range-within own c.item x y (found-good table c.track ts own good o.found).kept e in
+      shift-good table (shift_out c x y) Plain done ts ts us (extract-moved (shift_out c x y) ts (out-long c ts own x y o within)) refl within.0 good
+      (each-stays table (shift_out c x y) ts within.0 good (extract-put table c ts x y)) (out-uncut table c ts own x y o within good) k
 
 pub shifting-keeps : ShiftingKeepsGood
 shifting-keeps = record {

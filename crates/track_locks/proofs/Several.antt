@@ -40,15 +40,6 @@ within [] k x h = absurd (Prim.grind (arith, h))
 within (y ∷ xs) zero x h = omega arith
 within (y ∷ xs) (suc k) x h = let r = within xs k x h in omega (arith, r)
 
-pub none_held : {O P C D R : Type 0} (meaning : O → Meaning P C D R) (opens : O → List P → Type 0) (opening : Option (Opening O P)) (ns : List ℕ) (ps : List P) (vs : List ℕ) (ss : List (Known O P C))
-    → ns ≡ [] → ps ≡ [] → vs ≡ [] → ss ≡ [] → AreHomes meaning opens opening ns ps vs ss
-none_held {O} {P} {C} meaning opens opening ns ps vs ss a b c d = record {
-  parts = ap length b ∙ sym (ap length a);
-  versions = ap length c ∙ sym (ap length a);
-  seats = ap length d ∙ sym (ap length a);
-  each = λ k n p v s at pt vt st. let e : slice_get [] k ≡ Some n = subst (λ (l : List ℕ). slice_get l k ≡ Some n) a at in absurd (Prim.grind (arith, e));
-}
-
 at_front : {A : Type 0} (xs : List A) (x y : A) (k n : ℕ) → length xs ≡ n → k < n → slice_get (xs ++ x ∷ []) k ≡ Some y → slice_get xs k ≡ Some y
 at_front xs x y k n same lt e =
     ⊎_elim (λ (f : slice_get xs k ≡ Some y). f) (λ (b : (k ≡ length xs) × (x ≡ y)). absurd (omega (arith, b.0, same, lt))) (get_back xs x y k e)

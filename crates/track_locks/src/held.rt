@@ -91,7 +91,7 @@ impl<'a, O: PartObject, J: Naming<O, O::Part>> Held<'a, O, J> {
         one_more(&mut self.versions);
     }
 
-    /// Puts each part with its seat back into its lock.
+    /// Puts each part with its seat back into its lock. No clause says that it is found there again.
     pub fn release<R: Wait>(self, rt: &R)
         requires homes { AreHomes O.meaning O.opens J.opening self.numbers self.parts self.versions
             self.seats }

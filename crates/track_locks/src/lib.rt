@@ -12,6 +12,3 @@ mod tracks;
 
 pub use held::Held;
 pub use tracks::Tracks;
-
-#[cfg(test)]
-mod tests;

@@ -28,7 +28,7 @@ impl<O: PartObject, J: Naming<O, O::Part>> Model for Tracks<O, J> {
 }
 
 impl<O: PartObject, J: Naming<O, O::Part>> Tracks<O, J> {
-    /// A lock for each part of the journal's opening, with its seat.
+    /// A lock for each part of the journal's opening, with its seat. Its clause says how many.
     pub fn new(
         alloc: Global,
         object: &O,
@@ -58,8 +58,8 @@ impl<O: PartObject, J: Naming<O, O::Part>> Tracks<O, J> {
         Ok(Tracks { places })
     }
 
-    /// Waits for the locks of the parts of a set, bit n for the part n, and takes them in ascending order. Its memory is
-    /// taken before the first lock.
+    /// Waits for the locks of the parts of a set, bit n for the part n, and holds these parts, in ascending order. No clause
+    /// says that the locks are taken in this order, and the memory before the first, so that an `Err` holds no lock.
     pub fn hold<R: Wait>(&self, rt: &R, alloc: Global, set: u32) -> Result<Held<'_, O, J>, Memory>
         ensures numbers { IfOk result (λ h. h.numbers ≡ members self.now set) }
         ensures few { IfOk result (λ h. length h.numbers ≤ 32) }

@@ -7,7 +7,7 @@ use Rattle.edit_splice.proofs.counting.count_after.Goals as goal
 
 pub count_by-requires : goal.count_by-requires
 count_by-requires g c =
-    omega (arith, left-within c.args.track.now.cells c.args.x c.seams_of-seams.result.left c.seams_of-seams.ensures.seams.left, length-items_of c.args.track.now.cells, c.length.ensures.kept.short)
+    omega (arith, left-within c.args.track.now.cells c.args.x c.seams_of-seams.result.left c.seams_of-seams.ensures.seams.left, length-items_of c.args.track.now.cells, c.a_track_is_kept.ensures.short)
 
 pub count_past-past-requires : goal.count_past-past-requires
 count_past-past-requires g c = right-within c.args.track.now.cells c.args.y c.count.result c.seams_of-seams.result.right c.seams_of-seams.ensures.seams.right c.count.ensures
@@ -19,7 +19,7 @@ total-requires g c =
       length-items_of (spliced_track c.args.track.now c.args.x c.args.y c.args.items.now).cells,
       c.requires.short,
       counted c.args.track.now c.args.x c.args.y c.number_past_all-fresh.result c.count.result c.count_by.result c.begun-between.result c.count_past-past.result c.seams_of-seams.result c.split_number-split.result
-          c.number_of.result c.back_number.result c.args.items.now c.length.ensures.kept c.requires.order c.requires.filled c.seams_of-seams.ensures.seams
+          c.number_of.result c.back_number.result c.args.items.now c.a_track_is_kept.ensures c.requires.order c.requires.filled c.seams_of-seams.ensures.seams
           (c.number_past_all-fresh.ensures ∙ ap (λ (k : ℕ). next_past_all k c.args.items.now) c.next_item.ensures) c.split_number-split.ensures c.count.ensures c.number_of.ensures c.back_number.ensures
           c.count_by.ensures c.begun-between.ensures.begun c.count_past-past.ensures,
     )
@@ -28,6 +28,6 @@ pub returns-clause-count : goal.returns-clause-count
 returns-clause-count g c =
     c.total.ensures
     ∙ counted c.args.track.now c.args.x c.args.y c.number_past_all-fresh.result c.count.result c.count_by.result c.begun-between.result c.count_past-past.result c.seams_of-seams.result c.split_number-split.result
-    c.number_of.result c.back_number.result c.args.items.now c.length.ensures.kept c.requires.order c.requires.filled c.seams_of-seams.ensures.seams
+    c.number_of.result c.back_number.result c.args.items.now c.a_track_is_kept.ensures c.requires.order c.requires.filled c.seams_of-seams.ensures.seams
     (c.number_past_all-fresh.ensures ∙ ap (λ (k : ℕ). next_past_all k c.args.items.now) c.next_item.ensures) c.split_number-split.ensures c.count.ensures c.number_of.ensures c.back_number.ensures
     c.count_by.ensures c.begun-between.ensures.begun c.count_past-past.ensures

@@ -14,7 +14,7 @@ loop-index-preserved g c =
       | then-carries w ↦ record {
         room =
             subst (RoomFront c.args.table.now c.args.link (c.loop-index.index + 1) (items_of c.args.track.now.cells)) (sym w.room-is)
-            (front-met c.args.table.now c.args.link c.loop-index.index (items_of c.args.track.now.cells) c.in-Some.view _ c.loop-index.room w.room_at.result w.narrower-room.result read (sym c.carries.ensures ∙ w.if-carries.true) refl w.narrower-room.ensures.earlier w.narrower-room.ensures.later c.loop-index.invariant.room w.room_at.ensures);
+            (front-met c.args.table.now c.args.link c.loop-index.index (items_of c.args.track.now.cells) c.in-Some.view _ c.loop-index.room w.room_to_slip.result w.narrower-room.result read (sym c.carries.ensures ∙ w.if-carries.true) refl w.narrower-room.ensures.earlier w.narrower-room.ensures.later c.loop-index.invariant.room w.room_to_slip.ensures);
         from = omega (arith, c.loop-index.invariant.from, c.tick.ensures);
         most = omega (arith, c.loop-index.invariant.most, c.tick.ensures);
       }

@@ -6,5 +6,5 @@ use Rattle.json_tree.proofs.writing.write.Goals as goal
 
 pub returns-clause-spelled : goal.returns-clause-spelled
 returns-clause-spelled c =
-    spelled_again (tree_of c.args.tree.now) 64 c.put_tree.new.out.items c.requires c.is_sound.ensures
+    spelled_again (tree_of c.args.tree.now) 64 c.put_tree.new.out.items c.requires c.keeps_utf8_and_least_places.ensures
     (c.in_ok-put_tree.ensures ∙ ap (λ l. l ++ tree_text (tree_of c.args.tree.now)) c.new-out.ensures.items)

@@ -8,7 +8,7 @@ use Rattle.link_groups.proofs.splits.add_linked.Goals as goal
 use Rattle.link_groups.proofs.splits.add_linked.Goals.{then-max-min+in_ok-add_link, else-max-min}
 
 pub overflow_add-end : goal.overflow_add-end
-overflow_add-end g c = omega (arith, c.loop-index.invariant.at, frames-within c.args.track.now c.loop-index.index c.length.ensures.kept)
+overflow_add-end g c = omega (arith, c.loop-index.invariant.at, frames-within c.args.track.now c.loop-index.index c.a_track_is_kept.ensures)
 
 pub loop-index-preserved : goal.loop-index-preserved
 loop-index-preserved g c =

@@ -1,4 +1,4 @@
-use Rattle.std.proofs.Common.{ap, sym, ◌∙◌, arith}
+use Rattle.std.proofs.Common.{ap, sym, ◌∙◌}
 use Rattle.json_tree.specs.Tree.{last_named}
 use Rattle.json_tree.specs.View.{tree_of}
 use Rattle.json_tree.specs.Size.{named_size}

@@ -1,4 +1,0 @@
-use Rattle.cut_room.proofs.room_tests.closed_once.Given as goal
-
-abbrev pub ghosts-closed : goal.ghosts-closed
-ghosts-closed a = record { table = a.blank.table; opening = a.blank.opening; stations = a.blank.stations }

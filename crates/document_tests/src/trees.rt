@@ -1,0 +1,456 @@
+use json_tree::{
+    Items, Json, JsonFault, MOST_BYTES, Member, Members, Text, Value, WriteFault, is_writable,
+    read, write, write_behind,
+};
+use std::alloc::{AllocError, Global};
+use std::test::Fail;
+
+/// A tree as text, each value with its place before it, down to a few levels.
+fn show(alloc: Global, out: &mut String, tree: &Json, levels: u32) -> Result<(), AllocError> {
+    if levels == 0 {
+        return out.push_str("..");
+    }
+    out.push_str(format!(in alloc; "{}", tree.at)?.as_str())?;
+    match &tree.value {
+        Value::Null => out.push_str("n"),
+        Value::Bool(true) => out.push_str("t"),
+        Value::Bool(false) => out.push_str("f"),
+        Value::Numeral(n) => {
+            out.push_str(format!(in alloc; "#{}/{}", n.mantissa, n.places)?.as_str())
+        }
+        Value::Wide => out.push_str("wide"),
+        Value::Text(text) => show_text(out, text),
+        Value::List(items) => {
+            out.push_str("[")?;
+            for item in items.as_slice() {
+                show(alloc, out, item, levels - 1)?;
+                out.push_str(" ")?;
+            }
+            out.push_str("]")
+        }
+        Value::Object(members) => {
+            out.push_str("{")?;
+            for member in members.as_slice() {
+                show_text(out, &member.name)?;
+                show(alloc, out, &member.value, levels - 1)?;
+                out.push_str(" ")?;
+            }
+            out.push_str("}")
+        }
+    }
+}
+
+fn show_text(out: &mut String, text: &Text) -> Result<(), AllocError> {
+    out.push_str("'")?;
+    out.push_str(text.as_str())?;
+    out.push_str("'")
+}
+
+/// What reading the bytes gives, as text.
+fn reading(alloc: Global, bytes: &[u8]) -> Result<String, AllocError> {
+    match read(alloc, bytes) {
+        Ok(tree) => {
+            let mut out = String::new(alloc);
+            show(alloc, &mut out, &tree, 5)?;
+            Ok(out)
+        }
+        Err(JsonFault::Syntax(at)) => format!(in alloc; "syntax {at}"),
+        Err(JsonFault::Depth(at)) => format!(in alloc; "depth {at}"),
+        Err(JsonFault::NotUtf8(at)) => format!(in alloc; "utf8 {at}"),
+        Err(JsonFault::TooLarge) => String::from_str(alloc, "too large"),
+        Err(JsonFault::Memory) => String::from_str(alloc, "memory"),
+    }
+}
+
+/// Texts, each with the tree that is read of it.
+const VALUES: [(&str, &str); 12] = [
+    ("null", "0n"),
+    ("true", "0t"),
+    (" \t\r\nfalse \t\r\n", "4f"),
+    ("\"\"", "0''"),
+    ("[]", "0[]"),
+    ("[ ]", "0[]"),
+    ("{}", "0{}"),
+    ("{\t}", "0{}"),
+    ("[1,2]", "0[1#1/0 3#2/0 ]"),
+    ("[ 1 , [ ] ]", "0[2#1/0 6[] ]"),
+    ("{\"a\":1,\"a\":2}", "0{'a'5#1/0 'a'11#2/0 }"),
+    (" { \"a\" : [ { } , null ] } ", "1{'a'9[11{} 17n ] }"),
+];
+
+#[test]
+fn values_and_blanks(rt: HostRuntime) -> Result<(), Fail> {
+    for (text, want) in VALUES {
+        let got = reading(rt.alloc(), text.as_bytes())?;
+        assert_eq!(rt; got.as_str(), want, "at {text}");
+    }
+    Ok(())
+}
+
+/// Texts that are refused, each with its fault and the place.
+const FAULTS: [(&str, &str); 32] = [
+    ("", "syntax 0"),
+    ("  ", "syntax 2"),
+    ("nul", "syntax 3"),
+    ("nulx", "syntax 3"),
+    ("nullx", "syntax 4"),
+    ("null null", "syntax 5"),
+    ("[1,]", "syntax 3"),
+    ("[,1]", "syntax 1"),
+    ("[1 2]", "syntax 3"),
+    ("[1}", "syntax 2"),
+    ("[", "syntax 1"),
+    ("[1", "syntax 2"),
+    ("[1,", "syntax 3"),
+    ("{\"a\"}", "syntax 4"),
+    ("{\"a\":}", "syntax 5"),
+    ("{\"a\":1,}", "syntax 7"),
+    ("{a:1}", "syntax 1"),
+    ("{1:1}", "syntax 1"),
+    ("{,}", "syntax 1"),
+    ("{\"a\" 1}", "syntax 5"),
+    ("{\"a\":1]", "syntax 6"),
+    ("'a'", "syntax 0"),
+    ("\u{feff}null", "syntax 0"),
+    ("[\u{e9}]", "syntax 1"),
+    ("01", "syntax 1"),
+    ("-", "syntax 1"),
+    ("+1", "syntax 0"),
+    ("1.e1", "syntax 2"),
+    ("[1.5.5]", "syntax 4"),
+    ("\"a", "syntax 2"),
+    ("\"\\x\"", "syntax 2"),
+    ("\"\\ud800\\n\"", "syntax 1"),
+];
+
+#[test]
+fn faults_have_their_places(rt: HostRuntime) -> Result<(), Fail> {
+    for (text, want) in FAULTS {
+        let got = reading(rt.alloc(), text.as_bytes())?;
+        assert_eq!(rt; got.as_str(), want, "at {text}");
+    }
+    Ok(())
+}
+
+#[test]
+fn bytes_that_are_not_utf8(rt: HostRuntime) -> Result<(), Fail> {
+    let table: [(&[u8], &str); 5] = [
+        (b"\"\x80\"", "utf8 1"),
+        (b"\xff", "syntax 0"),
+        (b"[\"\", \"\xfe\"]", "utf8 6"),
+        (b"{\"\xc0\x80\":1}", "utf8 2"),
+        (b"{\"a\":\"\xe2\n\"}", "utf8 6"),
+    ];
+    for (bytes, want) in table {
+        let got = reading(rt.alloc(), bytes)?;
+        assert_eq!(rt; got.as_str(), want);
+    }
+    Ok(())
+}
+
+#[test]
+fn a_document_cut_at_any_byte(rt: HostRuntime) -> Result<(), Fail> {
+    let text = "{\"a\u{e9}\\n\\ud83d\\ude00\": [1, null ,{\"b\":\"\\u00e9\"}, -0.5e+3]}";
+    for cut in 0..text.len() {
+        let got = reading(rt.alloc(), &text.as_bytes()[..cut])?;
+        let want = format!(in rt.alloc(); "syntax {cut}")?;
+        assert_eq!(rt; got.as_str(), want.as_str(), "cut at {cut}");
+    }
+    Ok(())
+}
+
+/// What opens a level and what closes it.
+type Brackets = (&'static str, &'static str);
+
+const LIST: Brackets = ("[", "]");
+
+const OBJECT: Brackets = ("{\"a\":", "}");
+
+/// So many levels around a 1, in turn of the one kind and of the other.
+fn nested(alloc: Global, levels: u32, even: Brackets, odd: Brackets) -> Result<String, AllocError> {
+    let mut out = String::new(alloc);
+    for level in 0..levels {
+        out.push_str(if level % 2 == 0 { even.0 } else { odd.0 })?;
+    }
+    out.push_str("1")?;
+    for level in (0..levels).rev() {
+        out.push_str(if level % 2 == 0 { even.1 } else { odd.1 })?;
+    }
+    Ok(out)
+}
+
+/// Why so many levels are refused; nothing where they are read.
+fn fault_of_levels(
+    alloc: Global,
+    levels: u32,
+    even: Brackets,
+    odd: Brackets,
+) -> Result<Option<JsonFault>, AllocError> {
+    let text = nested(alloc, levels, even, odd)?;
+    match read(alloc, text.as_bytes()) {
+        Ok(_) => Ok(None),
+        Err(fault) => Ok(Some(fault)),
+    }
+}
+
+#[test]
+fn sixty_four_levels(rt: HostRuntime) -> Result<(), Fail> {
+    let alloc = rt.alloc();
+    assert!(rt; fault_of_levels(alloc, 64, LIST, LIST)?.is_none());
+    assert!(rt; fault_of_levels(alloc, 64, OBJECT, OBJECT)?.is_none());
+    assert!(rt; fault_of_levels(alloc, 64, LIST, OBJECT)?.is_none());
+    let lists = fault_of_levels(alloc, 65, LIST, LIST)?;
+    assert_eq!(rt; lists, Some(JsonFault::Depth(64)));
+    let objects = fault_of_levels(alloc, 65, OBJECT, OBJECT)?;
+    assert_eq!(rt; objects, Some(JsonFault::Depth(320)));
+    let both = fault_of_levels(alloc, 65, LIST, OBJECT)?;
+    assert_eq!(rt; both, Some(JsonFault::Depth(192)));
+    Ok(())
+}
+
+#[test]
+fn texts_and_numerals_in_a_tree(rt: HostRuntime) -> Result<(), Fail> {
+    for (text, want) in [
+        ("{\"\\u0061\":1}", "0{'a'10#1/0 }"),
+        ("\"\\ud83d\\ude00\\n\"", "0'\u{1f600}\n'"),
+        ("[-1.50e3,1e99]", "0[1#-1500/0 9wide ]"),
+        ("[0.999999999999999999]", "0[1#999999999999999999/18 ]"),
+        ("999999999999999999", "0#999999999999999999/0"),
+        ("1000000000000000000", "0wide"),
+    ] {
+        let got = reading(rt.alloc(), text.as_bytes())?;
+        assert_eq!(rt; got.as_str(), want, "at {text}");
+    }
+    Ok(())
+}
+
+/// A byte, so many times.
+fn repeated(alloc: Global, out: &mut Vec<u8>, byte: u8, count: usize) -> Result<(), AllocError> {
+    let all = vec![in alloc; byte; count]?;
+    out.extend_from_slice(all.as_slice())
+}
+
+#[test]
+fn the_last_of_a_name_is_found(rt: HostRuntime) -> Result<(), Fail> {
+    let text = "{\"a\":1,\"b\":2,\"a\":3,\"\":4}";
+    let tree = read(rt.alloc(), text.as_bytes()).map_err(|_| "it is lawful")?;
+    let Value::Object(members) = &tree.value else {
+        return Err(Fail::from("it is an object"));
+    };
+    for (name, want) in [
+        ("a", Some(17)),
+        ("b", Some(11)),
+        ("", Some(22)),
+        ("c", None),
+    ] {
+        assert_eq!(rt; members.find(name).map(|j| j.at), want, "of {name}");
+    }
+    Ok(())
+}
+
+/// What is written of the tree that is read of a text.
+fn written(alloc: Global, text: &[u8]) -> Result<Vec<u8>, Fail> {
+    let tree = read(alloc, text).map_err(|_| "it is lawful")?;
+    if !is_writable(&tree) {
+        return Err(Fail::from("it is writable"));
+    }
+    Ok(write(alloc, &tree).map_err(|_| "there is memory")?)
+}
+
+/// Texts, each with what is written of its tree.
+const COMING_BACK: [(&str, &str); 18] = [
+    (" null ", "null"),
+    ("true", "true"),
+    ("false", "false"),
+    ("-0", "0.0"),
+    ("24", "24.0"),
+    ("-24", "-24.0"),
+    ("23.976", "23.976"),
+    ("-0.5", "-0.5"),
+    ("1e-18", "0.000000000000000001"),
+    ("999999999999999999", "999999999999999999.0"),
+    ("-0.999999999999999999", "-0.999999999999999999"),
+    ("100", "100.0"),
+    ("10.01", "10.01"),
+    (
+        "\"a\\/\\\"\\\\\\n\\u001f\\u0000\u{7f}\u{e9}\"",
+        "\"a/\\\"\\\\\\u000a\\u001f\\u0000\u{7f}\u{e9}\"",
+    ),
+    ("[ ]", "[]"),
+    ("{ }", "{}"),
+    ("[ 1 , [ null , 2 ] ]", "[1.0,[null,2.0]]"),
+    (
+        "{ \"a\" : { } , \"\\n\" : [ ] }",
+        "{\"a\":{},\"\\u000a\":[]}",
+    ),
+];
+
+#[test]
+fn texts_come_back(rt: HostRuntime) -> Result<(), Fail> {
+    for (text, want) in COMING_BACK {
+        let wrote = written(rt.alloc(), text.as_bytes())?;
+        assert_eq!(rt; wrote.as_slice(), want.as_bytes(), "at {text}");
+        let twice = written(rt.alloc(), wrote.as_slice())?;
+        assert_eq!(rt; twice.as_slice(), want.as_bytes(), "again at {text}");
+    }
+    Ok(())
+}
+
+#[test]
+fn a_tree_that_was_built(rt: HostRuntime) -> Result<(), Fail> {
+    let alloc = rt.alloc();
+    let mut items = Items::new(alloc);
+    items
+        .push(Json {
+            at: 0,
+            value: Value::Null,
+        })
+        .map_err(|_| "there is memory")?;
+    let mut members = Members::new(alloc);
+    let name = Text::from_str(alloc, "a\"b").map_err(|_| "there is memory")?;
+    let list = Json {
+        at: 0,
+        value: Value::List(items),
+    };
+    members
+        .push(Member { name, value: list })
+        .map_err(|_| "there is memory")?;
+    let tree = Json {
+        at: 0,
+        value: Value::Object(members),
+    };
+    assert!(rt; is_writable(&tree));
+    let wrote = write(alloc, &tree).map_err(|_| "there is memory")?;
+    assert_eq!(rt; wrote.as_slice(), b"{\"a\\\"b\":[null]}".as_slice());
+    Ok(())
+}
+
+/// Whether the tree that is read of a text can be written, by itself and in a list.
+fn writable(alloc: Global, text: &str) -> Result<(bool, bool), Fail> {
+    let tree = read(alloc, text.as_bytes()).map_err(|_| "it is lawful")?;
+    let alone = is_writable(&tree);
+    let mut items = Items::new(alloc);
+    items.push(tree).map_err(|_| "there is memory")?;
+    let deeper = Json {
+        at: 0,
+        value: Value::List(items),
+    };
+    Ok((alone, is_writable(&deeper)))
+}
+
+#[test]
+fn trees_that_are_not_written(rt: HostRuntime) -> Result<(), Fail> {
+    let alloc = rt.alloc();
+    assert!(rt; writable(alloc, "1e99")? == (false, false));
+    assert!(rt; writable(alloc, "[{\"a\":[1e-99]}]")? == (false, false));
+    assert!(rt; writable(alloc, "[1e9]")? == (true, true));
+    let most = nested(alloc, 64, LIST, OBJECT)?;
+    assert!(rt; writable(alloc, most.as_str())? == (true, false));
+    Ok(())
+}
+
+#[test]
+fn thirty_two_mebibytes(rt: HostRuntime) -> Result<(), Fail> {
+    let mut bytes = Vec::new(rt.alloc());
+    repeated(rt.alloc(), &mut bytes, b' ', MOST_BYTES)?;
+    let got = reading(rt.alloc(), bytes.as_slice())?;
+    assert_eq!(rt; got.as_str(), "syntax 33554432");
+    bytes.push(b' ')?;
+    let got = reading(rt.alloc(), bytes.as_slice())?;
+    assert_eq!(rt; got.as_str(), "too large");
+    Ok(())
+}
+
+/// What stands there once the tree of a text was written behind this, up to so many bytes: with `!` behind it where it
+/// would be too long.
+fn behind(alloc: Global, before: &str, text: &str, most: usize) -> Result<Vec<u8>, Fail> {
+    let tree = read(alloc, text.as_bytes()).map_err(|_| "it is lawful")?;
+    if !is_writable(&tree) {
+        return Err(Fail::from("it is writable"));
+    }
+    let mut out = Vec::from_slice(alloc, before.as_bytes())?;
+    match write_behind(alloc, &mut out, &tree, most) {
+        Ok(()) => {}
+        Err(WriteFault::TooLong) => out.push(b'!')?,
+        Err(WriteFault::Memory) => return Err(Fail::from("there is memory")),
+    }
+    Ok(out)
+}
+
+/// What stands before, a text, how many bytes there may be, and what stands there then.
+const BEHIND: [(&str, &str, usize, &str); 5] = [
+    ("", "[1]", 5, "[1.0]"),
+    ("a,", "null", 6, "a,null"),
+    ("a,", "null", 5, "a,!"),
+    ("a,", "null", 1, "a,!"),
+    ("", "\"\"", 1, "!"),
+];
+
+#[test]
+fn a_text_behind_what_is_written(rt: HostRuntime) -> Result<(), Fail> {
+    for (before, text, most, want) in BEHIND {
+        let got = behind(rt.alloc(), before, text, most)?;
+        assert_eq!(rt; got.as_slice(), want.as_bytes(), "of {text} up to {most}");
+    }
+    Ok(())
+}
+
+#[test]
+fn numerals_of_values(rt: HostRuntime) -> Result<(), Fail> {
+    for (text, want) in [
+        ("24", Some((24, 0))),
+        ("-2.50", Some((-25, 1))),
+        ("1e99", None),
+        ("\"24\"", None),
+        ("null", None),
+        ("[24]", None),
+    ] {
+        let tree = read(rt.alloc(), text.as_bytes()).map_err(|_| "it is lawful")?;
+        let got = tree.numeral().map(|n| (n.mantissa, n.places));
+        assert_eq!(rt; got, want, "of {text}");
+    }
+    Ok(())
+}
+
+/// The item, so many times, with commas between them and in these brackets.
+fn row_of(
+    alloc: Global,
+    open: &str,
+    item: &str,
+    close: &str,
+    count: usize,
+) -> Result<String, AllocError> {
+    let mut out = String::from_str(alloc, open)?;
+    for at in 0..count {
+        out.push_str(if at == 0 { "" } else { "," })?;
+        out.push_str(item)?;
+    }
+    out.push_str(close)?;
+    Ok(out)
+}
+
+/// Whether a row of so many comes back.
+fn comes_back(
+    alloc: Global,
+    open: &str,
+    item: &str,
+    close: &str,
+    count: usize,
+) -> Result<bool, Fail> {
+    let text = row_of(alloc, open, item, close, count)?;
+    let wrote = written(alloc, text.as_bytes())?;
+    Ok(wrote.as_slice() == text.as_bytes())
+}
+
+const LENGTHS: [usize; 8] = [1, 2, 4, 5, 63, 64, 65, 1000];
+
+#[test]
+fn lists_and_objects_of_each_length(rt: HostRuntime) -> Result<(), Fail> {
+    for count in LENGTHS {
+        let list = comes_back(rt.alloc(), "[", "\"a\"", "]", count)?;
+        assert!(rt; list, "a list of {count}");
+        let object = comes_back(rt.alloc(), "{", "\"b\":\"a\"", "}", count)?;
+        assert!(rt; object, "an object of {count}");
+    }
+    Ok(())
+}

@@ -1,4 +1,0 @@
-use Rattle.edit_splice.proofs.tests.shows.Given as goal
-
-abbrev pub ghosts-play : goal.ghosts-play
-ghosts-play g a = record { name = a.blank.name; parts = a.blank.parts }

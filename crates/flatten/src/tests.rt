@@ -1,5 +1,0 @@
-// Worked channels, and their segments.
-
-mod channels;
-mod cutting;
-mod tables;

@@ -1,6 +1,0 @@
-use Rattle.std.proofs.Common.{◌≡◌, ◌++◌, drop}
-use Rattle.room_core.specs.Whole.{picked}
-use Rattle.history_points.proofs.calls.copies.Given as goal
-
-abbrev pub invariant-loop-name : goal.invariant-loop-name
-invariant-loop-name g l = l.copies.items ++ picked l.parts (drop l.name-index l.names) ≡ picked l.parts l.names

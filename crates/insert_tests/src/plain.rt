@@ -1,0 +1,149 @@
+// The edits of one track frame by frame: a plain program to compare with. Its new items show media 0 from 500 on.
+ghost use Rattle.std.specs.Prelude.{◌≤◌};
+
+use crate::edits::Edit;
+use composables::Memory;
+use frame_meaning::{Cell, Mark, Side, What};
+use std::alloc::Global;
+
+// What stands in place of the places [x, y), and the number of the later part of an item that is split.
+#[derive(Clone, Copy)]
+struct Change {
+    x: usize,
+    y: usize,
+    number: Option<u32>,
+    len: usize,
+    fresh: u32,
+}
+
+// The cells after an edit of a track of these, whose next item number this is.
+pub fn plainly(alloc: Global, cells: &[Cell], edit: Edit, next: u32) -> Result<Vec<Cell>, Memory> {
+    changed(alloc, cells, change_of(cells, edit, next))
+}
+
+fn change_of(cells: &[Cell], edit: Edit, next: u32) -> Change {
+    match edit {
+        Edit::Over(at, len) => {
+            let at = at as usize;
+            new_item(at, at.saturating_add(len as usize), len as usize, next)
+        }
+        Edit::Put(at, len) => new_item(at as usize, at as usize, len as usize, next),
+        Edit::Out(item) => {
+            let (x, y) = range(cells, Some(item));
+            in_place(x, y, y - x, next)
+        }
+        Edit::Take(item) => {
+            let (x, y) = range(cells, Some(item));
+            in_place(x, y, 0, next)
+        }
+        Edit::Cut(at) => in_place(at as usize, at as usize, 0, next),
+        // there is one gap
+        Edit::Fill(len) => {
+            let (g, h) = range(cells, None);
+            let some = (h - g).min(len as usize);
+            new_item(g, g.saturating_add(some), some, next)
+        }
+    }
+}
+
+// A new item.
+fn new_item(x: usize, y: usize, len: usize, next: u32) -> Change {
+    Change {
+        x,
+        y,
+        number: Some(next),
+        len,
+        fresh: next.saturating_add(1),
+    }
+}
+
+// Dark frames, or none.
+fn in_place(x: usize, y: usize, len: usize, fresh: u32) -> Change {
+    Change {
+        x,
+        y,
+        number: None,
+        len,
+        fresh,
+    }
+}
+
+// The places of an item, or of what has none.
+fn range(cells: &[Cell], item: Option<u32>) -> (usize, usize)
+    ensures { result.0 ≤ result.1 }
+{
+    let x = cells.iter().position(|cell| cell.item == item).unwrap_or(0);
+    let len = cells.iter().filter(|cell| cell.item == item).count();
+    (x, x.saturating_add(len))
+}
+
+fn dark() -> Cell {
+    Cell {
+        item: None,
+        side: Side::Dark,
+        mark: None,
+        link: None,
+    }
+}
+
+// The cells after a change: dark frames up to it where there are fewer; those before it, those that it puts in, and
+// those behind it.
+fn changed(alloc: Global, cells: &[Cell], change: Change) -> Result<Vec<Cell>, Memory> {
+    let mut after = Vec::new(alloc);
+    for place in 0..change.x {
+        after.push(before(cells, change, place))?;
+    }
+    for k in 0..change.len {
+        after.push(put(change, k))?;
+    }
+    for place in change.y..cells.len() {
+        after.push(behind(cells, change, place))?;
+    }
+    Ok(after)
+}
+
+fn before(cells: &[Cell], change: Change, place: usize) -> Cell {
+    let cell = cells.get(place).copied().unwrap_or(dark());
+    let stays = |mark: &Mark| place.saturating_add(mark.b as usize) <= change.x;
+    Cell {
+        mark: cell.mark.filter(stays),
+        ..cell
+    }
+}
+
+fn put(change: Change, k: usize) -> Cell {
+    let shown = Side::Pic {
+        what: What::Media(0),
+        source: u32::try_from(k).unwrap_or(0).saturating_add(500),
+    };
+    Cell {
+        item: change.number,
+        side: if change.number.is_some() {
+            shown
+        } else {
+            Side::Dark
+        },
+        ..dark()
+    }
+}
+
+fn behind(cells: &[Cell], change: Change, place: usize) -> Cell {
+    let cell = cells.get(place).copied().unwrap_or(dark());
+    let split = cell.item.is_some() && cell.item == item_before(cells, change.x);
+    let stays = |mark: &Mark| change.y < place && change.y.saturating_add(mark.a as usize) <= place;
+    Cell {
+        item: if split { Some(change.fresh) } else { cell.item },
+        mark: cell.mark.filter(stays),
+        ..cell
+    }
+}
+
+fn item_before(cells: &[Cell], place: usize) -> Option<u32> {
+    if place == 0 {
+        return None;
+    }
+    match cells.get(place - 1) {
+        Some(cell) => cell.item,
+        None => None,
+    }
+}

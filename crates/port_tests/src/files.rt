@@ -1,0 +1,180 @@
+// What files answer, call by call.
+use room_files::{FileFault, Files, MemFiles, StdFiles, SureFiles};
+use room_ports::Memory;
+use std::alloc::{AllocError, Global};
+
+/// A call of files.
+#[derive(Clone, Copy)]
+enum Step {
+    Write(&'static str, &'static str),
+    Read(&'static str, u32),
+}
+
+// The calls, one after the other: `.` for a write, the bytes of a read with `/` behind them, `!` for a fault, `>`
+// for a file that is too large and `?` for want of memory.
+fn files_log<F: Files>(alloc: Global, files: &mut F, steps: &[Step]) -> Result<String, AllocError> {
+    let mut log = Vec::new(alloc);
+    for step in steps {
+        match *step {
+            Step::Write(name, bytes) => match files.write_file(name, bytes.as_bytes()) {
+                Ok(()) => log.push(b'.')?,
+                Err(_) => log.push(b'!')?,
+            },
+            Step::Read(name, limit) => match files.read_file(alloc, name, limit) {
+                Ok(bytes) => {
+                    log.extend_from_slice(&bytes)?;
+                    log.push(b'/')?;
+                }
+                Err(FileFault::Failed) => log.push(b'!')?,
+                Err(FileFault::TooLarge) => log.push(b'>')?,
+                Err(FileFault::Memory) => log.push(b'?')?,
+            },
+        }
+    }
+    String::from_utf8_lossy(alloc, &log)
+}
+
+#[test]
+fn files_over_memory_hold_what_was_written_last(rt: HostRuntime) -> Result<(), Memory> {
+    use Step::{Read, Write};
+    let alloc = rt.alloc();
+    // failing calls, calls, what they answer; a file `put` of the bytes `here` is there
+    let cases: [(&[u32], &[Step], &str); 6] = [
+        (
+            &[],
+            &[Read("put", 4), Read("put", 3), Read("none", 9)],
+            "here/>!",
+        ),
+        (
+            &[],
+            &[
+                Write("a", "one"),
+                Write("b", "two"),
+                Read("a", 3),
+                Read("b", 9),
+            ],
+            "..one/two/",
+        ),
+        (
+            &[],
+            &[
+                Write("a", "one"),
+                Write("a", ""),
+                Read("a", 0),
+                Read("put", 9),
+            ],
+            "../here/",
+        ),
+        (
+            &[2],
+            &[Write("a", "one"), Write("a", "two"), Read("a", 9)],
+            ".!one/",
+        ),
+        (
+            &[1, 3],
+            &[
+                Read("put", 9),
+                Read("put", 9),
+                Write("put", "x"),
+                Read("put", 9),
+            ],
+            "!here/!here/",
+        ),
+        (
+            &[3, 4],
+            &[
+                Read("none", 0),
+                Write("none", "x"),
+                Read("none", 1),
+                Read("none", 1),
+            ],
+            "!.!!",
+        ),
+    ];
+    for (failing, steps, log) in cases {
+        let mut failing_calls = Vec::new(alloc);
+        failing_calls.extend_from_slice(failing)?;
+        let mut files = MemFiles::new(alloc, failing_calls);
+        files.put("put", "here".as_bytes())?;
+        let answers = files_log(alloc, &mut files, steps)?;
+        assert_eq!(rt; answers.as_str(), log);
+    }
+    Ok(())
+}
+
+#[test]
+fn files_that_never_fail_tell_up_to_their_room(rt: HostRuntime) -> Result<(), Memory> {
+    use Step::{Read, Write};
+    let alloc = rt.alloc();
+    // room, calls, what they answer
+    let cases: [(u32, &[Step], &str); 4] = [
+        (
+            6,
+            &[
+                Read("a", 0),
+                Write("a", "abc"),
+                Write("b", "def"),
+                Read("a", 3),
+                Read("b", 2),
+            ],
+            "/..abc/>",
+        ),
+        (
+            6,
+            &[
+                Write("a", "abc"),
+                Write("a", "def"),
+                Read("a", 9),
+                Read("b", 0),
+            ],
+            "..def//",
+        ),
+        (
+            5,
+            &[
+                Write("a", "abc"),
+                Write("b", "de"),
+                Read("b", 9),
+                Write("c", "f"),
+                Read("a", 9),
+            ],
+            "..de/.?",
+        ),
+        (0, &[Write("a", ""), Read("a", 0)], "./"),
+    ];
+    for (room, steps, log) in cases {
+        let mut files = SureFiles::new(alloc, room)?;
+        let answers = files_log(alloc, &mut files, steps)?;
+        assert_eq!(rt; answers.as_str(), log);
+    }
+    Ok(())
+}
+
+#[test]
+fn files_of_the_system_are_read_whole(rt: HostRuntime) -> Result<(), AllocError> {
+    use Step::{Read, Write};
+    let alloc = rt.alloc();
+    let mut files = StdFiles::new(&rt);
+    let steps = [
+        Read("a", 9),
+        Write("a", "text"),
+        Read("a", 4),
+        Read("a", 3),
+        Write("a", "new"),
+        Read("a", 9),
+        Write("none/a", "x"),
+        Write("empty", ""),
+        Read("empty", 0),
+    ];
+    let answers = files_log(alloc, &mut files, &steps)?;
+    assert_eq!(rt; answers.as_str(), "!.text/>.new/!./");
+
+    // more than one piece
+    let long = vec![in alloc; b'x'; 40000]?;
+    assert!(rt; files.write_file("long", &long).is_ok());
+    let read = files.read_file(alloc, "long", 40000);
+    assert!(rt; read.is_ok_and(|bytes| bytes.as_slice() == long.as_slice()));
+    let read = files.read_file(alloc, "long", 39999);
+    assert!(rt; read.is_err_and(|fault| fault == FileFault::TooLarge));
+    Ok(())
+}

@@ -1,0 +1,10 @@
+//! Tests of ports, files and halls, over memory and over those of the system: what each call answers. There is nothing
+//! here to run besides.
+#![tactic(auto)]
+
+#[cfg(test)]
+mod files;
+#[cfg(test)]
+mod halls;
+#[cfg(test)]
+mod ports;
