@@ -23,8 +23,9 @@ fn echo<L: Line>(alloc: Global, line: &mut L) -> Result<String, AllocError> {
     if put(line, &buffer[..n]).is_err() {
         return String::from_str(alloc, "!");
     }
-    let text = String::from_utf8_lossy(alloc, &buffer[..n])?;
-    format!(in alloc; "{text}/")
+    let mut text = String::from_utf8_lossy(alloc, &buffer[..n])?;
+    text.push_str("/")?;
+    Ok(text)
 }
 
 // Seats a station, lets it echo once and stand up: what it echoed, `!` where it was not seated and `?` where there was
