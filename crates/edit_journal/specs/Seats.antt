@@ -66,14 +66,14 @@ abbrev pub Apart : {O P C : Type 0} → List (View O P C) → Type 0
 Apart {O} {P} {C} views = (i j : ℕ) (u v : View O P C) (x : Name) → get_elem? views i ≡ some u → get_elem? views j ≡ some v → In x u.names → In x v.names → i ≡ j
 
 -- the rule, of the journal's seat, the one opening and the journal's entries
-pub record Rule {O P C : Type 0} (names : C → List ℕ) (words : List ℕ) (views : List (View O P C)) (seat : ℕ) (opening : Opening O P) (log : List (Entry C)) : Type 0 where
+pub record SeatRule {O P C : Type 0} (names : C → List ℕ) (words : List ℕ) (views : List (View O P C)) (seat : ℕ) (opening : Opening O P) (log : List (Entry C)) : Type 0 where
   pub count : words ≡ length log ∷ []
   pub each : (by : ℕ) (v : View O P C) → get_elem? views by ≡ some v → Fits names seat opening log by v
   pub apart : Apart views
 
 -- which names an entry bears is told by the object's value in the opening
 abbrev pub Kept : {O P C : Type 0} → (O → C → List ℕ) → List ℕ → List (View O P C) → Type 0
-Kept {O} {P} {C} names words views = (seat : ℕ) × (opening : Opening O P) × (log : List (Entry C)) × Rule (names opening.0) words views seat opening log
+Kept {O} {P} {C} names words views = (seat : ℕ) × (opening : Opening O P) × (log : List (Entry C)) × SeatRule (names opening.0) words views seat opening log
 
 -- what a look at the word teaches the journal's seat
 abbrev pub Learns : {O P C : Type 0} → (O → C → List ℕ) → View O P C → ℕ → Type 0

@@ -9,7 +9,7 @@ use Rattle.line_words.specs.Told.{line_told, lines_told}
 use Rattle.line_words.specs.declared.line.LineEnd.{LineEnd}
 use Rattle.station_sessions.specs.declared.reply.Reply.{Reply}
 use Rattle.station_sessions.specs.Outside.{AreSent, TakesThenFront, LastIsCut}
-use Rattle.station_sessions.specs.Transcript.{Bad, Kind, Wish, sent}
+use Rattle.station_sessions.specs.Transcript.{Bad, Protocol, Wish, sent}
 use Rattle.station_sessions.specs.Rooms.{Setting, AreWritten, finds_memory, is_linking, room_of, meaning_of, wish_in}
 use Rattle.room_core.specs.Projection.{of_station}
 use Rattle.station_sessions.specs.Session.{Course, Grows, SessionState, past_line, IsReply, RepliesTo, Step}
@@ -57,7 +57,7 @@ cut_more t u v xs ys h (whole, cut, is, k) = (
 )
 
 -- two runs of lines, for any kind of history, where what was taken composes
-module _ {S C D R Q X Y : Type 0} (k : Kind S C D R Q X Y) (station : ℕ) where
+module _ {S C D R Q X Y : Type 0} (k : Protocol S C D R Q X Y) (station : ℕ) where
   then_serves : (a b c : Course S C) (xs ys : List InputLine) (P V W : List (List ℕ) → Type 0) → ((us vs : List (List ℕ)) → P us → V vs → W (us ++ vs))
       → Serves k station a b xs P → Serves k station b c ys V → Serves k station a c (xs ++ ys) W
   then_serves a b c xs ys P V W both f g o ls rs last w =
@@ -84,7 +84,7 @@ true_behind true b t = refl
 true_behind false b t = t
 
 -- a step of a line that may find no memory for one more reason
-module _ {S C D R Q X Y : Type 0} (k : Kind S C D R Q X Y) (station : ℕ) (old new : Course S C) (text : List ℕ) where
+module _ {S C D R Q X Y : Type 0} (k : Protocol S C D R Q X Y) (station : ℕ) (old new : Course S C) (text : List ℕ) where
   wider : (wish : Wish C Q) (a b : Bool) → Step k station old new text wish a → Step k station old new text wish (a || b)
   wider wish a b (inl does) = inl does
   wider wish a b (inr (t, says)) = inr (true_before a b t, says)

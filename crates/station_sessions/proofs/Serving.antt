@@ -6,7 +6,7 @@ use Rattle.line_words.specs.Lines.{Line as InputLine}
 use Rattle.room_core.specs.declared.entry.Entry.{Entry}
 use Rattle.room_core.specs.History.{most_entries, replay, after_entry, answer_in, state_in, RiseAfter, NumbersRise}
 use Rattle.room_core.specs.Projection.{of_station}
-use Rattle.station_sessions.specs.Transcript.{Wish, Do, See, Point, Write, Bad, Kind, answer_at, sight_at, BearsNone, IsDone, IsRefused, IsFull, IsMemory, IsSeen, IsPoint, IsDocument, IsPastEnd, IsBad, Row, Rows, Transcript, points_from}
+use Rattle.station_sessions.specs.Transcript.{Wish, Do, See, Point, Write, Bad, Protocol, answer_at, sight_at, BearsNone, IsDone, IsRefused, IsFull, IsMemory, IsSeen, IsPoint, IsDocument, IsPastEnd, IsBad, Row, Rows, Transcript, points_from}
 use Rattle.station_sessions.specs.Session.{Course, past_line, Commits, Does, Step, Grows}
 use Rattle.station_sessions.specs.Served.{OwnBefore, Served}
 use Rattle.station_sessions.proofs.Transcripts.{OwnFrom, get_last, answer_more, rows_more, one_row_more, points_append, points_one, no_own, replay_more, state_now}
@@ -47,7 +47,7 @@ rise_more (f ∷ fs) e b r = (rise_after f fs e b.0 r.0, rise_more fs e b.1 r.1)
 zero_plus : (n : ℕ) → 0 + n ≡ n
 zero_plus n = omega arith
 
-module _ {S C D R Q X Y : Type 0} (k : Kind S C D R Q X Y) (station : ℕ) (o : S) where
+module _ {S C D R Q X Y : Type 0} (k : Protocol S C D R Q X Y) (station : ℕ) (o : S) where
   pub served_none : (s : Course S C) → s.opening ≡ o → s.state ≡ o → s.journal ≡ [] → s.line ≡ 1 → Served k station o s [] [] 0
   served_none s from is j first = record {
     opening = from;

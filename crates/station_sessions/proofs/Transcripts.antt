@@ -10,7 +10,7 @@ use Rattle.room_core.specs.History.{most_entries, replay, after_entry, answer_in
 use Rattle.room_core.specs.Projection.{of_station}
 use Rattle.station_sessions.specs.Longer.{TranscriptsStay}
 use Rattle.station_sessions.specs.Rooms.{room_of, setting_of}
-use Rattle.station_sessions.specs.Transcript.{Wish, Do, See, Point, Write, Bad, Kind, state_at, answer_at, sight_at, BearsNone, IsFull, Answered, Row, Rows, points_from, Transcript, sent}
+use Rattle.station_sessions.specs.Transcript.{Wish, Do, See, Point, Write, Bad, Protocol, state_at, answer_at, sight_at, BearsNone, IsFull, Answered, Row, Rows, points_from, Transcript, sent}
 
 -- each of these entries that is of the station is of this line or a later one
 abbrev pub OwnFrom : {C : Type 0} → ℕ → ℕ → List (Entry C) → Type 0
@@ -46,7 +46,7 @@ no_more : {C : Type 0} (h more : List (Entry C)) → length h ≡ most_entries �
 no_more h [] full within = refl
 no_more h (e ∷ es) full within = absurd (omega (arith, full, within, length-append h (e ∷ es)))
 
-module _ {S C D R Q X Y : Type 0} (k : Kind S C D R Q X Y) (o : S) where
+module _ {S C D R Q X Y : Type 0} (k : Protocol S C D R Q X Y) (o : S) where
   state_more : (h more : List (Entry C)) (n : ℕ) → n ≤ length h → state_at k o (h ++ more) n ≡ state_at k o h n
   state_more h more n le = ap (λ (x : List (Entry C)). replay k.apply o x) (take_more h more n le)
 
@@ -233,7 +233,7 @@ pub no_own : {C : Type 0} (station n line : ℕ) (more : List (Entry C)) → of_
 no_own station n line [] none = (refl, tt)
 no_own station n line (e ∷ es) none = not_own station n line e es (eqb e.station station) refl none (no_own station (n + 1) line es)
 
-pub transcript_more : {S C D R Q X Y : Type 0} (k : Kind S C D R Q X Y) (o : S) (h more : List (Entry C)) (station : ℕ) (lines : List InputLine) (replies : List (List ℕ))
+pub transcript_more : {S C D R Q X Y : Type 0} (k : Protocol S C D R Q X Y) (o : S) (h more : List (Entry C)) (station : ℕ) (lines : List InputLine) (replies : List (List ℕ))
     → Transcript k o h station lines replies → length (h ++ more) ≤ most_entries → of_station station (h ++ more) ≡ of_station station h → Transcript k o (h ++ more) station lines replies
 transcript_more k o h more station lines replies (last, rows) within same =
     let none = nothing_behind (of_station station h) (of_station station more) (sym (own_append station h more) ∙ same) in

@@ -1,4 +1,4 @@
--- The kind of history of a room: edits of its tracks, questions to them, and the lines of the protocol.
+-- The protocol of a room of cuts: edits of its tracks, questions to them, and the lines that ask for them.
 use Rattle.std.specs.Prelude.{ℕ, Bool, true, false, ◌||◌, List, [], ◌∷◌, Some, None, Result, Ok, Err}
 use Rattle.line_words.specs.Lines.{Line as InputLine}
 use Rattle.timecode12.specs.Numbers.{Counted}
@@ -30,7 +30,7 @@ use Rattle.reply_text.specs.Replies.{answer_text_of, fault_of}
 use Rattle.reply_text.specs.Sights.{sight_text_of}
 use Rattle.room_core.specs.History.{IsLegal, most_entries}
 use Rattle.room_core.specs.Whole.{whole}
-use Rattle.station_sessions.specs.Transcript.{Wish, Do, See, Point, Write, Bad, Kind, Transcript}
+use Rattle.station_sessions.specs.Transcript.{Wish, Do, See, Point, Write, Bad, Protocol, Transcript}
 
 -- what stays as it is in a room: its table, how its frames are counted, and the frame at which its record starts
 pub record Setting : Type 0 where
@@ -83,7 +83,7 @@ seen_of n (Err r) = sight_text_of (sight.Refused n r)
 abbrev pub document_of : Setting → List TrackState → List ℕ
 document_of setting tracks = timeline_text setting.table tracks setting.counting setting.start
 
-abbrev pub room_of : Setting → Kind (List TrackState) Call Done Refusal Ask Seen AskRefusal
+abbrev pub room_of : Setting → Protocol (List TrackState) Call Done Refusal Ask Seen AskRefusal
 room_of setting = record {
   apply = whole (editing setting.table);
   see = seen_in setting.table;

@@ -5,7 +5,7 @@ use Rattle.edit_apply.specs.RoomTracks.{IsOpening}
 use Rattle.room_core.specs.declared.entry.Entry.{Entry}
 use Rattle.room_core.specs.History.{most_entries, replay, NumbersRise}
 use Rattle.room_core.specs.Projection.{of_station}
-use Rattle.station_sessions.specs.Transcript.{Kind, Rows, points_from}
+use Rattle.station_sessions.specs.Transcript.{Protocol, Rows, points_from}
 use Rattle.otio_json.specs.declared.opening.Opening.{Opening}
 use Rattle.station_sessions.specs.Rooms.{AreWritten, History, RoomTranscript, room_of, setting_of}
 use Rattle.station_sessions.specs.SessionInside.{TrackRoom, setting_at}
@@ -18,7 +18,7 @@ OwnBefore station line [] = Unit {0}
 OwnBefore station line (e ∷ es) = (e.station ≡ station → e.number < line) × OwnBefore station line es
 
 -- the lines so far have their replies, and the state is what the journal comes to
-pub record Served {S C D R Q X Y : Type 0} (k : Kind S C D R Q X Y) (station : ℕ) (o : S) (s : Course S C) (ls : List InputLine) (rs : List (List ℕ)) (last : ℕ) : Type 0 where
+pub record Served {S C D R Q X Y : Type 0} (k : Protocol S C D R Q X Y) (station : ℕ) (o : S) (s : Course S C) (ls : List InputLine) (rs : List (List ℕ)) (last : ℕ) : Type 0 where
   pub opening : s.opening ≡ o
   pub state : replay k.apply o s.journal ≡ Some s.state
   pub rows : Rows k o s.journal station 1 0 ls rs last (points_from 0 station s.journal)
@@ -30,7 +30,7 @@ pub record Served {S C D R Q X Y : Type 0} (k : Kind S C D R Q X Y) (station : �
 
 -- Between two moments a station answered these lines: whatever it had answered before, it has answered these too, and
 -- their replies were taken so.
-abbrev pub Serves : {S C D R Q X Y : Type 0} → Kind S C D R Q X Y → ℕ → Course S C → Course S C → List InputLine → (List (List ℕ) → Type 0) → Type 0
+abbrev pub Serves : {S C D R Q X Y : Type 0} → Protocol S C D R Q X Y → ℕ → Course S C → Course S C → List InputLine → (List (List ℕ) → Type 0) → Type 0
 Serves {S} {C} {D} {R} {Q} {X} {Y} k station old new lines Taken =
     (o : S) (ls : List InputLine) (rs : List (List ℕ)) (last : ℕ) → Served k station o old ls rs last
     → (more : List (List ℕ)) × (after : ℕ) × Served k station o new (ls ++ lines) (rs ++ more) after × Taken more

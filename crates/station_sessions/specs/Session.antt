@@ -14,7 +14,7 @@ use Rattle.call_text.specs.declared.lines.Line.{Line}
 use Rattle.line_words.specs.Lines.{Line as InputLine}
 use Rattle.room_core.specs.History.{answer_in, most_entries, replay, NumbersRise}
 use Rattle.room_core.specs.Projection.{of_station}
-use Rattle.station_sessions.specs.Transcript.{Wish, Do, See, Point, Write, Bad, Kind}
+use Rattle.station_sessions.specs.Transcript.{Wish, Do, See, Point, Write, Bad, Protocol}
 use Rattle.cut_room.specs.declared.answers.CutFault.{CutFault}
 use Rattle.cut_room.specs.declared.answers.CutFault.TheVariants as fault
 use Rattle.station_sessions.specs.DocumentReplies.{document_reply, no_point_reply}
@@ -32,7 +32,7 @@ pub record Course (S C : Type 0) : Type 0 where
 
 -- Others have committed more: what the station knows begins what it knows then, which has no further entry of its own, and
 -- the state is what their entries leave.
-pub record Grows {S C D R Q X Y : Type 0} (k : Kind S C D R Q X Y) (station : ℕ) (old new : Course S C) : Type 0 where
+pub record Grows {S C D R Q X Y : Type 0} (k : Protocol S C D R Q X Y) (station : ℕ) (old new : Course S C) : Type 0 where
   pub more : List (Entry C)
   pub opening : new.opening ≡ old.opening
   pub journal : new.journal ≡ old.journal ++ more
@@ -46,7 +46,7 @@ pub record Grows {S C D R Q X Y : Type 0} (k : Kind S C D R Q X Y) (station : �
 abbrev pub past_line : {S C : Type 0} → Course S C → Course S C
 past_line s = record { opening = s.opening; state = s.state; journal = s.journal; line = s.line + 1 }
 
-module _ {S C D R Q X Y : Type 0} (k : Kind S C D R Q X Y) (station : ℕ) (old new : Course S C) (reply : List ℕ) where
+module _ {S C D R Q X Y : Type 0} (k : Protocol S C D R Q X Y) (station : ℕ) (old new : Course S C) (reply : List ℕ) where
   -- the call was done on the state and stands in the journal
   pub record Commits (c : C) (d : D) : Type 0 where
     pub opening : new.opening ≡ old.opening

@@ -14,9 +14,9 @@ pub data Wish (C Q : Type 0) : Type 0 where
   Write : ℕ → Wish C Q
   Bad : List ℕ → Wish C Q
 
--- A kind of history over states S: what a call does and a question sees, what a line asks for and whether it may find no
+-- A protocol over states S: what a call does and a question sees, what a line asks for and whether it may find no
 -- memory, and how each is answered at a point.
-pub record Kind (S C D R Q X Y : Type 0) : Type 0 where
+pub record Protocol (S C D R Q X Y : Type 0) : Type 0 where
   pub apply : S → C → Result (S × D) R
   pub see : S → Q → Result X Y
   pub wish : InputLine → Wish C Q
@@ -33,7 +33,7 @@ abbrev pub BearsNone : {C : Type 0} → List (Entry C) → ℕ → ℕ → Type 
 BearsNone [] station line = Unit {0}
 BearsNone (e ∷ es) station line = (e.station ≡ station → e.number ≢ line) × BearsNone es station line
 
-module _ {S C D R Q X Y : Type 0} (k : Kind S C D R Q X Y) (o : S) (h : List (Entry C)) where
+module _ {S C D R Q X Y : Type 0} (k : Protocol S C D R Q X Y) (o : S) (h : List (Entry C)) where
   -- the state after the first n entries
   abbrev pub state_at : ℕ → Option S
   state_at n = replay k.apply o (take n h)
@@ -146,7 +146,7 @@ points_from n station (e ∷ es) = if e.station == station then n ∷ points_fro
 
 -- The lines and replies of a station over a history that begins at this state: each call that was answered `ok` is its
 -- entry, and it has no others.
-abbrev pub Transcript : {S C D R Q X Y : Type 0} → Kind S C D R Q X Y → S → List (Entry C) → ℕ → List InputLine → List (List ℕ) → Type 0
+abbrev pub Transcript : {S C D R Q X Y : Type 0} → Protocol S C D R Q X Y → S → List (Entry C) → ℕ → List InputLine → List (List ℕ) → Type 0
 Transcript k o h station lines replies = (last : ℕ) × Rows k o h station 1 0 lines replies last (points_from 0 station h)
 
 -- the replies as they are sent: each ends with a line feed
