@@ -1,6 +1,6 @@
 -- Links of cells that are moved: each must have all of its tracks among the named, and is split where it has cells
 -- that stay.
-use Rattle.std.specs.Prelude.{ℕ, ◌+◌, Bool, ◌&&◌, ◌||◌, not, List, [], ◌∷◌, ◌++◌, Option, Some, None, is_some, map, take, drop, filter, length, nat_eq, nat_lt, if◌then◌else◌}
+use Rattle.std.specs.Prelude.{ℕ, ◌+◌, Bool, ◌&&◌, ◌||◌, List, [], ◌∷◌, ◌++◌, Option, Some, None, is_some, map, take, drop, filter, length, nat_eq, nat_lt, if◌then◌else◌}
 use Rattle.std.specs.List.{flat_map, list_any}
 use Rattle.frame_meaning.specs.declared.cells.Cell.{Cell}
 use Rattle.frame_meaning.specs.declared.cells.Link.{Link}

@@ -1,5 +1,5 @@
 -- What a pass knows after a turn at the journal.
-use Rattle.std.proofs.Common.{◌≡◌, ℕ, suc, ◌+◌, ◌<◌, ◌≤◌, List, [], ◌∷◌, ◌++◌, length, Bool, true, ◌==◌, cond, Option, Some, None, Result, Ok, Err, IsSome, slice_get, refl, sym, ap, ◌∙◌, subst, arith, option_map, take, sum_by, ◌*◌}
+use Rattle.std.proofs.Common.{◌≡◌, ℕ, suc, ◌+◌, ◌<◌, ◌≤◌, List, [], ◌∷◌, ◌++◌, length, Bool, true, ◌==◌, cond, Option, Some, None, Result, Ok, Err, IsSome, slice_get, refl, sym, ap, ◌∙◌, subst, arith, option_map, take}
 use Rattle.std.proofs.lemmas.List.{append-nil, length-append}
 use Rattle.std.proofs.Math.Seq.{take-append_seam}
 use Rattle.std.proofs.lemmas.List.Elements.{filter-append}
@@ -18,7 +18,7 @@ use Rattle.track_locks.specs.Homes.{IsAt, IsHistory, StandFor}
 use Rattle.track_locks.proofs.Several.{within}
 use Rattle.track_locks.proofs.Stands.{one_at}
 use Rattle.cut_room.specs.Gathered.{ComesTo}
-use Rattle.cut_room.specs.Rooms.{told, Stays, IsAtPoint, IsCommitted, IsTurnedDown, FindsNoRoom, IsSight, TakesAtMost}
+use Rattle.cut_room.specs.Rooms.{told, Stays, IsAtPoint, IsCommitted, IsTurnedDown, FindsNoRoom, IsSight}
 
 one_opening : {A : Type 0} (o : Option A) (a b : A) → o ≡ Some a → o ≡ Some b → a ≡ b
 one_opening o a b x y = let e : Some a ≡ Some b = sym x ∙ y in Prim.grind (arith, e)

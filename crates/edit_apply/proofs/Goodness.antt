@@ -14,10 +14,11 @@ use Rattle.room_core.specs.Parts.{AscendBetween, numbers}
 use Rattle.room_core.specs.Whole.{on_whole, picked, put_back, unless_refused, whole, with_picked}
 use Rattle.link_laws.specs.Given.{AreGiven, LeavesGiven}
 use Rattle.link_laws.specs.Histories.{GoodBefore}
-use Rattle.link_laws.specs.Rooms.{AreLow, AreNamed, AreTracks, IsNumbered, with_tracks}
+use Rattle.link_laws.specs.Rooms.{AreNamed, AreTracks, IsNumbered, with_tracks}
 use Rattle.link_laws.specs.Wholes.{Numbered}
+use Rattle.link_laws.proofs.Histories.{numbered-room, numbers-picked, ordered-back}
 use Rattle.link_laws.proofs.Openings.{bare-given}
-use Rattle.link_laws.proofs.Wholes.{among-from, among-picked, ascend-of, ascend-picked, at-place, none-within, put-back, set-length, set-numbered}
+use Rattle.link_laws.proofs.Wholes.{among-picked, ascend-picked, put-back}
 use Rattle.track_laws.specs.Goods.{IsBounded, KeepsGood}
 use Rattle.track_laws.proofs.DeltaLaw.{moving-keeps}
 use Rattle.track_laws.proofs.Linking.{linking-keeps}
@@ -76,21 +77,6 @@ good_back table all (n ∷ ns) [] g h = g
 good_back table all (n ∷ ns) (u ∷ us) g h =
     good_back table (slice_set all n u) ns us (good_set table n u all g (all_head (IsGood table) u us h)) (all_tail (IsGood table) u us h)
 
-numbers_picked : (all : List TrackState) (least : ℕ) (names : List ℕ) → Numbered 0 all → AscendBetween least (length all) names → numbers_of (picked all names) ≡ names
-numbers_picked all least [] h a = refl
-numbers_picked all least (n ∷ ns) h a = by (slice_get all n) refl (numbers_picked all (n + 1) ns h a.2) where
-  by : (o : Option TrackState) → slice_get all n ≡ o → numbers_of (picked all ns) ≡ ns → numbers_of (with_picked o (picked all ns)) ≡ n ∷ ns
-  by None e rest = absurd (none-within all n e a.1)
-  by (Some t) e rest =
-      ap (λ (m : ℕ). m ∷ numbers_of (picked all ns)) (at-place all n t h e).0 ∙ ap (λ (ms : List ℕ). n ∷ ms) rest
-
-numbered_back : (all us : List TrackState) → Numbered 0 all → Numbered 0 (put_back all (numbers_of us) us) × (length (put_back all (numbers_of us) us) ≡ length all)
-numbered_back all [] h = (h, refl)
-numbered_back all (u ∷ us) h =
-    let z : u.number ≡ 0 + u.number = omega arith in
-    let r = numbered_back (slice_set all u.number u) us (set-numbered 0 u.number u all h z) in
-    (r.0, r.1 ∙ set-length u.number u all)
-
 -- the tracks of a room at a point of its history
 
 record IsRoomAt (table : Table) (all : List TrackState) : Type 0 where
@@ -98,10 +84,6 @@ record IsRoomAt (table : Table) (all : List TrackState) : Type 0 where
   count : length all ≡ track_count table
   given : AreGiven all
   good : All (IsGood table) all
-
-low : (from : ℕ) (ts : List TrackState) → Numbered from ts → from + length ts ≤ 32 → AreLow ts
-low from [] h le = tt
-low from (t ∷ ts) h le = (omega (arith, h.0, le), low (from + 1) ts h.1 (omega (arith, le)))
 
 are_tracks : (table : Table) (from : ℕ) (ts : List TrackState) → Numbered from ts → from + length ts ≤ 32 → All (IsGood table) ts → AreTracks table ts
 are_tracks table from [] h le g = tt
@@ -121,7 +103,7 @@ module _ (table : Table) (bounded : IsBounded table) where
       let asc : AscendBetween 0 (length all) (numbers_of us) = subst (AscendBetween 0 (length all)) (sym same) a in
       let put : put_back all (names_of c) us ≡ with_tracks all us = ap (λ (ns : List ℕ). put_back all ns us) (sym same) ∙ put-back 0 all us h.numbered asc in
       let order : Numbered 0 (put_back all (names_of c) us) × (length (put_back all (names_of c) us) ≡ length all) =
-      subst (λ (ns : List ℕ). Numbered 0 (put_back all ns us) × (length (put_back all ns us) ≡ length all)) same (numbered_back all us h.numbered) in
+      subst (λ (ns : List ℕ). Numbered 0 (put_back all ns us) × (length (put_back all ns us) ≡ length all)) same (ordered-back all us h.numbered) in
       record {
         numbered = order.0;
         count = order.1 ∙ h.count;
@@ -136,8 +118,8 @@ module _ (table : Table) (bounded : IsBounded table) where
     by None e =
         let few : length all ≤ 32 = omega (arith, h.count) in
         let a : AscendBetween 0 (length all) (names_of c) = subst (λ (n : ℕ). AscendBetween 0 n (names_of c)) (sym h.count) (editing-named table c e).ascend in
-        let n : numbers_of (picked all (names_of c)) ≡ names_of c = numbers_picked all 0 (names_of c) h.numbered a in
-        let room : IsNumbered all = record { apart = among-from all 0 all h.numbered refl; ascend = ascend-of 0 all h.numbered; low = low 0 all h.numbered (omega (arith, few)) } in
+        let n : numbers_of (picked all (names_of c)) ≡ names_of c = numbers-picked all 0 (names_of c) h.numbered a in
+        let room : IsNumbered all = numbered-room all h.numbered few in
         let named : AreNamed all (picked all (names_of c)) = record { among = among-picked all (names_of c) h.numbered; ascend = ascend-picked all 0 (names_of c) h.numbered a } in
         room_back all c (applied_on table (picked all (names_of c)) c) h a n refl ((editing-given table).keeps c all (picked all (names_of c)) n room named h.given)
 

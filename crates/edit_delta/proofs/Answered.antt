@@ -1,24 +1,17 @@
 -- What is used of a delta, by its way; and facts of one track among the named.
-use Rattle.std.proofs.Common.{◌≡◌, ℕ, zero, suc, ◌<◌, ◌≤◌, ◌^◌, Bool, true, false, leb, min, ◌&&◌, ℤ, pos, neg_ℤ, nat_abs, List, [], ◌∷◌, All, map, set, get_or, Result, Ok, Err, refl, sym, ap, ◌∙◌, arith, subst, w32, SFits, to_z, of_z}
-use Rattle.std.proofs.lemmas.Bool.{eq-eqb, leb-true, leb-false, le-leb, lt-leb}
+use Rattle.std.proofs.Common.{◌≡◌, ℕ, zero, suc, ◌<◌, ◌≤◌, ◌^◌, Bool, true, false, leb, min, ◌&&◌, ℤ, pos, neg_ℤ, nat_abs, [], Ok, refl, sym, ap, ◌∙◌, arith, subst, w32, SFits, to_z, of_z}
+use Rattle.std.proofs.lemmas.Bool.{leb-true, leb-false, le-leb, lt-leb}
 use Rattle.std.specs.Int.Signed.{nat_abs-le}
 use Rattle.std.proofs.lemmas.Int.{to_z-of_z}
-use Rattle.composables.specs.declared.media.Table.{Table}
 use Rattle.composables.specs.declared.refusals.Done.{Done}
 use Rattle.composables.specs.declared.refusals.Done.TheVariants.{By}
-use Rattle.composables.specs.declared.refusals.Refusal.{Refusal}
-use Rattle.composables.specs.declared.refusals.EditFault.{EditFault}
-use Rattle.composables.specs.declared.refusals.EditFault.TheVariants.{Refused, Memory}
-use Rattle.composables.specs.Answers.{Answers, NextRises}
 use Rattle.composables.specs.Limits.{track_within_limits}
-use Rattle.composables.specs.OwnTracks.{among_named, on_own}
 use Rattle.composables.specs.TrackState.{TrackState}
 use Rattle.edit_delta.specs.declared.deltas.Used.{Used}
 use Rattle.edit_delta.specs.declared.deltas.Way.{Way}
 use Rattle.edit_delta.specs.declared.deltas.Way.TheVariants.{Still, Later, Earlier}
 use Rattle.edit_delta.specs.Nearest.{AreUpTo, by_sign, lies_within, nearest}
 use Rattle.edit_delta.specs.Using.{IsUsed, IsWayOf, used_on}
-use Rattle.edit_splice.specs.Standing.{StaysGood}
 use Rattle.edit_delta.proofs.Greatest.{earlier-end, later-end, nearest-ends}
 
 used-none : (t : TrackState) (moved : ℤ → TrackState) (d : ℤ) → d ≡ pos 0 → used_on t moved d ≡ Ok (t, By d)

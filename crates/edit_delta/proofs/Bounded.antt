@@ -1,18 +1,8 @@
 -- What an edit that splices one track leaves of the facts on it.
-use Rattle.std.proofs.Common.{◌≡◌, ℕ, suc, ◌+◌, ◌-◌, ◌<◌, ◌≤◌, Bool, true, false, cond, ltb, List, [], ◌∷◌, length, Option, Some, None, IfSome, Result, Ok, Err, refl, sym, ap, ◌∙◌, arith, subst}
-use Rattle.std.proofs.lemmas.Bool.{ltb-false, le-ltb, lt-ltb}
+use Rattle.std.proofs.Common.{ℕ, ◌+◌, ◌-◌, ◌<◌, ◌≤◌, List, [], ◌∷◌, Option, Some, None, IfSome, refl, arith}
 use Rattle.composables.specs.declared.items.ItemView.{ItemView}
 use Rattle.composables.specs.declared.media.Table.{Table}
-use Rattle.composables.specs.declared.refusals.Done.{Done}
-use Rattle.composables.specs.declared.refusals.EditFault.{EditFault}
-use Rattle.composables.specs.declared.refusals.EditFault.TheVariants.{Refused, Memory}
-use Rattle.composables.specs.declared.refusals.Refusal.{Refusal}
-use Rattle.composables.specs.declared.refusals.Refusal.TheVariants.{TooLong, TooManyItems}
-use Rattle.composables.specs.declared.TheConstants.{MAX_FRAMES, MAX_ITEMS}
-use Rattle.composables.specs.Answers.{Answers, unless}
-use Rattle.composables.specs.Good.{AllUnlinked, IsGood}
-use Rattle.composables.specs.Items.{items_of}
-use Rattle.composables.specs.Limits.{track_within_limits}
+use Rattle.composables.specs.Good.{IsGood}
 use Rattle.composables.specs.TrackFacts.{IsKept, NumbersBelow}
 use Rattle.composables.specs.TrackState.{TrackState}
 use Rattle.edit_splice.specs.Standing.{StaysGood}

@@ -1,6 +1,5 @@
 -- The own track of a call among those that it names, and what is left of the others.
-use Rattle.std.proofs.Common.{◌≡◌, ℕ, zero, suc, ◌<◌, ◌≤◌, Bool, true, false, cond, eqb, ◌||◌, List, [], ◌∷◌, All, map, length, set, get_or, Option, Some, None, Result, Ok, Err, refl, sym, ap, ◌∙◌, arith, subst, slice_get, nat_eq}
-use Rattle.std.specs.List.{list_any}
+use Rattle.std.proofs.Common.{◌≡◌, ℕ, zero, suc, ◌<◌, Bool, true, false, cond, eqb, List, [], ◌∷◌, All, map, length, set, get_or, Some, Result, Ok, Err, refl, sym, ap, ◌∙◌, arith, subst, slice_get}
 use Rattle.std.proofs.lemmas.Bool.{eq-eqb, eqb-true}
 use Rattle.std.proofs.lemmas.Option.{slice_get_read}
 use Rattle.composables.specs.declared.media.Table.{Table}
@@ -10,15 +9,12 @@ use Rattle.composables.specs.declared.refusals.EditFault.{EditFault}
 use Rattle.composables.specs.declared.refusals.EditFault.TheVariants.{Refused, Memory}
 use Rattle.composables.specs.Answers.{Answers}
 use Rattle.composables.specs.Good.{IsGood}
-use Rattle.composables.specs.OwnTracks.{among_named, found_at, on_own, track_numbered, with_track}
+use Rattle.composables.specs.OwnTracks.{among_named, on_own, track_numbered, with_track, numbers_of}
 use Rattle.composables.specs.TrackSets.{tracks_in}
 use Rattle.composables.specs.TrackState.{TrackState}
 use Rattle.edit_splice.specs.Standing.{EachStaysGood, StaysGood}
 use Rattle.edit_splice.proofs.Bridging.{Above, Rise, for-found, is-numbered, tracks-rise}
 use Rattle.edit_splice.proofs.Standing.{all_head, all_tail, each-self}
-
-abbrev numbers_of : List TrackState → List ℕ
-numbers_of ts = map (λ (t : TrackState). t.number) ts
 
 -- the track t with the number n is the one with this index
 pub record IsNamed (n i : ℕ) (ts : List TrackState) (t : TrackState) : Type 0 where
@@ -90,19 +86,3 @@ named-holds P n i ts t o h = by i ts o.read h where
   by i [] e h = absurd cc
   by zero (x ∷ xs) e h = let same : x ≡ t = cc in subst P same (all_head P x xs h)
   by (suc i) (x ∷ xs) e h = by i xs e (all_tail P x xs h)
-
--- a track that is named is found
-named_found : (n : ℕ) (ts : List TrackState) → list_any (nat_eq n) (numbers_of ts) ≡ true → track_numbered n ts ≡ None → ⊥
-named_found n [] e f = Prim.grind (arith, e)
-named_found n (t ∷ ts) e f = by (eqb t.number n) (eqb n t.number) refl refl e f (named_found n ts) where
-  by : (a b : Bool) → eqb t.number n ≡ a → eqb n t.number ≡ b → (b || list_any (nat_eq n) (numbers_of ts)) ≡ true → cond a (Some t) (track_numbered n ts) ≡ None
-      → (list_any (nat_eq n) (numbers_of ts) ≡ true → track_numbered n ts ≡ None → ⊥) → ⊥
-  by true b g h e f later = Prim.grind (arith, f)
-  by false true g h e f later =
-      let same : t.number ≡ n = sym (eqb-true n t.number h) in
-      let no : true ≡ false = sym (eq-eqb t.number n same) ∙ g in
-      Prim.grind (arith, no)
-  by false false g h e f later = later e f
-
-pub named-found : (n tracks : ℕ) (ts : List TrackState) → map (λ (t : TrackState). t.number) ts ≡ tracks_in tracks → list_any (nat_eq n) (tracks_in tracks) ≡ true → track_numbered n ts ≡ None → ⊥
-named-found n tracks ts e f g = named_found n ts (ap (list_any (nat_eq n)) e ∙ f) g

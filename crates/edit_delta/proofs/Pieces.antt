@@ -1,6 +1,6 @@
 -- What an edit by a delta puts into a track: a gap in place of frames that an item gives up, or frames by which an item
 -- or gap grows.
-use Rattle.std.proofs.Common.{◌≡◌, ℕ, zero, suc, ◌+◌, ◌-◌, ◌<◌, ◌≤◌, ◌^◌, Bool, true, false, cond, eqb, leb, ltb, min, List, [], ◌∷◌, length, Option, Some, None, IfSome, refl, sym, ap, ◌∙◌, arith, subst, ⊎_elim}
+use Rattle.std.proofs.Common.{◌≡◌, ℕ, ◌+◌, ◌-◌, ◌<◌, ◌≤◌, ◌^◌, Bool, true, false, cond, eqb, [], ◌∷◌, length, Option, Some, None, refl, sym, ap, ◌∙◌, arith, subst, ⊎_elim}
 use Rattle.std.proofs.lemmas.Bool.{eqb-true, leb-true, le-leb, lt-leb, lt-ltb, le-ltb, cases_lt, ltb-true}
 use Rattle.frame_meaning.specs.declared.cells.What.{What}
 use Rattle.frame_meaning.specs.declared.frames.Side.{Side}
@@ -11,7 +11,7 @@ use Rattle.composables.specs.declared.items.ItemView.{ItemView}
 use Rattle.composables.specs.declared.media.Table.{Table}
 use Rattle.composables.specs.Bounds.{bounds_of}
 use Rattle.composables.specs.declared.TheConstants.{MAX_FRAMES}
-use Rattle.composables.specs.Good.{AllUnlinked, IsGood, LiesIn, SideLiesIn}
+use Rattle.composables.specs.Good.{IsGood, LiesIn, SideLiesIn}
 use Rattle.composables.specs.Items.{cell_in, items_of}
 use Rattle.composables.specs.TrackFacts.{HasSource, Holds}
 use Rattle.composables.specs.TrackState.{TrackState}
@@ -19,7 +19,7 @@ use Rattle.composables.specs.Views.{gap_view, gap_views}
 use Rattle.composables.proofs.Spans.{later-zero, next-later}
 use Rattle.edit_delta.specs.Reaching.{earlier_side, going_on, has_after, has_after_in, has_before, has_before_in, keeps_a_cell, reaching_back}
 use Rattle.edit_delta.proofs.Spots.{Spot, unlinked-there}
-use Rattle.edit_splice.specs.PutIn.{alone, going_on as goes, reaching_back as reaches, GoesOn, IsPart, MayBePutIn, ReachesBack, StandAlone, TakesUp}
+use Rattle.edit_splice.specs.PutIn.{alone, going_on as goes, reaching_back as reaches, GoesOn, ReachesBack, StandAlone}
 use Rattle.edit_delta.specs.Nearest.{AreUpTo}
 use Rattle.edit_delta.specs.Parts.{AreParts}
 

@@ -1,7 +1,5 @@
 -- Insert and extract as they are meant, and as shifts of all named tracks.
-use Rattle.std.proofs.Common.{◌≡◌, ℕ, ◌+◌, ◌-◌, ◌<◌, ◌≤◌, min, Bool, true, false, cond, eqb, ◌||◌, List, [], ◌∷◌, ◌++◌, All, length, map, Option, Some, None, Err, refl, sym, ap, ◌∙◌, arith, subst, get_or, slice_get, nat_eq}
-use Rattle.std.specs.List.{list_any}
-use Rattle.std.proofs.lemmas.Bool.{eq-eqb, eqb-true}
+use Rattle.std.proofs.Common.{◌≡◌, ℕ, ◌+◌, ◌-◌, ◌<◌, ◌≤◌, min, List, [], ◌∷◌, ◌++◌, All, length, map, Option, Some, None, Err, refl, sym, ap, ◌∙◌, arith, subst, get_or, slice_get}
 use Rattle.std.proofs.lemmas.Option.{slice_get-get_or, slice_get_read}
 use Rattle.composables.specs.declared.calls.Extract.{Extract}
 use Rattle.composables.specs.declared.calls.Insert.{Insert}
@@ -19,8 +17,7 @@ use Rattle.composables.specs.Views.{clip_view, gap_views}
 use Rattle.edit_splice.specs.declared.shifting.Shift.{Shift}
 use Rattle.composables.specs.Answers.{unless}
 use Rattle.edit_insert.specs.Edits.{extract_named, extracted, for_range, insert_named, inserted}
-use Rattle.composables.specs.Limits.{within_limits}
-use Rattle.edit_splice.specs.Moves.{IsShiftOf, all_moved, put_views}
+use Rattle.edit_splice.specs.Moves.{IsShiftOf, put_views}
 use Rattle.composables.specs.OwnTracks.{track_numbered, with_track}
 use Rattle.edit_splice.specs.Padding.{new_views, padded_track}
 use Rattle.edit_splice.specs.Shifts.{shift_of}
@@ -31,7 +28,7 @@ use Rattle.edit_splice.proofs.Put.{Clip, PutIn, put-clip, put-only}
 use Rattle.edit_insert.proofs.Removals.{range-within}
 use Rattle.edit_splice.proofs.Moving.{frames-put}
 use Rattle.link_groups.specs.LinkedShifts.{linked_shift}
-use Rattle.link_groups.proofs.LinkedShifts.{EachUncut}
+use Rattle.link_groups.proofs.LinkedShifts.{EachUncut, within-kept}
 use Rattle.link_groups.proofs.Meant.{ends-new, outside-padded, shift-meant, uncut-moved}
 use Rattle.link_groups.proofs.Uncut.{EndsApart, cell-below, some_below}
 use Rattle.frame_meaning.specs.Render.{cell_at}
@@ -94,7 +91,7 @@ insert-allowed table c tracks ts own v number o e some numbers good fits kept f 
     ∙ shift-meant (shift_at c v) (Item number) ts (with_track ts (padded_track own c.at))
     (insert-moved (shift_at c v) ts own (subst Rise (sym numbers) (tracks-rise tracks)) o.found kept refl)
     (outside-padded ts own c.at c.at (subst (λ (n : ℕ). All (λ (t : TrackState). t.number ≡ n → t ≡ own) ts) (sym o.number) o.only))
-    (omega arith) fits (insert-uncut table c ts own v number o some f g good))))
+    (omega arith) (within-kept (shift_at c v) ts (omega arith) fits) (insert-uncut table c ts own v number o some f g good))))
 
 pub insert-put : (table : Table) (c : Insert) (ts : List TrackState) (own : TrackState) (v : ItemView) (number : ℕ) → IsOwn c.track ts own → Clip table c.what c.from c.len
     → number ≡ own.next_item → v ≡ clip_view number c.what c.from c.len → All (λ (t : TrackState). PutIn table t (put_views (shift_at c v) t)) ts
@@ -131,7 +128,7 @@ extract-found table c ts own x y o e good fits kept =
     let within = range-within own c.item x y kept e in
     for-found c.track (extracted c ts) ts own o.found
     ∙ (ap (λ (r : Option (ℕ × ℕ)). for_range (λ x y. shift_of c.track x y [] Plain ts) r) e
-    ∙ shift-meant (shift_out c x y) Plain ts ts (extract-moved (shift_out c x y) ts (out-long c ts own x y o within)) refl within.0 fits (out-uncut table c ts own x y o within good))
+    ∙ shift-meant (shift_out c x y) Plain ts ts (extract-moved (shift_out c x y) ts (out-long c ts own x y o within)) refl within.0 (within-kept (shift_out c x y) ts within.0 fits) (out-uncut table c ts own x y o within good))
 
 pub extract-put : (table : Table) (c : Extract) (ts : List TrackState) (x y : ℕ) → All (λ (t : TrackState). PutIn table t (put_views (shift_out c x y) t)) ts
 extract-put table c ts x y k d lt = put-shift table (shift_out c x y) (get_or ts k d) (λ e. put-only table (get_or ts k d) (x - length (get_or ts k d).cells))
@@ -139,22 +136,6 @@ extract-put table c ts x y k d lt = put-shift table (shift_out c x y) (get_or ts
 pub all-shifts : (table : Table) (s : Shift) (ts : List TrackState) → All (IsGood table) ts → All (λ (t : TrackState). IsRoomy t) ts → All (λ (t : TrackState). PutIn table t (put_views s t)) ts
     → All (λ (t : TrackState). IsShiftOf s t) ts
 all-shifts table s ts g r p k d lt = is-shift table s (get_or ts k d) (g k d lt) (r k d lt) (p k d lt)
-
--- a track that is named is found
-named_found : (n : ℕ) (ts : List TrackState) → list_any (nat_eq n) (map (λ (t : TrackState). t.number) ts) ≡ true → track_numbered n ts ≡ None → ⊥
-named_found n [] e f = Prim.grind (arith, e)
-named_found n (t ∷ ts) e f = by (eqb t.number n) (eqb n t.number) refl refl e f (named_found n ts) where
-  by : (a b : Bool) → eqb t.number n ≡ a → eqb n t.number ≡ b → (b || list_any (nat_eq n) (map (λ (t : TrackState). t.number) ts)) ≡ true → cond a (Some t) (track_numbered n ts) ≡ None
-      → (list_any (nat_eq n) (map (λ (t : TrackState). t.number) ts) ≡ true → track_numbered n ts ≡ None → ⊥) → ⊥
-  by true b g h e f later = Prim.grind (arith, f)
-  by false true g h e f later =
-      let same : t.number ≡ n = sym (eqb-true n t.number h) in
-      let no : true ≡ false = sym (eq-eqb t.number n same) ∙ g in
-      Prim.grind (arith, no)
-  by false false g h e f later = later e f
-
-pub named-found : (n tracks : ℕ) (ts : List TrackState) → map (λ (t : TrackState). t.number) ts ≡ tracks_in tracks → list_any (nat_eq n) (tracks_in tracks) ≡ true → track_numbered n ts ≡ None → ⊥
-named-found n tracks ts e f g = named_found n ts (ap (list_any (nat_eq n)) e ∙ f) g
 
 pub each-stays : (table : Table) (s : Shift) (ts : List TrackState) → s.x ≤ s.y → All (IsGood table) ts → All (λ (t : TrackState). PutIn table t (put_views s t)) ts → All (StaysMoved table s) ts
 each-stays table s ts le g p k d lt = put-moved table s (get_or ts k d) le (g k d lt) (p k d lt)

@@ -1,5 +1,6 @@
 -- A shift as it is meant, over the named tracks, and what the code does on each of them.
-use Rattle.std.proofs.Common.{◌≡◌, ◌≢◌, ℕ, zero, suc, ◌-◌, ◌<◌, ◌≤◌, Bool, true, false, cond, eqb, ltb, List, [], ◌∷◌, ◌++◌, All, get_or, length, map, min, unwrap_or, Option, Some, None, Result, Ok, Err, refl, sym, ap, ◌∙◌, arith, subst}
+use Rattle.std.proofs.Common.{◌≡◌, ◌≢◌, ℕ, zero, suc, ◌-◌, ◌<◌, ◌≤◌, Bool, true, false, cond, eqb, ltb, List, [], ◌∷◌, ◌++◌, All, length, map, min, unwrap_or, Option, Some, None, Result, Ok, Err, refl, sym, ap, ◌∙◌, arith, subst, ◌||◌, nat_eq}
+use Rattle.std.specs.List.{list_any}
 use Rattle.std.proofs.lemmas.Bool.{eq-eqb, eqb-true}
 use Rattle.std.proofs.lemmas.List.Elements.{All-cons}
 use Rattle.composables.specs.declared.items.ItemView.{ItemView}
@@ -21,7 +22,7 @@ use Rattle.edit_splice.specs.declared.shifting.Shift.{Shift}
 use Rattle.composables.specs.Answers.{Answers, unless}
 use Rattle.composables.specs.Limits.{too_long, too_many, within_limits}
 use Rattle.edit_splice.specs.Moves.{IsShiftOf, all_moved, moved, put_views}
-use Rattle.composables.specs.OwnTracks.{for_own, track_numbered, with_track}
+use Rattle.composables.specs.OwnTracks.{for_own, track_numbered, with_track, numbers_of}
 use Rattle.edit_splice.specs.Padding.{new_len, new_views, padded_track}
 use Rattle.edit_splice.specs.Shifts.{shifted, shifted_along, shifted_track}
 use Rattle.edit_splice.specs.Laws.{IsWithinLimits}
@@ -61,9 +62,6 @@ pub tracks-rise : (s : ℕ) → Rise (tracks_in s)
 unfolding tracks_in
 tracks-rise s = set_rises s 0 32
 
-abbrev numbers_of : List TrackState → List ℕ
-numbers_of ts = map (λ (t : TrackState). t.number) ts
-
 -- the track with a number is the only one with it
 pub is-numbered : (n : ℕ) (ts : List TrackState) (t : TrackState) → track_numbered n ts ≡ Some t → t.number ≡ n
 is-numbered n [] t e = absurd (Prim.grind (arith, e))
@@ -75,6 +73,22 @@ is-numbered n (u ∷ ts) t e = by (eqb u.number n) refl e (is-numbered n ts t) w
 others : (n : ℕ) (ts : List TrackState) → Above n (numbers_of ts) → All (λ (t : TrackState). t.number ≢ n) ts
 others n [] a = all_none (λ (t : TrackState). t.number ≢ n)
 others n (t ∷ ts) a = All-cons (λ (t : TrackState). t.number ≢ n) t ts (λ e. omega (arith, e, a.0)) (others n ts a.1)
+
+-- a track that is named is found
+named_found : (n : ℕ) (ts : List TrackState) → list_any (nat_eq n) (numbers_of ts) ≡ true → track_numbered n ts ≡ None → ⊥
+named_found n [] e f = Prim.grind (arith, e)
+named_found n (t ∷ ts) e f = by (eqb t.number n) (eqb n t.number) refl refl e f (named_found n ts) where
+  by : (a b : Bool) → eqb t.number n ≡ a → eqb n t.number ≡ b → (b || list_any (nat_eq n) (numbers_of ts)) ≡ true → cond a (Some t) (track_numbered n ts) ≡ None
+      → (list_any (nat_eq n) (numbers_of ts) ≡ true → track_numbered n ts ≡ None → ⊥) → ⊥
+  by true b g h e f later = Prim.grind (arith, f)
+  by false true g h e f later =
+      let same : t.number ≡ n = sym (eqb-true n t.number h) in
+      let no : true ≡ false = sym (eq-eqb t.number n same) ∙ g in
+      Prim.grind (arith, no)
+  by false false g h e f later = later e f
+
+pub named-found : (n tracks : ℕ) (ts : List TrackState) → map (λ (t : TrackState). t.number) ts ≡ tracks_in tracks → list_any (nat_eq n) (tracks_in tracks) ≡ true → track_numbered n ts ≡ None → ⊥
+named-found n tracks ts e f g = named_found n ts (ap (list_any (nat_eq n)) e ∙ f) g
 
 pub only-one : (n : ℕ) (ts : List TrackState) (own : TrackState) → Rise (numbers_of ts) → track_numbered n ts ≡ Some own → All (λ (t : TrackState). t.number ≡ n → t ≡ own) ts
 only-one n [] own r e = all_none (λ (t : TrackState). t.number ≡ n → t ≡ own)

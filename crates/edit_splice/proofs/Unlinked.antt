@@ -1,31 +1,15 @@
 -- Tracks without links have none that an edit splits or refuses.
-use Rattle.std.proofs.Common.{◌≡◌, ℕ, zero, suc, ◌+◌, ◌-◌, Bool, true, false, cond, eqb, ltb, min, unwrap_or, List, [], ◌∷◌, ◌++◌, All, map, take, drop, filter, length, Option, Some, None, refl, ap, ◌∙◌, arith, subst}
-use Rattle.std.specs.List.{list_any}
-use Rattle.std.proofs.lemmas.List.{take-append-drop}
+use Rattle.std.proofs.Common.{◌≡◌, ℕ, zero, suc, ◌+◌, ◌-◌, Bool, true, false, cond, eqb, List, [], ◌∷◌, ◌++◌, map, drop, Option, Some, None, refl, ap, ◌∙◌, arith}
 use Rattle.frame_meaning.specs.declared.cells.Cell.{Cell}
 use Rattle.frame_meaning.specs.declared.cells.Link.{Link}
 use Rattle.frame_meaning.specs.declared.cells.What.{What}
 use Rattle.frame_meaning.specs.declared.frames.Side.{Side}
-use Rattle.frame_meaning.specs.Cells.{span, next_side, same_number}
+use Rattle.frame_meaning.specs.Cells.{span, next_side}
 use Rattle.composables.specs.declared.items.ItemView.{ItemView}
-use Rattle.composables.specs.declared.refusals.Refusal.{Refusal}
-use Rattle.composables.specs.Good.{AllUnlinked, IsGood}
-use Rattle.composables.specs.Items.{cells_of, items_of, marked, view_cells}
-use Rattle.composables.specs.TrackFacts.{IsKept}
-use Rattle.composables.specs.TrackState.{TrackState, next_past_all}
-use Rattle.composables.specs.Joined.{frames_in}
-use Rattle.composables.specs.Links.{cells_before, cells_from, least_link, least_outside, link_before, link_outside, links_in, links_split, links_with, links_with_any, moved_cell, moved_link, outside, outside_refusal, same_link, split_track}
-use Rattle.edit_splice.specs.Shifts.{after_shift, shift_of, shift_refusal, shifted, shifted_along}
-use Rattle.frame_meaning.specs.Splice.{Rule, kept_or_dropped, renumbered, split_item, with_marks}
-use Rattle.composables.specs.declared.media.Table.{Table}
-use Rattle.composables.specs.declared.refusals.Done.{Done}
-use Rattle.composables.specs.Views.{gap_view, gap_views}
-use Rattle.edit_splice.specs.Splicing.{spliced_track}
-use Rattle.composables.specs.Answers.{unless}
-use Rattle.composables.specs.Limits.{within_limits}
-use Rattle.composables.specs.OwnTracks.{track_numbered, with_track}
-use Rattle.edit_splice.specs.Padding.{padded_track}
-use Rattle.edit_splice.proofs.Standing.{all_head, all_tail}
+use Rattle.composables.specs.Items.{marked}
+use Rattle.composables.specs.TrackState.{TrackState}
+use Rattle.composables.specs.Links.{cells_from, least_link, least_outside, link_before, link_outside, links_in, links_with, links_with_any, moved_cell, moved_link, outside, outside_refusal, same_link}
+use Rattle.edit_splice.specs.Shifts.{shift_refusal}
 
 -- no link in a list with a link
 never : (l : Link) (ls : List Link) → links_with l ls ≡ [] → ⊥

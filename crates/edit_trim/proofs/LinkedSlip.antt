@@ -1,5 +1,5 @@
 -- A slip of all that has a link, by the delta that suits it.
-use Rattle.std.proofs.Common.{◌≡◌, ℕ, zero, suc, ℤ, List, map, Option, Some, None, Result, Ok, Err, refl, sym, ap, ◌∙◌, arith, subst, w32, to_z, of_z, SFits, Bool}
+use Rattle.std.proofs.Common.{◌≡◌, ℕ, zero, suc, ℤ, List, map, Option, Some, None, Result, Ok, refl, sym, ap, ◌∙◌, arith, subst, w32, to_z, of_z, SFits, Bool}
 use Rattle.std.proofs.lemmas.Int.{to_z-of_z}
 use Rattle.frame_meaning.specs.declared.cells.Link.{Link}
 use Rattle.composables.specs.declared.calls.Slip.{Slip}

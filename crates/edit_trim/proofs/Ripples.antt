@@ -42,7 +42,7 @@ use Rattle.edit_splice.proofs.Bridging.{extract-moved}
 use Rattle.composables.specs.Views.{gap_views}
 use Rattle.edit_splice.specs.Padding.{new_len}
 use Rattle.link_groups.specs.LinkedShifts.{linked_shift}
-use Rattle.link_groups.proofs.LinkedShifts.{EachUncut}
+use Rattle.link_groups.proofs.LinkedShifts.{EachUncut, within-kept}
 use Rattle.link_groups.proofs.Meant.{shift-meant}
 use Rattle.link_groups.proofs.Uncut.{EndsApart}
 use Rattle.edit_trim.proofs.Reached.{ends-nothing, reach-meant, split-reach, tail-ends, uncut-ripple}
@@ -101,7 +101,7 @@ used_earlier ts f g d (suc n) h e = ap (used_on_all ts (λ done. by_sign (f done
 -- a shift as it is made, where the own track has the places
 pub made : (s : Shift) (done : Done) (ts : List TrackState) → All (λ (t : TrackState). t.number ≡ s.own → (s.x ≤ length t.cells) × (s.y ≤ length t.cells)) ts → s.x ≤ s.y → All (IsShiftOf s) ts → EachUncut s ts
     → shift_of s.own s.x s.y (new_views s.new) done ts ≡ linked_shift s (s.x + new_len s.new) done ts
-made s done ts long order fits uncut = shift-meant s done ts ts (extract-moved s ts long) refl order fits uncut
+made s done ts long order fits uncut = shift-meant s done ts ts (extract-moved s ts long) refl order (within-kept s ts order fits) uncut
 
 -- the room of all named tracks, one after another
 and_true : (b : Bool) → b && true ≡ b

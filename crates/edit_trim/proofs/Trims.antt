@@ -1,5 +1,5 @@
 -- What a trim of an item at its place means, and what it puts in.
-use Rattle.std.proofs.Common.{◌≡◌, ℕ, ◌+◌, ◌-◌, ◌<◌, ◌≤◌, ◌^◌, Bool, true, false, ◌&&◌, leb, min, ℤ, List, [], ◌∷◌, length, Option, Some, None, Result, Ok, Err, refl, sym, ap, ◌∙◌, arith, subst, w32, SFits, to_z, of_z, option_map}
+use Rattle.std.proofs.Common.{◌≡◌, ℕ, ◌+◌, ◌-◌, ◌<◌, ◌≤◌, ◌^◌, Bool, true, false, ◌&&◌, leb, min, ℤ, List, [], ◌∷◌, length, Option, Some, Result, Ok, refl, sym, ap, ◌∙◌, arith, subst, w32, SFits, to_z, of_z, option_map}
 use Rattle.std.proofs.lemmas.Int.{to_z-of_z}
 use Rattle.std.proofs.lemmas.Bool.{leb-true}
 use Rattle.frame_meaning.specs.declared.cells.Cell.{Cell}
@@ -12,7 +12,6 @@ use Rattle.composables.specs.declared.calls.End.{End}
 use Rattle.composables.specs.declared.calls.Trim.{Trim}
 use Rattle.composables.specs.declared.items.ItemView.{ItemView}
 use Rattle.composables.specs.declared.items.Place.{Place}
-use Rattle.composables.specs.declared.refusals.Refusal.TheVariants.{NoItem}
 use Rattle.composables.specs.Ranges.{range_of}
 use Rattle.edit_delta.specs.Using.{on_range}
 use Rattle.composables.specs.declared.media.Table.{Table}

@@ -1,11 +1,9 @@
 -- The numbers that entries bear do not matter for what they come to: with other numbers any list of entries that apply
 -- is a legal history.
-use Rattle.std.proofs.Common.{◌≡◌, ℕ, suc, ◌+◌, ◌<◌, ◌≤◌, List, [], ◌∷◌, length, Option, Some, None, Result, IsSome, take, get_or, refl, ap, ◌∙◌, arith}
+use Rattle.std.proofs.Common.{◌≡◌, ℕ, suc, ◌<◌, ◌≤◌, List, [], ◌∷◌, length, Option, Some, None, Result, IsSome, refl, ap, ◌∙◌, arith}
 use Rattle.std.specs.List.{fold}
-use Rattle.std.proofs.Math.Seq.{take-suc}
 use Rattle.room_core.specs.History.{after_entry, replay, state_in, RiseAfter, NumbersRise, most_entries, IsLegal}
 use Rattle.room_core.specs.declared.entry.Entry.{Entry}
-use Rattle.room_core.proofs.Histories.{replay-more}
 
 abbrev renumbered : {C : Type 0} → ℕ → List (Entry C) → List (Entry C)
 renumbered number [] = []

@@ -1,7 +1,7 @@
 -- The digits at the front of a list.
 use Rattle.std.proofs.Common.{◌≡◌, ℕ, ◌+◌, ◌-◌, ◌*◌, ◌≤◌, ◌<◌, Bool, true, false, cond, List, [], ◌∷◌, ◌++◌, length, take, drop, get_or, refl, sym, ap, ◌∙◌, arith}
 use Rattle.std.proofs.lemmas.Bool.Decides.{nat_tests}
-use Rattle.std.proofs.lemmas.List.{take_more, take_all, take_at, drop_at, at_drop_more, at_drop_all, length-append}
+use Rattle.std.proofs.lemmas.List.{take_more, take_at, drop_at, at_drop_all, length-append}
 use Rattle.std.proofs.lemmas.List.Elements.{All-from_recursion}
 use Rattle.std.specs.List.{AllByRecursion}
 use Rattle.json_tokens.specs.ReadingNumerals.{digits_of, past_digits, is_digit, AreDigits}

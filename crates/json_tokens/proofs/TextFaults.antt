@@ -7,7 +7,7 @@ use Rattle.json_tokens.specs.Reading.{◌>>=◌, Read, byte_at}
 use Rattle.json_tokens.specs.ReadingTexts.{character_at, unless_closed, with_character, text_at}
 use Rattle.json_tokens.specs.Grammar.{IsCharacter}
 use Rattle.json_tokens.specs.Faults.{IsLawful}
-use Rattle.json_tokens.proofs.Tools.{bind_ok, ok_is, byte_took, byte_other}
+use Rattle.json_tokens.proofs.Tools.{byte_other}
 use Rattle.json_tokens.proofs.TextLaws.{CharacterTook, CharacterAgain, NoQuote, no_quote, character_took, character_again, text_took, text_again}
 use Rattle.json_tokens.proofs.FirstBytes.{SameFirst, same_behind, same_none}
 use Rattle.json_tokens.proofs.Halts.{IsToldBy, halt_stuck, lawful_behind, told_behind, Halts, bind_err, err_is}

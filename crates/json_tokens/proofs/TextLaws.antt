@@ -258,9 +258,6 @@ pub record TextTook (at : ℕ) (bytes : List ℕ) (x : List ℕ × ℕ × List �
   pub place : x.1 ≡ at + length body + 1
   pub is : IsText body x.0
 
-found_text : List ℕ → ℕ → List ℕ → List ℕ × ℕ × List ℕ
-found_text s at rest = (s, at, rest)
-
 text_closed : (at : ℕ) (bytes : List ℕ) (after : ℕ × List ℕ) (x : List ℕ × ℕ × List ℕ) → byte_at 34 at bytes ≡ Some after → ◌≡◌ {A = Read (List ℕ)} (Ok ([], after.0, after.1)) (Ok x) → TextTook at bytes x
 text_closed at bytes after x e h =
     let b = byte_took 34 at bytes after e in

@@ -8,9 +8,6 @@ pub bind_ok : {A B F : Type 0} (r : Result A F) (f : A → Result B F) (y : B) �
 bind_ok (Ok x) f y e = (x, refl, e)
 bind_ok (Err d) f y e = absurd cc
 
-abbrev done : {A F : Type 0} → A → Result A F
-done x = Ok x
-
 pub ok_is : {A F : Type 0} (x y : A) → ◌≡◌ {A = Result A F} (Ok x) (Ok y) → x ≡ y
 ok_is x y e = cc
 

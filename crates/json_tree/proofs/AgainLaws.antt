@@ -61,9 +61,6 @@ pub record Starts (b : ℕ) : Type 0 where
   pub no_brace : b ≢ 125
   pub no_colon : b ≢ 58
 
-starts_with : (b c : ℕ) → b ≡ c → Starts c → Starts b
-starts_with b c e h = subst Starts (sym e) h
-
 starts_no_blank : (b : ℕ) (bs : List ℕ) → Starts b → NoBlank (b ∷ bs)
 starts_no_blank b bs h =
     or_from _ _ (or_from _ _ (or_from _ _ (ne_eqb b 32 (λ e. omega (arith, h.above))) (ne_eqb b 9 (λ e. omega (arith, h.above)))) (ne_eqb b 10 (λ e. omega (arith, h.above)))) (ne_eqb b 13 (λ e. omega (arith, h.above)))

@@ -7,7 +7,7 @@ unfolding inner_at
 none_inside zero e = refl
 none_inside (suc levels) e = absurd (omega arith)
 
-one_less : (levels : ℕ) → suc levels - 1 ≡ levels
+pub one_less : (levels : ℕ) → suc levels - 1 ≡ levels
 one_less levels = omega arith
 
 pub some_inside : (levels : ℕ) → 0 < levels → inner_at levels ≡ Some (value_at (levels - 1))

@@ -1,5 +1,5 @@
 -- One more in a list or an object.
-use Rattle.std.proofs.Common.{◌≡◌, ℕ, suc, ◌-◌, List, [], ◌∷◌, ◌++◌, map, arith}
+use Rattle.std.proofs.Common.{List, [], ◌∷◌, ◌++◌, map, ℕ}
 use Rattle.std.specs.Str.{IsUtf8}
 use Rattle.std.proofs.lemmas.List.{map_push}
 use Rattle.json_tree.specs.Tree.{Tree, trees, members}
@@ -21,6 +21,3 @@ named_more (n ∷ ms) m h u s = (h.0, h.1, named_more ms m h.2 u s)
 
 pub members_sound : (ms : List Member) (m : Member) → AreSoundMembers (members (map member_of ms)) → IsUtf8 m.name → IsSound (tree_of m.value) → AreSoundMembers (members (map member_of (ms ++ m ∷ [])))
 members_sound ms m h u s = rw (map_push member_of ms m) (named_more (map member_of ms) (member_of m) h u s)
-
-one_less : (levels : ℕ) → suc levels - 1 ≡ levels
-one_less levels = omega arith

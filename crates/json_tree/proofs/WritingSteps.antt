@@ -2,6 +2,7 @@
 use Rattle.std.proofs.Common.{◌≡◌, ℕ, zero, suc, ◌+◌, ◌-◌, ◌/◌, ◌%◌, ◌^◌, ◌≤◌, ◌<◌, List, [], ◌∷◌, ◌++◌, length, map, get_or, refl, sym, ap, append_assoc, arith}
 use Rattle.std.proofs.lemmas.Bool.{lt-ltb, le-ltb}
 use Rattle.std.proofs.Math.Nat.{one-le-pow}
+use Rattle.json_tree.proofs.Levels.{one_less}
 use Rattle.json_tree.specs.Tree.{Tree, trees, members}
 use Rattle.json_tree.specs.View.{tree_of, member_of}
 use Rattle.json_tree.specs.Size.{tree_size, items_size, named_size}
@@ -29,9 +30,6 @@ unfolding digits_needed
 needed_last n count le =
     let k : 18 - count ≡ 0 = omega arith in
     rw k refl
-
-one_less : (place : ℕ) → suc place - 1 ≡ place
-one_less place = omega arith
 
 pub digit_first : (n place : ℕ) → 0 < place → last_digits n place ≡ (48 + n / 10 ^ (place - 1) % 10) ∷ last_digits n (place - 1)
 digit_first n zero h = absurd (omega arith)

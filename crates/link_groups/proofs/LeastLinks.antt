@@ -1,6 +1,6 @@
 -- The least link that reaches a track which is not named, item by item and track by track.
-use Rattle.std.proofs.Common.{◌≡◌, ℕ, zero, suc, ◌+◌, ◌-◌, ◌<◌, ◌≤◌, ◌^◌, ◌⊎◌, inl, inr, Bool, true, false, cond, eqb, ltb, not, ◌&&◌, ◌||◌, List, [], ◌∷◌, ◌++◌, drop, take, length, get_or, Option, Some, None, refl, sym, ap, ◌∙◌, arith, subst, slice_get, ⊎_elim, append_assoc}
-use Rattle.std.proofs.lemmas.Bool.{eqb-true, eqb-false, ltb-true, ltb-false, cases_lt}
+use Rattle.std.proofs.Common.{◌≡◌, ℕ, zero, suc, ◌+◌, ◌-◌, ◌<◌, ◌≤◌, ◌^◌, ◌⊎◌, inl, inr, Bool, true, false, cond, not, ◌&&◌, List, [], ◌∷◌, ◌++◌, drop, take, length, get_or, Option, Some, None, refl, sym, ap, ◌∙◌, arith, subst, slice_get, ⊎_elim, append_assoc}
+use Rattle.std.proofs.lemmas.Bool.{cases_lt}
 use Rattle.std.proofs.lemmas.List.{append-nil, drop_all, drop-append-le, take_more, take_all}
 use Rattle.std.proofs.lemmas.Option.{slice_get_within, get_or_from_slice_get}
 use Rattle.std.proofs.Math.Seq.{drop-append-add}
@@ -19,53 +19,14 @@ use Rattle.composables.specs.TrackSets.{has_track, tracks_from, tracks_in}
 use Rattle.composables.specs.TrackState.{TrackState}
 use Rattle.composables.proofs.Frames.{frames_in-append, frames_in-take_le, no_view}
 use Rattle.composables.proofs.Joining.{cells_of-append, length-cells_of}
-
--- the order of links
-
-abbrev Before : Link → Link → Type 0
-Before k l = (k.home < l.home) ⊎ ((k.home ≡ l.home) × (k.number < l.number))
-
-is_before : (k l : Link) → link_before k l ≡ true → Before k l
-is_before k l e = by (ltb k.home l.home) (eqb k.home l.home) (ltb k.number l.number) refl refl refl e where
-  by : (a b c : Bool) → ltb k.home l.home ≡ a → eqb k.home l.home ≡ b → ltb k.number l.number ≡ c → a || (b && c) ≡ true → Before k l
-  by true b c f g h e = inl (ltb-true k.home l.home f)
-  by false true true f g h e = inr (eqb-true k.home l.home g, ltb-true k.number l.number h)
-  by false true false f g h e = absurd cc
-  by false false c f g h e = absurd cc
-
-not_before : (k l : Link) → link_before k l ≡ false → Before k l → ⊥
-not_before k l e = by (ltb k.home l.home) (eqb k.home l.home) (ltb k.number l.number) refl refl refl e where
-  by : (a b c : Bool) → ltb k.home l.home ≡ a → eqb k.home l.home ≡ b → ltb k.number l.number ≡ c → a || (b && c) ≡ false → Before k l → ⊥
-  by true b c f g h e p = absurd cc
-  by false b c f g h e (inl less) = omega (arith, ltb-false k.home l.home f, less)
-  by false true true f g h e (inr p) = absurd cc
-  by false true false f g h e (inr p) = omega (arith, ltb-false k.number l.number h, p.1)
-  by false false c f g h e (inr p) = eqb-false k.home l.home g p.0
-
-before_is : (k l : Link) → Before k l → link_before k l ≡ true
-before_is k l p = by (link_before k l) refl where
-  by : (b : Bool) → link_before k l ≡ b → b ≡ true
-  by true e = refl
-  by false e = absurd (not_before k l e p)
-
-not_is : (k l : Link) → (Before k l → ⊥) → link_before k l ≡ false
-not_is k l n = by (link_before k l) refl where
-  by : (b : Bool) → link_before k l ≡ b → b ≡ false
-  by true e = absurd (n (is_before k l e))
-  by false e = refl
-
-before_trans : (k l m : Link) → Before k l → Before l m → Before k m
-before_trans k l m (inl a) (inl b) = inl (omega (arith, a, b))
-before_trans k l m (inl a) (inr b) = inl (omega (arith, a, b.0))
-before_trans k l m (inr a) (inl b) = inl (omega (arith, a.0, b))
-before_trans k l m (inr a) (inr b) = inr (a.0 ∙ b.0, omega (arith, a.1, b.1))
+use Rattle.link_groups.proofs.LinkOrder.{Before, is-before, not-before, before-is, not-is, before-then}
 
 -- what is before m is before l, or l is before m
 before_cases : (k l m : Link) → Before k m → Before k l ⊎ Before l m
 before_cases k l m p = by (link_before k l) refl where
   by : (b : Bool) → link_before k l ≡ b → Before k l ⊎ Before l m
-  by true e = inl (is_before k l e)
-  by false e = inr (behind p (not_before k l e)) where
+  by true e = inl (is-before k l e)
+  by false e = inr (behind p (not-before k l e)) where
     behind : Before k m → (Before k l → ⊥) → Before l m
     behind p n = at (cases_lt k.home l.home) p where
       at : (k.home < l.home) ⊎ (l.home ≤ k.home) → Before k m → Before l m
@@ -88,7 +49,7 @@ three l m n = by (link_before n m) (link_before m l) refl refl where
   by : (a b : Bool) → link_before n m ≡ a → link_before m l ≡ b → least_link (Some l) (least_link (Some m) (Some n)) ≡ least_link (least_link (Some l) (Some m)) (Some n)
   by true true e f =
       ap (least_link (Some l)) (least_both m n true e)
-      ∙ (least_both l n true (before_is n l (before_trans n m l (is_before n m e) (is_before m l f)))
+      ∙ (least_both l n true (before-is n l (before-then n m l (is-before n m e) (is-before m l f)))
       ∙ sym (ap (λ (o : Option Link). least_link o (Some n)) (least_both l m true f) ∙ least_both m n true e))
   by true false e f =
       ap (least_link (Some l)) (least_both m n true e)
@@ -101,7 +62,7 @@ three l m n = by (link_before n m) (link_before m l) refl refl where
       ap (least_link (Some l)) (least_both m n false e)
       ∙ (least_both l m false f
       ∙ sym (ap (λ (o : Option Link). least_link o (Some n)) (least_both l m false f)
-      ∙ least_both l n false (not_is n l (λ p. ⊎_elim (not_before n m e) (not_before m l f) (before_cases n m l p)))))
+      ∙ least_both l n false (not-is n l (λ p. ⊎_elim (not-before n m e) (not-before m l f) (before_cases n m l p)))))
 
 pub least-assoc : (a b c : Option Link) → least_link a (least_link b c) ≡ least_link (least_link a b) c
 least-assoc None b c = refl

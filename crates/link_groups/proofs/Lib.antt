@@ -3,6 +3,7 @@ pub mod Found
 pub mod Linked
 pub mod NamedSets
 pub mod Named
+pub mod LinkOrder
 pub mod LeastLinks
 pub mod Elsewhere
 pub mod SplitKeys

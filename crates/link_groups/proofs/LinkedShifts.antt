@@ -1,5 +1,5 @@
 -- Shifts that split links, item by item and cell by cell.
-use Rattle.std.proofs.Common.{◌≡◌, ℕ, zero, suc, ◌+◌, ◌-◌, ◌*◌, ◌<◌, ◌≤◌, ◌^◌, Bool, true, false, cond, eqb, ltb, List, [], ◌∷◌, ◌++◌, All, take, drop, map, length, unwrap_or, Option, Some, None, Result, Ok, Err, refl, sym, ap, ◌∙◌, arith, subst, get_or}
+use Rattle.std.proofs.Common.{◌≡◌, ℕ, zero, suc, ◌+◌, ◌-◌, ◌*◌, ◌<◌, ◌≤◌, ◌^◌, Bool, true, false, cond, eqb, ltb, List, [], ◌∷◌, ◌++◌, All, take, drop, map, length, unwrap_or, Option, Some, None, Ok, refl, sym, ap, ◌∙◌, arith, subst, get_or}
 use Rattle.std.specs.List.{list_any}
 use Rattle.std.specs.BTreeMap.{get}
 use Rattle.std.specs.Ordering.{nat_cmp}
@@ -91,13 +91,17 @@ split-moved s ts order kept uncut =
     ∙ sym (each-cells ts (split_links s.x s.y ts) (s.x + new_len s.new) (all_moved s ts) (all_mapped s (λ (t : TrackState). IsKept t) ts kept)
     (all_mapped s (λ (t : TrackState). IsUncut (s.x + new_len s.new) t) ts (λ k d lt. uncut k d lt (kept k d lt)))))
 
-pub within-kept : (s : Shift) (ts : List TrackState) → s.x ≤ s.y → All (IsShiftOf s) ts → too_long (all_moved s ts) ≡ None → too_many (all_moved s ts) ≡ None → All (λ (t : TrackState). IsKept (moved s t)) ts
+-- tracks within the limits are kept by what moves on them
+abbrev pub KeptWithin : Shift → List TrackState → Type 0
+KeptWithin s ts = too_long (all_moved s ts) ≡ None → too_many (all_moved s ts) ≡ None → All (λ (t : TrackState). IsKept (moved s t)) ts
+
+pub within-kept : (s : Shift) (ts : List TrackState) → s.x ≤ s.y → All (IsShiftOf s) ts → KeptWithin s ts
 within-kept s ts order fits long many k d lt = (fits k d lt).stays order (record { frames = short-all s ts long k d lt; items = few-all s ts many k d lt })
 
 -- a shift as it is meant, cell by cell
-pub shift-items : (s : Shift) (done : Done) (ts : List TrackState) → s.x ≤ s.y → All (IsShiftOf s) ts → EachUncut s ts
+pub shift-items : (s : Shift) (done : Done) (ts : List TrackState) → s.x ≤ s.y → KeptWithin s ts → EachUncut s ts
     → unless (linked_refusal s ts) (within_limits (cond (eqb (new_len s.new) (s.y - s.x)) (all_moved s ts) (links_split s.x (s.x + new_len s.new) (all_moved s ts))) done) ≡ linked_shift s (s.x + new_len s.new) done ts
-shift-items s done ts order fits uncut = ap (unless (linked_refusal s ts)) (by (eqb (new_len s.new) (s.y - s.x))) where
+shift-items s done ts order kept uncut = ap (unless (linked_refusal s ts)) (by (eqb (new_len s.new) (s.y - s.x))) where
   z : ℕ
   z = s.x + new_len s.new
 
@@ -112,7 +116,7 @@ shift-items s done ts order fits uncut = ap (unless (linked_refusal s ts)) (by (
       ≡ unless {A = List TrackState × Done} a (unless {A = List TrackState × Done} b (Ok (map (split_items ts (split_links s.x s.y ts) (s.x + new_len s.new)) (all_moved s ts), done)))
   at (Some r) b e f = refl
   at None (Some r) e f = refl
-  at None None e f = ap (λ (us : List TrackState). Ok (us, done)) (split-moved s ts order (within-kept s ts order fits e f) uncut)
+  at None None e f = ap (λ (us : List TrackState). Ok (us, done)) (split-moved s ts order (kept e f) uncut)
 
   by : (b : Bool) → within_limits (cond b (all_moved s ts) (links_split s.x (s.x + new_len s.new) (all_moved s ts))) done
       ≡ unless_over (all_moved s ts) (Ok (cond b (all_moved s ts) (map (split_items ts (split_links s.x s.y ts) (s.x + new_len s.new)) (all_moved s ts)), done))

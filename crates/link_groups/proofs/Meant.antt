@@ -24,7 +24,7 @@ use Rattle.composables.specs.Views.{gap_view, gap_views}
 use Rattle.composables.proofs.Frames.{frames_in-append, frames_in-take_le}
 use Rattle.composables.proofs.Joining.{length-cells_of}
 use Rattle.edit_splice.specs.declared.shifting.Shift.{Shift}
-use Rattle.edit_splice.specs.Moves.{IsShiftOf, all_moved, moved, put_views}
+use Rattle.edit_splice.specs.Moves.{all_moved, moved, put_views}
 use Rattle.edit_splice.specs.Padding.{new_len, new_views, padded_track}
 use Rattle.edit_splice.specs.Shifts.{shift_of, shift_refusal, shifted}
 use Rattle.edit_splice.proofs.Moving.{frames-put, frames_new, length-none, put-along, put-own}
@@ -33,18 +33,18 @@ use Rattle.edit_splice.proofs.Padding.{frames-gap}
 use Rattle.link_groups.specs.LinkedShifts.{linked_shift}
 use Rattle.link_groups.specs.Renumbering.{IsUncut, MayBeSplit}
 use Rattle.link_groups.proofs.LeastLinks.{frames-more}
-use Rattle.link_groups.proofs.LinkedShifts.{EachUncut, shift-items}
+use Rattle.link_groups.proofs.LinkedShifts.{EachUncut, KeptWithin, shift-items}
 use Rattle.link_groups.proofs.ShiftLinks.{gap-there, least-there, links, links-drop, there, there-append}
 use Rattle.link_groups.proofs.Uncut.{EndsApart, cell-there, uncut-spliced}
 
 pub shift-meant : (s : Shift) (done : Done) (ts named : List TrackState) → shifted s.own s.x s.y (new_views s.new) named ≡ all_moved s ts
-    → link_outside named (cells_from s.y named) ≡ link_outside ts (cells_from s.y ts) → s.x ≤ s.y → All (IsShiftOf s) ts → EachUncut s ts
+    → link_outside named (cells_from s.y named) ≡ link_outside ts (cells_from s.y ts) → s.x ≤ s.y → KeptWithin s ts → EachUncut s ts
     → shift_of s.own s.x s.y (new_views s.new) done named ≡ linked_shift s (s.x + new_len s.new) done ts
-shift-meant s done ts named same outside order fits uncut =
+shift-meant s done ts named same outside order kept uncut =
     ap (λ (n : ℕ). unless (shift_refusal s.x s.y n named) (within_limits (cond (eqb n (s.y - s.x)) (shifted s.own s.x s.y (new_views s.new) named) (links_split s.x (s.x + n) (shifted s.own s.x s.y (new_views s.new) named))) done)) (frames_new s.new)
     ∙ (ap (λ (us : List TrackState). unless (shift_refusal s.x s.y (new_len s.new) named) (within_limits (cond (eqb (new_len s.new) (s.y - s.x)) us (links_split s.x (s.x + new_len s.new) us)) done)) same
     ∙ (ap (λ (r : Option Refusal). unless (cond (eqb (new_len s.new) (s.y - s.x)) None r) (within_limits (cond (eqb (new_len s.new) (s.y - s.x)) (all_moved s ts) (links_split s.x (s.x + new_len s.new) (all_moved s ts))) done)) outside
-    ∙ shift-items s done ts order fits uncut))
+    ∙ shift-items s done ts order kept uncut))
 
 -- a track made longer by dark frames has no other links
 

@@ -175,14 +175,14 @@ bare-there (v ∷ vs) h =
     ∙ (there-append (links (view_cells v)) (links (cells_of vs))
     ∙ (ap (λ (ls : List Link). ls ++ there (links (cells_of vs))) (ap there (links_marked v.mark (span v.item v.first v.link v.len)) ∙ span_there v.item v.first v.link v.len h.0) ∙ bare-there vs h.1))
 
-gap_bare : (n : ℕ) → AllUnlinked (gap_views n)
-gap_bare n = by (eqb n 0) where
+pub gap-bare : (n : ℕ) → AllUnlinked (gap_views n)
+gap-bare n = by (eqb n 0) where
   by : (b : Bool) → AllUnlinked (cond b [] (gap_view n ∷ []))
   by true = tt
   by false = (refl, tt)
 
 pub gap-there : (n : ℕ) → there (links (cells_of (gap_views n))) ≡ []
-gap-there n = bare-there (gap_views n) (gap_bare n)
+gap-there n = bare-there (gap_views n) (gap-bare n)
 
 long_of : (vs : List ItemView) → length (links (cells_of vs)) ≡ frames_in vs
 long_of vs = long_links (cells_of vs) ∙ length-cells_of vs

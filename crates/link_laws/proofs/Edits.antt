@@ -51,6 +51,7 @@ use Rattle.edit_trim.specs.Darkness.{dark_before}
 use Rattle.edit_trim.specs.Trimming.{trim_allows, trim_end, trim_track, trimmed}
 use Rattle.link_groups.specs.LinkedItems.{item_of, linked_found, linked_on}
 use Rattle.link_groups.specs.Linking.{unlink_on, where_there}
+use Rattle.link_groups.proofs.ShiftLinks.{gap-bare}
 use Rattle.link_laws.specs.Laws.{DissolvingKeepsTogether, MovingAnEndKeepsTogether, PuttingInKeepsTogether, UnlinkingKeepsTogether}
 use Rattle.link_laws.specs.Rooms.{AreAmong, IsRoom, KeepsTogether, LeavesTogether, with_tracks}
 use Rattle.link_laws.specs.Together.{Together}
@@ -58,7 +59,7 @@ use Rattle.link_laws.proofs.FreeRanges.{frames-all, gap-within, item-range, rang
 use Rattle.link_laws.proofs.LinkedRuns.{grown-on}
 use Rattle.link_laws.proofs.Runs.{runs-alike}
 use Rattle.link_laws.proofs.Sights.{Alike, Shows, alike-self, shows-alike, shows-append, shows-at, shows-drop, shows-take}
-use Rattle.link_laws.proofs.Splices.{gap-bare, keeps-bare, keeps-one, keeps-padded, length-pad, padded-runs, seen-back, seen-on}
+use Rattle.link_laws.proofs.Splices.{keeps-bare, keeps-one, keeps-padded, length-pad, padded-runs, seen-back, seen-on}
 use Rattle.link_laws.proofs.Tied.{Each, Keeps, among-numbered, each-left, each-with, good-found, kept-tied, keeps-self, keeps-then, tied-of, together-of}
 use Rattle.link_laws.proofs.Weighing.{kept-little, numbered-of}
 

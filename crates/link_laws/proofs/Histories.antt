@@ -21,9 +21,9 @@ use Rattle.link_laws.proofs.Wholes.{among-from, among-picked, ascend-of, ascend-
 
 -- one call on all tracks
 
-numbers_picked : (all : List TrackState) (least : ℕ) (names : List ℕ) → Numbered 0 all → AscendBetween least (length all) names → numbers_of (picked all names) ≡ names
-numbers_picked all least [] h a = refl
-numbers_picked all least (n ∷ ns) h a = by (slice_get all n) refl (numbers_picked all (n + 1) ns h a.2) where
+pub numbers-picked : (all : List TrackState) (least : ℕ) (names : List ℕ) → Numbered 0 all → AscendBetween least (length all) names → numbers_of (picked all names) ≡ names
+numbers-picked all least [] h a = refl
+numbers-picked all least (n ∷ ns) h a = by (slice_get all n) refl (numbers-picked all (n + 1) ns h a.2) where
   by : (o : Option TrackState) → slice_get all n ≡ o → numbers_of (picked all ns) ≡ ns → numbers_of (with_picked o (picked all ns)) ≡ n ∷ ns
   by None e rest = absurd (none-within all n e a.1)
   by (Some t) e rest =
@@ -33,16 +33,16 @@ abbrev Ordered : ℕ → Applied → Type 0
 Ordered count (Ok (us, d)) = Numbered 0 us × (length us ≡ count)
 Ordered count (Err r) = Unit {0}
 
-ordered_back : (all us : List TrackState) → Numbered 0 all → Numbered 0 (put_back all (numbers_of us) us) × (length (put_back all (numbers_of us) us) ≡ length all)
-ordered_back all [] h = (h, refl)
-ordered_back all (u ∷ us) h =
+pub ordered-back : (all us : List TrackState) → Numbered 0 all → Numbered 0 (put_back all (numbers_of us) us) × (length (put_back all (numbers_of us) us) ≡ length all)
+ordered-back all [] h = (h, refl)
+ordered-back all (u ∷ us) h =
     let z : u.number ≡ 0 + u.number = omega arith in
-    let r = ordered_back (slice_set all u.number u) us (set-numbered 0 u.number u all h z) in
+    let r = ordered-back (slice_set all u.number u) us (set-numbered 0 u.number u all h z) in
     (r.0, r.1 ∙ set-length u.number u all)
 
 ordered_whole : (all : List TrackState) (names : List ℕ) (r : Applied) → Numbered 0 all → KeepsNumbers names r → Ordered (length all) (on_whole all names r)
 ordered_whole all names (Ok (us, d)) h n =
-    subst (λ (ns : List ℕ). Numbered 0 (put_back all ns us) × (length (put_back all ns us) ≡ length all)) n (ordered_back all us h)
+    subst (λ (ns : List ℕ). Numbered 0 (put_back all ns us) × (length (put_back all ns us) ≡ length all)) n (ordered-back all us h)
 ordered_whole all names (Err why) h n = tt
 
 -- link numbers, whatever else the tracks are
@@ -51,8 +51,8 @@ low_numbered : (from : ℕ) (ts : List TrackState) → Numbered from ts → from
 low_numbered from [] h le = tt
 low_numbered from (t ∷ ts) h le = (omega (arith, h.0, le), low_numbered (from + 1) ts h.1 (omega (arith, le)))
 
-numbered_room : (all : List TrackState) → Numbered 0 all → length all ≤ 32 → IsNumbered all
-numbered_room all h few = record { apart = among-from all 0 all h refl; ascend = ascend-of 0 all h; low = low_numbered 0 all h (omega (arith, few)) }
+pub numbered-room : (all : List TrackState) → Numbered 0 all → length all ≤ 32 → IsNumbered all
+numbered-room all h few = record { apart = among-from all 0 all h refl; ascend = ascend-of 0 all h; low = low_numbered 0 all h (omega (arith, few)) }
 
 kept_numbers : (all named : List TrackState) (names : List ℕ) (r : Applied) → numbers_of named ≡ names → LeavesGiven all named r → KeepsNumbers names r
 kept_numbers all named names (Ok (us, d)) n s = s.numbers ∙ n
@@ -82,9 +82,9 @@ module _ {C : Type 0} (m : Meaning TrackState C Done Refusal) where
         × Ordered (length all) (unless_refused o (on_whole all (m.names c) (m.applied (picked all (m.names c)) c)))
     by None e =
         let a = k.names c e in
-        let n : numbers_of (picked all (m.names c)) ≡ m.names c = numbers_picked all 0 (m.names c) h a in
+        let n : numbers_of (picked all (m.names c)) ≡ m.names c = numbers-picked all 0 (m.names c) h a in
         let named : AreNamed all (picked all (m.names c)) = record { among = among-picked all (m.names c) h; ascend = ascend-picked all 0 (m.names c) h a } in
-        given_back all (m.names c) (m.applied (picked all (m.names c)) c) h a n (k.keeps c all (picked all (m.names c)) n (numbered_room all h few) named g)
+        given_back all (m.names c) (m.applied (picked all (m.names c)) c) h a n (k.keeps c all (picked all (m.names c)) n (numbered-room all h few) named g)
     by (Some r) e = (tt, tt)
 
   past_state : (es : List (Entry C)) → fold (after_entry (whole m)) None es ≡ None
@@ -117,10 +117,10 @@ module _ {C : Type 0} (table : Table) (m : Meaning TrackState C Done Refusal) wh
     by : (o : Option Refusal) → m.refuses c ≡ o → StayTogether all (unless_refused o (on_whole all (m.names c) (m.applied (picked all (m.names c)) c)))
     by None e =
         let a = k.given.names c e in
-        let n : numbers_of (picked all (m.names c)) ≡ m.names c = numbers_picked all 0 (m.names c) h a in
+        let n : numbers_of (picked all (m.names c)) ≡ m.names c = numbers-picked all 0 (m.names c) h a in
         let named : AreNamed all (picked all (m.names c)) = record { among = among-picked all (m.names c) h; ascend = ascend-picked all 0 (m.names c) h a } in
         wholes-keep table (λ named. m.applied named c) all (m.names c) (k.keeps c) h tracks a
-        (kept_numbers all (picked all (m.names c)) (m.names c) (m.applied (picked all (m.names c)) c) n (k.given.keeps c all (picked all (m.names c)) n (numbered_room all h few) named v)) g
+        (kept_numbers all (picked all (m.names c)) (m.names c) (m.applied (picked all (m.names c)) c) n (k.given.keeps c all (picked all (m.names c)) n (numbered-room all h few) named v)) g
     by (Some r) e = tt
 
   history : (all qs : List TrackState) (es : List (Entry C)) → CallsKeepTogether table (length all) m → Numbered 0 all → length all ≤ 32 → AreGiven all → Together all

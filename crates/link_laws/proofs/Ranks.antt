@@ -1,11 +1,11 @@
 -- Split links are numbered in their order: how many of them have the home of one and a smaller number.
 use Rattle.std.proofs.Common.{◌≡◌, ℕ, zero, suc, ◌+◌, ◌<◌, ◌≤◌, ◌⊎◌, inl, inr, Bool, true, false, cond, eqb, ltb, ◌&&◌, ◌||◌, max, List, [], ◌∷◌, filter, length, Option, Some, None, refl, sym, ap, ◌∙◌, arith}
-use Rattle.std.proofs.Math.Bool.{or-true}
 use Rattle.std.proofs.lemmas.Bool.{cases_lt, eq-eqb, eqb-true, le-ltb, lt-ltb, ltb-true}
 use Rattle.std.specs.List.{list_any}
 use Rattle.frame_meaning.specs.declared.cells.Cell.{Cell}
 use Rattle.frame_meaning.specs.declared.cells.Link.{Link}
 use Rattle.composables.specs.Links.{link_before, links_in, links_with, links_with_any, same_link}
+use Rattle.link_groups.proofs.LinkOrder.{Before, is-before, before-is, before-then}
 use Rattle.link_laws.specs.Weights.{given}
 use Rattle.link_laws.proofs.LinkLists.{AllLinks, AnySame, all-filter, all-with, any-same, is-same, same-is-link}
 
@@ -70,36 +70,13 @@ given-split f g s top old new = omega (arith, given_add g top (rank s top), spli
 
 -- links in order, each once
 
-abbrev pub Before : Link → Link → Type 0
-Before l k = (l.home < k.home) ⊎ ((l.home ≡ k.home) × (l.number < k.number))
-
-is_before : (l k : Link) → Before l k → link_before l k ≡ true
-is_before l k (inl lt) = ap (λ (b : Bool). b || (eqb l.home k.home && ltb l.number k.number)) (lt-ltb l.home k.home lt)
-is_before l k (inr h) =
-    ap (λ (b : Bool). ltb l.home k.home || (b && ltb l.number k.number)) (eq-eqb l.home k.home h.0)
-    ∙ (ap (λ (b : Bool). ltb l.home k.home || b) (lt-ltb l.number k.number h.1) ∙ or-true (ltb l.home k.home))
-
-before_is : (l k : Link) → link_before l k ≡ true → Before l k
-before_is l k e = by (ltb l.home k.home) (eqb l.home k.home) (ltb l.number k.number) refl refl refl e where
-  by : (a b c : Bool) → ltb l.home k.home ≡ a → eqb l.home k.home ≡ b → ltb l.number k.number ≡ c → (a || (b && c)) ≡ true → Before l k
-  by true b c f g h e = inl (ltb-true l.home k.home f)
-  by false true true f g h e = inr (eqb-true l.home k.home g, ltb-true l.number k.number h)
-  by false true false f g h e = absurd cc
-  by false false c f g h e = absurd cc
-
-before_then : (j k l : Link) → Before j k → Before k l → Before j l
-before_then j k l (inl a) (inl b) = inl (omega (arith, a, b))
-before_then j k l (inl a) (inr b) = inl (omega (arith, a, b.0))
-before_then j k l (inr a) (inl b) = inl (omega (arith, a.0, b))
-before_then j k l (inr a) (inr b) = inr (a.0 ∙ b.0, omega (arith, a.1, b.1))
-
 not_before : (b : Bool) → b ≡ false → b ≡ true → ⊥
 not_before b e f = differ (sym e ∙ f)
 
 or_after : (l k : Link) → same_link l k ≡ false → link_before l k ≡ false → Before k l
 or_after l k s b = by (cases_lt k.home l.home) (cases_lt l.home k.home) where
   apart : Before l k → ⊥
-  apart h = not_before (link_before l k) b (is_before l k h)
+  apart h = not_before (link_before l k) b (before-is l k h)
 
   equal : l.home ≡ k.home → (k.number < l.number) ⊎ (l.number ≤ k.number) → (l.number < k.number) ⊎ (k.number ≤ l.number) → Before k l
   equal e (inl x) y = inr (sym e, x)
@@ -117,14 +94,14 @@ InOrder (l ∷ ls) = AllLinks (Before l) ls × InOrder ls
 
 after_all : (l k : Link) (ls : List Link) → Before l k → AllLinks (Before k) ls → AllLinks (Before l) ls
 after_all l k [] b h = tt
-after_all l k (m ∷ ms) b h = (before_then l k m b h.0, after_all l k ms b h.1)
+after_all l k (m ∷ ms) b h = (before-then l k m b h.0, after_all l k ms b h.1)
 
 order_with : (l : Link) (ls : List Link) → InOrder ls → InOrder (links_with l ls)
 order_with l [] h = (tt, tt)
 order_with l (k ∷ ks) h = by (same_link l k) (link_before l k) refl refl (order_with l ks h.1) where
   by : (a b : Bool) → same_link l k ≡ a → link_before l k ≡ b → InOrder (links_with l ks) → InOrder (cond a (k ∷ ks) (cond b (l ∷ k ∷ ks) (k ∷ links_with l ks)))
   by true b e f later = h
-  by false true e f later = let c = before_is l k f in ((c, after_all l k ks c h.0), h)
+  by false true e f later = let c = is-before l k f in ((c, after_all l k ks c h.0), h)
   by false false e f later = (all-with (Before k) l ks (or_after l k e f) h.0, later)
 
 pub links-order : (cs : List Cell) → InOrder (links_in cs)

@@ -17,6 +17,7 @@ use Rattle.edit_splice.specs.Padding.{padded_track}
 use Rattle.edit_splice.specs.Shifts.{shifted, shifted_along, shifted_track}
 use Rattle.edit_splice.specs.Splicing.{spliced_track}
 use Rattle.edit_splice.proofs.Padding.{frames-gap}
+use Rattle.link_groups.proofs.ShiftLinks.{gap-bare}
 use Rattle.link_laws.specs.Rooms.{AreAmong}
 use Rattle.link_laws.specs.Weights.{runs_in}
 use Rattle.link_laws.proofs.Runs.{count, runs-alike, runs-append, runs-bare, runs-cut, runs-one, runs-take-left, runs-take-more}
@@ -24,7 +25,7 @@ use Rattle.link_laws.proofs.LinkLists.{Carries, carries-shows, shows-carries}
 use Rattle.link_laws.proofs.Parting.{IsParted, behind-alike, behind_of, drop-least, front-alike, front_of, is-parted, stays-past}
 use Rattle.link_laws.proofs.Shifting.{Shifts}
 use Rattle.link_laws.proofs.Sights.{Alike, Shows, alike-length, alike-sym, rebased, shows-alike, shows-append, shows-at, shows-left, shows-moved, shows-none, shows-take}
-use Rattle.link_laws.proofs.Splices.{dark-runs, gap-bare, padded-runs}
+use Rattle.link_laws.proofs.Splices.{dark-runs, padded-runs}
 use Rattle.link_laws.proofs.Tied.{Each}
 
 -- a splice within a track

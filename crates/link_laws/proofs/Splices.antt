@@ -1,5 +1,5 @@
 -- The links and offsets of a track of which a range was replaced.
-use Rattle.std.proofs.Common.{◌≡◌, ℕ, ◌+◌, ◌-◌, ◌<◌, ◌≤◌, ◌⊎◌, inl, inr, ℤ, pos, ◌-ℤ◌, Bool, true, false, cond, eqb, List, [], ◌∷◌, ◌++◌, take, drop, length, Option, Some, None, refl, sym, ap, ◌∙◌, arith, subst}
+use Rattle.std.proofs.Common.{◌≡◌, ℕ, ◌+◌, ◌-◌, ◌<◌, ◌≤◌, ◌⊎◌, inl, inr, ℤ, pos, ◌-ℤ◌, Bool, true, false, List, [], ◌∷◌, ◌++◌, take, drop, length, Option, Some, None, refl, sym, ap, ◌∙◌, arith, subst}
 use Rattle.std.proofs.lemmas.Bool.{leb-true}
 use Rattle.std.proofs.lemmas.List.{drop_all, length-append, length-take-le}
 use Rattle.frame_meaning.specs.declared.cells.Cell.{Cell}
@@ -17,12 +17,13 @@ use Rattle.composables.specs.Items.{cells_of, view_cells}
 use Rattle.composables.specs.Joined.{frames_in}
 use Rattle.composables.specs.Ranges.{offset_of}
 use Rattle.composables.specs.TrackState.{TrackState}
-use Rattle.composables.specs.Views.{gap_view, gap_views}
+use Rattle.composables.specs.Views.{gap_views}
 use Rattle.composables.proofs.Joining.{length-cells_of}
 use Rattle.edit_delta.specs.Reaching.{earlier_side, going_on, has_before, has_before_in, reaching_back}
 use Rattle.edit_splice.specs.Padding.{padded_track}
 use Rattle.edit_splice.specs.Splicing.{spliced_track}
 use Rattle.edit_splice.proofs.Padding.{frames-gap}
+use Rattle.link_groups.proofs.ShiftLinks.{gap-bare}
 use Rattle.link_laws.specs.Weights.{runs_in}
 use Rattle.link_laws.proofs.Parting.{behind-alike, behind_of, front-alike, front_of}
 use Rattle.link_laws.proofs.Runs.{count, runs-append, runs-bare, runs-first, runs-one, runs-spliced}
@@ -77,12 +78,6 @@ keeps-spliced t x y views le way each ws few put = record {
   by l o w (inr (inl m)) = each l o (shows-at (start_of t x) x (cells_of views) l o at m)
   by l o (inl e) (inr (inr b)) = shows-drop y 0 t.cells l o (shows-at (start_of t x + frames_in views) (0 + y) (drop y t.cells) l o (omega (arith, at, e)) b)
   by l o (inr past) (inr (inr b)) = absurd (subst (λ (cs : List Cell). Shows (start_of t x + frames_in views) cs l o) (drop_all y t.cells past) b)
-
-pub gap-bare : (n : ℕ) → AllUnlinked (gap_views n)
-gap-bare n = by (eqb n 0) where
-  by : (b : Bool) → AllUnlinked (cond b [] (gap_view n ∷ []))
-  by true = tt
-  by false = (refl, tt)
 
 -- without links in what is put in
 pub keeps-bare : (t : TrackState) (x y : ℕ) (views : List ItemView) → x ≤ length t.cells → (x + frames_in views ≡ y) ⊎ (length t.cells ≤ y) → AllUnlinked views

@@ -1,19 +1,18 @@
 -- The walk over a tree with the places that it has in a text: what a value is does not hang on where it stands.
-use Rattle.std.proofs.Common.{◌≡◌, ℕ, ◌+◌, ℤ, Bool, true, false, List, ◌∷◌, ◌++◌, length, Option, Some, None, Ok, refl, ap, ◌∙◌, ◌⊎◌, inl, inr, cond, if◌then◌else◌}
+use Rattle.std.proofs.Common.{◌≡◌, ℕ, ◌+◌, Bool, true, false, List, ◌∷◌, ◌++◌, length, Option, Some, None, Ok, refl, ap, ◌∙◌, ◌⊎◌, inl, inr, cond, if◌then◌else◌}
 use Rattle.std.specs.Prelude.{codes}
 use Rattle.std.specs.Option.{option_or}
 use Rattle.std.specs.Str.{bytes_eq}
 use Rattle.std.proofs.lemmas.Slice.Eq.{bytes_eq-Decides}
 use Rattle.json_tokens.specs.Reading.{◌>>=◌}
-use Rattle.json_tree.specs.Tree.{Tree, Kind, Trees, Members, At, Null, Bool_of, Numeral_of, Wide, Text_of, List_of, Object_of, no_members, more_members, in_trees, in_members, last_named}
-use Rattle.json_tree.specs.Parts.{place_of, kind_in, member_in, items_in, text_in}
+use Rattle.json_tree.specs.Tree.{Tree, Kind, Members, At, Null, Bool_of, Numeral_of, Wide, Text_of, List_of, Object_of, no_members, more_members, in_members, last_named}
+use Rattle.json_tree.specs.Parts.{place_of, kind_in, member_in}
 use Rattle.json_tree.specs.Writing.{quoted, tree_text}
-use Rattle.json_tree.proofs.WriteLaws.{placed, placed_kind, placed_trees, placed_members}
+use Rattle.json_tree.proofs.WriteLaws.{placed, placed_kind, placed_members}
 use Rattle.otio_tracks.specs.declared.faults.DocCode.TheVariants.{O1, O2, O3}
 use Rattle.otio_tracks.specs.declared.values.Schema.{Schema}
 use Rattle.otio_tracks.specs.Reading.{Read, refuse, or_refuse}
-use Rattle.otio_tracks.specs.Values.{is_null, is_object, unless_null, given, needed, text_read, list_read, schema_named, schema_text, schema_read, wrong_code, expected}
-use Rattle.otio_tracks.specs.Times.{numeral_kind, numeral_read}
+use Rattle.otio_tracks.specs.Values.{is_null, is_object, unless_null, given, needed, schema_named, schema_text, schema_read, wrong_code, expected}
 use Rattle.otio_again.specs.CutTrees.{text_tree}
 
 -- a step whose value is known, and the steps behind it

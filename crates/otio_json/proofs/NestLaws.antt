@@ -1,8 +1,7 @@
 -- Steps over the children of a track or nest, and the levels of nests.
-use Rattle.std.proofs.Common.{◌≡◌, ℕ, zero, suc, ◌+◌, ◌*◌, ◌<◌, ◌≤◌, List, [], ◌∷◌, ◌++◌, length, drop, map, get_or, drop-cons, Result, Ok, Err, refl, sym, ap, ◌∙◌, arith, subst}
+use Rattle.std.proofs.Common.{◌≡◌, ℕ, zero, suc, ◌+◌, ◌<◌, List, [], ◌∷◌, length, drop, map, get_or, drop-cons, Ok, refl, sym, ap, ◌∙◌, arith, subst}
 use Rattle.json_tokens.specs.Reading.{◌>>=◌}
 use Rattle.json_tree.specs.Tree.{Tree}
-use Rattle.json_tree.specs.Parts.{place_of}
 use Rattle.json_tree.specs.Size.{tree_size, items_size}
 use Rattle.json_tree.specs.View.{tree_of}
 use Rattle.json_tree.specs.declared.tree.Json.{Json}
@@ -10,11 +9,10 @@ use Rattle.composables.specs.declared.media.Table.{Table}
 use Rattle.otio_tracks.specs.declared.faults.DocFault.{DocFault}
 use Rattle.otio_tracks.specs.declared.faults.DocFault.TheVariants.{Refused, Memory}
 use Rattle.otio_tracks.specs.declared.values.Schema.{Schema}
-use Rattle.otio_tracks.specs.declared.parts.Part.{Part}
 use Rattle.otio_json.specs.declared.nests.Nesting.{Nesting}
 use Rattle.otio_json.specs.declared.nests.Nesting.TheVariants.{Forbidden, Levels}
 use Rattle.otio_tracks.specs.Reading.{Read, Fails, each}
-use Rattle.otio_json.specs.Nests.{nest_item_in, nests_in, levels_in, levels_inside, nest_item_read, nest_read, nest_in}
+use Rattle.otio_json.specs.Nests.{nest_item_in, nests_in, levels_in, nest_item_read, nest_read}
 
 -- the children from an index on: the one there, and those behind it
 children_from : (xs : List Json) (i : ℕ) (x : Json) → i < length xs → x ≡ get_or xs i x → map tree_of (drop i xs) ≡ tree_of x ∷ map tree_of (drop (i + 1) xs)

@@ -1,5 +1,5 @@
 -- What is entered for a clip is sound.
-use Rattle.std.proofs.Common.{◌≡◌, ℕ, zero, suc, ◌+◌, ◌-◌, ◌<◌, ◌≤◌, ℤ, pos, int_le, int_lt, codes, nat_eq, nat_lt, nat_le, eqb, min, max, unsigned_abs, Bool, true, false, cond, ◌&&◌, ◌||◌, List, [], ◌∷◌, ◌++◌, length, slice_get, get_or, position, Option, Some, None, IfSome, option_map, Result, Ok, Err, IfOk, refl, sym, ap, ◌∙◌, arith, subst, if◌then◌else◌}
+use Rattle.std.proofs.Common.{◌≡◌, ℕ, suc, ◌+◌, ◌-◌, ◌<◌, ◌≤◌, ℤ, pos, int_le, int_lt, codes, nat_eq, nat_lt, nat_le, eqb, min, max, unsigned_abs, Bool, true, false, ◌&&◌, ◌||◌, List, [], ◌∷◌, ◌++◌, length, slice_get, get_or, position, Option, Some, None, IfSome, option_map, IfOk, refl, sym, ap, ◌∙◌, arith, if◌then◌else◌}
 use Rattle.std.specs.List.{All, list_any}
 use Rattle.std.specs.Str.{bytes_eq}
 use Rattle.std.proofs.lemmas.Bool.{eqb-true}
@@ -7,10 +7,8 @@ use Rattle.std.proofs.lemmas.List.{length-append}
 use Rattle.std.proofs.lemmas.List.Elements.{All-append, All-weaker, All-cons, All-nil}
 use Rattle.std.proofs.lemmas.List.Quantifiers.{position-Some}
 use Rattle.std.proofs.lemmas.Option.{slice_get-get_or}
-use Rattle.frame_meaning.specs.declared.cells.What.TheVariants.{Media as MediaOf}
 use Rattle.composables.specs.declared.media.Table.{Table}
 use Rattle.composables.specs.declared.media.Media.{Media}
-use Rattle.composables.specs.Bounds.{bounds_of}
 use Rattle.composables.specs.ReelNames.{with_name}
 use Rattle.json_tokens.specs.Reading.{◌>>=◌}
 use Rattle.json_tree.specs.Tree.{Tree}
@@ -18,16 +16,16 @@ use Rattle.json_tree.specs.Parts.{kind_in, place_of}
 use Rattle.otio_tracks.specs.declared.clips.Frames.{Frames}
 use Rattle.otio_tracks.specs.declared.times.Span.{Span}
 use Rattle.otio_tracks.specs.declared.parts.Part.{Part}
-use Rattle.otio_tracks.specs.declared.faults.DocCode.TheVariants.{O3, O4, O11, O14}
+use Rattle.otio_tracks.specs.declared.faults.DocCode.TheVariants.{O3, O11, O14}
 use Rattle.otio_tracks.specs.Reading.{Read, refuse, or_refuse}
 use Rattle.otio_tracks.specs.Values.{is_object, given, needed, expected}
 use Rattle.otio_tracks.specs.Parts.{frames_within, trim_read}
-use Rattle.otio_tracks.specs.Times.{Moment, moment_read}
-use Rattle.otio_tracks.specs.Clips.{source_frames, source_if, source_read, clamped, in_media, media_if, available_read, available_if, reference_if, reference_read, narrowed, widened, frames_of, clip_frames, reel_text, name_at, same_media, number_or, entry_number, unless_there, with_entry, entry_of, part_of, entered, clip_read}
+use Rattle.otio_tracks.specs.Times.{moment_read}
+use Rattle.otio_tracks.specs.Clips.{source_frames, source_if, source_read, clamped, media_if, available_read, available_if, reference_if, reference_read, narrowed, frames_of, clip_frames, reel_text, name_at, same_media, number_or, entry_number, unless_there, with_entry, entry_of, part_of, entered, clip_read}
 use Rattle.otio_tracks.specs.SoundParts.{IsItemPart}
 use Rattle.otio_tracks.proofs.ReelLaws.{place_le}
 use Rattle.otio_json.specs.Soundness.{SideHas, IsDeep, IsSoundMedia, IsSoundNest, IsSoundTable}
-use Rattle.otio_json.proofs.Growth.{get_left, get_last, Keeps, keeps_self, HasBounds, media_kept, nest_kept, Grown}
+use Rattle.otio_json.proofs.Growth.{get_left, get_last, Keeps, HasBounds, media_kept, nest_kept, Grown}
 use Rattle.otio_json.proofs.Steps.{after, past, chosen, tested, and_parts}
 
 -- ---- the frames

@@ -1,13 +1,10 @@
 -- Tracks, layers and nests that are read are sound.
-use Rattle.std.proofs.Common.{◌≡◌, ℕ, zero, suc, ◌+◌, ◌-◌, ◌<◌, ◌≤◌, ◌^◌, max, int_le, codes, nat_le, unsigned_abs, pos, Bool, true, false, ◌&&◌, List, [], ◌∷◌, ◌++◌, length, slice_get, option_map, Option, Some, None, IfSome, Result, Ok, Err, IfOk, refl, sym, ap, ◌∙◌, arith, subst, if◌then◌else◌}
+use Rattle.std.proofs.Common.{◌≡◌, ℕ, zero, suc, ◌+◌, ◌-◌, ◌≤◌, max, int_le, codes, nat_le, unsigned_abs, pos, Bool, true, false, ◌&&◌, List, [], ◌∷◌, ◌++◌, length, slice_get, option_map, Option, Some, None, IfSome, Result, Ok, Err, IfOk, refl, sym, ap, arith, subst, if◌then◌else◌}
 use Rattle.std.specs.List.{All}
-use Rattle.std.proofs.lemmas.List.{length-append}
 use Rattle.std.proofs.lemmas.List.Elements.{All-append, All-weaker, All-cons, All-nil, All-head, All-tail}
-use Rattle.frame_meaning.specs.declared.cells.What.TheVariants.{Nest as NestOf}
 use Rattle.frame_meaning.specs.declared.frames.Side.TheVariants.{Dark}
 use Rattle.composables.specs.declared.media.Table.{Table}
 use Rattle.composables.specs.declared.media.Layer.{Layer}
-use Rattle.composables.specs.declared.media.Media.{Media}
 use Rattle.composables.specs.declared.media.Nest.{Nest}
 use Rattle.composables.specs.Items.{items_of}
 use Rattle.composables.specs.TrackState.{TrackState}
@@ -15,27 +12,26 @@ use Rattle.json_tokens.specs.Reading.{◌>>=◌}
 use Rattle.json_tree.specs.Tree.{Tree}
 use Rattle.json_tree.specs.Parts.{place_of}
 use Rattle.otio_tracks.specs.declared.faults.DocCode.{DocCode}
-use Rattle.otio_tracks.specs.declared.faults.DocCode.TheVariants.{O12, O13, O14}
+use Rattle.otio_tracks.specs.declared.faults.DocCode.TheVariants.{O14}
 use Rattle.otio_tracks.specs.declared.values.Schema.{Schema}
 use Rattle.otio_tracks.specs.declared.values.Schema.TheVariants.{Clip, Gap, Stack, Track, Transition, Other}
 use Rattle.otio_tracks.specs.declared.times.Span.{Span}
 use Rattle.otio_tracks.specs.declared.parts.Part.{Part}
-use Rattle.otio_tracks.specs.Reading.{Read, refuse, or_refuse, each}
 use Rattle.otio_tracks.specs.Values.{given, needed, list_read, schema_read}
 use Rattle.otio_tracks.specs.Times.{gap_read}
 use Rattle.otio_tracks.specs.Parts.{head_read, trim_read, frames_within}
-use Rattle.otio_tracks.specs.Rows.{RowState, empty_row, waiting_with, waits, row_with, row_end}
+use Rattle.otio_tracks.specs.Rows.{RowState, empty_row, waiting_with, row_with, row_end}
 use Rattle.otio_tracks.specs.Building.{track_fit}
 use Rattle.otio_tracks.specs.SoundParts.{SideLies}
 use Rattle.otio_json.specs.declared.nests.Nesting.{Nesting}
 use Rattle.otio_json.specs.declared.nests.Nesting.TheVariants.{Forbidden, Levels}
-use Rattle.otio_json.specs.Nests.{gap_if, gap_part_read, whole_layer, nest_frames, trimmed_layer, layer_of, longest_from, nest_of, Inner, allowed, nest_part, with_nest, nest_item_in, item_in, add_item, child_by, child_in, row_in, track_in, track_layer_in, item_layer_in, layer_by, layer_in, next_layer, layers_in, one_layer_in, layers_by, nest_in, levels_in, nests_in, track_read}
+use Rattle.otio_json.specs.Nests.{gap_if, gap_part_read, whole_layer, nest_frames, trimmed_layer, layer_of, longest_from, Inner, allowed, with_nest, nest_item_in, item_in, add_item, child_by, child_in, row_in, track_in, track_layer_in, item_layer_in, layer_by, layer_in, next_layer, layers_in, one_layer_in, layers_by, nest_in, levels_in, nests_in, track_read}
 use Rattle.otio_json.specs.Soundness.{SideHas, EachHas, IsDeep, IsReadTrack, IsSoundLayer, IsSoundNest, IsSoundTable, IsSoundMedia}
-use Rattle.otio_json.proofs.Growth.{get_left, get_last, Keeps, keeps_self, HasBounds, track_kept, layer_kept, nest_kept, nest_more, media_kept, Grown, grown_self, grown_on}
-use Rattle.otio_json.proofs.SoundClips.{IsPlaced, IsRead, ReadFrom, clip_sound}
+use Rattle.otio_json.proofs.Growth.{get_left, get_last, Keeps, HasBounds, layer_kept, nest_kept, nest_more, media_kept, Grown, grown_self, grown_on}
+use Rattle.otio_json.proofs.SoundClips.{IsRead, ReadFrom, clip_sound}
 use Rattle.otio_json.proofs.SoundTracks.{IsNumbered, fit_by, IsReadRow, empty_row_read, row_kept, waiting_row, row_more, AreRead, row_parts}
 use Rattle.otio_json.proofs.Nesting.{levels_of}
-use Rattle.otio_json.proofs.Steps.{after, past, chosen, tested, each_keeps, and_parts}
+use Rattle.otio_json.proofs.Steps.{after, past, chosen, each_keeps, and_parts}
 
 -- ---- layers
 

@@ -1,6 +1,5 @@
 -- What a document opens is sound.
-use Rattle.std.proofs.Common.{◌≡◌, ℕ, zero, suc, ◌+◌, ◌*◌, ◌<◌, ◌≤◌, nat_lt, nat_le, codes, int_lt, pos, unsigned_abs, Bool, true, false, ◌&&◌, List, [], ◌∷◌, ◌++◌, length, Option, Some, None, Result, Ok, Err, IfOk, refl, sym, ap, ◌∙◌, arith, subst, if◌then◌else◌}
-use Rattle.std.specs.List.{All}
+use Rattle.std.proofs.Common.{◌≡◌, ℕ, ◌+◌, ◌*◌, ◌<◌, ◌≤◌, nat_lt, nat_le, codes, int_lt, pos, unsigned_abs, Bool, true, false, ◌&&◌, List, [], ◌∷◌, ◌++◌, length, Option, Some, None, Result, Ok, Err, IfOk, refl, sym, arith, subst, if◌then◌else◌}
 use Rattle.std.proofs.lemmas.List.{length-append}
 use Rattle.std.proofs.lemmas.List.Elements.{All-weaker, All-nil}
 use Rattle.timecode12.specs.declared.rate.SequenceRate.{SequenceRate}
@@ -19,17 +18,15 @@ use Rattle.json_tree.specs.Tree.{Tree}
 use Rattle.json_tree.specs.Parts.{place_of}
 use Rattle.otio_tracks.specs.declared.faults.DocCode.TheVariants.{O10, O11}
 use Rattle.otio_tracks.specs.declared.faults.DocFault.{DocFault}
-use Rattle.otio_tracks.specs.declared.faults.DocFault.TheVariants.{Refused, Memory}
 use Rattle.otio_tracks.specs.Reading.{Read, Gives, refuse, each}
 use Rattle.otio_tracks.specs.Values.{given, needed, list_read, expected}
 use Rattle.otio_tracks.specs.Times.{frame_read}
 use Rattle.otio_json.specs.declared.opening.Opening.{Opening}
 use Rattle.otio_json.specs.Nests.{track_read}
 use Rattle.otio_tracks.specs.Clips.{with_kind, empty_table}
-use Rattle.otio_json.specs.Timelines.{in_day, untrimmed, start_if, start_read, rate_counted, nesting_of, head_of_track, next_track, tracks_read, opened, sequence_read, timeline_read, tree_read, document_read}
+use Rattle.otio_json.specs.Timelines.{untrimmed, start_if, start_read, rate_counted, nesting_of, head_of_track, next_track, tracks_read, sequence_read, timeline_read}
 use Rattle.otio_json.specs.Soundness.{IsReadTrack, IsSoundMedia, IsSoundNest, IsSoundTable, levels_of_kind, AreTracksFrom, IsSoundOpening}
-use Rattle.otio_json.proofs.Growth.{Keeps, track_kept, nest_kept, media_kept, Grown, grown_self}
-use Rattle.otio_json.proofs.SoundTracks.{IsNumbered}
+use Rattle.otio_json.proofs.Growth.{Keeps, track_kept, nest_kept, media_kept}
 use Rattle.otio_json.proofs.SoundNests.{TrackFrom, track_read_sound}
 use Rattle.otio_json.proofs.Nesting.{levels_of}
 use Rattle.otio_json.proofs.Steps.{after, past, tested, weaker, and_parts}

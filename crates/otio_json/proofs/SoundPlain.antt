@@ -1,13 +1,11 @@
 -- What a plain room begins with is sound.
-use Rattle.std.proofs.Common.{◌≡◌, ℕ, zero, suc, ◌+◌, ◌<◌, ◌≤◌, false, List, [], ◌∷◌, length, map, Result, Ok, Err, IfOk, refl, sym, ap, ◌∙◌, arith, subst}
+use Rattle.std.proofs.Common.{ℕ, zero, suc, ◌+◌, ◌≤◌, false, [], length, map, refl, arith}
 use Rattle.std.specs.List.{All, range_with_len}
 use Rattle.std.proofs.lemmas.List.Elements.{All-nil, All-cons}
 use Rattle.std.proofs.lemmas.List.FromFn.{length-map-range_with_len}
 use Rattle.timecode12.specs.declared.rate.SequenceRate.TheVariants.{F24}
 use Rattle.composables.specs.declared.media.Kind.TheVariants.{Video}
 use Rattle.composables.specs.declared.media.Table.{Table}
-use Rattle.composables.specs.TrackState.{TrackState}
-use Rattle.otio_json.specs.declared.opening.Opening.{Opening}
 use Rattle.otio_json.specs.Openings.{plain_media, plain_reel, plain_table, empty_track, plain_opening}
 use Rattle.otio_json.specs.Soundness.{IsReadTrack, IsSoundMedia, IsSoundNest, AreTracksFrom, IsSoundOpening}
 use Rattle.otio_json.proofs.SoundOpening.{day_some}

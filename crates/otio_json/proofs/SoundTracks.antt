@@ -1,16 +1,13 @@
 -- A row of what was read is a track that is good in the table.
-use Rattle.std.proofs.Common.{◌≡◌, ℕ, zero, suc, ◌+◌, ◌<◌, ◌≤◌, nat_eq, nat_le, Bool, true, false, ◌&&◌, List, [], ◌∷◌, ◌++◌, length, Option, Some, None, IfSome, Result, Ok, Err, IfOk, refl, sym, ap, ◌∙◌, arith, subst, if◌then◌else◌}
+use Rattle.std.proofs.Common.{◌≡◌, ℕ, suc, ◌+◌, ◌<◌, ◌≤◌, nat_eq, nat_le, Bool, true, false, ◌&&◌, List, [], ◌∷◌, ◌++◌, length, Option, Some, None, Ok, IfOk, refl, sym, ap, arith, subst, if◌then◌else◌}
 use Rattle.std.specs.List.{All}
-use Rattle.std.proofs.lemmas.List.{length-append}
 use Rattle.std.proofs.lemmas.List.Elements.{All-append, All-weaker, All-cons, All-nil, All-head, All-tail}
 use Rattle.frame_meaning.specs.declared.cells.Mark.{Mark}
 use Rattle.frame_meaning.specs.declared.cells.What.{What}
 use Rattle.frame_meaning.specs.declared.frames.Side.{Side}
 use Rattle.frame_meaning.specs.declared.frames.Side.TheVariants.{Dark, Pic}
-use Rattle.composables.specs.declared.items.ItemView.{ItemView}
 use Rattle.composables.specs.declared.media.Table.{Table}
-use Rattle.composables.specs.Bounds.{bounds_of}
-use Rattle.composables.specs.Good.{LiesIn, SideLiesIn, EachLiesIn, EachLinkOf, AllUnlinked, IsGood}
+use Rattle.composables.specs.Good.{LiesIn, SideLiesIn, EachLiesIn, EachLinkOf, AllUnlinked}
 use Rattle.composables.specs.Items.{cells_of, items_of}
 use Rattle.composables.specs.TrackFacts.{left_reach, right_reach}
 use Rattle.composables.specs.TrackState.{TrackState}
@@ -18,15 +15,14 @@ use Rattle.json_tokens.specs.Reading.{◌>>=◌}
 use Rattle.otio_tracks.specs.declared.faults.DocCode.TheVariants.{O11}
 use Rattle.otio_tracks.specs.declared.parts.Part.{Part}
 use Rattle.otio_tracks.specs.declared.transitions.Waiting.{Waiting}
-use Rattle.otio_tracks.specs.Reading.{Read, refuse}
-use Rattle.otio_tracks.specs.Transitions.{joins, dissolve_between}
+use Rattle.otio_tracks.specs.Transitions.{joins}
 use Rattle.otio_tracks.specs.Rows.{RowState, empty_row, longer, all_kept, kept, dissolve_if, dissolve_before, row_with, ended, row_end, frames_in_all}
-use Rattle.otio_tracks.specs.SoundParts.{SideLies, AreSoundParts, EachIsSound, IsItemPart}
+use Rattle.otio_tracks.specs.SoundParts.{SideLies, AreSoundParts, EachIsSound}
 use Rattle.otio_tracks.specs.SoundRows.{IsSoundRow, FitsBefore}
-use Rattle.otio_tracks.specs.Building.{view_of, number_after, views_of, number_behind, track_made, track_fit}
+use Rattle.otio_tracks.specs.Building.{number_after, views_of, track_made, track_fit}
 use Rattle.otio_tracks.proofs.RowSound.{keep_empty, keep_joined, keep_more, dissolve_fits}
 use Rattle.otio_tracks.proofs.TrackSound.{made_kept, made_items, made_frames, few}
-use Rattle.otio_json.specs.Soundness.{SideHas, EachHas, IsDeep, IsReadTrack}
+use Rattle.otio_json.specs.Soundness.{EachHas, IsDeep, IsReadTrack}
 use Rattle.otio_json.proofs.Growth.{Keeps, HasBounds, has_bounds_kept, side_deep_kept}
 use Rattle.otio_json.proofs.SoundClips.{IsPlaced, IsRead}
 use Rattle.otio_json.proofs.Steps.{after, knowing, tested, and_parts}

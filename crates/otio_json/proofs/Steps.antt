@@ -1,5 +1,5 @@
 -- Steps of reading, one after another: what each gives.
-use Rattle.std.proofs.Common.{◌≡◌, ℕ, Bool, true, false, ◌&&◌, refl, List, [], ◌∷◌, Option, Some, None, IfSome, Result, Ok, Err, IfOk, if◌then◌else◌}
+use Rattle.std.proofs.Common.{◌≡◌, ℕ, Bool, true, false, ◌&&◌, refl, List, [], ◌∷◌, Option, Some, None, IfSome, Ok, Err, IfOk, if◌then◌else◌}
 use Rattle.json_tokens.specs.Reading.{◌>>=◌}
 use Rattle.otio_tracks.specs.declared.faults.DocCode.{DocCode}
 use Rattle.otio_tracks.specs.Reading.{Read, refuse, or_refuse, each}

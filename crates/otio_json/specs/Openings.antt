@@ -1,5 +1,5 @@
 -- The opening of a plain room: so many empty video tracks, and so many reels, each with one media entry.
-use Rattle.std.specs.Prelude.{ℕ, List, [], ◌∷◌, ◌++◌, false, map, replicate, codes, decimal}
+use Rattle.std.specs.Prelude.{ℕ, List, [], ◌++◌, false, map, codes, decimal}
 use Rattle.std.specs.List.{range_with_len}
 use Rattle.timecode12.specs.declared.rate.SequenceRate.TheVariants.{F24}
 use Rattle.composables.specs.declared.media.Kind.TheVariants.{Video}

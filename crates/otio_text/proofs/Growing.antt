@@ -1,7 +1,7 @@
 -- Texts put behind one another up to a limit.
-use Rattle.std.proofs.Common.{◌≡◌, ℕ, ◌+◌, ◌-◌, ◌≤◌, nat_le, Bool, true, false, List, [], ◌∷◌, ◌++◌, length, Option, Some, None, Result, OnOk, refl, sym, ap, ◌∙◌, arith, append_assoc, length-append, subst, if◌then◌else◌}
+use Rattle.std.proofs.Common.{◌≡◌, ℕ, ◌+◌, ◌-◌, ◌≤◌, nat_le, Bool, true, false, List, [], ◌++◌, length, Option, Some, None, Result, OnOk, refl, sym, ap, ◌∙◌, arith, append_assoc, length-append, subst, if◌then◌else◌}
 use Rattle.std.proofs.lemmas.List.{append-nil}
-use Rattle.otio_text.specs.Texts.{grown, is_over}
+use Rattle.otio_text.specs.Texts.{grown}
 
 le_of : (a b : ℕ) → nat_le a b ≡ true → a ≤ b
 le_of a b e = grind arith

@@ -1,10 +1,9 @@
 -- The first of some parts of a text, and those behind it.
-use Rattle.std.proofs.Common.{◌≡◌, ℕ, zero, suc, ◌+◌, ◌-◌, ◌<◌, ◌≤◌, List, [], ◌∷◌, ◌++◌, length, take, drop, get_or, drop-cons, Option, Some, None, slice_get, refl, sym, ap, ◌∙◌, arith, subst}
+use Rattle.std.proofs.Common.{◌≡◌, ℕ, zero, suc, ◌+◌, ◌-◌, ◌<◌, ◌≤◌, List, [], ◌∷◌, ◌++◌, length, take, drop, get_or, drop-cons, slice_get, refl, sym, ap, ◌∙◌, arith}
 use Rattle.timecode12.specs.declared.rate.SequenceRate.{SequenceRate}
 use Rattle.composables.specs.declared.items.ItemView.{ItemView}
 use Rattle.composables.specs.declared.media.Table.{Table}
 use Rattle.composables.specs.declared.media.Layer.{Layer}
-use Rattle.composables.specs.declared.media.Nest.{Nest}
 use Rattle.composables.specs.TrackState.{TrackState}
 use Rattle.otio_text.specs.Documents.{comma, mark_text, item_in, later_items_in, items_in, layer_in, later_layers_in, layers_in, layers_if, nest_layers, track_text, kind_at, later_tracks, tracks_text}
 

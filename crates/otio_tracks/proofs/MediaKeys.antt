@@ -1,13 +1,12 @@
 -- Media entries that are found by their keys.
-use Rattle.std.proofs.Common.{◌≡◌, ℕ, ◌+◌, ◌<◌, Bool, true, false, not, ◌&&◌, List, [], ◌∷◌, ◌++◌, Option, Some, None, length, map, refl, sym, ap, ◌∙◌, arith, cond, position, if◌then◌else◌}
-use Rattle.std.specs.Prelude.{eqb, nat_lt}
-use Rattle.std.specs.Option.{is_some}
+use Rattle.std.proofs.Common.{◌≡◌, ℕ, ◌+◌, Bool, true, false, not, ◌&&◌, List, [], ◌∷◌, ◌++◌, Some, None, length, map, refl, sym, ap, ◌∙◌, cond, position, if◌then◌else◌}
+use Rattle.std.specs.Prelude.{eqb}
 use Rattle.std.specs.List.{list_any, position_or_len}
 use Rattle.std.proofs.lemmas.List.{map-append, length-map}
 use Rattle.std.proofs.lemmas.List.Recursion.{is_position_or_len}
 use Rattle.composables.specs.declared.media.Media.{Media}
 use Rattle.composables.specs.declared.media.Table.{Table}
-use Rattle.otio_tracks.specs.Clips.{media_of, same_media, number_or, entry_number, unless_there, with_entry, with_media}
+use Rattle.otio_tracks.specs.Clips.{media_of, same_media, entry_number, with_entry, with_media}
 
 abbrev pub Key : Type 0
 Key = ℕ × ℕ × ℕ

@@ -1,5 +1,5 @@
 -- The frames of the items of a row.
-use Rattle.std.proofs.Common.{◌≡◌, ℕ, zero, suc, ◌+◌, ◌<◌, ◌≤◌, ◌^◌, List, [], ◌∷◌, ◌++◌, length, drop, get_or, drop-cons, Option, Some, None, IfSome, refl, sym, ap, ◌∙◌, arith, Bool, true, false, nat_eq, if◌then◌else◌}
+use Rattle.std.proofs.Common.{◌≡◌, ℕ, zero, suc, ◌+◌, ◌<◌, ◌≤◌, List, [], ◌∷◌, ◌++◌, length, drop, get_or, drop-cons, Option, Some, None, IfSome, refl, arith, Bool, true, false, nat_eq, if◌then◌else◌}
 use Rattle.otio_tracks.specs.declared.parts.Part.{Part}
 use Rattle.frame_meaning.specs.declared.cells.Mark.{Mark}
 use Rattle.otio_tracks.specs.Rows.{RowState, all_kept, frames_in_all, longer, kept, row_frames}

@@ -1,22 +1,21 @@
 -- What a row keeps as an item goes behind the others.
-use Rattle.std.proofs.Common.{◌≡◌, ℕ, zero, suc, ◌+◌, ◌<◌, ◌≤◌, ◌^◌, Bool, true, false, ◌&&◌, ◌||◌, nat_eq, nat_le, nat_lt, List, [], ◌∷◌, ◌++◌, Option, Some, None, IfSome, IfOk, IsTrue, Result, Ok, Err, refl, sym, ap, ◌∙◌, arith, subst, if◌then◌else◌}
+use Rattle.std.proofs.Common.{◌≡◌, ℕ, zero, suc, ◌+◌, ◌<◌, ◌≤◌, Bool, true, false, ◌&&◌, ◌||◌, nat_eq, nat_le, nat_lt, List, [], ◌∷◌, ◌++◌, Option, Some, None, IfSome, IfOk, IsTrue, Ok, Err, refl, sym, ap, ◌∙◌, arith, subst, if◌then◌else◌}
 use Rattle.frame_meaning.specs.declared.cells.Mark.{Mark}
 use Rattle.frame_meaning.specs.declared.cells.What.{What}
 use Rattle.frame_meaning.specs.declared.cells.What.TheVariants.{Media, Nest}
 use Rattle.frame_meaning.specs.declared.frames.Side.{Side}
 use Rattle.frame_meaning.specs.declared.frames.Side.TheVariants.{Dark, Pic}
-use Rattle.composables.specs.TrackFacts.{left_reach, right_reach, IsFilled, IsNoNest}
-use Rattle.otio_tracks.specs.declared.faults.Fault.{Fault}
+use Rattle.composables.specs.TrackFacts.{left_reach, right_reach, IsNoNest}
 use Rattle.otio_tracks.specs.declared.faults.DocCode.TheVariants.{O8, O9, O15}
 use Rattle.otio_tracks.specs.declared.parts.Part.{Part}
 use Rattle.otio_tracks.specs.declared.transitions.Waiting.{Waiting}
 use Rattle.json_tokens.specs.Reading.{◌>>=◌}
 use Rattle.otio_tracks.specs.Reading.{Read, refuse}
 use Rattle.otio_tracks.specs.Parts.{is_dark, shows_nest, is_gap, is_nest}
-use Rattle.otio_tracks.specs.Transitions.{has_room, has_room_behind, joins, has_frames, mark_between, dissolve_behind, dissolve_between, side_reaches_back, side_reaches_on}
-use Rattle.otio_tracks.specs.Rows.{RowState, longer, all_kept, dissolve_if}
-use Rattle.otio_tracks.specs.SoundParts.{SideLies, IsItemPart, IsSoundPart, first_mark, IsNoGapBehind, EachIsSound, AreSoundParts}
-use Rattle.otio_tracks.specs.SoundRows.{IsLast, IsStart, IsSoundRow, HasRoom, FitsMark, FitsBefore}
+use Rattle.otio_tracks.specs.Transitions.{has_room, has_room_behind, joins, has_frames, mark_between, dissolve_between, side_reaches_back, side_reaches_on}
+use Rattle.otio_tracks.specs.Rows.{RowState, longer, all_kept}
+use Rattle.otio_tracks.specs.SoundParts.{SideLies, IsItemPart, IsSoundPart, first_mark, EachIsSound, AreSoundParts}
+use Rattle.otio_tracks.specs.SoundRows.{IsLast, IsStart, IsSoundRow, HasRoom, FitsBefore}
 
 -- ---- tests that hold
 

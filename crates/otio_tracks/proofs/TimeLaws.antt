@@ -1,5 +1,5 @@
 -- Rates and frames as pairs of numbers.
-use Rattle.std.proofs.Common.{◌≡◌, ℕ, Option, Some, None, Result, Ok, Err, refl, sym, ap, ◌∙◌}
+use Rattle.std.proofs.Common.{◌≡◌, ℕ, Option, Ok, refl, sym, ap, ◌∙◌}
 use Rattle.json_tokens.specs.Reading.{◌>>=◌}
 use Rattle.json_tree.specs.Tree.{Tree}
 use Rattle.json_tree.specs.Parts.{place_of}
@@ -7,11 +7,10 @@ use Rattle.ratio_time.specs.declared.numeral.Numeral.{Numeral}
 use Rattle.ratio_time.specs.declared.rate.Rate.{Rate}
 use Rattle.ratio_time.specs.declared.time.RationalTime.{RationalTime}
 use Rattle.ratio_time.specs.declared.time.TimeRange.{TimeRange}
-use Rattle.ratio_time.specs.declared.time.TimeFault.{TimeFault}
 use Rattle.ratio_time.specs.Rates.{rate_value}
 use Rattle.ratio_time.specs.Division.{frames_of, narrowed_of, floor_of, ceiling_of}
-use Rattle.otio_tracks.specs.declared.faults.DocCode.TheVariants.{O4, O5}
-use Rattle.otio_tracks.specs.Reading.{Read, refuse, or_refuse}
+use Rattle.otio_tracks.specs.declared.faults.DocCode.TheVariants.{O5}
+use Rattle.otio_tracks.specs.Reading.{or_refuse}
 use Rattle.otio_tracks.specs.Times.{rate_meant, numeral_read, rate_read, moment_read, frame_read, on_frame, frame_at, moment_of, rate_pair}
 use Rattle.otio_tracks.specs.Clips.{narrowed}
 

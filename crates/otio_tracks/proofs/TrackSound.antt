@@ -1,21 +1,20 @@
 -- The items and gaps that were read make a track.
-use Rattle.std.proofs.Common.{◌≡◌, ◌≢◌, ℕ, zero, suc, ◌+◌, ◌<◌, ◌≤◌, ◌^◌, max, eqb, Bool, true, false, ◌&&◌, List, [], ◌∷◌, ◌++◌, length, take, drop, Option, Some, None, IfSome, refl, sym, ap, ◌∙◌, arith, subst, if◌then◌else◌}
+use Rattle.std.proofs.Common.{◌≡◌, ◌≢◌, ℕ, ◌+◌, ◌<◌, ◌≤◌, ◌^◌, eqb, false, ◌&&◌, List, [], ◌∷◌, length, Option, Some, None, IfSome, refl, sym, ap, ◌∙◌, arith, subst, if◌then◌else◌}
 use Rattle.std.proofs.lemmas.List.{append-nil}
 use Rattle.frame_meaning.specs.declared.cells.Mark.{Mark}
 use Rattle.frame_meaning.specs.declared.cells.What.{What}
 use Rattle.frame_meaning.specs.declared.frames.Side.{Side}
 use Rattle.frame_meaning.specs.declared.frames.Side.TheVariants.{Dark, Pic}
 use Rattle.frame_meaning.specs.Cells.{same_number}
-use Rattle.composables.specs.declared.items.ItemView.{ItemView}
 use Rattle.composables.specs.Items.{cells_of, items_of}
 use Rattle.composables.specs.Joined.{IsTight, AllFilled, frames_in}
 use Rattle.composables.specs.TrackState.{TrackState, next_past, next_past_all, replaced}
 use Rattle.composables.specs.TrackFacts.{left_reach, right_reach, ShowsAsItem, HasSource, Holds, EachHolds, Lacks, Apart, NumbersBelow, IsKept, first_mark as first_view_mark}
 use Rattle.composables.proofs.Joining.{items_of-tight, length-cells_of}
 use Rattle.otio_tracks.specs.declared.parts.Part.{Part}
-use Rattle.otio_tracks.specs.Parts.{is_dark, is_gap}
+use Rattle.otio_tracks.specs.Parts.{is_dark}
 use Rattle.otio_tracks.specs.Rows.{frames_in_all}
-use Rattle.otio_tracks.specs.SoundParts.{SideLies, IsSoundPart, first_mark, IsNoGapBehind, EachIsSound, AreSoundParts}
+use Rattle.otio_tracks.specs.SoundParts.{SideLies, IsSoundPart, first_mark, EachIsSound, AreSoundParts}
 use Rattle.otio_tracks.specs.Building.{view_of, number_after, views_of, number_behind, track_made}
 
 -- ---- each item and gap

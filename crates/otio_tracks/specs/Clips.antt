@@ -1,5 +1,5 @@
 -- Clips: the frames that a clip shows, and its reel and media entry.
-use Rattle.std.specs.Prelude.{ℕ, zero, suc, ◌+◌, ◌-◌, ℤ, pos, ◌+ℤ◌, int_le, int_lt, nat_eq, nat_le, nat_lt, eqb, position, min, max, unsigned_abs, Bool, true, false, cond, ◌&&◌, List, [], ◌∷◌, ◌++◌, length, Option, Some, None, Result, Ok, Err, codes, bytes_eq, if◌then◌else◌}
+use Rattle.std.specs.Prelude.{ℕ, suc, ◌+◌, ◌-◌, ℤ, pos, ◌+ℤ◌, int_le, int_lt, nat_eq, nat_lt, eqb, position, min, max, unsigned_abs, Bool, ◌&&◌, List, [], ◌∷◌, ◌++◌, length, Option, Some, None, Ok, codes, bytes_eq, if◌then◌else◌}
 use Rattle.ratio_time.specs.Division.{near_pair}
 use Rattle.frame_meaning.specs.declared.cells.What.TheVariants.{Media as MediaOf}
 use Rattle.frame_meaning.specs.declared.frames.Side.TheVariants.{Pic}

@@ -1,17 +1,17 @@
 -- The items of a track as they are read, and what all of them have.
-use Rattle.std.specs.Prelude.{ℕ, ◌+◌, pos, int_le, nat_le, unsigned_abs, Bool, true, false, ◌||◌, ◌&&◌, List, [], ◌∷◌, Option, Some, None, Result, Ok, Err, codes, eqb, if◌then◌else◌}
+use Rattle.std.specs.Prelude.{ℕ, ◌+◌, pos, int_le, nat_le, unsigned_abs, Bool, true, false, ◌||◌, ◌&&◌, List, [], ◌∷◌, Option, Some, None, Ok, codes, eqb, if◌then◌else◌}
 use Rattle.std.specs.List.{starts_with}
 use Rattle.frame_meaning.specs.declared.cells.What.{What}
 use Rattle.frame_meaning.specs.declared.cells.What.TheVariants.{Media, Nest}
 use Rattle.frame_meaning.specs.declared.frames.Side.{Side}
 use Rattle.frame_meaning.specs.declared.frames.Side.TheVariants.{Dark, Pic}
 use Rattle.json_tokens.specs.Reading.{◌>>=◌}
-use Rattle.json_tree.specs.Tree.{Tree, Kind, Null, Bool_of, Numeral_of, Wide, Text_of, List_of, Object_of}
+use Rattle.json_tree.specs.Tree.{Tree, Kind, Bool_of}
 use Rattle.json_tree.specs.Parts.{place_of, kind_in, member_in, text_in}
 use Rattle.otio_tracks.specs.declared.faults.DocCode.TheVariants.{O3, O6, O7}
 use Rattle.otio_tracks.specs.declared.times.Span.{Span}
 use Rattle.otio_tracks.specs.declared.parts.Part.{Part}
-use Rattle.otio_tracks.specs.Reading.{Read, refuse, or_refuse}
+use Rattle.otio_tracks.specs.Reading.{Read, refuse}
 use Rattle.otio_tracks.specs.Values.{given, list_read}
 use Rattle.otio_tracks.specs.Times.{span_read}
 

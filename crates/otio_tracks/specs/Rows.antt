@@ -1,6 +1,6 @@
 -- Rows: the items and gaps of a track, as they are read one after another. An item without frames is left out, two
 -- gaps that meet are one, and a transition waits for the item after it.
-use Rattle.std.specs.Prelude.{ℕ, ◌+◌, nat_eq, Bool, true, false, ◌&&◌, ◌||◌, List, [], ◌∷◌, ◌++◌, Option, Some, None, Result, Ok, Err, if◌then◌else◌}
+use Rattle.std.specs.Prelude.{ℕ, ◌+◌, nat_eq, true, false, List, [], ◌∷◌, ◌++◌, Option, Some, None, Ok, if◌then◌else◌}
 use Rattle.frame_meaning.specs.declared.cells.Mark.{Mark}
 use Rattle.json_tokens.specs.Reading.{◌>>=◌}
 use Rattle.json_tree.specs.Tree.{Tree}
@@ -9,7 +9,6 @@ use Rattle.otio_tracks.specs.declared.faults.DocCode.TheVariants.{O8}
 use Rattle.otio_tracks.specs.declared.parts.Part.{Part}
 use Rattle.otio_tracks.specs.declared.transitions.Waiting.{Waiting}
 use Rattle.otio_tracks.specs.Reading.{Read, refuse}
-use Rattle.otio_tracks.specs.Parts.{is_gap}
 use Rattle.otio_tracks.specs.Transitions.{transition_read, joins, dissolve_between}
 
 -- the items kept but the last, the last, the item read last, and the transition that waits

@@ -1,17 +1,17 @@
 -- Times: a RationalTime is a value at a rate, and names a moment; a TimeRange is a start and a duration. Rates and
 -- numbers are pairs here: num/den a second, and m/10^p.
-use Rattle.std.specs.Prelude.{ℕ, ◌*◌, ◌^◌, ℤ, pos, neg_ℤ, ◌*ℤ◌, ◌-ℤ◌, int_le, int_lt, nat_le, unsigned_abs, Bool, cond, ◌&&◌, List, Option, Some, None, Result, Ok, Err, codes, if◌then◌else◌}
+use Rattle.std.specs.Prelude.{ℕ, ◌*◌, ◌^◌, ℤ, pos, neg_ℤ, ◌*ℤ◌, ◌-ℤ◌, int_le, int_lt, nat_le, unsigned_abs, Bool, cond, ◌&&◌, Option, Some, None, Result, Ok, Err, codes, if◌then◌else◌}
 use Rattle.std.specs.Int.{int_div_euclid}
 use Rattle.std.specs.List.{find}
 use Rattle.std.specs.Option.{option_or}
 use Rattle.ratio_time.specs.declared.rate.Rate.{Rate}
 use Rattle.ratio_time.specs.declared.time.RationalTime.{RationalTime}
 use Rattle.ratio_time.specs.declared.time.TimeFault.{TimeFault}
-use Rattle.ratio_time.specs.declared.time.TimeFault.TheVariants.{NotOnFrame, TooFar}
+use Rattle.ratio_time.specs.declared.time.TimeFault.TheVariants.{NotOnFrame}
 use Rattle.ratio_time.specs.Division.{near_or_fault}
 use Rattle.ratio_time.specs.Rates.{usual_rates}
 use Rattle.json_tokens.specs.Reading.{◌>>=◌}
-use Rattle.json_tree.specs.Tree.{Tree, Kind, Null, Bool_of, Numeral_of, Wide, Text_of, List_of, Object_of}
+use Rattle.json_tree.specs.Tree.{Tree, Kind, Numeral_of, Wide}
 use Rattle.json_tree.specs.Parts.{place_of, kind_in}
 use Rattle.otio_tracks.specs.declared.faults.DocCode.TheVariants.{J3, O3, O4, O5, O14}
 use Rattle.otio_tracks.specs.declared.times.Span.{Span}

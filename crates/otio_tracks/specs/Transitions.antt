@@ -1,5 +1,5 @@
 -- Transitions: a dissolve between two items that follow one another.
-use Rattle.std.specs.Prelude.{ℕ, ◌+◌, ℤ, pos, int_lt, nat_eq, nat_le, nat_lt, unsigned_abs, Bool, true, false, ◌&&◌, ◌||◌, Option, Some, None, Result, Ok, Err, codes, bytes_eq, if◌then◌else◌}
+use Rattle.std.specs.Prelude.{ℕ, ◌+◌, ℤ, pos, int_lt, nat_eq, nat_le, nat_lt, unsigned_abs, Bool, true, false, ◌&&◌, ◌||◌, Option, Some, None, Ok, codes, bytes_eq, if◌then◌else◌}
 use Rattle.frame_meaning.specs.declared.cells.Mark.{Mark}
 use Rattle.frame_meaning.specs.declared.cells.What.{What}
 use Rattle.frame_meaning.specs.declared.frames.Side.{Side}

@@ -1,8 +1,8 @@
 -- Values of a document by kind, and the schema of an object: its member OTIO_SCHEMA. The place of a missing member is
 -- its object's; the place of any other fault is the value's that is wrong.
-use Rattle.std.specs.Prelude.{ℕ, Bool, true, false, List, Option, Some, None, Result, Ok, Err, codes, bytes_eq, ◌||◌, if◌then◌else◌}
+use Rattle.std.specs.Prelude.{ℕ, Bool, true, false, List, Option, Some, None, Ok, codes, bytes_eq, if◌then◌else◌}
 use Rattle.json_tokens.specs.Reading.{◌>>=◌}
-use Rattle.json_tree.specs.Tree.{Tree, Kind, At, Null, Bool_of, Numeral_of, Wide, Text_of, List_of, Object_of}
+use Rattle.json_tree.specs.Tree.{Tree, Kind, Null, Object_of}
 use Rattle.json_tree.specs.Parts.{place_of, kind_in, member_in, items_in, text_in}
 use Rattle.otio_tracks.specs.declared.faults.DocCode.{DocCode}
 use Rattle.otio_tracks.specs.declared.faults.DocCode.TheVariants.{O1, O2, O3}

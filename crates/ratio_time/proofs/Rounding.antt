@@ -1,5 +1,5 @@
 -- The quotient rounded down, as a whole number of either sign.
-use Rattle.std.proofs.Common.{◌≡◌, ℕ, zero, suc, ◌*◌, ◌/◌, ◌^◌, ◌<◌, ◌≤◌, ℤ, pos, negsuc, neg_ℤ, ◌*ℤ◌, ◌≤ℤ◌, ◌-ℤ◌, unsigned_abs, FitsSigned, to_z, of_z, refl, sym, arith, suc-mul, div-le_self, le_of_mul-le-mul_right, mul-le-mul_right}
+use Rattle.std.proofs.Common.{◌≡◌, ℕ, zero, suc, ◌*◌, ◌/◌, ◌^◌, ◌<◌, ◌≤◌, ℤ, pos, negsuc, neg_ℤ, ◌*ℤ◌, ◌≤ℤ◌, ◌-ℤ◌, unsigned_abs, FitsSigned, to_z, of_z, refl, sym, arith, suc-mul, le_of_mul-le-mul_right, mul-le-mul_right}
 use Rattle.std.specs.Int.{int_div_euclid, w128}
 use Rattle.std.proofs.lemmas.Int.{ints, to_z-of_z, fits_signed_from_abs}
 use Rattle.std.proofs.Math.IntN.{+ℤ_idl}

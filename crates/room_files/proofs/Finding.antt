@@ -1,9 +1,9 @@
 -- What was written last under a name, looked for from the front.
-use Rattle.std.proofs.Common.{◌≡◌, ℕ, ◌+◌, ◌<◌, ◌≤◌, Bool, true, false, List, [], ◌∷◌, ◌++◌, Option, Some, None, option_map, take, drop, length, get_or, refl, sym, ap, ◌∙◌, arith, if◌then◌else◌}
+use Rattle.std.proofs.Common.{◌≡◌, ℕ, ◌+◌, ◌<◌, ◌≤◌, Bool, true, false, List, [], ◌∷◌, take, drop, length, get_or, refl, sym, ap, ◌∙◌, arith, if◌then◌else◌}
 use Rattle.std.specs.Str.{bytes_eq}
 use Rattle.std.proofs.lemmas.List.{drop_more, length-drop}
 use Rattle.room_files.specs.declared.written.Lengths.{Lengths}
-use Rattle.room_files.specs.Files.{Content, Untold, Missing, Bytes, or_earlier, or_empty, content_in}
+use Rattle.room_files.specs.Files.{Content, Untold, Missing, Bytes, or_earlier, content_in}
 use Rattle.room_files.specs.WrittenInside.{cut, names_length, bytes_length}
 
 or_earlier-assoc : (a b c : Content) → or_earlier (or_earlier a b) c ≡ or_earlier a (or_earlier b c)

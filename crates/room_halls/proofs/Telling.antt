@@ -1,9 +1,9 @@
 -- What a hall tells after a change at one station.
-use Rattle.std.proofs.Common.{◌≡◌, ◌≢◌, ℕ, ◌<◌, List, Option, Some, None, Bool, true, false, true≢false, length, inl, inr, refl, sym, ap, ◌∙◌}
+use Rattle.std.proofs.Common.{◌≡◌, ◌≢◌, ℕ, ◌<◌, List, Option, Some, None, Bool, true, false, true≢false, length, inl, inr, sym, ap, ◌∙◌}
 use Rattle.std.specs.Prelude.{slice_get, slice_set}
 use Rattle.std.proofs.lemmas.Option.{slice_get_past}
 use Rattle.std.proofs.lemmas.Bool.Decides.{leb_tells}
-use Rattle.room_halls.specs.Stations.{LineTold, Station, OthersStay, station_told, noted, note_of, is_noted}
+use Rattle.room_halls.specs.Stations.{LineTold, OthersStay, station_told, noted, note_of, is_noted}
 use Rattle.room_halls.specs.Lines.{hall_tells, told_or_blank}
 use Rattle.room_halls.proofs.Places.{get-same, get-other}
 

@@ -118,7 +118,7 @@ impl SureSink {
 
     /// A sink that takes everything and tells nothing.
     pub fn untold() -> SureSink
-        ensures { result.bytes ≡ None }
+        ensures { (result.bytes ≡ None) × (result.room ≡ 0) }
     {
         SureSink {
             bytes: None,

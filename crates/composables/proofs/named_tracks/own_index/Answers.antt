@@ -1,4 +1,4 @@
-use Rattle.std.proofs.Common.{◌≡◌, sym, ◌∙◌, ap}
+use Rattle.std.proofs.Common.{sym, ◌∙◌}
 use Rattle.composables.proofs.Numbered.{numbered-here}
 use Rattle.composables.proofs.named_tracks.own_index.Goals as goal
 

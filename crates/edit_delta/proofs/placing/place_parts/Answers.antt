@@ -1,7 +1,6 @@
-use Rattle.std.proofs.Common.{◌≡◌, ◌+◌, ◌*◌, ◌-◌, ◌<◌, ◌≤◌, length, ap, sym, ◌∙◌, arith, refl, Ok, Err, ℕ}
+use Rattle.std.proofs.Common.{◌-◌, ap, sym, ◌∙◌, arith, refl, Ok, Err}
 use Rattle.edit_splice.proofs.Outcomes.{length-spliced_track}
 use Rattle.edit_splice.specs.Splicing.{spliced_track}
-use Rattle.composables.specs.declared.TheConstants.{MAX_FRAMES}
 use Rattle.composables.specs.declared.refusals.Refusal.TheVariants.{TooManyItems}
 use Rattle.composables.specs.TrackState.{TrackState}
 use Rattle.std.proofs.Common.{subst}

@@ -1,7 +1,8 @@
 use Rattle.std.proofs.Common.{◌≡◌, sym, ap, ◌∙◌, arith, None, length}
 use Rattle.std.proofs.lemmas.List.Sums.{get_or-le-sum_by}
 use Rattle.composables.specs.OwnTracks.{track_numbered}
-use Rattle.edit_insert.proofs.Inserts.{named-found, no_track}
+use Rattle.edit_insert.proofs.Inserts.{no_track}
+use Rattle.edit_splice.proofs.Bridging.{named-found}
 use Rattle.composables.specs.Sizes.{size_of}
 use Rattle.link_groups.proofs.GoodShifts.{shifted-good, shifted-numbers, shifted-rises, shifted-unlinked}
 use Rattle.edit_insert.proofs.inserting.insert.Goals as goal

@@ -1,12 +1,12 @@
-use Rattle.std.proofs.Common.{◌≡◌, ◌+◌, ◌*◌, ◌≤◌, ◌++◌, [], ◌∷◌, length, Ok, Err, refl, sym, ap, ◌∙◌, arith, subst}
+use Rattle.std.proofs.Common.{◌+◌, ◌++◌, [], ◌∷◌, length, Ok, ap, ◌∙◌, arith, subst}
 use Rattle.std.proofs.lemmas.Result.{err_from_is_err_and}
 use Rattle.std.proofs.lemmas.List.{length-append}
 use Rattle.json_tree.specs.View.{tree_of}
 use Rattle.json_tokens.specs.Reading.{◌>>=◌}
-use Rattle.otio_tracks.specs.Reading.{Fails, Gives, each}
+use Rattle.otio_tracks.specs.Reading.{Fails}
 use Rattle.otio_tracks.specs.declared.values.Schema.TheVariants.{Stack, Track}
 use Rattle.otio_tracks.specs.Times.{rate_pair}
-use Rattle.otio_json.specs.Nests.{next_layer, layer_in, levels_in, nests_in, child_in, child_read, layer_read, layers_read, row_read}
+use Rattle.otio_json.specs.Nests.{next_layer, layer_in, levels_in, nests_in, child_in, child_read, layer_read}
 use Rattle.otio_json.proofs.NestLaws.{nest_item_is, size_from, each_next, each_fails, bind_fails}
 use Rattle.otio_json.proofs.nests.+nests.Goals as goal
 

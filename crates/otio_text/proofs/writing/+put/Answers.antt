@@ -1,9 +1,9 @@
-use Rattle.std.proofs.Common.{◌≡◌, ◌+◌, ◌-◌, ◌<◌, ◌++◌, None, OnOk, drop, get_or, slice_get, refl, sym, ap, ◌∙◌, arith, subst}
+use Rattle.std.proofs.Common.{◌≡◌, ◌+◌, ◌-◌, None, OnOk, drop, get_or, sym, ap, ◌∙◌, arith, subst}
 use Rattle.frame_meaning.specs.declared.frames.Side.TheVariants.{Dark}
 use Rattle.composables.specs.declared.items.ItemView.{ItemView}
 use Rattle.composables.specs.Items.{items_of}
 use Rattle.otio_text.specs.Texts.{grown}
-use Rattle.otio_text.specs.Documents.{comma, range_text, nest_open, nest_children, layer_open, layer_range, layer_children, children_close, mark_text, item_text, thing_text, later_items, items_text, items_in, nest_text, nest_layers, layers_if, layer_text, later_layers, layers_text, side_in, nest_around}
+use Rattle.otio_text.specs.Documents.{comma, range_text, nest_open, nest_children, layer_open, layer_range, layer_children, children_close, mark_text, item_text, thing_text, later_items, items_text, items_in, nest_text, nest_layers, layers_if, layer_text, later_layers}
 use Rattle.otio_text.proofs.Growing.{stays, put2, put5, two_more, three_more}
 use Rattle.otio_text.proofs.TextLaws.{all_behind, first_items, next_items, first_layers, next_layers, nest_none, nest_inside}
 use Rattle.otio_text.proofs.writing.+put.Goals as goal

@@ -1,4 +1,4 @@
-use Rattle.std.proofs.Common.{◌≡◌, ◌+◌, ◌++◌, drop, sym, ap, ◌∙◌}
+use Rattle.std.proofs.Common.{◌+◌, drop, sym, ap, ◌∙◌}
 use Rattle.otio_text.specs.Texts.{grown}
 use Rattle.otio_text.specs.Documents.{comma, track_text, kind_at, later_tracks}
 use Rattle.otio_text.proofs.Growing.{two_more}

@@ -1,4 +1,4 @@
-use Rattle.std.proofs.Common.{◌≡◌, ◌++◌, OnOk, drop, sym, subst}
+use Rattle.std.proofs.Common.{◌≡◌, OnOk, drop, sym, subst}
 use Rattle.otio_text.specs.Texts.{grown}
 use Rattle.otio_text.specs.Documents.{track_text, kind_at, later_tracks}
 use Rattle.otio_text.proofs.Growing.{put2}

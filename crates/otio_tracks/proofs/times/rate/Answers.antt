@@ -1,4 +1,4 @@
-use Rattle.std.proofs.Common.{Some, None, sym, ap, ◌∙◌}
+use Rattle.std.proofs.Common.{Some, None}
 use Rattle.json_tree.specs.View.{tree_of}
 use Rattle.otio_tracks.specs.Times.{rate_pair}
 use Rattle.otio_tracks.proofs.TimeLaws.{rate_told}

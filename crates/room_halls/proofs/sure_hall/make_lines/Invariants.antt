@@ -1,4 +1,4 @@
-use Rattle.std.proofs.Common.{◌≡◌, ◌≤◌, ◌+◌, ◌-◌, ℕ, length, vec_len}
+use Rattle.std.proofs.Common.{◌≡◌, ◌≤◌, ◌+◌, ◌-◌, ℕ, vec_len}
 use Rattle.std.specs.Prelude.{slice_get}
 use Rattle.room_halls.specs.Lines.{told_or_blank, sure_line_told}
 use Rattle.room_halls.proofs.sure_hall.make_lines.Given as goal

@@ -1,4 +1,4 @@
-use Rattle.std.proofs.Common.{◌≡◌, ◌≤◌, ap, arith}
+use Rattle.std.proofs.Common.{ap, arith}
 use Rattle.otio_tracks.specs.Rows.{row_frames}
 use Rattle.otio_tracks.proofs.RowFrames.{kept_frames}
 use Rattle.otio_tracks.proofs.rows.Row.add.Goals as goal

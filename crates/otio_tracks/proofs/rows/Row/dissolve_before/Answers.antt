@@ -1,4 +1,3 @@
-use Rattle.std.proofs.Common.{arith, ◌≡◌, refl}
 use Rattle.otio_tracks.specs.RowInside.{row_of}
 use Rattle.otio_tracks.proofs.RowFrames.{last_short}
 use Rattle.otio_tracks.proofs.RowSound.{dissolve_fits_ok}

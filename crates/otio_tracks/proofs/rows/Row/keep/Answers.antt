@@ -1,7 +1,5 @@
-use Rattle.std.proofs.Common.{◌≡◌, ◌+◌, ◌<◌, Some, None, sym, ap, ◌∙◌, arith, subst}
-use Rattle.otio_tracks.specs.Rows.{RowState, longer, all_kept, row_frames}
+use Rattle.std.proofs.Common.{None, sym, ◌∙◌, arith}
 use Rattle.otio_tracks.specs.RowInside.{row_of}
-use Rattle.otio_tracks.specs.SoundRows.{IsSoundRow, FitsBefore}
 use Rattle.otio_tracks.proofs.RowFrames.{last_fits}
 use Rattle.otio_tracks.proofs.RowSound.{keep_joined, keep_more}
 use Rattle.otio_tracks.proofs.rows.Row.keep.Goals as goal

@@ -1,6 +1,6 @@
-use Rattle.std.proofs.Common.{ap, arith, refl}
+use Rattle.std.proofs.Common.{arith, refl}
 use Rattle.std.proofs.lemmas.List.{length-set}
-use Rattle.room_halls.specs.Lines.{told_or_blank, mem_line_told}
+use Rattle.room_halls.specs.Lines.{mem_line_told}
 use Rattle.room_halls.proofs.Telling.{seated-within, noted-at, not-both, tells-line, tells-seated, tells-others}
 use Rattle.room_halls.proofs.memory_hall.MemHallHall.stand_up.Goals as goal
 
