@@ -10,7 +10,7 @@ use std::test::Fail;
 use std::thread::Threads;
 
 // The words of a text, parted by single spaces.
-pub(crate) fn parted(alloc: Global, text: &str) -> Result<Vec<&str>, Fail> {
+fn parted(alloc: Global, text: &str) -> Result<Vec<&str>, Fail> {
     let mut words = Vec::new(alloc);
     for word in text.split(' ') {
         words.push(word)?;
@@ -18,7 +18,7 @@ pub(crate) fn parted(alloc: Global, text: &str) -> Result<Vec<&str>, Fail> {
     Ok(words)
 }
 
-pub(crate) fn words_of(alloc: Global, texts: &[&str]) -> Result<Words, Fail> {
+fn words_of(alloc: Global, texts: &[&str]) -> Result<Words, Fail> {
     let mut words = Words::new(alloc);
     for text in texts {
         if words.count() < 10 {
@@ -34,11 +34,11 @@ pub(crate) fn words_in(alloc: Global, text: &str) -> Result<Words, Fail> {
     words_of(alloc, &texts)
 }
 
-pub(crate) fn no_files(alloc: Global) -> MemFiles {
+fn no_files(alloc: Global) -> MemFiles {
     MemFiles::new(alloc, Vec::new(alloc))
 }
 
-pub(crate) fn no_hall(alloc: Global) -> MemHall {
+fn no_hall(alloc: Global) -> MemHall {
     MemHall::new(alloc, Vec::new(alloc), Vec::new(alloc))
 }
 

@@ -9,8 +9,6 @@ mod documents;
 #[cfg(test)]
 mod replays;
 #[cfg(test)]
-mod runs;
-#[cfg(test)]
 mod soak;
 #[cfg(test)]
 mod stations;

@@ -38,11 +38,7 @@ fn placed(alloc: Global, code: &str, at: usize) -> Result<String, AllocError> {
 fn said(alloc: Global, text: &[u8]) -> Result<String, AllocError> {
     match refused(alloc, text) {
         None => String::from_str(alloc, "opens"),
-        Some(DocFault::Refused { code, at }) => placed(
-            alloc,
-            format!(in alloc; "{code:?}")?.as_str(),
-            at as usize,
-        ),
+        Some(DocFault::Refused { code, at }) => format!(in alloc; "{code:?} {at}"),
         Some(DocFault::Memory) => String::from_str(alloc, "memory"),
     }
 }

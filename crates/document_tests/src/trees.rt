@@ -46,6 +46,13 @@ fn show_text(out: &mut String, text: &Text) -> Result<(), AllocError> {
     out.push_str("'")
 }
 
+/// A fault with its place.
+fn placed(alloc: Global, fault: &str, at: u32) -> Result<String, AllocError> {
+    let mut out = String::from_str(alloc, fault)?;
+    out.push_str(format!(in alloc; " {at}")?.as_str())?;
+    Ok(out)
+}
+
 /// What reading the bytes gives, as text.
 fn reading(alloc: Global, bytes: &[u8]) -> Result<String, AllocError> {
     match read(alloc, bytes) {
@@ -54,9 +61,9 @@ fn reading(alloc: Global, bytes: &[u8]) -> Result<String, AllocError> {
             show(alloc, &mut out, &tree, 5)?;
             Ok(out)
         }
-        Err(JsonFault::Syntax(at)) => format!(in alloc; "syntax {at}"),
-        Err(JsonFault::Depth(at)) => format!(in alloc; "depth {at}"),
-        Err(JsonFault::NotUtf8(at)) => format!(in alloc; "utf8 {at}"),
+        Err(JsonFault::Syntax(at)) => placed(alloc, "syntax", at),
+        Err(JsonFault::Depth(at)) => placed(alloc, "depth", at),
+        Err(JsonFault::NotUtf8(at)) => placed(alloc, "utf8", at),
         Err(JsonFault::TooLarge) => String::from_str(alloc, "too large"),
         Err(JsonFault::Memory) => String::from_str(alloc, "memory"),
     }
@@ -87,45 +94,46 @@ fn values_and_blanks(rt: HostRuntime) -> Result<(), Fail> {
     Ok(())
 }
 
-/// Texts that are refused, each with its fault and the place.
-const FAULTS: [(&str, &str); 32] = [
-    ("", "syntax 0"),
-    ("  ", "syntax 2"),
-    ("nul", "syntax 3"),
-    ("nulx", "syntax 3"),
-    ("nullx", "syntax 4"),
-    ("null null", "syntax 5"),
-    ("[1,]", "syntax 3"),
-    ("[,1]", "syntax 1"),
-    ("[1 2]", "syntax 3"),
-    ("[1}", "syntax 2"),
-    ("[", "syntax 1"),
-    ("[1", "syntax 2"),
-    ("[1,", "syntax 3"),
-    ("{\"a\"}", "syntax 4"),
-    ("{\"a\":}", "syntax 5"),
-    ("{\"a\":1,}", "syntax 7"),
-    ("{a:1}", "syntax 1"),
-    ("{1:1}", "syntax 1"),
-    ("{,}", "syntax 1"),
-    ("{\"a\" 1}", "syntax 5"),
-    ("{\"a\":1]", "syntax 6"),
-    ("'a'", "syntax 0"),
-    ("\u{feff}null", "syntax 0"),
-    ("[\u{e9}]", "syntax 1"),
-    ("01", "syntax 1"),
-    ("-", "syntax 1"),
-    ("+1", "syntax 0"),
-    ("1.e1", "syntax 2"),
-    ("[1.5.5]", "syntax 4"),
-    ("\"a", "syntax 2"),
-    ("\"\\x\"", "syntax 2"),
-    ("\"\\ud800\\n\"", "syntax 1"),
-];
+/// Each row is a text that is refused, ` | `, and its fault with the place.
+const FAULTS: &str = "\
+nul | syntax 3
+ | syntax 0
+   | syntax 2
+nulx | syntax 3
+nullx | syntax 4
+null null | syntax 5
+[1,] | syntax 3
+[,1] | syntax 1
+[1 2] | syntax 3
+[1} | syntax 2
+[ | syntax 1
+[1 | syntax 2
+[1, | syntax 3
+{\"a\"} | syntax 4
+{\"a\":} | syntax 5
+{\"a\":1,} | syntax 7
+{a:1} | syntax 1
+{1:1} | syntax 1
+{,} | syntax 1
+{\"a\" 1} | syntax 5
+{\"a\":1] | syntax 6
+'a' | syntax 0
+\u{feff}null | syntax 0
+[\u{e9}] | syntax 1
+01 | syntax 1
+- | syntax 1
++1 | syntax 0
+1.e1 | syntax 2
+[1.5.5] | syntax 4
+\"a | syntax 2
+\"\\x\" | syntax 2
+\"\\ud800\\n\" | syntax 1
+";
 
 #[test]
 fn faults_have_their_places(rt: HostRuntime) -> Result<(), Fail> {
-    for (text, want) in FAULTS {
+    for row in FAULTS.lines() {
+        let (text, want) = row.split_once(" | ").ok_or("a row")?;
         let got = reading(rt.alloc(), text.as_bytes())?;
         assert_eq!(rt; got.as_str(), want, "at {text}");
     }
@@ -153,7 +161,7 @@ fn a_document_cut_at_any_byte(rt: HostRuntime) -> Result<(), Fail> {
     let text = "{\"a\u{e9}\\n\\ud83d\\ude00\": [1, null ,{\"b\":\"\\u00e9\"}, -0.5e+3]}";
     for cut in 0..text.len() {
         let got = reading(rt.alloc(), &text.as_bytes()[..cut])?;
-        let want = format!(in rt.alloc(); "syntax {cut}")?;
+        let want = placed(rt.alloc(), "syntax", cut as u32)?;
         assert_eq!(rt; got.as_str(), want.as_str(), "cut at {cut}");
     }
     Ok(())
@@ -179,45 +187,50 @@ fn nested(alloc: Global, levels: u32, even: Brackets, odd: Brackets) -> Result<S
     Ok(out)
 }
 
-/// Why so many levels are refused; nothing where they are read.
-fn fault_of_levels(
+/// The place at which so many levels are too deep; none where they are read.
+fn depth_fault(
     alloc: Global,
     levels: u32,
     even: Brackets,
     odd: Brackets,
-) -> Result<Option<JsonFault>, AllocError> {
+) -> Result<Option<u32>, Fail> {
     let text = nested(alloc, levels, even, odd)?;
     match read(alloc, text.as_bytes()) {
         Ok(_) => Ok(None),
-        Err(fault) => Ok(Some(fault)),
+        Err(JsonFault::Depth(place)) => Ok(Some(place)),
+        Err(_) => Err(Fail::from("it is lawful but for its depth")),
     }
+}
+
+/// Whether 64 levels are read, and the next is too deep at this place.
+fn is_last_read(alloc: Global, even: Brackets, odd: Brackets, place: u32) -> Result<bool, Fail> {
+    let most = depth_fault(alloc, 64, even, odd)?;
+    let more = depth_fault(alloc, 65, even, odd)?;
+    Ok(most.is_none() && more.unwrap_or(0) == place)
 }
 
 #[test]
 fn sixty_four_levels(rt: HostRuntime) -> Result<(), Fail> {
     let alloc = rt.alloc();
-    assert!(rt; fault_of_levels(alloc, 64, LIST, LIST)?.is_none());
-    assert!(rt; fault_of_levels(alloc, 64, OBJECT, OBJECT)?.is_none());
-    assert!(rt; fault_of_levels(alloc, 64, LIST, OBJECT)?.is_none());
-    let lists = fault_of_levels(alloc, 65, LIST, LIST)?;
-    assert_eq!(rt; lists, Some(JsonFault::Depth(64)));
-    let objects = fault_of_levels(alloc, 65, OBJECT, OBJECT)?;
-    assert_eq!(rt; objects, Some(JsonFault::Depth(320)));
-    let both = fault_of_levels(alloc, 65, LIST, OBJECT)?;
-    assert_eq!(rt; both, Some(JsonFault::Depth(192)));
+    assert!(rt; is_last_read(alloc, LIST, LIST, 64)?);
+    assert!(rt; is_last_read(alloc, OBJECT, OBJECT, 320)?);
+    assert!(rt; is_last_read(alloc, LIST, OBJECT, 192)?);
     Ok(())
 }
 
+/// Texts with escapes and numerals, each with the tree that is read of it.
+const ESCAPED: [(&str, &str); 6] = [
+    ("{\"\\u0061\":1}", "0{'a'10#1/0 }"),
+    ("\"\\ud83d\\ude00\\n\"", "0'\u{1f600}\n'"),
+    ("[-1.50e3,1e99]", "0[1#-1500/0 9wide ]"),
+    ("[0.999999999999999999]", "0[1#999999999999999999/18 ]"),
+    ("999999999999999999", "0#999999999999999999/0"),
+    ("1000000000000000000", "0wide"),
+];
+
 #[test]
 fn texts_and_numerals_in_a_tree(rt: HostRuntime) -> Result<(), Fail> {
-    for (text, want) in [
-        ("{\"\\u0061\":1}", "0{'a'10#1/0 }"),
-        ("\"\\ud83d\\ude00\\n\"", "0'\u{1f600}\n'"),
-        ("[-1.50e3,1e99]", "0[1#-1500/0 9wide ]"),
-        ("[0.999999999999999999]", "0[1#999999999999999999/18 ]"),
-        ("999999999999999999", "0#999999999999999999/0"),
-        ("1000000000000000000", "0wide"),
-    ] {
+    for (text, want) in ESCAPED {
         let got = reading(rt.alloc(), text.as_bytes())?;
         assert_eq!(rt; got.as_str(), want, "at {text}");
     }
@@ -285,13 +298,17 @@ const COMING_BACK: [(&str, &str); 18] = [
     ),
 ];
 
+/// Whether that is written of the tree that is read of a text.
+fn is_written_so(alloc: Global, text: &str, want: &str) -> Result<bool, Fail> {
+    let wrote = written(alloc, text.as_bytes())?;
+    Ok(wrote.as_slice() == want.as_bytes())
+}
+
 #[test]
 fn texts_come_back(rt: HostRuntime) -> Result<(), Fail> {
     for (text, want) in COMING_BACK {
-        let wrote = written(rt.alloc(), text.as_bytes())?;
-        assert_eq!(rt; wrote.as_slice(), want.as_bytes(), "at {text}");
-        let twice = written(rt.alloc(), wrote.as_slice())?;
-        assert_eq!(rt; twice.as_slice(), want.as_bytes(), "again at {text}");
+        assert!(rt; is_written_so(rt.alloc(), text, want)?, "at {text}");
+        assert!(rt; is_written_so(rt.alloc(), want, want)?, "again at {text}");
     }
     Ok(())
 }
@@ -325,27 +342,27 @@ fn a_tree_that_was_built(rt: HostRuntime) -> Result<(), Fail> {
     Ok(())
 }
 
-/// Whether the tree that is read of a text can be written, by itself and in a list.
-fn writable(alloc: Global, text: &str) -> Result<(bool, bool), Fail> {
+/// Whether the tree that is read of a text can be written so, by itself and in a list.
+fn is_writable_so(alloc: Global, text: &str, alone: bool, in_list: bool) -> Result<bool, Fail> {
     let tree = read(alloc, text.as_bytes()).map_err(|_| "it is lawful")?;
-    let alone = is_writable(&tree);
+    let is_alone = is_writable(&tree);
     let mut items = Items::new(alloc);
     items.push(tree).map_err(|_| "there is memory")?;
     let deeper = Json {
         at: 0,
         value: Value::List(items),
     };
-    Ok((alone, is_writable(&deeper)))
+    Ok(is_alone == alone && is_writable(&deeper) == in_list)
 }
 
 #[test]
 fn trees_that_are_not_written(rt: HostRuntime) -> Result<(), Fail> {
     let alloc = rt.alloc();
-    assert!(rt; writable(alloc, "1e99")? == (false, false));
-    assert!(rt; writable(alloc, "[{\"a\":[1e-99]}]")? == (false, false));
-    assert!(rt; writable(alloc, "[1e9]")? == (true, true));
+    assert!(rt; is_writable_so(alloc, "1e99", false, false)?);
+    assert!(rt; is_writable_so(alloc, "[{\"a\":[1e-99]}]", false, false)?);
+    assert!(rt; is_writable_so(alloc, "[1e9]", true, true)?);
     let most = nested(alloc, 64, LIST, OBJECT)?;
-    assert!(rt; writable(alloc, most.as_str())? == (true, false));
+    assert!(rt; is_writable_so(alloc, most.as_str(), true, false)?);
     Ok(())
 }
 
@@ -386,28 +403,52 @@ const BEHIND: [(&str, &str, usize, &str); 5] = [
     ("", "\"\"", 1, "!"),
 ];
 
+/// Whether that stands there once the tree of a text was written behind this.
+fn is_behind(
+    alloc: Global,
+    before: &str,
+    text: &str,
+    most: usize,
+    want: &str,
+) -> Result<bool, Fail> {
+    let got = behind(alloc, before, text, most)?;
+    Ok(got.as_slice() == want.as_bytes())
+}
+
 #[test]
 fn a_text_behind_what_is_written(rt: HostRuntime) -> Result<(), Fail> {
     for (before, text, most, want) in BEHIND {
-        let got = behind(rt.alloc(), before, text, most)?;
-        assert_eq!(rt; got.as_slice(), want.as_bytes(), "of {text} up to {most}");
+        let is_so = is_behind(rt.alloc(), before, text, most, want)?;
+        assert!(rt; is_so, "of {text} up to {most}");
     }
     Ok(())
 }
 
+/// Whether the tree of a text is a numeral that is kept with this mantissa and these places, or none where none is
+/// wanted.
+fn is_numeral_so(alloc: Global, text: &str, want: Option<(i64, u8)>) -> Result<bool, Fail> {
+    let tree = read(alloc, text.as_bytes()).map_err(|_| "it is lawful")?;
+    Ok(match (tree.numeral(), want) {
+        (Some(n), Some((mantissa, places))) => n.mantissa == mantissa && n.places == places,
+        (None, None) => true,
+        _ => false,
+    })
+}
+
+/// Texts, each with the numeral that its tree is.
+const NUMERALS: [(&str, Option<(i64, u8)>); 6] = [
+    ("24", Some((24, 0))),
+    ("-2.50", Some((-25, 1))),
+    ("1e99", None),
+    ("\"24\"", None),
+    ("null", None),
+    ("[24]", None),
+];
+
 #[test]
 fn numerals_of_values(rt: HostRuntime) -> Result<(), Fail> {
-    for (text, want) in [
-        ("24", Some((24, 0))),
-        ("-2.50", Some((-25, 1))),
-        ("1e99", None),
-        ("\"24\"", None),
-        ("null", None),
-        ("[24]", None),
-    ] {
-        let tree = read(rt.alloc(), text.as_bytes()).map_err(|_| "it is lawful")?;
-        let got = tree.numeral().map(|n| (n.mantissa, n.places));
-        assert_eq!(rt; got, want, "of {text}");
+    for (text, want) in NUMERALS {
+        assert!(rt; is_numeral_so(rt.alloc(), text, want)?, "of {text}");
     }
     Ok(())
 }
@@ -438,8 +479,7 @@ fn comes_back(
     count: usize,
 ) -> Result<bool, Fail> {
     let text = row_of(alloc, open, item, close, count)?;
-    let wrote = written(alloc, text.as_bytes())?;
-    Ok(wrote.as_slice() == text.as_bytes())
+    is_written_so(alloc, text.as_str(), text.as_str())
 }
 
 const LENGTHS: [usize; 8] = [1, 2, 4, 5, 63, 64, 65, 1000];

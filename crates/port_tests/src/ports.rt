@@ -12,17 +12,16 @@ use std::io::{self, Read, Write};
 // The pieces of a text that is written with `/` between them.
 fn pieces_of(alloc: Global, text: &str) -> Result<Vec<Vec<u8>>, AllocError> {
     let mut pieces = Vec::new(alloc);
-    let mut piece = Vec::new(alloc);
-    for byte in text.as_bytes() {
-        if *byte == b'/' {
-            pieces.push(piece)?;
-            piece = Vec::new(alloc);
-        } else {
-            piece.push(*byte)?;
-        }
+    for piece in text.as_bytes().split(|byte| *byte == b'/') {
+        push_piece(alloc, piece, &mut pieces)?;
     }
-    pieces.push(piece)?;
     Ok(pieces)
+}
+
+fn push_piece(alloc: Global, bytes: &[u8], pieces: &mut Vec<Vec<u8>>) -> Result<(), AllocError> {
+    let piece = Vec::from_slice(alloc, bytes)?;
+    pieces.push(piece)?;
+    Ok(())
 }
 
 // So many reads into a buffer of that length: the bytes of each with `/` behind them, `!` where it failed.
@@ -31,7 +30,7 @@ fn read_log<S: Source>(
     source: &mut S,
     room: usize,
     reads: u32,
-) -> Result<String, AllocError> {
+) -> Result<Vec<u8>, AllocError> {
     let mut log = Vec::new(alloc);
     let mut buffer = [0u8; 16];
     let room = room.min(16);
@@ -44,7 +43,7 @@ fn read_log<S: Source>(
             Err(Failed) => log.push(b'!')?,
         }
     }
-    text_of(alloc, &log)
+    Ok(log)
 }
 
 // A write of each piece: the number of bytes taken, a digit, or `!` where it failed.
@@ -52,7 +51,7 @@ fn write_log<K: Sink>(
     alloc: Global,
     sink: &mut K,
     pieces: &[Vec<u8>],
-) -> Result<String, AllocError> {
+) -> Result<Vec<u8>, AllocError> {
     let mut log = Vec::new(alloc);
     for piece in pieces {
         match sink.write(piece) {
@@ -60,11 +59,26 @@ fn write_log<K: Sink>(
             Err(Failed) => log.push(b'!')?,
         }
     }
-    text_of(alloc, &log)
+    Ok(log)
 }
 
-fn text_of(alloc: Global, bytes: &[u8]) -> Result<String, AllocError> {
-    String::from_utf8_lossy(alloc, bytes)
+// What reads of a source over memory give, of these pieces and failing reads.
+fn memory_reads(
+    alloc: Global,
+    pieces: &str,
+    failing: &[u32],
+    room: usize,
+    reads: u32,
+) -> Result<Vec<u8>, AllocError> {
+    let failing = Vec::from_slice(alloc, failing)?;
+    let mut source = MemSource::new(pieces_of(alloc, pieces)?, failing);
+    read_log(alloc, &mut source, room, reads)
+}
+
+// The same of a source that never fails.
+fn sure_reads(alloc: Global, pieces: &str, room: usize, reads: u32) -> Result<Vec<u8>, AllocError> {
+    let mut source = SureSource::new(pieces_of(alloc, pieces)?);
+    read_log(alloc, &mut source, room, reads)
 }
 
 #[test]
@@ -87,15 +101,11 @@ fn sources_over_memory_give_piece_after_piece(rt: HostRuntime) -> Result<(), All
         ("ab", &[1, 2, 3], 16, 4, "!!!ab/"),
     ];
     for (pieces, failing, room, reads, log) in cases {
-        let mut failing_reads = Vec::new(alloc);
-        failing_reads.extend_from_slice(failing)?;
-        let mut source = MemSource::new(pieces_of(alloc, pieces)?, failing_reads);
-        let given = read_log(alloc, &mut source, room, reads)?;
-        assert_eq!(rt; given.as_str(), log, "{pieces}");
+        let given = memory_reads(alloc, pieces, failing, room, reads)?;
+        assert!(rt; given.as_slice() == log.as_bytes(), "{pieces}");
         if failing.is_empty() {
-            let mut sure = SureSource::new(pieces_of(alloc, pieces)?);
-            let given = read_log(alloc, &mut sure, room, reads)?;
-            assert_eq!(rt; given.as_str(), log, "{pieces}");
+            let given = sure_reads(alloc, pieces, room, reads)?;
+            assert!(rt; given.as_slice() == log.as_bytes(), "{pieces}");
         }
     }
     Ok(())
@@ -114,11 +124,9 @@ fn a_sink_over_memory_takes_whole_pieces(rt: HostRuntime) -> Result<(), AllocErr
         ("abc/de", &[2, 1, 2], "!!", ""),
     ];
     for (pieces, failing, log, bytes) in cases {
-        let mut failing_writes = Vec::new(alloc);
-        failing_writes.extend_from_slice(failing)?;
-        let mut sink = MemSink::new(alloc, failing_writes);
+        let mut sink = MemSink::new(alloc, Vec::from_slice(alloc, failing)?);
         let answers = write_log(alloc, &mut sink, &pieces_of(alloc, pieces)?)?;
-        assert_eq!(rt; answers.as_str(), log, "{pieces}");
+        assert!(rt; answers.as_slice() == log.as_bytes(), "{pieces}");
         assert!(rt; sink.bytes() == Some(bytes.as_bytes()), "{pieces}");
     }
     Ok(())
@@ -140,11 +148,12 @@ fn a_sink_with_room_tells_its_bytes_up_to_it(rt: HostRuntime) -> Result<(), Memo
     for (pieces, room, log, bytes) in cases {
         let mut sink = SureSink::new(alloc, room)?;
         let answers = write_log(alloc, &mut sink, &pieces_of(alloc, pieces)?)?;
-        assert_eq!(rt; answers.as_str(), log, "{pieces}");
-        assert!(rt;
-            sink.bytes() == bytes.map(|text| text.as_bytes()),
-            "{pieces}"
-        );
+        assert!(rt; answers.as_slice() == log.as_bytes(), "{pieces}");
+        let told = match bytes {
+            Some(text) => sink.bytes() == Some(text.as_bytes()),
+            None => sink.bytes().is_none(),
+        };
+        assert!(rt; told, "{pieces}");
     }
     Ok(())
 }
@@ -192,16 +201,36 @@ impl Write for SlowWriter {
     }
 }
 
+fn slow_writer(alloc: Global, most: usize, failing: u32) -> SlowWriter {
+    SlowWriter {
+        most,
+        failing,
+        writes: 0,
+        bytes: Vec::new(alloc),
+    }
+}
+
+// Whether the writer has had so many writes and has these bytes.
+fn has_written(writer: &SlowWriter, writes: u32, bytes: &str) -> bool {
+    writer.writes == writes && writer.bytes.as_slice() == bytes.as_bytes()
+}
+
 #[test]
 fn a_standard_source_reads_once_a_call(rt: HostRuntime) -> Result<(), AllocError> {
     let alloc = rt.alloc();
     let given = read_log(alloc, &mut StdSource::new("hello".as_bytes()), 2, 4)?;
-    assert_eq!(rt; given.as_str(), "he/ll/o//");
+    assert!(rt; given.as_slice() == "he/ll/o//".as_bytes());
     let mut broken = BrokenReader { reads: 0 };
     let given = read_log(alloc, &mut StdSource::new(&mut broken), 4, 3)?;
-    assert_eq!(rt; given.as_str(), "ab/!ab/");
+    assert!(rt; given.as_slice() == "ab/!ab/".as_bytes());
     assert_eq!(rt; broken.reads, 3);
     Ok(())
+}
+
+// What the writes of these pieces answer, over a standard sink.
+fn slow_log(alloc: Global, writer: &mut SlowWriter, pieces: &str) -> Result<Vec<u8>, AllocError> {
+    let pieces = pieces_of(alloc, pieces)?;
+    write_log(alloc, &mut StdSink::new(writer), &pieces)
 }
 
 #[test]
@@ -215,28 +244,10 @@ fn a_standard_sink_writes_once_a_call(rt: HostRuntime) -> Result<(), AllocError>
         (0, 0, "abc//d", "!0!", 3, ""),
     ];
     for (most, failing, pieces, log, writes, bytes) in cases {
-        let mut writer = SlowWriter {
-            most,
-            failing,
-            writes: 0,
-            bytes: Vec::new(alloc),
-        };
-        let pieces = pieces_of(alloc, pieces)?;
-        let answers = write_log(alloc, &mut StdSink::new(&mut writer), &pieces)?;
-        assert_eq!(rt;
-            answers.as_str(),
-            log,
-            "{most} bytes a write, {failing} fails"
-        );
-        assert_eq!(rt;
-            writer.writes,
-            writes,
-            "{most} bytes a write, {failing} fails"
-        );
-        assert!(rt;
-            writer.bytes.as_slice() == bytes.as_bytes(),
-            "{most} bytes a write, {failing} fails"
-        );
+        let mut writer = slow_writer(alloc, most, failing);
+        let answers = slow_log(alloc, &mut writer, pieces)?;
+        assert!(rt; answers.as_slice() == log.as_bytes(), "{pieces}: {log}");
+        assert!(rt; has_written(&writer, writes, bytes), "{pieces}: {log}");
     }
     Ok(())
 }
@@ -254,21 +265,14 @@ fn put_writes_all_or_a_front(rt: HostRuntime) -> Result<(), AllocError> {
         (0, 0, false, 1, ""),
     ];
     for (most, failing, all, writes, bytes) in cases {
-        let mut writer = SlowWriter {
-            most,
-            failing,
-            writes: 0,
-            bytes: Vec::new(alloc),
-        };
+        let mut writer = slow_writer(alloc, most, failing);
         let done = put(&mut StdSink::new(&mut writer), "abcdefgh".as_bytes());
-        assert_eq!(rt; done.is_ok(), all, "{most} bytes a write, {failing} fails");
-        assert_eq!(rt;
-            writer.writes,
-            writes,
+        assert!(rt;
+            done.is_ok() == all,
             "{most} bytes a write, {failing} fails"
         );
         assert!(rt;
-            writer.bytes.as_slice() == bytes.as_bytes(),
+            has_written(&writer, writes, bytes),
             "{most} bytes a write, {failing} fails"
         );
     }
@@ -276,27 +280,34 @@ fn put_writes_all_or_a_front(rt: HostRuntime) -> Result<(), AllocError> {
 }
 
 #[test]
-fn put_reaches_every_sink(rt: HostRuntime) -> Result<(), Memory> {
-    let alloc = rt.alloc();
+fn put_reaches_a_vector(rt: HostRuntime) -> Result<(), AllocError> {
     let text = "a reply".as_bytes();
-
-    let mut vector: Vec<u8> = Vec::new(alloc);
+    let mut vector: Vec<u8> = Vec::new(rt.alloc());
     assert!(rt; put(&mut StdSink::new(&mut vector), text).is_ok());
     assert!(rt; vector.as_slice() == text);
+    Ok(())
+}
 
-    let mut failing = Vec::new(alloc);
-    failing.push(2)?;
-    let mut sink = MemSink::new(alloc, failing);
+#[test]
+fn put_reaches_a_sink_over_memory(rt: HostRuntime) -> Result<(), AllocError> {
+    let alloc = rt.alloc();
+    let text = "a reply".as_bytes();
+    let mut sink = MemSink::new(alloc, Vec::from_slice(alloc, &[2])?);
     assert!(rt; put(&mut sink, text).is_ok());
     assert!(rt; put(&mut sink, text).is_err());
     assert!(rt; put(&mut sink, &[]).is_ok());
     assert!(rt; sink.bytes() == Some(text));
+    Ok(())
+}
 
-    let mut sure = SureSink::new(alloc, 7)?;
-    assert!(rt; put(&mut sure, text).is_ok());
-    assert!(rt; sure.bytes() == Some(text));
-    assert!(rt; put(&mut sure, "!".as_bytes()).is_ok());
-    assert!(rt; sure.bytes() == None);
+#[test]
+fn put_reaches_a_sink_with_room(rt: HostRuntime) -> Result<(), Memory> {
+    let text = "a reply".as_bytes();
+    let mut sink = SureSink::new(rt.alloc(), 7)?;
+    assert!(rt; put(&mut sink, text).is_ok());
+    assert!(rt; sink.bytes() == Some(text));
+    assert!(rt; put(&mut sink, "!".as_bytes()).is_ok());
+    assert!(rt; sink.bytes() == None);
     Ok(())
 }
 

@@ -1,4 +1,4 @@
-// A talk of one station, held against the program's call over objects in memory.
+// The program's call over objects in memory, by one station, and a talk held against it.
 use cut_server::cut_main;
 use line_words::Words;
 use room_files::MemFiles;
@@ -10,7 +10,7 @@ use std::test::Fail;
 use std::thread::Threads;
 
 // The words of a text, parted by single spaces, ten at most.
-fn words_in(alloc: Global, text: &str) -> Result<Words, Fail> {
+pub(crate) fn words_in(alloc: Global, text: &str) -> Result<Words, Fail> {
     let mut words = Words::new(alloc);
     for word in text.split(' ') {
         if words.count() < 10 {
@@ -21,7 +21,7 @@ fn words_in(alloc: Global, text: &str) -> Result<Words, Fail> {
 }
 
 // The status of a run with these words over this input, with no file and no hall.
-fn run_over<R: Threads + Wait + Sync>(
+pub(crate) fn run_over<R: Threads + Wait + Sync>(
     rt: &R,
     alloc: Global,
     words: &Words,
@@ -33,6 +33,29 @@ fn run_over<R: Threads + Wait + Sync>(
     cut_main(
         rt, alloc, words, &mut files, input, output, &mut hall, &OpenGate,
     )
+}
+
+/// The status and the output of a run with these words, over these pieces of input and where these calls fail.
+pub(crate) fn ended<R: Threads + Wait + Sync>(
+    rt: &R,
+    alloc: Global,
+    words: &str,
+    pieces: &[&[u8]],
+    reads: &[u32],
+    writes: &[u32],
+) -> Result<(u8, Vec<u8>), Fail> {
+    let mut input = Vec::new(alloc);
+    for piece in pieces {
+        input.push(piece.to_vec(alloc)?)?;
+    }
+    let mut input = MemSource::new(input, reads.to_vec(alloc)?);
+    let mut output = MemSink::new(alloc, writes.to_vec(alloc)?);
+    let status = run_over(rt, alloc, &words_in(alloc, words)?, &mut input, &mut output);
+    let bytes = match output.bytes() {
+        Some(bytes) => bytes.to_vec(alloc)?,
+        None => Vec::new(alloc),
+    };
+    Ok((status, bytes))
 }
 
 /// Whether a run with these words ends with status 0 and answers so, in a text of what is sent, each line behind `> `,

@@ -19,8 +19,96 @@ const MINUTES: [u32; 21] = [
     23_378, 25_176, 26_974, 28_772, 30_570, 32_368, 34_166, 35_964,
 ];
 
+/// The rates as fractions, and how many frames are numbered in each of their seconds.
+const RATES: [(SequenceRate, u64, u64, u8); 5] = [
+    (SequenceRate::F23976, 24_000, 1_001, 24),
+    (SequenceRate::F24, 24, 1, 24),
+    (SequenceRate::F25, 25, 1, 25),
+    (SequenceRate::F2997, 30_000, 1_001, 30),
+    (SequenceRate::F30, 30, 1, 30),
+];
+
+/// The hours, minutes, seconds and frames of a label.
+type Fields = (u8, u8, u8, u8);
+
+/// Frames of drop-frame counting and their labels.
+const DROP_LABELS: [(u32, Fields); 16] = [
+    (0, (0, 0, 0, 0)),
+    (29, (0, 0, 0, 29)),
+    (30, (0, 0, 1, 0)),
+    (59, (0, 0, 1, 29)),
+    (1_799, (0, 0, 59, 29)),
+    (1_800, (0, 1, 0, 2)),
+    (1_827, (0, 1, 0, 29)),
+    (1_828, (0, 1, 1, 0)),
+    (3_597, (0, 1, 59, 29)),
+    (3_598, (0, 2, 0, 2)),
+    (17_981, (0, 9, 59, 29)),
+    (17_982, (0, 10, 0, 0)),
+    (19_782, (0, 11, 0, 2)),
+    (107_891, (0, 59, 59, 29)),
+    (107_892, (1, 0, 0, 0)),
+    (2_589_407, (23, 59, 59, 29)),
+];
+
+/// Frames of the other countings and their labels.
+const PLAIN_LABELS: [(SequenceRate, u32, Fields); 9] = [
+    (SequenceRate::F23976, 1_440, (0, 1, 0, 0)),
+    (SequenceRate::F24, 86_400, (1, 0, 0, 0)),
+    (SequenceRate::F24, 2_073_599, (23, 59, 59, 23)),
+    (SequenceRate::F25, 1_501, (0, 1, 0, 1)),
+    (SequenceRate::F25, 2_159_999, (23, 59, 59, 24)),
+    (SequenceRate::F2997, 1_800, (0, 1, 0, 0)),
+    (SequenceRate::F2997, 2_591_999, (23, 59, 59, 29)),
+    (SequenceRate::F30, 1_801, (0, 1, 0, 1)),
+    (SequenceRate::F30, 108_000, (1, 0, 0, 0)),
+];
+
+/// Labels that drop-frame counting leaves out.
+const DROPPED: [Fields; 3] = [(0, 1, 0, 0), (0, 1, 0, 1), (23, 59, 0, 1)];
+
+/// Labels with a field that is too large for drop-frame counting.
+const TOO_LARGE: [Fields; 6] = [
+    (0, 0, 60, 0),
+    (0, 1, 60, 0),
+    (24, 1, 0, 0),
+    (0, 61, 0, 0),
+    (0, 0, 0, 30),
+    (255, 255, 255, 255),
+];
+
+/// Texts of labels.
+const SPELLED: [(&str, Fields); 4] = [
+    ("01:23:45:06", (1, 23, 45, 6)),
+    ("01:23:45;06", (1, 23, 45, 6)),
+    ("99:99:99;99", (99, 99, 99, 99)),
+    ("00:00:60;00", (0, 0, 60, 0)),
+];
+
+/// Texts of no label.
+const MISSPELLED: [&str; 11] = [
+    "",
+    "01:23:45:0",
+    "01:23:45:067",
+    "01;23:45:06",
+    "01:23;45:06",
+    "01:23:45.06",
+    "1:23:45:06 ",
+    "0a:23:45:06",
+    "01:23:45:0/",
+    "01:23:4::06",
+    "-1:23:45:06",
+];
+
 fn counting(rt: &impl Abort, rate: SequenceRate, drop: bool) -> Counting {
-    Counting::new(rate, drop).expect(rt, "a counting")
+    let Some(counting) = Counting::new(rate, drop) else {
+        panic!(rt; "no counting");
+    };
+    counting
+}
+
+fn label_of((hours, minutes, seconds, frames): Fields) -> Label {
+    label(hours, minutes, seconds, frames)
 }
 
 fn label(hours: u8, minutes: u8, seconds: u8, frames: u8) -> Label {
@@ -32,12 +120,30 @@ fn label(hours: u8, minutes: u8, seconds: u8, frames: u8) -> Label {
     }
 }
 
-/// The text of a label with fields below 100.
-fn written(rt: &impl Abort, found: &Label, last: u8) -> [u8; 11] {
-    assert!(rt; last == b':' || last == b';');
-    assert!(rt; found.hours < 100 && found.minutes < 100);
-    assert!(rt; found.seconds < 100 && found.frames < 100);
-    label_text(found, last)
+/// The text of a label with fields below 100, as drop-frame counting writes it or as the others do.
+fn written(rt: &impl Abort, found: &Label, drop: bool) -> [u8; 11] {
+    assert!(rt; found.hours < 100);
+    assert!(rt; found.minutes < 100);
+    assert!(rt; found.seconds < 100);
+    assert!(rt; found.frames < 100);
+    label_text(found, if drop { b';' } else { b':' })
+}
+
+fn is_written(rt: &impl Abort, found: &Label, drop: bool, text: &str) -> bool {
+    written(rt, found, drop).as_slice() == text.as_bytes()
+}
+
+/// Whether a frame has that label, and the label that frame.
+fn has_label(counting: &Counting, frame: u32, found: &Label) -> bool {
+    counting.label_of(frame) == Ok(*found) && counting.frame_of(found) == Ok(frame)
+}
+
+fn is_refused(counting: &Counting, fields: Fields, fault: LabelFault) -> bool {
+    counting.frame_of(&label_of(fields)) == Err(fault)
+}
+
+fn is_read(text: &str, want: Option<Label>) -> bool {
+    read_label(text.as_bytes()) == want
 }
 
 /// The frame's label has that frame, and its text is read as that label.
@@ -45,37 +151,34 @@ fn goes_there_and_back(rt: &impl Abort, counting: &Counting, frame: u32) {
     let Ok(found) = counting.label_of(frame) else {
         panic!(rt; "no label of {frame}");
     };
-    assert_eq!(rt; counting.frame_of(&found), Ok(frame));
-    assert_eq!(rt;
-        read_label(&written(rt, &found, b':')),
-        Some(found),
+    assert!(rt; counting.frame_of(&found) == Ok(frame));
+    assert!(rt;
+        read_label(&written(rt, &found, false)) == Some(found),
         "at {frame}"
     );
-    assert_eq!(rt;
-        read_label(&written(rt, &found, b';')),
-        Some(found),
+    assert!(rt;
+        read_label(&written(rt, &found, true)) == Some(found),
         "at {frame}"
     );
 }
 
+fn is_exact(rate: SequenceRate, num: u64, den: u64) -> bool {
+    let found = rate.rate();
+    found.num == num && found.den == den && SequenceRate::of(&found) == Some(rate)
+}
+
+fn may_drop(rate: SequenceRate) -> bool {
+    Counting::new(rate, true).is_some()
+}
+
 #[test]
 fn rates_are_exact(rt: HostRuntime) {
-    for (rate, num, den) in [
-        (SequenceRate::F23976, 24_000, 1_001),
-        (SequenceRate::F24, 24, 1),
-        (SequenceRate::F25, 25, 1),
-        (SequenceRate::F2997, 30_000, 1_001),
-        (SequenceRate::F30, 30, 1),
-    ] {
-        assert_eq!(rt; (rate.rate().num, rate.rate().den), (num, den), "{rate:?}");
-        assert_eq!(rt; SequenceRate::of(&rate.rate()), Some(rate), "{rate:?}");
-        assert_eq!(rt;
-            Counting::new(rate, true).is_some(),
-            rate == SequenceRate::F2997,
-            "{rate:?}"
-        );
+    for (rate, num, den, _) in RATES {
+        assert!(rt; is_exact(rate, num, den), "{rate:?}");
+        assert!(rt; may_drop(rate) == (rate == SequenceRate::F2997), "{rate:?}");
         let plain = counting(&rt, rate, false);
-        assert_eq!(rt; (plain.rate(), plain.drop_frame()), (rate, false));
+        assert!(rt; plain.rate() == rate, "{rate:?}");
+        assert!(rt; !plain.drop_frame(), "{rate:?}");
     }
     assert!(rt; counting(&rt, SequenceRate::F2997, true).drop_frame());
 }
@@ -84,42 +187,24 @@ fn rates_are_exact(rt: HostRuntime) {
 fn a_day_ends(rt: HostRuntime) {
     for (rate, drop, day) in COUNTINGS {
         let counting = counting(&rt, rate, drop);
-        assert_eq!(rt; counting.day(), day, "{rate:?}");
-        assert_eq!(rt; counting.label_of(day), Err(PastDay), "{rate:?}");
-        assert_eq!(rt; counting.label_of(u32::MAX), Err(PastDay), "{rate:?}");
+        assert!(rt; counting.day() == day, "{rate:?}");
+        assert!(rt; counting.label_of(day) == Err(PastDay), "{rate:?}");
+        assert!(rt; counting.label_of(u32::MAX) == Err(PastDay), "{rate:?}");
         let last = match counting.label_of(day.saturating_sub(1)) {
             Ok(last) => (last.hours, last.minutes, last.seconds),
             Err(PastDay) => (0, 0, 0),
         };
-        assert_eq!(rt; last, (23, 59, 59), "{rate:?}");
+        assert!(rt; last == (23, 59, 59), "{rate:?}");
     }
 }
 
 #[test]
 fn drop_frame_leaves_out_numbers(rt: HostRuntime) {
     let counting = counting(&rt, SequenceRate::F2997, true);
-    for (frame, found) in [
-        (0, label(0, 0, 0, 0)),
-        (29, label(0, 0, 0, 29)),
-        (30, label(0, 0, 1, 0)),
-        (59, label(0, 0, 1, 29)),
-        (1_799, label(0, 0, 59, 29)),
-        (1_800, label(0, 1, 0, 2)),
-        (1_827, label(0, 1, 0, 29)),
-        (1_828, label(0, 1, 1, 0)),
-        (3_597, label(0, 1, 59, 29)),
-        (3_598, label(0, 2, 0, 2)),
-        (17_981, label(0, 9, 59, 29)),
-        (17_982, label(0, 10, 0, 0)),
-        (19_782, label(0, 11, 0, 2)),
-        (107_891, label(0, 59, 59, 29)),
-        (107_892, label(1, 0, 0, 0)),
-        (2_589_407, label(23, 59, 59, 29)),
-    ] {
-        assert_eq!(rt; counting.label_of(frame), Ok(found), "label of {frame}");
-        assert_eq!(rt; counting.frame_of(&found), Ok(frame), "frame of {frame}");
+    for (frame, fields) in DROP_LABELS {
+        assert!(rt; has_label(&counting, frame, &label_of(fields)), "{frame}");
     }
-    assert_eq!(rt; counting.label_of(2_589_408), Err(PastDay));
+    assert!(rt; counting.label_of(2_589_408) == Err(PastDay));
 }
 
 #[test]
@@ -128,18 +213,16 @@ fn a_dropping_minute_begins_at_number_two(rt: HostRuntime) {
     for (minute, edge) in MINUTES.iter().enumerate() {
         let minute = u8::try_from(minute).unwrap_or(255);
         let first = if minute % 10 == 0 { 0 } else { 2 };
-        assert_eq!(rt;
-            counting.label_of(*edge),
-            Ok(label(0, minute, 0, first)),
+        assert!(rt;
+            counting.label_of(*edge) == Ok(label(0, minute, 0, first)),
             "{minute}"
         );
         let before = match counting.label_of(edge.saturating_sub(1)) {
             Ok(before) => (before.seconds, before.frames),
             Err(PastDay) => (0, 0),
         };
-        assert_eq!(rt;
-            before,
-            if minute == 0 { (0, 0) } else { (59, 29) },
+        assert!(rt;
+            before == if minute == 0 { (0, 0) } else { (59, 29) },
             "{minute}"
         );
     }
@@ -147,51 +230,34 @@ fn a_dropping_minute_begins_at_number_two(rt: HostRuntime) {
 
 #[test]
 fn other_countings_leave_out_none(rt: HostRuntime) {
-    for (rate, frame, found) in [
-        (SequenceRate::F23976, 1_440, label(0, 1, 0, 0)),
-        (SequenceRate::F24, 86_400, label(1, 0, 0, 0)),
-        (SequenceRate::F24, 2_073_599, label(23, 59, 59, 23)),
-        (SequenceRate::F25, 1_501, label(0, 1, 0, 1)),
-        (SequenceRate::F25, 2_159_999, label(23, 59, 59, 24)),
-        (SequenceRate::F2997, 1_800, label(0, 1, 0, 0)),
-        (SequenceRate::F2997, 2_591_999, label(23, 59, 59, 29)),
-        (SequenceRate::F30, 1_801, label(0, 1, 0, 1)),
-        (SequenceRate::F30, 108_000, label(1, 0, 0, 0)),
-    ] {
+    for (rate, frame, fields) in PLAIN_LABELS {
         let counting = counting(&rt, rate, false);
-        assert_eq!(rt; counting.label_of(frame), Ok(found), "{rate:?} {frame}");
-        assert_eq!(rt; counting.frame_of(&found), Ok(frame), "{rate:?} {frame}");
+        let has = has_label(&counting, frame, &label_of(fields));
+        assert!(rt; has, "{rate:?} {frame}");
     }
 }
 
 #[test]
 fn labels_are_refused(rt: HostRuntime) {
     let drop = counting(&rt, SequenceRate::F2997, true);
-    for (refused, fault) in [
-        (label(0, 1, 0, 0), LabelFault::DroppedNumber),
-        (label(0, 1, 0, 1), LabelFault::DroppedNumber),
-        (label(23, 59, 0, 1), LabelFault::DroppedNumber),
-        (label(0, 0, 60, 0), LabelFault::FieldTooLarge),
-        (label(0, 1, 60, 0), LabelFault::FieldTooLarge),
-        (label(24, 1, 0, 0), LabelFault::FieldTooLarge),
-        (label(0, 61, 0, 0), LabelFault::FieldTooLarge),
-        (label(0, 0, 0, 30), LabelFault::FieldTooLarge),
-        (label(255, 255, 255, 255), LabelFault::FieldTooLarge),
-    ] {
-        assert_eq!(rt; drop.frame_of(&refused), Err(fault), "{refused:?}");
+    for fields in DROPPED {
+        let refused = is_refused(&drop, fields, LabelFault::DroppedNumber);
+        assert!(rt; refused, "{fields:?}");
     }
-    assert_eq!(rt; drop.frame_of(&label(0, 10, 0, 0)), Ok(17_982));
-    assert_eq!(rt; drop.frame_of(&label(0, 1, 1, 0)), Ok(1_828));
-    for (rate, frames) in [
-        (SequenceRate::F23976, 24),
-        (SequenceRate::F24, 24),
-        (SequenceRate::F25, 25),
-        (SequenceRate::F2997, 30),
-        (SequenceRate::F30, 30),
-    ] {
+    for fields in TOO_LARGE {
+        let refused = is_refused(&drop, fields, LabelFault::FieldTooLarge);
+        assert!(rt; refused, "{fields:?}");
+    }
+    assert!(rt; has_label(&drop, 17_982, &label(0, 10, 0, 0)));
+    assert!(rt; has_label(&drop, 1_828, &label(0, 1, 1, 0)));
+}
+
+#[test]
+fn frames_end_with_the_rate(rt: HostRuntime) {
+    for (rate, _, _, frames) in RATES {
         let plain = counting(&rt, rate, false);
-        let refused = plain.frame_of(&label(0, 1, 0, frames));
-        assert_eq!(rt; refused, Err(LabelFault::FieldTooLarge), "{rate:?}");
+        let refused = is_refused(&plain, (0, 1, 0, frames), LabelFault::FieldTooLarge);
+        assert!(rt; refused, "{rate:?}");
         assert!(rt; plain.frame_of(&label(0, 1, 0, 0)).is_ok(), "{rate:?}");
     }
 }
@@ -227,26 +293,13 @@ fn frames_go_to_labels_and_back(rt: HostRuntime) {
 #[test]
 fn labels_are_spelled(rt: HostRuntime) {
     let found = label(1, 23, 45, 6);
-    assert_eq!(rt; written(&rt, &found, b':'), *b"01:23:45:06");
-    assert_eq!(rt; written(&rt, &found, b';'), *b"01:23:45;06");
-    assert_eq!(rt; written(&rt, &label(99, 0, 9, 10), b';'), *b"99:00:09;10");
-    for (text, want) in [
-        (b"01:23:45:06".as_slice(), Some(found)),
-        (b"01:23:45;06".as_slice(), Some(found)),
-        (b"99:99:99;99".as_slice(), Some(label(99, 99, 99, 99))),
-        (b"00:00:60;00".as_slice(), Some(label(0, 0, 60, 0))),
-        (b"".as_slice(), None),
-        (b"01:23:45:0".as_slice(), None),
-        (b"01:23:45:067".as_slice(), None),
-        (b"01;23:45:06".as_slice(), None),
-        (b"01:23;45:06".as_slice(), None),
-        (b"01:23:45.06".as_slice(), None),
-        (b"1:23:45:06 ".as_slice(), None),
-        (b"0a:23:45:06".as_slice(), None),
-        (b"01:23:45:0/".as_slice(), None),
-        (b"01:23:4::06".as_slice(), None),
-        (b"-1:23:45:06".as_slice(), None),
-    ] {
-        assert_eq!(rt; read_label(text), want, "{text:?}");
+    assert!(rt; is_written(&rt, &found, false, "01:23:45:06"));
+    assert!(rt; is_written(&rt, &found, true, "01:23:45;06"));
+    assert!(rt; is_written(&rt, &label(99, 0, 9, 10), true, "99:00:09;10"));
+    for (text, fields) in SPELLED {
+        assert!(rt; is_read(text, Some(label_of(fields))), "{text}");
+    }
+    for text in MISSPELLED {
+        assert!(rt; is_read(text, None), "{text}");
     }
 }

@@ -11,8 +11,10 @@ fn number(rt: &impl Abort, mantissa: i64, places: u8) -> Numeral {
 
 /// The rate `num`/`den`.
 fn rate(rt: &impl Abort, num: u64, den: u64) -> Rate {
-    assert!(rt; 1 <= num && num <= 1_000_000_000_000);
-    assert!(rt; 1 <= den && den <= 1_000_000);
+    assert!(rt; 1 <= num);
+    assert!(rt; num <= 1_000_000_000_000);
+    assert!(rt; 1 <= den);
+    assert!(rt; den <= 1_000_000);
     Rate { num, den }
 }
 
@@ -24,29 +26,37 @@ fn time(rt: &impl Abort, mantissa: i64, places: u8, rate: Rate) -> RationalTime 
     }
 }
 
+// Numbers as a mantissa and its places, and the same in the shortest form.
+const SHORT_FORMS: [(i64, u8, i64, u8); 8] = [
+    (1_500, 3, 15, 1),
+    (-1_500, 3, -15, 1),
+    (1_500, 1, 150, 0),
+    (0, 18, 0, 0),
+    (7, 18, 7, 18),
+    (100_000_000_000_000_000, 17, 1, 0),
+    (999_999_999_999_999_999, 18, 999_999_999_999_999_999, 18),
+    (-999_999_999_999_999_999, 0, -999_999_999_999_999_999, 0),
+];
+
 #[test]
 fn a_number_has_one_shortest_form(rt: HostRuntime) {
-    for (mantissa, places, short, few) in [
-        (1_500, 3, 15, 1),
-        (-1_500, 3, -15, 1),
-        (1_500, 1, 150, 0),
-        (0, 18, 0, 0),
-        (7, 18, 7, 18),
-        (100_000_000_000_000_000, 17, 1, 0),
-        (999_999_999_999_999_999, 18, 999_999_999_999_999_999, 18),
-        (-999_999_999_999_999_999, 0, -999_999_999_999_999_999, 0),
-    ] {
+    for (mantissa, places, short, few) in SHORT_FORMS {
         let got = number(&rt, mantissa, places);
-        assert_eq!(rt;
-            (got.mantissa, got.places),
-            (short, few),
-            "{mantissa} {places}"
-        );
+        assert!(rt; got.mantissa == short, "{mantissa} {places}");
+        assert!(rt; got.places == few, "{mantissa} {places}");
     }
-    assert_eq!(rt; Numeral::of_digits(true, 250, 1), number(&rt, -25, 0));
-    assert_eq!(rt; Numeral::of_digits(true, 0, 2), number(&rt, 0, 0));
-    assert_eq!(rt; Numeral::of_digits(false, 2_997, 2), number(&rt, 2_997, 2));
-    assert_eq!(rt; number(&rt, 125, 2).denominator(), 100);
+}
+
+#[test]
+fn digits_are_a_number(rt: HostRuntime) {
+    assert!(rt; Numeral::of_digits(true, 250, 1) == number(&rt, -25, 0));
+    assert!(rt; Numeral::of_digits(true, 0, 2) == number(&rt, 0, 0));
+    assert!(rt; Numeral::of_digits(false, 2_997, 2) == number(&rt, 2_997, 2));
+    assert!(rt; number(&rt, 125, 2).denominator() == 100);
+}
+
+fn is_rate(number: &Numeral, rate: Option<Rate>) -> bool {
+    rate_of(number) == rate
 }
 
 #[test]
@@ -83,12 +93,8 @@ fn a_number_stands_for_a_rate(rt: HostRuntime) {
         (999_999_999_999, 0, 999_999_999_999, 1),
         (999_999_999_999, 6, 999_999_999_999, 1_000_000),
     ] {
-        let want = Some(rate(&rt, num, den));
-        assert_eq!(rt;
-            rate_of(&number(&rt, mantissa, places)),
-            want,
-            "{mantissa} {places}"
-        );
+        let is = is_rate(&number(&rt, mantissa, places), Some(rate(&rt, num, den)));
+        assert!(rt; is, "{mantissa} {places}");
     }
 }
 
@@ -106,12 +112,15 @@ fn other_numbers_stand_for_no_rate(rt: HostRuntime) {
         (999_999_999_999_999_999, 0),
         (23_981_023_976_023_977, 15),
     ] {
-        assert_eq!(rt;
-            rate_of(&number(&rt, mantissa, places)),
-            None,
+        assert!(rt;
+            is_rate(&number(&rt, mantissa, places), None),
             "{mantissa} {places}"
         );
     }
+}
+
+fn is_frame(moment: &RationalTime, rate: &Rate, frame: Result<i64, TimeFault>) -> bool {
+    moment.frames_at(rate) == frame
 }
 
 #[test]
@@ -128,12 +137,8 @@ fn a_moment_is_a_frame_of_a_rate(rt: HostRuntime) {
         (1, 18, (1, 1_000_000), (1_000_000_000_000, 1), 1),
     ] {
         let moment = time(&rt, mantissa, places, rate(&rt, num, den));
-        let want = Ok(frame);
-        assert_eq!(rt;
-            moment.frames_at(&rate(&rt, at_num, at_den)),
-            want,
-            "{mantissa} {places}"
-        );
+        let is = is_frame(&moment, &rate(&rt, at_num, at_den), Ok(frame));
+        assert!(rt; is, "{mantissa} {places}");
     }
 }
 
@@ -177,43 +182,48 @@ fn a_moment_may_have_no_counted_frame(rt: HostRuntime) {
         ),
     ] {
         let moment = time(&rt, mantissa, places, rate(&rt, num, den));
-        let want = Err(fault);
-        assert_eq!(rt;
-            moment.frames_at(&rate(&rt, at_num, at_den)),
-            want,
-            "{mantissa} {places}"
-        );
+        let is = is_frame(&moment, &rate(&rt, at_num, at_den), Err(fault));
+        assert!(rt; is, "{mantissa} {places}");
     }
 }
+
+// The first frame of a range and the one behind its last.
+type Narrowed = Result<(i64, i64), TooFar>;
+
+fn is_narrowed(range: &TimeRange, rate: &Rate, narrowed: Narrowed) -> bool {
+    range.narrowed_at(rate) == narrowed
+}
+
+// Starts and durations in tenths of a frame.
+const RANGES: [(i64, i64, Narrowed); 17] = [
+    (5, 20, Ok((1, 2))),
+    (0, 20, Ok((0, 2))),
+    (5, 29, Ok((1, 2))),
+    (-5, 20, Ok((0, 1))),
+    (-15, 27, Ok((-1, 0))),
+    (-20, 20, Ok((-2, 0))),
+    (5, 9, Ok((1, 0))),
+    (30, -5, Ok((3, 2))),
+    (21_474_836_470, 0, Ok((2_147_483_647, 2_147_483_647))),
+    (21_474_836_465, 10, Ok((2_147_483_647, 2_147_483_647))),
+    (21_474_836_465, 20, Err(TooFar)),
+    (21_474_836_470, 10, Err(TooFar)),
+    (21_474_836_471, 0, Err(TooFar)),
+    (21_474_836_480, -10, Err(TooFar)),
+    (-21_474_836_475, 10, Ok((-2_147_483_647, -2_147_483_647))),
+    (-21_474_836_475, 9, Err(TooFar)),
+    (-21_474_836_480, 100, Err(TooFar)),
+];
 
 #[test]
 fn a_range_is_narrowed_to_whole_frames(rt: HostRuntime) {
     let film = rate(&rt, 24, 1);
-    // a start and a duration in tenths of a frame
-    for (start, duration, narrowed) in [
-        (5, 20, Ok((1, 2))),
-        (0, 20, Ok((0, 2))),
-        (5, 29, Ok((1, 2))),
-        (-5, 20, Ok((0, 1))),
-        (-15, 27, Ok((-1, 0))),
-        (-20, 20, Ok((-2, 0))),
-        (5, 9, Ok((1, 0))),
-        (30, -5, Ok((3, 2))),
-        (21_474_836_470, 0, Ok((2_147_483_647, 2_147_483_647))),
-        (21_474_836_465, 10, Ok((2_147_483_647, 2_147_483_647))),
-        (21_474_836_465, 20, Err(TooFar)),
-        (21_474_836_470, 10, Err(TooFar)),
-        (21_474_836_471, 0, Err(TooFar)),
-        (21_474_836_480, -10, Err(TooFar)),
-        (-21_474_836_475, 10, Ok((-2_147_483_647, -2_147_483_647))),
-        (-21_474_836_475, 9, Err(TooFar)),
-        (-21_474_836_480, 100, Err(TooFar)),
-    ] {
+    for (start, duration, narrowed) in RANGES {
         let range = TimeRange {
             start: time(&rt, start, 1, film),
             duration: time(&rt, duration, 1, film),
         };
-        assert_eq!(rt; range.narrowed_at(&film), narrowed, "{start} {duration}");
+        assert!(rt; is_narrowed(&range, &film, narrowed), "{start} {duration}");
     }
 }
 
@@ -224,5 +234,5 @@ fn a_range_at_two_rates_is_narrowed(rt: HostRuntime) {
         start: time(&rt, 1, 0, rate(&rt, 48, 1)),
         duration: time(&rt, 24, 0, rate(&rt, 24, 1)),
     };
-    assert_eq!(rt; range.narrowed_at(&rate(&rt, 25, 1)), Ok((1, 25)));
+    assert!(rt; is_narrowed(&range, &rate(&rt, 25, 1), Ok((1, 25))));
 }

@@ -1,6 +1,5 @@
 // Runs of one station: its input in pieces, faults at each call, words and limits.
-use crate::calling::{ended, no_files, no_hall, parted, status_of, words_of};
-use room_halls::OpenGate;
+use crate::answered::{ended, run_over, words_in};
 use room_ports::{MemSink, MemSource};
 use std::alloc::Global;
 use std::process::Abort;
@@ -18,14 +17,7 @@ fn lines_end_with_their_line_feed_or_the_input(rt: HostRuntime) -> Result<(), Fa
         ("\r", "bad B1\njournal 0\n"),
     ];
     for (input, wanted) in table {
-        let (status, output) = ended(
-            &rt,
-            alloc,
-            &["run", "2", "1"],
-            &[input.as_bytes()],
-            &[],
-            &[],
-        )?;
+        let (status, output) = ended(&rt, alloc, "run 2 1", &[input.as_bytes()], &[], &[])?;
         assert_eq!(rt; status, 0, "{input:?}");
         assert_eq!(rt; output.as_slice(), wanted.as_bytes(), "{input:?}");
     }
@@ -49,7 +41,7 @@ fn pieces_make_no_difference(rt: HostRuntime) -> Result<(), Fail> {
     for cut in 0..text.len() {
         let (front, back) = text.split_at(cut);
         let pieces: [&[u8]; 3] = [front, &[], back];
-        let (status, output) = ended(&rt, alloc, &["run", "2", "1"], &pieces, &[], &[])?;
+        let (status, output) = ended(&rt, alloc, "run 2 1", &pieces, &[], &[])?;
         assert_eq!(rt; status, 0, "cut at {cut}");
         assert_eq!(rt; output.as_slice(), TWO_REPLIES.as_bytes(), "cut at {cut}");
     }
@@ -63,7 +55,7 @@ fn bytes_alone_make_no_difference(rt: HostRuntime) -> Result<(), Fail> {
     for byte in TWO_LINES.as_bytes().chunks(1) {
         pieces.push(byte)?;
     }
-    let (status, output) = ended(&rt, alloc, &["run", "2", "1"], &pieces, &[], &[])?;
+    let (status, output) = ended(&rt, alloc, "run 2 1", &pieces, &[], &[])?;
     assert_eq!(rt; status, 0);
     assert_eq!(rt; output.as_slice(), TWO_REPLIES.as_bytes());
     Ok(())
@@ -82,14 +74,7 @@ fn faults_end_the_run(rt: HostRuntime) -> Result<(), Fail> {
         (9, 3, 2, "ok 0 item 0\npoint 1\n"),
     ];
     for (read, write, status, wanted) in table {
-        let (ended_with, output) = ended(
-            &rt,
-            alloc,
-            &["run", "1", "1"],
-            &pieces,
-            &[read],
-            &[write],
-        )?;
+        let (ended_with, output) = ended(&rt, alloc, "run 1 1", &pieces, &[read], &[write])?;
         assert_eq!(rt; ended_with, status, "read {read} write {write}");
         assert_eq!(rt;
             output.as_slice(),
@@ -97,7 +82,7 @@ fn faults_end_the_run(rt: HostRuntime) -> Result<(), Fail> {
             "read {read} write {write}"
         );
     }
-    let (status, output) = ended(&rt, alloc, &["run"], &pieces, &[], &[1])?;
+    let (status, output) = ended(&rt, alloc, "run", &pieces, &[], &[1])?;
     assert_eq!(rt; status, 2);
     assert_eq!(rt; output.len(), 0);
     Ok(())
@@ -151,20 +136,20 @@ fn each_call_may_fail(rt: HostRuntime) -> Result<(), Fail> {
     let mut wanted = Vec::new(alloc);
     let mut call = 1u32;
     for reply in TEN_REPLIES.split_inclusive('\n') {
-        let (read, before) = ended(&rt, alloc, &["run", "2", "1"], &lines, &[call], &[])?;
+        let (read, before) = ended(&rt, alloc, "run 2 1", &lines, &[call], &[])?;
         assert_eq!(rt; read, 1, "read {call}");
         assert_eq!(rt; before.as_slice(), wanted.as_slice(), "read {call}");
-        let (write, front) = ended(&rt, alloc, &["run", "2", "1"], &lines, &[], &[call])?;
+        let (write, front) = ended(&rt, alloc, "run 2 1", &lines, &[], &[call])?;
         assert_eq!(rt; write, 2, "write {call}");
         assert_eq!(rt; front.as_slice(), wanted.as_slice(), "write {call}");
         wanted.extend_from_slice(reply.as_bytes())?;
         call = call.saturating_add(1);
     }
-    let (write, front) = ended(&rt, alloc, &["run", "2", "1"], &lines, &[], &[call])?;
+    let (write, front) = ended(&rt, alloc, "run 2 1", &lines, &[], &[call])?;
     assert_eq!(rt; write, 2, "the write of the journal's text");
     assert_eq!(rt; front.as_slice(), wanted.as_slice());
     wanted.extend_from_slice(TEN_ENTRIES.as_bytes())?;
-    let (status, all) = ended(&rt, alloc, &["run", "2", "1"], &lines, &[12], &[12])?;
+    let (status, all) = ended(&rt, alloc, "run 2 1", &lines, &[12], &[12])?;
     assert_eq!(rt; status, 0);
     assert_eq!(rt; all.as_slice(), wanted.as_slice());
     Ok(())
@@ -206,8 +191,7 @@ fn end_so<R: Threads + Wait + Sync + Abort>(
     wanted: &str,
 ) -> Result<(), Fail> {
     for row in rows.lines() {
-        let words = parted(alloc, row)?;
-        let (ended_with, output) = ended(rt, alloc, &words, &["point\n".as_bytes()], &[], &[])?;
+        let (ended_with, output) = ended(rt, alloc, row, &["point\n".as_bytes()], &[], &[])?;
         assert_eq!(rt; ended_with, status, "{row:?}");
         assert_eq!(rt; output.as_slice(), wanted.as_bytes(), "{row:?}");
     }
@@ -231,7 +215,7 @@ fn a_line_has_a_limit(rt: HostRuntime) -> Result<(), Fail> {
     ] {
         let mut line = vec![in alloc; b' '; blanks]?;
         line.extend_from_slice(b"point\npoint\n")?;
-        let (status, output) = ended(&rt, alloc, &["run", "1", "1"], &[&line], &[], &[])?;
+        let (status, output) = ended(&rt, alloc, "run 1 1", &[&line], &[], &[])?;
         assert_eq!(rt; status, 0, "{blanks} blanks");
         assert_eq!(rt; output.as_slice(), wanted, "{blanks} blanks");
     }
@@ -249,16 +233,12 @@ fn long_input<R: Threads + Wait + Sync>(
     pieces.push(vec![in alloc; b'x'; bytes]?)?;
     let mut input = MemSource::new(pieces, Vec::new(alloc));
     let mut output = MemSink::new(alloc, Vec::new(alloc));
-    let words = words_of(alloc, &["run", "1", "1"])?;
-    let status = status_of(
+    let status = run_over(
         rt,
         alloc,
-        &words,
-        &mut no_files(alloc),
+        &words_in(alloc, "run 1 1")?,
         &mut input,
         &mut output,
-        &mut no_hall(alloc),
-        &OpenGate,
     );
     let told = output.bytes().ok_or("told")?;
     Ok((status, told.to_vec(alloc)?))
@@ -291,7 +271,7 @@ fn a_journal_has_a_limit(rt: HostRuntime) -> Result<(), Fail> {
         lines.extend_from_slice(b"overwrite 0 0 @0 0 1\n")?;
     }
     lines.extend_from_slice(b"overwrite 0 0 @1 0 1\npoint\n")?;
-    let (status, output) = ended(&rt, alloc, &["run", "1", "1"], &[&lines], &[], &[])?;
+    let (status, output) = ended(&rt, alloc, "run 1 1", &[&lines], &[], &[])?;
     assert_eq!(rt; status, 0);
     // The replies `ok N item N` to the first 100,000 lines are 1,977,780 bytes.
     let wanted =
