@@ -2,8 +2,8 @@
 use cut_server::cut_main;
 use line_words::Words;
 use room_files::MemFiles;
-use room_halls::{Gate, Hall, MemHall, OpenGate};
-use room_ports::{MemSink, MemSource};
+use room_halls::{Hall, MemHall};
+use room_ports::{Gate, MemSink, MemSource, OpenGate};
 use std::alloc::Global;
 use std::sync::Wait;
 use std::test::Fail;

@@ -2,8 +2,8 @@
 ghost use Rattle.room_ports.specs.Sides.{owned};
 ghost use Rattle.std.specs.Prelude.{refl};
 
-use room_halls::{Gate, Hall, HallFault, HallLine, MemHall};
-use room_ports::{Failed, Line, MemLine, Sink, Source};
+use room_halls::{Hall, HallFault, HallLine, MemHall};
+use room_ports::{Failed, Gate, Line, MemLine, Sink, Source};
 use std::alloc::Global;
 use std::sync::Arc;
 use std::sync::atomic::{AtomicBool, AtomicU32, Ordering};

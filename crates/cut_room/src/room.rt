@@ -17,7 +17,7 @@ use crate::{Answer, CutFault, Sight};
 use edit_journal::{Beginning, Blank, CopyFault, Journal, MOST_ENTRIES, Naming, Pass};
 use history_points::{ReplayFault, copy_parts, replay};
 use room_core::{Entry, Fault, Memory, PartObject};
-use room_halls::Gate;
+use room_ports::Gate;
 use std::alloc::Global;
 use std::marker::Model;
 use std::sync::Wait;

@@ -16,17 +16,16 @@ use crate::command::{Command, command_in};
 use crate::document::{DocumentFault, open_document, refusal_line};
 use crate::stations::serve_opened;
 use crate::status::Status;
-use call_text::journal_text;
-use composables::Track;
+use call_text::{CutCall, CutObject, CutPart, journal_text};
 use cut_room::{Room, RoomBlank};
-use edit_apply::{Call, Editor};
+use edit_apply::Editor;
 use edit_journal::{Naming, Pass};
 use line_words::Words;
 use otio_json::{DocCode, Opening};
 use room_core::Entry;
 use room_files::Files;
-use room_halls::{Gate, Hall};
-use room_ports::{Line, Pair, Sink, Source, put};
+use room_halls::Hall;
+use room_ports::{Gate, Line, Pair, Sink, Source, put};
 use station_sessions::{End, Setting, serve_session};
 use std::alloc::Global;
 use std::marker::Brand;
@@ -35,7 +34,7 @@ use std::thread::Threads;
 use timecode12::Counting;
 
 // Puts the journal's text behind the replies.
-fn put_journal<L: Line>(alloc: Global, entries: &[Entry<Call>], line: &mut L) -> Status
+fn put_journal<L: Line>(alloc: Global, entries: &[Entry<CutCall>], line: &mut L) -> Status
     ensures ends { JournalEnds entries.now
         (outside (L.left line.old) (L.read_faults line.old) (L.taken line.old)
         (L.write_faults line.old))
@@ -54,11 +53,11 @@ fn put_journal<L: Line>(alloc: Global, entries: &[Entry<Call>], line: &mut L) ->
 }
 
 // Serves the session of the one station of a room that has just been opened, and puts its journal's text behind the replies.
-fn run_session<R: Wait, G: Gate, J: Naming<Editor, Track>, L: Line>(
+fn run_session<R: Wait, G: Gate, J: Naming<CutObject, CutPart>, L: Line>(
     rt: &R,
     alloc: Global,
-    room: Room<Editor, J>,
-    passes: Vec<Pass<Editor, J>>,
+    room: Room<CutObject, J>,
+    passes: Vec<Pass<CutObject, J>>,
     setting: Setting,
     line: &mut L,
     gate: &G,
@@ -85,9 +84,9 @@ fn run_session<R: Wait, G: Gate, J: Naming<Editor, Track>, L: Line>(
 }
 
 // The pass of the one station, and room for it.
-fn only_pass<J: Naming<Editor, Track>>(
-    passes: Vec<Pass<Editor, J>>,
-) -> (Vec<Pass<Editor, J>>, Pass<Editor, J>)
+fn only_pass<J: Naming<CutObject, CutPart>>(
+    passes: Vec<Pass<CutObject, J>>,
+) -> (Vec<Pass<CutObject, J>>, Pass<CutObject, J>)
     requires { AreFresh J.opening 1 passes.items }
     ensures pass { (result.1.number ≡ 0) × (result.1.entries ≡ []) }
     ensures none { result.0.items ≡ [] }
@@ -101,11 +100,11 @@ fn only_pass<J: Naming<Editor, Track>>(
 }
 
 // The same over an input and an output that are lent.
-fn run_over<R: Wait, G: Gate, J: Naming<Editor, Track>, S: Source, K: Sink>(
+fn run_over<R: Wait, G: Gate, J: Naming<CutObject, CutPart>, S: Source, K: Sink>(
     rt: &R,
     alloc: Global,
-    room: Room<Editor, J>,
-    passes: Vec<Pass<Editor, J>>,
+    room: Room<CutObject, J>,
+    passes: Vec<Pass<CutObject, J>>,
     setting: Setting,
     input: &mut S,
     output: &mut K,
@@ -124,10 +123,10 @@ fn run_over<R: Wait, G: Gate, J: Naming<Editor, Track>, S: Source, K: Sink>(
 }
 
 // A run of one station in the room of a blank.
-fn run_blank<R: Wait, G: Gate, J: Naming<Editor, Track>, S: Source, K: Sink>(
+fn run_blank<R: Wait, G: Gate, J: Naming<CutObject, CutPart>, S: Source, K: Sink>(
     rt: &R,
     alloc: Global,
-    blank: RoomBlank<Editor>,
+    blank: RoomBlank<CutObject>,
     setting: Setting,
     input: &mut S,
     output: &mut K,
@@ -144,7 +143,7 @@ fn run_blank<R: Wait, G: Gate, J: Naming<Editor, Track>, S: Source, K: Sink>(
         (K.write_faults output.new))
         ((input.new ≡ input.old) × (output.new ≡ output.old)) result }
 {
-    let (room, passes) = match Room::<Editor, J>::open(alloc, blank) {
+    let (room, passes) = match Room::<CutObject, J>::open(alloc, blank) {
         Ok(opened) => opened,
         Err(_) => return Status::OutOfMemory,
     };

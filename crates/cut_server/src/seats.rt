@@ -2,12 +2,11 @@
 ghost use Rattle.std.specs.Prelude.{◌≡◌, ℕ, Some, length, slice_get};
 ghost use Rattle.cut_server.specs.Seated.{IsReady, IsServedIn, SeatState};
 
-use composables::Track;
+use call_text::{CutObject, CutPart};
 use cut_room::Room;
-use edit_apply::Editor;
 use edit_journal::{Naming, Pass};
-use room_halls::{Gate, HallLine};
-use room_ports::Line;
+use room_halls::HallLine;
+use room_ports::{Gate, Line};
 use station_sessions::{End, Setting, serve_session};
 use std::alloc::Global;
 use std::marker::Model;
@@ -18,13 +17,13 @@ use std::thread::Threads;
 /// A station with its pass and its line, and how its session ended. Contracts see what the pass knows and what the line
 /// tells.
 #[derive(Drop)]
-pub(crate) struct Seat<L: Line, J: Naming<Editor, Track>> {
-    pub(crate) pass: Option<Pass<Editor, J>>,
+pub(crate) struct Seat<L: Line, J: Naming<CutObject, CutPart>> {
+    pub(crate) pass: Option<Pass<CutObject, J>>,
     pub(crate) line: L,
     pub(crate) end: End,
 }
 
-impl<L: Line, J: Naming<Editor, Track>> Model for Seat<L, J> {
+impl<L: Line, J: Naming<CutObject, CutPart>> Model for Seat<L, J> {
     ghost use Rattle.station_sessions.specs.Outside.{outside};
     ghost use Rattle.cut_server.specs.Seated.{SeatState};
 
@@ -38,12 +37,12 @@ impl<L: Line, J: Naming<Editor, Track>> Model for Seat<L, J> {
     } };
 }
 
-impl<L: Line, J: Naming<Editor, Track>> Seat<L, J> {
+impl<L: Line, J: Naming<CutObject, CutPart>> Seat<L, J> {
     ghost use Rattle.std.specs.Prelude.{◌≡◌, Some, IsSome};
     ghost use Rattle.station_sessions.specs.Outside.{outside};
 
     /// A station before its session.
-    pub(crate) fn new(pass: Pass<Editor, J>, line: L) -> Seat<L, J>
+    pub(crate) fn new(pass: Pass<CutObject, J>, line: L) -> Seat<L, J>
         ensures pass { result.pass ≡ Some pass }
         ensures line { result.line
             ≡ outside (L.left line) (L.read_faults line) (L.taken line) (L.write_faults line) }
@@ -56,7 +55,7 @@ impl<L: Line, J: Naming<Editor, Track>> Seat<L, J> {
     }
 
     /// Its pass, its line, and how its session ended.
-    pub(crate) fn into_parts(self) -> (Pass<Editor, J>, L, End)
+    pub(crate) fn into_parts(self) -> (Pass<CutObject, J>, L, End)
         requires { IsSome self.pass }
         ensures pass { self.pass ≡ Some result.0 }
         ensures line { self.line ≡ outside (L.left result.1) (L.read_faults result.1)
@@ -71,13 +70,13 @@ impl<L: Line, J: Naming<Editor, Track>> Seat<L, J> {
     }
 }
 
-impl<L: HallLine, J: Naming<Editor, Track>> Seat<L, J> {
+impl<L: HallLine, J: Naming<CutObject, CutPart>> Seat<L, J> {
     /// Serves the session of the station.
     fn serve<R: Wait, G: Gate>(
         &mut self,
         rt: &R,
         alloc: Global,
-        room: &Room<Editor, J>,
+        room: &Room<CutObject, J>,
         gate: &G,
         setting: Setting,
     )
@@ -99,12 +98,12 @@ impl<L: HallLine, J: Naming<Editor, Track>> Seat<L, J> {
 pub(crate) fn serve_seats<
     R: Threads + Wait + Sync,
     G: Gate + Sync,
-    J: Naming<Editor, Track> + Send + Sync,
+    J: Naming<CutObject, CutPart> + Send + Sync,
     L: HallLine + Send,
 >(
     rt: &R,
     alloc: Global,
-    room: &Room<Editor, J>,
+    room: &Room<CutObject, J>,
     gate: &G,
     setting: Setting,
     seats: &mut [Seat<L, J>],

@@ -11,15 +11,15 @@ ghost use Rattle.station_sessions.specs.SessionInside.{TrackRoom};
 
 use crate::seats::{Seat, serve_seats};
 use crate::status::Status;
-use call_text::journal_text;
-use composables::Track;
+use call_text::{CutCall, CutObject, CutPart, journal_text};
 use cut_room::{Room, RoomBlank};
-use edit_apply::{Call, Editor};
+use edit_apply::Editor;
 use edit_journal::{Naming, Pass};
 use otio_json::Opening;
 use room_core::Entry;
 use room_files::Files;
-use room_halls::{Gate, Hall, HallFault};
+use room_halls::{Hall, HallFault};
+use room_ports::Gate;
 use station_sessions::{End, Setting};
 use std::alloc::Global;
 use std::marker::Brand;
@@ -49,10 +49,10 @@ fn or_next(status: Status, next: Status) -> Status
 }
 
 // Seats each station with its pass, from the lowest on, over a line of the hall.
-fn seat_all<H: Hall, J: Naming<Editor, Track>>(
+fn seat_all<H: Hall, J: Naming<CutObject, CutPart>>(
     alloc: Global,
     hall: &mut H,
-    passes: Vec<Pass<Editor, J>>,
+    passes: Vec<Pass<CutObject, J>>,
     seats: &mut Vec<Seat<H::Line, J>>,
 ) -> Result<(), HallFault>
     requires passes { AreFresh J.opening (length passes.items) passes.items }
@@ -77,10 +77,10 @@ fn seat_all<H: Hall, J: Naming<Editor, Track>>(
 }
 
 // Gives the hall each line back, and keeps the passes: the first status of a session that is not 0.
-fn stand_all_up<H: Hall, J: Naming<Editor, Track>>(
+fn stand_all_up<H: Hall, J: Naming<CutObject, CutPart>>(
     hall: &mut H,
     seats: Vec<Seat<H::Line, J>>,
-    passes: &mut Vec<Pass<Editor, J>>,
+    passes: &mut Vec<Pass<CutObject, J>>,
 ) -> Status
     requires numbers { (k : ℕ) (s : SeatState) → slice_get seats.items k ≡ Some s
         → HasNumber k s.pass }
@@ -108,7 +108,7 @@ fn stand_all_up<H: Hall, J: Naming<Editor, Track>>(
 // Puts the journal's text into the file of this name.
 fn keep_journal<F: Files>(
     alloc: Global,
-    entries: &[Entry<Call>],
+    entries: &[Entry<CutCall>],
     name: &str,
     files: &mut F,
 ) -> Status
@@ -133,13 +133,13 @@ fn serve_seated<
     F: Files,
     H: Hall,
     G: Gate + Sync,
-    J: Naming<Editor, Track> + Send + Sync,
+    J: Naming<CutObject, CutPart> + Send + Sync,
 >(
     rt: &R,
     alloc: Global,
-    room: Room<Editor, J>,
+    room: Room<CutObject, J>,
     mut seats: Vec<Seat<H::Line, J>>,
-    mut passes: Vec<Pass<Editor, J>>,
+    mut passes: Vec<Pass<CutObject, J>>,
     setting: Setting,
     name: &str,
     files: &mut F,
@@ -171,12 +171,12 @@ fn serve_room<
     F: Files,
     H: Hall,
     G: Gate + Sync,
-    J: Naming<Editor, Track> + Send + Sync,
+    J: Naming<CutObject, CutPart> + Send + Sync,
 >(
     rt: &R,
     alloc: Global,
-    room: Room<Editor, J>,
-    passes: Vec<Pass<Editor, J>>,
+    room: Room<CutObject, J>,
+    passes: Vec<Pass<CutObject, J>>,
     setting: Setting,
     address: &str,
     name: &str,
@@ -240,11 +240,11 @@ fn serve_blank<
     F: Files,
     H: Hall,
     G: Gate + Sync,
-    J: Naming<Editor, Track> + Send + Sync,
+    J: Naming<CutObject, CutPart> + Send + Sync,
 >(
     rt: &R,
     alloc: Global,
-    blank: RoomBlank<Editor>,
+    blank: RoomBlank<CutObject>,
     setting: Setting,
     place: &Place<'_>,
     files: &mut F,
@@ -263,7 +263,7 @@ fn serve_blank<
         (hall_told (H.told hall.old) (H.faults hall.old))
         (hall_told (H.told hall.new) (H.faults hall.new)) result }
 {
-    let (room, passes) = match Room::<Editor, J>::open(alloc, blank) {
+    let (room, passes) = match Room::<CutObject, J>::open(alloc, blank) {
         Ok(opened) => opened,
         Err(_) => return Status::OutOfMemory,
     };

@@ -1,6 +1,8 @@
 // What each hall answers, call by call.
-use room_halls::{Gate, Hall, HallFault, MemHall, OpenGate, Pair2, SureHall, TcpHall};
-use room_ports::{Line, MemLine, MemSink, MemSource, Memory, SureSink, SureSource, put};
+use room_halls::{Hall, HallFault, MemHall, Pair2, SureHall, TcpHall};
+use room_ports::{
+    Gate, Line, MemLine, MemSink, MemSource, Memory, OpenGate, SureSink, SureSource, put,
+};
 use std::alloc::{AllocError, Global};
 use std::io::{self, Read, Write};
 use std::net::TcpStream;

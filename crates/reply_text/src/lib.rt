@@ -5,6 +5,7 @@
 #![tactic(auto)]
 
 mod bytes;
+mod cut;
 mod line_fault;
 mod replies;
 mod short_text;
@@ -12,6 +13,7 @@ mod sights;
 
 pub use bytes::{put, put_number, put_what};
 pub use composables::Memory;
+pub use cut::{CutCall, CutObject, CutPart};
 pub use line_fault::LineFault;
 pub use replies::{answer_text, fault_text, point_text};
 pub use short_text::{MAX_SHORT, MAX_SHORT_LINE, Short};

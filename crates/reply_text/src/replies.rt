@@ -6,10 +6,10 @@ ghost use Rattle.reply_text.specs.Replies.{link_text, offsets_text, done_text, r
 use crate::{LineFault, MAX_SHORT, Short};
 use composables::{Done, Refusal, Which};
 use cut_room::Answer;
-use edit_apply::Editor;
+use crate::CutObject;
 
 /// The reply to an edit, without its line feed. It takes no memory.
-pub fn answer_text(answer: &Answer<Editor>) -> Short
+pub fn answer_text(answer: &Answer<CutObject>) -> Short
     ensures text { result ≡ answer_text_of answer.now }
     ensures short { length result ≤ MAX_SHORT }
 {

@@ -6,12 +6,13 @@ ghost use Rattle.reply_text.specs.Sights.{side_text, frame_text, run_text, mark_
 use crate::bytes::{put, put_number, put_what};
 use composables::{ItemView, Memory};
 use cut_room::Sight;
-use edit_apply::{AskRefusal, Editor, Seen};
+use crate::CutObject;
+use edit_apply::{AskRefusal, Seen};
 use frame_meaning::{Frame, Link, Mark, Run, Side, What};
 use std::alloc::Global;
 
 /// The reply to a question to a track, without its line feed.
-pub fn sight_text(alloc: Global, sight: &Sight<Editor>) -> Result<Vec<u8>, Memory>
+pub fn sight_text(alloc: Global, sight: &Sight<CutObject>) -> Result<Vec<u8>, Memory>
     ensures { IfOk result (λ text. text.items ≡ sight_text_of sight.now) }
 {
     let mut out = Vec::new(alloc);

@@ -1,10 +1,8 @@
-//! Halls, where each station of a room has a line, and gates, at which a station waits before it commits. A hall tells
-//! of each station what its line has left and took, where bytes are told, its line's two counts of faults, and whether
+//! Halls, where each station of a room has a line. A hall tells of each station what its line has left and took, where bytes are told, its line's two counts of faults, and whether
 //! it was seated. A line that is seated stands as the hall told of it; a line that stands up leaves what it took, has
 //! left and counted; neither changes what is told of another station.
 #![tactic(auto)]
 
-mod gate;
 mod hall;
 mod memory_hall;
 mod report;
@@ -14,7 +12,6 @@ mod sure_line;
 mod tcp_hall;
 mod tcp_line;
 
-pub use gate::{Gate, OpenGate};
 pub use hall::{Hall, HallFault, HallLine};
 pub use memory_hall::MemHall;
 pub use sure_hall::SureHall;

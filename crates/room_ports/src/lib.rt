@@ -7,6 +7,7 @@
 
 mod calls;
 mod failed;
+mod gate;
 pub mod laws;
 mod line;
 mod pieces;
@@ -17,6 +18,7 @@ mod standard;
 
 pub use calls::FailingCalls;
 pub use failed::{Failed, Memory};
+pub use gate::{Gate, OpenGate};
 pub use line::{MemLine, Pair};
 pub use ports::{Line, Sink, Source, put};
 pub use sink::{MemSink, SureSink};

@@ -6,7 +6,7 @@ ghost use Rattle.room_core.specs.Parts.{AreGood, numbers};
 use cut_room::{Room, RoomBlank};
 use edit_journal::{Naming, Pass};
 use room_core::{Fault, Memory, PartObject};
-use room_halls::OpenGate;
+use room_ports::OpenGate;
 use std::alloc::Global;
 use std::marker::Brand;
 use std::sync::atomic::{AtomicBool, Ordering};

@@ -5,7 +5,7 @@ use counters::Counters;
 use cut_room::{Answer, CutFault, Room, RoomBlank, Sight};
 use edit_journal::{Naming, Pass};
 use room_core::{Entry, Memory};
-use room_halls::OpenGate;
+use room_ports::OpenGate;
 use std::alloc::Global;
 use std::marker::Brand;
 use std::sync::Wait;

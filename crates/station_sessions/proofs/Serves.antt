@@ -70,7 +70,7 @@ module _ {S C D R Q X Y : Type 0} (k : Protocol S C D R Q X Y) (station : ℕ) w
       )
 
   one_serves : (old met mid new : Course S C) (l : InputLine) (text : List ℕ) (Taken : List (List ℕ) → Type 0) → Grows k station old met
-      → Step k station met mid text (k.wish l) (k.takes_memory l) → new ≡ past_line mid → Taken (text ∷ []) → Serves k station old new (l ∷ []) Taken
+      → Step k station met mid text (k.wish station l) (k.takes_memory l) → new ≡ past_line mid → Taken (text ∷ []) → Serves k station old new (l ∷ []) Taken
   one_serves old met mid new l text Taken grows step next taken o ls rs last w =
       let s = served_more k station o met mid ls rs last l text (served_grows k station o old met ls rs last w grows) step in
       (text ∷ [], s.0, rw next s.1, taken)

@@ -109,7 +109,7 @@ module _ {S C D R Q X Y : Type 0} (k : Protocol S C D R Q X Y) (station : ℕ) (
 
   -- one line more that commits a call
   served_commit : (old new : Course S C) (ls : List InputLine) (rs : List (List ℕ)) (last : ℕ) (l : InputLine) (reply : List ℕ) (c : C) (d : D)
-      → Served k station o old ls rs last → k.wish l ≡ Do c → Commits k station old new reply c d
+      → Served k station o old ls rs last → k.wish station l ≡ Do c → Commits k station old new reply c d
       → Served k station o (past_line new) (ls ++ l ∷ []) (rs ++ reply ∷ []) (length old.journal + 1)
   served_commit old new ls rs last l reply c d w says m =
       let h : List (Entry C) = old.journal in
@@ -154,7 +154,7 @@ module _ {S C D R Q X Y : Type 0} (k : Protocol S C D R Q X Y) (station : ℕ) (
       subst (λ (s : Course S C). Served k station o (past_line s) (ls ++ l ∷ []) (rs ++ reply ∷ []) after) (sym same) (served_same old ls rs last l reply after w row told)
 
   served_does : (old new : Course S C) (ls : List InputLine) (rs : List (List ℕ)) (last : ℕ) (l : InputLine) (reply : List ℕ) (wish : Wish C Q)
-      → Served k station o old ls rs last → k.wish l ≡ wish → Does k station old new reply wish
+      → Served k station o old ls rs last → k.wish station l ≡ wish → Does k station old new reply wish
       → (after : ℕ) × Served k station o (past_line new) (ls ++ l ∷ []) (rs ++ reply ∷ []) after
   served_does old new ls rs last l reply (Do c) w says (inl (d, m)) =
       (length old.journal + 1, served_commit old new ls rs last l reply c d w says m)
@@ -231,9 +231,9 @@ module _ {S C D R Q X Y : Type 0} (k : Protocol S C D R Q X Y) (station : ℕ) (
 
   -- one line more, whatever it asks for
   pub served_more : (old new : Course S C) (ls : List InputLine) (rs : List (List ℕ)) (last : ℕ) (l : InputLine) (reply : List ℕ)
-      → Served k station o old ls rs last → Step k station old new reply (k.wish l) (k.takes_memory l)
+      → Served k station o old ls rs last → Step k station old new reply (k.wish station l) (k.takes_memory l)
       → (after : ℕ) × Served k station o (past_line new) (ls ++ l ∷ []) (rs ++ reply ∷ []) after
-  served_more old new ls rs last l reply w (inl m) = served_does old new ls rs last l reply (k.wish l) w refl m
+  served_more old new ls rs last l reply w (inl m) = served_does old new ls rs last l reply (k.wish station l) w refl m
   served_more old new ls rs last l reply w (inr (takes, m)) =
       let memory : IsMemory k o old.journal station (1 + length ls) last reply last [] = record {
         none = bears_none station (1 + length ls) old.journal w.before;

@@ -141,7 +141,7 @@ module _ {S C D R Q X Y : Type 0} (k : Protocol S C D R Q X Y) (o : S) where
 
   row_more : (h more : List (Entry C)) (station line told : ℕ) (reply : List ℕ) (after : ℕ) (points : List ℕ) (l : InputLine) (bound : ℕ)
       → length (h ++ more) ≤ most_entries → line < bound → OwnFrom station bound more → Row k o h station line told reply after points l → Row k o (h ++ more) station line told reply after points l
-  row_more h more station line told reply after points l bound within less own (inl w) = inl (answered_more h more station line told reply after points (k.wish l) within w)
+  row_more h more station line told reply after points l bound within less own (inl w) = inl (answered_more h more station line told reply after points (k.wish station l) within w)
   row_more h more station line told reply after points l bound within less own (inr (takes, w)) =
       inr (
         takes,

@@ -87,7 +87,7 @@ abbrev pub room_of : Setting → Protocol (List TrackState) Call Done Refusal As
 room_of setting = record {
   apply = whole (editing setting.table);
   see = seen_in setting.table;
-  wish = λ l. wish_in (meaning_of setting l);
+  wish = λ station l. wish_in (meaning_of setting l);
   takes_memory = λ l. finds_memory (wish_in (meaning_of setting l)) || is_linking l;
   answer_text = reply_of;
   full_text = answer_text_of (answer.Full most_entries);

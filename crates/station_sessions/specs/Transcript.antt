@@ -19,7 +19,7 @@ pub data Wish (C Q : Type 0) : Type 0 where
 pub record Protocol (S C D R Q X Y : Type 0) : Type 0 where
   pub apply : S → C → Result (S × D) R
   pub see : S → Q → Result X Y
-  pub wish : InputLine → Wish C Q
+  pub wish : ℕ → InputLine → Wish C Q
   pub takes_memory : InputLine → Bool
   pub answer_text : ℕ → Result D R → List ℕ
   pub full_text : List ℕ
@@ -128,7 +128,7 @@ module _ {S C D R Q X Y : Type 0} (k : Protocol S C D R Q X Y) (o : S) (h : List
     Answered (Bad text) = IsBad text
 
     abbrev pub Row : InputLine → Type 0
-    Row l = Answered (k.wish l) ⊎ (IsTrue (k.takes_memory l) × IsMemory)
+    Row l = Answered (k.wish station l) ⊎ (IsTrue (k.takes_memory l) × IsMemory)
 
   -- lines with their replies, from a line number on, where the station had been told of so much
   abbrev pub Rows : ℕ → ℕ → ℕ → List InputLine → List (List ℕ) → ℕ → List ℕ → Type 0

@@ -12,13 +12,11 @@ ghost use Rattle.otio_json.specs.declared.opening.Opening.{Opening as OpeningOf}
 ghost use Rattle.station_sessions.specs.Serving.{StopsWithin, SessionEnds};
 
 use crate::session::{Session, Setting};
-use composables::Track;
+use call_text::{CutObject, CutPart};
 use cut_room::Room;
-use edit_apply::Editor;
 use edit_journal::{Naming, Pass};
 use line_words::{LineEnd, LineReader};
-use room_halls::Gate;
-use room_ports::{Failed, Line, Sink};
+use room_ports::{Failed, Gate, Line, Sink};
 use std::alloc::Global;
 use std::sync::Wait;
 
@@ -42,7 +40,7 @@ const MOST_INPUT: usize = 67_108_864;
 const MOST_READ: usize = 8_192;
 
 // Answers a line that has ended.
-fn answer_line<R: Wait, G: Gate, J: Naming<Editor, Track>, K: Sink>(
+fn answer_line<R: Wait, G: Gate, J: Naming<CutObject, CutPart>, K: Sink>(
     session: &mut Session<'_, R, G, J>,
     end: LineEnd,
     text: &[u8],
@@ -67,7 +65,7 @@ fn answer_line<R: Wait, G: Gate, J: Naming<Editor, Track>, K: Sink>(
 }
 
 // Answers the lines that end within a piece.
-fn answer_piece<R: Wait, G: Gate, J: Naming<Editor, Track>, K: Sink>(
+fn answer_piece<R: Wait, G: Gate, J: Naming<CutObject, CutPart>, K: Sink>(
     reader: &mut LineReader,
     session: &mut Session<'_, R, G, J>,
     piece: &[u8],
@@ -108,7 +106,7 @@ fn answer_piece<R: Wait, G: Gate, J: Naming<Editor, Track>, K: Sink>(
 }
 
 // Answers a last line without a line feed.
-fn finish<R: Wait, G: Gate, J: Naming<Editor, Track>, K: Sink>(
+fn finish<R: Wait, G: Gate, J: Naming<CutObject, CutPart>, K: Sink>(
     reader: &mut LineReader,
     session: &mut Session<'_, R, G, J>,
     output: &mut K,
@@ -134,7 +132,7 @@ fn finish<R: Wait, G: Gate, J: Naming<Editor, Track>, K: Sink>(
 }
 
 /// Answers each line of an input, in order, until the input's end, a fault, or more than 64 MiB.
-fn serve<R: Wait, G: Gate, J: Naming<Editor, Track>, L: Line>(
+fn serve<R: Wait, G: Gate, J: Naming<CutObject, CutPart>, L: Line>(
     session: &mut Session<'_, R, G, J>,
     line: &mut L,
 ) -> End
@@ -178,15 +176,15 @@ fn serve<R: Wait, G: Gate, J: Naming<Editor, Track>, L: Line>(
 
 /// The session of a station that has no entry yet, over a line, from the line's first byte to its end, a fault, or more
 /// than 64 MiB. The pass knows then what the last of its answers told of.
-pub fn serve_session<R: Wait, G: Gate, J: Naming<Editor, Track>, L: Line>(
+pub fn serve_session<R: Wait, G: Gate, J: Naming<CutObject, CutPart>, L: Line>(
     rt: &R,
     alloc: Global,
-    room: &Room<Editor, J>,
+    room: &Room<CutObject, J>,
     gate: &G,
-    pass: Pass<Editor, J>,
+    pass: Pass<CutObject, J>,
     setting: Setting,
     line: &mut L,
-) -> (Pass<Editor, J>, End)
+) -> (Pass<CutObject, J>, End)
     requires { pass.entries ≡ [] }
     ensures ends { (o : OpeningOf) → IsRoomOf o room.now setting.counting setting.start
         → SessionEnds (Knows o pass.number result.0.entries)

@@ -9,14 +9,14 @@ ghost use Rattle.station_sessions.specs.Session.{IsSightReply};
 use crate::document_reply::cut_reply;
 use crate::reply::{Reply, ended};
 use call_text::{
-    Line, LineFault, Short, answer_text, fault_text, point_text, read_line, sight_text,
+    CutObject, CutPart, Line, LineFault, Short, answer_text, fault_text, point_text, read_line, sight_text,
 };
-use composables::{Memory, Track};
+use composables::Memory;
 use cut_room::{Answer, Room, Sight};
-use edit_apply::{Ask, Call, Editor};
+use edit_apply::{Ask, Call};
 use edit_journal::{Naming, Pass};
 use line_words::LineEnd;
-use room_halls::Gate;
+use room_ports::Gate;
 use std::alloc::Global;
 use std::marker::{Brand, Model};
 use std::sync::Wait;
@@ -33,18 +33,18 @@ pub struct Setting {
 
 /// A station in a room. Contracts see the room's setting, the station's number, what it knows of the journal, and the
 /// number of its next line.
-pub(crate) struct Session<'a, R, G, J: Naming<Editor, Track>> {
+pub(crate) struct Session<'a, R, G, J: Naming<CutObject, CutPart>> {
     pub(crate) rt: &'a R,
     pub(crate) alloc: Global,
-    pub(crate) room: &'a Room<Editor, J>,
+    pub(crate) room: &'a Room<CutObject, J>,
     pub(crate) gate: &'a G,
-    pub(crate) pass: Option<Pass<Editor, J>>,
+    pub(crate) pass: Option<Pass<CutObject, J>>,
     pub(crate) counting: Counting,
     pub(crate) start: u32,
     pub(crate) line: u32,
 }
 
-impl<'a, R, G, J: Naming<Editor, Track>> Model for Session<'a, R, G, J> {
+impl<'a, R, G, J: Naming<CutObject, CutPart>> Model for Session<'a, R, G, J> {
     ghost use Rattle.station_sessions.specs.Session.{SessionState};
     ghost use Rattle.station_sessions.specs.SessionInside.{session_at, IsSession};
 
@@ -55,7 +55,7 @@ impl<'a, R, G, J: Naming<Editor, Track>> Model for Session<'a, R, G, J> {
     ghost invariant = { λ s. IsSession s.room.now s.line s.pass };
 }
 
-impl<'a, R: Wait, G: Gate, J: Naming<Editor, Track>> Session<'a, R, G, J> {
+impl<'a, R: Wait, G: Gate, J: Naming<CutObject, CutPart>> Session<'a, R, G, J> {
     ghost use Rattle.std.specs.Prelude.{◌≡◌, ◌+◌, ◌<◌, ◌≤◌, ◌^◌, ◌++◌, IfOk, codes, length};
     ghost use Rattle.line_words.specs.Told.{line_told};
     ghost use Rattle.call_text.specs.CallTexts.{IsWritten, NamesWritten};
@@ -65,7 +65,7 @@ impl<'a, R: Wait, G: Gate, J: Naming<Editor, Track>> Session<'a, R, G, J> {
     ghost use Rattle.station_sessions.specs.Transcript.{Bad, Do, Point, See, Write};
 
     /// The station's pass.
-    pub(crate) fn into_pass(self) -> Pass<Editor, J>
+    pub(crate) fn into_pass(self) -> Pass<CutObject, J>
         ensures entries { result.entries ≡ self.entry.course.journal }
         ensures number { result.number ≡ self.entry.station }
     {
@@ -195,16 +195,16 @@ impl<'a, R: Wait, G: Gate, J: Naming<Editor, Track>> Session<'a, R, G, J> {
     }
 }
 
-fn edit_counted<R: Wait, G: Gate, J: Naming<Editor, Track>, L: Ledger>(
+fn edit_counted<R: Wait, G: Gate, J: Naming<CutObject, CutPart>, L: Ledger>(
     ledger: Blank,
     rt: &R,
     alloc: Global,
-    room: &Room<Editor, J>,
+    room: &Room<CutObject, J>,
     gate: &G,
-    pass: Pass<Editor, J>,
+    pass: Pass<CutObject, J>,
     number: u32,
     call: Call,
-) -> (Pass<Editor, J>, Answer<Editor>)
+) -> (Pass<CutObject, J>, Answer<CutObject>)
     requires ledger { (ledger.name ≡ L.name) × (ledger.parts ≡ L.parts) × (0 < ledger.parts) }
     requires number { last_of pass.number pass.entries < number }
     ensures { Edited (editing room.now.0.table) room.now.1
@@ -215,15 +215,15 @@ fn edit_counted<R: Wait, G: Gate, J: Naming<Editor, Track>, L: Ledger>(
 }
 
 // An edit of the room under a number, which counts no steps.
-fn edit_uncounted<R: Wait, G: Gate, J: Naming<Editor, Track>>(
+fn edit_uncounted<R: Wait, G: Gate, J: Naming<CutObject, CutPart>>(
     rt: &R,
     alloc: Global,
-    room: &Room<Editor, J>,
+    room: &Room<CutObject, J>,
     gate: &G,
-    pass: Pass<Editor, J>,
+    pass: Pass<CutObject, J>,
     number: u32,
     call: Call,
-) -> (Pass<Editor, J>, Answer<Editor>)
+) -> (Pass<CutObject, J>, Answer<CutObject>)
     requires { last_of pass.number pass.entries < number }
     ensures { Edited (editing room.now.0.table) room.now.1
         (record { station = pass.number; number = number; call = call }) pass result.0 result.1 }
@@ -232,7 +232,7 @@ fn edit_uncounted<R: Wait, G: Gate, J: Naming<Editor, Track>>(
 }
 
 // The reply to a question, or to one for whose reply there is no memory.
-fn sight_reply(alloc: Global, sight: &Sight<Editor>) -> Reply
+fn sight_reply(alloc: Global, sight: &Sight<CutObject>) -> Reply
     ensures { IsSightReply sight.now result }
 {
     match sight_line(alloc, sight) {
@@ -242,7 +242,7 @@ fn sight_reply(alloc: Global, sight: &Sight<Editor>) -> Reply
 }
 
 // The text of the reply to a question, with its line feed.
-fn sight_line(alloc: Global, sight: &Sight<Editor>) -> Result<Vec<u8>, Memory>
+fn sight_line(alloc: Global, sight: &Sight<CutObject>) -> Result<Vec<u8>, Memory>
     ensures { IfOk result (λ text. text.items ≡ sight_text_of sight.now ++ codes "\n") }
 {
     let mut text = sight_text(alloc, sight)?;
