@@ -2,8 +2,6 @@
 use Rattle.std.specs.Prelude.{◌≡◌, ℕ, ◌+◌, ◌≤◌, List, [], ◌∷◌, Option, Some, None, Result, Ok, Err}
 use Rattle.composables.specs.declared.refusals.Done.{Done}
 use Rattle.composables.specs.declared.refusals.Refusal.{Refusal}
-use Rattle.composables.specs.declared.refusals.EditFault.{EditFault}
-use Rattle.composables.specs.declared.refusals.EditFault.TheVariants.{Refused, Memory}
 use Rattle.composables.specs.TrackState.{TrackState}
 
 -- what a call means on the tracks that it names, in order: the tracks after it with the answer, or the first refusal
@@ -15,13 +13,6 @@ Applied = Result (List TrackState × Done) Refusal
 abbrev pub unless : {A : Type 0} → Option Refusal → Result A Refusal → Result A Refusal
 unless (Some why) meant = Err why
 unless None meant = meant
-
--- done: the state is the one meant, and so is the answer; refused: as meant, and the state is as it was; for want of
--- memory the state is as it was
-abbrev pub Answers : {S : Type 0} → Result (S × Done) Refusal → S → S → Result Done EditFault → Type 0
-Answers meant old new (Ok done) = meant ≡ Ok (new, done)
-Answers meant old new (Err (Refused why)) = (meant ≡ Err why) × (new ≡ old)
-Answers meant old new (Err Memory) = new ≡ old
 
 -- these are as many tracks, with the same numbers in the same order; each next item number has risen by n at most, and
 -- the next link numbers are as they were

@@ -26,7 +26,7 @@ pub use calls::{
     Roll, Slice, Slide, Slip, Trim, Undissolve, Unlink,
 };
 pub use facts::holds;
-pub use frame_meaning::Memory;
+pub use out_of_memory::{Fault, Memory};
 pub use items::{ItemView, Place};
 pub use laws::{
     a_dissolve_may_stand_at_a_cut, a_place_lies_in_one_item, a_track_is_kept, limits_are_these,

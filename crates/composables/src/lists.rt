@@ -1,7 +1,7 @@
 // A list that contracts see as its items.
 ghost use Rattle.std.specs.Prelude.{◌≡◌, ◌++◌, [], ◌∷◌, IfOk, OnOk, OnErr};
 
-use frame_meaning::Memory;
+use crate::Memory;
 use std::alloc::Global;
 use std::marker::Model;
 

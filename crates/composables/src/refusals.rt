@@ -1,4 +1,5 @@
 // What an edit answers.
+use out_of_memory::Fault;
 
 /// A side of a cut.
 #[derive(Clone, Copy, Debug, PartialEq, Eq)]
@@ -52,13 +53,8 @@ pub enum Refusal {
     TooManyItems(u32),
 }
 
-/// Why an edit is not done.
-#[derive(Clone, Copy, Debug, PartialEq, Eq)]
-pub enum EditFault {
-    Refused(Refusal),
-    /// Want of memory; nothing has changed.
-    Memory,
-}
+/// Why an edit is not done: it is refused, or there was no memory; nothing has changed.
+pub type EditFault = Fault<Refusal>;
 
 /// What an edit answers when it is done: nothing more, the number of the new item, the delta used, or the new link.
 #[derive(Clone, Copy, Debug, PartialEq, Eq)]

@@ -1,6 +1,6 @@
 // A room of many stations: an object, the locks of its parts, and its journal.
 ghost use Rattle.std.specs.Prelude.{◌≡◌, ◌<◌, ◌≤◌, [], ◌∷◌, ℕ, None, Some, Ok, All, IfErr, IfOk, IsSome, length, map, take};
-ghost use Rattle.room_core.specs.Answers.{Tells};
+ghost use Rattle.out_of_memory.specs.Answers.{Tells};
 ghost use Rattle.room_core.specs.History.{IsLegal, most_entries, replay};
 ghost use Rattle.room_core.specs.Parts.{AreGood, numbers};
 ghost use Rattle.room_core.specs.Whole.{set_of, whole};

@@ -3,11 +3,12 @@ use Rattle.std.proofs.Common.{◌≡◌, ℕ, List, [], ◌∷◌, map, get_or, 
 use Rattle.std.proofs.Math.ListN.{set}
 use Rattle.composables.specs.declared.refusals.Done.{Done}
 use Rattle.composables.specs.declared.refusals.Refusal.{Refusal}
-use Rattle.composables.specs.declared.refusals.EditFault.{EditFault}
-use Rattle.composables.specs.declared.refusals.EditFault.TheVariants.{Refused, Memory}
+use Rattle.out_of_memory.specs.declared.fault.Fault.{Fault}
+use Rattle.out_of_memory.specs.declared.fault.Fault.TheVariants.{Refused, Memory}
 use Rattle.composables.specs.TrackState.{TrackState}
 use Rattle.composables.proofs.Joining.{eqb-refl}
-use Rattle.composables.specs.Answers.{Answers, NextRises}
+use Rattle.composables.specs.Answers.{NextRises}
+use Rattle.out_of_memory.specs.Answers.{Answers}
 use Rattle.composables.specs.OwnTracks.{on_own, among_named, with_track}
 
 -- the only one of some tracks
@@ -26,13 +27,13 @@ on_alone meant t = rw (eqb-refl t.number) refl
 put_alone : (t u : TrackState) → u.number ≡ t.number → with_track (t ∷ []) u ≡ u ∷ []
 put_alone t u e = rw (e, eqb-refl t.number) refl
 
-answers_alone : (meant : TrackState → Result (TrackState × Done) Refusal) (t u : TrackState) (r : Result Done EditFault) → u.number ≡ t.number → Answers (meant t) t u r
+answers_alone : (meant : TrackState → Result (TrackState × Done) Refusal) (t u : TrackState) (r : Result Done (Fault Refusal)) → u.number ≡ t.number → Answers (meant t) t u r
     → Answers (on_own t.number meant (t ∷ [])) (t ∷ []) (u ∷ []) r
 answers_alone meant t u (Ok done) e a = on_alone meant t ∙ (ap (among_named (t ∷ [])) a ∙ ap (λ (us : List TrackState). Ok (us, done)) (put_alone t u e))
 answers_alone meant t u (Err (Refused why)) e a = (on_alone meant t ∙ ap (among_named (t ∷ [])) a.0, ap (λ (x : TrackState). x ∷ []) a.1)
 answers_alone meant t u (Err Memory) e a = ap (λ (x : TrackState). x ∷ []) a
 
-pub answers_named : (meant : TrackState → Result (TrackState × Done) Refusal) (n : ℕ) (ts : List TrackState) (t u : TrackState) (r : Result Done EditFault) → map (λ (t : TrackState). t.number) ts ≡ n ∷ []
+pub answers_named : (meant : TrackState → Result (TrackState × Done) Refusal) (n : ℕ) (ts : List TrackState) (t u : TrackState) (r : Result Done (Fault Refusal)) → map (λ (t : TrackState). t.number) ts ≡ n ∷ []
     → t ≡ get_or ts 0 t → u.number ≡ t.number → Answers (meant t) t u r → Answers (on_own n meant ts) ts (set ts 0 u) r
 answers_named meant n ts t u r named is e a =
     let one = alone n ts t named is in

@@ -3,7 +3,8 @@ ghost use Rattle.std.specs.Prelude.{◌≡◌, ◌+◌, ◌<◌, ◌≤◌, [], 
 ghost use Rattle.composables.specs.Items.{items_of};
 ghost use Rattle.composables.specs.Good.{IsGood, AllUnlinked};
 ghost use Rattle.composables.specs.TrackState.{TrackState};
-ghost use Rattle.composables.specs.Answers.{Answers, NextRises};
+ghost use Rattle.composables.specs.Answers.{NextRises};
+ghost use Rattle.out_of_memory.specs.Answers.{Answers};
 ghost use Rattle.dissolves.specs.Marking.{dissolve_named, dissolve_on, undissolve_named, undissolve_on};
 
 use crate::cuts::{cut_at, room_refusal};

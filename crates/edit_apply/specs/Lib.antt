@@ -4,7 +4,6 @@ pub mod RoomTracks
 pub mod See
 pub mod TogetherLaws
 -- For the steps of the code, for proofs and for tests.
-pub mod Faults
 pub mod NamingLaws
 pub mod PlainCells
 pub mod YoungTracks

@@ -9,7 +9,7 @@ ghost use Rattle.edit_apply.specs.RoomyLaws.{editing-roomy};
 ghost use Rattle.edit_apply.specs.See.{ask_part_of, seen_on};
 
 use crate::asks::copy_call;
-use crate::edits::{answer_of, edit};
+use crate::edits::edit;
 use crate::naming::{named_by, set_named, track_count, wrong_track};
 use crate::sights::see;
 use crate::{Ask, AskRefusal, Call, Seen};
@@ -93,7 +93,7 @@ impl PartObject for Editor {
         call: &Call,
         steps: &mut Steps<L>,
     ) -> Result<Done, Fault<Refusal>> {
-        answer_of(edit(alloc, &self.table, parts, call, steps))
+        edit(alloc, &self.table, parts, call, steps)
     }
 
     fn see(&self, alloc: Global, part: &Track, ask: &Ask) -> Result<Seen, Fault<AskRefusal>> {

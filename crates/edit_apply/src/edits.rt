@@ -1,21 +1,19 @@
 // An edit on the tracks that its call names.
 ghost use Rattle.std.specs.Prelude.{◌≡◌, ◌+◌, ◌*◌, ◌≤◌, All, None, length, sum_by};
-ghost use Rattle.composables.specs.Answers.{Answers};
+ghost use Rattle.out_of_memory.specs.Answers.{Answers};
 ghost use Rattle.composables.specs.Good.{IsGood};
 ghost use Rattle.composables.specs.Items.{items_of};
 ghost use Rattle.composables.specs.Roomy.{IsRoomy};
 ghost use Rattle.edit_apply.specs.Apply.{applied_on, refuse_names_of};
-ghost use Rattle.edit_apply.specs.Faults.{answer_of};
 ghost use Rattle.edit_apply.specs.RoomTracks.{AreNamed};
 
 use crate::Call;
-use composables::{Done, EditFault, Refusal, Table, Track};
+use composables::{Done, EditFault, Table, Track};
 use dissolves::{dissolve, undissolve};
 use edit_insert::{extract, fill, insert, overwrite, remove, slice};
 use edit_roll::{roll, slide};
 use edit_trim::{ripple, slip, trim};
 use link_groups::{link, unlink};
-use room_core::Fault;
 use std::alloc::Global;
 use std::sync::ledger::Ledger;
 use step_count::Steps;
@@ -60,16 +58,5 @@ pub(crate) fn edit<L: Ledger>(
         Call::Ripple(edit) => ripple(alloc, table, parts, edit, steps),
         Call::Link3(edit) => link(alloc, table, parts, edit, steps),
         Call::Unlink(edit) => unlink(alloc, table, parts, edit, steps),
-    }
-}
-
-/// An edit's answer as that of an object.
-pub(crate) fn answer_of(answer: Result<Done, EditFault>) -> Result<Done, Fault<Refusal>>
-    ensures { result ≡ answer_of answer }
-{
-    match answer {
-        Ok(done) => Ok(done),
-        Err(EditFault::Refused(refusal)) => Err(Fault::Refused(refusal)),
-        Err(EditFault::Memory) => Err(Fault::Memory),
     }
 }

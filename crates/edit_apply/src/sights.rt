@@ -1,6 +1,6 @@
 // What questions are answered.
 ghost use Rattle.std.specs.Prelude.{◌<◌, length};
-ghost use Rattle.room_core.specs.Answers.{Tells};
+ghost use Rattle.out_of_memory.specs.Answers.{Tells};
 ghost use Rattle.edit_apply.specs.See.{items_on, seen_on, view_on};
 
 use crate::{Ask, AskRefusal, Seen};

@@ -5,9 +5,9 @@ use Rattle.std.proofs.lemmas.Option.{slice_get_read}
 use Rattle.composables.specs.declared.media.Table.{Table}
 use Rattle.composables.specs.declared.refusals.Done.{Done}
 use Rattle.composables.specs.declared.refusals.Refusal.{Refusal}
-use Rattle.composables.specs.declared.refusals.EditFault.{EditFault}
-use Rattle.composables.specs.declared.refusals.EditFault.TheVariants.{Refused, Memory}
-use Rattle.composables.specs.Answers.{Answers}
+use Rattle.out_of_memory.specs.declared.fault.Fault.{Fault}
+use Rattle.out_of_memory.specs.declared.fault.Fault.TheVariants.{Refused, Memory}
+use Rattle.out_of_memory.specs.Answers.{Answers}
 use Rattle.composables.specs.Good.{IsGood}
 use Rattle.composables.specs.OwnTracks.{among_named, on_own, track_numbered, with_track, numbers_of}
 use Rattle.composables.specs.TrackSets.{tracks_in}
@@ -57,7 +57,7 @@ set_back i [] t e = absurd cc
 set_back zero (x ∷ xs) t e = let same : x ≡ t = cc in ap (λ (v : TrackState). v ∷ xs) (sym same)
 set_back (suc i) (x ∷ xs) t e = ap (λ (l : List TrackState). x ∷ l) (set_back i xs t e)
 
-pub named-answers : (n i : ℕ) (f : TrackState → Result (TrackState × Done) Refusal) (ts us : List TrackState) (t u : TrackState) (result : Result Done EditFault)
+pub named-answers : (n i : ℕ) (f : TrackState → Result (TrackState × Done) Refusal) (ts us : List TrackState) (t u : TrackState) (result : Result Done (Fault Refusal))
     → IsNamed n i ts t → us ≡ set ts i u → u.number ≡ t.number → Answers (f t) t u result → Answers (on_own n f ts) ts us result
 named-answers n i f ts us t u (Ok done) o e k a =
     for-found n (λ (v : TrackState). among_named ts (f v)) ts t o.found

@@ -1,6 +1,6 @@
 // Parts of items in place of a range of one track, within its limits.
 ghost use Rattle.std.specs.Prelude.{◌≡◌, ◌+◌, ◌*◌, ◌≤◌, length};
-ghost use Rattle.composables.specs.Answers.{Answers};
+ghost use Rattle.out_of_memory.specs.Answers.{Answers};
 ghost use Rattle.composables.specs.Good.{IsGood};
 ghost use Rattle.composables.specs.Items.{items_of};
 ghost use Rattle.composables.specs.Limits.{track_within_limits};

@@ -8,7 +8,7 @@ use Rattle.composables.specs.declared.items.ItemView.{ItemView}
 use Rattle.composables.specs.declared.media.Table.{Table}
 use Rattle.composables.specs.declared.refusals.Done.{Done}
 use Rattle.composables.specs.declared.refusals.Done.TheVariants.{Plain}
-use Rattle.composables.specs.declared.refusals.EditFault.{EditFault}
+use Rattle.out_of_memory.specs.declared.fault.Fault.{Fault}
 use Rattle.composables.specs.declared.refusals.Refusal.TheVariants.{NoItem}
 use Rattle.composables.specs.Good.{IsGood}
 use Rattle.composables.specs.Items.{cells_of, items_of}
@@ -19,7 +19,7 @@ use Rattle.composables.specs.TrackState.{TrackState}
 use Rattle.composables.specs.Views.{gap_views}
 use Rattle.composables.proofs.Joining.{length-cells_of}
 use Rattle.edit_splice.specs.Splicing.{spliced_track}
-use Rattle.composables.specs.Answers.{Answers}
+use Rattle.out_of_memory.specs.Answers.{Answers}
 use Rattle.edit_insert.specs.Edits.{for_range, remove_track, slice_track}
 use Rattle.composables.specs.Limits.{track_within_limits}
 use Rattle.edit_splice.specs.Standing.{StaysGood}
@@ -55,7 +55,7 @@ range-within t i x y kept e =
     let l : length (cells_of (items_of t.cells)) ≡ length t.cells = ap length kept.whole in
     (h.1, omega (arith, h.2, l, length-cells_of (items_of t.cells)))
 
-pub remove-stays : (table : Table) (c : Remove) (t u : TrackState) (result : Result Done EditFault) → IsGood table t → Answers (remove_track c t) t u result → StaysGood table t u
+pub remove-stays : (table : Table) (c : Remove) (t u : TrackState) (result : Result Done (Fault Refusal)) → IsGood table t → Answers (remove_track c t) t u result → StaysGood table t u
 remove-stays table c t u result g = by (range_of t.cells c.item) refl where
   by : (o : Option (ℕ × ℕ)) → range_of t.cells c.item ≡ o
       → Answers (for_range (λ x y. track_within_limits (spliced_track t x y (gap_views (y - x))) Plain) o) t u result → StaysGood table t u
@@ -64,7 +64,7 @@ remove-stays table c t u result g = by (range_of t.cells c.item) refl where
       let h : (r.0 ≤ r.1) × (r.1 ≤ length t.cells) = range-within t c.item r.0 r.1 g.kept e in
       stays-placed table t u r.0 r.1 (gap_views (r.1 - r.0)) Plain result g h.0 h.1 (put-gap table t (r.1 - r.0)) a
 
-pub slice-stays : (table : Table) (c : Slice) (t u : TrackState) (result : Result Done EditFault) → IsGood table t → Answers (slice_track c t) t u result → StaysGood table t u
+pub slice-stays : (table : Table) (c : Slice) (t u : TrackState) (result : Result Done (Fault Refusal)) → IsGood table t → Answers (slice_track c t) t u result → StaysGood table t u
 slice-stays table c t u result g = by (ltb c.at (length t.cells)) refl where
   by : (b : Bool) → ltb c.at (length t.cells) ≡ b
       → Answers (cond b (track_within_limits (spliced_track t c.at c.at []) Plain) (Err NoItem)) t u result → StaysGood table t u

@@ -5,7 +5,7 @@ ghost use Rattle.std.specs.List.{list_any};
 ghost use Rattle.composables.specs.Good.{AreUnlinked, IsGood};
 ghost use Rattle.composables.specs.Roomy.{IsRoomy};
 ghost use Rattle.composables.specs.Sizes.{sizes_of};
-ghost use Rattle.composables.specs.Answers.{Answers};
+ghost use Rattle.out_of_memory.specs.Answers.{Answers};
 ghost use Rattle.edit_insert.specs.Edits.{extract_named, insert_named};
 ghost use Rattle.composables.specs.OwnTracks.{numbers_of, track_numbered};
 ghost use Rattle.link_groups.specs.Shifted.{EachStaysShifted, NextItemsRise};

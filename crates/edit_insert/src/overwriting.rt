@@ -4,7 +4,8 @@ ghost use Rattle.composables.specs.Good.{AreUnlinked, IsGood};
 ghost use Rattle.composables.specs.OwnTracks.{numbers_of};
 ghost use Rattle.composables.specs.Roomy.{IsRoomy};
 ghost use Rattle.composables.specs.Sizes.{size_of, sizes_of};
-ghost use Rattle.composables.specs.Answers.{Answers, NextRises};
+ghost use Rattle.composables.specs.Answers.{NextRises};
+ghost use Rattle.out_of_memory.specs.Answers.{Answers};
 ghost use Rattle.edit_insert.specs.Edits.{overwrite_named, overwrite_track};
 ghost use Rattle.edit_splice.specs.Standing.{StaysGood};
 

@@ -5,7 +5,8 @@ ghost use Rattle.composables.specs.OwnTracks.{numbers_of};
 ghost use Rattle.composables.specs.Roomy.{IsRoomy};
 ghost use Rattle.composables.specs.Sizes.{size_of, sizes_of};
 ghost use Rattle.composables.specs.TrackFacts.{IsKept};
-ghost use Rattle.composables.specs.Answers.{Answers, NextRises};
+ghost use Rattle.composables.specs.Answers.{NextRises};
+ghost use Rattle.out_of_memory.specs.Answers.{Answers};
 ghost use Rattle.edit_insert.specs.Edits.{remove_named, remove_track, slice_named, slice_track};
 
 use composables::{Done, EditFault, MAX_FRAMES, Refusal, Remove, Slice, Table, Track};

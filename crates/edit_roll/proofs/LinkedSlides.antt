@@ -10,9 +10,10 @@ use Rattle.composables.specs.declared.items.ItemView.{ItemView}
 use Rattle.composables.specs.declared.items.Place.{Place}
 use Rattle.composables.specs.declared.media.Table.{Table}
 use Rattle.composables.specs.declared.refusals.Done.{Done}
-use Rattle.composables.specs.declared.refusals.EditFault.{EditFault}
+use Rattle.out_of_memory.specs.declared.fault.Fault.{Fault}
 use Rattle.composables.specs.declared.refusals.Refusal.{Refusal}
-use Rattle.composables.specs.Answers.{Answers, Applied, unless}
+use Rattle.composables.specs.Answers.{Applied, unless}
+use Rattle.out_of_memory.specs.Answers.{Answers}
 use Rattle.composables.specs.Good.{IsGood}
 use Rattle.composables.specs.Items.{items_of}
 use Rattle.composables.specs.Links.{outside_refusal}
@@ -110,7 +111,7 @@ allowed-means table c ts t found refuse =
     ∙ (ap (λ (r : Option Refusal). unless r (among_named ts (slide_track table c t))) refuse
     ∙ sym (for-found c.track (λ (u : TrackState). among_named ts (slide_track table c u)) ts t found))
 
-pub allowed-answers : (table : Table) (c : Slide) (ts us : List TrackState) (t : TrackState) (r : Result Done EditFault) → track_numbered c.track ts ≡ Some t → links_refuse table ts c t (item_of t c.item) ≡ None
+pub allowed-answers : (table : Table) (c : Slide) (ts us : List TrackState) (t : TrackState) (r : Result Done (Fault Refusal)) → track_numbered c.track ts ≡ Some t → links_refuse table ts c t (item_of t c.item) ≡ None
     → Answers (on_own c.track (slide_track table c) ts) ts us r → Answers (slide_named table ts c) ts us r
 allowed-answers table c ts us t r found none a = subst (λ (m : Applied). Answers m ts us r) (sym (allowed-means table c ts t found none)) a
 

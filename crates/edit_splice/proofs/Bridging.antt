@@ -6,8 +6,8 @@ use Rattle.std.proofs.lemmas.List.Elements.{All-cons}
 use Rattle.composables.specs.declared.items.ItemView.{ItemView}
 use Rattle.composables.specs.declared.media.Table.{Table}
 use Rattle.composables.specs.declared.refusals.Done.{Done}
-use Rattle.composables.specs.declared.refusals.EditFault.{EditFault}
-use Rattle.composables.specs.declared.refusals.EditFault.TheVariants.{Refused, Memory}
+use Rattle.out_of_memory.specs.declared.fault.Fault.{Fault}
+use Rattle.out_of_memory.specs.declared.fault.Fault.TheVariants.{Refused, Memory}
 use Rattle.composables.specs.declared.refusals.Refusal.{Refusal}
 use Rattle.composables.specs.declared.TheConstants.{MAX_FRAMES, MAX_ITEMS}
 use Rattle.composables.specs.Good.{IsGood}
@@ -19,7 +19,8 @@ use Rattle.composables.specs.TrackState.{TrackState}
 use Rattle.composables.specs.Views.{gap_views}
 use Rattle.edit_splice.specs.Splicing.{spliced_track}
 use Rattle.edit_splice.specs.declared.shifting.Shift.{Shift}
-use Rattle.composables.specs.Answers.{Answers, unless}
+use Rattle.composables.specs.Answers.{unless}
+use Rattle.out_of_memory.specs.Answers.{Answers}
 use Rattle.composables.specs.Limits.{too_long, too_many, within_limits}
 use Rattle.edit_splice.specs.Moves.{IsShiftOf, all_moved, moved, put_views}
 use Rattle.composables.specs.OwnTracks.{for_own, track_numbered, with_track, numbers_of}
@@ -230,7 +231,7 @@ all_done us done new d = by (too_long us) (too_many us) refl refl where
   by None None e f k = record { same = Prim.grind (arith, k); long = e; many = f }
 
 -- after a shift
-pub each-shifted : (table : Table) (s : Shift) (ts us : List TrackState) (done : Done) (result : Result Done EditFault) → All (IsGood table) ts
+pub each-shifted : (table : Table) (s : Shift) (ts us : List TrackState) (done : Done) (result : Result Done (Fault Refusal)) → All (IsGood table) ts
     → All (StaysMoved table s) ts → Answers (within_limits (all_moved s ts) done) ts us result → EachStaysGood table ts us
 each-shifted table s ts us done (Ok d) g p a =
     let k : AreDone (all_moved s ts) done us d = all_done (all_moved s ts) done us d a in

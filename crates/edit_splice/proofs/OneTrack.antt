@@ -3,11 +3,11 @@ use Rattle.std.proofs.Common.{◌≡◌, ℕ, List, [], ◌∷◌, All, map, set
 use Rattle.std.proofs.lemmas.Bool.{eq-eqb}
 use Rattle.composables.specs.declared.media.Table.{Table}
 use Rattle.composables.specs.declared.refusals.Done.{Done}
-use Rattle.composables.specs.declared.refusals.EditFault.{EditFault}
-use Rattle.composables.specs.declared.refusals.EditFault.TheVariants.{Refused, Memory}
+use Rattle.out_of_memory.specs.declared.fault.Fault.{Fault}
+use Rattle.out_of_memory.specs.declared.fault.Fault.TheVariants.{Refused, Memory}
 use Rattle.composables.specs.declared.refusals.Refusal.{Refusal}
 use Rattle.composables.specs.TrackState.{TrackState}
-use Rattle.composables.specs.Answers.{Answers}
+use Rattle.out_of_memory.specs.Answers.{Answers}
 use Rattle.composables.specs.OwnTracks.{among_named, on_own}
 use Rattle.edit_splice.specs.Standing.{StaysGood, EachStaysGood}
 
@@ -18,7 +18,7 @@ on_it n f t e = rw (eq-eqb t.number n e) refl
 put_there : (t u : TrackState) (r : Result (TrackState × Done) Refusal) (done : Done) → u.number ≡ t.number → r ≡ Ok (u, done) → among_named (t ∷ []) r ≡ Ok (u ∷ [], done)
 put_there t u r done e f = ap (among_named (t ∷ [])) f ∙ rw (eq-eqb t.number u.number (sym e)) refl
 
-one : (n : ℕ) (f : TrackState → Result (TrackState × Done) Refusal) (t u : TrackState) (result : Result Done EditFault) → t.number ≡ n → u.number ≡ t.number
+one : (n : ℕ) (f : TrackState → Result (TrackState × Done) Refusal) (t u : TrackState) (result : Result Done (Fault Refusal)) → t.number ≡ n → u.number ≡ t.number
     → Answers (f t) t u result → Answers (on_own n f (t ∷ [])) (t ∷ []) (u ∷ []) result
 one n f t u (Ok d) e k a = on_it n f t e ∙ put_there t u (f t) d k a
 one n f t u (Err (Refused why)) e k a = (on_it n f t e ∙ ap (among_named (t ∷ [])) a.0, ap (λ (v : TrackState). v ∷ []) a.1)
@@ -34,7 +34,7 @@ is-one n [] t e f = absurd (Prim.grind (arith, e))
 is-one n (u ∷ []) t e f = record { all = ap (λ (v : TrackState). v ∷ []) (sym f); number = ap (λ (v : TrackState). v.number) f ∙ Prim.grind (arith, e) }
 is-one n (u ∷ v ∷ us) t e f = absurd (Prim.grind (arith, e))
 
-pub one-answers : (n : ℕ) (f : TrackState → Result (TrackState × Done) Refusal) (ts us : List TrackState) (t u : TrackState) (result : Result Done EditFault)
+pub one-answers : (n : ℕ) (f : TrackState → Result (TrackState × Done) Refusal) (ts us : List TrackState) (t u : TrackState) (result : Result Done (Fault Refusal))
     → IsOne n ts t → us ≡ set ts 0 u → u.number ≡ t.number → Answers (f t) t u result → Answers (on_own n f ts) ts us result
 one-answers n f ts us t u result o e k a =
     let f_us : us ≡ u ∷ [] = e ∙ ap (λ (l : List TrackState). set l 0 u) o.all in

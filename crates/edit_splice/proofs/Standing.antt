@@ -4,8 +4,8 @@ use Rattle.std.proofs.lemmas.List.Elements.{All-cons}
 use Rattle.composables.specs.declared.items.ItemView.{ItemView}
 use Rattle.composables.specs.declared.media.Table.{Table}
 use Rattle.composables.specs.declared.refusals.Done.{Done}
-use Rattle.composables.specs.declared.refusals.EditFault.{EditFault}
-use Rattle.composables.specs.declared.refusals.EditFault.TheVariants.{Refused, Memory}
+use Rattle.out_of_memory.specs.declared.fault.Fault.{Fault}
+use Rattle.out_of_memory.specs.declared.fault.Fault.TheVariants.{Refused, Memory}
 use Rattle.composables.specs.declared.refusals.Refusal.{Refusal}
 use Rattle.composables.specs.Good.{AllUnlinked, IsGood}
 use Rattle.composables.specs.Items.{items_of}
@@ -14,7 +14,8 @@ use Rattle.edit_splice.specs.Laws.{IsWithinLimits}
 use Rattle.edit_splice.specs.Splicing.{spliced_track}
 use Rattle.edit_splice.proofs.Goodness.{good-spliced}
 use Rattle.edit_splice.proofs.Outcomes.{next-bounds, unlinked-spliced}
-use Rattle.composables.specs.Answers.{Answers, NextRises}
+use Rattle.composables.specs.Answers.{NextRises}
+use Rattle.out_of_memory.specs.Answers.{Answers}
 use Rattle.composables.specs.Limits.{track_within_limits}
 use Rattle.edit_splice.specs.Standing.{StaysGood, EachStaysGood}
 use Rattle.edit_splice.proofs.Limits.{within-done}
@@ -36,7 +37,7 @@ stays-spliced table t x y views g le within p limits =
     }
 
 -- an edit that puts items into one track
-pub stays-placed : (table : Table) (t u : TrackState) (x y : ℕ) (views : List ItemView) (done : Done) (result : Result Done EditFault)
+pub stays-placed : (table : Table) (t u : TrackState) (x y : ℕ) (views : List ItemView) (done : Done) (result : Result Done (Fault Refusal))
     → IsGood table t → x ≤ y → y ≤ length t.cells → PutIn table t views
     → Answers (track_within_limits (spliced_track t x y views) done) t u result → StaysGood table t u
 stays-placed table t u x y views done (Ok d) g le within p a =
@@ -46,7 +47,7 @@ stays-placed table t u x y views done (Err (Refused why)) g le within p a = subs
 stays-placed table t u x y views done (Err Memory) g le within p a = subst (StaysGood table t) (sym a) (stays-self table t g)
 
 -- a refusal leaves it as it is
-pub stays-refused : (table : Table) (t u : TrackState) (why : Refusal) (result : Result Done EditFault) → IsGood table t → Answers (Err why) t u result → StaysGood table t u
+pub stays-refused : (table : Table) (t u : TrackState) (why : Refusal) (result : Result Done (Fault Refusal)) → IsGood table t → Answers (Err why) t u result → StaysGood table t u
 stays-refused table t u why (Ok d) g a = absurd (Prim.grind (arith, a))
 stays-refused table t u why (Err (Refused r)) g a = subst (StaysGood table t) (sym a.1) (stays-self table t g)
 stays-refused table t u why (Err Memory) g a = subst (StaysGood table t) (sym a) (stays-self table t g)

@@ -6,7 +6,7 @@ ghost use Rattle.composables.specs.Roomy.{IsRoomy};
 ghost use Rattle.composables.specs.TrackFacts.{IsKept, NumbersBelow};
 ghost use Rattle.edit_splice.specs.NewItems.{AreNew};
 ghost use Rattle.edit_splice.specs.Splicing.{placed};
-ghost use Rattle.composables.specs.Answers.{Answers};
+ghost use Rattle.out_of_memory.specs.Answers.{Answers};
 
 use crate::counting::count_after;
 use crate::splicing::splice;

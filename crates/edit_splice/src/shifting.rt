@@ -5,7 +5,7 @@ ghost use Rattle.composables.specs.Items.{items_of};
 ghost use Rattle.composables.specs.TrackState.{TrackState};
 ghost use Rattle.composables.specs.Sizes.{size_of, sizes_of};
 ghost use Rattle.edit_splice.specs.Splicing.{HasRoom};
-ghost use Rattle.composables.specs.Answers.{Answers};
+ghost use Rattle.out_of_memory.specs.Answers.{Answers};
 ghost use Rattle.composables.specs.Limits.{too_long, too_many, within_limits};
 ghost use Rattle.edit_splice.specs.Padding.{new_len};
 ghost use Rattle.edit_splice.specs.Moves.{HasRooms, IsShiftOf, all_moved, moved, put_views};

@@ -5,9 +5,10 @@ use Rattle.frame_meaning.specs.declared.cells.Link.{Link}
 use Rattle.composables.specs.declared.calls.Slip.{Slip}
 use Rattle.composables.specs.declared.media.Table.{Table}
 use Rattle.composables.specs.declared.refusals.Done.{Done}
-use Rattle.composables.specs.declared.refusals.EditFault.{EditFault}
+use Rattle.out_of_memory.specs.declared.fault.Fault.{Fault}
 use Rattle.composables.specs.declared.refusals.Refusal.{Refusal}
-use Rattle.composables.specs.Answers.{Answers, Applied, unless}
+use Rattle.composables.specs.Answers.{Applied, unless}
+use Rattle.out_of_memory.specs.Answers.{Answers}
 use Rattle.composables.specs.Links.{outside_refusal}
 use Rattle.composables.specs.OwnTracks.{among_named, on_own, track_numbered}
 use Rattle.composables.specs.TrackState.{TrackState}
@@ -70,11 +71,11 @@ linked-means table c ts t l fits found some =
     for-found c.track (slip_own table ts c) ts t found
     ∙ (ap (slip_with table ts c t) some ∙ ap (slip_linked table ts l) (sym (to_z-of_z w32 c.by fits)))
 
-pub alone-answers : (table : Table) (c : Slip) (ts us : List TrackState) (t : TrackState) (r : Result Done EditFault) → track_numbered c.track ts ≡ Some t → link_of t c.item ≡ None
+pub alone-answers : (table : Table) (c : Slip) (ts us : List TrackState) (t : TrackState) (r : Result Done (Fault Refusal)) → track_numbered c.track ts ≡ Some t → link_of t c.item ≡ None
     → Answers (on_own c.track (slip_track table c) ts) ts us r → Answers (slip_named table ts c) ts us r
 alone-answers table c ts us t r found none a = subst (λ (m : Applied). Answers m ts us r) (sym (alone-means table c ts t found none)) a
 
-pub linked-answers : (table : Table) (c : Slip) (ts us : List TrackState) (t : TrackState) (l : Link) (r : Result Done EditFault) → SFits w32 c.by → track_numbered c.track ts ≡ Some t → link_of t c.item ≡ Some l
+pub linked-answers : (table : Table) (c : Slip) (ts us : List TrackState) (t : TrackState) (l : Link) (r : Result Done (Fault Refusal)) → SFits w32 c.by → track_numbered c.track ts ≡ Some t → link_of t c.item ≡ Some l
     → Answers (slip_linked table ts l (to_z w32 (of_z w32 c.by))) ts us r → Answers (slip_named table ts c) ts us r
 linked-answers table c ts us t l r fits found some a = subst (λ (m : Applied). Answers m ts us r) (sym (linked-means table c ts t l fits found some)) a
 

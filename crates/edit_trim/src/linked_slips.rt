@@ -1,7 +1,7 @@
 // Slip of all that has a link: one delta that suits each item, and then the source frames of each moved by it.
 ghost use Rattle.std.specs.Prelude.{◌≡◌, ◌+◌, ◌*◌, ◌<◌, ◌≤◌, All, Some, length, map, min, slice_get};
 ghost use Rattle.frame_meaning.specs.Render.{moved};
-ghost use Rattle.composables.specs.Answers.{Answers};
+ghost use Rattle.out_of_memory.specs.Answers.{Answers};
 ghost use Rattle.composables.specs.Changes.{side_from};
 ghost use Rattle.composables.specs.Good.{IsGood};
 ghost use Rattle.composables.specs.Items.{items_of};

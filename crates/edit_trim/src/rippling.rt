@@ -3,7 +3,7 @@ ghost use Rattle.std.specs.Prelude.{◌≡◌, ◌+◌, ◌-◌, ◌*◌, ◌<�
 ghost use Rattle.std.specs.List.{list_any};
 ghost use Rattle.composables.specs.declared.calls.End.TheVariants.{Head, Tail};
 ghost use Rattle.composables.specs.declared.TheConstants.{MAX_FRAMES};
-ghost use Rattle.composables.specs.Answers.{Answers};
+ghost use Rattle.out_of_memory.specs.Answers.{Answers};
 ghost use Rattle.composables.specs.Good.{AreUnlinked, IsGood};
 ghost use Rattle.composables.specs.OwnTracks.{numbers_of, track_numbered};
 ghost use Rattle.composables.specs.Roomy.{IsRoomy};

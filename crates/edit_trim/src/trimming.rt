@@ -1,6 +1,7 @@
 // Trim: an end of an item moved, and nothing else.
 ghost use Rattle.std.specs.Prelude.{◌≡◌, ◌+◌, ◌*◌, ◌≤◌, [], ◌∷◌, All, Some, slice_get};
-ghost use Rattle.composables.specs.Answers.{Answers, NextRises};
+ghost use Rattle.composables.specs.Answers.{NextRises};
+ghost use Rattle.out_of_memory.specs.Answers.{Answers};
 ghost use Rattle.composables.specs.Good.{AreUnlinked, IsGood};
 ghost use Rattle.composables.specs.Items.{items_of};
 ghost use Rattle.composables.specs.OwnTracks.{numbers_of};

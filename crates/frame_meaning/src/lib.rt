@@ -14,4 +14,5 @@ mod plain;
 pub use cells::{Cell, Link, Mark, What, same_item};
 pub use frames::{Frame, Run, Side, goes_on};
 pub use laws::runs_are_maximal_and_all;
-pub use plain::{Memory, rendered, runs_of};
+pub use out_of_memory::Memory;
+pub use plain::{rendered, runs_of};

@@ -7,23 +7,8 @@ ghost use Rattle.frame_meaning.specs.Render.{frame_of, mix_at, moved, render, sh
 ghost use Rattle.frame_meaning.specs.Runs.{first_len, runs, with_frame};
 
 use crate::{Cell, Frame, Mark, Run, Side, What, goes_on};
-use std::alloc::{AllocError, AllocFailed, Global};
-
-/// Want of memory.
-#[derive(Clone, Copy, Debug, PartialEq, Eq)]
-pub struct Memory;
-
-impl From<AllocError> for Memory {
-    fn from(_: AllocError) -> Self {
-        Memory
-    }
-}
-
-impl<T: Drop> From<AllocFailed<T>> for Memory {
-    fn from(_: AllocFailed<T>) -> Self {
-        Memory
-    }
-}
+use out_of_memory::Memory;
+use std::alloc::Global;
 
 /// The frames that a track of these cells shows, place by place.
 pub fn rendered(alloc: Global, cells: &[Cell]) -> Result<Vec<Frame<What>>, Memory>

@@ -3,11 +3,11 @@ use Rattle.std.proofs.Common.{◌≡◌, ℕ, zero, suc, ◌+◌, ◌<◌, List,
 use Rattle.std.proofs.Math.ListN.{length-set}
 use Rattle.std.proofs.lemmas.List.{length-map}
 use Rattle.std.proofs.lemmas.List.Elements.{All-nil, All-cons}
-use Rattle.room_core.specs.Answers.{Follows}
+use Rattle.out_of_memory.specs.Answers.{Answers}
 use Rattle.room_core.specs.Parts.{AreGood, AscendBetween, numbers}
 use Rattle.room_core.specs.Whole.{Meaning, picked, put_back, on_whole, unless_refused, whole}
-use Rattle.room_core.specs.declared.fault.Fault.{Fault}
-use Rattle.room_core.specs.declared.fault.Fault.TheVariants.{Refused, Memory}
+use Rattle.out_of_memory.specs.declared.fault.Fault.{Fault}
+use Rattle.out_of_memory.specs.declared.fault.Fault.TheVariants.{Refused, Memory}
 use Rattle.history_points.specs.Slots.{present, emptied, IsWhole}
 use Rattle.history_points.proofs.Slotted.{present-map, whole-map, refilled, put_same}
 
@@ -43,8 +43,8 @@ unrefused m ps c none = ap (λ r. unless_refused r (on_whole ps (m.names c) (m.a
 -- what a call answers on its parts it answers on all
 pub answers_whole : {P C D R : Type 0} (m : Meaning P C D R) (ps ts : List P) (c : C) (least : ℕ) (result : Result D (Fault R))
     → m.refuses c ≡ None → AscendBetween least (length ps) (m.names c)
-    → Follows (m.applied (picked ps (m.names c)) c) (picked ps (m.names c)) ts result
-    → Follows (whole m ps c) ps (put_back ps (m.names c) ts) result
+    → Answers (m.applied (picked ps (m.names c)) c) (picked ps (m.names c)) ts result
+    → Answers (whole m ps c) ps (put_back ps (m.names c) ts) result
 answers_whole m ps ts c least (Ok d) none a h = unrefused m ps c none ∙ ap (on_whole ps (m.names c)) h
 answers_whole m ps ts c least (Err (Refused r)) none a h =
     (unrefused m ps c none ∙ ap (on_whole ps (m.names c)) h.0, ap (put_back ps (m.names c)) h.1 ∙ put_same ps least (m.names c) a)

@@ -2,6 +2,7 @@
 ghost use Rattle.std.specs.Prelude.{◌≡◌};
 ghost use Rattle.json_tokens.specs.declared.fault.JsonFault.TheVariants as faults;
 
+use out_of_memory::Memory;
 use std::alloc::{AllocError, AllocFailed};
 
 /// The first fault of the bytes, from left to right, with its place: how many bytes stand before it.
@@ -40,21 +41,5 @@ impl From<Memory> for JsonFault {
 
     fn from(_e: Memory) -> JsonFault {
         JsonFault::Memory
-    }
-}
-
-/// There was not memory enough.
-#[derive(Clone, Copy, Debug, PartialEq, Eq)]
-pub struct Memory;
-
-impl From<AllocError> for Memory {
-    fn from(_e: AllocError) -> Memory {
-        Memory
-    }
-}
-
-impl<T: Drop> From<AllocFailed<T>> for Memory {
-    fn from(_e: AllocFailed<T>) -> Memory {
-        Memory
     }
 }

@@ -11,7 +11,8 @@ mod rest;
 mod text;
 
 pub use characters::text_behind_quote;
-pub use fault::{JsonFault, Memory};
+pub use fault::JsonFault;
 pub use numerals::{numeral, numeral_value};
+pub use out_of_memory::Memory;
 pub use rest::{Rest, past_blanks, past_byte, word};
 pub use text::Text;

@@ -2,7 +2,7 @@
 ghost use Rattle.std.specs.Str.{IsUtf8};
 ghost use Rattle.std.specs.Prelude.{◌≡◌, IfOk, string_bytes};
 
-use crate::fault::Memory;
+use crate::Memory;
 use std::alloc::Global;
 use std::marker::Model;
 

@@ -8,7 +8,6 @@
 #![tactic(auto)]
 
 mod buffer;
-mod fault;
 mod laws;
 mod line;
 mod list;
@@ -16,7 +15,6 @@ mod next;
 mod numbers;
 mod reader;
 
-pub use fault::Memory;
 pub use laws::{
     lines_are_the_same_in_any_pieces, lines_stand_between_line_feeds,
     one_carriage_return_is_dropped, the_limit_is_this, words_stand_between_blanks,
@@ -26,6 +24,7 @@ pub use line::{Fed, LineEnd};
 pub use list::Words;
 pub use next::next_word;
 pub use numbers::{NumberFault, number, signed};
+pub use out_of_memory::Memory;
 pub use reader::LineReader;
 
 /// The most bytes of a line. Its line feed is not counted, and a carriage return before that is.

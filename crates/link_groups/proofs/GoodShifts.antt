@@ -5,10 +5,11 @@ use Rattle.frame_meaning.specs.declared.cells.Link.{Link}
 use Rattle.composables.specs.declared.items.ItemView.{ItemView}
 use Rattle.composables.specs.declared.media.Table.{Table}
 use Rattle.composables.specs.declared.refusals.Done.{Done}
-use Rattle.composables.specs.declared.refusals.EditFault.{EditFault}
-use Rattle.composables.specs.declared.refusals.EditFault.TheVariants.{Refused, Memory}
+use Rattle.out_of_memory.specs.declared.fault.Fault.{Fault}
+use Rattle.out_of_memory.specs.declared.fault.Fault.TheVariants.{Refused, Memory}
 use Rattle.composables.specs.declared.refusals.Refusal.{Refusal}
-use Rattle.composables.specs.Answers.{Answers, unless}
+use Rattle.composables.specs.Answers.{unless}
+use Rattle.out_of_memory.specs.Answers.{Answers}
 use Rattle.composables.specs.Good.{AllUnlinked, IsGood}
 use Rattle.composables.specs.Items.{cells_of, items_of}
 use Rattle.composables.specs.Limits.{too_long, too_many, within_limits}
@@ -98,7 +99,7 @@ after_stays table s place ts h = by (eqb (new_len s.new) (s.y - s.x)) where
   by false = each_split table ts (split_links s.x s.y ts) place ts (all_moved s ts) h
 
 -- after a shift
-pub each-linked : (table : Table) (s : Shift) (place : ℕ) (ts us : List TrackState) (done : Done) (result : Result Done EditFault) → All (IsGood table) ts → All (StaysMoved table s) ts
+pub each-linked : (table : Table) (s : Shift) (place : ℕ) (ts us : List TrackState) (done : Done) (result : Result Done (Fault Refusal)) → All (IsGood table) ts → All (StaysMoved table s) ts
     → Answers (linked_shift s place done ts) ts us result → EachStaysShifted table ts us
 each-linked table s place ts us done (Ok d) g p a =
     let k = is_after s place done ts us d a in

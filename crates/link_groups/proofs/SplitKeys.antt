@@ -12,7 +12,7 @@ use Rattle.std.proofs.lemmas.List.Sums.{sum_by-cons}
 use Rattle.std.proofs.lemmas.Map.Lookups.{CmpEqualImpliesEq, btree_set_from_contains, exact_pairs, exact_unsigned}
 use Rattle.frame_meaning.specs.declared.cells.Cell.{Cell}
 use Rattle.frame_meaning.specs.declared.cells.Link.{Link}
-use Rattle.frame_meaning.specs.declared.plain.Memory.{Memory}
+use Rattle.out_of_memory.specs.declared.fault.Memory.{Memory}
 use Rattle.composables.specs.declared.TheConstants.{MAX_ITEMS}
 use Rattle.composables.specs.Items.{items_of}
 use Rattle.composables.specs.Links.{cells_before, cells_from, link_before, links_in, links_with, links_with_any, next_link_at, same_link, split_links, split_number}

@@ -1,6 +1,6 @@
 // A shift of several tracks, and of the links of what it moves.
 ghost use Rattle.std.specs.Prelude.{◌≡◌, ◌+◌, ◌-◌, ◌*◌, ◌≤◌, All, nat_eq};
-ghost use Rattle.composables.specs.Answers.{Answers};
+ghost use Rattle.out_of_memory.specs.Answers.{Answers};
 ghost use Rattle.composables.specs.Sizes.{sizes_of};
 ghost use Rattle.edit_splice.specs.Moves.{IsShiftOf};
 ghost use Rattle.edit_splice.specs.Padding.{new_len};

@@ -1,6 +1,7 @@
 // The link of an item taken away.
 ghost use Rattle.std.specs.Prelude.{◌≡◌, ◌+◌, ◌≤◌, [], ◌∷◌, All};
-ghost use Rattle.composables.specs.Answers.{Answers, NextRises};
+ghost use Rattle.composables.specs.Answers.{NextRises};
+ghost use Rattle.out_of_memory.specs.Answers.{Answers};
 ghost use Rattle.composables.specs.Good.{AllUnlinked, AreUnlinked, IsGood};
 ghost use Rattle.composables.specs.Items.{items_of};
 ghost use Rattle.composables.specs.OwnTracks.{numbers_of};

@@ -1,5 +1,4 @@
 -- To be read: public clauses speak of these.
-pub mod Answers
 pub mod Totals
 pub mod History
 pub mod Machine

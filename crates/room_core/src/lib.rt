@@ -4,10 +4,9 @@
 #![tactic(auto)]
 
 mod entry;
-mod fault;
 pub mod laws;
 mod object;
 
 pub use entry::Entry;
-pub use fault::{Fault, Memory};
 pub use object::PartObject;
+pub use out_of_memory::{Fault, Memory};

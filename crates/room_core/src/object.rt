@@ -1,7 +1,7 @@
 // What a room can keep: an object over parts. A part is taken, changed and given back by itself, and a call changes the
 // parts that it names.
 ghost use Rattle.std.specs.Prelude.{◌≡◌, ◌≤◌, ◌<◌, ◌+◌, ◌*◌, ℕ, List, Option, None, Some, Result, Ok, IfOk, OnOk, All, sum_by};
-ghost use Rattle.room_core.specs.Answers.{Follows, Tells};
+ghost use Rattle.out_of_memory.specs.Answers.{Answers, Tells};
 ghost use Rattle.room_core.specs.declared.entry.Entry.{Entry};
 ghost use Rattle.room_core.specs.History.{replay, IsLegal};
 ghost use Rattle.room_core.specs.Parts.{AreGood, IsNaming, numbers};
@@ -85,7 +85,7 @@ pub trait PartObject {
         requires good { AreGood (good self.now)
             ((meaning self.now).names call.now) parts.old.items }
         requires roomy { All (roomy self.now) parts.old.items }
-        ensures meant { Follows ((meaning self.now).applied parts.old.items call.now)
+        ensures meant { Answers ((meaning self.now).applied parts.old.items call.now)
             parts.old.items parts.new.items result }
         ensures good { AreGood (good self.now) ((meaning self.now).names call.now) parts.new.items }
 

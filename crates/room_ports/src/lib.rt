@@ -17,9 +17,10 @@ mod source;
 mod standard;
 
 pub use calls::FailingCalls;
-pub use failed::{Failed, Memory};
+pub use failed::Failed;
 pub use gate::{Gate, OpenGate};
 pub use line::{MemLine, Pair};
+pub use out_of_memory::Memory;
 pub use ports::{Line, Sink, Source, put};
 pub use sink::{MemSink, SureSink};
 pub use source::{MemSource, SureSource};

@@ -3,7 +3,7 @@ use Rattle.composables.specs.declared.items.ItemView.{ItemView}
 use Rattle.composables.specs.declared.refusals.Done.{Done}
 use Rattle.composables.specs.declared.refusals.Done.TheVariants.{Item}
 use Rattle.composables.specs.declared.refusals.Refusal.{Refusal}
-use Rattle.composables.specs.Answers.{Answers}
+use Rattle.out_of_memory.specs.Answers.{Answers}
 use Rattle.composables.specs.Joined.{frames_in}
 use Rattle.composables.specs.TrackState.{TrackState}
 use Rattle.composables.specs.Views.{gap_views}

@@ -2,7 +2,7 @@ use Rattle.std.proofs.Common.{◌≡◌, Some, None, Result, Err, ap, sym, ◌�
 use Rattle.composables.specs.declared.items.Place.{Place}
 use Rattle.composables.specs.declared.refusals.Done.{Done}
 use Rattle.composables.specs.declared.refusals.Refusal.{Refusal}
-use Rattle.composables.specs.Answers.{Answers}
+use Rattle.out_of_memory.specs.Answers.{Answers}
 use Rattle.composables.specs.TrackState.{TrackState}
 use Rattle.composables.specs.Ranges.{gap_at}
 use Rattle.edit_insert.specs.Fills.{fill_at, why_no_gap}

@@ -5,7 +5,7 @@ use Rattle.composables.specs.declared.refusals.Done.TheVariants.{Plain}
 use Rattle.composables.specs.declared.refusals.Refusal.{Refusal}
 use Rattle.composables.specs.Good.{IsGood}
 use Rattle.composables.specs.TrackState.{TrackState}
-use Rattle.composables.specs.Answers.{Answers}
+use Rattle.out_of_memory.specs.Answers.{Answers}
 use Rattle.edit_insert.proofs.Inserts.{each-stays}
 use Rattle.edit_insert.proofs.Inserts.{all-shifts, extract-found, extract-missing, extract-put, is-own, own-here, shift_out}
 use Rattle.edit_splice.proofs.Places.{place-order}

@@ -6,7 +6,7 @@ use Rattle.composables.specs.declared.refusals.Done.TheVariants.{Item}
 use Rattle.composables.specs.declared.refusals.Refusal.{Refusal}
 use Rattle.composables.specs.Good.{IsGood}
 use Rattle.composables.specs.TrackState.{TrackState}
-use Rattle.composables.specs.Answers.{Answers}
+use Rattle.out_of_memory.specs.Answers.{Answers}
 use Rattle.edit_insert.proofs.Inserts.{each-stays}
 use Rattle.edit_insert.proofs.Inserts.{all-shifts, insert-allowed, insert-put, insert-refused, is-own, no_track, own-here, own-there, shift_at}
 use Rattle.edit_insert.proofs.SourceRanges.{source-clip}

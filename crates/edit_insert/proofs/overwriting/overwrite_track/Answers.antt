@@ -6,7 +6,7 @@ use Rattle.composables.specs.declared.refusals.Done.{Done}
 use Rattle.composables.specs.declared.refusals.Refusal.{Refusal}
 use Rattle.composables.specs.TrackState.{TrackState}
 use Rattle.composables.specs.Views.{gap_views}
-use Rattle.composables.specs.Answers.{Answers}
+use Rattle.out_of_memory.specs.Answers.{Answers}
 use Rattle.edit_insert.specs.Edits.{overwritten}
 use Rattle.edit_splice.specs.Padding.{new_views}
 use Rattle.edit_insert.specs.Sources.{source_refusal}

@@ -1,7 +1,7 @@
 use Rattle.std.proofs.Common.{Result, sym, refl, subst, w32, SFits, rules}
 use Rattle.composables.specs.declared.refusals.Done.{Done}
 use Rattle.composables.specs.declared.refusals.Refusal.{Refusal}
-use Rattle.composables.specs.Answers.{Answers}
+use Rattle.out_of_memory.specs.Answers.{Answers}
 use Rattle.composables.specs.TrackState.{TrackState}
 use Rattle.edit_splice.proofs.Standing.{stays-self}
 use Rattle.edit_roll.proofs.Moves.{track-rolls, track-stays}

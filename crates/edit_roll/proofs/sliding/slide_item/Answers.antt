@@ -1,7 +1,7 @@
 use Rattle.std.proofs.Common.{◌+◌, ◌-◌, sym, arith, subst, Result}
 use Rattle.composables.specs.declared.refusals.Done.{Done}
 use Rattle.composables.specs.declared.refusals.Refusal.{Refusal}
-use Rattle.composables.specs.Answers.{Answers}
+use Rattle.out_of_memory.specs.Answers.{Answers}
 use Rattle.composables.specs.TrackState.{TrackState}
 use Rattle.edit_delta.specs.declared.deltas.Way.TheVariants.{Earlier, Later}
 use Rattle.edit_delta.proofs.Pieces.{numbered-after}

@@ -1,7 +1,7 @@
 use Rattle.std.proofs.Common.{Result, refl, sym, subst, w32, SFits, rules}
 use Rattle.composables.specs.declared.refusals.Done.{Done}
 use Rattle.composables.specs.declared.refusals.Refusal.{Refusal}
-use Rattle.composables.specs.Answers.{Answers}
+use Rattle.out_of_memory.specs.Answers.{Answers}
 use Rattle.composables.specs.TrackState.{TrackState}
 use Rattle.edit_roll.proofs.Slides.{slide-means, slide-stays}
 use Rattle.edit_roll.proofs.sliding.slide_track.Goals as goal

@@ -2,7 +2,7 @@ use Rattle.std.proofs.Common.{Result, sym, subst, w32, SFits, rules}
 use Rattle.composables.specs.declared.calls.End.TheVariants.{Head, Tail}
 use Rattle.composables.specs.declared.refusals.Done.{Done}
 use Rattle.composables.specs.declared.refusals.Refusal.{Refusal}
-use Rattle.composables.specs.Answers.{Answers}
+use Rattle.out_of_memory.specs.Answers.{Answers}
 use Rattle.composables.specs.TrackState.{TrackState}
 use Rattle.edit_trim.proofs.Trims.{track-means}
 use Rattle.edit_trim.proofs.trimming.trim_track.Goals as goal

@@ -1,5 +1,5 @@
 use Rattle.std.proofs.Common.{get_or, sym, ap, ◌∙◌, arith, subst}
-use Rattle.room_core.specs.Answers.{Tells}
+use Rattle.out_of_memory.specs.Answers.{Tells}
 use Rattle.cut_room.proofs.Passes.{one_good}
 use Rattle.cut_room.proofs.room.Room.see_copy.Goals as goal
 

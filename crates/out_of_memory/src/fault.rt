@@ -1,17 +1,17 @@
-// Why a call on an object has no answer.
+// Why a call has no answer.
 ghost use Rattle.std.specs.Prelude.{◌≡◌};
-ghost use Rattle.room_core.specs.declared.fault.Fault.TheVariants.{Memory as NoMemory};
+ghost use Rattle.out_of_memory.specs.declared.fault.Fault.TheVariants.{Memory as NoMemory};
 
 use std::alloc::{AllocError, AllocFailed};
 
-/// A call was refused, or found no memory.
+/// A call was refused, or found no memory; nothing has changed.
 #[derive(Debug, Drop, PartialEq, Eq)]
 pub enum Fault<R> {
     Refused(R),
     Memory,
 }
 
-/// The answer of a call that was refused memory.
+/// The answer of a call that found no memory; nothing has changed.
 #[derive(Clone, Copy, Debug, PartialEq, Eq)]
 pub struct Memory;
 
