@@ -3,6 +3,8 @@ ghost use Rattle.std.specs.Prelude.{◌≡◌};
 ghost use Rattle.out_of_memory.specs.declared.fault.Fault.TheVariants.{Memory as NoMemory};
 
 use std::alloc::{AllocError, AllocFailed};
+use std::error::Error;
+use std::fmt;
 
 /// A call was refused, or found no memory; nothing has changed.
 #[derive(Debug, Drop, PartialEq, Eq)]
@@ -50,3 +52,11 @@ impl<T: Drop, R> From<AllocFailed<T>> for Fault<R> {
         Fault::Memory
     }
 }
+
+impl fmt::Display for Memory {
+    fn fmt<W: fmt::Write>(&self, f: &mut fmt::Formatter<W>) -> fmt::Result {
+        f.write_str("out of memory")
+    }
+}
+
+impl Error for Memory {}
