@@ -1,5 +1,5 @@
 # Of what the tools share: the crates of crates.txt, and copies of their sources.
-import os, shutil
+import os, shutil, sys
 
 TOP = os.path.dirname(os.path.dirname(os.path.abspath(__file__)))
 
@@ -32,3 +32,7 @@ def copy_sources(folder, crates):
             here = os.path.join(TOP, 'crates', name, part)
             if os.path.isdir(here):
                 shutil.copytree(here, os.path.join(folder, 'crates', name, part))
+
+
+if __name__ == '__main__':  # tools/crates.py FOLDER NAME..: a copy of these crates and those below them
+    copy_sources(sys.argv[1], crates_below(sys.argv[2:]))

@@ -1,4 +1,4 @@
-//! The plain program that `bench/compare` measures cutroom against: one station, tracks that are vectors of items, no
+//! The plain program that `bench/plain/run` measures cutroom against: one station, tracks that are vectors of items, no
 //! proofs, no dissolves, no links, no limits. It answers valid lines as cutroom does, and nothing else of it is meant.
 
 mod deltas;

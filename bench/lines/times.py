@@ -1,4 +1,4 @@
-"""Times lines through the program `cutroom` and prints lines a second. README.md says what each row measures."""
+"""Times lines through the program `cutroom` and prints lines a second. bench/README.md says what each row measures."""
 
 import os
 import select

@@ -1,5 +1,5 @@
 """Processor time of cutroom beside that of a plain program, on the same lines, and the memory of an edited track.
-README.md says what each row measures."""
+bench/README.md says what each row measures."""
 
 import os
 import subprocess

@@ -1,0 +1,66 @@
+"""What the tools that serve a room over real connections share: documents laid by hand, and a server."""
+
+import json
+import pathlib
+import socket
+import subprocess
+
+TOP = pathlib.Path(__file__).resolve().parent.parent.parent
+PROGRAM = str(TOP / "crates/cutroom/out/cutroom")
+REEL_FRAMES = 86_400
+
+
+def time_of(value):
+    return {"OTIO_SCHEMA": "RationalTime.1", "rate": 24, "value": value}
+
+
+def span(start, count):
+    return {"OTIO_SCHEMA": "TimeRange.1", "start_time": time_of(start), "duration": time_of(count)}
+
+
+def clip(reel, count):
+    """The first frames of a reel."""
+    reference = {"OTIO_SCHEMA": "ExternalReference.1", "target_url": reel, "available_range": span(0, REEL_FRAMES)}
+    return {"OTIO_SCHEMA": "Clip.1", "name": reel, "source_range": span(0, count), "media_reference": reference}
+
+
+def document(rows):
+    """A document of a video track for each list of clips."""
+    tracks = [{"OTIO_SCHEMA": "Track.1", "kind": "Video", "children": row} for row in rows]
+    return json.dumps({"OTIO_SCHEMA": "Timeline.1", "tracks": {"OTIO_SCHEMA": "Stack.1", "children": tracks}})
+
+
+def port_in(line):
+    """The port that a line of a server names, if it says where the server listens."""
+    return int(line.rsplit(":", 1)[1]) if "listening at" in line else None
+
+
+class Server:
+    """The program, serving a document to so many stations."""
+
+    def __init__(self, program, folder, text, stations, address="127.0.0.1:0"):
+        self.journal = folder / "journal"
+        (folder / "doc.otio").write_text(text)
+        words = [program, "serve", folder / "doc.otio", "24", "ndf", str(stations), address, self.journal]
+        self.ran = subprocess.Popen(words, stdout=subprocess.PIPE, stderr=subprocess.PIPE, text=True)
+        self.told = []
+        self.port = None
+
+    def line(self):
+        """The next line of standard error."""
+        line = self.ran.stderr.readline()
+        self.told.append(line)
+        return line
+
+    def listen(self):
+        self.port = port_in(self.line())
+        return self
+
+    def connect(self, timeout=None):
+        return socket.create_connection(("127.0.0.1", self.port), timeout=timeout)
+
+    def end(self, timeout=60):
+        """Waits for its end, and answers its status, its output and all of standard error."""
+        out, err = self.ran.communicate(timeout=timeout)
+        self.told.append(err)
+        return self.ran.returncode, out, "".join(self.told)
