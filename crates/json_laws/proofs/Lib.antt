@@ -1,2 +1,3 @@
 pub mod OneMeaning
 pub mod Tokens
+pub mod Documents

@@ -1,5 +1,6 @@
 // What is true of bytes and of what the grammar of JSON (RFC 8259) spells by them.
 ghost use Rattle.json_laws.specs.Meanings.{IsOneTree, HasMeaning};
+ghost use Rattle.json_laws.specs.Documents.{DocumentsAreRead, DocumentsAreRefused};
 ghost use Rattle.json_laws.specs.Tokens.{NumbersAreSpelled, NumbersAreRead};
 ghost use Rattle.json_laws.specs.Tokens.{TextsAreSpelled, TextsAreRead};
 
@@ -22,4 +23,11 @@ pub fn texts_are_those_of_the_grammar()
 pub fn numbers_are_those_of_the_grammar()
     ensures spelled { NumbersAreSpelled }
     ensures read { NumbersAreRead }
+{}
+
+/// What a reading of all bytes from left to right answers is what the grammar says of them: a tree exactly where at most
+/// 32 MiB spell it, and else the fault, exactly where it stands.
+pub fn documents_are_those_of_the_grammar()
+    ensures read { DocumentsAreRead }
+    ensures refused { DocumentsAreRefused }
 {}

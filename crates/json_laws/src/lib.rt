@@ -7,5 +7,6 @@
 mod laws;
 
 pub use laws::{
-    bytes_have_one_meaning, numbers_are_those_of_the_grammar, texts_are_those_of_the_grammar,
+    bytes_have_one_meaning, documents_are_those_of_the_grammar, numbers_are_those_of_the_grammar,
+    texts_are_those_of_the_grammar,
 };
