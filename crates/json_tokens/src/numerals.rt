@@ -268,12 +268,12 @@ fn with_digit(number: Significant, digit: u8) -> Significant
         return with_zero(number);
     }
     if number.too_many || number.zeros > 17 {
-        return with_more(number);
+        return with_too_many(number);
     }
     let power = power_of_ten(number.zeros as u8 + 1);
     let wide = number.kept as u128 * power + digit as u128;
     if wide >= LIMIT {
-        return with_more(number);
+        return with_too_many(number);
     }
     Significant {
         kept: wide as u64,
@@ -298,7 +298,8 @@ fn with_zero(number: Significant) -> Significant
     }
 }
 
-fn with_more(number: Significant) -> Significant
+// The same number, marked as one that has more digits than are kept.
+fn with_too_many(number: Significant) -> Significant
     ensures { result ≡ record { kept = number.kept; zeros = number.zeros; too_many = true } }
 {
     Significant {

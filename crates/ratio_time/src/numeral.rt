@@ -31,7 +31,7 @@ impl Numeral {
         ensures same { SameNumber result.mantissa result.places (with_sign negative digits) places }
         ensures no_more { result.places ≤ places }
     {
-        let (digits, places) = without_last_zeros(digits, places);
+        let (digits, places) = without_trailing_zeros(digits, places);
         let mantissa = signed(negative, digits);
         Numeral { mantissa, places }
     }
@@ -59,8 +59,8 @@ fn signed(negative: bool, size: u64) -> i64
     }
 }
 
-/// The number digits/10^places with its last zeros left out.
-fn without_last_zeros(digits: u64, places: u8) -> (u64, u8)
+/// The number digits/10^places with its trailing zeros left out.
+fn without_trailing_zeros(digits: u64, places: u8) -> (u64, u8)
     ensures places { result.1 ≤ places }
     ensures value { result.0 * 10 ^ (places - result.1) ≡ digits }
     ensures no_greater { result.0 ≤ digits }

@@ -10,12 +10,12 @@ pub returns-then-number-clause-number : goal.returns-then-number-clause-number
 returns-then-number-clause-number c = λ n h.
     let far : (c.args.number.too_many ≡ true) ⊎ (18 ≤ c.args.number.zeros) =
     elim c.then-number.branch [ then-number-via-then-number w ↦ inl w.if-number.true | then-number-via-else-number+then-number-gt17 w ↦ inr (omega arith) ] in
-    holds_more c.args.number c.with_more.result n c.args.digit (omega arith) c.requires.digit far c.with_more.ensures h
+    holds_more c.args.number c.with_too_many.result n c.args.digit (omega arith) c.requires.digit far c.with_too_many.ensures h
 
 pub returns-then-wide-ge-LIMIT-clause-number : goal.returns-then-wide-ge-LIMIT-clause-number
 returns-then-wide-ge-LIMIT-clause-number c = λ n h.
-    holds_wide c.args.number c.with_more-then-wide-ge-LIMIT.result n c.args.digit _ (omega arith) c.requires.digit c.if-number.false
-    (ap (λ p. c.args.number.kept * p + c.args.digit) c.power_of_ten-power.ensures.value) c.if-wide-ge-LIMIT.true c.with_more-then-wide-ge-LIMIT.ensures h
+    holds_wide c.args.number c.with_too_many-then-wide-ge-LIMIT.result n c.args.digit _ (omega arith) c.requires.digit c.if-number.false
+    (ap (λ p. c.args.number.kept * p + c.args.digit) c.power_of_ten-power.ensures.value) c.if-wide-ge-LIMIT.true c.with_too_many-then-wide-ge-LIMIT.ensures h
 
 pub returns-clause-number : goal.returns-clause-number
 returns-clause-number c = λ n h.

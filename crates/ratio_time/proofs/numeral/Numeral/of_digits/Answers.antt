@@ -7,4 +7,4 @@ pub returns-clause-same : goal.returns-clause-same
 returns-clause-same c =
     let fits : FitsSigned w64 c.signed-mantissa.result = search rules in
     rw (to_z-of_z w64 c.signed-mantissa.result fits, c.signed-mantissa.ensures.value)
-    (same_number c.args.negative _ _ _ _ c.without_last_zeros-digits.ensures.places c.without_last_zeros-digits.ensures.value)
+    (same_number c.args.negative _ _ _ _ c.without_trailing_zeros-digits.ensures.places c.without_trailing_zeros-digits.ensures.value)

@@ -1,5 +1,5 @@
 use Rattle.std.proofs.Common.{◌≡◌, ◌≤◌, ◌-◌, ◌*◌, ◌^◌}
-use Rattle.ratio_time.proofs.numeral.without_last_zeros.Given as goal
+use Rattle.ratio_time.proofs.numeral.without_trailing_zeros.Given as goal
 
 abbrev pub invariant-loop-places : goal.invariant-loop-places
 invariant-loop-places l = record {

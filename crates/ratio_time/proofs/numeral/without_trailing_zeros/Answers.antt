@@ -1,6 +1,6 @@
 use Rattle.std.proofs.Common.{◌∙◌, arith}
 use Rattle.ratio_time.proofs.Zeros.{one_more}
-use Rattle.ratio_time.proofs.numeral.without_last_zeros.Goals as goal
+use Rattle.ratio_time.proofs.numeral.without_trailing_zeros.Goals as goal
 
 pub loop-places-preserved : goal.loop-places-preserved
 loop-places-preserved c = record {
