@@ -4,6 +4,8 @@ ghost use Rattle.json_tokens.specs.declared.fault.JsonFault.TheVariants as fault
 
 use out_of_memory::Memory;
 use std::alloc::{AllocError, AllocFailed};
+use std::error::Error;
+use std::fmt;
 
 /// The first fault of the bytes, from left to right, with its place: how many bytes stand before it.
 #[derive(Clone, Copy, Debug, PartialEq, Eq)]
@@ -19,6 +21,20 @@ pub enum JsonFault {
     /// There was not memory enough.
     Memory,
 }
+
+impl fmt::Display for JsonFault {
+    fn fmt<W: fmt::Write>(&self, f: &mut fmt::Formatter<W>) -> fmt::Result {
+        match self {
+            JsonFault::Syntax(at) => write!(f, "not JSON at byte {at}"),
+            JsonFault::Depth(at) => write!(f, "nested too deep at byte {at}"),
+            JsonFault::NotUtf8(at) => write!(f, "not UTF-8 at byte {at}"),
+            JsonFault::TooLarge => f.write_str("too many bytes"),
+            JsonFault::Memory => f.write_str("out of memory"),
+        }
+    }
+}
+
+impl Error for JsonFault {}
 
 impl From<AllocError> for JsonFault {
     ghost from_gives = { λ _ e. e ≡ faults.Memory };

@@ -4,6 +4,8 @@ ghost use Rattle.json_tree.specs.declared.write_fault.WriteFault.TheVariants as 
 
 use json_tokens::Memory;
 use std::alloc::AllocError;
+use std::error::Error;
+use std::fmt;
 
 /// Why a text was not put behind what is written.
 #[derive(Clone, Copy, Debug, PartialEq, Eq)]
@@ -13,6 +15,17 @@ pub enum WriteFault {
     /// There was not memory enough.
     Memory,
 }
+
+impl fmt::Display for WriteFault {
+    fn fmt<W: fmt::Write>(&self, f: &mut fmt::Formatter<W>) -> fmt::Result {
+        f.write_str(match self {
+            WriteFault::TooLong => "there would be too many bytes",
+            WriteFault::Memory => "out of memory",
+        })
+    }
+}
+
+impl Error for WriteFault {}
 
 impl From<AllocError> for WriteFault {
     ghost from_gives = { λ _ e. e ≡ faults.Memory };

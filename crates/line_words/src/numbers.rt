@@ -4,6 +4,9 @@ ghost use Rattle.std.specs.Char.{is_ascii_digit};
 ghost use Rattle.std.specs.List.{list_all};
 ghost use Rattle.line_words.specs.Digits.{is_number, value_of, number_of, signed_of};
 
+use std::error::Error;
+use std::fmt;
+
 /// Why a word is no number.
 #[derive(Clone, Copy, Debug, PartialEq, Eq)]
 pub enum NumberFault {
@@ -12,6 +15,17 @@ pub enum NumberFault {
     /// The word is spelled as a number, one that 32 bits do not hold.
     TooLarge,
 }
+
+impl fmt::Display for NumberFault {
+    fn fmt<W: fmt::Write>(&self, f: &mut fmt::Formatter<W>) -> fmt::Result {
+        f.write_str(match self {
+            NumberFault::NotANumber => "the word is no number",
+            NumberFault::TooLarge => "the number is too large for 32 bits",
+        })
+    }
+}
+
+impl Error for NumberFault {}
 
 /// The number that a word spells: one or more decimal digits, of any count, with a value below 2^32.
 pub fn number(word: &[u8]) -> Result<u32, NumberFault>

@@ -6,6 +6,8 @@ ghost use Rattle.ratio_time.specs.Moments.{over, under, OnFrame, IsRoundedDown, 
 use crate::fraction::Fraction;
 use crate::numeral::Numeral;
 use crate::rate::Rate;
+use std::error::Error;
+use std::fmt;
 
 /// The moment `value`/`rate` seconds.
 #[derive(Clone, Copy, Debug, PartialEq, Eq)]
@@ -33,6 +35,25 @@ pub enum TimeFault {
 /// A frame that is more than 2,147,483,647 from 0.
 #[derive(Clone, Copy, Debug, PartialEq, Eq)]
 pub struct TooFar;
+
+impl fmt::Display for TimeFault {
+    fn fmt<W: fmt::Write>(&self, f: &mut fmt::Formatter<W>) -> fmt::Result {
+        f.write_str(match self {
+            TimeFault::NotOnFrame => "the moment is between two frames",
+            TimeFault::TooFar => "the frame is more than 2147483647 from 0",
+        })
+    }
+}
+
+impl Error for TimeFault {}
+
+impl fmt::Display for TooFar {
+    fn fmt<W: fmt::Write>(&self, f: &mut fmt::Formatter<W>) -> fmt::Result {
+        f.write_str("the frame is more than 2147483647 from 0")
+    }
+}
+
+impl Error for TooFar {}
 
 impl RationalTime {
     /// The frame of `rate` that names this very moment, counted from the moment 0.

@@ -7,6 +7,8 @@ ghost use Rattle.timecode12.specs.Places.{large_field, frame_value};
 use crate::label::Label;
 use crate::rate::SequenceRate;
 use crate::units::Units;
+use std::error::Error;
+use std::fmt;
 use std::marker::Model;
 
 /// A way to number the frames of a day. Drop-frame counting, at 30000/1001 alone, leaves out the
@@ -43,6 +45,25 @@ pub enum LabelFault {
     /// A number that drop-frame counting leaves out.
     DroppedNumber,
 }
+
+impl fmt::Display for PastDay {
+    fn fmt<W: fmt::Write>(&self, f: &mut fmt::Formatter<W>) -> fmt::Result {
+        f.write_str("the frame is past the end of the day")
+    }
+}
+
+impl Error for PastDay {}
+
+impl fmt::Display for LabelFault {
+    fn fmt<W: fmt::Write>(&self, f: &mut fmt::Formatter<W>) -> fmt::Result {
+        f.write_str(match self {
+            LabelFault::FieldTooLarge => "a field of the label is too large",
+            LabelFault::DroppedNumber => "drop-frame counting leaves this number out",
+        })
+    }
+}
+
+impl Error for LabelFault {}
 
 impl Counting {
     /// Counts at a rate, by drop-frame or not: `None` where drop-frame is asked for at another rate than
