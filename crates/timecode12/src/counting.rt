@@ -11,6 +11,9 @@ use std::error::Error;
 use std::fmt;
 use std::marker::Model;
 
+/// The most frames of a day: 24 hours at 30 frames a second.
+pub const MAX_DAY_FRAMES: u32 = 2_592_000;
+
 /// A way to number the frames of a day. Drop-frame counting, at 30000/1001 alone, leaves out the
 /// numbers 0 and 1 at the start of each minute that is no multiple of ten.
 #[derive(Clone, Copy, Debug, PartialEq, Eq)]
@@ -97,7 +100,7 @@ impl Counting {
     pub fn day(&self) -> u32
         ensures length { result ≡ length (day_of self.now) }
         ensures some { 0 < result }
-        ensures most { result ≤ 2592000 }
+        ensures most { result ≤ MAX_DAY_FRAMES }
     {
         self.units().day()
     }

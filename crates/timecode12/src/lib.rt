@@ -12,7 +12,7 @@ mod rate;
 mod spelling;
 mod units;
 
-pub use counting::{Counting, LabelFault, PastDay};
+pub use counting::{Counting, LabelFault, MAX_DAY_FRAMES, PastDay};
 pub use label::Label;
 pub use laws::{frames_and_labels, texts_and_labels};
 pub use rate::SequenceRate;
