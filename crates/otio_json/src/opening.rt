@@ -24,6 +24,7 @@ pub struct Opening {
 
 impl Opening {
     ghost use Rattle.std.specs.Prelude.{◌≡◌, ◌≤◌, IfOk};
+    ghost use Rattle.otio_tracks.specs.ReelTexts.{AreTexts};
     ghost use Rattle.otio_json.specs.Openings.{plain_opening};
     ghost use Rattle.otio_json.specs.Soundness.{IsSoundOpening};
 
@@ -34,6 +35,7 @@ impl Opening {
         requires reels { reels ≤ 999 }
         ensures plain { IfOk result (λ opening. opening ≡ plain_opening tracks reels) }
         ensures sound { IfOk result IsSoundOpening }
+        ensures texts { IfOk result (λ opening. AreTexts opening.table.reels) }
     {
         let table = plain_table(alloc, tracks, reels)?;
         let tracks = empty_tracks(alloc, tracks)?;

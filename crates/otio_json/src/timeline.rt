@@ -6,6 +6,7 @@ ghost use Rattle.json_tree.specs.View.{tree_of};
 ghost use Rattle.otio_tracks.specs.Reading.{Reads, Gives};
 ghost use Rattle.otio_tracks.specs.Times.{rate_pair};
 ghost use Rattle.otio_tracks.specs.Clips.{entries, empty_table};
+ghost use Rattle.otio_tracks.specs.ReelTexts.{AreTexts};
 ghost use Rattle.otio_json.specs.Soundness.{IsSoundOpening};
 ghost use Rattle.otio_json.specs.Timelines.{rate_counted, start_read, untrimmed, kind_read, nesting_of, head_of_track, next_track, tracks_read, sequence_read, timeline_read, tree_read, doc_fault, document_read};
 
@@ -146,8 +147,9 @@ fn read_tracks(
 ) -> Result<(Listed<Track>, Table), DocFault>
     requires few { 2 * items_size (map tree_of children.now) < 2 ^ 31 }
     requires count { length children.now ≤ MAX_TRACKS }
-    ensures { Gives (λ state. state) result
+    ensures read { Gives (λ state. state) result
         (tracks_read (rate_pair rate.now) empty_table (map tree_of children.now)) }
+    ensures texts { IfOk result (λ state. AreTexts state.1.reels) }
 {
     let mut table = Entries::new(alloc);
     let tracks = add_tracks(alloc, rate, &mut table, children)?;
@@ -163,8 +165,9 @@ fn sequence(
     at: u32,
 ) -> Result<(Listed<Track>, Table), DocFault>
     requires { 2 * items_size (map tree_of children.now) < 2 ^ 31 }
-    ensures { Gives (λ state. state) result
+    ensures read { Gives (λ state. state) result
         (sequence_read (rate_pair rate.now) (map tree_of children.now) at) }
+    ensures texts { IfOk result (λ state. AreTexts state.1.reels) }
 {
     if children.is_empty() || children.len() > MAX_TRACKS as usize {
         return Err(DocFault::Refused {
@@ -178,7 +181,8 @@ fn sequence(
 #[tactic(auto, unfolding(crate::specs::Timelines::timeline_read))]
 fn timeline(alloc: Global, counting: &Counting, json: &Json) -> Result<Opening, DocFault>
     requires { 2 * tree_size (tree_of json.now) < 2 ^ 31 }
-    ensures { Gives (λ opening. opening) result (timeline_read counting.now (tree_of json.now)) }
+    ensures read { Gives (λ opening. opening) result (timeline_read counting.now (tree_of json.now)) }
+    ensures texts { IfOk result (λ opening. AreTexts opening.table.reels) }
 {
     let rate = counting.rate().rate();
     expect(json, "Timeline.1")?;
@@ -227,6 +231,7 @@ pub fn read_timeline(alloc: Global, bytes: &[u8], counting: &Counting) -> Result
     ensures read { Gives (λ opening. opening) result (document_read counting.now bytes.now) }
     ensures sound { IfOk result IsSoundOpening }
     ensures some { IfOk result (λ opening. 0 < length opening.tracks) }
+    ensures texts { IfOk result (λ opening. AreTexts opening.table.reels) }
 {
     let tree = tree(alloc, bytes)?;
     timeline(alloc, counting, &tree)

@@ -1,11 +1,13 @@
 -- The number of a reel: where its name stands, which is one place alone.
-use Rattle.std.proofs.Common.{◌≡◌, ℕ, zero, suc, ◌+◌, ◌≤◌, Bool, true, false, ◌||◌, List, [], ◌∷◌, ◌++◌, length, Some, slice_get, refl, sym, ap, ◌∙◌, arith, cond, if◌then◌else◌}
+use Rattle.std.proofs.Common.{◌≡◌, ℕ, zero, suc, ◌+◌, ◌≤◌, Bool, true, false, ◌||◌, List, [], ◌∷◌, ◌++◌, length, Some, slice_get, refl, sym, ap, ◌∙◌, subst, arith, cond, if◌then◌else◌}
 use Rattle.std.specs.List.{list_any}
-use Rattle.std.specs.Str.{bytes_eq}
+use Rattle.std.specs.Str.{bytes_eq, IsUtf8}
+use Rattle.std.proofs.lemmas.List.Elements.{All-append, All-cons, All-nil}
 use Rattle.std.proofs.lemmas.Slice.Eq.{bytes_eq-Decides}
 use Rattle.composables.specs.ReelNames.{with_name, AreDistinct}
 use Rattle.composables.proofs.Keys.{distinct-with_name}
 use Rattle.otio_tracks.specs.Clips.{name_at}
+use Rattle.otio_tracks.specs.ReelTexts.{AreTexts}
 
 or_parts : (a b : Bool) → (a || b) ≡ false → (a ≡ false) × (b ≡ false)
 or_parts true b e = cc
@@ -59,3 +61,10 @@ place_by false n m h = omega (arith, h)
 pub place_le : (names : List (List ℕ)) (name : List ℕ) → name_at names name ≤ length names
 place_le [] name = omega arith
 place_le (x ∷ xs) name = place_by (bytes_eq name x) (name_at xs name) (length xs) (place_le xs name)
+
+-- texts stay texts where a text comes in
+pub texts_with : (names new : List (List ℕ)) (name : List ℕ) → AreTexts names → IsUtf8 name → new ≡ with_name names name → AreTexts new
+texts_with names new name h u e = subst AreTexts (sym e) (by_test (list_any (bytes_eq name) names)) where
+  by_test : (b : Bool) → AreTexts (cond b names (names ++ name ∷ []))
+  by_test true = h
+  by_test false = All-append IsUtf8 names (name ∷ []) h (All-cons IsUtf8 name [] u (All-nil IsUtf8))

@@ -4,6 +4,7 @@ pub mod Values
 pub mod Times
 pub mod Parts
 pub mod Clips
+pub mod ReelTexts
 pub mod Transitions
 pub mod Rows
 pub mod SoundParts

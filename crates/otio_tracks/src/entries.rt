@@ -26,10 +26,15 @@ impl Model for Entries {
     ghost use Rattle.otio_tracks.specs.EntriesInside.{table_of};
 
     ghost view = { table_of };
+
+    ghost use Rattle.otio_tracks.specs.ReelTexts.{AreTexts};
+
+    ghost invariant = { λ e. AreTexts e.reels };
 }
 
 impl Entries {
     ghost use Rattle.std.specs.Prelude.{◌≡◌, ◌<◌, IfOk, OnOk, length};
+    ghost use Rattle.otio_tracks.specs.ReelTexts.{AreTexts};
     ghost use Rattle.otio_tracks.specs.Clips.{empty_table, with_kind, with_reel, with_media, with_entry, with_nest_last, entry_number, name_at};
 
     /// A table with nothing in it.
@@ -93,7 +98,8 @@ impl Entries {
 
     /// The table as it is.
     pub fn finish(self) -> Result<Table, Memory>
-        ensures { IfOk result (λ table. table ≡ self) }
+        ensures table { IfOk result (λ table. table ≡ self) }
+        ensures texts { IfOk result (λ table. AreTexts table.reels) }
     {
         let media = media_list(self.alloc, self.media.as_slice())?;
         Ok(Table {

@@ -6,7 +6,7 @@ use Rattle.otio_json.proofs.SoundOpening.{timeline_sound, timeline_some, told_so
 use Rattle.otio_json.proofs.timeline.read_timeline.Goals as goal
 
 pub returns-clause-sound : goal.returns-clause-sound
-returns-clause-sound c = told_so c.timeline.result (timeline_read c.args.counting.now (tree_of c.in_ok-tree.tree)) IsSoundOpening c.timeline.ensures (timeline_sound c.args.counting.now (tree_of c.in_ok-tree.tree))
+returns-clause-sound c = told_so c.timeline.result (timeline_read c.args.counting.now (tree_of c.in_ok-tree.tree)) IsSoundOpening c.timeline.ensures.read (timeline_sound c.args.counting.now (tree_of c.in_ok-tree.tree))
 
 pub returns-clause-some : goal.returns-clause-some
-returns-clause-some c = told_so c.timeline.result (timeline_read c.args.counting.now (tree_of c.in_ok-tree.tree)) (λ o. 0 < length o.tracks) c.timeline.ensures (timeline_some c.args.counting.now (tree_of c.in_ok-tree.tree))
+returns-clause-some c = told_so c.timeline.result (timeline_read c.args.counting.now (tree_of c.in_ok-tree.tree)) (λ o. 0 < length o.tracks) c.timeline.ensures.read (timeline_some c.args.counting.now (tree_of c.in_ok-tree.tree))
