@@ -6,6 +6,7 @@ use Rattle.frame_meaning.specs.declared.cells.What.{What}
 use Rattle.frame_meaning.specs.declared.cells.What.TheVariants.{Media as MediaOf, Nest as NestOf}
 use Rattle.frame_meaning.specs.declared.frames.Side.{Side}
 use Rattle.frame_meaning.specs.declared.frames.Side.TheVariants.{Dark, Pic}
+use Rattle.composables.specs.declared.TheConstants.{MAX_ITEMS}
 use Rattle.composables.specs.declared.items.ItemView.{ItemView}
 use Rattle.composables.specs.declared.media.Table.{Table}
 use Rattle.composables.specs.declared.media.Media.{Media}
@@ -16,6 +17,7 @@ use Rattle.composables.specs.declared.media.Kind.TheVariants.{Video, Audio}
 use Rattle.composables.specs.Good.{IsGood, AllUnlinked}
 use Rattle.composables.specs.Items.{items_of}
 use Rattle.composables.specs.TrackState.{TrackState}
+use Rattle.otio_json.specs.declared.timeline.TheConstants.{MAX_NESTS, MAX_TRACKS}
 use Rattle.otio_json.specs.Nests.{longest}
 use Rattle.otio_json.specs.declared.opening.Opening.{Opening}
 
@@ -67,7 +69,7 @@ pub record IsReadTrack (table : Table) (levels : ℕ) (t : TrackState) : Type 0 
   pub good : IsGood table t
   pub unlinked : AllUnlinked (items_of t.cells)
   pub deep : EachHas (IsDeep table.nests levels) (items_of t.cells)
-  pub next_item : t.next_item ≤ 65536
+  pub next_item : t.next_item ≤ MAX_ITEMS
   pub next_link : t.next_link ≡ 0
 
 -- its reel is one of the table's, and its source frames are some of 0 to 16,777,215
@@ -90,7 +92,7 @@ IsSoundTable table = IsTableOf (IsSoundMedia table) (IsReadTrack table 7) table
 
 -- how many nests may stand in one another in a track of this kind
 abbrev pub levels_of_kind : Kind → ℕ
-levels_of_kind Video = 8
+levels_of_kind Video = MAX_NESTS
 levels_of_kind Audio = 0
 
 abbrev pub AreTracksFrom : Table → ℕ → List Kind → List TrackState → Type 0
@@ -101,5 +103,5 @@ AreTracksFrom table = AreTracksOf (λ k t. IsReadTrack table (levels_of_kind k) 
 pub record IsSoundOpening (o : Opening) : Type 0 where
   pub table : IsSoundTable o.table
   pub tracks : AreTracksFrom o.table 0 o.table.kinds o.tracks
-  pub few : length o.tracks ≤ 16
+  pub few : length o.tracks ≤ MAX_TRACKS
   pub start : o.start < length (day_of o.counting)

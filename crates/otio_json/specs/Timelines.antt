@@ -15,6 +15,7 @@ use Rattle.json_tree.specs.Parts.{place_of}
 use Rattle.otio_tracks.specs.declared.faults.DocCode.TheVariants.{J1, J2, J4, J5, O3, O10, O11, O16}
 use Rattle.otio_tracks.specs.declared.faults.DocFault.{DocFault}
 use Rattle.otio_tracks.specs.declared.faults.DocFault.TheVariants.{Refused, Memory as NoMemory}
+use Rattle.otio_json.specs.declared.timeline.TheConstants.{MAX_NESTS, MAX_TRACKS}
 use Rattle.otio_json.specs.declared.nests.Nesting.{Nesting}
 use Rattle.otio_json.specs.declared.nests.Nesting.TheVariants.{Forbidden, Levels}
 use Rattle.otio_json.specs.declared.opening.Opening.{Opening}
@@ -66,7 +67,7 @@ kind_read t = do
 
 -- nests stand in video tracks alone, at most 8 in one another
 abbrev pub nesting_of : Kind → Nesting
-nesting_of Video = Levels 8
+nesting_of Video = Levels MAX_NESTS
 nesting_of Audio = Forbidden
 
 unfoldable pub head_of_track : Tree → Read Kind
@@ -95,7 +96,7 @@ opened c start state = record { table = state.1; tracks = state.0; counting = c;
 
 abbrev pub sequence_read : ℕ × ℕ → List Tree → ℕ → Read (List TrackState × Table)
 sequence_read rate children at =
-    if nat_lt 0 (length children) && nat_le (length children) 16 then tracks_read rate empty_table children else refuse O10 at
+    if nat_lt 0 (length children) && nat_le (length children) MAX_TRACKS then tracks_read rate empty_table children else refuse O10 at
 
 unfoldable pub timeline_read : Counted → Tree → Read Opening
 timeline_read c t = do

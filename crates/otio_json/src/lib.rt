@@ -4,10 +4,12 @@
 //! first fault of the document with its place.
 #![tactic(auto)]
 
+mod laws;
 mod nests;
 mod opening;
 mod timeline;
 
+pub use laws::limits_are_these;
 pub use opening::Opening;
 pub use otio_text::{WriteFault, write_timeline};
 pub use otio_tracks::{DocCode, DocFault};

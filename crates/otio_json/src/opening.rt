@@ -25,13 +25,14 @@ pub struct Opening {
 impl Opening {
     ghost use Rattle.std.specs.Prelude.{◌≡◌, ◌≤◌, IfOk};
     ghost use Rattle.otio_tracks.specs.ReelTexts.{AreTexts};
+    ghost use Rattle.otio_json.specs.declared.timeline.TheConstants.{MAX_TRACKS};
     ghost use Rattle.otio_json.specs.Openings.{plain_opening};
     ghost use Rattle.otio_json.specs.Soundness.{IsSoundOpening};
 
     /// Empty video tracks, 24 frames a second without drop-frame, start 0; media m is reel m, named `R` and m in
     /// decimal, with its first 86,400 frames.
     pub fn plain(alloc: Global, tracks: u32, reels: u32) -> Result<Opening, Memory>
-        requires tracks { tracks ≤ 16 }
+        requires tracks { tracks ≤ MAX_TRACKS }
         requires reels { reels ≤ 999 }
         ensures plain { IfOk result (λ opening. opening ≡ plain_opening tracks reels) }
         ensures sound { IfOk result IsSoundOpening }

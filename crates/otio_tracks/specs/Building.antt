@@ -1,5 +1,6 @@
 -- The track of the items and gaps that were read.
 use Rattle.std.specs.Prelude.{ℕ, ◌+◌, nat_le, ◌&&◌, List, [], ◌∷◌, length, Some, None, Ok, if◌then◌else◌}
+use Rattle.composables.specs.declared.TheConstants.{MAX_FRAMES, MAX_ITEMS}
 use Rattle.composables.specs.declared.items.ItemView.{ItemView}
 use Rattle.composables.specs.TrackState.{TrackState}
 use Rattle.composables.specs.Items.{cells_of}
@@ -30,4 +31,4 @@ track_made number parts = record { number = number; cells = cells_of (views_of 0
 -- if it has no more frames, and no more items and gaps, than a track may have
 unfoldable pub track_fit : ℕ → List Part → ℕ → Read TrackState
 track_fit number parts at =
-    if nat_le (frames_in_all parts) 2592000 && nat_le (length parts) 65536 then Ok (track_made number parts) else refuse O11 at
+    if nat_le (frames_in_all parts) MAX_FRAMES && nat_le (length parts) MAX_ITEMS then Ok (track_made number parts) else refuse O11 at
