@@ -12,6 +12,15 @@ pub data Content : Type 0 where
   Missing : Content
   Bytes : List ℕ → Content
 
+-- what files tell: what each holds, by its name, and how often a read and a write of one have failed
+pub record FilesTold : Type 0 where
+  pub file : List ℕ → Content
+  pub reads : ℕ
+  pub writes : ℕ
+
+abbrev pub files_told : (List ℕ → Content) → ℕ → ℕ → FilesTold
+files_told file reads writes = record { file = file; reads = reads; writes = writes }
+
 -- these are all its bytes
 abbrev pub IsWhole : Content → List ℕ → Type 0
 IsWhole Untold bytes = Unit {0}

@@ -1,8 +1,8 @@
 // Files, by their names.
-ghost use Rattle.std.specs.Prelude.{◌≡◌, ◌≤◌, List, ℕ, length, IfOk, IfErr, OnOk, OnErr};
+ghost use Rattle.std.specs.Prelude.{◌≡◌, ◌≤◌, length, IfOk, IfErr, OnOk, OnErr};
 ghost use Rattle.room_ports.specs.Counts.{HasRisen};
 ghost use Rattle.room_files.specs.declared.files.FileFault.TheVariants as faults;
-ghost use Rattle.room_files.specs.Files.{Content, IsWhole, NoneChanged, OthersUnchanged, Refuses, CountsRead};
+ghost use Rattle.room_files.specs.Files.{FilesTold, IsWhole, NoneChanged, OthersUnchanged, Refuses, CountsRead};
 
 use room_ports::{Failed, Memory};
 use std::alloc::{AllocError, AllocFailed, Global};
@@ -44,33 +44,27 @@ impl<T: Drop> From<AllocFailed<T>> for FileFault {
 
 /// Files that stand outside. What they hold is told by some and not by others.
 pub trait Files {
-    /// What the file of a name holds, where it is told.
-    ghost file: { Self → List ℕ → Content };
-
-    /// How often a read has failed.
-    ghost read_faults: { Self → ℕ };
-
-    /// How often a write has failed.
-    ghost write_faults: { Self → ℕ };
+    /// What is told of them: what each file holds, by its name, and how often a read and a write have failed.
+    ghost told: { Self → FilesTold };
 
     /// All bytes of a file, which are at most `limit`. A file that is not there is a fault.
     fn read_file(&mut self, alloc: Global, name: &str, limit: u32) -> Result<Vec<u8>, FileFault>
-        ensures whole { IfOk result (λ v. IsWhole (file self.old name.now) v.items) }
+        ensures whole { IfOk result (λ v. IsWhole ((told self.old).file name.now) v.items) }
         ensures within { IfOk result (λ v. length v.items ≤ limit) }
-        ensures refuses { IfErr result (λ e. Refuses e (file self.old name.now) limit) }
+        ensures refuses { IfErr result (λ e. Refuses e ((told self.old).file name.now) limit) }
 
         // A read changes no file, and no count but its own where it failed.
-        ensures same { NoneChanged (file self.old) (file self.new) }
-        ensures counts { CountsRead result (read_faults self.old) (read_faults self.new) }
-        ensures apart { write_faults self.new ≡ write_faults self.old };
+        ensures same { NoneChanged (told self.old).file (told self.new).file }
+        ensures counts { CountsRead result (told self.old).reads (told self.new).reads }
+        ensures apart { (told self.new).writes ≡ (told self.old).writes };
 
     /// Puts these bytes in place of what the file holds, which need not be there.
     fn write_file(&mut self, name: &str, bytes: &[u8]) -> Result<(), Failed>
-        ensures holds { OnOk result (IsWhole (file self.new name.now) bytes.now) }
+        ensures holds { OnOk result (IsWhole ((told self.new).file name.now) bytes.now) }
 
         // A write changes no other file, and no count but its own where it failed.
-        ensures others { OthersUnchanged name.now (file self.old) (file self.new) }
-        ensures cause { OnErr result (HasRisen (write_faults self.old) (write_faults self.new)) }
-        ensures quiet { OnOk result (write_faults self.new ≡ write_faults self.old) }
-        ensures apart { read_faults self.new ≡ read_faults self.old };
+        ensures others { OthersUnchanged name.now (told self.old).file (told self.new).file }
+        ensures cause { OnErr result (HasRisen (told self.old).writes (told self.new).writes) }
+        ensures quiet { OnOk result ((told self.new).writes ≡ (told self.old).writes) }
+        ensures apart { (told self.new).reads ≡ (told self.old).reads };
 }

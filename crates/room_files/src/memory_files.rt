@@ -4,7 +4,7 @@ ghost use Rattle.room_ports.specs.Calls.{FailsNext, no_calls, passed, failed};
 ghost use Rattle.room_ports.specs.Counts.{HasRisen, counted};
 ghost use Rattle.room_files.specs.declared.files.FileFault.TheVariants as faults;
 ghost use Rattle.room_files.specs.FilesInside.{named};
-ghost use Rattle.room_files.specs.Files.{CountsRead, IsWhole, Keeps, OthersUnchanged, ReadsFile, Refuses, content_in, content_of, found_content, with_file, Missing};
+ghost use Rattle.room_files.specs.Files.{CountsRead, IsWhole, Keeps, OthersUnchanged, ReadsFile, Refuses, content_in, content_of, files_told, found_content, with_file, Missing};
 
 use crate::{FileFault, Files};
 use room_ports::{Failed, FailingCalls, Memory};
@@ -49,8 +49,8 @@ impl MemFiles {
     pub fn new(alloc: Global, failing: Vec<u32>) -> MemFiles
         ensures files { result.files ≡ Some [] }
         ensures calls { result.calls ≡ no_calls failing.items }
-        ensures reads { ⟦<MemFiles as Files>⟧.read_faults result ≡ 0 }
-        ensures writes { ⟦<MemFiles as Files>⟧.write_faults result ≡ 0 }
+        ensures reads { (⟦<MemFiles as Files>⟧.told result).reads ≡ 0 }
+        ensures writes { (⟦<MemFiles as Files>⟧.told result).writes ≡ 0 }
     {
         MemFiles {
             alloc,
@@ -78,11 +78,7 @@ impl MemFiles {
 }
 
 impl Files for MemFiles {
-    ghost file = { λ f. content_of f.files };
-
-    ghost read_faults = { λ f. f.read_faults };
-
-    ghost write_faults = { λ f. f.write_faults };
+    ghost told = { λ f. files_told (content_of f.files) f.read_faults f.write_faults };
 
     /// Answers `Failed` exactly where the number of the call is listed or there is no such file.
     fn read_file(&mut self, alloc: Global, name: &str, limit: u32) -> Result<Vec<u8>, FileFault>

@@ -2,7 +2,7 @@
 ghost use Rattle.std.specs.Prelude.{◌≡◌, ◌≤◌, None, Err, length, IfOk, OnErr, OnOk};
 ghost use Rattle.room_ports.specs.Counts.{counted};
 ghost use Rattle.room_files.specs.declared.files.FileFault.TheVariants as faults;
-ghost use Rattle.room_files.specs.Files.{Content, Untold};
+ghost use Rattle.room_files.specs.Files.{Untold, files_told};
 
 use crate::{FileFault, Files};
 use room_ports::Failed;
@@ -23,8 +23,8 @@ pub struct StdFiles<'a, R: System> {
 impl<'a, R: System> StdFiles<'a, R> {
     /// The files of this system, without a fault so far.
     pub fn new(system: &'a R) -> Self
-        ensures reads { ⟦<StdFiles<'a, R> as Files>⟧.read_faults result ≡ 0 }
-        ensures writes { ⟦<StdFiles<'a, R> as Files>⟧.write_faults result ≡ 0 }
+        ensures reads { (⟦<StdFiles<'a, R> as Files>⟧.told result).reads ≡ 0 }
+        ensures writes { (⟦<StdFiles<'a, R> as Files>⟧.told result).writes ≡ 0 }
     {
         StdFiles {
             system,
@@ -35,11 +35,7 @@ impl<'a, R: System> StdFiles<'a, R> {
 }
 
 impl<R: System> Files for StdFiles<'_, R> {
-    ghost file = { λ _ _. Untold };
-
-    ghost read_faults = { λ f. f.read_faults };
-
-    ghost write_faults = { λ f. f.write_faults };
+    ghost told = { λ f. files_told (λ _. Untold) f.read_faults f.write_faults };
 
     /// Reads the file piece by piece, to its end or until it has more bytes than the limit. What is read no clause says.
     fn read_file(&mut self, alloc: Global, name: &str, limit: u32) -> Result<Vec<u8>, FileFault> {

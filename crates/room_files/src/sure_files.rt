@@ -1,7 +1,7 @@
 // Files over memory that never fail.
 ghost use Rattle.std.specs.Prelude.{◌≡◌, ◌≤◌, [], Some, Err, Ok, ℕ, List, length, IfOk, IfErr, IfSome, IsOk, OnOk, OnErr, option_map};
 ghost use Rattle.room_files.specs.declared.files.FileFault.TheVariants as faults;
-ghost use Rattle.room_files.specs.Files.{CountsRead, IsWhole, KeepsWithin, OthersUnchanged, ReadsFile, Refuses, content_of, or_empty};
+ghost use Rattle.room_files.specs.Files.{CountsRead, IsWhole, KeepsWithin, OthersUnchanged, ReadsFile, Refuses, content_of, files_told, or_empty};
 ghost use Rattle.room_files.specs.WrittenInside.{IsKept, files_of};
 
 use crate::memory_files::copied;
@@ -48,11 +48,7 @@ impl SureFiles {
 }
 
 impl Files for SureFiles {
-    ghost file = { λ f name. or_empty (content_of f.files name) };
-
-    ghost read_faults = { λ _. 0 };
-
-    ghost write_faults = { λ _. 0 };
+    ghost told = { λ f. files_told (λ name. or_empty (content_of f.files name)) 0 0 };
 
     /// Never answers `Failed`.
     fn read_file(&mut self, alloc: Global, name: &str, limit: u32) -> Result<Vec<u8>, FileFault>

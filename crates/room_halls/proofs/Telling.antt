@@ -21,6 +21,13 @@ pub noted-at : {T : Type 0} (notes after : List (Option T)) (note : T) (station 
 noted-at notes after note station e within =
     ap (λ ns. note_of ns station) e ∙ ap noted (get-same notes station (Some note) within)
 
+-- what is noted of the others stays
+pub noted-others : {T : Type 0} (notes grown now : List (Option T)) (note : T) (station : ℕ)
+    → ((s : ℕ) → note_of grown s ≡ note_of notes s) → now ≡ slice_set grown station (Some note)
+    → (s : ℕ) → s ≢ station → note_of now s ≡ note_of notes s
+noted-others notes grown now note station same d s apart =
+    ap (λ ns. note_of ns s) d ∙ (ap noted (get-other grown station s (Some note) apart) ∙ same s)
+
 abbrev flag : Option Bool → Bool
 flag None = false
 flag (Some b) = b
@@ -54,4 +61,4 @@ module _ {L T : Type 0} (told : L → LineTold) where
       ap (λ ls. station_told (told_or_blank told (slice_get ls other)) (is_noted (note_of now other))) e
       ∙ (ap (λ o. station_told (told_or_blank told o) (is_noted (note_of now other))) (get-other lines station other line apart)
       ∙ ap (λ n. station_told (told_or_blank told (slice_get lines other)) (is_noted n))
-      (ap (λ ns. note_of ns other) d ∙ (ap noted (get-other grown station other (Some note) apart) ∙ same other)))
+      (noted-others notes grown now note station same d other apart))

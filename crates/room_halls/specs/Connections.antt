@@ -3,10 +3,12 @@ use Rattle.std.specs.Prelude.{ℕ, List, Option, Some, None}
 use Rattle.room_halls.specs.declared.tcp_line.LineFaults.{LineFaults}
 use Rattle.room_halls.specs.Stations.{LineTold, Station, line_told, station_told, note_of, is_noted}
 
--- the counts of each station that was seated, and how often a call of the hall has failed
+-- the counts of each station that was seated, how often a call of the hall has failed, and the addresses at which it was
+-- opened
 pub record TcpHallState : Type 0 where
   pub seated : List (Option LineFaults)
   pub faults : ℕ
+  pub opened : Option (List (List ℕ))
 
 -- a station that was not seated has no fault yet
 abbrev pub connection_told : Option LineFaults → LineTold

@@ -25,13 +25,14 @@ abbrev pub hall_tells : {L T : Type 0} → (L → LineTold) → List L → List 
 hall_tells told lines notes station =
     station_told (told_or_blank told (slice_get lines station)) (is_noted (note_of notes station))
 
--- a hall over memory: the lines, whether the line of a station is away, the calls that it has had, and how often a
--- call failed
+-- a hall over memory: the lines, whether the line of a station is away, the calls that it has had, how often a call
+-- failed, and the addresses at which it was opened
 pub record HallState : Type 0 where
   pub lines : List MemLine
   pub away : List (Option Bool)
   pub calls : Calls
   pub faults : ℕ
+  pub opened : Option (List (List ℕ))
 
 abbrev pub mem_hall_tells : HallState → ℕ → Station
 mem_hall_tells hall station = hall_tells mem_line_told hall.lines hall.away station
@@ -44,6 +45,7 @@ HasLine hall station = (station < length hall.lines) × ((note_of hall.away stat
 pub record SureHallState : Type 0 where
   pub lines : List Pair2
   pub seated : List (Option (Unit {0}))
+  pub opened : Option (List (List ℕ))
 
 abbrev pub sure_hall_tells : SureHallState → ℕ → Station
 sure_hall_tells hall station = hall_tells sure_line_told hall.lines hall.seated station

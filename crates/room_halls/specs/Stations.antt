@@ -1,5 +1,6 @@
--- What a hall tells of its stations.
-use Rattle.std.specs.Prelude.{◌≡◌, ◌≢◌, ℕ, List, Option, Some, None, Bool, true, false, Result, Ok, Err, slice_get}
+-- What a hall tells of its stations, and of the addresses at which it was opened.
+use Rattle.std.specs.Prelude.{◌≡◌, ◌≢◌, ℕ, List, [], ◌∷◌, ◌++◌, Option, IfSome, Some, None, Bool, true, false, Result, Ok, Err, slice_get}
+use Rattle.std.specs.Option.{IsSomeAnd}
 use Rattle.room_ports.specs.Counts.{HasRisen}
 use Rattle.room_halls.specs.declared.hall.HallFault.{HallFault}
 use Rattle.room_halls.specs.declared.hall.HallFault.TheVariants.{Failed, Memory}
@@ -22,6 +23,21 @@ pub record Station : Type 0 where
 
 abbrev pub station_told : LineTold → Bool → Station
 station_told line seated = record { line = line; seated = seated }
+
+-- What a hall tells: of each station, how often a call of it has failed, and the bytes of each address at which it was
+-- opened, in order. None tells no address.
+pub record HallTold : Type 0 where
+  pub station : ℕ → Station
+  pub faults : ℕ
+  pub opened : Option (List (List ℕ))
+
+abbrev pub hall_told : (ℕ → Station) → ℕ → Option (List (List ℕ)) → HallTold
+hall_told station faults opened = record { station = station; faults = faults; opened = opened }
+
+-- Where addresses are told after the call they are those that were told before it, with this one at the end. So a hall that
+-- tells none any more tells none from then on.
+abbrev pub OpensAt : Option (List (List ℕ)) → Option (List (List ℕ)) → List ℕ → Type 0
+OpensAt before after address = IfSome after (λ now. IsSomeAnd before (λ old. now ≡ old ++ address ∷ []))
 
 -- nothing that is told of a station changes
 abbrev pub NoneMoves : (ℕ → Station) → (ℕ → Station) → Type 0

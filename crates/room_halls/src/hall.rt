@@ -1,8 +1,8 @@
 // A hall: a line for each station of a room.
-ghost use Rattle.std.specs.Prelude.{◌≡◌, ℕ, true, IfOk, OnOk, OnErr};
+ghost use Rattle.std.specs.Prelude.{◌≡◌, true, IfOk, OnOk, OnErr};
 ghost use Rattle.room_ports.specs.Counts.{HasRisen};
 ghost use Rattle.room_halls.specs.declared.hall.HallFault.TheVariants as faults;
-ghost use Rattle.room_halls.specs.Stations.{Station, CountsSeat, NoneMoves, OthersStay, line_told};
+ghost use Rattle.room_halls.specs.Stations.{CountsSeat, HallTold, NoneMoves, OpensAt, OthersStay, line_told};
 
 use room_ports::{Failed, Line, MemLine, Memory};
 use std::alloc::{AllocError, AllocFailed, Global};
@@ -61,36 +61,40 @@ pub trait Hall {
     /// What a station speaks over.
     type Line: HallLine + Send + Drop;
 
-    /// What is told of a station.
-    ghost told: { Self → ℕ → Station };
-
-    /// How often an `open` or a `seat_station` has failed.
-    ghost faults: { Self → ℕ };
+    /// What is told of it: of each station, how often an `open` or a `seat_station` has failed, and the addresses at
+    /// which it was opened.
+    ghost told: { Self → HallTold };
 
     /// Opens the hall at an address, as `localhost:7000`. Nothing that is told of a station changes.
     fn open(&mut self, address: &str) -> Result<(), Failed>
-        ensures same { NoneMoves (told self.old) (told self.new) }
-        ensures cause { OnErr result (HasRisen (faults self.old) (faults self.new)) }
-        ensures quiet { OnOk result (faults self.new ≡ faults self.old) };
+        ensures opened { OnOk result (OpensAt (told self.old).opened (told self.new).opened
+            address.now) }
+        ensures unopened { OnErr result ((told self.new).opened ≡ (told self.old).opened) }
+        ensures same { NoneMoves (told self.old).station (told self.new).station }
+        ensures cause { OnErr result (HasRisen (told self.old).faults (told self.new).faults) }
+        ensures quiet { OnOk result ((told self.new).faults ≡ (told self.old).faults) };
 
     /// Hands out the line of a station. It may wait for one. Where it hands out none, nothing that is told changes.
     fn seat_station(&mut self, alloc: Global, station: u32) -> Result<Self::Line, HallFault>
         // The line stands as the hall told of it.
-        ensures line { IfOk result (λ l. (told self.old station).line
+        ensures line { IfOk result (λ l. ((told self.old).station station).line
             ≡ line_told (Self.Line.left l) (Self.Line.taken l) (Self.Line.read_faults l)
             (Self.Line.write_faults l)) }
-        ensures seated { OnOk result ((told self.new station).seated ≡ true) }
-        ensures others { OnOk result (OthersStay station (told self.old) (told self.new)) }
-        ensures stays { OnErr result (NoneMoves (told self.old) (told self.new)) }
-        ensures counts { CountsSeat result (faults self.old) (faults self.new) };
+        ensures seated { OnOk result (((told self.new).station station).seated ≡ true) }
+        ensures others { OnOk result (OthersStay station (told self.old).station
+            (told self.new).station) }
+        ensures stays { OnErr result (NoneMoves (told self.old).station (told self.new).station) }
+        ensures counts { CountsSeat result (told self.old).faults (told self.new).faults }
+        ensures opened { (told self.new).opened ≡ (told self.old).opened };
 
     /// Takes the line of a station back that was seated, and keeps what it took, has left and counted.
     fn stand_up(&mut self, station: u32, line: Self::Line)
-        requires { (told self.old station).seated ≡ true }
-        ensures line { (told self.new station).line
+        requires { ((told self.old).station station).seated ≡ true }
+        ensures line { ((told self.new).station station).line
             ≡ line_told (Self.Line.left line) (Self.Line.taken line) (Self.Line.read_faults line)
             (Self.Line.write_faults line) }
-        ensures seated { (told self.new station).seated ≡ true }
-        ensures others { OthersStay station (told self.old) (told self.new) }
-        ensures quiet { faults self.new ≡ faults self.old };
+        ensures seated { ((told self.new).station station).seated ≡ true }
+        ensures others { OthersStay station (told self.old).station (told self.new).station }
+        ensures quiet { (told self.new).faults ≡ (told self.old).faults }
+        ensures opened { (told self.new).opened ≡ (told self.old).opened };
 }

@@ -1,11 +1,12 @@
 // A hall over memory.
-ghost use Rattle.std.specs.Prelude.{◌≡◌, ◌≤◌, ◌<◌, ◌↔◌, ◌⊎◌, ℕ, true, Some, Err, IfOk, IsErr, OnOk, OnErr};
+ghost use Rattle.std.specs.Prelude.{◌≡◌, ◌≢◌, ◌≤◌, ◌<◌, ◌↔◌, ◌⊎◌, [], ℕ, true, false, Some, slice_set, Err, IfOk, IsErr, OnOk, OnErr};
 ghost use Rattle.room_ports.specs.Calls.{FailsNext, no_calls, passed, failed};
 ghost use Rattle.room_ports.specs.Counts.{HasRisen, counted};
 ghost use Rattle.room_halls.specs.declared.hall.HallFault.TheVariants as faults;
 ghost use Rattle.room_halls.specs.Lines.{HasLine, mem_hall_tells, mem_line_told};
-ghost use Rattle.room_halls.specs.Stations.{CountsSeat, NoneMoves, OthersStay, note_of};
+ghost use Rattle.room_halls.specs.Stations.{CountsSeat, NoneMoves, OpensAt, OthersStay, hall_told, note_of};
 
+use crate::addresses::Addresses;
 use crate::seats::Seats;
 use crate::{Hall, HallFault};
 use room_ports::{Failed, FailingCalls, MemLine, MemSink, MemSource};
@@ -21,6 +22,7 @@ pub struct MemHall {
     away: Seats<bool>,
     calls: FailingCalls,
     faults: u64,
+    addresses: Addresses,
 }
 
 impl Model for MemHall {
@@ -34,6 +36,7 @@ impl Model for MemHall {
       away = h.away;
       calls = h.calls;
       faults = h.faults;
+      opened = h.addresses;
     } };
 
     ghost invariant = { λ h. length h.away ≤ vec_len h.lines };
@@ -45,7 +48,9 @@ impl MemHall {
     pub fn new(alloc: Global, lines: Vec<MemLine>, failing: Vec<u32>) -> MemHall
         ensures lines { result.lines ≡ lines.items }
         ensures calls { result.calls ≡ no_calls failing.items }
-        ensures faults { ⟦<MemHall as Hall>⟧.faults result ≡ 0 }
+        ensures away { result.away ≡ [] }
+        ensures faults { (⟦<MemHall as Hall>⟧.told result).faults ≡ 0 }
+        ensures opened { result.opened ≡ Some [] }
     {
         MemHall {
             alloc,
@@ -53,6 +58,7 @@ impl MemHall {
             away: Seats::new(alloc),
             calls: FailingCalls::new(failing),
             faults: 0,
+            addresses: Addresses::none(alloc),
         }
     }
 }
@@ -60,23 +66,26 @@ impl MemHall {
 impl Hall for MemHall {
     type Line = MemLine;
 
-    ghost told = { λ h s. mem_hall_tells h s };
-
-    ghost faults = { λ h. h.faults };
+    ghost told = { λ h. hall_told (mem_hall_tells h) h.faults h.opened };
 
     /// Fails exactly where the number of the call is listed.
-    fn open(&mut self, _address: &str) -> Result<(), Failed>
+    fn open(&mut self, address: &str) -> Result<(), Failed>
         ensures fails { IsErr result ↔ FailsNext self.old.calls }
         ensures passed { OnOk result (self.new.calls ≡ passed self.old.calls) }
         ensures failed { OnErr result (self.new.calls ≡ failed self.old.calls) }
         ensures stays { (self.new.lines ≡ self.old.lines) × (self.new.away ≡ self.old.away) }
 
         // What every hall promises.
+        ensures opened { OnOk result (OpensAt self.old.opened self.new.opened address.now) }
+        ensures unopened { OnErr result (self.new.opened ≡ self.old.opened) }
         ensures cause { OnErr result (HasRisen self.old.faults self.new.faults) }
         ensures quiet { OnOk result (self.new.faults ≡ self.old.faults) }
     {
         match self.calls.next() {
-            Ok(()) => Ok(()),
+            Ok(()) => {
+                self.addresses.add(self.alloc, address);
+                Ok(())
+            }
             Err(_) => {
                 self.faults = self.faults.saturating_add(1);
                 Err(Failed)
@@ -91,6 +100,10 @@ impl Hall for MemHall {
         ensures listed { FailsNext self.old.calls → self.new.calls ≡ failed self.old.calls }
         ensures passed { FailsNext self.old.calls ⊎ (self.new.calls ≡ passed self.old.calls) }
         ensures away { OnOk result (note_of self.new.away station ≡ Some true) }
+        ensures here { OnOk result ((s : ℕ) → s ≢ station
+            → note_of self.new.away s ≡ note_of self.old.away s) }
+        ensures unmoved { OnErr result ((s : ℕ)
+            → note_of self.new.away s ≡ note_of self.old.away s) }
         ensures stays { OnErr result (NoneMoves (mem_hall_tells self.old)
             (mem_hall_tells self.new)) }
 
@@ -100,6 +113,7 @@ impl Hall for MemHall {
         ensures others { OnOk result (OthersStay station (mem_hall_tells self.old)
             (mem_hall_tells self.new)) }
         ensures counts { CountsSeat result self.old.faults self.new.faults }
+        ensures opened { self.new.opened ≡ self.old.opened }
     {
         match self.calls.next() {
             Ok(()) => {}
@@ -122,6 +136,7 @@ impl Hall for MemHall {
     fn stand_up(&mut self, station: u32, line: MemLine)
         requires { (mem_hall_tells self.old station).seated ≡ true }
         ensures back { HasLine self.new station }
+        ensures away { self.new.away ≡ slice_set self.old.away station (Some false) }
         ensures calls { self.new.calls ≡ self.old.calls }
 
         // What every hall promises.
@@ -129,6 +144,7 @@ impl Hall for MemHall {
         ensures seated { (mem_hall_tells self.new station).seated ≡ true }
         ensures others { OthersStay station (mem_hall_tells self.old) (mem_hall_tells self.new) }
         ensures quiet { self.new.faults ≡ self.old.faults }
+        ensures opened { self.new.opened ≡ self.old.opened }
     {
         self.away.set(station, false);
         self.lines[station as usize] = line;

@@ -1,9 +1,10 @@
 // A hall over memory that never fails.
-ghost use Rattle.std.specs.Prelude.{◌≡◌, ◌≤◌, ◌<◌, ℕ, true, IfOk, IfErr, IsOk, OnOk, OnErr, slice_get, vec_len};
+ghost use Rattle.std.specs.Prelude.{◌≡◌, ◌≢◌, ◌≤◌, ◌<◌, ℕ, [], true, Some, IfOk, IfErr, IsOk, OnOk, OnErr, slice_get, vec_len};
 ghost use Rattle.room_halls.specs.declared.hall.HallFault.TheVariants as faults;
-ghost use Rattle.room_halls.specs.Stations.{CountsSeat, NoneMoves, OthersStay};
+ghost use Rattle.room_halls.specs.Stations.{CountsSeat, NoneMoves, OpensAt, OthersStay, hall_told, note_of};
 ghost use Rattle.room_halls.specs.Lines.{sure_hall_tells, sure_line_told, told_or_blank};
 
+use crate::addresses::Addresses;
 use crate::seats::Seats;
 use crate::sure_line::blank_line;
 use crate::{Hall, HallFault, Pair2};
@@ -16,8 +17,10 @@ use std::mem;
 /// input is at its end and whose output tells nothing.
 #[derive(Drop)]
 pub struct SureHall {
+    alloc: Global,
     lines: Vec<Pair2>,
     seated: Seats<()>,
+    addresses: Addresses,
 }
 
 impl Model for SureHall {
@@ -26,7 +29,7 @@ impl Model for SureHall {
 
     ghost Value = { SureHallState };
 
-    ghost view = { λ h. record { lines = h.lines.items; seated = h.seated } };
+    ghost view = { λ h. record { lines = h.lines.items; seated = h.seated; opened = h.addresses } };
 
     ghost invariant = { λ h. length h.seated ≤ vec_len h.lines };
 }
@@ -34,11 +37,15 @@ impl Model for SureHall {
 impl SureHall {
     /// A hall that gives station s the line s of these.
     pub fn new(alloc: Global, lines: Vec<Pair2>) -> SureHall
-        ensures { result.lines ≡ lines.items }
+        ensures lines { result.lines ≡ lines.items }
+        ensures seated { result.seated ≡ [] }
+        ensures opened { result.opened ≡ Some [] }
     {
         SureHall {
+            alloc,
             lines,
             seated: Seats::new(alloc),
+            addresses: Addresses::none(alloc),
         }
     }
 }
@@ -46,15 +53,17 @@ impl SureHall {
 impl Hall for SureHall {
     type Line = Pair2;
 
-    ghost told = { λ h s. sure_hall_tells h s };
+    ghost told = { λ h. hall_told (sure_hall_tells h) 0 h.opened };
 
-    ghost faults = { λ _. 0 };
-
-    /// Opens, and nothing changes.
-    fn open(&mut self, _address: &str) -> Result<(), Failed>
+    /// Opens, and no line changes.
+    fn open(&mut self, address: &str) -> Result<(), Failed>
         ensures sure { IsOk result }
-        ensures stays { self.new ≡ self.old }
+        ensures stays { (self.new.lines ≡ self.old.lines) × (self.new.seated ≡ self.old.seated) }
+
+        // What every hall promises.
+        ensures opened { OpensAt self.old.opened self.new.opened address.now }
     {
+        self.addresses.add(self.alloc, address);
         Ok(())
     }
 
@@ -63,6 +72,8 @@ impl Hall for SureHall {
         ensures sure { IfErr result (λ e. e ≡ faults.Memory) }
         ensures stays { OnErr result (NoneMoves (sure_hall_tells self.old)
             (sure_hall_tells self.new)) }
+        ensures here { (s : ℕ) → s ≢ station
+            → note_of self.new.seated s ≡ note_of self.old.seated s }
 
         // What every hall promises.
         ensures line { IfOk result (λ l. (sure_hall_tells self.old station).line
@@ -71,6 +82,7 @@ impl Hall for SureHall {
         ensures others { OnOk result (OthersStay station (sure_hall_tells self.old)
             (sure_hall_tells self.new)) }
         ensures counts { CountsSeat result 0 0 }
+        ensures opened { self.new.opened ≡ self.old.opened }
     {
         make_lines(alloc, &mut self.lines, station)?;
         self.seated.make_room(station)?;

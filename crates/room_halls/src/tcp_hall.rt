@@ -2,8 +2,9 @@
 ghost use Rattle.std.specs.Prelude.{◌≡◌, ◌<◌, ◌≤◌, [], None, Some, length, refl, true, IfOk, OnOk, OnErr};
 ghost use Rattle.room_ports.specs.Counts.{HasRisen, counted};
 ghost use Rattle.room_halls.specs.Connections.{tcp_hall_tells};
-ghost use Rattle.room_halls.specs.Stations.{CountsSeat, NoneMoves, OthersStay, line_told};
+ghost use Rattle.room_halls.specs.Stations.{CountsSeat, NoneMoves, OpensAt, OthersStay, hall_told, line_told};
 
+use crate::addresses::Addresses;
 use crate::report::Report;
 use crate::seats::Seats;
 use crate::tcp_line::{LineFaults, TcpLine};
@@ -19,11 +20,13 @@ use std::net::{Net, SocketAddr, TcpListener, TcpStream};
 /// nor what the writer is told.
 #[derive(Drop)]
 pub struct TcpHall<'a, R: Net, W> {
+    alloc: Global,
     net: &'a R,
     report: Report<W>,
     listener: Option<TcpListener>,
     seated: Seats<LineFaults>,
     faults: u64,
+    addresses: Addresses,
 }
 
 impl<'a, R: Net, W> Model for TcpHall<'a, R, W> {
@@ -31,7 +34,7 @@ impl<'a, R: Net, W> Model for TcpHall<'a, R, W> {
 
     ghost Value = { TcpHallState };
 
-    ghost view = { λ h. record { seated = h.seated; faults = h.faults } };
+    ghost view = { λ h. record { seated = h.seated; faults = h.faults; opened = h.addresses } };
 }
 
 impl<'a, R: Net<Listener = TcpListener, Stream = TcpStream>, W> TcpHall<'a, R, W> {
@@ -39,13 +42,16 @@ impl<'a, R: Net<Listener = TcpListener, Stream = TcpStream>, W> TcpHall<'a, R, W
     pub fn new(alloc: Global, net: &'a R, to: W) -> Self
         ensures seated { result.seated ≡ [] }
         ensures faults { result.faults ≡ 0 }
+        ensures opened { result.opened ≡ Some [] }
     {
         TcpHall {
+            alloc,
             net,
             report: Report::new(alloc, to),
             listener: None,
             seated: Seats::new(alloc),
             faults: 0,
+            addresses: Addresses::none(alloc),
         }
     }
 
@@ -63,9 +69,7 @@ impl<R: Net<Listener = TcpListener, Stream = TcpStream>, W: Write + Copy + Send>
     for TcpHall<'_, R, W> {
     type Line = TcpLine<W>;
 
-    ghost told = { λ h s. tcp_hall_tells h s };
-
-    ghost faults = { λ h. h.faults };
+    ghost told = { λ h. hall_told (tcp_hall_tells h) h.faults h.opened };
 
     /// Listens at the address. It fails where the system refuses it, of which no clause says when.
     fn open(&mut self, address: &str) -> Result<(), Failed> {
@@ -73,6 +77,7 @@ impl<R: Net<Listener = TcpListener, Stream = TcpStream>, W: Write + Copy + Send>
             Ok(listener) => {
                 tell_address(self.report, &listener);
                 self.listener = Some(listener);
+                self.addresses.add(self.alloc, address);
                 Ok(())
             }
             Err(error) => {

@@ -1,7 +1,7 @@
 use Rattle.std.proofs.Common.{ap, arith, refl}
 use Rattle.std.proofs.lemmas.Option.{slice_get_read}
 use Rattle.room_halls.specs.Lines.{told_or_blank, mem_line_told}
-use Rattle.room_halls.proofs.Telling.{noted-at, tells-seated, tells-others}
+use Rattle.room_halls.proofs.Telling.{noted-at, noted-others, tells-seated, tells-others}
 use Rattle.room_halls.proofs.memory_hall.MemHallHall.seat_station.Goals as goal
 
 pub returns-clause-line : goal.returns-clause-line
@@ -19,3 +19,7 @@ returns-clause-others c = rw (← c.self.view_is)
 
 pub returns-clause-away : goal.returns-clause-away
 returns-clause-away c = noted-at _ _ _ _ c.set.ensures c.in_ok-make_room.ensures.room
+
+pub returns-clause-here : goal.returns-clause-here
+returns-clause-here c = rw (← c.self.view_is)
+    (noted-others c.self.inside.away _ _ _ c.args.station c.in_ok-make_room.ensures.same c.set.ensures)
