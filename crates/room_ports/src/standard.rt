@@ -1,11 +1,12 @@
 // Adapters over readers and writers of std, which tell no bytes.
-ghost use Rattle.std.specs.Prelude.{◌≡◌, ◌≤◌, ◌<◌, None, Ok, length, IsErr, IfOk, OnOk, OnErr};
+ghost use Rattle.std.specs.Prelude.{◌≡◌, ◌≤◌, ◌<◌, None, length, IfOk, OnOk, OnErr};
 ghost use Rattle.std.specs.Io.KnownBytes.{ReadConsumes, WriteAppends};
 ghost use Rattle.room_ports.specs.Counts.{HasRisen, counted};
 ghost use Rattle.room_ports.specs.Sides.{no_sink, no_source};
 
+use crate::once::{read_once, write_once};
 use crate::{Failed, Sink, Source};
-use std::io::{self, Read, Write};
+use std::io::{Read, Write};
 use std::marker::Model;
 
 /// A source over a reader. Each read that the reader fails is counted as a fault.
@@ -52,8 +53,7 @@ impl<R: Read + Drop> Source for StdSource<R> {
         ensures cause { OnErr result (HasRisen self.old.faults self.new.faults) }
         ensures count { self.old.faults ≤ self.new.faults }
     {
-        let answer = self.inner.read(into);
-        count_fault(answer, &mut self.faults)
+        read_once(&mut self.inner, into, &mut self.faults)
     }
 }
 
@@ -103,36 +103,6 @@ impl<W: Write + Drop> Sink for StdSink<W> {
         ensures cause { OnErr result (HasRisen self.old.faults self.new.faults) }
         ensures count { self.old.faults ≤ self.new.faults }
     {
-        let answer = self.inner.write(piece);
-        count_fault(some_taken(answer, piece), &mut self.faults)
-    }
-}
-
-// A write that took nothing of a piece that is not empty is an error.
-fn some_taken(answer: io::Result<usize>, piece: &[u8]) -> io::Result<usize>
-    ensures some { IfOk answer (λ n. (0 < length piece.now → 0 < n) → result ≡ Ok n) }
-    ensures nothing { IfOk answer (λ n. 0 < length piece.now → n ≡ 0 → IsErr result) }
-    ensures error { OnErr answer (IsErr result) }
-{
-    match answer {
-        Ok(0) if !piece.is_empty() => Err(io::Error::from(io::ErrorKind::WriteZero)),
-        answer => answer,
-    }
-}
-
-// The number that a reader or a writer answered, or a fault more.
-fn count_fault(answer: io::Result<usize>, faults: &mut u64) -> Result<usize, Failed>
-    ensures ok { IfOk answer (λ n. result ≡ Ok n) }
-    ensures quiet { OnOk answer (faults.new ≡ faults.old) }
-    ensures err { OnErr answer (IsErr result) }
-    ensures counted { OnErr answer (faults.new ≡ counted faults.old) }
-    ensures count { faults.old ≤ faults.new }
-{
-    match answer {
-        Ok(n) => Ok(n),
-        Err(_) => {
-            *faults = faults.saturating_add(1);
-            Err(Failed)
-        }
+        write_once(&mut self.inner, piece, &mut self.faults)
     }
 }
