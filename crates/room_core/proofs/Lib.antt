@@ -1,3 +1,4 @@
 pub mod Histories
 pub mod Machines
 pub mod WholeParts
+pub mod Holding

@@ -1,11 +1,11 @@
 -- What holds of the machine after any events.
-use Rattle.std.proofs.Common.{◌≡◌, ℕ, ◌<◌, ◌≤◌, List, [], ◌∷◌, Bool, true, false, ◌&&◌, nat_lt, Option, Some, None, Result, Ok, Err, IsSome, length, slice_get, refl, ap, ◌∙◌, arith, length-append, if◌then◌else◌}
+use Rattle.std.proofs.Common.{◌≡◌, ℕ, ◌<◌, ◌≤◌, List, [], ◌∷◌, Bool, true, false, nat_lt, Option, Some, None, Result, Ok, Err, IsSome, length, slice_get, refl, ap, ◌∙◌, arith, length-append, if◌then◌else◌}
 use Rattle.std.proofs.lemmas.Bool.Decides.{nat_tests}
 use Rattle.room_core.specs.History.{after_entry, replay, state_in, NumbersRise, most_entries, IsLegal}
-use Rattle.room_core.specs.Machine.{Event, Take, Commit, Give, Machine, opened, committed, held_as, holds_all, is_above, is_free, is_held_by, step, run}
+use Rattle.room_core.specs.Machine.{Event, Take, Commit, Give, Machine, opened, committed, held_as, is_above, is_free, is_held_by, step, run}
 use Rattle.room_core.specs.Whole.{Meaning, whole}
 use Rattle.room_core.specs.declared.entry.Entry.{Entry}
-use Rattle.room_core.proofs.Histories.{both_true, replay-more, rise-more}
+use Rattle.room_core.proofs.Histories.{replay-more, rise-more}
 
 -- the parts are those that the history comes to
 pub record Stands {P C D R : Type 0} (meaning : Meaning P C D R) (parts : List P) (m : Machine P C) : Type 0 where
@@ -41,11 +41,9 @@ stands-step meaning parts m (Take s part) h =
     stands-if meaning parts (is_free (slice_get m.holders part)) (held_as m part (Some s)) m (λ b. stands-held meaning parts m part (Some s) h) h
 stands-step meaning parts m (Commit s i c) h =
     let e : Entry _ = record { station = s; number = i; call = c } in
-    stands-if meaning parts (holds_all m.holders s (meaning.names c) && is_above s i m.history && nat_lt (length m.history) most_entries)
-    (committed m e (whole meaning m.parts c)) m
-    (λ b. let last = both_true (holds_all m.holders s (meaning.names c) && is_above s i m.history) (nat_lt (length m.history) most_entries) b in
-    let above = both_true (holds_all m.holders s (meaning.names c)) (is_above s i m.history) last.0 in
-    stands-committed meaning parts m e (whole meaning m.parts c) h refl (below (length m.history) most_entries last.1) above.1)
+    stands-if meaning parts _ (committed m e (whole meaning m.parts c)) m
+    (λ may. stands-committed meaning parts m e (whole meaning m.parts c) h refl
+    (below (length m.history) most_entries (Prim.grind (arith, may))) (Prim.grind (arith, may)))
     h
 stands-step meaning parts m (Give s part) h =
     stands-if meaning parts (is_held_by s (slice_get m.holders part)) (held_as m part None) m (λ b. stands-held meaning parts m part None h) h

@@ -75,7 +75,7 @@ no_state apply [] = refl
 no_state apply (e ∷ es) = no_state apply es
 
 -- another part stays
-get-set_other : {P : Type 0} (ps : List P) (n k : ℕ) (p : P) → n ≢ k → slice_get (slice_set ps n p) k ≡ slice_get ps k
+pub get-set_other : {P : Type 0} (ps : List P) (n k : ℕ) (p : P) → n ≢ k → slice_get (slice_set ps n p) k ≡ slice_get ps k
 get-set_other [] n k p h = refl
 get-set_other (q ∷ ps) zero zero p h = absurd (h refl)
 get-set_other (q ∷ ps) zero (suc k) p h = refl
@@ -89,7 +89,7 @@ neither false b h = (refl, h)
 apart : (n k : ℕ) → (n == k) ≡ false → n ≢ k
 apart n k h e = Prim.grind (arith, nat_tests, h, e)
 
-get-put_back : {P : Type 0} (ps : List P) (names : List ℕ) (ts : List P) (k : ℕ) → list_any (λ n. n == k) names ≡ false
+pub get-put_back : {P : Type 0} (ps : List P) (names : List ℕ) (ts : List P) (k : ℕ) → list_any (λ n. n == k) names ≡ false
     → slice_get (put_back ps names ts) k ≡ slice_get ps k
 get-put_back ps [] ts k h = refl
 get-put_back ps (n ∷ ns) [] k h = refl

@@ -1,6 +1,6 @@
 -- The machine of many stations: each part of an object is held by one station or by none, and a station commits a call
 -- while it holds all parts that the call names. A station is a number. An event that is not lawful changes nothing.
-use Rattle.std.specs.Prelude.{ℕ, List, [], ◌∷◌, ◌++◌, Option, Some, None, Result, Ok, Err, Bool, true, false, not, ◌&&◌, ◌||◌, ◌==◌, length, nat_lt, slice_get, slice_set, replicate, fold, if◌then◌else◌}
+use Rattle.std.specs.Prelude.{◌≡◌, ◌≢◌, ℕ, List, [], ◌∷◌, ◌++◌, Option, Some, None, Result, Ok, Err, Bool, true, false, not, ◌&&◌, ◌||◌, ◌==◌, length, nat_lt, slice_get, slice_set, replicate, fold, if◌then◌else◌}
 use Rattle.std.specs.List.{list_all}
 use Rattle.room_core.specs.Whole.{Meaning, whole}
 use Rattle.room_core.specs.History.{most_entries}
@@ -61,3 +61,14 @@ step meaning m (Give s part) = if is_held_by s (slice_get m.holders part) then h
 -- these events, one after another
 abbrev pub run : {P C D R : Type 0} → Meaning P C D R → Machine P C → List (Event C) → Machine P C
 run meaning m events = fold (step meaning) m events
+
+-- the event is of another station than this one
+abbrev pub IsOfAnother : {C : Type 0} → ℕ → Event C → Type 0
+IsOfAnother station (Take s part) = s ≢ station
+IsOfAnother station (Commit s number call) = s ≢ station
+IsOfAnother station (Give s part) = s ≢ station
+
+-- a part is as it was, and so is who holds it
+pub record StaysHeld {P C : Type 0} (before after : Machine P C) (part : ℕ) : Type 0 where
+  pub value : slice_get after.parts part ≡ slice_get before.parts part
+  pub holder : slice_get after.holders part ≡ slice_get before.holders part

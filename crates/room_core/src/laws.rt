@@ -1,8 +1,8 @@
 // What holds of every object, whatever its parts are.
-ghost use Rattle.std.specs.Prelude.{◌≡◌, ◌++◌, ℕ, List, None, Some, All, slice_get};
+ghost use Rattle.std.specs.Prelude.{◌≡◌, ◌++◌, ℕ, List, None, Some, All, slice_get, true};
 ghost use Rattle.room_core.specs.declared.entry.Entry.{Entry};
 ghost use Rattle.room_core.specs.History.{replay, IsLegal};
-ghost use Rattle.room_core.specs.Machine.{Event, opened, run};
+ghost use Rattle.room_core.specs.Machine.{Event, IsOfAnother, Machine, StaysHeld, is_held_by, opened, run, step};
 ghost use Rattle.room_core.specs.Parts.{AreGood, numbers};
 ghost use Rattle.room_core.specs.Projection.{of_part};
 ghost use Rattle.room_core.specs.Whole.{whole, picked, put_back};
@@ -10,13 +10,20 @@ ghost use Rattle.room_core.specs.Whole.{whole, picked, put_back};
 use crate::PartObject;
 
 /// Whatever the stations take, commit and give back, in whatever order: what was committed is one legal serial history,
-/// and the parts are those that it comes to.
+/// and the parts are those that it comes to. A part has one holder or none, and while a station holds it no event of
+/// another station changes it or takes it away.
 pub fn serial_law<O: PartObject>()
-    ensures legal { (o : O) (parts : List O.Part) (events : List (Event O.Call)) → O.opens o parts
+    ensures legal { (o : O) (parts : List O.Part) (events : List (Event O.Call))
         → IsLegal (whole (O.meaning o)) parts (run (O.meaning o) (opened parts) events).history }
-    ensures parts { (o : O) (parts : List O.Part) (events : List (Event O.Call)) → O.opens o parts
+    ensures parts { (o : O) (parts : List O.Part) (events : List (Event O.Call))
         → replay (whole (O.meaning o)) parts (run (O.meaning o) (opened parts) events).history
         ≡ Some (run (O.meaning o) (opened parts) events).parts }
+    ensures held { (o : O) (m : Machine O.Part O.Call) (event : Event O.Call) (station part : ℕ)
+        → is_held_by station (slice_get m.holders part) ≡ true → IsOfAnother station event
+        → StaysHeld m (step (O.meaning o) m event) part }
+    ensures one_holder { (m : Machine O.Part O.Call) (first second part : ℕ)
+        → is_held_by first (slice_get m.holders part) ≡ true
+        → is_held_by second (slice_get m.holders part) ≡ true → first ≡ second }
 {}
 
 /// The parts that a call names, picked out of all, are such as a call asks for; and what a call leaves, put back in their
