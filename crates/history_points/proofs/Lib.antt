@@ -2,3 +2,4 @@ pub mod Sets
 pub mod Slotted
 pub mod NamedCalls
 pub mod Renumbered
+pub mod Openings

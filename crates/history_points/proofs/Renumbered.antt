@@ -1,7 +1,8 @@
 -- The numbers that entries bear do not matter for what they come to: with other numbers any list of entries that apply
 -- is a legal history.
-use Rattle.std.proofs.Common.{◌≡◌, ℕ, suc, ◌<◌, ◌≤◌, List, [], ◌∷◌, length, Option, Some, None, Result, IsSome, refl, ap, ◌∙◌, arith}
+use Rattle.std.proofs.Common.{◌≡◌, ℕ, suc, ◌<◌, ◌≤◌, List, [], ◌∷◌, ◌++◌, length, Option, Some, None, Result, IsSome, refl, ap, ◌∙◌, arith}
 use Rattle.std.specs.List.{fold}
+use Rattle.std.proofs.lemmas.List.Sums.{fold-append}
 use Rattle.room_core.specs.History.{after_entry, replay, state_in, RiseAfter, NumbersRise, most_entries, IsLegal}
 use Rattle.room_core.specs.declared.entry.Entry.{Entry}
 
@@ -30,6 +31,12 @@ rise-renumbered number (e ∷ es) =
 
 is_some : {A : Type 0} (o : Option A) (a : A) → o ≡ Some a → IsSome o
 is_some o a h = rw h refl
+
+-- a history goes on from what its front comes to
+pub comes_further : {S C D R : Type 0} (apply : S → C → Result (S × D) R) (s t u : S) (es fs : List (Entry C))
+    → replay apply s es ≡ Some t → replay apply t fs ≡ Some u → replay apply s (es ++ fs) ≡ Some u
+comes_further apply s t u es fs first then_so =
+    fold-append (after_entry apply) (Some s) es fs ∙ (ap (λ r. fold (after_entry apply) r fs) first ∙ then_so)
 
 -- what holds of all that legal histories come to holds of all that any entries come to
 pub comes_to : {S C D R : Type 0} (apply : S → C → Result (S × D) R) (s t : S) (Holds : S → Type 0) (es : List (Entry C))

@@ -1,4 +1,5 @@
 -- To be read: public clauses speak of these.
 pub mod Replays
+pub mod Reached
 -- For the steps of the code, for proofs and for tests.
 pub mod Slots

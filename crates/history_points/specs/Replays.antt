@@ -7,13 +7,13 @@ use Rattle.room_core.specs.Whole.{Meaning, whole}
 use Rattle.history_points.specs.declared.fault.ReplayFault.{ReplayFault}
 use Rattle.history_points.specs.declared.fault.ReplayFault.TheVariants.{Refused, Memory}
 
--- those before this entry apply, and it does not
-pub record IsFirstRefused {P C D R : Type 0} (m : Meaning P C D R) (opening : List P) (entries : List (Entry C)) (n k : ℕ) : Type 0 where
+-- on these parts those before this entry apply, and it does not
+pub record IsFirstRefused {P C D R : Type 0} (m : Meaning P C D R) (from : List P) (entries : List (Entry C)) (n k : ℕ) : Type 0 where
   pub within : k < n
-  pub before : IsSome (replay (whole m) opening (take k entries))
-  pub refused : replay (whole m) opening (take (k + 1) entries) ≡ None
+  pub before : IsSome (replay (whole m) from (take k entries))
+  pub refused : replay (whole m) from (take (k + 1) entries) ≡ None
 
 abbrev pub Replays : {P C D R : Type 0} → Meaning P C D R → List P → List (Entry C) → ℕ → Result (Vec P Global) ReplayFault → Type 0
-Replays m opening entries n (Ok parts) = replay (whole m) opening (take n entries) ≡ Some parts.items
-Replays m opening entries n (Err (Refused k)) = IsFirstRefused m opening entries n k
-Replays m opening entries n (Err Memory) = Unit {0}
+Replays m from entries n (Ok parts) = replay (whole m) from (take n entries) ≡ Some parts.items
+Replays m from entries n (Err (Refused k)) = IsFirstRefused m from entries n k
+Replays m from entries n (Err Memory) = Unit {0}

@@ -1,5 +1,5 @@
 // One call on all parts of an object.
-ghost use Rattle.std.specs.Prelude.{◌≡◌, ◌+◌, ◌*◌, ◌≤◌, None, All, sum_by};
+ghost use Rattle.std.specs.Prelude.{◌≡◌, ◌+◌, ◌*◌, ◌≤◌, None, OnOk, All, sum_by};
 ghost use Rattle.out_of_memory.specs.Answers.{Answers};
 ghost use Rattle.room_core.specs.Parts.{AreGood, numbers};
 ghost use Rattle.room_core.specs.Whole.{picked, whole};
@@ -33,6 +33,7 @@ fn apply_named<O: PartObject, L: Ledger>(
         (present slots.old.items) (present slots.new.items) result }
     ensures good { AreGood (O.good object.now) (numbers 0 (O.count object.now))
         (present slots.new.items) }
+    ensures least { OnOk result (steps.old + 1 ≤ steps.new) }
     ensures most { steps.new ≤ steps.old + 32 * sum_by
         (λ p. O.size p + 64) (picked (present slots.old.items) names.now) }
 {
@@ -58,6 +59,7 @@ pub fn apply_in_place<O: PartObject, L: Ledger>(
     ensures meant { Answers (whole (O.meaning object.now) parts.old call.now) parts.old parts.new
         result }
     ensures good { AreGood (O.good object.now) (numbers 0 (O.count object.now)) parts.new }
+    ensures least { OnOk result (steps.old + 1 ≤ steps.new) }
     ensures most { steps.new ≤ steps.old + 32 * sum_by
         (λ p. O.size p + 64) (picked parts.old ((O.meaning object.now).names call.now)) }
 {

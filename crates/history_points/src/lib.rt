@@ -1,5 +1,7 @@
-//! The parts that a history comes to: [`replay`] does the first entries of a list on an opening, one after another, each
-//! in place, or says which is the first that does not apply. Nothing here knows what a part is.
+//! The parts that a history comes to. Nothing here knows what a part is.
+//!
+//! [`replay`] is the main contract: it does the first entries of a list, one after another, each in place, on an
+//! opening or on what entries of an opening came to, or says which is the first that does not apply.
 #![tactic(auto)]
 
 mod calls;
