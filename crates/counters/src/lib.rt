@@ -1,6 +1,7 @@
 //! A small object of parts, to try on it whatever works for any object: [`Counters`], of which each part is a number.
-//! [`Stations`] is the machine of many stations over it, plain and slow, as what it means says. Both are used by tests
-//! alone.
+//! [`Stations`] is the machine of many stations over it, plain and slow. Both are used by tests alone.
+//!
+//! [`Stations::step`] is the main contract: one event changes the stations as the machine's definition says.
 #![tactic(auto)]
 
 mod object;

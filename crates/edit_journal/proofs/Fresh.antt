@@ -44,7 +44,7 @@ above_station n p lt e = let q = ap part_of e in omega (arith, lt, q)
 pub no_part : (n p : ℕ) → Station n ≡ Part p → ⊥
 no_part n p e = true≢false (sym (ap is_part e))
 
-numbers-snoc : (from n : ℕ) → numbers from n ++ (from + n) ∷ [] ≡ numbers from (n + 1)
+pub numbers-snoc : (from n : ℕ) → numbers from n ++ (from + n) ∷ [] ≡ numbers from (n + 1)
 numbers-snoc from zero = let e : from + 0 ≡ from = omega arith in ap (λ k. k ∷ []) e
 numbers-snoc from (suc n) =
     let e : from + suc n ≡ from + 1 + n = omega arith in

@@ -116,8 +116,9 @@ impl<O: PartObject, J: Naming<O, O::Part>> Journal<O, J> {
         }
     }
 
-    /// Ends the journal and gives its entries: a legal history of its opening. What each pass knew begins them, and they
-    /// have no entry of its station that the pass has not.
+    /// Ends the journal and gives its entries: a legal history of its opening. What each pass that is handed in knew
+    /// begins them, and they have no entry of its station that the pass has not. Of a station whose pass is not handed
+    /// in no clause says which entries there are.
     pub fn close(self, passes: Vec<Pass<O, J>>) -> Vec<Entry<O::Call>>
         ensures journal { IsJournal O.meaning O.opens J.stations J.opening result.items }
         ensures passes { All (λ p. StandsIn O.meaning J.opening result.items

@@ -1,5 +1,5 @@
 // What lies under the journal's lock.
-ghost use Rattle.std.specs.Prelude.{◌≡◌, ◌<◌, ◌≤◌, ◌+◌, ℕ, List, Option, OnOk, OnErr, IfOk, IfErr, take, length};
+ghost use Rattle.std.specs.Prelude.{◌≡◌, ◌<◌, ◌≤◌, ◌+◌, ℕ, List, Option, OnOk, OnErr, IfOk, IfErr, drop, take, length};
 ghost use Rattle.room_core.specs.declared.entry.Entry.{Entry};
 ghost use Rattle.edit_journal.specs.declared.name.Name.{Name};
 ghost use Rattle.edit_journal.specs.declared.name.Name.TheVariants.{Part, Station};
@@ -155,6 +155,27 @@ impl<O: PartObject, J: Naming<O, O::Part>> Log<O, J> {
         Ok(place)
     }
 
+    // The entries from a place on, at most so many.
+    pub fn copy_from(
+        &self,
+        alloc: Global,
+        object: &O,
+        from: u32,
+        most: u32,
+    ) -> Result<Vec<Entry<O::Call>>, CopyFault>
+        ensures ok { IfOk result (λ v. v.items ≡ take most (drop from self.now.0.entries)) }
+        ensures within { OnOk result (from ≤ length self.now.0.entries) }
+        ensures no_point { IfErr result (λ f. SaysNoPoint f from (length self.now.0.entries)) }
+    {
+        let count = self.entries.len() as u32;
+        if from > count {
+            return Err(CopyFault::NoPoint(count));
+        }
+        let (_, rest) = self.entries.split_at(from as usize);
+        let wanted = most.min(count - from);
+        Ok(copied(alloc, object, &rest[..wanted as usize])?)
+    }
+
     // The first n entries.
     pub fn copy_to(
         &self,
@@ -166,10 +187,11 @@ impl<O: PartObject, J: Naming<O, O::Part>> Log<O, J> {
         ensures within { OnOk result (n ≤ length self.now.0.entries) }
         ensures no_point { IfErr result (λ f. SaysNoPoint f n (length self.now.0.entries)) }
     {
-        if n > self.entries.len() as u32 {
-            return Err(CopyFault::NoPoint(self.entries.len() as u32));
+        let count = self.entries.len() as u32;
+        if n > count {
+            return Err(CopyFault::NoPoint(count));
         }
-        Ok(copied(alloc, object, &self.entries[..n as usize])?)
+        self.copy_from(alloc, object, 0, n)
     }
 }
 

@@ -1,5 +1,5 @@
 // The journal's lock, and a turn at it.
-ghost use Rattle.std.specs.Prelude.{◌≡◌, ◌<◌, ◌≤◌, ◌+◌, ℕ, List, OnOk, OnErr, IfOk, IfErr, take, length};
+ghost use Rattle.std.specs.Prelude.{◌≡◌, ◌<◌, ◌≤◌, ◌+◌, ℕ, List, OnOk, OnErr, IfOk, IfErr, drop, take, length};
 ghost use Rattle.edit_journal.specs.declared.name.Name.TheVariants.{Part, Station};
 ghost use Rattle.edit_journal.specs.Seats.{In};
 ghost use Rattle.edit_journal.specs.Turns.{IsJournal, AllAgree, HasNames, Applies, gathered, given, entered, last_of};
@@ -122,6 +122,22 @@ impl<'a, O: PartObject, J: Naming<O, O::Part>> Turn<'a, O, J> {
         ensures err { OnErr result (self.new ≡ self.old) }
     {
         self.log.append(self.words, entry)
+    }
+
+    /// The entries from `from` on: all of them or, where there are more than `most`, the first `most` of them.
+    pub fn entries(
+        &self,
+        alloc: Global,
+        object: &O,
+        from: u32,
+        most: u32,
+    ) -> Result<Vec<Entry<O::Call>>, CopyFault>
+        ensures ok { IfOk result (λ v. v.items ≡ take most (drop from self.now.journal.entries)) }
+        ensures within { OnOk result (from ≤ length self.now.journal.entries) }
+        ensures no_point { IfErr result
+            (λ f. SaysNoPoint f from (length self.now.journal.entries)) }
+    {
+        self.log.copy_from(alloc, object, from, most)
     }
 
     /// The first n entries.

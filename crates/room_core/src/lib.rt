@@ -1,6 +1,8 @@
 //! What a room can keep: an object of parts that calls change, its history, and the machine of many stations. Nothing
-//! here knows what a part is. [`PartObject`] says by its clauses and laws what an object promises;
-//! [`laws::serial_law`] says that whatever stations take, commit and give back comes to one legal serial history.
+//! here knows what a part is. [`PartObject`] says by its clauses and laws what an object promises.
+//!
+//! [`laws::serial_law`] is the main contract: whatever stations take, commit and give back comes to one legal serial
+//! history, and what a station holds no other changes.
 #![tactic(auto)]
 
 mod entry;
