@@ -7,3 +7,4 @@ pub mod Changing
 pub mod Finding
 pub mod MarkStanding
 pub mod Numbered
+pub mod OwnTracks

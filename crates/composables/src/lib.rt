@@ -26,7 +26,6 @@ pub use calls::{
     Roll, Slice, Slide, Slip, Trim, Undissolve, Unlink,
 };
 pub use facts::holds;
-pub use out_of_memory::{Fault, Memory};
 pub use items::{ItemView, Place};
 pub use laws::{
     a_dissolve_may_stand_at_a_cut, a_place_lies_in_one_item, a_track_is_kept, limits_are_these,
@@ -35,6 +34,7 @@ pub use lists::Listed;
 pub use media::{Kind, Layer, Media, Nest, Table};
 pub use named_tracks::{has_track, own_index};
 pub use numbers::{number_past, number_past_all};
+pub use out_of_memory::{Fault, Memory};
 pub use reel_table::Reels;
 pub use refusals::{Done, EditFault, Refusal, Which};
 pub use spares::Spare;

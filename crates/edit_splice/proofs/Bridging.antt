@@ -237,7 +237,7 @@ each-shifted table s ts us done (Ok d) g p a =
     let k : AreDone (all_moved s ts) done us d = all_done (all_moved s ts) done us d a in
     subst (EachStaysGood table ts) (sym k.same) (each_moved table s ts p (short-all s ts k.long) (few-all s ts k.many))
 each-shifted table s ts us done (Err (Refused why)) g p a = subst (EachStaysGood table ts) (sym a.1) (each-self table ts g)
-each-shifted table s ts us done (Err Memory) g p a = subst (EachStaysGood table ts) (sym a) (each-self table ts g)
+each-shifted table s ts us done (Err Memory) g p a = subst (EachStaysGood table ts) (sym a.1) (each-self table ts g)
 
 -- the own track is found
 pub for-found : (n : ℕ) (meant : TrackState → Result (List TrackState × Done) Refusal) (ts : List TrackState) (own : TrackState) → track_numbered n ts ≡ Some own → for_own n meant ts ≡ meant own

@@ -1,5 +1,5 @@
 -- A call on one track, which is the only one named.
-use Rattle.std.proofs.Common.{◌≡◌, ℕ, List, [], ◌∷◌, All, map, set, Result, Ok, Err, refl, sym, ap, ◌∙◌, arith, subst, get_or}
+use Rattle.std.proofs.Common.{◌≡◌, ℕ, List, [], ◌∷◌, All, map, set, Result, Ok, Err, is_ok, refl, sym, ap, ◌∙◌, arith, subst, get_or}
 use Rattle.std.proofs.lemmas.Bool.{eq-eqb}
 use Rattle.composables.specs.declared.media.Table.{Table}
 use Rattle.composables.specs.declared.refusals.Done.{Done}
@@ -9,6 +9,7 @@ use Rattle.composables.specs.declared.refusals.Refusal.{Refusal}
 use Rattle.composables.specs.TrackState.{TrackState}
 use Rattle.out_of_memory.specs.Answers.{Answers}
 use Rattle.composables.specs.OwnTracks.{among_named, on_own}
+use Rattle.composables.proofs.OwnTracks.{among-ok}
 use Rattle.edit_splice.specs.Standing.{StaysGood, EachStaysGood}
 
 -- it is found
@@ -22,7 +23,7 @@ one : (n : ℕ) (f : TrackState → Result (TrackState × Done) Refusal) (t u : 
     → Answers (f t) t u result → Answers (on_own n f (t ∷ [])) (t ∷ []) (u ∷ []) result
 one n f t u (Ok d) e k a = on_it n f t e ∙ put_there t u (f t) d k a
 one n f t u (Err (Refused why)) e k a = (on_it n f t e ∙ ap (among_named (t ∷ [])) a.0, ap (λ (v : TrackState). v ∷ []) a.1)
-one n f t u (Err Memory) e k a = ap (λ (v : TrackState). v ∷ []) a
+one n f t u (Err Memory) e k a = (ap is_ok (on_it n f t e) ∙ among-ok (t ∷ []) (f t) a.0, ap (λ (v : TrackState). v ∷ []) a.1)
 
 -- the named tracks are one
 pub record IsOne (n : ℕ) (ts : List TrackState) (t : TrackState) : Type 0 where

@@ -44,13 +44,13 @@ stays-placed table t u x y views done (Ok d) g le within p a =
     let k : (u ≡ spliced_track t x y views) × (d ≡ done) × IsWithinLimits (spliced_track t x y views) = within-done (spliced_track t x y views) done u d a in
     subst (StaysGood table t) (sym k.0) (stays-spliced table t x y views g le within p k.2)
 stays-placed table t u x y views done (Err (Refused why)) g le within p a = subst (StaysGood table t) (sym a.1) (stays-self table t g)
-stays-placed table t u x y views done (Err Memory) g le within p a = subst (StaysGood table t) (sym a) (stays-self table t g)
+stays-placed table t u x y views done (Err Memory) g le within p a = subst (StaysGood table t) (sym a.1) (stays-self table t g)
 
 -- a refusal leaves it as it is
 pub stays-refused : (table : Table) (t u : TrackState) (why : Refusal) (result : Result Done (Fault Refusal)) → IsGood table t → Answers (Err why) t u result → StaysGood table t u
 stays-refused table t u why (Ok d) g a = absurd (Prim.grind (arith, a))
 stays-refused table t u why (Err (Refused r)) g a = subst (StaysGood table t) (sym a.1) (stays-self table t g)
-stays-refused table t u why (Err Memory) g a = subst (StaysGood table t) (sym a) (stays-self table t g)
+stays-refused table t u why (Err Memory) g a = absurd (Prim.grind (arith, a.0))
 
 -- all tracks
 pub all_head : {A : Type 0} (P : A → Type 0) (x : A) (xs : List A) → All P (x ∷ xs) → P x

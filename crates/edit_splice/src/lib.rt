@@ -6,7 +6,8 @@
 //! and gaps there will be. They work on the few items at the two ends of the range. The laws say what may be put in.
 //!
 //! Edits stand on `place`, a splice of one track within its limits, and on `shift_tracks`, a splice of several tracks by
-//! which what is behind it moves on each: it changes all of them or none.
+//! which what is behind it moves on each: it changes all of them or none. `over_limits` and `shift_within` are its two
+//! halves, the refusal and the change.
 #![tactic(auto)]
 
 mod counting;
@@ -26,5 +27,5 @@ pub use laws::{
     each_cell_has_its_place, new_items_may_be_put_in, next_numbers_rise_by_the_new_items,
 };
 pub use placing::place;
-pub use shifting::{Shift, shift_tracks};
+pub use shifting::{Shift, over_limits, shift_tracks, shift_within};
 pub use splicing::{spare_for, splice, splice_in};

@@ -43,8 +43,6 @@ pub fn place<L: Ledger>(
     if count_after(track, x, y, items, steps) > MAX_ITEMS {
         return Err(EditFault::Refused(Refusal::TooManyItems(track.number())));
     }
-    match splice(alloc, track, x, y, items, steps) {
-        Ok(()) => Ok(done),
-        Err(_) => Err(EditFault::Memory),
-    }
+    splice(alloc, track, x, y, items, steps)?;
+    Ok(done)
 }

@@ -1,12 +1,12 @@
 // A shift of several tracks: something new in place of their places [x, y), by which what is behind them moves.
-ghost use Rattle.std.specs.Prelude.{◌≡◌, ◌+◌, ◌*◌, ◌-◌, ◌<◌, ◌≤◌, All, IfOk, length, option_map, slice_index_or};
+ghost use Rattle.std.specs.Prelude.{◌≡◌, ◌+◌, ◌*◌, ◌-◌, ◌<◌, ◌≤◌, All, IfOk, None, OnErr, OnOk, length, option_map, slice_index_or};
 ghost use Rattle.composables.specs.declared.refusals.Refusal.TheVariants.{TooLong, TooManyItems};
 ghost use Rattle.composables.specs.Items.{items_of};
 ghost use Rattle.composables.specs.TrackState.{TrackState};
 ghost use Rattle.composables.specs.Sizes.{size_of, sizes_of};
 ghost use Rattle.edit_splice.specs.Splicing.{HasRoom};
 ghost use Rattle.out_of_memory.specs.Answers.{Answers};
-ghost use Rattle.composables.specs.Limits.{too_long, too_many, within_limits};
+ghost use Rattle.composables.specs.Limits.{over_limits, too_long, too_many, within_limits};
 ghost use Rattle.edit_splice.specs.Padding.{new_len};
 ghost use Rattle.edit_splice.specs.Moves.{HasRooms, IsShiftOf, all_moved, moved, put_views};
 
@@ -46,21 +46,56 @@ pub fn shift_tracks<L: Ledger>(
     ensures least { steps.old ≤ steps.new }
     ensures most { steps.new ≤ steps.old + 16 * sizes_of named.old.items }
 {
+    match over_limits(named, shift, steps) {
+        Some(refusal) => return Err(EditFault::Refused(refusal)),
+        None => {}
+    }
+    shift_within(alloc, named, shift, steps)?;
+    Ok(done)
+}
+
+/// Why these tracks may not be shifted: the first would be too long, or else the first would have too many items and
+/// gaps. It takes no memory and changes nothing.
+pub fn over_limits<L: Ledger>(
+    named: &[Track],
+    shift: &Shift,
+    steps: &mut Steps<L>,
+) -> Option<Refusal>
+    requires order { shift.now.x ≤ shift.now.y }
+    requires fits { All (λ t. IsShiftOf shift.now t) named.now }
+    ensures refusal { result ≡ over_limits (all_moved shift.now named.now) }
+    ensures least { steps.old ≤ steps.new }
+    ensures most { steps.new ≤ steps.old + 6 * sizes_of named.now }
+{
     match first_too_long(named, shift) {
-        Some(track) => return Err(EditFault::Refused(Refusal::TooLong(track))),
+        Some(track) => return Some(Refusal::TooLong(track)),
         None => {}
     }
     match first_too_many(named, shift, steps) {
-        Some(track) => return Err(EditFault::Refused(Refusal::TooManyItems(track))),
-        None => {}
+        Some(track) => Some(Refusal::TooManyItems(track)),
+        None => None,
     }
-    match spares_for(alloc, named) {
-        Ok(spares) => {
-            shift_all(named, shift, spares, steps);
-            Ok(done)
-        }
-        Err(_) => Err(EditFault::Memory),
-    }
+}
+
+/// Shifts all these tracks, which keep their limits, or none for want of memory, which it takes before any of them is
+/// changed.
+pub fn shift_within<L: Ledger>(
+    alloc: Global,
+    named: &mut Vec<Track>,
+    shift: &Shift,
+    steps: &mut Steps<L>,
+) -> Result<(), Memory>
+    requires order { shift.now.x ≤ shift.now.y }
+    requires fits { All (λ t. IsShiftOf shift.now t) named.old.items }
+    requires within { over_limits (all_moved shift.now named.old.items) ≡ None }
+    ensures moved { OnOk result (named.new.items ≡ all_moved shift.now named.old.items) }
+    ensures memory { OnErr result (named.new.items ≡ named.old.items) }
+    ensures least { steps.old ≤ steps.new }
+    ensures most { steps.new ≤ steps.old + 8 * sizes_of named.old.items }
+{
+    let spares = spares_for(alloc, named)?;
+    shift_all(named, shift, spares, steps);
+    Ok(())
 }
 
 fn first_too_long(named: &[Track], shift: &Shift) -> Option<u32>

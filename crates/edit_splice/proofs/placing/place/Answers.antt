@@ -1,7 +1,8 @@
-use Rattle.std.proofs.Common.{ap, sym, ◌∙◌, arith, refl, Ok, Err}
+use Rattle.std.proofs.Common.{ap, is_ok, sym, ◌∙◌, arith, refl, Ok, Err}
+use Rattle.out_of_memory.proofs.Answered.{answers-memory}
 use Rattle.edit_splice.proofs.Keeping.{kept_spliced}
 use Rattle.edit_splice.proofs.Outcomes.{length-spliced_track}
-use Rattle.edit_splice.specs.Splicing.{spliced_track}
+use Rattle.edit_splice.specs.Splicing.{placed, spliced_track}
 use Rattle.composables.specs.declared.refusals.Refusal.TheVariants.{TooManyItems}
 use Rattle.composables.specs.TrackState.{TrackState}
 use Rattle.edit_splice.proofs.Limits.{within-few, within-many}
@@ -27,10 +28,18 @@ splice-requires-clause-kept g c =
     kept_spliced c.args.track.now c.args.x c.args.y c.args.items.now c.requires.kept c.requires.order c.requires.within c.requires.new
     (omega (arith, c.requires.frames, c.requires.short, c.requires.order, c.requires.within))
 
-pub returns-in-Ok-clause-answers : goal.returns-in-Ok-clause-answers
-returns-in-Ok-clause-answers g c =
+pub returns-in_err-splice-clause-answers : goal.returns-in_err-splice-clause-answers
+returns-in_err-splice-clause-answers g c =
+    let u : TrackState = spliced_track c.args.track.now c.args.x c.args.y c.args.items.now in
+    answers-memory (placed c.args.track.now c.args.x c.args.y c.args.items.now c.args.done) c.args.track.now c.splice.new.track c.from_residual.result c.from_residual.ensures.1
+    (ap is_ok (within-few u c.args.done
+    (omega (arith, length-spliced_track c.args.track.now c.args.x c.args.y c.args.items.now c.requires.order c.requires.within, c.requires.short))
+    (omega (arith, c.count_after.ensures.count, c.if-count_after-gt-MAX_ITEMS.false)))) c.in_err-splice.ensures.err
+
+pub returns-clause-answers : goal.returns-clause-answers
+returns-clause-answers g c =
     let u : TrackState = spliced_track c.args.track.now c.args.x c.args.y c.args.items.now in
     within-few u c.args.done
     (omega (arith, length-spliced_track c.args.track.now c.args.x c.args.y c.args.items.now c.requires.order c.requires.within, c.requires.short))
     (omega (arith, c.count_after.ensures.count, c.if-count_after-gt-MAX_ITEMS.false))
-    ∙ ap (λ n. Ok (n, c.args.done)) (sym c.in-Ok.ensures.ok)
+    ∙ ap (λ n. Ok (n, c.args.done)) (sym c.in_ok-splice.ensures.ok)

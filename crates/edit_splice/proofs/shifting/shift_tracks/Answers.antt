@@ -1,23 +1,32 @@
-use Rattle.std.proofs.Common.{◌≤◌, List, All, ap, sym, ◌∙◌, option_map, subst, length}
-use Rattle.composables.specs.declared.TheConstants.{MAX_FRAMES, MAX_ITEMS}
-use Rattle.composables.specs.declared.refusals.Refusal.TheVariants.{TooLong, TooManyItems}
-use Rattle.composables.specs.Items.{items_of}
+use Rattle.std.proofs.Common.{List, ap, is_ok, refl, sym, subst, ◌∙◌, Ok, ◌≡◌, Option, Some, None}
+use Rattle.composables.specs.declared.refusals.Refusal.{Refusal}
+use Rattle.composables.specs.Limits.{over_limits, within_limits}
 use Rattle.composables.specs.TrackState.{TrackState}
-use Rattle.edit_splice.specs.Moves.{moved}
-use Rattle.edit_splice.proofs.Firsts.{few-all, short-all}
+use Rattle.out_of_memory.proofs.Answered.{answers-memory}
+use Rattle.edit_splice.specs.Moves.{all_moved}
+use Rattle.edit_splice.proofs.Limits.{over-refused, within-all}
 use Rattle.edit_splice.proofs.shifting.shift_tracks.Goals as goal
 
-pub first_too_many-requires-clause-short : goal.first_too_many-requires-clause-short
-first_too_many-requires-clause-short g c =
-    subst (λ (ts : List TrackState). All (λ (t : TrackState). length (moved c.args.shift.now t).cells ≤ MAX_FRAMES) ts) (c.deref.ensures.value ∙ sym c.deref-2.ensures.value)
-    (short-all c.args.shift.now c.deref.result.now (c.first_too_long.ensures ∙ ap (option_map TooLong) c.in-None.is))
+pub shift_within-requires-clause-within : goal.shift_within-requires-clause-within
+shift_within-requires-clause-within g c =
+    subst (λ (ts : List TrackState). over_limits (all_moved c.args.shift.now ts) ≡ None) c.deref.ensures.value (sym c.in-None.ensures.refusal)
 
-pub shift_all-requires-clause-short : goal.shift_all-requires-clause-short
-shift_all-requires-clause-short g c =
-    subst (λ (ts : List TrackState). All (λ (t : TrackState). length (moved c.args.shift.now t).cells ≤ MAX_FRAMES) ts) (c.deref.ensures.value ∙ sym c.spares_for.ensures.same)
-    (short-all c.args.shift.now c.deref.result.now (c.first_too_long.ensures ∙ ap (option_map TooLong) c.in-None.is))
+pub returns-in-Some-clause-answers : goal.returns-in-Some-clause-answers
+returns-in-Some-clause-answers g c = (
+  over-refused (all_moved c.args.shift.now c.args.named.now.items) c.args.done c.in-Some.refusal
+      (subst (λ (ts : List TrackState). over_limits (all_moved c.args.shift.now ts) ≡ Some c.in-Some.refusal) c.deref.ensures.value (sym c.in-Some.ensures.refusal)),
+  refl,
+)
 
-pub shift_all-requires-clause-few : goal.shift_all-requires-clause-few
-shift_all-requires-clause-few g c =
-    subst (λ (ts : List TrackState). All (λ (t : TrackState). length (items_of (moved c.args.shift.now t).cells) ≤ MAX_ITEMS) ts) (c.deref-2.ensures.value ∙ sym c.spares_for.ensures.same)
-    (few-all c.args.shift.now c.deref-2.result.now (c.first_too_many.ensures.found ∙ ap (option_map TooManyItems) c.in-None-first_too_many.is))
+pub returns-in_err-shift_within-clause-answers : goal.returns-in_err-shift_within-clause-answers
+returns-in_err-shift_within-clause-answers g c =
+    let none : over_limits (all_moved c.args.shift.now c.args.named.now.items) ≡ None =
+    subst (λ (ts : List TrackState). over_limits (all_moved c.args.shift.now ts) ≡ None) c.deref.ensures.value (sym c.in-None.ensures.refusal) in
+    answers-memory (within_limits (all_moved c.args.shift.now c.args.named.now.items) c.args.done) c.args.named.now.items c.shift_within.new.named.items c.from_residual.result c.from_residual.ensures.1
+    (ap is_ok (within-all (all_moved c.args.shift.now c.args.named.now.items) c.args.done none)) c.in_err-shift_within.ensures.memory
+
+pub returns-clause-answers : goal.returns-clause-answers
+returns-clause-answers g c =
+    let none : over_limits (all_moved c.args.shift.now c.args.named.now.items) ≡ None =
+    subst (λ (ts : List TrackState). over_limits (all_moved c.args.shift.now ts) ≡ None) c.deref.ensures.value (sym c.in-None.ensures.refusal) in
+    within-all (all_moved c.args.shift.now c.args.named.now.items) c.args.done none ∙ ap (λ (ts : List TrackState). Ok (ts, c.args.done)) (sym c.in_ok-shift_within.ensures.moved)
