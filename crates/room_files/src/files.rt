@@ -6,6 +6,8 @@ ghost use Rattle.room_files.specs.Files.{FilesTold, IsWhole, NoneChanged, Others
 
 use room_ports::{Failed, Memory};
 use std::alloc::{AllocError, AllocFailed, Global};
+use std::error::Error;
+use std::fmt;
 
 /// Why a file was not read.
 #[derive(Clone, Copy, Debug, PartialEq, Eq)]
@@ -17,6 +19,18 @@ pub enum FileFault {
     /// There was not memory enough.
     Memory,
 }
+
+impl fmt::Display for FileFault {
+    fn fmt<W: fmt::Write>(&self, f: &mut fmt::Formatter<W>) -> fmt::Result {
+        f.write_str(match self {
+            FileFault::Failed => "the file could not be read",
+            FileFault::TooLarge => "the file is too large",
+            FileFault::Memory => "out of memory",
+        })
+    }
+}
+
+impl Error for FileFault {}
 
 impl From<Memory> for FileFault {
     ghost from_gives = { λ _ e. e ≡ faults.Memory };
