@@ -1,5 +1,5 @@
 // What each hall answers, call by call.
-use room_halls::{Hall, HallFault, MemHall, Pair2, SureHall, TcpHall};
+use room_halls::{Hall, HallFault, MemHall, SureHall, SurePair, TcpHall};
 use room_ports::{
     Gate, Line, MemLine, MemSink, MemSource, Memory, OpenGate, SureSink, SureSource, put,
 };
@@ -115,7 +115,7 @@ fn a_line_that_is_away_is_not_seated_again(rt: HostRuntime) -> Result<(), AllocE
 fn a_hall_that_never_fails_has_a_line_for_everybody(rt: HostRuntime) -> Result<(), Memory> {
     let alloc = rt.alloc();
     let mut lines = Vec::new(alloc);
-    lines.push(Pair2 {
+    lines.push(SurePair {
         input: SureSource::new(piece_of(alloc, "abc")?),
         output: SureSink::new(alloc, 8)?,
     })?;

@@ -10,6 +10,11 @@ pub record TcpHallState : Type 0 where
   pub faults : ℕ
   pub opened : Option (List (List ℕ))
 
+-- a line over a stream: the stream, and how often its reads and writes have failed
+pub record ConnectionState (T : Type 0) : Type 0 where
+  pub stream : T
+  pub faults : LineFaults
+
 -- a station that was not seated has no fault yet
 abbrev pub connection_told : Option LineFaults → LineTold
 connection_told None = line_told None None 0 0

@@ -3,13 +3,13 @@ use Rattle.std.specs.Prelude.{◌≡◌, ◌<◌, ℕ, List, [], Option, Some, N
 use Rattle.room_ports.specs.Calls.{Calls}
 use Rattle.room_ports.specs.Pieces.{joined}
 use Rattle.room_ports.specs.declared.line.MemLine.{MemLine}
-use Rattle.room_halls.specs.declared.sure_line.Pair2.{Pair2}
+use Rattle.room_halls.specs.declared.sure_line.SurePair.{SurePair}
 use Rattle.room_halls.specs.Stations.{LineTold, Station, line_told, station_told, note_of, is_noted}
 
 abbrev pub mem_line_told : MemLine → LineTold
 mem_line_told l = line_told (Some (joined l.input.pieces)) l.output.bytes l.input.calls.faults l.output.calls.faults
 
-abbrev pub sure_line_told : Pair2 → LineTold
+abbrev pub sure_line_told : SurePair → LineTold
 sure_line_told l = line_told (Some (joined l.input)) l.output.bytes 0 0
 
 -- a line whose input is at its end, and whose output tells nothing
@@ -43,7 +43,7 @@ HasLine hall station = (station < length hall.lines) × ((note_of hall.away stat
 
 -- a hall that never fails
 pub record SureHallState : Type 0 where
-  pub lines : List Pair2
+  pub lines : List SurePair
   pub seated : List (Option (Unit {0}))
   pub opened : Option (List (List ℕ))
 

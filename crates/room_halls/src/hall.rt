@@ -6,6 +6,8 @@ ghost use Rattle.room_halls.specs.Stations.{CountsSeat, HallTold, NoneMoves, Ope
 
 use room_ports::{Failed, Line, MemLine, Memory};
 use std::alloc::{AllocError, AllocFailed, Global};
+use std::error::Error;
+use std::fmt;
 
 /// Why a station was not seated.
 #[derive(Clone, Copy, Debug, PartialEq, Eq)]
@@ -15,6 +17,17 @@ pub enum HallFault {
     /// There was not memory enough.
     Memory,
 }
+
+impl fmt::Display for HallFault {
+    fn fmt<W: fmt::Write>(&self, f: &mut fmt::Formatter<W>) -> fmt::Result {
+        f.write_str(match self {
+            HallFault::Failed => "the station could not be seated",
+            HallFault::Memory => "out of memory",
+        })
+    }
+}
+
+impl Error for HallFault {}
 
 impl From<Memory> for HallFault {
     ghost from_gives = { λ _ e. e ≡ faults.Memory };

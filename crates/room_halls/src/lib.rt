@@ -17,6 +17,6 @@ mod tcp_line;
 pub use hall::{Hall, HallFault, HallLine};
 pub use memory_hall::MemHall;
 pub use sure_hall::SureHall;
-pub use sure_line::Pair2;
+pub use sure_line::SurePair;
 pub use tcp_hall::TcpHall;
-pub use tcp_line::TcpLine;
+pub use tcp_line::{Connection, TcpLine};

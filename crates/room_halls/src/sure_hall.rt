@@ -7,7 +7,7 @@ ghost use Rattle.room_halls.specs.Lines.{sure_hall_tells, sure_line_told, told_o
 use crate::addresses::Addresses;
 use crate::seats::Seats;
 use crate::sure_line::blank_line;
-use crate::{Hall, HallFault, Pair2};
+use crate::{Hall, HallFault, SurePair};
 use room_ports::{Failed, Memory};
 use std::alloc::Global;
 use std::marker::Model;
@@ -18,7 +18,7 @@ use std::mem;
 #[derive(Drop)]
 pub struct SureHall {
     alloc: Global,
-    lines: Vec<Pair2>,
+    lines: Vec<SurePair>,
     seated: Seats<()>,
     addresses: Addresses,
 }
@@ -36,7 +36,7 @@ impl Model for SureHall {
 
 impl SureHall {
     /// A hall that gives station s the line s of these.
-    pub fn new(alloc: Global, lines: Vec<Pair2>) -> SureHall
+    pub fn new(alloc: Global, lines: Vec<SurePair>) -> SureHall
         ensures lines { result.lines ≡ lines.items }
         ensures seated { result.seated ≡ [] }
         ensures opened { result.opened ≡ Some [] }
@@ -51,7 +51,7 @@ impl SureHall {
 }
 
 impl Hall for SureHall {
-    type Line = Pair2;
+    type Line = SurePair;
 
     ghost told = { λ h. hall_told (sure_hall_tells h) 0 h.opened };
 
@@ -68,7 +68,7 @@ impl Hall for SureHall {
     }
 
     /// Seats a station, whether it has a line or not. Where memory is refused nothing that is told changes.
-    fn seat_station(&mut self, alloc: Global, station: u32) -> Result<Pair2, HallFault>
+    fn seat_station(&mut self, alloc: Global, station: u32) -> Result<SurePair, HallFault>
         ensures sure { IfErr result (λ e. e ≡ faults.Memory) }
         ensures stays { OnErr result (NoneMoves (sure_hall_tells self.old)
             (sure_hall_tells self.new)) }
@@ -92,13 +92,13 @@ impl Hall for SureHall {
     }
 
     /// The line is the station's again.
-    fn stand_up(&mut self, station: u32, line: Pair2) {
+    fn stand_up(&mut self, station: u32, line: SurePair) {
         self.lines[station as usize] = line;
     }
 }
 
 // Makes the lines of the stations up to this one that have none.
-fn make_lines(alloc: Global, lines: &mut Vec<Pair2>, station: u32) -> Result<(), Memory>
+fn make_lines(alloc: Global, lines: &mut Vec<SurePair>, station: u32) -> Result<(), Memory>
     ensures room { OnOk result (station < vec_len lines.new) }
     ensures grows { vec_len lines.old ≤ vec_len lines.new }
     ensures same { (s : ℕ) → told_or_blank sure_line_told (slice_get lines.new.items s)

@@ -11,23 +11,23 @@ use std::alloc::Global;
 
 /// One line of a source and a sink over memory that never fail.
 #[derive(Drop)]
-pub struct Pair2 {
+pub struct SurePair {
     pub input: SureSource,
     pub output: SureSink,
 }
 
 // A line whose input is at its end and whose output tells nothing.
-pub(crate) fn blank_line(alloc: Global) -> Pair2
+pub(crate) fn blank_line(alloc: Global) -> SurePair
     ensures input { result.input ≡ [] }
     ensures output { result.output.bytes ≡ None }
 {
-    Pair2 {
+    SurePair {
         input: SureSource::new(Vec::new(alloc)),
         output: SureSink::untold(),
     }
 }
 
-impl Source for Pair2 {
+impl Source for SurePair {
     ghost left = { λ line. ⟦<SureSource as Source>⟧.left line.input };
 
     ghost read_faults = { λ _. 0 };
@@ -55,7 +55,7 @@ impl Source for Pair2 {
     }
 }
 
-impl Sink for Pair2 {
+impl Sink for SurePair {
     ghost taken = { λ line. ⟦<SureSink as Sink>⟧.taken line.output };
 
     ghost write_faults = { λ _. 0 };
@@ -81,7 +81,7 @@ impl Sink for Pair2 {
     }
 }
 
-impl Line for Pair2 {
+impl Line for SurePair {
     ghost lent = { λ _. owned };
 
     ghost source_side = { λ line. refl };
@@ -90,6 +90,6 @@ impl Line for Pair2 {
 }
 
 // Over memory nobody waits for the end of a session.
-impl HallLine for Pair2 {
+impl HallLine for SurePair {
     fn leave(&mut self) {}
 }

@@ -1,11 +1,12 @@
 // A line over a TCP connection.
 ghost use Rattle.std.specs.Prelude.{◌≡◌, ◌<◌, ◌≤◌, None, length, refl, IfOk, OnOk, OnErr};
+ghost use Rattle.std.specs.Io.KnownBytes.{ReadConsumes, WriteAppends};
 ghost use Rattle.room_ports.specs.Counts.{HasRisen, counted};
 ghost use Rattle.room_ports.specs.Sides.{owned};
 
 use crate::HallLine;
 use crate::report::Report;
-use room_ports::{Failed, Line, Sink, Source};
+use room_ports::{Failed, Line, Sink, Source, read_once, write_once};
 use std::io::{Read, Write};
 use std::marker::Model;
 use std::net::{Shutdown, TcpStream};
@@ -51,36 +52,40 @@ impl Came {
     }
 }
 
-/// A line over a connection, which tells no bytes. Each read and each write that fails is counted as a fault, and so is
-/// a write that takes nothing of a piece that is not empty.
+/// A line over a stream, which tells no bytes as a line; what its reads and writes do to a stream that tells its bytes their
+/// own clauses say. Each read and each write that fails is counted as a fault, and so is a write that takes nothing of a
+/// piece that is not empty.
 #[derive(Drop)]
-pub struct TcpLine<W> {
-    stream: TcpStream,
+pub struct Connection<T, W> {
+    stream: T,
     faults: LineFaults,
     station: u32,
     came: Came,
     report: Report<W>,
 }
 
-impl<W> Model for TcpLine<W> {
-    ghost use Rattle.room_halls.specs.declared.tcp_line.LineFaults.{LineFaults};
+/// A line over a TCP connection.
+pub type TcpLine<W> = Connection<TcpStream, W>;
 
-    ghost Value = { LineFaults };
+impl<T, W> Model for Connection<T, W> {
+    ghost use Rattle.room_halls.specs.Connections.{ConnectionState};
 
-    ghost view = { λ l. l.faults };
+    ghost Value = { ConnectionState T };
+
+    ghost view = { λ l. record { stream = l.stream; faults = l.faults } };
 }
 
-impl<W> TcpLine<W> {
-    /// The line of a station over this connection, with these faults so far.
+impl<T, W> Connection<T, W> {
+    /// The line of a station over this stream, with these faults so far.
     pub(crate) fn new(
-        stream: TcpStream,
+        stream: T,
         faults: LineFaults,
         station: u32,
         report: Report<W>,
-    ) -> TcpLine<W>
-        ensures { result ≡ faults }
+    ) -> Connection<T, W>
+        ensures { result.faults ≡ faults }
     {
-        TcpLine {
+        Connection {
             stream,
             faults,
             station,
@@ -91,56 +96,77 @@ impl<W> TcpLine<W> {
 
     /// How often its reads and writes have failed.
     pub(crate) fn faults(&self) -> LineFaults
-        ensures { result ≡ self.now }
+        ensures { result ≡ self.now.faults }
     {
         self.faults
     }
 }
 
-impl<W> Source for TcpLine<W> {
+impl<T: Read, W> Source for Connection<T, W> {
     ghost left = { λ _. None };
 
-    ghost read_faults = { λ l. l.reads };
+    ghost read_faults = { λ l. l.faults.reads };
 
-    ghost as_sink = { λ l. record { taken = None; faults = l.writes; lent = owned } };
+    ghost as_sink = { λ l. record { taken = None; faults = l.faults.writes; lent = owned } };
 
-    /// Reads once from the connection, which no clause says.
-    fn read(&mut self, into: &mut [u8]) -> Result<usize, Failed> {
-        match self.stream.read(into) {
+    /// Reads from the stream. That it does so once no clause says.
+    fn read(&mut self, into: &mut [u8]) -> Result<usize, Failed>
+        ensures reads { ReadConsumes
+            (T.remaining self.old.stream) (T.remaining self.new.stream) result into.new }
+        ensures counted { OnErr result (self.new.faults.reads ≡ counted self.old.faults.reads) }
+
+        // What every source promises.
+        ensures within { IfOk result (λ n. n ≤ length into.old) }
+        ensures cause { OnErr result (HasRisen self.old.faults.reads self.new.faults.reads) }
+        ensures quiet { OnOk result (self.new.faults.reads ≡ self.old.faults.reads) }
+        ensures count { self.old.faults.reads ≤ self.new.faults.reads }
+        ensures writes { self.new.faults.writes ≡ self.old.faults.writes }
+    {
+        match read_once(&mut self.stream, into, &mut self.faults.reads) {
             Ok(n) => {
                 self.came = if n == 0 { Came::End } else { Came::Bytes };
                 Ok(n)
             }
             Err(_) => {
                 self.came = Came::ReadFault;
-                self.faults.reads = self.faults.reads.saturating_add(1);
                 Err(Failed)
             }
         }
     }
 }
 
-impl<W> Sink for TcpLine<W> {
+impl<T: Write, W> Sink for Connection<T, W> {
     ghost taken = { λ _. None };
 
-    ghost write_faults = { λ l. l.writes };
+    ghost write_faults = { λ l. l.faults.writes };
 
-    ghost as_source = { λ l. record { left = None; faults = l.reads; lent = owned } };
+    ghost as_source = { λ l. record { left = None; faults = l.faults.reads; lent = owned } };
 
-    /// Writes once to the connection, which no clause says.
-    fn write(&mut self, piece: &[u8]) -> Result<usize, Failed> {
-        match self.stream.write(piece) {
-            Ok(n) if n > 0 || piece.is_empty() => Ok(n),
-            _ => {
+    /// Writes to the stream. That it does so once no clause says.
+    fn write(&mut self, piece: &[u8]) -> Result<usize, Failed>
+        ensures writes { WriteAppends
+            (T.contents self.old.stream) (T.contents self.new.stream) result piece.now }
+        ensures counted { OnErr result (self.new.faults.writes ≡ counted self.old.faults.writes) }
+
+        // What every sink promises.
+        ensures within { IfOk result (λ n. n ≤ length piece.now) }
+        ensures some { IfOk result (λ n. 0 < length piece.now → 0 < n) }
+        ensures cause { OnErr result (HasRisen self.old.faults.writes self.new.faults.writes) }
+        ensures quiet { OnOk result (self.new.faults.writes ≡ self.old.faults.writes) }
+        ensures count { self.old.faults.writes ≤ self.new.faults.writes }
+        ensures reads { self.new.faults.reads ≡ self.old.faults.reads }
+    {
+        match write_once(&mut self.stream, piece, &mut self.faults.writes) {
+            Ok(n) => Ok(n),
+            Err(_) => {
                 self.came = Came::WriteFault;
-                self.faults.writes = self.faults.writes.saturating_add(1);
                 Err(Failed)
             }
         }
     }
 }
 
-impl<W> Line for TcpLine<W> {
+impl<T: Read + Write, W> Line for Connection<T, W> {
     ghost lent = { λ _. owned };
 
     ghost source_side = { λ line. refl };
@@ -148,7 +174,7 @@ impl<W> Line for TcpLine<W> {
     ghost sink_side = { λ line. refl };
 }
 
-impl<W: Write + Copy> HallLine for TcpLine<W> {
+impl<W: Write + Copy> HallLine for Connection<TcpStream, W> {
     /// Tells how the session ended, and lets the peer read to the end of the replies. No clause says either.
     fn leave(&mut self) {
         self.report.station(self.station, self.came.text());
