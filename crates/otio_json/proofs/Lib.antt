@@ -8,3 +8,4 @@ pub mod SoundTracks
 pub mod SoundNests
 pub mod SoundOpening
 pub mod SoundPlain
+pub mod ShownTracks

@@ -3,3 +3,4 @@ pub mod Nests
 pub mod Openings
 pub mod Timelines
 pub mod Soundness
+pub mod ShownTracks

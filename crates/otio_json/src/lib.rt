@@ -9,7 +9,7 @@ mod nests;
 mod opening;
 mod timeline;
 
-pub use laws::limits_are_these;
+pub use laws::{a_track_shows_its_items_one_after_another, limits_are_these};
 pub use opening::Opening;
 pub use otio_text::{WriteFault, write_timeline};
 pub use otio_tracks::{DocCode, DocFault};
