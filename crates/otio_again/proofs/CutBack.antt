@@ -23,9 +23,10 @@ use Rattle.otio_again.specs.SoundCuts.{IsSoundCut}
 use Rattle.otio_again.proofs.DeepTracks.{tracks_deep}
 use Rattle.otio_json.specs.declared.opening.Opening.{Opening}
 use Rattle.otio_tracks.specs.Clips.{empty_table}
+use Rattle.otio_tracks.specs.ReelTexts.{AreTexts}
 use Rattle.otio_json.specs.Timelines.{rate_counted, in_day, start_if, start_read, untrimmed, tracks_read, opened, sequence_read, timeline_read, json_read, tree_read, document_read}
 use Rattle.otio_again.specs.CutTrees.{list_tree, time_tree, stack_of_tracks, timeline_of, track_trees}
-use Rattle.otio_again.specs.Meanings.{AreTexts, text_of_cut, tree_of_cut, WrittenIsReadAgain}
+use Rattle.otio_again.specs.Meanings.{text_of_cut, tree_of_cut, WrittenIsReadAgain}
 use Rattle.otio_again.specs.SameCut.{SameCut}
 use Rattle.otio_again.proofs.CutTexts.{timeline_spelled}
 use Rattle.otio_again.proofs.CutLawful.{cut_lawful}

@@ -23,6 +23,7 @@ use Rattle.composables.specs.Items.{items_of}
 use Rattle.composables.specs.TrackFacts.{left_reach, right_reach, first_mark, HasSource}
 use Rattle.composables.specs.TrackState.{TrackState}
 use Rattle.json_tree.specs.Tree.{Tree, At, Null}
+use Rattle.otio_tracks.specs.ReelTexts.{AreTexts}
 use Rattle.otio_text.specs.Documents.{text_or_none, reel_name, kind_at}
 use Rattle.otio_json.specs.Soundness.{SideHas, EachHas, IsDeep, levels_of_kind}
 use Rattle.otio_again.specs.SoundCuts.{IsCutTrack, IsCutLayer, IsCutNest, IsCutTable, IsSoundCut}
@@ -31,7 +32,6 @@ use Rattle.otio_json.specs.declared.opening.Opening.{Opening}
 use Rattle.otio_json.proofs.Growth.{deep_more}
 use Rattle.otio_again.specs.CutTrees.{time_tree, range_tree, clip_tree_of, transition_tree, mark_trees, layer_range_tree, thing_tree, side_tree, item_tree, later_item_trees, item_trees, layer_tree, layer_trees, layer_trees_if, nest_trees, track_tree, track_trees, timeline_tree}
 use Rattle.otio_again.proofs.Facts.{all_at, IsShown, EachIsShown, track_shown, shows_media, nest_if}
-use Rattle.otio_again.specs.Meanings.{AreTexts}
 use Rattle.otio_again.proofs.Lawful.{empty_utf8, IsLawful, AreLawful, null_lawful, none_lawful, more_lawful, time_lawful, range_lawful, gap_lawful, clip_lawful, transition_lawful, nest_lawful, layer_lawful, track_lawful, timeline_lawful}
 
 -- four levels for an item without nests, and four more for each nest in it; and some more

@@ -1,19 +1,14 @@
 -- What is true of every cut and its text.
 use Rattle.std.specs.Prelude.{◌≡◌, ◌<◌, ◌≤◌, ℕ, List, length, Ok}
-use Rattle.std.specs.List.{All}
-use Rattle.std.specs.Str.{IsUtf8}
 use Rattle.json_tree.specs.Tree.{Tree}
 use Rattle.json_tree.specs.Sound.{SpellsAgain}
+use Rattle.otio_tracks.specs.ReelTexts.{AreTexts}
 use Rattle.otio_text.specs.Documents.{timeline_text}
 use Rattle.otio_again.specs.SoundCuts.{IsSoundCut}
 use Rattle.otio_json.specs.declared.opening.Opening.{Opening}
 use Rattle.otio_json.specs.Timelines.{document_read}
 use Rattle.otio_again.specs.CutTrees.{timeline_tree}
 use Rattle.otio_again.specs.SameCut.{SameCut}
-
--- each name is UTF-8, as all texts of the program are
-abbrev pub AreTexts : List (List ℕ) → Type 0
-AreTexts names = All IsUtf8 names
 
 -- the text of the cut
 abbrev pub text_of_cut : Opening → List ℕ
