@@ -13,7 +13,7 @@ use Rattle.line_words.proofs.PieceLaws.{ended-append, pending_after-append, line
 use Rattle.station_sessions.specs.Outside.{Outside, NoFault, Got, AreSent, LastIsCut, most_input, most_read}
 use Rattle.station_sessions.specs.Serving.{StopsWithin, StopsInPiece, StopsAtEnd, SessionEnds}
 use Rattle.station_sessions.specs.declared.serve.End.TheVariants.{Ended, WriteFault, TooMuchInput}
-use Rattle.station_sessions.specs.Session.{SessionState}
+use Rattle.station_sessions.specs.Session.{StationState}
 use Rattle.station_sessions.specs.Served.{ServesTo}
 use Rattle.station_sessions.proofs.Serves.{serves_more, serves_cut, serves_lines}
 
@@ -83,7 +83,7 @@ take_fitting (suc m) (suc n) (suc f) (x ∷ xs) fm fn (inl le) = ap (λ ys. x �
 take_fitting (suc m) (suc n) (suc f) (x ∷ xs) fm fn (inr le) = ap (λ ys. x ∷ ys) (take_fitting m n f xs (omega (arith, fm)) (omega (arith, fn)) (inr (omega (arith, le))))
 
 -- a session so far: what was got, the lines that ended in it, and no fault
-pub record SoFar (a b : SessionState) (old now : Outside) (pending : InputLine) (got : List ℕ) : Type 0 where
+pub record SoFar (a b : StationState) (old now : Outside) (pending : InputLine) (got : List ℕ) : Type 0 where
   pub gives : Gives old.left now.left got
   pub waits : pending ≡ pending_after (Some []) got
   pub serves : ServesTo a b (ended (Some []) got) (AreSent old.taken now.taken)
@@ -95,7 +95,7 @@ pub record Chunk (now new : Outside) (chunk : List ℕ) : Type 0 where
   pub gives : Gives now.left new.left chunk
   pub reads : new.reads ≡ now.reads
 
-pub ends_all : (a b c : SessionState) (old now new : Outside) (pending : InputLine) (got chunk : List ℕ) (n : ℕ) → SoFar a b old now pending got → Chunk now new chunk
+pub ends_all : (a b c : StationState) (old now new : Outside) (pending : InputLine) (got chunk : List ℕ) (n : ℕ) → SoFar a b old now pending got → Chunk now new chunk
     → n ≡ 0 → IfSome now.left (λ bytes. (n ≡ 0) ↔ (bytes ≡ [])) → new.writes ≡ now.writes → ServesTo b c (last_line pending) (AreSent now.taken new.taken)
     → SessionEnds (ServesTo a c) old new Ended
 ends_all a b c old now new pending got chunk n s k none_read end quiet g =
@@ -106,7 +106,7 @@ ends_all a b c old now new pending got chunk n s k none_read end quiet g =
           s.gives k.gives none_read end (λ left none. (none, s.within, lines)),
     )
 
-pub ends_cut : (a b c : SessionState) (old now new : Outside) (pending : InputLine) (got chunk : List ℕ) (n : ℕ) → SoFar a b old now pending got → Chunk now new chunk
+pub ends_cut : (a b c : StationState) (old now new : Outside) (pending : InputLine) (got chunk : List ℕ) (n : ℕ) → SoFar a b old now pending got → Chunk now new chunk
     → n ≡ 0 → IfSome now.left (λ bytes. (n ≡ 0) ↔ (bytes ≡ [])) → HasRisen now.writes new.writes
     → (line : InputLine) × (last_line pending ≡ line ∷ []) × ServesTo b c (line ∷ []) (LastIsCut now.taken new.taken)
     → SessionEnds (ServesTo a c) old new WriteFault
@@ -123,7 +123,7 @@ ends_cut a b c old now new pending got chunk n s k none_read end risen (line, la
       })),
 )
 
-pub piece_cut : (a b c : SessionState) (old now new : Outside) (pending : InputLine) (got chunk piece : List ℕ) → SoFar a b old now pending got → Chunk now new chunk
+pub piece_cut : (a b c : StationState) (old now new : Outside) (pending : InputLine) (got chunk piece : List ℕ) → SoFar a b old now pending got → Chunk now new chunk
     → length chunk ≤ most_read → take (most_input - length got) chunk ≡ piece → HasRisen now.writes new.writes
     → (lines : List InputLine) × StopsWithin pending piece lines × ServesTo b c lines (LastIsCut now.taken new.taken)
     → SessionEnds (ServesTo a c) old new WriteFault
@@ -144,13 +144,13 @@ piece_cut a b c old now new pending got chunk piece s k small fits risen (lines,
 )
 
 -- the lines that ended in what was got and in a piece more
-pub serves_piece : (a b c : SessionState) (old now new : Outside) (pending : InputLine) (got piece : List ℕ) → SoFar a b old now pending got
+pub serves_piece : (a b c : StationState) (old now new : Outside) (pending : InputLine) (got piece : List ℕ) → SoFar a b old now pending got
     → ServesTo b c (ended pending piece) (AreSent now.taken new.taken) → ServesTo a c (ended (Some []) (got ++ piece)) (AreSent old.taken new.taken)
 serves_piece a b c old now new pending got piece s g =
     serves_lines a c _ _ (AreSent old.taken new.taken) (ended_more got piece pending s.waits)
     (serves_more a b c (ended (Some []) got) (ended pending piece) old.taken now.taken new.taken s.serves g)
 
-pub too_much : (a b c : SessionState) (old now new : Outside) (pending : InputLine) (got chunk piece rest : List ℕ) → SoFar a b old now pending got → Chunk now new chunk
+pub too_much : (a b c : StationState) (old now new : Outside) (pending : InputLine) (got chunk piece rest : List ℕ) → SoFar a b old now pending got → Chunk now new chunk
     → length chunk ≤ most_read → chunk ≡ piece ++ rest → length got + length piece ≡ most_input → length piece < length chunk → new.writes ≡ now.writes
     → ServesTo b c (ended pending piece) (AreSent now.taken new.taken) → SessionEnds (ServesTo a c) old new TooMuchInput
 too_much a b c old now new pending got chunk piece rest s k small cut full more quiet g =
@@ -165,7 +165,7 @@ too_much a b c old now new pending got chunk piece rest s k small cut full more 
           )),
     )
 
-pub piece_more : (a b c : SessionState) (old now new : Outside) (pending next : InputLine) (got piece : List ℕ) → SoFar a b old now pending got → Chunk now new piece
+pub piece_more : (a b c : StationState) (old now new : Outside) (pending next : InputLine) (got piece : List ℕ) → SoFar a b old now pending got → Chunk now new piece
     → length got + length piece ≤ most_input → new.writes ≡ now.writes → next ≡ pending_after pending piece
     → ServesTo b c (ended pending piece) (AreSent now.taken new.taken) → SoFar a c old new next (got ++ piece)
 piece_more a b c old now new pending next got piece s k within quiet then g = record {

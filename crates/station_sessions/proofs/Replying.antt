@@ -32,7 +32,7 @@ use Rattle.reply_text.specs.Sights.{TrackSight, sight_text_of}
 use Rattle.station_sessions.specs.declared.reply.Reply.{Reply}
 use Rattle.station_sessions.specs.DocumentReplies.{document_reply, no_point_reply}
 use Rattle.station_sessions.specs.Rooms.{History, AreWritten, document_of, finds_memory, room_of, seen_of, wish_in}
-use Rattle.station_sessions.specs.Session.{Grows, IsCutReply, IsMeant, IsReply, IsReplyIfMemory, IsSightReply, Replies, RepliesTo, RepliesWith, SessionState, Step}
+use Rattle.station_sessions.specs.Session.{Grows, IsCutReply, IsMeant, IsReply, IsReplyIfMemory, IsSightReply, Replies, RepliesTo, RepliesWith, StationState, Step}
 use Rattle.station_sessions.specs.SessionInside.{IsSeated, IsSession, TrackPass, TrackRoom, course_at, or_opening, session_at, setting_at, tracks_at}
 use Rattle.station_sessions.specs.Transcript.{Wish, Do, See, Point, Write, Bad}
 use Rattle.station_sessions.proofs.Transcripts.{nothing_behind, own_append}
@@ -46,7 +46,7 @@ comes_or : (opening : List TrackState) (o : Option (List TrackState)) → IsSome
 comes_or opening None h = absurd (Prim.grind (arith, h))
 comes_or opening (Some tracks) h = refl
 
-comes : (room : TrackRoom) (h : History) → IsLegal (whole (editing room.0.table)) room.1 h → replay (whole (editing room.0.table)) room.1 h ≡ Some (tracks_at room h)
+pub comes : (room : TrackRoom) (h : History) → IsLegal (whole (editing room.0.table)) room.1 h → replay (whole (editing room.0.table)) room.1 h ≡ Some (tracks_at room h)
 comes room h legal = comes_or room.1 (replay (whole (editing room.0.table)) room.1 h) legal.applies
 
 tracks_are : (room : TrackRoom) (h : History) (tracks : List TrackState) → replay (whole (editing room.0.table)) room.1 h ≡ Some tracks → tracks_at room h ≡ tracks
@@ -274,6 +274,6 @@ module _ (room : TrackRoom) (before after : TrackPass) (counting : Counted) (sta
   cut_seated n r e = seated_stays room before after line seated (cut_stays n r e)
 
 -- the reply to what a line was read as is the reply to the line
-pub told_line : (old new : SessionState) (line : InputLine) (r : Result Line LineFault) (reply : Reply) → IsMeant old.setting line r → Replies old new (wish_in r) reply → RepliesTo old new line reply
+pub told_line : (old new : StationState) (line : InputLine) (r : Result Line LineFault) (reply : Reply) → IsMeant old.setting line r → Replies old new (wish_in r) reply → RepliesTo old new line reply
 told_line old new line r reply (inl is) h = inl (subst (λ (x : Result Line LineFault). Replies old new (wish_in x) reply) is h)
 told_line old new line r reply (inr (linking, none)) h = inr (linking, subst (λ (x : Result Line LineFault). Replies old new (wish_in x) reply) none h)

@@ -12,7 +12,7 @@ use Rattle.station_sessions.specs.Outside.{AreSent, TakesThenFront, LastIsCut}
 use Rattle.station_sessions.specs.Transcript.{Bad, Protocol, Wish, sent}
 use Rattle.station_sessions.specs.Rooms.{Setting, AreWritten, finds_memory, is_linking, room_of, meaning_of, wish_in}
 use Rattle.room_core.specs.Projection.{of_station}
-use Rattle.station_sessions.specs.Session.{Course, Grows, SessionState, past_line, IsReply, RepliesTo, Step}
+use Rattle.station_sessions.specs.Session.{Course, Grows, StationState, past_line, IsReply, RepliesTo, Step}
 use Rattle.station_sessions.specs.Served.{Serves, ServesTo, StaysWritten}
 use Rattle.station_sessions.proofs.Serving.{served_grows, served_more}
 
@@ -60,9 +60,9 @@ cut_more t u v xs ys h (whole, cut, is, k) = (
 module _ {S C D R Q X Y : Type 0} (k : Protocol S C D R Q X Y) (station : ℕ) where
   then_serves : (a b c : Course S C) (xs ys : List InputLine) (P V W : List (List ℕ) → Type 0) → ((us vs : List (List ℕ)) → P us → V vs → W (us ++ vs))
       → Serves k station a b xs P → Serves k station b c ys V → Serves k station a c (xs ++ ys) W
-  then_serves a b c xs ys P V W both f g o ls rs last w =
-      let first = f o ls rs last w in
-      let second = g o (ls ++ xs) (rs ++ first.0) first.1 first.2 in (
+  then_serves a b c xs ys P V W both f g o from ls rs last w =
+      let first = f o from ls rs last w in
+      let second = g o from (ls ++ xs) (rs ++ first.0) first.1 first.2 in (
         first.0 ++ second.0,
         second.1,
         rw (← append_assoc ls xs ys, ← append_assoc rs first.0 second.0) second.2,
@@ -71,8 +71,8 @@ module _ {S C D R Q X Y : Type 0} (k : Protocol S C D R Q X Y) (station : ℕ) w
 
   one_serves : (old met mid new : Course S C) (l : InputLine) (text : List ℕ) (Taken : List (List ℕ) → Type 0) → Grows k station old met
       → Step k station met mid text (k.wish station l) (k.takes_memory l) → new ≡ past_line mid → Taken (text ∷ []) → Serves k station old new (l ∷ []) Taken
-  one_serves old met mid new l text Taken grows step next taken o ls rs last w =
-      let s = served_more k station o met mid ls rs last l text (served_grows k station o old met ls rs last w grows) step in
+  one_serves old met mid new l text Taken grows step next taken o from ls rs last w =
+      let s = served_more k station o from met mid ls rs last l text (served_grows k station o from old met ls rs last w grows) step in
       (text ∷ [], s.0, rw next s.1, taken)
 
 true_before : (a b : Bool) → IsTrue a → IsTrue (a || b)
@@ -93,10 +93,10 @@ module _ {S C D R Q X Y : Type 0} (k : Protocol S C D R Q X Y) (station : ℕ) (
   for_memory wish a b t (inl says) = inr (true_behind a b t, says)
   for_memory wish a b t (inr (never, says)) = absurd cc
 
-pub serves_none : (s : SessionState) (t : Option (List ℕ)) → ServesTo s s [] (AreSent t t)
-serves_none s t = record { setting = refl; station = refl; written = λ w. w; serves = λ o ls rs last w. ([], last, rw (append-nil, append-nil) w, takes-nothing t) }
+pub serves_none : (s : StationState) (t : Option (List ℕ)) → ServesTo s s [] (AreSent t t)
+serves_none s t = record { setting = refl; station = refl; written = λ w. w; serves = λ o from ls rs last w. ([], last, rw (append-nil, append-nil) w, takes-nothing t) }
 
-pub serves_one : (old new : SessionState) (l : InputLine) (reply : Reply) (Taken : List (List ℕ) → Type 0)
+pub serves_one : (old new : StationState) (l : InputLine) (reply : Reply) (Taken : List (List ℕ) → Type 0)
     → RepliesTo old new l reply → ((text : List ℕ) → IsReply reply text → Taken (text ∷ []))
     → ServesTo old new (l ∷ []) Taken
 serves_one old new l reply Taken (inl (text, is, r)) taken =
@@ -119,16 +119,16 @@ serves_one old new l reply Taken (inr (linking, (text, is, r))) taken =
     }
 
 -- the station
-pub same_station : (old new : SessionState) (l : InputLine) (reply : Reply) → RepliesTo old new l reply → new.station ≡ old.station
+pub same_station : (old new : StationState) (l : InputLine) (reply : Reply) → RepliesTo old new l reply → new.station ≡ old.station
 same_station old new l reply (inl (text, is, r)) = r.station
 same_station old new l reply (inr (linking, (text, is, r))) = r.station
 
 -- the number of the next line
-pub next_number : (old new : SessionState) (l : InputLine) (reply : Reply) → RepliesTo old new l reply → new.course.line ≡ old.course.line + 1
+pub next_number : (old new : StationState) (l : InputLine) (reply : Reply) → RepliesTo old new l reply → new.course.line ≡ old.course.line + 1
 next_number old new l reply (inl (text, is, r)) = r.line
 next_number old new l reply (inr (linking, (text, is, r))) = r.line
 
-serves_then : (a b c : SessionState) (xs ys : List InputLine) (P V W : List (List ℕ) → Type 0) → ((us vs : List (List ℕ)) → P us → V vs → W (us ++ vs))
+serves_then : (a b c : StationState) (xs ys : List InputLine) (P V W : List (List ℕ) → Type 0) → ((us vs : List (List ℕ)) → P us → V vs → W (us ++ vs))
     → ServesTo a b xs P → ServesTo b c ys V → ServesTo a c (xs ++ ys) W
 serves_then a b c xs ys P V W both f g = record {
   setting = g.setting ∙ f.setting;
@@ -139,17 +139,17 @@ serves_then a b c xs ys P V W both f g = record {
 }
 
 -- what could be written still can, after both
-pub written_then : (a b c : SessionState) (xs ys : List InputLine) (P V : List (List ℕ) → Type 0) → ServesTo a b xs P → ServesTo b c ys V → StaysWritten a c
+pub written_then : (a b c : StationState) (xs ys : List InputLine) (P V : List (List ℕ) → Type 0) → ServesTo a b xs P → ServesTo b c ys V → StaysWritten a c
 written_then a b c xs ys P V f g w = subst (λ (n : ℕ). AreWritten (of_station n b.course.journal) → AreWritten (of_station n c.course.journal)) f.station g.written (f.written w)
 
 -- these lines and then those
-pub serves_more : (a b c : SessionState) (xs ys : List InputLine) (t u v : Option (List ℕ)) → ServesTo a b xs (AreSent t u) → ServesTo b c ys (AreSent u v) → ServesTo a c (xs ++ ys) (AreSent t v)
+pub serves_more : (a b c : StationState) (xs ys : List InputLine) (t u v : Option (List ℕ)) → ServesTo a b xs (AreSent t u) → ServesTo b c ys (AreSent u v) → ServesTo a c (xs ++ ys) (AreSent t v)
 serves_more a b c xs ys t u v f g = serves_then a b c xs ys (AreSent t u) (AreSent u v) (AreSent t v) (sent_more t u v) f g
 
-pub serves_cut : (a b c : SessionState) (xs ys : List InputLine) (t u v : Option (List ℕ)) → ServesTo a b xs (AreSent t u) → ServesTo b c ys (LastIsCut u v) → ServesTo a c (xs ++ ys) (LastIsCut t v)
+pub serves_cut : (a b c : StationState) (xs ys : List InputLine) (t u v : Option (List ℕ)) → ServesTo a b xs (AreSent t u) → ServesTo b c ys (LastIsCut u v) → ServesTo a c (xs ++ ys) (LastIsCut t v)
 serves_cut a b c xs ys t u v f g = serves_then a b c xs ys (AreSent t u) (LastIsCut u v) (LastIsCut t v) (cut_more t u v) f g
 
-pub serves_lines : (a b : SessionState) (xs ys : List InputLine) (Taken : List (List ℕ) → Type 0) → xs ≡ ys → ServesTo a b xs Taken → ServesTo a b ys Taken
+pub serves_lines : (a b : StationState) (xs ys : List InputLine) (Taken : List (List ℕ) → Type 0) → xs ≡ ys → ServesTo a b xs Taken → ServesTo a b ys Taken
 serves_lines a b xs ys Taken e f = subst (λ (ls : List InputLine). ServesTo a b ls Taken) e f
 
 pub on_ok : {T F : Type 0} (r : Result T F) (P Q : Type 0) → OnOk r P → (P → Q) → OnOk r Q

@@ -1,15 +1,15 @@
 -- A station that has answered some lines, and what it does for one more.
-use Rattle.std.proofs.Common.{◌≡◌, ℕ, ◌+◌, ◌<◌, ◌≤◌, Bool, inl, inr, List, [], ◌∷◌, ◌++◌, length, max, take, Option, Some, Ok, refl, sym, ap, ◌∙◌, subst, arith, option_map, fold, cond, eqb, true, false}
+use Rattle.std.proofs.Common.{◌≡◌, ℕ, ◌+◌, ◌<◌, ◌≤◌, Bool, inl, inr, List, [], ◌∷◌, ◌++◌, drop, length, max, take, Option, Some, Ok, refl, sym, ap, ◌∙◌, subst, arith, option_map, fold, cond, eqb, true, false}
 use Rattle.std.proofs.lemmas.List.{append-nil, length-append}
 use Rattle.std.proofs.lemmas.List.Sums.{fold-append}
 use Rattle.line_words.specs.Lines.{Line as InputLine}
 use Rattle.room_core.specs.declared.entry.Entry.{Entry}
 use Rattle.room_core.specs.History.{most_entries, replay, after_entry, answer_in, state_in, RiseAfter, NumbersRise}
 use Rattle.room_core.specs.Projection.{of_station}
-use Rattle.station_sessions.specs.Transcript.{Wish, Do, See, Point, Write, Bad, Protocol, answer_at, sight_at, BearsNone, IsDone, IsRefused, IsFull, IsMemory, IsSeen, IsPoint, IsDocument, IsPastEnd, IsBad, Row, Rows, Transcript, points_from}
+use Rattle.station_sessions.specs.Transcript.{Wish, Do, See, Point, Write, Bad, Protocol, answer_at, sight_at, BearsNone, IsDone, IsRefused, IsFull, IsMemory, IsSeen, IsPoint, IsDocument, IsPastEnd, IsBad, Origin, Row, Rows, Transcript, points_behind}
 use Rattle.station_sessions.specs.Session.{Course, past_line, Commits, Does, Step, Grows}
 use Rattle.station_sessions.specs.Served.{OwnBefore, Served}
-use Rattle.station_sessions.proofs.Transcripts.{OwnFrom, get_last, answer_more, rows_more, one_row_more, points_append, points_one, no_own, replay_more, state_now}
+use Rattle.station_sessions.proofs.Transcripts.{OwnFrom, get_last, answer_more, rows_more, one_row_more, points_more, points_others, points_one, no_own, replay_more, state_now}
 
 before_later : {C : Type 0} (station m n : ℕ) (h : List (Entry C)) → m ≤ n → OwnBefore station m h → OwnBefore station n h
 before_later station m n [] le b = tt
@@ -44,44 +44,45 @@ rise_more : {C : Type 0} (h : List (Entry C)) (e : Entry C) → OwnBefore e.stat
 rise_more [] e b r = (tt, tt)
 rise_more (f ∷ fs) e b r = (rise_after f fs e b.0 r.0, rise_more fs e b.1 r.1)
 
-zero_plus : (n : ℕ) → 0 + n ≡ n
-zero_plus n = omega arith
-
-module _ {S C D R Q X Y : Type 0} (k : Protocol S C D R Q X Y) (station : ℕ) (o : S) where
-  pub served_none : (s : Course S C) → s.opening ≡ o → s.state ≡ o → s.journal ≡ [] → s.line ≡ 1 → Served k station o s [] [] 0
-  served_none s from is j first = record {
-    opening = from;
-    state = ap (λ (h : List (Entry C)). replay k.apply o h) j ∙ ap Some (sym is);
-    rows = (refl, ap (points_from 0 station) j);
-    told = omega arith;
-    line = first;
-    before = rw j tt;
-    rise = rw j tt;
-    within = omega (arith, ap length j);
+module _ {S C D R Q X Y : Type 0} (k : Protocol S C D R Q X Y) (station : ℕ) (o : S) (from : Origin) where
+  -- before the first line
+  pub served_none : (s : Course S C) → s.opening ≡ o → replay k.apply o s.journal ≡ Some s.state → from.kept ≤ length s.journal → of_station station (drop from.kept s.journal) ≡ []
+      → OwnBefore station (from.base + 1) s.journal → s.line ≡ from.base + 1 → NumbersRise s.journal → length s.journal ≤ most_entries
+      → Served k station o from s [] [] from.kept
+  served_none s from_is is kept none before first rise within = record {
+    opening = from_is;
+    state = is;
+    rows = (refl, (no_own station from.kept 0 (drop from.kept s.journal) none).0);
+    kept = kept;
+    told = kept;
+    line = omega (arith, first);
+    before = before_later station (from.base + 1) (from.base + 1 + 0) s.journal (omega arith) before;
+    rise = rise;
+    within = within;
   }
 
   -- others have committed more
   pub served_grows : (old new : Course S C) (ls : List InputLine) (rs : List (List ℕ)) (last : ℕ)
-      → Served k station o old ls rs last → Grows k station old new → Served k station o new ls rs last
+      → Served k station o from old ls rs last → Grows k station old new → Served k station o from new ls rs last
   served_grows old new ls rs last w g =
       let h : List (Entry C) = old.journal in
       let more : List (Entry C) = g.more in
-      let later = no_own station (0 + length h) (1 + length ls) more g.others in
-      let points : points_from 0 station (h ++ more) ≡ points_from 0 station h =
-      points_append 0 station h more ∙ (ap (λ ps. points_from 0 station h ++ ps) later.0 ∙ append-nil (points_from 0 station h)) in
+      let later = no_own station (length h) (from.base + 1 + length ls) more g.others in
+      let points : points_behind from.kept station (h ++ more) ≡ points_behind from.kept station h = points_others from.kept station h more g.others in
       let count = ap length g.journal in
       let within : length (h ++ more) ≤ most_entries = omega (arith, count, g.within) in
       let state : replay k.apply o (h ++ more) ≡ Some new.state =
       fold-append (after_entry k.apply) (Some o) h more ∙ (ap (λ (x : Option S). fold (after_entry k.apply) x more) w.state ∙ g.state) in
-      let rows : Rows k o (h ++ more) station 1 0 ls rs last (points_from 0 station (h ++ more)) =
-      subst (λ ps. Rows k o (h ++ more) station 1 0 ls rs last ps) (sym points) (rows_more k o h more station 1 0 ls rs last (points_from 0 station h) within later.1 w.rows) in
+      let rows : Rows k o (h ++ more) station (from.base + 1) from.kept ls rs last (points_behind from.kept station (h ++ more)) =
+      subst (λ ps. Rows k o (h ++ more) station (from.base + 1) from.kept ls rs last ps) (sym points) (rows_more k o h more station (from.base + 1) from.kept ls rs last (points_behind from.kept station h) within later.1 w.rows) in
       record {
         opening = g.opening ∙ w.opening;
         state = rw g.journal state;
         rows = rw g.journal rows;
+        kept = omega (arith, w.kept, count, length-append h more);
         told = omega (arith, w.told, count, length-append h more);
         line = g.line ∙ w.line;
-        before = rw g.journal (before_others station (1 + length ls) h more g.others w.before);
+        before = rw g.journal (before_others station (from.base + 1 + length ls) h more g.others w.before);
         rise = g.rise;
         within = g.within;
       }
@@ -94,34 +95,35 @@ module _ {S C D R Q X Y : Type 0} (k : Protocol S C D R Q X Y) (station : ℕ) (
 
   -- a reply that commits nothing
   served_same : (s : Course S C) (ls : List InputLine) (rs : List (List ℕ)) (last : ℕ) (l : InputLine) (reply : List ℕ) (after : ℕ)
-      → Served k station o s ls rs last → Row k o s.journal station (1 + length ls) last reply after [] l → after ≤ length s.journal
-      → Served k station o (past_line s) (ls ++ l ∷ []) (rs ++ reply ∷ []) after
+      → Served k station o from s ls rs last → Row k o s.journal station (from.base + 1 + length ls) last reply after [] l → after ≤ length s.journal
+      → Served k station o from (past_line s) (ls ++ l ∷ []) (rs ++ reply ∷ []) after
   served_same s ls rs last l reply after w row told = record {
     opening = w.opening;
     state = w.state;
-    rows = rw append-nil at (one_row_more k o s.journal station 1 0 ls rs last (points_from 0 station s.journal) l reply after [] w.rows row);
+    rows = rw append-nil at (one_row_more k o s.journal station (from.base + 1) from.kept ls rs last (points_behind from.kept station s.journal) l reply after [] w.rows row);
+    kept = w.kept;
     told = told;
     line = omega (arith, w.line, length-append ls (l ∷ []));
-    before = before_later station (1 + length ls) (1 + length (ls ++ l ∷ [])) s.journal (omega (arith, length-append ls (l ∷ []))) w.before;
+    before = before_later station (from.base + 1 + length ls) (from.base + 1 + length (ls ++ l ∷ [])) s.journal (omega (arith, length-append ls (l ∷ []))) w.before;
     rise = w.rise;
     within = w.within;
   }
 
   -- one line more that commits a call
   served_commit : (old new : Course S C) (ls : List InputLine) (rs : List (List ℕ)) (last : ℕ) (l : InputLine) (reply : List ℕ) (c : C) (d : D)
-      → Served k station o old ls rs last → k.wish station l ≡ Do c → Commits k station old new reply c d
-      → Served k station o (past_line new) (ls ++ l ∷ []) (rs ++ reply ∷ []) (length old.journal + 1)
+      → Served k station o from old ls rs last → k.wish station l ≡ Do c → Commits k station old new reply c d
+      → Served k station o from (past_line new) (ls ++ l ∷ []) (rs ++ reply ∷ []) (length old.journal + 1)
   served_commit old new ls rs last l reply c d w says m =
       let h : List (Entry C) = old.journal in
       let n : ℕ = length h in
-      let e : Entry C = record { station = station; number = 1 + length ls; call = c } in
+      let e : Entry C = record { station = station; number = from.base + 1 + length ls; call = c } in
       let j : new.journal ≡ h ++ e ∷ [] = m.journal ∙ ap (λ (n : ℕ). h ++ record { station = station; number = n; call = c } ∷ []) w.line in
       let counted : length (h ++ e ∷ []) ≡ n + 1 = length-append h (e ∷ []) in
       let state : replay k.apply o (h ++ e ∷ []) ≡ Some new.state =
       replay_more k o h e ∙ (ap (λ (x : Option S). after_entry k.apply x e) w.state ∙ ap state_in m.applies) in
       let answer : answer_at k o (h ++ e ∷ []) n c ≡ Some (Ok d) =
       answer_more k o h (e ∷ []) n c (omega arith) ∙ (answer_now old c w.state ∙ ap (λ x. Some (answer_in x)) m.applies) in
-      let done : IsDone k o (h ++ e ∷ []) station (1 + length ls) last reply (n + 1) (n ∷ []) c n d = record {
+      let done : IsDone k o (h ++ e ∷ []) station (from.base + 1 + length ls) last reply (n + 1) (n ∷ []) c n d = record {
         told_of = w.told;
         entry = get_last h e;
         answer = answer;
@@ -129,38 +131,39 @@ module _ {S C D R Q X Y : Type 0} (k : Protocol S C D R Q X Y) (station : ℕ) (
         after_is = refl;
         points_are = refl;
       } in
-      let row : Row k o (h ++ e ∷ []) station (1 + length ls) last reply (n + 1) (n ∷ []) l = inl (rw says (inl (n, d, done))) in
-      let own : OwnFrom station (1 + length ls) (e ∷ []) = (λ is. omega arith, tt) in
-      let older = rows_more k o h (e ∷ []) station 1 0 ls rs last (points_from 0 station h) (omega (arith, counted, m.room)) own w.rows in
-      let rows = one_row_more k o (h ++ e ∷ []) station 1 0 ls rs last (points_from 0 station h) l reply (n + 1) (n ∷ []) older row in
-      let points : points_from 0 station (h ++ e ∷ []) ≡ points_from 0 station h ++ n ∷ [] =
-      points_append 0 station h (e ∷ []) ∙ (ap (λ ps. points_from 0 station h ++ ps) (points_one (0 + length h) station e refl) ∙ ap (λ i. points_from 0 station h ++ i ∷ []) (zero_plus n)) in
+      let row : Row k o (h ++ e ∷ []) station (from.base + 1 + length ls) last reply (n + 1) (n ∷ []) l = inl (rw says (inl (n, d, done))) in
+      let own : OwnFrom station (from.base + 1 + length ls) (e ∷ []) = (λ is. omega arith, tt) in
+      let older = rows_more k o h (e ∷ []) station (from.base + 1) from.kept ls rs last (points_behind from.kept station h) (omega (arith, counted, m.room)) own w.rows in
+      let rows = one_row_more k o (h ++ e ∷ []) station (from.base + 1) from.kept ls rs last (points_behind from.kept station h) l reply (n + 1) (n ∷ []) older row in
+      let points : points_behind from.kept station (h ++ e ∷ []) ≡ points_behind from.kept station h ++ n ∷ [] =
+      points_more from.kept station h (e ∷ []) w.kept ∙ ap (λ ps. points_behind from.kept station h ++ ps) (points_one n station e refl) in
       record {
         opening = m.opening ∙ w.opening;
         state = rw j state;
         rows = rw (j, points) rows;
+        kept = omega (arith, w.kept, ap length j, counted);
         told = omega (arith, ap length j, counted);
         line = omega (arith, m.line, w.line, length-append ls (l ∷ []));
-        before = rw j (before_more station (1 + length (ls ++ l ∷ [])) h e (omega (arith, length-append ls (l ∷ []))) (before_later station (1 + length ls) (1 + length (ls ++ l ∷ [])) h (omega (arith, length-append ls (l ∷ []))) w.before));
+        before = rw j (before_more station (from.base + 1 + length (ls ++ l ∷ [])) h e (omega (arith, length-append ls (l ∷ []))) (before_later station (from.base + 1 + length ls) (from.base + 1 + length (ls ++ l ∷ [])) h (omega (arith, length-append ls (l ∷ []))) w.before));
         rise = rw j (rise_more h e w.before w.rise);
         within = omega (arith, ap length j, counted, m.room);
       }
 
   -- one line more that commits nothing
   served_quiet : (old new : Course S C) (ls : List InputLine) (rs : List (List ℕ)) (last : ℕ) (l : InputLine) (reply : List ℕ) (after : ℕ)
-      → new ≡ old → Served k station o old ls rs last → Row k o old.journal station (1 + length ls) last reply after [] l → after ≤ length old.journal
-      → Served k station o (past_line new) (ls ++ l ∷ []) (rs ++ reply ∷ []) after
+      → new ≡ old → Served k station o from old ls rs last → Row k o old.journal station (from.base + 1 + length ls) last reply after [] l → after ≤ length old.journal
+      → Served k station o from (past_line new) (ls ++ l ∷ []) (rs ++ reply ∷ []) after
   served_quiet old new ls rs last l reply after same w row told =
-      subst (λ (s : Course S C). Served k station o (past_line s) (ls ++ l ∷ []) (rs ++ reply ∷ []) after) (sym same) (served_same old ls rs last l reply after w row told)
+      subst (λ (s : Course S C). Served k station o from (past_line s) (ls ++ l ∷ []) (rs ++ reply ∷ []) after) (sym same) (served_same old ls rs last l reply after w row told)
 
   served_does : (old new : Course S C) (ls : List InputLine) (rs : List (List ℕ)) (last : ℕ) (l : InputLine) (reply : List ℕ) (wish : Wish C Q)
-      → Served k station o old ls rs last → k.wish station l ≡ wish → Does k station old new reply wish
-      → (after : ℕ) × Served k station o (past_line new) (ls ++ l ∷ []) (rs ++ reply ∷ []) after
+      → Served k station o from old ls rs last → k.wish station l ≡ wish → Does k station old new reply wish
+      → (after : ℕ) × Served k station o from (past_line new) (ls ++ l ∷ []) (rs ++ reply ∷ []) after
   served_does old new ls rs last l reply (Do c) w says (inl (d, m)) =
       (length old.journal + 1, served_commit old new ls rs last l reply c d w says m)
   served_does old new ls rs last l reply (Do c) w says (inr (inl (r, m))) =
       let n : ℕ = length old.journal in
-      let refused : IsRefused k o old.journal station (1 + length ls) last reply n [] c n r = record {
+      let refused : IsRefused k o old.journal station (from.base + 1 + length ls) last reply n [] c n r = record {
         told_of = w.told;
         within = omega arith;
         answer = answer_now old c w.state ∙ ap (λ x. Some (answer_in x)) m.refused;
@@ -170,7 +173,7 @@ module _ {S C D R Q X Y : Type 0} (k : Protocol S C D R Q X Y) (station : ℕ) (
       } in
       (n, served_quiet old new ls rs last l reply n m.same w (inl (rw says (inr (inl (n, r, refused))))) (omega arith))
   served_does old new ls rs last l reply (Do c) w says (inr (inr (d, m))) =
-      let full : IsFull k o old.journal station (1 + length ls) last reply most_entries [] c d = record {
+      let full : IsFull k o old.journal station (from.base + 1 + length ls) last reply most_entries [] c d = record {
         told_of = omega (arith, w.told, m.full);
         full = m.full;
         answer = rw m.full at (answer_now old c w.state ∙ ap Some m.applies);
@@ -181,7 +184,7 @@ module _ {S C D R Q X Y : Type 0} (k : Protocol S C D R Q X Y) (station : ℕ) (
       (most_entries, served_quiet old new ls rs last l reply most_entries m.same w (inl (rw says (inr (inr (d, full))))) (omega (arith, m.full)))
   served_does old new ls rs last l reply (See q) w says m =
       let n : ℕ = length old.journal in
-      let seen : IsSeen k o old.journal station (1 + length ls) last reply n [] q n (k.see old.state q) = record {
+      let seen : IsSeen k o old.journal station (from.base + 1 + length ls) last reply n [] q n (k.see old.state q) = record {
         told_of = w.told;
         within = omega arith;
         sight = sight_now old q w.state;
@@ -192,7 +195,7 @@ module _ {S C D R Q X Y : Type 0} (k : Protocol S C D R Q X Y) (station : ℕ) (
       (n, served_quiet old new ls rs last l reply n m.same w (inl (rw says (n, k.see old.state q, seen))) (omega arith))
   served_does old new ls rs last l reply Point w says m =
       let n : ℕ = length old.journal in
-      let point : IsPoint k o old.journal station (1 + length ls) last reply n [] n = record {
+      let point : IsPoint k o old.journal station (from.base + 1 + length ls) last reply n [] n = record {
         told_of = w.told;
         within = omega arith;
         reply_is = m.reply_is;
@@ -202,7 +205,7 @@ module _ {S C D R Q X Y : Type 0} (k : Protocol S C D R Q X Y) (station : ℕ) (
       (n, served_quiet old new ls rs last l reply n m.same w (inl (rw says (n, point))) (omega arith))
   served_does old new ls rs last l reply (Write n) w says (inl (s, m)) =
       let told : max last n ≤ length old.journal = omega (arith, w.told, m.within) in
-      let document : IsDocument k o old.journal station (1 + length ls) last reply (max last n) [] n s = record {
+      let document : IsDocument k o old.journal station (from.base + 1 + length ls) last reply (max last n) [] n s = record {
         within = m.within;
         state = ap (λ (x : S). replay k.apply x (take n old.journal)) (sym w.opening) ∙ m.state;
         reply_is = m.reply_is;
@@ -212,7 +215,7 @@ module _ {S C D R Q X Y : Type 0} (k : Protocol S C D R Q X Y) (station : ℕ) (
       (max last n, served_quiet old new ls rs last l reply (max last n) m.same w (inl (rw says (inl (s, document)))) told)
   served_does old new ls rs last l reply (Write n) w says (inr m) =
       let at : ℕ = length old.journal in
-      let past : IsPastEnd k o old.journal station (1 + length ls) last reply at [] n at = record {
+      let past : IsPastEnd k o old.journal station (from.base + 1 + length ls) last reply at [] n at = record {
         told_of = w.told;
         within = omega arith;
         past = m.past;
@@ -222,7 +225,7 @@ module _ {S C D R Q X Y : Type 0} (k : Protocol S C D R Q X Y) (station : ℕ) (
       } in
       (at, served_quiet old new ls rs last l reply at m.same w (inl (rw says (inr (at, past)))) (omega arith))
   served_does old new ls rs last l reply (Bad text) w says m =
-      let bad : IsBad k o old.journal station (1 + length ls) last reply last [] text = record {
+      let bad : IsBad k o old.journal station (from.base + 1 + length ls) last reply last [] text = record {
         reply_is = m.reply_is;
         after_is = refl;
         points_are = refl;
@@ -231,17 +234,17 @@ module _ {S C D R Q X Y : Type 0} (k : Protocol S C D R Q X Y) (station : ℕ) (
 
   -- one line more, whatever it asks for
   pub served_more : (old new : Course S C) (ls : List InputLine) (rs : List (List ℕ)) (last : ℕ) (l : InputLine) (reply : List ℕ)
-      → Served k station o old ls rs last → Step k station old new reply (k.wish station l) (k.takes_memory l)
-      → (after : ℕ) × Served k station o (past_line new) (ls ++ l ∷ []) (rs ++ reply ∷ []) after
+      → Served k station o from old ls rs last → Step k station old new reply (k.wish station l) (k.takes_memory l)
+      → (after : ℕ) × Served k station o from (past_line new) (ls ++ l ∷ []) (rs ++ reply ∷ []) after
   served_more old new ls rs last l reply w (inl m) = served_does old new ls rs last l reply (k.wish station l) w refl m
   served_more old new ls rs last l reply w (inr (takes, m)) =
-      let memory : IsMemory k o old.journal station (1 + length ls) last reply last [] = record {
-        none = bears_none station (1 + length ls) old.journal w.before;
+      let memory : IsMemory k o old.journal station (from.base + 1 + length ls) last reply last [] = record {
+        none = bears_none station (from.base + 1 + length ls) old.journal w.before;
         reply_is = m.reply_is;
         after_is = refl;
         points_are = refl;
       } in
       (last, served_quiet old new ls rs last l reply last m.same w (inr (takes, memory)) w.told)
 
-  pub transcript_served : (s : Course S C) (ls : List InputLine) (rs : List (List ℕ)) (last : ℕ) → Served k station o s ls rs last → Transcript k o s.journal station ls rs
-  transcript_served s ls rs last w = (last, w.rows)
+  pub transcript_served : (s : Course S C) (ls : List InputLine) (rs : List (List ℕ)) (last : ℕ) → Served k station o from s ls rs last → Transcript k o s.journal from station ls rs []
+  transcript_served s ls rs last w = (last, points_behind from.kept station s.journal, w.rows, sym (append-nil (points_behind from.kept station s.journal)))

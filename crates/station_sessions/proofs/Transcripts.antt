@@ -1,7 +1,8 @@
 -- What a station was told stays true when more is committed, and its transcript grows line by line.
-use Rattle.std.proofs.Common.{◌≡◌, ℕ, zero, suc, ◌+◌, ◌<◌, ◌≤◌, Bool, true, false, cond, eqb, inl, inr, List, [], ◌∷◌, ◌++◌, length, take, Some, refl, sym, ap, ◌∙◌, subst, arith, append_assoc, slice_get, option_map}
+use Rattle.std.proofs.Common.{◌≡◌, ℕ, zero, suc, ◌+◌, ◌<◌, ◌≤◌, Bool, true, false, cond, eqb, nat_le, inl, inr, List, [], ◌∷◌, ◌++◌, length, take, drop, Some, refl, sym, ap, ◌∙◌, subst, arith, append_assoc, slice_get, option_map}
 use Rattle.std.specs.Prelude.{codes}
-use Rattle.std.proofs.lemmas.List.{append-nil, length-append, take-append-le}
+use Rattle.std.proofs.lemmas.List.{append-nil, drop-append-le, length-append, length-drop, take-append-le}
+use Rattle.std.proofs.lemmas.Bool.Decides.{nat_tests}
 use Rattle.std.proofs.lemmas.List.Sums.{fold-append}
 use Rattle.std.proofs.Math.Seq.{take-length}
 use Rattle.line_words.specs.Lines.{Line as InputLine}
@@ -10,7 +11,7 @@ use Rattle.room_core.specs.History.{most_entries, replay, after_entry, answer_in
 use Rattle.room_core.specs.Projection.{of_station}
 use Rattle.station_sessions.specs.Longer.{TranscriptsStay}
 use Rattle.station_sessions.specs.Rooms.{room_of, setting_of}
-use Rattle.station_sessions.specs.Transcript.{Wish, Do, See, Point, Write, Bad, Protocol, state_at, answer_at, sight_at, BearsNone, IsFull, Answered, Row, Rows, points_from, Transcript, sent}
+use Rattle.station_sessions.specs.Transcript.{Wish, Do, See, Point, Write, Bad, Protocol, state_at, answer_at, sight_at, BearsNone, IsFull, Answered, Row, Rows, points_from, points_behind, Origin, Transcript, sent}
 
 -- each of these entries that is of the station is of this line or a later one
 abbrev pub OwnFrom : {C : Type 0} → ℕ → ℕ → List (Entry C) → Type 0
@@ -233,17 +234,51 @@ pub no_own : {C : Type 0} (station n line : ℕ) (more : List (Entry C)) → of_
 no_own station n line [] none = (refl, tt)
 no_own station n line (e ∷ es) none = not_own station n line e es (eqb e.station station) refl none (no_own station (n + 1) line es)
 
-pub transcript_more : {S C D R Q X Y : Type 0} (k : Protocol S C D R Q X Y) (o : S) (h more : List (Entry C)) (station : ℕ) (lines : List InputLine) (replies : List (List ℕ))
-    → Transcript k o h station lines replies → length (h ++ more) ≤ most_entries → of_station station (h ++ more) ≡ of_station station h → Transcript k o (h ++ more) station lines replies
-transcript_more k o h more station lines replies (last, rows) within same =
+-- the entries of a station behind those that were kept, with more behind them
+pub points_more : {C : Type 0} (kept station : ℕ) (h more : List (Entry C)) → kept ≤ length h
+    → points_behind kept station (h ++ more) ≡ points_behind kept station h ++ points_from (length h) station more
+points_more kept station h more within =
+    let n : kept + length (drop kept h) ≡ length h = omega (arith, length-drop kept h, within) in
+    ap (points_from kept station) (drop-append-le kept h more within)
+    ∙ (points_append kept station (drop kept h) more ∙ ap (λ i. points_from kept station (drop kept h) ++ points_from i station more) n)
+
+none_dropped : {C : Type 0} (n station : ℕ) (more : List (Entry C)) → of_station station more ≡ [] → of_station station (drop n more) ≡ []
+none_dropped zero station more none = none
+none_dropped (suc n) station [] none = refl
+none_dropped (suc n) station (e ∷ es) none = none_dropped n station es (none_behind (eqb e.station station) none) where
+  none_behind : (b : Bool) → cond b (e ∷ of_station station es) (of_station station es) ≡ [] → of_station station es ≡ []
+  none_behind true h = cc
+  none_behind false h = h
+
+drop_nothing : {C : Type 0} (n : ℕ) → drop {A = Entry C} n [] ≡ []
+drop_nothing zero = refl
+drop_nothing (suc n) = refl
+
+points_past : {C : Type 0} (m station n : ℕ) (h more : List (Entry C)) → of_station station more ≡ [] → length h ≤ n
+    → points_from m station (drop n (h ++ more)) ≡ points_from m station (drop n h)
+points_past m station n [] more none le = (no_own station m 0 (drop n more) (none_dropped n station more none)).0 ∙ sym (ap (points_from m station) (drop_nothing n))
+points_past m station zero (f ∷ fs) more none le = absurd (omega (arith, le))
+points_past m station (suc n) (f ∷ fs) more none le = points_past m station n fs more none (omega (arith, le))
+
+pub points_others : {C : Type 0} (kept station : ℕ) (h more : List (Entry C)) → of_station station more ≡ []
+    → points_behind kept station (h ++ more) ≡ points_behind kept station h
+points_others kept station h more none = by (nat_le kept (length h)) refl where
+  by : (b : Bool) → nat_le kept (length h) ≡ b → points_behind kept station (h ++ more) ≡ points_behind kept station h
+  by true is =
+      points_more kept station h more (grind (arith, nat_tests, is))
+      ∙ (ap (λ ps. points_behind kept station h ++ ps) (no_own station (length h) 0 more none).0 ∙ append-nil (points_behind kept station h))
+  by false is = points_past kept station kept h more none (grind (arith, nat_tests, is))
+
+pub transcript_more : {S C D R Q X Y : Type 0} (k : Protocol S C D R Q X Y) (o : S) (h more : List (Entry C)) (from : Origin) (station : ℕ) (lines : List InputLine) (replies : List (List ℕ)) (unanswered : List ℕ)
+    → Transcript k o h from station lines replies unanswered → length (h ++ more) ≤ most_entries → of_station station (h ++ more) ≡ of_station station h
+    → Transcript k o (h ++ more) from station lines replies unanswered
+transcript_more k o h more from station lines replies unanswered (last, answered, rows, is) within same =
     let none = nothing_behind (of_station station h) (of_station station more) (sym (own_append station h more) ∙ same) in
-    let later = no_own station (0 + length h) (1 + length lines) more none in
-    let points : points_from 0 station (h ++ more) ≡ points_from 0 station h =
-    points_append 0 station h more ∙ (ap (λ ps. points_from 0 station h ++ ps) later.0 ∙ append-nil (points_from 0 station h)) in
-    (last, subst (λ ps. Rows k o (h ++ more) station 1 0 lines replies last ps) (sym points) (rows_more k o h more station 1 0 lines replies last (points_from 0 station h) within later.1 rows))
+    let later = no_own station 0 (from.base + 1 + length lines) more none in
+    (last, answered, rows_more k o h more station (from.base + 1) from.kept lines replies last answered within later.1 rows, points_others from.kept station h more none ∙ is)
 
 pub transcripts_stay : TranscriptsStay
-transcripts_stay o h more station lines replies told legal same = transcript_more (room_of (setting_of o)) o.tracks h more station lines replies told legal.within same
+transcripts_stay o h more from station lines replies told legal same = transcript_more (room_of (setting_of o)) o.tracks h more from station lines replies [] told legal.within same
 
 -- a reply more
 pub sent_more : (rs : List (List ℕ)) (r : List ℕ) → sent (rs ++ r ∷ []) ≡ sent rs ++ (r ++ codes "\n")

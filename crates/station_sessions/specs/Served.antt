@@ -1,16 +1,18 @@
 -- A session that has answered some lines: what has held since it began.
-use Rattle.std.specs.Prelude.{◌≡◌, ℕ, ◌+◌, ◌<◌, ◌≤◌, List, [], ◌∷◌, ◌++◌, Some, length}
+use Rattle.std.specs.Prelude.{◌≡◌, ℕ, ◌+◌, ◌<◌, ◌≤◌, List, [], ◌∷◌, ◌++◌, Some, length, drop}
 use Rattle.line_words.specs.Lines.{Line as InputLine}
 use Rattle.edit_apply.specs.RoomTracks.{IsOpening}
 use Rattle.room_core.specs.declared.entry.Entry.{Entry}
 use Rattle.room_core.specs.History.{most_entries, replay, NumbersRise}
 use Rattle.room_core.specs.Projection.{of_station}
-use Rattle.station_sessions.specs.Transcript.{Protocol, Rows, points_from}
+use Rattle.room_core.specs.Whole.{whole}
+use Rattle.edit_apply.specs.Apply.{editing}
+use Rattle.station_sessions.specs.Transcript.{Protocol, Origin, Rows, points_behind}
 use Rattle.otio_json.specs.declared.opening.Opening.{Opening}
-use Rattle.station_sessions.specs.Rooms.{AreWritten, History, RoomTranscript, room_of, setting_of}
+use Rattle.station_sessions.specs.Rooms.{AreWritten, History, IsLegalIn, RoomTranscript, room_of, setting_of}
 use Rattle.station_sessions.specs.SessionInside.{TrackRoom, setting_at}
 use Rattle.timecode12.specs.Numbers.{Counted}
-use Rattle.station_sessions.specs.Session.{Course, SessionState}
+use Rattle.station_sessions.specs.Session.{Course, StationState}
 
 -- each entry of the station is of a line before this one
 abbrev pub OwnBefore : {C : Type 0} → ℕ → ℕ → List (Entry C) → Type 0
@@ -18,13 +20,14 @@ OwnBefore station line [] = Unit {0}
 OwnBefore station line (e ∷ es) = (e.station ≡ station → e.number < line) × OwnBefore station line es
 
 -- the lines so far have their replies, and the state is what the journal comes to
-pub record Served {S C D R Q X Y : Type 0} (k : Protocol S C D R Q X Y) (station : ℕ) (o : S) (s : Course S C) (ls : List InputLine) (rs : List (List ℕ)) (last : ℕ) : Type 0 where
+pub record Served {S C D R Q X Y : Type 0} (k : Protocol S C D R Q X Y) (station : ℕ) (o : S) (from : Origin) (s : Course S C) (ls : List InputLine) (rs : List (List ℕ)) (last : ℕ) : Type 0 where
   pub opening : s.opening ≡ o
   pub state : replay k.apply o s.journal ≡ Some s.state
-  pub rows : Rows k o s.journal station 1 0 ls rs last (points_from 0 station s.journal)
+  pub rows : Rows k o s.journal station (from.base + 1) from.kept ls rs last (points_behind from.kept station s.journal)
+  pub kept : from.kept ≤ length s.journal
   pub told : last ≤ length s.journal
-  pub line : s.line ≡ 1 + length ls
-  pub before : OwnBefore station (1 + length ls) s.journal
+  pub line : s.line ≡ from.base + 1 + length ls
+  pub before : OwnBefore station (from.base + 1 + length ls) s.journal
   pub rise : NumbersRise s.journal
   pub within : length s.journal ≤ most_entries
 
@@ -32,24 +35,28 @@ pub record Served {S C D R Q X Y : Type 0} (k : Protocol S C D R Q X Y) (station
 -- their replies were taken so.
 abbrev pub Serves : {S C D R Q X Y : Type 0} → Protocol S C D R Q X Y → ℕ → Course S C → Course S C → List InputLine → (List (List ℕ) → Type 0) → Type 0
 Serves {S} {C} {D} {R} {Q} {X} {Y} k station old new lines Taken =
-    (o : S) (ls : List InputLine) (rs : List (List ℕ)) (last : ℕ) → Served k station o old ls rs last
-    → (more : List (List ℕ)) × (after : ℕ) × Served k station o new (ls ++ lines) (rs ++ more) after × Taken more
+    (o : S) (from : Origin) (ls : List InputLine) (rs : List (List ℕ)) (last : ℕ) → Served k station o from old ls rs last
+    → (more : List (List ℕ)) × (after : ℕ) × Served k station o from new (ls ++ lines) (rs ++ more) after × Taken more
 
--- a station's session that has just been opened
-pub record IsFresh (o : Opening) (number : ℕ) (s : SessionState) : Type 0 where
+-- a station's session that begins there
+pub record IsBegun (o : Opening) (from : Origin) (number : ℕ) (s : StationState) : Type 0 where
   pub setting : s.setting ≡ setting_of o
   pub station : s.station ≡ number
   pub opening : s.course.opening ≡ o.tracks
-  pub tracks : s.course.state ≡ o.tracks
-  pub journal : s.course.journal ≡ []
-  pub line : s.course.line ≡ 1
+  pub legal : IsLegalIn o s.course.journal
+  pub tracks : replay (whole (editing o.table)) o.tracks s.course.journal ≡ Some s.course.state
+  pub kept : from.kept ≤ length s.course.journal
+  pub none : of_station number (drop from.kept s.course.journal) ≡ []
+  pub before : OwnBefore number (from.base + 1) s.course.journal
+  pub line : s.course.line ≡ from.base + 1
+  pub written : AreWritten (of_station number s.course.journal)
 
 -- where the station's own entries could be written, they still can
-abbrev pub StaysWritten : SessionState → SessionState → Type 0
+abbrev pub StaysWritten : StationState → StationState → Type 0
 StaysWritten old new = AreWritten (of_station old.station old.course.journal) → AreWritten (of_station old.station new.course.journal)
 
 -- a session answered these lines, as a station of its room
-pub record ServesTo (old new : SessionState) (lines : List InputLine) (Taken : List (List ℕ) → Type 0) : Type 0 where
+pub record ServesTo (old new : StationState) (lines : List InputLine) (Taken : List (List ℕ) → Type 0) : Type 0 where
   pub setting : new.setting ≡ old.setting
   pub station : new.station ≡ old.station
   pub written : AreWritten (of_station old.station old.course.journal) → AreWritten (of_station old.station new.course.journal)
@@ -63,6 +70,6 @@ pub record IsRoomOf (o : Opening) (room : TrackRoom) (counting : Counted) (start
   pub tracks : room.1 ≡ o.tracks
 
 -- what a station knows tells its replies to these lines, and its own entries can be written
-abbrev pub Knows : Opening → ℕ → History → List InputLine → (List (List ℕ) → Type 0) → Type 0
-Knows o station known lines Taken =
-    (replies : List (List ℕ)) × RoomTranscript o known station lines replies × AreWritten (of_station station known) × Taken replies
+abbrev pub Knows : Opening → Origin → ℕ → History → List InputLine → (List (List ℕ) → Type 0) → Type 0
+Knows o from station known lines Taken =
+    (replies : List (List ℕ)) × RoomTranscript o known from station lines replies × AreWritten (of_station station known) × Taken replies

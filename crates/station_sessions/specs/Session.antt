@@ -98,7 +98,7 @@ module _ {S C D R Q X Y : Type 0} (k : Protocol S C D R Q X Y) (station : ℕ) (
   Step wish takes_memory = Does wish ⊎ (IsTrue takes_memory × Says (codes "memory"))
 
 -- a station's session: the room's setting, the station's number, and how far it has come
-pub record SessionState : Type 0 where
+pub record StationState : Type 0 where
   pub setting : Setting
   pub station : ℕ
   pub course : Course (List TrackState) Call
@@ -114,7 +114,7 @@ IsSightReply sight answer = IsReply answer (sight_text_of sight) ⊎ IsReply ans
 
 -- A reply of this text to what a line asks for, after others have committed what they have, and then the line is past.
 -- The station's own entries can be written.
-pub record RepliesWith (old new : SessionState) (wish : Wish Call Ask) (text : List ℕ) : Type 0 where
+pub record RepliesWith (old new : StationState) (wish : Wish Call Ask) (text : List ℕ) : Type 0 where
   pub setting : new.setting ≡ old.setting
   pub station : new.station ≡ old.station
   pub written : AreWritten (of_station old.station old.course.journal) → AreWritten (of_station old.station new.course.journal)
@@ -125,10 +125,10 @@ pub record RepliesWith (old new : SessionState) (wish : Wish Call Ask) (text : L
   pub passed : new.course ≡ past_line answered
   pub line : new.course.line ≡ old.course.line + 1
 
-abbrev pub RepliesShort : SessionState → SessionState → Wish Call Ask → Short → Type 0
+abbrev pub RepliesShort : StationState → StationState → Wish Call Ask → Short → Type 0
 RepliesShort old new wish text = RepliesWith old new wish text
 
-abbrev pub Replies : SessionState → SessionState → Wish Call Ask → Reply → Type 0
+abbrev pub Replies : StationState → StationState → Wish Call Ask → Reply → Type 0
 Replies old new wish answer = (text : List ℕ) × IsReply answer text × RepliesWith old new wish text
 
 -- what a line says, or that there was no memory to read a line whose first word is `link`
@@ -137,7 +137,7 @@ IsMeant setting line result =
     (result ≡ meaning_of setting line) ⊎ (IsTrue (is_linking line) × (result ≡ Err NoMemory))
 
 -- the reply to a line; where there was no memory to read it, that reply
-abbrev pub RepliesTo : SessionState → SessionState → InputLine → Reply → Type 0
+abbrev pub RepliesTo : StationState → StationState → InputLine → Reply → Type 0
 RepliesTo old new line answer =
     Replies old new (wish_in (meaning_of old.setting line)) answer
     ⊎ (IsTrue (is_linking line) × Replies old new (Bad (codes "memory")) answer)

@@ -1,5 +1,5 @@
 -- A station's session as the code keeps it: the room, the station's pass, and the number of its next line.
-use Rattle.std.specs.Prelude.{ℕ, ◌<◌, List, [], Option, Some, None}
+use Rattle.std.specs.Prelude.{◌≡◌, ℕ, ◌<◌, ◌≤◌, List, [], Option, Some, None, length, drop}
 use Rattle.timecode12.specs.Numbers.{Counted}
 use Rattle.composables.specs.TrackState.{TrackState}
 use Rattle.edit_apply.specs.declared.asks.Call.{Call}
@@ -8,9 +8,11 @@ use Rattle.edit_apply.specs.Apply.{editing}
 use Rattle.edit_journal.specs.Seats.{Opening as RoomOpening}
 use Rattle.edit_journal.specs.Turns.{Known, last_of}
 use Rattle.room_core.specs.History.{IsLegal, replay}
+use Rattle.room_core.specs.Projection.{of_station}
 use Rattle.room_core.specs.Whole.{whole}
-use Rattle.station_sessions.specs.Rooms.{History, Setting}
-use Rattle.station_sessions.specs.Session.{Course, SessionState}
+use Rattle.station_sessions.specs.Rooms.{AreWritten, History, Setting}
+use Rattle.station_sessions.specs.Transcript.{Origin}
+use Rattle.station_sessions.specs.Session.{Course, StationState}
 
 -- a room of tracks, by its opening, and what a station's pass knows
 abbrev pub TrackRoom : Type 0
@@ -43,16 +45,28 @@ abbrev pub setting_at : TrackRoom → Counted → ℕ → Setting
 setting_at room counting start = record { table = room.0.table; counting = counting; start = start }
 
 -- a session in a room, with the number of its next line
-abbrev pub session_at : TrackRoom → Option TrackPass → Counted → ℕ → ℕ → SessionState
+abbrev pub session_at : TrackRoom → Option TrackPass → Counted → ℕ → ℕ → StationState
 session_at room pass counting start line = record {
   setting = setting_at room counting start;
   station = station_of pass;
   course = course_at room (known_by pass) line;
 }
 
+-- a legal history of the room's opening
+abbrev pub IsLegalThere : TrackRoom → History → Type 0
+IsLegalThere room h = IsLegal (whole (editing room.0.table)) room.1 h
+
+-- A pass with which a session can begin there: it knows the entries that were kept, its station has none behind them, the
+-- base is the last number of the station, and the station's entries can be written.
+pub record IsOrigin (from : Origin) (pass : TrackPass) : Type 0 where
+  pub kept : from.kept ≤ length pass.entries
+  pub none : of_station pass.number (drop from.kept pass.entries) ≡ []
+  pub base : from.base ≡ last_of pass.number pass.entries
+  pub written : AreWritten (of_station pass.number pass.entries)
+
 -- the entries that the pass knows are legal, and its own are of lines before the next
 pub record IsSeated (room : TrackRoom) (line : ℕ) (pass : TrackPass) : Type 0 where
-  pub legal : IsLegal (whole (editing room.0.table)) room.1 pass.entries
+  pub legal : IsLegalThere room pass.entries
   pub before : last_of pass.number pass.entries < line
 
 -- the session has its pass

@@ -1,6 +1,6 @@
 -- What a station is told: one reply for each of its lines. Each reply but `bad` and `memory` names its point in the
 -- journal, and says what the entries before that point give.
-use Rattle.std.specs.Prelude.{◌≡◌, ◌≢◌, ℕ, ◌+◌, ◌<◌, ◌≤◌, ◌⊎◌, Bool, IsTrue, List, [], ◌∷◌, ◌++◌, Option, Some, Result, Ok, Err, length, max, take, slice_get, codes, decimal, option_map, ◌==◌, if◌then◌else◌}
+use Rattle.std.specs.Prelude.{◌≡◌, ◌≢◌, ℕ, ◌+◌, ◌<◌, ◌≤◌, ◌⊎◌, Bool, IsTrue, List, [], ◌∷◌, ◌++◌, Option, Some, Result, Ok, Err, length, max, take, drop, slice_get, codes, decimal, option_map, ◌==◌, if◌then◌else◌}
 use Rattle.line_words.specs.Lines.{Line as InputLine}
 use Rattle.room_core.specs.declared.entry.Entry.{Entry}
 use Rattle.room_core.specs.History.{answer_in, replay, most_entries}
@@ -144,10 +144,30 @@ abbrev pub points_from : {C : Type 0} → ℕ → ℕ → List (Entry C) → Lis
 points_from n station [] = []
 points_from n station (e ∷ es) = if e.station == station then n ∷ points_from (n + 1) station es else points_from (n + 1) station es
 
--- The lines and replies of a station over a history that begins at this state: each call that was answered `ok` is its
--- entry, and it has no others.
-abbrev pub Transcript : {S C D R Q X Y : Type 0} → Protocol S C D R Q X Y → S → List (Entry C) → ℕ → List InputLine → List (List ℕ) → Type 0
-Transcript k o h station lines replies = (last : ℕ) × Rows k o h station 1 0 lines replies last (points_from 0 station h)
+-- where they stand behind the entries that were kept
+abbrev pub points_behind : {C : Type 0} → ℕ → ℕ → List (Entry C) → List ℕ
+points_behind kept station h = points_from kept station (drop kept h)
+
+-- Where a session begins: behind so many entries, which were kept and count as told; its lines are numbered behind the
+-- base.
+pub record Origin : Type 0 where
+  pub kept : ℕ
+  pub base : ℕ
+
+-- in a room that has just been opened no entry was kept, and the first line is line 1
+abbrev pub new_room : Origin
+new_room = record { kept = 0; base = 0 }
+
+-- the greatest base, from which the lines of one input can be numbered
+abbrev pub most_base : ℕ
+most_base = 4000000000
+
+-- The lines and replies of a station over a history that begins at this state. Behind the entries that were kept the
+-- station has those of the calls that were answered `ok`, and then only those at the points that are unanswered.
+abbrev pub Transcript : {S C D R Q X Y : Type 0} → Protocol S C D R Q X Y → S → List (Entry C) → Origin → ℕ → List InputLine → List (List ℕ) → List ℕ → Type 0
+Transcript k o h from station lines replies unanswered =
+    (last : ℕ) × (answered : List ℕ) × Rows k o h station (from.base + 1) from.kept lines replies last answered
+    × (points_behind from.kept station h ≡ answered ++ unanswered)
 
 -- the replies as they are sent: each ends with a line feed
 abbrev pub sent : List (List ℕ) → List ℕ

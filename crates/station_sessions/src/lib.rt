@@ -10,7 +10,7 @@ mod document_reply;
 pub mod laws;
 mod reply;
 mod serve;
-mod session;
+mod station;
 
-pub use serve::{End, serve_session};
-pub use session::Setting;
+pub use serve::{End, Session, serve_session};
+pub use station::Setting;

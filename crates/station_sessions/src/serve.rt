@@ -4,14 +4,17 @@ ghost use Rattle.line_words.specs.Lines.{Line as InputLine, last_line};
 ghost use Rattle.line_words.specs.Pieces.{ended, pending_after};
 ghost use Rattle.line_words.specs.Told.{line_told};
 ghost use Rattle.room_ports.specs.Counts.{HasRisen};
+ghost use Rattle.edit_journal.specs.Turns.{last_of};
 ghost use Rattle.room_core.specs.Projection.{of_station};
-ghost use Rattle.station_sessions.specs.Outside.{outside, AreSent, LastIsCut};
+ghost use Rattle.station_sessions.specs.Outside.{outside, most_input, AreSent, LastIsCut};
 ghost use Rattle.station_sessions.specs.Rooms.{AreWritten};
 ghost use Rattle.station_sessions.specs.Served.{IsRoomOf, Knows, ServesTo, StaysWritten};
+ghost use Rattle.station_sessions.specs.SessionInside.{IsLegalThere, IsOrigin};
+ghost use Rattle.station_sessions.specs.Transcript.{Origin, most_base};
 ghost use Rattle.otio_json.specs.declared.opening.Opening.{Opening as OpeningOf};
 ghost use Rattle.station_sessions.specs.Serving.{StopsWithin, SessionEnds};
 
-use crate::session::{Session, Setting};
+use crate::station::{Setting, Station};
 use call_text::{CutObject, CutPart};
 use cut_room::Room;
 use edit_journal::{Naming, Pass};
@@ -33,6 +36,12 @@ pub enum End {
     TooMuchInput,
 }
 
+/// A session that has ended: the station's pass, which knows what the last of its answers told of, and how it ended.
+pub struct Session<J: Naming<CutObject, CutPart>> {
+    pub pass: Pass<CutObject, J>,
+    pub end: End,
+}
+
 /// The most bytes of one input.
 const MOST_INPUT: usize = 67_108_864;
 
@@ -41,7 +50,7 @@ const MOST_READ: usize = 8_192;
 
 // Answers a line that has ended.
 fn answer_line<R: Wait, G: Gate, J: Naming<CutObject, CutPart>, K: Sink>(
-    session: &mut Session<'_, R, G, J>,
+    session: &mut Station<'_, R, G, J>,
     end: LineEnd,
     text: &[u8],
     output: &mut K,
@@ -67,7 +76,7 @@ fn answer_line<R: Wait, G: Gate, J: Naming<CutObject, CutPart>, K: Sink>(
 // Answers the lines that end within a piece.
 fn answer_piece<R: Wait, G: Gate, J: Naming<CutObject, CutPart>, K: Sink>(
     reader: &mut LineReader,
-    session: &mut Session<'_, R, G, J>,
+    session: &mut Station<'_, R, G, J>,
     piece: &[u8],
     output: &mut K,
 ) -> Result<(), Failed>
@@ -108,7 +117,7 @@ fn answer_piece<R: Wait, G: Gate, J: Naming<CutObject, CutPart>, K: Sink>(
 // Answers a last line without a line feed.
 fn finish<R: Wait, G: Gate, J: Naming<CutObject, CutPart>, K: Sink>(
     reader: &mut LineReader,
-    session: &mut Session<'_, R, G, J>,
+    session: &mut Station<'_, R, G, J>,
     output: &mut K,
 ) -> Result<(), Failed>
     requires { session.old.course.line + 1 < 2 ^ 32 }
@@ -133,10 +142,11 @@ fn finish<R: Wait, G: Gate, J: Naming<CutObject, CutPart>, K: Sink>(
 
 /// Answers each line of an input, in order, until the input's end, a fault, or more than 64 MiB.
 fn serve<R: Wait, G: Gate, J: Naming<CutObject, CutPart>, L: Line>(
-    session: &mut Session<'_, R, G, J>,
+    session: &mut Station<'_, R, G, J>,
     line: &mut L,
 ) -> End
-    requires { session.old.course.line ≡ 1 }
+    requires { session.old.course.line + most_input + 1 < 2 ^ 32 }
+
     ensures ends { SessionEnds (ServesTo session.old session.new)
         (outside (L.left line.old) (L.read_faults line.old) (L.taken line.old)
         (L.write_faults line.old))
@@ -174,8 +184,9 @@ fn serve<R: Wait, G: Gate, J: Naming<CutObject, CutPart>, L: Line>(
     unreachable!()
 }
 
-/// The session of a station that has no entry yet, over a line, from the line's first byte to its end, a fault, or more
-/// than 64 MiB. The pass knows then what the last of its answers told of.
+/// The session of a station over a line, from the line's first byte to its end, a fault, or more than 64 MiB. The lines
+/// are numbered behind the last number of the station's own entries, so a room may have been opened on a journal that was
+/// kept.
 pub fn serve_session<R: Wait, G: Gate, J: Naming<CutObject, CutPart>, L: Line>(
     rt: &R,
     alloc: Global,
@@ -184,19 +195,24 @@ pub fn serve_session<R: Wait, G: Gate, J: Naming<CutObject, CutPart>, L: Line>(
     pass: Pass<CutObject, J>,
     setting: Setting,
     line: &mut L,
-) -> (Pass<CutObject, J>, End)
-    requires { pass.entries ≡ [] }
-    ensures ends { (o : OpeningOf) → IsRoomOf o room.now setting.counting setting.start
-        → SessionEnds (Knows o pass.number result.0.entries)
+) -> Session<J>
+    requires legal { IsLegalThere room.now pass.entries }
+    requires base { last_of pass.number pass.entries ≤ most_base }
+
+    ensures ends { (o : OpeningOf) (from : Origin)
+        → IsRoomOf o room.now setting.counting setting.start → IsOrigin from pass
+        → SessionEnds (Knows o from pass.number result.pass.entries)
         (outside (L.left line.old) (L.read_faults line.old) (L.taken line.old)
         (L.write_faults line.old))
         (outside (L.left line.new) (L.read_faults line.new) (L.taken line.new)
-        (L.write_faults line.new)) result.1 }
-    ensures station { result.0.number ≡ pass.number }
-    ensures written { AreWritten (of_station pass.number result.0.entries) }
+        (L.write_faults line.new)) result.end }
+    ensures station { result.pass.number ≡ pass.number }
+    ensures written { AreWritten (of_station pass.number pass.entries)
+        → AreWritten (of_station pass.number result.pass.entries) }
     ensures lent { L.lent line.new ≡ L.lent line.old }
 {
-    let mut session = Session {
+    let line_number = pass.last() + 1;
+    let mut station = Station {
         rt,
         alloc,
         room,
@@ -204,8 +220,11 @@ pub fn serve_session<R: Wait, G: Gate, J: Naming<CutObject, CutPart>, L: Line>(
         pass: Some(pass),
         counting: setting.counting,
         start: setting.start,
-        line: 1,
+        line: line_number,
     };
-    let end = serve(&mut session, line);
-    (session.into_pass(), end)
+    let end = serve(&mut station, line);
+    Session {
+        pass: station.into_pass(),
+        end,
+    }
 }

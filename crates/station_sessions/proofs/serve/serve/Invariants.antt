@@ -6,7 +6,7 @@ use Rattle.station_sessions.proofs.serve.serve.Given as goal
 abbrev pub invariant-loop-total : goal.invariant-loop-total
 invariant-loop-total g l = record {
   buffer : length l.buffer ≡ 8192;
-  number : l.session.course.line ≤ 1 + l.total;
+  number : l.session.course.line ≤ l.fn.session.course.line + l.total;
   station : l.session.station ≡ l.fn.session.station;
   lent : g.L.Line.lent l.line ≡ g.L.Line.lent l.fn.line;
   so_far : (got : List ℕ) × (l.total ≡ length got) × SoFar l.fn.session l.session

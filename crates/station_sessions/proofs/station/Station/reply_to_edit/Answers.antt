@@ -1,6 +1,6 @@
 use Rattle.std.proofs.Common.{sym, ◌∙◌}
 use Rattle.station_sessions.proofs.Replying.{edit_replied, edit_seated}
-use Rattle.station_sessions.proofs.session.Session.reply_to_edit.Goals as goal
+use Rattle.station_sessions.proofs.station.Station.reply_to_edit.Goals as goal
 
 pub unreachable-requires : goal.unreachable-requires
 unreachable-requires g c = rw (sym c.take.ensures.value ∙ c.in-None.is) at c.self.invariant

@@ -1,6 +1,6 @@
 use Rattle.reply_text.specs.Replies.{fault_of}
 use Rattle.station_sessions.proofs.Replying.{bad_replied, same_seated}
-use Rattle.station_sessions.proofs.session.Session.reply_to_none.Goals as goal
+use Rattle.station_sessions.proofs.station.Station.reply_to_none.Goals as goal
 
 pub returns-clause-replies : goal.returns-clause-replies
 returns-clause-replies g c =

@@ -1,6 +1,6 @@
 use Rattle.line_words.specs.Told.{line_told}
 use Rattle.station_sessions.proofs.Replying.{told_line}
-use Rattle.station_sessions.proofs.session.Session.answer.Goals as goal
+use Rattle.station_sessions.proofs.station.Station.answer.Goals as goal
 
 pub returns : goal.returns
 returns g c =

@@ -9,7 +9,8 @@ ghost use Rattle.station_sessions.specs.Session.{IsSightReply};
 use crate::document_reply::cut_reply;
 use crate::reply::{Reply, ended};
 use call_text::{
-    CutObject, CutPart, Line, LineFault, Short, answer_text, fault_text, point_text, read_line, sight_text,
+    CutObject, CutPart, Line, LineFault, Short, answer_text, fault_text, point_text, read_line,
+    sight_text,
 };
 use composables::Memory;
 use cut_room::{Answer, Room, Sight};
@@ -33,7 +34,7 @@ pub struct Setting {
 
 /// A station in a room. Contracts see the room's setting, the station's number, what it knows of the journal, and the
 /// number of its next line.
-pub(crate) struct Session<'a, R, G, J: Naming<CutObject, CutPart>> {
+pub(crate) struct Station<'a, R, G, J: Naming<CutObject, CutPart>> {
     pub(crate) rt: &'a R,
     pub(crate) alloc: Global,
     pub(crate) room: &'a Room<CutObject, J>,
@@ -44,18 +45,18 @@ pub(crate) struct Session<'a, R, G, J: Naming<CutObject, CutPart>> {
     pub(crate) line: u32,
 }
 
-impl<'a, R, G, J: Naming<CutObject, CutPart>> Model for Session<'a, R, G, J> {
-    ghost use Rattle.station_sessions.specs.Session.{SessionState};
+impl<'a, R, G, J: Naming<CutObject, CutPart>> Model for Station<'a, R, G, J> {
+    ghost use Rattle.station_sessions.specs.Session.{StationState};
     ghost use Rattle.station_sessions.specs.SessionInside.{session_at, IsSession};
 
-    ghost Value = { SessionState };
+    ghost Value = { StationState };
 
     ghost view = { λ s. session_at s.room.now s.pass s.counting s.start s.line };
 
     ghost invariant = { λ s. IsSession s.room.now s.line s.pass };
 }
 
-impl<'a, R: Wait, G: Gate, J: Naming<CutObject, CutPart>> Session<'a, R, G, J> {
+impl<'a, R: Wait, G: Gate, J: Naming<CutObject, CutPart>> Station<'a, R, G, J> {
     ghost use Rattle.std.specs.Prelude.{◌≡◌, ◌+◌, ◌<◌, ◌≤◌, ◌^◌, ◌++◌, IfOk, codes, length};
     ghost use Rattle.line_words.specs.Told.{line_told};
     ghost use Rattle.call_text.specs.CallTexts.{IsWritten, NamesWritten};
@@ -69,7 +70,7 @@ impl<'a, R: Wait, G: Gate, J: Naming<CutObject, CutPart>> Session<'a, R, G, J> {
         ensures entries { result.entries ≡ self.entry.course.journal }
         ensures number { result.number ≡ self.entry.station }
     {
-        let Session {
+        let Station {
             rt: _,
             alloc: _,
             room: _,

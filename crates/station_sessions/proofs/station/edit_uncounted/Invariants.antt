@@ -1,4 +1,4 @@
-use Rattle.station_sessions.proofs.session.edit_uncounted.Given as goal
+use Rattle.station_sessions.proofs.station.edit_uncounted.Given as goal
 
 abbrev pub ghosts-edit_counted : goal.ghosts-edit_counted
 ghosts-edit_counted g a = record { name = a.ledger.name; parts = a.ledger.parts }
