@@ -11,3 +11,6 @@ pub mod DeltaSlip
 pub mod DeltaReach
 pub mod DeltaRipple
 pub mod DeltaLaw
+pub mod ShownCells
+pub mod ShownTracks
+pub mod ShownLaws

@@ -1,5 +1,5 @@
 -- Insert and extract: what moves on all named tracks, with links split, leaves them good.
-use Rattle.std.proofs.Common.{◌≡◌, ℕ, ◌+◌, ◌-◌, ◌≤◌, List, [], ◌∷◌, All, Option, Some, None, Ok, refl, sym, ◌∙◌, arith, subst}
+use Rattle.std.proofs.Common.{◌≡◌, ℕ, ◌+◌, ◌≤◌, List, [], ◌∷◌, All, Option, Some, None, Ok, refl, sym, ◌∙◌, arith, subst}
 use Rattle.composables.specs.declared.calls.Extract.{Extract}
 use Rattle.composables.specs.declared.calls.Insert.{Insert}
 use Rattle.composables.specs.declared.items.ItemView.{ItemView}

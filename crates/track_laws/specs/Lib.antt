@@ -1,2 +1,3 @@
--- To be read: public clauses speak of it.
+-- To be read: public clauses speak of these.
 pub mod Goods
+pub mod Shown

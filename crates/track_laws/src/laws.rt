@@ -1,6 +1,7 @@
 // What is true of tracks under the calls of a room, whatever numbers they have given away.
 ghost use Rattle.track_laws.specs.Goods.{DissolvingKeepsGood, LinkingKeepsGood};
 ghost use Rattle.track_laws.specs.Goods.{MovingKeepsGood, PuttingInKeepsGood, ShiftingKeepsGood};
+ghost use Rattle.track_laws.specs.Shown.{PutsNothing, PutsOnlyItsThing};
 
 /// Where the tracks that a call names are all good in a table whose ranges end by 2^32, they are all good after the call
 /// where it is done.
@@ -10,4 +11,11 @@ pub fn good_law()
     ensures moving { MovingKeepsGood }
     ensures dissolving { DissolvingKeepsGood }
     ensures linking { LinkingKeepsGood }
+{}
+
+/// Whatever a track shows after a call that is done, it showed before, or it is what the call puts on its own track; and
+/// that suits the track's kind, so that no nest comes on a track of sound.
+pub fn shown_law()
+    ensures putting_in { PutsOnlyItsThing }
+    ensures others { PutsNothing }
 {}

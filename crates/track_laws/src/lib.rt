@@ -1,9 +1,9 @@
-//! Tracks that are good in a table stay so under every call.
+//! What every call leaves of the tracks that it names.
 //!
-//! The main contract is that of `good_law`: what each call means for the tracks that it names leaves them good. It is a
-//! law, with nothing to run.
+//! The main contract is that of `good_law`: what each call means for the tracks that it names leaves them good.
+//! `shown_law` says which things they show then. These are laws, with nothing to run.
 #![tactic(auto)]
 
 mod laws;
 
-pub use laws::good_law;
+pub use laws::{good_law, shown_law};
