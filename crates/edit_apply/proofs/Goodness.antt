@@ -1,17 +1,17 @@
 -- Each call keeps the tracks of a room good, so they are good at every point of its history.
-use Rattle.std.proofs.Common.{◌≡◌, ℕ, zero, suc, ◌+◌, ◌≤◌, List, [], ◌∷◌, All, fold, length, slice_get, slice_set, Option, Some, None, Ok, Err, refl, sym, ap, ◌∙◌, arith, subst}
-use Rattle.std.proofs.lemmas.List.Elements.{All-cons}
+use Rattle.std.proofs.Common.{◌≡◌, ℕ, ◌+◌, ◌≤◌, List, [], ◌∷◌, All, fold, length, Option, Some, None, Ok, Err, refl, sym, ap, ◌∙◌, arith, subst}
 use Rattle.composables.specs.declared.media.Table.{Table}
 use Rattle.composables.specs.declared.refusals.Refusal.{Refusal}
 use Rattle.composables.specs.Answers.{Applied}
 use Rattle.composables.specs.Good.{IsGood}
 use Rattle.composables.specs.OwnTracks.{numbers_of}
 use Rattle.composables.specs.TrackState.{TrackState}
-use Rattle.edit_splice.proofs.Standing.{all_head, all_none, all_tail}
+use Rattle.edit_splice.proofs.Standing.{all_head, all_tail}
 use Rattle.room_core.specs.declared.entry.Entry.{Entry}
 use Rattle.room_core.specs.History.{after_entry, replay, state_in}
 use Rattle.room_core.specs.Parts.{AscendBetween, numbers}
-use Rattle.room_core.specs.Whole.{on_whole, picked, put_back, unless_refused, whole, with_picked}
+use Rattle.room_core.proofs.WholeParts.{roomy_picked}
+use Rattle.room_core.specs.Whole.{on_whole, picked, put_back, unless_refused, whole}
 use Rattle.link_laws.specs.Given.{AreGiven, LeavesGiven}
 use Rattle.link_laws.specs.Histories.{GoodBefore}
 use Rattle.link_laws.specs.Rooms.{AreNamed, AreTracks, IsNumbered, with_tracks}
@@ -31,6 +31,7 @@ use Rattle.edit_apply.specs.Apply.{applied_on, editing, names_of, refuse_names_o
 use Rattle.edit_apply.specs.LinkLaws.{editing-given, tracks-bare, tracks-good, tracks-numbered}
 use Rattle.edit_apply.specs.NamingLaws.{editing-named}
 use Rattle.edit_apply.specs.RoomTracks.{IsOpening}
+use Rattle.edit_apply.specs.RoomyLaws.{all-put, no_state}
 use Rattle.edit_apply.specs.TogetherLaws.{RoomsStayGood}
 
 -- on the tracks that it names
@@ -51,46 +52,20 @@ good_applied table (call.Ripple c) = moving-keeps.ripple table c
 good_applied table (call.Link3 c) = linking-keeps.link table c
 good_applied table (call.Unlink c) = linking-keeps.unlink table c
 
--- tracks picked by their numbers, and put back
-
-good_at : (table : Table) (ts : List TrackState) (k : ℕ) (t : TrackState) → All (IsGood table) ts → slice_get ts k ≡ Some t → IsGood table t
-good_at table [] k t g e = absurd cc
-good_at table (u ∷ us) zero t g e = let same : u ≡ t = cc in subst (IsGood table) same (all_head (IsGood table) u us g)
-good_at table (u ∷ us) (suc k) t g e = good_at table us k t (all_tail (IsGood table) u us g) e
-
-good_picked : (table : Table) (all : List TrackState) (names : List ℕ) → All (IsGood table) all → All (IsGood table) (picked all names)
-good_picked table all [] g = all_none (IsGood table)
-good_picked table all (n ∷ ns) g = by (slice_get all n) refl (good_picked table all ns g) where
-  by : (o : Option TrackState) → slice_get all n ≡ o → All (IsGood table) (picked all ns) → All (IsGood table) (with_picked o (picked all ns))
-  by None e rest = rest
-  by (Some t) e rest = All-cons (IsGood table) t (picked all ns) (good_at table all n t g e) rest
-
-good_set : (table : Table) (k : ℕ) (p : TrackState) (ts : List TrackState) → All (IsGood table) ts → IsGood table p → All (IsGood table) (slice_set ts k p)
-good_set table k p [] g h = all_none (IsGood table)
-good_set table zero p (t ∷ ts) g h = All-cons (IsGood table) p ts h (all_tail (IsGood table) t ts g)
-good_set table (suc k) p (t ∷ ts) g h =
-    All-cons (IsGood table) t (slice_set ts k p) (all_head (IsGood table) t ts g) (good_set table k p ts (all_tail (IsGood table) t ts g) h)
-
-good_back : (table : Table) (all : List TrackState) (names : List ℕ) (us : List TrackState) → All (IsGood table) all → All (IsGood table) us → All (IsGood table) (put_back all names us)
-good_back table all [] us g h = g
-good_back table all (n ∷ ns) [] g h = g
-good_back table all (n ∷ ns) (u ∷ us) g h =
-    good_back table (slice_set all n u) ns us (good_set table n u all g (all_head (IsGood table) u us h)) (all_tail (IsGood table) u us h)
-
 -- the tracks of a room at a point of its history
 
-record IsRoomAt (table : Table) (all : List TrackState) : Type 0 where
-  numbered : Numbered 0 all
-  count : length all ≡ track_count table
-  given : AreGiven all
-  good : All (IsGood table) all
+pub record IsRoomAt (table : Table) (all : List TrackState) : Type 0 where
+  pub numbered : Numbered 0 all
+  pub count : length all ≡ track_count table
+  pub given : AreGiven all
+  pub good : All (IsGood table) all
 
-are_tracks : (table : Table) (from : ℕ) (ts : List TrackState) → Numbered from ts → from + length ts ≤ 32 → All (IsGood table) ts → AreTracks table ts
-are_tracks table from [] h le g = tt
-are_tracks table from (t ∷ ts) h le g =
-    (omega (arith, h.0, le), all_head (IsGood table) t ts g, are_tracks table (from + 1) ts h.1 (omega (arith, le)) (all_tail (IsGood table) t ts g))
+pub are-tracks : (table : Table) (from : ℕ) (ts : List TrackState) → Numbered from ts → from + length ts ≤ 32 → All (IsGood table) ts → AreTracks table ts
+are-tracks table from [] h le g = tt
+are-tracks table from (t ∷ ts) h le g =
+    (omega (arith, h.0, le), all_head (IsGood table) t ts g, are-tracks table (from + 1) ts h.1 (omega (arith, le)) (all_tail (IsGood table) t ts g))
 
-abbrev LeavesRoom : Table → Applied → Type 0
+abbrev pub LeavesRoom : Table → Applied → Type 0
 LeavesRoom table (Ok (us, d)) = IsRoomAt table us
 LeavesRoom table (Err why) = Unit {0}
 
@@ -108,11 +83,11 @@ module _ (table : Table) (bounded : IsBounded table) where
         numbered = order.0;
         count = order.1 ∙ h.count;
         given = subst AreGiven (sym put) s.given;
-        good = good_back table all (names_of c) us h.good (good_applied table c (picked all (names_of c)) us d bounded n (good_picked table all (names_of c) h.good) e);
+        good = all-put (IsGood table) all (names_of c) us h.good (good_applied table c (picked all (names_of c)) us d bounded n (roomy_picked (IsGood table) all (names_of c) h.good) e);
       }
 
-  room_call : (all : List TrackState) (c : Call) → IsRoomAt table all → LeavesRoom table (whole (editing table) all c)
-  room_call all c h = by (refuse_names_of table c) refl where
+  pub room-call : (all : List TrackState) (c : Call) → IsRoomAt table all → LeavesRoom table (whole (editing table) all c)
+  room-call all c h = by (refuse_names_of table c) refl where
     by : (o : Option Refusal) → refuse_names_of table c ≡ o → LeavesRoom table (unless_refused o (on_whole all (names_of c) (applied_on table (picked all (names_of c)) c)))
     by (Some why) e = tt
     by None e =
@@ -123,22 +98,18 @@ module _ (table : Table) (bounded : IsBounded table) where
         let named : AreNamed all (picked all (names_of c)) = record { among = among-picked all (names_of c) h.numbered; ascend = ascend-picked all 0 (names_of c) h.numbered a } in
         room_back all c (applied_on table (picked all (names_of c)) c) h a n refl ((editing-given table).keeps c all (picked all (names_of c)) n room named h.given)
 
-  past_state : (es : List (Entry Call)) → fold (after_entry (whole (editing table))) None es ≡ None
-  past_state [] = refl
-  past_state (e ∷ es) = past_state es
-
   -- before each entry, and after the last
-  room_history : (all qs : List TrackState) (es : List (Entry Call)) → IsRoomAt table all → replay (whole (editing table)) all es ≡ Some qs
+  pub room-history : (all qs : List TrackState) (es : List (Entry Call)) → IsRoomAt table all → replay (whole (editing table)) all es ≡ Some qs
       → GoodBefore table (whole (editing table)) (Some all) es × IsRoomAt table qs
-  room_history all qs [] h comes = let same : all ≡ qs = Prim.grind (arith, comes) in (tt, subst (IsRoomAt table) same h)
-  room_history all qs (e ∷ es) h comes =
-      let r = by (whole (editing table) all e.call) (room_call all e.call h) comes (λ us. room_history us qs es) in
-      ((are_tracks table 0 all h.numbered (omega (arith, h.count)) h.good, r.0), r.1) where
+  room-history all qs [] h comes = let same : all ≡ qs = Prim.grind (arith, comes) in (tt, subst (IsRoomAt table) same h)
+  room-history all qs (e ∷ es) h comes =
+      let r = by (whole (editing table) all e.call) (room-call all e.call h) comes (λ us. room-history us qs es) in
+      ((are-tracks table 0 all h.numbered (omega (arith, h.count)) h.good, r.0), r.1) where
         by : (r : Applied) → LeavesRoom table r → fold (after_entry (whole (editing table))) (state_in r) es ≡ Some qs
             → ((us : List TrackState) → IsRoomAt table us → replay (whole (editing table)) us es ≡ Some qs → GoodBefore table (whole (editing table)) (Some us) es × IsRoomAt table qs)
             → GoodBefore table (whole (editing table)) (state_in r) es × IsRoomAt table qs
         by (Ok (us, d)) s cs later = later us s cs
-        by (Err why) s cs later = let none = sym (past_state es) ∙ cs in absurd (Prim.grind (arith, none))
+        by (Err why) s cs later = let none = sym (no_state (whole (editing table)) es) ∙ cs in absurd (Prim.grind (arith, none))
 
 opening_room : (table : Table) (ps : List TrackState) → IsOpening table ps → IsRoomAt table ps
 opening_room table ps opens =
@@ -149,7 +120,7 @@ opening_room table ps opens =
 -- a history that begins with an opening
 pub good-before : (table : Table) (ps qs : List TrackState) (entries : List (Entry Call)) → IsOpening table ps → replay (whole (editing table)) ps entries ≡ Some qs
     → GoodBefore table (whole (editing table)) (Some ps) entries
-good-before table ps qs entries opens comes = (room_history table opens.bounded ps qs entries (opening_room table ps opens) comes).0
+good-before table ps qs entries opens comes = (room-history table opens.bounded ps qs entries (opening_room table ps opens) comes).0
 
 pub rooms-good : RoomsStayGood
-rooms-good table ps qs entries opens comes = (room_history table opens.bounded ps qs entries (opening_room table ps opens) comes).1.good
+rooms-good table ps qs entries opens comes = (room-history table opens.bounded ps qs entries (opening_room table ps opens) comes).1.good

@@ -3,9 +3,8 @@ pub mod Apply
 pub mod RoomTracks
 pub mod See
 pub mod TogetherLaws
--- For the steps of the code, for proofs and for tests.
+-- Lemmas with their proofs, which say nothing that a reader needs: the laws of the editor as an object cite the last
+-- names of NamingLaws and of RoomyLaws, and what such a law cites stands here.
 pub mod NamingLaws
-pub mod PlainCells
-pub mod YoungTracks
 pub mod LinkLaws
 pub mod RoomyLaws

@@ -21,9 +21,9 @@ use Rattle.edit_apply.specs.declared.asks.Call.{Call}
 use Rattle.edit_apply.specs.declared.asks.Call.TheVariants as call
 use Rattle.edit_apply.specs.Apply.{applied_on, editing, names_of, refuse_names_of, track_count}
 use Rattle.edit_apply.specs.LinkLaws.{links-last, tracks-good}
-use Rattle.edit_apply.specs.PlainCells.{ArePlain, plain-more, plain-views}
+use Rattle.track_laws.proofs.PlainCells.{ArePlain, plain-more, plain-views}
 use Rattle.edit_apply.specs.RoomTracks.{IsOpening}
-use Rattle.edit_apply.specs.YoungTracks.{AreYoung, IsYoung, all-more, young-dissolve, young-extract, young-fill, young-insert, young-link, young-overwrite, young-remove, young-ripple, young-roll, young-slice, young-slide, young-slip, young-trim, young-undissolve, young-unlink}
+use Rattle.track_laws.proofs.YoungTracks.{AreYoung, IsYoung, all-more, young-dissolve, young-extract, young-fill, young-insert, young-link, young-overwrite, young-remove, young-ripple, young-roll, young-slice, young-slide, young-slip, young-trim, young-undissolve, young-unlink}
 
 -- a call on the named tracks
 young_applied : (n : ℕ) (table : Table) (ts : List TrackState) (c : Call) → All (IsYoung n) ts → AreYoung (n + 2) (applied_on table ts c)
@@ -43,23 +43,21 @@ young_applied n table ts (call.Ripple c) h = young-ripple n table ts c h
 young_applied n table ts (call.Link3 c) h = young-link n ts c h
 young_applied n table ts (call.Unlink c) h = young-unlink n ts c h
 
--- and on all
-set_young : (n : ℕ) (ts : List TrackState) (i : ℕ) (u : TrackState) → All (IsYoung n) ts → IsYoung n u → All (IsYoung n) (slice_set ts i u)
-set_young n [] i u h y = h
-set_young n (t ∷ ts) zero u h y = All-cons (IsYoung n) u ts y (all_tail (IsYoung n) t ts h)
-set_young n (t ∷ ts) (suc i) u h y =
-    All-cons (IsYoung n) t (slice_set ts i u) (all_head (IsYoung n) t ts h) (set_young n ts i u (all_tail (IsYoung n) t ts h) y)
+-- and on all: what each track has it keeps where those that are put back have it
+pub all-set : (P : TrackState → Type 0) (ts : List TrackState) (i : ℕ) (u : TrackState) → All P ts → P u → All P (slice_set ts i u)
+all-set P [] i u h y = h
+all-set P (t ∷ ts) zero u h y = All-cons P u ts y (all_tail P t ts h)
+all-set P (t ∷ ts) (suc i) u h y = All-cons P t (slice_set ts i u) (all_head P t ts h) (all-set P ts i u (all_tail P t ts h) y)
 
-put_young : (n : ℕ) (ts : List TrackState) (names : List ℕ) (us : List TrackState) → All (IsYoung n) ts → All (IsYoung n) us → All (IsYoung n) (put_back ts names us)
-put_young n ts [] us h k = h
-put_young n ts (i ∷ is) [] h k = h
-put_young n ts (i ∷ is) (u ∷ us) h k =
-    put_young n (slice_set ts i u) is us (set_young n ts i u h (all_head (IsYoung n) u us k)) (all_tail (IsYoung n) u us k)
+pub all-put : (P : TrackState → Type 0) (ts : List TrackState) (names : List ℕ) (us : List TrackState) → All P ts → All P us → All P (put_back ts names us)
+all-put P ts [] us h k = h
+all-put P ts (i ∷ is) [] h k = h
+all-put P ts (i ∷ is) (u ∷ us) h k = all-put P (slice_set ts i u) is us (all-set P ts i u h (all_head P u us k)) (all_tail P u us k)
 
 young_whole : (n : ℕ) (ts : List TrackState) (names : List ℕ) (why : Option Refusal) (r : Applied) → All (IsYoung n) ts → AreYoung (n + 2) r
     → AreYoung (n + 2) (unless_refused why (on_whole ts names r))
 young_whole n ts names (Some why) r h k = tt
-young_whole n ts names None (Ok (us, d)) h k = put_young (n + 2) ts names us (all-more n (n + 2) ts (omega arith) h) k
+young_whole n ts names None (Ok (us, d)) h k = all-put (IsYoung (n + 2)) ts names us (all-more n (n + 2) ts (omega arith) h) k
 young_whole n ts names None (Err r) h k = tt
 
 young_call : (n : ℕ) (table : Table) (ts : List TrackState) (c : Call) → All (IsYoung n) ts → AreYoung (n + 2) (whole (editing table) ts c)
@@ -68,7 +66,7 @@ young_call n table ts c h =
     (young_applied n table (picked ts (names_of c)) c (roomy_picked (IsYoung n) ts (names_of c) h))
 
 -- a history
-no_state : {S C D R : Type 0} (apply : S → C → Result (S × D) R) (entries : List (Entry C)) → fold (after_entry apply) None entries ≡ None
+pub no_state : {S C D R : Type 0} (apply : S → C → Result (S × D) R) (entries : List (Entry C)) → fold (after_entry apply) None entries ≡ None
 no_state apply [] = refl
 no_state apply (e ∷ es) = no_state apply es
 

@@ -11,6 +11,8 @@ pub mod DeltaSlip
 pub mod DeltaReach
 pub mod DeltaRipple
 pub mod DeltaLaw
+pub mod PlainCells
+pub mod YoungTracks
 pub mod ShownCells
 pub mod ShownTracks
 pub mod ShownLaws

@@ -63,7 +63,7 @@ use Rattle.edit_splice.proofs.Numbers.{if-weaker}
 use Rattle.link_groups.specs.ItemLinks.{carries, link_of}
 use Rattle.link_groups.specs.LinkedItems.{item_of, linked_found, linked_item}
 use Rattle.link_groups.specs.Linking.{all_linked, home_risen, link_named, link_refusal, linked, new_link, unlink_named, unlink_on, where_there}
-use Rattle.edit_apply.specs.PlainCells.{ArePlain, IsPlain, plain-append, plain-at, plain-changed, plain-drop, plain-linked-on, plain-marked, plain-more, plain-relinked, plain-spliced, plain-take, plain-views}
+use Rattle.track_laws.proofs.PlainCells.{ArePlain, IsPlain, plain-append, plain-at, plain-changed, plain-drop, plain-linked-on, plain-marked, plain-more, plain-relinked, plain-spliced, plain-take, plain-views}
 
 -- a track that has given away at most this many item numbers
 pub record IsYoung (n : ℕ) (t : TrackState) : Type 0 where
