@@ -13,4 +13,4 @@ mod sights;
 
 pub use asks::{Ask, AskRefusal, Call, Seen};
 pub use editor::Editor;
-pub use laws::{good_law, together_law};
+pub use laws::{good_law, kinds_law, together_law};

@@ -131,10 +131,10 @@ link_of n p (v ∷ vs) l o e h =
 good_link : (table : Table) (t : TrackState) (l : Link) (o : Option ℤ) → IsGood table t → Shows 0 t.cells l o → IsLinkOf t.number (Some l)
 good_link table t l o g h = link_of t.number 0 (items_of t.cells) l o g.links (subst (λ (cs : List Cell). Shows 0 cs l o) (sym g.kept.whole) h)
 
-home_bit : (table : Table) (ts : List TrackState) (l : Link) (o : Option ℤ) → AreTracks table ts → Sees ts l o → IsBitSet l.tracks l.home
-home_bit table [] l o a h = absurd h
-home_bit table (t ∷ ts) l o a (inl h) = (good_link table t l o a.1 h).1
-home_bit table (t ∷ ts) l o a (inr h) = home_bit table ts l o a.2 h
+pub home-bit : (table : Table) (ts : List TrackState) (l : Link) (o : Option ℤ) → AreTracks table ts → Sees ts l o → IsBitSet l.tracks l.home
+home-bit table [] l o a h = absurd h
+home-bit table (t ∷ ts) l o a (inl h) = (good_link table t l o a.1 h).1
+home-bit table (t ∷ ts) l o a (inr h) = home-bit table ts l o a.2 h
 
 pub rest-bit : (table : Table) (named ts : List TrackState) (l : Link) (o : Option ℤ) → AreTracks table ts → SeesRest named ts l o
     → (n : ℕ) × (n < 32) × (track_numbered n named ≡ None) × IsBitSet l.tracks n
@@ -239,7 +239,7 @@ shift-start table all named us x y z Put tracks among g each inside = record { a
   high l a s =
       let r = moved l a s in
       let below = g.below l r.0 (seen l r.0 r.1) in
-      let home = inside l r.0 r.1 l.home (home_low table all l.home l.number tracks below) (home_bit table all l r.0 tracks (seen l r.0 r.1)) in
+      let home = inside l r.0 r.1 l.home (home_low table all l.home l.number tracks below) (home-bit table all l r.0 tracks (seen l r.0 r.1)) in
       (same l.home ∙ home, omega (arith, below, next l.home home))
 
   one : (l : Link) → Carries (cells_from z us) l → MaySplit us l
