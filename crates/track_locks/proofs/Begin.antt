@@ -39,7 +39,7 @@ numbers_length : (from count : ℕ) → length (numbers from count) ≡ count
 numbers_length from zero = omega arith
 numbers_length from (suc count) = let r = numbers_length (from + 1) count in omega (arith, r)
 
-numbers_at : (from count k d : ℕ) → k < count → get_or (numbers from count) k d ≡ from + k
+pub numbers_at : (from count k d : ℕ) → k < count → get_or (numbers from count) k d ≡ from + k
 numbers_at from zero k d lt = absurd (omega (arith, lt))
 numbers_at from (suc count) zero d lt = omega arith
 numbers_at from (suc count) (suc k) d lt = let r = numbers_at (from + 1) count k d (omega (arith, lt)) in omega (arith, r)
@@ -132,3 +132,6 @@ few_versions {O} {P} {C} meaning opens opening ns ps vs ss h = λ k d lt.
 
 pub all_front : {A : Type 0} (P : A → Type 0) (xs : List A) (x : A) → All P (xs ++ x ∷ []) → All P xs
 all_front P xs x h = λ k d lt. subst P (get_or_append_left xs (x ∷ []) d k lt) (h k d (omega (arith, lt, length-append xs (x ∷ []))))
+
+pub all_end : {A : Type 0} (P : A → Type 0) (xs : List A) (x : A) → All P (xs ++ x ∷ []) → P x
+all_end P xs x h = subst P (get_or-append_seam xs x [] x) (h (length xs) x (omega (arith, length-append xs (x ∷ []))))

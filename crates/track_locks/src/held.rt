@@ -1,6 +1,6 @@
 // Parts whose locks were taken.
 ghost use Rattle.std.specs.Prelude.{◌≡◌, ◌<◌, ◌≤◌, ◌+◌, ℕ, List, [], length, map, All, IfOk, vec_len, vec_capacity};
-ghost use Rattle.room_core.specs.Parts.{AscendBetween};
+ghost use Rattle.room_core.specs.Parts.{AscendBetween, numbers as numbers_from};
 ghost use Rattle.edit_journal.specs.declared.name.Name.TheVariants.{Part};
 ghost use Rattle.edit_journal.specs.Seats.{In};
 ghost use Rattle.track_locks.specs.Homes.{AreGoodAt, AreHomes, CanGive, all_gathered, all_given};
@@ -177,6 +177,7 @@ fn put_back<O: PartObject, J: Naming<O, O::Part>, R: Wait>(
     mut versions: Vec<u32>,
     mut seats: Vec<PartSeat<O, J>>,
 )
+    requires places { places.now ≡ numbers_from 0 (length places.now) }
     requires within { All (λ n. n < length places.now) numbers.items }
     requires homes { AreHomes O.meaning O.opens J.opening numbers.items parts.items versions.items
         seats.items }

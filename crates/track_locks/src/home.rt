@@ -41,16 +41,28 @@ impl<O: PartObject, J: Naming<O, O::Part>> Home<O, J> {
     }
 }
 
-// A lock: a home, or none while it is taken.
+// The lock of the part with this number: a home, or none while it is taken. Contracts see the number.
 #[derive(Drop)]
 pub struct Place<O: PartObject, J: Naming<O, O::Part>> {
+    number: u32,
     home: Mutex<Option<Home<O, J>>>,
     back: Condvar,
 }
 
+impl<O: PartObject, J: Naming<O, O::Part>> Model for Place<O, J> {
+    ghost use Rattle.std.specs.Prelude.{ℕ};
+
+    ghost Value = { ℕ };
+
+    ghost view = { λ p. p.number };
+}
+
 impl<O: PartObject, J: Naming<O, O::Part>> Place<O, J> {
-    pub fn new(home: Home<O, J>) -> Self {
+    pub fn new(home: Home<O, J>) -> Self
+        ensures { result ≡ home.number }
+    {
         Place {
+            number: home.number(),
             home: Mutex::new(Some(home)),
             back: Condvar::new(),
         }
@@ -76,8 +88,10 @@ impl<O: PartObject, J: Naming<O, O::Part>> Place<O, J> {
         unreachable!()
     }
 
-    // Puts a home in, and wakes one that waits.
-    pub fn give<R: Wait>(&self, rt: &R, home: Home<O, J>) {
+    // Puts the home with its number in, and wakes one that waits. No clause says that it is found there again.
+    pub fn give<R: Wait>(&self, rt: &R, home: Home<O, J>)
+        requires { home.number ≡ self.now }
+    {
         let mut guard = self.home.lock(rt);
         *guard = Some(home);
         self.back.notify_one();

@@ -18,13 +18,15 @@ pub struct Tracks<O: PartObject, J: Naming<O, O::Part>> {
 }
 
 impl<O: PartObject, J: Naming<O, O::Part>> Model for Tracks<O, J> {
-    ghost use Rattle.std.specs.Prelude.{ℕ, ◌≤◌, vec_len};
+    ghost use Rattle.std.specs.Prelude.{◌≡◌, ℕ, ◌≤◌, vec_len};
+    ghost use Rattle.room_core.specs.Parts.{numbers};
 
     ghost Value = { ℕ };
 
     ghost view = { λ t. vec_len t.places };
 
-    ghost invariant = { λ t. vec_len t.places ≤ 32 };
+    ghost invariant = { λ t. (vec_len t.places ≤ 32)
+        × (t.places.items ≡ numbers 0 (vec_len t.places)) };
 }
 
 impl<O: PartObject, J: Naming<O, O::Part>> Tracks<O, J> {

@@ -69,4 +69,4 @@ returns-clause-few g c =
     let top : c.loop-number.number ≡ c.args.self.now = omega (arith, c.loop-number-test.false, c.loop-number.auto.number-end, c.deref-place-items.ensures.len, c.self.view_is) in
     let few = members_few (has_bit c.args.set) 0 c.loop-number.number in
     let same = ap length c.loop-number.invariant.numbers in
-    omega (arith, few, same, top, c.self.invariant, c.self.view_is)
+    omega (arith, few, same, top, c.self.invariant.0, c.self.view_is)

@@ -1,6 +1,8 @@
-use Rattle.std.proofs.Common.{◌≡◌, ◌++◌, [], ◌∷◌, suc, length, drop, vec_len, sym, ap, ◌∙◌, arith, append_assoc, slice_get}
+use Rattle.std.proofs.Common.{◌≡◌, ◌+◌, ◌++◌, [], ◌∷◌, suc, length, drop, vec_len, sym, ap, ◌∙◌, arith, append_assoc, slice_get}
 use Rattle.std.proofs.lemmas.List.{append-nil, nil_from_length, length-append}
 use Rattle.std.specs.Vec.Iter.{into_iter_items}
+use Rattle.room_core.specs.Parts.{numbers}
+use Rattle.edit_journal.proofs.Fresh.{numbers-snoc}
 use Rattle.track_locks.proofs.Goods.{first_good}
 use Rattle.track_locks.proofs.Begin.{at_drop, after_drop, none_after, good_length, fresh_length, fresh_at, first_home}
 use Rattle.track_locks.proofs.tracks.Tracks.new.Goals as goal
@@ -25,8 +27,16 @@ loop-seat-preserved-in-Continue-1 g c =
     let seat = c.in-Some.seat in
     let all = c.loop-seat.yielded in
     let e : suc (vec_len c.loop-seat.places) ≡ vec_len c.push.new.self = omega (arith, c.in_ok-push-in-Some-next.ensures.len) in
+    let more : vec_len c.loop-seat.places + 1 ≡ vec_len c.push.new.self = omega (arith, e) in
     record {
       left = after_drop c.args.parts.items (vec_len c.loop-seat.places) c.in-Some-next.part (into_iter_items c.next-in-loop-seat.new.self) (sym i.left ∙ c.in-Some-next.ensures.items) ∙ ap (λ k. drop k c.args.parts.items) e;
+      numbered =
+          let f = fresh_at g.J.Naming.opening (length c.args.parts.items) c.args.seats.items all seat (into_iter_items c.next.new.self) c.requires.seats
+          (ap (λ ps. all ++ ps) (sym c.in-Some.ensures.steps.0) ∙ i.so_far) in
+          let place : seat.number ≡ 0 + vec_len c.loop-seat.places = omega (arith, f.0, i.given) in
+          c.in_ok-push-in-Some-next.ensures.items
+          ∙ (ap (λ ns. ns ++ c.new.result ∷ []) i.numbered ∙ (ap (λ k. numbers 0 (vec_len c.loop-seat.places) ++ k ∷ []) (c.new.ensures ∙ place)
+          ∙ (numbers-snoc 0 (vec_len c.loop-seat.places) ∙ ap (numbers 0) more)));
       given = omega (arith, length-append all (seat ∷ []), i.given, e);
       so_far = append_assoc all (seat ∷ []) (into_iter_items c.next.new.self) ∙ (ap (λ ps. all ++ ps) (sym c.in-Some.ensures.steps.0) ∙ i.so_far);
     }
@@ -48,7 +58,7 @@ invariant_of-result g c =
     let law = g.met.O.PartObject.opening c.args.object.now c.args.parts.items c.requires.opens in
     let parts = good_length (g.O.PartObject.good c.args.object.now) 0 (g.O.PartObject.count c.args.object.now) c.args.parts.items law.2 in
     let count = fresh_length g.J.Naming.opening (length c.args.parts.items) c.args.seats.items c.requires.seats in
-    omega (arith, law.1, parts, count, i.given, ap length all)
+    (omega (arith, law.1, parts, count, i.given, ap length all), i.numbered)
 
 pub returns : goal.returns
 returns g c =
