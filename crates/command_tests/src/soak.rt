@@ -253,6 +253,7 @@ fn served_together<R: Threads + Wait + Sync>(
         tracks: 4,
         clips: 180,
         sent,
+        reads: &[],
         writes: &[],
         calls: &[],
         files: &[],

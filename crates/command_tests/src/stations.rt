@@ -10,13 +10,14 @@ use std::sync::{Arc, Wait};
 use std::test::Fail;
 use std::thread::Threads;
 
-/// What is served: a room of so many tracks with so many clips, and what each station sends. Of each line these writes fail, of the hall and
-/// of the files these calls; some stations wait before their first read, and some at the gate.
+/// What is served: a room of so many tracks with so many clips, and what each station sends. Of each line these reads and
+/// writes fail, of the hall and of the files these calls; some stations wait before their first read, and some at the gate.
 #[derive(Clone, Copy)]
 pub(crate) struct Serving<'a> {
     pub(crate) tracks: u32,
     pub(crate) clips: u32,
     pub(crate) sent: &'a [&'a str],
+    pub(crate) reads: &'a [u32],
     pub(crate) writes: &'a [u32],
     pub(crate) calls: &'a [u32],
     pub(crate) files: &'a [u32],
@@ -24,13 +25,15 @@ pub(crate) struct Serving<'a> {
     pub(crate) at_gate: &'a [Hold],
 }
 
-/// The status, what each line took, what the journal's file holds, and whether one that waited waited in vain.
+/// The status, what each line took, what the journal's file holds, whether one that waited waited in vain, and whether
+/// the hall was used as it is not to be.
 #[derive(Drop)]
 pub(crate) struct Served {
     pub(crate) status: u8,
     pub(crate) taken: Vec<String>,
     pub(crate) journal: Option<Vec<u8>>,
     pub(crate) gave_up: bool,
+    pub(crate) misused: bool,
 }
 
 // A room of two tracks of one clip where nothing fails and nobody waits.
@@ -39,6 +42,7 @@ fn serving_of<'a>(sent: &'a [&'a str]) -> Serving<'a> {
         tracks: 2,
         clips: 1,
         sent,
+        reads: &[],
         writes: &[],
         calls: &[],
         files: &[],
@@ -47,14 +51,19 @@ fn serving_of<'a>(sent: &'a [&'a str]) -> Serving<'a> {
     }
 }
 
-// Lines that give these texts, on each of which these writes fail.
-fn lines_of(alloc: Global, sent: &[&str], writes: &[u32]) -> Result<Vec<MemLine>, Fail> {
+// Lines that give these texts, on each of which these reads and writes fail.
+fn lines_of(
+    alloc: Global,
+    sent: &[&str],
+    reads: &[u32],
+    writes: &[u32],
+) -> Result<Vec<MemLine>, Fail> {
     let mut lines = Vec::new(alloc);
     for text in sent {
         let mut pieces = Vec::new(alloc);
         pieces.push(text.as_bytes().to_vec(alloc)?)?;
         lines.push(MemLine {
-            input: MemSource::new(pieces, Vec::new(alloc)),
+            input: MemSource::new(pieces, reads.to_vec(alloc)?),
             output: MemSink::new(alloc, writes.to_vec(alloc)?),
         })?;
     }
@@ -91,7 +100,7 @@ fn hall_of(
     serving: &Serving<'_>,
     deeds: &Arc<Deeds, Global>,
 ) -> Result<HeldHall, Fail> {
-    let lines = lines_of(alloc, serving.sent, serving.writes)?;
+    let lines = lines_of(alloc, serving.sent, serving.reads, serving.writes)?;
     Ok(HeldHall {
         hall: MemHall::new(alloc, lines, serving.calls.to_vec(alloc)?),
         holds: serving.held.to_vec(alloc)?,
@@ -143,6 +152,7 @@ pub(crate) fn serve<R: Threads + Wait + Sync>(
         taken: taken_of(alloc, &mut hall.hall, stations)?,
         journal: files.read_file(alloc, "out.journal", 1_000_000).ok(),
         gave_up: deeds.gave_up(),
+        misused: deeds.misused(),
     })
 }
 
@@ -156,7 +166,10 @@ fn is_served_so<R: Threads + Wait + Sync>(
 ) -> Result<bool, Fail> {
     let served = serve(rt, alloc, serving)?;
     let kept = served.journal.ok_or("a journal")?;
-    let mut all = kept.as_slice() == journal.as_bytes() && served.status == 0 && !served.gave_up;
+    let mut all = kept.as_slice() == journal.as_bytes()
+        && served.status == 0
+        && !served.gave_up
+        && !served.misused;
     for (taken, wanted) in served.taken.iter().zip(replies) {
         all = all && taken.as_str() == wanted;
     }
@@ -180,6 +193,24 @@ fn a_cut_reply_leaves_its_edit(rt: HostRuntime) -> Result<(), Fail> {
     assert_eq!(rt;
         journal.as_slice(),
         "journal 2\n0 1 slice 0 2\n0 2 slice 0 3\n".as_bytes()
+    );
+    Ok(())
+}
+
+// The read behind the first piece of each line fails: what was read is answered, and the journal is written all the same.
+#[test]
+fn a_read_that_fails_leaves_the_journal(rt: HostRuntime) -> Result<(), Fail> {
+    let alloc = rt.alloc();
+    let serving = Serving {
+        reads: &[2],
+        ..serving_of(&["slice 0 2\n", "slice 1 3\n"])
+    };
+    let ended = serve(&rt, alloc, &serving)?;
+    assert_eq!(rt; ended.status, 1);
+    let journal = ended.journal.ok_or("a journal")?;
+    assert_eq!(rt;
+        journal.len(),
+        "journal 2\n0 1 slice 0 2\n1 1 slice 1 3\n".len()
     );
     Ok(())
 }
@@ -288,5 +319,59 @@ fn a_question_sees_what_others_did(rt: HostRuntime) -> Result<(), Fail> {
     let replies = ["ok 0 by -4\n", "items 1 0 @0 100 6 dark 4\npoint 1\n"];
     let journal = "journal 1\n0 1 trim 0 0 tail -4\n";
     assert!(rt; is_served_so(&rt, alloc, &serving, replies, journal)?);
+    Ok(())
+}
+
+const SIXTEEN: [&str; 16] = [
+    "slice 0 2\n",
+    "slice 1 2\n",
+    "slice 2 2\n",
+    "slice 3 2\n",
+    "slice 4 2\n",
+    "slice 5 2\n",
+    "slice 6 2\n",
+    "slice 7 2\n",
+    "slice 8 2\n",
+    "slice 9 2\n",
+    "slice 10 2\n",
+    "slice 11 2\n",
+    "slice 12 2\n",
+    "slice 13 2\n",
+    "slice 14 2\n",
+    "slice 15 2\n",
+];
+
+// All stations are served at once: an edit of the first waits at the gate until the last one has its reply.
+#[test]
+fn sixteen_stations_are_served_at_once(rt: HostRuntime) -> Result<(), Fail> {
+    let alloc = rt.alloc();
+    let serving = Serving {
+        tracks: 16,
+        at_gate: &[Hold {
+            station: 0,
+            until: Until::Replied(15),
+        }],
+        ..serving_of(&SIXTEEN)
+    };
+    let served = serve(&rt, alloc, &serving)?;
+    assert_eq!(rt; served.status, 0);
+    assert!(rt; !served.gave_up && !served.misused);
+    assert_eq!(rt; served.taken.len(), 16);
+    for taken in &served.taken {
+        assert!(rt; taken.as_str().starts_with("ok "));
+    }
+    Ok(())
+}
+
+// A line gives a byte more than 64 MiB; the other station's edit is in the journal all the same.
+#[test]
+fn a_line_that_gives_too_much_leaves_the_journal(rt: HostRuntime) -> Result<(), Fail> {
+    let alloc = rt.alloc();
+    let text = String::from_utf8(vec![in alloc; b'x'; (1 << 26) + 1]?)?;
+    let sent = ["slice 0 2\n", text.as_str()];
+    let served = serve(&rt, alloc, &serving_of(&sent))?;
+    assert_eq!(rt; served.status, 7);
+    let journal = served.journal.ok_or("a journal")?;
+    assert_eq!(rt; journal.as_slice(), "journal 1\n0 1 slice 0 2\n".as_bytes());
     Ok(())
 }

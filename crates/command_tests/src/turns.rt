@@ -11,12 +11,15 @@ use std::sync::atomic::{AtomicBool, AtomicU32, Ordering};
 // How often one that waits looks, before it goes on all the same.
 const MOST_LOOKS: u32 = 1_000_000_000;
 
-/// What the stations have done, of the first two whether an edit has come to the gate and whether a reply was written.
+/// What the stations have done: of each whether an edit has come to the gate and whether a reply was written, by the
+/// bit of its number.
 #[derive(Drop)]
 pub(crate) struct Deeds {
-    came: [AtomicBool; 2],
-    replied: [AtomicBool; 2],
+    came: AtomicU32,
+    replied: AtomicU32,
     left: AtomicU32,
+    opened: AtomicU32,
+    misused: AtomicBool,
     gave_up: AtomicBool,
 }
 
@@ -38,9 +41,11 @@ pub(crate) struct Hold {
 impl Deeds {
     pub(crate) fn none() -> Deeds {
         Deeds {
-            came: [AtomicBool::new(false), AtomicBool::new(false)],
-            replied: [AtomicBool::new(false), AtomicBool::new(false)],
+            came: AtomicU32::new(0),
+            replied: AtomicU32::new(0),
             left: AtomicU32::new(0),
+            opened: AtomicU32::new(0),
+            misused: AtomicBool::new(false),
             gave_up: AtomicBool::new(false),
         }
     }
@@ -48,6 +53,12 @@ impl Deeds {
     /// Whether one that waited went on before it had come.
     pub(crate) fn gave_up(&self) -> bool {
         self.gave_up.load(Ordering::SeqCst)
+    }
+
+    /// Whether the hall was opened twice, or at another address than the one that the words name, or a line was read or
+    /// written after it was left.
+    pub(crate) fn misused(&self) -> bool {
+        self.misused.load(Ordering::SeqCst) || self.opened.load(Ordering::SeqCst) > 1
     }
 
     fn has_come(&self, until: Until) -> bool {
@@ -77,18 +88,20 @@ impl Deeds {
     }
 }
 
-fn is_noted(notes: &[AtomicBool; 2], station: u32) -> bool {
-    match notes.get(station as usize) {
-        Some(note) => note.load(Ordering::SeqCst),
-        None => false,
+// The bit of a station, of the first 16.
+fn bit(station: u32) -> u32 {
+    match station < 16 {
+        true => 1 << station,
+        false => 0,
     }
 }
 
-fn note(notes: &[AtomicBool; 2], station: u32) {
-    match notes.get(station as usize) {
-        Some(note) => note.store(true, Ordering::SeqCst),
-        None => {}
-    }
+fn is_noted(notes: &AtomicU32, station: u32) -> bool {
+    notes.load(Ordering::SeqCst) & bit(station) != 0
+}
+
+fn note(notes: &AtomicU32, station: u32) {
+    notes.fetch_or(bit(station), Ordering::SeqCst);
 }
 
 /// A gate at which some stations wait.
@@ -111,6 +124,7 @@ pub(crate) struct HeldLine {
     pub(crate) line: MemLine,
     station: u32,
     hold: Option<Until>,
+    has_left: bool,
     deeds: Arc<Deeds, Global>,
 }
 
@@ -122,6 +136,9 @@ impl Source for HeldLine {
     ghost as_sink = { λ l. ⟦<MemLine as Source>⟧.as_sink l.line };
 
     fn read(&mut self, into: &mut [u8]) -> Result<usize, Failed> {
+        if self.has_left {
+            self.deeds.misused.store(true, Ordering::SeqCst);
+        }
         match self.hold {
             Some(until) => self.deeds.wait(until),
             None => {}
@@ -138,6 +155,9 @@ impl Sink for HeldLine {
     ghost as_source = { λ l. ⟦<MemLine as Sink>⟧.as_source l.line };
 
     fn write(&mut self, piece: &[u8]) -> Result<usize, Failed> {
+        if self.has_left {
+            self.deeds.misused.store(true, Ordering::SeqCst);
+        }
         let written = self.line.write(piece);
         note(&self.deeds.replied, self.station);
         written
@@ -154,6 +174,7 @@ impl Line for HeldLine {
 
 impl HallLine for HeldLine {
     fn leave(&mut self) {
+        self.has_left = true;
         self.deeds.left.fetch_add(1, Ordering::SeqCst);
     }
 }
@@ -185,6 +206,10 @@ impl Hall for HeldHall {
     ghost faults = { λ h. ⟦<MemHall as Hall>⟧.faults h.hall };
 
     fn open(&mut self, address: &str) -> Result<(), Failed> {
+        self.deeds.opened.fetch_add(1, Ordering::SeqCst);
+        if address != "hall" {
+            self.deeds.misused.store(true, Ordering::SeqCst);
+        }
         self.hall.open(address)
     }
 
@@ -199,6 +224,7 @@ impl Hall for HeldHall {
                 line,
                 station,
                 hold,
+                has_left: false,
                 deeds,
             }),
             Err(fault) => Err(fault),
