@@ -201,9 +201,7 @@ impl HeldHall {
 impl Hall for HeldHall {
     type Line = HeldLine;
 
-    ghost told = { λ h s. ⟦<MemHall as Hall>⟧.told h.hall s };
-
-    ghost faults = { λ h. ⟦<MemHall as Hall>⟧.faults h.hall };
+    ghost told = { λ h. ⟦<MemHall as Hall>⟧.told h.hall };
 
     fn open(&mut self, address: &str) -> Result<(), Failed> {
         self.deeds.opened.fetch_add(1, Ordering::SeqCst);
