@@ -1,3 +1,5 @@
+// Parts of a text of JSON: texts in quotes, numbers, words and blanks, and their faults.
+
 use json_tokens::{
     JsonFault, Rest, Text, numeral, numeral_value, past_blanks, past_byte, text_behind_quote, word,
 };

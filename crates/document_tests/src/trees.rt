@@ -1,3 +1,5 @@
+// Trees of JSON: what is read, its faults, what is written, and the limits of both.
+
 use json_tree::{
     Items, Json, JsonFault, MOST_BYTES, Member, Members, Text, Value, WriteFault, is_writable,
     read, write, write_behind,
@@ -378,6 +380,27 @@ fn thirty_two_mebibytes(rt: HostRuntime) -> Result<(), Fail> {
     Ok(())
 }
 
+/// A list of as many bytes as are read, of which the first item is a list of 200,000 numbers, and the other is a text.
+fn longest(alloc: Global) -> Result<Vec<u8>, AllocError> {
+    let numbers = row_of(alloc, "[[", "0", "],\"", 200_000)?;
+    let mut bytes = Vec::from_slice(alloc, numbers.as_bytes())?;
+    let rest = MOST_BYTES.saturating_sub(bytes.len()).saturating_sub(2);
+    repeated(alloc, &mut bytes, b'x', rest)?;
+    bytes.extend_from_slice(b"\"]")?;
+    Ok(bytes)
+}
+
+#[test]
+fn the_longest_text_is_a_tree(rt: HostRuntime) -> Result<(), Fail> {
+    let mut bytes = longest(rt.alloc())?;
+    assert_eq!(rt; bytes.len(), MOST_BYTES);
+    assert!(rt; read(rt.alloc(), &bytes).is_ok());
+    bytes.push(b' ')?;
+    let got = reading(rt.alloc(), &bytes)?;
+    assert_eq!(rt; got.as_str(), "too large");
+    Ok(())
+}
+
 /// What stands there once the tree of a text was written behind this, up to so many bytes: with `!` behind it where it
 /// would be too long.
 fn behind(alloc: Global, before: &str, text: &str, most: usize) -> Result<Vec<u8>, Fail> {
@@ -492,5 +515,16 @@ fn lists_and_objects_of_each_length(rt: HostRuntime) -> Result<(), Fail> {
         let object = comes_back(rt.alloc(), "{", "\"b\":\"a\"", "}", count)?;
         assert!(rt; object, "an object of {count}");
     }
+    Ok(())
+}
+
+#[test]
+fn faults_in_words(rt: HostRuntime) -> Result<(), Fail> {
+    let alloc = rt.alloc();
+    let said = format!(in alloc; "{}; {}", JsonFault::Depth(64), WriteFault::TooLong)?;
+    assert_eq!(rt;
+        said.as_str(),
+        "nested too deep at byte 64; there would be too many bytes"
+    );
     Ok(())
 }

@@ -115,7 +115,7 @@ fn what_a_document_opens(rt: HostRuntime) -> Result<(), Fail> {
     Ok(())
 }
 
-fn text_of(alloc: Global, opening: &Opening) -> Result<Vec<u8>, WriteFault> {
+pub(super) fn text_of(alloc: Global, opening: &Opening) -> Result<Vec<u8>, WriteFault> {
     write_timeline(
         alloc,
         &opening.table,
