@@ -1,4 +1,4 @@
-use Rattle.std.proofs.Common.{◌≡◌, ◌+◌, ◌≤◌, ◌++◌, drop}
+use Rattle.std.proofs.Common.{◌≡◌, ◌≤◌, ◌++◌, drop}
 use Rattle.otio_tracks.specs.Building.{views_of}
 use Rattle.otio_tracks.proofs.building.views_of.Given as goal
 
