@@ -1,5 +1,5 @@
 -- Steps over the children of a track or nest, and the levels of nests.
-use Rattle.std.proofs.Common.{◌≡◌, ℕ, zero, suc, ◌+◌, ◌<◌, List, [], ◌∷◌, length, drop, map, get_or, drop-cons, Ok, refl, sym, ap, ◌∙◌, arith, subst}
+use Rattle.std.proofs.Common.{◌≡◌, ℕ, zero, suc, ◌+◌, ◌<◌, List, ◌∷◌, length, drop, map, get_or, drop-cons, Ok, refl, sym, ap, ◌∙◌, arith, subst}
 use Rattle.json_tokens.specs.Reading.{◌>>=◌}
 use Rattle.json_tree.specs.Tree.{Tree}
 use Rattle.json_tree.specs.Size.{tree_size, items_size}

@@ -13,7 +13,6 @@ use Rattle.composables.specs.declared.media.Table.{Table}
 use Rattle.composables.specs.declared.media.Kind.{Kind}
 use Rattle.composables.specs.declared.media.Kind.TheVariants.{Video, Audio}
 use Rattle.composables.specs.TrackState.{TrackState}
-use Rattle.json_tokens.specs.Reading.{◌>>=◌}
 use Rattle.json_tree.specs.Tree.{Tree}
 use Rattle.json_tree.specs.Parts.{place_of}
 use Rattle.otio_tracks.specs.declared.faults.DocCode.TheVariants.{O10, O11}

@@ -11,12 +11,11 @@ use Rattle.composables.specs.Good.{LiesIn, SideLiesIn, EachLiesIn, EachLinkOf, A
 use Rattle.composables.specs.Items.{cells_of, items_of}
 use Rattle.composables.specs.TrackFacts.{left_reach, right_reach}
 use Rattle.composables.specs.TrackState.{TrackState}
-use Rattle.json_tokens.specs.Reading.{◌>>=◌}
 use Rattle.otio_tracks.specs.declared.faults.DocCode.TheVariants.{O11}
 use Rattle.otio_tracks.specs.declared.parts.Part.{Part}
 use Rattle.otio_tracks.specs.declared.transitions.Waiting.{Waiting}
 use Rattle.otio_tracks.specs.Transitions.{joins}
-use Rattle.otio_tracks.specs.Rows.{RowState, empty_row, longer, all_kept, kept, dissolve_if, dissolve_before, row_with, ended, row_end, frames_in_all}
+use Rattle.otio_tracks.specs.Rows.{RowState, empty_row, longer, all_kept, dissolve_if, dissolve_before, row_with, ended, row_end, frames_in_all}
 use Rattle.otio_tracks.specs.SoundParts.{SideLies, AreSoundParts, EachIsSound}
 use Rattle.otio_tracks.specs.SoundRows.{IsSoundRow, FitsBefore}
 use Rattle.otio_tracks.specs.Building.{number_after, views_of, track_made, track_fit}

@@ -1,5 +1,5 @@
 -- A whole document: one timeline, whose stack of tracks is the sequence.
-use Rattle.std.specs.Prelude.{ℕ, ◌+◌, ℤ, pos, int_lt, nat_le, nat_lt, unsigned_abs, ◌&&◌, List, [], ◌∷◌, ◌++◌, length, Option, Some, None, Result, Ok, Err, codes, bytes_eq, if◌then◌else◌}
+use Rattle.std.specs.Prelude.{ℕ, ℤ, pos, int_lt, nat_le, nat_lt, unsigned_abs, ◌&&◌, List, [], ◌∷◌, ◌++◌, length, Option, Some, None, Result, Ok, Err, codes, bytes_eq, if◌then◌else◌}
 use Rattle.timecode12.specs.Numbers.{Counted, rate_num, rate_den}
 use Rattle.timecode12.specs.Labels.{day_of}
 use Rattle.composables.specs.declared.media.Table.{Table}

@@ -1,4 +1,4 @@
-use Rattle.std.proofs.Common.{◌+◌, ◌++◌, [], ◌∷◌, length, Ok, ap, ◌∙◌, arith, subst}
+use Rattle.std.proofs.Common.{◌++◌, [], ◌∷◌, length, Ok, ap, ◌∙◌, arith, subst}
 use Rattle.std.proofs.lemmas.Result.{err_from_is_err_and}
 use Rattle.std.proofs.lemmas.List.{length-append}
 use Rattle.json_tree.specs.View.{tree_of}
