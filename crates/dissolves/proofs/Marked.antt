@@ -89,10 +89,6 @@ links_marked : (n : ℕ) (us ws : List ItemView) (r : ItemView) (m : Option Mark
 links_marked n [] ws r m h = h
 links_marked n (u ∷ us) ws r m h = (h.0, links_marked n us ws r m h.1)
 
-unlinked_marked : (us ws : List ItemView) (r : ItemView) (m : Option Mark) → AllUnlinked (us ++ r ∷ ws) → AllUnlinked (us ++ with_mark m r ∷ ws)
-unlinked_marked [] ws r m h = h
-unlinked_marked (u ∷ us) ws r m h = (h.0, unlinked_marked us ws r m h.1)
-
 frames_marked : (us ws : List ItemView) (r : ItemView) (m : Option Mark) → frames_in (us ++ with_mark m r ∷ ws) ≡ frames_in (us ++ r ∷ ws)
 frames_marked us ws r m = frames_in-append us (with_mark m r ∷ ws) ∙ sym (frames_in-append us (r ∷ ws))
 
@@ -133,7 +129,6 @@ ranges_marked table (u ∷ us) ws l r m a b h = (
 pub record IsMarked (table : Table) (t : TrackState) (p : ℕ) (c : Cut) (m : Option Mark) : Type 0 where
   pub state : changed_track t c.index (with_mark m) ≡ marked_track t p m
   pub good : IsGood table (changed_track t c.index (with_mark m))
-  pub unlinked : AllUnlinked (items_of t.cells) → AllUnlinked (items_of (changed_track t c.index (with_mark m)).cells)
 
 pub mark_set : (table : Table) (t : TrackState) (p : ℕ) (c : Cut) (m : Option Mark) → IsGood table t → Sides t p c → Fits table c.left c.right c.tail m → IsMarked table t p c m
 mark_set table t p c m good s fits =
@@ -179,7 +174,6 @@ mark_set table t p c m good s fits =
     record {
       state = sym same ∙ ap (λ (cs : List Cell). record t { cells = cs }) (sym cells);
       good = subst (IsGood table) same u_good;
-      unlinked = λ h. subst (λ (x : TrackState). AllUnlinked (items_of x.cells)) same (subst AllUnlinked (sym items) (unlinked_marked ls ws r m (subst AllUnlinked s.all h)));
     }
 
 -- a mark that is taken away

@@ -1,5 +1,5 @@
 -- A call on the one track that is named.
-use Rattle.std.proofs.Common.{◌≡◌, ℕ, List, [], ◌∷◌, map, get_or, Result, Ok, Err, refl, sym, ap, ◌∙◌, subst}
+use Rattle.std.proofs.Common.{◌≡◌, ℕ, List, [], ◌∷◌, map, get_or, Result, Ok, Err, is_ok, refl, sym, ap, ◌∙◌, subst}
 use Rattle.std.proofs.Math.ListN.{set}
 use Rattle.composables.specs.declared.refusals.Done.{Done}
 use Rattle.composables.specs.declared.refusals.Refusal.{Refusal}
@@ -7,7 +7,7 @@ use Rattle.out_of_memory.specs.declared.fault.Fault.{Fault}
 use Rattle.out_of_memory.specs.declared.fault.Fault.TheVariants.{Refused, Memory}
 use Rattle.composables.specs.TrackState.{TrackState}
 use Rattle.composables.proofs.Joining.{eqb-refl}
-use Rattle.composables.specs.Answers.{NextRises}
+use Rattle.composables.proofs.OwnTracks.{among-ok}
 use Rattle.out_of_memory.specs.Answers.{Answers}
 use Rattle.composables.specs.OwnTracks.{on_own, among_named, with_track}
 
@@ -31,7 +31,7 @@ answers_alone : (meant : TrackState → Result (TrackState × Done) Refusal) (t 
     → Answers (on_own t.number meant (t ∷ [])) (t ∷ []) (u ∷ []) r
 answers_alone meant t u (Ok done) e a = on_alone meant t ∙ (ap (among_named (t ∷ [])) a ∙ ap (λ (us : List TrackState). Ok (us, done)) (put_alone t u e))
 answers_alone meant t u (Err (Refused why)) e a = (on_alone meant t ∙ ap (among_named (t ∷ [])) a.0, ap (λ (x : TrackState). x ∷ []) a.1)
-answers_alone meant t u (Err Memory) e a = ap (λ (x : TrackState). x ∷ []) a
+answers_alone meant t u (Err Memory) e a = (ap is_ok (on_alone meant t) ∙ among-ok (t ∷ []) (meant t) a.0, ap (λ (x : TrackState). x ∷ []) a.1)
 
 pub answers_named : (meant : TrackState → Result (TrackState × Done) Refusal) (n : ℕ) (ts : List TrackState) (t u : TrackState) (r : Result Done (Fault Refusal)) → map (λ (t : TrackState). t.number) ts ≡ n ∷ []
     → t ≡ get_or ts 0 t → u.number ≡ t.number → Answers (meant t) t u r → Answers (on_own n meant ts) ts (set ts 0 u) r
@@ -39,8 +39,3 @@ answers_named meant n ts t u r named is e a =
     let one = alone n ts t named is in
     let here = subst (λ (k : ℕ). Answers (on_own k meant (t ∷ [])) (t ∷ []) (u ∷ []) r) one.number (answers_alone meant t u r e a) in
     subst (λ (xs : List TrackState). Answers (on_own n meant xs) xs (set xs 0 u) r) (sym one.all) here
-
-pub rises_named : (n m : ℕ) (ts : List TrackState) (t u : TrackState) → map (λ (t : TrackState). t.number) ts ≡ n ∷ [] → t ≡ get_or ts 0 t → NextRises m (t ∷ []) (u ∷ []) → NextRises m ts (set ts 0 u)
-rises_named n m ts t u named is h =
-    let one = alone n ts t named is in
-    subst (λ (xs : List TrackState). NextRises m xs (set xs 0 u)) (sym one.all) h

@@ -1,9 +1,8 @@
 // Dissolves put at cuts and taken away.
 ghost use Rattle.std.specs.Prelude.{◌≡◌, ◌+◌, ◌<◌, ◌≤◌, [], ◌∷◌, All, length, map, nat_eq, sum_by};
 ghost use Rattle.composables.specs.Items.{items_of};
-ghost use Rattle.composables.specs.Good.{IsGood, AllUnlinked};
+ghost use Rattle.composables.specs.Good.{IsGood};
 ghost use Rattle.composables.specs.TrackState.{TrackState};
-ghost use Rattle.composables.specs.Answers.{NextRises};
 ghost use Rattle.out_of_memory.specs.Answers.{Answers};
 ghost use Rattle.dissolves.specs.Marking.{dissolve_named, dissolve_on, undissolve_named, undissolve_on};
 
@@ -35,9 +34,6 @@ pub fn dissolve<L: Ledger>(
 
     ensures named { map (λ (t : TrackState). t.number) named.new.items ≡ call.now.track ∷ [] }
     ensures good { All (λ t. IsGood table.now t) named.new.items }
-    ensures unlinked { All (λ t. AllUnlinked (items_of t.cells)) named.old.items
-        → All (λ t. AllUnlinked (items_of t.cells)) named.new.items }
-    ensures numbers { NextRises 0 named.old.items named.new.items }
 
     ensures least { steps.old + 1 ≤ steps.new }
     ensures most { steps.new
@@ -63,9 +59,6 @@ pub fn undissolve<L: Ledger>(
 
     ensures named { map (λ (t : TrackState). t.number) named.new.items ≡ call.now.track ∷ [] }
     ensures good { All (λ t. IsGood table.now t) named.new.items }
-    ensures unlinked { All (λ t. AllUnlinked (items_of t.cells)) named.old.items
-        → All (λ t. AllUnlinked (items_of t.cells)) named.new.items }
-    ensures numbers { NextRises 0 named.old.items named.new.items }
 
     ensures least { steps.old + 1 ≤ steps.new }
     ensures most { steps.new
@@ -87,9 +80,7 @@ fn dissolve_track<L: Ledger>(
         track.old track.new result }
 
     ensures good { IsGood table.now track.new }
-    ensures unlinked { AllUnlinked (items_of track.old.cells)
-        → AllUnlinked (items_of track.new.cells) }
-    ensures numbers { NextRises 0 (track.old ∷ []) (track.new ∷ []) }
+    ensures number { track.new.number ≡ track.old.number }
 
     ensures least { steps.old + 1 ≤ steps.new }
     ensures most { steps.new ≤ steps.old + length (items_of track.old.cells) + 64 }
@@ -124,9 +115,7 @@ fn undissolve_track<L: Ledger>(
     ensures answers { Answers (undissolve_on track.old call.now) track.old track.new result }
 
     ensures good { IsGood table.now track.new }
-    ensures unlinked { AllUnlinked (items_of track.old.cells)
-        → AllUnlinked (items_of track.new.cells) }
-    ensures numbers { NextRises 0 (track.old ∷ []) (track.new ∷ []) }
+    ensures number { track.new.number ≡ track.old.number }
 
     ensures least { steps.old + 1 ≤ steps.new }
     ensures most { steps.new ≤ steps.old + length (items_of track.old.cells) + 64 }

@@ -9,7 +9,6 @@ use Rattle.edit_splice.specs.Standing.{StaysGood}
 use Rattle.edit_splice.specs.Laws.{IsWithinLimits}
 use Rattle.edit_delta.specs.Parts.{AreParts}
 use Rattle.edit_splice.specs.Splicing.{spliced_track}
-use Rattle.edit_splice.proofs.Outcomes.{next-bounds, unlinked-spliced}
 use Rattle.edit_splice.proofs.Allowed.{good-parts}
 
 if_more : (o : Option ℕ) (n m : ℕ) → n ≤ m → IfSome o (λ i. i < n) → IfSome o (λ i. i < m)
@@ -24,12 +23,4 @@ pub parts-kept : (table : Table) (t : TrackState) (x y : ℕ) (views : List Item
 parts-kept table t x y views g f limits = (good-parts table t x y views g f.order f.within f.may limits).kept
 
 pub stays-spliced : (table : Table) (t : TrackState) (x y : ℕ) (views : List ItemView) → IsGood table t → AreParts table t x y views → IsWithinLimits (spliced_track t x y views) → StaysGood table t (spliced_track t x y views)
-stays-spliced table t x y views g f limits =
-    let next : (spliced_track t x y views).next_item ≤ t.next_item + 0 + 1 = (next-bounds t x y 0 views (below-more t.next_item (t.next_item + 0) views (omega arith) f.numbers)).1 in
-    record {
-      good = good-parts table t x y views g f.order f.within f.may limits;
-      number = refl;
-      item = omega (arith, next);
-      link = refl;
-      unlinked = λ u. unlinked-spliced t x y views g.kept u (f.unlinked u);
-    }
+stays-spliced table t x y views g f limits = record { good = good-parts table t x y views g f.order f.within f.may limits; number = refl }

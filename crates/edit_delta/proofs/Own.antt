@@ -64,7 +64,8 @@ named-answers n i f ts us t u (Ok done) o e k a =
     ∙ (ap (among_named ts) a ∙ ap (λ (l : List TrackState). Ok (l, done)) (with_set i ts t u o.rises o.read k ∙ sym e))
 named-answers n i f ts us t u (Err (Refused why)) o e k a =
     (for-found n (λ (v : TrackState). among_named ts (f v)) ts t o.found ∙ ap (among_named ts) a.0, e ∙ (ap (set ts i) a.1 ∙ set_back i ts t o.read))
-named-answers n i f ts us t u (Err Memory) o e k a = e ∙ (ap (set ts i) a ∙ set_back i ts t o.read)
+named-answers n i f ts us t u (Err Memory) o e k a =
+    (ap is_ok (for-found n (λ (v : TrackState). among_named ts (f v)) ts t o.found) ∙ among-ok ts (f t) a.0, e ∙ (ap (set ts i) a.1 ∙ set_back i ts t o.read))
 
 each_set : (table : Table) (i : ℕ) (ts : List TrackState) (t u : TrackState) → All (IsGood table) ts → slice_get ts i ≡ Some t → StaysGood table t u → EachStaysGood table ts (set ts i u)
 each_set table i [] t u g e s = absurd cc

@@ -18,7 +18,7 @@ use Rattle.composables.specs.TrackState.{TrackState}
 use Rattle.composables.specs.Views.{gap_view, gap_views}
 use Rattle.composables.proofs.Spans.{later-zero, next-later}
 use Rattle.edit_delta.specs.Reaching.{earlier_side, going_on, has_after, has_after_in, has_before, has_before_in, keeps_a_cell, reaching_back}
-use Rattle.edit_delta.proofs.Spots.{Spot, unlinked-there}
+use Rattle.edit_delta.proofs.Spots.{Spot}
 use Rattle.edit_splice.specs.PutIn.{alone, going_on as goes, reaching_back as reaches, GoesOn, ReachesBack, StandAlone}
 use Rattle.edit_delta.specs.Nearest.{AreUpTo}
 use Rattle.edit_delta.specs.Parts.{AreParts}
@@ -44,7 +44,6 @@ gap-parts table t x y n good e within h = record {
   may = alone (record { each = (holds_gap n h, tt); first = refl; meet = (tt, tt); apart = (tt, tt); free = (tt, tt); ranges = (tt, tt); links = (tt, tt) });
   numbers = (tt, tt);
   short = omega (arith, e, within, good.frames);
-  unlinked = λ u. (refl, tt);
 }
 
 -- source frames before an item's
@@ -167,7 +166,6 @@ back-parts table t i v b x y z n good s h e before is = subst (λ (u : ItemView)
     may = reaches {views = []} (reaches-back table t i v x y n s h before) (none-alone table t z x);
     numbers = (s.number, tt);
     short = omega (arith, e, s.within, s.long, good.frames);
-    unlinked = λ u. (unlinked-there (items_of t.cells) i v s.read u, tt);
   }
 
 pub on-parts : (table : Table) (t : TrackState) (i : ℕ) (v g : ItemView) (x y z n : ℕ) → Spot table t i v x y → 0 < n → y ≤ z → z ≤ length t.cells → y + n + (length t.cells - z) ≤ MAX_FRAMES → After table v.first v.len n
@@ -182,5 +180,4 @@ on-parts table t i v g x y z n s h le within short a is = subst (λ (u : ItemVie
     may = goes {views = []} (goes-on table t i v x y n s h a) (none-alone table t y z);
     numbers = (s.number, tt);
     short = omega (arith, short);
-    unlinked = λ u. (unlinked-there (items_of t.cells) i v s.read u, tt);
   }

@@ -87,11 +87,6 @@ below-there n [] i v e h = absurd (omega (arith, slice_get_within [] i v e))
 below-there n (w ∷ ws) zero v e h = let same : w ≡ v = cc in subst (λ (u : ItemView). IfSome u.item (λ j. j < n)) same h.0
 below-there n (w ∷ ws) (suc i) v e h = below-there n ws i v e h.1
 
-pub unlinked-there : (vs : List ItemView) (i : ℕ) (v : ItemView) → slice_get vs i ≡ Some v → AllUnlinked vs → v.link ≡ None
-unlinked-there [] i v e h = absurd (omega (arith, slice_get_within [] i v e))
-unlinked-there (w ∷ ws) zero v e h = let same : w ≡ v = cc in subst (λ (u : ItemView). u.link ≡ None) same h.0
-unlinked-there (w ∷ ws) (suc i) v e h = unlinked-there ws i v e h.1
-
 -- the item or gap v with this index takes up the record frames [x, y) of a track
 pub record Spot (table : Table) (t : TrackState) (i : ℕ) (v : ItemView) (x y : ℕ) : Type 0 where
   pub read : slice_get (items_of t.cells) i ≡ Some v

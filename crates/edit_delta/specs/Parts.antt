@@ -3,15 +3,13 @@ use Rattle.std.specs.Prelude.{ℕ, ◌+◌, ◌-◌, ◌≤◌, List, length}
 use Rattle.composables.specs.declared.items.ItemView.{ItemView}
 use Rattle.composables.specs.declared.media.Table.{Table}
 use Rattle.composables.specs.declared.TheConstants.{MAX_FRAMES}
-use Rattle.composables.specs.Good.{AllUnlinked}
-use Rattle.composables.specs.Items.{items_of}
 use Rattle.composables.specs.Joined.{AllFilled, frames_in}
 use Rattle.composables.specs.TrackFacts.{NumbersBelow}
 use Rattle.composables.specs.TrackState.{TrackState}
 use Rattle.edit_splice.specs.PutIn.{MayBePutIn}
 
 -- at most two, that may be put in place of [x, y), with numbers that the track has given away; it does not become too
--- long, and gets no links if it has none
+-- long
 pub record AreParts (table : Table) (t : TrackState) (x y : ℕ) (views : List ItemView) : Type 0 where
   pub order : x ≤ y
   pub within : y ≤ length t.cells
@@ -20,4 +18,3 @@ pub record AreParts (table : Table) (t : TrackState) (x y : ℕ) (views : List I
   pub may : MayBePutIn table t x y views
   pub numbers : NumbersBelow t.next_item views
   pub short : x + frames_in views + (length t.cells - y) ≤ MAX_FRAMES
-  pub unlinked : AllUnlinked (items_of t.cells) → AllUnlinked views

@@ -1,5 +1,5 @@
 // Parts of items in place of a range of one track, within its limits.
-ghost use Rattle.std.specs.Prelude.{◌≡◌, ◌+◌, ◌*◌, ◌≤◌, length};
+ghost use Rattle.std.specs.Prelude.{◌+◌, ◌*◌, ◌≤◌, length};
 ghost use Rattle.out_of_memory.specs.Answers.{Answers};
 ghost use Rattle.composables.specs.Good.{IsGood};
 ghost use Rattle.composables.specs.Items.{items_of};
@@ -39,8 +39,6 @@ pub fn place_parts<L: Ledger>(
     if count_after(track, x, y, parts, steps) > MAX_ITEMS {
         return Err(EditFault::Refused(Refusal::TooManyItems(track.number())));
     }
-    match splice(alloc, track, x, y, parts, steps) {
-        Ok(()) => Ok(done),
-        Err(_) => Err(EditFault::Memory),
-    }
+    splice(alloc, track, x, y, parts, steps)?;
+    Ok(done)
 }

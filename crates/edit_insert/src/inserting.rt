@@ -2,13 +2,13 @@
 // track.
 ghost use Rattle.std.specs.Prelude.{◌≡◌, ◌+◌, ◌*◌, ◌<◌, ◌≤◌, All, length, nat_eq, slice_get, true};
 ghost use Rattle.std.specs.List.{list_any};
-ghost use Rattle.composables.specs.Good.{AreUnlinked, IsGood};
+ghost use Rattle.composables.specs.Good.{IsGood};
 ghost use Rattle.composables.specs.Roomy.{IsRoomy};
 ghost use Rattle.composables.specs.Sizes.{sizes_of};
 ghost use Rattle.out_of_memory.specs.Answers.{Answers};
 ghost use Rattle.edit_insert.specs.Edits.{extract_named, insert_named};
 ghost use Rattle.composables.specs.OwnTracks.{numbers_of, track_numbered};
-ghost use Rattle.link_groups.specs.Shifted.{EachStaysShifted, NextItemsRise};
+ghost use Rattle.edit_splice.specs.Standing.{EachStaysGood};
 ghost use Rattle.composables.specs.TrackSets.{tracks_in};
 
 use crate::sources::source_refusal;
@@ -44,8 +44,6 @@ pub fn insert<L: Ledger>(
 
     ensures named { numbers_of named.new.items ≡ tracks_in call.now.tracks }
     ensures good { All (λ t. IsGood table.now t) named.new.items }
-    ensures unlinked { AreUnlinked named.old.items → AreUnlinked named.new.items }
-    ensures numbers { NextItemsRise 2 named.old.items named.new.items }
 
     ensures least { steps.old + 1 ≤ steps.new }
     ensures most { steps.new ≤ steps.old + 32 * sizes_of named.old.items }
@@ -74,7 +72,7 @@ fn insert_at<L: Ledger>(
     requires roomy { All (λ t. IsRoomy t) named.old.items }
     ensures answers { Answers (insert_named table.now named.old.items call.now)
         named.old.items named.new.items result }
-    ensures good { EachStaysShifted table.now named.old.items named.new.items }
+    ensures good { EachStaysGood table.now named.old.items named.new.items }
     ensures least { steps.old ≤ steps.new }
     ensures most { steps.new ≤ steps.old + 21 * sizes_of named.old.items }
 {
@@ -115,8 +113,6 @@ pub fn extract<L: Ledger>(
 
     ensures named { numbers_of named.new.items ≡ tracks_in call.now.tracks }
     ensures good { All (λ t. IsGood table.now t) named.new.items }
-    ensures unlinked { AreUnlinked named.old.items → AreUnlinked named.new.items }
-    ensures numbers { NextItemsRise 2 named.old.items named.new.items }
 
     ensures least { steps.old + 1 ≤ steps.new }
     ensures most { steps.new ≤ steps.old + 32 * sizes_of named.old.items }
@@ -144,7 +140,7 @@ fn extract_at<L: Ledger>(
     requires roomy { All (λ t. IsRoomy t) named.old.items }
     ensures answers { Answers (extract_named named.old.items call.now)
         named.old.items named.new.items result }
-    ensures good { EachStaysShifted table.now named.old.items named.new.items }
+    ensures good { EachStaysGood table.now named.old.items named.new.items }
     ensures least { steps.old ≤ steps.new }
     ensures most { steps.new ≤ steps.old + 25 * sizes_of named.old.items }
 {

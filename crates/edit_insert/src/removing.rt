@@ -1,11 +1,10 @@
 // Remove and slice: what is put into a track without a new item.
 ghost use Rattle.std.specs.Prelude.{◌≡◌, ◌+◌, ◌*◌, ◌<◌, ◌≤◌, [], ◌∷◌, All, length};
-ghost use Rattle.composables.specs.Good.{AreUnlinked, IsGood};
+ghost use Rattle.composables.specs.Good.{IsGood};
 ghost use Rattle.composables.specs.OwnTracks.{numbers_of};
 ghost use Rattle.composables.specs.Roomy.{IsRoomy};
 ghost use Rattle.composables.specs.Sizes.{size_of, sizes_of};
 ghost use Rattle.composables.specs.TrackFacts.{IsKept};
-ghost use Rattle.composables.specs.Answers.{NextRises};
 ghost use Rattle.out_of_memory.specs.Answers.{Answers};
 ghost use Rattle.edit_insert.specs.Edits.{remove_named, remove_track, slice_named, slice_track};
 
@@ -33,8 +32,6 @@ pub fn remove<L: Ledger>(
 
     ensures named { numbers_of named.new.items ≡ call.now.track ∷ [] }
     ensures good { All (λ t. IsGood table.now t) named.new.items }
-    ensures unlinked { AreUnlinked named.old.items → AreUnlinked named.new.items }
-    ensures numbers { NextRises 2 named.old.items named.new.items }
 
     ensures least { steps.old + 1 ≤ steps.new }
     ensures most { steps.new ≤ steps.old + 32 * sizes_of named.old.items }
@@ -92,8 +89,6 @@ pub fn slice<L: Ledger>(
 
     ensures named { numbers_of named.new.items ≡ call.now.track ∷ [] }
     ensures good { All (λ t. IsGood table.now t) named.new.items }
-    ensures unlinked { AreUnlinked named.old.items → AreUnlinked named.new.items }
-    ensures numbers { NextRises 2 named.old.items named.new.items }
 
     ensures least { steps.old + 1 ≤ steps.new }
     ensures most { steps.new ≤ steps.old + 32 * sizes_of named.old.items }

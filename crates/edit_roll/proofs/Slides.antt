@@ -26,7 +26,7 @@ use Rattle.edit_delta.specs.Using.{IsUsed, on_range, used_on}
 use Rattle.edit_delta.proofs.Answered.{IsUsedOf, earlier-means, later-means, still-means}
 use Rattle.edit_delta.proofs.Greatest.{nearest-same}
 use Rattle.edit_delta.proofs.Pieces.{goes-on, reaches-back}
-use Rattle.edit_delta.proofs.Spots.{Spot, side-head, spot-head, spot-last, unlinked-there}
+use Rattle.edit_delta.proofs.Spots.{Spot, side-head, spot-head, spot-last}
 use Rattle.edit_splice.specs.PutIn.{going_on as goes, reaching_back as reaches, StandAlone, StandsWithin}
 use Rattle.edit_splice.specs.Splicing.{spliced_track}
 use Rattle.edit_roll.specs.Neighbours.{FitsBetween, fits_between, has_neighbours, may_move_earlier, may_move_later, move_allows}
@@ -132,7 +132,6 @@ slide-on table t i v l r g b x y n good s a f is bare = subst (λ (u : ItemView)
     may = goes (goes-on table t a.before l (x - l.len) x n a.left f.0 (after-fits table t x y l r n a f)) (bare-alone table t i v x y x (y + n) good s (omega arith) (omega arith));
     numbers = (a.left.number, (s.number, tt));
     short = omega (arith, s.long, f.1, a.right.within, good.frames);
-    unlinked = λ u. (unlinked-there (items_of t.cells) a.before l a.left.read u, (unlinked-there (items_of t.cells) i v s.read u, tt));
   }
 
 pub slide-back : (table : Table) (t : TrackState) (i : ℕ) (v l r g b : ItemView) (x y n : ℕ) → IsGood table t → Spot table t i v x y → Around table t x y l r → FitsBetween table l r (Earlier n)
@@ -150,7 +149,6 @@ slide-back table t i v l r g b x y n good s a f is bare = subst (λ (u : ItemVie
     may = reaches {views = bare_view v ∷ []} (reaches-back table t a.behind r y (y + r.len) n a.right f.0 (before-fits table t x y l r n a f)) (bare-alone table t i v x y (x - n) y good s (omega arith) (omega arith));
     numbers = (s.number, (a.right.number, tt));
     short = omega (arith, s.long, f.1, a.left.long, s.within, good.frames);
-    unlinked = λ u. (unlinked-there (items_of t.cells) i v s.read u, (unlinked-there (items_of t.cells) a.behind r a.right.read u, tt));
   }
 
 -- what is meant

@@ -1,9 +1,8 @@
 // Slide: an item moved between its neighbours.
 ghost use Rattle.std.specs.Prelude.{◌≡◌, ◌+◌, ◌*◌, ◌<◌, ◌≤◌, All, Some, length, nat_eq, slice_get, true};
 ghost use Rattle.std.specs.List.{list_any};
-ghost use Rattle.composables.specs.Answers.{NextRises};
 ghost use Rattle.out_of_memory.specs.Answers.{Answers};
-ghost use Rattle.composables.specs.Good.{AreUnlinked, IsGood};
+ghost use Rattle.composables.specs.Good.{IsGood};
 ghost use Rattle.composables.specs.Items.{items_of};
 ghost use Rattle.composables.specs.OwnTracks.{numbers_of, track_numbered};
 ghost use Rattle.composables.specs.Places.{IsPlaceOf};
@@ -47,8 +46,6 @@ pub fn slide<L: Ledger>(
 
     ensures named { numbers_of named.new.items ≡ tracks_in call.now.tracks }
     ensures good { All (λ t. IsGood table.now t) named.new.items }
-    ensures unlinked { AreUnlinked named.old.items → AreUnlinked named.new.items }
-    ensures numbers { NextRises 2 named.old.items named.new.items }
 
     ensures least { steps.old + 1 ≤ steps.new }
     ensures most { steps.new ≤ steps.old + 32 * sizes_of named.old.items }

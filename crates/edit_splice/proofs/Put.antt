@@ -46,18 +46,17 @@ both_put table t n next what from len p h c =
 pub record PutIn (table : Table) (t : TrackState) (views : List ItemView) : Type 0 where
   pub new : AreNewFor table t views
   pub numbers : NumbersBelow (t.next_item + 1) views
-  pub unlinked : AllUnlinked views
   pub filled : AllFilled views
   pub few : length views ≤ 2
 
 pub put-gap : (table : Table) (t : TrackState) (n : ℕ) → PutIn table t (gap_views n)
 put-gap table t n = by (eqb n 0) refl where
   by : (b : Bool) → eqb n 0 ≡ b → PutIn table t (cond b [] (gap_view n ∷ []))
-  by true e = record { new = none_put table t; numbers = tt; unlinked = tt; filled = tt; few = omega arith }
+  by true e = record { new = none_put table t; numbers = tt; filled = tt; few = omega arith }
   by false e =
       let h : n ≢ 0 = eqb-false n 0 e in
       let p : 0 < n = omega (arith, h) in
-      record { new = gap_put table t n p; numbers = (tt, tt); unlinked = (refl, tt); filled = (p, tt); few = omega arith }
+      record { new = gap_put table t n p; numbers = (tt, tt); filled = (p, tt); few = omega arith }
 
 pub put-only : (table : Table) (t : TrackState) (n : ℕ) → PutIn table t (gap_views n ++ new_views None)
 put-only table t n = subst (PutIn table t) (sym (append-nil (gap_views n))) (put-gap table t n)
@@ -67,8 +66,8 @@ pub put-clip : (table : Table) (t : TrackState) (n next : ℕ) (what : What) (fr
 put-clip table t n next what from len e c = by (eqb n 0) refl where
   by : (b : Bool) → eqb n 0 ≡ b → PutIn table t (cond b [] (gap_view n ∷ []) ++ new_views (Some (clip_view next what from len)))
   by true f =
-      record { new = clip_put table t next what from len (omega (arith, e)) c; numbers = (omega (arith, e), tt); unlinked = (refl, tt); filled = (c.filled, tt); few = omega arith }
+      record { new = clip_put table t next what from len (omega (arith, e)) c; numbers = (omega (arith, e), tt); filled = (c.filled, tt); few = omega arith }
   by false f =
       let h : n ≢ 0 = eqb-false n 0 f in
       let p : 0 < n = omega (arith, h) in
-      record { new = both_put table t n next what from len p (omega (arith, e)) c; numbers = (tt, (omega (arith, e), tt)); unlinked = (refl, (refl, tt)); filled = (p, (c.filled, tt)); few = omega arith }
+      record { new = both_put table t n next what from len p (omega (arith, e)) c; numbers = (tt, (omega (arith, e), tt)); filled = (p, (c.filled, tt)); few = omega arith }

@@ -7,14 +7,11 @@ use Rattle.composables.specs.declared.refusals.Done.{Done}
 use Rattle.out_of_memory.specs.declared.fault.Fault.{Fault}
 use Rattle.out_of_memory.specs.declared.fault.Fault.TheVariants.{Refused, Memory}
 use Rattle.composables.specs.declared.refusals.Refusal.{Refusal}
-use Rattle.composables.specs.Good.{AllUnlinked, IsGood}
-use Rattle.composables.specs.Items.{items_of}
+use Rattle.composables.specs.Good.{IsGood}
 use Rattle.composables.specs.TrackState.{TrackState}
 use Rattle.edit_splice.specs.Laws.{IsWithinLimits}
 use Rattle.edit_splice.specs.Splicing.{spliced_track}
 use Rattle.edit_splice.proofs.Goodness.{good-spliced}
-use Rattle.edit_splice.proofs.Outcomes.{next-bounds, unlinked-spliced}
-use Rattle.composables.specs.Answers.{NextRises}
 use Rattle.out_of_memory.specs.Answers.{Answers}
 use Rattle.composables.specs.Limits.{track_within_limits}
 use Rattle.edit_splice.specs.Standing.{StaysGood, EachStaysGood}
@@ -22,19 +19,11 @@ use Rattle.edit_splice.proofs.Limits.{within-done}
 use Rattle.edit_splice.proofs.Put.{PutIn}
 
 pub stays-self : (table : Table) (t : TrackState) → IsGood table t → StaysGood table t t
-stays-self table t g = record { good = g; number = refl; item = omega arith; link = refl; unlinked = λ u. u }
+stays-self table t g = record { good = g; number = refl }
 
 pub stays-spliced : (table : Table) (t : TrackState) (x y : ℕ) (views : List ItemView) → IsGood table t → x ≤ y → y ≤ length t.cells → PutIn table t views
     → IsWithinLimits (spliced_track t x y views) → StaysGood table t (spliced_track t x y views)
-stays-spliced table t x y views g le within p limits =
-    let next : (spliced_track t x y views).next_item ≤ t.next_item + 1 + 1 = (next-bounds t x y 1 views p.numbers).1 in
-    record {
-      good = good-spliced table t x y views g le within p.new limits;
-      number = refl;
-      item = omega (arith, next);
-      link = refl;
-      unlinked = λ u. unlinked-spliced t x y views g.kept u p.unlinked;
-    }
+stays-spliced table t x y views g le within p limits = record { good = good-spliced table t x y views g le within p.new limits; number = refl }
 
 -- an edit that puts items into one track
 pub stays-placed : (table : Table) (t u : TrackState) (x y : ℕ) (views : List ItemView) (done : Done) (result : Result Done (Fault Refusal))
@@ -78,17 +67,3 @@ each-numbers table [] (u ∷ us) h = absurd h
 each-numbers table (t ∷ ts) [] h = absurd h
 each-numbers table (t ∷ ts) (u ∷ us) h =
     ap (λ (n : ℕ). n ∷ map (λ (t : TrackState). t.number) us) h.0.number ∙ ap (λ (ns : List ℕ). t.number ∷ ns) (each-numbers table ts us h.1)
-
-pub each-rises : (table : Table) (ts us : List TrackState) → EachStaysGood table ts us → NextRises 2 ts us
-each-rises table [] [] h = tt
-each-rises table [] (u ∷ us) h = absurd h
-each-rises table (t ∷ ts) [] h = absurd h
-each-rises table (t ∷ ts) (u ∷ us) h = (h.0.number, h.0.item, h.0.link, each-rises table ts us h.1)
-
-pub each-unlinked : (table : Table) (ts us : List TrackState) → EachStaysGood table ts us → All (λ (t : TrackState). AllUnlinked (items_of t.cells)) ts → All (λ (t : TrackState). AllUnlinked (items_of t.cells)) us
-each-unlinked table [] [] h a = a
-each-unlinked table [] (u ∷ us) h a = absurd h
-each-unlinked table (t ∷ ts) [] h a = absurd h
-each-unlinked table (t ∷ ts) (u ∷ us) h a =
-    All-cons (λ (t : TrackState). AllUnlinked (items_of t.cells)) u us (h.0.unlinked (all_head (λ (t : TrackState). AllUnlinked (items_of t.cells)) t ts a))
-    (each-unlinked table ts us h.1 (all_tail (λ (t : TrackState). AllUnlinked (items_of t.cells)) t ts a))

@@ -264,14 +264,6 @@ end-part table l on back i t u g h is le = is ∙ whole_part table l on back i t
 
 -- what stays
 
-unlinked_part : (l : Link) (on back i : ℕ) (vs : List ItemView) → AllUnlinked vs → AllUnlinked (part_slipped l on back i vs)
-unlinked_part l on back zero vs u = u
-unlinked_part l on back (suc i) [] u = tt
-unlinked_part l on back (suc i) (v ∷ vs) u = (by (carries l v.link), unlinked_part l on back i vs u.1) where
-  by : (b : Bool) → (cond b (record v { first = moved v.first on back }) v).link ≡ None
-  by true = u.0
-  by false = u.0
-
 moved_stays : (table : Table) (l : Link) (on back : ℕ) (t : TrackState) → IsGood table t → EachMoves table l (items_of t.cells) on back → StaysGood table t (track_moved l on back t)
 moved_stays table l on back t g h =
     let n = length (items_of t.cells) in
@@ -280,9 +272,6 @@ moved_stays table l on back t g h =
     record {
       good = subst (IsGood table) is p.good;
       number = refl;
-      item = omega arith;
-      link = refl;
-      unlinked = λ u. subst (λ (w : TrackState). AllUnlinked (items_of w.cells)) is (subst AllUnlinked (sym p.items) (unlinked_part l on back n (items_of t.cells) u));
     }
 
 pub all-stay : (table : Table) (l : Link) (on back : ℕ) (ts : List TrackState) → All (IsGood table) ts → AllMove table l ts on back → EachStaysGood table ts (map (track_moved l on back) ts)

@@ -16,7 +16,7 @@ use Rattle.edit_delta.specs.Parts.{AreParts}
 use Rattle.edit_delta.specs.Reaching.{reaching_back}
 use Rattle.edit_delta.proofs.Bounded.{below-more, parts-kept, stays-spliced}
 use Rattle.edit_delta.proofs.Pieces.{Before, none-alone, reaches-back, up-true}
-use Rattle.edit_delta.proofs.Spots.{Spot, unlinked-there}
+use Rattle.edit_delta.proofs.Spots.{Spot}
 use Rattle.edit_splice.specs.declared.shifting.Shift.{Shift}
 use Rattle.edit_splice.specs.Laws.{IsWithinLimits}
 use Rattle.edit_splice.specs.Moves.{IsShiftOf, moved, put_views}
@@ -42,7 +42,6 @@ none-parts table t x y good le within = record {
   may = alone (none-alone table t x y);
   numbers = tt;
   short = omega (arith, le, within, good.frames);
-  unlinked = λ u. tt;
 }
 
 -- what begins at x reaches back by frames that are put in before it
@@ -58,7 +57,6 @@ before-parts table t i v b x y n s h room before is = subst (λ (u : ItemView). 
     may = reaches {views = []} (reaches-back table t i v x y n s h before) (none-alone table t x x);
     numbers = (s.number, tt);
     short = omega (arith, room, s.within, s.long);
-    unlinked = λ u. (unlinked-there (items_of t.cells) i v s.read u, tt);
   }
 
 -- the room of all is the room of each

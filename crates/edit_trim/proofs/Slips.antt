@@ -118,11 +118,6 @@ links_sourced n s i [] h = tt
 links_sourced n s zero (v ∷ vs) h = h
 links_sourced n s (suc i) (v ∷ vs) h = (h.0, links_sourced n s i vs h.1)
 
-unlinked_sourced : (s i : ℕ) (vs : List ItemView) → AllUnlinked vs → AllUnlinked (changed_at (with_source s) i vs)
-unlinked_sourced s i [] h = tt
-unlinked_sourced s zero (v ∷ vs) h = h
-unlinked_sourced s (suc i) (v ∷ vs) h = (h.0, unlinked_sourced s i vs h.1)
-
 first_sourced : (s i : ℕ) (vs : List ItemView) → first_mark (changed_at (with_source s) i vs) ≡ first_mark vs
 first_sourced s i [] = refl
 first_sourced s zero (v ∷ vs) = refl
@@ -221,9 +216,6 @@ pub sourced-stays : (table : Table) (t : TrackState) (i s : ℕ) (v : ItemView) 
 sourced-stays table t i s v g e r = record {
   good = sourced-good table t i s v g e r;
   number = refl;
-  item = omega arith;
-  link = refl;
-  unlinked = λ u. subst AllUnlinked (sym (items-sourced t s i g.kept)) (unlinked_sourced s i (items_of t.cells) u);
 }
 
 -- the code's change of an item is that of its cells

@@ -4,14 +4,14 @@ ghost use Rattle.std.specs.List.{list_any};
 ghost use Rattle.composables.specs.declared.calls.End.TheVariants.{Head, Tail};
 ghost use Rattle.composables.specs.declared.TheConstants.{MAX_FRAMES};
 ghost use Rattle.out_of_memory.specs.Answers.{Answers};
-ghost use Rattle.composables.specs.Good.{AreUnlinked, IsGood};
+ghost use Rattle.composables.specs.Good.{IsGood};
 ghost use Rattle.composables.specs.OwnTracks.{numbers_of, track_numbered};
 ghost use Rattle.composables.specs.Roomy.{IsRoomy};
 ghost use Rattle.composables.specs.Sizes.{sizes_of};
 ghost use Rattle.composables.specs.TrackSets.{tracks_in};
 ghost use Rattle.edit_delta.specs.Nearest.{AreUpTo};
 ghost use Rattle.edit_splice.specs.Padding.{new_len};
-ghost use Rattle.link_groups.specs.Shifted.{EachStaysShifted, NextItemsRise};
+ghost use Rattle.edit_splice.specs.Standing.{EachStaysGood};
 ghost use Rattle.edit_trim.specs.Rippling.{CanShift, IsRippled, IsWhole, RipplesAmong, has_room, have_room, place_after, ripple_named, shift_by};
 
 use composables::{
@@ -48,8 +48,6 @@ pub fn ripple<L: Ledger>(
 
     ensures named { numbers_of named.new.items ≡ tracks_in call.now.tracks }
     ensures good { All (λ t. IsGood table.now t) named.new.items }
-    ensures unlinked { AreUnlinked named.old.items → AreUnlinked named.new.items }
-    ensures numbers { NextItemsRise 2 named.old.items named.new.items }
 
     ensures least { steps.old + 1 ≤ steps.new }
     ensures most { steps.new ≤ steps.old + 32 * sizes_of named.old.items }
@@ -78,7 +76,7 @@ fn ripple_at<L: Ledger>(
     requires roomy { All (λ t. IsRoomy t) named.old.items }
     ensures answers { Answers (ripple_named table.now named.old.items call.now)
         named.old.items named.new.items result }
-    ensures good { EachStaysShifted table.now named.old.items named.new.items }
+    ensures good { EachStaysGood table.now named.old.items named.new.items }
     ensures least { steps.old ≤ steps.new }
     ensures most { steps.new ≤ steps.old + 24 * sizes_of named.old.items }
 {

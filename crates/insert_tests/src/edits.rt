@@ -1,7 +1,6 @@
 // The edits of one track over dissolves, beside the plain program.
 ghost use Rattle.std.specs.Prelude.{◌≡◌, ◌<◌, [], ◌∷◌, All, IfOk, IfSome};
-ghost use Rattle.composables.specs.Good.{AllUnlinked, AreUnlinked, IsGood};
-ghost use Rattle.composables.specs.Items.{items_of};
+ghost use Rattle.composables.specs.Good.{IsGood};
 ghost use Rattle.composables.specs.OwnTracks.{numbers_of};
 ghost use Rattle.composables.specs.Roomy.{IsRoomy};
 
@@ -37,7 +36,6 @@ fn dissolved(alloc: Global, table: &Table) -> Result<Option<Track>, Memory>
     ensures number { IfOk result (λ o. IfSome o (λ t. t.number ≡ 0)) }
     ensures good { IfOk result (λ o. IfSome o (λ t. IsGood table.now t)) }
     ensures roomy { IfOk result (λ o. IfSome o (λ t. IsRoomy t)) }
-    ensures unlinked { IfOk result (λ o. IfSome o (λ t. AllUnlinked (items_of t.cells))) }
 {
     let views = [
         clip(0, 0, 50, 4),
@@ -96,7 +94,6 @@ fn edit_it<L: Ledger>(
     requires named { numbers_of named.old.items ≡ 0 ∷ [] }
     requires good { All (λ t. IsGood table.now t) named.old.items }
     requires roomy { All (λ t. IsRoomy t) named.old.items }
-    requires unlinked { AreUnlinked named.old.items }
 {
     match edit {
         Edit::Over(at, len) => overwrite(alloc, table, named, &over(at, len), steps),
@@ -127,7 +124,6 @@ fn edited<L: Ledger>(
     requires number { track.number ≡ 0 }
     requires good { IsGood table.now track }
     requires roomy { IsRoomy track }
-    requires unlinked { AllUnlinked (items_of track.cells) }
 {
     let mut steps = Steps::<L>::new(blank);
     let mut named = Vec::new(alloc);

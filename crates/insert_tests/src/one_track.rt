@@ -1,7 +1,6 @@
 // Worked examples of each edit of one track.
 ghost use Rattle.std.specs.Prelude.{◌≡◌, ◌<◌, [], ◌∷◌, All};
-ghost use Rattle.composables.specs.Good.{AllUnlinked, AreUnlinked, IsGood};
-ghost use Rattle.composables.specs.Items.{items_of};
+ghost use Rattle.composables.specs.Good.{IsGood};
 ghost use Rattle.composables.specs.OwnTracks.{numbers_of};
 
 use crate::tracks::{all_roomy, item, shown_items, small_table, told_all};
@@ -79,10 +78,8 @@ fn edit_one<L: Ledger>(
 ) -> Result<Done, EditFault>
     requires named { numbers_of named.old.items ≡ number ∷ [] }
     requires good { All (λ t. IsGood table.now t) named.old.items }
-    requires unlinked { AreUnlinked named.old.items }
     ensures named { numbers_of named.new.items ≡ number ∷ [] }
     ensures good { All (λ t. IsGood table.now t) named.new.items }
-    ensures unlinked { AreUnlinked named.new.items }
 {
     assert!(rt; all_roomy(named));
     match edit {
@@ -117,10 +114,8 @@ fn edit_all<L: Ledger>(
 ) -> Result<Done, EditFault>
     requires named { numbers_of named.old.items ≡ number ∷ [] }
     requires good { All (λ t. IsGood table.now t) named.old.items }
-    requires unlinked { AreUnlinked named.old.items }
     ensures named { numbers_of named.new.items ≡ number ∷ [] }
     ensures good { All (λ t. IsGood table.now t) named.new.items }
-    ensures unlinked { AreUnlinked named.new.items }
 {
     let mut last = Ok(Done::Plain);
     for edit in edits {
@@ -149,7 +144,6 @@ fn play<L: Ledger>(
     requires blank { (blank.name ≡ L.name) × (blank.parts ≡ L.parts) × (0 < blank.parts) }
     requires number { track.number ≡ number }
     requires good { IsGood table.now track }
-    requires unlinked { AllUnlinked (items_of track.cells) }
 {
     let mut steps = Steps::<L>::new(blank);
     let mut named = Vec::new(alloc);

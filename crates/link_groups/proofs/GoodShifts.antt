@@ -22,8 +22,7 @@ use Rattle.edit_splice.specs.Standing.{EachStaysGood, StaysGood}
 use Rattle.edit_splice.proofs.Bridging.{StaysMoved, each-shifted}
 use Rattle.edit_splice.proofs.Standing.{all_head, all_none, all_tail, each-self}
 use Rattle.link_groups.specs.LinkedShifts.{linked_after, linked_refusal, linked_shift, split_items}
-use Rattle.link_groups.specs.Shifted.{EachStaysShifted, NextItemsRise, StaysShifted}
-use Rattle.link_groups.proofs.Relinking.{good-linked, items-linked, like-links, like-moved, linked_track, moved-linked, new_links, unlinked-linked}
+use Rattle.link_groups.proofs.Relinking.{good-linked, items-linked, like-links, like-moved, linked_track, moved-linked, new_links}
 
 -- a track with another next link number is as good
 pub with_next : (table : Table) (t : TrackState) (n : ℕ) → IsGood table t → IsGood table (record t { next_link = n })
@@ -43,36 +42,21 @@ as_linked : (tracks : List TrackState) (splits : List Link) (place : ℕ) (u : T
 as_linked tracks splits place u =
     ap (λ (vs : List ItemView). record u { cells = cells_of vs; next_link = u.next_link + count_at_home splits u.number }) (sym (moved-linked tracks splits place (items_of u.cells)))
 
-split_stays : (table : Table) (tracks : List TrackState) (splits : List Link) (place : ℕ) (t u : TrackState) → StaysGood table t u → StaysShifted table t (split_items tracks splits place u)
+split_stays : (table : Table) (tracks : List TrackState) (splits : List Link) (place : ℕ) (t u : TrackState) → StaysGood table t u → StaysGood table t (split_items tracks splits place u)
 split_stays table tracks splits place t u h =
     let ls : List (Option Link) = new_links (moved_link tracks splits) place (items_of u.cells) in
     let like = like-links (moved_link tracks splits) (like-moved tracks splits) place (items_of u.cells) in
-    subst (StaysShifted table t) (as_linked tracks splits place u)
+    subst (StaysGood table t) (as_linked tracks splits place u)
     (record {
       good = with_next table (linked_track (new_links (moved_link tracks splits) place (items_of u.cells)) u) (u.next_link + count_at_home splits u.number) (good-linked table (new_links (moved_link tracks splits) place (items_of u.cells)) u like h.good);
       number = h.number;
-      item = h.item;
-      link = omega (arith, h.link);
-      unlinked = λ bare. subst AllUnlinked (sym (items-linked (new_links (moved_link tracks splits) place (items_of u.cells)) u h.good.kept)) (unlinked-linked (new_links (moved_link tracks splits) place (items_of u.cells)) (items_of u.cells) like (h.unlinked bare));
     })
 
-each_split : (table : Table) (tracks : List TrackState) (splits : List Link) (place : ℕ) (ts us : List TrackState) → EachStaysGood table ts us → EachStaysShifted table ts (map (split_items tracks splits place) us)
+each_split : (table : Table) (tracks : List TrackState) (splits : List Link) (place : ℕ) (ts us : List TrackState) → EachStaysGood table ts us → EachStaysGood table ts (map (split_items tracks splits place) us)
 each_split table tracks splits place [] [] h = tt
 each_split table tracks splits place [] (u ∷ us) h = absurd h
 each_split table tracks splits place (t ∷ ts) [] h = absurd h
 each_split table tracks splits place (t ∷ ts) (u ∷ us) h = (split_stays table tracks splits place t u h.0, each_split table tracks splits place ts us h.1)
-
-stays_same : (table : Table) (t u : TrackState) → StaysGood table t u → StaysShifted table t u
-stays_same table t u h = record { good = h.good; number = h.number; item = h.item; link = omega (arith, h.link); unlinked = h.unlinked }
-
-pub each-same : (table : Table) (ts us : List TrackState) → EachStaysGood table ts us → EachStaysShifted table ts us
-each-same table [] [] h = tt
-each-same table [] (u ∷ us) h = absurd h
-each-same table (t ∷ ts) [] h = absurd h
-each-same table (t ∷ ts) (u ∷ us) h = (stays_same table t u h.0, each-same table ts us h.1)
-
-pub each-still : (table : Table) (ts : List TrackState) → All (IsGood table) ts → EachStaysShifted table ts ts
-each-still table ts g = each-same table ts ts (each-self table ts g)
 
 record IsAfter (s : Shift) (place : ℕ) (done : Done) (ts us : List TrackState) : Type 0 where
   same : us ≡ linked_after s place ts
@@ -92,46 +76,17 @@ is_after s place done ts us d = by (linked_refusal s ts) (too_long (all_moved s 
         ∙ ap (λ (o : Option Refusal). unless {A = List TrackState × Done} o (Ok (all_moved s ts, done))) f;
   }
 
-after_stays : (table : Table) (s : Shift) (place : ℕ) (ts : List TrackState) → EachStaysGood table ts (all_moved s ts) → EachStaysShifted table ts (linked_after s place ts)
+after_stays : (table : Table) (s : Shift) (place : ℕ) (ts : List TrackState) → EachStaysGood table ts (all_moved s ts) → EachStaysGood table ts (linked_after s place ts)
 after_stays table s place ts h = by (eqb (new_len s.new) (s.y - s.x)) where
-  by : (b : Bool) → EachStaysShifted table ts (cond b (all_moved s ts) (map (split_items ts (split_links s.x s.y ts) place) (all_moved s ts)))
-  by true = each-same table ts (all_moved s ts) h
+  by : (b : Bool) → EachStaysGood table ts (cond b (all_moved s ts) (map (split_items ts (split_links s.x s.y ts) place) (all_moved s ts)))
+  by true = h
   by false = each_split table ts (split_links s.x s.y ts) place ts (all_moved s ts) h
 
 -- after a shift
 pub each-linked : (table : Table) (s : Shift) (place : ℕ) (ts us : List TrackState) (done : Done) (result : Result Done (Fault Refusal)) → All (IsGood table) ts → All (StaysMoved table s) ts
-    → Answers (linked_shift s place done ts) ts us result → EachStaysShifted table ts us
+    → Answers (linked_shift s place done ts) ts us result → EachStaysGood table ts us
 each-linked table s place ts us done (Ok d) g p a =
     let k = is_after s place done ts us d a in
-    subst (EachStaysShifted table ts) (sym k.same) (after_stays table s place ts (each-shifted table s ts (all_moved s ts) done (Ok done) g p k.within))
-each-linked table s place ts us done (Err (Refused why)) g p a = subst (EachStaysShifted table ts) (sym a.1) (each-still table ts g)
-each-linked table s place ts us done (Err Memory) g p a = subst (EachStaysShifted table ts) (sym a) (each-still table ts g)
-
--- what the edits say of it
-
-pub shifted-good : (table : Table) (ts us : List TrackState) → EachStaysShifted table ts us → All (IsGood table) us
-shifted-good table [] [] h = all_none (IsGood table)
-shifted-good table [] (u ∷ us) h = absurd h
-shifted-good table (t ∷ ts) [] h = absurd h
-shifted-good table (t ∷ ts) (u ∷ us) h = All-cons (IsGood table) u us h.0.good (shifted-good table ts us h.1)
-
-pub shifted-numbers : (table : Table) (ts us : List TrackState) → EachStaysShifted table ts us → map (λ (t : TrackState). t.number) us ≡ map (λ (t : TrackState). t.number) ts
-shifted-numbers table [] [] h = refl
-shifted-numbers table [] (u ∷ us) h = absurd h
-shifted-numbers table (t ∷ ts) [] h = absurd h
-shifted-numbers table (t ∷ ts) (u ∷ us) h =
-    ap (λ (n : ℕ). n ∷ map (λ (t : TrackState). t.number) us) h.0.number ∙ ap (λ (ns : List ℕ). t.number ∷ ns) (shifted-numbers table ts us h.1)
-
-pub shifted-rises : (table : Table) (ts us : List TrackState) → EachStaysShifted table ts us → NextItemsRise 2 ts us
-shifted-rises table [] [] h = tt
-shifted-rises table [] (u ∷ us) h = absurd h
-shifted-rises table (t ∷ ts) [] h = absurd h
-shifted-rises table (t ∷ ts) (u ∷ us) h = (h.0.number, h.0.item, h.0.link, shifted-rises table ts us h.1)
-
-pub shifted-unlinked : (table : Table) (ts us : List TrackState) → EachStaysShifted table ts us → All (λ (t : TrackState). AllUnlinked (items_of t.cells)) ts → All (λ (t : TrackState). AllUnlinked (items_of t.cells)) us
-shifted-unlinked table [] [] h a = a
-shifted-unlinked table [] (u ∷ us) h a = absurd h
-shifted-unlinked table (t ∷ ts) [] h a = absurd h
-shifted-unlinked table (t ∷ ts) (u ∷ us) h a =
-    All-cons (λ (t : TrackState). AllUnlinked (items_of t.cells)) u us (h.0.unlinked (all_head (λ (t : TrackState). AllUnlinked (items_of t.cells)) t ts a))
-    (shifted-unlinked table ts us h.1 (all_tail (λ (t : TrackState). AllUnlinked (items_of t.cells)) t ts a))
+    subst (EachStaysGood table ts) (sym k.same) (after_stays table s place ts (each-shifted table s ts (all_moved s ts) done (Ok done) g p k.within))
+each-linked table s place ts us done (Err (Refused why)) g p a = subst (EachStaysGood table ts) (sym a.1) (each-self table ts g)
+each-linked table s place ts us done (Err Memory) g p a = subst (EachStaysGood table ts) (sym a.1) (each-self table ts g)

@@ -12,7 +12,7 @@ use Rattle.composables.specs.Items.{items_of}
 use Rattle.composables.specs.TrackState.{TrackState}
 use Rattle.composables.proofs.Joining.{same-is}
 use Rattle.link_groups.specs.LinkedItems.{item_from, item_of, linked_item}
-use Rattle.link_groups.specs.Linking.{NextLinkRises, all_linked, already_linked, are_there, home_risen, link_refusal, offsets_differ, or_else}
+use Rattle.link_groups.specs.Linking.{all_linked, already_linked, are_there, home_risen, link_refusal, offsets_differ, or_else}
 use Rattle.link_groups.proofs.GoodShifts.{with_next}
 use Rattle.link_groups.proofs.Relinked.{relinked}
 
@@ -138,26 +138,15 @@ risen-good table (t ∷ ts) g =
 
 -- their numbers
 
-pub rises-self : (ts : List TrackState) → NextLinkRises ts ts
-rises-self [] = tt
-rises-self (t ∷ ts) = (refl, refl, omega arith, omega arith, rises-self ts)
+numbers_linked : (made : Link) (ts : List TrackState) (is : List ℕ) → map (λ (t : TrackState). t.number) (all_linked made ts is) ≡ map (λ (t : TrackState). t.number) ts
+numbers_linked made [] is = refl
+numbers_linked made (t ∷ ts) [] = refl
+numbers_linked made (t ∷ ts) (i ∷ is) = ap (λ (ns : List ℕ). t.number ∷ ns) (numbers_linked made ts is)
 
-rises_linked : (made : Link) (ts : List TrackState) (is : List ℕ) → NextLinkRises ts (all_linked made ts is)
-rises_linked made [] is = tt
-rises_linked made (t ∷ ts) [] = rises-self (t ∷ ts)
-rises_linked made (t ∷ ts) (i ∷ is) = (refl, refl, omega arith, omega arith, rises_linked made ts is)
-
-pub rises-risen : (made : Link) (ts : List TrackState) (is : List ℕ) → NextLinkRises ts (home_risen (all_linked made ts is))
-rises-risen made [] is = tt
-rises-risen made (t ∷ ts) [] = (refl, refl, omega arith, omega arith, rises-self ts)
-rises-risen made (t ∷ ts) (i ∷ is) = (refl, refl, omega arith, omega arith, rises_linked made ts is)
-
-pub rises-numbers : (ts us : List TrackState) → NextLinkRises ts us → map (λ (t : TrackState). t.number) us ≡ map (λ (t : TrackState). t.number) ts
-rises-numbers [] [] r = refl
-rises-numbers [] (u ∷ us) r = absurd r
-rises-numbers (t ∷ ts) [] r = absurd r
-rises-numbers (t ∷ ts) (u ∷ us) r =
-    ap (λ (n : ℕ). n ∷ map (λ (t : TrackState). t.number) us) r.0 ∙ ap (λ (ns : List ℕ). t.number ∷ ns) (rises-numbers ts us r.4)
+pub numbers-risen : (made : Link) (ts : List TrackState) (is : List ℕ) → map (λ (t : TrackState). t.number) (home_risen (all_linked made ts is)) ≡ map (λ (t : TrackState). t.number) ts
+numbers-risen made [] is = refl
+numbers-risen made (t ∷ ts) [] = refl
+numbers-risen made (t ∷ ts) (i ∷ is) = ap (λ (ns : List ℕ). t.number ∷ ns) (numbers_linked made ts is)
 
 -- what a call leaves
 

@@ -1,7 +1,8 @@
 -- Shifts that split links, item by item and cell by cell.
-use Rattle.std.proofs.Common.{◌≡◌, ℕ, zero, suc, ◌+◌, ◌-◌, ◌*◌, ◌<◌, ◌≤◌, ◌^◌, Bool, true, false, cond, eqb, ltb, List, [], ◌∷◌, ◌++◌, All, take, drop, map, length, unwrap_or, Option, Some, None, Ok, refl, sym, ap, ◌∙◌, arith, subst, get_or}
+use Rattle.std.proofs.Common.{◌≡◌, ℕ, zero, suc, ◌+◌, ◌-◌, ◌*◌, ◌<◌, ◌≤◌, ◌^◌, Bool, true, false, cond, eqb, ltb, List, [], ◌∷◌, ◌++◌, All, take, drop, map, length, unwrap_or, Option, Some, None, Ok, Err, refl, sym, ap, ◌∙◌, arith, subst, get_or}
 use Rattle.std.specs.List.{list_any}
 use Rattle.std.specs.BTreeMap.{get}
+use Rattle.std.specs.Option.{option_or}
 use Rattle.std.specs.Ordering.{nat_cmp}
 use Rattle.std.proofs.lemmas.List.{take-append-drop}
 use Rattle.frame_meaning.specs.declared.cells.Cell.{Cell}
@@ -12,7 +13,7 @@ use Rattle.composables.specs.declared.refusals.Refusal.TheVariants.{TooLong, Too
 use Rattle.composables.specs.declared.TheConstants.{MAX_FRAMES, MAX_ITEMS}
 use Rattle.composables.specs.Answers.{unless}
 use Rattle.composables.specs.Items.{items_of}
-use Rattle.composables.specs.Limits.{too_long, too_many, unless_over, within_limits}
+use Rattle.composables.specs.Limits.{over_limits, too_long, too_many, unless_over, within_limits}
 use Rattle.composables.specs.Links.{cells_from, count_at_home, earlier_at_home, link_outside, links_split, moved_cell, moved_link, same_link, split_links, split_track}
 use Rattle.composables.specs.TrackFacts.{IsKept}
 use Rattle.composables.specs.TrackState.{TrackState}
@@ -20,6 +21,7 @@ use Rattle.edit_splice.specs.declared.shifting.Shift.{Shift}
 use Rattle.edit_splice.specs.Moves.{IsShiftOf, all_moved, moved}
 use Rattle.edit_splice.specs.Padding.{new_len}
 use Rattle.edit_splice.proofs.Firsts.{few-all, short-all}
+use Rattle.edit_splice.proofs.Limits.{none-over}
 use Rattle.link_groups.specs.declared.splits.Splits.{Splits}
 use Rattle.link_groups.specs.LinkedShifts.{linked_after, linked_refusal, linked_shift, split_items}
 use Rattle.link_groups.specs.Renumbering.{IsUncut}
@@ -128,27 +130,26 @@ shift-items s done ts order kept uncut = ap (unless (linked_refusal s ts)) (by (
       (many-same (s.x + new_len s.new) (all_moved s ts) (split_links s.x (s.x + new_len s.new) (all_moved s ts)) (all_moved s ts))
       ∙ at (too_long (all_moved s ts)) (too_many (all_moved s ts)) refl refl)
 
--- what the code does
+-- what the code does: it is refused for the limits, or within them
 
-pub record IsDone (s : Shift) (done : Done) (ts new : List TrackState) (d : Done) : Type 0 where
-  pub same : new ≡ all_moved s ts
-  pub answer : d ≡ done
-  pub long : too_long (all_moved s ts) ≡ None
-  pub many : too_many (all_moved s ts) ≡ None
+over_refused : (us after : List TrackState) (done : Done) (why : Refusal) → over_limits us ≡ Some why → unless_over us (Ok (after, done)) ≡ Err why
+over_refused us after done why = by (too_long us) (too_many us) where
+  by : (a b : Option Refusal) → option_or a b ≡ Some why → unless {A = List TrackState × Done} a (unless {A = List TrackState × Done} b (Ok (after, done))) ≡ Err why
+  by (Some r) b e = Prim.grind (arith, e)
+  by None (Some r) e = Prim.grind (arith, e)
+  by None None e = absurd (Prim.grind (arith, e))
 
-pub is-done : (s : Shift) (done : Done) (ts new : List TrackState) (d : Done) → within_limits (all_moved s ts) done ≡ Ok (new, d) → IsDone s done ts new d
-is-done s done ts new d = by (too_long (all_moved s ts)) (too_many (all_moved s ts)) refl refl where
-  by : (a b : Option Refusal) → too_long (all_moved s ts) ≡ a → too_many (all_moved s ts) ≡ b
-      → unless {A = List TrackState × Done} a (unless {A = List TrackState × Done} b (Ok (all_moved s ts, done))) ≡ Ok (new, d) → IsDone s done ts new d
-  by (Some r) b e f k = absurd (Prim.grind (arith, k))
-  by None (Some r) e f k = absurd (Prim.grind (arith, k))
-  by None None e f k = record { same = Prim.grind (arith, k); answer = Prim.grind (arith, k); long = e; many = f }
-
-pub done-after : (s : Shift) (place : ℕ) (done : Done) (ts : List TrackState) → linked_refusal s ts ≡ None → too_long (all_moved s ts) ≡ None → too_many (all_moved s ts) ≡ None → linked_shift s place done ts ≡ Ok (linked_after s place ts, done)
-done-after s place done ts none e f =
+pub linked-over : (s : Shift) (place : ℕ) (done : Done) (ts : List TrackState) (why : Refusal) → linked_refusal s ts ≡ None → over_limits (all_moved s ts) ≡ Some why → linked_shift s place done ts ≡ Err why
+linked-over s place done ts why none over =
     ap (λ (o : Option Refusal). unless {A = List TrackState × Done} o (unless_over (all_moved s ts) (Ok (linked_after s place ts, done)))) none
-    ∙ (ap (λ (o : Option Refusal). unless {A = List TrackState × Done} o (unless {A = List TrackState × Done} (too_many (all_moved s ts)) (Ok (linked_after s place ts, done)))) e
-    ∙ ap (λ (o : Option Refusal). unless {A = List TrackState × Done} o (Ok (linked_after s place ts, done))) f)
+    ∙ over_refused (all_moved s ts) (linked_after s place ts) done why over
+
+pub linked-within : (s : Shift) (place : ℕ) (done : Done) (ts : List TrackState) → linked_refusal s ts ≡ None → over_limits (all_moved s ts) ≡ None → linked_shift s place done ts ≡ Ok (linked_after s place ts, done)
+linked-within s place done ts none within =
+    let keep = none-over (all_moved s ts) within in
+    ap (λ (o : Option Refusal). unless {A = List TrackState × Done} o (unless_over (all_moved s ts) (Ok (linked_after s place ts, done)))) none
+    ∙ (ap (λ (o : Option Refusal). unless {A = List TrackState × Done} o (unless {A = List TrackState × Done} (too_many (all_moved s ts)) (Ok (linked_after s place ts, done)))) keep.0
+    ∙ ap (λ (o : Option Refusal). unless {A = List TrackState × Done} o (Ok (linked_after s place ts, done))) keep.1)
 
 pub after-code : (s : Shift) (place : ℕ) (ts : List TrackState) (p : Splits) → eqb (new_len s.new) (s.y - s.x) ≡ false → AreSplits ts (split_links s.x s.y ts) p
     → map (relinked_track p place) (all_moved s ts) ≡ linked_after s place ts
@@ -159,22 +160,21 @@ after-code s place ts p e a =
 pub moving-refusal : (s : Shift) (ts : List TrackState) (r : Option Refusal) → eqb (new_len s.new) (s.y - s.x) ≡ false → r ≡ link_outside ts (cells_from s.y ts) → linked_refusal s ts ≡ r
 moving-refusal s ts r e f = ap (λ (b : Bool). cond b None (link_outside ts (cells_from s.y ts))) e ∙ sym f
 
-pub numbers-fit : (s : Shift) (ts : List TrackState) (p : Splits) → All (λ (t : TrackState). t.next_link ≤ 2 ^ 31) ts → HasFew p
+numbers-fit : (s : Shift) (ts : List TrackState) (p : Splits) → All (λ (t : TrackState). t.next_link ≤ 2 ^ 31) ts → HasFew p
     → All (λ (t : TrackState). t.next_link + unwrap_or (get nat_cmp p.counts t.number) 0 < 2 ^ 32) (all_moved s ts)
 numbers-fit s ts p next few = all_mapped s (λ (t : TrackState). t.next_link + unwrap_or (get nat_cmp p.counts t.number) 0 < 2 ^ 32) ts (λ k d lt. omega (arith, next k d lt, few (get_or ts k d).number))
 
--- a shift that was done, or refused, and the links of what was moved
-pub shift-done : (s : Shift) (place : ℕ) (done d : Done) (ts new after : List TrackState) (p : Splits) → eqb (new_len s.new) (s.y - s.x) ≡ false → linked_refusal s ts ≡ None → AreSplits ts (split_links s.x s.y ts) p
-    → within_limits (all_moved s ts) done ≡ Ok (new, d) → after ≡ map (relinked_track p place) new → linked_shift s place done ts ≡ Ok (after, d)
-shift-done s place done d ts new after p moves none a h e =
-    let k = is-done s done ts new d h in
-    done-after s place done ts none k.long k.many
-    ∙ (ap (λ (us : List TrackState). Ok (us, done)) (sym (e ∙ (ap (map (relinked_track p place)) k.same ∙ after-code s place ts p moves a))) ∙ ap (λ (b : Done). Ok (after, b)) (sym k.answer))
+-- a shift that was done, and the links of what was moved
+pub linked-done : (s : Shift) (place : ℕ) (done : Done) (ts new after : List TrackState) (p : Splits) → eqb (new_len s.new) (s.y - s.x) ≡ false → linked_refusal s ts ≡ None → over_limits (all_moved s ts) ≡ None → AreSplits ts (split_links s.x s.y ts) p
+    → new ≡ all_moved s ts → after ≡ map (relinked_track p place) new → linked_shift s place done ts ≡ Ok (after, done)
+linked-done s place done ts new after p moves none within a h e =
+    linked-within s place done ts none within
+    ∙ ap (λ (us : List TrackState). Ok (us, done)) (sym (e ∙ (ap (map (relinked_track p place)) h ∙ after-code s place ts p moves a)))
 
-pub sizes-done : (s : Shift) (done d : Done) (ts new : List TrackState) → s.x ≤ s.y → within_limits (all_moved s ts) done ≡ Ok (new, d) → sizes_of new ≤ 2 * sizes_of ts
-sizes-done s done d ts new order h = subst (λ (us : List TrackState). sizes_of us ≤ 2 * sizes_of ts) (sym (is-done s done ts new d h).same) (sizes-moved s ts order)
+pub sizes-done : (s : Shift) (ts new : List TrackState) → s.x ≤ s.y → new ≡ all_moved s ts → sizes_of new ≤ 2 * sizes_of ts
+sizes-done s ts new order h = subst (λ (us : List TrackState). sizes_of us ≤ 2 * sizes_of ts) (sym h) (sizes-moved s ts order)
 
-pub next-fits : (s : Shift) (done d : Done) (ts new : List TrackState) (p : Splits) → All (λ (t : TrackState). t.next_link ≤ 2 ^ 31) ts → HasFew p → within_limits (all_moved s ts) done ≡ Ok (new, d)
+pub next-fits : (s : Shift) (ts new : List TrackState) (p : Splits) → All (λ (t : TrackState). t.next_link ≤ 2 ^ 31) ts → HasFew p → new ≡ all_moved s ts
     → All (λ (t : TrackState). t.next_link + unwrap_or (get nat_cmp p.counts t.number) 0 < 2 ^ 32) new
-next-fits s done d ts new p next few h =
-    subst (λ (us : List TrackState). All (λ (t : TrackState). t.next_link + unwrap_or (get nat_cmp p.counts t.number) 0 < 2 ^ 32) us) (sym (is-done s done ts new d h).same) (numbers-fit s ts p next few)
+next-fits s ts new p next few h =
+    subst (λ (us : List TrackState). All (λ (t : TrackState). t.next_link + unwrap_or (get nat_cmp p.counts t.number) 0 < 2 ^ 32) us) (sym h) (numbers-fit s ts p next few)

@@ -279,11 +279,6 @@ links_relinked n link k [] of h = tt
 links_relinked n link zero (v ∷ vs) of h = (of, h.1)
 links_relinked n link (suc k) (v ∷ vs) of h = (h.0, links_relinked n link k vs of h.1)
 
-unlinked_relinked : (k : ℕ) (vs : List ItemView) → AllUnlinked vs → AllUnlinked (changed_at (with_link None) k vs)
-unlinked_relinked k [] h = tt
-unlinked_relinked zero (v ∷ vs) h = (refl, h.1)
-unlinked_relinked (suc k) (v ∷ vs) h = (h.0, unlinked_relinked k vs h.1)
-
 items_relinked : (t : TrackState) (link : Option Link) (k : ℕ) → IsKept t → items_of (changed_track t k (with_link link)).cells ≡ changed_at (with_link link) k (items_of t.cells)
 items_relinked t link k kept =
     let shape : LeavesShape (with_link link) = record { item = λ v. refl; len = λ v. refl } in
@@ -300,7 +295,6 @@ length_cells t link k kept =
 pub record IsRelinked (table : Table) (t : TrackState) (k i : ℕ) (link : Option Link) : Type 0 where
   pub same : changed_track t k (with_link link) ≡ linked_item t i link
   pub good : IsGood table (changed_track t k (with_link link))
-  pub unlinked : link ≡ None → AllUnlinked (items_of t.cells) → AllUnlinked (items_of (changed_track t k (with_link link)).cells)
   pub items : length (items_of (changed_track t k (with_link link)).cells) ≡ length (items_of t.cells)
 
 pub relinked : (table : Table) (t : TrackState) (k i : ℕ) (v : ItemView) (link : Option Link) → IsGood table t → slice_get (items_of t.cells) k ≡ Some v → v.item ≡ Some i → IsLinkOf t.number link
@@ -327,6 +321,5 @@ relinked table t k i v link g e is of =
         frames = omega (arith, long, g.frames);
         items = omega (arith, ap length same, length_relinked link k vs, g.items);
       };
-      unlinked = λ n u. subst AllUnlinked (sym same) (subst (λ (l : Option Link). AllUnlinked (changed_at (with_link l) k vs)) (sym n) (unlinked_relinked k vs u));
       items = ap length same ∙ length_relinked link k vs;
     }

@@ -110,16 +110,6 @@ links_linked n ls [] a h = tt
 links_linked n [] (v ∷ vs) a h = h
 links_linked n (l ∷ ls) (v ∷ vs) a h = (own_like n v.link l a.0 h.0, links_linked n ls vs a.1 h.1)
 
-none_like : (k l : Option Link) → IsLike k l → k ≡ None → l ≡ None
-none_like None None i e = refl
-none_like None (Some l) i e = absurd i
-none_like (Some k) l i e = absurd cc
-
-pub unlinked-linked : (ls : List (Option Link)) (vs : List ItemView) → AreLike ls vs → AllUnlinked vs → AllUnlinked (linked_each ls vs)
-unlinked-linked ls [] a h = tt
-unlinked-linked [] (v ∷ vs) a h = h
-unlinked-linked (l ∷ ls) (v ∷ vs) a h = (none_like v.link l a.0 h.0, unlinked-linked ls vs a.1 h.1)
-
 frames_linked : (ls : List (Option Link)) (vs : List ItemView) → frames_in (linked_each ls vs) ≡ frames_in vs
 frames_linked ls [] = refl
 frames_linked [] (v ∷ vs) = refl

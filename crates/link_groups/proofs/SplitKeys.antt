@@ -16,6 +16,7 @@ use Rattle.out_of_memory.specs.declared.fault.Memory.{Memory}
 use Rattle.composables.specs.declared.TheConstants.{MAX_ITEMS}
 use Rattle.composables.specs.Items.{items_of}
 use Rattle.composables.specs.Links.{cells_before, cells_from, link_before, links_in, links_with, links_with_any, next_link_at, same_link, split_links, split_number}
+use Rattle.composables.specs.Sizes.{size_of, sizes_of}
 use Rattle.composables.specs.TrackState.{TrackState}
 use Rattle.composables.proofs.Joining.{eqb-refl}
 use Rattle.link_groups.specs.declared.splits.Splits.{Splits}
@@ -423,3 +424,7 @@ next-small home (t ∷ ts) h = by (eqb t.number home) (next-small home ts (λ k 
 pub sum-few : (ts : List TrackState) → All (λ (t : TrackState). length (items_of t.cells) ≤ MAX_ITEMS) ts → sum_by (λ (t : TrackState). length (items_of t.cells)) ts ≤ 65536 * length ts
 sum-few [] h = omega arith
 sum-few (t ∷ ts) h = omega (arith, sum_by-cons (λ (t : TrackState). length (items_of t.cells)) t ts, h 0 t (omega arith), sum-few ts (λ k d lt. h (suc k) d (omega (arith, lt))))
+
+pub sum-sizes : (ts : List TrackState) → sum_by (λ (t : TrackState). length (items_of t.cells)) ts ≤ sizes_of ts
+sum-sizes [] = omega arith
+sum-sizes (t ∷ ts) = omega (arith, sum_by-cons (λ (t : TrackState). length (items_of t.cells)) t ts, sum_by-cons size_of t ts, sum-sizes ts)

@@ -4,6 +4,5 @@ pub mod Linking
 pub mod ItemLinks
 pub mod Renumbering
 pub mod LinkedShifts
-pub mod Shifted
 -- For the steps of the code, for proofs and for tests.
 pub mod Splits

@@ -104,12 +104,3 @@ linked (t ∷ ts) c =
 
 abbrev pub link_named : List TrackState → Link3 → Applied
 link_named named c = unless (link_refusal named c.items) (linked named c)
-
--- the tracks and their next item numbers are as they were; each next link number has risen by one at most
-abbrev pub NextLinkRises : List TrackState → List TrackState → Type 0
-NextLinkRises [] [] = Unit {0}
-NextLinkRises [] (u ∷ us) = ⊥
-NextLinkRises (t ∷ ts) [] = ⊥
-NextLinkRises (t ∷ ts) (u ∷ us) =
-    (u.number ≡ t.number) × (u.next_item ≡ t.next_item)
-    × (t.next_link ≤ u.next_link) × (u.next_link ≤ t.next_link + 1) × NextLinkRises ts us

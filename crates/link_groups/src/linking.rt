@@ -1,5 +1,5 @@
 // Items of several tracks linked.
-ghost use Rattle.std.specs.Prelude.{◌≡◌, ◌+◌, ◌*◌, ◌<◌, ◌≤◌, [], ◌∷◌, All, Some, is_some, length, true};
+ghost use Rattle.std.specs.Prelude.{◌≡◌, ◌+◌, ◌*◌, ◌<◌, ◌≤◌, All, Some, is_some, length, true};
 ghost use Rattle.frame_meaning.specs.declared.cells.Link.{Link};
 ghost use Rattle.out_of_memory.specs.Answers.{Answers};
 ghost use Rattle.composables.specs.Good.{IsGood, IsLinkOf};
@@ -8,7 +8,7 @@ ghost use Rattle.composables.specs.Roomy.{IsRoomy};
 ghost use Rattle.composables.specs.Sizes.{size_of, sizes_of};
 ghost use Rattle.composables.specs.TrackSets.{tracks_in};
 ghost use Rattle.link_groups.specs.LinkedItems.{item_of, linked_item};
-ghost use Rattle.link_groups.specs.Linking.{NextLinkRises, all_linked, already_linked, are_there, has_link, item_offset, link_named, link_refusal, offsets_differ};
+ghost use Rattle.link_groups.specs.Linking.{all_linked, already_linked, are_there, has_link, item_offset, link_named, link_refusal, offsets_differ};
 
 use crate::finding::item_on;
 use crate::offsets::offset;
@@ -40,7 +40,6 @@ pub fn link<L: Ledger>(
 
     ensures named { numbers_of named.new.items ≡ tracks_in call.now.tracks }
     ensures good { All (λ t. IsGood table.now t) named.new.items }
-    ensures numbers { NextLinkRises named.old.items named.new.items }
 
     ensures least { steps.old + 1 ≤ steps.new }
     ensures most { steps.new ≤ steps.old + 1 + 8 * sizes_of named.old.items }

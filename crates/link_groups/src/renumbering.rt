@@ -1,5 +1,5 @@
 // New links for the moved items of links that also have items which stay.
-ghost use Rattle.std.specs.Prelude.{◌≡◌, ◌+◌, ◌*◌, ◌<◌, ◌≤◌, ◌^◌, All, OnErr, OnOk, Some, None, length, map, slice_get, unwrap_or};
+ghost use Rattle.std.specs.Prelude.{◌≡◌, ◌+◌, ◌*◌, ◌<◌, ◌≤◌, ◌^◌, All, OnErr, OnOk, Some, None, map, slice_get, unwrap_or};
 ghost use Rattle.std.specs.BTreeMap.{get};
 ghost use Rattle.std.specs.Ordering.{nat_cmp};
 ghost use Rattle.composables.specs.Changes.{changed_track, with_link};
@@ -35,7 +35,7 @@ pub fn renumber<L: Ledger>(
     ensures split { OnOk result (named.new.items ≡ links_split x y named.old.items) }
     ensures memory { OnErr result (named.new.items ≡ named.old.items) }
     ensures least { steps.old ≤ steps.new }
-    ensures most { steps.new ≤ steps.old + 3 * sizes_of named.old.items }
+    ensures most { steps.new ≤ steps.old + 4 * sizes_of named.old.items }
 {
     let splits = splits_at(alloc, named, x, y, steps)?;
     relink_all(named, u64::from(y), &splits, steps);

@@ -1,17 +1,17 @@
 // A shift of several tracks, and of the links of what it moves.
-ghost use Rattle.std.specs.Prelude.{◌≡◌, ◌+◌, ◌-◌, ◌*◌, ◌≤◌, All, nat_eq};
+ghost use Rattle.std.specs.Prelude.{◌≡◌, ◌+◌, ◌-◌, ◌*◌, ◌≤◌, All};
 ghost use Rattle.out_of_memory.specs.Answers.{Answers};
 ghost use Rattle.composables.specs.Sizes.{sizes_of};
 ghost use Rattle.edit_splice.specs.Moves.{IsShiftOf};
 ghost use Rattle.edit_splice.specs.Padding.{new_len};
-ghost use Rattle.link_groups.specs.LinkedShifts.{linked_refusal, linked_shift};
+ghost use Rattle.link_groups.specs.LinkedShifts.{linked_shift};
 ghost use Rattle.link_groups.specs.Renumbering.{MayBeSplit};
 
 use crate::outside::check;
 use crate::renumbering::relink_all;
 use crate::splits::splits_at;
-use composables::{Done, EditFault, ItemView, Refusal, Track};
-use edit_splice::{Shift, shift_tracks};
+use composables::{Done, EditFault, ItemView, Track};
+use edit_splice::{Shift, over_limits, shift_tracks, shift_within};
 use std::alloc::Global;
 use std::sync::ledger::Ledger;
 use step_count::Steps;
@@ -21,8 +21,8 @@ use step_count::Steps;
 /// start where that belongs to an item which is moved.
 ///
 /// The first link of what is moved that has a track which is not among these is told, and else the first track that
-/// would be too long, and else the first that would have too many items and gaps, and want of memory, before any of
-/// them is changed.
+/// would be too long, and else the first that would have too many items and gaps. Only then it takes memory, all that it
+/// needs before any of them is changed.
 pub fn shift_linked<L: Ledger>(
     alloc: Global,
     named: &mut Vec<Track>,
@@ -46,14 +46,14 @@ pub fn shift_linked<L: Ledger>(
         Some(refusal) => return Err(EditFault::Refused(refusal)),
         None => {}
     }
-    match splits_at(alloc, named, shift.x, shift.y, steps) {
-        Ok(splits) => {
-            let done = shift_tracks(alloc, named, shift, done, steps)?;
-            relink_all(named, place, &splits, steps);
-            Ok(done)
-        }
-        Err(_) => Err(EditFault::Memory),
+    match over_limits(named, shift, steps) {
+        Some(refusal) => return Err(EditFault::Refused(refusal)),
+        None => {}
     }
+    let splits = splits_at(alloc, named, shift.x, shift.y, steps)?;
+    shift_within(alloc, named, shift, steps)?;
+    relink_all(named, place, &splits, steps);
+    Ok(done)
 }
 
 fn len_of(new: Option<ItemView>) -> u32

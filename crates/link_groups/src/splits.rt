@@ -34,11 +34,11 @@ pub(crate) fn splits_at<L: Ledger>(
     ensures splits { IfOk result (λ s. AreSplits named.now (split_links x y named.now) s) }
     ensures few { IfOk result (λ s. HasFew s) }
     ensures least { steps.old ≤ steps.new }
-    ensures most { steps.new ≤ steps.old + 2 * sizes_of named.now }
+    ensures most { steps.new ≤ steps.old + 3 * sizes_of named.now }
 {
     let before = linked_in(alloc, named, 0, x, steps)?;
     let moved = linked_in(alloc, named, y, u32::MAX, steps)?;
-    number_splits(alloc, named, &before, &moved)
+    number_splits(alloc, named, &before, &moved, steps)
 }
 
 // The links of items that have record frames in [from, to), by home and number.
@@ -110,11 +110,12 @@ fn add_link(links: &mut BTreeSet<(u32, u32)>, link: Option<Link>) -> Result<(), 
 }
 
 // The numbers that links get which are both among these and among those that are moved, in order of home and number.
-fn number_splits(
+fn number_splits<L: Ledger>(
     alloc: Global,
     named: &[Track],
     before: &BTreeSet<(u32, u32)>,
     moved: &BTreeSet<(u32, u32)>,
+    steps: &mut Steps<L>,
 ) -> Result<Splits, Memory>
     requires next { All (λ t. t.next_link ≤ 2 ^ 31) named.now }
     requires few { btree_set_len moved.now < 2 ^ 31 }
@@ -122,10 +123,13 @@ fn number_splits(
         (filter (λ k. contains key_cmp before.now k) moved.now.keys) s) }
     ensures few { IfOk result (λ s. HasFew s) }
     ensures ordered { IfOk result (λ _. IsOrdered key_cmp moved.now) }
+    ensures least { steps.old ≤ steps.new }
+    ensures most { steps.new ≤ steps.old + btree_set_len moved.now }
 {
     let mut numbers = BTreeMap::new(alloc);
     let mut counts = BTreeMap::new(alloc);
     for key in moved {
+        steps.tick();
         if before.contains(key) {
             let count = counts.get(&key.0).copied().unwrap_or(0);
             numbers.insert(*key, next_link_at(named, key.0) + count)?;

@@ -1,9 +1,7 @@
 // The link of an item taken away.
 ghost use Rattle.std.specs.Prelude.{◌≡◌, ◌+◌, ◌≤◌, [], ◌∷◌, All};
-ghost use Rattle.composables.specs.Answers.{NextRises};
 ghost use Rattle.out_of_memory.specs.Answers.{Answers};
-ghost use Rattle.composables.specs.Good.{AllUnlinked, AreUnlinked, IsGood};
-ghost use Rattle.composables.specs.Items.{items_of};
+ghost use Rattle.composables.specs.Good.{IsGood};
 ghost use Rattle.composables.specs.OwnTracks.{numbers_of};
 ghost use Rattle.composables.specs.Sizes.{size_of, sizes_of};
 ghost use Rattle.link_groups.specs.Linking.{unlink_named, unlink_on};
@@ -31,8 +29,6 @@ pub fn unlink<L: Ledger>(
 
     ensures named { numbers_of named.new.items ≡ call.now.track ∷ [] }
     ensures good { All (λ t. IsGood table.now t) named.new.items }
-    ensures unlinked { AreUnlinked named.old.items → AreUnlinked named.new.items }
-    ensures numbers { NextRises 0 named.old.items named.new.items }
 
     ensures least { steps.old + 1 ≤ steps.new }
     ensures most { steps.new ≤ steps.old + sizes_of named.old.items }
@@ -49,9 +45,7 @@ fn unlink_track<L: Ledger>(
     requires good { IsGood table.now track.old }
     ensures answers { Answers (unlink_on call.now track.old) track.old track.new result }
     ensures good { IsGood table.now track.new }
-    ensures unlinked { AllUnlinked (items_of track.old.cells)
-        → AllUnlinked (items_of track.new.cells) }
-    ensures numbers { NextRises 0 (track.old ∷ []) (track.new ∷ []) }
+    ensures number { track.new.number ≡ track.old.number }
     ensures least { steps.old + 1 ≤ steps.new }
     ensures most { steps.new ≤ steps.old + size_of track.old }
 {

@@ -24,7 +24,8 @@ use Rattle.edit_insert.specs.Edits.{extracted, for_range, inserted}
 use Rattle.edit_insert.specs.Sources.{source_refusal}
 use Rattle.edit_insert.proofs.Inserts.{IsOwn, each-stays, extract-put, insert-put, insert-uncut, out-long, out-uncut, shift_at, shift_out}
 use Rattle.edit_insert.proofs.Removals.{range-within}
-use Rattle.link_groups.proofs.GoodShifts.{each-linked, shifted-good}
+use Rattle.link_groups.proofs.GoodShifts.{each-linked}
+use Rattle.edit_splice.proofs.Standing.{each-good}
 use Rattle.link_groups.proofs.LinkedShifts.{EachUncut, KeptWithin}
 use Rattle.link_groups.proofs.Meant.{outside-padded, shift-meant}
 use Rattle.track_laws.specs.Goods.{IsBounded, ShiftingKeepsGood}
@@ -41,7 +42,7 @@ pub shift-good : (table : Table) (s : Shift) (done d : Done) (ts named us : List
     → link_outside named (cells_from s.y named) ≡ link_outside ts (cells_from s.y ts) → s.x ≤ s.y → All (IsGood table) ts → All (StaysMoved table s) ts → EachUncut s ts
     → shift_of s.own s.x s.y (new_views s.new) done named ≡ Ok (us, d) → All (IsGood table) us
 shift-good table s done d ts named us same outside order good stays uncut k =
-    shifted-good table ts us
+    each-good table ts us
     (each-linked table s (s.x + new_len s.new) ts us done (Ok d) good stays (sym (shift-meant s done ts named same outside order (kept_within table s ts stays) uncut) ∙ k))
 
 -- the own track of a call

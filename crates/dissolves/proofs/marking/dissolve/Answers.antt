@@ -1,12 +1,8 @@
 use Rattle.dissolves.specs.Marking.{dissolve_on}
-use Rattle.dissolves.proofs.Named.{answers_named, rises_named}
+use Rattle.dissolves.proofs.Named.{answers_named}
 use Rattle.dissolves.proofs.marking.dissolve.Goals as goal
 
 pub returns-clause-answers : goal.returns-clause-answers
 returns-clause-answers g c =
     answers_named (λ t. dissolve_on c.args.table.now t c.args.call.now) c.args.call.now.track c.args.named.now.items c.index_mut.result.now c.dissolve_track.new.track c.dissolve_track.result
-    c.requires.named c.index_mut.ensures.value c.dissolve_track.ensures.numbers.0 c.dissolve_track.ensures.answers
-
-pub returns-clause-numbers : goal.returns-clause-numbers
-returns-clause-numbers g c =
-    rises_named c.args.call.now.track 0 c.args.named.now.items c.index_mut.result.now c.dissolve_track.new.track c.requires.named c.index_mut.ensures.value c.dissolve_track.ensures.numbers
+    c.requires.named c.index_mut.ensures.value c.dissolve_track.ensures.number c.dissolve_track.ensures.answers

@@ -21,6 +21,3 @@ returns-clause-answers g c = (dissolve_marks c.args.table.now c.args.track.now c
 
 pub returns-clause-good : goal.returns-clause-good
 returns-clause-good g c = subst (IsGood c.args.table.now) (sym c.set_mark.ensures) (dissolve_marks c.args.table.now c.args.track.now c.args.call.now c.in-Some.cut (sym c.is_empty.ensures ∙ c.if-is_empty.false) c.requires.good c.in-Some.ensures.cut (sym c.room_refusal.ensures.refusal ∙ c.in-None.is) (c.in-None.ensures.source refl)).track.good
-
-pub returns-clause-unlinked : goal.returns-clause-unlinked
-returns-clause-unlinked g c h = subst (λ (u : TrackState). AllUnlinked (items_of u.cells)) (sym c.set_mark.ensures) ((dissolve_marks c.args.table.now c.args.track.now c.args.call.now c.in-Some.cut (sym c.is_empty.ensures ∙ c.if-is_empty.false) c.requires.good c.in-Some.ensures.cut (sym c.room_refusal.ensures.refusal ∙ c.in-None.is) (c.in-None.ensures.source refl)).track.unlinked h)

@@ -17,6 +17,3 @@ returns-clause-answers g c = (undissolve_marks c.args.table.now c.args.track.now
 
 pub returns-clause-good : goal.returns-clause-good
 returns-clause-good g c = subst (IsGood c.args.table.now) (sym c.set_mark.ensures) (undissolve_marks c.args.table.now c.args.track.now c.args.call.now c.in-Some.cut c.requires.good c.in-Some.ensures.cut c.if-is_none.ensures).track.good
-
-pub returns-clause-unlinked : goal.returns-clause-unlinked
-returns-clause-unlinked g c h = subst (λ (u : TrackState). AllUnlinked (items_of u.cells)) (sym c.set_mark.ensures) ((undissolve_marks c.args.table.now c.args.track.now c.args.call.now c.in-Some.cut c.requires.good c.in-Some.ensures.cut c.if-is_none.ensures).track.unlinked h)

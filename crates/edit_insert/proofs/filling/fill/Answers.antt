@@ -16,15 +16,3 @@ returns-clause-good g c =
     let o = is-one c.args.call.now.track c.args.named.now.items c.index_mut.result.now c.requires.named c.index_mut.ensures.value in
     let s : StaysGood c.args.table.now c.index_mut.result.now c.fill_track.new.track = c.fill_track.ensures.good in
     each-good c.args.table.now c.args.named.now.items _ (one-each c.args.table.now c.args.call.now.track c.args.named.now.items _ c.index_mut.result.now c.fill_track.new.track o refl s)
-
-pub returns-clause-unlinked : goal.returns-clause-unlinked
-returns-clause-unlinked g c =
-    let o = is-one c.args.call.now.track c.args.named.now.items c.index_mut.result.now c.requires.named c.index_mut.ensures.value in
-    let s : StaysGood c.args.table.now c.index_mut.result.now c.fill_track.new.track = c.fill_track.ensures.good in
-    each-unlinked c.args.table.now c.args.named.now.items _ (one-each c.args.table.now c.args.call.now.track c.args.named.now.items _ c.index_mut.result.now c.fill_track.new.track o refl s)
-
-pub returns-clause-numbers : goal.returns-clause-numbers
-returns-clause-numbers g c =
-    let o = is-one c.args.call.now.track c.args.named.now.items c.index_mut.result.now c.requires.named c.index_mut.ensures.value in
-    let s : StaysGood c.args.table.now c.index_mut.result.now c.fill_track.new.track = c.fill_track.ensures.good in
-    each-rises c.args.table.now c.args.named.now.items _ (one-each c.args.table.now c.args.call.now.track c.args.named.now.items _ c.index_mut.result.now c.fill_track.new.track o refl s)

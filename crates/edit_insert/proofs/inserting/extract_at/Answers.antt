@@ -9,7 +9,8 @@ use Rattle.out_of_memory.specs.Answers.{Answers}
 use Rattle.edit_insert.proofs.Inserts.{each-stays}
 use Rattle.edit_insert.proofs.Inserts.{all-shifts, extract-found, extract-missing, extract-put, is-own, own-here, shift_out}
 use Rattle.edit_splice.proofs.Places.{place-order}
-use Rattle.link_groups.proofs.GoodShifts.{each-linked, each-still}
+use Rattle.link_groups.proofs.GoodShifts.{each-linked}
+use Rattle.edit_splice.proofs.Standing.{each-self}
 use Rattle.link_groups.proofs.Meant.{may-split}
 use Rattle.edit_insert.proofs.inserting.extract_at.Goals as goal
 
@@ -38,7 +39,7 @@ pub returns-in-None-clause-answers : goal.returns-in-None-clause-answers
 returns-in-None-clause-answers g c = (extract-missing c.args.call.now c.args.named.now.items c.index.result.now (is-own c.args.call.now.track c.args.call.now.tracks c.args.index c.args.named.now.items c.index.result.now c.requires.named c.requires.found (own-here c.args.named.now.items c.args.index c.index.result.now c.requires.within c.index.ensures)) c.in-None.ensures.range, refl)
 
 pub returns-in-None-clause-good : goal.returns-in-None-clause-good
-returns-in-None-clause-good g c = each-still c.args.table.now c.args.named.now.items c.requires.good
+returns-in-None-clause-good g c = each-self c.args.table.now c.args.named.now.items c.requires.good
 
 pub shift_linked-requires-clause-fits : goal.shift_linked-requires-clause-fits
 shift_linked-requires-clause-fits g c =

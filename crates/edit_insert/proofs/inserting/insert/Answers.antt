@@ -4,7 +4,7 @@ use Rattle.composables.specs.OwnTracks.{track_numbered}
 use Rattle.edit_insert.proofs.Inserts.{no_track}
 use Rattle.edit_splice.proofs.Bridging.{named-found}
 use Rattle.composables.specs.Sizes.{size_of}
-use Rattle.link_groups.proofs.GoodShifts.{shifted-good, shifted-numbers, shifted-rises, shifted-unlinked}
+use Rattle.edit_splice.proofs.Standing.{each-good, each-numbers}
 use Rattle.edit_insert.proofs.inserting.insert.Goals as goal
 
 pub unreachable-requires : goal.unreachable-requires
@@ -13,16 +13,10 @@ unreachable-requires g c =
     named-found c.args.call.now.track c.args.call.now.tracks c.args.named.now.items c.requires.named c.requires.own found
 
 pub returns-clause-named : goal.returns-clause-named
-returns-clause-named g c = shifted-numbers c.args.table.now c.args.named.now.items c.insert_at.new.named.items c.insert_at.ensures.good ∙ c.requires.named
+returns-clause-named g c = each-numbers c.args.table.now c.args.named.now.items c.insert_at.new.named.items c.insert_at.ensures.good ∙ c.requires.named
 
 pub returns-clause-good : goal.returns-clause-good
-returns-clause-good g c = shifted-good c.args.table.now c.args.named.now.items c.insert_at.new.named.items c.insert_at.ensures.good
-
-pub returns-clause-unlinked : goal.returns-clause-unlinked
-returns-clause-unlinked g c = shifted-unlinked c.args.table.now c.args.named.now.items c.insert_at.new.named.items c.insert_at.ensures.good
-
-pub returns-clause-numbers : goal.returns-clause-numbers
-returns-clause-numbers g c = shifted-rises c.args.table.now c.args.named.now.items c.insert_at.new.named.items c.insert_at.ensures.good
+returns-clause-good g c = each-good c.args.table.now c.args.named.now.items c.insert_at.new.named.items c.insert_at.ensures.good
 
 pub returns-clause-most : goal.returns-clause-most
 returns-clause-most g c =

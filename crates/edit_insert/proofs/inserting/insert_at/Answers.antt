@@ -10,7 +10,8 @@ use Rattle.out_of_memory.specs.Answers.{Answers}
 use Rattle.edit_insert.proofs.Inserts.{each-stays}
 use Rattle.edit_insert.proofs.Inserts.{all-shifts, insert-allowed, insert-put, insert-refused, is-own, no_track, own-here, own-there, shift_at}
 use Rattle.edit_insert.proofs.SourceRanges.{source-clip}
-use Rattle.link_groups.proofs.GoodShifts.{each-linked, each-still}
+use Rattle.link_groups.proofs.GoodShifts.{each-linked}
+use Rattle.edit_splice.proofs.Standing.{each-self}
 use Rattle.link_groups.proofs.Meant.{may-split}
 use Rattle.edit_insert.proofs.inserting.insert_at.Goals as goal
 
@@ -47,7 +48,7 @@ returns-in-Some-clause-answers g c = (
 )
 
 pub returns-in-Some-clause-good : goal.returns-in-Some-clause-good
-returns-in-Some-clause-good g c = each-still c.args.table.now c.args.named.now.items c.requires.good
+returns-in-Some-clause-good g c = each-self c.args.table.now c.args.named.now.items c.requires.good
 
 pub shift_linked-requires-clause-fits : goal.shift_linked-requires-clause-fits
 shift_linked-requires-clause-fits g c =

@@ -18,12 +18,6 @@ returns-clause-named g c = each-numbers c.args.table.now c.args.named.now.items 
 pub returns-clause-good : goal.returns-clause-good
 returns-clause-good g c = each-good c.args.table.now c.args.named.now.items c.slide_at.new.named.items c.slide_at.ensures.good
 
-pub returns-clause-unlinked : goal.returns-clause-unlinked
-returns-clause-unlinked g c = λ u. each-unlinked c.args.table.now c.args.named.now.items c.slide_at.new.named.items c.slide_at.ensures.good u
-
-pub returns-clause-numbers : goal.returns-clause-numbers
-returns-clause-numbers g c = each-rises c.args.table.now c.args.named.now.items c.slide_at.new.named.items c.slide_at.ensures.good
-
 pub returns-clause-most : goal.returns-clause-most
 returns-clause-most g c =
     omega (arith, c.slide_at.ensures.most, c.tick.ensures, get_or-le-sum_by size_of c.args.named.now.items c.in-Some.index no_track (omega (arith, c.in-Some.ensures.within, ap length c.deref.ensures.value)))

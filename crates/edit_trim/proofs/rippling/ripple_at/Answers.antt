@@ -6,14 +6,15 @@ use Rattle.composables.specs.TrackState.{TrackState}
 use Rattle.edit_delta.proofs.Own.{is-named}
 use Rattle.edit_delta.proofs.Spots.{spot-at}
 use Rattle.link_groups.specs.LinkedShifts.{linked_shift}
-use Rattle.link_groups.proofs.GoodShifts.{each-linked, each-still}
+use Rattle.link_groups.proofs.GoodShifts.{each-linked}
+use Rattle.edit_splice.proofs.Standing.{each-self}
 use Rattle.link_groups.proofs.Meant.{may-split}
 use Rattle.edit_trim.specs.Rippling.{RipplesAmong}
 use Rattle.edit_trim.proofs.RippleShift.{item-there, own-good, ready-at, ready-fits, ready-none, ready-order, ready-some, ready-stays, whole-at}
 use Rattle.edit_trim.proofs.rippling.ripple_at.Goals as goal
 
 pub returns-in_default-clause-good : goal.returns-in_default-clause-good
-returns-in_default-clause-good g c = each-still c.args.table.now c.args.named.now.items c.requires.good
+returns-in_default-clause-good g c = each-self c.args.table.now c.args.named.now.items c.requires.good
 
 pub unreachable-requires : goal.unreachable-requires
 unreachable-requires g c = item-there c.index-track.result.now c.in-Some.found c.in-Some.ensures.found (sym c.item.ensures ∙ c.in_default-item.is)
@@ -73,7 +74,7 @@ returns-in-None-clause-answers g c =
     ready-none c.args.table.now c.args.named.now.items c.args.index c.index-track.result.now c.in-Some-item.view c.args.call.now c.in-Some.found c.rippled_among-rippled.result k c.in-None.is
 
 pub returns-in-None-clause-good : goal.returns-in-None-clause-good
-returns-in-None-clause-good g c = each-still c.args.table.now c.args.named.now.items c.requires.good
+returns-in-None-clause-good g c = each-self c.args.table.now c.args.named.now.items c.requires.good
 
 pub shift_linked-requires-clause-split : goal.shift_linked-requires-clause-split
 shift_linked-requires-clause-split g c = may-split c.args.table.now c.args.named.now.items c.args.call.now.tracks c.requires.good c.requires.roomy c.requires.named

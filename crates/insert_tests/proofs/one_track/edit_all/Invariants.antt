@@ -1,6 +1,5 @@
 use Rattle.std.proofs.Common.{◌≡◌, ◌∷◌, [], All, map}
-use Rattle.composables.specs.Good.{IsGood, AllUnlinked}
-use Rattle.composables.specs.Items.{items_of}
+use Rattle.composables.specs.Good.{IsGood}
 use Rattle.composables.specs.TrackState.{TrackState}
 use Rattle.insert_tests.proofs.one_track.edit_all.Given as goal
 
@@ -8,5 +7,4 @@ abbrev pub invariant-loop-edit : goal.invariant-loop-edit
 invariant-loop-edit g l = record {
   named : map (λ (t : TrackState). t.number) l.named.items ≡ l.number ∷ [];
   good : All (λ t. IsGood l.table t) l.named.items;
-  unlinked : All (λ t. AllUnlinked (items_of t.cells)) l.named.items;
 }

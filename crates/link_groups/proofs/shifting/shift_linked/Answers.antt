@@ -1,36 +1,71 @@
-use Rattle.std.proofs.Common.{◌≡◌, ◌-◌, false, eqb, None, List, sym, ap, ◌∙◌, arith, subst}
+use Rattle.std.proofs.Common.{◌≡◌, ◌-◌, false, eqb, None, Some, List, sym, ap, is_ok, refl, ◌∙◌, arith, subst}
 use Rattle.std.proofs.lemmas.Bool.{ne_eqb}
+use Rattle.composables.specs.Limits.{over_limits}
 use Rattle.composables.specs.Links.{cells_from, link_outside, split_links}
 use Rattle.composables.specs.Sizes.{sizes_of}
 use Rattle.composables.specs.TrackState.{TrackState}
+use Rattle.out_of_memory.proofs.Answered.{answers-memory}
+use Rattle.edit_splice.specs.Moves.{all_moved}
 use Rattle.edit_splice.specs.Padding.{new_len}
+use Rattle.link_groups.specs.LinkedShifts.{linked_refusal, linked_shift}
 use Rattle.link_groups.specs.Splits.{AreSplits}
-use Rattle.link_groups.proofs.LinkedShifts.{moving-refusal, next-fits, shift-done, sizes-done}
+use Rattle.link_groups.proofs.LinkedShifts.{linked-done, linked-over, linked-within, moving-refusal, next-fits, sizes-done}
+use Rattle.link_groups.proofs.shifting.shift_linked.Given as given
 use Rattle.link_groups.proofs.shifting.shift_linked.Goals as goal
+use Rattle.link_groups.proofs.shifting.shift_linked.Goals.{In-None-over_limits, After-over_limits}
+
+moves : (g : given.Over) (c : After-over_limits g) → eqb (new_len c.args.shift.now.new) (c.args.shift.now.y - c.args.shift.now.x) ≡ false
+moves g c = ne_eqb (new_len c.args.shift.now.new) (c.args.shift.now.y - c.args.shift.now.x) (λ e. c.if-len_of-shift.false (c.len_of.ensures ∙ e))
+
+no_refusal : (g : given.Over) (c : After-over_limits g) → linked_refusal c.args.shift.now c.args.named.now.items ≡ None
+no_refusal g c =
+    moving-refusal c.args.shift.now c.args.named.now.items None (moves g c)
+    (subst (λ (ts : List TrackState). None ≡ link_outside ts (cells_from c.args.shift.now.y ts)) c.deref.ensures.value (sym c.in-None.is ∙ c.check.ensures.refusal))
+
+within : (g : given.Over) (c : In-None-over_limits g) → over_limits (all_moved c.args.shift.now c.args.named.now.items) ≡ None
+within g c = subst (λ (ts : List TrackState). over_limits (all_moved c.args.shift.now ts) ≡ None) c.deref-2.ensures.value (sym c.in-None-over_limits.ensures.refusal)
+
+pub returns-in-Some-over_limits-clause-answers : goal.returns-in-Some-over_limits-clause-answers
+returns-in-Some-over_limits-clause-answers g c = (
+  linked-over c.args.shift.now c.args.place c.args.done c.args.named.now.items c.in-Some-over_limits.refusal (no_refusal g c)
+      (subst (λ (ts : List TrackState). over_limits (all_moved c.args.shift.now ts) ≡ Some c.in-Some-over_limits.refusal) c.deref-2.ensures.value (sym c.in-Some-over_limits.ensures.refusal)),
+  refl,
+)
+
+pub returns-in_err-splits-clause-answers : goal.returns-in_err-splits-clause-answers
+returns-in_err-splits-clause-answers g c =
+    answers-memory (linked_shift c.args.shift.now c.args.place c.args.done c.args.named.now.items) c.args.named.now.items c.args.named.now.items c.from_residual.result c.from_residual.ensures.1
+    (ap is_ok (linked-within c.args.shift.now c.args.place c.args.done c.args.named.now.items (no_refusal g c) (within g c))) refl
+
+pub shift_within-requires-clause-within : goal.shift_within-requires-clause-within
+shift_within-requires-clause-within g c = within g c
+
+pub returns-in_err-shift_within-clause-answers : goal.returns-in_err-shift_within-clause-answers
+returns-in_err-shift_within-clause-answers g c =
+    answers-memory (linked_shift c.args.shift.now c.args.place c.args.done c.args.named.now.items) c.args.named.now.items c.shift_within.new.named.items c.from_residual-2.result c.from_residual-2.ensures.1
+    (ap is_ok (linked-within c.args.shift.now c.args.place c.args.done c.args.named.now.items (no_refusal g c) (within g c))) c.in_err-shift_within.ensures.memory
 
 pub relink_all-requires : goal.relink_all-requires
 relink_all-requires g c =
-    record { next = next-fits c.args.shift.now c.args.done c.in_ok-done-in-Ok.done c.args.named.now.items c.shift_tracks-in-Ok.new.named.items c.in-Ok.splits c.requires.split.next c.in-Ok.ensures.few c.in_ok-done-in-Ok.ensures.answers }
+    record { next = next-fits c.args.shift.now c.args.named.now.items c.shift_within.new.named.items c.in_ok-splits.splits c.requires.split.next c.in_ok-splits.ensures.few c.in_ok-shift_within.ensures.moved }
 
-pub returns-in_ok-done-in-Ok-clause-answers : goal.returns-in_ok-done-in-Ok-clause-answers
-returns-in_ok-done-in-Ok-clause-answers g c =
-    let moves : eqb (new_len c.args.shift.now.new) (c.args.shift.now.y - c.args.shift.now.x) ≡ false = ne_eqb (new_len c.args.shift.now.new) (c.args.shift.now.y - c.args.shift.now.x) (λ e. c.if-len_of-shift.false (c.len_of.ensures ∙ e)) in
-    let none : None ≡ link_outside c.args.named.now.items (cells_from c.args.shift.now.y c.args.named.now.items) =
-    subst (λ (ts : List TrackState). None ≡ link_outside ts (cells_from c.args.shift.now.y ts)) c.deref.ensures.value (sym c.in-None.is ∙ c.check.ensures.refusal) in
-    shift-done c.args.shift.now c.args.place c.args.done c.in_ok-done-in-Ok.done c.args.named.now.items c.shift_tracks-in-Ok.new.named.items c.relink_all.new.named.items c.in-Ok.splits moves
-    (moving-refusal c.args.shift.now c.args.named.now.items None moves none)
-    (subst (λ (ts : List TrackState). AreSplits ts (split_links c.args.shift.now.x c.args.shift.now.y ts) c.in-Ok.splits) c.deref-2.ensures.value c.in-Ok.ensures.splits)
-    c.in_ok-done-in-Ok.ensures.answers c.relink_all.ensures.relinked
+pub returns-clause-answers : goal.returns-clause-answers
+returns-clause-answers g c =
+    linked-done c.args.shift.now c.args.place c.args.done c.args.named.now.items c.shift_within.new.named.items c.relink_all.new.named.items c.in_ok-splits.splits (moves g c) (no_refusal g c) (within g c)
+    (subst (λ (ts : List TrackState). AreSplits ts (split_links c.args.shift.now.x c.args.shift.now.y ts) c.in_ok-splits.splits) c.deref-3.ensures.value c.in_ok-splits.ensures.splits)
+    c.in_ok-shift_within.ensures.moved c.relink_all.ensures.relinked
 
-pub returns-in_ok-done-in-Ok-clause-most : goal.returns-in_ok-done-in-Ok-clause-most
-returns-in_ok-done-in-Ok-clause-most g c =
+pub returns-clause-most : goal.returns-clause-most
+returns-clause-most g c =
     omega (
       arith,
       c.check.ensures.most,
+      c.over_limits.ensures.most,
       c.splits_at.ensures.most,
-      c.shift_tracks-in-Ok.ensures.most,
+      c.shift_within.ensures.most,
       c.relink_all.ensures.most,
       ap sizes_of c.deref.ensures.value,
       ap sizes_of c.deref-2.ensures.value,
-      sizes-done c.args.shift.now c.args.done c.in_ok-done-in-Ok.done c.args.named.now.items c.shift_tracks-in-Ok.new.named.items c.requires.order c.in_ok-done-in-Ok.ensures.answers,
+      ap sizes_of c.deref-3.ensures.value,
+      sizes-done c.args.shift.now c.args.named.now.items c.shift_within.new.named.items c.requires.order c.in_ok-shift_within.ensures.moved,
     )

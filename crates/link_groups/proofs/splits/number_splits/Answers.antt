@@ -10,12 +10,12 @@ use Rattle.link_groups.proofs.SplitKeys.{count-more, few-more, more-passed, more
 use Rattle.link_groups.proofs.splits.number_splits.Goals as goal
 
 pub overflow_add-next_link_at : goal.overflow_add-next_link_at
-overflow_add-next_link_at c =
+overflow_add-next_link_at g c =
     let count : c.unwrap_or-count.result ≡ unwrap_or (get nat_cmp c.loop-key.counts c.in-Some.key.now.0) 0 = c.unwrap_or-count.ensures ∙ ap (λ (o : Option ℕ). unwrap_or o 0) (c.copied.ensures ∙ c.get.ensures.value) in
     omega (arith, count, c.next_link_at.ensures, next-small c.in-Some.key.now.0 c.args.named.now c.requires.next, c.requires.few, c.loop-key.invariant.few c.in-Some.key.now.0)
 
 pub loop-key-preserved-in_ok-insert-2 : goal.loop-key-preserved-in_ok-insert-2
-loop-key-preserved-in_ok-insert-2 c =
+loop-key-preserved-in_ok-insert-2 g c =
     let k : ℕ × ℕ = c.in-Some.key.now in
     let sorted : IsOrdered key_cmp c.args.moved.now = search rules in
     let left : c.loop-key.key-iterator ≡ c.in-Some.key.now ∷ c.next.new.self = rest_more deref c.loop-key.key-iterator c.next.new.self c.next.result c.in-Some.key c.in-Some.is c.next.ensures.steps in
@@ -42,10 +42,12 @@ loop-key-preserved-in_ok-insert-2 c =
                 ∙ (count-more c.in-Some.key.now.0 home (c.unwrap_or-count.result + 1) (get nat_cmp c.loop-key.counts home)
                 ∙ ap (λ (n : ℕ). cond (eqb c.in-Some.key.now.0 home) (n + 1) (unwrap_or (get nat_cmp c.loop-key.counts home) 0)) count),
           );
+      least = omega (arith, c.loop-key.invariant.least, c.tick.ensures);
+      most = omega (arith, c.loop-key.invariant.most, c.tick.ensures, ap length left);
     }
 
 pub loop-key-preserved : goal.loop-key-preserved
-loop-key-preserved c =
+loop-key-preserved g c =
     let left : c.loop-key.key-iterator ≡ c.in-Some.key.now ∷ c.next.new.self = rest_more deref c.loop-key.key-iterator c.next.new.self c.next.result c.in-Some.key c.in-Some.is c.next.ensures.steps in
     record {
       so_far =
@@ -53,4 +55,6 @@ loop-key-preserved c =
           (λ (q : ℕ × ℕ). get key_cmp c.loop-key.numbers q) (λ (home : ℕ). unwrap_or (get nat_cmp c.loop-key.counts home) 0)
           c.loop-key.invariant.so_far left (sym c.contains.ensures ∙ c.if-contains.false);
       few = λ home. omega (arith, c.loop-key.invariant.few home, ap length left);
+      least = omega (arith, c.loop-key.invariant.least, c.tick.ensures);
+      most = omega (arith, c.loop-key.invariant.most, c.tick.ensures, ap length left);
     }

@@ -8,7 +8,9 @@ use Rattle.link_groups.proofs.splits.number_splits.Given as goal
 
 -- the keys so far, with those that are left, are all; each that is split has its number
 abbrev pub invariant-loop-key : goal.invariant-loop-key
-invariant-loop-key l = record {
+invariant-loop-key g l = record {
   so_far : SoFar l.named (λ (k : ℕ × ℕ). contains key_cmp l.before k) l.moved.keys l.key-iterator (λ (q : ℕ × ℕ). get key_cmp l.numbers q) (λ (home : ℕ). unwrap_or (get nat_cmp l.counts home) 0);
   few : (home : ℕ) → unwrap_or (get nat_cmp l.counts home) 0 + length l.key-iterator ≤ btree_set_len l.moved;
+  least : l.fn.steps ≤ l.steps;
+  most : l.steps + length l.key-iterator ≤ l.fn.steps + btree_set_len l.moved;
 }

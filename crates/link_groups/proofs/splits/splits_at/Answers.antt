@@ -2,11 +2,14 @@ use Rattle.std.proofs.Common.{ap, ◌∙◌, arith}
 use Rattle.std.specs.List.{list_any}
 use Rattle.link_groups.specs.Splits.{has_key}
 use Rattle.link_groups.proofs.LinkedCells.{all-before, all-from}
-use Rattle.link_groups.proofs.SplitKeys.{ok-splits, sum-few}
+use Rattle.link_groups.proofs.SplitKeys.{ok-splits, sum-few, sum-sizes}
 use Rattle.link_groups.proofs.splits.splits_at.Goals as goal
 
 pub number_splits-requires-clause-few : goal.number_splits-requires-clause-few
 number_splits-requires-clause-few g c = omega (arith, c.in_ok-moved.ensures.few, sum-few c.args.named.now c.requires.room.items, c.requires.room.few)
+
+pub returns-clause-most : goal.returns-clause-most
+returns-clause-most g c = omega (arith, c.in_ok-before.ensures.most, c.in_ok-moved.ensures.most, c.number_splits.ensures.most, c.in_ok-moved.ensures.few, sum-sizes c.args.named.now)
 
 pub returns-clause-splits : goal.returns-clause-splits
 returns-clause-splits g c =

@@ -26,8 +26,3 @@ pub returns-clause-good : goal.returns-clause-good
 returns-clause-good g c =
     subst (IsGood c.args.table.now) (sym c.set_link.ensures)
     (relinked c.args.table.now c.args.track.now c.in-Some.found.index c.args.call.now.item c.in-Some.found.view None c.requires.good c.in-Some.ensures.read c.in-Some.ensures.number tt).good
-
-pub returns-clause-unlinked : goal.returns-clause-unlinked
-returns-clause-unlinked g c h =
-    subst (λ (u : TrackState). AllUnlinked (items_of u.cells)) (sym c.set_link.ensures)
-    ((relinked c.args.table.now c.args.track.now c.in-Some.found.index c.args.call.now.item c.in-Some.found.view None c.requires.good c.in-Some.ensures.read c.in-Some.ensures.number tt).unlinked refl h)
