@@ -1,5 +1,5 @@
 -- Record frames of items and gaps, and cuts between them.
-use Rattle.std.specs.Prelude.{◌≡◌, ℕ, ◌+◌, ◌-◌, Bool, not, ◌&&◌, ℤ, pos, ◌-ℤ◌, List, [], ◌∷◌, Option, Some, None, IfSome, nat_lt, length, slice_get, if◌then◌else◌}
+use Rattle.std.specs.Prelude.{◌≡◌, ℕ, ◌+◌, ◌-◌, Bool, not, ◌&&◌, ℤ, pos, ◌-ℤ◌, List, [], ◌∷◌, Option, Some, None, Result, Err, IfSome, nat_lt, length, slice_get, if◌then◌else◌}
 use Rattle.frame_meaning.specs.declared.cells.What.{What}
 use Rattle.frame_meaning.specs.declared.cells.Cell.{Cell}
 use Rattle.frame_meaning.specs.declared.frames.Side.{Side}
@@ -7,6 +7,8 @@ use Rattle.frame_meaning.specs.declared.frames.Side.TheVariants.{Dark, Pic}
 use Rattle.frame_meaning.specs.Cells.{same_number, belong}
 use Rattle.frame_meaning.specs.Render.{cell_at}
 use Rattle.composables.specs.declared.items.ItemView.{ItemView}
+use Rattle.composables.specs.declared.refusals.Refusal.{Refusal}
+use Rattle.composables.specs.declared.refusals.Refusal.TheVariants.{NoItem}
 use Rattle.composables.specs.Items.{items_of}
 
 -- the frames [x, y) of the item with this number, where the first of these items and gaps begins at x
@@ -17,6 +19,11 @@ range_from x (v ∷ vs) i = if same_number v.item (Some i) then Some (x, x + v.l
 -- the record frames [x, y) of the item with this number, if there is one
 abbrev pub range_of : List Cell → ℕ → Option (ℕ × ℕ)
 range_of cells i = range_from 0 (items_of cells) i
+
+-- what is meant on the record frames [x, y) of an item, which must be there
+abbrev pub on_range : {A : Type 0} → (ℕ → ℕ → Result A Refusal) → Option (ℕ × ℕ) → Result A Refusal
+on_range meant None = Err NoItem
+on_range meant (Some (x, y)) = meant x y
 
 -- the item with this index, if it has one, has this number
 abbrev pub HasNumber : List ItemView → ℕ → ℕ → Type 0

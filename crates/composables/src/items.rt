@@ -1,7 +1,6 @@
 // Items and gaps, and where they stand.
 ghost use Rattle.std.specs.Prelude.{◌≡◌, ◌<◌};
 ghost use Rattle.composables.specs.Views.{clip_view, first_view, gap_view, later_view};
-ghost use Rattle.composables.specs.Ranges.{offset_of};
 ghost use Rattle.composables.specs.TrackFacts.{HasSource};
 
 use frame_meaning::{Link, Mark, Side, What};
@@ -62,16 +61,6 @@ impl ItemView {
             len: self.len - by,
             mark: None,
             ..*self
-        }
-    }
-
-    /// Its record place less its source frame, where it stands at this record place; `None` of a gap.
-    pub fn offset(&self, from: u32) -> Option<i64>
-        ensures { result ≡ offset_of self.now.first from }
-    {
-        match self.first {
-            Side::Dark => None,
-            Side::Pic { source, .. } => Some(i64::from(from) - i64::from(source)),
         }
     }
 }

@@ -22,7 +22,8 @@ use Rattle.composables.specs.TrackFacts.{EachHolds, HasSource, first_mark, left_
 use Rattle.composables.proofs.Joining.{length-view_cells, length-cells_of}
 use Rattle.composables.proofs.Spans.{later-zero}
 use Rattle.dissolves.specs.Pieces.{later_frame, frames_from}
-use Rattle.dissolves.specs.Parts.{earlier_side, first_of, item_before, head_frames, mix_before, tail_frames, own_frames, item_frames, frames_shown, HoldsBefore, EachBetween}
+use Rattle.dissolves.specs.Parts.{first_of, item_before, head_frames, mix_before, tail_frames, own_frames, item_frames, frames_shown, HoldsBefore, EachBetween}
+use Rattle.composables.specs.Views.{earlier_side}
 use Rattle.dissolves.proofs.Whole.{mark-first, each_numbered, between_all, unmarked_reach}
 use Rattle.dissolves.proofs.Behind.{frame-zero, frame-twice, side-twice}
 

@@ -15,7 +15,8 @@ use Rattle.composables.specs.Items.{items_of}
 use Rattle.composables.specs.TrackFacts.{Holds, EachHolds, HasSource, IsKept, first_mark, left_reach, right_reach}
 use Rattle.composables.specs.TrackState.{TrackState}
 use Rattle.dissolves.specs.Pieces.{later_frame, frames_from, SideReaches, Reaches}
-use Rattle.dissolves.specs.Parts.{earlier_side, first_of, mark_of, mix_after, head_frames, mix_before, tail_frames, own_frames, item_frames, frames_shown, HoldsBefore, MarkIsNumbered}
+use Rattle.dissolves.specs.Parts.{first_of, mark_of, mix_after, head_frames, mix_before, tail_frames, own_frames, item_frames, frames_shown, HoldsBefore, MarkIsNumbered}
+use Rattle.composables.specs.Views.{earlier_side}
 use Rattle.dissolves.proofs.Dissolved.{render_shown}
 use Rattle.dissolves.proofs.Whole.{EachMarkIsNumbered, each_numbered, frames_of_items, unmarked_reach}
 

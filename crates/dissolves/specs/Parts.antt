@@ -10,13 +10,9 @@ use Rattle.frame_meaning.specs.declared.frames.Frame.TheVariants as frame
 use Rattle.frame_meaning.specs.Cells.{later_side}
 use Rattle.frame_meaning.specs.Render.{frame_of}
 use Rattle.composables.specs.declared.items.ItemView.{ItemView}
+use Rattle.composables.specs.Views.{earlier_side}
 use Rattle.composables.specs.TrackFacts.{Holds, left_reach, right_reach}
 use Rattle.dissolves.specs.Pieces.{frames_from}
-
--- what a side showed n frames earlier
-abbrev pub earlier_side : Side What → ℕ → Side What
-earlier_side side.Dark n = side.Dark
-earlier_side (side.Pic what source) n = side.Pic what (source - n)
 
 abbrev pub first_of : List ItemView → Option ItemView
 first_of [] = None

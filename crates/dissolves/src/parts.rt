@@ -5,7 +5,8 @@ ghost use Rattle.frame_meaning.specs.declared.frames.Frame.{Frame};
 ghost use Rattle.frame_meaning.specs.Render.{frame_of};
 ghost use Rattle.composables.specs.TrackFacts.{Holds, left_reach, right_reach};
 ghost use Rattle.dissolves.specs.Pieces.{Reaches, SideReaches, len_of, run_frames};
-ghost use Rattle.dissolves.specs.Parts.{Between, HasFront, HoldsBefore, MarkIsNumbered, SideHasFront, earlier_side, head_frames, item_frames, mark_of, own_frames, tail_frames};
+ghost use Rattle.dissolves.specs.Parts.{Between, HasFront, HoldsBefore, MarkIsNumbered, SideHasFront, head_frames, item_frames, mark_of, own_frames, tail_frames};
+ghost use Rattle.composables.specs.Views.{earlier_side};
 ghost use Rattle.dissolves.specs.Walk.{Walked};
 
 use crate::pieces::{add_part, side_later};

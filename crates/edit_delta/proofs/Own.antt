@@ -1,8 +1,9 @@
 -- The own track of a call among those that it names, and what is left of the others.
-use Rattle.std.proofs.Common.{◌≡◌, ℕ, zero, suc, ◌<◌, Bool, true, false, cond, eqb, List, [], ◌∷◌, All, map, length, set, get_or, Some, Result, Ok, Err, refl, sym, ap, ◌∙◌, arith, subst, slice_get}
+use Rattle.std.proofs.Common.{◌≡◌, ℕ, zero, suc, ◌<◌, Bool, true, false, cond, eqb, List, [], ◌∷◌, All, map, length, set, get_or, Some, Result, Ok, Err, is_ok, refl, sym, ap, ◌∙◌, arith, subst, slice_get}
 use Rattle.std.proofs.lemmas.Bool.{eq-eqb, eqb-true}
 use Rattle.std.proofs.lemmas.Option.{slice_get_read}
 use Rattle.composables.specs.declared.media.Table.{Table}
+use Rattle.composables.proofs.OwnTracks.{among-ok}
 use Rattle.composables.specs.declared.refusals.Done.{Done}
 use Rattle.composables.specs.declared.refusals.Refusal.{Refusal}
 use Rattle.out_of_memory.specs.declared.fault.Fault.{Fault}

@@ -15,9 +15,9 @@ use Rattle.composables.specs.Good.{IsGood, LiesIn, SideLiesIn}
 use Rattle.composables.specs.Items.{cell_in, items_of}
 use Rattle.composables.specs.TrackFacts.{HasSource, Holds}
 use Rattle.composables.specs.TrackState.{TrackState}
-use Rattle.composables.specs.Views.{gap_view, gap_views}
+use Rattle.composables.specs.Views.{gap_view, gap_views, earlier_side}
 use Rattle.composables.proofs.Spans.{later-zero, next-later}
-use Rattle.edit_delta.specs.Reaching.{earlier_side, going_on, has_after, has_after_in, has_before, has_before_in, keeps_a_cell, reaching_back}
+use Rattle.edit_delta.specs.Reaching.{going_on, has_after, has_after_in, has_before, has_before_in, keeps_a_cell, reaching_back}
 use Rattle.edit_delta.proofs.Spots.{Spot}
 use Rattle.edit_splice.specs.PutIn.{alone, going_on as goes, reaching_back as reaches, GoesOn, ReachesBack, StandAlone}
 use Rattle.edit_delta.specs.Nearest.{AreUpTo}

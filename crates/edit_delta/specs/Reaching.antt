@@ -7,6 +7,7 @@ use Rattle.frame_meaning.specs.declared.frames.Side.TheVariants.{Dark, Pic}
 use Rattle.frame_meaning.specs.Cells.{next_side}
 use Rattle.composables.specs.declared.items.ItemView.{ItemView}
 use Rattle.composables.specs.declared.media.Table.{Table}
+use Rattle.composables.specs.Views.{earlier_side}
 use Rattle.composables.specs.Bounds.{bounds_of}
 
 -- n source frames after this one lie in the range of its thing
@@ -26,11 +27,6 @@ has_before_in (Some (from, to)) source n = nat_le (from + n) source
 abbrev pub has_before : Table → Side What → ℕ → Bool
 has_before table Dark n = true
 has_before table (Pic what source) n = has_before_in (bounds_of table what) source n
-
--- what a side showed n frames before
-abbrev pub earlier_side : Side What → ℕ → Side What
-earlier_side Dark n = Dark
-earlier_side (Pic what source) n = Pic what (source - n)
 
 -- n frames by which what this cell belongs to goes on after it
 abbrev pub going_on : Cell → ℕ → ItemView

@@ -6,7 +6,8 @@ ghost use Rattle.composables.specs.Good.{SideLiesIn};
 ghost use Rattle.composables.specs.Items.{cell_in};
 ghost use Rattle.composables.specs.TrackFacts.{HasSource};
 ghost use Rattle.edit_delta.specs.Nearest.{AreUpTo};
-ghost use Rattle.edit_delta.specs.Reaching.{earlier_side, going_on, has_after, has_before, reaching_back};
+ghost use Rattle.edit_delta.specs.Reaching.{going_on, has_after, has_before, reaching_back};
+ghost use Rattle.composables.specs.Views.{earlier_side};
 
 use composables::{ItemView, Table};
 use frame_meaning::{Side, What};

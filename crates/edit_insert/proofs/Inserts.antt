@@ -9,14 +9,14 @@ use Rattle.composables.specs.declared.refusals.Done.TheVariants.{Item, Plain}
 use Rattle.composables.specs.declared.refusals.Refusal.{Refusal}
 use Rattle.composables.specs.declared.refusals.Refusal.TheVariants.{NoItem}
 use Rattle.composables.specs.Good.{IsGood}
-use Rattle.composables.specs.Ranges.{range_of}
+use Rattle.composables.specs.Ranges.{on_range, range_of}
 use Rattle.composables.specs.Roomy.{IsRoomy}
 use Rattle.composables.specs.TrackFacts.{IsKept}
 use Rattle.composables.specs.TrackState.{TrackState}
 use Rattle.composables.specs.Views.{clip_view, gap_views}
 use Rattle.edit_splice.specs.declared.shifting.Shift.{Shift}
 use Rattle.composables.specs.Answers.{unless}
-use Rattle.edit_insert.specs.Edits.{extract_named, extracted, for_range, insert_named, inserted}
+use Rattle.edit_insert.specs.Edits.{extract_named, extracted, insert_named, inserted}
 use Rattle.edit_splice.specs.Moves.{IsShiftOf, put_views}
 use Rattle.composables.specs.OwnTracks.{track_numbered, with_track}
 use Rattle.edit_splice.specs.Padding.{new_views, padded_track}
@@ -108,7 +108,7 @@ shift_out c x y = record { own = c.track; x = x; y = y; new = None }
 pub extract-missing : (c : Extract) (ts : List TrackState) (own : TrackState) → IsOwn c.track ts own → range_of own.cells c.item ≡ None → extract_named ts c ≡ Err NoItem
 extract-missing c ts own o e =
     for-found c.track (extracted c ts) ts own o.found
-    ∙ ap (λ (r : Option (ℕ × ℕ)). for_range (λ x y. shift_of c.track x y [] Plain ts) r) e
+    ∙ ap (λ (r : Option (ℕ × ℕ)). on_range (λ x y. shift_of c.track x y [] Plain ts) r) e
 
 -- the range of an item that is taken out there lies on its own track, and no link is split within an item by it
 pub out-long : (c : Extract) (ts : List TrackState) (own : TrackState) (x y : ℕ) → IsOwn c.track ts own → (x ≤ y) × (y ≤ length own.cells)
@@ -127,7 +127,7 @@ pub extract-found : (table : Table) (c : Extract) (ts : List TrackState) (own : 
 extract-found table c ts own x y o e good fits kept =
     let within = range-within own c.item x y kept e in
     for-found c.track (extracted c ts) ts own o.found
-    ∙ (ap (λ (r : Option (ℕ × ℕ)). for_range (λ x y. shift_of c.track x y [] Plain ts) r) e
+    ∙ (ap (λ (r : Option (ℕ × ℕ)). on_range (λ x y. shift_of c.track x y [] Plain ts) r) e
     ∙ shift-meant (shift_out c x y) Plain ts ts (extract-moved (shift_out c x y) ts (out-long c ts own x y o within)) refl within.0 (within-kept (shift_out c x y) ts within.0 fits) (out-uncut table c ts own x y o within good))
 
 pub extract-put : (table : Table) (c : Extract) (ts : List TrackState) (x y : ℕ) → All (λ (t : TrackState). PutIn table t (put_views (shift_out c x y) t)) ts

@@ -14,14 +14,14 @@ use Rattle.composables.specs.declared.refusals.Refusal.TheVariants.{NoItem}
 use Rattle.composables.specs.Good.{IsGood}
 use Rattle.composables.specs.Items.{cells_of, items_of}
 use Rattle.composables.specs.Joined.{frames_in}
-use Rattle.composables.specs.Ranges.{range_from, range_of}
+use Rattle.composables.specs.Ranges.{on_range, range_from, range_of}
 use Rattle.composables.specs.TrackFacts.{IsKept}
 use Rattle.composables.specs.TrackState.{TrackState}
 use Rattle.composables.specs.Views.{gap_views}
 use Rattle.composables.proofs.Joining.{length-cells_of}
 use Rattle.edit_splice.specs.Splicing.{spliced_track}
 use Rattle.out_of_memory.specs.Answers.{Answers}
-use Rattle.edit_insert.specs.Edits.{for_range, remove_track, slice_track}
+use Rattle.edit_insert.specs.Edits.{remove_track, slice_track}
 use Rattle.composables.specs.Limits.{track_within_limits}
 use Rattle.edit_splice.specs.Standing.{StaysGood}
 use Rattle.edit_splice.proofs.Put.{put-gap}
@@ -59,7 +59,7 @@ range-within t i x y kept e =
 pub remove-stays : (table : Table) (c : Remove) (t u : TrackState) (result : Result Done (Fault Refusal)) → IsGood table t → Answers (remove_track c t) t u result → StaysGood table t u
 remove-stays table c t u result g = by (range_of t.cells c.item) refl where
   by : (o : Option (ℕ × ℕ)) → range_of t.cells c.item ≡ o
-      → Answers (for_range (λ x y. track_within_limits (spliced_track t x y (gap_views (y - x))) Plain) o) t u result → StaysGood table t u
+      → Answers (on_range (λ x y. track_within_limits (spliced_track t x y (gap_views (y - x))) Plain) o) t u result → StaysGood table t u
   by None e a = stays-refused table t u NoItem result g a
   by (Some r) e a =
       let h : (r.0 ≤ r.1) × (r.1 ≤ length t.cells) = range-within t c.item r.0 r.1 g.kept e in

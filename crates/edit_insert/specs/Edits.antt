@@ -18,7 +18,7 @@ use Rattle.edit_splice.specs.Splicing.{spliced_track}
 use Rattle.composables.specs.Answers.{Applied, unless}
 use Rattle.composables.specs.Limits.{track_within_limits}
 use Rattle.composables.specs.OwnTracks.{for_own, on_own, with_track}
-use Rattle.composables.specs.Ranges.{range_of}
+use Rattle.composables.specs.Ranges.{on_range, range_of}
 use Rattle.edit_splice.specs.Shifts.{shift_of}
 use Rattle.edit_insert.specs.Sources.{source_refusal}
 use Rattle.composables.specs.Views.{clip_view, gap_views}
@@ -45,21 +45,16 @@ inserted table c named t =
 abbrev pub insert_named : Table → List TrackState → Insert → Applied
 insert_named table named c = for_own c.track (inserted table c named) named
 
--- what is meant on the places [x, y) of an item, which must be there
-abbrev pub for_range : {A : Type 0} → (ℕ → ℕ → Result A Refusal) → Option (ℕ × ℕ) → Result A Refusal
-for_range meant None = Err NoItem
-for_range meant (Some (x, y)) = meant x y
-
 -- a gap in place of an item
 abbrev pub remove_track : Remove → TrackState → Result (TrackState × Done) Refusal
-remove_track c t = for_range (λ x y. track_within_limits (spliced_track t x y (gap_views (y - x))) Plain) (range_of t.cells c.item)
+remove_track c t = on_range (λ x y. track_within_limits (spliced_track t x y (gap_views (y - x))) Plain) (range_of t.cells c.item)
 
 abbrev pub remove_named : List TrackState → Remove → Applied
 remove_named named c = on_own c.track (remove_track c) named
 
 -- nothing in place of an item, and what is after it earlier on all named tracks
 abbrev pub extracted : Extract → List TrackState → TrackState → Applied
-extracted c named t = for_range (λ x y. shift_of c.track x y [] Plain named) (range_of t.cells c.item)
+extracted c named t = on_range (λ x y. shift_of c.track x y [] Plain named) (range_of t.cells c.item)
 
 abbrev pub extract_named : List TrackState → Extract → Applied
 extract_named named c = for_own c.track (extracted c named) named

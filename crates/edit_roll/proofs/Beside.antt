@@ -21,7 +21,9 @@ use Rattle.edit_delta.proofs.Spots.{Spot, apart-next, cell-there, length-frames,
 use Rattle.edit_splice.proofs.Keeping.{stand_of}
 use Rattle.edit_splice.proofs.Meeting.{filled-each}
 use Rattle.edit_roll.specs.declared.neighbours.Sides.{Sides}
-use Rattle.edit_roll.specs.Neighbours.{AreBeside, IsWhole, StandBeside, has_neighbours, range_at}
+use Rattle.edit_delta.specs.Parts.{IsWhole}
+use Rattle.edit_roll.specs.Neighbours.{has_neighbours, range_at}
+use Rattle.edit_roll.specs.NeighboursInside.{AreBeside, StandBeside}
 
 -- what holds a place
 range_there : (vs : List ItemView) (base i : ℕ) (v : ItemView) (q : ℕ) → slice_get vs i ≡ Some v → frames_in (take i vs) ≤ q → q < frames_in (take i vs) + v.len

@@ -31,7 +31,8 @@ use Rattle.edit_delta.proofs.Pieces.{After, Before, after-of, back-parts, before
 use Rattle.edit_delta.proofs.Spots.{Spot, side-head, spot-head, spot-last}
 use Rattle.edit_splice.specs.Splicing.{spliced_track}
 use Rattle.edit_roll.specs.declared.neighbours.Sides.{Sides}
-use Rattle.edit_roll.specs.Neighbours.{FitsBetween, StandBeside, begin_at, end_at, fits_between, fits_earlier, fits_later, may_move_earlier, may_move_later, move_allows}
+use Rattle.edit_roll.specs.Neighbours.{begin_at, end_at, may_move_earlier, may_move_later, move_allows}
+use Rattle.edit_roll.specs.NeighboursInside.{FitsBetween, StandBeside, fits_between, fits_earlier, fits_later}
 use Rattle.edit_roll.specs.Rolling.{roll_cut, roll_track, rolled_earlier, rolled_later}
 use Rattle.edit_roll.proofs.Beside.{left-spot, range-of, right-spot}
 

@@ -14,7 +14,7 @@ use Rattle.composables.specs.declared.refusals.Done.TheVariants.{By}
 use Rattle.composables.specs.Good.{EachLinkOf, IsGood, IsLinkOf}
 use Rattle.composables.specs.Items.{cell_in, items_of}
 use Rattle.composables.specs.Limits.{track_within_limits}
-use Rattle.composables.specs.Ranges.{range_of}
+use Rattle.composables.specs.Ranges.{on_range, range_of}
 use Rattle.composables.specs.TrackFacts.{EachHolds, ShowsAsItem}
 use Rattle.composables.specs.TrackState.{TrackState}
 use Rattle.edit_delta.specs.declared.deltas.Used.{Used}
@@ -22,14 +22,15 @@ use Rattle.edit_delta.specs.declared.deltas.Way.TheVariants.{Earlier, Later, Sti
 use Rattle.edit_delta.specs.Nearest.{by_sign, greatest, nearest}
 use Rattle.edit_delta.specs.Parts.{AreParts}
 use Rattle.edit_delta.specs.Reaching.{going_on, reaching_back}
-use Rattle.edit_delta.specs.Using.{IsUsed, on_range, used_on}
+use Rattle.edit_delta.specs.Using.{IsUsed, used_on}
 use Rattle.edit_delta.proofs.Answered.{IsUsedOf, earlier-means, later-means, still-means}
 use Rattle.edit_delta.proofs.Greatest.{nearest-same}
 use Rattle.edit_delta.proofs.Pieces.{goes-on, reaches-back}
 use Rattle.edit_delta.proofs.Spots.{Spot, side-head, spot-head, spot-last}
 use Rattle.edit_splice.specs.PutIn.{going_on as goes, reaching_back as reaches, StandAlone, StandsWithin}
 use Rattle.edit_splice.specs.Splicing.{spliced_track}
-use Rattle.edit_roll.specs.Neighbours.{FitsBetween, fits_between, has_neighbours, may_move_earlier, may_move_later, move_allows}
+use Rattle.edit_roll.specs.Neighbours.{has_neighbours, may_move_earlier, may_move_later, move_allows}
+use Rattle.edit_roll.specs.NeighboursInside.{FitsBetween, fits_between}
 use Rattle.edit_roll.specs.Sliding.{bare_item, bare_view, slid_earlier, slid_later, slide_allows, slide_range, slide_track}
 use Rattle.edit_roll.proofs.Moves.{Around, after-fits, before-fits, same-moves}
 

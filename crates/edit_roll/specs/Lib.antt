@@ -3,3 +3,5 @@ pub mod Neighbours
 pub mod Rolling
 pub mod Sliding
 pub mod Lengths
+-- For the steps of the code, for proofs and for tests.
+pub mod NeighboursInside

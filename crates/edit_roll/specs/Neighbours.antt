@@ -1,21 +1,14 @@
 -- The items or gaps beside record frames [x, y) of a track, and how far what stands between them may move: the one that
 -- it comes near keeps a frame, and the other grows by frames that its thing has.
-use Rattle.std.specs.Prelude.{◌≡◌, ℕ, ◌+◌, ◌-◌, ◌<◌, Bool, true, ◌&&◌, List, [], ◌∷◌, Some, nat_lt, length, take, slice_get, ℤ, if◌then◌else◌}
+use Rattle.std.specs.Prelude.{ℕ, ◌+◌, ◌-◌, Bool, ◌&&◌, List, [], ◌∷◌, nat_lt, length, ℤ, if◌then◌else◌}
 use Rattle.frame_meaning.specs.declared.cells.Cell.{Cell}
-use Rattle.frame_meaning.specs.Cells.{later_side}
 use Rattle.frame_meaning.specs.Render.{cell_at}
 use Rattle.composables.specs.declared.items.ItemView.{ItemView}
 use Rattle.composables.specs.declared.media.Table.{Table}
-use Rattle.composables.specs.Good.{SideLiesIn}
 use Rattle.composables.specs.Items.{items_of}
-use Rattle.composables.specs.Joined.{frames_in}
-use Rattle.composables.specs.TrackFacts.{HasSource}
 use Rattle.composables.specs.TrackState.{TrackState}
-use Rattle.edit_delta.specs.declared.deltas.Way.{Way}
-use Rattle.edit_delta.specs.declared.deltas.Way.TheVariants.{Still, Later, Earlier}
 use Rattle.edit_delta.specs.Nearest.{by_sign}
 use Rattle.edit_delta.specs.Reaching.{has_after, has_before, keeps_a_cell}
-use Rattle.edit_roll.specs.declared.neighbours.Sides.{Sides}
 
 -- the record frames of the item or gap that holds a place q frames behind the first of these, which begins at x; none
 -- beyond their end
@@ -45,40 +38,3 @@ may_move_earlier table t x y n = keeps_a_cell (begin_at t.cells (x - 1)) x n && 
 -- the deltas that are allowed between two neighbours
 abbrev pub move_allows : Table → TrackState → ℕ → ℕ → ℤ → Bool
 move_allows table t x y = by_sign (may_move_later table t x y) (may_move_earlier table t x y)
-
--- the items or gaps before the one with the index from, and with the index to
-pub record AreBeside (items : List ItemView) (from to : ℕ) (s : Sides) : Type 0 where
-  pub some : 0 < from
-  pub left : slice_get items (from - 1) ≡ Some s.left
-  pub right : slice_get items to ≡ Some s.right
-
--- those at the sides of the record frames [x, y)
-pub record StandBeside (cells : List Cell) (x y : ℕ) (s : Sides) : Type 0 where
-  pub from : ℕ
-  pub to : ℕ
-  pub beside : AreBeside (items_of cells) from to s
-  pub ends : x ≡ frames_in (take from (items_of cells))
-  pub begins : y ≡ frames_in (take to (items_of cells))
-
--- an item or gap has a frame, and what it shows lies in the range of its thing
-pub record IsWhole (table : Table) (v : ItemView) : Type 0 where
-  pub filled : 0 < v.len
-  pub lies : SideLiesIn table v.first v.len 0 0
-  pub source : HasSource v.first v.len 0 0
-
--- the same deltas by the two neighbours themselves
-abbrev pub fits_later : Table → ItemView → ItemView → ℕ → Bool
-fits_later table l r n = nat_lt n r.len && has_after table (later_side l.first (l.len - 1)) n
-
-abbrev pub fits_earlier : Table → ItemView → ItemView → ℕ → Bool
-fits_earlier table l r n = nat_lt n l.len && has_before table r.first n
-
-abbrev pub fits_between : Table → ItemView → ItemView → ℤ → Bool
-fits_between table l r = by_sign (fits_later table l r) (fits_earlier table l r)
-
--- a delta between two neighbours, by its way: its frames are some, they fit, and those by which the first one goes on
--- have numbers
-abbrev pub FitsBetween : Table → ItemView → ItemView → Way → Type 0
-FitsBetween table l r Still = Unit {0}
-FitsBetween table l r (Later n) = (0 < n) × (n < r.len) × (has_after table (later_side l.first (l.len - 1)) n ≡ true) × HasSource l.first l.len 0 n
-FitsBetween table l r (Earlier n) = (0 < n) × (n < l.len) × (has_before table r.first n ≡ true)

@@ -14,12 +14,12 @@ use Rattle.composables.specs.declared.refusals.Refusal.TheVariants.{LinkBroken}
 use Rattle.composables.specs.Answers.{Applied, unless}
 use Rattle.composables.specs.Links.{outside_refusal}
 use Rattle.composables.specs.OwnTracks.{among_named, for_own}
-use Rattle.composables.specs.Ranges.{offset_of, range_of}
+use Rattle.composables.specs.Ranges.{on_range, offset_of, range_of}
 use Rattle.composables.specs.TrackState.{TrackState}
 use Rattle.edit_delta.specs.Nearest.{by_sign, nearest}
 use Rattle.edit_delta.specs.Reaching.{going_on, reaching_back}
 use Rattle.edit_delta.specs.declared.deltas.Way.{Way}
-use Rattle.edit_delta.specs.Using.{IsWayOf, on_range, used_on}
+use Rattle.edit_delta.specs.Using.{IsWayOf, used_on}
 use Rattle.edit_splice.specs.Splicing.{spliced_track}
 use Rattle.link_groups.specs.ItemLinks.{carried_outside}
 use Rattle.link_groups.specs.LinkedItems.{item_of}

@@ -7,8 +7,10 @@ ghost use Rattle.composables.specs.Sizes.{size_of};
 ghost use Rattle.composables.specs.TrackFacts.{IsKept};
 ghost use Rattle.edit_delta.specs.Nearest.{nearest};
 ghost use Rattle.edit_delta.specs.Using.{IsUsed};
-ghost use Rattle.edit_roll.specs.Neighbours.{AreBeside, FitsBetween, IsWhole, StandBeside};
-ghost use Rattle.edit_roll.specs.Neighbours.{fits_between, has_neighbours};
+ghost use Rattle.edit_delta.specs.Parts.{IsWhole};
+ghost use Rattle.edit_roll.specs.NeighboursInside.{AreBeside, FitsBetween, StandBeside};
+ghost use Rattle.edit_roll.specs.Neighbours.{has_neighbours};
+ghost use Rattle.edit_roll.specs.NeighboursInside.{fits_between};
 
 use composables::{ItemView, Place, Table, Track};
 use edit_delta::{Used, frames_after, frames_before, used_within};

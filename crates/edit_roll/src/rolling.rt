@@ -6,7 +6,7 @@ ghost use Rattle.composables.specs.OwnTracks.{numbers_of};
 ghost use Rattle.composables.specs.Roomy.{IsRoomy};
 ghost use Rattle.composables.specs.Sizes.{size_of, sizes_of};
 ghost use Rattle.edit_splice.specs.Standing.{StaysGood};
-ghost use Rattle.edit_roll.specs.Neighbours.{StandBeside};
+ghost use Rattle.edit_roll.specs.NeighboursInside.{StandBeside};
 ghost use Rattle.edit_roll.specs.Rolling.{roll_cut, roll_named, roll_track};
 
 use crate::neighbours::{Sides, sides_of_cut, used_between};

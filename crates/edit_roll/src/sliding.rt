@@ -10,7 +10,8 @@ ghost use Rattle.composables.specs.Roomy.{IsRoomy};
 ghost use Rattle.composables.specs.Sizes.{size_of, sizes_of};
 ghost use Rattle.composables.specs.TrackSets.{tracks_in};
 ghost use Rattle.edit_splice.specs.Standing.{EachStaysGood, StaysGood};
-ghost use Rattle.edit_roll.specs.Neighbours.{StandBeside, has_neighbours};
+ghost use Rattle.edit_roll.specs.Neighbours.{has_neighbours};
+ghost use Rattle.edit_roll.specs.NeighboursInside.{StandBeside};
 ghost use Rattle.edit_roll.specs.Sliding.{bare_view, slide_named, slide_range, slide_track};
 
 use crate::linked_slides::links_refuse;

@@ -16,7 +16,7 @@ use Rattle.composables.proofs.Joining.{same-is, cells_of-append}
 use Rattle.composables.proofs.Spans.{later-zero}
 use Rattle.edit_splice.specs.declared.seams.Held.{Held}
 use Rattle.edit_splice.specs.declared.seams.Seams.{Seams}
-use Rattle.edit_splice.specs.Parts.{EndsAt, StandsFrom, AreSeams, view_after, split_number, front_view, renumbered_view}
+use Rattle.edit_splice.specs.Parts.{EndsAt, StandsFrom, AreSeams, view_after, split_between, front_view, renumbered_view}
 use Rattle.edit_splice.specs.Laws.{IsWithinLimits}
 use Rattle.edit_splice.specs.PutIn.{TakesUp, StandsWithin, MayBePutIn, alone, going_on, reaching_back, AllFree, StandAlone, GoesOn, ReachesBack}
 use Rattle.edit_splice.specs.NewItems.{AreNewFor, NumbersFrom}
@@ -128,7 +128,7 @@ right_held t y i to v k s =
     let some = (holds-read (items_of t.cells) i v s.read k.each).0.filled in
     record { read = s.read; from = s.starts; begins = omega arith; ends = omega (arith, some) }
 
-cut_whole : (vs : List ItemView) (l : Option Held) (h : Held) → Apart vs → slice_get vs h.index ≡ Some h.view → IfSome l (λ g. (slice_get vs g.index ≡ Some g.view) × (g.index < h.index)) → split_number l (Some h) ≡ None
+cut_whole : (vs : List ItemView) (l : Option Held) (h : Held) → Apart vs → slice_get vs h.index ≡ Some h.view → IfSome l (λ g. (slice_get vs g.index ≡ Some g.view) × (g.index < h.index)) → split_between l (Some h) ≡ None
 cut_whole vs None h a e f = refl
 cut_whole vs (Some g) h a e f = by_test (same_number g.view.item h.view.item) refl where
   never : (o : Option ℕ) → h.view.item ≡ o → g.view.item ≡ o → o ≡ None

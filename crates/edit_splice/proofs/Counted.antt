@@ -14,7 +14,7 @@ use Rattle.composables.proofs.Joining.{items_of-cells_of, filled-append, same-is
 use Rattle.edit_splice.specs.declared.seams.Held.{Held}
 use Rattle.edit_splice.specs.declared.seams.Seams.{Seams}
 use Rattle.composables.specs.Views.{later_view}
-use Rattle.edit_splice.specs.Parts.{AreSeams, EndsAt, StandsFrom, view_after, split_number, front_view, renumbered_view}
+use Rattle.edit_splice.specs.Parts.{AreSeams, EndsAt, StandsFrom, view_after, split_between, front_view, renumbered_view}
 use Rattle.edit_splice.specs.Splicing.{spliced_track}
 use Rattle.edit_splice.proofs.Ends.{split-at, first_kept}
 use Rattle.edit_splice.proofs.Numbers.{next-rises}
@@ -120,14 +120,14 @@ numbers_kept n [] = refl
 numbers_kept n (w ∷ ws) = refl
 
 behind_begun : (o : Option (Option ℕ)) (next fresh : ℕ) (cs : List Cell) (y : ℕ) (l r : Option Held) (a : Option ItemView) → next ≤ fresh → Stand next (items_of cs) → StandsFrom cs y r → a ≡ view_after (items_of cs) r
-    → begun o (numbers (behind_range (items_of cs) l r a y fresh)) ≡ begun o (option_to_list (back_number r (split_number l r) fresh)) + count_past r (length (items_of cs))
+    → begun o (numbers (behind_range (items_of cs) l r a y fresh)) ≡ begun o (option_to_list (back_number r (split_between l r) fresh)) + count_past r (length (items_of cs))
 behind_begun o next fresh cs y l None a le s e is =
     let none : begun o (numbers (behind_range (items_of cs) l None a y fresh)) ≡ 0 = ap (λ zs. begun o (numbers zs)) (behind_none (items_of cs) l a y fresh) in
     omega (arith, none)
 behind_begun o next fresh cs y l (Some h) a le s e is =
     let vs : List ItemView = items_of cs in
     let ws : List ItemView = drop (suc h.index) vs in
-    let split : Option ℕ = split_number l (Some h) in
+    let split : Option ℕ = split_between l (Some h) in
     let part : ItemView = renumbered_view split fresh h.view in
     let S : List ItemView → Type 0 = λ zs. Stand next zs in
     let at = stand_at next (take h.index vs) h.view ws (subst S (split-at vs h.index h.view e.read) s) in
@@ -143,7 +143,7 @@ last_through o [] ns = refl
 last_through o (m ∷ ms) ns = last_through (Some m) ms ns
 
 pub count-spliced : (t : TrackState) (x y : ℕ) (s : Seams) (views : List ItemView) → IsKept t → x ≤ y → AllFilled views → AreSeams t.cells x y s
-    → count_by s.left + begun (number_of s.left) (numbers views ++ option_to_list (back_number s.right (split_number s.left s.right) (next_past_all t.next_item views))) + count_past s.right (length (items_of t.cells))
+    → count_by s.left + begun (number_of s.left) (numbers views ++ option_to_list (back_number s.right (split_between s.left s.right) (next_past_all t.next_item views))) + count_past s.right (length (items_of t.cells))
     ≡ length (items_of (spliced_track t x y views).cells)
 count-spliced t x y s views k le filled seams =
     let vs : List ItemView = items_of t.cells in
@@ -155,7 +155,7 @@ count-spliced t x y s views k le filled seams =
     let nB : List (Option ℕ) = numbers B in
     let nV : List (Option ℕ) = numbers views in
     let nA : List (Option ℕ) = numbers A in
-    let back : List (Option ℕ) = option_to_list (back_number s.right (split_number s.left s.right) fresh) in
+    let back : List (Option ℕ) = option_to_list (back_number s.right (split_between s.left s.right) fresh) in
     let full : AllFilled (all_parts vs s x y views fresh) =
     filled-append (B ++ views) A (filled-append B views (filled-each B (sound_before t.next_item t.cells x s.left stand seams.left).each) filled)
     (filled-each A (sound_behind t.next_item fresh t.cells y s.left s.right s.after rises stand seams.right seams.after).each) in
@@ -182,14 +182,14 @@ count-spliced t x y s views k le filled seams =
 
 -- what the code adds up, with the seams that it found
 pub counted : (t : TrackState) (x y fresh n before between past : ℕ) (s : Seams) (split : Option ℕ) (left right : Option (Option ℕ)) (views : List ItemView) → IsKept t → x ≤ y → AllFilled views → AreSeams t.cells x y s
-    → fresh ≡ next_past_all t.next_item views → split ≡ split_number s.left s.right → n ≡ length (items_of t.cells)
+    → fresh ≡ next_past_all t.next_item views → split ≡ split_between s.left s.right → n ≡ length (items_of t.cells)
     → left ≡ number_of s.left → right ≡ back_number s.right split fresh
     → before ≡ count_by s.left → between ≡ begun left (numbers views ++ option_to_list right) → past ≡ count_past s.right n
     → before + between + past ≡ length (items_of (spliced_track t x y views).cells)
 counted t x y fresh n before between past s split left right views k le filled seams new cut many l r b w p =
-    let place : right ≡ back_number s.right (split_number s.left s.right) (next_past_all t.next_item views) =
-    r ∙ (ap (λ (o : Option ℕ). back_number s.right o fresh) cut ∙ ap (back_number s.right (split_number s.left s.right)) new) in
-    let middle : between ≡ begun (number_of s.left) (numbers views ++ option_to_list (back_number s.right (split_number s.left s.right) (next_past_all t.next_item views))) =
+    let place : right ≡ back_number s.right (split_between s.left s.right) (next_past_all t.next_item views) =
+    r ∙ (ap (λ (o : Option ℕ). back_number s.right o fresh) cut ∙ ap (back_number s.right (split_between s.left s.right)) new) in
+    let middle : between ≡ begun (number_of s.left) (numbers views ++ option_to_list (back_number s.right (split_between s.left s.right) (next_past_all t.next_item views))) =
     w ∙ (ap (λ o. begun o (numbers views ++ option_to_list right)) l ∙ ap (λ o. begun (number_of s.left) (numbers views ++ option_to_list o)) place) in
     omega (arith, b, middle, p ∙ ap (count_past s.right) many, count-spliced t x y s views k le filled seams)
 

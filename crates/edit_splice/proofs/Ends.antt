@@ -9,7 +9,7 @@ use Rattle.composables.specs.TrackFacts.{EachHolds, Apart, Lacks, NumbersBelow, 
 use Rattle.composables.proofs.Frames.{frames_in-take_more, no_view}
 use Rattle.composables.proofs.Spans.{holds-source}
 use Rattle.edit_splice.specs.declared.seams.Held.{Held}
-use Rattle.edit_splice.specs.Parts.{Stands, split_number, view_after, after_view, after_views, end_at}
+use Rattle.edit_splice.specs.Parts.{Stands, split_between, view_after, after_view, after_views, end_at}
 
 -- how the code comes to know where one stands
 pub stands : (vs : List ItemView) (at i from to : ℕ) (v : ItemView) → i < length vs → from ≡ frames_in (take i vs) → to ≡ frames_in (take (i + 1) vs) → from ≤ at → at < to → Some v ≡ slice_get vs i
@@ -62,7 +62,7 @@ pub source-read : (vs : List ItemView) (i : ℕ) (v : ItemView) → slice_get vs
 source-read vs i v e h = holds-source v (drop (suc i) vs) (holds-read vs i v e h)
 
 -- the item that is split is the one that holds the first place behind the range
-pub split-lacks : (l : Option Held) (h : Held) (ws : List ItemView) → IfSome h.view.item (λ i. Lacks i ws) → IfSome (split_number l (Some h)) (λ i. Lacks i ws)
+pub split-lacks : (l : Option Held) (h : Held) (ws : List ItemView) → IfSome h.view.item (λ i. Lacks i ws) → IfSome (split_between l (Some h)) (λ i. Lacks i ws)
 split-lacks None h ws a = tt
 split-lacks (Some g) h ws a = cond_both (same_number g.view.item h.view.item) h.view.item None (λ (o : Option ℕ). IfSome o (λ i. Lacks i ws)) (λ t. a) (λ t. tt)
 
@@ -70,11 +70,11 @@ some_self : (o : Option ℕ) → IfSome o (λ i. o ≡ Some i)
 some_self None = tt
 some_self (Some i) = refl
 
-pub split-names : (l : Option Held) (h : Held) → IfSome (split_number l (Some h)) (λ i. h.view.item ≡ Some i)
+pub split-names : (l : Option Held) (h : Held) → IfSome (split_between l (Some h)) (λ i. h.view.item ≡ Some i)
 split-names None h = tt
 split-names (Some g) h = cond_both (same_number g.view.item h.view.item) h.view.item None (λ (o : Option ℕ). IfSome o (λ i. h.view.item ≡ Some i)) (λ t. some_self h.view.item) (λ t. tt)
 
-pub split-none : (l : Option Held) → split_number l None ≡ None
+pub split-none : (l : Option Held) → split_between l None ≡ None
 split-none None = refl
 split-none (Some g) = refl
 

@@ -8,7 +8,7 @@ use Rattle.composables.specs.TrackFacts.{Lacks, Apart, NumbersBelow}
 use Rattle.composables.specs.TrackState.{TrackState}
 use Rattle.composables.proofs.Frames.{frames_in-take_more, no_view}
 use Rattle.edit_splice.specs.declared.seams.Held.{Held}
-use Rattle.edit_splice.specs.Parts.{EndsAt, StandsFrom, view_after, split_number, front_view}
+use Rattle.edit_splice.specs.Parts.{EndsAt, StandsFrom, view_after, split_between, front_view}
 use Rattle.edit_splice.specs.PutIn.{TakesUp, StandsWithin, AllFree}
 use Rattle.edit_splice.proofs.Ends.{drop-some, frames_less}
 use Rattle.edit_splice.proofs.Apartness.{Foreign, if_known, known, lacks-below, item_lacks, lacks_back, less_other}
@@ -100,7 +100,7 @@ free_behind next fresh i t x y l (Some h) o is le lt s e a f =
     lacks_behind i w.index h.index vs h.view w.view w.stands.read w.is (omega (arith, less)) cut s.apart))
     f in
     subst P (sym (behind_is vs l h o y fresh a))
-    (lacks_back (split_number l (Some h)) fresh (y - h.from) (h.view.len - (y - h.from)) i h.view ws (less_other i fresh lt) old) where
+    (lacks_back (split_between l (Some h)) fresh (y - h.from) (h.view.len - (y - h.from)) i h.view ws (less_other i fresh lt) old) where
       below_drop : (n i : ℕ) (vs : List ItemView) → NumbersBelow n vs → NumbersBelow n (drop i vs)
       below_drop n zero vs b = b
       below_drop n (suc i) [] b = tt

@@ -12,7 +12,7 @@ use Rattle.composables.specs.TrackState.{TrackState, next_past_all}
 use Rattle.composables.proofs.Joining.{items_of-cells_of}
 use Rattle.edit_splice.specs.declared.seams.Held.{Held}
 use Rattle.edit_splice.specs.declared.seams.Seams.{Seams}
-use Rattle.edit_splice.specs.Parts.{AreSeams, EndsAt, StandsFrom, view_after, split_number}
+use Rattle.edit_splice.specs.Parts.{AreSeams, EndsAt, StandsFrom, view_after, split_between}
 use Rattle.edit_splice.specs.Splicing.{spliced_track}
 use Rattle.edit_splice.specs.NewItems.{AreNewFor}
 use Rattle.edit_splice.specs.Laws.{IsWithinLimits}
@@ -61,8 +61,8 @@ lie-behind table number fresh cs y l (Some g) o h e is =
     let us : List ItemView = take g.index vs in
     let ws : List ItemView = drop (suc g.index) vs in
     let whole : Lie table number (kept_behind_range vs l g y fresh) = record {
-      ranges = lies-back table (split_number l (Some g)) fresh (y - g.from) g.view ws (omega (arith, e.begins, e.ends)) (lies-at table us g.view ws (subst R cut h.ranges));
-      links = links-back number (split_number l (Some g)) fresh (y - g.from) (g.view.len - (y - g.from)) g.view ws (links-at number us g.view ws (subst L cut h.links));
+      ranges = lies-back table (split_between l (Some g)) fresh (y - g.from) g.view ws (omega (arith, e.begins, e.ends)) (lies-at table us g.view ws (subst R cut h.ranges));
+      links = links-back number (split_between l (Some g)) fresh (y - g.from) (g.view.len - (y - g.from)) g.view ws (links-at number us g.view ws (subst L cut h.links));
     } in
     subst P (sym (behind_is vs l g o y fresh is)) whole
 

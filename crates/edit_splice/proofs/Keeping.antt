@@ -12,7 +12,7 @@ use Rattle.composables.proofs.Joining.{cells_of-append, items_of-cells_of, tight
 use Rattle.edit_splice.specs.declared.seams.Held.{Held}
 use Rattle.edit_splice.specs.declared.seams.Seams.{Seams}
 use Rattle.composables.specs.Views.{later_view}
-use Rattle.edit_splice.specs.Parts.{AreSeams, EndsAt, StandsFrom, view_after, split_number, front_view, front_views, renumbered_view, back_views, after_views, parts_between, first_index, end_at, end_index}
+use Rattle.edit_splice.specs.Parts.{AreSeams, EndsAt, StandsFrom, view_after, split_between, front_view, front_views, renumbered_view, back_views, after_views, parts_between, first_index, end_at, end_index}
 use Rattle.edit_splice.specs.Splicing.{spliced_track}
 use Rattle.edit_splice.specs.NewItems.{AreNew, NumbersFrom, Meet}
 use Rattle.edit_splice.proofs.Ends.{split-at, drop-some, holds-at, below-read, first_kept, after-parts, index-order}
@@ -29,7 +29,7 @@ abbrev pub before_range : List ItemView → Option Held → ℕ → List ItemVie
 before_range vs l x = take (first_index l) vs ++ front_views l x
 
 abbrev pub behind_range : List ItemView → Option Held → Option Held → Option ItemView → ℕ → ℕ → List ItemView
-behind_range vs l r o y fresh = (back_views r y (split_number l r) fresh ++ after_views r o y) ++ drop (end_at r o (length vs)) vs
+behind_range vs l r o y fresh = (back_views r y (split_between l r) fresh ++ after_views r o y) ++ drop (end_at r o (length vs)) vs
 
 -- items and gaps that may stand in a row once gaps that meet are one
 pub record Sound (zs : List ItemView) : Type 0 where
@@ -101,11 +101,11 @@ stand_at next us v ws s = (holds-at us v ws s.each, tight-at us v ws s.tight, al
   all_below n (u ∷ us) v ws b = all_below n us v ws b.1
 
 abbrev pub kept_behind_range : List ItemView → Option Held → Held → ℕ → ℕ → List ItemView
-kept_behind_range vs l h y fresh = renumbered_view (split_number l (Some h)) fresh (later_view h.view (y - h.from)) ∷ first_kept (h.view.len - (y - h.from)) (drop (suc h.index) vs)
+kept_behind_range vs l h y fresh = renumbered_view (split_between l (Some h)) fresh (later_view h.view (y - h.from)) ∷ first_kept (h.view.len - (y - h.from)) (drop (suc h.index) vs)
 
 pub behind_is : (vs : List ItemView) (l : Option Held) (h : Held) (o : Option ItemView) (y fresh : ℕ) → o ≡ slice_get vs (h.index + 1) → behind_range vs l (Some h) o y fresh ≡ kept_behind_range vs l h y fresh
 behind_is vs l h o y fresh e =
-    ap (λ zs. renumbered_view (split_number l (Some h)) fresh (later_view h.view (y - h.from)) ∷ zs) (after-parts vs h o y (length vs) e)
+    ap (λ zs. renumbered_view (split_between l (Some h)) fresh (later_view h.view (y - h.from)) ∷ zs) (after-parts vs h o y (length vs) e)
 
 pub behind_none : (vs : List ItemView) (l : Option Held) (o : Option ItemView) (y fresh : ℕ) → behind_range vs l None o y fresh ≡ []
 behind_none vs l o y fresh = drop_all (length vs) vs (omega arith)
@@ -129,7 +129,7 @@ sound_behind next fresh cs y l (Some h) o le s e is =
     let S : List ItemView → Type 0 = λ zs. Stand next zs in
     let at = stand_at next (take h.index vs) h.view (drop (suc h.index) vs) (subst S (split-at vs h.index h.view e.read) s) in
     subst P (sym (behind_is vs l h o y fresh is))
-    (sound_back next fresh (y - h.from) (split_number l (Some h)) h.view (drop (suc h.index) vs) le (omega (arith, e.begins, e.ends)) at.0 at.1 at.2 at.3)
+    (sound_back next fresh (y - h.from) (split_between l (Some h)) h.view (drop (suc h.index) vs) le (omega (arith, e.begins, e.ends)) at.0 at.1 at.2 at.3)
 
 -- no number is on two sides
 pub foreign_nothing : (xs : List ItemView) → Foreign xs []
@@ -168,7 +168,7 @@ foreign_behind next fresh cs y l (Some h) o views s f is above below =
     let S : List ItemView → Type 0 = λ zs. Stand next zs in
     let at = stand_at next (take h.index vs) h.view (drop (suc h.index) vs) (subst S (split-at vs h.index h.view f.read) s) in
     subst P (sym (behind_is vs l h o y fresh is))
-    (foreign-back-new (split_number l (Some h)) next fresh (y - h.from) (h.view.len - (y - h.from)) views h.view (drop (suc h.index) vs) above below at.3)
+    (foreign-back-new (split_between l (Some h)) next fresh (y - h.from) (h.view.len - (y - h.from)) views h.view (drop (suc h.index) vs) above below at.3)
 
 -- all of it
 abbrev pub all_parts : List ItemView → Seams → ℕ → ℕ → List ItemView → ℕ → List ItemView
@@ -195,7 +195,7 @@ views_in_a_row u f m b d =
 parts_in_a_row : (vs : List ItemView) (s : Seams) (x y : ℕ) (views : List ItemView) (fresh : ℕ)
     → (take (first_index s.left) vs ++ parts_between s x y views fresh) ++ drop (end_index s (length vs)) vs ≡ all_parts vs s x y views fresh
 parts_in_a_row vs s x y views fresh =
-    views_in_a_row (take (first_index s.left) vs) (front_views s.left x) views (back_views s.right y (split_number s.left s.right) fresh ++ after_views s.right s.after y) (drop (end_index s (length vs)) vs)
+    views_in_a_row (take (first_index s.left) vs) (front_views s.left x) views (back_views s.right y (split_between s.left s.right) fresh ++ after_views s.right s.after y) (drop (end_index s (length vs)) vs)
 
 pub cells_all : (cs : List Cell) (x y fresh : ℕ) (s : Seams) (views : List ItemView) → cells_of (items_of cs) ≡ cs → EachHolds (items_of cs) → Apart (items_of cs) → x ≤ y → AreSeams cs x y s
     → cells_of (all_parts (items_of cs) s x y views fresh) ≡ spliced kept_or_dropped cs x y (cells_of views) fresh

@@ -12,7 +12,7 @@ use Rattle.composables.proofs.Joining.{cells_of-append, filled-append, length-vi
 use Rattle.edit_splice.specs.declared.seams.Held.{Held}
 use Rattle.edit_splice.specs.declared.seams.Seams.{Seams}
 use Rattle.composables.specs.Views.{later_view}
-use Rattle.edit_splice.specs.Parts.{AreSeams, EndsAt, StandsFrom, view_after, split_number, front_view, front_views, renumbered_view, back_views, after_view, after_views, parts_between, first_index, end_at, end_index}
+use Rattle.edit_splice.specs.Parts.{AreSeams, EndsAt, StandsFrom, view_after, split_between, front_view, front_views, renumbered_view, back_views, after_view, after_views, parts_between, first_index, end_at, end_index}
 use Rattle.edit_splice.proofs.Spans.{take-cells, drop-cells, view_from}
 use Rattle.edit_splice.proofs.Splits.{first_item, last_item, across, begins, ends, behind, split-item, after_split, next-splice}
 use Rattle.edit_splice.proofs.Surviving.{before_splice, behind_splice, spliced-steps}
@@ -64,11 +64,11 @@ right_in vs us v ws y from fresh s e h is lo hi l =
     ∙ ap (λ cs. view_cells (renumbered_view s fresh (later_view v (y - from))) ++ cs) (rest_in s fresh (v.len - (y - from)) ws (omega (arith, lo, hi)) rest l))))))
 
 right_cells : (cs : List Cell) (y fresh : ℕ) (l r : Option Held) (o : Option ItemView) → cells_of (items_of cs) ≡ cs → EachHolds (items_of cs) → Apart (items_of cs) → StandsFrom cs y r → o ≡ view_after (items_of cs) r
-    → map (renumbered (split_number l r) fresh) (behind_splice 0 (drop y cs))
-    ≡ cells_of (back_views r y (split_number l r) fresh ++ after_views r o y) ++ cells_of (drop (end_at r o (length (items_of cs))) (items_of cs))
+    → map (renumbered (split_between l r) fresh) (behind_splice 0 (drop y cs))
+    ≡ cells_of (back_views r y (split_between l r) fresh ++ after_views r o y) ++ cells_of (drop (end_at r o (length (items_of cs))) (items_of cs))
 right_cells cs y fresh l None o whole h a past after =
     let none : drop (length (items_of cs)) (items_of cs) ≡ [] = drop_all (length (items_of cs)) (items_of cs) (omega arith) in
-    ap (λ ds. map (renumbered (split_number l None) fresh) (behind_splice 0 ds)) (drop_all y cs past)
+    ap (λ ds. map (renumbered (split_between l None) fresh) (behind_splice 0 ds)) (drop_all y cs past)
     ∙ sym (ap cells_of none)
 right_cells cs y fresh l (Some g) o whole h a s after =
     let vs : List ItemView = items_of cs in
@@ -76,9 +76,9 @@ right_cells cs y fresh l (Some g) o whole h a s after =
     let cut = split-at vs g.index g.view s.read in
     let P : List ItemView → Type 0 = λ zs. Apart zs in
     let lacks = split-lacks l g (drop (suc g.index) vs) (apart-at (take g.index vs) g.view (drop (suc g.index) vs) (subst P cut a)) in
-    let part : ItemView = renumbered_view (split_number l (Some g)) fresh (later_view g.view (y - g.from)) in
-    ap (λ ds. map (renumbered (split_number l (Some g)) fresh) (behind_splice 0 (drop y ds))) (sym whole)
-    ∙ (right_in vs (take g.index vs) g.view (drop (suc g.index) vs) y g.from fresh (split_number l (Some g)) cut h s.from s.begins s.ends lacks
+    let part : ItemView = renumbered_view (split_between l (Some g)) fresh (later_view g.view (y - g.from)) in
+    ap (λ ds. map (renumbered (split_between l (Some g)) fresh) (behind_splice 0 (drop y ds))) (sym whole)
+    ∙ (right_in vs (take g.index vs) g.view (drop (suc g.index) vs) y g.from fresh (split_between l (Some g)) cut h s.from s.begins s.ends lacks
     ∙ (ap (λ zs. view_cells part ++ cells_of zs) (sym (after-parts vs g o y (length vs) after))
     ∙ (ap (λ ds. view_cells part ++ ds) (cells_of-append (after_views (Some g) o y) (drop (end_at (Some g) o (length vs)) vs))
     ∙ sym (append_assoc (view_cells part) (cells_of (after_views (Some g) o y)) (cells_of (drop (end_at (Some g) o (length vs)) vs))))))
@@ -114,12 +114,12 @@ first_is cs y (Some g) whole s =
     ap (λ ds. first_item (drop y ds)) (sym whole)
     ∙ first_in (items_of cs) (take g.index (items_of cs)) g.view (drop (suc g.index) (items_of cs)) y g.from (split-at (items_of cs) g.index g.view s.read) s.from s.begins s.ends
 
-across_is : (l r : Option Held) → across (option_map number_of l) (option_map number_of r) ≡ split_number l r
+across_is : (l r : Option Held) → across (option_map number_of l) (option_map number_of r) ≡ split_between l r
 across_is None r = refl
 across_is (Some g) None = refl
 across_is (Some g) (Some h) = refl
 
-split_is : (cs : List Cell) (x y : ℕ) (s : Seams) → cells_of (items_of cs) ≡ cs → x ≤ y → AreSeams cs x y s → split_item cs x y ≡ split_number s.left s.right
+split_is : (cs : List Cell) (x y : ℕ) (s : Seams) → cells_of (items_of cs) ≡ cs → x ≤ y → AreSeams cs x y s → split_item cs x y ≡ split_between s.left s.right
 split_is cs x y s whole le a =
     split-item cs x y le
     ∙ (ap (λ o. across o (first_item (drop y cs))) (last_is cs x s.left whole a.left)
@@ -136,7 +136,7 @@ pub cells-spliced : (cs : List Cell) (x y fresh : ℕ) (s : Seams) (views : List
     ≡ spliced kept_or_dropped cs x y (cells_of views) fresh
 cells-spliced cs x y fresh s views whole h a le seams =
     let vs : List ItemView = items_of cs in
-    let split : Option ℕ = split_number s.left s.right in
+    let split : Option ℕ = split_between s.left s.right in
     let front : List ItemView = front_views s.left x in
     let rear : List ItemView = back_views s.right y split fresh ++ after_views s.right s.after y in
     let u : List Cell = cells_of (take (first_index s.left) vs) in
@@ -160,10 +160,10 @@ after_below n vs h None y e b = tt
 after_below n vs h (Some w) y e b = (below-read n vs (h.index + 1) w (sym e) b, tt)
 
 back_next : (n fresh : ℕ) (cs : List Cell) (y : ℕ) (l r : Option Held) (o : Option ItemView) → n ≤ fresh → StandsFrom cs y r → o ≡ view_after (items_of cs) r → NumbersBelow n (items_of cs)
-    → next_past_all fresh (back_views r y (split_number l r) fresh ++ after_views r o y) ≡ after_split (split_number l r) fresh
+    → next_past_all fresh (back_views r y (split_between l r) fresh ++ after_views r o y) ≡ after_split (split_between l r) fresh
 back_next n fresh cs y l None o le s e b = sym (ap (λ (p : Option ℕ). after_split p fresh) (split-none l))
 back_next n fresh cs y l (Some g) o le s e b =
-    let split : Option ℕ = split_number l (Some g) in
+    let split : Option ℕ = split_between l (Some g) in
     let own = if-weaker g.view.item n fresh le (below-read n (items_of cs) g.index g.view s.read b) in
     ap (λ (k : ℕ). next_past_all k (after_views (Some g) o y)) (past-renumbered split fresh (later_view g.view (y - g.from)) (split-names l g) own)
     ∙ next-below (after_split split fresh) (after_views (Some g) o y)
@@ -173,7 +173,7 @@ pub next-spliced : (n : ℕ) (cs : List Cell) (x y : ℕ) (s : Seams) (views : L
     → next_past_all n (parts_between s x y views (next_past_all n views)) ≡ next_after_splice cs x y (next_past_all n views)
 next-spliced n cs x y s views whole b le seams =
     let fresh : ℕ = next_past_all n views in
-    let split : Option ℕ = split_number s.left s.right in
+    let split : Option ℕ = split_between s.left s.right in
     let front : List ItemView = front_views s.left x in
     let rear : List ItemView = back_views s.right y split fresh ++ after_views s.right s.after y in
     next-append n (front ++ views) rear
@@ -182,16 +182,16 @@ next-spliced n cs x y s views whole b le seams =
     ∙ sym (next-splice cs x y fresh split (split_is cs x y s whole le seams))))
 
 back_below : (n fresh m : ℕ) (cs : List Cell) (y : ℕ) (l r : Option Held) (o : Option ItemView) → n ≤ m → fresh < m → StandsFrom cs y r → o ≡ view_after (items_of cs) r → NumbersBelow n (items_of cs)
-    → NumbersBelow m (back_views r y (split_number l r) fresh ++ after_views r o y)
+    → NumbersBelow m (back_views r y (split_between l r) fresh ++ after_views r o y)
 back_below n fresh m cs y l None o le lt s e b = tt
 back_below n fresh m cs y l (Some g) o le lt s e b = (
-  below-renumbered (split_number l (Some g)) fresh m (later_view g.view (y - g.from)) lt (if-weaker g.view.item n m le (below-read n (items_of cs) g.index g.view s.read b)),
+  below-renumbered (split_between l (Some g)) fresh m (later_view g.view (y - g.from)) lt (if-weaker g.view.item n m le (below-read n (items_of cs) g.index g.view s.read b)),
   below-weaker n m (after_views (Some g) o y) le (after_below n (items_of cs) g o y e b),
 )
 
 pub below-parts : (n fresh m : ℕ) (cs : List Cell) (x y : ℕ) (s : Seams) (views : List ItemView) → n ≤ m → fresh < m → AreSeams cs x y s → NumbersBelow n (items_of cs) → NumbersBelow m views → NumbersBelow m (parts_between s x y views fresh)
 below-parts n fresh m cs x y s views le lt seams b new =
-    below-append m (front_views s.left x ++ views) (back_views s.right y (split_number s.left s.right) fresh ++ after_views s.right s.after y)
+    below-append m (front_views s.left x ++ views) (back_views s.right y (split_between s.left s.right) fresh ++ after_views s.right s.after y)
     (below-append m (front_views s.left x) views (below-weaker n m (front_views s.left x) le (front_below n cs x s.left seams.left b)) new)
     (back_below n fresh m cs y s.left s.right s.after le lt seams.right seams.after b)
 
@@ -205,13 +205,13 @@ after_filled vs h None y e k = tt
 after_filled vs h (Some w) y e k = ((holds-read vs (h.index + 1) w (sym e) k).0.filled, tt)
 
 back_filled : (fresh : ℕ) (cs : List Cell) (y : ℕ) (l r : Option Held) (o : Option ItemView) → StandsFrom cs y r → o ≡ view_after (items_of cs) r → EachHolds (items_of cs)
-    → AllFilled (back_views r y (split_number l r) fresh ++ after_views r o y)
+    → AllFilled (back_views r y (split_between l r) fresh ++ after_views r o y)
 back_filled fresh cs y l None o s e h = tt
 back_filled fresh cs y l (Some g) o s e h =
-    (omega (arith, s.begins, s.ends, len-stays (split_number l (Some g)) fresh (later_view g.view (y - g.from))), after_filled (items_of cs) g o y e h)
+    (omega (arith, s.begins, s.ends, len-stays (split_between l (Some g)) fresh (later_view g.view (y - g.from))), after_filled (items_of cs) g o y e h)
 
 pub filled-parts : (fresh : ℕ) (cs : List Cell) (x y : ℕ) (s : Seams) (views : List ItemView) → AreSeams cs x y s → EachHolds (items_of cs) → AllFilled views → AllFilled (parts_between s x y views fresh)
 filled-parts fresh cs x y s views seams h new =
-    filled-append (front_views s.left x ++ views) (back_views s.right y (split_number s.left s.right) fresh ++ after_views s.right s.after y)
+    filled-append (front_views s.left x ++ views) (back_views s.right y (split_between s.left s.right) fresh ++ after_views s.right s.after y)
     (filled-append (front_views s.left x) views (front_filled cs x s.left seams.left) new)
     (back_filled fresh cs y s.left s.right s.after seams.right seams.after h)

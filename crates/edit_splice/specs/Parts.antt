@@ -51,10 +51,10 @@ reaches_past y None = Unit {0}
 reaches_past y (Some h) = (h.from ≤ y) × (y - h.from < h.view.len) × HasSource h.view.first h.view.len 0 0
 
 -- the number of the item that stands on both sides, if one item does
-abbrev pub split_number : Option Held → Option Held → Option ℕ
-split_number None right = None
-split_number (Some h) None = None
-split_number (Some h) (Some k) = if same_number h.view.item k.view.item then k.view.item else None
+abbrev pub split_between : Option Held → Option Held → Option ℕ
+split_between None right = None
+split_between (Some h) None = None
+split_between (Some h) (Some k) = if same_number h.view.item k.view.item then k.view.item else None
 
 -- a dissolve whose cut stands n frames before a range survives where its frames after the cut are no more
 abbrev pub kept_before : ℕ → Option Mark → Option Mark
@@ -95,7 +95,7 @@ after_views (Some h) (Some v) y = after_view (h.view.len - (y - h.from)) v ∷ [
 -- what is put in place of the items and gaps at the ends of the range [x, y), with these between
 abbrev pub parts_between : Seams → ℕ → ℕ → List ItemView → ℕ → List ItemView
 parts_between s x y views fresh =
-    (front_views s.left x ++ views) ++ (back_views s.right y (split_number s.left s.right) fresh ++ after_views s.right s.after y)
+    (front_views s.left x ++ views) ++ (back_views s.right y (split_between s.left s.right) fresh ++ after_views s.right s.after y)
 
 -- the index of the first item or gap that is replaced, and the index behind the last, of this many
 abbrev pub first_index : Option Held → ℕ

@@ -8,7 +8,7 @@ ghost use Rattle.composables.specs.TrackFacts.{NumbersBelow};
 ghost use Rattle.edit_splice.specs.Counting.{back_number, begun, belongs, count_by, count_past, number_of, numbers};
 ghost use Rattle.edit_splice.specs.Splicing.{spliced_track};
 
-use crate::parts::{renumbered, split_number};
+use crate::parts::{renumbered, split_between};
 use crate::seams::{Held, seams_of};
 use composables::{ItemView, Track, a_track_is_kept, number_past_all};
 use frame_meaning::same_item;
@@ -38,7 +38,7 @@ pub fn count_after<L: Ledger>(
     a_track_is_kept(track);
     let seams = seams_of(track, x, y, steps);
     let fresh = number_past_all(track.next_item(), items);
-    let split = split_number(seams.left, seams.right);
+    let split = split_between(seams.left, seams.right);
     let between = begun(
         number_of(seams.left),
         items,

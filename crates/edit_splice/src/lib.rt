@@ -27,5 +27,5 @@ pub use laws::{
     each_cell_has_its_place, new_items_may_be_put_in, next_numbers_rise_by_the_new_items,
 };
 pub use placing::place;
-pub use shifting::{Shift, over_limits, shift_tracks, shift_within};
+pub use shifting::{Shift, new_len, over_limits, shift_tracks, shift_within};
 pub use splicing::{spare_for, splice, splice_in};

@@ -2,7 +2,7 @@
 ghost use Rattle.std.specs.Prelude.{◌≡◌, ◌+◌, ◌-◌, ◌<◌, ◌≤◌, ◌++◌, [], length, take, drop};
 ghost use Rattle.frame_meaning.specs.Cells.{same_number};
 ghost use Rattle.composables.specs.SpareState.{SpareState};
-ghost use Rattle.edit_splice.specs.Parts.{after_views, back_views, begins_by, end_index, first_index, front_views, kept_before, kept_behind, laid_more, parts_between, renumbered_view, reaches_past, split_number};
+ghost use Rattle.edit_splice.specs.Parts.{after_views, back_views, begins_by, end_index, first_index, front_views, kept_before, kept_behind, laid_more, parts_between, renumbered_view, reaches_past, split_between};
 
 use crate::seams::{Held, Seams};
 use composables::{ItemView, Spare};
@@ -16,7 +16,7 @@ pub fn lay_parts(seams: &Seams, x: u32, y: u32, items: &[ItemView], fresh: u32, 
     requires room { length spare.old.laid + length items.now + 3 ≤ spare.old.more }
     ensures { spare.new ≡ laid_more spare.old (parts_between seams.now x y items.now fresh) }
 {
-    let split = split_number(seams.left, seams.right);
+    let split = split_between(seams.left, seams.right);
     push_front(seams.left, x, spare);
     push_items(items, spare);
     push_back(seams.right, y, split, fresh, spare);
@@ -46,8 +46,8 @@ pub fn end_index(seams: &Seams, count: u32) -> u32
 }
 
 /// The number of the item that stands on both sides, if one item does.
-pub fn split_number(left: Option<Held>, right: Option<Held>) -> Option<u32>
-    ensures { result ≡ split_number left right }
+pub fn split_between(left: Option<Held>, right: Option<Held>) -> Option<u32>
+    ensures { result ≡ split_between left right }
 {
     let left = left?;
     let right = right?;

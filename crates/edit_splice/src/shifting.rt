@@ -118,15 +118,16 @@ fn length_after(track: &Track, shift: &Shift) -> u64
     let length = track.length();
     let stays = u64::from(shift.x.min(length)) + u64::from(length - shift.y.min(length));
     if track.number() == shift.own {
-        stays + u64::from(shift.x.saturating_sub(length)) + u64::from(len_of(shift.new))
+        stays + u64::from(shift.x.saturating_sub(length)) + u64::from(new_len(shift.new))
     } else if shift.x < length {
-        stays + u64::from(len_of(shift.new))
+        stays + u64::from(new_len(shift.new))
     } else {
         stays
     }
 }
 
-fn len_of(new: Option<ItemView>) -> u32
+/// How many frames a shift puts in, of this item or gap.
+pub fn new_len(new: Option<ItemView>) -> u32
     ensures { result ≡ new_len new }
 {
     match new {
@@ -143,7 +144,7 @@ fn put_views(track: &Track, shift: &Shift) -> Few
     if track.number() == shift.own {
         Few::of(shift.x.saturating_sub(length), shift.new)
     } else if shift.x < length {
-        Few::of(len_of(shift.new), None)
+        Few::of(new_len(shift.new), None)
     } else {
         Few::of(0, None)
     }

@@ -21,7 +21,7 @@ use Rattle.edit_delta.specs.Nearest.{AreUpTo}
 use Rattle.edit_delta.specs.Reaching.{has_after, has_after_in, has_before, has_before_in}
 use Rattle.edit_delta.proofs.Answered.{up-both}
 use Rattle.edit_delta.proofs.Pieces.{up-true}
-use Rattle.edit_trim.specs.declared.linked_slips.Room.{Room}
+use Rattle.edit_trim.specs.declared.linked_slips.SlipRoom.{SlipRoom}
 use Rattle.edit_trim.specs.LinkedSlips.{AllMove, EachMoves, IsRoom, ReachesBack, RoomAmong, RoomOf, RoomOn, ShowsMoved}
 use Rattle.edit_trim.specs.Slipping.{each_linked, each_linked_on, item_may_slip_earlier, item_may_slip_later, mark_of, may_slip_earlier, may_slip_later}
 use Rattle.edit_trim.proofs.Slips.{first-of-rest}
@@ -87,7 +87,7 @@ ends-of table t i v tail good read is =
 
 -- rooms of several
 
-room_both : (f g h k : ℕ → Bool) (M N : ℕ → ℕ → Type 0) (a b r : Room) → r.earlier ≡ min a.earlier b.earlier → r.later ≡ min a.later b.later → IsRoom f g M a → IsRoom h k N b
+room_both : (f g h k : ℕ → Bool) (M N : ℕ → ℕ → Type 0) (a b r : SlipRoom) → r.earlier ≡ min a.earlier b.earlier → r.later ≡ min a.later b.later → IsRoom f g M a → IsRoom h k N b
     → IsRoom (λ n. f n && h n) (λ n. g n && k n) (λ i j. M i j × N i j) r
 room_both f g h k M N a b r x y p q = record {
   later = up-both f h a.later b.later r.later y p.later q.later;
@@ -96,7 +96,7 @@ room_both f g h k M N a b r x y p q = record {
   back = λ n le. (p.back n (omega (arith, le, x)), q.back n (omega (arith, le, x)));
 }
 
-room_as : (f g h k : ℕ → Bool) (M N : ℕ → ℕ → Type 0) (r : Room) → ((n : ℕ) → h n ≡ f n) → ((n : ℕ) → k n ≡ g n) → ((i j : ℕ) → M i j → N i j) → IsRoom f g M r → IsRoom h k N r
+room_as : (f g h k : ℕ → Bool) (M N : ℕ → ℕ → Type 0) (r : SlipRoom) → ((n : ℕ) → h n ≡ f n) → ((n : ℕ) → k n ≡ g n) → ((i j : ℕ) → M i j → N i j) → IsRoom f g M r → IsRoom h k N r
 room_as f g h k M N r x y z p = record {
   later = λ n small. x n ∙ p.later n small;
   earlier = λ n small. y n ∙ p.earlier n small;
@@ -104,7 +104,7 @@ room_as f g h k M N r x y z p = record {
   back = λ n le. z 0 n (p.back n le);
 }
 
-room_all : (M : ℕ → ℕ → Type 0) (r : Room) → r.earlier ≡ 4294967295 → r.later ≡ 4294967295 → ((i j : ℕ) → M i j) → IsRoom (λ n. true) (λ n. true) M r
+room_all : (M : ℕ → ℕ → Type 0) (r : SlipRoom) → r.earlier ≡ 4294967295 → r.later ≡ 4294967295 → ((i j : ℕ) → M i j) → IsRoom (λ n. true) (λ n. true) M r
 room_all M r x y z = record {
   later = λ n small. sym (le-leb n r.later (omega (arith, small, y)));
   earlier = λ n small. sym (le-leb n r.earlier (omega (arith, small, x)));
@@ -132,7 +132,7 @@ FrontMoves table l zero vs on back = Unit {0}
 FrontMoves table l (suc i) [] on back = Unit {0}
 FrontMoves table l (suc i) (v ∷ vs) on back = (carries l v.link ≡ true → ShowsMoved table v (first_mark vs) on back) × FrontMoves table l i vs on back
 
-abbrev pub RoomFront : Table → Link → ℕ → List ItemView → Room → Type 0
+abbrev pub RoomFront : Table → Link → ℕ → List ItemView → SlipRoom → Type 0
 RoomFront table l i vs r = IsRoom (λ n. front_linked l (item_may_slip_later table n) i vs) (λ n. front_linked l (item_may_slip_earlier table n) i vs) (FrontMoves table l i vs) r
 
 front_more : (l : Link) (holds : ItemView → Option Mark → Bool) (i : ℕ) (vs : List ItemView) (v : ItemView) → slice_get vs i ≡ Some v
@@ -158,7 +158,7 @@ moves_more table l zero (w ∷ ws) v on back e k h =
     )
 moves_more table l (suc i) (w ∷ ws) v on back e k h = (k.0, moves_more table l i ws v on back e k.1 h)
 
-pub front-start : (table : Table) (l : Link) (vs : List ItemView) (r : Room) → r.earlier ≡ 4294967295 → r.later ≡ 4294967295 → RoomFront table l 0 vs r
+pub front-start : (table : Table) (l : Link) (vs : List ItemView) (r : SlipRoom) → r.earlier ≡ 4294967295 → r.later ≡ 4294967295 → RoomFront table l 0 vs r
 front-start table l vs r x y = room_all (FrontMoves table l 0 vs) r x y (λ i j. tt)
 
 passed_test : (l : Link) (holds : ItemView → Option Mark → Bool) (i : ℕ) (vs : List ItemView) (v : ItemView) → slice_get vs i ≡ Some v → carries l v.link ≡ false
@@ -171,7 +171,7 @@ not_both : (b : Bool) → b ≡ false → b ≡ true → ⊥
 not_both true p q = Prim.grind (arith, p)
 not_both false p q = Prim.grind (arith, q)
 
-pub front-passed : (table : Table) (l : Link) (i : ℕ) (vs : List ItemView) (v : ItemView) (r : Room) → slice_get vs i ≡ Some v → carries l v.link ≡ false → RoomFront table l i vs r → RoomFront table l (i + 1) vs r
+pub front-passed : (table : Table) (l : Link) (i : ℕ) (vs : List ItemView) (v : ItemView) (r : SlipRoom) → slice_get vs i ≡ Some v → carries l v.link ≡ false → RoomFront table l i vs r → RoomFront table l (i + 1) vs r
 front-passed table l i vs v r e c p =
     let more : suc i ≡ i + 1 = omega arith in
     subst (λ (k : ℕ). RoomFront table l k vs r) more
@@ -186,7 +186,7 @@ met_test : (l : Link) (holds : ItemView → Option Mark → Bool) (i : ℕ) (vs 
 met_test l holds i vs v e c =
     front_more l holds i vs v e ∙ ap (λ (b : Bool). front_linked l holds i vs && cond b (holds v (mark_of (slice_get vs (suc i)))) true) c
 
-pub front-met : (table : Table) (l : Link) (i : ℕ) (vs : List ItemView) (v : ItemView) (tail : Option Mark) (a b r : Room) → slice_get vs i ≡ Some v → carries l v.link ≡ true → tail ≡ mark_of (slice_get vs (i + 1))
+pub front-met : (table : Table) (l : Link) (i : ℕ) (vs : List ItemView) (v : ItemView) (tail : Option Mark) (a b r : SlipRoom) → slice_get vs i ≡ Some v → carries l v.link ≡ true → tail ≡ mark_of (slice_get vs (i + 1))
     → r.earlier ≡ min a.earlier b.earlier → r.later ≡ min a.later b.later → RoomFront table l i vs a → RoomOf table v tail b → RoomFront table l (i + 1) vs r
 front-met table l i vs v tail a b r e c is x y p q =
     let more : suc i ≡ i + 1 = omega arith in
@@ -214,7 +214,7 @@ moves_all table l zero (v ∷ vs) on back h k = absurd (omega (arith, h))
 moves_all table l (suc i) [] on back h k = tt
 moves_all table l (suc i) (v ∷ vs) on back h k = (k.0, moves_all table l i vs on back (omega (arith, h)) k.1)
 
-pub front-end : (table : Table) (l : Link) (i : ℕ) (vs : List ItemView) (r : Room) → length vs ≤ i → RoomFront table l i vs r → RoomOn table l vs r
+pub front-end : (table : Table) (l : Link) (i : ℕ) (vs : List ItemView) (r : SlipRoom) → length vs ≤ i → RoomFront table l i vs r → RoomOn table l vs r
 front-end table l i vs r h p =
     room_as (λ n. front_linked l (item_may_slip_later table n) i vs) (λ n. front_linked l (item_may_slip_earlier table n) i vs)
     (λ n. each_linked l (item_may_slip_later table n) vs) (λ n. each_linked l (item_may_slip_earlier table n) vs) (FrontMoves table l i vs) (EachMoves table l vs) r
@@ -232,10 +232,10 @@ all_append : (table : Table) (l : Link) (us : List TrackState) (t : TrackState) 
 all_append table l [] t on back h k = (k, tt)
 all_append table l (u ∷ us) t on back h k = (h.0, all_append table l us t on back h.1 k)
 
-pub among-start : (table : Table) (l : Link) (ts : List TrackState) (r : Room) → r.earlier ≡ 4294967295 → r.later ≡ 4294967295 → RoomAmong table l (take 0 ts) r
+pub among-start : (table : Table) (l : Link) (ts : List TrackState) (r : SlipRoom) → r.earlier ≡ 4294967295 → r.later ≡ 4294967295 → RoomAmong table l (take 0 ts) r
 among-start table l ts r x y = room_all (AllMove table l []) r x y (λ i j. tt)
 
-pub among-more : (table : Table) (l : Link) (i : ℕ) (ts : List TrackState) (t : TrackState) (a b r : Room) → i < length ts → t ≡ get_or ts i t → r.earlier ≡ min a.earlier b.earlier → r.later ≡ min a.later b.later
+pub among-more : (table : Table) (l : Link) (i : ℕ) (ts : List TrackState) (t : TrackState) (a b r : SlipRoom) → i < length ts → t ≡ get_or ts i t → r.earlier ≡ min a.earlier b.earlier → r.later ≡ min a.later b.later
     → RoomAmong table l (take i ts) a → RoomOn table l (items_of t.cells) b → RoomAmong table l (take (i + 1) ts) r
 among-more table l i ts t a b r lt is x y p q =
     let us : List TrackState = take i ts in
@@ -250,5 +250,5 @@ among-more table l i ts t a b r lt is x y p q =
     (λ n. each_linked l (item_may_slip_later table n) (items_of t.cells)) (λ n. each_linked l (item_may_slip_earlier table n) (items_of t.cells))
     (AllMove table l us) (EachMoves table l (items_of t.cells)) a b r x y p q))
 
-pub among-end : (table : Table) (l : Link) (i : ℕ) (ts : List TrackState) (r : Room) → length ts ≤ i → RoomAmong table l (take i ts) r → RoomAmong table l ts r
+pub among-end : (table : Table) (l : Link) (i : ℕ) (ts : List TrackState) (r : SlipRoom) → length ts ≤ i → RoomAmong table l (take i ts) r → RoomAmong table l ts r
 among-end table l i ts r h p = subst (λ (us : List TrackState). RoomAmong table l us r) (take_all i ts h) p

@@ -19,7 +19,7 @@ use Rattle.edit_delta.specs.Nearest.{by_sign, lies_within, nearest}
 use Rattle.edit_delta.specs.Using.{IsUsed, IsWayOf}
 use Rattle.edit_delta.proofs.Answered.{IsUsedOf, earlier-most, later-most, used-of}
 use Rattle.edit_splice.proofs.Bridging.{for-found}
-use Rattle.edit_trim.specs.declared.linked_slips.Room.{Room}
+use Rattle.edit_trim.specs.declared.linked_slips.SlipRoom.{SlipRoom}
 use Rattle.edit_trim.specs.LinkedSlips.{AllMove, RoomAmong, back_of, moved_by, on_of}
 use Rattle.edit_trim.specs.Slipping.{each_linked_on, item_may_slip_earlier, item_may_slip_later, link_slipped, slip_link, slip_linked, slip_named, slip_own, slip_track, slip_with}
 use Rattle.link_groups.specs.ItemLinks.{link_of}
@@ -34,7 +34,7 @@ pub record IsLinkSlip (table : Table) (l : Link) (ts : List TrackState) (by : �
   pub moves : AllMove table l ts (on_of u.way) (back_of u.way)
   pub meant : slip_link table ts l by ≡ Ok (map (moved_by l u.way) ts, u.done)
 
-pub link-slip : (table : Table) (l : Link) (ts : List TrackState) (by : ℤ) (r : Room) (u : Used) → SFits w32 by → RoomAmong table l ts r → IsUsed (nearest (lies_within r.earlier r.later) (to_z w32 (of_z w32 by))) u
+pub link-slip : (table : Table) (l : Link) (ts : List TrackState) (by : ℤ) (r : SlipRoom) (u : Used) → SFits w32 by → RoomAmong table l ts r → IsUsed (nearest (lies_within r.earlier r.later) (to_z w32 (of_z w32 by))) u
     → IsLinkSlip table l ts by u
 link-slip table l ts by r u fits room is = record { moves = moves u.way refl; meant = meant } where
   F : ℕ → Bool

@@ -11,15 +11,14 @@ use Rattle.composables.specs.Good.{IsGood}
 use Rattle.composables.specs.Items.{cell_in, items_of}
 use Rattle.composables.specs.OwnTracks.{track_numbered}
 use Rattle.composables.specs.Places.{StandsAt}
-use Rattle.composables.specs.Ranges.{range_of}
+use Rattle.composables.specs.Ranges.{on_range, range_of}
 use Rattle.composables.specs.Roomy.{IsRoomy}
 use Rattle.composables.specs.TrackState.{TrackState}
 use Rattle.edit_delta.specs.declared.deltas.Way.{Way}
 use Rattle.edit_delta.specs.declared.deltas.Way.TheVariants.{Earlier, Later, Still}
 use Rattle.edit_delta.specs.Nearest.{AreUpTo}
-use Rattle.edit_delta.specs.Parts.{AreParts}
+use Rattle.edit_delta.specs.Parts.{AreParts, IsWhole}
 use Rattle.edit_delta.specs.Reaching.{going_on, reaching_back}
-use Rattle.edit_delta.specs.Using.{on_range}
 use Rattle.edit_delta.proofs.Own.{IsNamed, named-holds}
 use Rattle.edit_delta.proofs.Pieces.{after-of, before-of, on-parts}
 use Rattle.edit_delta.proofs.Spots.{Spot, spot-at}
@@ -29,7 +28,8 @@ use Rattle.link_groups.specs.LinkedShifts.{linked_shift}
 use Rattle.edit_splice.specs.Padding.{new_views}
 use Rattle.edit_splice.proofs.Bridging.{StaysMoved, for-found, only-one}
 use Rattle.edit_trim.specs.declared.rippling.Rippled.{Rippled}
-use Rattle.edit_trim.specs.Rippling.{EndFits, IsRippled, IsWhole, RipplesAmong, end_place, have_room, place_after, ripple_end, ripple_named, ripple_own, shift_by}
+use Rattle.edit_trim.specs.Rippling.{have_room, ripple_end, ripple_named, ripple_own}
+use Rattle.edit_trim.specs.RipplingInside.{EndFits, IsRippled, RipplesAmong, end_place, place_after, shift_by}
 use Rattle.edit_trim.proofs.Ripples.{HasPlaces, head-used, head_means, still_means, tail-used, tail_means}
 use Rattle.edit_trim.proofs.RippleTracks.{all-shift, all-stay, before-parts, none-parts, own-room, own-shift, own-stays}
 

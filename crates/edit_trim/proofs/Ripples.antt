@@ -29,7 +29,7 @@ use Rattle.edit_delta.specs.declared.deltas.Way.{Way}
 use Rattle.edit_delta.specs.declared.deltas.Way.TheVariants.{Earlier, Later, Still}
 use Rattle.edit_delta.specs.Nearest.{AreUpTo, by_sign, lies_within, nearest}
 use Rattle.edit_delta.specs.Reaching.{going_on, has_after, has_before, keeps_a_cell, reaching_back}
-use Rattle.edit_delta.specs.Using.{IsUsed, IsWayOf}
+use Rattle.edit_delta.specs.Using.{IsUsed, IsWayOf, used_from}
 use Rattle.edit_delta.proofs.Answered.{earlier-most, later-most, up-both}
 use Rattle.edit_delta.proofs.Greatest.{nearest-ends}
 use Rattle.edit_delta.proofs.Pieces.{before-of, numbered-after, up-true}
@@ -47,7 +47,9 @@ use Rattle.link_groups.proofs.Meant.{shift-meant}
 use Rattle.link_groups.proofs.Uncut.{EndsApart}
 use Rattle.edit_trim.proofs.Reached.{ends-nothing, reach-meant, split-reach, tail-ends, uncut-ripple}
 use Rattle.edit_trim.specs.declared.rippling.Rippled.{Rippled}
-use Rattle.edit_trim.specs.Rippling.{CanShift, EndFits, IsRippled, IsWhole, as_split, has_room, have_room, ripple_allows, ripple_end, rippled, shift_by, used_on_all}
+use Rattle.edit_delta.specs.Parts.{IsWhole}
+use Rattle.edit_trim.specs.Rippling.{as_split, has_room, have_room, ripple_allows, ripple_end, rippled}
+use Rattle.edit_trim.specs.RipplingInside.{CanShift, EndFits, IsRippled, shift_by}
 
 -- the room of the named tracks is what the code has found
 up_room : (own place : ℕ) (ts : List TrackState) (room m : ℕ) (f : ℕ → Bool) → AreUpTo (have_room own place ts) room → AreUpTo (λ n. leb n room && f n) m → AreUpTo (λ n. have_room own place ts n && f n) m
@@ -87,16 +89,16 @@ tail-used table ts t i v p room c r s room_is is =
     (sym (nearest-ends (λ n. have_room c.track p.to ts n && has_after table (cell_at t.cells (p.to - 1)).side n) (keeps_a_cell p.from p.to) is.earlier is.later c.by is.asked later earlier)) is.used
 
 -- by the way of the delta used
-used_none : (ts : List TrackState) (moved : Done → ℤ → Applied) (d : ℤ) → d ≡ pos 0 → used_on_all ts moved d ≡ Ok (ts, By d)
-used_none ts moved d e = ap (used_on_all ts moved) e ∙ ap (λ (z : ℤ). Ok (ts, By z)) (sym e)
+used_none : (ts : List TrackState) (moved : Done → ℤ → Applied) (d : ℤ) → d ≡ pos 0 → used_from ts moved d ≡ Ok (ts, By d)
+used_none ts moved d e = ap (used_from ts moved) e ∙ ap (λ (z : ℤ). Ok (ts, By z)) (sym e)
 
-used_later : (ts : List TrackState) (f g : Done → ℕ → Applied) (d : ℤ) (n : ℕ) → 0 < n → d ≡ pos n → used_on_all ts (λ done. by_sign (f done) (g done)) d ≡ f (By d) n
+used_later : (ts : List TrackState) (f g : Done → ℕ → Applied) (d : ℤ) (n : ℕ) → 0 < n → d ≡ pos n → used_from ts (λ done. by_sign (f done) (g done)) d ≡ f (By d) n
 used_later ts f g d zero h e = absurd (omega (arith, h))
-used_later ts f g d (suc n) h e = ap (used_on_all ts (λ done. by_sign (f done) (g done))) e ∙ ap (λ (z : ℤ). f (By z) (suc n)) (sym e)
+used_later ts f g d (suc n) h e = ap (used_from ts (λ done. by_sign (f done) (g done))) e ∙ ap (λ (z : ℤ). f (By z) (suc n)) (sym e)
 
-used_earlier : (ts : List TrackState) (f g : Done → ℕ → Applied) (d : ℤ) (n : ℕ) → 0 < n → d ≡ neg_ℤ (pos n) → used_on_all ts (λ done. by_sign (f done) (g done)) d ≡ g (By d) n
+used_earlier : (ts : List TrackState) (f g : Done → ℕ → Applied) (d : ℤ) (n : ℕ) → 0 < n → d ≡ neg_ℤ (pos n) → used_from ts (λ done. by_sign (f done) (g done)) d ≡ g (By d) n
 used_earlier ts f g d zero h e = absurd (omega (arith, h))
-used_earlier ts f g d (suc n) h e = ap (used_on_all ts (λ done. by_sign (f done) (g done))) e ∙ ap (λ (z : ℤ). g (By z) (suc n)) (sym e)
+used_earlier ts f g d (suc n) h e = ap (used_from ts (λ done. by_sign (f done) (g done))) e ∙ ap (λ (z : ℤ). g (By z) (suc n)) (sym e)
 
 -- a shift as it is made, where the own track has the places
 pub made : (s : Shift) (done : Done) (ts : List TrackState) → All (λ (t : TrackState). t.number ≡ s.own → (s.x ≤ length t.cells) × (s.y ≤ length t.cells)) ts → s.x ≤ s.y → All (IsShiftOf s) ts → EachUncut s ts

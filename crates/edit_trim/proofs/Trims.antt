@@ -12,8 +12,7 @@ use Rattle.composables.specs.declared.calls.End.{End}
 use Rattle.composables.specs.declared.calls.Trim.{Trim}
 use Rattle.composables.specs.declared.items.ItemView.{ItemView}
 use Rattle.composables.specs.declared.items.Place.{Place}
-use Rattle.composables.specs.Ranges.{range_of}
-use Rattle.edit_delta.specs.Using.{on_range}
+use Rattle.composables.specs.Ranges.{on_range, range_of}
 use Rattle.composables.specs.declared.media.Table.{Table}
 use Rattle.composables.specs.declared.refusals.Done.{Done}
 use Rattle.composables.specs.declared.refusals.Refusal.{Refusal}

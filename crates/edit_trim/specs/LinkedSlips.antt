@@ -15,7 +15,7 @@ use Rattle.composables.specs.TrackState.{TrackState}
 use Rattle.edit_delta.specs.declared.deltas.Way.{Way}
 use Rattle.edit_delta.specs.declared.deltas.Way.TheVariants.{Still, Later, Earlier}
 use Rattle.edit_delta.specs.Nearest.{AreUpTo}
-use Rattle.edit_trim.specs.declared.linked_slips.Room.{Room}
+use Rattle.edit_trim.specs.declared.linked_slips.SlipRoom.{SlipRoom}
 use Rattle.edit_trim.specs.Slipping.{each_linked, each_linked_on, item_may_slip_earlier, item_may_slip_later, track_moved}
 use Rattle.link_groups.specs.ItemLinks.{carries}
 
@@ -53,21 +53,21 @@ AllMove table l [] on back = Unit {0}
 AllMove table l (t ∷ ts) on back = EachMoves table l (items_of t.cells) on back × AllMove table l ts on back
 
 -- these are the most frames later, and earlier, that are allowed; and by as many what moves shows frames of its thing
-pub record IsRoom (suits_later suits_earlier : ℕ → Bool) (Moves : ℕ → ℕ → Type 0) (r : Room) : Type 0 where
+pub record IsRoom (suits_later suits_earlier : ℕ → Bool) (Moves : ℕ → ℕ → Type 0) (r : SlipRoom) : Type 0 where
   pub later : AreUpTo suits_later r.later
   pub earlier : AreUpTo suits_earlier r.earlier
   pub on : (n : ℕ) → n ≤ r.later → Moves n 0
   pub back : (n : ℕ) → n ≤ r.earlier → Moves 0 n
 
-abbrev pub RoomOf : Table → ItemView → Option Mark → Room → Type 0
+abbrev pub RoomOf : Table → ItemView → Option Mark → SlipRoom → Type 0
 RoomOf table v tail r =
     IsRoom (λ n. item_may_slip_later table n v tail) (λ n. item_may_slip_earlier table n v tail) (ShowsMoved table v tail) r
 
-abbrev pub RoomOn : Table → Link → List ItemView → Room → Type 0
+abbrev pub RoomOn : Table → Link → List ItemView → SlipRoom → Type 0
 RoomOn table l vs r =
     IsRoom (λ n. each_linked l (item_may_slip_later table n) vs) (λ n. each_linked l (item_may_slip_earlier table n) vs) (EachMoves table l vs) r
 
-abbrev pub RoomAmong : Table → Link → List TrackState → Room → Type 0
+abbrev pub RoomAmong : Table → Link → List TrackState → SlipRoom → Type 0
 RoomAmong table l ts r =
     IsRoom (λ n. each_linked_on l (item_may_slip_later table n) ts) (λ n. each_linked_on l (item_may_slip_earlier table n) ts) (AllMove table l ts) r
 

@@ -19,12 +19,12 @@ use Rattle.composables.specs.Answers.{Applied, unless}
 use Rattle.composables.specs.Items.{items_of}
 use Rattle.composables.specs.Links.{outside_refusal}
 use Rattle.composables.specs.OwnTracks.{among_named, for_own}
-use Rattle.composables.specs.Ranges.{range_of}
+use Rattle.composables.specs.Ranges.{on_range, range_of}
 use Rattle.composables.specs.TrackFacts.{first_mark, left_reach, right_reach}
 use Rattle.composables.specs.TrackState.{TrackState}
 use Rattle.edit_delta.specs.Nearest.{by_sign, nearest}
 use Rattle.edit_delta.specs.Reaching.{has_after, has_before}
-use Rattle.edit_delta.specs.Using.{on_range, used_on}
+use Rattle.edit_delta.specs.Using.{used_on}
 use Rattle.link_groups.specs.ItemLinks.{carries, link_of}
 
 -- n source frames later, and n earlier: with what the dissolves at the item's ends show past it, its source frames stay

@@ -10,12 +10,12 @@ use Rattle.composables.specs.declared.refusals.Done.{Done}
 use Rattle.composables.specs.declared.refusals.Refusal.{Refusal}
 use Rattle.composables.specs.Answers.{Applied}
 use Rattle.composables.specs.OwnTracks.{on_own}
-use Rattle.composables.specs.Ranges.{range_of}
+use Rattle.composables.specs.Ranges.{on_range, range_of}
 use Rattle.composables.specs.TrackState.{TrackState}
 use Rattle.composables.specs.Views.{gap_views}
 use Rattle.edit_delta.specs.Nearest.{by_sign, nearest}
 use Rattle.edit_delta.specs.Reaching.{going_on, has_after, has_before, keeps_a_cell, reaching_back}
-use Rattle.edit_delta.specs.Using.{on_range, used_on}
+use Rattle.edit_delta.specs.Using.{used_on}
 use Rattle.edit_splice.specs.Splicing.{spliced_track}
 use Rattle.edit_trim.specs.Darkness.{dark_before, dark_behind}
 

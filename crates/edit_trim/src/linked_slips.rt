@@ -21,7 +21,7 @@ use step_count::Steps;
 
 /// How many source frames earlier, and how many later, what moves may show its thing.
 #[derive(Clone, Copy)]
-pub struct Room {
+pub struct SlipRoom {
     pub earlier: u32,
     pub later: u32,
 }
@@ -52,13 +52,18 @@ pub fn slip_linked<L: Ledger>(
 }
 
 // The room that suits all that has the link on these tracks.
-fn room_among<L: Ledger>(table: &Table, named: &[Track], link: Link, steps: &mut Steps<L>) -> Room
+fn room_among<L: Ledger>(
+    table: &Table,
+    named: &[Track],
+    link: Link,
+    steps: &mut Steps<L>,
+) -> SlipRoom
     requires good { All (λ t. IsGood table.now t) named.now }
     ensures room { RoomAmong table.now link named.now result }
     ensures least { steps.old ≤ steps.new }
     ensures most { steps.new ≤ steps.old + sizes_of named.now }
 {
-    let mut room = Room {
+    let mut room = SlipRoom {
         earlier: u32::MAX,
         later: u32::MAX,
     };
@@ -69,13 +74,13 @@ fn room_among<L: Ledger>(table: &Table, named: &[Track], link: Link, steps: &mut
 }
 
 // The same on one of the tracks.
-fn room_on<L: Ledger>(table: &Table, track: &Track, link: Link, steps: &mut Steps<L>) -> Room
+fn room_on<L: Ledger>(table: &Table, track: &Track, link: Link, steps: &mut Steps<L>) -> SlipRoom
     requires good { IsGood table.now track.now }
     ensures room { RoomOn table.now link (items_of track.now.cells) result }
     ensures least { steps.old ≤ steps.new }
     ensures most { steps.new ≤ steps.old + size_of track.now }
 {
-    let mut room = Room {
+    let mut room = SlipRoom {
         earlier: u32::MAX,
         later: u32::MAX,
     };
@@ -91,18 +96,18 @@ fn room_on<L: Ledger>(table: &Table, track: &Track, link: Link, steps: &mut Step
     room
 }
 
-fn narrower(one: Room, other: Room) -> Room
+fn narrower(one: SlipRoom, other: SlipRoom) -> SlipRoom
     ensures earlier { result.earlier ≡ min one.earlier other.earlier }
     ensures later { result.later ≡ min one.later other.later }
 {
-    Room {
+    SlipRoom {
         earlier: one.earlier.min(other.earlier),
         later: one.later.min(other.later),
     }
 }
 
 // The room of the item with an index, with the dissolves at its two ends.
-fn room_to_slip(table: &Table, track: &Track, index: u32, view: &ItemView) -> Room
+fn room_to_slip(table: &Table, track: &Track, index: u32, view: &ItemView) -> SlipRoom
     requires good { IsGood table.now track.now }
     requires within { index < length (items_of track.now.cells) }
     requires view { slice_get (items_of track.now.cells) index ≡ Some view.now }
@@ -110,7 +115,7 @@ fn room_to_slip(table: &Table, track: &Track, index: u32, view: &ItemView) -> Ro
         (mark_of (slice_get (items_of track.now.cells) (index + 1))) result }
 {
     let tail = mark_of(track.item(index + 1));
-    Room {
+    SlipRoom {
         earlier: room_earlier(table, view),
         later: room_later(table, view, tail),
     }

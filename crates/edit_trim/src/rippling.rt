@@ -10,15 +10,16 @@ ghost use Rattle.composables.specs.Roomy.{IsRoomy};
 ghost use Rattle.composables.specs.Sizes.{sizes_of};
 ghost use Rattle.composables.specs.TrackSets.{tracks_in};
 ghost use Rattle.edit_delta.specs.Nearest.{AreUpTo};
-ghost use Rattle.edit_splice.specs.Padding.{new_len};
 ghost use Rattle.edit_splice.specs.Standing.{EachStaysGood};
-ghost use Rattle.edit_trim.specs.Rippling.{CanShift, IsRippled, IsWhole, RipplesAmong, has_room, have_room, place_after, ripple_named, shift_by};
+ghost use Rattle.edit_delta.specs.Parts.{IsWhole};
+ghost use Rattle.edit_trim.specs.Rippling.{has_room, have_room, ripple_named};
+ghost use Rattle.edit_trim.specs.RipplingInside.{CanShift, IsRippled, RipplesAmong, place_after, shift_by};
 
 use composables::{
     Done, EditFault, End, ItemView, MAX_FRAMES, Place, Refusal, Ripple, Table, Track, own_index,
 };
 use edit_delta::{Way, frames_after, frames_before, going_on, reaching_back, used_within};
-use edit_splice::Shift;
+use edit_splice::{Shift, new_len};
 use link_groups::shift_linked;
 use std::alloc::Global;
 use std::sync::ledger::Ledger;
@@ -103,16 +104,7 @@ fn place_after(end: End, shift: &Shift) -> u64
 {
     match end {
         End::Head => u64::from(shift.x),
-        End::Tail => u64::from(shift.x) + u64::from(len_of(shift.new)),
-    }
-}
-
-fn len_of(new: Option<ItemView>) -> u32
-    ensures { result ≡ new_len new }
-{
-    match new {
-        Some(view) => view.len,
-        None => 0,
+        End::Tail => u64::from(shift.x) + u64::from(new_len(shift.new)),
     }
 }
 

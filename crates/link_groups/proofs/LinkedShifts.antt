@@ -132,7 +132,7 @@ shift-items s done ts order kept uncut = ap (unless (linked_refusal s ts)) (by (
 
 -- what the code does: it is refused for the limits, or within them
 
-over_refused : (us after : List TrackState) (done : Done) (why : Refusal) → over_limits us ≡ Some why → unless_over us (Ok (after, done)) ≡ Err why
+over_refused : (us after : List TrackState) (done : Done) (why : Refusal) → over_limits us ≡ Some why → unless_over {A = List TrackState × Done} us (Ok (after, done)) ≡ Err why
 over_refused us after done why = by (too_long us) (too_many us) where
   by : (a b : Option Refusal) → option_or a b ≡ Some why → unless {A = List TrackState × Done} a (unless {A = List TrackState × Done} b (Ok (after, done))) ≡ Err why
   by (Some r) b e = Prim.grind (arith, e)
@@ -163,6 +163,14 @@ moving-refusal s ts r e f = ap (λ (b : Bool). cond b None (link_outside ts (cel
 numbers-fit : (s : Shift) (ts : List TrackState) (p : Splits) → All (λ (t : TrackState). t.next_link ≤ 2 ^ 31) ts → HasFew p
     → All (λ (t : TrackState). t.next_link + unwrap_or (get nat_cmp p.counts t.number) 0 < 2 ^ 32) (all_moved s ts)
 numbers-fit s ts p next few = all_mapped s (λ (t : TrackState). t.next_link + unwrap_or (get nat_cmp p.counts t.number) 0 < 2 ^ 32) ts (λ k d lt. omega (arith, next k d lt, few (get_or ts k d).number))
+
+-- what is known where the code goes on
+pub not-refused : (s : Shift) (ts looked : List TrackState) (r : Option Refusal) → eqb (new_len s.new) (s.y - s.x) ≡ false → r ≡ link_outside looked (cells_from s.y looked) → looked ≡ ts → r ≡ None → linked_refusal s ts ≡ None
+not-refused s ts looked r moves is same none =
+    moving-refusal s ts None moves (sym none ∙ subst (λ (us : List TrackState). r ≡ link_outside us (cells_from s.y us)) same is)
+
+pub over-is : (s : Shift) (ts looked : List TrackState) (r : Option Refusal) → looked ≡ ts → r ≡ over_limits (all_moved s looked) → over_limits (all_moved s ts) ≡ r
+over-is s ts looked r same is = sym (subst (λ (us : List TrackState). r ≡ over_limits (all_moved s us)) same is)
 
 -- a shift that was done, and the links of what was moved
 pub linked-done : (s : Shift) (place : ℕ) (done : Done) (ts new after : List TrackState) (p : Splits) → eqb (new_len s.new) (s.y - s.x) ≡ false → linked_refusal s ts ≡ None → over_limits (all_moved s ts) ≡ None → AreSplits ts (split_links s.x s.y ts) p

@@ -3,15 +3,14 @@ ghost use Rattle.std.specs.Prelude.{◌≡◌, ◌+◌, ◌-◌, ◌*◌, ◌≤
 ghost use Rattle.out_of_memory.specs.Answers.{Answers};
 ghost use Rattle.composables.specs.Sizes.{sizes_of};
 ghost use Rattle.edit_splice.specs.Moves.{IsShiftOf};
-ghost use Rattle.edit_splice.specs.Padding.{new_len};
 ghost use Rattle.link_groups.specs.LinkedShifts.{linked_shift};
 ghost use Rattle.link_groups.specs.Renumbering.{MayBeSplit};
 
 use crate::outside::check;
 use crate::renumbering::relink_all;
 use crate::splits::splits_at;
-use composables::{Done, EditFault, ItemView, Track};
-use edit_splice::{Shift, over_limits, shift_tracks, shift_within};
+use composables::{Done, EditFault, Track};
+use edit_splice::{Shift, new_len, over_limits, shift_tracks, shift_within};
 use std::alloc::Global;
 use std::sync::ledger::Ledger;
 use step_count::Steps;
@@ -39,7 +38,7 @@ pub fn shift_linked<L: Ledger>(
     ensures least { steps.old ≤ steps.new }
     ensures most { steps.new ≤ steps.old + 21 * sizes_of named.old.items }
 {
-    if len_of(shift.new) == shift.y - shift.x {
+    if new_len(shift.new) == shift.y - shift.x {
         return shift_tracks(alloc, named, shift, done, steps);
     }
     match check(named, shift.x, shift.y, steps) {
@@ -54,13 +53,4 @@ pub fn shift_linked<L: Ledger>(
     shift_within(alloc, named, shift, steps)?;
     relink_all(named, place, &splits, steps);
     Ok(done)
-}
-
-fn len_of(new: Option<ItemView>) -> u32
-    ensures { result ≡ new_len new }
-{
-    match new {
-        Some(view) => view.len,
-        None => 0,
-    }
 }

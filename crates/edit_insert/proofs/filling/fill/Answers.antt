@@ -2,7 +2,7 @@ use Rattle.std.proofs.Common.{refl}
 use Rattle.edit_insert.specs.Fills.{fill_track}
 use Rattle.edit_splice.specs.Standing.{StaysGood}
 use Rattle.edit_splice.proofs.OneTrack.{is-one, one-answers, one-each}
-use Rattle.edit_splice.proofs.Standing.{each-good, each-rises, each-unlinked}
+use Rattle.edit_splice.proofs.Standing.{each-good}
 use Rattle.edit_insert.proofs.filling.fill.Goals as goal
 
 pub returns-clause-answers : goal.returns-clause-answers

@@ -3,7 +3,7 @@ use Rattle.composables.specs.Good.{IsGood}
 use Rattle.edit_insert.specs.Edits.{slice_track}
 use Rattle.edit_splice.specs.Standing.{StaysGood}
 use Rattle.edit_splice.proofs.OneTrack.{is-one, one-answers, one-each, one-holds}
-use Rattle.edit_splice.proofs.Standing.{each-good, each-rises, each-unlinked}
+use Rattle.edit_splice.proofs.Standing.{each-good}
 use Rattle.edit_insert.proofs.Removals.{slice-stays}
 use Rattle.edit_insert.proofs.removing.slice.Goals as goal
 

@@ -2,7 +2,7 @@ use Rattle.std.proofs.Common.{◌≡◌, arith, true}
 use Rattle.composables.specs.Items.{items_of}
 use Rattle.composables.specs.Ranges.{is_cut}
 use Rattle.edit_roll.specs.declared.neighbours.Sides.{Sides}
-use Rattle.edit_roll.specs.Neighbours.{AreBeside, StandBeside}
+use Rattle.edit_roll.specs.NeighboursInside.{AreBeside, StandBeside}
 use Rattle.edit_roll.proofs.Beside.{first-cut, found-cut, found-sides, no-cut-inside, some-of}
 use Rattle.edit_roll.proofs.neighbours.sides_of_cut.Goals as goal
 

@@ -2,7 +2,8 @@ use Rattle.std.proofs.Common.{◌≡◌, ◌+◌, arith, true}
 use Rattle.composables.specs.Items.{items_of}
 use Rattle.composables.proofs.Joining.{length-items_of}
 use Rattle.edit_roll.specs.declared.neighbours.Sides.{Sides}
-use Rattle.edit_roll.specs.Neighbours.{AreBeside, StandBeside, has_neighbours}
+use Rattle.edit_roll.specs.Neighbours.{has_neighbours}
+use Rattle.edit_roll.specs.NeighboursInside.{AreBeside, StandBeside}
 use Rattle.edit_roll.proofs.Beside.{both-sides, item-sides, no-sides, some-of}
 use Rattle.edit_roll.proofs.neighbours.sides_of_item.Goals as goal
 

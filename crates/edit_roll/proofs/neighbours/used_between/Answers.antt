@@ -1,4 +1,4 @@
-use Rattle.edit_roll.specs.Neighbours.{fits_earlier, fits_later}
+use Rattle.edit_roll.specs.NeighboursInside.{fits_earlier, fits_later}
 use Rattle.edit_roll.proofs.Moves.{earlier-up, fits-used, later-up}
 use Rattle.edit_delta.proofs.Answered.{used-of}
 use Rattle.edit_roll.proofs.neighbours.used_between.Goals as goal

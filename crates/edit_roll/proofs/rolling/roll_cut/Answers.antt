@@ -6,7 +6,7 @@ use Rattle.composables.specs.TrackState.{TrackState}
 use Rattle.edit_delta.specs.declared.deltas.Way.TheVariants.{Earlier, Later}
 use Rattle.edit_delta.proofs.Pieces.{numbered-after}
 use Rattle.edit_splice.proofs.Standing.{stays-self}
-use Rattle.edit_roll.specs.Neighbours.{FitsBetween}
+use Rattle.edit_roll.specs.NeighboursInside.{FitsBetween}
 use Rattle.edit_roll.proofs.Beside.{whole-of}
 use Rattle.edit_roll.proofs.Moves.{around-of, before-fits, moved-used, roll-back, roll-earlier, roll-later, roll-on, roll-still}
 use Rattle.edit_roll.proofs.rolling.roll_cut.Goals as goal

@@ -18,16 +18,16 @@ total-requires g c =
       arith,
       length-items_of (spliced_track c.args.track.now c.args.x c.args.y c.args.items.now).cells,
       c.requires.short,
-      counted c.args.track.now c.args.x c.args.y c.number_past_all-fresh.result c.count.result c.count_by.result c.begun-between.result c.count_past-past.result c.seams_of-seams.result c.split_number-split.result
+      counted c.args.track.now c.args.x c.args.y c.number_past_all-fresh.result c.count.result c.count_by.result c.begun-between.result c.count_past-past.result c.seams_of-seams.result c.split_between-split.result
           c.number_of.result c.back_number.result c.args.items.now c.a_track_is_kept.ensures c.requires.order c.requires.filled c.seams_of-seams.ensures.seams
-          (c.number_past_all-fresh.ensures ∙ ap (λ (k : ℕ). next_past_all k c.args.items.now) c.next_item.ensures) c.split_number-split.ensures c.count.ensures c.number_of.ensures c.back_number.ensures
+          (c.number_past_all-fresh.ensures ∙ ap (λ (k : ℕ). next_past_all k c.args.items.now) c.next_item.ensures) c.split_between-split.ensures c.count.ensures c.number_of.ensures c.back_number.ensures
           c.count_by.ensures c.begun-between.ensures.begun c.count_past-past.ensures,
     )
 
 pub returns-clause-count : goal.returns-clause-count
 returns-clause-count g c =
     c.total.ensures
-    ∙ counted c.args.track.now c.args.x c.args.y c.number_past_all-fresh.result c.count.result c.count_by.result c.begun-between.result c.count_past-past.result c.seams_of-seams.result c.split_number-split.result
+    ∙ counted c.args.track.now c.args.x c.args.y c.number_past_all-fresh.result c.count.result c.count_by.result c.begun-between.result c.count_past-past.result c.seams_of-seams.result c.split_between-split.result
     c.number_of.result c.back_number.result c.args.items.now c.a_track_is_kept.ensures c.requires.order c.requires.filled c.seams_of-seams.ensures.seams
-    (c.number_past_all-fresh.ensures ∙ ap (λ (k : ℕ). next_past_all k c.args.items.now) c.next_item.ensures) c.split_number-split.ensures c.count.ensures c.number_of.ensures c.back_number.ensures
+    (c.number_past_all-fresh.ensures ∙ ap (λ (k : ℕ). next_past_all k c.args.items.now) c.next_item.ensures) c.split_between-split.ensures c.count.ensures c.number_of.ensures c.back_number.ensures
     c.count_by.ensures c.begun-between.ensures.begun c.count_past-past.ensures

@@ -29,4 +29,4 @@ pub returns-clause-answers : goal.returns-clause-answers
 returns-clause-answers g c =
     let none : over_limits (all_moved c.args.shift.now c.args.named.now.items) ≡ None =
     subst (λ (ts : List TrackState). over_limits (all_moved c.args.shift.now ts) ≡ None) c.deref.ensures.value (sym c.in-None.ensures.refusal) in
-    within-all (all_moved c.args.shift.now c.args.named.now.items) c.args.done none ∙ ap (λ (ts : List TrackState). Ok (ts, c.args.done)) (sym c.in_ok-shift_within.ensures.moved)
+    within-all (all_moved c.args.shift.now c.args.named.now.items) c.args.done none ∙ ap (λ (ts : List TrackState). Ok (ts, c.args.done)) (sym {A = List TrackState} c.in_ok-shift_within.ensures.moved)

@@ -9,7 +9,7 @@ use Rattle.link_groups.specs.LinkedShifts.{linked_shift}
 use Rattle.link_groups.proofs.GoodShifts.{each-linked}
 use Rattle.edit_splice.proofs.Standing.{each-self}
 use Rattle.link_groups.proofs.Meant.{may-split}
-use Rattle.edit_trim.specs.Rippling.{RipplesAmong}
+use Rattle.edit_trim.specs.RipplingInside.{RipplesAmong}
 use Rattle.edit_trim.proofs.RippleShift.{item-there, own-good, ready-at, ready-fits, ready-none, ready-order, ready-some, ready-stays, whole-at}
 use Rattle.edit_trim.proofs.rippling.ripple_at.Goals as goal
 

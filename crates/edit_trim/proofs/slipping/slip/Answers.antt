@@ -3,7 +3,7 @@ use Rattle.std.proofs.lemmas.List.Sums.{get_or-le-sum_by}
 use Rattle.composables.specs.OwnTracks.{track_numbered}
 use Rattle.composables.specs.Sizes.{size_of}
 use Rattle.edit_splice.proofs.Bridging.{named-found}
-use Rattle.edit_splice.proofs.Standing.{each-good, each-numbers, each-rises, each-unlinked}
+use Rattle.edit_splice.proofs.Standing.{each-good, each-numbers}
 use Rattle.edit_trim.proofs.RippleTracks.{no_track}
 use Rattle.edit_trim.proofs.slipping.slip.Goals as goal
 

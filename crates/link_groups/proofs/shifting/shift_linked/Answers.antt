@@ -1,7 +1,7 @@
-use Rattle.std.proofs.Common.{◌≡◌, ◌-◌, false, eqb, None, Some, List, sym, ap, is_ok, refl, ◌∙◌, arith, subst}
+use Rattle.std.proofs.Common.{◌≡◌, ◌-◌, false, eqb, None, Some, List, ap, is_ok, refl, ◌∙◌, arith, subst}
 use Rattle.std.proofs.lemmas.Bool.{ne_eqb}
 use Rattle.composables.specs.Limits.{over_limits}
-use Rattle.composables.specs.Links.{cells_from, link_outside, split_links}
+use Rattle.composables.specs.Links.{split_links}
 use Rattle.composables.specs.Sizes.{sizes_of}
 use Rattle.composables.specs.TrackState.{TrackState}
 use Rattle.out_of_memory.proofs.Answered.{answers-memory}
@@ -9,41 +9,34 @@ use Rattle.edit_splice.specs.Moves.{all_moved}
 use Rattle.edit_splice.specs.Padding.{new_len}
 use Rattle.link_groups.specs.LinkedShifts.{linked_refusal, linked_shift}
 use Rattle.link_groups.specs.Splits.{AreSplits}
-use Rattle.link_groups.proofs.LinkedShifts.{linked-done, linked-over, linked-within, moving-refusal, next-fits, sizes-done}
-use Rattle.link_groups.proofs.shifting.shift_linked.Given as given
+use Rattle.link_groups.proofs.LinkedShifts.{linked-done, linked-over, linked-within, next-fits, not-refused, over-is, sizes-done}
 use Rattle.link_groups.proofs.shifting.shift_linked.Goals as goal
-use Rattle.link_groups.proofs.shifting.shift_linked.Goals.{In-None-over_limits, After-over_limits}
-
-moves : (g : given.Over) (c : After-over_limits g) → eqb (new_len c.args.shift.now.new) (c.args.shift.now.y - c.args.shift.now.x) ≡ false
-moves g c = ne_eqb (new_len c.args.shift.now.new) (c.args.shift.now.y - c.args.shift.now.x) (λ e. c.if-len_of-shift.false (c.len_of.ensures ∙ e))
-
-no_refusal : (g : given.Over) (c : After-over_limits g) → linked_refusal c.args.shift.now c.args.named.now.items ≡ None
-no_refusal g c =
-    moving-refusal c.args.shift.now c.args.named.now.items None (moves g c)
-    (subst (λ (ts : List TrackState). None ≡ link_outside ts (cells_from c.args.shift.now.y ts)) c.deref.ensures.value (sym c.in-None.is ∙ c.check.ensures.refusal))
-
-within : (g : given.Over) (c : In-None-over_limits g) → over_limits (all_moved c.args.shift.now c.args.named.now.items) ≡ None
-within g c = subst (λ (ts : List TrackState). over_limits (all_moved c.args.shift.now ts) ≡ None) c.deref-2.ensures.value (sym c.in-None-over_limits.ensures.refusal)
 
 pub returns-in-Some-over_limits-clause-answers : goal.returns-in-Some-over_limits-clause-answers
-returns-in-Some-over_limits-clause-answers g c = (
-  linked-over c.args.shift.now c.args.place c.args.done c.args.named.now.items c.in-Some-over_limits.refusal (no_refusal g c)
-      (subst (λ (ts : List TrackState). over_limits (all_moved c.args.shift.now ts) ≡ Some c.in-Some-over_limits.refusal) c.deref-2.ensures.value (sym c.in-Some-over_limits.ensures.refusal)),
-  refl,
-)
+returns-in-Some-over_limits-clause-answers g c =
+    let moves : eqb (new_len c.args.shift.now.new) (c.args.shift.now.y - c.args.shift.now.x) ≡ false = ne_eqb (new_len c.args.shift.now.new) (c.args.shift.now.y - c.args.shift.now.x) (λ e. c.if-new_len-shift.false (c.new_len.ensures ∙ e)) in
+    let none : linked_refusal c.args.shift.now c.args.named.now.items ≡ None = not-refused c.args.shift.now c.args.named.now.items c.deref.result.now c.check.result moves c.check.ensures.refusal c.deref.ensures.value c.in-None.is in
+    let over : over_limits (all_moved c.args.shift.now c.args.named.now.items) ≡ Some c.in-Some-over_limits.refusal = over-is c.args.shift.now c.args.named.now.items c.deref-2.result.now (Some c.in-Some-over_limits.refusal) c.deref-2.ensures.value c.in-Some-over_limits.ensures.refusal in
+    (linked-over c.args.shift.now c.args.place c.args.done c.args.named.now.items c.in-Some-over_limits.refusal none over, refl)
 
 pub returns-in_err-splits-clause-answers : goal.returns-in_err-splits-clause-answers
 returns-in_err-splits-clause-answers g c =
+    let moves : eqb (new_len c.args.shift.now.new) (c.args.shift.now.y - c.args.shift.now.x) ≡ false = ne_eqb (new_len c.args.shift.now.new) (c.args.shift.now.y - c.args.shift.now.x) (λ e. c.if-new_len-shift.false (c.new_len.ensures ∙ e)) in
+    let none : linked_refusal c.args.shift.now c.args.named.now.items ≡ None = not-refused c.args.shift.now c.args.named.now.items c.deref.result.now c.check.result moves c.check.ensures.refusal c.deref.ensures.value c.in-None.is in
+    let within : over_limits (all_moved c.args.shift.now c.args.named.now.items) ≡ None = over-is c.args.shift.now c.args.named.now.items c.deref-2.result.now None c.deref-2.ensures.value c.in-None-over_limits.ensures.refusal in
     answers-memory (linked_shift c.args.shift.now c.args.place c.args.done c.args.named.now.items) c.args.named.now.items c.args.named.now.items c.from_residual.result c.from_residual.ensures.1
-    (ap is_ok (linked-within c.args.shift.now c.args.place c.args.done c.args.named.now.items (no_refusal g c) (within g c))) refl
+    (ap is_ok (linked-within c.args.shift.now c.args.place c.args.done c.args.named.now.items none within)) refl
 
 pub shift_within-requires-clause-within : goal.shift_within-requires-clause-within
-shift_within-requires-clause-within g c = within g c
+shift_within-requires-clause-within g c = over-is c.args.shift.now c.args.named.now.items c.deref-2.result.now None c.deref-2.ensures.value c.in-None-over_limits.ensures.refusal
 
 pub returns-in_err-shift_within-clause-answers : goal.returns-in_err-shift_within-clause-answers
 returns-in_err-shift_within-clause-answers g c =
-    answers-memory (linked_shift c.args.shift.now c.args.place c.args.done c.args.named.now.items) c.args.named.now.items c.shift_within.new.named.items c.from_residual-2.result c.from_residual-2.ensures.1
-    (ap is_ok (linked-within c.args.shift.now c.args.place c.args.done c.args.named.now.items (no_refusal g c) (within g c))) c.in_err-shift_within.ensures.memory
+    let moves : eqb (new_len c.args.shift.now.new) (c.args.shift.now.y - c.args.shift.now.x) ≡ false = ne_eqb (new_len c.args.shift.now.new) (c.args.shift.now.y - c.args.shift.now.x) (λ e. c.if-new_len-shift.false (c.new_len.ensures ∙ e)) in
+    let none : linked_refusal c.args.shift.now c.args.named.now.items ≡ None = not-refused c.args.shift.now c.args.named.now.items c.deref.result.now c.check.result moves c.check.ensures.refusal c.deref.ensures.value c.in-None.is in
+    let within : over_limits (all_moved c.args.shift.now c.args.named.now.items) ≡ None = over-is c.args.shift.now c.args.named.now.items c.deref-2.result.now None c.deref-2.ensures.value c.in-None-over_limits.ensures.refusal in
+    answers-memory (linked_shift c.args.shift.now c.args.place c.args.done c.args.named.now.items) c.args.named.now.items c.shift_within.new.named.items c.from_residual-in_err-shift_within.result c.from_residual-in_err-shift_within.ensures.1
+    (ap is_ok (linked-within c.args.shift.now c.args.place c.args.done c.args.named.now.items none within)) c.in_err-shift_within.ensures.memory
 
 pub relink_all-requires : goal.relink_all-requires
 relink_all-requires g c =
@@ -51,8 +44,12 @@ relink_all-requires g c =
 
 pub returns-clause-answers : goal.returns-clause-answers
 returns-clause-answers g c =
-    linked-done c.args.shift.now c.args.place c.args.done c.args.named.now.items c.shift_within.new.named.items c.relink_all.new.named.items c.in_ok-splits.splits (moves g c) (no_refusal g c) (within g c)
-    (subst (λ (ts : List TrackState). AreSplits ts (split_links c.args.shift.now.x c.args.shift.now.y ts) c.in_ok-splits.splits) c.deref-3.ensures.value c.in_ok-splits.ensures.splits)
+    let moves : eqb (new_len c.args.shift.now.new) (c.args.shift.now.y - c.args.shift.now.x) ≡ false = ne_eqb (new_len c.args.shift.now.new) (c.args.shift.now.y - c.args.shift.now.x) (λ e. c.if-new_len-shift.false (c.new_len.ensures ∙ e)) in
+    let none : linked_refusal c.args.shift.now c.args.named.now.items ≡ None = not-refused c.args.shift.now c.args.named.now.items c.deref.result.now c.check.result moves c.check.ensures.refusal c.deref.ensures.value c.in-None.is in
+    let within : over_limits (all_moved c.args.shift.now c.args.named.now.items) ≡ None = over-is c.args.shift.now c.args.named.now.items c.deref-2.result.now None c.deref-2.ensures.value c.in-None-over_limits.ensures.refusal in
+    let splits : AreSplits c.args.named.now.items (split_links c.args.shift.now.x c.args.shift.now.y c.args.named.now.items) c.in_ok-splits.splits =
+    subst (λ (ts : List TrackState). AreSplits ts (split_links c.args.shift.now.x c.args.shift.now.y ts) c.in_ok-splits.splits) c.deref-3.ensures.value c.in_ok-splits.ensures.splits in
+    linked-done c.args.shift.now c.args.place c.args.done c.args.named.now.items c.shift_within.new.named.items c.relink_all.new.named.items c.in_ok-splits.splits moves none within splits
     c.in_ok-shift_within.ensures.moved c.relink_all.ensures.relinked
 
 pub returns-clause-most : goal.returns-clause-most
