@@ -29,16 +29,16 @@ use Rattle.composables.specs.Items.{items_of}
 use Rattle.composables.specs.Joined.{frames_in}
 use Rattle.composables.specs.Limits.{too_long, too_many, track_within_limits}
 use Rattle.composables.specs.OwnTracks.{among_named, for_own, on_own, track_numbered}
-use Rattle.composables.specs.Ranges.{gap_at, is_cut, range_of}
+use Rattle.composables.specs.Ranges.{on_range, gap_at, is_cut, range_of}
 use Rattle.composables.specs.TrackState.{TrackState}
 use Rattle.composables.specs.Views.{clip_view, gap_views}
 use Rattle.dissolves.specs.Cuts.{dissolve_refusal}
 use Rattle.dissolves.specs.Marking.{dissolve_on, mark_asked, mark_at_place, marked_track, undissolve_on, undissolve_refusal}
 use Rattle.edit_delta.specs.Nearest.{nearest}
 use Rattle.edit_delta.specs.Reaching.{going_on, has_before, keeps_a_cell, reaching_back}
-use Rattle.edit_delta.specs.Using.{on_range, used_on}
+use Rattle.edit_delta.specs.Using.{used_on}
 use Rattle.edit_delta.proofs.Greatest.{is-nearest}
-use Rattle.edit_insert.specs.Edits.{for_range, overwrite_track, overwritten, remove_track, slice_track}
+use Rattle.edit_insert.specs.Edits.{overwrite_track, overwritten, remove_track, slice_track}
 use Rattle.edit_insert.specs.Fills.{fill_at, fill_track, filled, frames_asked}
 use Rattle.edit_insert.specs.Sources.{source_refusal}
 use Rattle.edit_roll.specs.Neighbours.{begin_at, move_allows}
@@ -139,7 +139,7 @@ overwrite-one table c t =
 pub remove-one : (table : Table) (c : Remove) (t : TrackState) → KeptOne t (remove_track c t)
 remove-one table c t = by (range_of t.cells c.item) refl where
   by : (o : Option (ℕ × ℕ)) → range_of t.cells c.item ≡ o
-      → KeptOne t (for_range (λ x y. track_within_limits (spliced_track t x y (gap_views (y - x))) Plain) o)
+      → KeptOne t (on_range (λ x y. track_within_limits (spliced_track t x y (gap_views (y - x))) Plain) o)
   by None e = tt
   by (Some (x, y)) e =
       let r = item-range t c.item x y e in

@@ -13,10 +13,10 @@ use Rattle.composables.specs.Answers.{unless}
 use Rattle.composables.specs.Limits.{too_long, too_many, track_within_limits}
 use Rattle.composables.specs.Links.{next_link_at, outside_refusal}
 use Rattle.composables.specs.OwnTracks.{among_named, track_numbered, with_track}
-use Rattle.composables.specs.Ranges.{range_of}
+use Rattle.composables.specs.Ranges.{on_range, range_of}
 use Rattle.composables.specs.TrackState.{TrackState}
 use Rattle.edit_delta.specs.Nearest.{nearest}
-use Rattle.edit_delta.specs.Using.{on_range, used_on}
+use Rattle.edit_delta.specs.Using.{used_on}
 use Rattle.edit_delta.proofs.Greatest.{is-nearest}
 use Rattle.edit_roll.specs.Sliding.{links_refuse, slid, slide_allows, slide_own, slide_range, slide_track}
 use Rattle.edit_trim.specs.Slipping.{cell_moved, changed_on, link_allows, linked_moved, slip_allows, slip_link, slip_link_by, slip_own, slip_range, slip_track, slip_with, slipped, slipped_by, track_moved}

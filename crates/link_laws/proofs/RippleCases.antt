@@ -16,13 +16,13 @@ use Rattle.composables.specs.declared.refusals.Done.TheVariants.{By}
 use Rattle.composables.specs.Answers.{Applied}
 use Rattle.composables.specs.Items.{cells_of}
 use Rattle.composables.specs.OwnTracks.{track_numbered}
-use Rattle.composables.specs.Ranges.{offset_of, range_of}
+use Rattle.composables.specs.Ranges.{on_range, offset_of, range_of}
 use Rattle.composables.specs.TrackState.{TrackState}
 use Rattle.edit_delta.specs.Nearest.{nearest}
 use Rattle.edit_delta.specs.Reaching.{going_on, has_before, reaching_back}
-use Rattle.edit_delta.specs.Using.{on_range}
 use Rattle.edit_delta.proofs.Greatest.{is-nearest}
-use Rattle.edit_trim.specs.Rippling.{as_split, have_room, ripple_allows, ripple_end, ripple_own, rippled, used_on_all}
+use Rattle.edit_delta.specs.Using.{used_from}
+use Rattle.edit_trim.specs.Rippling.{as_split, have_room, ripple_allows, ripple_end, ripple_own, rippled}
 use Rattle.link_laws.specs.Rooms.{AreNamed, Leaves}
 use Rattle.link_laws.proofs.FreeRanges.{item-range}
 use Rattle.link_laws.proofs.Reaching.{reached}
@@ -90,9 +90,9 @@ rippled_leaves P table all named t own x y Tail done (negsuc k) names e less wit
     shifts named own (y - suc k) y [] done (nothing-case all named t own (y - suc k) y names e (omega (arith, fits)) (omega (arith, within)))
 
 used_leaves : (P : List TrackState → Type 0) (named : List TrackState) (moved : Done → ℤ → Applied) (allowed : ℤ → Bool) (by : ℤ) → P named
-    → ((done : Done) (d : ℤ) → allowed d ≡ true → (d ≡ pos 0 → ⊥) → Leaves P (moved done d)) → Leaves P (used_on_all named moved (nearest allowed by))
+    → ((done : Done) (d : ℤ) → allowed d ≡ true → (d ≡ pos 0 → ⊥) → Leaves P (moved done d)) → Leaves P (used_from named moved (nearest allowed by))
 used_leaves P named moved allowed by same each = at (nearest allowed by) (is-nearest allowed by).member where
-  at : (d : ℤ) → (d ≡ pos 0) ⊎ (allowed d ≡ true) → Leaves P (used_on_all named moved d)
+  at : (d : ℤ) → (d ≡ pos 0) ⊎ (allowed d ≡ true) → Leaves P (used_from named moved d)
   at (pos zero) m = same
   at (pos (suc k)) (inl e) = absurd cc
   at (pos (suc k)) (inr e) = each (By (pos (suc k))) (pos (suc k)) e (λ z. absurd cc)

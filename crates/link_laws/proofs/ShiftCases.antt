@@ -18,11 +18,11 @@ use Rattle.composables.specs.Joined.{frames_in}
 use Rattle.composables.specs.Limits.{too_long, too_many, within_limits}
 use Rattle.composables.specs.Links.{cells_from, is_named, link_outside, links_split}
 use Rattle.composables.specs.OwnTracks.{for_own, track_numbered, with_track}
-use Rattle.composables.specs.Ranges.{range_of}
+use Rattle.composables.specs.Ranges.{on_range, range_of}
 use Rattle.composables.specs.TrackState.{TrackState}
 use Rattle.composables.specs.Views.{clip_view}
 use Rattle.composables.proofs.Joining.{eqb-refl}
-use Rattle.edit_insert.specs.Edits.{extracted, for_range, inserted}
+use Rattle.edit_insert.specs.Edits.{extracted, inserted}
 use Rattle.edit_insert.specs.Sources.{refusal_in, source_refusal, suits}
 use Rattle.edit_splice.specs.Padding.{padded_track}
 use Rattle.edit_splice.specs.Shifts.{after_shift, shift_of, shift_refusal, shifted, shifted_track}
@@ -109,7 +109,7 @@ nothing-case all named t own x y names e less le = record {
 pub extract-leaves : (P : List TrackState → Type 0) (c : Extract) (all named : List TrackState) (t : TrackState) → AreNamed all named → track_numbered c.track named ≡ Some t
     → ByShifts P all named → Leaves P (extracted c named t)
 extract-leaves P c all named t names e shifts = by (range_of t.cells c.item) refl where
-  by : (o : Option (ℕ × ℕ)) → range_of t.cells c.item ≡ o → Leaves P (for_range (λ x y. shift_of c.track x y [] Plain named) o)
+  by : (o : Option (ℕ × ℕ)) → range_of t.cells c.item ≡ o → Leaves P (on_range (λ x y. shift_of c.track x y [] Plain named) o)
   by None f = tt
   by (Some (x, y)) f =
       let r = item-range t c.item x y f in

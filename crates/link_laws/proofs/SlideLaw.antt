@@ -24,13 +24,13 @@ use Rattle.composables.specs.Joined.{AllFilled, frames_in}
 use Rattle.composables.specs.Limits.{too_long, too_many, track_within_limits}
 use Rattle.composables.specs.Links.{next_link_at, outside_refusal, same_link}
 use Rattle.composables.specs.OwnTracks.{among_named, track_numbered, with_track}
-use Rattle.composables.specs.Ranges.{offset_of, range_from, range_of}
+use Rattle.composables.specs.Ranges.{on_range, offset_of, range_from, range_of}
 use Rattle.composables.specs.TrackFacts.{Apart, Lacks}
 use Rattle.composables.specs.TrackState.{TrackState}
 use Rattle.composables.proofs.Joining.{length-view_cells, same-is}
 use Rattle.edit_delta.specs.Nearest.{nearest}
 use Rattle.edit_delta.specs.Reaching.{going_on, has_after, has_before, keeps_a_cell, reaching_back}
-use Rattle.edit_delta.specs.Using.{on_range, used_on}
+use Rattle.edit_delta.specs.Using.{used_on}
 use Rattle.edit_delta.proofs.Greatest.{is-nearest}
 use Rattle.edit_roll.specs.Neighbours.{begin_at, end_at, has_neighbours, may_move_earlier, may_move_later, range_at}
 use Rattle.edit_roll.specs.Sliding.{bare_item, broken_by, link_broken, links_refuse, slid, slid_earlier, slid_later, slide_allows, slide_own, slide_range, slide_track}

@@ -19,14 +19,13 @@ use Rattle.composables.specs.Items.{cells_of, items_of, marked, view_cells}
 use Rattle.composables.specs.Joined.{AllFilled}
 use Rattle.composables.specs.Links.{first_unnamed, is_named, next_link_at, outside_refusal, outside_at, same_link}
 use Rattle.composables.specs.OwnTracks.{among_named, track_numbered}
-use Rattle.composables.specs.Ranges.{offset_of, range_from, range_of}
+use Rattle.composables.specs.Ranges.{on_range, offset_of, range_from, range_of}
 use Rattle.composables.specs.TrackFacts.{first_mark, left_reach}
 use Rattle.composables.specs.TrackSets.{tracks_in}
 use Rattle.composables.specs.TrackState.{TrackState}
 use Rattle.composables.proofs.Joining.{length-view_cells}
 use Rattle.edit_delta.specs.Nearest.{nearest}
 use Rattle.edit_delta.specs.Reaching.{has_before}
-use Rattle.edit_delta.specs.Using.{on_range}
 use Rattle.edit_delta.proofs.Greatest.{is-nearest}
 use Rattle.edit_trim.specs.Slipping.{cell_moved, each_linked, each_linked_on, item_may_slip_earlier, link_allows, linked_moved, slip_allows, slip_link, slip_link_by, slip_own, slip_range, slip_track, slip_with, slipped, slipped_by, track_moved}
 use Rattle.link_groups.specs.ItemLinks.{carries, link_found, link_of}

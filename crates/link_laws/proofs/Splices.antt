@@ -17,9 +17,9 @@ use Rattle.composables.specs.Items.{cells_of, view_cells}
 use Rattle.composables.specs.Joined.{frames_in}
 use Rattle.composables.specs.Ranges.{offset_of}
 use Rattle.composables.specs.TrackState.{TrackState}
-use Rattle.composables.specs.Views.{gap_views}
+use Rattle.composables.specs.Views.{gap_views, earlier_side}
 use Rattle.composables.proofs.Joining.{length-cells_of}
-use Rattle.edit_delta.specs.Reaching.{earlier_side, going_on, has_before, has_before_in, reaching_back}
+use Rattle.edit_delta.specs.Reaching.{going_on, has_before, has_before_in, reaching_back}
 use Rattle.edit_splice.specs.Padding.{padded_track}
 use Rattle.edit_splice.specs.Splicing.{spliced_track}
 use Rattle.edit_splice.proofs.Padding.{frames-gap}

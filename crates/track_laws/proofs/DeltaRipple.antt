@@ -18,14 +18,13 @@ use Rattle.composables.specs.Answers.{Applied}
 use Rattle.composables.specs.Good.{IsGood}
 use Rattle.composables.specs.Items.{cell_in}
 use Rattle.composables.specs.OwnTracks.{numbers_of, track_numbered}
-use Rattle.composables.specs.Ranges.{range_of}
+use Rattle.composables.specs.Ranges.{on_range, range_of}
 use Rattle.composables.specs.TrackSets.{tracks_in}
 use Rattle.composables.specs.TrackState.{TrackState}
 use Rattle.composables.specs.Views.{gap_views}
 use Rattle.edit_delta.specs.Nearest.{nearest}
 use Rattle.edit_delta.specs.Parts.{AreParts}
 use Rattle.edit_delta.specs.Reaching.{going_on, has_after, has_before, keeps_a_cell, reaching_back}
-use Rattle.edit_delta.specs.Using.{on_range}
 use Rattle.edit_delta.proofs.Greatest.{is-nearest}
 use Rattle.edit_delta.proofs.Pieces.{before-of, on-parts}
 use Rattle.edit_delta.proofs.Spots.{Spot, side-head, spot-head, spot-last}
@@ -33,7 +32,8 @@ use Rattle.edit_splice.specs.declared.shifting.Shift.{Shift}
 use Rattle.edit_splice.specs.Padding.{new_views}
 use Rattle.edit_splice.specs.Shifts.{shift_of}
 use Rattle.edit_splice.proofs.Bridging.{Rise, extract-moved, is-numbered, only-one, tracks-rise}
-use Rattle.edit_trim.specs.Rippling.{as_split, has_room, have_room, ripple_allows, ripple_end, ripple_named, ripple_own, rippled, used_on_all}
+use Rattle.edit_delta.specs.Using.{used_from}
+use Rattle.edit_trim.specs.Rippling.{as_split, has_room, have_room, ripple_allows, ripple_end, ripple_named, ripple_own, rippled}
 use Rattle.edit_trim.proofs.Reached.{ends-nothing, split-reach, tail-ends, uncut-ripple}
 use Rattle.edit_trim.proofs.RippleTracks.{all-stay, none-parts, own-stays}
 use Rattle.link_groups.proofs.Uncut.{EndsApart}
@@ -137,9 +137,9 @@ tail_earlier table ts own t i v x y n done o keeps =
 
 all_used : (table : Table) (ts : List TrackState) (moved : Done → ℤ → Applied) (allowed : ℤ → Bool) (by : ℤ) → All (IsGood table) ts
     → ((n : ℕ) (done : Done) → allowed (pos (suc n)) ≡ true → GoodAll table (moved done (pos (suc n))))
-    → ((n : ℕ) (done : Done) → allowed (negsuc n) ≡ true → GoodAll table (moved done (negsuc n))) → GoodAll table (used_on_all ts moved (nearest allowed by))
+    → ((n : ℕ) (done : Done) → allowed (negsuc n) ≡ true → GoodAll table (moved done (negsuc n))) → GoodAll table (used_from ts moved (nearest allowed by))
 all_used table ts moved allowed by good later earlier = at (nearest allowed by) (is-nearest allowed by).member where
-  at : (d : ℤ) → (d ≡ pos 0) ⊎ (allowed d ≡ true) → GoodAll table (used_on_all ts moved d)
+  at : (d : ℤ) → (d ≡ pos 0) ⊎ (allowed d ≡ true) → GoodAll table (used_from ts moved d)
   at (pos zero) m = good
   at (pos (suc n)) (inl e) = absurd cc
   at (pos (suc n)) (inr e) = later n (By (pos (suc n))) e

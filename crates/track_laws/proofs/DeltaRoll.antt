@@ -21,7 +21,8 @@ use Rattle.edit_delta.specs.declared.deltas.Way.TheVariants.{Earlier, Later}
 use Rattle.edit_delta.specs.Reaching.{going_on, has_after, has_before, reaching_back}
 use Rattle.edit_delta.proofs.Spots.{length-frames, spot-head, spot-last}
 use Rattle.edit_splice.specs.Laws.{IsWithinLimits}
-use Rattle.edit_roll.specs.Neighbours.{FitsBetween, fits_earlier, fits_later, move_allows}
+use Rattle.edit_roll.specs.Neighbours.{move_allows}
+use Rattle.edit_roll.specs.NeighboursInside.{FitsBetween, fits_earlier, fits_later}
 use Rattle.edit_roll.specs.Rolling.{roll_cut, roll_named, roll_track, rolled, rolled_earlier, rolled_later}
 use Rattle.edit_roll.proofs.Beside.{no-cut-inside}
 use Rattle.edit_roll.proofs.Moves.{Around, around-of, roll-back, roll-on, same-moves}

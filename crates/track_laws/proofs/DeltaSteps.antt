@@ -17,13 +17,13 @@ use Rattle.composables.specs.Items.{items_of}
 use Rattle.composables.specs.Joined.{frames_in}
 use Rattle.composables.specs.Limits.{track_within_limits}
 use Rattle.composables.specs.OwnTracks.{among_named, for_own, numbers_of, on_own, track_numbered}
-use Rattle.composables.specs.Ranges.{range_from, range_of}
+use Rattle.composables.specs.Ranges.{on_range, range_from, range_of}
 use Rattle.composables.specs.TrackFacts.{HasSource}
 use Rattle.composables.specs.TrackState.{TrackState}
 use Rattle.composables.proofs.Joining.{same-is}
 use Rattle.edit_delta.specs.Nearest.{nearest}
 use Rattle.edit_delta.specs.Reaching.{has_after, has_after_in}
-use Rattle.edit_delta.specs.Using.{on_range, used_on}
+use Rattle.edit_delta.specs.Using.{used_on}
 use Rattle.edit_delta.proofs.Greatest.{is-nearest}
 use Rattle.edit_delta.proofs.Pieces.{After, after-of}
 use Rattle.edit_delta.proofs.Spots.{Spot, spot-of}

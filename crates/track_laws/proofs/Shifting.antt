@@ -9,7 +9,7 @@ use Rattle.composables.specs.declared.refusals.Done.TheVariants.{Item, Plain}
 use Rattle.composables.specs.Good.{IsGood}
 use Rattle.composables.specs.Links.{cells_from, link_outside}
 use Rattle.composables.specs.OwnTracks.{numbers_of, track_numbered, with_track}
-use Rattle.composables.specs.Ranges.{range_of}
+use Rattle.composables.specs.Ranges.{on_range, range_of}
 use Rattle.composables.specs.TrackFacts.{IsKept}
 use Rattle.composables.specs.TrackSets.{tracks_in}
 use Rattle.composables.specs.TrackState.{TrackState}
@@ -20,7 +20,7 @@ use Rattle.edit_splice.specs.Padding.{new_len, new_views, padded_track}
 use Rattle.edit_splice.specs.Shifts.{shift_of, shifted}
 use Rattle.edit_splice.proofs.Bridging.{Rise, StaysMoved, extract-moved, insert-moved, is-numbered, only-one, tracks-rise}
 use Rattle.edit_splice.proofs.Firsts.{few-all, short-all}
-use Rattle.edit_insert.specs.Edits.{extracted, for_range, inserted}
+use Rattle.edit_insert.specs.Edits.{extracted, inserted}
 use Rattle.edit_insert.specs.Sources.{source_refusal}
 use Rattle.edit_insert.proofs.Inserts.{IsOwn, each-stays, extract-put, insert-put, insert-uncut, out-long, out-uncut, shift_at, shift_out}
 use Rattle.edit_insert.proofs.Removals.{range-within}
@@ -66,7 +66,7 @@ insert_good table c ts us own done bounded names good o k =
 
 extract_good : (table : Table) (c : Extract) (ts us : List TrackState) (own : TrackState) (done : Done) → All (IsGood table) ts → IsOwn c.track ts own → extracted c ts own ≡ Ok (us, done) → All (IsGood table) us
 extract_good table c ts us own done good o k = by (range_of own.cells c.item) refl k where
-  by : (r : Option (ℕ × ℕ)) → range_of own.cells c.item ≡ r → for_range (λ x y. shift_of c.track x y [] Plain ts) r ≡ Ok (us, done) → All (IsGood table) us
+  by : (r : Option (ℕ × ℕ)) → range_of own.cells c.item ≡ r → on_range (λ x y. shift_of c.track x y [] Plain ts) r ≡ Ok (us, done) → All (IsGood table) us
   by None e k = absurd (Prim.grind (arith, k))
   by (Some (x, y)) e k =
       let within = range-within own c.item x y (found-good table c.track ts own good o.found).kept e in
