@@ -19,3 +19,4 @@ pub mod SequenceBack
 pub mod CutBack
 pub mod SoundOpenings
 pub mod Examples
+pub mod Points

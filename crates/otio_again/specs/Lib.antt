@@ -3,3 +3,4 @@ pub mod CutTrees
 pub mod SoundCuts
 pub mod SameCut
 pub mod Meanings
+pub mod Points

@@ -21,7 +21,11 @@ tree_of_cut o = timeline_tree o.table o.tracks o.counting o.start
 abbrev pub WrittenIsSpelled : Type 0
 WrittenIsSpelled = (o : Opening) → IsSoundCut o → AreTexts o.table.reels → SpellsAgain 64 (text_of_cut o) (tree_of_cut o)
 
--- The text of a sound cut with a track, if it has at most 32 MiB, is opened at the same counting as the same cut.
-abbrev pub WrittenIsReadAgain : Type 0
-WrittenIsReadAgain = (o : Opening) → IsSoundCut o → AreTexts o.table.reels → 0 < length o.tracks → length (text_of_cut o) ≤ 33554432
+-- the text of a cut with a track, if it has at most 32 MiB, is opened at the same counting as the same cut
+abbrev pub IsReadAgain : Opening → Type 0
+IsReadAgain o = 0 < length o.tracks → length (text_of_cut o) ≤ 33554432
     → (p : Opening) × (document_read o.counting (text_of_cut o) ≡ Ok p) × SameCut o p
+
+-- The text of each sound cut is.
+abbrev pub WrittenIsReadAgain : Type 0
+WrittenIsReadAgain = (o : Opening) → IsSoundCut o → AreTexts o.table.reels → IsReadAgain o

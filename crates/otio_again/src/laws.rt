@@ -1,5 +1,6 @@
 // What is true of every cut and its text.
 ghost use Rattle.otio_again.specs.Meanings.{WrittenIsReadAgain, WrittenIsSpelled};
+ghost use Rattle.otio_again.specs.Points.{PointsAreReadAgain, PointsAreSoundCuts};
 ghost use Rattle.otio_again.specs.SoundCuts.{OpeningsAreSoundCuts};
 
 /// What is written of a sound cut is JSON, with at most 64 lists and objects in one another: the grammar spells by it
@@ -19,4 +20,12 @@ pub fn a_written_cut_is_read_again()
 /// items of any numbers, as a cut has behind some edits.
 pub fn a_sound_opening_is_a_sound_cut()
     ensures { OpeningsAreSoundCuts }
+{}
+
+/// At every point of a legal history of such an opening, after its first n entries for each n, the cut is a sound one;
+/// and what is written of it, as of each sound cut with a track that takes 32 MiB or less, is read again as the same cut,
+/// if the names of the opening's reels are UTF-8.
+pub fn a_cut_at_any_point_is_read_again()
+    ensures sound { PointsAreSoundCuts }
+    ensures again { PointsAreReadAgain }
 {}
