@@ -29,6 +29,7 @@ use Rattle.cut_server.specs.Seated.{AreSeated, IsServedIn, PassServed, PassesSer
 use Rattle.station_sessions.specs.Served.{IsRoomOf, Knows}
 use Rattle.station_sessions.specs.Serving.{SessionEnds}
 use Rattle.station_sessions.specs.SessionInside.{TrackPass, TrackRoom}
+use Rattle.station_sessions.specs.Transcript.{new_room}
 use Rattle.cut_server.specs.Stations.{AreOfStations}
 use Rattle.cut_server.proofs.Sound.{stay_sound}
 use Rattle.cut_server.proofs.Seating.{at_place, fault_more, some_at}
@@ -58,17 +59,17 @@ all_written stations (e ∷ es) seated all = (
 
 -- ---- one station
 
-pub tells_station : (o : Opening) (stations s : ℕ) (g h : History) (ls : List InputLine) (Taken : List (List ℕ) → Type 0) → Closes o stations s g h → Knows o s g ls Taken
+pub tells_station : (o : Opening) (stations s : ℕ) (g h : History) (ls : List InputLine) (Taken : List (List ℕ) → Type 0) → Closes o stations s g h → Knows o new_room s g ls Taken
     → TellsStation o h s ls Taken
 tells_station o stations s g h ls Taken c k =
-    let there : RoomTranscript o (g ++ c.more) s ls k.0 =
-    transcript_more (room_of (setting_of o)) o.tracks g c.more s ls k.0 k.1 (rw (← c.journal) c.legal.within) (ap (λ (l : History). of_station s l) (sym c.journal) ∙ c.own) in
+    let there : RoomTranscript o (g ++ c.more) new_room s ls k.0 =
+    transcript_more (room_of (setting_of o)) o.tracks g c.more new_room s ls k.0 [] k.1 (rw (← c.journal) c.legal.within) (ap (λ (l : History). of_station s l) (sym c.journal) ∙ c.own) in
     (k.0, rw c.journal there, k.3)
 
 pub station_ends : (o : Opening) (stations s : ℕ) (g h : History) (old new : Outside) (e : End) → Closes o stations s g h
-    → SessionEnds (Knows o s g) old new e → SessionEnds (TellsStation o h s) old new e
+    → SessionEnds (Knows o new_room s g) old new e → SessionEnds (TellsStation o h s) old new e
 station_ends o stations s g h old new e c ended =
-    session_told (Knows o s g) (TellsStation o h s) (λ ls Taken. tells_station o stations s g h ls Taken c) old new e ended
+    session_told (Knows o new_room s g) (TellsStation o h s) (λ ls Taken. tells_station o stations s g h ls Taken c) old new e ended
 
 -- ---- elements by their places
 
@@ -124,7 +125,7 @@ pass_kept o (Some q) (Some r) p old new end is served = record { after = r; afte
 pub record IsTold (o : Opening) (stations : ℕ) (h : History) (k : ℕ) (old new : Outside) (end : End) : Type 0 where
   pub known : History
   pub closes : Closes o stations k known h
-  pub ends : SessionEnds (Knows o k known) old new end
+  pub ends : SessionEnds (Knows o new_room k known) old new end
   pub written : AreWritten (of_station k known)
 
 -- the passes of a closed room and its journal
@@ -212,7 +213,7 @@ module _ (room : TrackRoom) (counting : Counted) (start stations : ℕ) (before 
 
   module _ (o : Opening) (h : History) (is : IsRoomOf o room counting start) (closed : IsClosed o passes h) where
     pass_of : (k : ℕ) (t : SeatState) → slice_get left k ≡ Some t → (p : TrackPass) × (slice_get passes k ≡ Some p) × (p.number ≡ k)
-        × SessionEnds (Knows o k p.entries) (line_at before k) (line_at after k) t.end × AreWritten (of_station k p.entries)
+        × SessionEnds (Knows o new_room k p.entries) (line_at before k) (line_at after k) t.end × AreWritten (of_station k p.entries)
     pass_of k t at =
         let n = slice_get_within left k t at in
         let s = some_at seats k (omega (arith, n, a.all)) in
@@ -221,9 +222,9 @@ module _ (room : TrackRoom) (counting : Counted) (start stations : ℕ) (before 
           p.after,
           pass_at passes left k t p.after a.kept at p.after_is,
           p.served.number ∙ m.number_is,
-          subst (λ (x : ℕ). SessionEnds (Knows o x p.after.entries) (line_at before k) (line_at after k) t.end) m.number_is
-              (subst (λ (l : Outside). SessionEnds (Knows o m.pass.number p.after.entries) l (line_at after k) t.end) m.line
-              (subst (λ (l : Outside). SessionEnds (Knows o m.pass.number p.after.entries) s.0.line l t.end) (sym (a.lines k t at)) p.served.ends)),
+          subst (λ (x : ℕ). SessionEnds (Knows o new_room x p.after.entries) (line_at before k) (line_at after k) t.end) m.number_is
+              (subst (λ (l : Outside). SessionEnds (Knows o new_room m.pass.number p.after.entries) l (line_at after k) t.end) m.line
+              (subst (λ (l : Outside). SessionEnds (Knows o new_room m.pass.number p.after.entries) s.0.line l t.end) (sym (a.lines k t at)) p.served.ends)),
           subst (λ (x : ℕ). AreWritten (of_station x p.after.entries)) m.number_is p.served.written,
         )
 

@@ -17,7 +17,7 @@ use Rattle.room_core.specs.declared.entry.Entry.{Entry}
 use Rattle.room_core.specs.Projection.{of_station}
 use Rattle.std.proofs.lemmas.Bool.Decides.{nat_tests}
 use Rattle.station_sessions.specs.Rooms.{History, AreWritten, room_of, setting_of, RoomTranscript}
-use Rattle.station_sessions.specs.Transcript.{sent}
+use Rattle.station_sessions.specs.Transcript.{new_room, sent}
 use Rattle.station_sessions.specs.Served.{Knows}
 use Rattle.station_sessions.specs.Serving.{SessionEnds}
 use Rattle.cut_server.specs.Runs.{IsTold, TellsOne, Tells, IsWhole, JournalIsCut, JournalEnds, RunEnds}
@@ -36,11 +36,11 @@ own_all [] s = refl
 own_all (e ∷ es) s = all_own (e.station == 0) e es (of_station 0 es) refl s.0 (own_all es s.1)
 
 -- and the closed room's journal tells it too
-tells_by : (o : Opening) (g h : History) (ls : List InputLine) (Taken : List (List ℕ) → Type 0) → Closes o 1 0 g h → Knows o 0 g ls Taken
+tells_by : (o : Opening) (g h : History) (ls : List InputLine) (Taken : List (List ℕ) → Type 0) → Closes o 1 0 g h → Knows o new_room 0 g ls Taken
     → (replies : List (List ℕ)) × IsTold o 1 h 0 ls replies × Taken replies
 tells_by o g h ls Taken c k =
-    let there : RoomTranscript o (g ++ c.more) 0 ls k.0 =
-    transcript_more (room_of (setting_of o)) o.tracks g c.more 0 ls k.0 k.1 (rw (← c.journal) c.legal.within) (ap (λ (l : History). of_station 0 l) (sym c.journal) ∙ c.own) in (
+    let there : RoomTranscript o (g ++ c.more) new_room 0 ls k.0 =
+    transcript_more (room_of (setting_of o)) o.tracks g c.more new_room 0 ls k.0 [] k.1 (rw (← c.journal) c.legal.within) (ap (λ (l : History). of_station 0 l) (sym c.journal) ∙ c.own) in (
       k.0,
       record {
         journal = record {
@@ -54,11 +54,11 @@ tells_by o g h ls Taken c k =
       k.3,
     )
 
-tells : (o : Opening) (g h : History) → Closes o 1 0 g h → (ls : List InputLine) (Taken : List (List ℕ) → Type 0) → Knows o 0 g ls Taken → Tells o ls Taken
+tells : (o : Opening) (g h : History) → Closes o 1 0 g h → (ls : List InputLine) (Taken : List (List ℕ) → Type 0) → Knows o new_room 0 g ls Taken → Tells o ls Taken
 tells o g h c ls Taken k = let s = tells_by o g h ls Taken c k in (h, s.0, s.1, s.2)
 
-pub session_ends : (o : Opening) (g h : History) (old new : Outside) (e : End) → Closes o 1 0 g h → SessionEnds (Knows o 0 g) old new e → SessionEnds (Tells o) old new e
-session_ends o g h old new e c ended = session_told (Knows o 0 g) (Tells o) (tells o g h c) old new e ended
+pub session_ends : (o : Opening) (g h : History) (old new : Outside) (e : End) → Closes o 1 0 g h → SessionEnds (Knows o new_room 0 g) old new e → SessionEnds (Tells o) old new e
+session_ends o g h old new e c ended = session_told (Knows o new_room 0 g) (Tells o) (tells o g h c) old new e ended
 
 at_end_then : (old mid new : Outside) (H K : List InputLine → Type 0) → new.left ≡ mid.left → ((ls : List InputLine) → H ls → K ls) → AtEnd old mid H → AtEnd old new K
 at_end_then old mid new H K same f h =
@@ -66,23 +66,23 @@ at_end_then old mid new H K same f h =
     (got_map old mid _ _ (λ got left k. (k.0, k.1, f (lines_of got) k.2)) h)
 
 -- a session that ended, and then the journal's text
-pub run_ends : (o : Opening) (g h : History) (old mid new : Outside) (s : Status) → Closes o 1 0 g h → SessionEnds (Knows o 0 g) old mid end.Ended
+pub run_ends : (o : Opening) (g h : History) (old mid new : Outside) (s : Status) → Closes o 1 0 g h → SessionEnds (Knows o new_room 0 g) old mid end.Ended
     → JournalEnds h mid new s → RunEnds o old new ⊥ s
 run_ends o g h old mid new Done c (quiet, ended) (still, same, takes) = (
   (still.0 ∙ quiet.0, still.1 ∙ quiet.1),
-  at_end_then old mid new (λ ls. Knows o 0 g ls (AreSent old.taken mid.taken)) (λ ls. TellsOne o ls (IsWhole old.taken new.taken)) same
+  at_end_then old mid new (λ ls. Knows o new_room 0 g ls (AreSent old.taken mid.taken)) (λ ls. TellsOne o ls (IsWhole old.taken new.taken)) same
       (λ ls k. let s = tells_by o g h ls (AreSent old.taken mid.taken) c k in (h, s.0, s.1, takes-takes old.taken mid.taken new.taken (sent s.0) (journal_text_of h) s.2 takes)) ended,
 )
 run_ends o g h old mid new ReadFault c ended journal = absurd journal
 run_ends o g h old mid new WriteFault c (quiet, ended) (failed, same, takes) = inr (
   (subst (λ (w : ℕ). HasRisen w new.writes) quiet.1 failed.0, failed.1 ∙ quiet.0),
-  at_end_then old mid new (λ ls. Knows o 0 g ls (AreSent old.taken mid.taken)) (λ ls. TellsOne o ls (JournalIsCut old.taken new.taken)) same
+  at_end_then old mid new (λ ls. Knows o new_room 0 g ls (AreSent old.taken mid.taken)) (λ ls. TellsOne o ls (JournalIsCut old.taken new.taken)) same
       (λ ls k. let s = tells_by o g h ls (AreSent old.taken mid.taken) c k in (h, s.0, s.1, takes-then_front old.taken mid.taken new.taken (sent s.0) (journal_text_of h) s.2 takes)) ended,
 )
 run_ends o g h old mid new NoCommand c ended journal = absurd journal
 run_ends o g h old mid new Refused c ended journal = absurd journal
 run_ends o g h old mid new NotSeated c ended journal = absurd journal
-run_ends o g h old mid new OutOfMemory c ended same = inr (session_ends o g h old new end.Ended c (subst (λ (x : Outside). SessionEnds (Knows o 0 g) old x end.Ended) (sym same) ended))
+run_ends o g h old mid new OutOfMemory c ended same = inr (session_ends o g h old new end.Ended c (subst (λ (x : Outside). SessionEnds (Knows o new_room 0 g) old x end.Ended) (sym same) ended))
 run_ends o g h old mid new TooMuchInput c ended journal = absurd journal
 
 -- a run in which something was begun

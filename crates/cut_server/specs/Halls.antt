@@ -14,6 +14,7 @@ use Rattle.cut_server.specs.Documents.{FilesTold}
 use Rattle.station_sessions.specs.Outside.{Outside, outside}
 use Rattle.station_sessions.specs.Rooms.{History, RoomTranscript}
 use Rattle.station_sessions.specs.Serving.{SessionEnds}
+use Rattle.station_sessions.specs.Transcript.{new_room}
 use Rattle.cut_server.specs.Journals.{IsJournalOf}
 
 -- what a hall tells: of each station, and how often a call of it has failed
@@ -38,7 +39,7 @@ Unheard before after = (station : ℕ) → line_at after station ≡ line_at bef
 
 -- this journal tells the replies of a station to these lines, of which this holds
 abbrev pub TellsStation : Opening → History → ℕ → List InputLine → (List (List ℕ) → Type 0) → Type 0
-TellsStation o h station lines Taken = (replies : List (List ℕ)) × RoomTranscript o h station lines replies × Taken replies
+TellsStation o h station lines Taken = (replies : List (List ℕ)) × RoomTranscript o h new_room station lines replies × Taken replies
 
 -- One journal tells what each of these stations was answered over its line, whatever the others sent meanwhile; and the
 -- session of each ended so.

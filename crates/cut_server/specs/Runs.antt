@@ -20,12 +20,12 @@ use Rattle.station_sessions.specs.Outside.{Outside, outside, NoFault, WriteFaile
 use Rattle.station_sessions.specs.Rooms.{History, RoomTranscript}
 use Rattle.station_sessions.specs.Serving.{SessionEnds}
 use Rattle.cut_server.specs.Statuses.{number_of}
-use Rattle.station_sessions.specs.Transcript.{sent}
+use Rattle.station_sessions.specs.Transcript.{new_room, sent}
 
 -- the journal of a room with so many stations tells the replies to the lines of one of them
 pub record IsTold (o : Opening) (stations : ℕ) (h : History) (station : ℕ) (lines : List InputLine) (replies : List (List ℕ)) : Type 0 where
   pub journal : IsJournalOf o stations h
-  pub transcript : RoomTranscript o h station lines replies
+  pub transcript : RoomTranscript o h new_room station lines replies
 
 -- there are a journal of one station and replies to these lines that it tells, of which this holds
 abbrev pub TellsOne : Opening → List InputLine → (History → List (List ℕ) → Type 0) → Type 0

@@ -15,6 +15,7 @@ use Rattle.station_sessions.specs.Rooms.{AreWritten}
 use Rattle.station_sessions.specs.Served.{IsRoomOf, Knows}
 use Rattle.station_sessions.specs.Serving.{SessionEnds}
 use Rattle.station_sessions.specs.SessionInside.{TrackPass, TrackRoom}
+use Rattle.station_sessions.specs.Transcript.{new_room}
 
 -- a station with its pass and its line, and how its session ended
 pub record SeatState : Type 0 where
@@ -31,7 +32,7 @@ IsReady (Some pass) = pass.entries ≡ []
 -- station's own entries can be written.
 pub record PassServed (o : Opening) (before after : TrackPass) (old new : Outside) (end : End) : Type 0 where
   pub number : after.number ≡ before.number
-  pub ends : SessionEnds (Knows o before.number after.entries) old new end
+  pub ends : SessionEnds (Knows o new_room before.number after.entries) old new end
   pub written : AreWritten (of_station before.number after.entries)
 
 -- the station has its pass again, which served it

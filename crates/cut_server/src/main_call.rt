@@ -26,7 +26,7 @@ use room_core::Entry;
 use room_files::Files;
 use room_halls::Hall;
 use room_ports::{Gate, Line, Pair, Sink, Source, put};
-use station_sessions::{End, Setting, serve_session};
+use station_sessions::{End, Session, Setting, serve_session};
 use std::alloc::Global;
 use std::marker::Brand;
 use std::sync::Wait;
@@ -72,7 +72,7 @@ fn run_session<R: Wait, G: Gate, J: Naming<CutObject, CutPart>, L: Line>(
     ensures lent { L.lent line.new ≡ L.lent line.old }
 {
     let (mut passes, pass) = only_pass(passes);
-    let (pass, end) = serve_session(rt, alloc, &room, gate, pass, setting, line);
+    let Session { pass, end } = serve_session(rt, alloc, &room, gate, pass, setting, line);
     passes.push_reserved(pass);
     let entries = room.close(passes);
     match end {

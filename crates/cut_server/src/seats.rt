@@ -7,7 +7,7 @@ use cut_room::Room;
 use edit_journal::{Naming, Pass};
 use room_halls::HallLine;
 use room_ports::{Gate, Line};
-use station_sessions::{End, Setting, serve_session};
+use station_sessions::{End, Session, Setting, serve_session};
 use std::alloc::Global;
 use std::marker::Model;
 use std::sync::Wait;
@@ -87,7 +87,15 @@ impl<L: HallLine, J: Naming<CutObject, CutPart>> Seat<L, J> {
             Some(pass) => pass,
             None => unreachable!(),
         };
-        let (pass, end) = serve_session(rt, alloc, room, gate, pass, setting, &mut self.line);
+        let Session { pass, end } = serve_session(
+            rt,
+            alloc,
+            room,
+            gate,
+            pass,
+            setting,
+            &mut self.line,
+        );
         self.pass = Some(pass);
         self.end = end;
         self.line.leave();

@@ -1,54 +1,59 @@
 use Rattle.std.proofs.Common.{◌++◌, ◌∷◌, [], inl, ap, subst, ◌∙◌}
 use Rattle.station_sessions.specs.Outside.{Outside, outside}
 use Rattle.station_sessions.specs.Rooms.{History}
+use Rattle.station_sessions.specs.Transcript.{new_room}
+use Rattle.station_sessions.proofs.Knowing.{fresh_legal, fresh_origin}
 use Rattle.cut_server.specs.Runs.{JournalEnds}
 use Rattle.station_sessions.specs.declared.serve.End.TheVariants as end
 use Rattle.cut_server.proofs.Closing.{closed, has_zero}
 use Rattle.cut_server.proofs.Telling.{session_ends, run_ends}
 use Rattle.cut_server.proofs.main_call.run_session.Goals as goal
 
+pub serve_session-pass-requires-clause-legal : goal.serve_session-pass-requires-clause-legal
+serve_session-pass-requires-clause-legal g c = fresh_legal c.args.room c.only_pass-passes.result.1 c.only_pass-passes.ensures.pass.1
+
 pub close-entries-requires : goal.close-entries-requires
 close-entries-requires g c =
-    let are = c.push_reserved.ensures.items ∙ ap (λ ps. ps ++ c.serve_session-pass.result.0 ∷ []) c.only_pass-passes.ensures.none in
+    let are = c.push_reserved.ensures.items ∙ ap (λ ps. ps ++ c.serve_session-pass.result.pass ∷ []) c.only_pass-passes.ensures.none in
     rw (c.requires.stations, are, c.serve_session-pass.ensures.station, c.only_pass-passes.ensures.pass.0) (record { all = has_zero })
 
 pub returns-in-Ended-clause-ends : goal.returns-in-Ended-clause-ends
 returns-in-Ended-clause-ends g c = λ o is.
-    let are = c.push_reserved.ensures.items ∙ ap (λ ps. ps ++ c.serve_session-pass.result.0 ∷ []) c.only_pass-passes.ensures.none in
+    let are = c.push_reserved.ensures.items ∙ ap (λ ps. ps ++ c.serve_session-pass.result.pass ∷ []) c.only_pass-passes.ensures.none in
     let journal = c.close-entries.ensures in
-    let closes = closed o c.args.room c.args.setting.counting c.args.setting.start c.push_reserved.new.self.items c.serve_session-pass.result.0 c.close-entries.result.items is are
+    let closes = closed o c.args.room c.args.setting.counting c.args.setting.start c.push_reserved.new.self.items c.serve_session-pass.result.pass c.close-entries.result.items is are
     (c.serve_session-pass.ensures.station ∙ c.only_pass-passes.ensures.pass.0) journal.legal journal.passes journal.stations in
-    let ended = rw (c.only_pass-passes.ensures.pass.0, c.in-Ended.is) at (c.serve_session-pass.ensures.ends o is) in
+    let ended = rw (c.only_pass-passes.ensures.pass.0, c.in-Ended.is) at (c.serve_session-pass.ensures.ends o new_room is (fresh_origin c.only_pass-passes.result.1 c.only_pass-passes.ensures.pass.1)) in
     let mid : Outside = outside (g.L.Source.left c.serve_session-pass.new.line) (g.L.Source.read_faults c.serve_session-pass.new.line) (g.L.Sink.taken c.serve_session-pass.new.line) (g.L.Sink.write_faults c.serve_session-pass.new.line) in
     let new : Outside = outside (g.L.Source.left c.put_journal.new.line) (g.L.Source.read_faults c.put_journal.new.line) (g.L.Sink.taken c.put_journal.new.line) (g.L.Sink.write_faults c.put_journal.new.line) in
-    run_ends o c.serve_session-pass.result.0.entries c.close-entries.result.items
+    run_ends o c.serve_session-pass.result.pass.entries c.close-entries.result.items
     (outside (g.L.Source.left c.args.line.now) (g.L.Source.read_faults c.args.line.now) (g.L.Sink.taken c.args.line.now) (g.L.Sink.write_faults c.args.line.now))
     mid new c.put_journal.result closes ended
     (subst (λ (h : History). JournalEnds h mid new c.put_journal.result) c.deref.ensures.value c.put_journal.ensures.ends)
 
 pub returns-in-ReadFault-clause-ends : goal.returns-in-ReadFault-clause-ends
 returns-in-ReadFault-clause-ends g c = λ o is.
-    let are = c.push_reserved.ensures.items ∙ ap (λ ps. ps ++ c.serve_session-pass.result.0 ∷ []) c.only_pass-passes.ensures.none in
+    let are = c.push_reserved.ensures.items ∙ ap (λ ps. ps ++ c.serve_session-pass.result.pass ∷ []) c.only_pass-passes.ensures.none in
     let journal = c.close-entries.ensures in
-    let closes = closed o c.args.room c.args.setting.counting c.args.setting.start c.push_reserved.new.self.items c.serve_session-pass.result.0 c.close-entries.result.items is are
+    let closes = closed o c.args.room c.args.setting.counting c.args.setting.start c.push_reserved.new.self.items c.serve_session-pass.result.pass c.close-entries.result.items is are
     (c.serve_session-pass.ensures.station ∙ c.only_pass-passes.ensures.pass.0) journal.legal journal.passes journal.stations in
-    let ended = rw (c.only_pass-passes.ensures.pass.0, c.in-ReadFault.is) at (c.serve_session-pass.ensures.ends o is) in
-    session_ends o c.serve_session-pass.result.0.entries c.close-entries.result.items _ _ end.ReadFault closes ended
+    let ended = rw (c.only_pass-passes.ensures.pass.0, c.in-ReadFault.is) at (c.serve_session-pass.ensures.ends o new_room is (fresh_origin c.only_pass-passes.result.1 c.only_pass-passes.ensures.pass.1)) in
+    session_ends o c.serve_session-pass.result.pass.entries c.close-entries.result.items _ _ end.ReadFault closes ended
 
 pub returns-in-WriteFault-clause-ends : goal.returns-in-WriteFault-clause-ends
 returns-in-WriteFault-clause-ends g c = λ o is.
-    let are = c.push_reserved.ensures.items ∙ ap (λ ps. ps ++ c.serve_session-pass.result.0 ∷ []) c.only_pass-passes.ensures.none in
+    let are = c.push_reserved.ensures.items ∙ ap (λ ps. ps ++ c.serve_session-pass.result.pass ∷ []) c.only_pass-passes.ensures.none in
     let journal = c.close-entries.ensures in
-    let closes = closed o c.args.room c.args.setting.counting c.args.setting.start c.push_reserved.new.self.items c.serve_session-pass.result.0 c.close-entries.result.items is are
+    let closes = closed o c.args.room c.args.setting.counting c.args.setting.start c.push_reserved.new.self.items c.serve_session-pass.result.pass c.close-entries.result.items is are
     (c.serve_session-pass.ensures.station ∙ c.only_pass-passes.ensures.pass.0) journal.legal journal.passes journal.stations in
-    let ended = rw (c.only_pass-passes.ensures.pass.0, c.in-WriteFault.is) at (c.serve_session-pass.ensures.ends o is) in
-    inl (session_ends o c.serve_session-pass.result.0.entries c.close-entries.result.items _ _ end.WriteFault closes ended)
+    let ended = rw (c.only_pass-passes.ensures.pass.0, c.in-WriteFault.is) at (c.serve_session-pass.ensures.ends o new_room is (fresh_origin c.only_pass-passes.result.1 c.only_pass-passes.ensures.pass.1)) in
+    inl (session_ends o c.serve_session-pass.result.pass.entries c.close-entries.result.items _ _ end.WriteFault closes ended)
 
 pub returns-clause-ends : goal.returns-clause-ends
 returns-clause-ends g c = λ o is.
-    let are = c.push_reserved.ensures.items ∙ ap (λ ps. ps ++ c.serve_session-pass.result.0 ∷ []) c.only_pass-passes.ensures.none in
+    let are = c.push_reserved.ensures.items ∙ ap (λ ps. ps ++ c.serve_session-pass.result.pass ∷ []) c.only_pass-passes.ensures.none in
     let journal = c.close-entries.ensures in
-    let closes = closed o c.args.room c.args.setting.counting c.args.setting.start c.push_reserved.new.self.items c.serve_session-pass.result.0 c.close-entries.result.items is are
+    let closes = closed o c.args.room c.args.setting.counting c.args.setting.start c.push_reserved.new.self.items c.serve_session-pass.result.pass c.close-entries.result.items is are
     (c.serve_session-pass.ensures.station ∙ c.only_pass-passes.ensures.pass.0) journal.legal journal.passes journal.stations in
-    let ended = rw (c.only_pass-passes.ensures.pass.0, c.in-TooMuchInput.is) at (c.serve_session-pass.ensures.ends o is) in
-    session_ends o c.serve_session-pass.result.0.entries c.close-entries.result.items _ _ end.TooMuchInput closes ended
+    let ended = rw (c.only_pass-passes.ensures.pass.0, c.in-TooMuchInput.is) at (c.serve_session-pass.ensures.ends o new_room is (fresh_origin c.only_pass-passes.result.1 c.only_pass-passes.ensures.pass.1)) in
+    session_ends o c.serve_session-pass.result.pass.entries c.close-entries.result.items _ _ end.TooMuchInput closes ended
