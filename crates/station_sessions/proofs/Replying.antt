@@ -23,7 +23,7 @@ use Rattle.cut_room.specs.declared.answers.Sight.TheVariants as sight
 use Rattle.cut_room.specs.declared.answers.CutFault.{CutFault}
 use Rattle.cut_room.specs.declared.answers.CutFault.TheVariants as fault
 use Rattle.cut_room.specs.Rooms.{Edited, IsAtPoint, IsCut, Looked, Stays, told}
-use Rattle.call_text.specs.CallTexts.{IsWritten}
+use Rattle.call_text.specs.CallTexts.{IsSmall, IsWritten}
 use Rattle.call_text.specs.declared.lines.Line.{Line}
 use Rattle.line_words.specs.Lines.{Line as InputLine}
 use Rattle.reply_text.specs.declared.line_fault.LineFault.{LineFault}
@@ -37,7 +37,7 @@ use Rattle.station_sessions.specs.SessionInside.{IsSeated, IsSession, TrackPass,
 use Rattle.station_sessions.specs.Transcript.{Wish, Do, See, Point, Write, Bad}
 use Rattle.station_sessions.proofs.Transcripts.{nothing_behind, own_append}
 
-written_more : (h : History) (e : Entry Call) → IsWritten e.call → AreWritten h → AreWritten (h ++ e ∷ [])
+written_more : (h : History) (e : Entry Call) → IsSmall e.number × IsWritten e.call → AreWritten h → AreWritten (h ++ e ∷ [])
 written_more [] e w all = (w, tt)
 written_more (f ∷ fs) e w all = (all.0, written_more fs e w all.1)
 
@@ -116,7 +116,7 @@ same_seated room None line seated = seated
 same_seated room (Some pass) line seated = seated_stays room pass pass line seated (unmoved room pass)
 
 module _ (room : TrackRoom) (before after : TrackPass) (counting : Counted) (start line : ℕ) (seated : IsSeated room line before) where
-  pub edit_replied : (c : Call) (a : EditAnswer) (text : List ℕ) → IsWritten c
+  pub edit_replied : (c : Call) (a : EditAnswer) (text : List ℕ) → IsSmall line × IsWritten c
       → Edited (editing room.0.table) room.1 (record { station = before.number; number = line; call = c }) before after a → text ≡ answer_text_of a
       → RepliesWith (session_at room (Some before) counting start line) (session_at room (Some after) counting start (line + 1)) (Do c) text
   edit_replied c (answer.Done n d) text w e is =

@@ -25,7 +25,7 @@ use Rattle.otio_text.specs.Documents.{timeline_text}
 use Rattle.station_sessions.specs.DocumentReplies.{document_reply, no_point_reply}
 use Rattle.cut_room.specs.declared.answers.Answer.TheVariants as answer
 use Rattle.cut_room.specs.declared.answers.Sight.TheVariants as sight
-use Rattle.call_text.specs.CallTexts.{IsWritten}
+use Rattle.call_text.specs.CallTexts.{IsSmall, IsWritten}
 use Rattle.reply_text.specs.Replies.{answer_text_of, fault_of}
 use Rattle.reply_text.specs.Sights.{sight_text_of}
 use Rattle.room_core.specs.History.{IsLegal, most_entries}
@@ -103,7 +103,7 @@ RoomTranscript o h from station lines replies = Transcript (room_of (setting_of 
 abbrev pub IsLegalIn : Opening → History → Type 0
 IsLegalIn o h = IsLegal (whole (editing o.table)) o.tracks h
 
--- each entry's call can be written as a line, and read again
+-- each entry can be written as a line, and read again: its number has 32 bits, and a line can name its call
 abbrev pub AreWritten : History → Type 0
 AreWritten [] = Unit {0}
-AreWritten (e ∷ es) = IsWritten e.call × AreWritten es
+AreWritten (e ∷ es) = (IsSmall e.number × IsWritten e.call) × AreWritten es
