@@ -1,5 +1,5 @@
 -- The closed room's journal tells what each of several stations was answered.
-use Rattle.std.proofs.Common.{◌≡◌, ℕ, zero, suc, ◌+◌, ◌<◌, inl, inr, Bool, true, false, cond, ◌==◌, List, [], ◌∷◌, ◌++◌, All, length, map, take, drop, slice_get, Option, Some, None, IsSome, option_map, refl, sym, ap, ◌∙◌, arith, subst, ⊎_elim}
+use Rattle.std.proofs.Common.{◌≡◌, ℕ, zero, suc, ◌+◌, ◌<◌, ◌≤◌, inl, inr, Bool, true, false, cond, ◌==◌, List, [], ◌∷◌, ◌++◌, All, length, map, take, drop, slice_get, Option, Some, None, IsSome, option_map, refl, sym, ap, ◌∙◌, arith, subst, ⊎_elim}
 use Rattle.std.proofs.lemmas.Bool.Decides.{nat_tests}
 use Rattle.std.proofs.lemmas.List.{length-map, take_at}
 use Rattle.std.proofs.lemmas.Option.{none-some, same_Some, slice_get-map, slice_get_within}
@@ -16,29 +16,29 @@ use Rattle.room_core.specs.declared.entry.Entry.{Entry}
 use Rattle.room_core.specs.History.{IsLegal}
 use Rattle.room_core.specs.Projection.{of_station}
 use Rattle.room_core.specs.Whole.{whole}
-use Rattle.call_text.specs.CallTexts.{IsWritten}
+use Rattle.call_text.specs.CallTexts.{IsSmall, IsWritten}
 use Rattle.otio_json.specs.declared.opening.Opening.{Opening}
 use Rattle.station_sessions.specs.declared.serve.End.{End}
 use Rattle.cut_server.specs.Closed.{Closes}
-use Rattle.cut_server.specs.Documents.{FilesTold}
+use Rattle.room_halls.specs.Stations.{HallTold}
 use Rattle.cut_server.specs.declared.status.Status.{Status}
-use Rattle.cut_server.specs.Halls.{HallTold, TellsStation, AreServed, FileEnds, HasServed, first_fault, line_at, or_next, status_of}
+use Rattle.cut_server.specs.Halls.{TellsStation, AreServed, first_fault, line_at, status_of}
 use Rattle.station_sessions.specs.Outside.{Outside}
 use Rattle.station_sessions.specs.Rooms.{History, Setting, AreWritten, RoomTranscript, IsLegalIn, room_of, setting_of}
-use Rattle.cut_server.specs.Seated.{AreSeated, IsServedIn, PassServed, PassesServed, SeatState, HasNumber, SameStation}
+use Rattle.cut_server.specs.Seated.{AreSeated, IsServedIn, PassServed, PassesServed, SeatedState, HasNumber, SameStation}
 use Rattle.station_sessions.specs.Served.{IsRoomOf, Knows}
 use Rattle.station_sessions.specs.Serving.{SessionEnds}
 use Rattle.station_sessions.specs.SessionInside.{TrackPass, TrackRoom}
 use Rattle.station_sessions.specs.Transcript.{new_room}
 use Rattle.cut_server.specs.Stations.{AreOfStations}
-use Rattle.cut_server.proofs.Sound.{stay_sound}
-use Rattle.cut_server.proofs.Seating.{at_place, fault_more, some_at}
+use Rattle.cut_server.proofs.Sound.{has_text, stay_sound}
+use Rattle.cut_server.proofs.Seating.{at_place, some_at}
 use Rattle.station_sessions.proofs.Knowing.{session_told}
 use Rattle.station_sessions.proofs.Transcripts.{transcript_more}
 
 -- ---- entries that can be written
 
-first_of : (b : Bool) (e : Entry Call) (own : History) → b ≡ true → AreWritten (cond b (e ∷ own) own) → IsWritten e.call
+first_of : (b : Bool) (e : Entry Call) (own : History) → b ≡ true → AreWritten (cond b (e ∷ own) own) → IsSmall e.number × IsWritten e.call
 first_of true e own is w = w.0
 first_of false e own is w = absurd (grind (arith, is))
 
@@ -79,23 +79,23 @@ some_of None b x is e = absurd (none-some b is)
 some_of (Some y) b x is e = same_Some (Some y) b is ∙ e
 
 -- the pass that was kept of a seat
-pass_there : (passes : List TrackPass) (seats : List SeatState) (k : ℕ) (t : SeatState) (p : TrackPass) → map Some passes ≡ map (λ (s : SeatState). s.pass) seats
+pass_there : (passes : List TrackPass) (seats : List SeatedState) (k : ℕ) (t : SeatedState) (p : TrackPass) → map Some passes ≡ map (λ (s : SeatedState). s.pass) seats
     → slice_get seats k ≡ Some t → slice_get passes k ≡ Some p → Some p ≡ t.pass
 pass_there passes seats k t p are at is =
     let there : option_map Some (slice_get passes k) ≡ Some t.pass =
-    sym (slice_get-map Some passes k) ∙ (ap (λ (l : List (Option TrackPass)). slice_get l k) are ∙ (slice_get-map (λ (s : SeatState). s.pass) seats k ∙ ap (option_map (λ (s : SeatState). s.pass)) at)) in
+    sym (slice_get-map Some passes k) ∙ (ap (λ (l : List (Option TrackPass)). slice_get l k) are ∙ (slice_get-map (λ (s : SeatedState). s.pass) seats k ∙ ap (option_map (λ (s : SeatedState). s.pass)) at)) in
     same_Some (Some p) t.pass (sym (ap (option_map Some) is) ∙ there)
 
 -- the passes that were kept of these seats
-pub pass_at : (passes : List TrackPass) (seats : List SeatState) (k : ℕ) (t : SeatState) (p : TrackPass) → map Some passes ≡ map (λ (s : SeatState). s.pass) seats
+pub pass_at : (passes : List TrackPass) (seats : List SeatedState) (k : ℕ) (t : SeatedState) (p : TrackPass) → map Some passes ≡ map (λ (s : SeatedState). s.pass) seats
     → slice_get seats k ≡ Some t → t.pass ≡ Some p → slice_get passes k ≡ Some p
 pass_at passes seats k t p are at is =
     let there : option_map Some (slice_get passes k) ≡ Some t.pass =
-    sym (slice_get-map Some passes k) ∙ (ap (λ (l : List (Option TrackPass)). slice_get l k) are ∙ (slice_get-map (λ (s : SeatState). s.pass) seats k ∙ ap (option_map (λ (s : SeatState). s.pass)) at)) in
+    sym (slice_get-map Some passes k) ∙ (ap (λ (l : List (Option TrackPass)). slice_get l k) are ∙ (slice_get-map (λ (s : SeatedState). s.pass) seats k ∙ ap (option_map (λ (s : SeatedState). s.pass)) at)) in
     some_of (slice_get passes k) t.pass p there is
 
-pub as_many : (passes : List TrackPass) (seats : List SeatState) → map Some passes ≡ map (λ (s : SeatState). s.pass) seats → length passes ≡ length seats
-as_many passes seats are = sym (length-map passes Some) ∙ (ap length are ∙ length-map seats (λ (s : SeatState). s.pass))
+pub as_many : (passes : List TrackPass) (seats : List SeatedState) → map Some passes ≡ map (λ (s : SeatedState). s.pass) seats → length passes ≡ length seats
+as_many passes seats are = sym (length-map passes Some) ∙ (ap length are ∙ length-map seats (λ (s : SeatedState). s.pass))
 
 -- the number of a place
 pub in_range : (ps : List TrackPass) (from s : ℕ) → ((k : ℕ) (p : TrackPass) → slice_get ps k ≡ Some p → p.number ≡ from + k) → In s (map (λ (p : TrackPass). p.number) ps) → s < from + length ps
@@ -147,7 +147,7 @@ is_closed o room counting start passes h is legal agree stations =
       stations = stations;
     }
 
-pub some_end : (l : List SeatState) (n : ℕ) (e : End) → slice_get (map (λ (s : SeatState). s.end) l) n ≡ Some e → (t : SeatState) × (slice_get l n ≡ Some t) × (t.end ≡ e)
+pub some_end : (l : List SeatedState) (n : ℕ) (e : End) → slice_get (map (λ (s : SeatedState). s.end) l) n ≡ Some e → (t : SeatedState) × (slice_get l n ≡ Some t) × (t.end ≡ e)
 some_end [] n e at = absurd (none-some e at)
 some_end (x ∷ xs) zero e at = (x, refl, same_Some x.end e at)
 some_end (x ∷ xs) (suc n) e at = some_end xs n e at
@@ -163,13 +163,13 @@ of_stations stations ns (e ∷ es) low all = (
 
 -- The seats of so many stations, each served over its line, which was as the hall told of it before and is as it tells
 -- after, and the passes that were kept of them.
-pub record AllKept (room : TrackRoom) (counting : Counted) (start stations : ℕ) (before after : HallTold) (seats left : List SeatState) (passes : List TrackPass) : Type 0 where
+pub record AllKept (room : TrackRoom) (counting : Counted) (start stations : ℕ) (before after : HallTold) (seats left : List SeatedState) (passes : List TrackPass) : Type 0 where
   pub count : length seats ≡ stations
   pub all : length left ≡ length seats
   pub seated : AreSeated before seats
-  pub served : (k : ℕ) (s t : SeatState) → slice_get seats k ≡ Some s → slice_get left k ≡ Some t → IsServedIn room counting start s t
-  pub lines : (k : ℕ) (t : SeatState) → slice_get left k ≡ Some t → line_at after k ≡ t.line
-  pub kept : map Some passes ≡ map (λ (s : SeatState). s.pass) left
+  pub served : (k : ℕ) (s t : SeatedState) → slice_get seats k ≡ Some s → slice_get left k ≡ Some t → IsServedIn room counting start s t
+  pub lines : (k : ℕ) (t : SeatedState) → slice_get left k ≡ Some t → line_at after k ≡ t.line
+  pub kept : map Some passes ≡ map (λ (s : SeatedState). s.pass) left
 
 same_number : (a b : Option TrackPass) (p : TrackPass) → a ≡ Some p → SameStation a b → HasNumber p.number b
 same_number None b p is same = absurd (none-some p is)
@@ -185,16 +185,16 @@ has_pass number None has = absurd has
 has_pass number (Some p) has = refl
 
 -- the numbers of the stations when they have been served
-pub numbers_left : (room : TrackRoom) (counting : Counted) (start : ℕ) (before : HallTold) (seats left : List SeatState) → length left ≡ length seats → AreSeated before seats
-    → ((k : ℕ) (s t : SeatState) → slice_get seats k ≡ Some s → slice_get left k ≡ Some t → IsServedIn room counting start s t)
-    → (k : ℕ) (t : SeatState) → slice_get left k ≡ Some t → HasNumber k t.pass
+pub numbers_left : (room : TrackRoom) (counting : Counted) (start : ℕ) (before : HallTold) (seats left : List SeatedState) → length left ≡ length seats → AreSeated before seats
+    → ((k : ℕ) (s t : SeatedState) → slice_get seats k ≡ Some s → slice_get left k ≡ Some t → IsServedIn room counting start s t)
+    → (k : ℕ) (t : SeatedState) → slice_get left k ≡ Some t → HasNumber k t.pass
 numbers_left room counting start before seats left all seated served k t at =
     let n = slice_get_within left k t at in
     let s = some_at seats k (omega (arith, n, all)) in
     let m = seated k s.0 s.1 in
     subst (λ (x : ℕ). HasNumber x t.pass) m.number_is (same_number s.0.pass t.pass m.pass m.pass_is (served k s.0 t s.1 at).0)
 
-module _ (room : TrackRoom) (counting : Counted) (start stations : ℕ) (before after : HallTold) (seats left : List SeatState) (passes : List TrackPass) (a : AllKept room counting start stations before after seats left passes) where
+module _ (room : TrackRoom) (counting : Counted) (start stations : ℕ) (before after : HallTold) (seats left : List SeatedState) (passes : List TrackPass) (a : AllKept room counting start stations before after seats left passes) where
   pub numbered : (k : ℕ) (p : TrackPass) → slice_get passes k ≡ Some p → p.number ≡ k
   numbered k p at =
       let low : k < length left = let n = slice_get_within passes k p at in omega (arith, n, as_many passes left a.kept) in
@@ -202,7 +202,7 @@ module _ (room : TrackRoom) (counting : Counted) (start stations : ℕ) (before 
       let has = numbers_left room counting start before seats left a.all a.seated a.served k t.0 t.1 in
       number_is t.0.pass p k (there t.0 t.1) has
     where
-      there : (t : SeatState) → slice_get left k ≡ Some t → t.pass ≡ Some p
+      there : (t : SeatedState) → slice_get left k ≡ Some t → t.pass ≡ Some p
       there t is = sym (pass_there passes left k t p a.kept is at)
 
   -- each station is among them
@@ -212,7 +212,7 @@ module _ (room : TrackRoom) (counting : Counted) (start stations : ℕ) (before 
       subst (λ (n : ℕ). In n (map (λ (q : TrackPass). q.number) passes)) (numbered s p.0 p.1) (has_number passes s p.0 p.1)
 
   module _ (o : Opening) (h : History) (is : IsRoomOf o room counting start) (closed : IsClosed o passes h) where
-    pass_of : (k : ℕ) (t : SeatState) → slice_get left k ≡ Some t → (p : TrackPass) × (slice_get passes k ≡ Some p) × (p.number ≡ k)
+    pass_of : (k : ℕ) (t : SeatedState) → slice_get left k ≡ Some t → (p : TrackPass) × (slice_get passes k ≡ Some p) × (p.number ≡ k)
         × SessionEnds (Knows o new_room k p.entries) (line_at before k) (line_at after k) t.end × AreWritten (of_station k p.entries)
     pass_of k t at =
         let n = slice_get_within left k t at in
@@ -232,7 +232,7 @@ module _ (room : TrackRoom) (counting : Counted) (start stations : ℕ) (before 
     of_seats = of_stations stations (map (λ (p : TrackPass). p.number) passes) h
         (λ s i. let low = in_range passes 0 s (λ k p at. let n = numbered k p at in omega (arith, n)) i in omega (arith, low, as_many passes left a.kept, a.all, a.count)) closed.stations
 
-    station_told : (k : ℕ) (t : SeatState) → slice_get left k ≡ Some t → IsTold o stations h k (line_at before k) (line_at after k) t.end
+    station_told : (k : ℕ) (t : SeatedState) → slice_get left k ≡ Some t → IsTold o stations h k (line_at before k) (line_at after k) t.end
     station_told k t at =
         let p = pass_of k t at in
         let agrees : Agrees (editing o.table).names h (Station k) p.0.entries =
@@ -247,17 +247,18 @@ module _ (room : TrackRoom) (counting : Counted) (start stations : ℕ) (before 
     written : AreWritten h
     written = all_written stations h of_seats (λ s low. one s (some_at left s (omega (arith, low, a.all, a.count))))
       where
-        one : (s : ℕ) → (t : SeatState) × (slice_get left s ≡ Some t) → AreWritten (of_station s h)
+        one : (s : ℕ) → (t : SeatedState) × (slice_get left s ≡ Some t) → AreWritten (of_station s h)
         one s t = let told = station_told s t.0 t.1 in subst AreWritten (sym told.closes.own) told.written
 
-    pub all_served : AreServed o stations h before after (map (λ (s : SeatState). s.end) left)
-    all_served = record {
-      journal = record { legal = closed.legal; seated = of_seats; written = written; sound = stay_sound o h closed.opens closed.legal };
-      count = length-map left (λ (s : SeatState). s.end) ∙ (a.all ∙ a.count);
+    pub all_served : stations ≤ 16 → ((s : ℕ) → stations ≤ s → line_at after s ≡ line_at before s) → AreServed o stations h before after (map (λ (s : SeatedState). s.end) left)
+    all_served few others = record {
+      journal = record { legal = closed.legal; seated = of_seats; text = has_text o stations h few closed.legal of_seats written; sound = stay_sound o h closed.opens closed.legal };
+      count = length-map left (λ (s : SeatedState). s.end) ∙ (a.all ∙ a.count);
       each = λ s e at. end_at s e (some_end left s e at);
+      others = others;
     }
       where
-        end_at : (s : ℕ) (e : End) → (t : SeatState) × (slice_get left s ≡ Some t) × (t.end ≡ e) → SessionEnds (TellsStation o h s) (line_at before s) (line_at after s) e
+        end_at : (s : ℕ) (e : End) → (t : SeatedState) × (slice_get left s ≡ Some t) × (t.end ≡ e) → SessionEnds (TellsStation o h s) (line_at before s) (line_at after s) e
         end_at s e t =
             let told = station_told s t.0 t.1 in
             subst (λ (x : End). SessionEnds (TellsStation o h s) (line_at before s) (line_at after s) x) t.2 (station_ends o stations s told.known h (line_at before s) (line_at after s) t.0.end told.closes told.ends)
@@ -266,58 +267,51 @@ module _ (room : TrackRoom) (counting : Counted) (start stations : ℕ) (before 
 back : {X : Type 0} (items new : List X) (n : ℕ) → n ≡ length items → length new ≡ length items → take n (new ++ drop (length new) items) ≡ new
 back items new n count all = take_at new (drop (length new) items) n (all ∙ sym count)
 
-pub numbers_back : (room : TrackRoom) (counting : Counted) (start : ℕ) (before : HallTold) (items old new : List SeatState) (n : ℕ) → old ≡ items → n ≡ length items → length new ≡ length old
-    → AreSeated before items → ((k : ℕ) (s t : SeatState) → slice_get old k ≡ Some s → slice_get new k ≡ Some t → IsServedIn room counting start s t)
-    → (k : ℕ) (t : SeatState) → slice_get (take n (new ++ drop (length new) items)) k ≡ Some t → HasNumber k t.pass
+pub numbers_back : (room : TrackRoom) (counting : Counted) (start : ℕ) (before : HallTold) (items old new : List SeatedState) (n : ℕ) → old ≡ items → n ≡ length items → length new ≡ length old
+    → AreSeated before items → ((k : ℕ) (s t : SeatedState) → slice_get old k ≡ Some s → slice_get new k ≡ Some t → IsServedIn room counting start s t)
+    → (k : ℕ) (t : SeatedState) → slice_get (take n (new ++ drop (length new) items)) k ≡ Some t → HasNumber k t.pass
 numbers_back room counting start before items old new n same count all seated served =
     let there = back items new n count (all ∙ ap length same) in
-    subst (λ (l : List SeatState). (k : ℕ) (t : SeatState) → slice_get l k ≡ Some t → HasNumber k t.pass) (sym there)
-    (numbers_left room counting start before old new all (subst (λ (l : List SeatState). AreSeated before l) (sym same) seated) served)
+    subst (λ (l : List SeatedState). (k : ℕ) (t : SeatedState) → slice_get l k ≡ Some t → HasNumber k t.pass) (sym there)
+    (numbers_left room counting start before old new all (subst (λ (l : List SeatedState). AreSeated before l) (sym same) seated) served)
 
 -- The seats of a vector, served and stood up.
-pub all_kept : (room : TrackRoom) (counting : Counted) (start stations : ℕ) (before after : HallTold) (items old new : List SeatState) (n : ℕ) (passes : List TrackPass) → old ≡ items
+pub all_kept : (room : TrackRoom) (counting : Counted) (start stations : ℕ) (before after : HallTold) (items old new : List SeatedState) (n : ℕ) (passes : List TrackPass) → old ≡ items
     → length items ≡ stations → n ≡ length items → length new ≡ length old → AreSeated before items
-    → ((k : ℕ) (s t : SeatState) → slice_get old k ≡ Some s → slice_get new k ≡ Some t → IsServedIn room counting start s t)
-    → ((k : ℕ) (t : SeatState) → slice_get (take n (new ++ drop (length new) items)) k ≡ Some t → line_at after k ≡ t.line)
-    → map Some passes ≡ map (λ (s : SeatState). s.pass) (take n (new ++ drop (length new) items))
+    → ((k : ℕ) (s t : SeatedState) → slice_get old k ≡ Some s → slice_get new k ≡ Some t → IsServedIn room counting start s t)
+    → ((k : ℕ) (t : SeatedState) → slice_get (take n (new ++ drop (length new) items)) k ≡ Some t → line_at after k ≡ t.line)
+    → map Some passes ≡ map (λ (s : SeatedState). s.pass) (take n (new ++ drop (length new) items))
     → AllKept room counting start stations before after old new passes
 all_kept room counting start stations before after items old new n passes same many count all seated served lines kept =
     let there = back items new n count (all ∙ ap length same) in
     record {
       count = ap length same ∙ many;
       all = all;
-      seated = subst (λ (l : List SeatState). AreSeated before l) (sym same) seated;
+      seated = subst (λ (l : List SeatedState). AreSeated before l) (sym same) seated;
       served = served;
-      lines = subst (λ (l : List SeatState). (k : ℕ) (t : SeatState) → slice_get l k ≡ Some t → line_at after k ≡ t.line) there lines;
-      kept = subst (λ (l : List SeatState). map Some passes ≡ map (λ (s : SeatState). s.pass) l) there kept;
+      lines = subst (λ (l : List SeatedState). (k : ℕ) (t : SeatedState) → slice_get l k ≡ Some t → line_at after k ≡ t.line) there lines;
+      kept = subst (λ (l : List SeatedState). map Some passes ≡ map (λ (s : SeatedState). s.pass) l) there kept;
     }
 
-pub held_back : (items old new : List SeatState) (n k : ℕ) → old ≡ items → n ≡ length items → length new ≡ length old → k < length (take n (new ++ drop (length new) items)) → k < length items
+pub held_back : (items old new : List SeatedState) (n k : ℕ) → old ≡ items → n ≡ length items → length new ≡ length old → k < length (take n (new ++ drop (length new) items)) → k < length items
 held_back items old new n k same count all low =
     let many : length new ≡ length items = all ∙ ap length same in
     let there : length (take n (new ++ drop (length new) items)) ≡ length new = ap length (back items new n count many) in
     omega (arith, low, there, many)
 
-pub fault_back : (items old new : List SeatState) (n : ℕ) (fault : Status) → old ≡ items → n ≡ length items → length new ≡ length old
-    → fault ≡ first_fault (map status_of (map (λ (s : SeatState). s.end) (take n (new ++ drop (length new) items)))) → fault ≡ first_fault (map status_of (map (λ (s : SeatState). s.end) new))
+pub free_back : (items old new : List SeatedState) (n stations k : ℕ) → old ≡ items → n ≡ length items → length new ≡ length old → length items ≡ stations → stations ≤ k
+    → length (take n (new ++ drop (length new) items)) ≤ k
+free_back items old new n stations k same count all many high =
+    let fits : length new ≡ length items = all ∙ ap length same in
+    let there : length (take n (new ++ drop (length new) items)) ≡ length new = ap length (back items new n count fits) in
+    omega (arith, high, there, fits, many)
+
+pub fault_back : (items old new : List SeatedState) (n : ℕ) (fault : Status) → old ≡ items → n ≡ length items → length new ≡ length old
+    → fault ≡ first_fault (map status_of (map (λ (s : SeatedState). s.end) (take n (new ++ drop (length new) items)))) → fault ≡ first_fault (map status_of (map (λ (s : SeatedState). s.end) new))
 fault_back items old new n fault same count all first =
-    subst (λ (l : List SeatState). fault ≡ first_fault (map status_of (map (λ (s : SeatState). s.end) l))) (back items new n count (all ∙ ap length same)) first
+    subst (λ (l : List SeatedState). fault ≡ first_fault (map status_of (map (λ (s : SeatedState). s.end) l))) (back items new n count (all ∙ ap length same)) first
 
 -- the statuses of the sessions, and of one more
-pub ends_more : (seats : List SeatState) (s : SeatState) → map status_of (map (λ (t : SeatState). t.end) (seats ++ s ∷ [])) ≡ map status_of (map (λ (t : SeatState). t.end) seats) ++ status_of s.end ∷ []
+pub ends_more : (seats : List SeatedState) (s : SeatedState) → map status_of (map (λ (t : SeatedState). t.end) (seats ++ s ∷ [])) ≡ map status_of (map (λ (t : SeatedState). t.end) seats) ++ status_of s.end ∷ []
 ends_more [] s = refl
 ends_more (t ∷ ts) s = ap (λ (ss : List Status). status_of t.end ∷ ss) (ends_more ts s)
-
--- all have been served, and the journal is kept
-pub has_served : (o : Opening) (stations : ℕ) (name : List ℕ) (old new : FilesTold) (Unfiled : Type 0) (before after : HallTold) (ends : List End) (h : History) (fault kept status : Status)
-    → AreServed o stations h before after ends → after.faults ≡ before.faults → FileEnds name h old new Unfiled kept → fault ≡ first_fault (map status_of ends) → status ≡ or_next fault kept
-    → HasServed o stations name old new Unfiled before after status
-has_served o stations name old new Unfiled before after ends h fault kept status served quiet file first is = record {
-  journal = h;
-  ends = ends;
-  kept = kept;
-  served = served;
-  quiet = quiet;
-  file = file;
-  status_is = is ∙ (ap (λ (s : Status). or_next s kept) first ∙ fault_more (map status_of ends) kept);
-}

@@ -2,7 +2,6 @@ pub mod Openings
 pub mod Rates
 pub mod Asking
 pub mod Telling
-pub mod DocumentRuns
 pub mod HallRuns
 pub mod Sound
 pub mod Closing

@@ -4,19 +4,19 @@ use Rattle.std.proofs.lemmas.Bool.Decides.{nat_tests}
 use Rattle.std.proofs.lemmas.Option.{none-some, same_Some, slice_get_within, get_or_from_slice_get}
 use Rattle.room_core.specs.Parts.{numbers}
 use Rattle.room_ports.specs.Counts.{HasRisen}
-use Rattle.room_halls.specs.Stations.{LineTold, Station, CountsSeat, NoneMoves, OthersStay, line_told}
+use Rattle.room_halls.specs.Stations.{HallTold, LineTold, Station, CountsSeat, NoneMoves, OpensAt, OthersStay, line_told}
 use Rattle.room_halls.specs.declared.hall.HallFault.{HallFault}
 use Rattle.room_halls.specs.declared.hall.HallFault.TheVariants.{Failed, Memory}
 use Rattle.cut_server.specs.declared.status.Status.{Status}
-use Rattle.cut_server.specs.declared.status.Status.TheVariants.{Done, ReadFault, WriteFault, NoCommand, Refused, NotSeated, OutOfMemory, TooMuchInput}
-use Rattle.cut_server.specs.Documents.{FilesTold}
-use Rattle.cut_server.specs.Halls.{HallEnds, HallTold, Unheard, first_fault, hall_told, line_of, or_next}
+use Rattle.cut_server.specs.declared.status.Status.TheVariants.{Done}
+use Rattle.cut_server.specs.Halls.{HallEnds, Unheard, first_fault, line_at, line_of, or_next}
 use Rattle.otio_json.specs.declared.opening.Opening.{Opening}
 use Rattle.line_words.specs.Lines.{Line as InputLine}
 use Rattle.station_sessions.specs.declared.serve.End.{End}
 use Rattle.station_sessions.specs.Serving.{SessionEnds}
 use Rattle.station_sessions.specs.Outside.{Outside, outside}
-use Rattle.cut_server.specs.Seated.{AreSeated, CountsSeats, HasNumber, IsReady, IsSeated, SeatState, unseated}
+use Rattle.station_sessions.specs.Rooms.{History}
+use Rattle.cut_server.specs.Seated.{AreSeated, CountsSeats, HasNumber, IsReady, IsSeated, SeatedState, unseated}
 use Rattle.station_sessions.specs.SessionInside.{TrackPass, TrackRoom}
 
 pub at_place : {X : Type 0} (P : X → Type 0) (xs : List X) (k : ℕ) (x : X) → All P xs → slice_get xs k ≡ Some x → P x
@@ -69,9 +69,9 @@ pub fresh_none : (opening : Option TrackRoom) (ps before : List TrackPass) (p : 
 fresh_none opening ps before p rest all is = (at_place (λ (t : TrackPass). (t.opening ≡ opening) × (t.entries ≡ [])) ps (length before) p all (behind_at ps before p rest is)).1
 
 -- one seat more
-pub seated_more : (hall : HallTold) (seats : List SeatState) (s : SeatState) → AreSeated hall seats → IsSeated hall (length seats) s → AreSeated hall (seats ++ s ∷ [])
+pub seated_more : (hall : HallTold) (seats : List SeatedState) (s : SeatedState) → AreSeated hall seats → IsSeated hall (length seats) s → AreSeated hall (seats ++ s ∷ [])
 seated_more hall seats s are is k t at =
-    ⊎_elim (λ (e : slice_get seats k ≡ Some t). are k t e) (λ (p : (k ≡ length seats) × (s ≡ t)). subst (λ (x : SeatState). IsSeated hall k x) p.1 (subst (λ (n : ℕ). IsSeated hall n s) (sym p.0) is)) (one_more seats s t k at)
+    ⊎_elim (λ (e : slice_get seats k ≡ Some t). are k t e) (λ (p : (k ≡ length seats) × (s ≡ t)). subst (λ (x : SeatedState). IsSeated hall k x) p.1 (subst (λ (n : ℕ). IsSeated hall n s) (sym p.0) is)) (one_more seats s t k at)
 
 -- what a line tells, by its parts
 pub told_line : (l : LineTold) (left taken : Option (List ℕ)) (reads writes : ℕ) → l ≡ line_told left taken reads writes → outside left reads taken writes ≡ line_of l
@@ -106,18 +106,18 @@ map_more f [] x = refl
 map_more f (y ∷ ys) x = ap (λ l. f y ∷ l) (map_more f ys x)
 
 -- the pass of one seat more
-pub passes_more : (passes : List TrackPass) (seats : List SeatState) (p : TrackPass) (s : SeatState) → map Some passes ≡ map (λ (t : SeatState). t.pass) seats → s.pass ≡ Some p
-    → map Some (passes ++ p ∷ []) ≡ map (λ (t : SeatState). t.pass) (seats ++ s ∷ [])
+pub passes_more : (passes : List TrackPass) (seats : List SeatedState) (p : TrackPass) (s : SeatedState) → map Some passes ≡ map (λ (t : SeatedState). t.pass) seats → s.pass ≡ Some p
+    → map Some (passes ++ p ∷ []) ≡ map (λ (t : SeatedState). t.pass) (seats ++ s ∷ [])
 passes_more passes seats p s are is =
-    map_more Some passes p ∙ (ap (λ (l : List (Option TrackPass)). l ++ Some p ∷ []) are ∙ (ap (λ (o : Option TrackPass). map (λ (t : SeatState). t.pass) seats ++ o ∷ []) (sym is) ∙ sym (map_more (λ (t : SeatState). t.pass) seats s)))
+    map_more Some passes p ∙ (ap (λ (l : List (Option TrackPass)). l ++ Some p ∷ []) are ∙ (ap (λ (o : Option TrackPass). map (λ (t : SeatedState). t.pass) seats ++ o ∷ []) (sym is) ∙ sym (map_more (λ (t : SeatedState). t.pass) seats s)))
 
 -- a line that stands up
-pub line_more : (before after : ℕ → Station) (seats : List SeatState) (s : SeatState) → ((k : ℕ) (t : SeatState) → slice_get seats k ≡ Some t → line_of (before k).line ≡ t.line)
-    → line_of (after (length seats)).line ≡ s.line → OthersStay (length seats) before after → (k : ℕ) (t : SeatState) → slice_get (seats ++ s ∷ []) k ≡ Some t → line_of (after k).line ≡ t.line
+pub line_more : (before after : ℕ → Station) (seats : List SeatedState) (s : SeatedState) → ((k : ℕ) (t : SeatedState) → slice_get seats k ≡ Some t → line_of (before k).line ≡ t.line)
+    → line_of (after (length seats)).line ≡ s.line → OthersStay (length seats) before after → (k : ℕ) (t : SeatedState) → slice_get (seats ++ s ∷ []) k ≡ Some t → line_of (after k).line ≡ t.line
 line_more before after seats s lines here others k t at =
     ⊎_elim
     (λ (e : slice_get seats k ≡ Some t). let low = slice_get_within seats k t e in ap (λ (x : Station). line_of x.line) (others k (λ (same : k ≡ length seats). absurd (omega (arith, low, same)))) ∙ lines k t e)
-    (λ (p : (k ≡ length seats) × (s ≡ t)). ap (λ (n : ℕ). line_of (after n).line) p.0 ∙ (here ∙ ap (λ (x : SeatState). x.line) p.1)) (one_more seats s t k at)
+    (λ (p : (k ≡ length seats) × (s ≡ t)). ap (λ (n : ℕ). line_of (after n).line) p.0 ∙ (here ∙ ap (λ (x : SeatedState). x.line) p.1)) (one_more seats s t k at)
 
 -- a station that was not seated
 pub not_seated : {L : Type 0} (r : Result L HallFault) (fault : HallFault) (before mid after : ℕ) → r ≡ Err fault → mid ≡ before → CountsSeat r mid after → CountsSeats (Err fault) before after
@@ -130,35 +130,23 @@ fault_more [] s = one_fault s
   where
     one_fault : (s : Status) → s ≡ or_next s Done
     one_fault Done = refl
-    one_fault ReadFault = refl
-    one_fault WriteFault = refl
-    one_fault NoCommand = refl
-    one_fault Refused = refl
-    one_fault NotSeated = refl
-    one_fault OutOfMemory = refl
-    one_fault TooMuchInput = refl
+    one_fault fault = refl
 fault_more (Done ∷ ss) s = fault_more ss s
-fault_more (ReadFault ∷ ss) s = refl
-fault_more (WriteFault ∷ ss) s = refl
-fault_more (NoCommand ∷ ss) s = refl
-fault_more (Refused ∷ ss) s = refl
-fault_more (NotSeated ∷ ss) s = refl
-fault_more (OutOfMemory ∷ ss) s = refl
-fault_more (TooMuchInput ∷ ss) s = refl
+fault_more (fault ∷ ss) s = refl
 
 -- ---- a hall and its stations
 
 -- a pass of each seat is that of its place
-pub seated_number : (hall : HallTold) (seats : List SeatState) → AreSeated hall seats → (k : ℕ) (s : SeatState) → slice_get seats k ≡ Some s → HasNumber k s.pass
+pub seated_number : (hall : HallTold) (seats : List SeatedState) → AreSeated hall seats → (k : ℕ) (s : SeatedState) → slice_get seats k ≡ Some s → HasNumber k s.pass
 seated_number hall seats are k s at = let m = are k s at in subst (λ (o : Option TrackPass). HasNumber k o) (sym m.pass_is) m.number_is
 
 -- and no entry is known to it
-pub seated_ready : (hall : HallTold) (seats : List SeatState) → AreSeated hall seats → (k : ℕ) (s : SeatState) → slice_get seats k ≡ Some s → IsReady s.pass
+pub seated_ready : (hall : HallTold) (seats : List SeatedState) → AreSeated hall seats → (k : ℕ) (s : SeatedState) → slice_get seats k ≡ Some s → IsReady s.pass
 seated_ready hall seats are k s at = let m = are k s at in subst (λ (o : Option TrackPass). IsReady o) (sym m.pass_is) m.entries
 
 -- as another hall tells that tells the same of each station
-pub seated_as : (first then : ℕ → Station) (f g : ℕ) (seats : List SeatState) → NoneMoves first then → AreSeated (hall_told then f) seats → AreSeated (hall_told first g) seats
-seated_as first then f g seats same are k s at =
+pub seated_as : (first then : HallTold) (seats : List SeatedState) → NoneMoves first.station then.station → AreSeated then seats → AreSeated first seats
+seated_as first then seats same are k s at =
     let m = are k s at in
     record { pass = m.pass; pass_is = m.pass_is; number_is = m.number_is; entries = m.entries; line = m.line ∙ ap (λ (x : Station). line_of x.line) (same k) }
 
@@ -178,12 +166,12 @@ seats_quiet (Err Failed) u before after is counts = absurd (Prim.grind (arith, i
 seats_quiet (Err Memory) u before after is counts = absurd (Prim.grind (arith, is))
 
 -- the lines of the stations that were seated, and of the others, are as they were
-pub unheard : (first opened seated last : ℕ → Station) (f g : ℕ) (seats : List SeatState) → NoneMoves first opened → AreSeated (hall_told opened f) seats
-    → ((k : ℕ) → length seats ≤ k → seated k ≡ opened k) → ((k : ℕ) (s : SeatState) → slice_get seats k ≡ Some s → line_of (last k).line ≡ s.line)
-    → ((k : ℕ) → length seats ≤ k → last k ≡ seated k) → (k : ℕ) → line_of (last k).line ≡ line_of (first k).line
-unheard first opened seated last f g seats same are free lines left k = at_or (nat_lt k (length seats)) refl
+pub unheard : (first opened seated last : HallTold) (seats : List SeatedState) → NoneMoves first.station opened.station → AreSeated opened seats
+    → ((k : ℕ) → length seats ≤ k → seated.station k ≡ opened.station k) → ((k : ℕ) (s : SeatedState) → slice_get seats k ≡ Some s → line_at last k ≡ s.line)
+    → ((k : ℕ) → length seats ≤ k → last.station k ≡ seated.station k) → Unheard first last
+unheard first opened seated last seats same are free lines left k = at_or (nat_lt k (length seats)) refl
   where
-    at_or : (b : Bool) → nat_lt k (length seats) ≡ b → line_of (last k).line ≡ line_of (first k).line
+    at_or : (b : Bool) → nat_lt k (length seats) ≡ b → line_of (last.station k).line ≡ line_of (first.station k).line
     at_or true e =
         let s = some_at seats k (Prim.grind (arith, nat_tests, e)) in
         lines k s.0 s.1 ∙ ((are k s.0 s.1).line ∙ ap (λ (x : Station). line_of x.line) (same k))
@@ -191,15 +179,15 @@ unheard first opened seated last f g seats same are free lines left k = at_or (n
         let past : length seats ≤ k = Prim.grind (arith, nat_tests, e) in
         ap (λ (x : Station). line_of x.line) (left k past ∙ (free k past ∙ same k))
 
-pub ends_unserved : (o : Opening) (stations : ℕ) (name : List ℕ) (old new : FilesTold) (Unfiled : Type 0) (before after : HallTold) (r : Result (Unit {0}) HallFault) (fault : HallFault) (status : Status)
-    (opened seated : ℕ) → r ≡ Err fault → CountsSeats r opened seated → opened ≡ before.faults → after.faults ≡ seated → Unheard before after → Unfiled → status ≡ unseated fault
-    → HallEnds o stations name old new Unfiled before after status
-ends_unserved o stations name old new Unfiled before after r Failed status opened seated is counts at still unheard unfiled st =
-    subst (λ (s : Status). HallEnds o stations name old new Unfiled before after s) (sym st)
-    (inr (rw still (rw (← at) (subst (λ x. CountsSeats x opened seated) is counts)), record { unheard = unheard; unfiled = unfiled }))
-ends_unserved o stations name old new Unfiled before after r Memory status opened seated is counts at still unheard unfiled st =
-    subst (λ (s : Status). HallEnds o stations name old new Unfiled before after s) (sym st)
-    (inr (still ∙ (subst (λ x. CountsSeats x opened seated) is counts ∙ at), record { unheard = unheard; unfiled = unfiled }))
+pub ends_unserved : (o : Opening) (stations : ℕ) (address : List ℕ) (Keeps : History → Status → Type 0) (Unkept : Type 0) (before after : HallTold) (r : Result (Unit {0}) HallFault) (fault : HallFault)
+    (status : Status) (opened seated : ℕ) → r ≡ Err fault → CountsSeats r opened seated → opened ≡ before.faults → after.faults ≡ seated → OpensAt before.opened after.opened address
+    → Unheard before after → Unkept → status ≡ unseated fault → HallEnds o stations address Keeps Unkept before after status
+ends_unserved o stations address Keeps Unkept before after r Failed status opened seated is counts at still opened_at unheard unkept st =
+    subst (λ (s : Status). HallEnds o stations address Keeps Unkept before after s) (sym st)
+    (inr (rw still (rw (← at) (subst (λ x. CountsSeats x opened seated) is counts)), record { opened = inr opened_at; unheard = unheard; unkept = unkept }))
+ends_unserved o stations address Keeps Unkept before after r Memory status opened seated is counts at still opened_at unheard unkept st =
+    subst (λ (s : Status). HallEnds o stations address Keeps Unkept before after s) (sym st)
+    (inr (still ∙ (subst (λ x. CountsSeats x opened seated) is counts ∙ at), record { opened = inr opened_at; unheard = unheard; unkept = unkept }))
 
 -- a line that has been left tells what it told
 pub still_ends : (K : List InputLine → (List (List ℕ) → Type 0) → Type 0) (old : Outside) (left taken left' taken' : Option (List ℕ)) (reads writes reads' writes' : ℕ) (e : End)

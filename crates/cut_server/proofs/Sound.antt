@@ -1,5 +1,6 @@
--- The tracks of a room are sound at every point of its journal.
-use Rattle.std.proofs.Common.{◌≡◌, ℕ, zero, suc, ◌≤◌, List, [], ◌∷◌, length, take, Option, Some, None, IsSome, IsSomeAnd, refl, sym, subst, arith}
+-- The tracks of a room are sound at every point of its journal, and the journal has a text that is read again.
+use Rattle.std.proofs.Common.{◌≡◌, ℕ, zero, suc, ◌≤◌, All, List, [], ◌∷◌, length, take, Option, Some, None, IsSome, IsSomeAnd, refl, sym, subst, arith}
+use Rattle.std.proofs.lemmas.List.Elements.{All-nil, All-cons}
 use Rattle.composables.specs.TrackState.{TrackState}
 use Rattle.cut_room.proofs.Journals.{front_applies}
 use Rattle.edit_apply.specs.Apply.{editing}
@@ -11,7 +12,9 @@ use Rattle.otio_json.specs.declared.opening.Opening.{Opening}
 use Rattle.room_core.specs.declared.entry.Entry.{Entry}
 use Rattle.room_core.specs.History.{IsLegal, NumbersRise, RiseAfter, replay}
 use Rattle.room_core.specs.Whole.{whole}
-use Rattle.station_sessions.specs.Rooms.{History, IsLegalIn}
+use Rattle.call_text.specs.Journals.{HasLine, HasText}
+use Rattle.station_sessions.specs.Rooms.{AreWritten, History, IsLegalIn}
+use Rattle.cut_server.specs.Stations.{AreOfStations}
 use Rattle.cut_server.specs.Journals.{AreSoundTracks, StaySound}
 
 -- ---- the first n entries of a legal history
@@ -57,3 +60,14 @@ module _ (o : Opening) (h : History) (opens : IsOpening o.table o.tracks) (legal
 
   pub stay_sound : StaySound o h
   stay_sound n = found_sound n (replay (whole (editing o.table)) o.tracks (take n h)) refl
+
+-- ---- its text
+
+lines_written : (stations : ℕ) (h : History) → stations ≤ 16 → AreOfStations stations h → AreWritten h → All HasLine h
+lines_written stations [] few seated w = All-nil HasLine
+lines_written stations (e ∷ es) few seated w =
+    let low : e.station ≤ 15 = omega (arith, few, seated.0) in
+    All-cons HasLine e es (record { station = low; number = w.0.0; call = w.0.1 }) (lines_written stations es few seated.1 w.1)
+
+pub has_text : (o : Opening) (stations : ℕ) (h : History) → stations ≤ 16 → IsLegalIn o h → AreOfStations stations h → AreWritten h → HasText h
+has_text o stations h few legal seated w = record { within = legal.within; lines = lines_written stations h few seated w; rise = legal.rise }

@@ -8,7 +8,8 @@ use Rattle.call_text.specs.Journals.{journal_text_of}
 use Rattle.station_sessions.specs.declared.serve.End.{End}
 use Rattle.station_sessions.specs.declared.serve.End.TheVariants as end
 use Rattle.cut_server.specs.declared.status.Status.{Status}
-use Rattle.cut_server.specs.declared.status.Status.TheVariants.{Done, ReadFault, WriteFault, NoCommand, Refused, NotSeated, OutOfMemory, TooMuchInput}
+use Rattle.cut_server.specs.declared.status.Status.TheVariants.{Done, WriteFault, OutOfMemory}
+use Rattle.cut_server.specs.Ports.{Change, InputTold, OutputTold, both}
 use Rattle.station_sessions.specs.Outside.{Outside, AtEnd, AreSent}
 use Rattle.otio_json.specs.declared.opening.Opening.{Opening}
 use Rattle.cut_server.specs.Closed.{Closes}
@@ -20,8 +21,8 @@ use Rattle.station_sessions.specs.Rooms.{History, AreWritten, room_of, setting_o
 use Rattle.station_sessions.specs.Transcript.{new_room, sent}
 use Rattle.station_sessions.specs.Served.{Knows}
 use Rattle.station_sessions.specs.Serving.{SessionEnds}
-use Rattle.cut_server.specs.Runs.{IsTold, TellsOne, Tells, IsWhole, JournalIsCut, JournalEnds, RunEnds}
-use Rattle.cut_server.proofs.Sound.{stay_sound}
+use Rattle.cut_server.specs.Runs.{IsTold, TellsOne, Tells, IsWhole, JournalIsCut, JournalEnds, RunEnds, RunsOver}
+use Rattle.cut_server.proofs.Sound.{has_text, stay_sound}
 use Rattle.station_sessions.proofs.Serves.{takes-then_front}
 use Rattle.station_sessions.proofs.Knowing.{got_map, session_told}
 use Rattle.station_sessions.proofs.Transcripts.{transcript_more}
@@ -46,7 +47,7 @@ tells_by o g h ls Taken c k =
         journal = record {
           legal = c.legal;
           seated = c.seated;
-          written = subst AreWritten (sym c.own ∙ own_all h c.seated) k.2;
+          text = has_text o 1 h (omega arith) c.legal c.seated (subst AreWritten (sym c.own ∙ own_all h c.seated) k.2);
           sound = stay_sound o h c.opens c.legal;
         };
         transcript = rw c.journal there;
@@ -73,30 +74,20 @@ run_ends o g h old mid new Done c (quiet, ended) (still, same, takes) = (
   at_end_then old mid new (λ ls. Knows o new_room 0 g ls (AreSent old.taken mid.taken)) (λ ls. TellsOne o ls (IsWhole old.taken new.taken)) same
       (λ ls k. let s = tells_by o g h ls (AreSent old.taken mid.taken) c k in (h, s.0, s.1, takes-takes old.taken mid.taken new.taken (sent s.0) (journal_text_of h) s.2 takes)) ended,
 )
-run_ends o g h old mid new ReadFault c ended journal = absurd journal
 run_ends o g h old mid new WriteFault c (quiet, ended) (failed, same, takes) = inr (
   (subst (λ (w : ℕ). HasRisen w new.writes) quiet.1 failed.0, failed.1 ∙ quiet.0),
   at_end_then old mid new (λ ls. Knows o new_room 0 g ls (AreSent old.taken mid.taken)) (λ ls. TellsOne o ls (JournalIsCut old.taken new.taken)) same
       (λ ls k. let s = tells_by o g h ls (AreSent old.taken mid.taken) c k in (h, s.0, s.1, takes-then_front old.taken mid.taken new.taken (sent s.0) (journal_text_of h) s.2 takes)) ended,
 )
-run_ends o g h old mid new NoCommand c ended journal = absurd journal
-run_ends o g h old mid new Refused c ended journal = absurd journal
-run_ends o g h old mid new NotSeated c ended journal = absurd journal
 run_ends o g h old mid new OutOfMemory c ended same = inr (session_ends o g h old new end.Ended c (subst (λ (x : Outside). SessionEnds (Knows o new_room 0 g) old x end.Ended) (sym same) ended))
-run_ends o g h old mid new TooMuchInput c ended journal = absurd journal
+run_ends o g h old mid new other c ended journal = absurd journal
 
 -- a run in which something was begun
-pub run_begun : (o : Opening) (old new : Outside) (Untouched : Type 0) (s : Status) → RunEnds o old new ⊥ s → RunEnds o old new Untouched s
-run_begun o old new U Done h = h
-run_begun o old new U ReadFault h = h
-run_begun o old new U WriteFault h = h
-run_begun o old new U NoCommand h = absurd h
-run_begun o old new U Refused h = absurd h
-run_begun o old new U NotSeated h = absurd h
-run_begun o old new U OutOfMemory (inl h) = absurd h
-run_begun o old new U OutOfMemory (inr h) = inr h
-run_begun o old new U TooMuchInput h = h
+pub run_begun : (o : Opening) (input : Change InputTold) (output : Change OutputTold) (s : Status) → RunEnds o (both input.before output.before) (both input.after output.after) ⊥ s → RunsOver o input output s
+run_begun o input output OutOfMemory (inl h) = absurd h
+run_begun o input output OutOfMemory (inr h) = inr h
+run_begun o input output other h = h
 
 -- a run in the room that is opened so
-pub run_in : (o p : Opening) (old new : Outside) (Untouched : Type 0) (s : Status) → o ≡ p → RunEnds o old new Untouched s → RunEnds p old new Untouched s
-run_in o p old new U s is h = subst (λ (x : Opening). RunEnds x old new U s) is h
+pub run_in : (o p : Opening) (input : Change InputTold) (output : Change OutputTold) (s : Status) → o ≡ p → RunsOver o input output s → RunsOver p input output s
+run_in o p input output s is h = subst (λ (x : Opening). RunsOver x input output s) is h

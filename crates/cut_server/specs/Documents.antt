@@ -1,6 +1,6 @@
 -- Opening the document of a file: what it describes, or why it is refused, and how that ends the program.
 use Rattle.std.specs.Prelude.{◌≡◌, ℕ, ◌≤◌, ◌⊎◌, List, ◌++◌, Ok, Err, Result, length, codes, decimal}
-use Rattle.room_files.specs.Files.{Content, IsWhole, IsLonger, NoneChanged}
+use Rattle.room_files.specs.Files.{Content, FilesTold, IsWhole, IsLonger, NoneChanged}
 use Rattle.room_ports.specs.Counts.{HasRisen}
 use Rattle.timecode12.specs.Numbers.{Counted}
 use Rattle.otio_tracks.specs.declared.faults.DocCode.{DocCode}
@@ -14,15 +14,6 @@ use Rattle.cut_server.specs.declared.document.DocumentFault.TheVariants as fault
 -- the most bytes of a document: 32 MiB
 abbrev pub most_document : ℕ
 most_document = 33554432
-
--- what files tell: what each holds, and how often a read and a write of one have failed
-pub record FilesTold : Type 0 where
-  pub file : List ℕ → Content
-  pub reads : ℕ
-  pub writes : ℕ
-
-abbrev pub files_told : (List ℕ → Content) → ℕ → ℕ → FilesTold
-files_told file reads writes = record { file = file; reads = reads; writes = writes }
 
 -- a file of these contents, whose frames are counted so
 module _ (counting : Counted) (content : Content) where
@@ -59,6 +50,10 @@ CountsOpening (Err fault.Memory) before after = after ≡ before
 -- a file was read: no file has changed, and no write has failed
 abbrev pub OnlyRead : FilesTold → FilesTold → Type 0
 OnlyRead before after = NoneChanged before.file after.file × (after.writes ≡ before.writes)
+
+-- and no read has failed either
+abbrev pub AreQuiet : FilesTold → FilesTold → Type 0
+AreQuiet before after = OnlyRead before after × (after.reads ≡ before.reads)
 
 -- ---- the line of a refusal
 

@@ -1,29 +1,21 @@
--- A room of several stations, each over its line of a hall, and its journal kept in a file.
-use Rattle.std.specs.Prelude.{◌≡◌, ℕ, ◌⊎◌, List, [], ◌∷◌, ◌++◌, Some, length, map, slice_get}
+-- A room of several stations, each over its line of a hall, and what is kept of its journal.
+use Rattle.std.specs.Prelude.{◌≡◌, ℕ, ◌≤◌, ◌⊎◌, List, [], ◌∷◌, Some, length, map, slice_get}
 use Rattle.line_words.specs.Lines.{Line as InputLine}
-use Rattle.room_files.specs.Files.{IsWhole, OthersUnchanged}
-use Rattle.room_halls.specs.Stations.{LineTold, Station}
+use Rattle.room_files.specs.Files.{FilesTold, IsWhole, OthersUnchanged}
+use Rattle.room_halls.specs.Stations.{HallTold, LineTold, OpensAt}
 use Rattle.room_ports.specs.Counts.{HasRisen}
 use Rattle.otio_json.specs.declared.opening.Opening.{Opening}
 use Rattle.call_text.specs.Journals.{journal_text_of}
 use Rattle.station_sessions.specs.declared.serve.End.{End}
 use Rattle.station_sessions.specs.declared.serve.End.TheVariants as end
 use Rattle.cut_server.specs.declared.status.Status.{Status}
-use Rattle.cut_server.specs.declared.status.Status.TheVariants.{Done, ReadFault, WriteFault, NoCommand, Refused, NotSeated, OutOfMemory, TooMuchInput}
-use Rattle.cut_server.specs.Documents.{FilesTold}
+use Rattle.cut_server.specs.declared.status.Status.TheVariants.{Done, ReadFault, WriteFault, NotSeated, OutOfMemory, TooMuchInput}
+use Rattle.cut_server.specs.Documents.{AreQuiet}
 use Rattle.station_sessions.specs.Outside.{Outside, outside}
 use Rattle.station_sessions.specs.Rooms.{History, RoomTranscript}
 use Rattle.station_sessions.specs.Serving.{SessionEnds}
 use Rattle.station_sessions.specs.Transcript.{new_room}
 use Rattle.cut_server.specs.Journals.{IsJournalOf}
-
--- what a hall tells: of each station, and how often a call of it has failed
-pub record HallTold : Type 0 where
-  pub told : ℕ → Station
-  pub faults : ℕ
-
-abbrev pub hall_told : (ℕ → Station) → ℕ → HallTold
-hall_told told faults = record { told = told; faults = faults }
 
 -- what a line tells
 abbrev pub line_of : LineTold → Outside
@@ -31,7 +23,7 @@ line_of l = outside l.left l.read_faults l.taken l.write_faults
 
 -- what a hall tells of the line of a station
 abbrev pub line_at : HallTold → ℕ → Outside
-line_at hall station = line_of (hall.told station).line
+line_at hall station = line_of (hall.station station).line
 
 -- no line was read or written
 abbrev pub Unheard : HallTold → HallTold → Type 0
@@ -41,12 +33,13 @@ Unheard before after = (station : ℕ) → line_at after station ≡ line_at bef
 abbrev pub TellsStation : Opening → History → ℕ → List InputLine → (List (List ℕ) → Type 0) → Type 0
 TellsStation o h station lines Taken = (replies : List (List ℕ)) × RoomTranscript o h new_room station lines replies × Taken replies
 
--- One journal tells what each of these stations was answered over its line, whatever the others sent meanwhile; and the
--- session of each ended so.
+-- One journal tells what each of these stations was answered over its line, whatever the others sent meanwhile; the session
+-- of each ended so; and no other line was read or written.
 pub record AreServed (o : Opening) (stations : ℕ) (h : History) (before after : HallTold) (ends : List End) : Type 0 where
   pub journal : IsJournalOf o stations h
   pub count : length ends ≡ stations
   pub each : (s : ℕ) (e : End) → slice_get ends s ≡ Some e → SessionEnds (TellsStation o h s) (line_at before s) (line_at after s) e
+  pub others : (s : ℕ) → stations ≤ s → line_at after s ≡ line_at before s
 
 -- the status that a session's end comes to
 abbrev pub status_of : End → Status
@@ -58,61 +51,57 @@ status_of end.TooMuchInput = TooMuchInput
 -- this status, or the next where this one is 0
 abbrev pub or_next : Status → Status → Status
 or_next Done next = next
-or_next ReadFault next = ReadFault
-or_next WriteFault next = WriteFault
-or_next NoCommand next = NoCommand
-or_next Refused next = Refused
-or_next NotSeated next = NotSeated
-or_next OutOfMemory next = OutOfMemory
-or_next TooMuchInput next = TooMuchInput
+or_next fault next = fault
 
 -- the first of these that is not 0
 abbrev pub first_fault : List Status → Status
 first_fault [] = Done
 first_fault (s ∷ ss) = or_next s (first_fault ss)
 
--- the journal's text was put into the file of this name, where `Unfiled` says that the files are as they were
-module _ (name : List ℕ) (h : History) (before after : FilesTold) (Unfiled : Type 0) where
+-- The sessions of so many stations have ended, and the room is closed. The status of them all is that of the lowest station
+-- whose status is not 0.
+pub record SessionsEnd (o : Opening) (stations : ℕ) (h : History) (before after : HallTold) (status : Status) : Type 0 where
+  pub ends : List End
+  pub served : AreServed o stations h before after ends
+  pub status_is : status ≡ first_fault (map status_of ends)
+  pub quiet : after.faults ≡ before.faults
+
+-- the journal's text was put into the file of this name
+module _ (name : List ℕ) (before after : FilesTold) (h : History) where
   abbrev pub FileEnds : Status → Type 0
   FileEnds Done = IsWhole (after.file name) (journal_text_of h) × OthersUnchanged name before.file after.file
       × (after.reads ≡ before.reads) × (after.writes ≡ before.writes)
-  FileEnds ReadFault = ⊥
   FileEnds WriteFault = OthersUnchanged name before.file after.file × (after.reads ≡ before.reads) × HasRisen before.writes after.writes
-  FileEnds NoCommand = ⊥
-  FileEnds Refused = ⊥
-  FileEnds NotSeated = ⊥
-  FileEnds OutOfMemory = Unfiled
-  FileEnds TooMuchInput = ⊥
+  -- there was no memory for the text
+  FileEnds OutOfMemory = AreQuiet before after
+  FileEnds other = ⊥
 
--- so many stations are served in a room that begins so, and its journal is kept in the file of this name
-module _ (o : Opening) (stations : ℕ) (name : List ℕ) (before after : FilesTold) (Unfiled : Type 0) (old new : HallTold) where
-  -- Each session has ended, and one journal tells them all. The status is that of the lowest station whose status is not 0,
-  -- and then that of the journal's text and file.
+-- So many stations are served in a room that begins so, over the lines of a hall that is opened at one address. `Keeps`
+-- says how keeping the room's journal ends, by its status, and `Unkept` that nothing was kept.
+module _ (o : Opening) (stations : ℕ) (address : List ℕ) (Keeps : History → Status → Type 0) (Unkept : Type 0) (old new : HallTold) where
+  -- Each session has ended, and one journal tells them all and is kept, whatever the status of the sessions is. Where that
+  -- is not 0 it hides the status of keeping the journal, which `keeps` then says alone.
   pub record HasServed (status : Status) : Type 0 where
     pub journal : History
-    pub ends : List End
-    pub kept : Status
-    pub served : AreServed o stations journal old new ends
-    pub quiet : new.faults ≡ old.faults
-    pub file : FileEnds name journal before after Unfiled kept
-    pub status_is : status ≡ first_fault (map status_of ends ++ kept ∷ [])
+    pub of_sessions : Status
+    pub of_keeping : Status
+    pub opened : OpensAt old.opened new.opened address
+    pub sessions : SessionsEnd o stations journal old new of_sessions
+    pub keeps : Keeps journal of_keeping
+    pub status_is : status ≡ or_next of_sessions of_keeping
 
-  -- no line was read or written, and no file written
+  -- no line was read or written, and nothing was kept; the hall may have been opened, at that address alone
   pub record IsUnserved : Type 0 where
+    pub opened : (new.opened ≡ old.opened) ⊎ OpensAt old.opened new.opened address
     pub unheard : Unheard old new
-    pub unfiled : Unfiled
+    pub unkept : Unkept
 
   -- no session was begun
   abbrev pub EndsUnserved : Status → Type 0
-  EndsUnserved Done = ⊥
-  EndsUnserved ReadFault = ⊥
-  EndsUnserved WriteFault = ⊥
-  EndsUnserved NoCommand = ⊥
-  EndsUnserved Refused = ⊥
   -- the hall was not opened, or a station not seated
   EndsUnserved NotSeated = HasRisen old.faults new.faults × IsUnserved
   EndsUnserved OutOfMemory = (new.faults ≡ old.faults) × IsUnserved
-  EndsUnserved TooMuchInput = ⊥
+  EndsUnserved other = ⊥
 
   abbrev pub HallEnds : Status → Type 0
   HallEnds status = HasServed status ⊎ EndsUnserved status

@@ -6,7 +6,8 @@ use Rattle.composables.specs.Roomy.{IsRoomy}
 use Rattle.composables.specs.TrackState.{TrackState}
 use Rattle.link_laws.specs.Together.{Together}
 use Rattle.otio_json.specs.declared.opening.Opening.{Opening}
-use Rattle.station_sessions.specs.Rooms.{AreWritten, History, IsLegalIn, room_of, setting_of}
+use Rattle.call_text.specs.Journals.{HasText}
+use Rattle.station_sessions.specs.Rooms.{History, IsLegalIn, room_of, setting_of}
 use Rattle.station_sessions.specs.Transcript.{state_at}
 use Rattle.cut_server.specs.Stations.{AreOfStations}
 
@@ -21,10 +22,10 @@ pub record AreSoundTracks (table : Table) (tracks : List TrackState) : Type 0 wh
 abbrev pub StaySound : Opening → History → Type 0
 StaySound o h = (n : ℕ) → IsSomeAnd (state_at (room_of (setting_of o)) o.tracks h n) (AreSoundTracks o.table)
 
--- The journal is a legal serial history of the opening with entries of these stations alone, each of which can be written
--- and read again, and the tracks are sound at every point of it.
+-- The journal is a legal serial history of the opening with entries of these stations alone. It has a text, which is read
+-- again as this journal. The tracks are sound at every point of it.
 pub record IsJournalOf (o : Opening) (stations : ℕ) (h : History) : Type 0 where
   pub legal : IsLegalIn o h
   pub seated : AreOfStations stations h
-  pub written : AreWritten h
+  pub text : HasText h
   pub sound : StaySound o h

@@ -4,6 +4,7 @@ pub mod Journals
 pub mod Commands
 pub mod Documents
 pub mod Statuses
+pub mod Ports
 pub mod Runs
 pub mod Halls
 -- For the steps of the code, for proofs and for tests.

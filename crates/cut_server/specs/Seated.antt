@@ -9,7 +9,8 @@ use Rattle.timecode12.specs.Numbers.{Counted}
 use Rattle.station_sessions.specs.declared.serve.End.{End}
 use Rattle.cut_server.specs.declared.status.Status.{Status}
 use Rattle.cut_server.specs.declared.status.Status.TheVariants.{NotSeated, OutOfMemory}
-use Rattle.cut_server.specs.Halls.{HallTold, line_at}
+use Rattle.room_halls.specs.Stations.{HallTold}
+use Rattle.cut_server.specs.Halls.{line_at}
 use Rattle.station_sessions.specs.Outside.{Outside}
 use Rattle.station_sessions.specs.Rooms.{AreWritten}
 use Rattle.station_sessions.specs.Served.{IsRoomOf, Knows}
@@ -18,7 +19,7 @@ use Rattle.station_sessions.specs.SessionInside.{TrackPass, TrackRoom}
 use Rattle.station_sessions.specs.Transcript.{new_room}
 
 -- a station with its pass and its line, and how its session ended
-pub record SeatState : Type 0 where
+pub record SeatedState : Type 0 where
   pub pass : Option TrackPass
   pub line : Outside
   pub end : End
@@ -42,7 +43,7 @@ PassesServed o (Some before) None old new end = ⊥
 PassesServed o None after old new end = ⊥
 
 -- a station was served so
-abbrev pub SeatServed : Opening → SeatState → SeatState → Type 0
+abbrev pub SeatServed : Opening → SeatedState → SeatedState → Type 0
 SeatServed o before after = PassesServed o before.pass after.pass before.line after.line after.end
 
 -- the station has this number
@@ -51,15 +52,15 @@ HasNumber number None = ⊥
 HasNumber number (Some pass) = pass.number ≡ number
 
 -- the station of this number has its pass, to which no entry is known, and its line stands as the hall tells of it
-pub record IsSeated (hall : HallTold) (number : ℕ) (seat : SeatState) : Type 0 where
+pub record IsSeated (hall : HallTold) (number : ℕ) (seat : SeatedState) : Type 0 where
   pub pass : TrackPass
   pub pass_is : seat.pass ≡ Some pass
   pub number_is : pass.number ≡ number
   pub entries : pass.entries ≡ []
   pub line : seat.line ≡ line_at hall number
 
-abbrev pub AreSeated : HallTold → List SeatState → Type 0
-AreSeated hall seats = (k : ℕ) (s : SeatState) → slice_get seats k ≡ Some s → IsSeated hall k s
+abbrev pub AreSeated : HallTold → List SeatedState → Type 0
+AreSeated hall seats = (k : ℕ) (s : SeatedState) → slice_get seats k ≡ Some s → IsSeated hall k s
 
 -- seating all stations is counted where it failed
 abbrev pub CountsSeats : Result (Unit {0}) HallFault → ℕ → ℕ → Type 0
@@ -74,7 +75,7 @@ SameStation (Some before) None = ⊥
 SameStation None after = ⊥
 
 -- the station was served in this room, and has its pass again
-abbrev pub IsServedIn : TrackRoom → Counted → ℕ → SeatState → SeatState → Type 0
+abbrev pub IsServedIn : TrackRoom → Counted → ℕ → SeatedState → SeatedState → Type 0
 IsServedIn room counting start before after =
     SameStation before.pass after.pass × ((o : Opening) → IsRoomOf o room counting start → SeatServed o before after)
 

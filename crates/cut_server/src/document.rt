@@ -1,8 +1,7 @@
 // Opening the document of a file, and the line that tells why it is refused.
 ghost use Rattle.std.specs.Prelude.{◌≡◌, ◌<◌, ◌≤◌, IfOk, length};
-ghost use Rattle.room_files.specs.Files.{NoneChanged};
 ghost use Rattle.otio_json.specs.Soundness.{IsSoundOpening};
-ghost use Rattle.cut_server.specs.Documents.{Opens, CountsOpening, code_text, refusal_line};
+ghost use Rattle.cut_server.specs.Documents.{Opens, OnlyRead, CountsOpening, code_text, refusal_line};
 
 use call_text::Short;
 use otio_json::{DocCode, DocFault, Opening, read_timeline};
@@ -30,12 +29,11 @@ pub(crate) fn open_document<F: Files>(
     name: &str,
     counting: &Counting,
 ) -> Result<Opening, DocumentFault>
-    ensures opens { Opens counting.now (F.file files.old name.now) result }
+    ensures opens { Opens counting.now ((F.told files.old).file name.now) result }
     ensures sound { IfOk result IsSoundOpening }
     ensures some { IfOk result (λ opening. 0 < length opening.tracks) }
-    ensures same { NoneChanged (F.file files.old) (F.file files.new) }
-    ensures counts { CountsOpening result (F.read_faults files.old) (F.read_faults files.new) }
-    ensures apart { F.write_faults files.new ≡ F.write_faults files.old }
+    ensures same { OnlyRead (F.told files.old) (F.told files.new) }
+    ensures counts { CountsOpening result (F.told files.old).reads (F.told files.new).reads }
 {
     let bytes = match files.read_file(alloc, name, MOST_DOCUMENT) {
         Ok(bytes) => bytes,

@@ -10,7 +10,7 @@ mod command;
 mod document;
 pub mod laws;
 mod main_call;
-mod seats;
+mod seated;
 mod stations;
 mod status;
 

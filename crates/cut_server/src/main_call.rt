@@ -1,20 +1,20 @@
 // The call that the program makes.
-ghost use Rattle.std.specs.Prelude.{◌≡◌, ◌<◌, ◌≤◌, [], None, Some, length, vec_capacity};
+ghost use Rattle.std.specs.Prelude.{◌≡◌, ◌<◌, ◌≤◌, [], Some, length, vec_capacity};
 ghost use Rattle.cut_server.specs.Commands.{command_of, least_tracks, most_tracks, most_reels, least_stations, most_stations};
 ghost use Rattle.otio_json.specs.Openings.{plain_opening};
 ghost use Rattle.otio_json.specs.Soundness.{IsSoundOpening};
 ghost use Rattle.station_sessions.specs.Outside.{outside};
 ghost use Rattle.otio_json.specs.declared.opening.Opening.{Opening as OpeningOf};
-ghost use Rattle.cut_server.specs.Documents.{files_told, refusal_line};
-ghost use Rattle.cut_server.specs.Halls.{hall_told};
-ghost use Rattle.cut_server.specs.Runs.{JournalEnds, RunEnds, RefusalEnds, LineEnds, DocumentEnds, ServeEnds, CommandEnds, EndsWith};
+ghost use Rattle.cut_server.specs.Documents.{refusal_line};
+ghost use Rattle.cut_server.specs.Ports.{both, change, input_told, output_told};
+ghost use Rattle.cut_server.specs.Runs.{JournalEnds, RunEnds, RunsOver, RefusalEnds, LineEnds, DocumentEnds, ServeEnds, CommandEnds, EndsWith};
 ghost use Rattle.station_sessions.specs.Served.{IsRoomOf};
 ghost use Rattle.station_sessions.specs.SessionInside.{TrackRoom};
 ghost use Rattle.edit_journal.specs.Turns.{AreFresh};
 
 use crate::command::{Command, command_in};
 use crate::document::{DocumentFault, open_document, refusal_line};
-use crate::stations::serve_opened;
+use crate::stations::{Place, serve_opened};
 use crate::status::Status;
 use call_text::{CutCall, CutObject, CutPart, journal_text};
 use cut_room::{Room, RoomBlank};
@@ -113,10 +113,10 @@ fn run_over<R: Wait, G: Gate, J: Naming<CutObject, CutPart>, S: Source, K: Sink>
     requires passes { AreFresh J.opening 1 passes.items }
     requires stations { J.stations ≡ 1 }
     ensures { (o : OpeningOf) → IsRoomOf o room setting.counting setting.start → RunEnds o
-        (outside (S.left input.old) (S.read_faults input.old) (K.taken output.old)
-        (K.write_faults output.old))
-        (outside (S.left input.new) (S.read_faults input.new) (K.taken output.new)
-        (K.write_faults output.new)) ⊥ result }
+        (both (input_told S.left S.read_faults input.old)
+        (output_told K.taken K.write_faults output.old))
+        (both (input_told S.left S.read_faults input.new)
+        (output_told K.taken K.write_faults output.new)) ⊥ result }
 {
     let mut line = Pair { input, output };
     run_session(rt, alloc, room, passes, setting, &mut line, gate)
@@ -136,12 +136,9 @@ fn run_blank<R: Wait, G: Gate, J: Naming<CutObject, CutPart>, S: Source, K: Sink
     requires opening { J.opening ≡ blank.opening }
     requires stations { (J.stations ≡ blank.stations) × (blank.stations ≡ 1) }
     ensures { (o : OpeningOf) (room : TrackRoom) → blank.opening ≡ Some room
-        → IsRoomOf o room setting.counting setting.start → RunEnds o
-        (outside (S.left input.old) (S.read_faults input.old) (K.taken output.old)
-        (K.write_faults output.old))
-        (outside (S.left input.new) (S.read_faults input.new) (K.taken output.new)
-        (K.write_faults output.new))
-        ((input.new ≡ input.old) × (output.new ≡ output.old)) result }
+        → IsRoomOf o room setting.counting setting.start → RunsOver o
+        (change (input_told S.left S.read_faults) input.old input.new)
+        (change (output_told K.taken K.write_faults) output.old output.new) result }
 {
     let (room, passes) = match Room::<CutObject, J>::open(alloc, blank) {
         Ok(opened) => opened,
@@ -161,12 +158,9 @@ fn run_opened<R: Wait, G: Gate, S: Source, K: Sink>(
 ) -> Status
     requires sound { IsSoundOpening opening }
     requires some { 0 < length opening.tracks }
-    ensures { RunEnds opening
-        (outside (S.left input.old) (S.read_faults input.old) (K.taken output.old)
-        (K.write_faults output.old))
-        (outside (S.left input.new) (S.read_faults input.new) (K.taken output.new)
-        (K.write_faults output.new))
-        ((input.new ≡ input.old) × (output.new ≡ output.old)) result }
+    ensures { RunsOver opening
+        (change (input_told S.left S.read_faults) input.old input.new)
+        (change (output_told K.taken K.write_faults) output.old output.new) result }
 {
     let Opening {
         table,
@@ -195,12 +189,9 @@ fn run_plain<R: Wait, G: Gate, S: Source, K: Sink>(
     requires least { least_tracks ≤ tracks }
     requires tracks { tracks ≤ most_tracks }
     requires reels { reels ≤ most_reels }
-    ensures { RunEnds (plain_opening tracks reels)
-        (outside (S.left input.old) (S.read_faults input.old) (K.taken output.old)
-        (K.write_faults output.old))
-        (outside (S.left input.new) (S.read_faults input.new) (K.taken output.new)
-        (K.write_faults output.new))
-        ((input.new ≡ input.old) × (output.new ≡ output.old)) result }
+    ensures { RunsOver (plain_opening tracks reels)
+        (change (input_told S.left S.read_faults) input.old input.new)
+        (change (output_told K.taken K.write_faults) output.old output.new) result }
 {
     let opening = match Opening::plain(alloc, tracks, reels) {
         Ok(opening) => opening,
@@ -211,9 +202,8 @@ fn run_plain<R: Wait, G: Gate, S: Source, K: Sink>(
 
 // Refuses a document.
 fn refuse_document<K: Sink>(code: DocCode, at: u32, output: &mut K) -> Status
-    ensures { LineEnds (refusal_line code at) (outside None 0 (K.taken output.old)
-        (K.write_faults output.old))
-        (outside None 0 (K.taken output.new) (K.write_faults output.new)) result }
+    ensures { LineEnds (refusal_line code at) (output_told K.taken K.write_faults output.old)
+        (output_told K.taken K.write_faults output.new) result }
 {
     match put(output, refusal_line(code, at).as_bytes()) {
         Ok(()) => Status::Refused,
@@ -232,14 +222,9 @@ fn run_document<R: Wait, G: Gate, F: Files, S: Source, K: Sink>(
     output: &mut K,
     gate: &G,
 ) -> Status
-    ensures { DocumentEnds name.now counting.now
-        (files_told (F.file files.old) (F.read_faults files.old) (F.write_faults files.old))
-        (files_told (F.file files.new) (F.read_faults files.new) (F.write_faults files.new))
-        (outside (S.left input.old) (S.read_faults input.old) (K.taken output.old)
-        (K.write_faults output.old))
-        (outside (S.left input.new) (S.read_faults input.new) (K.taken output.new)
-        (K.write_faults output.new))
-        (input.new ≡ input.old) (output.new ≡ output.old) result }
+    ensures { DocumentEnds name.now counting.now (change F.told files.old files.new)
+        (change (output_told K.taken K.write_faults) output.old output.new)
+        (change (input_told S.left S.read_faults) input.old input.new) result }
 {
     match open_document(alloc, files, name, counting) {
         Ok(opening) => run_opened(rt, alloc, opening, input, output, gate),
@@ -249,38 +234,27 @@ fn run_document<R: Wait, G: Gate, F: Files, S: Source, K: Sink>(
     }
 }
 
-// Serves the stations of a hall in the room of a document.
+// Serves the stations of a place in the room of a document.
 fn serve_document<R: Threads + Wait + Sync, F: Files, K: Sink, H: Hall, G: Gate + Sync>(
     rt: &R,
     alloc: Global,
     name: &str,
     counting: &Counting,
-    stations: u32,
-    address: &str,
-    journal: &str,
+    place: &Place<'_>,
     files: &mut F,
     output: &mut K,
     hall: &mut H,
     gate: &G,
 ) -> Status
-    requires least { least_stations ≤ stations }
-    requires most { stations ≤ most_stations }
-    ensures { ServeEnds name.now counting.now stations journal.now
-        (files_told (F.file files.old) (F.read_faults files.old) (F.write_faults files.old))
-        (files_told (F.file files.new) (F.read_faults files.new) (F.write_faults files.new))
-        (hall_told (H.told hall.old) (H.faults hall.old))
-        (hall_told (H.told hall.new) (H.faults hall.new))
-        (hall.new ≡ hall.old)
-        (outside None 0 (K.taken output.old) (K.write_faults output.old))
-        (outside None 0 (K.taken output.new) (K.write_faults output.new))
-        (output.new ≡ output.old) result }
+    requires least { least_stations ≤ place.now.stations }
+    requires most { place.now.stations ≤ most_stations }
+    ensures { ServeEnds name.now counting.now (change F.told files.old files.new)
+        (change (output_told K.taken K.write_faults) output.old output.new)
+        place.now.stations place.now.address.now place.now.journal.now
+        (change H.told hall.old hall.new) result }
 {
     match open_document(alloc, files, name, counting) {
-        Ok(opening) => {
-            serve_opened(
-                rt, alloc, opening, stations, address, journal, files, hall, gate,
-            )
-        }
+        Ok(opening) => serve_opened(rt, alloc, opening, place, files, hall, gate),
         Err(DocumentFault::ReadFault) => Status::ReadFault,
         Err(DocumentFault::Refused { code, at }) => refuse_document(code, at, output),
         Err(DocumentFault::Memory) => Status::OutOfMemory,
@@ -289,8 +263,8 @@ fn serve_document<R: Threads + Wait + Sync, F: Files, K: Sink, H: Hall, G: Gate 
 
 // Refuses words that are no command.
 fn refuse<K: Sink>(output: &mut K) -> Status
-    ensures { RefusalEnds (outside None 0 (K.taken output.old) (K.write_faults output.old))
-        (outside None 0 (K.taken output.new) (K.write_faults output.new)) (Unit {0}) result }
+    ensures { RefusalEnds (output_told K.taken K.write_faults output.old)
+        (output_told K.taken K.write_faults output.new) result }
 {
     match put(output, b"refused words\n") {
         Ok(()) => Status::NoCommand,
@@ -309,18 +283,10 @@ fn do_command<R: Threads + Wait + Sync, F: Files, S: Source, K: Sink, H: Hall, G
     hall: &mut H,
     gate: &G,
 ) -> Status
-    ensures { CommandEnds
-        (files_told (F.file files.old) (F.read_faults files.old) (F.write_faults files.old))
-        (files_told (F.file files.new) (F.read_faults files.new) (F.write_faults files.new))
-        (files.new ≡ files.old)
-        (hall_told (H.told hall.old) (H.faults hall.old))
-        (hall_told (H.told hall.new) (H.faults hall.new))
-        (hall.new ≡ hall.old)
-        (outside (S.left input.old) (S.read_faults input.old) (K.taken output.old)
-        (K.write_faults output.old))
-        (outside (S.left input.new) (S.read_faults input.new) (K.taken output.new)
-        (K.write_faults output.new))
-        (input.new ≡ input.old) (output.new ≡ output.old) (command_of words.now) result }
+    ensures { CommandEnds (change F.told files.old files.new)
+        (change (input_told S.left S.read_faults) input.old input.new)
+        (change (output_told K.taken K.write_faults) output.old output.new)
+        (change H.told hall.old hall.new) (command_of words.now) result }
 {
     match &command_in(words) {
         Some(Command::Run { tracks, reels }) => {
@@ -337,9 +303,16 @@ fn do_command<R: Threads + Wait + Sync, F: Files, S: Source, K: Sink, H: Hall, G
                 address,
                 journal,
             },
-        ) => serve_document(
-            rt, alloc, document, counting, *stations, address, journal, files, output, hall, gate,
-        ),
+        ) => {
+            let place = Place {
+                stations: *stations,
+                address: *address,
+                journal: *journal,
+            };
+            serve_document(
+                rt, alloc, document, counting, &place, files, output, hall, gate,
+            )
+        }
         None => refuse(output),
     }
 }
@@ -381,19 +354,12 @@ pub fn cut_main<R: Threads + Wait + Sync, F: Files, S: Source, K: Sink, H: Hall,
     // The headline: whatever the stations send at once, in whatever pieces, the room's journal is one legal serial history,
     // each committed edit stands in it once, after all its station had been told of, and every reply names its point there
     // and says what the entries before it give. Linked items keep one offset at every point of it. `CommandEnds` says for
-    // each command and each status what was read, what was written and which count of faults rose.
-    ensures { EndsWith result (CommandEnds
-        (files_told (F.file files.old) (F.read_faults files.old) (F.write_faults files.old))
-        (files_told (F.file files.new) (F.read_faults files.new) (F.write_faults files.new))
-        (files.new ≡ files.old)
-        (hall_told (H.told hall.old) (H.faults hall.old))
-        (hall_told (H.told hall.new) (H.faults hall.new))
-        (hall.new ≡ hall.old)
-        (outside (S.left input.old) (S.read_faults input.old) (K.taken output.old)
-        (K.write_faults output.old))
-        (outside (S.left input.new) (S.read_faults input.new) (K.taken output.new)
-        (K.write_faults output.new))
-        (input.new ≡ input.old) (output.new ≡ output.old) (command_of words.now)) }
+    // each command and each status what was read, what was written and which count of faults rose, by what the files, the
+    // input, the output and the hall told before and tell after.
+    ensures { EndsWith result (CommandEnds (change F.told files.old files.new)
+        (change (input_told S.left S.read_faults) input.old input.new)
+        (change (output_told K.taken K.write_faults) output.old output.new)
+        (change H.told hall.old hall.new) (command_of words.now)) }
 {
     do_command(rt, alloc, words, files, input, output, hall, gate).number()
 }

@@ -3,13 +3,14 @@ ghost use Rattle.std.specs.Prelude.{◌≡◌, ◌<◌, ◌≤◌, [], ℕ, true
 ghost use Rattle.edit_journal.specs.Turns.{AreFresh};
 ghost use Rattle.otio_json.specs.Soundness.{IsSoundOpening};
 ghost use Rattle.otio_json.specs.declared.opening.Opening.{Opening as OpeningOf};
-ghost use Rattle.cut_server.specs.Documents.{files_told};
-ghost use Rattle.cut_server.specs.Halls.{FileEnds, HallEnds, HallTold, HasServed, first_fault, hall_told, line_of, or_next, status_of};
-ghost use Rattle.cut_server.specs.Seated.{AreSeated, CountsSeats, HasNumber, SeatState, unseated};
+ghost use Rattle.room_halls.specs.Stations.{HallTold};
+ghost use Rattle.cut_server.specs.Documents.{AreQuiet};
+ghost use Rattle.cut_server.specs.Halls.{FileEnds, HallEnds, SessionsEnd, first_fault, line_at, or_next, status_of};
+ghost use Rattle.cut_server.specs.Seated.{AreSeated, CountsSeats, HasNumber, SeatedState, unseated};
 ghost use Rattle.station_sessions.specs.Served.{IsRoomOf};
 ghost use Rattle.station_sessions.specs.SessionInside.{TrackRoom};
 
-use crate::seats::{Seat, serve_seats};
+use crate::seated::{SeatedStation, serve_all};
 use crate::status::Status;
 use call_text::{CutCall, CutObject, CutPart, journal_text};
 use cut_room::{Room, RoomBlank};
@@ -53,23 +54,26 @@ fn seat_all<H: Hall, J: Naming<CutObject, CutPart>>(
     alloc: Global,
     hall: &mut H,
     passes: Vec<Pass<CutObject, J>>,
-    seats: &mut Vec<Seat<H::Line, J>>,
+    seated: &mut Vec<SeatedStation<H::Line, J>>,
 ) -> Result<(), HallFault>
     requires passes { AreFresh J.opening (length passes.items) passes.items }
-    requires none { seats.old.items ≡ [] }
-    requires room { length passes.items ≤ vec_capacity seats.old }
+    requires none { seated.old.items ≡ [] }
+    requires room { length passes.items ≤ vec_capacity seated.old }
 
-    ensures seated { AreSeated (hall_told (H.told hall.old) (H.faults hall.old)) seats.new.items }
-    ensures all { OnOk result (length seats.new.items ≡ length passes.items) }
-    ensures within { length seats.new.items ≤ length passes.items }
-    ensures held { (k : ℕ) → k < length seats.new.items → (H.told hall.new k).seated ≡ true }
-    ensures free { (k : ℕ) → length seats.new.items ≤ k → H.told hall.new k ≡ H.told hall.old k }
-    ensures counts { CountsSeats result (H.faults hall.old) (H.faults hall.new) }
+    ensures seated { AreSeated (H.told hall.old) seated.new.items }
+    ensures all { OnOk result (length seated.new.items ≡ length passes.items) }
+    ensures within { length seated.new.items ≤ length passes.items }
+    ensures held { (k : ℕ) → k < length seated.new.items
+        → ((H.told hall.new).station k).seated ≡ true }
+    ensures free { (k : ℕ) → length seated.new.items ≤ k
+        → (H.told hall.new).station k ≡ (H.told hall.old).station k }
+    ensures counts { CountsSeats result (H.told hall.old).faults (H.told hall.new).faults }
+    ensures opened { (H.told hall.new).opened ≡ (H.told hall.old).opened }
 {
     for pass in passes {
         let station = pass.station();
         match hall.seat_station(alloc, station) {
-            Ok(line) => seats.push_reserved(Seat::new(pass, line)),
+            Ok(line) => seated.push_reserved(SeatedStation::new(pass, line)),
             Err(fault) => return Err(fault),
         }
     }
@@ -79,24 +83,27 @@ fn seat_all<H: Hall, J: Naming<CutObject, CutPart>>(
 // Gives the hall each line back, and keeps the passes: the first status of a session that is not 0.
 fn stand_all_up<H: Hall, J: Naming<CutObject, CutPart>>(
     hall: &mut H,
-    seats: Vec<Seat<H::Line, J>>,
+    seated: Vec<SeatedStation<H::Line, J>>,
     passes: &mut Vec<Pass<CutObject, J>>,
 ) -> Status
-    requires numbers { (k : ℕ) (s : SeatState) → slice_get seats.items k ≡ Some s
+    requires numbers { (k : ℕ) (s : SeatedState) → slice_get seated.items k ≡ Some s
         → HasNumber k s.pass }
-    requires held { (k : ℕ) → k < length seats.items → (H.told hall.old k).seated ≡ true }
+    requires held { (k : ℕ) → k < length seated.items
+        → ((H.told hall.old).station k).seated ≡ true }
     requires none { passes.old.items ≡ [] }
-    requires room { length seats.items ≤ vec_capacity passes.old }
+    requires room { length seated.items ≤ vec_capacity passes.old }
 
-    ensures lines { (k : ℕ) (s : SeatState) → slice_get seats.items k ≡ Some s
-        → line_of (H.told hall.new k).line ≡ s.line }
-    ensures free { (k : ℕ) → length seats.items ≤ k → H.told hall.new k ≡ H.told hall.old k }
-    ensures passes { map Some passes.new.items ≡ map (λ s. s.pass) seats.items }
-    ensures fault { result ≡ first_fault (map status_of (map (λ s. s.end) seats.items)) }
-    ensures quiet { H.faults hall.new ≡ H.faults hall.old }
+    ensures lines { (k : ℕ) (s : SeatedState) → slice_get seated.items k ≡ Some s
+        → line_at (H.told hall.new) k ≡ s.line }
+    ensures free { (k : ℕ) → length seated.items ≤ k
+        → (H.told hall.new).station k ≡ (H.told hall.old).station k }
+    ensures passes { map Some passes.new.items ≡ map (λ s. s.pass) seated.items }
+    ensures fault { result ≡ first_fault (map status_of (map (λ s. s.end) seated.items)) }
+    ensures quiet { (H.told hall.new).faults ≡ (H.told hall.old).faults }
+    ensures opened { (H.told hall.new).opened ≡ (H.told hall.old).opened }
 {
     let mut fault = Status::Done;
-    for seat in seats {
+    for seat in seated {
         let (pass, line, end) = seat.into_parts();
         hall.stand_up(pass.station(), line);
         passes.push_reserved(pass);
@@ -105,17 +112,51 @@ fn stand_all_up<H: Hall, J: Naming<CutObject, CutPart>>(
     fault
 }
 
+// Serves the stations that are seated, gives the hall their lines back and closes the room: the first status of a session
+// that is not 0, and the journal.
+fn serve_seated<
+    R: Threads + Wait + Sync,
+    H: Hall,
+    G: Gate + Sync,
+    J: Naming<CutObject, CutPart> + Send + Sync,
+>(
+    rt: &R,
+    alloc: Global,
+    room: Room<CutObject, J>,
+    mut seated: Vec<SeatedStation<H::Line, J>>,
+    mut passes: Vec<Pass<CutObject, J>>,
+    setting: Setting,
+    hall: &mut H,
+    gate: &G,
+) -> (Status, Vec<Entry<CutCall>>)
+    requires count { length seated.items ≡ J.stations }
+    requires few { J.stations ≤ 16 }
+    requires held { (k : ℕ) → k < length seated.items
+        → ((H.told hall.old).station k).seated ≡ true }
+    requires seated { (before : HallTold) × AreSeated before seated.items }
+    requires none { passes.items ≡ [] }
+    requires room { length seated.items ≤ vec_capacity passes }
+    ensures ends { (o : OpeningOf) (before : HallTold) → IsRoomOf o room setting.counting setting.start
+        → AreSeated before seated.items → before.faults ≡ (H.told hall.old).faults
+        → ((s : ℕ) → J.stations ≤ s → line_at (H.told hall.old) s ≡ line_at before s)
+        → SessionsEnd o J.stations result.1.items before (H.told hall.new) result.0 }
+    ensures opened { (H.told hall.new).opened ≡ (H.told hall.old).opened }
+{
+    serve_all(rt, alloc, &room, gate, setting, &mut seated);
+    let status = stand_all_up(hall, seated, &mut passes);
+    let entries = room.close(passes);
+    (status, entries)
+}
+
 // Puts the journal's text into the file of this name.
+#[tactic(auto, using(crate::proofs::HallRuns::quiet_same))]
 fn keep_journal<F: Files>(
     alloc: Global,
     entries: &[Entry<CutCall>],
     name: &str,
     files: &mut F,
 ) -> Status
-    ensures { FileEnds name.now entries.now
-        (files_told (F.file files.old) (F.read_faults files.old) (F.write_faults files.old))
-        (files_told (F.file files.new) (F.read_faults files.new) (F.write_faults files.new))
-        (files.new ≡ files.old) result }
+    ensures { FileEnds name.now (F.told files.old) (F.told files.new) entries.now result }
 {
     let text = match journal_text(alloc, entries) {
         Ok(text) => text,
@@ -127,45 +168,17 @@ fn keep_journal<F: Files>(
     }
 }
 
-// Serves the stations that are seated, gives the hall their lines back, closes the room and keeps its journal.
-fn serve_seated<
-    R: Threads + Wait + Sync,
-    F: Files,
-    H: Hall,
-    G: Gate + Sync,
-    J: Naming<CutObject, CutPart> + Send + Sync,
->(
-    rt: &R,
-    alloc: Global,
-    room: Room<CutObject, J>,
-    mut seats: Vec<Seat<H::Line, J>>,
-    mut passes: Vec<Pass<CutObject, J>>,
-    setting: Setting,
-    name: &str,
-    files: &mut F,
-    hall: &mut H,
-    gate: &G,
-) -> Status
-    requires count { length seats.items ≡ J.stations }
-    requires held { (k : ℕ) → k < length seats.items → (H.told hall.old k).seated ≡ true }
-    requires seated { (before : HallTold) × AreSeated before seats.items }
-    requires none { passes.items ≡ [] }
-    requires room { length seats.items ≤ vec_capacity passes }
-    ensures { (o : OpeningOf) (before : HallTold) → IsRoomOf o room setting.counting setting.start
-        → AreSeated before seats.items → before.faults ≡ H.faults hall.old
-        → HasServed o J.stations name.now
-        (files_told (F.file files.old) (F.read_faults files.old) (F.write_faults files.old))
-        (files_told (F.file files.new) (F.read_faults files.new) (F.write_faults files.new))
-        (files.new ≡ files.old)
-        before (hall_told (H.told hall.new) (H.faults hall.new)) result }
-{
-    serve_seats(rt, alloc, &room, gate, setting, &mut seats);
-    let fault = stand_all_up(hall, seats, &mut passes);
-    let entries = room.close(passes);
-    or_next(fault, keep_journal(alloc, &entries, name, files))
+/// Where a room is served: how many stations it has, the address of their hall, and the name of the file in which the
+/// journal is kept.
+#[derive(Clone, Copy)]
+pub(crate) struct Place<'a> {
+    pub(crate) stations: u32,
+    pub(crate) address: &'a str,
+    pub(crate) journal: &'a str,
 }
 
-// Seats the stations of a room that has just been opened, and serves them.
+// Seats the stations of a room that has just been opened, serves them, and keeps the journal.
+#[tactic(auto, using(crate::proofs::HallRuns::quiet_same))]
 fn serve_room<
     R: Threads + Wait + Sync,
     F: Files,
@@ -178,40 +191,40 @@ fn serve_room<
     room: Room<CutObject, J>,
     passes: Vec<Pass<CutObject, J>>,
     setting: Setting,
-    address: &str,
-    name: &str,
+    place: &Place<'_>,
     files: &mut F,
     hall: &mut H,
     gate: &G,
 ) -> Status
     requires passes { AreFresh J.opening J.stations passes.items }
+    requires few { J.stations ≤ 16 }
     ensures { (o : OpeningOf) → IsRoomOf o room setting.counting setting.start
-        → HallEnds o J.stations name.now
-        (files_told (F.file files.old) (F.read_faults files.old) (F.write_faults files.old))
-        (files_told (F.file files.new) (F.read_faults files.new) (F.write_faults files.new))
-        (files.new ≡ files.old)
-        (hall_told (H.told hall.old) (H.faults hall.old))
-        (hall_told (H.told hall.new) (H.faults hall.new)) result }
+        → HallEnds o J.stations place.now.address.now
+        (FileEnds place.now.journal.now (F.told files.old) (F.told files.new))
+        (AreQuiet (F.told files.old) (F.told files.new)) (H.told hall.old) (H.told hall.new) result }
 {
     let count = passes.len();
-    let mut seats = match Vec::with_capacity(alloc, count) {
-        Ok(seats) => seats,
+    let mut seated = match Vec::with_capacity(alloc, count) {
+        Ok(seated) => seated,
         Err(_) => return Status::OutOfMemory,
     };
     let mut back = match Vec::with_capacity(alloc, count) {
         Ok(back) => back,
         Err(_) => return Status::OutOfMemory,
     };
-    match hall.open(address) {
+    match hall.open(place.address) {
         Ok(()) => {}
         Err(_) => return Status::NotSeated,
     }
-    match seat_all(alloc, hall, passes, &mut seats) {
-        Ok(()) => serve_seated(
-            rt, alloc, room, seats, back, setting, name, files, hall, gate,
-        ),
+    match seat_all(alloc, hall, passes, &mut seated) {
+        Ok(()) => {
+            let (status, entries) = serve_seated(
+                rt, alloc, room, seated, back, setting, hall, gate,
+            );
+            or_next(status, keep_journal(alloc, &entries, place.journal, files))
+        }
         Err(fault) => {
-            stand_all_up(hall, seats, &mut back);
+            stand_all_up(hall, seated, &mut back);
             unseated(fault)
         }
     }
@@ -227,14 +240,8 @@ fn unseated(fault: HallFault) -> Status
     }
 }
 
-// Where a room is served, and the name of the file in which its journal is kept.
-#[derive(Clone, Copy)]
-struct Place<'a> {
-    address: &'a str,
-    journal: &'a str,
-}
-
-// Serves so many stations in the room of a blank.
+// Serves the stations of a place in the room of a blank.
+#[tactic(auto, using(crate::proofs::HallRuns::quiet_same))]
 fn serve_blank<
     R: Threads + Wait + Sync,
     F: Files,
@@ -254,55 +261,38 @@ fn serve_blank<
     requires table { J.table ≡ blank.table }
     requires opening { J.opening ≡ blank.opening }
     requires stations { J.stations ≡ blank.stations }
+    requires few { blank.stations ≤ 16 }
     ensures { (o : OpeningOf) (room : TrackRoom) → blank.opening ≡ Some room
         → IsRoomOf o room setting.counting setting.start
-        → HallEnds o blank.stations place.now.journal.now
-        (files_told (F.file files.old) (F.read_faults files.old) (F.write_faults files.old))
-        (files_told (F.file files.new) (F.read_faults files.new) (F.write_faults files.new))
-        (files.new ≡ files.old)
-        (hall_told (H.told hall.old) (H.faults hall.old))
-        (hall_told (H.told hall.new) (H.faults hall.new)) result }
+        → HallEnds o blank.stations place.now.address.now
+        (FileEnds place.now.journal.now (F.told files.old) (F.told files.new))
+        (AreQuiet (F.told files.old) (F.told files.new)) (H.told hall.old) (H.told hall.new) result }
 {
     let (room, passes) = match Room::<CutObject, J>::open(alloc, blank) {
         Ok(opened) => opened,
         Err(_) => return Status::OutOfMemory,
     };
-    serve_room(
-        rt,
-        alloc,
-        room,
-        passes,
-        setting,
-        place.address,
-        place.journal,
-        files,
-        hall,
-        gate,
-    )
+    serve_room(rt, alloc, room, passes, setting, place, files, hall, gate)
 }
 
-/// Serves so many stations, all at once, in a room that begins so, each over its line of the hall, and then puts the
-/// journal's text into the file of this name.
+/// Serves the stations of a place, all at once, in a room that begins so, each over its line of the hall, and then puts the
+/// journal's text into the file of the place.
+#[tactic(auto, using(crate::proofs::HallRuns::quiet_same))]
 pub(crate) fn serve_opened<R: Threads + Wait + Sync, F: Files, H: Hall, G: Gate + Sync>(
     rt: &R,
     alloc: Global,
     opening: Opening,
-    stations: u32,
-    address: &str,
-    name: &str,
+    place: &Place<'_>,
     files: &mut F,
     hall: &mut H,
     gate: &G,
 ) -> Status
     requires sound { IsSoundOpening opening }
     requires some { 0 < length opening.tracks }
-    requires stations { (0 < stations) × (stations ≤ 16) }
-    ensures { HallEnds opening stations name.now
-        (files_told (F.file files.old) (F.read_faults files.old) (F.write_faults files.old))
-        (files_told (F.file files.new) (F.read_faults files.new) (F.write_faults files.new))
-        (files.new ≡ files.old)
-        (hall_told (H.told hall.old) (H.faults hall.old))
-        (hall_told (H.told hall.new) (H.faults hall.new)) result }
+    requires stations { (0 < place.now.stations) × (place.now.stations ≤ 16) }
+    ensures { HallEnds opening place.now.stations place.now.address.now
+        (FileEnds place.now.journal.now (F.told files.old) (F.told files.new))
+        (AreQuiet (F.told files.old) (F.told files.new)) (H.told hall.old) (H.told hall.new) result }
 {
     let Opening {
         table,
@@ -311,13 +301,9 @@ pub(crate) fn serve_opened<R: Threads + Wait + Sync, F: Files, H: Hall, G: Gate 
         start,
     } = opening;
     let setting = Setting { counting, start };
-    let blank = match RoomBlank::new(alloc, Editor { table }, tracks.into_vec(), stations) {
+    let blank = match RoomBlank::new(alloc, Editor { table }, tracks.into_vec(), place.stations) {
         Ok(blank) => blank,
         Err(_) => return Status::OutOfMemory,
     };
-    let place = Place {
-        address,
-        journal: name,
-    };
-    serve_blank::<R, F, H, G, Brand>(rt, alloc, blank, setting, &place, files, hall, gate)
+    serve_blank::<R, F, H, G, Brand>(rt, alloc, blank, setting, place, files, hall, gate)
 }

@@ -1,25 +1,31 @@
-use Rattle.std.proofs.Common.{refl}
-use Rattle.cut_server.proofs.DocumentRuns.{ends_opened, ends_unread, ends_without_memory, ends_refused}
+use Rattle.std.proofs.Common.{inl, inr, refl}
 use Rattle.cut_server.proofs.main_call.run_document.Goals as goal
 
 pub returns-in-Ok : goal.returns-in-Ok
-returns-in-Ok g c =
-    ends_opened c.args.name.now c.args.counting.now _ _ _ _ _ _ c.in-Ok.opening c.run_opened.result (c.in-Ok.ensures.same, c.in-Ok.ensures.apart)
-    c.in-Ok.ensures.opens c.in-Ok.ensures.counts c.run_opened.ensures
+returns-in-Ok g c = (
+  c.in-Ok.ensures.same,
+  inl (record { opening = c.in-Ok.opening; described = c.in-Ok.ensures.opens; quiet = c.in-Ok.ensures.counts; ends = c.run_opened.ensures }),
+)
 
 pub returns-in-Err-ReadFault : goal.returns-in-Err-ReadFault
 returns-in-Err-ReadFault g c =
-    ends_unread c.args.name.now c.args.counting.now _ _ _ _ _ _ (c.in-Err-ReadFault.ensures.same, c.in-Err-ReadFault.ensures.apart)
-    (rw c.in-Err-ReadFault.field-0-is at c.in-Err-ReadFault.ensures.counts) refl refl
+    (c.in-Err-ReadFault.ensures.same, inr (refl, inr (rw c.in-Err-ReadFault.field-0-is at c.in-Err-ReadFault.ensures.counts, refl)))
 
 pub returns-in-Err-Refused : goal.returns-in-Err-Refused
-returns-in-Err-Refused g c =
-    ends_refused c.args.name.now c.args.counting.now _ _ _ _ _ _ c.in-Err-Refused.code c.in-Err-Refused.at c.refuse_document.result
-    (c.in-Err-Refused.ensures.same, c.in-Err-Refused.ensures.apart) (rw c.in-Err-Refused.field-0-is at c.in-Err-Refused.ensures.opens)
-    (rw c.in-Err-Refused.field-0-is at c.in-Err-Refused.ensures.counts) refl
-    (rw c.in-Err-Refused.field-0-is at c.refuse_document.ensures)
+returns-in-Err-Refused g c = (
+  c.in-Err-Refused.ensures.same,
+  inr (
+    refl,
+    inl (record {
+      code = c.in-Err-Refused.code;
+      at = c.in-Err-Refused.at;
+      refused = rw c.in-Err-Refused.field-0-is at c.in-Err-Refused.ensures.opens;
+      quiet = rw c.in-Err-Refused.field-0-is at c.in-Err-Refused.ensures.counts;
+      line = rw c.in-Err-Refused.field-0-is at c.refuse_document.ensures;
+    }),
+  ),
+)
 
 pub returns-in-Err-Memory : goal.returns-in-Err-Memory
 returns-in-Err-Memory g c =
-    ends_without_memory c.args.name.now c.args.counting.now _ _ _ _ _ _ (c.in-Err-Memory.ensures.same, c.in-Err-Memory.ensures.apart)
-    (rw c.in-Err-Memory.field-0-is at c.in-Err-Memory.ensures.counts) refl refl
+    (c.in-Err-Memory.ensures.same, inr (refl, inr (rw c.in-Err-Memory.field-0-is at c.in-Err-Memory.ensures.counts, refl)))

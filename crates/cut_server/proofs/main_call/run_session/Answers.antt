@@ -2,7 +2,7 @@ use Rattle.std.proofs.Common.{◌++◌, ◌∷◌, [], inl, ap, subst, ◌∙◌
 use Rattle.station_sessions.specs.Outside.{Outside, outside}
 use Rattle.station_sessions.specs.Rooms.{History}
 use Rattle.station_sessions.specs.Transcript.{new_room}
-use Rattle.station_sessions.proofs.Knowing.{fresh_legal, fresh_origin}
+use Rattle.station_sessions.proofs.Knowing.{fresh_base, fresh_legal, fresh_origin}
 use Rattle.cut_server.specs.Runs.{JournalEnds}
 use Rattle.station_sessions.specs.declared.serve.End.TheVariants as end
 use Rattle.cut_server.proofs.Closing.{closed, has_zero}
@@ -11,6 +11,9 @@ use Rattle.cut_server.proofs.main_call.run_session.Goals as goal
 
 pub serve_session-pass-requires-clause-legal : goal.serve_session-pass-requires-clause-legal
 serve_session-pass-requires-clause-legal g c = fresh_legal c.args.room c.only_pass-passes.result.1 c.only_pass-passes.ensures.pass.1
+
+pub serve_session-pass-requires-clause-base : goal.serve_session-pass-requires-clause-base
+serve_session-pass-requires-clause-base g c = fresh_base c.only_pass-passes.result.1 c.only_pass-passes.ensures.pass.1
 
 pub close-entries-requires : goal.close-entries-requires
 close-entries-requires g c =

@@ -11,7 +11,7 @@ push_reserved-requires g c =
     let i = c.loop-pass.invariant in
     let so_far = ap (λ ps. c.loop-pass.yielded ++ ps) (sym c.in-Some.ensures.steps.0) ∙ i.so_far in
     let low = is_within c.args.passes.items c.loop-pass.yielded c.in-Some.pass (into_iter_items c.next.new.self) so_far in
-    omega (arith, low, i.count, i.room, c.requires.room, c.loop-pass.seats.ok)
+    omega (arith, low, i.count, i.room, c.requires.room, c.loop-pass.seated.ok)
 
 pub loop-pass-preserved : goal.loop-pass-preserved
 loop-pass-preserved g c =
@@ -24,18 +24,19 @@ loop-pass-preserved g c =
     let items = c.push_reserved.ensures.items in
     record {
       so_far = append_assoc all (p ∷ []) rest ∙ so_far;
-      count = ap length items ∙ (length-append c.loop-pass.seats.items _ ∙ (ap (λ n. n + 1) i.count ∙ sym (length-append all (p ∷ []))));
+      count = ap length items ∙ (length-append c.loop-pass.seated.items _ ∙ (ap (λ n. n + 1) i.count ∙ sym (length-append all (p ∷ []))));
       room = c.push_reserved.ensures.capacity ∙ i.room;
-      seated = rw items (seated_more _ c.loop-pass.seats.items _ i.seated (record {
+      seated = rw items (seated_more _ c.loop-pass.seated.items _ i.seated (record {
         pass = p;
         pass_is = c.new.ensures.pass;
         number_is = sym c.station-station.ensures.number ∙ number;
         entries = fresh_none g.J.Naming.opening c.args.passes.items all p rest c.requires.passes.1 so_far;
-        line = c.new.ensures.line ∙ (told_line _ _ _ _ _ c.in-Ok.ensures.line ∙ ap (λ (s : Station). line_of s.line) (ap (λ (m : ℕ). g.H.Hall.told c.loop-pass.hall m) number ∙ i.free (length c.loop-pass.seats.items) (omega arith)));
+        line = c.new.ensures.line ∙ (told_line _ _ _ _ _ c.in-Ok.ensures.line ∙ ap (λ (s : Station). line_of s.line) (ap (λ (m : ℕ). (g.H.Hall.told c.loop-pass.hall).station m) number ∙ i.free (length c.loop-pass.seated.items) (omega arith)));
       }));
       held = rw (items, length-append) (held_more _ _ _ i.held (rw number at c.in-Ok.ensures.seated) (rw number at c.in-Ok.ensures.others));
       free = rw (items, length-append) (free_more _ _ _ _ i.free (rw number at c.in-Ok.ensures.others));
       quiet = c.in-Ok.ensures.counts ∙ i.quiet;
+      opened = c.seat_station.ensures.opened ∙ i.opened;
     }
 
 pub returns-in-Err-clause-free : goal.returns-in-Err-clause-free

@@ -1,16 +1,16 @@
 use Rattle.std.proofs.Common.{◌≡◌, ◌<◌, ◌≤◌, ◌++◌, ℕ, true, length, vec_capacity}
 use Rattle.std.specs.Vec.Iter.{into_iter_items}
-use Rattle.cut_server.specs.Halls.{hall_told}
 use Rattle.cut_server.specs.Seated.{AreSeated}
 use Rattle.cut_server.proofs.stations.seat_all.Given as goal
 
 abbrev pub invariant-loop-pass : goal.invariant-loop-pass
 invariant-loop-pass g l = record {
   so_far : l.yielded ++ into_iter_items l.pass-iterator ≡ l.fn.passes.items;
-  count : length l.seats.items ≡ length l.yielded;
-  room : vec_capacity l.seats ≡ vec_capacity l.fn.seats;
-  seated : AreSeated (hall_told (g.H.Hall.told l.fn.hall) (g.H.Hall.faults l.fn.hall)) l.seats.items;
-  held : (k : ℕ) → k < length l.seats.items → (g.H.Hall.told l.hall k).seated ≡ true;
-  free : (k : ℕ) → length l.seats.items ≤ k → g.H.Hall.told l.hall k ≡ g.H.Hall.told l.fn.hall k;
-  quiet : g.H.Hall.faults l.hall ≡ g.H.Hall.faults l.fn.hall;
+  count : length l.seated.items ≡ length l.yielded;
+  room : vec_capacity l.seated ≡ vec_capacity l.fn.seated;
+  seated : AreSeated (g.H.Hall.told l.fn.hall) l.seated.items;
+  held : (k : ℕ) → k < length l.seated.items → ((g.H.Hall.told l.hall).station k).seated ≡ true;
+  free : (k : ℕ) → length l.seated.items ≤ k → (g.H.Hall.told l.hall).station k ≡ (g.H.Hall.told l.fn.hall).station k;
+  quiet : (g.H.Hall.told l.hall).faults ≡ (g.H.Hall.told l.fn.hall).faults;
+  opened : (g.H.Hall.told l.hall).opened ≡ (g.H.Hall.told l.fn.hall).opened;
 }

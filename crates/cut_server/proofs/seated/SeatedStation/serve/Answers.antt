@@ -4,7 +4,7 @@ use Rattle.station_sessions.specs.Served.{Knows}
 use Rattle.station_sessions.specs.Transcript.{new_room}
 use Rattle.station_sessions.proofs.Knowing.{fresh_base, fresh_legal, fresh_origin}
 use Rattle.cut_server.proofs.Seating.{still_ends}
-use Rattle.cut_server.proofs.seats.Seat.serve.Goals as goal
+use Rattle.cut_server.proofs.seated.SeatedStation.serve.Goals as goal
 
 pub unreachable-requires : goal.unreachable-requires
 unreachable-requires g c = rw (sym c.take.ensures.value ∙ c.in-None.is) at (rw (← c.self.view_is) at c.requires)

@@ -1,6 +1,6 @@
 // The sessions of several stations of one room, each over a line of its own and in a thread of its own.
 ghost use Rattle.std.specs.Prelude.{◌≡◌, ℕ, Some, length, slice_get};
-ghost use Rattle.cut_server.specs.Seated.{IsReady, IsServedIn, SeatState};
+ghost use Rattle.cut_server.specs.Seated.{IsReady, IsServedIn, SeatedState};
 
 use call_text::{CutObject, CutPart};
 use cut_room::Room;
@@ -17,17 +17,17 @@ use std::thread::Threads;
 /// A station with its pass and its line, and how its session ended. Contracts see what the pass knows and what the line
 /// tells.
 #[derive(Drop)]
-pub(crate) struct Seat<L: Line, J: Naming<CutObject, CutPart>> {
+pub(crate) struct SeatedStation<L: Line, J: Naming<CutObject, CutPart>> {
     pub(crate) pass: Option<Pass<CutObject, J>>,
     pub(crate) line: L,
     pub(crate) end: End,
 }
 
-impl<L: Line, J: Naming<CutObject, CutPart>> Model for Seat<L, J> {
+impl<L: Line, J: Naming<CutObject, CutPart>> Model for SeatedStation<L, J> {
     ghost use Rattle.station_sessions.specs.Outside.{outside};
-    ghost use Rattle.cut_server.specs.Seated.{SeatState};
+    ghost use Rattle.cut_server.specs.Seated.{SeatedState};
 
-    ghost Value = { SeatState };
+    ghost Value = { SeatedState };
 
     ghost view = { λ s. record {
       pass = s.pass;
@@ -37,17 +37,17 @@ impl<L: Line, J: Naming<CutObject, CutPart>> Model for Seat<L, J> {
     } };
 }
 
-impl<L: Line, J: Naming<CutObject, CutPart>> Seat<L, J> {
+impl<L: Line, J: Naming<CutObject, CutPart>> SeatedStation<L, J> {
     ghost use Rattle.std.specs.Prelude.{◌≡◌, Some, IsSome};
     ghost use Rattle.station_sessions.specs.Outside.{outside};
 
     /// A station before its session.
-    pub(crate) fn new(pass: Pass<CutObject, J>, line: L) -> Seat<L, J>
+    pub(crate) fn new(pass: Pass<CutObject, J>, line: L) -> SeatedStation<L, J>
         ensures pass { result.pass ≡ Some pass }
         ensures line { result.line
             ≡ outside (L.left line) (L.read_faults line) (L.taken line) (L.write_faults line) }
     {
-        Seat {
+        SeatedStation {
             pass: Some(pass),
             line,
             end: End::Ended,
@@ -62,7 +62,7 @@ impl<L: Line, J: Naming<CutObject, CutPart>> Seat<L, J> {
             (L.taken result.1) (L.write_faults result.1) }
         ensures end { result.2 ≡ self.end }
     {
-        let Seat { pass, line, end } = self;
+        let SeatedStation { pass, line, end } = self;
         match pass {
             Some(pass) => (pass, line, end),
             None => unreachable!(),
@@ -70,7 +70,7 @@ impl<L: Line, J: Naming<CutObject, CutPart>> Seat<L, J> {
     }
 }
 
-impl<L: HallLine, J: Naming<CutObject, CutPart>> Seat<L, J> {
+impl<L: HallLine, J: Naming<CutObject, CutPart>> SeatedStation<L, J> {
     /// Serves the session of the station.
     fn serve<R: Wait, G: Gate>(
         &mut self,
@@ -103,7 +103,7 @@ impl<L: HallLine, J: Naming<CutObject, CutPart>> Seat<L, J> {
 }
 
 /// Serves the sessions of these stations, all at once.
-pub(crate) fn serve_seats<
+pub(crate) fn serve_all<
     R: Threads + Wait + Sync,
     G: Gate + Sync,
     J: Naming<CutObject, CutPart> + Send + Sync,
@@ -114,17 +114,17 @@ pub(crate) fn serve_seats<
     room: &Room<CutObject, J>,
     gate: &G,
     setting: Setting,
-    seats: &mut [Seat<L, J>],
+    stations: &mut [SeatedStation<L, J>],
 )
-    requires { (k : ℕ) (s : SeatState) → slice_get seats.old k ≡ Some s → IsReady s.pass }
-    ensures served { (k : ℕ) (s t : SeatState) → slice_get seats.old k ≡ Some s
-        → slice_get seats.new k ≡ Some t → IsServedIn room.now setting.counting setting.start s t }
-    ensures all { length seats.new ≡ length seats.old }
+    requires { (k : ℕ) (s : SeatedState) → slice_get stations.old k ≡ Some s → IsReady s.pass }
+    ensures served { (k : ℕ) (s t : SeatedState) → slice_get stations.old k ≡ Some s
+        → slice_get stations.new k ≡ Some t → IsServedIn room.now setting.counting setting.start s t }
+    ensures all { length stations.new ≡ length stations.old }
 {
-    let threads = seats.len().max(1);
-    let served = |_: usize, seat: &mut Seat<L, J>|
-        requires { IsReady seat.old.pass }
-        ensures { IsServedIn room.entry.now setting.counting setting.start seat.old seat.new }
-    { seat.serve(rt, alloc, room, gate, setting) };
-    thread::for_each_mut(rt, seats, threads, &served);
+    let threads = stations.len().max(1);
+    let served = |_: usize, station: &mut SeatedStation<L, J>|
+        requires { IsReady station.old.pass }
+        ensures { IsServedIn room.entry.now setting.counting setting.start station.old station.new }
+    { station.serve(rt, alloc, room, gate, setting) };
+    thread::for_each_mut(rt, stations, threads, &served);
 }
