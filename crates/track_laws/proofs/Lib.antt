@@ -16,3 +16,4 @@ pub mod YoungTracks
 pub mod ShownCells
 pub mod ShownTracks
 pub mod ShownLaws
+pub mod Kept

@@ -1,3 +1,4 @@
 -- To be read: public clauses speak of these.
+pub mod Kept
 pub mod Goods
 pub mod Shown

@@ -1,6 +1,7 @@
 // What is true of tracks under the calls of a room, whatever numbers they have given away.
 ghost use Rattle.track_laws.specs.Goods.{DissolvingKeepsGood, LinkingKeepsGood};
 ghost use Rattle.track_laws.specs.Goods.{MovingKeepsGood, PuttingInKeepsGood, ShiftingKeepsGood};
+ghost use Rattle.track_laws.specs.Kept.{DissolvesStandAtCuts, ItemsGoOn};
 ghost use Rattle.track_laws.specs.Shown.{PutsNothing, PutsOnlyItsThing};
 
 /// Where the tracks that a call names are all good in a table whose ranges end by 2^32, they are all good after the call
@@ -18,4 +19,11 @@ pub fn good_law()
 pub fn shown_law()
     ensures putting_in { PutsOnlyItsThing }
     ensures others { PutsNothing }
+{}
+
+/// What every track keeps, as an editor says it: of two frames side by side that belong to one item the later shows the
+/// next source frame of one thing, with the same link and no dissolve between them; and a dissolve stands at a cut.
+pub fn kept_law()
+    ensures items { ItemsGoOn }
+    ensures dissolves { DissolvesStandAtCuts }
 {}
