@@ -23,6 +23,10 @@ fn an_offset_is_the_record_frame_less_the_source_frame(rt: HostRuntime) -> Resul
     let view = ItemView::clip(0, What::Media(0), 16_777_215, 1);
     assert_eq!(rt; offset(&view, 0), Some(-16_777_215));
     assert_eq!(rt; offset(&view, 16_777_216), Some(1));
+    assert_eq!(rt;
+        offset(&ItemView::clip(1, What::Media(0), 4, 5), 1),
+        Some(-3)
+    );
     assert_eq!(rt; offset(&ItemView::gap(5), 7), None);
     Ok(())
 }

@@ -166,6 +166,9 @@ fn reels_stand_in_order_of_first_occurrence(rt: HostRuntime) -> Result<(), Fail>
     assert_eq!(rt; reels.name(2), Some("a001"));
     assert_eq!(rt; reels.name(3), Some("B002"));
     assert_eq!(rt; reels.name(4), None);
+    let long = "a reel whose name is far longer than any that a camera writes by itself";
+    assert_eq!(rt; reels.add(long)?, 4);
+    assert_eq!(rt; reels.name(4), Some(long));
     Ok(())
 }
 
@@ -245,15 +248,13 @@ fn an_item_holds_its_dissolves(rt: HostRuntime) {
 }
 
 #[test]
-fn parts_and_offsets_of_an_item(rt: HostRuntime) {
+fn parts_of_an_item(rt: HostRuntime) {
     let item = ItemView {
         mark: Some(Mark { a: 1, b: 1 }),
         ..ItemView::clip(1, REEL, 4, 5)
     };
     assert_eq!(rt; item.later(2), ItemView::clip(1, REEL, 6, 3));
     assert_eq!(rt; item.first_frames(2), ItemView { len: 2, ..item });
-    assert_eq!(rt; item.offset(1), Some(-3));
-    assert_eq!(rt; ItemView::gap(5).offset(1), None);
 }
 
 #[test]

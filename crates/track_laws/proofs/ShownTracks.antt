@@ -37,15 +37,15 @@ use Rattle.composables.specs.Joined.{frames_in}
 use Rattle.composables.specs.Limits.{too_long, too_many, track_within_limits, within_limits}
 use Rattle.composables.specs.Links.{links_split, moved_cell, outside_refusal, split_links, split_track}
 use Rattle.composables.specs.OwnTracks.{among_named, for_own, on_own, track_numbered, with_track}
-use Rattle.composables.specs.Ranges.{gap_at, is_cut, range_of}
+use Rattle.composables.specs.Ranges.{on_range, gap_at, is_cut, range_of}
 use Rattle.composables.specs.TrackState.{TrackState}
 use Rattle.composables.specs.Views.{clip_view, gap_views}
 use Rattle.dissolves.specs.Cuts.{dissolve_refusal}
 use Rattle.dissolves.specs.Marking.{dissolve_named, dissolve_on, mark_asked, marked_track, undissolve_named, undissolve_on, undissolve_refusal}
 use Rattle.edit_delta.specs.Nearest.{nearest}
 use Rattle.edit_delta.specs.Reaching.{earlier_side, going_on, reaching_back}
-use Rattle.edit_delta.specs.Using.{on_range, used_on}
-use Rattle.edit_insert.specs.Edits.{extract_named, extracted, for_range, insert_named, inserted, overwrite_named, overwrite_track, overwritten, remove_named, remove_track, slice_named, slice_track}
+use Rattle.edit_delta.specs.Using.{used_on, used_from}
+use Rattle.edit_insert.specs.Edits.{extract_named, extracted, insert_named, inserted, overwrite_named, overwrite_track, overwritten, remove_named, remove_track, slice_named, slice_track}
 use Rattle.edit_insert.specs.Fills.{fill_at, fill_named, fill_track, filled, frames_asked}
 use Rattle.edit_insert.specs.Sources.{refusal_in, source_refusal, suits}
 use Rattle.edit_roll.specs.Neighbours.{move_allows}
@@ -56,7 +56,7 @@ use Rattle.edit_splice.specs.Shifts.{after_shift, shift_of, shift_refusal, shift
 use Rattle.edit_splice.specs.Splicing.{spliced_track}
 use Rattle.edit_splice.proofs.Bridging.{for-found, is-numbered}
 use Rattle.edit_splice.proofs.Standing.{all_head, all_none, all_tail}
-use Rattle.edit_trim.specs.Rippling.{as_split, ripple_allows, ripple_end, ripple_named, ripple_own, rippled, used_on_all}
+use Rattle.edit_trim.specs.Rippling.{as_split, ripple_allows, ripple_end, ripple_named, ripple_own, rippled}
 use Rattle.edit_trim.specs.Slipping.{link_allows, link_slipped, slip_allows, slip_link, slip_named, slip_own, slip_range, slip_track, slip_with, slipped, track_moved}
 use Rattle.edit_trim.specs.Trimming.{trim_allows, trim_end, trim_named, trim_track, trimmed}
 use Rattle.link_groups.specs.ItemLinks.{link_of}
@@ -147,11 +147,11 @@ module _ (May : ℕ → What → Type 0) where
       for_own_shown own (λ t. among_named ts (meant t)) ts h (λ t n y. among_shown ts (meant t) h (each t n y))
 
   for_range_stays : (meant : ℕ → ℕ → Result (TrackState × Done) Refusal) (range : Option (ℕ × ℕ)) → ((x y : ℕ) → StaysShown May (meant x y))
-      → StaysShown May (for_range meant range)
+      → StaysShown May (on_range meant range)
   for_range_stays meant None h = tt
   for_range_stays meant (Some (x, y)) h = h x y
 
-  for_range_shown : (meant : ℕ → ℕ → Applied) (range : Option (ℕ × ℕ)) → ((x y : ℕ) → AreShown May (meant x y)) → AreShown May (for_range meant range)
+  for_range_shown : (meant : ℕ → ℕ → Applied) (range : Option (ℕ × ℕ)) → ((x y : ℕ) → AreShown May (meant x y)) → AreShown May (on_range meant range)
   for_range_shown meant None h = tt
   for_range_shown meant (Some (x, y)) h = h x y
 
@@ -365,7 +365,7 @@ module _ (May : ℕ → What → Type 0) where
 
   -- an end of an item, and all behind it
   used_shown : (ts : List TrackState) (moved : Done → ℤ → Applied) (d : ℤ) → All (IsShown May) ts → AreShown May (moved (By d) d)
-      → AreShown May (used_on_all ts moved d)
+      → AreShown May (used_from ts moved d)
   used_shown ts moved (pos zero) h m = h
   used_shown ts moved (pos (suc k)) h m = m
   used_shown ts moved (negsuc k) h m = m

@@ -31,7 +31,7 @@ use Rattle.composables.specs.Limits.{too_long, too_many, track_within_limits, wi
 use Rattle.composables.specs.Items.{cells_of}
 use Rattle.composables.specs.Links.{links_split, moved_cell, outside_refusal, split_links, split_track}
 use Rattle.composables.specs.OwnTracks.{among_named, for_own, on_own, track_numbered, with_track}
-use Rattle.composables.specs.Ranges.{gap_at, is_cut, range_of}
+use Rattle.composables.specs.Ranges.{on_range, gap_at, is_cut, range_of}
 use Rattle.composables.specs.TrackFacts.{NumbersBelow}
 use Rattle.composables.specs.TrackState.{TrackState}
 use Rattle.composables.specs.Views.{clip_view, gap_view, gap_views}
@@ -43,8 +43,8 @@ use Rattle.dissolves.specs.Cuts.{dissolve_refusal}
 use Rattle.dissolves.specs.Marking.{dissolve_named, dissolve_on, mark_asked, marked_track, undissolve_named, undissolve_on, undissolve_refusal}
 use Rattle.edit_delta.specs.Nearest.{nearest}
 use Rattle.edit_delta.specs.Reaching.{going_on, reaching_back}
-use Rattle.edit_delta.specs.Using.{on_range, used_on}
-use Rattle.edit_trim.specs.Rippling.{as_split, ripple_allows, ripple_end, ripple_named, ripple_own, rippled, used_on_all}
+use Rattle.edit_delta.specs.Using.{used_on, used_from}
+use Rattle.edit_trim.specs.Rippling.{as_split, ripple_allows, ripple_end, ripple_named, ripple_own, rippled}
 use Rattle.edit_trim.specs.Slipping.{cell_moved, link_allows, link_slipped, linked_moved, slip_allows, slip_link, slip_named, slip_own, slip_range, slip_track, slip_with, slipped, slipped_by, track_moved}
 use Rattle.edit_trim.specs.Trimming.{trim_allows, trim_end, trim_named, trim_track, trimmed}
 use Rattle.edit_insert.specs.Fills.{fill_at, fill_named, fill_track, filled, frames_asked}
@@ -54,7 +54,7 @@ use Rattle.edit_roll.specs.Sliding.{bare_item, links_refuse, slid, slide_allows,
 use Rattle.edit_splice.specs.Shifts.{after_shift, shift_of, shift_refusal, shifted, shifted_along, shifted_track}
 use Rattle.edit_splice.specs.Splicing.{spliced_track}
 use Rattle.edit_splice.proofs.Outcomes.{next-bounds}
-use Rattle.edit_insert.specs.Edits.{extract_named, extracted, for_range, insert_named, inserted, overwrite_named, overwrite_track, overwritten, remove_named, remove_track, slice_named, slice_track}
+use Rattle.edit_insert.specs.Edits.{extract_named, extracted, insert_named, inserted, overwrite_named, overwrite_track, overwritten, remove_named, remove_track, slice_named, slice_track}
 use Rattle.edit_splice.specs.Padding.{padded_track}
 use Rattle.edit_insert.specs.Sources.{source_refusal}
 use Rattle.edit_splice.proofs.Bridging.{for-found}
@@ -166,11 +166,11 @@ on-own-young n m own meant ts le h each =
     for_own_young n m own (λ t. among_named ts (meant t)) ts h (λ t y. among_young n m ts (meant t) le h (each t y))
 
 for_range_stays : (m : ℕ) (meant : ℕ → ℕ → Result (TrackState × Done) Refusal) (range : Option (ℕ × ℕ)) → ((x y : ℕ) → StaysYoung m (meant x y))
-    → StaysYoung m (for_range meant range)
+    → StaysYoung m (on_range meant range)
 for_range_stays m meant None h = tt
 for_range_stays m meant (Some (x, y)) h = h x y
 
-for_range_young : (m : ℕ) (meant : ℕ → ℕ → Applied) (range : Option (ℕ × ℕ)) → ((x y : ℕ) → AreYoung m (meant x y)) → AreYoung m (for_range meant range)
+for_range_young : (m : ℕ) (meant : ℕ → ℕ → Applied) (range : Option (ℕ × ℕ)) → ((x y : ℕ) → AreYoung m (meant x y)) → AreYoung m (on_range meant range)
 for_range_young m meant None h = tt
 for_range_young m meant (Some (x, y)) h = h x y
 
@@ -425,7 +425,7 @@ on_range_young m meant None h = tt
 on_range_young m meant (Some (x, y)) h = h x y
 
 used_young : (n : ℕ) (ts : List TrackState) (moved : Done → ℤ → Applied) (d : ℤ) → All (IsYoung n) ts → AreYoung (n + 2) (moved (By d) d)
-    → AreYoung (n + 2) (used_on_all ts moved d)
+    → AreYoung (n + 2) (used_from ts moved d)
 used_young n ts moved (pos zero) h m = all-more n (n + 2) ts (omega arith) h
 used_young n ts moved (pos (suc k)) h m = m
 used_young n ts moved (negsuc k) h m = m
