@@ -19,8 +19,8 @@ pub record IsTrackOf (table : Table) (number : ℕ) (t : TrackState) : Type 0 wh
   pub number_is : t.number ≡ number
 
 -- the tracks are those that a call names
-abbrev pub AreNamed : Call → List TrackState → Type 0
-AreNamed c named = map (λ (t : TrackState). t.number) named ≡ names_of c
+abbrev pub AreThoseNamed : Call → List TrackState → Type 0
+AreThoseNamed c named = map (λ (t : TrackState). t.number) named ≡ names_of c
 
 -- Tracks that a history can begin with: those of the table, in order, from 1 to 32; they have given away at most 65,536
 -- item numbers and no link number, and have no links. The source frames of each thing of the table end by 2^32.

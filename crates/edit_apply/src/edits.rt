@@ -5,7 +5,7 @@ ghost use Rattle.composables.specs.Good.{IsGood};
 ghost use Rattle.composables.specs.Items.{items_of};
 ghost use Rattle.composables.specs.Roomy.{IsRoomy};
 ghost use Rattle.edit_apply.specs.Apply.{applied_on, refuse_names_of};
-ghost use Rattle.edit_apply.specs.RoomTracks.{AreNamed};
+ghost use Rattle.edit_apply.specs.RoomTracks.{AreThoseNamed};
 
 use crate::Call;
 use composables::{Done, EditFault, Table, Track};
@@ -28,14 +28,14 @@ pub(crate) fn edit<L: Ledger>(
     steps: &mut Steps<L>,
 ) -> Result<Done, EditFault>
     requires names { refuse_names_of table.now call.now ≡ None }
-    requires named { AreNamed call.now parts.old.items }
+    requires named { AreThoseNamed call.now parts.old.items }
     requires good { All (λ t. IsGood table.now t) parts.old.items }
     requires roomy { All IsRoomy parts.old.items }
 
     ensures answers { Answers (applied_on table.now parts.old.items call.now) parts.old.items
         parts.new.items result }
 
-    ensures named { AreNamed call.now parts.new.items }
+    ensures named { AreThoseNamed call.now parts.new.items }
     ensures good { All (λ t. IsGood table.now t) parts.new.items }
 
     ensures least { steps.old + 1 ≤ steps.new }
