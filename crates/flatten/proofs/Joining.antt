@@ -1,6 +1,6 @@
 -- Runs joined where they go on.
 use Rattle.std.proofs.Common.{◌≡◌, ℕ, zero, suc, ◌+◌, ◌-◌, ◌<◌, ◌≤◌, Bool, true, false, cond, eqb, ◌&&◌, nat_eq, List, [], ◌∷◌, ◌++◌, Option, Some, length, get_or, drop, refl, sym, ap, ◌∙◌, arith, subst, append_assoc}
-use Rattle.std.proofs.lemmas.Bool.{and_parts, eq-eqb, eqb-true}
+use Rattle.std.proofs.lemmas.Bool.{eq-eqb}
 use Rattle.std.proofs.lemmas.List.{append-nil, length-append}
 use Rattle.frame_meaning.specs.declared.frames.Side.{Side}
 use Rattle.frame_meaning.specs.declared.frames.Side.TheVariants as side
@@ -11,6 +11,7 @@ use Rattle.frame_meaning.specs.Cells.{next_side}
 use Rattle.frame_meaning.specs.Going.{side_goes_on, frame_goes_on}
 use Rattle.frame_meaning.specs.RunFrames.{next_frame, frames_from, run_frames}
 use Rattle.frame_meaning.specs.Runs.{runs, with_frame}
+use Rattle.frame_meaning.proofs.Maximal.{frame-next, one-number}
 use Rattle.dissolves.specs.Pieces.{Reaches, later_frame}
 use Rattle.flatten.specs.Channels.{maximal_runs}
 use Rattle.flatten.specs.Strips.{IsFit, IsHeld, frames_of, held_frames}
@@ -33,33 +34,8 @@ frame_goes (Mix l r n d) =
     four (side_goes_on nat_eq l (next_side l)) (side_goes_on nat_eq r (next_side r)) (eqb d d) (eqb (n + 1) (n + 1))
     (side_goes l) (side_goes r) (eq-eqb d d refl) (eq-eqb (n + 1) (n + 1) refl)
 
-side_is_next : (s t : Side ℕ) → side_goes_on nat_eq s t ≡ true → t ≡ next_side s
-side_is_next side.Dark side.Dark h = refl
-side_is_next side.Dark (side.Pic w t) h = absurd cc
-side_is_next (side.Pic v s) side.Dark h = absurd cc
-side_is_next (side.Pic v s) (side.Pic w t) h =
-    let p = and_parts (eqb v w) (eqb t (s + 1)) h in
-    ap (λ (x : ℕ). side.Pic x t) (sym (eqb-true v w p.0)) ∙ ap (λ (n : ℕ). side.Pic v n) (eqb-true t (s + 1) p.1)
-
 pub frame_is_next : (f g : Frame ℕ) → frame_goes_on nat_eq f g ≡ true → g ≡ next_frame f
-frame_is_next Dark Dark h = refl
-frame_is_next Dark (Pic w t) h = absurd cc
-frame_is_next Dark (Mix l r n d) h = absurd cc
-frame_is_next (Pic v s) Dark h = absurd cc
-frame_is_next (Pic v s) (Pic w t) h =
-    let p = and_parts (eqb v w) (eqb t (s + 1)) h in
-    ap (λ (x : ℕ). Pic x t) (sym (eqb-true v w p.0)) ∙ ap (λ (n : ℕ). Pic v n) (eqb-true t (s + 1) p.1)
-frame_is_next (Pic v s) (Mix l r n d) h = absurd cc
-frame_is_next (Mix l r n d) Dark h = absurd cc
-frame_is_next (Mix l r n d) (Pic w t) h = absurd cc
-frame_is_next (Mix l r n d) (Mix l' r' n' d') h =
-    let p = and_parts ((side_goes_on nat_eq l l' && side_goes_on nat_eq r r') && eqb d d') (eqb n' (n + 1)) h in
-    let q = and_parts (side_goes_on nat_eq l l' && side_goes_on nat_eq r r') (eqb d d') p.0 in
-    let s = and_parts (side_goes_on nat_eq l l') (side_goes_on nat_eq r r') q.0 in
-    ap (λ (x : Side ℕ). Mix x r' n' d') (side_is_next l l' s.0)
-    ∙ (ap (λ (x : Side ℕ). Mix (next_side l) x n' d') (side_is_next r r' s.1)
-    ∙ (ap (λ (x : ℕ). Mix (next_side l) (next_side r) n' x) (sym (eqb-true d d' q.1))
-    ∙ ap (λ (x : ℕ). Mix (next_side l) (next_side r) x d) (eqb-true n' (n + 1) p.1)))
+frame_is_next f g h = frame-next ℕ nat_eq one-number f g h
 
 -- the runs after one more run in front
 abbrev pub with_run : Run ℕ → List (Run ℕ) → List (Run ℕ)

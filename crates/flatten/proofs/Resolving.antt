@@ -16,7 +16,7 @@ use Rattle.frame_meaning.specs.Numbered.{IsNumbered, SideIsNumbered}
 use Rattle.frame_meaning.specs.Render.{frame_of, render, shown_at}
 use Rattle.frame_meaning.specs.RunFrames.{AreMaximal, frames_from, next_frame, run_frames}
 use Rattle.frame_meaning.specs.Runs.{runs}
-use Rattle.frame_meaning.proofs.Maximal.{frames-runs, maximal-runs}
+use Rattle.frame_meaning.proofs.Maximal.{frames-runs, maximal-runs, one-what}
 use Rattle.composables.specs.declared.media.Media.{Media}
 use Rattle.composables.specs.TrackFacts.{IsKept}
 use Rattle.composables.specs.TrackState.{TrackState}
@@ -158,7 +158,7 @@ sound_run r h n =
       reaches = subst (λ (k : ℕ). Reaches r.frame k) (sym e) (reach_of r.frame (r.len - 1) (subst (λ (k : ℕ). EachIsNumbered (frames_from r.frame k)) e n));
     }
 
-sound_runs : (rs : List (Run What)) → AreMaximal rs → EachIsNumbered (flat_map run_frames rs) → AreTrackRuns rs
+sound_runs : (rs : List (Run What)) → AreMaximal same_what rs → EachIsNumbered (flat_map run_frames rs) → AreTrackRuns rs
 sound_runs [] m n = tt
 sound_runs (r ∷ []) m n = (sound_run r m (front_numbered (run_frames r) [] n), tt)
 sound_runs (r ∷ s ∷ rs) m n =
@@ -169,7 +169,7 @@ shown_sound t a b rs kept short is =
     let fs : List (Frame What) = cut a b (render t.cells) in
     let each : EachIsNumbered (render t.cells) = places_numbered (shown_at t.cells) 0 (length t.cells) (λ (q : ℕ) (l : q < 0 + length t.cells). kept_numbered t kept short q (omega (arith, l))) in
     let numbered : EachIsNumbered fs = take_numbered (b - a) (drop a (render t.cells)) (drop_numbered a (render t.cells) each) in
-    subst AreTrackRuns (sym is) (sound_runs (runs same_what fs) (maximal-runs fs) (subst EachIsNumbered (sym (frames-runs fs)) numbered))
+    subst AreTrackRuns (sym is) (sound_runs (runs same_what fs) (maximal-runs What same_what one-what fs) (subst EachIsNumbered (sym (frames-runs What same_what one-what fs)) numbered))
 
 pub sound_get : (rs : List (Run What)) (i : ℕ) (d : Run What) → i < length rs → AreTrackRuns rs → IsTrackRun (get_or rs i d)
 sound_get [] i d h s = absurd (omega arith)

@@ -1,9 +1,8 @@
 -- The maximal runs of a channel are its frames.
-use Rattle.std.proofs.Common.{◌≡◌, ℕ, suc, ◌+◌, ◌<◌, ◌^◌, Bool, true, false, cond, nat_eq, List, [], ◌∷◌, ◌++◌, map, length, refl, sym, ap, ◌∙◌, arith, subst}
+use Rattle.std.proofs.Common.{◌≡◌, ℕ, ◌+◌, ◌<◌, ◌^◌, Bool, true, false, cond, nat_eq, List, [], ◌∷◌, map, length, refl, sym, ap, arith, subst}
 use Rattle.frame_meaning.specs.declared.frames.Frame.{Frame}
 use Rattle.frame_meaning.specs.declared.frames.Run.{Run}
 use Rattle.frame_meaning.specs.Going.{frame_goes_on}
-use Rattle.frame_meaning.specs.RunFrames.{frames_from}
 use Rattle.frame_meaning.specs.Runs.{with_frame}
 use Rattle.composables.specs.declared.media.Kind.TheVariants.{Video, Audio}
 use Rattle.composables.specs.declared.media.Table.{Table}
@@ -13,7 +12,7 @@ use Rattle.flatten.specs.Nests.{frames_of_nests}
 use Rattle.flatten.specs.Segments.{AreFilled, CanBeCut, EachCanBeCut}
 use Rattle.flatten.specs.Strips.{AreBelow, frames_of}
 use Rattle.flatten.proofs.Building.{channels_below, video_short}
-use Rattle.flatten.proofs.Joining.{frame_is_next}
+use Rattle.frame_meaning.proofs.Maximal.{frames-runs, one-number}
 
 filled_with : (f : Frame ℕ) (rs : List (Run ℕ)) → AreFilled rs → AreFilled (with_frame nat_eq f rs)
 filled_with f [] h = (omega arith, tt)
@@ -26,19 +25,8 @@ filled_runs : (fs : List (Frame ℕ)) → AreFilled (maximal_runs fs)
 filled_runs [] = tt
 filled_runs (f ∷ fs) = filled_with f (maximal_runs fs) (filled_runs fs)
 
-frames_with : (f : Frame ℕ) (rs : List (Run ℕ)) → frames_of (with_frame nat_eq f rs) ≡ f ∷ frames_of rs
-frames_with f [] = refl
-frames_with f (r ∷ rs) = by_test (frame_goes_on nat_eq f r.frame) refl where
-  by_test : (b : Bool) → frame_goes_on nat_eq f r.frame ≡ b → frames_of (cond b (record { frame = f; len = r.len + 1 } ∷ rs) (record { frame = f; len = 1 } ∷ r ∷ rs)) ≡ f ∷ frames_of (r ∷ rs)
-  by_test true g =
-      let e : r.len + 1 ≡ suc r.len = omega arith in
-      ap (λ (k : ℕ). frames_from f k ++ frames_of rs) e
-      ∙ ap (λ (x : Frame ℕ). f ∷ frames_from x r.len ++ frames_of rs) (sym (frame_is_next f r.frame g))
-  by_test false g = refl
-
 pub frames_runs : (fs : List (Frame ℕ)) → frames_of (maximal_runs fs) ≡ fs
-frames_runs [] = refl
-frames_runs (f ∷ fs) = frames_with f (maximal_runs fs) ∙ ap (λ (gs : List (Frame ℕ)). f ∷ gs) (frames_runs fs)
+frames_runs fs = frames-runs ℕ nat_eq one-number fs
 
 pub can_be_cut : (rs : List (Run ℕ)) (fs : List (Frame ℕ)) → rs ≡ maximal_runs fs → length fs < 2 ^ 32 → CanBeCut rs
 can_be_cut rs fs is short = subst CanBeCut (sym is) (record { filled = filled_runs fs; short = omega (arith, ap length (frames_runs fs), short) })

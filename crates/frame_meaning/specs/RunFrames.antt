@@ -1,12 +1,11 @@
 -- The frames of runs, and what it is that runs are maximal.
-use Rattle.std.specs.Prelude.{◌≡◌, ℕ, zero, suc, ◌+◌, ◌-◌, ◌<◌, false, List, [], ◌∷◌}
+use Rattle.std.specs.Prelude.{◌≡◌, ℕ, zero, suc, ◌+◌, ◌-◌, ◌<◌, Bool, false, List, [], ◌∷◌}
 use Rattle.std.specs.List.{flat_map}
-use Rattle.frame_meaning.specs.declared.cells.What.{What}
 use Rattle.frame_meaning.specs.declared.frames.Frame.{Frame}
 use Rattle.frame_meaning.specs.declared.frames.Frame.TheVariants as frame
 use Rattle.frame_meaning.specs.declared.frames.Run.{Run}
 use Rattle.frame_meaning.specs.Cells.{next_side}
-use Rattle.frame_meaning.specs.Going.{frame_goes_on, same_what}
+use Rattle.frame_meaning.specs.Going.{frame_goes_on}
 use Rattle.frame_meaning.specs.Runs.{runs}
 
 -- the frame that goes on from one
@@ -31,16 +30,17 @@ run_frames r = frames_from r.frame r.len
 abbrev pub last_frame : {W : Type 0} → Run W → Frame W
 last_frame r = later_frame r.frame (r.len - 1)
 
--- no run is empty, and the first frame of none goes on from the last of the one before
-abbrev pub AreMaximal : List (Run What) → Type 0
-AreMaximal [] = Unit {0}
-AreMaximal (r ∷ []) = 0 < r.len
-AreMaximal (r ∷ s ∷ rs) = (0 < r.len) × (frame_goes_on same_what (last_frame r) s.frame ≡ false) × AreMaximal (s ∷ rs)
+-- no run is empty, and the first frame of none goes on from the last of the one before, where this says whether two
+-- things are one
+abbrev pub AreMaximal : {W : Type 0} → (W → W → Bool) → List (Run W) → Type 0
+AreMaximal eq [] = Unit {0}
+AreMaximal eq (r ∷ []) = 0 < r.len
+AreMaximal eq (r ∷ s ∷ rs) = (0 < r.len) × (frame_goes_on eq (last_frame r) s.frame ≡ false) × AreMaximal eq (s ∷ rs)
 
 -- the runs of frames, one after another, are the frames
-abbrev pub RunsAreTheFrames : Type 0
-RunsAreTheFrames = (frames : List (Frame What)) → flat_map run_frames (runs same_what frames) ≡ frames
+abbrev pub RunsAreTheFrames : (W : Type 0) → (W → W → Bool) → Type 0
+RunsAreTheFrames W eq = (frames : List (Frame W)) → flat_map run_frames (runs eq frames) ≡ frames
 
 -- and they are maximal
-abbrev pub RunsAreMaximal : Type 0
-RunsAreMaximal = (frames : List (Frame What)) → AreMaximal (runs same_what frames)
+abbrev pub RunsAreMaximal : (W : Type 0) → (W → W → Bool) → Type 0
+RunsAreMaximal W eq = (frames : List (Frame W)) → AreMaximal eq (runs eq frames)
