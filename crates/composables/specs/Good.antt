@@ -47,7 +47,3 @@ pub record IsGood (table : Table) (t : TrackState) : Type 0 where
 abbrev pub AllUnlinked : List ItemView → Type 0
 AllUnlinked [] = Unit {0}
 AllUnlinked (v ∷ vs) = (v.link ≡ None) × AllUnlinked vs
-
--- no item of these tracks is
-abbrev pub AreUnlinked : List TrackState → Type 0
-AreUnlinked tracks = All (λ (t : TrackState). AllUnlinked (items_of t.cells)) tracks

@@ -21,7 +21,7 @@ use Rattle.composables.specs.declared.refusals.Refusal.TheVariants.{DissolveRoom
 use Rattle.composables.specs.declared.refusals.Which.TheVariants.{Left, Right}
 use Rattle.composables.specs.Bounds.{bounds_of}
 use Rattle.composables.specs.Changes.{changed_at, changed_track, with_mark}
-use Rattle.composables.specs.Good.{IsGood, AllUnlinked, EachLiesIn, EachLinkOf, LiesIn, SideLiesIn}
+use Rattle.composables.specs.Good.{IsGood, EachLiesIn, EachLinkOf, LiesIn, SideLiesIn}
 use Rattle.composables.specs.Items.{marked, view_cells, cells_of, items_of}
 use Rattle.composables.specs.Joined.{frames_in, IsTight, AllFilled}
 use Rattle.composables.specs.TrackFacts.{Apart, EachHolds, HasSource, Holds, IsKept, IsNoNest, Lacks, NumbersBelow, first_mark, left_reach, right_reach}

@@ -12,7 +12,7 @@ use Rattle.composables.specs.declared.media.Table.{Table}
 use Rattle.composables.specs.Bounds.{bounds_of}
 use Rattle.composables.specs.declared.TheConstants.{MAX_FRAMES}
 use Rattle.composables.specs.Good.{IsGood, LiesIn, SideLiesIn}
-use Rattle.composables.specs.Items.{cell_in, items_of}
+use Rattle.composables.specs.Items.{cell_in}
 use Rattle.composables.specs.TrackFacts.{HasSource, Holds}
 use Rattle.composables.specs.TrackState.{TrackState}
 use Rattle.composables.specs.Views.{gap_view, gap_views, earlier_side}

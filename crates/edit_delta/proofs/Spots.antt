@@ -13,7 +13,7 @@ use Rattle.composables.specs.declared.items.ItemView.{ItemView}
 use Rattle.composables.specs.declared.items.Place.{Place}
 use Rattle.composables.specs.declared.media.Table.{Table}
 use Rattle.composables.specs.Bounds.{bounds_of}
-use Rattle.composables.specs.Good.{AllUnlinked, EachLiesIn, IsGood, LiesIn, SideLiesIn}
+use Rattle.composables.specs.Good.{EachLiesIn, IsGood, LiesIn, SideLiesIn}
 use Rattle.composables.specs.Items.{cell_in, cells_of, items_of, view_cells}
 use Rattle.composables.specs.Joined.{IsTight, frames_in}
 use Rattle.composables.specs.Places.{StandsAt}

@@ -1,5 +1,5 @@
 -- An edit by a delta. Where the delta used is 0 the track is unchanged, and the edit is done all the same.
-use Rattle.std.specs.Prelude.{◌≡◌, ℕ, zero, suc, ◌<◌, neg_ℤ, ℤ, pos, negsuc, Result, Ok}
+use Rattle.std.specs.Prelude.{◌≡◌, zero, suc, ◌<◌, neg_ℤ, ℤ, pos, negsuc, Result, Ok}
 use Rattle.edit_delta.specs.declared.deltas.Used.{Used}
 use Rattle.edit_delta.specs.declared.deltas.Way.{Way}
 use Rattle.edit_delta.specs.declared.deltas.Way.TheVariants.{Still, Later, Earlier}

@@ -1,7 +1,7 @@
 -- What the edits mean that put items into tracks and take them out. Overwrite, Insert, Remove and Slice are those of
 -- OpenTimelineIO's editAlgorithm; Extract, numbers of items, limits and edits over several tracks are this project's
 -- own.
-use Rattle.std.specs.Prelude.{ℕ, ◌+◌, ◌-◌, List, [], ◌∷◌, Option, Some, None, Result, Err, min, nat_lt, length, if◌then◌else◌}
+use Rattle.std.specs.Prelude.{ℕ, ◌+◌, ◌-◌, List, [], ◌∷◌, Result, Err, min, nat_lt, length, if◌then◌else◌}
 use Rattle.frame_meaning.specs.declared.cells.What.{What}
 use Rattle.composables.specs.declared.calls.Overwrite.{Overwrite}
 use Rattle.composables.specs.declared.calls.Insert.{Insert}

@@ -6,7 +6,7 @@ use Rattle.frame_meaning.specs.declared.cells.What.{What}
 use Rattle.composables.specs.declared.items.ItemView.{ItemView}
 use Rattle.composables.specs.declared.media.Table.{Table}
 use Rattle.composables.specs.Bounds.{bounds_of}
-use Rattle.composables.specs.Good.{AllUnlinked, LiesIn}
+use Rattle.composables.specs.Good.{LiesIn}
 use Rattle.composables.specs.Joined.{AllFilled}
 use Rattle.composables.specs.TrackFacts.{Holds, NumbersBelow}
 use Rattle.composables.specs.TrackState.{TrackState}

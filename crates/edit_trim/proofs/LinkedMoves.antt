@@ -13,7 +13,7 @@ use Rattle.frame_meaning.specs.Render.{moved}
 use Rattle.composables.specs.declared.items.ItemView.{ItemView}
 use Rattle.composables.specs.declared.media.Table.{Table}
 use Rattle.composables.specs.Changes.{changed_at, changed_track, side_from, with_source}
-use Rattle.composables.specs.Good.{AllUnlinked, IsGood, SideLiesIn}
+use Rattle.composables.specs.Good.{IsGood, SideLiesIn}
 use Rattle.composables.specs.Items.{cells_of, items_of, marked, view_cells}
 use Rattle.composables.specs.TrackFacts.{HasSource, left_reach, right_reach}
 use Rattle.composables.specs.TrackState.{TrackState}

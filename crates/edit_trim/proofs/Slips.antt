@@ -14,7 +14,7 @@ use Rattle.frame_meaning.specs.Render.{moved}
 use Rattle.composables.specs.declared.items.ItemView.{ItemView}
 use Rattle.composables.specs.declared.media.Table.{Table}
 use Rattle.composables.specs.Changes.{changed_at, changed_track, side_from, with_source}
-use Rattle.composables.specs.Good.{AllUnlinked, EachLiesIn, EachLinkOf, IsGood, SideLiesIn}
+use Rattle.composables.specs.Good.{EachLiesIn, EachLinkOf, IsGood, SideLiesIn}
 use Rattle.composables.specs.Items.{cells_of, items_of, marked, view_cells}
 use Rattle.composables.specs.Joined.{frames_in}
 use Rattle.composables.specs.TrackFacts.{Apart, EachHolds, HasSource, Holds, IsKept, IsNoNest, Lacks, NumbersBelow, ShowsAsItem, first_mark, left_reach, right_reach}

@@ -1,6 +1,5 @@
 -- A shift of good tracks leaves good tracks, also where it splits links.
 use Rattle.std.proofs.Common.{◌≡◌, ℕ, ◌+◌, ◌-◌, Bool, true, false, cond, eqb, List, [], ◌∷◌, All, map, Option, Some, None, Result, Ok, Err, refl, sym, ap, ◌∙◌, arith, subst}
-use Rattle.std.proofs.lemmas.List.Elements.{All-cons}
 use Rattle.frame_meaning.specs.declared.cells.Link.{Link}
 use Rattle.composables.specs.declared.items.ItemView.{ItemView}
 use Rattle.composables.specs.declared.media.Table.{Table}
@@ -10,7 +9,7 @@ use Rattle.out_of_memory.specs.declared.fault.Fault.TheVariants.{Refused, Memory
 use Rattle.composables.specs.declared.refusals.Refusal.{Refusal}
 use Rattle.composables.specs.Answers.{unless}
 use Rattle.out_of_memory.specs.Answers.{Answers}
-use Rattle.composables.specs.Good.{AllUnlinked, IsGood}
+use Rattle.composables.specs.Good.{IsGood}
 use Rattle.composables.specs.Items.{cells_of, items_of}
 use Rattle.composables.specs.Limits.{too_long, too_many, within_limits}
 use Rattle.composables.specs.Links.{count_at_home, moved_link, split_links}
@@ -20,9 +19,9 @@ use Rattle.edit_splice.specs.Moves.{all_moved}
 use Rattle.edit_splice.specs.Padding.{new_len}
 use Rattle.edit_splice.specs.Standing.{EachStaysGood, StaysGood}
 use Rattle.edit_splice.proofs.Bridging.{StaysMoved, each-shifted}
-use Rattle.edit_splice.proofs.Standing.{all_head, all_none, all_tail, each-self}
+use Rattle.edit_splice.proofs.Standing.{each-self}
 use Rattle.link_groups.specs.LinkedShifts.{linked_after, linked_refusal, linked_shift, split_items}
-use Rattle.link_groups.proofs.Relinking.{good-linked, items-linked, like-links, like-moved, linked_track, moved-linked, new_links}
+use Rattle.link_groups.proofs.Relinking.{good-linked, like-links, like-moved, linked_track, moved-linked, new_links}
 
 -- a track with another next link number is as good
 pub with_next : (table : Table) (t : TrackState) (n : ℕ) → IsGood table t → IsGood table (record t { next_link = n })

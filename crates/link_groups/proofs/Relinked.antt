@@ -12,7 +12,7 @@ use Rattle.frame_meaning.specs.Cells.{next_side, same_number, span}
 use Rattle.composables.specs.declared.items.ItemView.{ItemView}
 use Rattle.composables.specs.declared.media.Table.{Table}
 use Rattle.composables.specs.Changes.{changed_at, changed_track, with_link}
-use Rattle.composables.specs.Good.{AllUnlinked, EachLiesIn, EachLinkOf, IsGood, IsLinkOf, SideLiesIn}
+use Rattle.composables.specs.Good.{EachLiesIn, EachLinkOf, IsGood, IsLinkOf, SideLiesIn}
 use Rattle.composables.specs.Items.{cells_of, items_of, marked, view_cells}
 use Rattle.composables.specs.TrackFacts.{Apart, EachHolds, Holds, IsKept, Lacks, NumbersBelow, ShowsAsItem, first_mark, left_reach, right_reach}
 use Rattle.composables.specs.TrackState.{TrackState}

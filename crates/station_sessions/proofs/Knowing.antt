@@ -1,5 +1,5 @@
 -- A session that begins, and what it answered told by what its station knows.
-use Rattle.std.proofs.Common.{◌≡◌, ℕ, max, ◌+◌, ◌<◌, ◌≤◌, Bool, true, false, cond, eqb, ◌⊎◌, inl, inr, List, [], ◌∷◌, ◌++◌, drop, fold, length, Option, Some, None, IfSome, refl, sym, ap, ◌∙◌, arith, subst}
+use Rattle.std.proofs.Common.{◌≡◌, ℕ, max, ◌+◌, ◌<◌, ◌≤◌, Bool, true, false, cond, eqb, ◌⊎◌, inl, inr, List, [], ◌∷◌, ◌++◌, fold, Option, Some, None, IfSome, refl, sym, ap, arith, subst}
 use Rattle.std.specs.Option.{IsSomeAnd}
 use Rattle.timecode12.specs.Numbers.{Counted}
 use Rattle.line_words.specs.Lines.{Line as InputLine}

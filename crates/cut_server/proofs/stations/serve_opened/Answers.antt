@@ -1,4 +1,4 @@
-use Rattle.std.proofs.Common.{◌≡◌, ℕ, refl, subst}
+use Rattle.std.proofs.Common.{ℕ, refl, subst}
 use Rattle.cut_server.specs.Documents.{AreQuiet}
 use Rattle.cut_server.specs.Halls.{FileEnds, HallEnds}
 use Rattle.cut_server.proofs.Openings.{sound_opens}

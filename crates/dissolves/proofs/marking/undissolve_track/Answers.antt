@@ -1,7 +1,6 @@
 use Rattle.std.proofs.Common.{Ok, refl, sym, ap, ◌∙◌, subst}
 use Rattle.composables.specs.declared.refusals.Done.TheVariants.{Plain}
-use Rattle.composables.specs.Good.{IsGood, AllUnlinked}
-use Rattle.composables.specs.Items.{items_of}
+use Rattle.composables.specs.Good.{IsGood}
 use Rattle.composables.specs.TrackState.{TrackState}
 use Rattle.dissolves.proofs.Marked.{undissolve_marks, undissolve_refused}
 use Rattle.dissolves.proofs.marking.undissolve_track.Goals as goal

@@ -1,5 +1,4 @@
-use Rattle.std.proofs.Common.{List, ap, is_ok, refl, sym, subst, ◌∙◌, Ok, ◌≡◌, Option, Some, None}
-use Rattle.composables.specs.declared.refusals.Refusal.{Refusal}
+use Rattle.std.proofs.Common.{List, ap, is_ok, refl, sym, subst, ◌∙◌, Ok, ◌≡◌, Some, None}
 use Rattle.composables.specs.Limits.{over_limits, within_limits}
 use Rattle.composables.specs.TrackState.{TrackState}
 use Rattle.out_of_memory.proofs.Answered.{answers-memory}

@@ -1,10 +1,9 @@
-use Rattle.std.proofs.Common.{ℕ, None, Ok, Option, Result, refl, sym, ap, ◌∙◌, subst}
+use Rattle.std.proofs.Common.{ℕ, None, Ok, Option, Result, sym, ap, ◌∙◌, subst}
 use Rattle.composables.specs.declared.items.ItemView.{ItemView}
 use Rattle.composables.specs.declared.refusals.Done.{Done}
 use Rattle.composables.specs.declared.refusals.Done.TheVariants.{Plain}
 use Rattle.composables.specs.declared.refusals.Refusal.{Refusal}
-use Rattle.composables.specs.Good.{AllUnlinked, IsGood}
-use Rattle.composables.specs.Items.{items_of}
+use Rattle.composables.specs.Good.{IsGood}
 use Rattle.composables.specs.TrackState.{TrackState}
 use Rattle.link_groups.specs.LinkedItems.{linked_item}
 use Rattle.link_groups.specs.Linking.{where_there}
