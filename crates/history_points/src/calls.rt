@@ -1,8 +1,8 @@
 // One call on all parts of an object.
 ghost use Rattle.std.specs.Prelude.{◌≡◌, ◌+◌, ◌*◌, ◌≤◌, None, OnOk, All, sum_by};
-ghost use Rattle.out_of_memory.specs.Answers.{Answers};
 ghost use Rattle.room_core.specs.Parts.{AreGood, numbers};
 ghost use Rattle.room_core.specs.Whole.{picked, whole};
+ghost use Rattle.history_points.specs.InPlace.{AnswersInPlace};
 ghost use Rattle.history_points.specs.Slots.{present, IsWhole};
 
 use crate::Places;
@@ -29,7 +29,7 @@ fn apply_named<O: PartObject, L: Ledger>(
         (present slots.old.items) }
     requires roomy { All (O.roomy object.now) (present slots.old.items) }
     ensures whole { IsWhole slots.new.items }
-    ensures meant { Answers (whole (O.meaning object.now) (present slots.old.items) call.now)
+    ensures meant { AnswersInPlace (whole (O.meaning object.now) (present slots.old.items) call.now)
         (present slots.old.items) (present slots.new.items) result }
     ensures good { AreGood (O.good object.now) (numbers 0 (O.count object.now))
         (present slots.new.items) }
@@ -56,8 +56,8 @@ pub fn apply_in_place<O: PartObject, L: Ledger>(
     requires count { O.count object.now ≤ 32 }
     requires good { AreGood (O.good object.now) (numbers 0 (O.count object.now)) parts.old }
     requires roomy { All (O.roomy object.now) parts.old }
-    ensures meant { Answers (whole (O.meaning object.now) parts.old call.now) parts.old parts.new
-        result }
+    ensures meant { AnswersInPlace (whole (O.meaning object.now) parts.old call.now) parts.old
+        parts.new result }
     ensures good { AreGood (O.good object.now) (numbers 0 (O.count object.now)) parts.new }
     ensures least { OnOk result (steps.old + 1 ≤ steps.new) }
     ensures most { steps.new ≤ steps.old + 32 * sum_by

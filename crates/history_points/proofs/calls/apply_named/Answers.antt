@@ -3,6 +3,7 @@ use Rattle.out_of_memory.specs.Answers.{Answers}
 use Rattle.room_core.specs.Parts.{AreGood, AscendBetween, numbers}
 use Rattle.room_core.specs.Whole.{picked, put_back, whole}
 use Rattle.room_core.proofs.WholeParts.{good_picked, roomy_picked, good_put_back}
+use Rattle.history_points.specs.InPlace.{AnswersInPlace}
 use Rattle.history_points.specs.Slots.{present, emptied}
 use Rattle.history_points.proofs.NamedCalls.{good-count, good-length, whole-length, all_below, length-emptied, answers_whole, now_filled, filled-whole, filled-present}
 use Rattle.history_points.proofs.calls.apply_named.Given as given
@@ -66,7 +67,7 @@ returns-clause-meant g c =
     let naming = g.met.O.PartObject.named o c.args.call.now c.requires.named in
     let count = good-count (g.O.PartObject.good o) (g.O.PartObject.count o) parts c.requires.good in
     let were = c.take_out.ensures.named ∙ ap (picked parts) c.requires.names in
-    subst (λ ps. Answers (whole m parts c.args.call.now) parts ps c.apply-result.result) (sym (filled-present c.put_in.new.slots.items _ (filled g c)))
+    subst (λ ps. AnswersInPlace (whole m parts c.args.call.now) parts ps c.apply-result.result) (sym (filled-present c.put_in.new.slots.items _ (filled g c)))
     (answers_whole m parts c.apply-result.new.parts.items c.args.call.now 0 c.apply-result.result c.requires.named
     (subst (λ (k : ℕ). AscendBetween 0 k named) (sym count) naming.ascend)
     (subst (λ ps. Answers (m.applied ps c.args.call.now) ps c.apply-result.new.parts.items c.apply-result.result) were c.apply-result.ensures.meant))
