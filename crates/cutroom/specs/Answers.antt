@@ -3,9 +3,9 @@ use Rattle.std.specs.Prelude.{◌≡◌, ℕ, ◌⊎◌, List, [], ◌∷◌, Op
 use Rattle.room_ports.specs.Bytes.{Takes, TakesFront}
 use Rattle.room_ports.specs.Counts.{HasRisen}
 use Rattle.cut_server.specs.Commands.{command_of}
-use Rattle.cut_server.specs.Documents.{FilesTold}
-use Rattle.cut_server.specs.Halls.{HallTold}
-use Rattle.station_sessions.specs.Outside.{Outside}
+use Rattle.room_files.specs.Files.{FilesTold}
+use Rattle.room_halls.specs.Stations.{HallTold}
+use Rattle.cut_server.specs.Ports.{Change, InputTold, OutputTold}
 use Rattle.cut_server.specs.Runs.{CommandEnds, EndsWith}
 use Rattle.cutroom.specs.declared.notice.Notice.{Notice}
 use Rattle.cutroom.specs.declared.notice.Notice.TheVariants.{Help, Version}
@@ -18,16 +18,17 @@ notice_of (word ∷ []) = if bytes_eq word (codes "--help") then Some Help else 
 notice_of (word ∷ next ∷ words) = None
 
 -- the notice was written, or a write failed after a front of it
-abbrev pub NoticeEnds : Notice → Outside → Outside → ℕ → Type 0
+abbrev pub NoticeEnds : Notice → OutputTold → OutputTold → ℕ → Type 0
 NoticeEnds notice old new status =
-    ((status ≡ 0) × (new.writes ≡ old.writes) × Takes old.taken new.taken (text_of notice))
-    ⊎ ((status ≡ 2) × HasRisen old.writes new.writes × TakesFront old.taken new.taken (text_of notice))
+    ((status ≡ 0) × (new.faults ≡ old.faults) × Takes old.taken new.taken (text_of notice))
+    ⊎ ((status ≡ 2) × HasRisen old.faults new.faults × TakesFront old.taken new.taken (text_of notice))
 
--- `Unfiled`, `Unhalled`, `Unread` and `Unwritten` say that the files, the hall, the input and the output are as they were
-module _ (before after : FilesTold) (Unfiled : Type 0) (hall halls : HallTold) (Unhalled : Type 0) (old new : Outside) (Unread Unwritten : Type 0) where
+-- by what its files, its input, its output and its hall told before and tell after
+module _ (files : Change FilesTold) (input : Change InputTold) (output : Change OutputTold) (hall : Change HallTold) where
   abbrev pub EndsBy : Option Notice → List (List ℕ) → ℕ → Type 0
-  EndsBy (Some notice) words status = Unfiled × Unhalled × Unread × NoticeEnds notice old new status
-  EndsBy None words status = EndsWith status (CommandEnds before after Unfiled hall halls Unhalled old new Unread Unwritten (command_of words))
+  EndsBy (Some notice) words status =
+      files.Untouched × input.Untouched × hall.Untouched × NoticeEnds notice output.before output.after status
+  EndsBy None words status = EndsWith status (CommandEnds files input output hall (command_of words))
 
   abbrev pub ProgramEnds : List (List ℕ) → ℕ → Type 0
   ProgramEnds words status = EndsBy (notice_of words) words status

@@ -1,8 +1,6 @@
 // What the program answers to its words.
 ghost use Rattle.std.specs.Prelude.{◌≡◌};
-ghost use Rattle.cut_server.specs.Documents.{files_told};
-ghost use Rattle.cut_server.specs.Halls.{hall_told};
-ghost use Rattle.station_sessions.specs.Outside.{outside};
+ghost use Rattle.cut_server.specs.Ports.{change, input_told, output_told};
 ghost use Rattle.cutroom.specs.Answers.{ProgramEnds, complaint_of};
 
 use crate::notice::Notice;
@@ -26,18 +24,10 @@ pub fn answer<R: Threads + Wait + Sync, F: Files, S: Source, K: Sink, H: Hall>(
     output: &mut K,
     hall: &mut H,
 ) -> u8
-    ensures { ProgramEnds
-        (files_told (F.file files.old) (F.read_faults files.old) (F.write_faults files.old))
-        (files_told (F.file files.new) (F.read_faults files.new) (F.write_faults files.new))
-        (files.new ≡ files.old)
-        (hall_told (H.told hall.old) (H.faults hall.old))
-        (hall_told (H.told hall.new) (H.faults hall.new))
-        (hall.new ≡ hall.old)
-        (outside (S.left input.old) (S.read_faults input.old) (K.taken output.old)
-        (K.write_faults output.old))
-        (outside (S.left input.new) (S.read_faults input.new) (K.taken output.new)
-        (K.write_faults output.new))
-        (input.new ≡ input.old) (output.new ≡ output.old) words.now result }
+    ensures { ProgramEnds (change F.told files.old files.new)
+        (change (input_told S.left S.read_faults) input.old input.new)
+        (change (output_told K.taken K.write_faults) output.old output.new)
+        (change H.told hall.old hall.new) words.now result }
 {
     match Notice::asked_by(words) {
         Some(notice) => notice.tell(output),

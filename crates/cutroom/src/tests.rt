@@ -10,6 +10,25 @@ use std::alloc::Global;
 use std::sync::Wait;
 use std::thread::Threads;
 
+// The help, word for word.
+const HELP_TEXT: &str = "\
+usage: cutroom COMMAND
+
+run TRACKS REELS   one station on an empty cut: lines from standard input; replies, then the journal, to standard output
+run DOC RATE DROP  the same on the cut that a document describes
+serve DOC RATE DROP STATIONS ADDRESS JOURNAL
+                   that many stations at once on such a cut, each over a connection to ADDRESS; the journal to the file JOURNAL
+--help             this text
+--version          the version
+
+TRACKS is 1 to 16 and REELS is 0 to 999. DOC is the path of an OpenTimelineIO file, RATE is its frames a second, one of
+23.976, 24, 25, 29.97 and 30, and DROP is ndf, or drop at 29.97. STATIONS is 1 to 16, and ADDRESS is as localhost:7000.
+
+Examples:
+  printf 'items 0\\nview 0 0 96\\n' | cutroom run examples/kitchen.otio 24 ndf
+  printf 'overwrite 0 10 @0 100 5\\nview 0 0 15\\n' | cutroom run 2 1
+";
+
 fn words_in(alloc: Global, texts: &[&str]) -> Result<Words, Memory> {
     let mut words = Words::new(alloc);
     for text in texts {
@@ -44,7 +63,10 @@ fn a_lone_word_asks_for_a_notice(rt: HostRuntime) -> Result<(), Memory> {
 #[test]
 fn a_notice_is_told_whole_or_is_a_write_fault(rt: HostRuntime) -> Result<(), Memory> {
     let alloc = rt.alloc();
-    for (notice, text) in [(Notice::Help, HELP), (Notice::Version, "cutroom 0.1\n")] {
+    for (notice, text) in [
+        (Notice::Help, HELP_TEXT),
+        (Notice::Version, "cutroom 0.1\n"),
+    ] {
         let mut sink = MemSink::new(alloc, Vec::new(alloc));
         assert_eq!(rt; notice.tell(&mut sink), 0);
         assert!(rt; sink.bytes() == Some(text.as_bytes()));
