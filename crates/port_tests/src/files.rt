@@ -172,9 +172,11 @@ fn files_of_the_system_are_read_whole(rt: HostRuntime) -> Result<(), AllocError>
         Write("none/a", "x"),
         Write("empty", ""),
         Read("empty", 0),
+        // a directory can be opened, and its read fails
+        Read(".", 9),
     ];
     let answers = files_log(alloc, &mut files, &steps)?;
-    assert!(rt; answers.as_slice() == "!.text/>.new/!./".as_bytes());
+    assert!(rt; answers.as_slice() == "!.text/>.new/!./!".as_bytes());
 
     // more than one piece
     let long = vec![in alloc; b'x'; 40000]?;

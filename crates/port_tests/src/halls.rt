@@ -1,11 +1,14 @@
 // What each hall answers, call by call.
-use room_halls::{Hall, HallFault, MemHall, SureHall, SurePair, TcpHall};
+use room_halls::{Hall, HallFault, HallLine, MemHall, SureHall, SurePair, TcpHall};
 use room_ports::{
-    Gate, Line, MemLine, MemSink, MemSource, Memory, OpenGate, SureSink, SureSource, put,
+    Gate, Line, MemLine, MemSink, MemSource, Memory, OpenGate, Sink, Source, SureSink, SureSource,
+    put,
 };
 use std::alloc::{AllocError, Global};
+use std::fs::{self, File};
 use std::io::{self, Read, Write};
-use std::net::TcpStream;
+use std::net::{Shutdown, TcpStream};
+use std::time::Duration;
 
 // One piece of these bytes.
 fn piece_of(alloc: Global, text: &str) -> Result<Vec<Vec<u8>>, AllocError> {
@@ -145,5 +148,72 @@ fn a_connection_is_a_line(rt: HostRuntime) -> io::Result<()> {
     assert!(rt; client.read(&mut buffer)? == 3);
     assert!(rt; buffer[0] == b'a' && buffer[2] == b'c');
     assert!(rt; client.read(&mut buffer)? == 0);
+    Ok(())
+}
+
+// The peer reads to the end of what was written while the line is still there, and the hall tells of it all.
+#[test]
+fn a_session_that_ends_lets_its_peer_go(rt: HostRuntime) -> io::Result<()> {
+    let alloc = rt.alloc();
+    let told = File::create(&rt, "told")?;
+    let mut hall = TcpHall::new(alloc, &rt, &told);
+    assert!(rt; hall.open("127.0.0.1:0").is_ok());
+    let Some(address) = hall.address() else {
+        panic!(rt; "the hall has no address");
+    };
+    let mut client = TcpStream::connect(&rt, address)?;
+    client.set_read_timeout(Some(Duration::from_secs(10)))?;
+    assert!(rt; client.write("abc".as_bytes())? == 3);
+    client.shutdown(Shutdown::Write)?;
+    let Ok(line) = hall.seat_station(alloc, 3) else {
+        panic!(rt; "the station was not seated");
+    };
+    let mut line = line;
+    assert_eq!(rt; echo(alloc, &mut line)?.as_str(), "abc/");
+    assert_eq!(rt; echo(alloc, &mut line)?.as_str(), "/");
+    line.leave();
+    let mut buffer = [0u8; 16];
+    assert!(rt; client.read(&mut buffer)? == 3);
+    assert!(rt; client.read(&mut buffer)? == 0);
+    hall.stand_up(3, line);
+
+    let peer = client.local_addr()?;
+    let lines = format!(in alloc;
+        "cutroom: listening at {address}\ncutroom: station 3 sat down, from {peer}\ncutroom: station 3 left, its lines are read to their end\n"
+    )?;
+    assert_eq!(rt; fs::read_to_string(&rt, "told")?.as_str(), lines.as_str());
+    Ok(())
+}
+
+// The peer goes away with bytes that it has not read, so that the connection is reset.
+#[test]
+fn a_connection_that_breaks_is_a_fault(rt: HostRuntime) -> io::Result<()> {
+    let alloc = rt.alloc();
+    let told = File::create(&rt, "told")?;
+    let mut hall = TcpHall::new(alloc, &rt, &told);
+    assert!(rt; hall.open("127.0.0.1:0").is_ok());
+    let Some(address) = hall.address() else {
+        panic!(rt; "the hall has no address");
+    };
+    let mut client = TcpStream::connect(&rt, address)?;
+    let peer = client.local_addr()?;
+    let Ok(line) = hall.seat_station(alloc, 0) else {
+        panic!(rt; "the station was not seated");
+    };
+    let mut line = line;
+    assert!(rt; put(&mut line, "abc".as_bytes()).is_ok());
+    let mut buffer = [0u8; 16];
+    assert!(rt; client.read(&mut buffer[..1])? == 1);
+    drop(client);
+    assert!(rt; line.read(&mut buffer).is_err());
+    line.leave();
+    assert!(rt; line.write("d".as_bytes()).is_err());
+    line.leave();
+    hall.stand_up(0, line);
+
+    let lines = format!(in alloc;
+        "cutroom: listening at {address}\ncutroom: station 0 sat down, from {peer}\ncutroom: station 0 left, a read of its line failed\ncutroom: station 0 left, a write to its line failed\n"
+    )?;
+    assert_eq!(rt; fs::read_to_string(&rt, "told")?.as_str(), lines.as_str());
     Ok(())
 }

@@ -176,6 +176,19 @@ impl Read for BrokenReader {
     }
 }
 
+// A reader that is at its end.
+#[derive(Drop)]
+struct EndedReader {
+    reads: u32,
+}
+
+impl Read for EndedReader {
+    fn read(&mut self, _into: &mut [u8]) -> io::Result<usize> {
+        self.reads = self.reads.saturating_add(1);
+        Ok(0)
+    }
+}
+
 // A writer that takes at most so many bytes a write, and fails once, at the write of that number from 1.
 #[derive(Drop)]
 struct SlowWriter {
@@ -224,6 +237,10 @@ fn a_standard_source_reads_once_a_call(rt: HostRuntime) -> Result<(), AllocError
     let given = read_log(alloc, &mut StdSource::new(&mut broken), 4, 3)?;
     assert!(rt; given.as_slice() == "ab/!ab/".as_bytes());
     assert_eq!(rt; broken.reads, 3);
+    let mut ended = EndedReader { reads: 0 };
+    let given = read_log(alloc, &mut StdSource::new(&mut ended), 4, 3)?;
+    assert!(rt; given.as_slice() == "///".as_bytes());
+    assert_eq!(rt; ended.reads, 3);
     Ok(())
 }
 
