@@ -8,8 +8,7 @@ use Rattle.room_core.specs.Whole.{Meaning, whole}
 use Rattle.edit_journal.specs.Turns.{Known}
 use Rattle.edit_journal.specs.declared.log.CopyFault.{CopyFault}
 use Rattle.edit_journal.specs.Faults.{SaysNoPoint}
-use Rattle.cut_room.specs.declared.answers.CutFault.{CutFault}
-use Rattle.cut_room.specs.declared.answers.CutFault.TheVariants.{Memory}
+use Rattle.edit_journal.specs.declared.log.CopyFault.TheVariants.{NoPoint, Memory}
 use Rattle.cut_room.specs.Rooms.{IsAtPoint, IsCopied, IsCut}
 use Rattle.cut_room.proofs.Journals.{front_applies}
 use Rattle.cut_room.proofs.Passes.{comes_to}
@@ -35,11 +34,17 @@ pub copied_length : {A : Type 0} (xs copied : List A) (n : ℕ) → n ≤ length
 copied_length xs copied n le is = let count = ap length is in omega (arith, count, length-take-le n xs le, le)
 
 -- what the copied front comes to is the cut
-pub cut_of : {O P C D R : Type 0} (m : Meaning P C D R) (opening : List P) (before after : Known O P C) (n : ℕ) (copied : List (Entry C)) (r : Result (Vec P Global) CutFault)
+pub cut_of : {O P C D R : Type 0} (m : Meaning P C D R) (opening : List P) (before after : Known O P C) (n : ℕ) (copied : List (Entry C)) (r : Result (Vec P Global) CopyFault)
     → IsAtPoint m opening before after (length after.entries) → copied ≡ take n after.entries → n ≤ length after.entries
     → IfOk r (λ ps. replay (whole m) opening (take n copied) ≡ Some ps.items) → IfErr r (λ f. f ≡ Memory) → IsCut m opening n before after r
 cut_of {O} {P} {C} m opening before after n copied (Ok parts) at is le comes fault =
     let front : take n after.entries ≡ take n copied =
     sym (take-take n n after.entries (omega arith)) ∙ ap (λ (l : List (Entry C)). take n l) (sym is) in
     (at.stays, le, ap (λ (l : List (Entry C)). replay (whole m) opening l) front ∙ comes)
-cut_of m opening before after n copied (Err f) at is le comes fault = subst (λ (f : CutFault). IsCut m opening n before after (Err f)) (sym fault) at.stays
+cut_of m opening before after n copied (Err f) at is le comes fault = subst (λ (f : CopyFault). IsCut m opening n before after (Err f)) (sym fault) (at.stays, le)
+
+-- why the front was not copied is why there is no cut
+pub cut_fault : {O P C D R : Type 0} (m : Meaning P C D R) (opening : List P) (before after : Known O P C) (n : ℕ) (f : CopyFault)
+    → IsAtPoint m opening before after (length after.entries) → SaysNoPoint f n (length after.entries) → IsCut m opening n before after (Err f)
+cut_fault m opening before after n (NoPoint count) at says = (subst (λ k. IsAtPoint m opening before after k) (sym says.1) at, omega (arith, says.0, says.1))
+cut_fault m opening before after n Memory at says = (at.stays, says)

@@ -1,5 +1,5 @@
 -- What a pass knows after a turn at the journal.
-use Rattle.std.proofs.Common.{◌≡◌, ℕ, suc, ◌+◌, ◌<◌, ◌≤◌, List, [], ◌∷◌, ◌++◌, length, Bool, true, ◌==◌, cond, Option, Some, None, Result, Ok, Err, IsSome, slice_get, refl, sym, ap, ◌∙◌, subst, arith, option_map, take}
+use Rattle.std.proofs.Common.{◌≡◌, ℕ, suc, ◌<◌, ◌≤◌, List, [], ◌∷◌, ◌++◌, length, Bool, true, ◌==◌, cond, Option, Some, None, Result, Ok, Err, IsSome, slice_get, refl, sym, ap, ◌∙◌, subst, arith, option_map, take}
 use Rattle.std.proofs.lemmas.List.{append-nil, length-append}
 use Rattle.std.proofs.Math.Seq.{take-append_seam}
 use Rattle.std.proofs.lemmas.List.Elements.{filter-append}

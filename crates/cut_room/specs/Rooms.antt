@@ -9,13 +9,12 @@ use Rattle.room_core.specs.Whole.{Meaning, picked, whole}
 use Rattle.edit_journal.specs.Seats.{Begins}
 use Rattle.edit_journal.specs.Turns.{Known}
 use Rattle.edit_journal.specs.declared.log.CopyFault.{CopyFault}
+use Rattle.edit_journal.specs.declared.log.CopyFault.TheVariants as fault
 use Rattle.edit_journal.specs.Faults.{SaysNoPoint}
 use Rattle.cut_room.specs.declared.answers.Answer.{Answer}
 use Rattle.cut_room.specs.declared.answers.Answer.TheVariants as answer
 use Rattle.cut_room.specs.declared.answers.Sight.{Sight}
 use Rattle.cut_room.specs.declared.answers.Sight.TheVariants as sight
-use Rattle.cut_room.specs.declared.answers.CutFault.{CutFault}
-use Rattle.cut_room.specs.declared.answers.CutFault.TheVariants as fault
 
 -- what a question is answered by these parts: by the part that it is about, or why it is about none
 abbrev pub told : {P S Q : Type 0} → Result ℕ Q → (P → Result S Q) → List P → Option (Result S Q)
@@ -113,7 +112,7 @@ IsCopied n entries (Ok copied) = (copied.items ≡ take n entries) × (n ≤ len
 IsCopied n entries (Err f) = SaysNoPoint f n (length entries)
 
 -- the parts after so many of the entries that the pass knows now
-abbrev pub IsCut : {O P C D R : Type 0} → Meaning P C D R → List P → ℕ → Known O P C → Known O P C → Result (Vec P Global) CutFault → Type 0
+abbrev pub IsCut : {O P C D R : Type 0} → Meaning P C D R → List P → ℕ → Known O P C → Known O P C → Result (Vec P Global) CopyFault → Type 0
 IsCut m opening n before after (Ok parts) = Stays m opening before after × (n ≤ length after.entries) × (replay (whole m) opening (take n after.entries) ≡ Some parts.items)
 IsCut m opening n before after (Err (fault.NoPoint count)) = IsAtPoint m opening before after count × (count < n)
-IsCut m opening n before after (Err fault.Memory) = Stays m opening before after
+IsCut m opening n before after (Err fault.Memory) = Stays m opening before after × (n ≤ length after.entries)

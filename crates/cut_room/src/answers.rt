@@ -1,8 +1,5 @@
 // What a room answers, with the point of the answer in the journal. A point counts entries.
-ghost use Rattle.std.specs.Prelude.{◌≡◌};
-ghost use Rattle.cut_room.specs.declared.answers.CutFault.TheVariants.{Memory as NoMemory};
-
-use room_core::{Memory, PartObject};
+use room_core::PartObject;
 
 /// What an edit is answered.
 #[derive(Drop)]
@@ -24,20 +21,4 @@ pub enum Sight<O: PartObject> {
     Refused { point: u32, refusal: O::AskRefusal },
     /// Want of memory.
     Memory,
-}
-
-/// Why there is no cut.
-#[derive(Clone, Copy, Debug, PartialEq, Eq)]
-pub enum CutFault {
-    /// The journal has only so many entries.
-    NoPoint(u32),
-    Memory,
-}
-
-impl From<Memory> for CutFault {
-    ghost from_gives = { λ _ e. e ≡ NoMemory };
-
-    fn from(_: Memory) -> Self {
-        CutFault::Memory
-    }
 }

@@ -4,17 +4,17 @@ ghost use Rattle.out_of_memory.specs.Answers.{Tells};
 ghost use Rattle.room_core.specs.History.{IsLegal, most_entries, replay};
 ghost use Rattle.room_core.specs.Parts.{AreGood, numbers};
 ghost use Rattle.room_core.specs.Whole.{set_of, whole};
+ghost use Rattle.edit_journal.specs.declared.log.CopyFault.TheVariants.{Memory as NoMemory};
 ghost use Rattle.edit_journal.specs.declared.name.Name.TheVariants.{Station};
 ghost use Rattle.edit_journal.specs.Seats.{Agrees, In};
 ghost use Rattle.edit_journal.specs.Turns.{AreFresh, last_of};
 ghost use Rattle.track_locks.specs.Homes.{AreGoodAt, AreHomes};
 ghost use Rattle.cut_room.specs.Gathered.{ComesTo};
-ghost use Rattle.cut_room.specs.declared.answers.CutFault.TheVariants.{Memory as NoMemory};
 ghost use Rattle.cut_room.specs.Rooms.{Edited, IsAtPoint, IsCopied, IsCut, Looked, TakesAtMost, stood_before};
 
 use crate::committing::{Appended, append, gather, give_back, settle};
 use crate::{Answer, CutFault, Sight};
-use edit_journal::{Beginning, Blank, CopyFault, Journal, MOST_ENTRIES, Naming, Pass};
+use edit_journal::{Beginning, Blank, Journal, MOST_ENTRIES, Naming, Pass};
 use history_points::{ReplayFault, copy_parts, replay};
 use room_core::{Entry, Fault, Memory, PartObject};
 use room_ports::Gate;
@@ -233,7 +233,10 @@ impl<O: PartObject + Drop, J: Naming<O, O::Part>> Room<O, J> {
         }
     }
 
-    // Puts an entry into the journal whose call left these parts of those that are held.
+    // Puts an entry into the journal whose call left these parts of those that are held. The call was done on what the
+    // entries known to their seats come to; behind all entries that stand at the turn it does the same, since no other
+    // has named these parts. It then puts the parts back as the call left them or, where there is no room for the
+    // entry, as they were.
     fn commit<R: Wait>(
         &self,
         rt: &R,
@@ -372,7 +375,7 @@ impl<O: PartObject + Drop, J: Naming<O, O::Part>> Room<O, J> {
         alloc: Global,
         pass: Pass<O, J>,
         n: u32,
-    ) -> (Pass<O, J>, Result<Vec<Entry<O::Call>>, CopyFault>)
+    ) -> (Pass<O, J>, Result<Vec<Entry<O::Call>>, CutFault>)
         ensures at { IsAtPoint (O.meaning self.now.0) self.now.1 pass result.0
             (length result.0.entries) }
         ensures copied { IsCopied n result.0.entries result.1 }
@@ -405,8 +408,7 @@ impl<O: PartObject + Drop, J: Naming<O, O::Part>> Room<O, J> {
                 let parts = self.replayed(alloc, &entries, n);
                 (pass, parts)
             }
-            Err(CopyFault::NoPoint(length)) => (pass, Err(CutFault::NoPoint(length))),
-            Err(CopyFault::Memory) => (pass, Err(CutFault::Memory)),
+            Err(fault) => (pass, Err(fault)),
         }
     }
 
@@ -432,7 +434,7 @@ impl<O: PartObject + Drop, J: Naming<O, O::Part>> Room<O, J> {
         }
     }
 
-    /// Ends the room and gives the journal's entries.
+    /// Ends the room, with the passes of all its stations, and gives the journal's entries.
     pub fn close(self, passes: Vec<Pass<O, J>>) -> Vec<Entry<O::Call>>
         requires all { (s : ℕ) → s < J.stations → In s (map (λ p. p.number) passes.items) }
         ensures legal { IsLegal (whole (O.meaning self.0)) self.1 result.items }

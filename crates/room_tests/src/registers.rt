@@ -184,6 +184,21 @@ fn first_of<J: Naming<Registers, u32>, R: Wait>(
     entries
 }
 
+// The entries from one on, at most so many.
+fn some_of<J: Naming<Registers, u32>, R: Wait>(
+    rt: &R,
+    alloc: Global,
+    journal: &Journal<Registers, J>,
+    object: &Registers,
+    from: u32,
+    most: u32,
+) -> Result<Vec<Written>, CopyFault> {
+    let turn = journal.lock(rt);
+    let entries = turn.entries(alloc, object, from, most);
+    turn.release();
+    entries
+}
+
 fn last_of_each<J: Naming<Registers, u32>>(
     seats: &mut Vec<PartSeat<Registers, J>>,
     passes: &mut Vec<Pass<Registers, J>>,
@@ -194,12 +209,15 @@ fn last_of_each<J: Naming<Registers, u32>>(
     }
 }
 
-// What was answered to four writes and two copies, the last number of station 1, and the journal's entries.
+// What was answered to four writes and five copies, the last number of station 1, and the journal's entries.
 #[derive(Drop)]
 struct Outcome {
     places: [Option<u32>; 4],
     first_two: Vec<Written>,
+    middle: Vec<Written>,
+    at_end: Vec<Written>,
     too_many: Option<CopyFault>,
+    past_end: Option<CopyFault>,
     last: u32,
     all: Vec<Written>,
 }
@@ -228,13 +246,19 @@ fn told<J: Naming<Registers, u32>, R: Wait>(
     let (_, one) = tokens;
     let first_two = first_of(rt, alloc, &journal, object, 2).ok()?;
     let too_many = first_of(rt, alloc, &journal, object, 5).err();
+    let middle = some_of(rt, alloc, &journal, object, 1, 2).ok()?;
+    let at_end = some_of(rt, alloc, &journal, object, 4, 1).ok()?;
+    let past_end = some_of(rt, alloc, &journal, object, 5, 0).err();
     let last = one.last();
     passes.push(zero).ok()?;
     passes.push(one).ok()?;
     Some(Outcome {
         places: [first, second, third, fourth],
         first_two,
+        middle,
+        at_end,
         too_many,
+        past_end,
         last,
         all: journal.close(passes),
     })
@@ -295,7 +319,12 @@ fn entries_stand_in_the_order_of_the_turns(rt: HostRuntime) -> Result<(), Fail> 
     assert!(rt; told.places == [Some(0), Some(1), Some(2), Some(3)]);
     assert_eq!(rt; told.last, 3);
     assert!(rt; told.too_many == Some(CopyFault::NoPoint(4)));
+    assert!(rt; told.past_end == Some(CopyFault::NoPoint(4)));
     assert_eq!(rt; told.first_two.len(), 2);
+    assert_eq!(rt; told.middle.len(), 2);
+    assert!(rt; told.at_end.is_empty());
+    assert!(rt; told.middle.get(0) == told.all.get(1));
+    assert!(rt; told.middle.get(1) == told.all.get(2));
     assert_eq!(rt; told.all.len(), 4);
     // the station, the number, the register and the value
     for (place, (station, number, call)) in [

@@ -5,10 +5,11 @@ use counters::Counters;
 use cut_room::{Answer, CutFault, Room, RoomBlank, Sight};
 use edit_journal::{Naming, Pass};
 use room_core::{Entry, Memory};
-use room_ports::OpenGate;
+use room_ports::Gate;
 use std::alloc::Global;
 use std::marker::Brand;
 use std::sync::Wait;
+use std::sync::atomic::{AtomicU32, Ordering};
 use std::sync::ledger::{Blank, Ledger};
 use std::test::Fail;
 use step_count::Steps;
@@ -50,6 +51,54 @@ fn blank_of(alloc: Global) -> Result<RoomBlank<Counters>, Memory> {
     RoomBlank::new(alloc, object, parts, 5)
 }
 
+// How often each of five stations stood at the gate.
+#[derive(Drop)]
+struct CountingGate {
+    calls: [AtomicU32; 5],
+}
+
+impl CountingGate {
+    fn new() -> Self {
+        CountingGate {
+            calls: [
+                AtomicU32::new(0),
+                AtomicU32::new(0),
+                AtomicU32::new(0),
+                AtomicU32::new(0),
+                AtomicU32::new(0),
+            ],
+        }
+    }
+
+    fn calls_of(&self, station: usize) -> u32 {
+        match self.calls.get(station) {
+            Some(calls) => calls.load(Ordering::SeqCst),
+            None => 0,
+        }
+    }
+
+    fn each(&self) -> [u32; 5] {
+        [
+            self.calls_of(0),
+            self.calls_of(1),
+            self.calls_of(2),
+            self.calls_of(3),
+            self.calls_of(4),
+        ]
+    }
+}
+
+impl Gate for CountingGate {
+    fn at_commit(&self, station: u32) {
+        match self.calls.get(station as usize) {
+            Some(calls) => {
+                calls.fetch_add(1, Ordering::SeqCst);
+            }
+            None => {}
+        }
+    }
+}
+
 // Sends a call, under the number that follows the station's last.
 fn sent<J: Naming<Counters, u32>, R: Wait, L: Ledger>(
     rt: &R,
@@ -57,17 +106,19 @@ fn sent<J: Naming<Counters, u32>, R: Wait, L: Ledger>(
     room: &Room<Counters, J>,
     pass: Pass<Counters, J>,
     call: (u32, u32),
+    gate: &CountingGate,
     steps: &mut Steps<L>,
 ) -> (Pass<Counters, J>, Told) {
     let last = pass.last();
     if last == u32::MAX {
         return (pass, Told::Memory);
     }
-    let (pass, answer) = room.edit(rt, alloc, pass, last + 1, call, &OpenGate, steps);
+    let (pass, answer) = room.edit(rt, alloc, pass, last + 1, call, gate, steps);
     (pass, edit_told(&answer))
 }
 
-// What five stations were answered, the sums after the first entry, and why there is no cut at the fourth.
+// What five stations were answered, the sums after the first entry, why there is no cut at the fourth, and how often
+// each station stood at the gate.
 #[derive(Drop)]
 struct Outcome {
     told: [Told; 6],
@@ -75,6 +126,7 @@ struct Outcome {
     no_cut: Option<CutFault>,
     point: u32,
     lasts: [u32; 5],
+    gated: [u32; 5],
 }
 
 fn five_answered<J: Naming<Counters, u32>, R: Wait, L: Ledger>(
@@ -89,13 +141,14 @@ fn five_answered<J: Naming<Counters, u32>, R: Wait, L: Ledger>(
     requires ledger { (ledger.name ≡ L.name) × (ledger.parts ≡ L.parts) × (0 < ledger.parts) }
 {
     let mut steps = Steps::<L>::new(ledger);
+    let gate = CountingGate::new();
     let (room, mut passes) = Room::<Counters, J>::open(alloc, blank).ok()?;
     let (four, three, two) = (passes.pop()?, passes.pop()?, passes.pop()?);
     let (one, zero) = (passes.pop()?, passes.pop()?);
-    let (zero, first) = sent(rt, alloc, &room, zero, (1, 5), &mut steps);
-    let (one, second) = sent(rt, alloc, &room, one, (2, 6), &mut steps);
-    let (one, third) = sent(rt, alloc, &room, one, (2, 4), &mut steps);
-    let (two, fourth) = sent(rt, alloc, &room, two, (0, 1), &mut steps);
+    let (zero, first) = sent(rt, alloc, &room, zero, (1, 5), &gate, &mut steps);
+    let (one, second) = sent(rt, alloc, &room, one, (2, 6), &gate, &mut steps);
+    let (one, third) = sent(rt, alloc, &room, one, (2, 4), &gate, &mut steps);
+    let (two, fourth) = sent(rt, alloc, &room, two, (0, 1), &gate, &mut steps);
     let (two, fifth) = room.see(rt, alloc, two, &2);
     let (three, sixth) = room.see(rt, alloc, three, &5);
     let (three, point) = room.point(rt, three);
@@ -120,6 +173,7 @@ fn five_answered<J: Naming<Counters, u32>, R: Wait, L: Ledger>(
             three.last(),
             four.last(),
         ],
+        gated: gate.each(),
     })
 }
 
@@ -148,37 +202,39 @@ fn five_stations_are_answered_by_one_journal(rt: HostRuntime) -> Result<(), Fail
     assert!(rt; outcome.no_cut == Some(CutFault::NoPoint(2)));
     assert!(rt; outcome.point == 2);
     assert!(rt; outcome.lasts == [1, 1, 0, 0, 0]);
+    assert!(rt; outcome.gated == [1, 1, 0, 0, 0]);
     Ok(())
 }
 
-// What a station is answered behind as many entries as a journal can have.
+// What a station is answered behind as many entries as a journal can have, and how often each stood at the gate.
 fn filled<J: Naming<Counters, u32>, R: Wait, L: Ledger>(
     rt: &R,
     alloc: Global,
     blank: RoomBlank<Counters>,
     ledger: Blank,
-) -> Option<(Told, Told, Told)>
+) -> Option<([Told; 3], [u32; 5])>
     requires table { J.table ≡ blank.table }
     requires opening { J.opening ≡ blank.opening }
     requires stations { J.stations ≡ blank.stations }
     requires ledger { (ledger.name ≡ L.name) × (ledger.parts ≡ L.parts) × (0 < ledger.parts) }
 {
     let mut steps = Steps::<L>::new(ledger);
+    let gate = CountingGate::new();
     let (room, mut passes) = Room::<Counters, J>::open(alloc, blank).ok()?;
-    let (mut pass, mut last) = sent(rt, alloc, &room, passes.pop()?, (1, 1), &mut steps);
+    let (mut pass, mut last) = sent(rt, alloc, &room, passes.pop()?, (1, 1), &gate, &mut steps);
     for _ in 1..100_000 {
-        (pass, last) = sent(rt, alloc, &room, pass, (1, 0), &mut steps);
+        (pass, last) = sent(rt, alloc, &room, pass, (1, 0), &gate, &mut steps);
     }
-    let (pass, full) = sent(rt, alloc, &room, pass, (1, 0), &mut steps);
-    let (_, refused) = sent(rt, alloc, &room, pass, (1, 10), &mut steps);
-    Some((last, full, refused))
+    let (pass, full) = sent(rt, alloc, &room, pass, (1, 0), &gate, &mut steps);
+    let (_, refused) = sent(rt, alloc, &room, pass, (1, 10), &gate, &mut steps);
+    Some(([last, full, refused], gate.each()))
 }
 
 fn filled_once<R: Wait>(
     rt: &R,
     alloc: Global,
     blank: RoomBlank<Counters>,
-) -> Option<(Told, Told, Told)> {
+) -> Option<([Told; 3], [u32; 5])> {
     filled::<Brand, R, Brand>(rt, alloc, blank, Blank::new(1))
 }
 
@@ -186,10 +242,15 @@ fn filled_once<R: Wait>(
 fn a_room_fills_and_refuses(rt: HostRuntime) -> Result<(), Fail> {
     let alloc = rt.alloc();
     let blank = blank_of(alloc).ok().ok_or("a blank")?;
-    let told = filled_once(&rt, alloc, blank).ok_or("answers")?;
-    assert!(rt; told.0 == Told::Done(99_999, 1));
-    assert!(rt; told.1 == Told::Full(100_000));
-    assert!(rt; told.2 == Told::Refused(100_000, 1));
+    let (told, gated) = filled_once(&rt, alloc, blank).ok_or("answers")?;
+    assert!(rt;
+        told == [
+            Told::Done(99_999, 1),
+            Told::Full(100_000),
+            Told::Refused(100_000, 1)
+        ]
+    );
+    assert!(rt; gated == [0, 0, 0, 0, 100_001]);
     Ok(())
 }
 

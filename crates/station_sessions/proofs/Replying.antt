@@ -20,8 +20,8 @@ use Rattle.room_core.specs.Projection.{of_station}
 use Rattle.room_core.specs.Whole.{whole}
 use Rattle.cut_room.specs.declared.answers.Answer.TheVariants as answer
 use Rattle.cut_room.specs.declared.answers.Sight.TheVariants as sight
-use Rattle.cut_room.specs.declared.answers.CutFault.{CutFault}
-use Rattle.cut_room.specs.declared.answers.CutFault.TheVariants as fault
+use Rattle.edit_journal.specs.declared.log.CopyFault.{CopyFault}
+use Rattle.edit_journal.specs.declared.log.CopyFault.TheVariants as fault
 use Rattle.cut_room.specs.Rooms.{Edited, IsAtPoint, IsCut, Looked, Stays, told}
 use Rattle.call_text.specs.CallTexts.{IsSmall, IsWritten}
 use Rattle.call_text.specs.declared.lines.Line.{Line}
@@ -239,10 +239,10 @@ module _ (room : TrackRoom) (before after : TrackPass) (counting : Counted) (sta
   pub sight_seated : (q : Ask) (s : TrackSight) → Looked (editing room.0.table) room.1 (ask_part_of room.0.table q) (λ t. seen_on t q) before after s → IsSeated room (line + 1) after
   sight_seated q s e = seated_stays room before after line seated (looked_stays q s e)
 
-  cut_stays : (n : ℕ) (r : Result (Vec TrackState Global) CutFault) → IsCut (editing room.0.table) room.1 n before after r → Stays (editing room.0.table) room.1 before after
+  cut_stays : (n : ℕ) (r : Result (Vec TrackState Global) CopyFault) → IsCut (editing room.0.table) room.1 n before after r → Stays (editing room.0.table) room.1 before after
   cut_stays n (Ok tracks) e = e.0
   cut_stays n (Err (fault.NoPoint count)) e = e.0.stays
-  cut_stays n (Err fault.Memory) e = e
+  cut_stays n (Err fault.Memory) e = e.0
 
   -- a text for the document after n entries
   wrote : (n : ℕ) (text : List ℕ) (reply : Reply) → IsReply reply text → Stays (editing room.0.table) room.1 before after
@@ -261,16 +261,16 @@ module _ (room : TrackRoom) (before after : TrackPass) (counting : Counted) (sta
   document_replied n tracks reply stays within state (inr is) = wrote n (codes "memory") reply is stays (inr (refl, record { same = refl; reply_is = refl }))
 
   -- the reply to a wish for a document
-  pub cut_replied : (n : ℕ) (r : Result (Vec TrackState Global) CutFault) (reply : Reply) → IsCut (editing room.0.table) room.1 n before after r
+  pub cut_replied : (n : ℕ) (r : Result (Vec TrackState Global) CopyFault) (reply : Reply) → IsCut (editing room.0.table) room.1 n before after r
       → IsCutReply (setting_at room counting start) n r reply
       → Replies (session_at room (Some before) counting start line) (session_at room (Some after) counting start (line + 1)) (Write n) reply
   cut_replied n (Ok tracks) reply e is = document_replied n tracks.items reply e.0 e.1 e.2 is
   cut_replied n (Err (fault.NoPoint count)) reply e is =
       wrote n (no_point_reply count) reply is e.0.stays
       (inl (inr (record { past = omega (arith, e.0.point_is, e.1); same = refl; reply_is = ap no_point_reply e.0.point_is })))
-  cut_replied n (Err fault.Memory) reply e is = wrote n (codes "memory") reply is e (inr (refl, record { same = refl; reply_is = refl }))
+  cut_replied n (Err fault.Memory) reply e is = wrote n (codes "memory") reply is e.0 (inr (refl, record { same = refl; reply_is = refl }))
 
-  pub cut_seated : (n : ℕ) (r : Result (Vec TrackState Global) CutFault) → IsCut (editing room.0.table) room.1 n before after r → IsSeated room (line + 1) after
+  pub cut_seated : (n : ℕ) (r : Result (Vec TrackState Global) CopyFault) → IsCut (editing room.0.table) room.1 n before after r → IsSeated room (line + 1) after
   cut_seated n r e = seated_stays room before after line seated (cut_stays n r e)
 
 -- the reply to what a line was read as is the reply to the line

@@ -15,8 +15,8 @@ use Rattle.line_words.specs.Lines.{Line as InputLine}
 use Rattle.room_core.specs.History.{answer_in, most_entries, replay, NumbersRise}
 use Rattle.room_core.specs.Projection.{of_station}
 use Rattle.station_sessions.specs.Transcript.{Wish, Do, See, Point, Write, Bad, Protocol}
-use Rattle.cut_room.specs.declared.answers.CutFault.{CutFault}
-use Rattle.cut_room.specs.declared.answers.CutFault.TheVariants as fault
+use Rattle.edit_journal.specs.declared.log.CopyFault.{CopyFault}
+use Rattle.edit_journal.specs.declared.log.CopyFault.TheVariants as fault
 use Rattle.station_sessions.specs.DocumentReplies.{document_reply, no_point_reply}
 use Rattle.station_sessions.specs.Rooms.{Setting, AreWritten, document_of, room_of, finds_memory, is_linking, meaning_of, wish_in}
 use Rattle.station_sessions.specs.declared.reply.Reply.{Reply}
@@ -147,7 +147,7 @@ abbrev pub IsReplyIfMemory : List ℕ → Reply → Type 0
 IsReplyIfMemory text answer = IsReply answer text ⊎ IsReply answer (codes "memory")
 
 -- the reply to a wish for the document after n entries, where this cut was found
-abbrev pub IsCutReply : Setting → ℕ → Result (Vec TrackState Global) CutFault → Reply → Type 0
+abbrev pub IsCutReply : Setting → ℕ → Result (Vec TrackState Global) CopyFault → Reply → Type 0
 IsCutReply setting n (Ok tracks) answer = IsReplyIfMemory (document_reply n (document_of setting tracks.items)) answer
 IsCutReply setting n (Err (fault.NoPoint count)) answer = IsReply answer (no_point_reply count)
 IsCutReply setting n (Err fault.Memory) answer = IsReply answer (codes "memory")
