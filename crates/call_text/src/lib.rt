@@ -31,6 +31,7 @@ pub use lines::Line;
 pub use parts::LAST_TRACK;
 pub use reading::read_line;
 pub use reply_text::{
-    CutCall, CutObject, CutPart, LineFault, MAX_SHORT, MAX_SHORT_LINE, Short, answer_text, fault_text, point_text, sight_text,
+    CutCall, CutObject, CutPart, LineFault, MAX_SHORT, MAX_SHORT_LINE, Short, answer_text,
+    fault_text, point_text, sight_text,
 };
 pub use room_core::Entry;

@@ -3,10 +3,9 @@ ghost use Rattle.std.specs.Prelude.{◌≡◌, ◌+◌, ◌≤◌, ◌++◌, len
 ghost use Rattle.std.specs.Fmt.{signed_decimal};
 ghost use Rattle.reply_text.specs.Replies.{link_text, offsets_text, done_text, refusal_text, answer_text_of, fault_of};
 
-use crate::{LineFault, MAX_SHORT, Short};
+use crate::{CutObject, LineFault, MAX_SHORT, Short};
 use composables::{Done, Refusal, Which};
 use cut_room::Answer;
-use crate::CutObject;
 
 /// The reply to an edit, without its line feed. It takes no memory.
 pub fn answer_text(answer: &Answer<CutObject>) -> Short

@@ -3,10 +3,10 @@ ghost use Rattle.std.specs.Prelude.{◌≡◌, ◌++◌, IfOk, OnOk};
 ghost use Rattle.std.specs.List.{flat_map};
 ghost use Rattle.reply_text.specs.Sights.{side_text, frame_text, run_text, mark_text, number_text, item_link_text, item_text, picture_text, seen_text, ask_refusal_text, sight_text_of};
 
+use crate::CutObject;
 use crate::bytes::{put, put_number, put_what};
 use composables::{ItemView, Memory};
 use cut_room::Sight;
-use crate::CutObject;
 use edit_apply::{AskRefusal, Seen};
 use frame_meaning::{Frame, Link, Mark, Run, Side, What};
 use std::alloc::Global;
