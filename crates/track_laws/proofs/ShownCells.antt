@@ -13,9 +13,8 @@ use Rattle.composables.specs.declared.items.ItemView.{ItemView}
 use Rattle.composables.specs.Items.{cells_of, marked, view_cells}
 use Rattle.composables.specs.Links.{moved_cell}
 use Rattle.composables.specs.TrackState.{TrackState, next_past_all}
-use Rattle.composables.specs.Views.{gap_view, gap_views}
+use Rattle.composables.specs.Views.{earlier_side, gap_view, gap_views}
 use Rattle.dissolves.specs.Marking.{mark_at_place}
-use Rattle.edit_delta.specs.Reaching.{earlier_side}
 use Rattle.edit_splice.specs.Splicing.{spliced_track}
 use Rattle.edit_trim.specs.Slipping.{cell_moved, changed_on, linked_moved}
 use Rattle.link_groups.specs.ItemLinks.{carries}

@@ -39,11 +39,11 @@ use Rattle.composables.specs.Links.{links_split, moved_cell, outside_refusal, sp
 use Rattle.composables.specs.OwnTracks.{among_named, for_own, on_own, track_numbered, with_track}
 use Rattle.composables.specs.Ranges.{on_range, gap_at, is_cut, range_of}
 use Rattle.composables.specs.TrackState.{TrackState}
-use Rattle.composables.specs.Views.{clip_view, gap_views}
+use Rattle.composables.specs.Views.{earlier_side, clip_view, gap_views}
 use Rattle.dissolves.specs.Cuts.{dissolve_refusal}
 use Rattle.dissolves.specs.Marking.{dissolve_named, dissolve_on, mark_asked, marked_track, undissolve_named, undissolve_on, undissolve_refusal}
 use Rattle.edit_delta.specs.Nearest.{nearest}
-use Rattle.edit_delta.specs.Reaching.{earlier_side, going_on, reaching_back}
+use Rattle.edit_delta.specs.Reaching.{going_on, reaching_back}
 use Rattle.edit_delta.specs.Using.{used_on, used_from}
 use Rattle.edit_insert.specs.Edits.{extract_named, extracted, insert_named, inserted, overwrite_named, overwrite_track, overwritten, remove_named, remove_track, slice_named, slice_track}
 use Rattle.edit_insert.specs.Fills.{fill_at, fill_named, fill_track, filled, frames_asked}
