@@ -6,9 +6,10 @@ use Rattle.room_core.specs.History.{IsLegal, replay}
 use Rattle.room_core.specs.Whole.{whole}
 use Rattle.edit_apply.specs.declared.asks.Call.{Call}
 use Rattle.edit_apply.specs.Apply.{editing}
+use Rattle.otio_tracks.specs.ReelTexts.{AreTexts}
 use Rattle.otio_json.specs.Soundness.{IsSoundOpening}
 use Rattle.otio_json.specs.declared.opening.Opening.{Opening}
-use Rattle.otio_again.specs.Meanings.{AreTexts, IsReadAgain}
+use Rattle.otio_again.specs.Meanings.{IsReadAgain}
 use Rattle.otio_again.specs.SoundCuts.{IsSoundCut}
 
 -- the tracks after the first n entries, and the cut that they are
