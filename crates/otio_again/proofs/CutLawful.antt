@@ -40,7 +40,7 @@ more_levels zero m = m
 more_levels (suc n) m = suc (suc (suc (suc (more_levels n m))))
 
 abbrev pub levels_for : ℕ → ℕ → ℕ
-levels_for n m = suc (suc (suc (suc (more_levels n m))))
+levels_for n m = suc (suc (suc (suc (suc (more_levels n m)))))
 
 range_if : (t : Bool) (n : ℕ) (r : SequenceRate) (from len : ℕ) → from < 10 ^ 18 → len < 10 ^ 18 → IsLawful (suc (suc n)) (if t then At 0 Null else range_tree r from len)
 range_if true n r from len f l = null_lawful (suc (suc n))
@@ -78,7 +78,7 @@ module _ (table : Table) (rate : SequenceRate) (sound : IsCutTable table) (texts
 
     side_lawful : (side : Side What) (len before after : ℕ) → len < 10 ^ 18 → HasSource side len before after → SideLiesIn table side len before after → SideHas (IsDeep table.nests n) side
         → IsLawful (levels_for n m) (side_tree table rate tree side len)
-    side_lawful Dark len before after short h l d = gap_lawful (suc (more_levels n m)) rate len short
+    side_lawful Dark len before after short h l d = gap_lawful (suc (suc (more_levels n m))) rate len short
     side_lawful (Pic w s) len before after short h l d = thing_lawful w s len before after (omega (arith, h.1)) short l d
 
     item_lawful : (v : ItemView) (tail : Option Mark) → IsShown table v tail → SideHas (IsDeep table.nests n) v.first → IsLawful (levels_for n m) (item_tree table rate tree v)
@@ -89,7 +89,7 @@ module _ (table : Table) (rate : SequenceRate) (sound : IsCutTable table) (texts
     later_lawful (v ∷ vs) a h d =
         let room = h.0.holds.room in
         let later = later_lawful vs (omega (arith, room, h.0.short)) h.1 d.1 in
-        mark_lawful (suc (suc (more_levels n m))) rate v.mark (item_tree table rate tree v ∷ later_item_trees table rate tree vs) a (omega (arith, room, h.0.short))
+        mark_lawful (suc (suc (suc (more_levels n m)))) rate v.mark (item_tree table rate tree v ∷ later_item_trees table rate tree vs) a (omega (arith, room, h.0.short))
         (more_lawful (levels_for n m) (item_tree table rate tree v) (later_item_trees table rate tree vs) (item_lawful v (first_mark vs) h.0 d.0) later)
 
     items_lawful : (vs : List ItemView) → EachIsShown table vs → EachHas (IsDeep table.nests n) vs → AreLawful (levels_for n m) (item_trees table rate tree vs)
@@ -102,7 +102,7 @@ module _ (table : Table) (rate : SequenceRate) (sound : IsCutTable table) (texts
     layer_in_lawful l h d =
         let frames = h.track.good.frames in
         layer_lawful (levels_for n m) (layer_range_tree rate l) (item_trees table rate tree (items_of l.track.cells))
-        (range_if (nat_eq l.from 0 && nat_eq l.to (length l.track.cells)) (suc (suc (suc (more_levels n m)))) rate l.from (l.to - l.from) (omega (arith, h.ordered, h.within, frames)) (omega (arith, h.within, frames)))
+        (range_if (nat_eq l.from 0 && nat_eq l.to (length l.track.cells)) (suc (suc (suc (suc (more_levels n m))))) rate l.from (l.to - l.from) (omega (arith, h.ordered, h.within, frames)) (omega (arith, h.within, frames)))
         (items_lawful (items_of l.track.cells) (track_shown table l.track h.track.good) d)
 
     layers_lawful : (ls : List Layer) → All (IsCutLayer table 7) ls → All (λ (l : Layer). EachHas (IsDeep table.nests n) (items_of l.track.cells)) ls → AreLawful (suc (suc (levels_for n m))) (layer_trees table rate tree ls)
@@ -169,6 +169,6 @@ tracks_lawful table rate sound texts m i n (k ∷ ks) (t ∷ ts) h =
 pub cut_lawful : (o : Opening) → IsSoundCut o → AreTexts o.table.reels → o.start < 10 ^ 18 → IsLawful 64 (timeline_tree o.table o.tracks o.counting o.start)
 cut_lawful o sound texts small =
     let rate = o.counting.rate in
-    timeline_lawful (suc (suc (levels_for 8 23))) (time_tree rate o.start) (track_trees o.table rate 0 o.tracks)
-    (time_lawful (suc (suc (suc (levels_for 8 23)))) rate o.start small)
-    (tracks_lawful o.table rate sound.table texts 23 0 0 o.table.kinds o.tracks (tracks_deep o.table sound.table 0 o.table.kinds o.tracks sound.tracks))
+    timeline_lawful (suc (suc (levels_for 8 22))) (time_tree rate o.start) (track_trees o.table rate 0 o.tracks)
+    (time_lawful (suc (suc (suc (levels_for 8 22)))) rate o.start small)
+    (tracks_lawful o.table rate sound.table texts 22 0 0 o.table.kinds o.tracks (tracks_deep o.table sound.table 0 o.table.kinds o.tracks sound.tracks))

@@ -18,22 +18,23 @@ use Rattle.json_tree.specs.Parts.{place_of, kind_in}
 use Rattle.json_tree.proofs.WriteLaws.{placed}
 use Rattle.otio_tracks.specs.declared.faults.DocCode.{DocCode}
 use Rattle.otio_tracks.specs.declared.faults.DocCode.TheVariants.{O3, O9, O11}
+use Rattle.otio_tracks.specs.declared.values.References.TheVariants.{ByKey}
 use Rattle.otio_tracks.specs.declared.values.Schema.{Schema}
 use Rattle.otio_tracks.specs.declared.values.Schema.TheVariants.{Clip, Gap, Transition}
 use Rattle.otio_tracks.specs.declared.times.Span.{Span}
 use Rattle.otio_tracks.specs.declared.parts.Part.{Part}
 use Rattle.otio_tracks.specs.declared.clips.Frames.{Frames}
-use Rattle.otio_tracks.specs.Reading.{refuse, or_refuse}
+use Rattle.otio_tracks.specs.Reading.{Read, refuse, or_refuse}
 use Rattle.otio_tracks.specs.Values.{is_null, given, needed, schema_read}
 use Rattle.otio_tracks.specs.Times.{frame_read, span_read, gap_read}
 use Rattle.otio_tracks.specs.Parts.{enabled_if, enabled_read, effects_if, effects_read, head_read, trim_if, trim_read, frames_within}
-use Rattle.otio_tracks.specs.Clips.{source_frames, source_read, available_if, reference_if, reference_read, widened, frames_of, reel_text, entered, clip_read}
+use Rattle.otio_tracks.specs.Clips.{source_frames, source_read, available_if, keyed_if, keyed_read, key_if, key_read, active_read, reference_if, reference_read, widened, frames_of, reel_text, entered, clip_read}
 use Rattle.otio_tracks.specs.Transitions.{offsets_if, offsets_read, transition_read}
 use Rattle.otio_tracks.specs.Rows.{RowState, row_with}
 use Rattle.otio_text.specs.Documents.{text_or_none, reel_name}
 use Rattle.otio_json.specs.Nests.{Inner, gap_part, gap_if, gap_part_read, item_in, add_item, child_by, child_in}
 use Rattle.otio_json.proofs.Growth.{HasBounds}
-use Rattle.otio_again.specs.CutTrees.{list_tree, text_tree, time_tree, range_tree, gap_tree, reference_of_range, clip_of_ranges, clip_tree, transition_tree}
+use Rattle.otio_again.specs.CutTrees.{list_tree, text_tree, time_tree, range_tree, gap_tree, reference_of_range, references_of_range, clip_of_ranges, clip_tree, transition_tree}
 use Rattle.otio_again.specs.SameCut.{SameSide, SameThing}
 use Rattle.otio_again.proofs.Facts.{ShowsMedia}
 use Rattle.otio_again.proofs.Walk.{goes, Has, HasNo, IsOf, needed_back, given_back, given_null, given_none, object_back, schema_back}
@@ -144,7 +145,7 @@ gap_child r inner t u levels v at dark short =
 
 -- ---- clips
 
-clip_is : (r : SequenceRate) (reel : List ℕ) (source len : ℕ) (m : Media) → IsOf (codes "Clip.1") (clip_tree r reel source len m)
+clip_is : (r : SequenceRate) (reel : List ℕ) (source len : ℕ) (m : Media) → IsOf (codes "Clip.2") (clip_tree r reel source len m)
 unfolding clip_tree
 clip_is r reel source len m = record { object = refl; schema = refl }
 
@@ -152,9 +153,13 @@ clip_has : (r : SequenceRate) (reel : List ℕ) (source len : ℕ) (m : Media) �
 unfolding clip_tree
 clip_has r reel source len m = record { enabled = refl; effects = refl; ranged = refl }
 
-clip_reference : (r : SequenceRate) (reel : List ℕ) (source len : ℕ) (m : Media) → Has (codes "media_reference") (clip_tree r reel source len m) (reference_of_range (range_tree r m.from (m.to - m.from)))
+clip_references : (r : SequenceRate) (reel : List ℕ) (source len : ℕ) (m : Media) → Has (codes "media_references") (clip_tree r reel source len m) (references_of_range (range_tree r m.from (m.to - m.from)))
 unfolding clip_tree
-clip_reference r reel source len m = refl
+clip_references r reel source len m = refl
+
+clip_key : (r : SequenceRate) (reel : List ℕ) (source len : ℕ) (m : Media) → Has (codes "active_media_reference_key") (clip_tree r reel source len m) (text_tree (codes "DEFAULT_MEDIA"))
+unfolding clip_tree
+clip_key r reel source len m = refl
 
 clip_named : (reel : List ℕ) (range there : Tree) (at : ℕ) → reel_text (placed at (clip_of_ranges reel range there)) ≡ reel
 clip_named reel range there at = refl
@@ -173,16 +178,49 @@ source_back r reel source len m at some le =
     goes (trim_read (pair_of r) (placed at (clip_tree r reel source len m))) _ (Some (span_at t.0 source len)) _ t.1
     (goes (or_refuse (source_frames (span_at t.0 source len)) O11 t.0) _ (source, len) _ (ap (λ (o : Option (ℕ × ℕ)). or_refuse o O11 t.0) f) refl)
 
+keyed_back : (r : SequenceRate) (reel : List ℕ) (source len : ℕ) (m : Media) (at : ℕ)
+    → (p : ℕ) × (keyed_read (placed at (clip_tree r reel source len m)) ≡ Ok (Some (placed p (references_of_range (range_tree r m.from (m.to - m.from))))))
+unfolding keyed_read
+keyed_back r reel source len m at =
+    let refs = references_of_range (range_tree r m.from (m.to - m.from)) in
+    let g = given_back (codes "media_references") (clip_tree r reel source len m) refs at (clip_references r reel source len m) refl in (
+      g.0,
+      ap keyed_if g.1
+          ∙ ap (λ (b : Bool). if b then Ok (Some (placed g.0 refs)) else refuse O3 (place_of (placed g.0 refs))) (object_back refs g.0 refl),
+    )
+
+key_back : (r : SequenceRate) (reel : List ℕ) (source len : ℕ) (m : Media) (at : ℕ) → key_read (placed at (clip_tree r reel source len m)) ≡ Ok (codes "DEFAULT_MEDIA")
+unfolding key_read
+key_back r reel source len m at =
+    let g = given_back (codes "active_media_reference_key") (clip_tree r reel source len m) (text_tree (codes "DEFAULT_MEDIA")) at (clip_key r reel source len m) refl in
+    ap key_if g.1
+
+active_back : (r : SequenceRate) (reel : List ℕ) (source len : ℕ) (m : Media) (at : ℕ)
+    → (p : ℕ) × (active_read (placed at (clip_tree r reel source len m)) ≡ Ok (Some (placed p (reference_of_range (range_tree r m.from (m.to - m.from))))))
+unfolding active_read
+active_back r reel source len m at =
+    let t = placed at (clip_tree r reel source len m) in
+    let range = range_tree r m.from (m.to - m.from) in
+    let ref = reference_of_range range in
+    let refs = references_of_range range in
+    let k = keyed_back r reel source len m at in
+    let g = given_back (codes "DEFAULT_MEDIA") refs ref k.0 refl refl in (
+      g.0,
+      goes (keyed_read t) _ (Some (placed k.0 refs)) _ k.1
+          (goes (key_read t) _ (codes "DEFAULT_MEDIA") _ (key_back r reel source len m at)
+          (ap (λ (o : Option Tree). Ok o) g.1)),
+    )
+
 reference_back : (r : SequenceRate) (reel : List ℕ) (source len : ℕ) (m : Media) (at : ℕ) → m.from < m.to → m.to ≤ 16777216
-    → reference_read (pair_of r) (placed at (clip_tree r reel source len m)) ≡ Ok (Some (m.from, m.to))
+    → reference_read (pair_of r) ByKey (placed at (clip_tree r reel source len m)) ≡ Ok (Some (m.from, m.to))
 unfolding reference_read
 reference_back r reel source len m at some le =
     let range = range_tree r m.from (m.to - m.from) in
     let ref = reference_of_range range in
-    let g = given_back (codes "media_reference") (clip_tree r reel source len m) ref at (clip_reference r reel source len m) refl in
+    let g = active_back r reel source len m at in
     let a = given_back (codes "available_range") ref range g.0 refl (range_some r m.from (m.to - m.from)) in
     let to : m.from + (m.to - m.from) ≡ m.to = omega arith in
-    ap (reference_if (pair_of r)) g.1
+    ap (λ (o : Read (Option Tree)). o >>= reference_if (pair_of r)) g.1
     ∙ ap (λ (b : Bool). if b then available_if (pair_of r) (given (codes "available_range") (placed g.0 ref)) else refuse O3 (place_of (placed g.0 ref))) (object_back ref g.0 refl)
     ∙ ap (available_if (pair_of r)) a.1
     ∙ available_back r m.from (m.to - m.from) a.0 (omega arith) (omega arith)
@@ -199,12 +237,12 @@ abbrev clip_shows : ℕ → ℕ → Media → Frames
 clip_shows source len m = record { source = source; len = len; from = m.from; to = m.to }
 
 clip_back : (r : SequenceRate) (reel : List ℕ) (source len : ℕ) (m : Media) (u : Table) (at : ℕ) → 0 < len → m.from ≤ source → source + len ≤ m.to → m.to ≤ 16777216
-    → clip_read (pair_of r) u (placed at (clip_tree r reel source len m)) ≡ Ok (entered u reel (clip_shows source len m))
+    → clip_read (pair_of r) ByKey u (placed at (clip_tree r reel source len m)) ≡ Ok (entered u reel (clip_shows source len m))
 unfolding clip_read
 clip_back r reel source len m u at some low high le =
     let t = placed at (clip_tree r reel source len m) in
     goes (source_read (pair_of r) t) _ (Some (source, len)) _ (source_back r reel source len m at some (omega arith))
-    (goes (reference_read (pair_of r) t) _ (Some (m.from, m.to)) _ (reference_back r reel source len m at (omega arith) le)
+    (goes (reference_read (pair_of r) ByKey t) _ (Some (m.from, m.to)) _ (reference_back r reel source len m at (omega arith) le)
     (λ i. Ok (entered u (clip_reel_back r reel source len m at i) (frames_of (source, len) (widened_back source len m.from m.to some low high i)))))
 
 reel_there : (reels : List (List ℕ)) (n : ℕ) → n < length reels → slice_get reels n ≡ Some (reel_name reels n)
@@ -221,15 +259,15 @@ clip_child r inner t u levels v m s before after at k pic some =
     let tree = placed at bare in
     let shown = clip_shows s v.len k.entry in
     let new = entered u reel shown in
-    let sc = schema_back (codes "Clip.1") bare Clip at (clip_is r reel s v.len k.entry) refl in
-    let item : item_in (pair_of r) inner Clip sc.0 u tree ≡ Ok new =
+    let sc = schema_back (codes "Clip.2") bare (Clip ByKey) at (clip_is r reel s v.len k.entry) refl in
+    let item : item_in (pair_of r) inner (Clip ByKey) sc.0 u tree ≡ Ok new =
     goes (head_read tree) _ tt _ (head_back bare (range_tree r s v.len) at (clip_has r reel s v.len k.entry))
     (clip_back r reel s v.len k.entry u at some (omega (arith, k.from)) (omega (arith, k.to)) k.sound.within) in
     let same = entered_same t u levels m k.entry reel shown k.there (reel_there t.reels k.entry.reel k.sound.reel) refl refl in
     record {
       part = new.0;
       table = new.1;
-      read = λ row. child_from (pair_of r) inner Clip sc.0 tree u new.1 new.0 row sc.1 refl item;
+      read = λ row. child_from (pair_of r) inner (Clip ByKey) sc.0 tree u new.1 new.0 row sc.1 refl item;
       extends = entered_extends u reel shown;
       is = record {
         side = subst (λ (x : Side What). SameSide (SameThing t new.1 levels) x new.0.first) (sym pic) (same, refl);

@@ -65,6 +65,11 @@ children_utf8 : IsUtf8 (codes "children")
 unfolding encode
 children_utf8 = (codes "children", (refl, refl))
 
+-- the key of the one media reference
+key_utf8 : IsUtf8 (codes "DEFAULT_MEDIA")
+unfolding encode
+key_utf8 = (codes "DEFAULT_MEDIA", (refl, refl))
+
 -- ---- times
 
 time_sound : (r : SequenceRate) (f : ℕ) → f < 10 ^ 18 → IsSound (time_tree r f)
@@ -157,13 +162,13 @@ pub gap_lawful : (n : ℕ) (r : SequenceRate) (len : ℕ) → len < 10 ^ 18 → 
 unfolding gap_tree
 gap_lawful n r len l = gap_of_lawful (suc n) (range_tree r 0 len) (range_lawful n r 0 len (omega arith) l)
 
-clip_of_lawful : (n : ℕ) (reel : List ℕ) (range there : Tree) → IsUtf8 reel → IsLawful (suc (suc n)) range → IsLawful (suc n) there → IsLawful (suc (suc (suc n))) (clip_of_ranges reel range there)
+clip_of_lawful : (n : ℕ) (reel : List ℕ) (range there : Tree) → IsUtf8 reel → IsLawful (suc (suc (suc n))) range → IsLawful (suc n) there → IsLawful (suc (suc (suc (suc n)))) (clip_of_ranges reel range there)
 unfolding encode
 clip_of_lawful n reel range there u h k = record {
   writable = rw (h.writable, k.writable) refl;
   sound = (
     schema_utf8,
-    (codes "Clip.1", (refl, refl)),
+    (codes "Clip.2", (refl, refl)),
     (
       name_utf8,
       u,
@@ -180,25 +185,33 @@ clip_of_lawful n reel range there u h k = record {
               markers_utf8,
               tt,
               (
-                (codes "media_reference", (refl, refl)),
+                (codes "media_references", (refl, refl)),
                 (
-                  schema_utf8,
-                  (codes "MissingReference.1", (refl, refl)),
+                  key_utf8,
                   (
-                    name_utf8,
-                    empty_utf8,
+                    schema_utf8,
+                    (codes "MissingReference.1", (refl, refl)),
                     (
-                      metadata_utf8,
-                      tt,
+                      name_utf8,
+                      empty_utf8,
                       (
-                        (codes "available_range", (refl, refl)),
-                        k.sound,
+                        metadata_utf8,
                         tt,
+                        (
+                          (codes "available_range", (refl, refl)),
+                          k.sound,
+                          tt,
+                        ),
                       ),
                     ),
                   ),
+                  tt,
                 ),
-                tt,
+                (
+                  (codes "active_media_reference_key", (refl, refl)),
+                  key_utf8,
+                  tt,
+                ),
               ),
             ),
           ),
@@ -209,10 +222,10 @@ clip_of_lawful n reel range there u h k = record {
 }
 
 pub clip_lawful : (n : ℕ) (r : SequenceRate) (reel : List ℕ) (source len : ℕ) (m : Media) → IsUtf8 reel → source < 10 ^ 18 → len < 10 ^ 18 → m.from < 10 ^ 18 → m.to < 10 ^ 18
-    → IsLawful (suc (suc (suc (suc n)))) (clip_tree r reel source len m)
+    → IsLawful (suc (suc (suc (suc (suc n))))) (clip_tree r reel source len m)
 unfolding clip_tree
 clip_lawful n r reel source len m u s l f t =
-    clip_of_lawful (suc n) reel (range_tree r source len) (range_tree r m.from (m.to - m.from)) u (range_lawful (suc n) r source len s l) (range_lawful n r m.from (m.to - m.from) f (omega arith))
+    clip_of_lawful (suc n) reel (range_tree r source len) (range_tree r m.from (m.to - m.from)) u (range_lawful (suc (suc n)) r source len s l) (range_lawful n r m.from (m.to - m.from) f (omega arith))
 
 pub transition_lawful : (n : ℕ) (r : SequenceRate) (m : Mark) → m.a < 10 ^ 18 → m.b < 10 ^ 18 → IsLawful (suc (suc n)) (transition_tree r m)
 unfolding transition_tree encode

@@ -20,10 +20,10 @@ use Rattle.otio_again.proofs.Decimals.{numeral_is_decimal}
 two_shape : (s l t e : List ℕ) → (s ++ (l ++ (t ++ []))) ++ e ≡ s ++ (l ++ (t ++ e))
 two_shape s l t e = simp (append_assoc, append-nil)
 
-clip_shape : (q l b m r n s : List ℕ)
-    → (q ++ (l ++ (((((q ++ []) ++ b) ++ []) ++ b) ++ (m ++ (r ++ (n ++ (((s ++ []) ++ b) ++ []))))))) ++ b
-    ≡ q ++ (l ++ (q ++ (b ++ (b ++ (m ++ (r ++ (n ++ (s ++ (b ++ b)))))))))
-clip_shape q l b m r n s = simp (append_assoc, append-nil)
+clip_shape : (q l b m r n s k : List ℕ)
+    → (q ++ (l ++ (((((q ++ []) ++ b) ++ []) ++ b) ++ (m ++ (r ++ (n ++ (((((s ++ []) ++ b) ++ []) ++ b) ++ (k ++ [])))))))) ++ b
+    ≡ q ++ (l ++ (q ++ (b ++ (b ++ (m ++ (r ++ (n ++ (s ++ (b ++ (b ++ (k ++ b)))))))))))
+clip_shape q l b m r n s k = simp (append_assoc, append-nil)
 
 list_shape : (j c b : List ℕ) → ((j ++ c) ++ []) ++ b ≡ j ++ (c ++ b)
 list_shape j c b = simp (append_assoc, append-nil)
@@ -63,7 +63,7 @@ clip_written : (reel : List ℕ) (range there : Tree) → tree_text (clip_of_ran
     ≡ clip_open ++ (quoted reel ++ (clip_reel ++ (quoted reel ++ (clip_range ++ (tree_text range ++ (clip_media ++ (tree_text there ++ clip_close)))))))
 clip_written reel range there =
     ap (λ (x : List ℕ). clip_open ++ 34 ∷ x)
-    (clip_shape (flat_map escaped reel ++ 34 ∷ []) (codes ",\"metadata\":{\"cmx_3600\":{\"reel\":\"") brace (codes ",\"source_range\":") (tree_text range) clip_media (tree_text there))
+    (clip_shape (flat_map escaped reel ++ 34 ∷ []) (codes ",\"metadata\":{\"cmx_3600\":{\"reel\":\"") brace (codes ",\"source_range\":") (tree_text range) clip_media (tree_text there) (codes ",\"active_media_reference_key\":\"DEFAULT_MEDIA\""))
 
 pub clip_spelled : (r : SequenceRate) (reel : List ℕ) (source len : ℕ) (m : Media) → source < 10 ^ 18 → len < 10 ^ 18 → m.from < 10 ^ 18 → m.to < 10 ^ 18 → tree_text (clip_tree r reel source len m) ≡ clip_text r reel source len m
 unfolding clip_tree clip_text

@@ -81,15 +81,20 @@ reference_of_range range = object (
     ∷ (codes "available_range", range)
     ∷ [])
 
+-- the references of a clip by their keys, of which it has one
+abbrev pub references_of_range : Tree → Tree
+references_of_range range = object ((codes "DEFAULT_MEDIA", reference_of_range range) ∷ [])
+
 abbrev pub clip_of_ranges : List ℕ → Tree → Tree → Tree
 clip_of_ranges reel range there = object (
-    schema (codes "Clip.1")
+    schema (codes "Clip.2")
     ∷ (codes "name", text_tree reel)
     ∷ (codes "metadata", object ((codes "cmx_3600", object ((codes "reel", text_tree reel) ∷ [])) ∷ []))
     ∷ (codes "source_range", range)
     ∷ (codes "effects", list_tree [])
     ∷ (codes "markers", list_tree [])
-    ∷ (codes "media_reference", reference_of_range there)
+    ∷ (codes "media_references", references_of_range there)
+    ∷ (codes "active_media_reference_key", text_tree (codes "DEFAULT_MEDIA"))
     ∷ [])
 
 unfoldable pub clip_tree : SequenceRate → List ℕ → ℕ → ℕ → Media → Tree

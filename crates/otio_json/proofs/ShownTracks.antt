@@ -128,7 +128,7 @@ module _ (rate : ℕ × ℕ) (inner : Result Inner DocCode) where
   child_added : (found : Schema × ℕ) (s : RowState × Table) (ps : List Part) (t : Tree) → row_sides s.0 ≡ flat_map sides_of ps
       → IfOk (child_by rate inner found s t) (Shows (item_by rate inner found (ps, s.1) t))
   child_added (Transition, at) s ps t h = (ps, refl, h)
-  child_added (Clip, at) s ps t h = item_added (item_in rate inner Clip at s.1 t) s.0 ps h
+  child_added (Clip references, at) s ps t h = item_added (item_in rate inner (Clip references) at s.1 t) s.0 ps h
   child_added (Gap, at) s ps t h = item_added (item_in rate inner Gap at s.1 t) s.0 ps h
   child_added (Stack, at) s ps t h = item_added (item_in rate inner Stack at s.1 t) s.0 ps h
   child_added (Track, at) s ps t h = item_added (item_in rate inner Track at s.1 t) s.0 ps h

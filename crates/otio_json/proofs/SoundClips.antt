@@ -13,6 +13,7 @@ use Rattle.composables.specs.ReelNames.{with_name}
 use Rattle.json_tree.specs.Tree.{Tree}
 use Rattle.json_tree.specs.Parts.{kind_in, place_of}
 use Rattle.otio_tracks.specs.declared.clips.Frames.{Frames}
+use Rattle.otio_tracks.specs.declared.values.References.{References}
 use Rattle.otio_tracks.specs.declared.times.Span.{Span}
 use Rattle.otio_tracks.specs.declared.parts.Part.{Part}
 use Rattle.otio_tracks.specs.declared.faults.DocCode.TheVariants.{O3, O11, O14}
@@ -20,7 +21,7 @@ use Rattle.otio_tracks.specs.Reading.{Read, refuse, or_refuse}
 use Rattle.otio_tracks.specs.Values.{is_object, given, needed, expected}
 use Rattle.otio_tracks.specs.Parts.{frames_within, trim_read}
 use Rattle.otio_tracks.specs.Times.{moment_read}
-use Rattle.otio_tracks.specs.Clips.{source_frames, source_if, source_read, clamped, media_if, available_read, available_if, reference_if, reference_read, narrowed, frames_of, clip_frames, reel_text, name_at, same_media, number_or, entry_number, unless_there, with_entry, entry_of, part_of, entered, clip_read}
+use Rattle.otio_tracks.specs.Clips.{source_frames, source_if, source_read, clamped, media_if, available_read, available_if, reference_if, reference_of, reference_read, narrowed, frames_of, clip_frames, reel_text, name_at, same_media, number_or, entry_number, unless_there, with_entry, entry_of, part_of, entered, clip_read}
 use Rattle.otio_tracks.specs.SoundParts.{IsItemPart}
 use Rattle.otio_tracks.proofs.ReelLaws.{place_le}
 use Rattle.otio_json.specs.Soundness.{SideHas, IsDeep, IsSoundMedia, IsSoundNest, IsSoundTable}
@@ -94,9 +95,9 @@ reference_then : (rate : ℕ × ℕ) (o : Option Tree) → IfOk (reference_if ra
 reference_then rate None = tt
 reference_then rate (Some t) = tested (is_object (kind_in t)) (available_if rate (given (codes "available_range") t)) O3 (place_of t) (λ m. IfSome m InMedia) (λ e. available_then rate (given (codes "available_range") t))
 
-reference_in : (rate : ℕ × ℕ) (clip : Tree) → IfOk (reference_read rate clip) (λ m. IfSome m InMedia)
+reference_in : (rate : ℕ × ℕ) (references : References) (clip : Tree) → IfOk (reference_read rate references clip) (λ m. IfSome m InMedia)
 unfolding reference_read
-reference_in rate clip = reference_then rate (given (codes "media_reference") clip)
+reference_in rate references clip = past (reference_of references clip) _ _ (λ o. reference_then rate o)
 
 pub record AreFrames (f : Frames) : Type 0 where
   pub some : f.from < f.to
@@ -211,10 +212,10 @@ entered_read table levels reel f a h = (
 abbrev pub ReadFrom : Table → ℕ → Part × Table → Type 0
 ReadFrom table levels r = Grown table r.1 × IsRead r.1 levels r.0
 
-pub clip_sound : (rate : ℕ × ℕ) (table : Table) (levels : ℕ) (clip : Tree) → IsSoundTable table → IfOk (clip_read rate table clip) (ReadFrom table levels)
+pub clip_sound : (rate : ℕ × ℕ) (references : References) (table : Table) (levels : ℕ) (clip : Tree) → IsSoundTable table → IfOk (clip_read rate references table clip) (ReadFrom table levels)
 unfolding clip_read
-clip_sound rate table levels clip h =
+clip_sound rate references table levels clip h =
     after (source_read rate clip) _ (λ s. IfSome s InSource) (ReadFrom table levels) (source_in rate clip) (λ s hs.
-    after (reference_read rate clip) _ (λ m. IfSome m InMedia) (ReadFrom table levels) (reference_in rate clip) (λ m hm.
+    after (reference_read rate references clip) _ (λ m. IfSome m InMedia) (ReadFrom table levels) (reference_in rate references clip) (λ m hm.
     after (or_refuse (clip_frames s m) O14 (place_of clip)) _ AreFrames (ReadFrom table levels) (chosen (clip_frames s m) O14 (place_of clip) AreFrames (frames_in s m hs hm)) (λ f hf.
     entered_read table levels (reel_text clip) f hf h)))

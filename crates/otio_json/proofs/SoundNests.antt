@@ -159,7 +159,7 @@ module _ (rate : ℕ × ℕ) (inner : Result Inner DocCode) (levels : ℕ) (own_
       grown_placed table nest.1 levels (with_nest nest.1 nest.0 f) n.0 (subst (λ m. ReadFrom nest.1 m (with_nest nest.1 nest.0 f)) (sym k.1) (nest_read_sound nest.1 nest.0 k.0 f k.2 n.0.sound n.1 w)))))))
 
   item_in_sound : (schema : Schema) (at : ℕ) (table : Table) (t : Tree) → IsSoundTable table → IfOk (item_in rate inner schema at table t) (ReadFrom table levels)
-  item_in_sound Clip at table t h = past (head_read t) _ _ (λ x. clip_sound rate table levels t h)
+  item_in_sound (Clip references) at table t h = past (head_read t) _ _ (λ x. clip_sound rate references table levels t h)
   item_in_sound Gap at table t h =
       past (head_read t) _ _ (λ x. after (gap_part_read rate t) _ (λ p. p.first ≡ Dark) (ReadFrom table levels) (gap_sound rate t) (λ p e.
       (grown_self table h, dark_read table levels p e)))
@@ -176,7 +176,7 @@ module _ (rate : ℕ × ℕ) (inner : Result Inner DocCode) (levels : ℕ) (own_
 
   child_sound : (table : Table) (found : Schema × ℕ) (s : RowState × Table) (t : Tree) → RowFrom table levels s → IfOk (child_by rate inner found s t) (RowFrom table levels)
   child_sound table (Transition, at) s t h = (h.0, waiting_row s.1 levels s.0 (Some (waiting_with rate s.0.waiting t)) h.1)
-  child_sound table (Clip, at) s t h = add_sound table (Clip, at) s t h
+  child_sound table (Clip references, at) s t h = add_sound table (Clip references, at) s t h
   child_sound table (Gap, at) s t h = add_sound table (Gap, at) s t h
   child_sound table (Stack, at) s t h = add_sound table (Stack, at) s t h
   child_sound table (Track, at) s t h = add_sound table (Track, at) s t h
@@ -208,7 +208,7 @@ module _ (rate : ℕ × ℕ) (inner : Result Inner DocCode) (levels : ℕ) (own_
 
   layer_sound : (found : Schema × ℕ) (number : ℕ) (table : Table) (t : Tree) → IsSoundTable table → IfOk (layer_by rate inner found number table t) (LayerFrom table levels)
   layer_sound (Track, at) number table t h = track_layer_sound number table t h
-  layer_sound (Clip, at) number table t h = item_layer_sound (Clip, at) number table t h
+  layer_sound (Clip references, at) number table t h = item_layer_sound (Clip references, at) number table t h
   layer_sound (Gap, at) number table t h = item_layer_sound (Gap, at) number table t h
   layer_sound (Stack, at) number table t h = item_layer_sound (Stack, at) number table t h
   layer_sound (Transition, at) number table t h = item_layer_sound (Transition, at) number table t h
@@ -232,7 +232,7 @@ module _ (rate : ℕ × ℕ) (inner : Result Inner DocCode) (levels : ℕ) (own_
 
   by_schema : (schema : Schema) (table : Table) (at : ℕ) (children : List Tree) → IsSoundTable table → IfOk (layers_by rate inner schema table at children) (LayersFrom table levels)
   by_schema Stack table at children h = layers_sound table children h
-  by_schema Clip table at children h = one_sound table at children h
+  by_schema (Clip references) table at children h = one_sound table at children h
   by_schema Gap table at children h = one_sound table at children h
   by_schema Track table at children h = one_sound table at children h
   by_schema Transition table at children h = one_sound table at children h

@@ -100,9 +100,9 @@ module _ (rate : ℕ × ℕ) (inner : Result Inner DocCode) where
     Ok (with_nest nest.1 nest.0 frames)
 
   abbrev pub item_in : Schema → ℕ → Table → Tree → Read (Part × Table)
-  item_in Clip at table t = do
+  item_in (Clip references) at table t = do
     _ ← head_read t
-    clip_read rate table t
+    clip_read rate references table t
   item_in Gap at table t = do
     _ ← head_read t
     part ← gap_part_read rate t
@@ -121,7 +121,7 @@ module _ (rate : ℕ × ℕ) (inner : Result Inner DocCode) where
 
   abbrev pub child_by : Schema × ℕ → RowState × Table → Tree → Read (RowState × Table)
   child_by (Transition, at) state t = Ok (waits rate state.0 t, state.1)
-  child_by (Clip, at) state t = add_item (Clip, at) state t
+  child_by (Clip references, at) state t = add_item (Clip references, at) state t
   child_by (Gap, at) state t = add_item (Gap, at) state t
   child_by (Stack, at) state t = add_item (Stack, at) state t
   child_by (Track, at) state t = add_item (Track, at) state t
@@ -160,7 +160,7 @@ module _ (rate : ℕ × ℕ) (inner : Result Inner DocCode) where
 
   abbrev pub layer_by : Schema × ℕ → ℕ → Table → Tree → Read (Layer × Table)
   layer_by (Track, at) number table t = track_layer_in number table t
-  layer_by (Clip, at) number table t = item_layer_in (Clip, at) number table t
+  layer_by (Clip references, at) number table t = item_layer_in (Clip references, at) number table t
   layer_by (Gap, at) number table t = item_layer_in (Gap, at) number table t
   layer_by (Stack, at) number table t = item_layer_in (Stack, at) number table t
   layer_by (Transition, at) number table t = item_layer_in (Transition, at) number table t

@@ -40,7 +40,7 @@ module _ (rate : ℕ × ℕ) (inner : Result Inner DocCode) where
   -- a transition is no item
   abbrev pub item_by : Schema × ℕ → List Part × Table → Tree → Read (List Part × Table)
   item_by (Transition, at) state t = Ok state
-  item_by (Clip, at) state t = next_item (Clip, at) state t
+  item_by (Clip references, at) state t = next_item (Clip references, at) state t
   item_by (Gap, at) state t = next_item (Gap, at) state t
   item_by (Stack, at) state t = next_item (Stack, at) state t
   item_by (Track, at) state t = next_item (Track, at) state t

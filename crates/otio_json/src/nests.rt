@@ -107,9 +107,9 @@ fn item(
 {
     let (schema, at) = found;
     match schema {
-        Schema::Clip => {
+        Schema::Clip(references) => {
             head(json)?;
-            clip(rate, table, json)
+            clip(rate, references, table, json)
         }
         Schema::Gap => {
             head(json)?;

@@ -46,7 +46,7 @@ abbrev pub gap_close : List ℕ
 gap_close = codes ",\"effects\":[],\"markers\":[]}"
 
 abbrev pub clip_open : List ℕ
-clip_open = codes "{\"OTIO_SCHEMA\":\"Clip.1\",\"name\":"
+clip_open = codes "{\"OTIO_SCHEMA\":\"Clip.2\",\"name\":"
 
 abbrev pub clip_reel : List ℕ
 clip_reel = codes ",\"metadata\":{\"cmx_3600\":{\"reel\":"
@@ -55,10 +55,10 @@ abbrev pub clip_range : List ℕ
 clip_range = codes "}},\"source_range\":"
 
 abbrev pub clip_media : List ℕ
-clip_media = codes ",\"effects\":[],\"markers\":[],\"media_reference\":{\"OTIO_SCHEMA\":\"MissingReference.1\",\"name\":\"\",\"metadata\":{},\"available_range\":"
+clip_media = codes ",\"effects\":[],\"markers\":[],\"media_references\":{\"DEFAULT_MEDIA\":{\"OTIO_SCHEMA\":\"MissingReference.1\",\"name\":\"\",\"metadata\":{},\"available_range\":"
 
 abbrev pub clip_close : List ℕ
-clip_close = codes "}}"
+clip_close = codes "}},\"active_media_reference_key\":\"DEFAULT_MEDIA\"}"
 
 abbrev pub transition_open : List ℕ
 transition_open = codes "{\"OTIO_SCHEMA\":\"Transition.1\",\"name\":\"\",\"metadata\":{},\"transition_type\":\"SMPTE_Dissolve\",\"in_offset\":"

@@ -90,17 +90,17 @@ fn put_clip(
 ) -> Result<(), Memory>
     ensures { OnOk result (out.new ≡ grown out.old (clip_text rate reel.now source len media.now)) }
 {
-    out.put(b"{\"OTIO_SCHEMA\":\"Clip.1\",\"name\":")?;
+    out.put(b"{\"OTIO_SCHEMA\":\"Clip.2\",\"name\":")?;
     out.put_quoted(reel)?;
     out.put(b",\"metadata\":{\"cmx_3600\":{\"reel\":")?;
     out.put_quoted(reel)?;
     out.put(b"}},\"source_range\":")?;
     put_range(out, rate, source, len)?;
     out.put(
-        b",\"effects\":[],\"markers\":[],\"media_reference\":{\"OTIO_SCHEMA\":\"MissingReference.1\",\"name\":\"\",\"metadata\":{},\"available_range\":",
+        b",\"effects\":[],\"markers\":[],\"media_references\":{\"DEFAULT_MEDIA\":{\"OTIO_SCHEMA\":\"MissingReference.1\",\"name\":\"\",\"metadata\":{},\"available_range\":",
     )?;
     put_range(out, rate, media.from, media.to.saturating_sub(media.from))?;
-    out.put(b"}}")
+    out.put(b"}},\"active_media_reference_key\":\"DEFAULT_MEDIA\"}")
 }
 
 #[tactic(auto, using(crate::proofs::Growing::grown_nothing))]

@@ -12,11 +12,13 @@ use Rattle.json_tokens.specs.Reading.{◌>>=◌}
 use Rattle.json_tree.specs.Tree.{Tree}
 use Rattle.json_tree.specs.Parts.{place_of, kind_in, member_in, text_in}
 use Rattle.otio_tracks.specs.declared.faults.DocCode.TheVariants.{O3, O4, O11, O14}
+use Rattle.otio_tracks.specs.declared.values.References.{References}
+use Rattle.otio_tracks.specs.declared.values.References.TheVariants.{One, ByKey}
 use Rattle.otio_tracks.specs.declared.times.Span.{Span}
 use Rattle.otio_tracks.specs.declared.parts.Part.{Part}
 use Rattle.otio_tracks.specs.declared.clips.Frames.{Frames}
 use Rattle.otio_tracks.specs.Reading.{Read, refuse, or_refuse}
-use Rattle.otio_tracks.specs.Values.{given, needed, expected, is_object}
+use Rattle.otio_tracks.specs.Values.{given, needed, text_read, expected, is_object}
 use Rattle.otio_tracks.specs.Times.{Moment, moment_read, frame_below, frame_above}
 use Rattle.otio_tracks.specs.Parts.{trim_read, frames_within}
 
@@ -73,9 +75,41 @@ abbrev pub reference_if : ℕ × ℕ → Option Tree → Read (Option (ℕ × �
 reference_if rate None = Ok None
 reference_if rate (Some t) = if is_object (kind_in t) then available_if rate (given (codes "available_range") t) else refuse O3 (place_of t)
 
+-- several media references by their keys: an object, whose schema is not asked
+abbrev pub keyed_if : Option Tree → Read (Option Tree)
+keyed_if None = Ok None
+keyed_if (Some t) = if is_object (kind_in t) then Ok (Some t) else refuse O3 (place_of t)
+
+unfoldable pub keyed_read : Tree → Read (Option Tree)
+keyed_read clip = keyed_if (given (codes "media_references") clip)
+
+-- the key of the active one, which is DEFAULT_MEDIA where none is given
+abbrev pub key_if : Option Tree → Read (List ℕ)
+key_if None = Ok (codes "DEFAULT_MEDIA")
+key_if (Some t) = text_read t
+
+unfoldable pub key_read : Tree → Read (List ℕ)
+key_read clip = key_if (given (codes "active_media_reference_key") clip)
+
+abbrev pub at_key : List ℕ → Option Tree → Option Tree
+at_key key None = None
+at_key key (Some t) = given key t
+
+-- of several the active one, if it is there
+unfoldable pub active_read : Tree → Read (Option Tree)
+active_read clip = do
+  keyed ← keyed_read clip
+  key ← key_read clip
+  Ok (at_key key keyed)
+
+-- a clip's media reference, if it has one
+abbrev pub reference_of : References → Tree → Read (Option Tree)
+reference_of One clip = Ok (given (codes "media_reference") clip)
+reference_of ByKey clip = active_read clip
+
 -- the frames that a clip's media reference says to be there, if it has any
-unfoldable pub reference_read : ℕ × ℕ → Tree → Read (Option (ℕ × ℕ))
-reference_read rate clip = reference_if rate (given (codes "media_reference") clip)
+unfoldable pub reference_read : ℕ × ℕ → References → Tree → Read (Option (ℕ × ℕ))
+reference_read rate references clip = reference_of references clip >>= reference_if rate
 
 -- the least range that holds the frames shown and those that are there
 abbrev pub widened : ℕ × ℕ → ℕ × ℕ → ℕ × ℕ
@@ -179,9 +213,9 @@ entered table reel frames = (
 )
 
 -- a clip's own part
-unfoldable pub clip_read : ℕ × ℕ → Table → Tree → Read (Part × Table)
-clip_read rate table clip = do
+unfoldable pub clip_read : ℕ × ℕ → References → Table → Tree → Read (Part × Table)
+clip_read rate references table clip = do
   source ← source_read rate clip
-  there ← reference_read rate clip
+  there ← reference_read rate references clip
   frames ← or_refuse (clip_frames source there) O14 (place_of clip)
   Ok (entered table (reel_text clip) frames)

@@ -6,6 +6,7 @@ use Rattle.json_tree.specs.Tree.{Tree, Kind, Null, Object_of}
 use Rattle.json_tree.specs.Parts.{place_of, kind_in, member_in, items_in, text_in}
 use Rattle.otio_tracks.specs.declared.faults.DocCode.{DocCode}
 use Rattle.otio_tracks.specs.declared.faults.DocCode.TheVariants.{O1, O2, O3}
+use Rattle.otio_tracks.specs.declared.values.References.TheVariants.{One, ByKey}
 use Rattle.otio_tracks.specs.declared.values.Schema.{Schema}
 use Rattle.otio_tracks.specs.declared.values.Schema.TheVariants.{Clip, Gap, Stack, Track, Transition, Other}
 use Rattle.otio_tracks.specs.Reading.{Read, refuse, or_refuse}
@@ -39,7 +40,8 @@ list_read t = or_refuse (items_in (kind_in t)) O3 (place_of t)
 -- the schemas that are read
 abbrev pub schema_named : List ℕ → Option Schema
 schema_named name =
-    if bytes_eq name (codes "Clip.1") then Some Clip
+    if bytes_eq name (codes "Clip.1") then Some (Clip One)
+    else if bytes_eq name (codes "Clip.2") then Some (Clip ByKey)
     else if bytes_eq name (codes "Gap.1") then Some Gap
     else if bytes_eq name (codes "Stack.1") then Some Stack
     else if bytes_eq name (codes "Track.1") then Some Track

@@ -5,13 +5,13 @@ ghost use Rattle.json_tree.specs.View.{tree_of};
 ghost use Rattle.otio_tracks.specs.Reading.{Reads, Gives};
 ghost use Rattle.otio_tracks.specs.SoundParts.{IsItemPart};
 ghost use Rattle.otio_tracks.specs.Times.{moment_of, rate_pair};
-ghost use Rattle.otio_tracks.specs.Clips.{source_frames, source_read, clamped, in_media, media_if, narrowed, available_read, reference_read, widened, clip_frames, reel_text, named_reel, entries, entered, clip_read};
+ghost use Rattle.otio_tracks.specs.Clips.{source_frames, source_read, clamped, in_media, media_if, narrowed, available_read, keyed_read, key_read, active_read, reference_of, reference_read, widened, clip_frames, reel_text, named_reel, entries, entered, clip_read};
 
 use crate::entries::Entries;
 use crate::faults::{DocCode, DocFault, Fault};
 use crate::parts::{Part, frames_within, trim};
 use crate::times::{Span, moment};
-use crate::values::{expect, fault_at, given, needed};
+use crate::values::{References, expect, fault_at, given, needed, text};
 use composables::{Media, Memory};
 use frame_meaning::{Side, What};
 use json_tree::{Json, Value};
@@ -126,13 +126,64 @@ fn narrowed(start: RationalTime, duration: RationalTime, rate: &Rate) -> Option<
     }
 }
 
+// The media references of a clip that has several, by their keys.
+#[tactic(auto, unfolding(crate::specs::Clips::keyed_read))]
+fn keyed(clip: &Json) -> Result<Option<&Json>, Fault>
+    ensures { Reads (λ o. option_map (λ j. tree_of j.now) o) result
+        (keyed_read (tree_of clip.now)) }
+{
+    match given(clip, "media_references") {
+        Some(references) => match &references.value {
+            Value::Object(_) => Ok(Some(references)),
+            _ => Err(fault_at(DocCode::O3, references)),
+        },
+        None => Ok(None),
+    }
+}
+
+// The key of the one that is active.
+#[tactic(auto, unfolding(crate::specs::Clips::key_read))]
+fn active_key(clip: &Json) -> Result<&str, Fault>
+    ensures { Reads (λ key. key.now) result (key_read (tree_of clip.now)) }
+{
+    match given(clip, "active_media_reference_key") {
+        Some(key) => text(key),
+        None => Ok("DEFAULT_MEDIA"),
+    }
+}
+
+// Of several media references the active one.
+#[tactic(auto, unfolding(crate::specs::Clips::active_read))]
+fn active(clip: &Json) -> Result<Option<&Json>, Fault>
+    ensures { Reads (λ o. option_map (λ j. tree_of j.now) o) result
+        (active_read (tree_of clip.now)) }
+{
+    let references = keyed(clip)?;
+    let key = active_key(clip)?;
+    match references {
+        Some(references) => Ok(given(references, key)),
+        None => Ok(None),
+    }
+}
+
+// A clip's media reference, if it has one.
+fn reference(references: References, clip: &Json) -> Result<Option<&Json>, Fault>
+    ensures { Reads (λ o. option_map (λ j. tree_of j.now) o) result
+        (reference_of references (tree_of clip.now)) }
+{
+    match references {
+        References::One => Ok(given(clip, "media_reference")),
+        References::ByKey => active(clip),
+    }
+}
+
 // The frames that a clip's media reference says to be there.
 #[tactic(auto, unfolding(crate::specs::Clips::reference_read))]
-fn reference(rate: &Rate, clip: &Json) -> Result<Option<(u32, u32)>, Fault>
-    ensures frames { result ≡ reference_read (rate_pair rate.now) (tree_of clip.now) }
+fn there(rate: &Rate, references: References, clip: &Json) -> Result<Option<(u32, u32)>, Fault>
+    ensures frames { result ≡ reference_read (rate_pair rate.now) references (tree_of clip.now) }
     ensures within { IfOk result (λ o. IfSome o (λ f. (f.0 < f.1) × (f.1 ≤ MOST_SOURCE))) }
 {
-    match given(clip, "media_reference") {
+    match reference(references, clip)? {
         Some(reference) => match &reference.value {
             Value::Object(_) => match given(reference, "available_range") {
                 Some(range) => available(rate, range),
@@ -253,18 +304,23 @@ fn enter(table: &mut Entries, reel: &str, frames: Frames) -> Result<Part, Memory
     })
 }
 
-/// A clip's own part.
+/// A clip's own part, whose media reference stands as `references` says.
 #[tactic(auto, unfolding(crate::specs::Clips::clip_read))]
-pub fn clip(rate: &Rate, table: &mut Entries, json: &Json) -> Result<Part, DocFault>
+pub fn clip(
+    rate: &Rate,
+    references: References,
+    table: &mut Entries,
+    json: &Json,
+) -> Result<Part, DocFault>
     requires { entries table.old + 2 < 2 ^ 32 }
     ensures read { Gives (λ part. (part, table.new)) result
-        (clip_read (rate_pair rate.now) table.old (tree_of json.now)) }
+        (clip_read (rate_pair rate.now) references table.old (tree_of json.now)) }
     ensures few { OnOk result (entries table.new ≤ entries table.old + 2) }
     ensures short { IfOk result (λ part. part.len ≤ 2147483647) }
     ensures sound { IfOk result IsItemPart }
 {
     let source = source(rate, json)?;
-    let available = reference(rate, json)?;
+    let available = there(rate, references, json)?;
     match clip_frames(source, available) {
         Some(frames) => Ok(enter(table, reel(json), frames)?),
         None => Err(fault_at(DocCode::O14, json).into()),

@@ -23,4 +23,4 @@ pub use parts::{Part, enabled, frames_within, head, trim};
 pub use rows::Row;
 pub use times::{Span, frame, gap_length};
 pub use transitions::Waiting;
-pub use values::{Schema, expect, fault_at, given, list, needed, schema_of, text};
+pub use values::{References, Schema, expect, fault_at, given, list, needed, schema_of, text};

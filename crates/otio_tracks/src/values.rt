@@ -9,10 +9,19 @@ ghost use Rattle.otio_tracks.specs.Values.{given, needed, text_read, list_read, 
 use crate::faults::{DocCode, Fault};
 use json_tree::{Json, Value};
 
+/// Where the media reference of a clip stands.
+#[derive(Clone, Copy, Debug, PartialEq, Eq)]
+pub enum References {
+    /// The clip has one, as its `media_reference`.
+    One,
+    /// The clip has several by their keys, as its `media_references`, of which one is active.
+    ByKey,
+}
+
 /// What a child of a track or of a stack is, by its schema.
 #[derive(Clone, Copy, Debug, PartialEq, Eq)]
 pub enum Schema {
-    Clip,
+    Clip(References),
     Gap,
     Stack,
     Track,
@@ -96,7 +105,8 @@ fn schema_named(name: &str) -> Option<Schema>
     ensures { result ≡ schema_named name.now }
 {
     match name {
-        "Clip.1" => Some(Schema::Clip),
+        "Clip.1" => Some(Schema::Clip(References::One)),
+        "Clip.2" => Some(Schema::Clip(References::ByKey)),
         "Gap.1" => Some(Schema::Gap),
         "Stack.1" => Some(Schema::Stack),
         "Track.1" => Some(Schema::Track),
