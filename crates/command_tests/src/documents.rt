@@ -187,6 +187,24 @@ fn a_cut_is_written_at_any_point(rt: HostRuntime) -> Result<(), Fail> {
     Ok(())
 }
 
+/// A clip of five frames from the frame 100 of the first reel on.
+const FIVE: &str =
+    r#"{"OTIO_SCHEMA":"Clip.2","name":"R0","metadata":{"cmx_3600":{"reel":"R0"}},"source_range":{"OTIO_SCHEMA":"TimeRange.1","duration":{"OTIO_SCHEMA":"RationalTime.1","rate":24.0,"value":5.0},"start_time":{"OTIO_SCHEMA":"RationalTime.1","rate":24.0,"value":100.0}},"effects":[],"markers":[],"media_references":{"DEFAULT_MEDIA":{"OTIO_SCHEMA":"MissingReference.1","name":"","metadata":{},"available_range":{"OTIO_SCHEMA":"TimeRange.1","duration":{"OTIO_SCHEMA":"RationalTime.1","rate":24.0,"value":86400.0},"start_time":{"OTIO_SCHEMA":"RationalTime.1","rate":24.0,"value":0.0}}}},"active_media_reference_key":"DEFAULT_MEDIA"}"#;
+
+#[test]
+fn a_clip_is_written(rt: HostRuntime) -> Result<(), Fail> {
+    let alloc = rt.alloc();
+    let lines = b"overwrite 0 0 @0 100 5\notio 1\n";
+    let (status, output) = ended(&rt, alloc, &["run", "1", "1"], &[lines], &[], &[])?;
+    assert_eq!(rt; status, 0);
+    let front = EMPTY.strip_suffix("]}]}}").ok_or("back")?;
+    let wanted = format!(in alloc;
+        "ok 0 item 0\notio 1 {front}{FIVE}]}}]}}}}\njournal 1\n0 1 overwrite 0 0 @0 100 5\n"
+    )?;
+    assert_eq!(rt; output.as_slice(), wanted.as_bytes());
+    Ok(())
+}
+
 // What is written at the journal's length opens again as the same cut.
 #[test]
 fn what_is_written_opens_again(rt: HostRuntime) -> Result<(), Fail> {

@@ -20,7 +20,7 @@ O1 {@^'Timeline.2'}
 O1 {@'Timeline.1','global_start_time':{@^'RationalTime.2'}}
 O1 {@'Timeline.1','tracks':{@^'Stack.2'}}
 O1 {@'Timeline.1','tracks':${@^'SerializableCollection.1'}*}
-O1 !{@^'Clip.2'}?
+O1 !{@^'Clip.3'}?
 O1 !${@^'Marker.2'}*?
 O1 !{@'Gap.1','source_range':{@^'TimeRange.2'}}?
 O2 ^{}
@@ -50,6 +50,7 @@ O3 {@'Timeline.1','tracks':{@^'Track.1'}}
 O3 {@'Timeline.1','tracks':{@'Stack.1','children':^{}}}
 O3 {@'Timeline.1','tracks':$^1*}
 O3 {@'Timeline.1','tracks':${@^'Clip.1'}*}
+O3 {@'Timeline.1','tracks':${@^'Clip.2'}*}
 O3 {@'Timeline.1','tracks':${@'Track.1','enabled':^1}*}
 O3 {@'Timeline.1','tracks':${@'Track.1','kind':^'video'}*}
 O3 {@'Timeline.1','tracks':${@'Track.1','kind':^1}*}
@@ -65,6 +66,11 @@ O3 !{@'Clip.1','source_range':{@'TimeRange.1','start_time':{@'RationalTime.1','r
 O3 !{@'Clip.1','source_range':{@'TimeRange.1','start_time':{@'RationalTime.1','rate':24,'value':^'1'}}}?
 O3 !{@'Clip.1','source_range':(16777215;1),'media_reference':^1}?
 O3 !{@'Clip.1','media_reference':{'available_range':^1}}?
+O3 !{@'Clip.2','source_range':(16777215;1),'media_references':^[],'active_media_reference_key':1}?
+O3 !{@'Clip.2','media_references':{'DEFAULT_MEDIA':1},'active_media_reference_key':^1}?
+O3 !{@'Clip.2','media_references':null,'active_media_reference_key':^{}}?
+O3 !{@'Clip.2','media_references':{'PROXY':1,'DEFAULT_MEDIA':^[]}}?
+O3 !{@'Clip.2','media_references':{'PROXY':{'available_range':^1},'DEFAULT_MEDIA':1},'active_media_reference_key':'PROXY'}?
 O3 !{@'Stack.1','children':^null}?
 O3 !${@^'Transition.1'}*?
 O3 !#,{@'Transition.1','transition_type':^'Wipe'},#?
@@ -79,6 +85,7 @@ O4 !{@'Gap.1','source_range':{@'TimeRange.1','duration':^<-0.5>}}?
 O4 !#,{%,'in_offset':^<0.5>},#?
 O4 !#,{%,'in_offset':<1>,'out_offset':^<0.5>},#?
 O4 !{@'Clip.1','media_reference':{'available_range':^(2147483647;1)}}?
+O4 !{@'Clip.2','media_references':{'DEFAULT_MEDIA':{'available_range':^(2147483647;1)}}}?
 O5 !{@'Gap.1','source_range':{@'TimeRange.1','duration':{@'RationalTime.1','rate':^0}}}?
 O5 !{@'Gap.1','source_range':{@'TimeRange.1','duration':{@'RationalTime.1','rate':^-24}}}?
 O5 !{@'Gap.1','source_range':{@'TimeRange.1','duration':{@'RationalTime.1','rate':^119.88011988011988}}}?
@@ -119,6 +126,7 @@ O11 {@'Timeline.1','global_start_time':^<-1>}
 O11 {@'Timeline.1','global_start_time':^<2073600>}
 opens {@'Timeline.1','global_start_time':<2073599>,'tracks':$+*}
 O11 !{@'Clip.1','source_range':^(16777215;2),'media_reference':1}?
+O11 !{@'Clip.2','source_range':^(16777215;2),'media_references':1}?
 O11 !{@'Clip.1','source_range':^(-1;2)}?
 opens !{@'Gap.1','source_range':(0;2592000)}?
 O11 {@'Timeline.1','tracks':$^{@'Track.1','kind':'Video','children':[{@'Gap.1','source_range':(0;2592000)},{@'Clip.1','source_range':(0;1)}]}*}
@@ -133,6 +141,10 @@ O13 !$$$$$$$$^$~*********?
 O13 !$$$$$$$${@'Track.1','children':[^{@'Track.1'}]}********?
 O14 !^{@'Clip.1'}?
 O14 !^{@'Clip.1','media_reference':{'available_range':(5;0)}}?
+O14 !^{@'Clip.1','media_references':{'DEFAULT_MEDIA':{'available_range':(0;5)}}}?
+O14 !^{@'Clip.2','media_reference':{'available_range':(0;5)}}?
+O14 !^{@'Clip.2','media_references':{'DEFAULT_MEDIA':{'available_range':(0;5)}},'active_media_reference_key':'PROXY'}?
+O14 !^{@'Clip.2','media_references':{'PROXY':{'available_range':(0;5)}}}?
 O14 !^{@'Gap.1'}?
 O14 !{@'Gap.1','source_range':{@'TimeRange.1','duration':^<-1>}}?
 O14 !{@'Clip.1','source_range':{@'TimeRange.1','start_time':<0>,'duration':^<-1>}}?

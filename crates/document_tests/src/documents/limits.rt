@@ -82,9 +82,9 @@ fn written_length(alloc: Global, letters: usize, frames: &str) -> Result<Option<
 #[test]
 fn what_is_written_has_at_most_32_mebibytes(rt: HostRuntime) -> Result<(), Fail> {
     let table: [(usize, &str, Option<usize>); 3] = [
-        (1, "10", Some(932)),
-        (16_776_751, "10", Some(33_554_432)),
-        (16_776_751, "100", None),
+        (1, "10", Some(996)),
+        (16_776_719, "10", Some(33_554_432)),
+        (16_776_719, "100", None),
     ];
     for (letters, frames, wanted) in table {
         assert_eq!(rt;
