@@ -283,7 +283,9 @@ def optional(value, name):
     return None if found is None or found.kind == "null" else found
 
 
-KNOWN = {"Timeline.1", "Stack.1", "Track.1", "Clip.1", "Gap.1", "Transition.1", "RationalTime.1", "TimeRange.1"}
+CLIPS = {"Clip.1", "Clip.2"}
+ITEMS = CLIPS | {"Gap.1", "Stack.1", "Track.1"}
+KNOWN = ITEMS | {"Timeline.1", "Transition.1", "RationalTime.1", "TimeRange.1"}
 
 
 def schema_of(value, wanted):
@@ -414,7 +416,7 @@ class Walk:
         """Parts, and the marks between them: a transition is looked at when the item after it has been read."""
         row, waiting = [], []
         for child in children.value:
-            if schema_of(child, {"Clip.1", "Gap.1", "Stack.1", "Track.1", "Transition.1"}) == "Transition.1":
+            if schema_of(child, ITEMS | {"Transition.1"}) == "Transition.1":
                 waiting.append(child)
                 continue
             part = self.item(child, depth, is_audio)
@@ -429,7 +431,7 @@ class Walk:
         return row
 
     def item(self, value, depth, is_audio):
-        schema = schema_of(value, {"Clip.1", "Gap.1", "Stack.1", "Track.1"})
+        schema = schema_of(value, ITEMS)
         if schema in ("Stack.1", "Track.1"):
             if depth > MOST_NESTS:
                 raise Fault("O13", value.at)
@@ -458,8 +460,8 @@ class Walk:
         span = None
         if given:
             span = self.span(given)
-        if schema == "Clip.1":
-            return self.clip(value, given, span)
+        if schema in CLIPS:
+            return self.clip(value, schema, given, span)
         return self.nest(value, schema, given, span, depth)
 
     def gap(self, value, given):
@@ -470,11 +472,11 @@ class Walk:
             raise Fault("O14", duration.at)
         return Part(value.at, None, 0, count)
 
-    def clip(self, value, given, span):
+    def clip(self, value, schema, given, span):
         if span and span[1] > 0 and not (0 <= span[0] and span[0] + span[1] <= MOST_SOURCE):
             raise Fault("O11", given.at)
         available = None
-        reference = optional(value, "media_reference")
+        reference = self.active(value) if schema == "Clip.2" else optional(value, "media_reference")
         if reference:
             asked(reference, "object")
             given_range = optional(reference, "available_range")
@@ -497,6 +499,15 @@ class Walk:
         if entry not in self.media:
             self.media.append(entry)
         return Part(value.at, ("@", self.media.index(entry)), span[0], span[1])
+
+    def active(self, value):
+        """Of several media references by their keys the active one."""
+        keyed = optional(value, "media_references")
+        if keyed:
+            asked(keyed, "object")
+        key = optional(value, "active_media_reference_key")
+        name = asked(key, "text").value if key else "DEFAULT_MEDIA"
+        return optional(keyed, name) if keyed else None
 
     def available(self, given):
         schema_of(given, {"TimeRange.1"})
@@ -546,7 +557,7 @@ class Walk:
         return cells, 0, len(cells)
 
     def layer(self, value, depth):
-        schema = schema_of(value, {"Clip.1", "Gap.1", "Stack.1", "Track.1"})
+        schema = schema_of(value, ITEMS)
         if schema == "Track.1":
             self.enabled(value)
             self.effects(value)
@@ -683,7 +694,8 @@ class Writer:
             reel = text(self.reel(cell.shows[1]))
             low, high = self.room.media[cell.shows[1]]
             media = f'{{"OTIO_SCHEMA":"MissingReference.1","name":"","metadata":{{}},"available_range":{self.range(low, high - low)}}}'
-            return out + f'{{"OTIO_SCHEMA":"Clip.1","name":{reel},"metadata":{{"cmx_3600":{{"reel":{reel}}}}},"source_range":{span},{REST},"media_reference":{media}}}'
+            clip = f'{{"OTIO_SCHEMA":"Clip.2","name":{reel},"metadata":{{"cmx_3600":{{"reel":{reel}}}}},"source_range":{span},{REST}'
+            return out + f'{clip},"media_references":{{"DEFAULT_MEDIA":{media}}},"active_media_reference_key":"DEFAULT_MEDIA"}}'
         layers = []
         for layer, low, high in self.room.layers[cell.shows[1]]:
             layers.append(self.track(layer, "Video", "null" if (low, high) == (0, len(layer)) else self.range(low, high - low)))
