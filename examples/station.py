@@ -1,13 +1,14 @@
 #!/usr/bin/env python3
 """A station of a cutting room: sends lines, shows each reply beside its line, and can draw the tracks.
 
-usage: examples/station.py [--picture FILE] [--lines FILE] HOST:PORT
-       examples/station.py [--picture FILE] [--lines FILE] -- COMMAND ..
+usage: examples/station.py [--document DOC RATE] [--picture FILE] [--lines FILE] HOST:PORT
+       examples/station.py [--document DOC RATE] [--picture FILE] [--lines FILE] -- COMMAND ..
 
 It talks to a room that is served at an address, or to a COMMAND that reads lines and answers them, such as
 `./cutroom run 2 1`. Lines come from the terminal, or from the file of --lines. Each line is sent when the one before it
 has its reply. The point is what the room last told of its journal. --picture draws all tracks at the end, as an SVG
-timeline: items and gaps to scale, dissolves as crossed boxes, linked items joined by lines.
+timeline: items and gaps to scale, dissolves as crossed boxes, linked items joined by lines. --document names the document
+that the room was opened with and its rate: then replies and picture have the name of a reel or nest with each @m and #j.
 
 It needs nothing but Python's standard library."""
 
@@ -18,6 +19,8 @@ import sys
 from dataclasses import dataclass
 from html import escape
 from typing import Optional
+
+from media import table_of
 
 
 class Closed(Exception):
@@ -103,6 +106,16 @@ def pieces_of(words):
     return pieces
 
 
+def named(word, names):
+    """A word, with its name behind it where it is an @m or #j that has one."""
+    return f"{word}({names[word]})" if word in names else word
+
+
+def shown(words, names):
+    """The words of a reply as they are shown: a document's own words stay."""
+    return " ".join(named(word, names) for word in words) if words[0] in ("items", "seen") else " ".join(words)
+
+
 def tracks_of(line):
     """All tracks of the room, asked for one by one until one is not there."""
     tracks = []
@@ -133,8 +146,8 @@ def step_of(length):
 class Picture:
     """An SVG timeline of tracks, the last on top, as they are seen."""
 
-    def __init__(self, tracks, point):
-        self.tracks = tracks
+    def __init__(self, tracks, point, names):
+        self.tracks, self.names = tracks, names
         self.length = max([p.start + p.length for pieces in tracks for p in pieces], default=0) or 1
         self.parts = []
         self.draw(point)
@@ -184,7 +197,7 @@ class Picture:
             number = int(piece.shows[1:])
             colour = COLOURS[number % len(COLOURS)]
             self.rect(piece, track, colour, 'stroke="#333"' + (' stroke-width="2.5"' if piece.shows[0] == "#" else ""))
-            text = f"{piece.item}  {piece.shows} {piece.source}+{piece.length}"
+            text = f"{piece.item}  {named(piece.shows, self.names)} {piece.source}+{piece.length}"
             self.clipped(piece, track, text, 17)
             if piece.link:
                 self.clipped(piece, track, f"link {piece.link}", 34, 'font-style="italic"')
@@ -247,17 +260,19 @@ def lines_of(name):
 
 
 def main():
-    parser = argparse.ArgumentParser(usage="%(prog)s [--picture FILE] [--lines FILE] (HOST:PORT | -- COMMAND ..)")
+    parser = argparse.ArgumentParser(usage="%(prog)s [--document DOC RATE] [--picture FILE] [--lines FILE] (HOST:PORT | -- COMMAND ..)")
+    parser.add_argument("--document", nargs=2, metavar=("DOC", "RATE"))
     parser.add_argument("--picture", metavar="FILE")
     parser.add_argument("--lines", metavar="FILE")
     parser.add_argument("room", nargs="+", metavar="HOST:PORT or COMMAND")
     words = parser.parse_args()
+    names = table_of(*words.document).names() if words.document else {}
     line = station_at(words.room[0]) if len(words.room) == 1 else station_of(words.room)
     try:
         for text in lines_of(words.lines):
-            print(f"{text:<40}  {' '.join(line.ask(text))}", flush=True)
+            print(f"{text:<40}  {shown(line.ask(text), names)}", flush=True)
         if words.picture:
-            picture = Picture(tracks_of(line), line.point).text()
+            picture = Picture(tracks_of(line), line.point, names).text()
             with open(words.picture, "w", encoding="utf-8") as file:
                 file.write(picture)
         line.end()
