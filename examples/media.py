@@ -97,8 +97,9 @@ class Table:
 
     def names(self):
         """What each @m and #j is called: a reel, or a nest that has a name."""
+        media = {f"@{number}": reel for (reel, _, _), number in self.media.items()}
         nests = {f"#{number}": name for number, (_, name) in enumerate(self.nests) if isinstance(name, str) and name}
-        return {f"@{number}": reel for (reel, _, _), number in self.media.items()} | nests
+        return {**media, **nests}
 
 
 def table_of(name, rate):
