@@ -4,7 +4,7 @@
 //! the joined pieces: each call of `feed` tells the lines that end in the bytes that it took, and
 //! `lines_are_the_same_in_any_pieces` says that these are the lines of the text, however it was cut. [`next_word`] goes
 //! over the words of a line, and [`number`] and [`signed`] read a word as a number, of any count of digits. [`Words`] is a
-//! list of words; it alone is given an allocator.
+//! list of words; it alone is given an allocator. The main contract is that of [`lines_are_the_same_in_any_pieces`].
 #![tactic(auto)]
 
 mod buffer;
