@@ -1,0 +1,148 @@
+// An open kept file, and an append to it.
+ghost use Rattle.std.specs.Prelude.{◌≡◌, ◌≢◌, ◌<◌, ◌≤◌, ◌+◌, ◌^◌, ◌++◌, ◌∷◌, ◌↔◌, List, ℕ, [], length, None, Some, Ok, IfOk, IfErr, IfSome, IsSome, IsTrue, OnOk, OnErr};
+ghost use Rattle.room_ports.specs.Counts.{HasRisen};
+ghost use Rattle.journal_file.specs.declared.faults.OpenFault.TheVariants as faults;
+ghost use Rattle.journal_file.specs.declared.stage.Stage.TheVariants as stages;
+ghost use Rattle.journal_file.specs.Crashes.{Told, Since, AtMost, Within};
+ghost use Rattle.journal_file.specs.Layout.{Kept, IsLine, front_of};
+ghost use Rattle.journal_file.specs.Stages.{Stands, IsEither, piece_of};
+ghost use Rattle.journal_file.specs.Standing.{StandsFor, HoldsLines, Explains, HarmsNothing};
+
+use crate::line::GateLine;
+use crate::opening::opened;
+use crate::pending::put_pending;
+use crate::stage::Stage;
+use crate::{Disk, OpenFault, Record};
+use room_ports::Failed;
+use std::alloc::Global;
+use std::marker::Model;
+
+/// The most records of a file that takes one more.
+pub const MOST_RECORDS: u32 = 100_000;
+
+/// A kept file on a disk, open for appends.
+#[derive(Drop)]
+pub struct JournalFile<D: Disk + Drop> {
+    disk: D,
+    count: u32,
+    gate: u32,
+    stage: Stage,
+    line: GateLine,
+}
+
+impl<D: Disk + Drop> Model for JournalFile<D> {
+    ghost use Rattle.std.specs.Prelude.{List, ℕ};
+    ghost use Rattle.journal_file.specs.Standing.{JournalState};
+    ghost use Rattle.journal_file.specs.Stages.{IsFiled, pending_of};
+
+    ghost Value = { JournalState D };
+
+    ghost view = { λ j. record {
+      disk = j.disk;
+      count = j.count;
+      pending = pending_of j.stage j.line;
+    } };
+
+    ghost invariant = { λ j. (lines : List (List ℕ))
+        × IsFiled (D.course j.disk) lines j.count j.gate j.stage j.line };
+}
+
+impl<D: Disk + Drop> JournalFile<D> {
+    /// Opens the file of a disk and gives its records, or hands the disk back with the fault. A new file is written; of any
+    /// other what follows its gate is cut.
+    pub fn open(alloc: Global, disk: D) -> Result<(JournalFile<D>, Vec<Record>), (OpenFault, D)>
+        ensures records { IfOk result (λ r. Told (λ o n. Kept o.now.reads r.1.items)
+            (D.course disk) (D.course r.0.disk)) }
+        ensures stands { IfOk result (λ r. StandsFor D.course r.0 r.1.items) }
+        ensures settled { IfOk result (λ r. r.0.pending ≡ None) }
+
+        // Once the first sync has succeeded, each crash leaves these records, no more and no fewer.
+        ensures moments { IfOk result (λ r. Told (Since (λ bytes. Kept bytes r.1.items))
+            (D.course disk) (D.course r.0.disk)) }
+
+        ensures fault { IfErr result (λ e. Explains e.0 (D.course disk) (D.course e.1)) }
+        ensures harmless { IfErr result (λ e. Told HarmsNothing (D.course disk) (D.course e.1)) }
+        ensures model { IfOk result (λ r. D.keeps r.0.disk ≡ D.keeps disk) }
+        ensures model_err { IfErr result (λ e. D.keeps e.1 ≡ D.keeps disk) }
+        ensures cause { IfErr result (λ e. e.0 ≡ faults.Failed
+            → HasRisen (D.faults disk) (D.faults e.1)) }
+        ensures quiet { IfOk result (λ r. D.faults r.0.disk ≡ D.faults disk) }
+    {
+        let mut disk = disk;
+        match opened(alloc, &mut disk) {
+            Ok((records, gate)) => {
+                let file = JournalFile {
+                    disk,
+                    count: records.len() as u32,
+                    gate,
+                    stage: Stage::Settled,
+                    line: GateLine::new(),
+                };
+                Ok((file, records))
+            }
+            Err(fault) => Err((fault, disk)),
+        }
+    }
+
+    /// Adds a record. After `Failed` the same call goes on: it is to be called with the same line again.
+    pub fn append(&mut self, line: &[u8]) -> Result<(), Failed>
+        requires room { self.old.count < 100000 }
+        requires line { IsLine line.now }
+        requires again { IfSome self.old.pending (λ pending. pending ≡ line.now) }
+
+        // Acknowledged: from then on every crash leaves the record.
+        ensures ok { OnOk result ((lines : List (List ℕ)) → StandsFor D.course self.old lines
+            → StandsFor D.course self.new (lines ++ line.now ∷ [])) }
+        ensures settled { OnOk result (self.new.pending ≡ None) }
+        ensures counted { OnOk result (self.new.count ≡ self.old.count + 1) }
+
+        // Every crash leaves the records from before, or these and the new one.
+        ensures err { OnErr result ((lines : List (List ℕ)) → StandsFor D.course self.old lines
+            → StandsFor D.course self.new lines) }
+        ensures pending { OnErr result (self.new.pending ≡ Some line.now) }
+        ensures same { OnErr result (self.new.count ≡ self.old.count) }
+
+        // So does a crash at any moment of the call.
+        ensures moments { (lines : List (List ℕ)) → StandsFor D.course self.old lines
+            → Told (Since (HoldsLines (Some line.now) lines))
+            (D.course self.old.disk) (D.course self.new.disk) }
+        ensures calls { Told (AtMost 4) (D.course self.old.disk) (D.course self.new.disk) }
+
+        ensures model { D.keeps self.new.disk ≡ D.keeps self.old.disk }
+        ensures cause { OnErr result (HasRisen
+            (D.faults self.old.disk) (D.faults self.new.disk)) }
+        ensures quiet { OnOk result (D.faults self.new.disk ≡ D.faults self.old.disk) }
+    {
+        self.line.hold(line);
+        put_pending(&mut self.disk, &mut self.stage, self.gate, &self.line)?;
+        self.stage = Stage::Settled;
+        self.gate += line.len() as u32 + 2;
+        self.count += 1;
+        Ok(())
+    }
+
+    /// How many records the file has.
+    pub fn count(&self) -> u32
+        ensures { result ≡ self.now.count }
+    {
+        self.count
+    }
+
+    /// Whether the last append failed.
+    pub fn pending(&self) -> bool
+        ensures { IsTrue result ↔ IsSome self.now.pending }
+    {
+        match self.stage {
+            Stage::Settled => false,
+            Stage::Staging | Stage::Opening => true,
+        }
+    }
+
+    /// Gives the disk as it is.
+    pub fn close(self) -> D
+        ensures { result ≡ self.disk }
+    {
+        let JournalFile { disk, .. } = self;
+        disk
+    }
+}
