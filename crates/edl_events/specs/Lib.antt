@@ -1,0 +1,3 @@
+-- To be read: public clauses speak of each of these.
+pub mod Channels
+pub mod Tape
