@@ -85,9 +85,9 @@ count_trees : (t : Table) (r : SequenceRate) (i q : ℕ) (xs : List TrackState) 
 count_trees t r i q [] = refl
 count_trees t r i q (x ∷ xs) = ap suc (count_trees t r (i + 1) _ xs)
 
-sequence_known : (rate : ℕ × ℕ) (children : List Tree) (at : ℕ) → 0 < length children → length children ≤ 16 → sequence_read rate children at ≡ tracks_read rate empty_table children
+sequence_known : (rate : ℕ × ℕ) (children : List Tree) (at : ℕ) → 0 < length children → length children ≤ 32 → sequence_read rate children at ≡ tracks_read rate empty_table children
 sequence_known rate children at some few =
-    λ i. if lt-ltb 0 (length children) some i && le-leb (length children) 16 few i then tracks_read rate empty_table children else refuse O10 at
+    λ i. if lt-ltb 0 (length children) some i && le-leb (length children) 32 few i then tracks_read rate empty_table children else refuse O10 at
 
 timeline_back : (o : Opening) → IsSoundCut o → 0 < length o.tracks → (at : ℕ)
     → (p : Opening) × (timeline_read o.counting (placed at (tree_of_cut o)) ≡ Ok p) × SameCut o p

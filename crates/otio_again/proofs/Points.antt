@@ -190,7 +190,7 @@ point_is_sound : (o : Opening) (entries : List (Entry Call)) (tracks : List Trac
 point_is_sound o entries tracks sound comes =
     let cut = openings_are_sound_cuts o sound in
     let r = numbered_from o.table 0 o.table.kinds o.tracks sound.tracks in
-    let few : length o.tracks ≤ 16 = sound.few in
+    let few : length o.tracks ≤ 32 = sound.few in
     let opening : IsRoomAt o.table o.tracks = record { numbered = r.0; count = omega (arith, r.1, few); given = bare-given o.table o.tracks r.2; good = good_bare o.table o.tracks r.2 } in
     let room = room-history o.table (things_end o.table cut.table) o.tracks tracks entries opening comes in
     let same = λ (i : ℕ). kinds_are i in

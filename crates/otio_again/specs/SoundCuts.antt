@@ -49,11 +49,11 @@ SuitsKind Audio t = EachHas IsMedia (items_of t.cells)
 abbrev pub AreGoodFrom : Table → ℕ → List Kind → List TrackState → Type 0
 AreGoodFrom table = AreTracksOf (λ k t. IsGood table t × SuitsKind k t)
 
--- a table, tracks, a counting and a start that a cut can have; at most 16 tracks, as many as a room may have
+-- a table, tracks, a counting and a start that a cut can have; at most 32 tracks, as many as a room may have
 pub record IsSoundCut (o : Opening) : Type 0 where
   pub table : IsCutTable o.table
   pub tracks : AreGoodFrom o.table 0 o.table.kinds o.tracks
-  pub few : length o.tracks ≤ 16
+  pub few : length o.tracks ≤ 32
   pub start : o.start < length (day_of o.counting)
 
 -- what a document describes, and what a plain room begins with, is one

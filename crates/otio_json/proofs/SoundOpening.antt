@@ -131,15 +131,15 @@ all_sound rate (t ∷ ts) s count h e =
 nothing_yet : AreSoFar ([], empty_table)
 nothing_yet = record { table = record { media = All-nil (IsSoundMedia empty_table); nests = All-nil (IsSoundNest empty_table 7) }; tracks = tt }
 
--- 1 to 16 tracks
+-- 1 to 32 tracks
 abbrev AreTracks : List TrackState × Table → Type 0
-AreTracks s = AreSoFar s × (0 < length s.0) × (length s.0 ≤ 16)
+AreTracks s = AreSoFar s × (0 < length s.0) × (length s.0 ≤ 32)
 
 sequence_sound : (rate : ℕ × ℕ) (children : List Tree) (at : ℕ) → IfOk (sequence_read rate children at) AreTracks
-sequence_sound rate children at = tested (nat_lt 0 (length children) && nat_le (length children) 16) (tracks_read rate empty_table children) O10 at AreTracks (λ e.
-    let p = and_parts (nat_lt 0 (length children)) (nat_le (length children) 16) e in
+sequence_sound rate children at = tested (nat_lt 0 (length children) && nat_le (length children) 32) (tracks_read rate empty_table children) O10 at AreTracks (λ e.
+    let p = and_parts (nat_lt 0 (length children)) (nat_le (length children) 32) e in
     weaker (tracks_read rate empty_table children) (AreSo (length children)) AreTracks (all_sound rate children ([], empty_table) (length children) nothing_yet (omega arith)) (λ s h.
-    (h.0, omega (arith, h.1, nat_lt_true 0 (length children) p.0), omega (arith, h.1, nat_le_true (length children) 16 p.1)))) where
+    (h.0, omega (arith, h.1, nat_lt_true 0 (length children) p.0), omega (arith, h.1, nat_le_true (length children) 32 p.1)))) where
       nat_lt_true : (a b : ℕ) → nat_lt a b ≡ true → a < b
       nat_lt_true a b t = grind arith
 

@@ -42,7 +42,7 @@ media_from table a (suc n) h =
     (record { reel = omega (arith, h); filled = omega arith; within = omega arith })
     (media_from table (a + 1) n (omega (arith, h)))
 
-pub plain_sound : (tracks reels : ℕ) → tracks ≤ 16 → IsSoundOpening (plain_opening tracks reels)
+pub plain_sound : (tracks reels : ℕ) → tracks ≤ 32 → IsSoundOpening (plain_opening tracks reels)
 plain_sound tracks reels few = record {
   table = record { media = media_from (plain_table tracks reels) 0 reels (omega (arith, length-map-range_with_len plain_reel 0 reels)); nests = All-nil (IsSoundNest (plain_table tracks reels) 7) };
   tracks = tracks_from (plain_table tracks reels) 0 tracks;

@@ -10,8 +10,8 @@ pub fn a_track_shows_its_items_one_after_another()
     ensures { TracksShowTheirItems }
 {}
 
-/// The limits: at most 16 tracks, and at most 8 nests in one another.
+/// The limits: at most 32 tracks, and at most 8 nests in one another.
 pub fn limits_are_these()
-    ensures tracks { MAX_TRACKS ≡ 16 }
+    ensures tracks { MAX_TRACKS ≡ 32 }
     ensures nests { MAX_NESTS ≡ 8 }
 {}

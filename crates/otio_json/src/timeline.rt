@@ -22,7 +22,7 @@ use std::alloc::Global;
 use timecode12::Counting;
 
 /// The most tracks of a room.
-pub const MAX_TRACKS: u32 = 16;
+pub const MAX_TRACKS: u32 = 32;
 
 /// The most nests that stand in one another.
 pub const MAX_NESTS: u32 = 8;

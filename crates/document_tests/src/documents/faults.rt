@@ -119,9 +119,9 @@ opens !#,{%,'in_offset':<0>,'out_offset':<10>},#,{%,'in_offset':<10>,'out_offset
 opens !~,=,{%,'in_offset':<3>,'out_offset':<0>},#?
 opens !#,=,{%,'in_offset':<0>,'out_offset':<0>},#?
 O10 {@'Timeline.1','tracks':{@'Stack.1','enabled':false,'children':^[]}}
-opens {@'Timeline.1','tracks':{@'Stack.1','children':[+,+,+,+,+,+,+,+,+,+,+,+,+,+,+,+]}}
-O10 {@'Timeline.1','tracks':{@'Stack.1','children':^[+,+,+,+,+,+,+,+,+,+,+,+,+,+,+,+,+]}}
-opens {@'Timeline.1','tracks':$+,+,+,+,+,+,+,+,+,+,+,+,+,+,+,+*}
+opens {@'Timeline.1','tracks':{@'Stack.1','children':[+,+,+,+,+,+,+,+,+,+,+,+,+,+,+,+,+,+,+,+,+,+,+,+,+,+,+,+,+,+,+,+]}}
+O10 {@'Timeline.1','tracks':{@'Stack.1','children':^[+,+,+,+,+,+,+,+,+,+,+,+,+,+,+,+,+,+,+,+,+,+,+,+,+,+,+,+,+,+,+,+,+]}}
+opens {@'Timeline.1','tracks':$+,+,+,+,+,+,+,+,+,+,+,+,+,+,+,+,+,+,+,+,+,+,+,+,+,+,+,+,+,+,+,+*}
 O11 {@'Timeline.1','global_start_time':^<-1>}
 O11 {@'Timeline.1','global_start_time':^<2073600>}
 opens {@'Timeline.1','global_start_time':<2073599>,'tracks':$+*}
