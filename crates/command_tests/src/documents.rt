@@ -155,6 +155,29 @@ fn words_are_looked_at_before_the_document(rt: HostRuntime) -> Result<(), Fail> 
     Ok(())
 }
 
+// A document has as many tracks as a room can have.
+#[test]
+fn a_document_has_at_most_32_tracks(rt: HostRuntime) -> Result<(), Fail> {
+    let alloc = rt.alloc();
+    let told = "items 0 0 @0 100 10\nok 0 item 1\njournal 1\n0 2 overwrite 0 86405 @0 103 1\n";
+    let table = [(32u32, 0u8, told), (33, 4, "refused O10 79\n")];
+    for (tracks, status, wanted) in table {
+        let text = document_of(alloc, tracks, 1)?;
+        let is_so = ends(
+            &rt,
+            alloc,
+            "run cut 24 ndf",
+            &text,
+            &[],
+            &[],
+            status,
+            wanted,
+        )?;
+        assert!(rt; is_so, "{tracks} tracks");
+    }
+    Ok(())
+}
+
 #[test]
 fn a_document_has_a_limit(rt: HostRuntime) -> Result<(), Fail> {
     let alloc = rt.alloc();

@@ -77,7 +77,7 @@ things_end table h (NestOf j) = nests_end table table.nests j h.nests
 pub sound_opens : (o : Opening) → IsSoundOpening o → 0 < length o.tracks → IsOpening o.table o.tracks
 sound_opens o sound some =
     let same = same_count o.table 0 o.table.kinds o.tracks sound.tracks in
-    let few : length o.tracks ≤ 16 = sound.few in
+    let few : length o.tracks ≤ 32 = sound.few in
     let count : length o.table.kinds ≡ track_count o.table = omega (arith, same, few) in
     record {
       some = omega (arith, same, some);

@@ -1,4 +1,4 @@
--- The words that the program takes. `run` TRACKS REELS asks for one station in a plain room, with TRACKS from 1 to 16 and
+-- The words that the program takes. `run` TRACKS REELS asks for one station in a plain room, with TRACKS from 1 to 32 and
 -- REELS from 0 to 999. `run` DOC RATE DROP asks for one in the room that a document describes: DOC names its file, RATE is
 -- a decimal number that stands for one of the five rates of a sequence, and DROP is `drop`, at 30000/1001 alone, or `ndf`.
 -- `serve` DOC RATE DROP STATIONS ADDRESS JOURNAL asks for STATIONS of them, from 1 to 16, in such a room, over a hall at
@@ -29,7 +29,7 @@ abbrev pub least_tracks : ℕ
 least_tracks = 1
 
 abbrev pub most_tracks : ℕ
-most_tracks = 16
+most_tracks = 32
 
 abbrev pub most_reels : ℕ
 most_reels = 999

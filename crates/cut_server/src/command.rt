@@ -12,7 +12,7 @@ use timecode12::{Counting, SequenceRate};
 /// The least and the most tracks, and the most reels, of a plain room.
 const LEAST_TRACKS: u32 = 1;
 
-const MOST_TRACKS: u32 = 16;
+const MOST_TRACKS: u32 = 32;
 
 const MOST_REELS: u32 = 999;
 

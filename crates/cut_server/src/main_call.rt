@@ -320,7 +320,7 @@ fn do_command<R: Threads + Wait + Sync, F: Files, S: Source, K: Sink, H: Hall, G
 /// Does what the words ask for, over these files, this input, this output and this hall, and answers the status that the
 /// program ends with.
 ///
-/// `run TRACKS REELS` is one station in a room of TRACKS empty video tracks (1 to 16) and REELS reels (0 to 999), each
+/// `run TRACKS REELS` is one station in a room of TRACKS empty video tracks (1 to 32) and REELS reels (0 to 999), each
 /// with 86,400 frames, at 24 frames a second. `run DOC RATE DROP` is one in the room that the document in the file DOC
 /// describes, of at most 32 MiB. RATE is a number such as `24` or `29.97`, and DROP is `ndf`, or `drop` at 30000/1001. The
 /// station answers each line of the input and then puts the journal's text.

@@ -21,7 +21,7 @@ serve DOC RATE DROP STATIONS ADDRESS JOURNAL
 --help             this text
 --version          the version
 
-TRACKS is 1 to 16 and REELS is 0 to 999. DOC is the path of an OpenTimelineIO file, RATE is its frames a second, one of
+TRACKS is 1 to 32 and REELS is 0 to 999. DOC is the path of an OpenTimelineIO file, RATE is its frames a second, one of
 23.976, 24, 25, 29.97 and 30, and DROP is ndf, or drop at 29.97. STATIONS is 1 to 16, and ADDRESS is as localhost:7000.
 
 Examples:

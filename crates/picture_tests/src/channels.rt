@@ -169,6 +169,33 @@ fn a_nest_is_dark_where_its_layer_ends(rt: HostRuntime) -> Result<(), Fail> {
     Ok(())
 }
 
+// What 32 tracks show, each over the ones before it and a frame shorter: the topmost of each frame is another track.
+fn stairs(alloc: Global) -> Result<Shown, Memory> {
+    let kinds = [Kind::Video; 32];
+    let table = table_of(alloc, &kinds)?;
+    let mut tracks = Vec::new(alloc);
+    for t in 0_u32..32 {
+        let views = [clip(0, 0, 2 * t, 32_u32.saturating_sub(t))];
+        add_track(&mut tracks, alloc, &table, &views)?;
+    }
+    shown(alloc, &table, &tracks)
+}
+
+#[test]
+fn each_of_32_tracks_is_seen(rt: HostRuntime) -> Result<(), Fail> {
+    let Shown { video, audio: _ } = stairs(rt.alloc())?;
+    assert_eq!(rt; video.as_slice().len(), 32);
+    for (place, run) in (0_u32..32).zip(video.as_slice()) {
+        let top = 31_u32.saturating_sub(place);
+        assert_eq!(rt;
+            *run,
+            pic(0, top.saturating_mul(2).saturating_add(place), 1),
+            "{place}"
+        );
+    }
+    Ok(())
+}
+
 // The audio channel of a track, where it has one of its own and no video.
 fn audio_of(alloc: Global, views: &[ItemView]) -> Result<Vec<Run<u32>>, Memory> {
     let table = table_of(alloc, &[Kind::Audio, Kind::Video])?;

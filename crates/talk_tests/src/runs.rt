@@ -160,7 +160,7 @@ const NO_COMMAND: &str = "
 run
 run 2
 run 0 1
-run 17 1
+run 33 1
 run 2 1000
 run 2 -1
 run 2\t 1
@@ -177,7 +177,8 @@ run cut 24 ndf 1 a b
 /// Words of runs in a plain room.
 const RUNS: &str = "\
 run 1 0
-run 16 999
+run 17 1
+run 32 999
 run 02 1
 run 2 000
 ";
@@ -195,6 +196,23 @@ fn end_so<R: Threads + Wait + Sync + Abort>(
         assert_eq!(rt; ended_with, status, "{row:?}");
         assert_eq!(rt; output.as_slice(), wanted.as_bytes(), "{row:?}");
     }
+    Ok(())
+}
+
+// A room of this many tracks is opened, also where nothing is sent to it.
+#[test]
+fn a_room_has_up_to_32_tracks(rt: HostRuntime) -> Result<(), Fail> {
+    let alloc = rt.alloc();
+    for row in ["run 1 1", "run 17 1", "run 32 1"] {
+        let (status, output) = ended(&rt, alloc, row, &[], &[], &[])?;
+        assert_eq!(rt; status, 0, "{row}");
+        assert_eq!(rt; output.as_slice(), b"journal 0\n", "{row}");
+    }
+    let lines = "overwrite 31 0 @0 100 5\nview 31 0 5\nitems 32\n";
+    let wanted = "ok 0 item 0\nseen 1 @0 100 5\nbad B4\njournal 1\n0 1 overwrite 31 0 @0 100 5\n";
+    let (status, output) = ended(&rt, alloc, "run 32 1", &[lines.as_bytes()], &[], &[])?;
+    assert_eq!(rt; status, 0);
+    assert_eq!(rt; output.as_slice(), wanted.as_bytes());
     Ok(())
 }
 
