@@ -1,5 +1,6 @@
 //! The program of the cutting room. It hands its arguments, the files of the system, its standard input, its standard
-//! output and a hall over TCP to `answer`, puts a line on standard error where the status does not say enough, and ends with the status.
+//! output and a hall over TCP to `answer`, which has the main contract, puts a line on standard error where the status does
+//! not say enough, and ends with the status.
 #![tactic(auto)]
 
 mod answer;
