@@ -1,3 +1,4 @@
 -- To be read: public clauses speak of each of these.
 pub mod Channels
+pub mod Events
 pub mod Tape
