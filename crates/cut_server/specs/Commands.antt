@@ -3,7 +3,7 @@
 -- a decimal number that stands for one of the five rates of a sequence, and DROP is `drop`, at 30000/1001 alone, or `ndf`.
 -- `serve` DOC RATE DROP STATIONS ADDRESS JOURNAL asks for STATIONS of them, from 1 to 16, in such a room, over a hall at
 -- ADDRESS, and for the journal in the file JOURNAL.
-use Rattle.std.specs.Prelude.{ℕ, ◌≤◌, Bool, true, false, ◌&&◌, List, [], ◌∷◌, Option, Some, None, Result, Ok, Err, option_and_then, nat_le, codes, bytes_eq, if◌then◌else◌}
+use Rattle.std.specs.Prelude.{ℕ, ◌≤◌, Bool, true, false, ◌&&◌, ◌||◌, ◌==◌, List, [], ◌∷◌, Option, Some, None, Result, Ok, Err, option_and_then, is_some, is_none, slice_get, length, nat_le, codes, bytes_eq, if◌then◌else◌}
 use Rattle.line_words.specs.Digits.{number_of}
 use Rattle.line_words.specs.declared.numbers.NumberFault.{NumberFault}
 use Rattle.json_tokens.specs.ReadingNumerals.{numeral_in}
@@ -136,6 +136,27 @@ asked_of first words =
 abbrev pub command_of : List (List ℕ) → Option Asked
 command_of [] = None
 command_of (first ∷ words) = asked_of first words
+
+-- ---- a rate that no sequence has
+
+abbrev pub is_word : Option (List ℕ) → List ℕ → Bool
+is_word None other = false
+is_word (Some word) other = bytes_eq word other
+
+-- as many words as a command over a document has that begins so
+abbrev pub is_over_document : List (List ℕ) → Bool
+is_over_document words =
+    (is_word (slice_get words 0) (codes "run") && length words == 4)
+    || (is_word (slice_get words 0) (codes "serve") && length words == 7)
+
+-- a number, but the rate of no sequence
+abbrev pub is_other_rate : Option (List ℕ) → Bool
+is_other_rate None = false
+is_other_rate (Some word) = is_some (numeral_in word) && is_none (rate_of_word word)
+
+-- a command over a document whose RATE is so
+abbrev pub asks_for_another_rate : List (List ℕ) → Bool
+asks_for_another_rate words = is_over_document words && is_other_rate (slice_get words 2)
 
 -- ---- a command as the code keeps it
 

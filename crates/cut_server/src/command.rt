@@ -1,8 +1,9 @@
 // The words of the program's command line.
-ghost use Rattle.std.specs.Prelude.{◌≡◌, IfSome, drop, option_and_then, option_map};
+ghost use Rattle.std.specs.Prelude.{◌≡◌, IfSome, Some, drop, is_some, option_and_then, option_map};
+ghost use Rattle.json_tokens.specs.ReadingNumerals.{numeral_in};
 ghost use Rattle.ratio_time.specs.Rates.{rate_value};
 ghost use Rattle.cut_server.specs.Commands.{command_of, run_of, serve_of, plain_of, document_of, hall_of};
-ghost use Rattle.cut_server.specs.Commands.{counting_of, rate_of_word, sequence_of, number_within, asked_by, HasBounds};
+ghost use Rattle.cut_server.specs.Commands.{counting_of, rate_of_word, sequence_of, number_within, asked_by, HasBounds, is_over_document, is_other_rate, asks_for_another_rate};
 
 use json_tree::numeral;
 use line_words::{Words, number};
@@ -175,4 +176,42 @@ pub(crate) fn command_in(words: &Words) -> Option<Command<'_>>
         "serve" => serve_in(words),
         _ => None,
     }
+}
+
+// As many words as a command over a document has.
+fn is_over_document(words: &Words) -> bool
+    ensures { result ≡ is_over_document words.now }
+{
+    if words.count() == 0 {
+        return false;
+    }
+    match words.word(0) {
+        "run" => words.count() == 4,
+        "serve" => words.count() == 7,
+        _ => false,
+    }
+}
+
+// A number, which may be the rate of no sequence.
+fn is_number(word: &str) -> bool
+    ensures { result ≡ is_some (numeral_in word.now) }
+{
+    match numeral(word.as_bytes()) {
+        Some(_) => true,
+        None => false,
+    }
+}
+
+// A number, but the rate of no sequence.
+fn is_other_rate(word: &str) -> bool
+    ensures { result ≡ is_other_rate (Some word.now) }
+{
+    is_number(word) && rate(word).is_none()
+}
+
+/// Whether words that are refused ask for a document at a RATE which is a number, but none of 23.976, 24, 25, 29.97 and 30.
+pub fn asks_for_another_rate(words: &Words) -> bool
+    ensures { result ≡ asks_for_another_rate words.now }
+{
+    is_over_document(words) && is_other_rate(words.word(2))
 }

@@ -14,4 +14,5 @@ mod seated;
 mod stations;
 mod status;
 
+pub use command::asks_for_another_rate;
 pub use main_call::cut_main;

@@ -1,10 +1,10 @@
 // What the program answers to its words.
 ghost use Rattle.std.specs.Prelude.{◌≡◌};
 ghost use Rattle.cut_server.specs.Ports.{change, input_told, output_told};
-ghost use Rattle.cutroom.specs.Answers.{ProgramEnds, complaint_of};
+ghost use Rattle.cutroom.specs.Answers.{ProgramEnds, complaint_of, rate_complaint};
 
 use crate::notice::Notice;
-use cut_server::cut_main;
+use cut_server::{asks_for_another_rate, cut_main};
 use line_words::Words;
 use room_files::Files;
 use room_halls::Hall;
@@ -36,14 +36,25 @@ pub fn answer<R: Threads + Wait + Sync, F: Files, S: Source, K: Sink, H: Hall>(
 }
 
 /// What is told on standard error of a fault that the status alone does not tell, or nothing.
-pub fn complaint(status: u8) -> &'static str
-    ensures { result.now ≡ complaint_of status }
+pub fn complaint(words: &Words, status: u8) -> &'static str
+    ensures { result.now ≡ complaint_of words.now status }
 {
     match status {
         1 => "cutroom: standard input, a line or the document could not be read\n",
         2 => "cutroom: standard output, a line or the journal could not be written\n",
+        3 => rate_complaint(asks_for_another_rate(words)),
         5 => "cutroom: the address could not be opened, or a station not seated\n",
         7 => "cutroom: the input, or a line, has more than 64 MiB\n",
         _ => "",
+    }
+}
+
+fn rate_complaint(is_other_rate: bool) -> &'static str
+    ensures { result.now ≡ rate_complaint is_other_rate }
+{
+    if is_other_rate {
+        "cutroom: RATE is one of 23.976, 24, 25, 29.97 and 30\n"
+    } else {
+        ""
     }
 }

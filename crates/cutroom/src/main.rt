@@ -42,6 +42,9 @@ fn main(rt: HostRuntime) -> ExitCode {
         &mut output,
         &mut hall,
     );
-    let _ = put(&mut StdSink::new(rt.stderr()), complaint(status).as_bytes());
+    let _ = put(
+        &mut StdSink::new(rt.stderr()),
+        complaint(&words, status).as_bytes(),
+    );
     ExitCode::from(status)
 }

@@ -118,25 +118,50 @@ fn answered<R: Threads + Wait + Sync>(
     reads: &[u32],
     writes: &[u32],
     text: &str,
-) -> Result<(u8, bool), Memory> {
+) -> Result<(u8, bool, bool), Memory> {
     let words = words_in(alloc, texts)?;
     let mut pieces = Vec::new(alloc);
     pieces.push(b"point\n".to_vec(alloc)?)?;
     let mut input = MemSource::new(pieces, reads.to_vec(alloc)?);
     let mut output = MemSink::new(alloc, writes.to_vec(alloc)?);
     let status = status_of(rt, alloc, &words, &mut input, &mut output);
-    Ok((status, output.bytes() == Some(text.as_bytes())))
+    let complains = !complaint(&words, status).is_empty();
+    Ok((status, output.bytes() == Some(text.as_bytes()), complains))
 }
 
 // The status, what was written, and whether standard error is told something.
 #[test]
 fn words_are_answered_once(rt: HostRuntime) -> Result<(), Memory> {
     let alloc = rt.alloc();
-    let cases: [(&[&str], &[u32], &[u32], u8, &str, bool); 8] = [
+    let cases: [(&[&str], &[u32], &[u32], u8, &str, bool); 11] = [
         (&["--help"], &[1], &[], 0, HELP, false),
         (&["--version"], &[1], &[], 0, VERSION, false),
         (&["--version"], &[], &[1], 2, "", true),
         (&["run"], &[1], &[], 3, "refused words\n", false),
+        (
+            &["run", "none.otio", "50", "ndf"],
+            &[1],
+            &[],
+            3,
+            "refused words\n",
+            true,
+        ),
+        (
+            &["run", "none.otio", "fast", "ndf"],
+            &[1],
+            &[],
+            3,
+            "refused words\n",
+            false,
+        ),
+        (
+            &["run", "none.otio", "24", "drop"],
+            &[1],
+            &[],
+            3,
+            "refused words\n",
+            false,
+        ),
         (&["run", "none.otio", "24", "ndf"], &[], &[], 1, "", true),
         (
             &["run", "1", "0"],
@@ -150,10 +175,10 @@ fn words_are_answered_once(rt: HostRuntime) -> Result<(), Memory> {
         (&["run", "1", "0"], &[], &[1], 2, "", true),
     ];
     for (texts, reads, writes, status, text, complains) in cases {
-        let (ended, is_written) = answered(&rt, alloc, texts, reads, writes, text)?;
+        let (ended, is_written, is_told) = answered(&rt, alloc, texts, reads, writes, text)?;
         assert_eq!(rt; ended, status, "{texts:?}");
         assert!(rt; is_written, "{texts:?}");
-        assert!(rt; complaint(ended).is_empty() != complains, "{texts:?}");
+        assert_eq!(rt; is_told, complains, "{texts:?}");
     }
     Ok(())
 }
