@@ -4,7 +4,7 @@ use composables::{Done, ItemView, Listed, Refusal, Which};
 use cut_room::{Answer, Sight};
 use edit_apply::{AskRefusal, Editor, Seen};
 use frame_meaning::{Frame, Link, Mark, Run, Side, What};
-use reply_text::{LineFault, Short, answer_text, fault_text, point_text, sight_text};
+use reply_text::{LineFault, MAX_SHORT, Short, answer_text, fault_text, point_text, sight_text};
 use std::test::Fail;
 
 // Faults of lines.
@@ -112,6 +112,72 @@ fn refused_edits_are_replied(rt: HostRuntime) -> Result<(), Fail> {
             want.as_bytes(),
             "row {row}"
         );
+    }
+    Ok(())
+}
+
+// The longest reply of each form that numbers can make longer: they are as long as they can be.
+fn longest(row: u32) -> Option<(Answer<Editor>, &'static str)> {
+    let point = 4294967295;
+    match row {
+        0 => Some((
+            Answer::Done {
+                point,
+                done: Done::By(i32::MIN),
+            },
+            "ok 4294967295 by -2147483648",
+        )),
+        1 => Some((
+            Answer::Done {
+                point,
+                done: Done::Linked {
+                    home: 4294967295,
+                    number: 4294967295,
+                },
+            },
+            "ok 4294967295 link 4294967295.4294967295",
+        )),
+        2 => Some((
+            Answer::Refused {
+                point,
+                refusal: Refusal::OffsetsDiffer(i64::MIN, i64::MIN),
+            },
+            "no 4294967295 E9 -9223372036854775808 -9223372036854775808",
+        )),
+        3 => Some((
+            Answer::Refused {
+                point,
+                refusal: Refusal::LinkOutside {
+                    home: 4294967295,
+                    number: 4294967295,
+                    track: 4294967295,
+                },
+            },
+            "no 4294967295 E11 4294967295.4294967295 4294967295",
+        )),
+        4 => Some((
+            Answer::Refused {
+                point,
+                refusal: Refusal::LinkBroken {
+                    home: 4294967295,
+                    number: 4294967295,
+                    old: i64::MIN,
+                    new: i64::MIN,
+                },
+            },
+            "no 4294967295 E12 4294967295.4294967295 -9223372036854775808 -9223372036854775808",
+        )),
+        _ => None,
+    }
+}
+
+#[test]
+fn the_longest_replies_to_edits_are_short(rt: HostRuntime) -> Result<(), Fail> {
+    for row in 0..5u32 {
+        let (answer, want) = longest(row).ok_or("a row")?;
+        let text = answer_text(&answer);
+        assert_eq!(rt; text.as_bytes(), want.as_bytes(), "row {row}");
+        assert!(rt; text.as_bytes().len() <= MAX_SHORT, "row {row}");
     }
     Ok(())
 }
