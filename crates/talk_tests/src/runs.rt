@@ -299,3 +299,19 @@ fn a_journal_has_a_limit(rt: HostRuntime) -> Result<(), Fail> {
     assert!(rt; last.starts_with(wanted.as_slice()));
     Ok(())
 }
+
+// Each line has its number, those too that are none of the table; past a million of them an edit is done as ever.
+#[test]
+fn an_edit_past_a_million_lines_has_its_number(rt: HostRuntime) -> Result<(), Fail> {
+    let alloc = rt.alloc();
+    let mut lines = vec![in alloc; b'\n'; 1_000_000usize]?;
+    lines.extend_from_slice(b"overwrite 0 0 @0 0 1\n")?;
+    let (status, output) = ended(&rt, alloc, "run 1 1", &[&lines], &[], &[])?;
+    assert_eq!(rt; status, 0);
+    // The replies `bad B2` to the empty lines are 7,000,000 bytes.
+    let wanted = b"bad B2\nok 0 item 0\njournal 1\n0 1000001 overwrite 0 0 @0 0 1\n";
+    assert!(rt; output.len() > 6_999_993);
+    let (_, last) = output.as_slice().split_at(6_999_993);
+    assert_eq!(rt; last, wanted.as_slice());
+    Ok(())
+}
