@@ -7,7 +7,8 @@ use room_ports::{
 use std::alloc::{AllocError, Global};
 use std::fs::{self, File};
 use std::io::{self, Read, Write};
-use std::net::{Shutdown, TcpStream};
+use std::net::{Net, Shutdown, SocketAddr, TcpListener, TcpStream};
+use std::test::Fail;
 use std::time::Duration;
 
 // One piece of these bytes.
@@ -19,32 +20,38 @@ fn piece_of(alloc: Global, text: &str) -> Result<Vec<Vec<u8>>, AllocError> {
     Ok(pieces)
 }
 
-// Reads once from a line and writes back what came: the bytes with `/` behind them, `!` where it failed.
-fn echo<L: Line>(alloc: Global, line: &mut L) -> Result<String, AllocError> {
-    let mut buffer = [0u8; 16];
-    let Ok(n) = line.read(&mut buffer) else {
-        return String::from_str(alloc, "!");
-    };
-    if put(line, &buffer[..n]).is_err() {
-        return String::from_str(alloc, "!");
+// Writes back to a line what came from it: the bytes with `/` behind them, `!` where the write failed.
+fn sent_back<L: Line>(alloc: Global, line: &mut L, came: &[u8]) -> Result<Vec<u8>, AllocError> {
+    if put(line, came).is_err() {
+        return Vec::from_slice(alloc, b"!");
     }
-    let mut text = String::from_utf8_lossy(alloc, &buffer[..n])?;
-    text.push_str("/")?;
-    Ok(text)
+    let mut log = Vec::from_slice(alloc, came)?;
+    log.push(b'/')?;
+    Ok(log)
+}
+
+// Reads once from a line and writes back what came, `!` where the read failed.
+fn echo<L: Line>(alloc: Global, line: &mut L) -> Result<Vec<u8>, AllocError> {
+    let mut buffer = [0u8; 16];
+    let count = line.read(&mut buffer).unwrap_or(17);
+    match buffer.get(0..count) {
+        Some(came) => sent_back(alloc, line, came),
+        None => Vec::from_slice(alloc, b"!"),
+    }
 }
 
 // Seats a station, lets it echo once and stand up: what it echoed, `!` where it was not seated and `?` where there was
 // not memory enough.
-fn visit<H: Hall>(alloc: Global, hall: &mut H, station: u32) -> Result<String, AllocError> {
+fn visit<H: Hall>(alloc: Global, hall: &mut H, station: u32) -> Result<Vec<u8>, AllocError> {
     match hall.seat_station(alloc, station) {
         Ok(line) => {
             let mut line = line;
-            let text = echo(alloc, &mut line);
+            let log = echo(alloc, &mut line);
             hall.stand_up(station, line);
-            text
+            log
         }
-        Err(HallFault::Failed) => String::from_str(alloc, "!"),
-        Err(HallFault::Memory) => String::from_str(alloc, "?"),
+        Err(HallFault::Failed) => Vec::from_slice(alloc, b"!"),
+        Err(HallFault::Memory) => Vec::from_slice(alloc, b"?"),
     }
 }
 
@@ -54,15 +61,15 @@ fn hall_log<H: Hall>(
     hall: &mut H,
     address: &str,
     stations: &[u32],
-) -> Result<String, AllocError> {
-    let mut log = String::new(alloc);
+) -> Result<Vec<u8>, AllocError> {
+    let mut log = Vec::new(alloc);
     match hall.open(address) {
-        Ok(()) => log.push_str(".")?,
-        Err(_) => log.push_str("!")?,
+        Ok(()) => log.push(b'.')?,
+        Err(_) => log.push(b'!')?,
     }
     for station in stations {
-        let text = visit(alloc, hall, *station)?;
-        log.push_str(text.as_str())?;
+        let visited = visit(alloc, hall, *station)?;
+        log.extend_from_slice(&visited)?;
     }
     Ok(log)
 }
@@ -95,7 +102,7 @@ fn a_hall_over_memory_keeps_its_lines(rt: HostRuntime) -> Result<(), AllocError>
         failing_calls.extend_from_slice(failing)?;
         let mut hall = MemHall::new(alloc, two_lines(alloc)?, failing_calls);
         let answers = hall_log(alloc, &mut hall, "a", stations)?;
-        assert_eq!(rt; answers.as_str(), log);
+        assert!(rt; answers.as_slice() == log.as_bytes(), "{log}");
     }
     Ok(())
 }
@@ -124,96 +131,159 @@ fn a_hall_that_never_fails_has_a_line_for_everybody(rt: HostRuntime) -> Result<(
     })?;
     let mut hall = SureHall::new(alloc, lines);
     let answers = hall_log(alloc, &mut hall, "a", &[3, 0, 3, 0])?;
-    assert_eq!(rt; answers.as_str(), "./abc///");
+    assert!(rt; answers.as_slice() == b"./abc///".as_slice());
     Ok(())
 }
 
+// Sends these bytes, if all are taken at once.
+fn has_sent(client: &mut TcpStream, text: &str) -> bool {
+    match client.write(text.as_bytes()) {
+        Ok(n) => n == text.len(),
+        Err(_) => false,
+    }
+}
+
+// Whether a read gives these bytes, 16 at most; the end where there are none.
+fn has_got(client: &mut TcpStream, text: &str) -> bool {
+    let mut buffer = [0u8; 16];
+    match client.read(&mut buffer) {
+        Ok(n) => &buffer[..n] == text.as_bytes(),
+        Err(_) => false,
+    }
+}
+
+// Opens a hall where the system finds a port: its address, and a client that has connected to it.
+fn opened<R: Net<Listener = TcpListener, Stream = TcpStream>, W: Write + Copy + Send>(
+    net: &R,
+    hall: &mut TcpHall<'_, R, W>,
+) -> Option<(SocketAddr, TcpStream)> {
+    if hall.open("127.0.0.1:0").is_err() {
+        return None;
+    }
+    let address = hall.address()?;
+    match TcpStream::connect(net, address) {
+        Ok(client) => Some((address, client)),
+        Err(_) => None,
+    }
+}
+
 #[test]
-fn a_connection_is_a_line(rt: HostRuntime) -> io::Result<()> {
+fn a_connection_is_a_line(rt: HostRuntime) -> Result<(), Fail> {
     let alloc = rt.alloc();
     let mut hall = TcpHall::new(alloc, &rt, io::sink());
     let answers = hall_log(alloc, &mut hall, "no address", &[0])?;
-    assert_eq!(rt; answers.as_str(), "!!");
-    let answers = hall_log(alloc, &mut hall, "127.0.0.1:0", &[])?;
-    assert_eq!(rt; answers.as_str(), ".");
-    let Some(address) = hall.address() else {
-        panic!(rt; "the hall has no address");
-    };
-
-    let mut client = TcpStream::connect(&rt, address)?;
-    assert!(rt; client.write("abc".as_bytes())? == 3);
+    assert!(rt; answers.as_slice() == b"!!".as_slice());
+    let (_, client) = opened(&rt, &mut hall).ok_or("a client")?;
+    let mut client = client;
+    assert!(rt; has_sent(&mut client, "abc"));
     let echoed = visit(alloc, &mut hall, 2)?;
-    assert_eq!(rt; echoed.as_str(), "abc/");
-    let mut buffer = [0u8; 16];
-    assert!(rt; client.read(&mut buffer)? == 3);
-    assert!(rt; buffer[0] == b'a' && buffer[2] == b'c');
-    assert!(rt; client.read(&mut buffer)? == 0);
+    assert!(rt; echoed.as_slice() == b"abc/".as_slice());
+    assert!(rt; has_got(&mut client, "abc") && has_got(&mut client, ""));
     Ok(())
 }
 
-// The peer reads to the end of what was written while the line is still there, and the hall tells of it all.
+// Whether a line echoes this once.
+fn echoes<L: Line>(alloc: Global, line: &mut L, text: &str) -> bool {
+    match echo(alloc, line) {
+        Ok(echoed) => echoed.as_slice() == text.as_bytes(),
+        Err(_) => false,
+    }
+}
+
+// Echoes over a line what a client sends, to its end, and leaves: whether the client reads to the end of what was written
+// while the line is still there.
+fn lets_go<L: HallLine>(alloc: Global, line: &mut L, client: &mut TcpStream) -> bool {
+    let has_echoed = has_sent(client, "abc")
+        && client.shutdown(Shutdown::Write).is_ok()
+        && echoes(alloc, line, "abc/")
+        && echoes(alloc, line, "/");
+    line.leave();
+    has_echoed && has_got(client, "abc") && has_got(client, "")
+}
+
+// The same of a station that sits down and stands up.
+fn seat_that_ends<H: Hall>(alloc: Global, hall: &mut H, client: &mut TcpStream) -> bool {
+    match hall.seat_station(alloc, 3) {
+        Ok(line) => {
+            let mut line = line;
+            let is_free = lets_go(alloc, &mut line, client);
+            hall.stand_up(3, line);
+            is_free
+        }
+        Err(_) => false,
+    }
+}
+
+// What a hall tells of itself that listens there, and of a station that sat down from there.
+fn report_of(
+    alloc: Global,
+    address: SocketAddr,
+    station: u32,
+    peer: SocketAddr,
+) -> Result<String, AllocError> {
+    format!(in alloc;
+        "cutroom: listening at {address}\ncutroom: station {station} sat down, from {peer}\n"
+    )
+}
+
+// The hall tells of it all.
 #[test]
-fn a_session_that_ends_lets_its_peer_go(rt: HostRuntime) -> io::Result<()> {
+fn a_session_that_ends_lets_its_peer_go(rt: HostRuntime) -> Result<(), Fail> {
     let alloc = rt.alloc();
     let told = File::create(&rt, "told")?;
     let mut hall = TcpHall::new(alloc, &rt, &told);
-    assert!(rt; hall.open("127.0.0.1:0").is_ok());
-    let Some(address) = hall.address() else {
-        panic!(rt; "the hall has no address");
-    };
-    let mut client = TcpStream::connect(&rt, address)?;
+    let (address, client) = opened(&rt, &mut hall).ok_or("a client")?;
+    let mut client = client;
     client.set_read_timeout(Some(Duration::from_secs(10)))?;
-    assert!(rt; client.write("abc".as_bytes())? == 3);
-    client.shutdown(Shutdown::Write)?;
-    let Ok(line) = hall.seat_station(alloc, 3) else {
-        panic!(rt; "the station was not seated");
-    };
-    let mut line = line;
-    assert_eq!(rt; echo(alloc, &mut line)?.as_str(), "abc/");
-    assert_eq!(rt; echo(alloc, &mut line)?.as_str(), "/");
-    line.leave();
-    let mut buffer = [0u8; 16];
-    assert!(rt; client.read(&mut buffer)? == 3);
-    assert!(rt; client.read(&mut buffer)? == 0);
-    hall.stand_up(3, line);
-
-    let peer = client.local_addr()?;
-    let lines = format!(in alloc;
-        "cutroom: listening at {address}\ncutroom: station 3 sat down, from {peer}\ncutroom: station 3 left, its lines are read to their end\n"
-    )?;
+    let mut lines = report_of(alloc, address, 3, client.local_addr()?)?;
+    assert!(rt; seat_that_ends(alloc, &mut hall, &mut client));
+    lines.push_str("cutroom: station 3 left, its lines are read to their end\n")?;
     assert_eq!(rt; fs::read_to_string(&rt, "told")?.as_str(), lines.as_str());
     Ok(())
 }
 
-// The peer goes away with bytes that it has not read, so that the connection is reset.
+// Whether a write to a line is taken, of which its client reads one byte.
+fn has_one_byte<L: Line>(line: &mut L, client: &mut TcpStream) -> bool {
+    let mut buffer = [0u8; 1];
+    put(line, "abc".as_bytes()).is_ok() && matches!(client.read(&mut buffer), Ok(1))
+}
+
+// Whether a read of a line fails, and a write, and it leaves behind each.
+fn has_failed<L: HallLine>(line: &mut L) -> bool {
+    let read = line.read(&mut [0u8; 4]).is_err();
+    line.leave();
+    let write = line.write("d".as_bytes()).is_err();
+    line.leave();
+    read && write
+}
+
+// The client of a station goes away with bytes that it has not read, so that its connection is reset: whether the line's
+// reads and writes fail then.
+fn seat_that_breaks<H: Hall>(alloc: Global, hall: &mut H, client: TcpStream) -> bool {
+    let mut client = client;
+    match hall.seat_station(alloc, 0) {
+        Ok(line) => {
+            let mut line = line;
+            let is_connected = has_one_byte(&mut line, &mut client);
+            drop(client);
+            let is_broken = has_failed(&mut line);
+            hall.stand_up(0, line);
+            is_connected && is_broken
+        }
+        Err(_) => false,
+    }
+}
+
 #[test]
-fn a_connection_that_breaks_is_a_fault(rt: HostRuntime) -> io::Result<()> {
+fn a_connection_that_breaks_is_a_fault(rt: HostRuntime) -> Result<(), Fail> {
     let alloc = rt.alloc();
     let told = File::create(&rt, "told")?;
     let mut hall = TcpHall::new(alloc, &rt, &told);
-    assert!(rt; hall.open("127.0.0.1:0").is_ok());
-    let Some(address) = hall.address() else {
-        panic!(rt; "the hall has no address");
-    };
-    let mut client = TcpStream::connect(&rt, address)?;
-    let peer = client.local_addr()?;
-    let Ok(line) = hall.seat_station(alloc, 0) else {
-        panic!(rt; "the station was not seated");
-    };
-    let mut line = line;
-    assert!(rt; put(&mut line, "abc".as_bytes()).is_ok());
-    let mut buffer = [0u8; 16];
-    assert!(rt; client.read(&mut buffer[..1])? == 1);
-    drop(client);
-    assert!(rt; line.read(&mut buffer).is_err());
-    line.leave();
-    assert!(rt; line.write("d".as_bytes()).is_err());
-    line.leave();
-    hall.stand_up(0, line);
-
-    let lines = format!(in alloc;
-        "cutroom: listening at {address}\ncutroom: station 0 sat down, from {peer}\ncutroom: station 0 left, a read of its line failed\ncutroom: station 0 left, a write to its line failed\n"
-    )?;
+    let (address, client) = opened(&rt, &mut hall).ok_or("a client")?;
+    let mut lines = report_of(alloc, address, 0, client.local_addr()?)?;
+    assert!(rt; seat_that_breaks(alloc, &mut hall, client));
+    lines.push_str("cutroom: station 0 left, a read of its line failed\n")?;
+    lines.push_str("cutroom: station 0 left, a write to its line failed\n")?;
     assert_eq!(rt; fs::read_to_string(&rt, "told")?.as_str(), lines.as_str());
     Ok(())
 }
