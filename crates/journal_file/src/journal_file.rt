@@ -22,7 +22,7 @@ pub const MOST_RECORDS: u32 = 100_000;
 
 /// A kept file on a disk, open for appends.
 #[derive(Drop)]
-pub struct JournalFile<D: Disk + Drop> {
+pub struct JournalFile<D: Disk> {
     disk: D,
     count: u32,
     gate: u32,
@@ -30,7 +30,7 @@ pub struct JournalFile<D: Disk + Drop> {
     line: GateLine,
 }
 
-impl<D: Disk + Drop> Model for JournalFile<D> {
+impl<D: Disk> Model for JournalFile<D> {
     ghost use Rattle.std.specs.Prelude.{List, ℕ};
     ghost use Rattle.journal_file.specs.Standing.{JournalState};
     ghost use Rattle.journal_file.specs.Stages.{IsFiled, pending_of};
@@ -47,7 +47,7 @@ impl<D: Disk + Drop> Model for JournalFile<D> {
         × IsFiled (D.course j.disk) lines j.count j.gate j.stage j.line };
 }
 
-impl<D: Disk + Drop> JournalFile<D> {
+impl<D: Disk> JournalFile<D> {
     /// Opens the file of a disk and gives its records, or hands the disk back with the fault. A new file is written; of any
     /// other what follows its gate is cut.
     pub fn open(alloc: Global, disk: D) -> Result<(JournalFile<D>, Vec<Record>), (OpenFault, D)>
