@@ -1,0 +1,71 @@
+// A list, read.
+ghost use Rattle.std.specs.Prelude.{◌≡◌, ◌≤◌, IfErr, IfOk, length};
+ghost use Rattle.edl_read.specs.Reading.{list_of};
+ghost use Rattle.edl_read.specs.ReadLists.{CanBeRead, IsFaultOf};
+
+use crate::lines::first_line;
+use crate::played::Played;
+use crate::reading::{after_line, at_end, first_reading};
+use crate::{Event, ListReadFault};
+use std::alloc::Global;
+use std::marker::Model;
+use timecode12::SequenceRate;
+
+/// The most bytes of a list: 32 MiB.
+pub const MAX_LIST: usize = 33_554_432;
+
+/// The events of an edit decision list, in the order of their lines. Contracts see them as a list.
+#[derive(Drop)]
+pub struct List {
+    events: Vec<Event>,
+}
+
+impl Model for List {
+    ghost use Rattle.std.specs.Prelude.{List};
+    ghost use Rattle.edl_events.specs.declared.event.Event.{Event};
+
+    ghost Value = { List Event };
+
+    ghost view = { λ l. l.events.items };
+}
+
+impl List {
+    /// The events.
+    pub fn as_slice(&self) -> &[Event]
+        ensures { result.now ≡ self.now }
+    {
+        self.events.as_slice()
+    }
+}
+
+/// The list that these bytes are, counted at a rate: its events, or its first fault with the line that tells it.
+///
+/// A dissolve is one event, with the line of its second line. Source and record times are frames of the day.
+pub fn read_list(alloc: Global, bytes: &[u8], rate: SequenceRate) -> Result<List, ListReadFault>
+    requires { length bytes.now ≤ MAX_LIST }
+    ensures read { IfOk result (λ list. list_of rate bytes.now ≡ Ok list) }
+    ensures refused { IfErr result (λ fault. IsFaultOf (list_of rate bytes.now) fault) }
+    ensures apart { IfOk result (λ list. CanBeRead list) }
+{
+    let played = lines_read(alloc, bytes, rate)?;
+    Ok(List {
+        events: played.into_events(),
+    })
+}
+
+fn lines_read(alloc: Global, bytes: &[u8], rate: SequenceRate) -> Result<Played, ListReadFault>
+    requires { length bytes.now ≤ MAX_LIST }
+    ensures read { IfOk result (λ list. list_of rate bytes.now ≡ Ok list) }
+    ensures refused { IfErr result (λ fault. IsFaultOf (list_of rate bytes.now) fault) }
+{
+    let mut reading = first_reading(alloc, rate);
+    let mut line = 1;
+    let mut rest = Some(bytes);
+    while let Some(left) = rest {
+        let (text, end, more) = first_line(left);
+        reading = after_line(rate, line, reading, text, end)?;
+        line += 1;
+        rest = more;
+    }
+    at_end(reading)
+}
