@@ -1,0 +1,11 @@
+pub mod InOrder
+pub mod Limits
+pub mod Names
+pub mod Labels
+pub mod Passing
+pub mod Lists
+pub mod Merging
+pub mod OneList
+pub mod OneAnswer
+pub mod Cutting
+pub mod Texts
