@@ -1,0 +1,127 @@
+// Each limit of a list, met and passed by one.
+use crate::cuts::{list_of, plain};
+use composables::{ItemView, Kind};
+use edl_write::ListFault;
+use laid_tracks::{clip, dissolve, gap};
+use reel_names::{AsIs, ReelNamer};
+use std::alloc::{AllocFailed, Global};
+use std::test::Fail;
+
+// The frames of a day at 24 a second.
+const DAY: u32 = 2_073_600;
+
+// Why a picture track, of media of the reels R0 and R1, has no list that begins at a frame, if it has none.
+fn fault_of(
+    alloc: Global,
+    picture: &[ItemView],
+    start: u32,
+    namer: Box<dyn ReelNamer>,
+) -> Option<ListFault> {
+    match list_of(
+        alloc,
+        &["R0", "R1", "no name"],
+        &[(Kind::Video, picture)],
+        plain(),
+        start,
+        namer,
+    ) {
+        Ok(_) => None,
+        Err(fault) => Some(fault),
+    }
+}
+
+#[test]
+fn a_dissolve_has_999_frames_at_most(rt: HostRuntime) -> Result<(), Fail> {
+    let alloc = rt.alloc();
+    for (after, want) in [(499, None), (500, Some(ListFault::DissolveTooLong(1500)))] {
+        let picture = [
+            clip(0, 0, 5000, 2000),
+            dissolve(500, after, clip(1, 1, 9000, 2000)),
+        ];
+        let namer = Box::new(alloc, AsIs::new(alloc))?;
+        assert_eq!(rt; fault_of(alloc, &picture, 0, namer), want);
+    }
+    Ok(())
+}
+
+// Clips of one frame each, of which none goes on from the one before, but the last where it is to.
+fn clips(alloc: Global, count: u32, through: bool) -> Result<Vec<ItemView>, AllocFailed<ItemView>> {
+    let mut all = Vec::new(alloc);
+    for number in 0..count {
+        let source = if through && number + 1 == count {
+            (number + 1) % 2 * 100 + 1
+        } else {
+            number % 2 * 100
+        };
+        all.push(clip(number, 0, source, 1))?;
+    }
+    Ok(all)
+}
+
+#[test]
+fn a_list_has_999_events_at_most(rt: HostRuntime) -> Result<(), Fail> {
+    let alloc = rt.alloc();
+    for (count, through, want) in [
+        (999, false, None),
+        (1000, false, Some(ListFault::Events(1000))),
+        // the last goes on from the one before, so that both are one event
+        (1000, true, None),
+        (1001, true, Some(ListFault::Events(1000))),
+    ] {
+        let namer = Box::new(alloc, AsIs::new(alloc))?;
+        let picture = clips(alloc, count, through)?;
+        assert_eq!(rt; fault_of(alloc, &picture, 0, namer), want);
+    }
+    Ok(())
+}
+
+#[test]
+fn an_out_is_below_the_day(rt: HostRuntime) -> Result<(), Fail> {
+    let alloc = rt.alloc();
+    for (source, place, len, start, want) in [
+        // source in, source out
+        (DAY - 9, 0, 8, 0, None),
+        (DAY - 9, 0, 9, 0, Some(DAY)),
+        (DAY, 0, 1, 0, Some(DAY)),
+        (DAY + 7, 0, 1, 0, Some(DAY + 7)),
+        // record in, record out
+        (0, 5, 3, DAY - 9, None),
+        (0, 5, 4, DAY - 9, Some(DAY)),
+        (0, 10, 1, DAY - 9, Some(DAY + 1)),
+        // the source first
+        (DAY - 1, 9, 5, DAY - 9, Some(DAY + 4)),
+    ] {
+        let picture = [gap(place), clip(0, 0, source, len)];
+        let views = if place == 0 {
+            &picture[1..]
+        } else {
+            &picture[..]
+        };
+        let namer = Box::new(alloc, AsIs::new(alloc))?;
+        let fault = fault_of(alloc, views, start, namer);
+        assert_eq!(rt; fault, want.map(|frame| ListFault::PastDay(frame)));
+    }
+    Ok(())
+}
+
+#[test]
+fn what_comes_first_is_told(rt: HostRuntime) -> Result<(), Fail> {
+    let alloc = rt.alloc();
+    // a reel without a name, past the day; then without that
+    for (source, want) in [(DAY, ListFault::PastDay(DAY)), (0, ListFault::Reel(2))] {
+        let picture = [clip(0, 2, source, 1)];
+        let namer = Box::new(alloc, AsIs::new(alloc))?;
+        assert_eq!(rt; fault_of(alloc, &picture, 0, namer), Some(want));
+    }
+    // a long dissolve past the day
+    let long = [
+        clip(0, 0, DAY, 2000),
+        dissolve(500, 500, clip(1, 2, DAY, 2000)),
+    ];
+    let namer = Box::new(alloc, AsIs::new(alloc))?;
+    assert_eq!(rt;
+        fault_of(alloc, &long, 0, namer),
+        Some(ListFault::DissolveTooLong(1500))
+    );
+    Ok(())
+}
