@@ -1,0 +1,6 @@
+pub mod ChannelFrames
+pub mod ReelsNamed
+pub mod NamesGiven
+pub mod TapeShown
+pub mod WrittenLists
+pub mod EventsPlay
