@@ -4,3 +4,10 @@ pub mod NamesGiven
 pub mod TapeShown
 pub mod WrittenLists
 pub mod EventsPlay
+pub mod LineBytes
+pub mod PartsRead
+pub mod LinesRead
+pub mod EventsRead
+pub mod InOrder
+pub mod ListsRead
+pub mod RoundTrip

@@ -7,4 +7,6 @@
 
 mod laws;
 
-pub use laws::a_list_plays_as_its_cut;
+pub use laws::{
+    a_list_plays_as_its_cut, a_written_list_is_read_again, a_written_list_makes_the_round_trip,
+};
