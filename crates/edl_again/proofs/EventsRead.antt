@@ -96,12 +96,27 @@ pub record CanBeRead (c : Counted) (e : Event) : Type 0 where
   pub source : e.source + e.len < length (day_of c)
   pub place : e.place + e.len < length (day_of c)
 
+-- the line of its own, and that of what a dissolve leaves
+abbrev pub own_line : ℕ → Event → Option ℕ → Line
+own_line number e o = record { number = number; reel = e.reel; channels = e.channels; dissolve = o; source = e.source; place = e.place; len = e.len }
+
+abbrev pub from_line : ℕ → Event → FromLine → Line
+from_line number e from = record { number = number; reel = from.reel; channels = e.channels; dissolve = None; source = from.source; place = e.place; len = 0 }
+
+pub own_readable : (c : Counted) (number : ℕ) (e : Event) (o : Option ℕ) → number < 1000 → CanBeRead c e → IsLength o e.len → IsReadable c (own_line number e o)
+own_readable c number e o small h fits = record { number = small; reel = h.reel; channel = h.channel; dissolve = fits; source = h.source; place = h.place }
+
+pub from_readable : (c : Counted) (number : ℕ) (e : Event) (from : FromLine) → number < 1000 → CanBeRead c e → is_reel_name from.reel ≡ true → from.source < length (day_of c)
+    → IsReadable c (from_line number e from)
+from_readable c number e from small h named source_in =
+    record { number = small; reel = named; channel = h.channel; dissolve = tt; source = omega (arith, source_in); place = omega (arith, h.place) }
+
 cut_read : (rate : SequenceRate) (c : Counted) (lines number : ℕ) (played : List Event) (e : Event) (more : List ℕ) → number < 1000 → e.from ≡ None → e.line ≡ lines + 1 → CanBeRead c e → e.frames ≡ 0
     → first_overlap played e ≡ None
     → list_from rate (lines + 1) (record { counting = c; waits = None; played = played }) (list_lines (flat_map (line_text c) (lines_of_event number e None) ++ more)) ≡ list_from rate (lines + 1 + 1) (record { counting = c; waits = None; played = played ++ e ∷ [] }) (list_lines more)
 cut_read rate c lines number played e more small none line h frames free =
-    let l : Line = record { number = number; reel = e.reel; channels = e.channels; dissolve = None; source = e.source; place = e.place; len = e.len } in
-    let readable : IsReadable c l = record { number = small; reel = h.reel; channel = h.channel; dissolve = tt; source = h.source; place = h.place } in
+    let l : Line = own_line number e None in
+    let readable : IsReadable c l = own_readable c number e None small h tt in
     let body : ListLine = record { text = body_text c l; end = Whole } in
     let is : cut_event (lines + 1) (line_with l.number l.reel l.channels l.dissolve (record { source = l.source; place = l.place; len = l.len })) ≡ e = cut_is e.line e.from e.frames line none frames in
     let read = cut_line_read rate c (lines + 1) played l readable refl h.filled (ap (first_overlap played) is ∙ free) in
@@ -119,10 +134,10 @@ dissolve_read : (rate : SequenceRate) (c : Counted) (lines number : ℕ) (played
     → is_reel_name from.reel ≡ true → from.source < length (day_of c) → IsLength (Some e.frames) e.len → first_overlap played e ≡ None
     → list_from rate (lines + 1) (record { counting = c; waits = None; played = played }) (list_lines (flat_map (line_text c) (lines_of_event number e (Some from)) ++ more)) ≡ list_from rate (lines + 2 + 1) (record { counting = c; waits = None; played = played ++ e ∷ [] }) (list_lines more)
 dissolve_read rate c lines number played e from more small some line h named source_in fits free =
-    let k : Line = record { number = number; reel = from.reel; channels = e.channels; dissolve = None; source = from.source; place = e.place; len = 0 } in
-    let l : Line = record { number = number; reel = e.reel; channels = e.channels; dissolve = Some e.frames; source = e.source; place = e.place; len = e.len } in
-    let first : IsReadable c k = record { number = small; reel = named; channel = h.channel; dissolve = tt; source = omega (arith, source_in); place = omega (arith, h.place) } in
-    let second : IsReadable c l = record { number = small; reel = h.reel; channel = h.channel; dissolve = fits; source = h.source; place = h.place } in
+    let k : Line = from_line number e from in
+    let l : Line = own_line number e (Some e.frames) in
+    let first : IsReadable c k = from_readable c number e from small h named source_in in
+    let second : IsReadable c l = own_readable c number e (Some e.frames) small h fits in
     let cut : ListLine = record { text = body_text c k; end = Whole } in
     let dissolve : ListLine = record { text = body_text c l; end = Whole } in
     let next : lines + 1 + 1 ≡ lines + 2 = omega arith in

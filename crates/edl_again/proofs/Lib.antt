@@ -9,5 +9,6 @@ pub mod PartsRead
 pub mod LinesRead
 pub mod EventsRead
 pub mod InOrder
+pub mod ShortTexts
 pub mod ListsRead
 pub mod RoundTrip

@@ -1,9 +1,13 @@
 -- A list that is written is read again.
-use Rattle.std.proofs.Common.{◌≡◌, ℕ, ◌+◌, ◌<◌, ◌≤◌, Bool, true, false, cond, ◌&&◌, List, [], ◌∷◌, ◌++◌, Option, Some, None, IsTrue, Ok, length, nat_lt, refl, ap, ◌∙◌, arith, subst, append_assoc}
+use Rattle.std.proofs.Common.{◌≡◌, ℕ, ◌+◌, ◌<◌, ◌≤◌, Bool, true, false, cond, ◌&&◌, List, [], ◌∷◌, ◌++◌, Option, Some, None, IsTrue, Ok, length, nat_lt, refl, sym, ap, ◌∙◌, arith, subst, append_assoc}
 use Rattle.std.specs.Prelude.{codes}
 use Rattle.std.specs.List.{list_all}
 use Rattle.std.proofs.lemmas.Bool.{and_parts, and_right, le-ltb, ltb-false, ltb-true}
 use Rattle.frame_meaning.specs.declared.frames.Side.{Side}
+use Rattle.edl_events.specs.declared.event.Event.{Event}
+use Rattle.edl_write.specs.declared.list.Written.{Written}
+use Rattle.composables.specs.TrackState.{TrackState}
+use Rattle.composables.specs.declared.media.Table.{Table}
 use Rattle.frame_meaning.specs.declared.frames.Side.TheVariants as side
 use Rattle.flatten.specs.Segments.{HasDissolve}
 use Rattle.line_words.specs.declared.line.LineEnd.TheVariants.{Whole}
@@ -13,16 +17,17 @@ use Rattle.timecode12.specs.Labels.{day_of}
 use Rattle.timecode12.specs.Numbers.{Counted}
 use Rattle.reel_names.specs.declared.namer.ReelName.{ReelName}
 use Rattle.reel_names.specs.Names.{is_reel_name}
-use Rattle.reel_names.specs.Namers.{AreNames}
+use Rattle.reel_names.specs.Namers.{NamerRule, AreNames}
 use Rattle.reel_names.proofs.NameBytes.{fits_named}
 use Rattle.edl_events.specs.declared.channel.Channel.{Channel}
 use Rattle.edl_events.specs.declared.channel.Channel.TheVariants.{V, A, A2}
 use Rattle.edl_events.specs.Channels.{set_of}
 use Rattle.edl_write.specs.declared.ordering.ChannelSegment.{ChannelSegment}
 use Rattle.edl_write.specs.ListEvents.{event_of, events_behind, events_of, from_of, lines_in, name_of_side}
-use Rattle.edl_write.specs.Order.{same_channel}
-use Rattle.edl_write.specs.Refusals.{over_999}
+use Rattle.edl_write.specs.Order.{AreEventsOf, same_channel}
+use Rattle.edl_write.specs.Refusals.{list_of as written_list, over_999}
 use Rattle.edl_write.specs.Text.{counting_text, events_text, list_text}
+use Rattle.edl_read.specs.declared.list.TheConstants.{MAX_LIST}
 use Rattle.edl_read.specs.ListLines.{ListLine, list_lines}
 use Rattle.edl_read.specs.Overlaps.{overlap, share}
 use Rattle.edl_read.specs.Reading.{after_line, first_reading, list_from, list_of, played_on}
@@ -32,6 +37,7 @@ use Rattle.edl_again.proofs.InOrder.{AreBehind, AreWithin, EachEventIs, EachIsSh
 use Rattle.edl_again.proofs.LineBytes.{EachAbove, next_line}
 use Rattle.edl_again.proofs.NamesGiven.{AreNamed, HasLeft}
 use Rattle.edl_again.proofs.PartsRead.{go_on}
+use Rattle.edl_again.proofs.ShortTexts.{list_short}
 use Rattle.edl_again.proofs.ReelsNamed.{name_fits, some_name}
 use Rattle.edl_again.proofs.WrittenLists.{written}
 
@@ -175,6 +181,15 @@ read_again : (c : Counted) (start : ℕ) (names : List ReelName) (es : List Chan
 read_again c start names es lawful are named segments short within behind few =
     head_read c.rate c.drop_frame (events_text c 1 (events_of start names es)) lawful
     ∙ events_read c.rate c 2 1 [] (events_of start names es) (omega (arith, few, count_of start names 2 es)) (stand start names 2 es) (each_read c start names 2 es are named segments short within) tt (each_clear start names 2 es behind)
+
+pub written_is_short : (table : Table) (tracks : List TrackState) (counting : Counted) (start : ℕ) (rule : NamerRule) (given : List ReelName) (es : List ChannelSegment) (list : Written)
+    → AreEventsOf table tracks es → written_list counting start rule given table.reels es ≡ Ok list → AreNames list.names → length list.text ≤ MAX_LIST
+written_is_short table tracks counting start rule given es list are is unique =
+    let makes = written counting start rule given table.reels es list is in
+    let events : List Event = events_of start list.names es in
+    let few : length events ≤ 999 = omega (arith, few_events (length es) makes.count, count_of start list.names 2 es) in
+    let read = each_read counting start list.names 2 es unique makes.named (each_is_segment table tracks es are) (none_is_long es makes.long) (none_is_past (length (day_of counting)) start es makes.past) in
+    subst (λ (text : List ℕ). length text ≤ MAX_LIST) (sym makes.text) (list_short counting events few read)
 
 pub written_is_read_again : WrittenIsReadAgain
 written_is_read_again table tracks counting start rule given es list lawful are is unique =

@@ -23,11 +23,12 @@ use Rattle.edl_again.specs.RoundTrips.{PlaysAs, RoundTrips}
 abbrev pub IsCounting : Counted → Type 0
 IsCounting counting = IsTrue counting.drop_frame → counting.rate ≡ F2997
 
--- what is written of the events of a cut is read again, at its rate, as these events, each with the line that it ends on
+-- what is written of the events of a cut is read again, at its rate, as these events, each with the line that it ends
+-- on
 abbrev pub WrittenIsReadAgain : Type 0
 WrittenIsReadAgain =
-    (table : Table) (tracks : List TrackState) (counting : Counted) (start : ℕ) (rule : NamerRule) (given : List ReelName)
-    (es : List ChannelSegment) (list : Written)
+    (table : Table) (tracks : List TrackState) (counting : Counted) (start : ℕ) (rule : NamerRule)
+    (given : List ReelName) (es : List ChannelSegment) (list : Written)
     → IsCounting counting → AreEventsOf table tracks es
     → list_written counting start rule given table.reels es ≡ Ok list → AreNames list.names
     → list_read counting.rate list.text ≡ Ok (events_of start list.names es)
@@ -35,8 +36,8 @@ WrittenIsReadAgain =
 -- and the tape of these events shows what the cut shows
 abbrev pub EventsPlayAsTheirCut : Type 0
 EventsPlayAsTheirCut =
-    (table : Table) (tracks : List TrackState) (counting : Counted) (start : ℕ) (rule : NamerRule) (given : List ReelName)
-    (es : List ChannelSegment) (list : Written)
+    (table : Table) (tracks : List TrackState) (counting : Counted) (start : ℕ) (rule : NamerRule)
+    (given : List ReelName) (es : List ChannelSegment) (list : Written)
     → AreEventsOf table tracks es
     → list_written counting start rule given table.reels es ≡ Ok list → AreNames list.names
     → PlaysAs (events_of start list.names es) start list.names table tracks
@@ -44,8 +45,8 @@ EventsPlayAsTheirCut =
 -- so a list that is written of a cut makes the round trip
 abbrev pub WrittenListsRoundTrip : Type 0
 WrittenListsRoundTrip =
-    (table : Table) (tracks : List TrackState) (counting : Counted) (start : ℕ) (rule : NamerRule) (given : List ReelName)
-    (list : Written)
+    (table : Table) (tracks : List TrackState) (counting : Counted) (start : ℕ) (rule : NamerRule)
+    (given : List ReelName) (list : Written)
     → IsCounting counting → IsListOf table tracks counting start rule given list → AreNames list.names
     → RoundTrips list.text counting.rate start list.names table tracks
 
