@@ -1,7 +1,8 @@
-//! Edit decision lists after CMX 3600, read.
+//! Edit decision lists after CMX 3600, read, and played on a tape.
 //!
 //! The main contract is that of [`read_list`]: of the bytes of a list it gives the events that they are, or the first fault
-//! with its line. What the bytes are is defined line by line in `specs/Reading.antt`.
+//! with its line. What the bytes are is defined line by line in `specs/Reading.antt`. A [`Tape`] says what each channel
+//! shows at each record frame of a list.
 #![tactic(auto)]
 
 mod event_line;
@@ -13,6 +14,7 @@ mod parts;
 mod played;
 mod reading;
 mod said;
+mod tape;
 mod words;
 
 pub use edl_events::{Channel, Event, FromLine};
@@ -20,3 +22,4 @@ pub use fault::{LineCode, ListReadFault};
 pub use list::{List, MAX_LIST, read_list};
 pub use out_of_memory::Memory;
 pub use reel_names::Name;
+pub use tape::Tape;
