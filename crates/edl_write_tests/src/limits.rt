@@ -92,13 +92,9 @@ fn an_out_is_below_the_day(rt: HostRuntime) -> Result<(), Fail> {
         (DAY - 1, 9, 5, DAY - 9, Some(DAY + 4)),
     ] {
         let picture = [gap(place), clip(0, 0, source, len)];
-        let views = if place == 0 {
-            &picture[1..]
-        } else {
-            &picture[..]
-        };
+        let first = if place == 0 { 1 } else { 0 };
         let namer = Box::new(alloc, AsIs::new(alloc))?;
-        let fault = fault_of(alloc, views, start, namer);
+        let fault = fault_of(alloc, &picture[first..], start, namer);
         assert_eq!(rt; fault, want.map(|frame| ListFault::PastDay(frame)));
     }
     Ok(())
