@@ -206,7 +206,7 @@ fn a_room_has_up_to_32_tracks(rt: HostRuntime) -> Result<(), Fail> {
     for row in ["run 1 1", "run 17 1", "run 32 1"] {
         let (status, output) = ended(&rt, alloc, row, &[], &[], &[])?;
         assert_eq!(rt; status, 0, "{row}");
-        assert_eq!(rt; output.as_slice(), b"journal 0\n", "{row}");
+        assert_eq!(rt; output.as_slice(), "journal 0\n".as_bytes(), "{row}");
     }
     let lines = "overwrite 31 0 @0 100 5\nview 31 0 5\nitems 32\n";
     let wanted = "ok 0 item 0\nseen 1 @0 100 5\nbad B4\njournal 1\n0 1 overwrite 31 0 @0 100 5\n";
