@@ -1,5 +1,5 @@
 // Counters as an object: each part is a number up to a bound, and a call adds an amount to counter 0 and another.
-ghost use Rattle.std.specs.Prelude.{◌≡◌, ◌≤◌, ◌+◌, ◌^◌, Ok, Err, nat_lt, if◌then◌else◌};
+ghost use Rattle.std.specs.Prelude.{◌≡◌, ◌≤◌, ◌+◌, ◌^◌, Ok, Err, true, nat_lt, if◌then◌else◌};
 ghost use Rattle.room_core.specs.Totals.{counters, at_most, CanOpen};
 ghost use Rattle.room_core.specs.TotalLaws.{counters-named};
 
@@ -43,6 +43,8 @@ impl PartObject for Counters {
     type AskRefusal = u32;
 
     ghost meaning = { λ o. counters o.count o.most };
+
+    ghost refuses_first = { λ o. true };
 
     ghost count = { λ o. o.count };
 

@@ -6,3 +6,4 @@ pub mod Fronts
 pub mod Goodness
 pub mod Together
 pub mod KindLaws
+pub mod Answering

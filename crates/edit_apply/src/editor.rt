@@ -1,5 +1,5 @@
 // The editor of a room as an object of tracks: every call on the tracks that it names, and every question to a track.
-ghost use Rattle.std.specs.Prelude.{length};
+ghost use Rattle.std.specs.Prelude.{length, true};
 ghost use Rattle.composables.specs.Items.{items_of};
 ghost use Rattle.composables.specs.Roomy.{IsRoomy};
 ghost use Rattle.edit_apply.specs.Apply.{editing, track_count};
@@ -44,6 +44,8 @@ impl PartObject for Editor {
     type AskRefusal = AskRefusal;
 
     ghost meaning = { λ o. editing o.table };
+
+    ghost refuses_first = { λ o. true };
 
     ghost count = { λ o. track_count o.table };
 

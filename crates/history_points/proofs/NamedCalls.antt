@@ -1,9 +1,9 @@
 -- A call on the parts that it names, as a call on all parts.
-use Rattle.std.proofs.Common.{◌≡◌, ℕ, zero, suc, ◌+◌, ◌<◌, List, [], ◌∷◌, length, Option, Some, None, Result, Ok, Err, refl, sym, ap, ◌∙◌, All, map}
+use Rattle.std.proofs.Common.{◌≡◌, ℕ, zero, suc, ◌+◌, ◌<◌, Bool, List, [], ◌∷◌, length, Option, Some, None, Result, Ok, Err, refl, sym, ap, ◌∙◌, All, map}
 use Rattle.std.proofs.Math.ListN.{length-set}
 use Rattle.std.proofs.lemmas.List.{length-map}
 use Rattle.std.proofs.lemmas.List.Elements.{All-nil, All-cons}
-use Rattle.out_of_memory.specs.Answers.{Answers}
+use Rattle.room_core.specs.Calls.{AnswersCall}
 use Rattle.room_core.specs.Parts.{AreGood, AscendBetween, numbers}
 use Rattle.room_core.specs.Whole.{Meaning, picked, put_back, on_whole, unless_refused, whole}
 use Rattle.out_of_memory.specs.declared.fault.Fault.{Fault}
@@ -42,14 +42,14 @@ unrefused : {P C D R : Type 0} (m : Meaning P C D R) (ps : List P) (c : C) → m
 unrefused m ps c none = ap (λ r. unless_refused r (on_whole ps (m.names c) (m.applied (picked ps (m.names c)) c))) none
 
 -- what a call answers on its parts it answers on all
-pub answers_whole : {P C D R : Type 0} (m : Meaning P C D R) (ps ts : List P) (c : C) (least : ℕ) (result : Result D (Fault R))
+pub answers_whole : {P C D R : Type 0} (first : Bool) (m : Meaning P C D R) (ps ts : List P) (c : C) (least : ℕ) (result : Result D (Fault R))
     → m.refuses c ≡ None → AscendBetween least (length ps) (m.names c)
-    → Answers (m.applied (picked ps (m.names c)) c) (picked ps (m.names c)) ts result
+    → AnswersCall first (m.applied (picked ps (m.names c)) c) (picked ps (m.names c)) ts result
     → AnswersInPlace (whole m ps c) ps (put_back ps (m.names c) ts) result
-answers_whole m ps ts c least (Ok d) none a h = unrefused m ps c none ∙ ap (on_whole ps (m.names c)) h
-answers_whole m ps ts c least (Err (Refused r)) none a h =
+answers_whole first m ps ts c least (Ok d) none a h = unrefused m ps c none ∙ ap (on_whole ps (m.names c)) h
+answers_whole first m ps ts c least (Err (Refused r)) none a h =
     (unrefused m ps c none ∙ ap (on_whole ps (m.names c)) h.0, ap (put_back ps (m.names c)) h.1 ∙ put_same ps least (m.names c) a)
-answers_whole m ps ts c least (Err Memory) none a h = ap (put_back ps (m.names c)) h.1 ∙ put_same ps least (m.names c) a
+answers_whole first m ps ts c least (Err Memory) none a h = ap (put_back ps (m.names c)) h.1 ∙ put_same ps least (m.names c) a
 
 -- the places after the named parts were put back
 pub now_filled : {P : Type 0} (before after : List (Option P)) (least count : ℕ) (names : List ℕ) (ts : List P) → IsWhole before

@@ -1,5 +1,6 @@
 -- To be read: public clauses speak of these.
 pub mod Totals
+pub mod Calls
 pub mod History
 pub mod Machine
 pub mod Parts

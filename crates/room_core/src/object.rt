@@ -1,8 +1,9 @@
 // What a room can keep: an object over parts. A part is taken, changed and given back by itself, and a call changes the
 // parts that it names.
-ghost use Rattle.std.specs.Prelude.{◌≡◌, ◌≤◌, ◌<◌, ◌+◌, ◌*◌, ℕ, List, Option, None, Some, Result, Ok, IfOk, OnOk, All, sum_by};
-ghost use Rattle.out_of_memory.specs.Answers.{Answers, Tells};
+ghost use Rattle.std.specs.Prelude.{◌≡◌, ◌≤◌, ◌<◌, ◌+◌, ◌*◌, ℕ, Bool, List, Option, None, Some, Result, Ok, IfOk, OnOk, All, sum_by};
+ghost use Rattle.out_of_memory.specs.Answers.{Tells};
 ghost use Rattle.room_core.specs.declared.entry.Entry.{Entry};
+ghost use Rattle.room_core.specs.Calls.{AnswersCall};
 ghost use Rattle.room_core.specs.History.{replay, IsLegal};
 ghost use Rattle.room_core.specs.Parts.{AreGood, IsNaming, numbers};
 ghost use Rattle.room_core.specs.Whole.{Meaning, set_of, whole};
@@ -33,6 +34,9 @@ pub trait PartObject {
 
     /// What its calls mean.
     ghost meaning: { Self → Meaning Self.Part Self.Call Self.Done Self.Refusal };
+
+    /// Whether a call that is to be refused is refused whatever memory there is.
+    ghost refuses_first: { Self → Bool };
 
     /// How many parts it has.
     ghost count: { Self → ℕ };
@@ -85,8 +89,8 @@ pub trait PartObject {
         requires good { AreGood (good self.now)
             ((meaning self.now).names call.now) parts.old.items }
         requires roomy { All (roomy self.now) parts.old.items }
-        ensures meant { Answers ((meaning self.now).applied parts.old.items call.now)
-            parts.old.items parts.new.items result }
+        ensures meant { AnswersCall (refuses_first self.now)
+            ((meaning self.now).applied parts.old.items call.now) parts.old.items parts.new.items result }
         ensures good { AreGood (good self.now) ((meaning self.now).names call.now) parts.new.items }
 
         ensures least { steps.old + 1 ≤ steps.new }

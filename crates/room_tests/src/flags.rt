@@ -55,6 +55,8 @@ impl PartObject for Pair {
       applied = λ ps c. Ok (ps, 0);
     } };
 
+    ghost refuses_first = { λ o. true };
+
     ghost count = { λ o. 2 };
 
     ghost good = { λ o n p. Unit {0} };

@@ -1,5 +1,5 @@
 // A journal of registers: each part is a number, and a call writes a number into a part.
-ghost use Rattle.std.specs.Prelude.{◌≡◌, ◌<◌, ◌≤◌, IfOk, ℕ, List, None, Some, Ok, Err, nat_lt, if◌then◌else◌};
+ghost use Rattle.std.specs.Prelude.{◌≡◌, ◌<◌, ◌≤◌, IfOk, ℕ, List, None, Some, Ok, Err, true, nat_lt, if◌then◌else◌};
 ghost use Rattle.room_tests.specs.Registers.{registers, is_any, CanOpen};
 ghost use Rattle.room_tests.specs.RegisterLaws.{registers-named};
 ghost use Rattle.edit_journal.specs.Turns.{IsJournal, HasNames, last_of};
@@ -38,6 +38,8 @@ impl PartObject for Registers {
     type AskRefusal = u32;
 
     ghost meaning = { λ o. registers o.count };
+
+    ghost refuses_first = { λ o. true };
 
     ghost count = { λ o. o.count };
 

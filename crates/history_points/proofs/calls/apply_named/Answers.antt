@@ -1,5 +1,5 @@
 use Rattle.std.proofs.Common.{◌≡◌, ◌<◌, ℕ, Some, All, map, length, sym, ap, ◌∙◌, subst}
-use Rattle.out_of_memory.specs.Answers.{Answers}
+use Rattle.room_core.specs.Calls.{AnswersCall}
 use Rattle.room_core.specs.Parts.{AreGood, AscendBetween, numbers}
 use Rattle.room_core.specs.Whole.{picked, put_back, whole}
 use Rattle.room_core.proofs.WholeParts.{good_picked, roomy_picked, good_put_back}
@@ -68,9 +68,9 @@ returns-clause-meant g c =
     let count = good-count (g.O.PartObject.good o) (g.O.PartObject.count o) parts c.requires.good in
     let were = c.take_out.ensures.named ∙ ap (picked parts) c.requires.names in
     subst (λ ps. AnswersInPlace (whole m parts c.args.call.now) parts ps c.apply-result.result) (sym (filled-present c.put_in.new.slots.items _ (filled g c)))
-    (answers_whole m parts c.apply-result.new.parts.items c.args.call.now 0 c.apply-result.result c.requires.named
+    (answers_whole (g.O.PartObject.refuses_first o) m parts c.apply-result.new.parts.items c.args.call.now 0 c.apply-result.result c.requires.named
     (subst (λ (k : ℕ). AscendBetween 0 k named) (sym count) naming.ascend)
-    (subst (λ ps. Answers (m.applied ps c.args.call.now) ps c.apply-result.new.parts.items c.apply-result.result) were c.apply-result.ensures.meant))
+    (subst (λ ps. AnswersCall (g.O.PartObject.refuses_first o) (m.applied ps c.args.call.now) ps c.apply-result.new.parts.items c.apply-result.result) were c.apply-result.ensures.meant))
 
 pub returns-clause-good : goal.returns-clause-good
 returns-clause-good g c =
