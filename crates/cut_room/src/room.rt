@@ -25,25 +25,27 @@ use std::sync::ledger::Ledger;
 use step_count::Steps;
 use track_locks::{Held, Tracks};
 
-/// A room that is not open yet: its object, its parts, and the table of its journal. Contracts see the table, the
-/// opening, and how many parts and stations there are.
+/// A room that is not open yet: its object, its parts, how many stations it is to have, and the table of its journal.
+/// Contracts see the journal's table, opening and counts, and the room's count of stations.
 #[derive(Drop)]
 pub struct RoomBlank<O: PartObject> {
     object: O,
     parts: Vec<O::Part>,
+    stations: u32,
     blank: Blank<O>,
 }
 
 impl<O: PartObject> Model for RoomBlank<O> {
     ghost use Rattle.std.specs.Prelude.{◌≡◌, Some, length};
-    ghost use Rattle.edit_journal.specs.Turns.{Fresh};
+    ghost use Rattle.cut_room.specs.Opened.{Unopened};
 
-    ghost Value = { Fresh O O.Part };
+    ghost Value = { Unopened O O.Part };
 
-    ghost view = { λ b. b.blank };
+    ghost view = { λ b. record { journal = b.blank; stations = b.stations } };
 
     ghost invariant = { λ b. (b.blank.opening ≡ Some (b.object, b.parts.items))
-        × O.opens b.object b.parts.items × (b.blank.parts ≡ length b.parts.items) };
+        × O.opens b.object b.parts.items × (b.blank.parts ≡ length b.parts.items)
+        × (b.blank.stations ≡ b.stations) };
 }
 
 impl<O: PartObject + Drop> RoomBlank<O> {
@@ -56,7 +58,7 @@ impl<O: PartObject + Drop> RoomBlank<O> {
     ) -> Result<RoomBlank<O>, Memory>
         requires opens { O.opens object parts.items }
         requires stations { (0 < stations) × (stations ≤ 64) }
-        ensures opening { IfOk result (λ b. b.opening ≡ Some (object, parts.items)) }
+        ensures opening { IfOk result (λ b. b.journal.opening ≡ Some (object, parts.items)) }
         ensures stations { IfOk result (λ b. b.stations ≡ stations) }
     {
         let beginning = Beginning {
@@ -75,45 +77,54 @@ impl<O: PartObject + Drop> RoomBlank<O> {
         Ok(RoomBlank {
             object,
             parts,
+            stations,
             blank: blank?,
         })
     }
 }
 
-/// A room of many stations. Contracts see its opening: the object's value, and the parts that it opened with.
+/// A room of many stations. Contracts see the object's value, the parts that it opened with, and how many stations it has.
 #[derive(Drop)]
 pub struct Room<O: PartObject, J: Naming<O, O::Part>> {
     object: O,
     opening: Vec<O::Part>,
+    stations: u32,
     journal: Journal<O, J>,
     tracks: Tracks<O, J>,
 }
 
 impl<O: PartObject, J: Naming<O, O::Part>> Model for Room<O, J> {
     ghost use Rattle.std.specs.Prelude.{◌≡◌, Some, length};
-    ghost use Rattle.edit_journal.specs.Seats.{Opening};
+    ghost use Rattle.cut_room.specs.Opened.{Opened};
 
-    ghost Value = { Opening O O.Part };
+    ghost Value = { Opened O O.Part };
 
-    ghost view = { λ r. (r.object, r.opening.items) };
+    ghost view = { λ r. record {
+      object = r.object;
+      parts = r.opening.items;
+      stations = r.stations;
+    } };
 
     ghost invariant = { λ r. (J.opening ≡ Some (r.object, r.opening.items))
         × O.opens r.object r.opening.items
-        × (r.tracks ≡ length r.opening.items) };
+        × (r.tracks ≡ length r.opening.items)
+        × (J.stations ≡ r.stations) };
 }
 
 impl<O: PartObject + Drop, J: Naming<O, O::Part>> Room<O, J> {
     /// Opens a room, with a pass for each station, in ascending order.
     pub fn open(alloc: Global, blank: RoomBlank<O>) -> Result<(Room<O, J>, Vec<Pass<O, J>>), Memory>
-        requires table { J.table ≡ blank.table }
-        requires opening { J.opening ≡ blank.opening }
-        requires stations { J.stations ≡ blank.stations }
-        ensures room { IfOk result (λ r. J.opening ≡ Some r.0) }
+        requires table { J.table ≡ blank.journal.table }
+        requires opening { J.opening ≡ blank.journal.opening }
+        requires stations { J.stations ≡ blank.journal.stations }
+        ensures room { IfOk result (λ r. J.opening ≡ Some (r.0.object, r.0.parts)) }
+        ensures stations { IfOk result (λ r. r.0.stations ≡ blank.stations) }
         ensures passes { IfOk result (λ r. AreFresh J.opening blank.stations r.1.items) }
     {
         let RoomBlank {
             object,
             parts,
+            stations,
             blank,
         } = blank;
         let opening = copy_parts(alloc, &object, &parts)?;
@@ -122,6 +133,7 @@ impl<O: PartObject + Drop, J: Naming<O, O::Part>> Room<O, J> {
         let room = Room {
             object,
             opening,
+            stations,
             journal,
             tracks,
         };
@@ -130,14 +142,14 @@ impl<O: PartObject + Drop, J: Naming<O, O::Part>> Room<O, J> {
 
     /// The object that the room stands over.
     pub fn object(&self) -> &O
-        ensures { result.now ≡ self.now.0 }
+        ensures { result.now ≡ self.now.object }
     {
         &self.object
     }
 
     /// How many entries the journal has, all of which the pass knows then.
     pub fn point<R: Wait>(&self, rt: &R, pass: Pass<O, J>) -> (Pass<O, J>, u32)
-        ensures at { IsAtPoint (O.meaning self.now.0) self.now.1 pass result.0 result.1 }
+        ensures at { IsAtPoint (O.meaning self.now.object) self.now.parts pass result.0 result.1 }
     {
         let station = pass.station();
         let mut turn = self.journal.lock(rt);
@@ -162,10 +174,10 @@ impl<O: PartObject + Drop, J: Naming<O, O::Part>> Room<O, J> {
         steps: &mut Steps<L>,
     ) -> (Pass<O, J>, Answer<O>)
         requires number { last_of pass.number pass.entries < number }
-        ensures edited { Edited (O.meaning self.now.0) self.now.1
+        ensures edited { Edited (O.meaning self.now.object) self.now.parts
             (record { station = pass.number; number = number; call = call }) pass result.0
             result.1 }
-        ensures most { TakesAtMost (O.meaning self.now.0) self.now.1 O.size call
+        ensures most { TakesAtMost (O.meaning self.now.object) self.now.parts O.size call
             (stood_before result.0.entries result.1) steps.old steps.new }
     {
         match self.object.refuse_names(&call) {
@@ -199,16 +211,16 @@ impl<O: PartObject + Drop, J: Naming<O, O::Part>> Room<O, J> {
         gate: &G,
         steps: &mut Steps<L>,
     ) -> (Pass<O, J>, Answer<O>)
-        requires named { (O.meaning self.now.0).refuses entry.call ≡ None }
-        requires numbers { held.numbers ≡ (O.meaning self.now.0).names entry.call }
+        requires named { (O.meaning self.now.object).refuses entry.call ≡ None }
+        requires numbers { held.numbers ≡ (O.meaning self.now.object).names entry.call }
         requires homes { AreHomes O.meaning O.opens J.opening held.numbers held.parts held.versions
             held.seats }
         requires good { AreGoodAt O.good J.opening held.numbers held.parts }
         requires few { length held.numbers ≤ 32 }
         requires station { entry.station ≡ pass.number }
         requires number { last_of pass.number pass.entries < entry.number }
-        ensures edited { Edited (O.meaning self.now.0) self.now.1 entry pass result.0 result.1 }
-        ensures most { TakesAtMost (O.meaning self.now.0) self.now.1 O.size entry.call
+        ensures edited { Edited (O.meaning self.now.object) self.now.parts entry pass result.0 result.1 }
+        ensures most { TakesAtMost (O.meaning self.now.object) self.now.parts O.size entry.call
             (stood_before result.0.entries result.1) steps.old steps.new }
     {
         let mut parts = match held.copy(alloc, &self.object) {
@@ -247,19 +259,19 @@ impl<O: PartObject + Drop, J: Naming<O, O::Part>> Room<O, J> {
         entry: Entry<O::Call>,
         done: O::Done,
     ) -> (Pass<O, J>, Answer<O>)
-        requires named { (O.meaning self.now.0).refuses entry.call ≡ None }
-        requires numbers { held.numbers ≡ (O.meaning self.now.0).names entry.call }
+        requires named { (O.meaning self.now.object).refuses entry.call ≡ None }
+        requires numbers { held.numbers ≡ (O.meaning self.now.object).names entry.call }
         requires homes { AreHomes O.meaning O.opens J.opening held.numbers held.parts held.versions
             held.seats }
         requires good { AreGoodAt O.good J.opening held.numbers held.parts }
         requires few { length held.numbers ≤ 32 }
         requires station { entry.station ≡ pass.number }
         requires number { last_of pass.number pass.entries < entry.number }
-        requires applies { (O.meaning self.now.0).applied held.parts entry.call
+        requires applies { (O.meaning self.now.object).applied held.parts entry.call
             ≡ Ok (parts.items, done) }
-        requires good_now { AreGood (O.good self.now.0) held.numbers parts.items }
-        ensures edited { Edited (O.meaning self.now.0) self.now.1 entry pass result.0 result.1 }
-        ensures parts { ComesTo (O.meaning self.now.0) self.now.1
+        requires good_now { AreGood (O.good self.now.object) held.numbers parts.items }
+        ensures edited { Edited (O.meaning self.now.object) self.now.parts entry pass result.0 result.1 }
+        ensures parts { ComesTo (O.meaning self.now.object) self.now.parts
             (stood_before result.0.entries result.1) held.entry.numbers held.entry.parts }
     {
         let station = pass.station();
@@ -291,8 +303,8 @@ impl<O: PartObject + Drop, J: Naming<O, O::Part>> Room<O, J> {
             held.seats }
         requires good { AreGoodAt O.good J.opening held.numbers held.parts }
         requires few { length held.numbers ≤ 32 }
-        ensures at { IsAtPoint (O.meaning self.now.0) self.now.1 pass result.0 result.1 }
-        ensures parts { ComesTo (O.meaning self.now.0) self.now.1 result.0.entries
+        ensures at { IsAtPoint (O.meaning self.now.object) self.now.parts pass result.0 result.1 }
+        ensures parts { ComesTo (O.meaning self.now.object) self.now.parts result.0.entries
             held.entry.numbers held.entry.parts }
     {
         let station = pass.station();
@@ -312,8 +324,8 @@ impl<O: PartObject + Drop, J: Naming<O, O::Part>> Room<O, J> {
         pass: Pass<O, J>,
         ask: &O::Ask,
     ) -> (Pass<O, J>, Sight<O>)
-        ensures looked { Looked (O.meaning self.now.0) self.now.1 (O.asked self.now.0 ask.now)
-            (λ p. O.seen self.now.0 p ask.now) pass result.0 result.1 }
+        ensures looked { Looked (O.meaning self.now.object) self.now.parts (O.asked self.now.object ask.now)
+            (λ p. O.seen self.now.object p ask.now) pass result.0 result.1 }
     {
         let part = match self.object.ask_part(ask) {
             Ok(part) => part,
@@ -343,7 +355,7 @@ impl<O: PartObject + Drop, J: Naming<O, O::Part>> Room<O, J> {
 
     // Waits for the lock of one part, and takes it.
     fn hold_one<R: Wait>(&self, rt: &R, alloc: Global, part: u32) -> Result<Held<'_, O, J>, Memory>
-        requires { part < O.count self.now.0 }
+        requires { part < O.count self.now.object }
         ensures numbers { IfOk result (λ h. h.numbers ≡ part ∷ []) }
         ensures homes { IfOk result (λ h. AreHomes O.meaning O.opens J.opening h.numbers h.parts
             h.versions h.seats) }
@@ -360,10 +372,10 @@ impl<O: PartObject + Drop, J: Naming<O, O::Part>> Room<O, J> {
         copies: &[O::Part],
         ask: &O::Ask,
     ) -> Result<O::Seen, Fault<O::AskRefusal>>
-        requires { (n : ℕ) × (O.asked self.now.0 ask.now ≡ Ok n)
-            × AreGood (O.good self.now.0) (n ∷ []) copies.now }
+        requires { (n : ℕ) × (O.asked self.now.object ask.now ≡ Ok n)
+            × AreGood (O.good self.now.object) (n ∷ []) copies.now }
         ensures { (p : O.Part) × (copies.now ≡ p ∷ []) × Tells
-            (O.seen self.now.0 p ask.now) result }
+            (O.seen self.now.object p ask.now) result }
     {
         self.object.see(alloc, &copies[0], ask)
     }
@@ -376,7 +388,7 @@ impl<O: PartObject + Drop, J: Naming<O, O::Part>> Room<O, J> {
         pass: Pass<O, J>,
         n: u32,
     ) -> (Pass<O, J>, Result<Vec<Entry<O::Call>>, CutFault>)
-        ensures at { IsAtPoint (O.meaning self.now.0) self.now.1 pass result.0
+        ensures at { IsAtPoint (O.meaning self.now.object) self.now.parts pass result.0
             (length result.0.entries) }
         ensures copied { IsCopied n result.0.entries result.1 }
     {
@@ -398,9 +410,9 @@ impl<O: PartObject + Drop, J: Naming<O, O::Part>> Room<O, J> {
         pass: Pass<O, J>,
         n: u32,
     ) -> (Pass<O, J>, Result<Vec<O::Part>, CutFault>)
-        ensures cut { IsCut (O.meaning self.now.0) self.now.1 n pass result.0 result.1 }
-        ensures good { IfOk result.1 (λ parts. AreGood (O.good self.now.0) (numbers 0
-            (O.count self.now.0)) parts.items) }
+        ensures cut { IsCut (O.meaning self.now.object) self.now.parts n pass result.0 result.1 }
+        ensures good { IfOk result.1 (λ parts. AreGood (O.good self.now.object) (numbers 0
+            (O.count self.now.object)) parts.items) }
     {
         let (pass, entries) = self.copied(rt, alloc, pass, n);
         match entries {
@@ -420,10 +432,10 @@ impl<O: PartObject + Drop, J: Naming<O, O::Part>> Room<O, J> {
         n: u32,
     ) -> Result<Vec<O::Part>, CutFault>
         requires within { (n ≤ length entries.now) × (n ≤ most_entries) }
-        requires applies { IsSome (replay (whole (O.meaning self.now.0)) self.now.1 entries.now) }
-        ensures good { IfOk result (λ parts. AreGood (O.good self.now.0) (numbers 0
-            (O.count self.now.0)) parts.items) }
-        ensures parts { IfOk result (λ ps. replay (whole (O.meaning self.now.0)) self.now.1
+        requires applies { IsSome (replay (whole (O.meaning self.now.object)) self.now.parts entries.now) }
+        ensures good { IfOk result (λ parts. AreGood (O.good self.now.object) (numbers 0
+            (O.count self.now.object)) parts.items) }
+        ensures parts { IfOk result (λ ps. replay (whole (O.meaning self.now.object)) self.now.parts
             (take n entries.now) ≡ Some ps.items) }
         ensures fault { IfErr result (λ f. f ≡ NoMemory) }
     {
@@ -436,15 +448,16 @@ impl<O: PartObject + Drop, J: Naming<O, O::Part>> Room<O, J> {
 
     /// Ends the room, with the passes of all its stations, and gives the journal's entries.
     pub fn close(self, passes: Vec<Pass<O, J>>) -> Vec<Entry<O::Call>>
-        requires all { (s : ℕ) → s < J.stations → In s (map (λ p. p.number) passes.items) }
-        ensures legal { IsLegal (whole (O.meaning self.0)) self.1 result.items }
-        ensures passes { All (λ p. Agrees (O.meaning self.0).names result.items
+        requires all { (s : ℕ) → s < self.stations → In s (map (λ p. p.number) passes.items) }
+        ensures legal { IsLegal (whole (O.meaning self.object)) self.parts result.items }
+        ensures passes { All (λ p. Agrees (O.meaning self.object).names result.items
             (Station p.number) p.entries) passes.items }
         ensures stations { All (λ e. In e.station (map (λ p. p.number) passes.items)) result.items }
     {
         let Room {
             object: _,
             opening: _,
+            stations: _,
             journal,
             tracks: _,
         } = self;

@@ -136,7 +136,7 @@ pub record IsClosed (o : Opening) (passes : List TrackPass) (h : History) : Type
   pub stations : All (λ (e : Entry Call). In e.station (map (λ (p : TrackPass). p.number) passes)) h
 
 pub is_closed : (o : Opening) (room : TrackRoom) (counting : Counted) (start : ℕ) (passes : List TrackPass) (h : History) → IsRoomOf o room counting start
-    → IsLegal (whole (editing room.0.table)) room.1 h → All (λ (p : TrackPass). Agrees (editing room.0.table).names h (Station p.number) p.entries) passes
+    → IsLegal (whole (editing room.object.table)) room.parts h → All (λ (p : TrackPass). Agrees (editing room.object.table).names h (Station p.number) p.entries) passes
     → All (λ (e : Entry Call). In e.station (map (λ (p : TrackPass). p.number) passes)) h → IsClosed o passes h
 is_closed o room counting start passes h is legal agree stations =
     let table = ap (λ (s : Setting). s.table) is.setting in

@@ -16,7 +16,7 @@ use Rattle.otio_json.specs.declared.opening.Opening.{Opening}
 use Rattle.cut_server.specs.Closed.{Closes}
 use Rattle.station_sessions.specs.Rooms.{History, Setting}
 use Rattle.station_sessions.specs.Served.{IsRoomOf}
-use Rattle.station_sessions.specs.SessionInside.{TrackPass, TrackRoom}
+use Rattle.station_sessions.specs.SessionInside.{TrackOpening, TrackPass, TrackRoom, opened_with}
 use Rattle.cut_server.specs.Stations.{AreOfStations}
 
 one_station : (s : ℕ) → In s (0 ∷ []) → s < 1
@@ -28,14 +28,14 @@ of_one_station (e ∷ es) all = (one_station e.station (All-head (λ e. In e.sta
 
 -- the one pass of a room
 pub closed : (o : Opening) (room : TrackRoom) (counting : Counted) (start : ℕ) (passes : List TrackPass) (p : TrackPass) (h : History) → IsRoomOf o room counting start
-    → passes ≡ p ∷ [] → p.number ≡ 0 → IsLegal (whole (editing room.0.table)) room.1 h
-    → All (λ q. Agrees (editing room.0.table).names h (Station q.number) q.entries) passes → All (λ e. In e.station (map (λ q. q.number) passes)) h
+    → passes ≡ p ∷ [] → p.number ≡ 0 → IsLegal (whole (editing room.object.table)) room.parts h
+    → All (λ q. Agrees (editing room.object.table).names h (Station q.number) q.entries) passes → All (λ e. In e.station (map (λ q. q.number) passes)) h
     → Closes o 1 0 p.entries h
 closed o room counting start passes p h is are first legal agree stations =
     let table = ap (λ (s : Setting). s.table) is.setting in
-    let all = subst (λ (ps : List TrackPass). All (λ q. Agrees (editing room.0.table).names h (Station q.number) q.entries) ps) are agree in
-    let mine : Agrees (editing room.0.table).names h (Station 0) p.entries =
-    subst (λ (n : ℕ). Agrees (editing room.0.table).names h (Station n) p.entries) first (All-head (λ q. Agrees (editing room.0.table).names h (Station q.number) q.entries) p [] all) in
+    let all = subst (λ (ps : List TrackPass). All (λ q. Agrees (editing room.object.table).names h (Station q.number) q.entries) ps) are agree in
+    let mine : Agrees (editing room.object.table).names h (Station 0) p.entries =
+    subst (λ (n : ℕ). Agrees (editing room.object.table).names h (Station n) p.entries) first (All-head (λ q. Agrees (editing room.object.table).names h (Station q.number) q.entries) p [] all) in
     let numbers : map (λ (q : TrackPass). q.number) passes ≡ 0 ∷ [] = ap (map (λ (q : TrackPass). q.number)) are ∙ ap (λ (n : ℕ). n ∷ []) first in
     record {
       opens = is.opens;
@@ -55,7 +55,7 @@ only passes last before numbers is = only_one before last (ap (map (λ (q : Trac
     only_one (p ∷ []) last e = let n = ap length e in absurd (omega (arith, n))
     only_one (p ∷ q ∷ ps) last e = let n = ap length e in absurd (omega (arith, n))
 
-pub only_fresh : (opening : Option TrackRoom) (passes : List TrackPass) (last : TrackPass) (before : List TrackPass) → AreFresh opening 1 passes → passes ≡ before ++ last ∷ []
+pub only_fresh : (opening : Option TrackOpening) (passes : List TrackPass) (last : TrackPass) (before : List TrackPass) → AreFresh opening 1 passes → passes ≡ before ++ last ∷ []
     → (last.opening ≡ opening) × (last.entries ≡ [])
 only_fresh opening passes last before fresh is =
     let none = (only passes last before fresh.0 is).0 in
@@ -66,5 +66,9 @@ pub has_zero : (s : ℕ) → s < 1 → In s (0 ∷ [])
 has_zero s low = inl (omega (arith, low))
 
 -- the room that was opened
-pub one_room : (named told : Option TrackRoom) (a b : TrackRoom) → named ≡ told → told ≡ Some a → named ≡ Some b → a ≡ b
-one_room named told a b same x y = let e : Some a ≡ Some b = sym x ∙ (sym same ∙ y) in Prim.grind (arith, e)
+pub one_room : (named told : Option TrackOpening) (opening : TrackOpening) (room : TrackRoom) (stations : ℕ) → named ≡ told → told ≡ Some opening → named ≡ Some (room.object, room.parts)
+    → room.stations ≡ stations → opened_with opening stations ≡ room
+one_room named told opening room stations same is was count =
+    let e : Some opening ≡ Some (room.object, room.parts) = sym is ∙ (sym same ∙ was) in
+    let pair : opening ≡ (room.object, room.parts) = Prim.grind (arith, e) in
+    ap (λ (o : TrackOpening). opened_with o stations) pair ∙ ap (λ (n : ℕ). opened_with (room.object, room.parts) n) (sym count)

@@ -17,7 +17,7 @@ use Rattle.station_sessions.specs.Serving.{SessionEnds}
 use Rattle.station_sessions.specs.Outside.{Outside, outside}
 use Rattle.station_sessions.specs.Rooms.{History}
 use Rattle.cut_server.specs.Seated.{AreSeated, CountsSeats, HasNumber, IsReady, IsSeated, SeatedState, unseated}
-use Rattle.station_sessions.specs.SessionInside.{TrackPass, TrackRoom}
+use Rattle.station_sessions.specs.SessionInside.{TrackOpening, TrackPass}
 
 pub at_place : {X : Type 0} (P : X → Type 0) (xs : List X) (k : ℕ) (x : X) → All P xs → slice_get xs k ≡ Some x → P x
 at_place P xs k x all is = subst P (get_or_from_slice_get xs k x x is) (all k x (slice_get_within xs k x is))
@@ -64,7 +64,7 @@ pub is_within : {X : Type 0} (ps before : List X) (p : X) (rest : List X) → be
 is_within ps before p rest is = slice_get_within ps (length before) p (behind_at ps before p rest is)
 
 -- no entry is known to a pass of a room that has just been opened
-pub fresh_none : (opening : Option TrackRoom) (ps before : List TrackPass) (p : TrackPass) (rest : List TrackPass) → All (λ (t : TrackPass). (t.opening ≡ opening) × (t.entries ≡ [])) ps
+pub fresh_none : (opening : Option TrackOpening) (ps before : List TrackPass) (p : TrackPass) (rest : List TrackPass) → All (λ (t : TrackPass). (t.opening ≡ opening) × (t.entries ≡ [])) ps
     → before ++ p ∷ rest ≡ ps → p.entries ≡ []
 fresh_none opening ps before p rest all is = (at_place (λ (t : TrackPass). (t.opening ≡ opening) × (t.entries ≡ [])) ps (length before) p all (behind_at ps before p rest is)).1
 

@@ -9,7 +9,7 @@ ghost use Rattle.cut_server.specs.Documents.{refusal_line};
 ghost use Rattle.cut_server.specs.Ports.{both, change, input_told, output_told};
 ghost use Rattle.cut_server.specs.Runs.{JournalEnds, RunEnds, RunsOver, RefusalEnds, LineEnds, DocumentEnds, ServeEnds, CommandEnds, EndsWith};
 ghost use Rattle.station_sessions.specs.Served.{IsRoomOf};
-ghost use Rattle.station_sessions.specs.SessionInside.{TrackRoom};
+ghost use Rattle.station_sessions.specs.SessionInside.{TrackOpening, opened_with};
 ghost use Rattle.edit_journal.specs.Turns.{AreFresh};
 
 use crate::command::{Command, command_in};
@@ -63,7 +63,7 @@ fn run_session<R: Wait, G: Gate, J: Naming<CutObject, CutPart>, L: Line>(
     gate: &G,
 ) -> Status
     requires passes { AreFresh J.opening 1 passes.items }
-    requires stations { J.stations ≡ 1 }
+    requires stations { room.stations ≡ 1 }
     ensures ends { (o : OpeningOf) → IsRoomOf o room setting.counting setting.start → RunEnds o
         (outside (L.left line.old) (L.read_faults line.old) (L.taken line.old)
         (L.write_faults line.old))
@@ -111,7 +111,7 @@ fn run_over<R: Wait, G: Gate, J: Naming<CutObject, CutPart>, S: Source, K: Sink>
     gate: &G,
 ) -> Status
     requires passes { AreFresh J.opening 1 passes.items }
-    requires stations { J.stations ≡ 1 }
+    requires stations { room.stations ≡ 1 }
     ensures { (o : OpeningOf) → IsRoomOf o room setting.counting setting.start → RunEnds o
         (both (input_told S.left S.read_faults input.old)
         (output_told K.taken K.write_faults output.old))
@@ -132,11 +132,12 @@ fn run_blank<R: Wait, G: Gate, J: Naming<CutObject, CutPart>, S: Source, K: Sink
     output: &mut K,
     gate: &G,
 ) -> Status
-    requires table { J.table ≡ blank.table }
-    requires opening { J.opening ≡ blank.opening }
-    requires stations { (J.stations ≡ blank.stations) × (blank.stations ≡ 1) }
-    ensures { (o : OpeningOf) (room : TrackRoom) → blank.opening ≡ Some room
-        → IsRoomOf o room setting.counting setting.start → RunsOver o
+    requires table { J.table ≡ blank.journal.table }
+    requires opening { J.opening ≡ blank.journal.opening }
+    requires stations { J.stations ≡ blank.journal.stations }
+    requires one { blank.stations ≡ 1 }
+    ensures { (o : OpeningOf) (opening : TrackOpening) → blank.journal.opening ≡ Some opening
+        → IsRoomOf o (opened_with opening blank.stations) setting.counting setting.start → RunsOver o
         (change (input_told S.left S.read_faults) input.old input.new)
         (change (output_told K.taken K.write_faults) output.old output.new) result }
 {

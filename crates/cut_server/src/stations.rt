@@ -8,7 +8,7 @@ ghost use Rattle.cut_server.specs.Documents.{AreQuiet};
 ghost use Rattle.cut_server.specs.Halls.{FileEnds, HallEnds, SessionsEnd, first_fault, line_at, or_next, status_of};
 ghost use Rattle.cut_server.specs.Seated.{AreSeated, CountsSeats, HasNumber, SeatedState, unseated};
 ghost use Rattle.station_sessions.specs.Served.{IsRoomOf};
-ghost use Rattle.station_sessions.specs.SessionInside.{TrackRoom};
+ghost use Rattle.station_sessions.specs.SessionInside.{TrackOpening, opened_with};
 
 use crate::seated::{SeatedStation, serve_all};
 use crate::status::Status;
@@ -129,8 +129,8 @@ fn serve_seated<
     hall: &mut H,
     gate: &G,
 ) -> (Status, Vec<Entry<CutCall>>)
-    requires count { length seated.items ≡ J.stations }
-    requires few { J.stations ≤ 16 }
+    requires count { length seated.items ≡ room.stations }
+    requires few { room.stations ≤ 16 }
     requires held { (k : ℕ) → k < length seated.items
         → ((H.told hall.old).station k).seated ≡ true }
     requires seated { (before : HallTold) × AreSeated before seated.items }
@@ -138,8 +138,8 @@ fn serve_seated<
     requires room { length seated.items ≤ vec_capacity passes }
     ensures ends { (o : OpeningOf) (before : HallTold) → IsRoomOf o room setting.counting setting.start
         → AreSeated before seated.items → before.faults ≡ (H.told hall.old).faults
-        → ((s : ℕ) → J.stations ≤ s → line_at (H.told hall.old) s ≡ line_at before s)
-        → SessionsEnd o J.stations result.1.items before (H.told hall.new) result.0 }
+        → ((s : ℕ) → room.stations ≤ s → line_at (H.told hall.old) s ≡ line_at before s)
+        → SessionsEnd o room.stations result.1.items before (H.told hall.new) result.0 }
     ensures opened { (H.told hall.new).opened ≡ (H.told hall.old).opened }
 {
     serve_all(rt, alloc, &room, gate, setting, &mut seated);
@@ -196,10 +196,10 @@ fn serve_room<
     hall: &mut H,
     gate: &G,
 ) -> Status
-    requires passes { AreFresh J.opening J.stations passes.items }
-    requires few { J.stations ≤ 16 }
+    requires passes { AreFresh J.opening room.stations passes.items }
+    requires few { room.stations ≤ 16 }
     ensures { (o : OpeningOf) → IsRoomOf o room setting.counting setting.start
-        → HallEnds o J.stations place.now.address.now
+        → HallEnds o room.stations place.now.address.now
         (FileEnds place.now.journal.now (F.told files.old) (F.told files.new))
         (AreQuiet (F.told files.old) (F.told files.new)) (H.told hall.old) (H.told hall.new) result }
 {
@@ -258,12 +258,12 @@ fn serve_blank<
     hall: &mut H,
     gate: &G,
 ) -> Status
-    requires table { J.table ≡ blank.table }
-    requires opening { J.opening ≡ blank.opening }
-    requires stations { J.stations ≡ blank.stations }
+    requires table { J.table ≡ blank.journal.table }
+    requires opening { J.opening ≡ blank.journal.opening }
+    requires stations { J.stations ≡ blank.journal.stations }
     requires few { blank.stations ≤ 16 }
-    ensures { (o : OpeningOf) (room : TrackRoom) → blank.opening ≡ Some room
-        → IsRoomOf o room setting.counting setting.start
+    ensures { (o : OpeningOf) (opening : TrackOpening) → blank.journal.opening ≡ Some opening
+        → IsRoomOf o (opened_with opening blank.stations) setting.counting setting.start
         → HallEnds o blank.stations place.now.address.now
         (FileEnds place.now.journal.now (F.told files.old) (F.told files.new))
         (AreQuiet (F.told files.old) (F.told files.new)) (H.told hall.old) (H.told hall.new) result }

@@ -1,5 +1,5 @@
 -- A call that is refused whatever memory there is answers as a call does, whether that is asked of it or not.
-use Rattle.std.proofs.Common.{◌≡◌, Bool, Result, Ok, Err}
+use Rattle.std.proofs.Common.{Bool, Result, Ok, Err}
 use Rattle.out_of_memory.specs.Answers.{Answers}
 use Rattle.out_of_memory.specs.declared.fault.Fault.{Fault}
 use Rattle.out_of_memory.specs.declared.fault.Fault.TheVariants.{Refused, Memory}

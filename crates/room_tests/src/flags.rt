@@ -1,6 +1,6 @@
 // Two stations that edit two parts at the same time: a call on a part looks for one on the other that has begun.
 ghost use Rattle.std.proofs.Common.{arith};
-ghost use Rattle.std.specs.Prelude.{◌≡◌, ◌%◌, ◌<◌, [], ◌∷◌, Ok, None};
+ghost use Rattle.std.specs.Prelude.{◌≡◌, ◌%◌, ◌<◌, [], ◌∷◌, Ok, None, true};
 ghost use Rattle.room_core.specs.Parts.{AreGood, numbers};
 
 use cut_room::{Room, RoomBlank};
@@ -171,9 +171,9 @@ fn edit_both<J: Naming<Pair, u32> + Send + Sync, R: Threads + Wait + Sync>(
     alloc: Global,
     blank: RoomBlank<Pair>,
 ) -> Result<(), Memory>
-    requires table { J.table ≡ blank.table }
-    requires opening { J.opening ≡ blank.opening }
-    requires stations { J.stations ≡ blank.stations }
+    requires table { J.table ≡ blank.journal.table }
+    requires opening { J.opening ≡ blank.journal.opening }
+    requires stations { J.stations ≡ blank.journal.stations }
 {
     let (room, passes) = Room::<Pair, J>::open(alloc, blank)?;
     let mut stations = Vec::new(alloc);

@@ -135,9 +135,9 @@ fn five_answered<J: Naming<Counters, u32>, R: Wait, L: Ledger>(
     blank: RoomBlank<Counters>,
     ledger: Blank,
 ) -> Option<Outcome>
-    requires table { J.table ≡ blank.table }
-    requires opening { J.opening ≡ blank.opening }
-    requires stations { J.stations ≡ blank.stations }
+    requires table { J.table ≡ blank.journal.table }
+    requires opening { J.opening ≡ blank.journal.opening }
+    requires stations { J.stations ≡ blank.journal.stations }
     requires ledger { (ledger.name ≡ L.name) × (ledger.parts ≡ L.parts) × (0 < ledger.parts) }
 {
     let mut steps = Steps::<L>::new(ledger);
@@ -213,9 +213,9 @@ fn filled<J: Naming<Counters, u32>, R: Wait, L: Ledger>(
     blank: RoomBlank<Counters>,
     ledger: Blank,
 ) -> Option<([Told; 3], [u32; 5])>
-    requires table { J.table ≡ blank.table }
-    requires opening { J.opening ≡ blank.opening }
-    requires stations { J.stations ≡ blank.stations }
+    requires table { J.table ≡ blank.journal.table }
+    requires opening { J.opening ≡ blank.journal.opening }
+    requires stations { J.stations ≡ blank.journal.stations }
     requires ledger { (ledger.name ≡ L.name) × (ledger.parts ≡ L.parts) × (0 < ledger.parts) }
 {
     let mut steps = Steps::<L>::new(ledger);
@@ -259,9 +259,9 @@ fn closed<J: Naming<Counters, u32>>(
     alloc: Global,
     blank: RoomBlank<Counters>,
 ) -> Option<Vec<Entry<(u32, u32)>>>
-    requires table { J.table ≡ blank.table }
-    requires opening { J.opening ≡ blank.opening }
-    requires stations { J.stations ≡ blank.stations }
+    requires table { J.table ≡ blank.journal.table }
+    requires opening { J.opening ≡ blank.journal.opening }
+    requires stations { J.stations ≡ blank.journal.stations }
 {
     match Room::<Counters, J>::open(alloc, blank) {
         Ok((room, passes)) => Some(room.close(passes)),

@@ -44,13 +44,13 @@ own_before station line m (e ∷ es) less = own_by station line m e es (eqb e.st
 -- in a room that was opened from this opening
 legal_in : (o : Opening) (room : TrackRoom) (counting : Counted) (start : ℕ) (h : History) → IsRoomOf o room counting start → IsLegalThere room h → IsLegalIn o h
 legal_in o room counting start h is legal =
-    let table : room.0.table ≡ o.table = ap (λ (s : Setting). s.table) is.setting in
+    let table : room.object.table ≡ o.table = ap (λ (s : Setting). s.table) is.setting in
     subst (λ (x : Table × List TrackState). IsLegal (whole (editing x.0)) x.1 h) (λ i. (table i, is.tracks i)) legal
 
 comes_in : (o : Opening) (room : TrackRoom) (counting : Counted) (start : ℕ) (h : History) (tracks : List TrackState) → IsRoomOf o room counting start
-    → replay (whole (editing room.0.table)) room.1 h ≡ Some tracks → replay (whole (editing o.table)) o.tracks h ≡ Some tracks
+    → replay (whole (editing room.object.table)) room.parts h ≡ Some tracks → replay (whole (editing o.table)) o.tracks h ≡ Some tracks
 comes_in o room counting start h tracks is comes =
-    let table : room.0.table ≡ o.table = ap (λ (s : Setting). s.table) is.setting in
+    let table : room.object.table ≡ o.table = ap (λ (s : Setting). s.table) is.setting in
     subst (λ (x : Table × List TrackState). replay (whole (editing x.0)) x.1 h ≡ Some tracks) (λ i. (table i, is.tracks i)) comes
 
 pub begun_session : (o : Opening) (from : Origin) (room : TrackRoom) (pass : TrackPass) (counting : Counted) (start line : ℕ) → IsRoomOf o room counting start

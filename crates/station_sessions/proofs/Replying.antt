@@ -46,25 +46,25 @@ comes_or : (opening : List TrackState) (o : Option (List TrackState)) → IsSome
 comes_or opening None h = absurd (Prim.grind (arith, h))
 comes_or opening (Some tracks) h = refl
 
-pub comes : (room : TrackRoom) (h : History) → IsLegal (whole (editing room.0.table)) room.1 h → replay (whole (editing room.0.table)) room.1 h ≡ Some (tracks_at room h)
-comes room h legal = comes_or room.1 (replay (whole (editing room.0.table)) room.1 h) legal.applies
+pub comes : (room : TrackRoom) (h : History) → IsLegal (whole (editing room.object.table)) room.parts h → replay (whole (editing room.object.table)) room.parts h ≡ Some (tracks_at room h)
+comes room h legal = comes_or room.parts (replay (whole (editing room.object.table)) room.parts h) legal.applies
 
-tracks_are : (room : TrackRoom) (h : History) (tracks : List TrackState) → replay (whole (editing room.0.table)) room.1 h ≡ Some tracks → tracks_at room h ≡ tracks
-tracks_are room h tracks is = ap (or_opening room.1) is
+tracks_are : (room : TrackRoom) (h : History) (tracks : List TrackState) → replay (whole (editing room.object.table)) room.parts h ≡ Some tracks → tracks_at room h ≡ tracks
+tracks_are room h tracks is = ap (or_opening room.parts) is
 
 -- a station that knows more entries than before, none of them its own
-grown : (room : TrackRoom) (counting : Counted) (start line station : ℕ) (before after : History) → IsLegal (whole (editing room.0.table)) room.1 before
-    → IsLegal (whole (editing room.0.table)) room.1 after → Begins after before → of_station station after ≡ of_station station before
+grown : (room : TrackRoom) (counting : Counted) (start line station : ℕ) (before after : History) → IsLegal (whole (editing room.object.table)) room.parts before
+    → IsLegal (whole (editing room.object.table)) room.parts after → Begins after before → of_station station after ≡ of_station station before
     → Grows (room_of (setting_at room counting start)) station (course_at room before line) (course_at room after line)
 grown room counting start line station before after was is front same =
-    let apply = whole (editing room.0.table) in
+    let apply = whole (editing room.object.table) in
     let rest = front.0 in
     let all : of_station station before ++ of_station station rest ≡ of_station station before =
     sym (own_append station before rest) ∙ (ap (λ (l : History). of_station station l) (sym front.1) ∙ same) in
     let state : replay apply (tracks_at room before) rest ≡ Some (tracks_at room after) =
     ap (λ (o : Option (List TrackState)). fold (after_entry apply) o rest) (sym (comes room before was))
-    ∙ (sym (fold-append (after_entry apply) (Some room.1) before rest)
-    ∙ (ap (λ (l : History). replay apply room.1 l) (sym front.1) ∙ comes room after is)) in
+    ∙ (sym (fold-append (after_entry apply) (Some room.parts) before rest)
+    ∙ (ap (λ (l : History). replay apply room.parts l) (sym front.1) ∙ comes room after is)) in
     record {
       more = rest;
       opening = refl;
@@ -78,7 +78,7 @@ grown room counting start line station before after was is front same =
 
 -- a reply behind what others committed, which commits nothing
 replied : (room : TrackRoom) (before after : TrackPass) (counting : Counted) (start line : ℕ) (wish : Wish Call Ask) (text : List ℕ) → IsSeated room line before
-    → Stays (editing room.0.table) room.1 before after
+    → Stays (editing room.object.table) room.parts before after
     → (let s = session_at room (Some after) counting start line in Step (room_of s.setting) before.number s.course s.course text wish (finds_memory wish))
     → RepliesWith (session_at room (Some before) counting start line) (session_at room (Some after) counting start (line + 1)) wish text
 replied room before after counting start line wish text seated stays step = record {
@@ -94,7 +94,7 @@ replied room before after counting start line wish text seated stays step = reco
 }
 
 -- nothing happened
-unmoved : (room : TrackRoom) (pass : TrackPass) → Stays (editing room.0.table) room.1 pass pass
+unmoved : (room : TrackRoom) (pass : TrackPass) → Stays (editing room.object.table) room.parts pass pass
 unmoved room pass = record { goes_on = record { number_is = refl; opening_is = refl; front = ([], sym (append-nil pass.entries)); legal = λ h. h }; own = refl }
 
 -- the reply to a line that is none of the table
@@ -105,7 +105,7 @@ bad_replied room (Some pass) counting start line fault text seated is =
     replied room pass pass counting start line (Bad fault) text seated (unmoved room pass) (inl (record { same = refl; reply_is = is }))
 
 -- the session can go on with its pass
-seated_stays : (room : TrackRoom) (before after : TrackPass) (line : ℕ) → IsSeated room line before → Stays (editing room.0.table) room.1 before after → IsSeated room (line + 1) after
+seated_stays : (room : TrackRoom) (before after : TrackPass) (line : ℕ) → IsSeated room line before → Stays (editing room.object.table) room.parts before after → IsSeated room (line + 1) after
 seated_stays room before after line seated stays =
     let last : last_of after.number after.entries ≡ last_of before.number before.entries =
     ap (λ (n : ℕ). last_of n after.entries) stays.goes_on.number_is ∙ ap (λ (l : History). fold (λ m e. max m e.number) 0 l) stays.own in
@@ -117,16 +117,16 @@ same_seated room (Some pass) line seated = seated_stays room pass pass line seat
 
 module _ (room : TrackRoom) (before after : TrackPass) (counting : Counted) (start line : ℕ) (seated : IsSeated room line before) where
   pub edit_replied : (c : Call) (a : EditAnswer) (text : List ℕ) → IsSmall line × IsWritten c
-      → Edited (editing room.0.table) room.1 (record { station = before.number; number = line; call = c }) before after a → text ≡ answer_text_of a
+      → Edited (editing room.object.table) room.parts (record { station = before.number; number = line; call = c }) before after a → text ≡ answer_text_of a
       → RepliesWith (session_at room (Some before) counting start line) (session_at room (Some after) counting start (line + 1)) (Do c) text
   edit_replied c (answer.Done n d) text w e is =
-      let apply = whole (editing room.0.table) in
+      let apply = whole (editing room.object.table) in
       let entry : Entry Call = record { station = before.number; number = line; call = c } in
       let met_is : tracks_at room e.journal ≡ e.parts = tracks_are room e.journal e.parts e.comes in
       let now_is : tracks_at room after.entries ≡ e.now =
       tracks_are room after.entries e.now
-      (ap (λ (l : History). replay apply room.1 l) e.entries_are
-      ∙ (fold-append (after_entry apply) (Some room.1) e.journal (entry ∷ []) ∙ (ap (λ (o : Option (List TrackState)). after_entry apply o entry) e.comes ∙ ap state_in e.applies))) in
+      (ap (λ (l : History). replay apply room.parts l) e.entries_are
+      ∙ (fold-append (after_entry apply) (Some room.parts) e.journal (entry ∷ []) ∙ (ap (λ (o : Option (List TrackState)). after_entry apply o entry) e.comes ∙ ap state_in e.applies))) in
       record {
         setting = refl;
         station = e.goes_on.number_is;
@@ -170,7 +170,7 @@ module _ (room : TrackRoom) (before after : TrackPass) (counting : Counted) (sta
   edit_replied c answer.Memory text w e is = replied room before after counting start line (Do c) text seated e (inr (refl, record { same = refl; reply_is = is }))
 
   -- after an edit the session can go on
-  pub edit_seated : (c : Call) (a : EditAnswer) → Edited (editing room.0.table) room.1 (record { station = before.number; number = line; call = c }) before after a
+  pub edit_seated : (c : Call) (a : EditAnswer) → Edited (editing room.object.table) room.parts (record { station = before.number; number = line; call = c }) before after a
       → IsSeated room (line + 1) after
   edit_seated c (answer.Done n d) e =
       let entry : Entry Call = record { station = before.number; number = line; call = c } in
@@ -183,12 +183,12 @@ module _ (room : TrackRoom) (before after : TrackPass) (counting : Counted) (sta
   edit_seated c (answer.Full n) e = seated_stays room before after line seated e.at.stays
   edit_seated c answer.Memory e = seated_stays room before after line seated e
 
-  pub point_replied : (n : ℕ) (text : List ℕ) → IsAtPoint (editing room.0.table) room.1 before after n → text ≡ codes "point " ++ decimal n
+  pub point_replied : (n : ℕ) (text : List ℕ) → IsAtPoint (editing room.object.table) room.parts before after n → text ≡ codes "point " ++ decimal n
       → RepliesWith (session_at room (Some before) counting start line) (session_at room (Some after) counting start (line + 1)) Point text
   point_replied n text e is =
       replied room before after counting start line Point text seated e.stays (inl (record { same = refl; reply_is = is ∙ ap (λ m. codes "point " ++ decimal m) e.point_is }))
 
-  pub point_seated : (n : ℕ) → IsAtPoint (editing room.0.table) room.1 before after n → IsSeated room (line + 1) after
+  pub point_seated : (n : ℕ) → IsAtPoint (editing room.object.table) room.parts before after n → IsSeated room (line + 1) after
   point_seated n e = seated_stays room before after line seated e.stays
 
 -- what one track shows is what the room shows of it
@@ -206,53 +206,53 @@ seen_told (Err why) tracks q r h = some_same (Err why) r h
 
 module _ (room : TrackRoom) (before after : TrackPass) (counting : Counted) (start line : ℕ) (seated : IsSeated room line before) where
   ask_replied : (q : Ask) (s : TrackSight) (text : List ℕ)
-      → Looked (editing room.0.table) room.1 (ask_part_of room.0.table q) (λ t. seen_on t q) before after s → text ≡ sight_text_of s
+      → Looked (editing room.object.table) room.parts (ask_part_of room.object.table q) (λ t. seen_on t q) before after s → text ≡ sight_text_of s
       → RepliesWith (session_at room (Some before) counting start line) (session_at room (Some after) counting start (line + 1)) (See q) text
   ask_replied q (sight.Seen n seen) text e is =
-      let there = seen_told (ask_part_of room.0.table q) (tracks_at room after.entries) q (Ok seen) (rw (tracks_are room after.entries e.parts e.comes) e.told_is) in
+      let there = seen_told (ask_part_of room.object.table q) (tracks_at room after.entries) q (Ok seen) (rw (tracks_are room after.entries e.parts e.comes) e.told_is) in
       replied room before after counting start line (See q) text seated e.at.stays (inl (record {
         same = refl;
         reply_is = is ∙ (ap (λ m. sight_text_of (sight.Seen m seen)) e.at.point_is ∙ sym (ap (seen_of (length after.entries)) there));
       }))
   ask_replied q (sight.Refused n why) text e is =
-      let there = seen_told (ask_part_of room.0.table q) (tracks_at room after.entries) q (Err why) (rw (tracks_are room after.entries e.parts e.comes) e.told_is) in
+      let there = seen_told (ask_part_of room.object.table q) (tracks_at room after.entries) q (Err why) (rw (tracks_are room after.entries e.parts e.comes) e.told_is) in
       replied room before after counting start line (See q) text seated e.at.stays (inl (record {
         same = refl;
         reply_is = is ∙ (ap (λ m. sight_text_of (sight.Refused m why)) e.at.point_is ∙ sym (ap (seen_of (length after.entries)) there));
       }))
   ask_replied q sight.Memory text e is = replied room before after counting start line (See q) text seated e (inr (refl, record { same = refl; reply_is = is }))
 
-  looked_stays : (q : Ask) (s : TrackSight) → Looked (editing room.0.table) room.1 (ask_part_of room.0.table q) (λ t. seen_on t q) before after s
-      → Stays (editing room.0.table) room.1 before after
+  looked_stays : (q : Ask) (s : TrackSight) → Looked (editing room.object.table) room.parts (ask_part_of room.object.table q) (λ t. seen_on t q) before after s
+      → Stays (editing room.object.table) room.parts before after
   looked_stays q (sight.Seen n seen) e = e.at.stays
   looked_stays q (sight.Refused n why) e = e.at.stays
   looked_stays q sight.Memory e = e
 
   -- the reply to a question, or to one for whose reply there was no memory
   pub sight_replied : (q : Ask) (s : TrackSight) (reply : Reply)
-      → Looked (editing room.0.table) room.1 (ask_part_of room.0.table q) (λ t. seen_on t q) before after s → IsSightReply s reply
+      → Looked (editing room.object.table) room.parts (ask_part_of room.object.table q) (λ t. seen_on t q) before after s → IsSightReply s reply
       → Replies (session_at room (Some before) counting start line) (session_at room (Some after) counting start (line + 1)) (See q) reply
   sight_replied q s reply e (inl is) = (sight_text_of s, is, ask_replied q s (sight_text_of s) e refl)
   sight_replied q s reply e (inr is) =
       (codes "memory", is, replied room before after counting start line (See q) (codes "memory") seated (looked_stays q s e) (inr (refl, record { same = refl; reply_is = refl })))
 
-  pub sight_seated : (q : Ask) (s : TrackSight) → Looked (editing room.0.table) room.1 (ask_part_of room.0.table q) (λ t. seen_on t q) before after s → IsSeated room (line + 1) after
+  pub sight_seated : (q : Ask) (s : TrackSight) → Looked (editing room.object.table) room.parts (ask_part_of room.object.table q) (λ t. seen_on t q) before after s → IsSeated room (line + 1) after
   sight_seated q s e = seated_stays room before after line seated (looked_stays q s e)
 
-  cut_stays : (n : ℕ) (r : Result (Vec TrackState Global) CopyFault) → IsCut (editing room.0.table) room.1 n before after r → Stays (editing room.0.table) room.1 before after
+  cut_stays : (n : ℕ) (r : Result (Vec TrackState Global) CopyFault) → IsCut (editing room.object.table) room.parts n before after r → Stays (editing room.object.table) room.parts before after
   cut_stays n (Ok tracks) e = e.0
   cut_stays n (Err (fault.NoPoint count)) e = e.0.stays
   cut_stays n (Err fault.Memory) e = e.0
 
   -- a text for the document after n entries
-  wrote : (n : ℕ) (text : List ℕ) (reply : Reply) → IsReply reply text → Stays (editing room.0.table) room.1 before after
+  wrote : (n : ℕ) (text : List ℕ) (reply : Reply) → IsReply reply text → Stays (editing room.object.table) room.parts before after
       → (let s = session_at room (Some after) counting start line in Step (room_of s.setting) before.number s.course s.course text (Write n) (finds_memory (Write n)))
       → Replies (session_at room (Some before) counting start line) (session_at room (Some after) counting start (line + 1)) (Write n) reply
   wrote n text reply is stays step = (text, is, replied room before after counting start line (Write n) text seated stays step)
 
   -- the reply with a document, or that there was no memory for it
-  document_replied : (n : ℕ) (tracks : List TrackState) (reply : Reply) → Stays (editing room.0.table) room.1 before after → n ≤ length after.entries
-      → replay (whole (editing room.0.table)) room.1 (take n after.entries) ≡ Some tracks
+  document_replied : (n : ℕ) (tracks : List TrackState) (reply : Reply) → Stays (editing room.object.table) room.parts before after → n ≤ length after.entries
+      → replay (whole (editing room.object.table)) room.parts (take n after.entries) ≡ Some tracks
       → IsReplyIfMemory (document_reply n (document_of (setting_at room counting start) tracks)) reply
       → Replies (session_at room (Some before) counting start line) (session_at room (Some after) counting start (line + 1)) (Write n) reply
   document_replied n tracks reply stays within state (inl is) =
@@ -261,7 +261,7 @@ module _ (room : TrackRoom) (before after : TrackPass) (counting : Counted) (sta
   document_replied n tracks reply stays within state (inr is) = wrote n (codes "memory") reply is stays (inr (refl, record { same = refl; reply_is = refl }))
 
   -- the reply to a wish for a document
-  pub cut_replied : (n : ℕ) (r : Result (Vec TrackState Global) CopyFault) (reply : Reply) → IsCut (editing room.0.table) room.1 n before after r
+  pub cut_replied : (n : ℕ) (r : Result (Vec TrackState Global) CopyFault) (reply : Reply) → IsCut (editing room.object.table) room.parts n before after r
       → IsCutReply (setting_at room counting start) n r reply
       → Replies (session_at room (Some before) counting start line) (session_at room (Some after) counting start (line + 1)) (Write n) reply
   cut_replied n (Ok tracks) reply e is = document_replied n tracks.items reply e.0 e.1 e.2 is
@@ -270,7 +270,7 @@ module _ (room : TrackRoom) (before after : TrackPass) (counting : Counted) (sta
       (inl (inr (record { past = omega (arith, e.0.point_is, e.1); same = refl; reply_is = ap no_point_reply e.0.point_is })))
   cut_replied n (Err fault.Memory) reply e is = wrote n (codes "memory") reply is e.0 (inr (refl, record { same = refl; reply_is = refl }))
 
-  pub cut_seated : (n : ℕ) (r : Result (Vec TrackState Global) CopyFault) → IsCut (editing room.0.table) room.1 n before after r → IsSeated room (line + 1) after
+  pub cut_seated : (n : ℕ) (r : Result (Vec TrackState Global) CopyFault) → IsCut (editing room.object.table) room.parts n before after r → IsSeated room (line + 1) after
   cut_seated n r e = seated_stays room before after line seated (cut_stays n r e)
 
 -- the reply to what a line was read as is the reply to the line

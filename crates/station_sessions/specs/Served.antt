@@ -67,7 +67,7 @@ pub record ServesTo (old new : StationState) (lines : List InputLine) (Taken : L
 pub record IsRoomOf (o : Opening) (room : TrackRoom) (counting : Counted) (start : ℕ) : Type 0 where
   pub opens : IsOpening o.table o.tracks
   pub setting : setting_at room counting start ≡ setting_of o
-  pub tracks : room.1 ≡ o.tracks
+  pub tracks : room.parts ≡ o.tracks
 
 -- what a station knows tells its replies to these lines, and its own entries can be written
 abbrev pub Knows : Opening → Origin → ℕ → History → List InputLine → (List (List ℕ) → Type 0) → Type 0

@@ -5,6 +5,7 @@ use Rattle.composables.specs.TrackState.{TrackState}
 use Rattle.edit_apply.specs.declared.asks.Call.{Call}
 use Rattle.edit_apply.specs.declared.editor.Editor.{Editor}
 use Rattle.edit_apply.specs.Apply.{editing}
+use Rattle.cut_room.specs.Opened.{Opened}
 use Rattle.edit_journal.specs.Seats.{Opening as RoomOpening}
 use Rattle.edit_journal.specs.Turns.{Known, last_of}
 use Rattle.room_core.specs.History.{IsLegal, replay}
@@ -14,9 +15,12 @@ use Rattle.station_sessions.specs.Rooms.{AreWritten, History, Setting}
 use Rattle.station_sessions.specs.Transcript.{Origin}
 use Rattle.station_sessions.specs.Session.{Course, StationState}
 
--- a room of tracks, by its opening, and what a station's pass knows
+-- the opening of a journal of tracks, a room of tracks, and what a station's pass knows
+abbrev pub TrackOpening : Type 0
+TrackOpening = RoomOpening Editor TrackState
+
 abbrev pub TrackRoom : Type 0
-TrackRoom = RoomOpening Editor TrackState
+TrackRoom = Opened Editor TrackState
 
 abbrev pub TrackPass : Type 0
 TrackPass = Known Editor TrackState Call
@@ -33,16 +37,20 @@ abbrev pub or_opening : List TrackState → Option (List TrackState) → List Tr
 or_opening opening None = opening
 or_opening opening (Some tracks) = tracks
 
+-- a room that opened so, with so many stations
+abbrev pub opened_with : TrackOpening → ℕ → TrackRoom
+opened_with opening stations = record { object = opening.0; parts = opening.1; stations = stations }
+
 -- the tracks that these entries come to
 abbrev pub tracks_at : TrackRoom → History → List TrackState
-tracks_at room h = or_opening room.1 (replay (whole (editing room.0.table)) room.1 h)
+tracks_at room h = or_opening room.parts (replay (whole (editing room.object.table)) room.parts h)
 
 -- how far a station has come that knows these entries
 abbrev pub course_at : TrackRoom → History → ℕ → Course (List TrackState) Call
-course_at room h line = record { opening = room.1; state = tracks_at room h; journal = h; line = line }
+course_at room h line = record { opening = room.parts; state = tracks_at room h; journal = h; line = line }
 
 abbrev pub setting_at : TrackRoom → Counted → ℕ → Setting
-setting_at room counting start = record { table = room.0.table; counting = counting; start = start }
+setting_at room counting start = record { table = room.object.table; counting = counting; start = start }
 
 -- a session in a room, with the number of its next line
 abbrev pub session_at : TrackRoom → Option TrackPass → Counted → ℕ → ℕ → StationState
@@ -54,7 +62,7 @@ session_at room pass counting start line = record {
 
 -- a legal history of the room's opening
 abbrev pub IsLegalThere : TrackRoom → History → Type 0
-IsLegalThere room h = IsLegal (whole (editing room.0.table)) room.1 h
+IsLegalThere room h = IsLegal (whole (editing room.object.table)) room.parts h
 
 -- A pass with which a session can begin there: it knows the entries that were kept, its station has none behind them, the
 -- base is the last number of the station, and the station's entries can be written.

@@ -208,7 +208,7 @@ fn edit_counted<R: Wait, G: Gate, J: Naming<CutObject, CutPart>, L: Ledger>(
 ) -> (Pass<CutObject, J>, Answer<CutObject>)
     requires ledger { (ledger.name ≡ L.name) × (ledger.parts ≡ L.parts) × (0 < ledger.parts) }
     requires number { last_of pass.number pass.entries < number }
-    ensures { Edited (editing room.now.0.table) room.now.1
+    ensures { Edited (editing room.now.object.table) room.now.parts
         (record { station = pass.number; number = number; call = call }) pass result.0 result.1 }
 {
     let mut steps = Steps::<L>::new(ledger);
@@ -226,7 +226,7 @@ fn edit_uncounted<R: Wait, G: Gate, J: Naming<CutObject, CutPart>>(
     call: Call,
 ) -> (Pass<CutObject, J>, Answer<CutObject>)
     requires { last_of pass.number pass.entries < number }
-    ensures { Edited (editing room.now.0.table) room.now.1
+    ensures { Edited (editing room.now.object.table) room.now.parts
         (record { station = pass.number; number = number; call = call }) pass result.0 result.1 }
 {
     edit_counted::<R, G, J, Brand>(Blank::new(1), rt, alloc, room, gate, pass, number, call)

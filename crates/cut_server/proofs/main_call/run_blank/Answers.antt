@@ -6,6 +6,6 @@ use Rattle.cut_server.proofs.Telling.{run_begun}
 use Rattle.cut_server.proofs.main_call.run_blank.Goals as goal
 
 pub returns : goal.returns
-returns g c = λ o room told is.
-    let same = one_room g.J.Naming.opening c.args.blank.opening room c.in-Ok.opened.0 c.requires.opening told c.in-Ok.ensures.room in
+returns g c = λ o opening told is.
+    let same = one_room g.J.Naming.opening c.args.blank.journal.opening opening c.in-Ok.opened.0 c.args.blank.stations c.requires.opening told c.in-Ok.ensures.room c.in-Ok.ensures.stations in
     run_begun o _ _ c.run_over.result (c.run_over.ensures o (subst (λ (r : TrackRoom). IsRoomOf o r c.args.setting.counting c.args.setting.start) same is))

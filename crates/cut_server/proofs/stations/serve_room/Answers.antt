@@ -9,10 +9,10 @@ use Rattle.cut_server.proofs.stations.serve_room.Goals as goal
 
 pub seat_all-requires-clause-passes : goal.seat_all-requires-clause-passes
 seat_all-requires-clause-passes g c κs within =
-    subst (λ (n : ℕ). AreFresh g.J.Naming.opening n c.args.passes.items) (fresh_count c.args.passes.items 0 g.J.Naming.stations c.requires.passes.0) c.requires.passes
+    subst (λ (n : ℕ). AreFresh g.J.Naming.opening n c.args.passes.items) (fresh_count c.args.passes.items 0 c.args.room.stations c.requires.passes.0) c.requires.passes
 
 pub serve_seated-status-requires-clause-count : goal.serve_seated-status-requires-clause-count
-serve_seated-status-requires-clause-count g c κs within = c.in-Ok-seat_all.ensures.all ∙ sym (fresh_count c.args.passes.items 0 g.J.Naming.stations c.requires.passes.0)
+serve_seated-status-requires-clause-count g c κs within = c.in-Ok-seat_all.ensures.all ∙ sym (fresh_count c.args.passes.items 0 c.args.room.stations c.requires.passes.0)
 
 pub stand_all_up-requires-clause-numbers : goal.stand_all_up-requires-clause-numbers
 stand_all_up-requires-clause-numbers g c κs within = seated_number _ c.seat_all.new.seated.items c.seat_all.ensures.seated
@@ -24,9 +24,9 @@ returns-in-Ok-seat_all g c = λ o is.
     let between = g.H.Hall.told c.seat_all.new.hall in
     let was = g.F.Files.told c.args.files.now in
     let now = g.F.Files.told c.keep_journal.new.files in
-    let count : length c.seat_all.new.seated.items ≡ g.J.Naming.stations =
-    c.in-Ok-seat_all.ensures.all ∙ sym (fresh_count c.args.passes.items 0 g.J.Naming.stations c.requires.passes.0) in
-    let apart : (s : ℕ) → g.J.Naming.stations ≤ s → line_at between s ≡ line_at first s = λ s high.
+    let count : length c.seat_all.new.seated.items ≡ c.args.room.stations =
+    c.in-Ok-seat_all.ensures.all ∙ sym (fresh_count c.args.passes.items 0 c.args.room.stations c.requires.passes.0) in
+    let apart : (s : ℕ) → c.args.room.stations ≤ s → line_at between s ≡ line_at first s = λ s high.
     ap (λ (x : Station). line_of x.line) (c.seat_all.ensures.free s (omega (arith, count, high)) ∙ c.open.ensures.same s) in
     inl (record {
       journal = c.serve_seated-status.result.1.items;
@@ -45,7 +45,7 @@ returns-in-Err-seat_all g c = λ o is.
     let opened = g.H.Hall.told c.open.new.self in
     let between = g.H.Hall.told c.seat_all.new.hall in
     let last = g.H.Hall.told c.stand_all_up.new.hall in
-    ends_unserved o g.J.Naming.stations c.args.place.now.address.now _ _ first last c.seat_all.result c.in-Err-seat_all.fault c.unseated.result opened.faults between.faults
+    ends_unserved o c.args.room.stations c.args.place.now.address.now _ _ first last c.seat_all.result c.in-Err-seat_all.fault c.unseated.result opened.faults between.faults
     c.in-Err-seat_all.is c.seat_all.ensures.counts c.in-Ok-open.ensures.quiet c.stand_all_up.ensures.quiet
     (subst (λ (x : Option (List (List ℕ))). OpensAt first.opened x c.args.place.now.address.now) (sym (c.stand_all_up.ensures.opened ∙ c.seat_all.ensures.opened)) c.in-Ok-open.ensures.opened)
     (unheard first opened between last c.seat_all.new.seated.items c.open.ensures.same c.seat_all.ensures.seated c.seat_all.ensures.free c.stand_all_up.ensures.lines c.stand_all_up.ensures.free)

@@ -22,11 +22,11 @@ stand_all_up-status-requires-clause-held g c κs within = λ k low.
 pub close-entries-requires : goal.close-entries-requires
 close-entries-requires g c =
     let after = g.H.Hall.told c.stand_all_up-status.new.hall in
-    let kept = all_kept c.args.room c.args.setting.counting c.args.setting.start g.J.Naming.stations c.requires.seated.0 after c.args.seated.items c.deref_mut.result.now c.serve_all.new.stations c.args.seated.len
+    let kept = all_kept c.args.room c.args.setting.counting c.args.setting.start c.args.room.stations c.requires.seated.0 after c.args.seated.items c.deref_mut.result.now c.serve_all.new.stations c.args.seated.len
     c.stand_all_up-status.new.passes.items c.deref_mut.ensures.value c.requires.count c.args.seated.ok.0 c.serve_all.ensures.all c.requires.seated.1 c.serve_all.ensures.served c.stand_all_up-status.ensures.lines
     c.stand_all_up-status.ensures.passes in
     record {
-      all = all_in c.args.room c.args.setting.counting c.args.setting.start g.J.Naming.stations c.requires.seated.0 after c.deref_mut.result.now c.serve_all.new.stations c.stand_all_up-status.new.passes.items kept;
+      all = all_in c.args.room c.args.setting.counting c.args.setting.start c.args.room.stations c.requires.seated.0 after c.deref_mut.result.now c.serve_all.new.stations c.stand_all_up-status.new.passes.items kept;
     }
 
 pub returns-clause-ends : goal.returns-clause-ends
@@ -34,7 +34,7 @@ returns-clause-ends g c = λ o before is seated quiet others.
     let room = c.args.room in
     let counting = c.args.setting.counting in
     let start = c.args.setting.start in
-    let stations = g.J.Naming.stations in
+    let stations = c.args.room.stations in
     let after = g.H.Hall.told c.stand_all_up-status.new.hall in
     let old = c.deref_mut.result.now in
     let new = c.serve_all.new.stations in

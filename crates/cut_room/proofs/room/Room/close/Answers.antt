@@ -1,4 +1,4 @@
-use Rattle.std.proofs.Common.{get_or}
+use Rattle.std.proofs.Common.{get_or, arith}
 use Rattle.cut_room.proofs.Passes.{legal_of}
 use Rattle.cut_room.proofs.room.Room.close.Goals as goal
 
@@ -15,4 +15,6 @@ returns-clause-passes g c =
     rw (← c.self.view_is) (λ k d lt. c.close.ensures.passes k d lt (s.object, s.opening.items) c.self.invariant.0)
 
 pub returns-clause-stations : goal.returns-clause-stations
-returns-clause-stations g c = λ k d lt. c.requires.all (get_or c.close.result.items k d).station (c.close.ensures.journal.4 k d lt)
+returns-clause-stations g c = λ k d lt.
+    let all = rw (← c.self.view_is) at c.requires.all in
+    all (get_or c.close.result.items k d).station (omega (arith, c.close.ensures.journal.4 k d lt, c.self.invariant.3))

@@ -12,16 +12,16 @@ replayed-parts-requires-clause-within g c =
 pub replayed-parts-requires-clause-applies : goal.replayed-parts-requires-clause-applies
 replayed-parts-requires-clause-applies g c =
     let copied = rw c.in-Ok.is at c.copied-pass.ensures.copied in
-    front_is_some (g.O.PartObject.meaning c.args.self.now.0) c.args.self.now.1 c.copied-pass.result.0.entries c.deref.result.now c.args.n
+    front_is_some (g.O.PartObject.meaning c.args.self.now.object) c.args.self.now.parts c.copied-pass.result.0.entries c.deref.result.now c.args.n
     c.copied-pass.ensures.at.legal.applies (c.deref.ensures.value ∙ copied.0)
 
 pub returns-in-Ok-clause-cut : goal.returns-in-Ok-clause-cut
 returns-in-Ok-clause-cut g c =
     let copied = rw c.in-Ok.is at c.copied-pass.ensures.copied in
-    cut_of (g.O.PartObject.meaning c.args.self.now.0) c.args.self.now.1 c.args.pass c.copied-pass.result.0 c.args.n c.deref.result.now c.replayed-parts.result
+    cut_of (g.O.PartObject.meaning c.args.self.now.object) c.args.self.now.parts c.args.pass c.copied-pass.result.0 c.args.n c.deref.result.now c.replayed-parts.result
     c.copied-pass.ensures.at (c.deref.ensures.value ∙ copied.0) copied.1 c.replayed-parts.ensures.parts c.replayed-parts.ensures.fault
 
 pub returns-in-Err-clause-cut : goal.returns-in-Err-clause-cut
 returns-in-Err-clause-cut g c =
-    cut_fault (g.O.PartObject.meaning c.args.self.now.0) c.args.self.now.1 c.args.pass c.copied-pass.result.0 c.args.n c.in-Err.fault
+    cut_fault (g.O.PartObject.meaning c.args.self.now.object) c.args.self.now.parts c.args.pass c.copied-pass.result.0 c.args.n c.in-Err.fault
     c.copied-pass.ensures.at (rw c.in-Err.is at c.copied-pass.ensures.copied)

@@ -2,6 +2,15 @@ use Rattle.std.proofs.Common.{Ok, Err, sym, ◌∙◌}
 use Rattle.cut_room.proofs.Passes.{sight_of, sight_of_none}
 use Rattle.cut_room.proofs.room.Room.see.Goals as goal
 
+pub see_copy-requires : goal.see_copy-requires
+see_copy-requires g c =
+    let s = c.self.inside in
+    rw (← c.self.view_is) (
+      c.in-Ok.part,
+      sym c.ask_part.ensures.asked ∙ c.in-Ok.is,
+      rw (c.deref.ensures.value, c.in-Ok-copies.ensures, ← c.in-Ok-hold_one.ensures.numbers) (c.in-Ok-hold_one.ensures.good (s.object, s.opening.items) c.self.invariant.0),
+    )
+
 pub returns-in-Err : goal.returns-in-Err
 returns-in-Err g c =
     let o = c.self.inside.object in

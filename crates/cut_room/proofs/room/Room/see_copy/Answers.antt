@@ -6,7 +6,7 @@ use Rattle.cut_room.proofs.room.Room.see_copy.Goals as goal
 pub bounds-copies-0 : goal.bounds-copies-0
 bounds-copies-0 g c =
     let h = c.requires in
-    let one = one_good (g.O.PartObject.good c.args.self.now.0) h.0 c.args.copies.now h.2 in
+    let one = one_good (g.O.PartObject.good c.args.self.now.object) h.0 c.args.copies.now h.2 in
     rw one.1 (omega arith)
 
 pub see-requires : goal.see-requires
