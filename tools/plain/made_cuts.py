@@ -91,7 +91,7 @@ class Maker:
     def many_row(self):
         """About as many short clips as a list has events; now and then one goes on from the one before."""
         row = []
-        for at in range(self.r.randint(985, 1004)):
+        for at in range(self.r.randint(992, 1012)):
             row.append(self.clip(1, row[-1] if row else None))
             row[-1]["source_range"]["start_time"]["value"] += 0 if self.r.random() < 0.02 else 2 * at
         return row
@@ -137,8 +137,8 @@ def journal(r, plain, most):
 def spoiled(r, text):
     """A journal with a line gone, twice, elsewhere or changed, or cut off."""
     lines = text.split(b"\n")
-    at, how = r.randrange(len(lines)), r.randrange(6)
-    if how == 0:
+    at, how = r.randrange(len(lines)), r.randrange(8)
+    if how in (0, 6, 7):
         del lines[at]
         if lines and r.random() < 0.7:
             lines[0] = b"journal %d" % (len(lines) - 2)
