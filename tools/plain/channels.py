@@ -1,8 +1,8 @@
 """What a cut shows on the channels of a decision list, frame by frame, and the segments of a channel, as docs/LISTS.md
 says, over the room of plain lists.
 
-A frame is as the room has it, ("pic", side) or ("mix", left, right, num, den), with the number of a reel where the room has
-what it shows: a side is none for dark, or (reel, source frame)."""
+A frame is as the room has it, ("pic", side) or ("mix", left, right, num, den), with the number of a reel where the
+room has what it shows: a side is none for dark, or (reel, source frame)."""
 
 from dataclasses import dataclass
 
@@ -46,7 +46,8 @@ class Shown:
 
     def nest(self, number):
         if number not in self.nests:
-            self.nests[number] = stacked([self.frames(cells)[low:high] for cells, low, high in self.plain.layers[number]])
+            layers = self.plain.layers[number]
+            self.nests[number] = stacked([self.frames(cells)[low:high] for cells, low, high in layers])
         return self.nests[number]
 
     def channels(self):

@@ -3,7 +3,7 @@
 usage: python3 tools/plain/edl.py list DOC RATE DROP JOURNAL POINT [numbered]
        python3 tools/plain/edl.py tape LIST RATE
 
-With words it is a plain program for these two commands: what it puts on output and its status are those of `cutroom`."""
+With words it is a plain program for these two commands: it puts on output what `cutroom` does, and has its status."""
 
 import pathlib
 import re
@@ -23,12 +23,16 @@ MOST_DISSOLVE = 999
 MOST_NUMBERED = 999
 
 
-# -------------------------------------------------------------------------------------------------------------- counting
+# ------------------------------------------------------------------------------------------------------------ counting
 
 
 def counting(fps, drop):
     """The labels of a day: a room that begins at 0 has them."""
     return room.Room([], [], fps=fps, drop=drop)
+
+
+def counted_text(drop):
+    return "DROP FRAME" if drop else "NON-DROP FRAME"
 
 
 def day(count):
@@ -47,7 +51,7 @@ def label(count, frame):
         number += 1 if at is None else frame - at
 
 
-# --------------------------------------------------------------------------------------------------------------- written
+# ------------------------------------------------------------------------------------------------------------- written
 
 
 class Namer:
@@ -95,7 +99,8 @@ def write(plain, tracks, namer):
         for event in row:
             if event.frames > MOST_DISSOLVE:
                 raise Refused(f"L3 {event.at}")
-    events = sorted((event.at, order, channel, event) for order, (channel, row) in enumerate(rows.items()) for event in row)
+    order = list(rows)
+    events = sorted((event.at, order.index(channel), channel, event) for channel, row in rows.items() for event in row)
     if len(events) > MOST_EVENTS:
         raise Refused(f"L5 {len(events)}")
     lines = list(lines_of(events, plain.start))
@@ -104,7 +109,7 @@ def write(plain, tracks, namer):
         for time in times:
             if time >= day(count):
                 raise Refused(f"L6 {time}")
-    text = ["TITLE: CUT", f"FCM: {'DROP' if plain.drop else 'NON-DROP'} FRAME"]
+    text = ["TITLE: CUT", f"FCM: {counted_text(plain.drop)}"]
     for number, channel, side, frames, times in lines:
         reel = namer.name(side[0], plain.reels[side[0]]) if side else "BL"
         kind = f"D    {frames:03} " if frames else "C        "
@@ -112,7 +117,7 @@ def write(plain, tracks, namer):
     return "".join(line + "\n" for line in text)
 
 
-# ------------------------------------------------------------------------------------------------------------------ read
+# ---------------------------------------------------------------------------------------------------------------- read
 
 
 CHANNELS = {
@@ -145,7 +150,10 @@ class Event:
     left: Optional[tuple] = None
 
     def meets(self, other):
-        return bool(set(self.channels) & set(other.channels)) and self.place < other.place + other.count and other.place < self.place + self.count
+        """Whether the two have a record frame of one channel."""
+        if set(self.channels).isdisjoint(other.channels):
+            return False
+        return self.place < other.place + other.count and other.place < self.place + self.count
 
 
 def lines_in(data):
@@ -237,7 +245,7 @@ class Reader:
 
     def timed(self, words, frames, is_dissolve, source, source_out, place, place_out):
         count = place_out - place
-        if source_out < source or count < 0 or source_out - source != count or is_dissolve and not 1 <= frames <= count:
+        if count < 0 or source_out - source != count or is_dissolve and not 1 <= frames <= count:
             self.fault("P4")
         reel = words[1].decode()
         side = None if reel == "BL" else (reel, source)
@@ -248,7 +256,7 @@ def read(data, rate_name):
     return Reader(rate_name).read(data)
 
 
-# ---------------------------------------------------------------------------------------------------------------- played
+# -------------------------------------------------------------------------------------------------------------- played
 
 
 def play(events):
@@ -290,7 +298,7 @@ def tape_text(tape):
     return "".join(lines)
 
 
-# -------------------------------------------------------------------------------------------------------- the two commands
+# ---------------------------------------------------------------------------------------------------- the two commands
 
 
 def rate_in(word):
@@ -334,7 +342,8 @@ def answer(words):
         rate, point = rate_in(rate), number_in(point)
         if rate and point is not None and (drop == "ndf" or drop == "drop" and rate == "29.97"):
             journal, namer = pathlib.Path(journal), Numbered() if words[6:] else AsIs()
-            return list_answer(pathlib.Path(document).read_bytes(), rate, drop == "drop", journal.read_bytes, point, namer)
+            document = pathlib.Path(document).read_bytes()
+            return list_answer(document, rate, drop == "drop", journal.read_bytes, point, namer)
     return "refused words\n", 3
 
 

@@ -1,5 +1,5 @@
-"""Documents and journals made at random for decision lists: cuts of stacked pictures, sounds, dissolves and nests, with lines
-of edits, a few of them with what no list can say."""
+"""Documents and journals made at random for decision lists: cuts of stacked pictures, sounds, dissolves and nests,
+with lines of edits, a few of them with what no list can say."""
 
 import json
 from dataclasses import dataclass
@@ -12,7 +12,15 @@ compare = beside.tool("compare")
 ENOUGH = 3_000
 NAMES = "A B TAPE1 TAPE_2 X99 12345678".split()
 UNFIT = ["", "BL", "a", "shot a", "TAPE-1", "123456789", "é", "A\n"]
-EDITS = "overwrite insert remove extract slice fill trim slip ripple roll slide dissolve undissolve link unlink".split()
+EDITS = "overwrite insert remove extract slice fill trim slip ripple roll slide".split()
+EDITS += "dissolve undissolve link unlink".split()
+
+
+def length(part):
+    """How many frames an item, a gap or a layer has; a dissolve has none."""
+    if "source_range" in part:
+        return part["source_range"]["duration"]["value"]
+    return sum(map(length, part.get("children", [])))
 
 
 class Maker:
@@ -45,35 +53,36 @@ class Maker:
         layers = []
         for _ in range(self.r.randint(1, 3)):
             row = self.row(depth - 1, 4)
-            frames = sum(child["source_range"]["duration"]["value"] for child in row if "source_range" in child)
             layer = {"OTIO_SCHEMA": "Track.1", "children": row}
+            frames = length(layer)
             if frames > 2 and self.r.random() < 0.5:
                 low = self.r.randint(0, frames - 1)
                 layer["source_range"] = self.span(low, self.r.randint(1, frames - low))
             layers.append(layer)
-        longest = max(self.frames(layer) for layer in layers)
+        longest = max(map(length, layers))
         count = min(count, longest)
-        return {"OTIO_SCHEMA": "Stack.1", "source_range": self.span(self.r.randint(0, longest - count), count), "children": layers}
-
-    def frames(self, layer):
-        if "source_range" in layer:
-            return layer["source_range"]["duration"]["value"]
-        return sum(child["source_range"]["duration"]["value"] for child in layer["children"] if "source_range" in child)
+        span = self.span(self.r.randint(0, longest - count), count)
+        return {"OTIO_SCHEMA": "Stack.1", "source_range": span, "children": layers}
 
     def row(self, depth, most, dark=0.25):
         """Items, gaps, and dissolves with room between them."""
         row, used, before = [], 0, None
         for _ in range(self.r.randint(0, most)):
             count = self.r.choice([1, 2, self.r.randint(1, 9), self.r.randint(4, 16)])
-            is_dark = self.r.random() < dark and (not before or before["OTIO_SCHEMA"] != "Gap.1")
-            part = self.gap(count) if is_dark else self.nest(count, depth) if depth and self.r.random() < 0.2 else self.clip(count, before)
-            count, after = part["source_range"]["duration"]["value"], 0
+            part = self.part(count, depth, before, dark)
+            count, after = length(part), 0
             if before and self.r.random() < 0.35 and "Stack.1" not in (before["OTIO_SCHEMA"], part["OTIO_SCHEMA"]):
-                a, after = self.r.randint(0, min(4, before["source_range"]["duration"]["value"] - used)), self.r.randint(0, min(4, count))
+                a, after = self.r.randint(0, min(4, length(before) - used)), self.r.randint(0, min(4, count))
                 row.append(self.dissolve(a, after))
             row.append(part)
             before, used = part, after
         return row
+
+    def part(self, count, depth, before, dark):
+        """A gap, where there is none before it, a nest or a clip."""
+        if self.r.random() < dark and (not before or before["OTIO_SCHEMA"] != "Gap.1"):
+            return self.gap(count)
+        return self.nest(count, depth) if depth and self.r.random() < 0.2 else self.clip(count, before)
 
     def dissolve(self, a, b):
         offsets = {"in_offset": self.time(a), "out_offset": self.time(b)}
@@ -103,7 +112,8 @@ class Maker:
         rows += [("Audio", self.row(0, 6)) for _ in range(self.r.choice([0, 0, 1, 1, 2, 2, 2, 3]))]
         tracks = [{"OTIO_SCHEMA": "Track.1", "kind": kind, "children": row} for kind, row in rows or [("Video", [])]]
         stack = {"OTIO_SCHEMA": "Stack.1", "children": tracks}
-        return json.dumps({"OTIO_SCHEMA": "Timeline.1", "global_start_time": self.time(start), "tracks": stack}).encode()
+        timeline = {"OTIO_SCHEMA": "Timeline.1", "global_start_time": self.time(start), "tracks": stack}
+        return json.dumps(timeline).encode()
 
 
 @dataclass
@@ -136,7 +146,7 @@ def journal(r, plain, most):
 
 def spoiled(r, text):
     """A journal with a line gone, twice, elsewhere or changed, or cut off."""
-    lines = text.split(b"\n")
+    lines, bad = text.split(b"\n"), [b"", b"0", b"00", b"16", b"1 ", b"x", b"point", b"4294967296", b"-0"]
     at, how = r.randrange(len(lines)), r.randrange(8)
     if how in (0, 6, 7):
         del lines[at]
@@ -148,7 +158,7 @@ def spoiled(r, text):
         lines.insert(r.randrange(len(lines)), lines.pop(at))
     elif how == 3:
         words = lines[at].split(b" ")
-        words[r.randrange(len(words))] = r.choice([b"", b"0", b"00", b"16", b"1 ", b"x", b"point", b"4294967296", b"-0"])
+        words[r.randrange(len(words))] = r.choice(bad)
         lines[at] = b" ".join(words)
     text = b"\n".join(lines)
     at = r.randrange(len(text) + 1)
@@ -164,7 +174,9 @@ def made(r):
     rate = r.choice(list(documents.RATES))
     drop, fps = rate == "29.97" and r.random() < 0.7, documents.RATES[rate][1]
     day = edl.day(edl.counting(fps, drop))
-    start = r.choice([0, 3600 * fps, 59 * fps + r.randint(0, 2 * fps), day - r.randint(1, 60) if r.random() < 0.3 else 1])
+    start = r.choice([0, 1, 3600 * fps, 59 * fps + r.randint(0, 2 * fps)])
+    if r.random() < 0.08:
+        start = day - r.randint(1, 60)
     late = day - r.randint(0, 300) if r.random() < 0.05 else 0
     special = r.choice([Maker.long_row, Maker.many_row]) if r.random() < 0.06 else None
     document = Maker(r, rate, late).document(start, special)
@@ -173,4 +185,5 @@ def made(r):
     count = len(plain.journal)
     if r.random() < 0.1:
         text = spoiled(r, text)
-    return Cut(document, rate, drop, text, r.choice([count] * 3 + [r.randint(0, count), 0, count + 1 if r.random() < 0.1 else count]))
+    point = r.choice([count, count, count, r.randint(0, count), 0])
+    return Cut(document, rate, drop, text, count + 1 if r.random() < 0.02 else point)

@@ -10,11 +10,13 @@ BAD_REELS = ["x" * 33, "\u00e9", "A\x7f", "A\x00", "A\x0bB"]
 BAD_CHANNELS = ["X", "A3", "NONE", "VA1", "v", "A/V", "V,"]
 BAD_KINDS = ["W001", "K", "KB", "W", "c", "D", "C", "X", "M2", "CC"]
 BAD_LENGTHS = ["000", "1", "1000", "0x", "003", "-1", ""]
-BAD_NUMBERS = ["M2", "AUD", "1000", "999999", "1000000", "0000999", "000999", "SPLIT:", ">>>", "x1", "-1", "FCM", "title:", "M2x"]
-BAD_TIMES = ["24:00:00:00", "00:60:00:00", "00:00:60:00", "00:00:00:24", "00:00:00:30", "00:01:00;00", "00:01:00:01", "0:00:00:00"]
-BAD_TIMES += ["00:00:00.00", "00;00:00:00", "00:00:00:0", "00:00:00:000", "0000:00:00", "00:10:00:00", "+0:00:00:00", ""]
-NOTES = ["", "  ", "\t", "*", "* FROM CLIP NAME: SHOT", "*M2 TAPE1", "TITLE: A B", "TITLE:", "* " + "x" * 2000, "TITLE: " + "y" * 1030]
-COUNTED = ["FCM:", "FCM: DROP", "FCM: DROP FRAME", "FCM: DROP FRAME X", "FCM: drop frame", "FCM:DROP FRAME", "FCM: NON-DROP FRAME", "FCM: NON DROP FRAME"]
+BAD_NUMBERS = "M2 AUD 1000 999999 1000000 0000999 000999 SPLIT: >>> x1 -1 FCM title: M2x".split()
+BAD_TIMES = ["24:00:00:00", "00:60:00:00", "00:00:60:00", "00:00:00:24", "00:00:00:30", "00:01:00;00", "00:01:00:01"]
+BAD_TIMES += ["00:00:00.00", "00;00:00:00", "00:00:00:0", "00:00:00:000", "0000:00:00", "00:10:00:00", "+0:00:00:00"]
+NOTES = ["", "  ", "\t", "*", "* FROM CLIP NAME: SHOT", "*M2 TAPE1", "TITLE: A B", "TITLE:"]
+NOTES += ["* " + "x" * 2_000, "TITLE: " + "y" * 1_030]
+COUNTED = ["FCM:", "FCM: DROP", "FCM: DROP FRAME", "FCM: DROP FRAME X", "FCM: drop frame", "FCM:DROP FRAME"]
+COUNTED += ["FCM: NON-DROP FRAME", "FCM: NON DROP FRAME"]
 
 
 @dataclass
@@ -39,7 +41,8 @@ class Maker:
     def base(self):
         """A frame of the day: its first, near the end of a minute, where numbers may be left out, or any."""
         minute = 60 * self.fps
-        return self.r.choice([0, 60 * minute, self.r.randint(1, 12) * minute - self.r.randint(0, 25), self.r.randint(0, 1400 * minute)])
+        near = self.r.randint(1, 12) * minute - self.r.randint(0, 25)
+        return self.r.choice([0, 60 * minute, near, self.r.randint(0, 1_400 * minute)])
 
     def events(self):
         ends, found, base = dict.fromkeys(("V", "A", "A2"), 0), [], self.base()
@@ -50,7 +53,7 @@ class Maker:
             place = max(ends[key] for key in on) + self.r.choice([0, 0, 0, 1, self.r.randint(0, 30)])
             if self.r.random() < 0.03:
                 place = max(0, place - self.r.randint(1, 5))
-            before = next((event for event in reversed(found) if set(on) & set(edl.CHANNELS[event.channel.encode()])), None)
+            before = [event for event in found if set(on) & set(edl.CHANNELS[event.channel.encode()])][-1:]
             frames = self.r.choice([count, 1, self.r.randint(1, count)]) if self.r.random() < 0.35 else 0
             found.append(Event(number, channel, base + place, count, self.side(before), self.side(before), frames))
             ends.update(dict.fromkeys(on, place + count))
@@ -59,9 +62,9 @@ class Maker:
         return found
 
     def side(self, before):
-        """A reel and its source frame; it may go on from the event before on the channel."""
+        """A reel and its source frame; it may go on from the event before on the channel, if there is one."""
         if before and self.r.random() < 0.4:
-            return before.right[0], before.right[1] + before.count
+            return before[0].right[0], before[0].right[1] + before[0].count
         return self.r.choice(REELS), self.r.choice([self.r.randint(0, 60), self.base()])
 
     def time(self, frame):
@@ -72,7 +75,8 @@ class Maker:
         """The words as a line, mostly in columns."""
         how = self.r.randrange(4)
         if how == 0:
-            return "".join(self.r.choice([" ", "  ", "\t", " \t"]) + word for word in words) + self.r.choice(["", " ", "\t"])
+            spaced = [self.r.choice([" ", "  ", "\t", " \t"]) + word for word in words]
+            return "".join(spaced) + self.r.choice(["", " ", "\t"])
         if how == 1:
             return " ".join(words)
         return f"{words[0]}  {words[1]:8} {words[2]:5} {words[3]:4} {' '.join(words[4:])}"
@@ -98,7 +102,7 @@ class Maker:
         for event in self.events():
             if self.r.random() < 0.25:
                 self.drop = self.is_drop_rate and self.r.random() < 0.6
-                found.append(self.r.choice(["FCM: ", "FCM:\t", " FCM:  "]) + ("DROP FRAME" if self.drop else "NON-DROP FRAME"))
+                found.append(self.r.choice(["FCM: ", "FCM:\t", " FCM:  "]) + edl.counted_text(self.drop))
             found += self.lines_of(event)
             if self.r.random() < 0.3:
                 found.append(self.r.choice(NOTES))
@@ -135,6 +139,8 @@ def padded(r, line):
 
 def spoil(r, lines):
     at, how = r.randrange(len(lines)), r.randrange(9)
+    if how in (3, 4, 5):
+        at = r.choice([k for k, line in enumerate(lines) if line[:3].strip().isdigit()] or [at])
     if how == 0:
         del lines[at]
     elif how == 1:
@@ -154,8 +160,8 @@ def spoil(r, lines):
 
 def text_of(r, lines):
     """The lines with their ends; a byte may be changed, or what is behind it cut off."""
-    end = r.choice([b"\n", b"\n", b"\r\n"])
-    text = b"".join(line.encode() + (end if r.random() < 0.98 else r.choice([b"\n", b"\r\n", b"\r\r\n", b"\r"])) for line in lines)
+    end, others = r.choice([b"\n", b"\n", b"\r\n"]), [b"\n", b"\r\n", b"\r\r\n", b"\r"]
+    text = b"".join(line.encode() + (end if r.random() < 0.98 else r.choice(others)) for line in lines)
     if r.random() < 0.2:
         text = text[: len(text) - len(end)]
     how, at = r.randrange(12), r.randrange(len(text) + 1)
