@@ -145,26 +145,30 @@ def journal(r, plain, most):
 
 
 def spoiled(r, text):
-    """A journal with a line gone, twice, elsewhere or changed, or cut off."""
+    """A journal with a line gone, twice, elsewhere or changed, mostly with its count put right, or cut off."""
     lines, bad = text.split(b"\n"), [b"", b"0", b"00", b"16", b"1 ", b"x", b"point", b"4294967296", b"-0"]
-    at, how = r.randrange(len(lines)), r.randrange(8)
-    if how in (0, 6, 7):
+    at, how = r.randrange(min(1, len(lines) - 2), max(1, len(lines) - 1)), r.randrange(8)
+    words = lines[at].split(b" ")
+    if how == 0:
         del lines[at]
-        if lines and r.random() < 0.7:
-            lines[0] = b"journal %d" % (len(lines) - 2)
     elif how == 1:
         lines.insert(at, lines[at])
     elif how == 2:
         lines.insert(r.randrange(len(lines)), lines.pop(at))
     elif how == 3:
-        words = lines[at].split(b" ")
         words[r.randrange(len(words))] = r.choice(bad)
         lines[at] = b" ".join(words)
+    elif how == 4:
+        lines[at] = b" ".join([*words[:-1], r.choice([b"0" + words[-1], b" " + words[-1], words[-1] + b" "])])
+    elif how == 5:
+        lines[at] = b" ".join([r.choice([b"15", b"16"]), *words[1:]])
+    if how < 2 and r.random() < 0.7:
+        lines[0] = b"journal %d" % (len(lines) - 2)
     text = b"\n".join(lines)
     at = r.randrange(len(text) + 1)
-    if how == 4:
+    if how == 6:
         return text[:at]
-    if how == 5:
+    if how == 7:
         return text[:at] + bytes([r.choice(b"\r\n 0x@-,\x00\xff")]) + text[at + 1 :]
     return text
 

@@ -112,7 +112,7 @@ class Maker:
 def respelled(r, line):
     """A line with one of its words gone, twice, or another."""
     words = line.split() or [""]
-    at, how = r.choice([r.randrange(len(words)), r.randrange(min(5, len(words)))]), r.randrange(5)
+    at, how = min(r.choice([0, 1, 2, 3, 3, 4, 4, r.randrange(len(words))]), len(words) - 1), r.randrange(6)
     if how == 0:
         del words[at]
     elif how == 1:
@@ -138,23 +138,25 @@ def padded(r, line):
 
 
 def spoil(r, lines):
-    at, how = r.randrange(len(lines)), r.randrange(9)
-    if how in (3, 4, 5):
-        at = r.choice([k for k, line in enumerate(lines) if line[:3].strip().isdigit()] or [at])
+    at, how = r.randrange(len(lines)), r.randrange(11)
+    if how > 5:
+        events = [k for k, line in enumerate(lines) if line[:3].strip().isdigit()]
+        dissolves = [k for k in events if "D" in lines[k].split()]
+        at = r.choice(r.choice([events, dissolves]) or [at])
     if how == 0:
         del lines[at]
     elif how == 1:
         lines.insert(r.choice([at, r.randrange(len(lines))]), lines[at])
     elif how == 2:
         lines.insert(r.randrange(len(lines)), lines.pop(at))
-    elif how in (3, 4):
-        lines[at] = respelled(r, lines[at])
+    elif how == 3:
+        lines.insert(at, r.choice(COUNTED))
+    elif how == 4:
+        lines[at] = padded(r, lines[at])
     elif how in (5, 6):
         lines[at] = nudged(r, lines[at])
-    elif how == 7:
-        lines[at] = padded(r, lines[at])
     else:
-        lines.insert(at, r.choice(COUNTED))
+        lines[at] = respelled(r, lines[at])
     return lines or [""]
 
 
@@ -176,6 +178,6 @@ def made(r):
     """A rate and the bytes of a list."""
     rate = r.choice([*documents.RATES, "29.97"])
     lines = Maker(r, rate).lines()
-    for _ in range(r.choice([0, 0, 0, 1, 1, 2, 3])):
+    for _ in range(r.choice([0, 0, 1, 1, 1, 2, 3])):
         lines = spoil(r, lines)
     return rate, text_of(r, lines)
