@@ -3,3 +3,5 @@ pub mod LineFaults
 pub mod Replies
 pub mod Sights
 pub mod Things
+-- For the code: a reply as it is kept.
+pub mod KeptTexts

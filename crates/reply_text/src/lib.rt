@@ -8,6 +8,7 @@ mod bytes;
 mod cut;
 mod line_fault;
 mod replies;
+mod reply;
 mod short_text;
 mod sights;
 
@@ -16,5 +17,6 @@ pub use composables::Memory;
 pub use cut::{CutCall, CutObject, CutPart};
 pub use line_fault::LineFault;
 pub use replies::{answer_text, fault_text, point_text};
+pub use reply::Reply;
 pub use short_text::{MAX_SHORT, MAX_SHORT_LINE, Short};
 pub use sights::sight_text;

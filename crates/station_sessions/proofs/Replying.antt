@@ -29,10 +29,9 @@ use Rattle.line_words.specs.Lines.{Line as InputLine}
 use Rattle.reply_text.specs.declared.line_fault.LineFault.{LineFault}
 use Rattle.reply_text.specs.Replies.{EditAnswer, answer_text_of}
 use Rattle.reply_text.specs.Sights.{TrackSight, sight_text_of}
-use Rattle.station_sessions.specs.declared.reply.Reply.{Reply}
 use Rattle.station_sessions.specs.DocumentReplies.{document_reply, no_point_reply}
 use Rattle.station_sessions.specs.Rooms.{History, AreWritten, document_of, finds_memory, room_of, seen_of, wish_in}
-use Rattle.station_sessions.specs.Session.{Grows, IsCutReply, IsMeant, IsReply, IsReplyIfMemory, IsSightReply, Replies, RepliesTo, RepliesWith, StationState, Step}
+use Rattle.station_sessions.specs.Session.{Grows, IsCutReply, IsMeant, IsReplyIfMemory, IsSightReply, RepliesTo, RepliesWith, StationState, Step}
 use Rattle.station_sessions.specs.SessionInside.{IsSeated, IsSession, TrackPass, TrackRoom, course_at, or_opening, session_at, setting_at, tracks_at}
 use Rattle.station_sessions.specs.Transcript.{Wish, Do, See, Point, Write, Bad}
 use Rattle.station_sessions.proofs.Transcripts.{nothing_behind, own_append}
@@ -110,6 +109,11 @@ seated_stays room before after line seated stays =
     let last : last_of after.number after.entries ≡ last_of before.number before.entries =
     ap (λ (n : ℕ). last_of n after.entries) stays.goes_on.number_is ∙ ap (λ (l : History). fold (λ m e. max m e.number) 0 l) stays.own in
     record { legal = stays.goes_on.legal seated.legal; before = omega (arith, last, seated.before) }
+
+-- the session has its pass
+pub has_pass : (room : TrackRoom) (pass : Option TrackPass) (line : ℕ) → IsSession room line pass → IsSome pass
+has_pass room None line seated = absurd seated
+has_pass room (Some pass) line seated = refl
 
 pub same_seated : (room : TrackRoom) (pass : Option TrackPass) (line : ℕ) → IsSession room line pass → IsSession room (line + 1) pass
 same_seated room None line seated = seated
@@ -229,12 +233,11 @@ module _ (room : TrackRoom) (before after : TrackPass) (counting : Counted) (sta
   looked_stays q sight.Memory e = e
 
   -- the reply to a question, or to one for whose reply there was no memory
-  pub sight_replied : (q : Ask) (s : TrackSight) (reply : Reply)
+  pub sight_replied : (q : Ask) (s : TrackSight) (reply : List ℕ)
       → Looked (editing room.object.table) room.parts (ask_part_of room.object.table q) (λ t. seen_on t q) before after s → IsSightReply s reply
-      → Replies (session_at room (Some before) counting start line) (session_at room (Some after) counting start (line + 1)) (See q) reply
-  sight_replied q s reply e (inl is) = (sight_text_of s, is, ask_replied q s (sight_text_of s) e refl)
-  sight_replied q s reply e (inr is) =
-      (codes "memory", is, replied room before after counting start line (See q) (codes "memory") seated (looked_stays q s e) (inr (refl, record { same = refl; reply_is = refl })))
+      → RepliesWith (session_at room (Some before) counting start line) (session_at room (Some after) counting start (line + 1)) (See q) reply
+  sight_replied q s reply e (inl is) = ask_replied q s reply e is
+  sight_replied q s reply e (inr is) = replied room before after counting start line (See q) reply seated (looked_stays q s e) (inr (refl, record { same = refl; reply_is = is }))
 
   pub sight_seated : (q : Ask) (s : TrackSight) → Looked (editing room.object.table) room.parts (ask_part_of room.object.table q) (λ t. seen_on t q) before after s → IsSeated room (line + 1) after
   sight_seated q s e = seated_stays room before after line seated (looked_stays q s e)
@@ -244,36 +247,31 @@ module _ (room : TrackRoom) (before after : TrackPass) (counting : Counted) (sta
   cut_stays n (Err (fault.NoPoint count)) e = e.0.stays
   cut_stays n (Err fault.Memory) e = e.0
 
-  -- a text for the document after n entries
-  wrote : (n : ℕ) (text : List ℕ) (reply : Reply) → IsReply reply text → Stays (editing room.object.table) room.parts before after
-      → (let s = session_at room (Some after) counting start line in Step (room_of s.setting) before.number s.course s.course text (Write n) (finds_memory (Write n)))
-      → Replies (session_at room (Some before) counting start line) (session_at room (Some after) counting start (line + 1)) (Write n) reply
-  wrote n text reply is stays step = (text, is, replied room before after counting start line (Write n) text seated stays step)
-
   -- the reply with a document, or that there was no memory for it
-  document_replied : (n : ℕ) (tracks : List TrackState) (reply : Reply) → Stays (editing room.object.table) room.parts before after → n ≤ length after.entries
+  document_replied : (n : ℕ) (tracks : List TrackState) (reply : List ℕ) → Stays (editing room.object.table) room.parts before after → n ≤ length after.entries
       → replay (whole (editing room.object.table)) room.parts (take n after.entries) ≡ Some tracks
       → IsReplyIfMemory (document_reply n (document_of (setting_at room counting start) tracks)) reply
-      → Replies (session_at room (Some before) counting start line) (session_at room (Some after) counting start (line + 1)) (Write n) reply
+      → RepliesWith (session_at room (Some before) counting start line) (session_at room (Some after) counting start (line + 1)) (Write n) reply
   document_replied n tracks reply stays within state (inl is) =
-      wrote n (document_reply n (document_of (setting_at room counting start) tracks)) reply is stays
-      (inl (inl (tracks, record { within = within; state = state; same = refl; reply_is = refl })))
-  document_replied n tracks reply stays within state (inr is) = wrote n (codes "memory") reply is stays (inr (refl, record { same = refl; reply_is = refl }))
+      replied room before after counting start line (Write n) reply seated stays (inl (inl (tracks, record { within = within; state = state; same = refl; reply_is = is })))
+  document_replied n tracks reply stays within state (inr is) =
+      replied room before after counting start line (Write n) reply seated stays (inr (refl, record { same = refl; reply_is = is }))
 
   -- the reply to a wish for a document
-  pub cut_replied : (n : ℕ) (r : Result (Vec TrackState Global) CopyFault) (reply : Reply) → IsCut (editing room.object.table) room.parts n before after r
+  pub cut_replied : (n : ℕ) (r : Result (Vec TrackState Global) CopyFault) (reply : List ℕ) → IsCut (editing room.object.table) room.parts n before after r
       → IsCutReply (setting_at room counting start) n r reply
-      → Replies (session_at room (Some before) counting start line) (session_at room (Some after) counting start (line + 1)) (Write n) reply
+      → RepliesWith (session_at room (Some before) counting start line) (session_at room (Some after) counting start (line + 1)) (Write n) reply
   cut_replied n (Ok tracks) reply e is = document_replied n tracks.items reply e.0 e.1 e.2 is
   cut_replied n (Err (fault.NoPoint count)) reply e is =
-      wrote n (no_point_reply count) reply is e.0.stays
-      (inl (inr (record { past = omega (arith, e.0.point_is, e.1); same = refl; reply_is = ap no_point_reply e.0.point_is })))
-  cut_replied n (Err fault.Memory) reply e is = wrote n (codes "memory") reply is e.0 (inr (refl, record { same = refl; reply_is = refl }))
+      replied room before after counting start line (Write n) reply seated e.0.stays
+      (inl (inr (record { past = omega (arith, e.0.point_is, e.1); same = refl; reply_is = is ∙ ap no_point_reply e.0.point_is })))
+  cut_replied n (Err fault.Memory) reply e is = replied room before after counting start line (Write n) reply seated e.0 (inr (refl, record { same = refl; reply_is = is }))
 
   pub cut_seated : (n : ℕ) (r : Result (Vec TrackState Global) CopyFault) → IsCut (editing room.object.table) room.parts n before after r → IsSeated room (line + 1) after
   cut_seated n r e = seated_stays room before after line seated (cut_stays n r e)
 
 -- the reply to what a line was read as is the reply to the line
-pub told_line : (old new : StationState) (line : InputLine) (r : Result Line LineFault) (reply : Reply) → IsMeant old.setting line r → Replies old new (wish_in r) reply → RepliesTo old new line reply
-told_line old new line r reply (inl is) h = inl (subst (λ (x : Result Line LineFault). Replies old new (wish_in x) reply) is h)
-told_line old new line r reply (inr (linking, none)) h = inr (linking, subst (λ (x : Result Line LineFault). Replies old new (wish_in x) reply) none h)
+pub told_line : (old new : StationState) (line : InputLine) (r : Result Line LineFault) (reply : List ℕ) → IsMeant old.setting line r → RepliesWith old new (wish_in r) reply
+    → RepliesTo old new line reply
+told_line old new line r reply (inl is) h = inl (subst (λ (x : Result Line LineFault). RepliesWith old new (wish_in x) reply) is h)
+told_line old new line r reply (inr (linking, none)) h = inr (linking, subst (λ (x : Result Line LineFault). RepliesWith old new (wish_in x) reply) none h)

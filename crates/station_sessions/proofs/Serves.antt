@@ -7,21 +7,20 @@ use Rattle.room_ports.proofs.Fronts.{takes-nothing, takes-takes}
 use Rattle.line_words.specs.Lines.{Line as InputLine}
 use Rattle.line_words.specs.Told.{line_told, lines_told}
 use Rattle.line_words.specs.declared.line.LineEnd.{LineEnd}
-use Rattle.station_sessions.specs.declared.reply.Reply.{Reply}
 use Rattle.station_sessions.specs.Outside.{AreSent, TakesThenFront, LastIsCut}
-use Rattle.station_sessions.specs.Transcript.{Bad, Protocol, Wish, sent}
+use Rattle.station_sessions.specs.Transcript.{Bad, Protocol, Wish, reply_line, sent}
 use Rattle.station_sessions.specs.Rooms.{Setting, AreWritten, finds_memory, is_linking, room_of, meaning_of, wish_in}
 use Rattle.room_core.specs.Projection.{of_station}
-use Rattle.station_sessions.specs.Session.{Course, Grows, StationState, past_line, IsReply, RepliesTo, Step}
+use Rattle.station_sessions.specs.Session.{Course, Grows, StationState, past_line, RepliesTo, Step}
 use Rattle.station_sessions.specs.Served.{Serves, ServesTo, StaysWritten}
 use Rattle.station_sessions.proofs.Serving.{served_grows, served_more}
 
 sent-append : (xs ys : List (List ℕ)) → sent (xs ++ ys) ≡ sent xs ++ sent ys
 sent-append [] ys = refl
-sent-append (x ∷ xs) ys = ap (λ t. (x ++ codes "\n") ++ t) (sent-append xs ys) ∙ sym (append_assoc (x ++ codes "\n") (sent xs) (sent ys))
+sent-append (x ∷ xs) ys = ap (λ t. reply_line x ++ t) (sent-append xs ys) ∙ sym (append_assoc (reply_line x) (sent xs) (sent ys))
 
-one_sent : (r : List ℕ) → sent (r ∷ []) ≡ r ++ codes "\n"
-one_sent r = append-nil (r ++ codes "\n")
+one_sent : (r : List ℕ) → sent (r ∷ []) ≡ reply_line r
+one_sent r = append-nil (reply_line r)
 
 -- these bytes, and then others with a front of a piece
 pub takes-then : (before mid after : Option (List ℕ)) (xs ys piece : List ℕ) → Takes before mid xs → TakesThenFront mid after ys piece → TakesThenFront before after (xs ++ ys) piece
@@ -39,11 +38,11 @@ front-then (Some a) (Some c) piece k = k
 pub takes-then_front : (before mid after : Option (List ℕ)) (xs piece : List ℕ) → Takes before mid xs → TakesFront mid after piece → TakesThenFront before after xs piece
 takes-then_front before mid after xs piece h k = subst (λ t. TakesThenFront before after t piece) (append-nil xs) (takes-then before mid after xs [] piece h (front-then mid after piece k))
 
-pub sent_one : (before after : Option (List ℕ)) (r : List ℕ) → Takes before after (r ++ codes "\n") → AreSent before after (r ∷ [])
+pub sent_one : (before after : Option (List ℕ)) (r : List ℕ) → Takes before after (reply_line r) → AreSent before after (r ∷ [])
 sent_one before after r h = subst (Takes before after) (sym (one_sent r)) h
 
-pub cut_one : (before after : Option (List ℕ)) (r : List ℕ) → TakesFront before after (r ++ codes "\n") → LastIsCut before after (r ∷ [])
-cut_one before after r h = ([], r, refl, front-then before after (r ++ codes "\n") h)
+pub cut_one : (before after : Option (List ℕ)) (r : List ℕ) → TakesFront before after (reply_line r) → LastIsCut before after (r ∷ [])
+cut_one before after r h = ([], r, refl, front-then before after (reply_line r) h)
 
 pub sent_more : (t u v : Option (List ℕ)) (xs ys : List (List ℕ)) → AreSent t u xs → AreSent u v ys → AreSent t v (xs ++ ys)
 sent_more t u v xs ys h k = subst (Takes t v) (sym (sent-append xs ys)) (takes-takes t u v (sent xs) (sent ys) h k)
@@ -53,7 +52,7 @@ cut_more t u v xs ys h (whole, cut, is, k) = (
   xs ++ whole,
   cut,
   ap (λ rs. xs ++ rs) is ∙ sym (append_assoc xs whole (cut ∷ [])),
-  subst (λ bytes. TakesThenFront t v bytes (cut ++ codes "\n")) (sym (sent-append xs whole)) (takes-then t u v (sent xs) (sent whole) (cut ++ codes "\n") h k),
+  subst (λ bytes. TakesThenFront t v bytes (reply_line cut)) (sym (sent-append xs whole)) (takes-then t u v (sent xs) (sent whole) (reply_line cut) h k),
 )
 
 -- two runs of lines, for any kind of history, where what was taken composes
@@ -96,37 +95,35 @@ module _ {S C D R Q X Y : Type 0} (k : Protocol S C D R Q X Y) (station : ℕ) (
 pub serves_none : (s : StationState) (t : Option (List ℕ)) → ServesTo s s [] (AreSent t t)
 serves_none s t = record { setting = refl; station = refl; written = λ w. w; serves = λ o from ls rs last w. ([], last, rw (append-nil, append-nil) w, takes-nothing t) }
 
-pub serves_one : (old new : StationState) (l : InputLine) (reply : Reply) (Taken : List (List ℕ) → Type 0)
-    → RepliesTo old new l reply → ((text : List ℕ) → IsReply reply text → Taken (text ∷ []))
-    → ServesTo old new (l ∷ []) Taken
-serves_one old new l reply Taken (inl (text, is, r)) taken =
+pub serves_one : (old new : StationState) (l : InputLine) (reply : List ℕ) (Taken : List (List ℕ) → Type 0) → RepliesTo old new l reply → Taken (reply ∷ []) → ServesTo old new (l ∷ []) Taken
+serves_one old new l reply Taken (inl r) taken =
     let wish = wish_in (meaning_of old.setting l) in
-    let step = wider (room_of old.setting) old.station r.met r.answered text wish (finds_memory wish) (is_linking l) r.step in
+    let step = wider (room_of old.setting) old.station r.met r.answered reply wish (finds_memory wish) (is_linking l) r.step in
     record {
       setting = r.setting;
       station = r.station;
       written = r.written;
-      serves = one_serves (room_of old.setting) old.station old.course r.met r.answered new.course l text Taken r.grows step r.passed (taken text is);
+      serves = one_serves (room_of old.setting) old.station old.course r.met r.answered new.course l reply Taken r.grows step r.passed taken;
     }
-serves_one old new l reply Taken (inr (linking, (text, is, r))) taken =
+serves_one old new l reply Taken (inr (linking, r)) taken =
     let wish = wish_in (meaning_of old.setting l) in
-    let step = for_memory (room_of old.setting) old.station r.met r.answered text wish (finds_memory wish) (is_linking l) linking r.step in
+    let step = for_memory (room_of old.setting) old.station r.met r.answered reply wish (finds_memory wish) (is_linking l) linking r.step in
     record {
       setting = r.setting;
       station = r.station;
       written = r.written;
-      serves = one_serves (room_of old.setting) old.station old.course r.met r.answered new.course l text Taken r.grows step r.passed (taken text is);
+      serves = one_serves (room_of old.setting) old.station old.course r.met r.answered new.course l reply Taken r.grows step r.passed taken;
     }
 
 -- the station
-pub same_station : (old new : StationState) (l : InputLine) (reply : Reply) → RepliesTo old new l reply → new.station ≡ old.station
-same_station old new l reply (inl (text, is, r)) = r.station
-same_station old new l reply (inr (linking, (text, is, r))) = r.station
+pub same_station : (old new : StationState) (l : InputLine) (reply : List ℕ) → RepliesTo old new l reply → new.station ≡ old.station
+same_station old new l reply (inl r) = r.station
+same_station old new l reply (inr (linking, r)) = r.station
 
 -- the number of the next line
-pub next_number : (old new : StationState) (l : InputLine) (reply : Reply) → RepliesTo old new l reply → new.course.line ≡ old.course.line + 1
-next_number old new l reply (inl (text, is, r)) = r.line
-next_number old new l reply (inr (linking, (text, is, r))) = r.line
+pub next_number : (old new : StationState) (l : InputLine) (reply : List ℕ) → RepliesTo old new l reply → new.course.line ≡ old.course.line + 1
+next_number old new l reply (inl r) = r.line
+next_number old new l reply (inr (linking, r)) = r.line
 
 serves_then : (a b c : StationState) (xs ys : List InputLine) (P V W : List (List ℕ) → Type 0) → ((us vs : List (List ℕ)) → P us → V vs → W (us ++ vs))
     → ServesTo a b xs P → ServesTo b c ys V → ServesTo a c (xs ++ ys) W

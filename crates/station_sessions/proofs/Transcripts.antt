@@ -1,6 +1,5 @@
 -- What a station was told stays true when more is committed, and its transcript grows line by line.
 use Rattle.std.proofs.Common.{◌≡◌, ℕ, zero, suc, ◌+◌, ◌<◌, ◌≤◌, Bool, true, false, cond, eqb, nat_le, inl, inr, List, [], ◌∷◌, ◌++◌, length, take, drop, Some, refl, sym, ap, ◌∙◌, subst, arith, append_assoc, slice_get, option_map}
-use Rattle.std.specs.Prelude.{codes}
 use Rattle.std.proofs.lemmas.List.{append-nil, drop-append-le, length-append, length-drop, take-append-le}
 use Rattle.std.proofs.lemmas.Bool.Decides.{nat_tests}
 use Rattle.std.proofs.lemmas.List.Sums.{fold-append}
@@ -11,7 +10,7 @@ use Rattle.room_core.specs.History.{most_entries, replay, after_entry, answer_in
 use Rattle.room_core.specs.Projection.{of_station}
 use Rattle.station_sessions.specs.Longer.{TranscriptsStay}
 use Rattle.station_sessions.specs.Rooms.{room_of, setting_of}
-use Rattle.station_sessions.specs.Transcript.{Wish, Do, See, Point, Write, Bad, Protocol, state_at, answer_at, sight_at, BearsNone, IsFull, Answered, Row, Rows, points_from, points_behind, Origin, Transcript, sent}
+use Rattle.station_sessions.specs.Transcript.{Wish, Do, See, Point, Write, Bad, Protocol, state_at, answer_at, sight_at, BearsNone, IsFull, Answered, Row, Rows, points_from, points_behind, Origin, Transcript, reply_line, sent}
 
 -- each of these entries that is of the station is of this line or a later one
 abbrev pub OwnFrom : {C : Type 0} → ℕ → ℕ → List (Entry C) → Type 0
@@ -281,6 +280,6 @@ pub transcripts_stay : TranscriptsStay
 transcripts_stay o h more from station lines replies told legal same = transcript_more (room_of (setting_of o)) o.tracks h more from station lines replies [] told legal.within same
 
 -- a reply more
-pub sent_more : (rs : List (List ℕ)) (r : List ℕ) → sent (rs ++ r ∷ []) ≡ sent rs ++ (r ++ codes "\n")
-sent_more [] r = append-nil (r ++ codes "\n")
-sent_more (x ∷ xs) r = ap (λ t. (x ++ codes "\n") ++ t) (sent_more xs r) ∙ sym (append_assoc (x ++ codes "\n") (sent xs) (r ++ codes "\n"))
+pub sent_more : (rs : List (List ℕ)) (r : List ℕ) → sent (rs ++ r ∷ []) ≡ sent rs ++ reply_line r
+sent_more [] r = append-nil (reply_line r)
+sent_more (x ∷ xs) r = ap (λ t. reply_line x ++ t) (sent_more xs r) ∙ sym (append_assoc (reply_line x) (sent xs) (reply_line r))

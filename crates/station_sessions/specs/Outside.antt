@@ -1,10 +1,10 @@
 -- What an input and an output tell, before a call and after it, and what was read and taken between.
-use Rattle.std.specs.Prelude.{◌≡◌, ℕ, ◌≤◌, List, [], ◌∷◌, ◌++◌, Option, IfSome, length, take, codes}
+use Rattle.std.specs.Prelude.{◌≡◌, ℕ, ◌≤◌, List, [], ◌∷◌, ◌++◌, Option, IfSome, length, take}
 use Rattle.std.specs.Option.{IsSomeAnd}
 use Rattle.room_ports.specs.Bytes.{Takes}
 use Rattle.room_ports.specs.Counts.{HasRisen}
 use Rattle.line_words.specs.Lines.{Line as InputLine, lines_of}
-use Rattle.station_sessions.specs.Transcript.{sent}
+use Rattle.station_sessions.specs.Transcript.{reply_line, sent}
 
 -- the bytes left to read and the bytes taken, each where it is told, and how often a read and a write have failed
 pub record Outside : Type 0 where
@@ -56,4 +56,4 @@ TakesThenFront before after bytes piece =
 -- all of these replies but the last were taken whole, and then a front of the last
 abbrev pub LastIsCut : Option (List ℕ) → Option (List ℕ) → List (List ℕ) → Type 0
 LastIsCut before after replies =
-    (whole : List (List ℕ)) × (cut : List ℕ) × (replies ≡ whole ++ cut ∷ []) × TakesThenFront before after (sent whole) (cut ++ codes "\n")
+    (whole : List (List ℕ)) × (cut : List ℕ) × (replies ≡ whole ++ cut ∷ []) × TakesThenFront before after (sent whole) (reply_line cut)

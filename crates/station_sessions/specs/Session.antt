@@ -6,7 +6,6 @@ use Rattle.composables.specs.TrackState.{TrackState}
 use Rattle.edit_apply.specs.declared.asks.Call.{Call}
 use Rattle.edit_apply.specs.declared.asks.Ask.{Ask}
 use Rattle.room_core.specs.declared.entry.Entry.{Entry}
-use Rattle.reply_text.specs.declared.short_text.Short.{Short}
 use Rattle.reply_text.specs.Sights.{TrackSight, sight_text_of}
 use Rattle.reply_text.specs.declared.line_fault.LineFault.{LineFault}
 use Rattle.reply_text.specs.declared.line_fault.LineFault.TheVariants.{Memory as NoMemory}
@@ -19,8 +18,6 @@ use Rattle.edit_journal.specs.declared.log.CopyFault.{CopyFault}
 use Rattle.edit_journal.specs.declared.log.CopyFault.TheVariants as fault
 use Rattle.station_sessions.specs.DocumentReplies.{document_reply, no_point_reply}
 use Rattle.station_sessions.specs.Rooms.{Setting, AreWritten, document_of, room_of, finds_memory, is_linking, meaning_of, wish_in}
-use Rattle.station_sessions.specs.declared.reply.Reply.{Reply}
-use Rattle.station_sessions.specs.declared.reply.Reply.TheVariants as reply
 
 -- how far a station has come: the state that it began with, the state as it is, the journal, and the number of its next
 -- line
@@ -103,15 +100,6 @@ pub record StationState : Type 0 where
   pub station : ℕ
   pub course : Course (List TrackState) Call
 
--- a reply with this text, which ends with its line feed
-abbrev pub IsReply : Reply → List ℕ → Type 0
-IsReply (reply.Short short) text = short ≡ text ++ codes "\n"
-IsReply (reply.Text bytes) text = bytes.items ≡ text ++ codes "\n"
-
--- what a question was answered, or that there was no memory to write it
-abbrev pub IsSightReply : TrackSight → Reply → Type 0
-IsSightReply sight answer = IsReply answer (sight_text_of sight) ⊎ IsReply answer (codes "memory")
-
 -- A reply of this text to what a line asks for, after others have committed what they have, and then the line is past.
 -- The station's own entries can be written.
 pub record RepliesWith (old new : StationState) (wish : Wish Call Ask) (text : List ℕ) : Type 0 where
@@ -125,29 +113,27 @@ pub record RepliesWith (old new : StationState) (wish : Wish Call Ask) (text : L
   pub passed : new.course ≡ past_line answered
   pub line : new.course.line ≡ old.course.line + 1
 
-abbrev pub RepliesShort : StationState → StationState → Wish Call Ask → Short → Type 0
-RepliesShort old new wish text = RepliesWith old new wish text
-
-abbrev pub Replies : StationState → StationState → Wish Call Ask → Reply → Type 0
-Replies old new wish answer = (text : List ℕ) × IsReply answer text × RepliesWith old new wish text
-
 -- what a line says, or that there was no memory to read a line whose first word is `link`
 abbrev pub IsMeant : Setting → InputLine → Result Line LineFault → Type 0
 IsMeant setting line result =
     (result ≡ meaning_of setting line) ⊎ (IsTrue (is_linking line) × (result ≡ Err NoMemory))
 
 -- the reply to a line; where there was no memory to read it, that reply
-abbrev pub RepliesTo : StationState → StationState → InputLine → Reply → Type 0
-RepliesTo old new line answer =
-    Replies old new (wish_in (meaning_of old.setting line)) answer
-    ⊎ (IsTrue (is_linking line) × Replies old new (Bad (codes "memory")) answer)
+abbrev pub RepliesTo : StationState → StationState → InputLine → List ℕ → Type 0
+RepliesTo old new line reply =
+    RepliesWith old new (wish_in (meaning_of old.setting line)) reply
+    ⊎ (IsTrue (is_linking line) × RepliesWith old new (Bad (codes "memory")) reply)
 
 -- this reply, or that there was no memory for it
-abbrev pub IsReplyIfMemory : List ℕ → Reply → Type 0
-IsReplyIfMemory text answer = IsReply answer text ⊎ IsReply answer (codes "memory")
+abbrev pub IsReplyIfMemory : List ℕ → List ℕ → Type 0
+IsReplyIfMemory text reply = (reply ≡ text) ⊎ (reply ≡ codes "memory")
+
+-- the reply to a question that was answered so
+abbrev pub IsSightReply : TrackSight → List ℕ → Type 0
+IsSightReply sight reply = IsReplyIfMemory (sight_text_of sight) reply
 
 -- the reply to a wish for the document after n entries, where this cut was found
-abbrev pub IsCutReply : Setting → ℕ → Result (Vec TrackState Global) CopyFault → Reply → Type 0
-IsCutReply setting n (Ok tracks) answer = IsReplyIfMemory (document_reply n (document_of setting tracks.items)) answer
-IsCutReply setting n (Err (fault.NoPoint count)) answer = IsReply answer (no_point_reply count)
-IsCutReply setting n (Err fault.Memory) answer = IsReply answer (codes "memory")
+abbrev pub IsCutReply : Setting → ℕ → Result (Vec TrackState Global) CopyFault → List ℕ → Type 0
+IsCutReply setting n (Ok tracks) reply = IsReplyIfMemory (document_reply n (document_of setting tracks.items)) reply
+IsCutReply setting n (Err (fault.NoPoint count)) reply = reply ≡ no_point_reply count
+IsCutReply setting n (Err fault.Memory) reply = reply ≡ codes "memory"

@@ -169,7 +169,11 @@ Transcript k o h from station lines replies unanswered =
     (last : ℕ) × (answered : List ℕ) × Rows k o h station (from.base + 1) from.kept lines replies last answered
     × (points_behind from.kept station h ≡ answered ++ unanswered)
 
--- the replies as they are sent: each ends with a line feed
+-- a reply as it is sent: it ends with a line feed
+abbrev pub reply_line : List ℕ → List ℕ
+reply_line reply = reply ++ codes "\n"
+
+-- the replies as they are sent
 abbrev pub sent : List (List ℕ) → List ℕ
 sent [] = []
-sent (reply ∷ replies) = (reply ++ codes "\n") ++ sent replies
+sent (reply ∷ replies) = reply_line reply ++ sent replies

@@ -2,13 +2,13 @@
 ghost use Rattle.std.specs.Prelude.{◌≡◌, ◌≤◌, ◌++◌, codes, decimal, length, IfOk};
 ghost use Rattle.otio_text.specs.Documents.{timeline_text};
 ghost use Rattle.station_sessions.specs.DocumentReplies.{document_reply, no_point_reply};
-ghost use Rattle.station_sessions.specs.Session.{IsCutReply, IsReply, IsReplyIfMemory};
+ghost use Rattle.station_sessions.specs.Session.{IsCutReply, IsReplyIfMemory};
 
-use crate::reply::Reply;
 use call_text::Short;
 use composables::{Memory, Table, Track};
 use cut_room::CutFault;
 use otio_json::{WriteFault, write_timeline};
+use reply_text::Reply;
 use std::alloc::Global;
 use timecode12::Counting;
 
@@ -45,55 +45,53 @@ fn document_reply(
         (timeline_text table.now tracks.now counting.now start)) result }
 {
     match write_timeline(alloc, table, tracks, counting, start) {
-        Ok(text) => match document_line(alloc, n, &text) {
-            Ok(line) => Reply::Text(line),
+        Ok(text) => match long_document(alloc, n, &text) {
+            Ok(reply) => reply,
             Err(_) => memory_reply(),
         },
-        Err(WriteFault::TooLarge) => Reply::Short(refused_at(n, b" V4")),
+        Err(WriteFault::TooLarge) => Reply::short(refused_at(n, b" V4")),
         Err(WriteFault::Memory) => memory_reply(),
     }
 }
 
 /// The reply where there are only so many entries.
 fn no_point_reply(length: u32) -> Reply
-    ensures { IsReply result (no_point_reply length) }
+    ensures { result ≡ no_point_reply length }
 {
-    Reply::Short(refused_at(length, b" V3"))
+    Reply::short(refused_at(length, b" V3"))
 }
 
 /// The reply where there is no memory.
 fn memory_reply() -> Reply
-    ensures { IsReply result (codes "memory") }
+    ensures { result ≡ codes "memory" }
 {
-    let mut line = Short::new();
-    line.push(b"memory\n");
-    Reply::Short(line)
+    let mut text = Short::new();
+    text.push(b"memory");
+    Reply::short(text)
 }
 
-// `no`, the point and a code, with the line feed.
+// `no`, the point and a code.
 fn refused_at(point: u32, code: &[u8]) -> Short
     requires { length code.now ≤ 8 }
-    ensures { result ≡ codes "no " ++ decimal point ++ code.now ++ codes "\n" }
+    ensures text { result ≡ codes "no " ++ decimal point ++ code.now }
+    ensures short { length result ≤ 128 }
 {
-    let mut line = Short::new();
-    line.push(b"no ");
-    line.push_number(point);
-    line.push(code);
-    line.push(b"\n");
-    line
+    let mut text = Short::new();
+    text.push(b"no ");
+    text.push_number(point);
+    text.push(code);
+    text
 }
 
-// `otio`, the point and the document, with the line feed.
-fn document_line(alloc: Global, point: u32, text: &[u8]) -> Result<Vec<u8>, Memory>
-    ensures { IfOk result (λ line. line.items ≡
-        (codes "otio " ++ decimal point ++ codes " " ++ text.now) ++ codes "\n") }
+// `otio`, the point and the document.
+fn long_document(alloc: Global, point: u32, text: &[u8]) -> Result<Reply, Memory>
+    ensures { IfOk result (λ reply. reply ≡ codes "otio " ++ decimal point ++ codes " " ++ text.now) }
 {
     let mut front = Short::new();
     front.push(b"otio ");
     front.push_number(point);
     front.push(b" ");
-    let mut line = Vec::from_slice(alloc, front.as_bytes())?;
-    line.extend_from_slice(text)?;
-    line.push(b'\n')?;
-    Ok(line)
+    let mut all = Vec::from_slice(alloc, front.as_bytes())?;
+    all.extend_from_slice(text)?;
+    Reply::long(all)
 }

@@ -8,7 +8,6 @@
 
 mod document_reply;
 pub mod laws;
-mod reply;
 mod serve;
 mod station;
 

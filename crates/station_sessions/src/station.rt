@@ -1,5 +1,5 @@
 // The session of one station in a room, and the answer to each of its lines.
-ghost use Rattle.std.specs.Prelude.{◌≡◌, ◌<◌, ◌++◌, IfOk, codes};
+ghost use Rattle.std.specs.Prelude.{◌≡◌, ◌<◌, IfOk, IsSome, Some};
 ghost use Rattle.reply_text.specs.Sights.{sight_text_of};
 ghost use Rattle.cut_room.specs.Rooms.{Edited};
 ghost use Rattle.edit_apply.specs.Apply.{editing};
@@ -7,16 +7,15 @@ ghost use Rattle.edit_journal.specs.Turns.{last_of};
 ghost use Rattle.station_sessions.specs.Session.{IsSightReply};
 
 use crate::document_reply::cut_reply;
-use crate::reply::{Reply, ended};
 use call_text::{
-    CutObject, CutPart, Line, LineFault, Short, answer_text, fault_text, point_text, read_line,
-    sight_text,
+    CutObject, CutPart, Line, LineFault, answer_text, fault_text, point_text, read_line, sight_text,
 };
 use composables::Memory;
 use cut_room::{Answer, Room, Sight};
 use edit_apply::{Ask, Call};
 use edit_journal::{Naming, Pass};
 use line_words::LineEnd;
+use reply_text::Reply;
 use room_ports::Gate;
 use std::alloc::Global;
 use std::marker::{Brand, Model};
@@ -62,7 +61,7 @@ impl<'a, R: Wait, G: Gate, J: Naming<CutObject, CutPart>> Station<'a, R, G, J> {
     ghost use Rattle.call_text.specs.CallTexts.{IsWritten, NamesWritten};
     ghost use Rattle.reply_text.specs.Replies.{fault_of};
     ghost use Rattle.station_sessions.specs.Rooms.{wish_in};
-    ghost use Rattle.station_sessions.specs.Session.{IsMeant, Replies, RepliesShort, RepliesTo};
+    ghost use Rattle.station_sessions.specs.Session.{IsMeant, RepliesTo, RepliesWith};
     ghost use Rattle.station_sessions.specs.Transcript.{Bad, Do, Point, See, Write};
 
     /// The station's pass.
@@ -97,61 +96,47 @@ impl<'a, R: Wait, G: Gate, J: Naming<CutObject, CutPart>> Station<'a, R, G, J> {
         }
     }
 
-    fn reply_to_edit(&mut self, call: Call) -> Short
+    fn reply_to_edit(&mut self, call: Call) -> Reply
         requires written { IsWritten call }
         requires line { self.old.course.line + 1 < 2 ^ 32 }
-        ensures replies { RepliesShort self.old self.new (Do call) result }
-        ensures short { length result ≤ 128 }
+        ensures { RepliesWith self.old self.new (Do call) result }
     {
-        let pass = match self.pass.take() {
-            Some(pass) => pass,
-            None => unreachable!(),
-        };
+        let pass = taken(&mut self.pass);
         let (rt, room, gate) = (self.rt, self.room, self.gate);
         let (pass, answer) = edit_uncounted(rt, self.alloc, room, gate, pass, self.line, call);
         self.pass = Some(pass);
         self.line += 1;
-        answer_text(&answer)
+        Reply::short(answer_text(&answer))
     }
 
     fn reply_to_ask(&mut self, ask: &Ask) -> Reply
         requires { self.old.course.line + 1 < 2 ^ 32 }
-        ensures { Replies self.old self.new (See ask.now) result }
+        ensures { RepliesWith self.old self.new (See ask.now) result }
     {
-        let pass = match self.pass.take() {
-            Some(pass) => pass,
-            None => unreachable!(),
-        };
+        let pass = taken(&mut self.pass);
         let (pass, sight) = self.room.see(self.rt, self.alloc, pass, ask);
         self.pass = Some(pass);
         self.line += 1;
         sight_reply(self.alloc, &sight)
     }
 
-    fn reply_to_point(&mut self) -> Short
+    fn reply_to_point(&mut self) -> Reply
         requires { self.old.course.line + 1 < 2 ^ 32 }
-        ensures replies { RepliesShort self.old self.new Point result }
-        ensures short { length result ≤ 128 }
+        ensures { RepliesWith self.old self.new Point result }
     {
-        let pass = match self.pass.take() {
-            Some(pass) => pass,
-            None => unreachable!(),
-        };
+        let pass = taken(&mut self.pass);
         let (pass, point) = self.room.point(self.rt, pass);
         self.pass = Some(pass);
         self.line += 1;
-        point_text(point)
+        Reply::short(point_text(point))
     }
 
     // The reply with the document of the cut after `n` entries.
     fn reply_to_otio(&mut self, n: u32) -> Reply
         requires { self.old.course.line + 1 < 2 ^ 32 }
-        ensures { Replies self.old self.new (Write n) result }
+        ensures { RepliesWith self.old self.new (Write n) result }
     {
-        let pass = match self.pass.take() {
-            Some(pass) => pass,
-            None => unreachable!(),
-        };
+        let pass = taken(&mut self.pass);
         let (pass, cut) = self.room.cut_at(self.rt, self.alloc, pass, n);
         self.pass = Some(pass);
         self.line += 1;
@@ -160,13 +145,12 @@ impl<'a, R: Wait, G: Gate, J: Naming<CutObject, CutPart>> Station<'a, R, G, J> {
     }
 
     // The reply to a line that is none of the table.
-    fn reply_to_none(&mut self, fault: &LineFault) -> Short
+    fn reply_to_none(&mut self, fault: &LineFault) -> Reply
         requires { self.old.course.line + 1 < 2 ^ 32 }
-        ensures replies { RepliesShort self.old self.new (Bad (fault_of fault.now)) result }
-        ensures short { length result ≤ 128 }
+        ensures { RepliesWith self.old self.new (Bad (fault_of fault.now)) result }
     {
         self.line += 1;
-        fault_text(fault)
+        Reply::short(fault_text(fault))
     }
 
     /// Answers a line, and commits it where it is an edit that applies. The next line has the next number.
@@ -182,17 +166,28 @@ impl<'a, R: Wait, G: Gate, J: Naming<CutObject, CutPart>> Station<'a, R, G, J> {
     fn reply_to(&mut self, read: Result<Line, LineFault>) -> Reply
         requires written { IfOk read (λ line. NamesWritten line) }
         requires line { self.old.course.line + 1 < 2 ^ 32 }
-        ensures { Replies self.old self.new (wish_in read) result }
+        ensures { RepliesWith self.old self.new (wish_in read) result }
     {
         match read {
             Ok(line) => match line {
-                Line::Edit(call) => Reply::Short(ended(self.reply_to_edit(call))),
+                Line::Edit(call) => self.reply_to_edit(call),
                 Line::Ask(ask) => self.reply_to_ask(&ask),
-                Line::Point => Reply::Short(ended(self.reply_to_point())),
+                Line::Point => self.reply_to_point(),
                 Line::Otio(n) => self.reply_to_otio(n),
             },
-            Err(fault) => Reply::Short(ended(self.reply_to_none(&fault))),
+            Err(fault) => self.reply_to_none(&fault),
         }
+    }
+}
+
+// The pass of a station that has it, until it is put back.
+fn taken<J: Naming<CutObject, CutPart>>(pass: &mut Option<Pass<CutObject, J>>) -> Pass<CutObject, J>
+    requires { IsSome pass.old }
+    ensures { pass.old ≡ Some result }
+{
+    match pass.take() {
+        Some(pass) => pass,
+        None => unreachable!(),
     }
 }
 
@@ -236,17 +231,15 @@ fn edit_uncounted<R: Wait, G: Gate, J: Naming<CutObject, CutPart>>(
 fn sight_reply(alloc: Global, sight: &Sight<CutObject>) -> Reply
     ensures { IsSightReply sight.now result }
 {
-    match sight_line(alloc, sight) {
-        Ok(text) => Reply::Text(text),
-        Err(_) => Reply::Short(ended(answer_text(&Answer::Memory))),
+    match long_sight(alloc, sight) {
+        Ok(reply) => reply,
+        Err(_) => Reply::short(answer_text(&Answer::Memory)),
     }
 }
 
-// The text of the reply to a question, with its line feed.
-fn sight_line(alloc: Global, sight: &Sight<CutObject>) -> Result<Vec<u8>, Memory>
-    ensures { IfOk result (λ text. text.items ≡ sight_text_of sight.now ++ codes "\n") }
+// The reply to a question, as a longer text.
+fn long_sight(alloc: Global, sight: &Sight<CutObject>) -> Result<Reply, Memory>
+    ensures { IfOk result (λ reply. reply ≡ sight_text_of sight.now) }
 {
-    let mut text = sight_text(alloc, sight)?;
-    text.push(b'\n')?;
-    Ok(text)
+    Reply::long(sight_text(alloc, sight)?)
 }

@@ -9,7 +9,7 @@ returns-clause-ok g c =
     let u = g.K.Sink.taken c.send.new.output in
     on_ok c.send.result _ _ c.send.ensures.ok
     (λ taken. serves_one c.args.session.now c.answer-reply.new.self _ c.answer-reply.result (AreSent t u)
-    c.answer-reply.ensures (λ text is. sent_one t u text (taken text is)))
+    c.answer-reply.ensures (sent_one t u c.answer-reply.result taken))
 
 pub returns-clause-err : goal.returns-clause-err
 returns-clause-err g c =
@@ -17,7 +17,7 @@ returns-clause-err g c =
     let u = g.K.Sink.taken c.send.new.output in
     on_err c.send.result _ _ c.send.ensures.err
     (λ taken. serves_one c.args.session.now c.answer-reply.new.self _ c.answer-reply.result (LastIsCut t u)
-    c.answer-reply.ensures (λ text is. cut_one t u text (taken text is)))
+    c.answer-reply.ensures (cut_one t u c.answer-reply.result taken))
 
 pub returns-clause-number : goal.returns-clause-number
 returns-clause-number g c = next_number c.args.session.now c.answer-reply.new.self (line_told c.args.end c.args.text.now) c.answer-reply.result c.answer-reply.ensures

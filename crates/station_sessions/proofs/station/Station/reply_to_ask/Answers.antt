@@ -1,20 +1,19 @@
-use Rattle.std.proofs.Common.{sym, ◌∙◌}
-use Rattle.station_sessions.proofs.Replying.{sight_replied, sight_seated}
+use Rattle.station_sessions.proofs.Replying.{has_pass, sight_replied, sight_seated}
 use Rattle.station_sessions.proofs.station.Station.reply_to_ask.Goals as goal
 
-pub unreachable-requires : goal.unreachable-requires
-unreachable-requires g c = rw (sym c.take.ensures.value ∙ c.in-None.is) at c.self.invariant
+pub taken-pass-requires : goal.taken-pass-requires
+taken-pass-requires g c = let s = c.self.inside in has_pass s.room.now s.pass s.line c.self.invariant
 
 pub returns : goal.returns
 returns g c =
     let s = c.self.inside in
-    let is = sym c.take.ensures.value ∙ c.in-Some.is in
+    let is = c.taken-pass.ensures in
     rw (← c.self.view_is, is)
-    (sight_replied s.room.now c.in-Some.pass c.see-pass.result.0 s.counting s.start s.line (rw is at c.self.invariant) c.args.ask.now c.see-pass.result.1 c.sight_reply.result
+    (sight_replied s.room.now c.taken-pass.result c.see-pass.result.0 s.counting s.start s.line (rw is at c.self.invariant) c.args.ask.now c.see-pass.result.1 c.sight_reply.result
     c.see-pass.ensures.looked c.sight_reply.ensures)
 
 pub invariant_of-self : goal.invariant_of-self
 invariant_of-self g c =
     let s = c.self.inside in
-    let is = sym c.take.ensures.value ∙ c.in-Some.is in
-    sight_seated s.room.now c.in-Some.pass c.see-pass.result.0 s.counting s.start s.line (rw is at c.self.invariant) c.args.ask.now c.see-pass.result.1 c.see-pass.ensures.looked
+    let is = c.taken-pass.ensures in
+    sight_seated s.room.now c.taken-pass.result c.see-pass.result.0 s.counting s.start s.line (rw is at c.self.invariant) c.args.ask.now c.see-pass.result.1 c.see-pass.ensures.looked

@@ -1,11 +1,12 @@
+use Rattle.std.proofs.Common.{◌∙◌}
 use Rattle.reply_text.specs.Replies.{fault_of}
 use Rattle.station_sessions.proofs.Replying.{bad_replied, same_seated}
 use Rattle.station_sessions.proofs.station.Station.reply_to_none.Goals as goal
 
-pub returns-clause-replies : goal.returns-clause-replies
-returns-clause-replies g c =
+pub returns : goal.returns
+returns g c =
     let s = c.self.inside in
-    rw (← c.self.view_is) (bad_replied s.room.now s.pass s.counting s.start s.line (fault_of c.args.fault.now) c.fault_text.result c.self.invariant c.fault_text.ensures.text)
+    rw (← c.self.view_is) (bad_replied s.room.now s.pass s.counting s.start s.line (fault_of c.args.fault.now) c.short.result c.self.invariant (c.short.ensures ∙ c.fault_text.ensures.text))
 
 pub invariant_of-self : goal.invariant_of-self
 invariant_of-self g c = same_seated c.self.inside.room.now c.self.inside.pass c.self.inside.line c.self.invariant
