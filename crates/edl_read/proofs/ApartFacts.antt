@@ -1,5 +1,5 @@
 -- Events of which no two overlap.
-use Rattle.std.proofs.Common.{◌≡◌, ℕ, ◌<◌, Bool, true, false, cond, ◌&&◌, ◌||◌, List, [], ◌∷◌, ◌++◌, Option, Some, None, nat_lt, ◌⊎◌, inl, inr, refl, sym, subst, ◌∙◌}
+use Rattle.std.proofs.Common.{◌≡◌, ℕ, ◌<◌, Bool, true, false, cond, ◌&&◌, ◌||◌, List, [], ◌∷◌, ◌++◌, Some, None, nat_lt, ◌⊎◌, inl, inr, refl, sym, subst, ◌∙◌}
 use Rattle.std.proofs.lemmas.Bool.{and_parts, and_from, lt-ltb, ltb-true, or_cases, or_left, or_right, both_ways, cond-false, false_from_ne_true}
 use Rattle.edl_events.specs.declared.channel.Channel.{Channel}
 use Rattle.edl_events.specs.declared.channel.Channel.TheVariants.{V, A, A2}
@@ -31,28 +31,28 @@ shared A channels others x y =
 shared A2 channels others x y =
     or_right (is_on V channels && is_on V others) _ (or_right (is_on A channels && is_on A others) _ (and_from (is_on A2 channels) (is_on A2 others) x y))
 
-overlap_told : (e f : Event) → overlap e f ≡ true → (c : Channel) × (is_on c e.channels ≡ true) × (is_on c f.channels ≡ true) × (e.place < record_out f) × (f.place < record_out e)
+pub overlap_told : (e f : Event) → overlap e f ≡ true → (c : Channel) × (is_on c e.channels ≡ true) × (is_on c f.channels ≡ true) × (e.place < record_out f) × (f.place < record_out e)
 overlap_told e f h =
     let both = and_parts (share e.channels f.channels) (nat_lt e.place (record_out f) && nat_lt f.place (record_out e)) h in
     let ends = and_parts (nat_lt e.place (record_out f)) (nat_lt f.place (record_out e)) both.1 in
     let on = share_cases e.channels f.channels both.0 in
     (on.0, on.1, on.2, ltb-true e.place (record_out f) ends.0, ltb-true f.place (record_out e) ends.1)
 
-overlap_from : (c : Channel) (e f : Event) → is_on c e.channels ≡ true → is_on c f.channels ≡ true → e.place < record_out f → f.place < record_out e → overlap e f ≡ true
+pub overlap_from : (c : Channel) (e f : Event) → is_on c e.channels ≡ true → is_on c f.channels ≡ true → e.place < record_out f → f.place < record_out e → overlap e f ≡ true
 overlap_from c e f x y low high =
     and_from (share e.channels f.channels) (nat_lt e.place (record_out f) && nat_lt f.place (record_out e)) (shared c e.channels f.channels x y)
     (and_from (nat_lt e.place (record_out f)) (nat_lt f.place (record_out e)) (lt-ltb e.place (record_out f) low) (lt-ltb f.place (record_out e) high))
 
-overlap_either : (e f : Event) → overlap e f ≡ false → overlap f e ≡ false
+pub overlap_either : (e f : Event) → overlap e f ≡ false → overlap f e ≡ false
 overlap_either e f h = false_from_ne_true (overlap f e) (λ meets. let told = overlap_told f e meets in both_ways (overlap e f) h (overlap_from told.0 e f told.2 told.1 told.4 told.3))
 
-first_none : (f : Event) (fs : List Event) (e : Event) → first_overlap (f ∷ fs) e ≡ None → (overlap f e ≡ false) × (first_overlap fs e ≡ None)
+pub first_none : (f : Event) (fs : List Event) (e : Event) → first_overlap (f ∷ fs) e ≡ None → (overlap f e ≡ false) × (first_overlap fs e ≡ None)
 first_none f fs e h = elim (chosen (overlap f e) (Some f.line) (first_overlap fs e) None h) [
   | inl here ↦ absurd cc
   | inr past ↦ past
 ]
 
-none_first : (f : Event) (fs : List Event) (e : Event) → overlap f e ≡ false → first_overlap fs e ≡ None → first_overlap (f ∷ fs) e ≡ None
+pub none_first : (f : Event) (fs : List Event) (e : Event) → overlap f e ≡ false → first_overlap fs e ≡ None → first_overlap (f ∷ fs) e ≡ None
 none_first f fs e h more = cond-false (overlap f e) (Some f.line) (first_overlap fs e) h ∙ more
 
 none_more : (events : List Event) (e f : Event) → first_overlap events f ≡ None → overlap e f ≡ false → first_overlap (events ++ e ∷ []) f ≡ None

@@ -1,11 +1,11 @@
 -- The first line of some bytes, and those behind it.
-use Rattle.std.proofs.Common.{◌≡◌, ℕ, ◌+◌, ◌<◌, ◌≤◌, Bool, true, false, List, [], ◌∷◌, Option, Some, None, length, take, drop, nat_lt, if◌then◌else◌, refl, sym, ap, ◌∙◌, subst, arith}
+use Rattle.std.proofs.Common.{◌≡◌, ℕ, ◌+◌, ◌<◌, Bool, true, false, List, [], ◌∷◌, Some, None, length, take, drop, nat_lt, if◌then◌else◌, refl, ap, ◌∙◌, arith}
 use Rattle.std.specs.List.{slice_split, position, position_or_len}
 use Rattle.std.proofs.lemmas.Bool.{ltb-true, ltb-false}
 use Rattle.std.proofs.lemmas.List.Sums.{fails_before_first}
 use Rattle.std.proofs.lemmas.List.Splits.{length-slice_split, slice_split_first, slice_split_none}
 use Rattle.line_words.specs.Lines.{is_lf}
-use Rattle.edl_read.specs.ListLines.{ListLine, ended_line, last_line, lines_from, list_lines}
+use Rattle.edl_read.specs.ListLines.{ended_line, last_line, lines_from, list_lines}
 
 place_told : (b : Bool) (n i : ℕ) → (if b then Some n else None) ≡ Some i → (b ≡ true) × (n ≡ i)
 place_told true n i h = (refl, cc)

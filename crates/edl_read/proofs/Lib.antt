@@ -3,3 +3,7 @@ pub mod WordFacts
 pub mod CutLines
 pub mod ApartFacts
 pub mod RowWords
+pub mod RunTexts
+pub mod EventFrames
+pub mod LaidFacts
+pub mod StartPlaces

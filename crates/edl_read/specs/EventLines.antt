@@ -1,7 +1,7 @@
 -- What a line of an edit decision list says, after CMX 3600: nothing, a counting, or an event; or the code of what is
 -- wrong with it, the first of these: P12 no counting behind `FCM:`, P7 a change of speed, P2 no number, P11 a number over
 -- 999, P5 a wipe, P6 a key, P1 another layout, P8 no channel, P3 no timecode of the counting, P4 lengths that differ.
-use Rattle.std.specs.Prelude.{ℕ, Bool, ◌&&◌, List, [], ◌∷◌, Option, Some, None, Result, Ok, Err, nat_le, bytes_eq, codes, map, if◌then◌else◌}
+use Rattle.std.specs.Prelude.{ℕ, ◌&&◌, List, [], ◌∷◌, Option, Some, None, Result, Ok, Err, nat_le, bytes_eq, codes, map, if◌then◌else◌}
 use Rattle.std.specs.Borrow.{Bor}
 use Rattle.line_words.specs.Blanks.{words_of}
 use Rattle.line_words.specs.declared.line.LineEnd.{LineEnd}

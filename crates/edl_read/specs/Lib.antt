@@ -7,3 +7,6 @@ pub mod LineFacts
 pub mod Overlaps
 pub mod Reading
 pub mod ReadLists
+pub mod TapeText
+pub mod Pieces
+pub mod Laying

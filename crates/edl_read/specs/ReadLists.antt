@@ -1,5 +1,5 @@
 -- What is read of a list.
-use Rattle.std.specs.Prelude.{◌≡◌, ℕ, List, Result, Ok, Err}
+use Rattle.std.specs.Prelude.{◌≡◌, List, Result, Err}
 use Rattle.edl_events.specs.declared.event.Event.{Event}
 use Rattle.edl_events.specs.Events.{AreEvents}
 use Rattle.edl_read.specs.declared.fault.ListReadFault.{ListReadFault}

@@ -8,12 +8,16 @@
 mod event_line;
 mod fault;
 mod labels;
+mod laid;
+mod line_text;
 mod lines;
 mod list;
 mod parts;
+mod pieces;
 mod played;
 mod reading;
 mod said;
+mod starts;
 mod tape;
 mod words;
 

@@ -1,14 +1,16 @@
 // A list, read.
-ghost use Rattle.std.specs.Prelude.{◌≡◌, ◌≤◌, IfErr, IfOk, length};
+ghost use Rattle.std.specs.Prelude.{◌≡◌, ◌≤◌, ◌++◌, ◌∷◌, [], IfErr, IfOk, length};
+ghost use Rattle.edl_events.specs.Events.{IsEvent};
 ghost use Rattle.edl_read.specs.Reading.{list_of};
 ghost use Rattle.edl_read.specs.ReadLists.{CanBeRead, IsFaultOf};
 
 use crate::lines::first_line;
 use crate::played::Played;
 use crate::reading::{after_line, at_end, first_reading};
-use crate::{Event, ListReadFault};
+use crate::{Event, ListReadFault, Memory};
 use std::alloc::Global;
 use std::marker::Model;
+use std::slice::from_ref;
 use timecode12::SequenceRate;
 
 /// The most bytes of a list: 32 MiB.
@@ -30,6 +32,24 @@ impl Model for List {
 }
 
 impl List {
+    pub(crate) fn new(alloc: Global) -> List
+        ensures { result ≡ [] }
+    {
+        List {
+            events: Vec::new(alloc),
+        }
+    }
+
+    // One event more.
+    pub(crate) fn with(self, event: &Event) -> Result<List, Memory>
+        requires { IsEvent event.now }
+        ensures { IfOk result (λ list. list ≡ self ++ event.now ∷ []) }
+    {
+        let List { mut events } = self;
+        events.extend_from_slice(from_ref(event))?;
+        Ok(List { events })
+    }
+
     /// The events.
     pub fn as_slice(&self) -> &[Event]
         ensures { result.now ≡ self.now }
@@ -48,9 +68,7 @@ pub fn read_list(alloc: Global, bytes: &[u8], rate: SequenceRate) -> Result<List
     ensures apart { IfOk result (λ list. CanBeRead list) }
 {
     let played = lines_read(alloc, bytes, rate)?;
-    Ok(List {
-        events: played.into_events(),
-    })
+    Ok(played.into_list())
 }
 
 fn lines_read(alloc: Global, bytes: &[u8], rate: SequenceRate) -> Result<Played, ListReadFault>

@@ -1,18 +1,19 @@
 // The events of a list so far.
 ghost use Rattle.std.specs.Prelude.{◌≡◌, [], IfErr, IfOk};
-ghost use Rattle.edl_events.specs.Events.{AreEvents, IsEvent};
-ghost use Rattle.edl_read.specs.Overlaps.{first_overlap, overlap, share};
+ghost use Rattle.edl_events.specs.Events.{IsEvent};
 ghost use Rattle.edl_read.specs.Reading.{with_event};
 ghost use Rattle.edl_read.specs.ReadLists.{CanBeRead, IsFaultOf};
 
-use crate::{Channel, Event, LineCode, ListReadFault};
+use crate::laid::Laid;
+use crate::list::List;
+use crate::{Event, LineCode, ListReadFault};
 use std::alloc::Global;
 use std::marker::Model;
 
 /// Events of which no two overlap. Contracts see them as a list.
 #[derive(Drop)]
 pub(crate) struct Played {
-    events: Vec<Event>,
+    laid: Laid,
 }
 
 impl Model for Played {
@@ -21,11 +22,7 @@ impl Model for Played {
 
     ghost Value = { List Event };
 
-    ghost use Rattle.edl_read.specs.ReadLists.{CanBeRead};
-
-    ghost view = { λ p. p.events.items };
-
-    ghost invariant = { λ p. CanBeRead p.events.items };
+    ghost view = { λ p. p.laid };
 }
 
 impl Played {
@@ -33,7 +30,7 @@ impl Played {
         ensures { result ≡ [] }
     {
         Played {
-            events: Vec::new(alloc),
+            laid: Laid::new(alloc),
         }
     }
 
@@ -43,57 +40,25 @@ impl Played {
         ensures read { IfOk result (λ p. with_event self event.now ≡ Ok p) }
         ensures fault { IfErr result (λ fault. IsFaultOf (with_event self event.now) fault) }
     {
-        let Played { events } = self;
-        match first_overlap(&events, event) {
+        let Played { laid } = self;
+        match laid.first_overlap(event) {
             Some(other) => Err(ListReadFault::Refused {
                 code: LineCode::P10,
                 line: event.line,
                 other,
             }),
             None => {
-                let mut events = events;
-                events.push(*event)?;
-                Ok(Played { events })
+                let laid = laid.with(event)?;
+                Ok(Played { laid })
             }
         }
     }
 
-    pub(crate) fn into_events(self) -> Vec<Event>
-        ensures events { result.items ≡ self }
+    pub(crate) fn into_list(self) -> List
+        ensures events { result ≡ self }
         ensures read { CanBeRead self }
     {
-        self.events
+        let Played { laid } = self;
+        laid.into_list()
     }
-}
-
-// The line of the first event that overlaps with one.
-fn first_overlap(events: &[Event], event: &Event) -> Option<u32>
-    requires events { AreEvents events.now }
-    requires event { IsEvent event.now }
-    ensures { result ≡ first_overlap events.now event.now }
-{
-    for earlier in events {
-        if overlap(earlier, event) {
-            return Some(earlier.line);
-        }
-    }
-    None
-}
-
-fn overlap(event: &Event, other: &Event) -> bool
-    requires event { IsEvent event.now }
-    requires other { IsEvent other.now }
-    ensures { result ≡ overlap event.now other.now }
-{
-    share(event.channels, other.channels)
-        && event.place < other.place + other.len
-        && other.place < event.place + event.len
-}
-
-fn share(channels: u8, others: u8) -> bool
-    ensures { result ≡ share channels others }
-{
-    (Channel::V.is_in(channels) && Channel::V.is_in(others))
-        || (Channel::A.is_in(channels) && Channel::A.is_in(others))
-        || (Channel::A2.is_in(channels) && Channel::A2.is_in(others))
 }
