@@ -1,6 +1,7 @@
 // The program's call over objects in memory.
 use cut_server::cut_main;
 use line_words::Words;
+use reel_names::{AsIs, ReelNamer};
 use room_files::MemFiles;
 use room_halls::{Hall, MemHall};
 use room_ports::{Gate, MemSink, MemSource, OpenGate};
@@ -53,8 +54,11 @@ pub(crate) fn status_of<R: Threads + Wait + Sync, H: Hall, G: Gate + Sync>(
     output: &mut MemSink,
     hall: &mut H,
     gate: &G,
+    namer: Box<dyn ReelNamer>,
 ) -> u8 {
-    cut_main(rt, alloc, words, files, input, output, hall, gate)
+    cut_main(
+        rt, alloc, words, files, input, output, hall, gate, namer,
+    )
 }
 
 // The status and the output of a run with these words, over these pieces of input and these calls that fail.
@@ -94,6 +98,7 @@ pub(crate) fn ended_over<R: Threads + Wait + Sync>(
     let mut input = MemSource::new(input, reads.to_vec(alloc)?);
     let mut output = MemSink::new(alloc, writes.to_vec(alloc)?);
     let words = words_of(alloc, words)?;
+    let namer = Box::new(alloc, AsIs::new(alloc))?;
     let status = status_of(
         rt,
         alloc,
@@ -103,6 +108,7 @@ pub(crate) fn ended_over<R: Threads + Wait + Sync>(
         &mut output,
         &mut no_hall(alloc),
         &OpenGate,
+        namer,
     );
     let bytes = match output.bytes() {
         Some(bytes) => bytes.to_vec(alloc)?,

@@ -2,6 +2,7 @@
 use crate::calling::{status_of, words_in};
 use crate::documents::document_of;
 use crate::turns::{Deeds, HeldHall, Hold, HoldingGate, Until};
+use reel_names::AsIs;
 use room_files::{Files, MemFiles};
 use room_halls::{Hall, MemHall};
 use room_ports::{MemLine, MemSink, MemSource};
@@ -121,6 +122,7 @@ fn status_over<R: Threads + Wait + Sync>(
     let words = words_in(alloc, command.as_str())?;
     let mut input = MemSource::new(Vec::new(alloc), Vec::new(alloc));
     let mut output = MemSink::new(alloc, Vec::new(alloc));
+    let namer = Box::new(alloc, AsIs::new(alloc))?;
     Ok(status_of(
         rt,
         alloc,
@@ -130,6 +132,7 @@ fn status_over<R: Threads + Wait + Sync>(
         &mut output,
         hall,
         gate,
+        namer,
     ))
 }
 

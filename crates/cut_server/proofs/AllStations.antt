@@ -21,7 +21,7 @@ use Rattle.otio_json.specs.declared.opening.Opening.{Opening}
 use Rattle.station_sessions.specs.declared.serve.End.{End}
 use Rattle.cut_server.specs.Closed.{Closes}
 use Rattle.room_halls.specs.Stations.{HallTold}
-use Rattle.cut_server.specs.declared.status.Status.{Status}
+use Rattle.command_ends.specs.declared.status.Status.{Status}
 use Rattle.cut_server.specs.Halls.{TellsStation, AreServed, first_fault, line_at, status_of}
 use Rattle.station_sessions.specs.Outside.{Outside}
 use Rattle.station_sessions.specs.Rooms.{History, Setting, AreWritten, RoomTranscript, IsLegalIn, room_of, setting_of}

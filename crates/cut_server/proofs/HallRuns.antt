@@ -4,9 +4,10 @@ use Rattle.room_files.specs.Files.{Content, FilesTold, Untold, Missing, Bytes, I
 use Rattle.room_halls.specs.Stations.{HallTold}
 use Rattle.room_ports.specs.Counts.{HasRisen}
 use Rattle.otio_json.specs.declared.opening.Opening.{Opening}
-use Rattle.cut_server.specs.declared.status.Status.{Status}
-use Rattle.cut_server.specs.declared.status.Status.TheVariants.{Done, WriteFault, NotSeated, OutOfMemory}
-use Rattle.cut_server.specs.Documents.{AreQuiet, OnlyRead}
+use Rattle.command_ends.specs.declared.status.Status.{Status}
+use Rattle.command_ends.specs.declared.status.Status.TheVariants.{Done, WriteFault, NotSeated, OutOfMemory}
+use Rattle.input_files.specs.Unopened.{AreQuiet, OnlyRead}
+use Rattle.input_files.proofs.Unchanged.{unchanged_then}
 use Rattle.cut_server.specs.Halls.{EndsUnserved, FileEnds, HallEnds, HasServed, IsUnserved}
 use Rattle.station_sessions.specs.Rooms.{History}
 
@@ -18,11 +19,6 @@ unchanged_same (Bytes all) = refl
 -- files with which nothing was done
 pub quiet_same : (files : FilesTold) → AreQuiet files files
 quiet_same files = (((λ name. unchanged_same (files.file name)), refl), refl)
-
-unchanged_then : (a b c : Content) → IsUnchanged a b → IsUnchanged b c → IsUnchanged a c
-unchanged_then a b Untold x y = tt
-unchanged_then a b Missing x y = subst (λ (d : Content). IsUnchanged a d) y x
-unchanged_then a b (Bytes all) x y = subst (λ (d : Content). IsUnchanged a d) y x
 
 -- the journal of a room is kept in another way
 module _ (o : Opening) (stations : ℕ) (address : List ℕ) (K L : History → Status → Type 0) (U V : Type 0) (kept : (h : History) (s : Status) → K h s → L h s) (unkept : U → V) (old new : HallTold) where

@@ -1,6 +1,4 @@
 pub mod Openings
-pub mod Rates
-pub mod Asking
 pub mod Telling
 pub mod HallRuns
 pub mod Sound

@@ -7,8 +7,8 @@ use Rattle.room_ports.specs.Counts.{HasRisen}
 use Rattle.room_halls.specs.Stations.{HallTold, LineTold, Station, CountsSeat, NoneMoves, OpensAt, OthersStay, line_told}
 use Rattle.room_halls.specs.declared.hall.HallFault.{HallFault}
 use Rattle.room_halls.specs.declared.hall.HallFault.TheVariants.{Failed, Memory}
-use Rattle.cut_server.specs.declared.status.Status.{Status}
-use Rattle.cut_server.specs.declared.status.Status.TheVariants.{Done}
+use Rattle.command_ends.specs.declared.status.Status.{Status}
+use Rattle.command_ends.specs.declared.status.Status.TheVariants.{Done}
 use Rattle.cut_server.specs.Halls.{HallEnds, Unheard, first_fault, line_at, line_of, or_next}
 use Rattle.otio_json.specs.declared.opening.Opening.{Opening}
 use Rattle.line_words.specs.Lines.{Line as InputLine}

@@ -7,9 +7,9 @@ use Rattle.line_words.specs.Lines.{Line as InputLine, lines_of}
 use Rattle.call_text.specs.Journals.{journal_text_of}
 use Rattle.station_sessions.specs.declared.serve.End.{End}
 use Rattle.station_sessions.specs.declared.serve.End.TheVariants as end
-use Rattle.cut_server.specs.declared.status.Status.{Status}
-use Rattle.cut_server.specs.declared.status.Status.TheVariants.{Done, WriteFault, OutOfMemory}
-use Rattle.cut_server.specs.Ports.{Change, InputTold, OutputTold, both}
+use Rattle.command_ends.specs.declared.status.Status.{Status}
+use Rattle.command_ends.specs.declared.status.Status.TheVariants.{Done, WriteFault, OutOfMemory}
+use Rattle.command_ends.specs.Ports.{Change, InputTold, OutputTold}
 use Rattle.station_sessions.specs.Outside.{Outside, AtEnd, AreSent}
 use Rattle.otio_json.specs.declared.opening.Opening.{Opening}
 use Rattle.cut_server.specs.Closed.{Closes}
@@ -21,7 +21,7 @@ use Rattle.station_sessions.specs.Rooms.{History, AreWritten, room_of, setting_o
 use Rattle.station_sessions.specs.Transcript.{new_room, sent}
 use Rattle.station_sessions.specs.Served.{Knows}
 use Rattle.station_sessions.specs.Serving.{SessionEnds}
-use Rattle.cut_server.specs.Runs.{IsTold, TellsOne, Tells, IsWhole, JournalIsCut, JournalEnds, RunEnds, RunsOver}
+use Rattle.cut_server.specs.Runs.{both, IsTold, TellsOne, Tells, IsWhole, JournalIsCut, JournalEnds, RunEnds, RunsOver}
 use Rattle.cut_server.proofs.Sound.{has_text, stay_sound}
 use Rattle.station_sessions.proofs.Serves.{takes-then_front}
 use Rattle.station_sessions.proofs.Knowing.{got_map, session_told}

@@ -8,9 +8,9 @@ use Rattle.otio_json.specs.declared.opening.Opening.{Opening}
 use Rattle.call_text.specs.Journals.{journal_text_of}
 use Rattle.station_sessions.specs.declared.serve.End.{End}
 use Rattle.station_sessions.specs.declared.serve.End.TheVariants as end
-use Rattle.cut_server.specs.declared.status.Status.{Status}
-use Rattle.cut_server.specs.declared.status.Status.TheVariants.{Done, ReadFault, WriteFault, NotSeated, OutOfMemory, TooMuchInput}
-use Rattle.cut_server.specs.Documents.{AreQuiet}
+use Rattle.command_ends.specs.declared.status.Status.{Status}
+use Rattle.command_ends.specs.declared.status.Status.TheVariants.{Done, ReadFault, WriteFault, NotSeated, OutOfMemory, TooMuchInput}
+use Rattle.input_files.specs.Unopened.{AreQuiet}
 use Rattle.station_sessions.specs.Outside.{Outside, outside}
 use Rattle.station_sessions.specs.Rooms.{History, RoomTranscript}
 use Rattle.station_sessions.specs.Serving.{SessionEnds}

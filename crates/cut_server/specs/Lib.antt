@@ -1,10 +1,6 @@
 -- To be read: public clauses speak of these.
 pub mod Stations
 pub mod Journals
-pub mod Commands
-pub mod Documents
-pub mod Statuses
-pub mod Ports
 pub mod Runs
 pub mod Halls
 -- For the steps of the code, for proofs and for tests.

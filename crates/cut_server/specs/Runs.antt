@@ -6,24 +6,32 @@ use Rattle.room_halls.specs.Stations.{HallTold}
 use Rattle.room_ports.specs.Bytes.{Takes, TakesFront}
 use Rattle.room_ports.specs.Counts.{HasRisen}
 use Rattle.line_words.specs.Lines.{Line as InputLine}
-use Rattle.otio_tracks.specs.declared.faults.DocCode.{DocCode}
 use Rattle.otio_json.specs.Openings.{plain_opening}
 use Rattle.otio_json.specs.declared.opening.Opening.{Opening}
 use Rattle.call_text.specs.Journals.{journal_text_of}
 use Rattle.timecode12.specs.Numbers.{Counted}
-use Rattle.cut_server.specs.Commands.{Asked, RunPlain, RunDocument, Serve}
-use Rattle.cut_server.specs.Documents.{AreQuiet, OnlyRead, Describes, IsRefusedAt, refusal_line}
+use Rattle.command_words.specs.Commands.{Asked, RunPlain, RunDocument, Serve, ListCut, PlayList}
+use Rattle.command_ends.specs.Ports.{Change, InputTold, OutputTold}
+use Rattle.command_ends.specs.Texts.{PutsWith}
+use Rattle.input_files.specs.Unopened.{AreQuiet, EndsUnopened, OnlyRead}
+use Rattle.input_files.specs.Documents.{Describes, IsDocumentRefused, document_line}
+use Rattle.list_commands.specs.Cuts.{NamerTold}
+use Rattle.list_commands.specs.Points.{ListEnds}
+use Rattle.list_commands.specs.Tapes.{TapeEnds}
 use Rattle.station_sessions.specs.declared.serve.End.TheVariants as end
-use Rattle.cut_server.specs.declared.status.Status.{Status}
-use Rattle.cut_server.specs.declared.status.Status.TheVariants.{Done, ReadFault, WriteFault, NoCommand, Refused, OutOfMemory, TooMuchInput}
+use Rattle.command_ends.specs.declared.status.Status.{Status}
+use Rattle.command_ends.specs.declared.status.Status.TheVariants.{Done, ReadFault, WriteFault, NoCommand, OutOfMemory, TooMuchInput}
 use Rattle.cut_server.specs.Journals.{IsJournalOf}
 use Rattle.cut_server.specs.Halls.{FileEnds, HallEnds}
-use Rattle.cut_server.specs.Ports.{Change, InputTold, OutputTold, both}
-use Rattle.station_sessions.specs.Outside.{Outside, NoFault, WriteFailed, AtEnd, TakesThenFront}
+use Rattle.station_sessions.specs.Outside.{Outside, outside, NoFault, WriteFailed, AtEnd, TakesThenFront}
 use Rattle.station_sessions.specs.Rooms.{History, RoomTranscript}
 use Rattle.station_sessions.specs.Serving.{SessionEnds}
-use Rattle.cut_server.specs.Statuses.{number_of}
+use Rattle.command_ends.specs.Statuses.{number_of}
 use Rattle.station_sessions.specs.Transcript.{new_room, sent}
+
+-- what an input and an output tell together
+abbrev pub both : InputTold → OutputTold → Outside
+both input output = outside input.left input.faults output.taken output.faults
 
 -- the journal of a room with so many stations tells the replies to the lines of one of them
 pub record IsTold (o : Opening) (stations : ℕ) (h : History) (station : ℕ) (lines : List InputLine) (replies : List (List ℕ)) : Type 0 where
@@ -76,46 +84,11 @@ abbrev pub RunsOver : Opening → Change InputTold → Change OutputTold → Sta
 RunsOver o input output =
     RunEnds o (both input.before output.before) (both input.after output.after) (input.Untouched × output.Untouched)
 
--- a line of refusal was put on the output, or cut by a write that failed
-abbrev pub LineIsPut : List ℕ → OutputTold → OutputTold → Type 0
-LineIsPut line old new = (new.faults ≡ old.faults) × Takes old.taken new.taken line
-
-abbrev pub LineIsCut : List ℕ → OutputTold → OutputTold → Type 0
-LineIsCut line old new = HasRisen old.faults new.faults × TakesFront old.taken new.taken line
-
--- words that are no command get a line of refusal
-module _ (old new : OutputTold) where
-  abbrev pub RefusalEnds : Status → Type 0
-  RefusalEnds NoCommand = LineIsPut (codes "refused words\n") old new
-  RefusalEnds WriteFault = LineIsCut (codes "refused words\n") old new
-  RefusalEnds other = ⊥
-
--- and so does a refused document
-module _ (line : List ℕ) (old new : OutputTold) where
-  abbrev pub LineEnds : Status → Type 0
-  LineEnds Refused = LineIsPut line old new
-  LineEnds WriteFault = LineIsCut line old new
-  LineEnds other = ⊥
-
 -- a command over the document in the file of this name, whose frames are counted so
 module _ (name : List ℕ) (counting : Counted) (files : Change FilesTold) (output : Change OutputTold) where
-  -- the document has a first fault, which the line tells
-  pub record RefusesDocument (status : Status) : Type 0 where
-    pub code : DocCode
-    pub at : ℕ
-    pub refused : IsRefusedAt counting (files.before.file name) code at
-    pub quiet : files.after.reads ≡ files.before.reads
-    pub line : LineEnds (refusal_line code at) output.before output.after status
-
-  -- the file was not read, or there was no memory
-  abbrev pub IsUnread : Status → Type 0
-  IsUnread ReadFault = HasRisen files.before.reads files.after.reads × output.Untouched
-  IsUnread OutOfMemory = (files.after.reads ≡ files.before.reads) × output.Untouched
-  IsUnread other = ⊥
-
-  -- no room was opened
-  abbrev pub EndsUnopened : Status → Type 0
-  EndsUnopened status = RefusesDocument status ⊎ IsUnread status
+  -- the document is refused, or its file was not read, or there was no memory: no room was opened
+  abbrev pub OpensNoRoom : Status → Type 0
+  OpensNoRoom status = EndsUnopened files.before files.after output (IsDocumentRefused counting (files.before.file name)) document_line status
 
   -- the document describes an opening, of which the run is
   pub record RunsDocument (input : Change InputTold) (status : Status) : Type 0 where
@@ -125,7 +98,7 @@ module _ (name : List ℕ) (counting : Counted) (files : Change FilesTold) (outp
     pub ends : RunsOver opening input output status
 
   abbrev pub DocumentEnds : Change InputTold → Status → Type 0
-  DocumentEnds input status = OnlyRead files.before files.after × (RunsDocument input status ⊎ (input.Untouched × EndsUnopened status))
+  DocumentEnds input status = OnlyRead files.before files.after × (RunsDocument input status ⊎ (input.Untouched × OpensNoRoom status))
 
   -- So many stations are served over the lines of a hall at this address, and the journal is kept in a file.
   module _ (stations : ℕ) (address journal : List ℕ) (hall : Change HallTold) where
@@ -139,18 +112,22 @@ module _ (name : List ℕ) (counting : Counted) (files : Change FilesTold) (outp
 
     -- else no station is seated
     abbrev pub ServeEnds : Status → Type 0
-    ServeEnds status = ServesDocument status ⊎ (hall.Untouched × OnlyRead files.before files.after × EndsUnopened status)
+    ServeEnds status = ServesDocument status ⊎ (hall.Untouched × OnlyRead files.before files.after × OpensNoRoom status)
 
 -- how the program ends, by what it was asked for: what its files, its input, its output and its hall told before and tell
--- after
-module _ (files : Change FilesTold) (input : Change InputTold) (output : Change OutputTold) (hall : Change HallTold) where
+-- after, and by the namer that it was handed
+module _ (files : Change FilesTold) (input : Change InputTold) (output : Change OutputTold) (hall : Change HallTold) (namer : NamerTold) where
   abbrev pub CommandEnds : Option Asked → Status → Type 0
-  CommandEnds None status = files.Untouched × input.Untouched × hall.Untouched × RefusalEnds output.before output.after status
+  CommandEnds None status = files.Untouched × input.Untouched × hall.Untouched
+      × PutsWith NoCommand (codes "refused words\n") output.before output.after status
   CommandEnds (Some (RunPlain tracks reels)) status =
       files.Untouched × hall.Untouched × RunsOver (plain_opening tracks reels) input output status
   CommandEnds (Some (RunDocument name counting)) status = hall.Untouched × DocumentEnds name counting files output input status
   CommandEnds (Some (Serve name counting stations address journal)) status =
       input.Untouched × ServeEnds name counting files output stations address journal hall status
+  CommandEnds (Some (ListCut document counting journal point)) status =
+      input.Untouched × hall.Untouched × ListEnds document counting journal point namer files output status
+  CommandEnds (Some (PlayList name rate)) status = input.Untouched × hall.Untouched × TapeEnds name rate files output status
 
 -- it ends with the number of a status that it may have
 abbrev pub EndsWith : ℕ → (Status → Type 0) → Type 0

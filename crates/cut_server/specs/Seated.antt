@@ -7,8 +7,8 @@ use Rattle.otio_json.specs.declared.opening.Opening.{Opening}
 use Rattle.room_core.specs.Projection.{of_station}
 use Rattle.timecode12.specs.Numbers.{Counted}
 use Rattle.station_sessions.specs.declared.serve.End.{End}
-use Rattle.cut_server.specs.declared.status.Status.{Status}
-use Rattle.cut_server.specs.declared.status.Status.TheVariants.{NotSeated, OutOfMemory}
+use Rattle.command_ends.specs.declared.status.Status.{Status}
+use Rattle.command_ends.specs.declared.status.Status.TheVariants.{NotSeated, OutOfMemory}
 use Rattle.room_halls.specs.Stations.{HallTold}
 use Rattle.cut_server.specs.Halls.{line_at}
 use Rattle.station_sessions.specs.Outside.{Outside}

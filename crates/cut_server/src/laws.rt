@@ -1,11 +1,15 @@
 //! The numbers of the limits.
 ghost use Rattle.std.specs.Prelude.{◌≡◌};
-ghost use Rattle.cut_server.specs.Commands.{least_tracks, most_tracks, most_reels};
-ghost use Rattle.cut_server.specs.Documents.{most_document};
+ghost use Rattle.command_words.specs.Commands.{least_tracks, most_tracks, most_reels};
+ghost use Rattle.input_files.specs.declared.documents.TheConstants.{MAX_DOCUMENT};
+ghost use Rattle.call_text.specs.declared.journal_reading.TheConstants.{MAX_JOURNAL};
+ghost use Rattle.edl_read.specs.declared.list.TheConstants.{MAX_LIST};
 
-/// The limits of a command: 32 MiB of a document, 1 to 32 tracks and up to 999 reels.
+/// The limits of a command: 32 MiB of a document or a list, 64 MiB of a journal, 1 to 32 tracks and up to 999 reels.
 pub fn limits_are_these()
-    ensures document { most_document ≡ 33554432 }
+    ensures document { MAX_DOCUMENT ≡ 33554432 }
+    ensures journal { MAX_JOURNAL ≡ 67108864 }
+    ensures list { MAX_LIST ≡ 33554432 }
     ensures least_tracks { least_tracks ≡ 1 }
     ensures most_tracks { most_tracks ≡ 32 }
     ensures reels { most_reels ≡ 999 }

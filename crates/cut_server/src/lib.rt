@@ -3,16 +3,13 @@
 //! The main contract is that of `cut_main`: with status 0 the output is one reply to each line of the input, in whatever
 //! pieces it came, and then the text of a journal that is one legal serial history and tells every one of the replies. The
 //! history begins with a plain room, or with the room that a document describes, and linked items keep one offset at every
-//! point of it.
+//! point of it. The list of a cut at a point of a journal, read again, shows what the cut shows.
 #![tactic(auto)]
 
-mod command;
-mod document;
 pub mod laws;
 mod main_call;
 mod seated;
 mod stations;
-mod status;
 
-pub use command::asks_for_another_rate;
+pub use command_words::{asks_for_another_rate, wants_numbers};
 pub use main_call::cut_main;

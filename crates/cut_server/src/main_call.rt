@@ -1,27 +1,29 @@
 // The call that the program makes.
 ghost use Rattle.std.specs.Prelude.{◌≡◌, ◌<◌, ◌≤◌, [], Some, length, vec_capacity};
-ghost use Rattle.cut_server.specs.Commands.{command_of, least_tracks, most_tracks, most_reels, least_stations, most_stations};
+ghost use Rattle.command_words.specs.Commands.{command_of, least_tracks, most_tracks, most_reels, least_stations, most_stations};
 ghost use Rattle.otio_json.specs.Openings.{plain_opening};
 ghost use Rattle.otio_json.specs.Soundness.{IsSoundOpening};
 ghost use Rattle.station_sessions.specs.Outside.{outside};
 ghost use Rattle.otio_json.specs.declared.opening.Opening.{Opening as OpeningOf};
-ghost use Rattle.cut_server.specs.Documents.{refusal_line};
-ghost use Rattle.cut_server.specs.Ports.{both, change, input_told, output_told};
-ghost use Rattle.cut_server.specs.Runs.{JournalEnds, RunEnds, RunsOver, RefusalEnds, LineEnds, DocumentEnds, ServeEnds, CommandEnds, EndsWith};
+ghost use Rattle.command_ends.specs.Ports.{change, input_told, output_told};
+ghost use Rattle.list_commands.specs.Cuts.{namer_told};
+ghost use Rattle.cut_server.specs.Runs.{both, JournalEnds, RunEnds, RunsOver, DocumentEnds, ServeEnds, CommandEnds, EndsWith};
 ghost use Rattle.station_sessions.specs.Served.{IsRoomOf};
 ghost use Rattle.station_sessions.specs.SessionInside.{TrackOpening, opened_with};
 ghost use Rattle.edit_journal.specs.Turns.{AreFresh};
 
-use crate::command::{Command, command_in};
-use crate::document::{DocumentFault, open_document, refusal_line};
 use crate::stations::{Place, serve_opened};
-use crate::status::Status;
 use call_text::{CutCall, CutObject, CutPart, journal_text};
+use command_ends::{Status, end_with};
+use command_words::{Command, command_in};
 use cut_room::{Room, RoomBlank};
 use edit_apply::Editor;
 use edit_journal::{Naming, Pass};
+use input_files::{end_unopened, open_document};
 use line_words::Words;
-use otio_json::{DocCode, Opening};
+use list_commands::{CutPlace, list_cut, play_list};
+use otio_json::Opening;
+use reel_names::ReelNamer;
 use room_core::Entry;
 use room_files::Files;
 use room_halls::Hall;
@@ -201,17 +203,6 @@ fn run_plain<R: Wait, G: Gate, S: Source, K: Sink>(
     run_opened(rt, alloc, opening, input, output, gate)
 }
 
-// Refuses a document.
-fn refuse_document<K: Sink>(code: DocCode, at: u32, output: &mut K) -> Status
-    ensures { LineEnds (refusal_line code at) (output_told K.taken K.write_faults output.old)
-        (output_told K.taken K.write_faults output.new) result }
-{
-    match put(output, refusal_line(code, at).as_bytes()) {
-        Ok(()) => Status::Refused,
-        Err(_) => Status::WriteFault,
-    }
-}
-
 // A run of one station in the room of a document.
 fn run_document<R: Wait, G: Gate, F: Files, S: Source, K: Sink>(
     rt: &R,
@@ -229,9 +220,7 @@ fn run_document<R: Wait, G: Gate, F: Files, S: Source, K: Sink>(
 {
     match open_document(alloc, files, name, counting) {
         Ok(opening) => run_opened(rt, alloc, opening, input, output, gate),
-        Err(DocumentFault::ReadFault) => Status::ReadFault,
-        Err(DocumentFault::Refused { code, at }) => refuse_document(code, at, output),
-        Err(DocumentFault::Memory) => Status::OutOfMemory,
+        Err(fault) => end_unopened(fault, output),
     }
 }
 
@@ -256,20 +245,7 @@ fn serve_document<R: Threads + Wait + Sync, F: Files, K: Sink, H: Hall, G: Gate 
 {
     match open_document(alloc, files, name, counting) {
         Ok(opening) => serve_opened(rt, alloc, opening, place, files, hall, gate),
-        Err(DocumentFault::ReadFault) => Status::ReadFault,
-        Err(DocumentFault::Refused { code, at }) => refuse_document(code, at, output),
-        Err(DocumentFault::Memory) => Status::OutOfMemory,
-    }
-}
-
-// Refuses words that are no command.
-fn refuse<K: Sink>(output: &mut K) -> Status
-    ensures { RefusalEnds (output_told K.taken K.write_faults output.old)
-        (output_told K.taken K.write_faults output.new) result }
-{
-    match put(output, b"refused words\n") {
-        Ok(()) => Status::NoCommand,
-        Err(_) => Status::WriteFault,
+        Err(fault) => end_unopened(fault, output),
     }
 }
 
@@ -283,11 +259,12 @@ fn do_command<R: Threads + Wait + Sync, F: Files, S: Source, K: Sink, H: Hall, G
     output: &mut K,
     hall: &mut H,
     gate: &G,
+    namer: Box<dyn ReelNamer>,
 ) -> Status
     ensures { CommandEnds (change F.told files.old files.new)
         (change (input_told S.left S.read_faults) input.old input.new)
         (change (output_told K.taken K.write_faults) output.old output.new)
-        (change H.told hall.old hall.new) (command_of words.now) result }
+        (change H.told hall.old hall.new) (namer_told (rule namer) (given namer)) (command_of words.now) result }
 {
     match &command_in(words) {
         Some(Command::Run { tracks, reels }) => {
@@ -314,7 +291,24 @@ fn do_command<R: Threads + Wait + Sync, F: Files, S: Source, K: Sink, H: Hall, G
                 rt, alloc, document, counting, &place, files, output, hall, gate,
             )
         }
-        None => refuse(output),
+        Some(
+            Command::ListCut {
+                document,
+                counting,
+                journal,
+                point,
+            },
+        ) => {
+            let place = CutPlace {
+                document: *document,
+                counting: *counting,
+                journal: *journal,
+                point: *point,
+            };
+            list_cut(alloc, files, &place, namer, output)
+        }
+        Some(Command::PlayList { name, rate }) => play_list(alloc, files, name, *rate, output),
+        None => end_with(Status::NoCommand, b"refused words\n", output),
     }
 }
 
@@ -330,16 +324,22 @@ fn do_command<R: Threads + Wait + Sync, F: Files, S: Source, K: Sink, H: Hall, G
 /// room, and serves them all at once, each over its line. When all have ended, the journal's text is put into the file
 /// JOURNAL. A station that ends with a fault does not end the others.
 ///
+/// `list DOC RATE DROP JOURNAL POINT` puts the CMX 3600 list of the cut after the first POINT entries of the journal in the
+/// file JOURNAL, of at most 64 MiB, whose room the document describes. The namer gives its reels their names; a last word
+/// `numbered` tells the program which namer to hand in. `tape LIST RATE` puts the tape of the list in the file LIST, of at
+/// most 32 MiB.
+///
 /// | Status | Comes where |
 /// |---|---|
 /// | 0 | each input was read to its end, every line was answered, all was written |
-/// | 1 | a read of the input, of a line or of the document's file failed |
+/// | 1 | a read of the input, of a line or of a file failed |
 /// | 2 | a write of the output, of a line or of the journal's file failed |
 /// | 3 | the words are no command |
-/// | 4 | the document is refused, and a line tells its first fault with its place |
+/// | 4 | the document, the journal or the list is refused, and a line tells its first fault with its place |
 /// | 5 | the hall was not opened, or a station not seated: no session was begun |
-/// | 6 | there was no memory to begin with, or none for the journal's text |
+/// | 6 | there was no memory to begin with, or none for a list or for the journal's text |
 /// | 7 | the input, or a line, gave more than 64 MiB |
+/// | 8 | the cut has no list, and a line tells why |
 ///
 /// Of several stations the status is that of the lowest whose status is not 0, and then that of the journal's file.
 pub fn cut_main<R: Threads + Wait + Sync, F: Files, S: Source, K: Sink, H: Hall, G: Gate + Sync>(
@@ -351,16 +351,18 @@ pub fn cut_main<R: Threads + Wait + Sync, F: Files, S: Source, K: Sink, H: Hall,
     output: &mut K,
     hall: &mut H,
     gate: &G,
+    namer: Box<dyn ReelNamer>,
 ) -> u8
     // The headline: whatever the stations send at once, in whatever pieces, the room's journal is one legal serial history,
     // each committed edit stands in it once, after all its station had been told of, and every reply names its point there
-    // and says what the entries before it give. Linked items keep one offset at every point of it. `CommandEnds` says for
+    // and says what the entries before it give. Linked items keep one offset at every point of it. A list that is put, read
+    // again, plays as exactly the frames and weights of the cut. `CommandEnds` says for
     // each command and each status what was read, what was written and which count of faults rose, by what the files, the
     // input, the output and the hall told before and tell after.
     ensures { EndsWith result (CommandEnds (change F.told files.old files.new)
         (change (input_told S.left S.read_faults) input.old input.new)
         (change (output_told K.taken K.write_faults) output.old output.new)
-        (change H.told hall.old hall.new) (command_of words.now)) }
+        (change H.told hall.old hall.new) (namer_told (rule namer) (given namer)) (command_of words.now)) }
 {
-    do_command(rt, alloc, words, files, input, output, hall, gate).number()
+    do_command(rt, alloc, words, files, input, output, hall, gate, namer).number()
 }

@@ -4,14 +4,14 @@ ghost use Rattle.edit_journal.specs.Turns.{AreFresh};
 ghost use Rattle.otio_json.specs.Soundness.{IsSoundOpening};
 ghost use Rattle.otio_json.specs.declared.opening.Opening.{Opening as OpeningOf};
 ghost use Rattle.room_halls.specs.Stations.{HallTold};
-ghost use Rattle.cut_server.specs.Documents.{AreQuiet};
+ghost use Rattle.input_files.specs.Unopened.{AreQuiet};
 ghost use Rattle.cut_server.specs.Halls.{FileEnds, HallEnds, SessionsEnd, first_fault, line_at, or_next, status_of};
 ghost use Rattle.cut_server.specs.Seated.{AreSeated, CountsSeats, HasNumber, SeatedState, unseated};
 ghost use Rattle.station_sessions.specs.Served.{IsRoomOf};
 ghost use Rattle.station_sessions.specs.SessionInside.{TrackOpening, opened_with};
 
 use crate::seated::{SeatedStation, serve_all};
-use crate::status::Status;
+use command_ends::Status;
 use call_text::{CutCall, CutObject, CutPart, journal_text};
 use cut_room::{Room, RoomBlank};
 use edit_apply::Editor;

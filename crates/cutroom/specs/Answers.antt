@@ -2,10 +2,11 @@
 use Rattle.std.specs.Prelude.{◌≡◌, ℕ, Bool, true, false, ◌⊎◌, List, [], ◌∷◌, Option, Some, None, codes, bytes_eq, ◌==◌, if◌then◌else◌}
 use Rattle.room_ports.specs.Bytes.{Takes, TakesFront}
 use Rattle.room_ports.specs.Counts.{HasRisen}
-use Rattle.cut_server.specs.Commands.{asks_for_another_rate, command_of}
+use Rattle.command_words.specs.Commands.{asks_for_another_rate, command_of}
 use Rattle.room_files.specs.Files.{FilesTold}
 use Rattle.room_halls.specs.Stations.{HallTold}
-use Rattle.cut_server.specs.Ports.{Change, InputTold, OutputTold}
+use Rattle.command_ends.specs.Ports.{Change, InputTold, OutputTold}
+use Rattle.list_commands.specs.Cuts.{NamerTold}
 use Rattle.cut_server.specs.Runs.{CommandEnds, EndsWith}
 use Rattle.cutroom.specs.declared.notice.Notice.{Notice}
 use Rattle.cutroom.specs.declared.notice.Notice.TheVariants.{Help, Version}
@@ -23,12 +24,12 @@ NoticeEnds notice old new status =
     ((status ≡ 0) × (new.faults ≡ old.faults) × Takes old.taken new.taken (text_of notice))
     ⊎ ((status ≡ 2) × HasRisen old.faults new.faults × TakesFront old.taken new.taken (text_of notice))
 
--- by what its files, its input, its output and its hall told before and tell after
-module _ (files : Change FilesTold) (input : Change InputTold) (output : Change OutputTold) (hall : Change HallTold) where
+-- by what its files, its input, its output and its hall told before and tell after, and by the namer that it was handed
+module _ (files : Change FilesTold) (input : Change InputTold) (output : Change OutputTold) (hall : Change HallTold) (namer : NamerTold) where
   abbrev pub EndsBy : Option Notice → List (List ℕ) → ℕ → Type 0
   EndsBy (Some notice) words status =
       files.Untouched × input.Untouched × hall.Untouched × NoticeEnds notice output.before output.after status
-  EndsBy None words status = EndsWith status (CommandEnds files input output hall (command_of words))
+  EndsBy None words status = EndsWith status (CommandEnds files input output hall namer (command_of words))
 
   abbrev pub ProgramEnds : List (List ℕ) → ℕ → Type 0
   ProgramEnds words status = EndsBy (notice_of words) words status
@@ -41,7 +42,7 @@ rate_complaint false = []
 -- what standard error is told of these words at a status, nothing where the status says enough
 abbrev pub complaint_of : List (List ℕ) → ℕ → List ℕ
 complaint_of words status =
-    if status == 1 then codes "cutroom: standard input, a line or the document could not be read\n"
+    if status == 1 then codes "cutroom: standard input, a line or a file could not be read\n"
     else (if status == 2 then codes "cutroom: standard output, a line or the journal could not be written\n"
     else (if status == 3 then rate_complaint (asks_for_another_rate words)
     else (if status == 5 then codes "cutroom: the address could not be opened, or a station not seated\n"

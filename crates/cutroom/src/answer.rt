@@ -1,11 +1,13 @@
 // What the program answers to its words.
 ghost use Rattle.std.specs.Prelude.{◌≡◌};
-ghost use Rattle.cut_server.specs.Ports.{change, input_told, output_told};
+ghost use Rattle.command_ends.specs.Ports.{change, input_told, output_told};
+ghost use Rattle.list_commands.specs.Cuts.{namer_told};
 ghost use Rattle.cutroom.specs.Answers.{ProgramEnds, complaint_of, rate_complaint};
 
 use crate::notice::Notice;
 use cut_server::{asks_for_another_rate, cut_main};
 use line_words::Words;
+use reel_names::ReelNamer;
 use room_files::Files;
 use room_halls::Hall;
 use room_ports::{OpenGate, Sink, Source};
@@ -23,15 +25,18 @@ pub fn answer<R: Threads + Wait + Sync, F: Files, S: Source, K: Sink, H: Hall>(
     input: &mut S,
     output: &mut K,
     hall: &mut H,
+    namer: Box<dyn ReelNamer>,
 ) -> u8
     ensures { ProgramEnds (change F.told files.old files.new)
         (change (input_told S.left S.read_faults) input.old input.new)
         (change (output_told K.taken K.write_faults) output.old output.new)
-        (change H.told hall.old hall.new) words.now result }
+        (change H.told hall.old hall.new) (namer_told (rule namer) (given namer)) words.now result }
 {
     match Notice::asked_by(words) {
         Some(notice) => notice.tell(output),
-        None => cut_main(rt, alloc, words, files, input, output, hall, &OpenGate),
+        None => cut_main(
+            rt, alloc, words, files, input, output, hall, &OpenGate, namer,
+        ),
     }
 }
 
@@ -40,7 +45,7 @@ pub fn complaint(words: &Words, status: u8) -> &'static str
     ensures { result.now ≡ complaint_of words.now status }
 {
     match status {
-        1 => "cutroom: standard input, a line or the document could not be read\n",
+        1 => "cutroom: standard input, a line or a file could not be read\n",
         2 => "cutroom: standard output, a line or the journal could not be written\n",
         3 => rate_complaint(asks_for_another_rate(words)),
         5 => "cutroom: the address could not be opened, or a station not seated\n",

@@ -12,27 +12,40 @@ mod tests;
 
 use answer::{answer, complaint};
 use arguments::command_words;
+use cut_server::wants_numbers;
 use line_words::Memory;
 use memory::keep_freed_memory;
+use reel_names::{AsIs, Numbered, ReelNamer};
 use room_files::StdFiles;
 use room_halls::TcpHall;
 use room_ports::{StdSink, StdSource, put};
 use std::process::ExitCode;
 
-/// The status of a program that found no memory for its words, or was given more words than a list of them takes.
-const NO_WORDS: u8 = 6;
+/// The status of a program that found no memory to begin with, or was given more words than a list of them takes.
+const OUT_OF_MEMORY: u8 = 6;
 
 fn main(rt: HostRuntime) -> ExitCode {
     let alloc = rt.alloc();
     keep_freed_memory(alloc);
     let words = match command_words(&rt, alloc) {
         Ok(words) => words,
-        Err(Memory) => return ExitCode::from(NO_WORDS),
+        Err(Memory) => return ExitCode::from(OUT_OF_MEMORY),
     };
     let mut files = StdFiles::new(&rt);
     let mut input = StdSource::new(rt.stdin());
     let mut output = StdSink::new(rt.stdout());
     let mut hall = TcpHall::new(alloc, &rt, rt.stderr());
+    let namer: Box<dyn ReelNamer> = if wants_numbers(&words) {
+        match Box::new(alloc, Numbered::new(alloc)) {
+            Ok(namer) => namer,
+            Err(_) => return ExitCode::from(OUT_OF_MEMORY),
+        }
+    } else {
+        match Box::new(alloc, AsIs::new(alloc)) {
+            Ok(namer) => namer,
+            Err(_) => return ExitCode::from(OUT_OF_MEMORY),
+        }
+    };
     let status = answer(
         &rt,
         alloc,
@@ -41,6 +54,7 @@ fn main(rt: HostRuntime) -> ExitCode {
         &mut input,
         &mut output,
         &mut hall,
+        namer,
     );
     let _ = put(
         &mut StdSink::new(rt.stderr()),

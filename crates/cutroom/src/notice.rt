@@ -16,11 +16,15 @@ run TRACKS REELS   one station on an empty cut: lines from standard input; repli
 run DOC RATE DROP  the same on the cut that a document describes
 serve DOC RATE DROP STATIONS ADDRESS JOURNAL
                    that many stations at once on such a cut, each over a connection to ADDRESS; the journal to the file JOURNAL
+list DOC RATE DROP JOURNAL POINT [numbered]
+                   the CMX 3600 list of the cut after POINT entries of the journal; numbered: reels are R001, R002 and so on
+tape LIST RATE     what a CMX 3600 list shows: for V, A and A2 each run of frames
 --help             this text
 --version          the version
 
 TRACKS is 1 to 32 and REELS is 0 to 999. DOC is the path of an OpenTimelineIO file, RATE is its frames a second, one of
 23.976, 24, 25, 29.97 and 30, and DROP is ndf, or drop at 29.97. STATIONS is 1 to 16, and ADDRESS is as localhost:7000.
+JOURNAL and LIST are paths of files, and POINT 0 is the document's own cut.
 
 Examples:
   printf 'items 0\\nview 0 0 96\\n' | cutroom run examples/kitchen.otio 24 ndf

@@ -3,6 +3,7 @@ use crate::answer::{answer, complaint};
 use crate::arguments::words_after_the_name;
 use crate::notice::{HELP, Notice, VERSION};
 use line_words::{Memory, Words};
+use reel_names::AsIs;
 use room_files::MemFiles;
 use room_halls::MemHall;
 use room_ports::{MemSink, MemSource};
@@ -18,11 +19,15 @@ run TRACKS REELS   one station on an empty cut: lines from standard input; repli
 run DOC RATE DROP  the same on the cut that a document describes
 serve DOC RATE DROP STATIONS ADDRESS JOURNAL
                    that many stations at once on such a cut, each over a connection to ADDRESS; the journal to the file JOURNAL
+list DOC RATE DROP JOURNAL POINT [numbered]
+                   the CMX 3600 list of the cut after POINT entries of the journal; numbered: reels are R001, R002 and so on
+tape LIST RATE     what a CMX 3600 list shows: for V, A and A2 each run of frames
 --help             this text
 --version          the version
 
 TRACKS is 1 to 32 and REELS is 0 to 999. DOC is the path of an OpenTimelineIO file, RATE is its frames a second, one of
 23.976, 24, 25, 29.97 and 30, and DROP is ndf, or drop at 29.97. STATIONS is 1 to 16, and ADDRESS is as localhost:7000.
+JOURNAL and LIST are paths of files, and POINT 0 is the document's own cut.
 
 Examples:
   printf 'items 0\\nview 0 0 96\\n' | cutroom run examples/kitchen.otio 24 ndf
@@ -103,10 +108,13 @@ fn status_of<R: Threads + Wait + Sync>(
     words: &Words,
     input: &mut MemSource,
     output: &mut MemSink,
-) -> u8 {
+) -> Result<u8, Memory> {
+    let namer = Box::new(alloc, AsIs::new(alloc))?;
     let mut files = MemFiles::new(alloc, Vec::new(alloc));
     let mut hall = MemHall::new(alloc, Vec::new(alloc), Vec::new(alloc));
-    answer(rt, alloc, words, &mut files, input, output, &mut hall)
+    Ok(answer(
+        rt, alloc, words, &mut files, input, output, &mut hall, namer,
+    ))
 }
 
 // The status of an answer to these words over the line `point`, where these reads and writes fail, and whether this text
@@ -124,7 +132,7 @@ fn answered<R: Threads + Wait + Sync>(
     pieces.push(b"point\n".to_vec(alloc)?)?;
     let mut input = MemSource::new(pieces, reads.to_vec(alloc)?);
     let mut output = MemSink::new(alloc, writes.to_vec(alloc)?);
-    let status = status_of(rt, alloc, &words, &mut input, &mut output);
+    let status = status_of(rt, alloc, &words, &mut input, &mut output)?;
     let complains = !complaint(&words, status).is_empty();
     Ok((status, output.bytes() == Some(text.as_bytes()), complains))
 }
@@ -133,7 +141,7 @@ fn answered<R: Threads + Wait + Sync>(
 #[test]
 fn words_are_answered_once(rt: HostRuntime) -> Result<(), Memory> {
     let alloc = rt.alloc();
-    let cases: [(&[&str], &[u32], &[u32], u8, &str, bool); 11] = [
+    let cases: [(&[&str], &[u32], &[u32], u8, &str, bool); 13] = [
         (&["--help"], &[1], &[], 0, HELP, false),
         (&["--version"], &[1], &[], 0, VERSION, false),
         (&["--version"], &[], &[1], 2, "", true),
@@ -163,6 +171,8 @@ fn words_are_answered_once(rt: HostRuntime) -> Result<(), Memory> {
             false,
         ),
         (&["run", "none.otio", "24", "ndf"], &[], &[], 1, "", true),
+        (&["tape", "none.edl", "50"], &[1], &[], 3, "refused words\n", true),
+        (&["tape", "none.edl", "24"], &[1], &[], 1, "", true),
         (
             &["run", "1", "0"],
             &[],

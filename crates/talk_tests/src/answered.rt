@@ -1,6 +1,7 @@
 // The program's call over objects in memory, by one station, and a talk held against it.
 use cut_server::cut_main;
 use line_words::Words;
+use reel_names::AsIs;
 use room_files::MemFiles;
 use room_halls::MemHall;
 use room_ports::{MemSink, MemSource, OpenGate};
@@ -27,12 +28,13 @@ pub(crate) fn run_over<R: Threads + Wait + Sync>(
     words: &Words,
     input: &mut MemSource,
     output: &mut MemSink,
-) -> u8 {
+) -> Result<u8, Fail> {
+    let namer = Box::new(alloc, AsIs::new(alloc))?;
     let mut files = MemFiles::new(alloc, Vec::new(alloc));
     let mut hall = MemHall::new(alloc, Vec::new(alloc), Vec::new(alloc));
-    cut_main(
-        rt, alloc, words, &mut files, input, output, &mut hall, &OpenGate,
-    )
+    Ok(cut_main(
+        rt, alloc, words, &mut files, input, output, &mut hall, &OpenGate, namer,
+    ))
 }
 
 /// The status and the output of a run with these words, over these pieces of input and where these calls fail.
@@ -50,7 +52,7 @@ pub(crate) fn ended<R: Threads + Wait + Sync>(
     }
     let mut input = MemSource::new(input, reads.to_vec(alloc)?);
     let mut output = MemSink::new(alloc, writes.to_vec(alloc)?);
-    let status = run_over(rt, alloc, &words_in(alloc, words)?, &mut input, &mut output);
+    let status = run_over(rt, alloc, &words_in(alloc, words)?, &mut input, &mut output)?;
     let bytes = match output.bytes() {
         Some(bytes) => bytes.to_vec(alloc)?,
         None => Vec::new(alloc),
@@ -85,6 +87,6 @@ pub(crate) fn is_answered<R: Threads + Wait + Sync>(
     pieces.push(sent)?;
     let mut input = MemSource::new(pieces, Vec::new(alloc));
     let mut output = MemSink::new(alloc, Vec::new(alloc));
-    let status = run_over(rt, alloc, &words_in(alloc, words)?, &mut input, &mut output);
+    let status = run_over(rt, alloc, &words_in(alloc, words)?, &mut input, &mut output)?;
     Ok(status == 0 && output.bytes() == Some(wanted.as_slice()))
 }

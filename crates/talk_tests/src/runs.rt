@@ -257,7 +257,7 @@ fn long_input<R: Threads + Wait + Sync>(
         &words_in(alloc, "run 1 1")?,
         &mut input,
         &mut output,
-    );
+    )?;
     let told = output.bytes().ok_or("told")?;
     Ok((status, told.to_vec(alloc)?))
 }

@@ -1,4 +1,7 @@
 use Rattle.std.proofs.Common.{inl, inr, refl}
+use Rattle.command_ends.specs.Ports.{change, output_told}
+use Rattle.input_files.specs.Documents.{Describes, IsDocumentRefused, document_line}
+use Rattle.input_files.proofs.Endings.{unopened}
 use Rattle.cut_server.proofs.main_call.run_document.Goals as goal
 
 pub returns-in-Ok : goal.returns-in-Ok
@@ -7,25 +10,17 @@ returns-in-Ok g c = (
   inl (record { opening = c.in-Ok.opening; described = c.in-Ok.ensures.opens; quiet = c.in-Ok.ensures.counts; ends = c.run_opened.ensures }),
 )
 
-pub returns-in-Err-ReadFault : goal.returns-in-Err-ReadFault
-returns-in-Err-ReadFault g c =
-    (c.in-Err-ReadFault.ensures.same, inr (refl, inr (rw c.in-Err-ReadFault.field-0-is at c.in-Err-ReadFault.ensures.counts, refl)))
-
-pub returns-in-Err-Refused : goal.returns-in-Err-Refused
-returns-in-Err-Refused g c = (
-  c.in-Err-Refused.ensures.same,
-  inr (
-    refl,
-    inl (record {
-      code = c.in-Err-Refused.code;
-      at = c.in-Err-Refused.at;
-      refused = rw c.in-Err-Refused.field-0-is at c.in-Err-Refused.ensures.opens;
-      quiet = rw c.in-Err-Refused.field-0-is at c.in-Err-Refused.ensures.counts;
-      line = rw c.in-Err-Refused.field-0-is at c.refuse_document.ensures;
-    }),
-  ),
-)
-
-pub returns-in-Err-Memory : goal.returns-in-Err-Memory
-returns-in-Err-Memory g c =
-    (c.in-Err-Memory.ensures.same, inr (refl, inr (rw c.in-Err-Memory.field-0-is at c.in-Err-Memory.ensures.counts, refl)))
+pub returns-in-Err : goal.returns-in-Err
+returns-in-Err g c =
+    let before = g.F.Files.told c.args.files.now in
+    let after = g.F.Files.told c.open_document.new.files in
+    let content = before.file c.args.name.now in
+    (
+      c.in-Err.ensures.same,
+      inr (
+        refl,
+        unopened (Describes c.args.counting.now content) (IsDocumentRefused c.args.counting.now content) document_line before after
+        (change (output_told g.K.Sink.taken g.K.Sink.write_faults) c.args.output.now c.end_unopened.new.output) c.in-Err.fault c.end_unopened.result c.in-Err.ensures.opens
+        c.in-Err.ensures.counts c.end_unopened.ensures,
+      ),
+    )

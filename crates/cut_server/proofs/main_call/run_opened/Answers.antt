@@ -1,5 +1,5 @@
 use Rattle.std.proofs.Common.{refl}
-use Rattle.cut_server.proofs.Openings.{sound_opens}
+use Rattle.input_files.proofs.Openings.{sound_opens}
 use Rattle.cut_server.proofs.main_call.run_opened.Goals as goal
 
 pub new-requires-clause-opens : goal.new-requires-clause-opens

@@ -2,7 +2,7 @@ use Rattle.std.proofs.Common.{ℕ, subst, sym}
 use Rattle.edit_journal.specs.Turns.{AreFresh}
 use Rattle.station_sessions.specs.Served.{IsRoomOf}
 use Rattle.station_sessions.specs.SessionInside.{TrackRoom}
-use Rattle.cut_server.specs.Documents.{AreQuiet}
+use Rattle.input_files.specs.Unopened.{AreQuiet}
 use Rattle.cut_server.specs.Halls.{FileEnds, HallEnds}
 use Rattle.cut_server.proofs.Closing.{one_room}
 use Rattle.cut_server.proofs.stations.serve_blank.Goals as goal

@@ -1,7 +1,7 @@
 use Rattle.std.proofs.Common.{ℕ, refl, subst}
-use Rattle.cut_server.specs.Documents.{AreQuiet}
+use Rattle.input_files.specs.Unopened.{AreQuiet}
 use Rattle.cut_server.specs.Halls.{FileEnds, HallEnds}
-use Rattle.cut_server.proofs.Openings.{sound_opens}
+use Rattle.input_files.proofs.Openings.{sound_opens}
 use Rattle.cut_server.proofs.stations.serve_opened.Goals as goal
 
 pub new-requires-clause-opens : goal.new-requires-clause-opens

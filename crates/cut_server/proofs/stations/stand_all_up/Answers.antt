@@ -3,7 +3,7 @@ use Rattle.std.specs.Vec.Iter.{into_iter_items}
 use Rattle.std.proofs.lemmas.List.{length-append, append-nil, nil_from_length}
 use Rattle.cut_server.specs.Halls.{first_fault, or_next, status_of}
 use Rattle.cut_server.specs.Seated.{SeatedState}
-use Rattle.cut_server.specs.declared.status.Status.{Status}
+use Rattle.command_ends.specs.declared.status.Status.{Status}
 use Rattle.cut_server.proofs.AllStations.{as_many, ends_more, has_pass, number_is}
 use Rattle.cut_server.proofs.Seating.{behind_at, fault_more, free_more, held_on, is_within, line_more, passes_more, told_line}
 use Rattle.cut_server.proofs.stations.stand_all_up.Goals as goal

@@ -1,0 +1,236 @@
+-- The words that the program takes. `run` TRACKS REELS asks for one station in a plain room, with TRACKS from 1 to 32 and
+-- REELS from 0 to 999. `run` DOC RATE DROP asks for one in the room that a document describes: DOC names its file, RATE is
+-- a decimal number that stands for one of the five rates of a sequence, and DROP is `drop`, at 30000/1001 alone, or `ndf`.
+-- `serve` DOC RATE DROP STATIONS ADDRESS JOURNAL asks for STATIONS of them, from 1 to 16, in such a room, over a hall at
+-- ADDRESS, and for the journal in the file JOURNAL. `list` DOC RATE DROP JOURNAL POINT asks for the edit decision list of the
+-- cut after POINT entries of the journal in the file JOURNAL, whose room the document describes; a last word `numbered` says
+-- how its reels are to be named. `tape` LIST RATE asks for the tape of the list in the file LIST.
+use Rattle.std.specs.Prelude.{ℕ, ◌≤◌, Bool, true, false, ◌&&◌, ◌||◌, ◌==◌, List, [], ◌∷◌, Option, Some, None, Result, Ok, Err, option_and_then, is_some, is_none, slice_get, slice_index_or, length, nat_le, codes, bytes_eq, if◌then◌else◌}
+use Rattle.line_words.specs.Digits.{number_of}
+use Rattle.line_words.specs.declared.numbers.NumberFault.{NumberFault}
+use Rattle.json_tokens.specs.ReadingNumerals.{numeral_in}
+use Rattle.otio_tracks.specs.Times.{rate_meant}
+use Rattle.timecode12.specs.Numbers.{Counted, sequence_rate}
+use Rattle.timecode12.specs.declared.rate.SequenceRate.{SequenceRate}
+use Rattle.timecode12.specs.declared.rate.SequenceRate.TheVariants.{F23976, F24, F25, F2997, F30}
+use Rattle.command_words.specs.declared.command.Command.{Command}
+use Rattle.command_words.specs.declared.command.Command.TheVariants as command
+
+-- what the program is asked for: a station in a plain room of so many tracks and reels, or in the room of a document of
+-- this name, whose frames are counted so
+pub data Asked : Type 0 where
+  RunPlain : ℕ → ℕ → Asked
+  RunDocument : List ℕ → Counted → Asked
+  -- so many stations in such a room, over a hall at this address, and the journal in the file of this name
+  Serve : List ℕ → Counted → ℕ → List ℕ → List ℕ → Asked
+  -- the list of the cut after so many entries of the journal in a file, in the room of a document
+  ListCut : List ℕ → Counted → List ℕ → ℕ → Asked
+  -- the tape of the list in a file, at a rate
+  PlayList : List ℕ → SequenceRate → Asked
+
+-- ---- a plain room
+
+-- the least and the most tracks, and the most reels
+abbrev pub least_tracks : ℕ
+least_tracks = 1
+
+abbrev pub most_tracks : ℕ
+most_tracks = 32
+
+abbrev pub most_reels : ℕ
+most_reels = 999
+
+abbrev pub within : Result ℕ NumberFault → ℕ → ℕ → Option ℕ
+within (Ok n) least most = if nat_le least n && nat_le n most then Some n else None
+within (Err fault) least most = None
+
+-- a word that is a number within bounds
+abbrev pub number_within : List ℕ → ℕ → ℕ → Option ℕ
+number_within word least most = within (number_of word) least most
+
+abbrev pub plain_asked : Option ℕ → Option ℕ → Option Asked
+plain_asked None reels = None
+plain_asked (Some tracks) None = None
+plain_asked (Some tracks) (Some reels) = Some (RunPlain tracks reels)
+
+abbrev pub plain_of : List ℕ → List ℕ → Option Asked
+plain_of tracks reels = plain_asked (number_within tracks least_tracks most_tracks) (number_within reels 0 most_reels)
+
+-- ---- the room of a document
+
+abbrev pub sequence_of : ℕ × ℕ → Option SequenceRate
+sequence_of rate = sequence_rate rate.0 rate.1
+
+-- the rate of a sequence that a word spells
+abbrev pub rate_of_word : List ℕ → Option SequenceRate
+rate_of_word word = option_and_then sequence_of (option_and_then rate_meant (numeral_in word))
+
+abbrev pub drop_of_word : List ℕ → Option Bool
+drop_of_word word = if bytes_eq word (codes "drop") then Some true else if bytes_eq word (codes "ndf") then Some false else None
+
+-- drop-frame counting is at 30000/1001 alone
+abbrev pub drop_frame_at : SequenceRate → Option Counted
+drop_frame_at F23976 = None
+drop_frame_at F24 = None
+drop_frame_at F25 = None
+drop_frame_at F2997 = Some (record { rate = F2997; drop_frame = true })
+drop_frame_at F30 = None
+
+abbrev pub counted_by : SequenceRate → Bool → Option Counted
+counted_by rate true = drop_frame_at rate
+counted_by rate false = Some (record { rate = rate; drop_frame = false })
+
+abbrev pub counting_in : Option SequenceRate → Option Bool → Option Counted
+counting_in None drop = None
+counting_in (Some rate) None = None
+counting_in (Some rate) (Some drop) = counted_by rate drop
+
+-- how frames are counted, by these words
+abbrev pub counting_of : List ℕ → List ℕ → Option Counted
+counting_of rate drop = counting_in (rate_of_word rate) (drop_of_word drop)
+
+abbrev pub counted_so : List ℕ → Option Counted → Option Asked
+counted_so document None = None
+counted_so document (Some counting) = Some (RunDocument document counting)
+
+abbrev pub document_of : List ℕ → List ℕ → List ℕ → Option Asked
+document_of document rate drop = counted_so document (counting_of rate drop)
+
+-- ---- stations of a hall
+
+-- the least and the most stations
+abbrev pub least_stations : ℕ
+least_stations = 1
+
+abbrev pub most_stations : ℕ
+most_stations = 16
+
+abbrev pub served_so : List ℕ → List ℕ → List ℕ → Option Counted → Option ℕ → Option Asked
+served_so document address journal None stations = None
+served_so document address journal (Some counting) None = None
+served_so document address journal (Some counting) (Some stations) = Some (Serve document counting stations address journal)
+
+abbrev pub hall_of : List ℕ → List ℕ → List ℕ → List ℕ → List ℕ → List ℕ → Option Asked
+hall_of document rate drop stations address journal =
+    served_so document address journal (counting_of rate drop) (number_within stations least_stations most_stations)
+
+-- ---- edit decision lists
+
+abbrev pub listed_so : List ℕ → List ℕ → Option Counted → Result ℕ NumberFault → Option Asked
+listed_so document journal None point = None
+listed_so document journal (Some counting) (Err fault) = None
+listed_so document journal (Some counting) (Ok point) = Some (ListCut document counting journal point)
+
+abbrev pub cut_of : List ℕ → List ℕ → List ℕ → List ℕ → List ℕ → Option Asked
+cut_of document rate drop journal point = listed_so document journal (counting_of rate drop) (number_of point)
+
+abbrev pub played_so : List ℕ → Option SequenceRate → Option Asked
+played_so name None = None
+played_so name (Some rate) = Some (PlayList name rate)
+
+-- ---- the table
+
+abbrev pub run_of : List (List ℕ) → Option Asked
+run_of [] = None
+run_of (a ∷ []) = None
+run_of (tracks ∷ reels ∷ []) = plain_of tracks reels
+run_of (document ∷ rate ∷ drop ∷ []) = document_of document rate drop
+run_of (a ∷ b ∷ c ∷ d ∷ words) = None
+
+abbrev pub serve_of : List (List ℕ) → Option Asked
+serve_of [] = None
+serve_of (a ∷ []) = None
+serve_of (a ∷ b ∷ []) = None
+serve_of (a ∷ b ∷ c ∷ []) = None
+serve_of (a ∷ b ∷ c ∷ d ∷ []) = None
+serve_of (a ∷ b ∷ c ∷ d ∷ e ∷ []) = None
+serve_of (document ∷ rate ∷ drop ∷ stations ∷ address ∷ journal ∷ []) = hall_of document rate drop stations address journal
+serve_of (a ∷ b ∷ c ∷ d ∷ e ∷ f ∷ g ∷ words) = None
+
+abbrev pub list_of : List (List ℕ) → Option Asked
+list_of [] = None
+list_of (a ∷ []) = None
+list_of (a ∷ b ∷ []) = None
+list_of (a ∷ b ∷ c ∷ []) = None
+list_of (a ∷ b ∷ c ∷ d ∷ []) = None
+list_of (document ∷ rate ∷ drop ∷ journal ∷ point ∷ []) = cut_of document rate drop journal point
+list_of (document ∷ rate ∷ drop ∷ journal ∷ point ∷ last ∷ []) =
+    if bytes_eq last (codes "numbered") then cut_of document rate drop journal point else None
+list_of (a ∷ b ∷ c ∷ d ∷ e ∷ f ∷ g ∷ words) = None
+
+abbrev pub tape_of : List (List ℕ) → Option Asked
+tape_of [] = None
+tape_of (a ∷ []) = None
+tape_of (name ∷ rate ∷ []) = played_so name (rate_of_word rate)
+tape_of (a ∷ b ∷ c ∷ words) = None
+
+-- what words that begin so ask for
+abbrev pub asked_of : List ℕ → List (List ℕ) → Option Asked
+asked_of first words =
+    if bytes_eq first (codes "run") then run_of words else
+    if bytes_eq first (codes "serve") then serve_of words else
+    if bytes_eq first (codes "list") then list_of words else
+    if bytes_eq first (codes "tape") then tape_of words else None
+
+-- what these words ask for
+abbrev pub command_of : List (List ℕ) → Option Asked
+command_of [] = None
+command_of (first ∷ words) = asked_of first words
+
+-- ---- a rate that no sequence has
+
+abbrev pub is_word : Option (List ℕ) → List ℕ → Bool
+is_word None other = false
+is_word (Some word) other = bytes_eq word other
+
+-- as many words as a command over a file has that begins so; the third of them is its RATE
+abbrev pub is_over_file : List (List ℕ) → Bool
+is_over_file words =
+    (is_word (slice_get words 0) (codes "run") && length words == 4)
+    || ((is_word (slice_get words 0) (codes "serve") && length words == 7)
+    || ((is_word (slice_get words 0) (codes "list") && (length words == 6 || length words == 7))
+    || (is_word (slice_get words 0) (codes "tape") && length words == 3)))
+
+-- a number, but the rate of no sequence
+abbrev pub is_other_rate : Option (List ℕ) → Bool
+is_other_rate None = false
+is_other_rate (Some word) = is_some (numeral_in word) && is_none (rate_of_word word)
+
+-- a command over a file whose RATE is so
+abbrev pub asks_for_another_rate : List (List ℕ) → Bool
+asks_for_another_rate words = is_over_file words && is_other_rate (slice_get words 2)
+
+-- ---- numbered reels
+
+abbrev pub asks_for_list : Option Asked → Bool
+asks_for_list None = false
+asks_for_list (Some (RunPlain tracks reels)) = false
+asks_for_list (Some (RunDocument document counting)) = false
+asks_for_list (Some (Serve document counting stations address journal)) = false
+asks_for_list (Some (ListCut document counting journal point)) = true
+asks_for_list (Some (PlayList name rate)) = false
+
+-- a list is asked for, and the last word says that its reels are to be numbered
+abbrev pub wants_numbers : List (List ℕ) → Bool
+wants_numbers words = asks_for_list (command_of words) && is_word (slice_get words 6) (codes "numbered")
+
+-- ---- a command as the code keeps it
+
+-- one of so many words
+abbrev pub word_at : ℕ → List (List ℕ) → List ℕ
+word_at k words = slice_index_or words k []
+
+abbrev pub asked_by : Command → Asked
+asked_by (command.Run tracks reels) = RunPlain tracks reels
+asked_by (command.RunDocument document counting) = RunDocument document.now counting
+asked_by (command.Serve document counting stations address journal) = Serve document.now counting stations address.now journal.now
+asked_by (command.ListCut document counting journal point) = ListCut document.now counting journal.now point
+asked_by (command.PlayList name rate) = PlayList name.now rate
+
+-- so many tracks and reels as a plain room may have, and so many stations as a hall
+abbrev pub HasBounds : Command → Type 0
+HasBounds (command.Run tracks reels) = (least_tracks ≤ tracks) × (tracks ≤ most_tracks) × (reels ≤ most_reels)
+HasBounds (command.RunDocument document counting) = Unit {0}
+HasBounds (command.Serve document counting stations address journal) = (least_stations ≤ stations) × (stations ≤ most_stations)
+HasBounds (command.ListCut document counting journal point) = Unit {0}
+HasBounds (command.PlayList name rate) = Unit {0}

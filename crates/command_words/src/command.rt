@@ -1,0 +1,320 @@
+// The words of the program's command line.
+ghost use Rattle.std.specs.Prelude.{◌≡◌, ◌<◌, IfSome, Some, drop, is_some, codes, length, option_and_then, option_map, slice_get};
+ghost use Rattle.json_tokens.specs.ReadingNumerals.{numeral_in};
+ghost use Rattle.ratio_time.specs.Rates.{rate_value};
+ghost use Rattle.command_words.specs.Commands.{command_of, run_of, serve_of, list_of, tape_of, plain_of, document_of, hall_of, cut_of};
+ghost use Rattle.command_words.specs.Commands.{counting_of, rate_of_word, sequence_of, number_within, asked_by, HasBounds, is_over_file, is_other_rate, asks_for_another_rate, is_word, wants_numbers, word_at};
+
+use json_tree::numeral;
+use line_words::{Words, number};
+use ratio_time::{Numeral, rate_of};
+use timecode12::{Counting, SequenceRate};
+
+/// The least and the most tracks, and the most reels, of a plain room.
+const LEAST_TRACKS: u32 = 1;
+
+const MOST_TRACKS: u32 = 32;
+
+const MOST_REELS: u32 = 999;
+
+/// The least and the most stations of a hall.
+const LEAST_STATIONS: u32 = 1;
+
+const MOST_STATIONS: u32 = 16;
+
+/// What the program is asked for.
+#[derive(Clone, Copy)]
+pub enum Command<'a> {
+    /// One station over input and output, in a plain room of so many tracks and reels.
+    Run {
+        tracks: u32,
+        reels: u32,
+    },
+    /// The same in the room that the document of this name describes, whose frames are counted so.
+    RunDocument {
+        document: &'a str,
+        counting: Counting,
+    },
+    /// So many stations in such a room, over a hall at this address, and the journal's text in the file of this name.
+    Serve {
+        document: &'a str,
+        counting: Counting,
+        stations: u32,
+        address: &'a str,
+        journal: &'a str,
+    },
+    /// The list of the cut after so many entries of the journal in a file, in the room of such a document.
+    ListCut {
+        document: &'a str,
+        counting: Counting,
+        journal: &'a str,
+        point: u32,
+    },
+    /// The tape of the list in the file of this name, at a rate.
+    PlayList {
+        name: &'a str,
+        rate: SequenceRate,
+    },
+}
+
+// A number of at least `least` and at most `most`.
+fn number_within(word: &str, least: u32, most: u32) -> Option<u32>
+    ensures { result ≡ number_within word.now least most }
+{
+    match number(word.as_bytes()) {
+        Ok(n) => {
+            if least <= n && n <= most {
+                Some(n)
+            } else {
+                None
+            }
+        }
+        Err(_) => None,
+    }
+}
+
+// The rate of a sequence that a number stands for.
+fn sequence_rate(number: &Numeral) -> Option<SequenceRate>
+    ensures { result ≡ option_and_then sequence_of (rate_value number.now) }
+{
+    match rate_of(number) {
+        Some(rate) => SequenceRate::of(&rate),
+        None => None,
+    }
+}
+
+// The rate of a sequence that a word spells.
+fn rate(word: &str) -> Option<SequenceRate>
+    ensures { result ≡ rate_of_word word.now }
+{
+    match numeral(word.as_bytes()) {
+        Some(number) => sequence_rate(&number),
+        None => None,
+    }
+}
+
+// How frames are counted, by these words.
+fn counting(rate_word: &str, drop_word: &str) -> Option<Counting>
+    ensures { result ≡ counting_of rate_word.now drop_word.now }
+{
+    let rate = rate(rate_word)?;
+    match drop_word {
+        "drop" => Counting::new(rate, true),
+        "ndf" => Counting::new(rate, false),
+        _ => None,
+    }
+}
+
+fn plain_room<'a>(tracks: &str, reels: &str) -> Option<Command<'a>>
+    ensures command { option_map asked_by result ≡ plain_of tracks.now reels.now }
+    ensures bound { IfSome result HasBounds }
+{
+    let tracks = number_within(tracks, LEAST_TRACKS, MOST_TRACKS)?;
+    let reels = number_within(reels, 0, MOST_REELS)?;
+    Some(Command::Run { tracks, reels })
+}
+
+fn room_of<'a>(document: &'a str, rate: &str, drop: &str) -> Option<Command<'a>>
+    ensures command { option_map asked_by result ≡ document_of document.now rate.now drop.now }
+    ensures bound { IfSome result HasBounds }
+{
+    let counting = counting(rate, drop)?;
+    Some(Command::RunDocument { document, counting })
+}
+
+fn hall_of<'a>(
+    document: &'a str,
+    rate: &str,
+    drop: &str,
+    stations: &str,
+    address: &'a str,
+    journal: &'a str,
+) -> Option<Command<'a>>
+    ensures command { option_map asked_by result
+        ≡ hall_of document.now rate.now drop.now stations.now address.now journal.now }
+    ensures bound { IfSome result HasBounds }
+{
+    let counting = counting(rate, drop)?;
+    let stations = number_within(stations, LEAST_STATIONS, MOST_STATIONS)?;
+    Some(Command::Serve {
+        document,
+        counting,
+        stations,
+        address,
+        journal,
+    })
+}
+
+// What the words after `run` ask for.
+fn run_in(words: &Words) -> Option<Command<'_>>
+    ensures command { option_map asked_by result ≡ run_of (drop 1 words.now) }
+    ensures bound { IfSome result HasBounds }
+{
+    match words.count() {
+        3 => plain_room(words.word(1), words.word(2)),
+        4 => room_of(words.word(1), words.word(2), words.word(3)),
+        _ => None,
+    }
+}
+
+// What the words after `serve` ask for.
+fn serve_in(words: &Words) -> Option<Command<'_>>
+    ensures command { option_map asked_by result ≡ serve_of (drop 1 words.now) }
+    ensures bound { IfSome result HasBounds }
+{
+    if words.count() != 7 {
+        return None;
+    }
+    hall_of(
+        words.word(1),
+        words.word(2),
+        words.word(3),
+        words.word(4),
+        words.word(5),
+        words.word(6),
+    )
+}
+
+fn cut_of<'a>(
+    document: &'a str,
+    rate: &str,
+    drop: &str,
+    journal: &'a str,
+    point: &str,
+) -> Option<Command<'a>>
+    ensures command { option_map asked_by result
+        ≡ cut_of document.now rate.now drop.now journal.now point.now }
+    ensures bound { IfSome result HasBounds }
+{
+    let counting = counting(rate, drop)?;
+    match number(point.as_bytes()) {
+        Ok(point) => Some(Command::ListCut {
+            document,
+            counting,
+            journal,
+            point,
+        }),
+        Err(_) => None,
+    }
+}
+
+// The list of a cut that the first five words after `list` ask for.
+fn cut_in(words: &Words) -> Option<Command<'_>>
+    requires { 5 < length words.now }
+    ensures command { option_map asked_by result ≡ cut_of (word_at 1 words.now) (word_at 2 words.now)
+        (word_at 3 words.now) (word_at 4 words.now) (word_at 5 words.now) }
+    ensures bound { IfSome result HasBounds }
+{
+    cut_of(
+        words.word(1),
+        words.word(2),
+        words.word(3),
+        words.word(4),
+        words.word(5),
+    )
+}
+
+// What the words after `list` ask for.
+fn list_in(words: &Words) -> Option<Command<'_>>
+    ensures command { option_map asked_by result ≡ list_of (drop 1 words.now) }
+    ensures bound { IfSome result HasBounds }
+{
+    match words.count() {
+        6 => cut_in(words),
+        7 => match words.word(6) {
+            "numbered" => cut_in(words),
+            _ => None,
+        },
+        _ => None,
+    }
+}
+
+// What the words after `tape` ask for.
+fn tape_in(words: &Words) -> Option<Command<'_>>
+    ensures command { option_map asked_by result ≡ tape_of (drop 1 words.now) }
+    ensures bound { IfSome result HasBounds }
+{
+    if words.count() != 3 {
+        return None;
+    }
+    let rate = rate(words.word(2))?;
+    Some(Command::PlayList {
+        name: words.word(1),
+        rate,
+    })
+}
+
+/// The command that the words are, or `None` where they are none.
+pub fn command_in(words: &Words) -> Option<Command<'_>>
+    ensures command { option_map asked_by result ≡ command_of words.now }
+    ensures bound { IfSome result HasBounds }
+{
+    if words.count() == 0 {
+        return None;
+    }
+    match words.word(0) {
+        "run" => run_in(words),
+        "serve" => serve_in(words),
+        "list" => list_in(words),
+        "tape" => tape_in(words),
+        _ => None,
+    }
+}
+
+// As many words as a command over a file has.
+fn is_over_file(words: &Words) -> bool
+    ensures { result ≡ is_over_file words.now }
+{
+    let count = words.count();
+    if count == 0 {
+        return false;
+    }
+    match words.word(0) {
+        "run" => count == 4,
+        "serve" => count == 7,
+        "list" => count == 6 || count == 7,
+        "tape" => count == 3,
+        _ => false,
+    }
+}
+
+// A number, which may be the rate of no sequence.
+fn is_number(word: &str) -> bool
+    ensures { result ≡ is_some (numeral_in word.now) }
+{
+    match numeral(word.as_bytes()) {
+        Some(_) => true,
+        None => false,
+    }
+}
+
+// A number, but the rate of no sequence.
+fn is_other_rate(word: &str) -> bool
+    ensures { result ≡ is_other_rate (Some word.now) }
+{
+    is_number(word) && rate(word).is_none()
+}
+
+/// Whether words that are refused name a file at a RATE which is a number, but none of 23.976, 24, 25, 29.97 and 30.
+pub fn asks_for_another_rate(words: &Words) -> bool
+    ensures { result ≡ asks_for_another_rate words.now }
+{
+    is_over_file(words) && is_other_rate(words.word(2))
+}
+
+// Whether a seventh word is `numbered`.
+fn is_numbered(words: &Words) -> bool
+    ensures { result ≡ is_word (slice_get words.now 6) (codes "numbered") }
+{
+    words.count() > 6 && words.word(6) == "numbered"
+}
+
+/// Whether the words ask for a list and end with `numbered`: its reels are then to be named by numbers.
+pub fn wants_numbers(words: &Words) -> bool
+    ensures { result ≡ wants_numbers words.now }
+{
+    match command_in(words) {
+        Some(Command::ListCut { .. }) => is_numbered(words),
+        _ => false,
+    }
+}

@@ -1,0 +1,8 @@
+//! The words of the program's command line.
+//!
+//! The main contract is that of [`command_in`]: the words are the command that the table of words says, or none.
+#![tactic(auto)]
+
+mod command;
+
+pub use command::{Command, asks_for_another_rate, command_in, wants_numbers};

@@ -1,0 +1,4 @@
+-- To be read: public clauses speak of these.
+pub mod Cuts
+pub mod Points
+pub mod Tapes

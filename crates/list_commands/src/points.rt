@@ -1,0 +1,108 @@
+// The list of the cut at a point of a journal.
+ghost use Rattle.std.specs.Prelude.{◌≡◌, ◌<◌, ◌≤◌, length};
+ghost use Rattle.call_text.specs.Journals.{HasText};
+ghost use Rattle.otio_json.specs.Soundness.{IsSoundOpening};
+ghost use Rattle.command_ends.specs.Ports.{change, output_told};
+ghost use Rattle.list_commands.specs.Cuts.{namer_told};
+ghost use Rattle.list_commands.specs.Points.{JournalEnds, ListEnds, PointEnds};
+
+use crate::cuts::put_list;
+use command_ends::{Status, end_with, refusal_line};
+use edit_apply::{Call, Editor};
+use history_points::{ReplayFault, replay};
+use input_files::{end_unopened, open_document, open_journal};
+use otio_json::Opening;
+use reel_names::ReelNamer;
+use room_core::Entry;
+use room_files::Files;
+use room_ports::Sink;
+use std::alloc::Global;
+use timecode12::Counting;
+
+/// Where a cut is found: the document and the journal of its room, by the names of their files, how its frames are
+/// counted, and how many entries of the journal stand before it.
+#[derive(Clone, Copy)]
+pub struct CutPlace<'a> {
+    pub document: &'a str,
+    pub counting: Counting,
+    pub journal: &'a str,
+    pub point: u32,
+}
+
+// Puts the list of the cut after the first entries of a journal.
+fn list_point<K: Sink>(
+    alloc: Global,
+    opening: Opening,
+    entries: &[Entry<Call>],
+    point: u32,
+    namer: Box<dyn ReelNamer>,
+    output: &mut K,
+) -> Status
+    requires sound { IsSoundOpening opening }
+    requires some { 0 < length opening.tracks }
+    requires text { HasText entries.now }
+    ensures { PointEnds opening entries.now point (namer_told (rule namer) (given namer))
+        (change (output_told K.taken K.write_faults) output.old output.new) result }
+{
+    if entries.len() < point as usize {
+        let count = entries.len() as u32;
+        return end_with(Status::Refused, refusal_line("H5", count).as_bytes(), output);
+    }
+    let Opening {
+        table,
+        tracks,
+        counting,
+        start,
+    } = opening;
+    let editor = Editor { table };
+    match replay(alloc, &editor, tracks.as_slice(), entries, point) {
+        Ok(cut) => put_list(alloc, &editor.table, &cut, &counting, start, namer, output),
+        Err(ReplayFault::Refused(place)) => {
+            end_with(Status::Refused, refusal_line("H3", place).as_bytes(), output)
+        }
+        Err(ReplayFault::Memory) => Status::OutOfMemory,
+    }
+}
+
+// The same, where the journal is in a file.
+fn list_opened<F: Files, K: Sink>(
+    alloc: Global,
+    files: &mut F,
+    opening: Opening,
+    journal: &str,
+    point: u32,
+    namer: Box<dyn ReelNamer>,
+    output: &mut K,
+) -> Status
+    requires sound { IsSoundOpening opening }
+    requires some { 0 < length opening.tracks }
+    ensures { JournalEnds opening journal.now point (namer_told (rule namer) (given namer))
+        (F.told files.old) (F.told files.new)
+        (change (output_told K.taken K.write_faults) output.old output.new) result }
+{
+    match open_journal(alloc, files, journal) {
+        Ok(entries) => list_point(alloc, opening, &entries, point, namer, output),
+        Err(fault) => end_unopened(fault, output),
+    }
+}
+
+/// Puts the CMX 3600 list of a cut on the output, or a line that says why the document or the journal is refused, or why
+/// the cut has no list. The document is read first, and then the journal.
+pub fn list_cut<F: Files, K: Sink>(
+    alloc: Global,
+    files: &mut F,
+    place: &CutPlace<'_>,
+    namer: Box<dyn ReelNamer>,
+    output: &mut K,
+) -> Status
+    ensures { ListEnds place.now.document.now place.now.counting place.now.journal.now place.now.point
+        (namer_told (rule namer) (given namer)) (change F.told files.old files.new)
+        (change (output_told K.taken K.write_faults) output.old output.new) result }
+{
+    match open_document(alloc, files, place.document, &place.counting) {
+        Ok(opening) => list_opened(
+            alloc, files, opening, place.journal, place.point, namer, output,
+        ),
+        Err(fault) => end_unopened(fault, output),
+    }
+}

@@ -1,0 +1,88 @@
+// A document with two tracks of picture and two of sound, the list of its cut, and the tape of that list.
+
+/// The document. Its cut has a dissolve, a title over the second clip, and sound of its own from two tapes.
+pub(crate) const DOCUMENT: &str = "\
+{\"OTIO_SCHEMA\":\"Timeline.1\",\"metadata\":{\"made\":\"a\"},\"name\":\"reel one\",\"global_start_time\":{\
+\"OTIO_SCHEMA\":\"RationalTime.1\",\"rate\":24.0,\"value\":86400.0},\"tracks\":{\"OTIO_SCHEMA\":\"Stack.1\",\
+\"name\":\"tracks\",\"source_range\":null,\"effects\":[],\"markers\":[],\"metadata\":{\
+},\"children\":[{\"OTIO_SCHEMA\":\"Track.1\",\"name\":\"V1\",\"kind\":\"Video\",\"source_range\":null,\
+\"effects\":[],\"markers\":[],\"children\":[{\"OTIO_SCHEMA\":\"Clip.1\",\"name\":\"shot a\",\
+\"enabled\":true,\"effects\":[],\"markers\":[{\"OTIO_SCHEMA\":\"Marker.2\",\"name\":\"look\"}],\
+\"metadata\":{\"cmx_3600\":{\"reel\":\"TAPE1\"}},\"source_range\":{\"OTIO_SCHEMA\":\"TimeRange.1\",\
+\"duration\":{\"OTIO_SCHEMA\":\"RationalTime.1\",\"rate\":24.0,\"value\":48.0},\"start_time\":{\
+\"OTIO_SCHEMA\":\"RationalTime.1\",\"rate\":24.0,\"value\":3600.0}},\"media_reference\":{\
+\"OTIO_SCHEMA\":\"ExternalReference.1\",\"target_url\":\"a.mov\",\"available_range\":{\
+\"OTIO_SCHEMA\":\"TimeRange.1\",\"duration\":{\"OTIO_SCHEMA\":\"RationalTime.1\",\"rate\":24.0,\
+\"value\":300.0},\"start_time\":{\"OTIO_SCHEMA\":\"RationalTime.1\",\"rate\":24.0,\"value\":3500.0}}}},\
+{\"OTIO_SCHEMA\":\"Transition.1\",\"name\":\"\",\"metadata\":{},\"transition_type\":\"SMPTE_Dissolve\",\
+\"in_offset\":{\"OTIO_SCHEMA\":\"RationalTime.1\",\"rate\":24.0,\"value\":1.0},\"out_offset\":{\
+\"OTIO_SCHEMA\":\"RationalTime.1\",\"rate\":24.0,\"value\":2.0}},{\"OTIO_SCHEMA\":\"Clip.1\",\
+\"name\":\"shot b\",\"metadata\":{\"cmx_3600\":{\"reel\":\"TAPE2\"}},\"source_range\":{\
+\"OTIO_SCHEMA\":\"TimeRange.1\",\"duration\":{\"OTIO_SCHEMA\":\"RationalTime.1\",\"rate\":24.0,\
+\"value\":24.0},\"start_time\":{\"OTIO_SCHEMA\":\"RationalTime.1\",\"rate\":24.0,\"value\":100.0}},\
+\"media_reference\":{\"OTIO_SCHEMA\":\"ExternalReference.1\",\"target_url\":\"b.mov\",\
+\"available_range\":{\"OTIO_SCHEMA\":\"TimeRange.1\",\"duration\":{\"OTIO_SCHEMA\":\"RationalTime.1\",\
+\"rate\":24.0,\"value\":500.0},\"start_time\":{\"OTIO_SCHEMA\":\"RationalTime.1\",\"rate\":24.0,\
+\"value\":0.0}}}}]},{\"OTIO_SCHEMA\":\"Track.1\",\"name\":\"V2\",\"kind\":\"Video\",\"source_range\":null,\
+\"children\":[{\"OTIO_SCHEMA\":\"Gap.1\",\"source_range\":{\"OTIO_SCHEMA\":\"TimeRange.1\",\
+\"duration\":{\"OTIO_SCHEMA\":\"RationalTime.1\",\"rate\":24.0,\"value\":60.0},\"start_time\":{\
+\"OTIO_SCHEMA\":\"RationalTime.1\",\"rate\":24.0,\"value\":0.0}}},{\"OTIO_SCHEMA\":\"Clip.1\",\
+\"name\":\"GFX1\",\"source_range\":{\"OTIO_SCHEMA\":\"TimeRange.1\",\"duration\":{\"OTIO_SCHEMA\":\"RationalTime.1\",\
+\"rate\":24.0,\"value\":6.0},\"start_time\":{\"OTIO_SCHEMA\":\"RationalTime.1\",\"rate\":24.0,\
+\"value\":0.0}},\"media_reference\":{\"OTIO_SCHEMA\":\"MissingReference.1\",\"available_range\":null}}]},\
+{\"OTIO_SCHEMA\":\"Track.1\",\"name\":\"A1\",\"kind\":\"Audio\",\"source_range\":null,\
+\"children\":[{\"OTIO_SCHEMA\":\"Clip.1\",\"name\":\"sound a\",\"metadata\":{\"cmx_3600\":{\
+\"reel\":\"TAPE1\"}},\"source_range\":{\"OTIO_SCHEMA\":\"TimeRange.1\",\"duration\":{\
+\"OTIO_SCHEMA\":\"RationalTime.1\",\"rate\":48000.0,\"value\":144000.0},\"start_time\":{\
+\"OTIO_SCHEMA\":\"RationalTime.1\",\"rate\":48000.0,\"value\":7200000.0}},\"media_reference\":{\
+\"OTIO_SCHEMA\":\"ExternalReference.1\",\"target_url\":\"a.mov\",\"available_range\":{\
+\"OTIO_SCHEMA\":\"TimeRange.1\",\"duration\":{\"OTIO_SCHEMA\":\"RationalTime.1\",\"rate\":24.0,\
+\"value\":300.0},\"start_time\":{\"OTIO_SCHEMA\":\"RationalTime.1\",\"rate\":24.0,\"value\":3500.0}}}}]},\
+{\"OTIO_SCHEMA\":\"Track.1\",\"name\":\"A2\",\"kind\":\"Audio\",\"source_range\":null,\
+\"children\":[{\"OTIO_SCHEMA\":\"Gap.1\",\"source_range\":{\"OTIO_SCHEMA\":\"TimeRange.1\",\
+\"duration\":{\"OTIO_SCHEMA\":\"RationalTime.1\",\"rate\":24.0,\"value\":48.0},\"start_time\":{\
+\"OTIO_SCHEMA\":\"RationalTime.1\",\"rate\":24.0,\"value\":0.0}}},{\"OTIO_SCHEMA\":\"Clip.1\",\
+\"name\":\"sound b\",\"metadata\":{\"cmx_3600\":{\"reel\":\"TAPE2\"}},\"source_range\":{\
+\"OTIO_SCHEMA\":\"TimeRange.1\",\"duration\":{\"OTIO_SCHEMA\":\"RationalTime.1\",\"rate\":24.0,\
+\"value\":24.0},\"start_time\":{\"OTIO_SCHEMA\":\"RationalTime.1\",\"rate\":24.0,\"value\":100.0}},\
+\"media_reference\":{\"OTIO_SCHEMA\":\"ExternalReference.1\",\"target_url\":\"b.mov\",\
+\"available_range\":{\"OTIO_SCHEMA\":\"TimeRange.1\",\"duration\":{\"OTIO_SCHEMA\":\"RationalTime.1\",\
+\"rate\":24.0,\"value\":500.0},\"start_time\":{\"OTIO_SCHEMA\":\"RationalTime.1\",\"rate\":24.0,\
+\"value\":0.0}}}}]}]}}";
+
+/// Its list, where reels have their own names.
+pub(crate) const LIST: &str = "\
+TITLE: CUT
+FCM: NON-DROP FRAME
+001  TAPE1    V     C        00:02:30:00 00:02:31:23 01:00:00:00 01:00:01:23
+002  TAPE1    A     C        00:02:30:00 00:02:33:00 01:00:00:00 01:00:03:00
+003  TAPE1    V     C        00:02:31:23 00:02:31:23 01:00:01:23 01:00:01:23
+003  TAPE2    V     D    003 00:00:04:03 00:00:04:16 01:00:01:23 01:00:02:12
+004  TAPE2    A2    C        00:00:04:04 00:00:05:04 01:00:02:00 01:00:03:00
+005  GFX1     V     C        00:00:00:00 00:00:00:06 01:00:02:12 01:00:02:18
+006  TAPE2    V     C        00:00:04:22 00:00:05:04 01:00:02:18 01:00:03:00
+";
+
+/// Its list, where reels are numbered.
+pub(crate) const NUMBERED: &str = "\
+TITLE: CUT
+FCM: NON-DROP FRAME
+001  R001     V     C        00:02:30:00 00:02:31:23 01:00:00:00 01:00:01:23
+002  R001     A     C        00:02:30:00 00:02:33:00 01:00:00:00 01:00:03:00
+003  R001     V     C        00:02:31:23 00:02:31:23 01:00:01:23 01:00:01:23
+003  R002     V     D    003 00:00:04:03 00:00:04:16 01:00:01:23 01:00:02:12
+004  R002     A2    C        00:00:04:04 00:00:05:04 01:00:02:00 01:00:03:00
+005  R003     V     C        00:00:00:00 00:00:00:06 01:00:02:12 01:00:02:18
+006  R002     V     C        00:00:04:22 00:00:05:04 01:00:02:18 01:00:03:00
+";
+
+/// What the list shows.
+pub(crate) const TAPE: &str = "\
+V 86400 47 TAPE1 3600
+V 86447 3 mix TAPE1 3647 TAPE2 99 1 4
+V 86450 10 TAPE2 102
+V 86460 6 GFX1 0
+V 86466 6 TAPE2 118
+A 86400 72 TAPE1 3600
+A2 86448 24 TAPE2 100
+";
