@@ -1,5 +1,5 @@
--- What a seat of the table knows, and the rule of all seats. The table has two words: how many records a file has, and how
--- many appends have failed.
+-- What a seat of the table knows, and the rule of all seats. The table has two words: how many records a file has, and
+-- how many appends have failed.
 use Rattle.std.specs.Prelude.{◌≡◌, ℕ, ◌+◌, ◌≤◌, List, [], ◌∷◌}
 use mathlib.Core.Option.{some}
 use lib.ListN.{get_elem?}
@@ -17,12 +17,13 @@ spent = record { role = Spent; kept = 0; failed = 0; last_kept = 0; last_failed 
 
 -- what the rule says of a view, by its role; kept and failed are the two words
 abbrev pub FitsAs : Role → ℕ → ℕ → ℕ → ℕ → View → Type 0
-FitsAs Clerk seat kept failed by v = (by ≡ seat) × (v.kept ≡ kept) × (v.failed ≡ failed) × (v.last_kept ≤ kept) × (v.last_failed ≤ failed)
+FitsAs Clerk seat kept failed by v =
+    (by ≡ seat) × (v.kept ≡ kept) × (v.failed ≡ failed) × (v.last_kept ≤ kept) × (v.last_failed ≤ failed)
 FitsAs Receipt seat kept failed by v = (v.kept ≤ kept) × (v.failed ≤ failed)
 FitsAs Spent seat kept failed by v = Unit {0}
 
--- Exactly one view is the clerk's, and its numbers are the two words. Every receipt's numbers are at most these, and so are
--- those that the clerk remembers of the receipt that came back last.
+-- Exactly one view is the clerk's, and its numbers are the two words. Every receipt's numbers are at most these, and so
+-- are those that the clerk remembers of the receipt that came back last.
 pub record IsCounted (words : List ℕ) (views : List View) (seat kept failed : ℕ) : Type 0 where
   pub words_are : words ≡ kept ∷ failed ∷ []
   pub each : (by : ℕ) (v : View) → get_elem? views by ≡ some v → FitsAs v.role seat kept failed by v

@@ -17,8 +17,8 @@ pub struct Beginning {
     pub kept: u32,
 }
 
-// What a seat knows: the records and the failed appends of its time, and of the clerk the numbers of the receipt that it
-// took back last. No value of it is made.
+// What a seat knows: the records and the failed appends of its time, and of the clerk the numbers of the receipt that
+// it took back last. No value of it is made.
 pub struct View {
     pub role: Role,
     pub kept: u64,

@@ -4,7 +4,7 @@ use Rattle.std.specs.List.{AllByRecursion}
 use Rattle.std.proofs.lemmas.Bool.{cases_eq}
 use Rattle.journal_file.specs.declared.stage.Stage.{Stage}
 use Rattle.journal_file.specs.declared.stage.Stage.TheVariants.{Settled, Staging, Opening}
-use Rattle.journal_file.specs.Crashes.{Range, Stand, Course, Torn, settled, IsImage, Within, Told, Since, TurnedFrom, AtMost, written}
+use Rattle.room_disks.specs.Crashes.{Range, Stand, Course, Torn, settled, IsImage, Within, Told, Since, TurnedFrom, AtMost, written}
 use Rattle.journal_file.specs.Layout.{front_of}
 use Rattle.journal_file.specs.Stages.{Stands, IsAppended, IsEither, piece_of}
 use Rattle.journal_file.proofs.Moments.{told_then, told_both, told_from, told_now, told_weaker, since_weaker, since_then, calls_then}

@@ -4,7 +4,7 @@ use Rattle.std.specs.List.{flat_map, slice_get, AllByRecursion}
 use Rattle.std.proofs.lemmas.Option.{none-some, same_Some}
 use Rattle.std.proofs.lemmas.Bool.{cases_eq, cases_lt}
 use Rattle.std.proofs.lemmas.List.{append-nil, append_cancel_left, append_cancel_right, take_at}
-use Rattle.journal_file.specs.Crashes.{Course, Within, IsImage}
+use Rattle.room_disks.specs.Crashes.{Course, Within, IsImage}
 use Rattle.journal_file.specs.Layout.{header, IsLine, record_of, records_of, front_of, HasLines, Kept, NoRecord, IsBroken, BreaksAt, IsDamagedAt}
 use Rattle.journal_file.specs.Reading.{HasGateAt}
 use Rattle.journal_file.specs.Standing.{HoldsLines}

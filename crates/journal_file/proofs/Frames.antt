@@ -2,7 +2,7 @@
 use Rattle.std.proofs.Common.{◌≡◌, ◌≢◌, inl, inr, ⊎_elim, ℕ, ◌+◌, ◌-◌, ◌<◌, ◌≤◌, max, min, List, [], ◌∷◌, ◌++◌, length, get_or, take, drop, replicate, refl, sym, ◌∙◌, ap, subst, arith, append_assoc, length-append, length-take, length-drop, take-append-drop}
 use Rattle.std.proofs.lemmas.List.{append-nil, take_at, take-append-le, take_all, drop_at, drop_all, drop_more, length-replicate}
 use Rattle.std.specs.List.{flat_map, AllByRecursion}
-use Rattle.journal_file.specs.Crashes.{Torn, written}
+use Rattle.room_disks.specs.Crashes.{Torn, written}
 
 none_padded : (at : ℕ) (xs : List ℕ) → at ≤ length xs → replicate {A = ℕ} (at - length xs) 0 ≡ []
 none_padded at xs le = ap (λ n. replicate {A = ℕ} n 0) (let z : at - length xs ≡ 0 = omega (arith, le) in z)

@@ -3,6 +3,5 @@ mod Files
 mod Frames
 mod Lines
 mod Moments
-mod Noted
 mod Openings
 mod Standings

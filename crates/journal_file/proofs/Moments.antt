@@ -1,7 +1,7 @@
 -- How the course of a file goes on from call to call.
 use Rattle.std.proofs.Common.{◌≡◌, inl, inr, ⊎_elim, ℕ, zero, suc, ◌+◌, ◌≤◌, List, [], ◌∷◌, ◌++◌, length, take, Option, Some, None, refl, sym, ◌∙◌, ap, subst, arith, append_assoc, IfSome}
 use Rattle.std.specs.List.{AllByRecursion}
-use Rattle.journal_file.specs.Crashes.{Change, Range, Cut, Stand, Course, stands, moved, settled, IsImage, Within, Told, Stays, Syncs, Changes, Writes, Cuts, written, Since, AtMost, TurnedFrom}
+use Rattle.room_disks.specs.Crashes.{Change, Range, Cut, Stand, Course, stands, moved, settled, IsImage, Within, Told, Stays, Syncs, Changes, Writes, Cuts, written, Since, AtMost, TurnedFrom}
 
 -- ---- what is told of two and of three moments
 

@@ -5,7 +5,7 @@ use Rattle.std.proofs.lemmas.List.{append-nil, drop_at, drop_all}
 use Rattle.journal_file.specs.declared.faults.OpenFault.{OpenFault}
 use Rattle.journal_file.specs.declared.faults.OpenFault.TheVariants.{Failed, TooLarge, Damaged, Memory}
 use Rattle.journal_file.specs.declared.stage.Stage.TheVariants.{Settled}
-use Rattle.journal_file.specs.Crashes.{Change, Range, Cut, Stand, Course, Torn, stands, moved, settled, IsImage, Within, Told, Stays, Syncs, written, Since, TurnedFrom}
+use Rattle.room_disks.specs.Crashes.{Change, Range, Cut, Stand, Course, Torn, stands, moved, settled, IsImage, Within, Told, Stays, Syncs, written, Since, TurnedFrom}
 use Rattle.journal_file.specs.Layout.{header, IsLine, front_of, Kept, IsDamagedAt}
 use Rattle.journal_file.specs.Reading.{HasGateAt, IsReadFault}
 use Rattle.journal_file.specs.Stages.{Stands, HasRead, IsOpened}

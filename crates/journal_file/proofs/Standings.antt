@@ -5,7 +5,7 @@ use Rattle.std.proofs.lemmas.Bool.{cases_eq}
 use Rattle.std.proofs.lemmas.List.{append_cancel_right}
 use Rattle.journal_file.specs.declared.stage.Stage.{Stage}
 use Rattle.journal_file.specs.declared.stage.Stage.TheVariants.{Settled, Staging, Opening}
-use Rattle.journal_file.specs.Crashes.{Course, IsImage, Within, Told, Since, AtMost}
+use Rattle.room_disks.specs.Crashes.{Course, IsImage, Within, Told, Since, AtMost}
 use Rattle.journal_file.specs.Layout.{IsLine, record_of, records_of, front_of, Kept}
 use Rattle.journal_file.specs.Standing.{HoldsLines}
 use Rattle.journal_file.specs.Stages.{Stands, IsHeld, pending_of, IsAppended, IsEither, piece_of}

@@ -3,19 +3,20 @@ use Rattle.std.specs.Prelude.{◌≡◌, ◌≢◌, ◌⊎◌, ℕ, ◌+◌, ◌
 use Rattle.std.specs.List.{AllByRecursion}
 use Rattle.journal_file.specs.declared.stage.Stage.{Stage}
 use Rattle.journal_file.specs.declared.stage.Stage.TheVariants.{Settled, Staging, Opening}
-use Rattle.journal_file.specs.Crashes.{Course, Within, IsImage, Since, settled}
+use Rattle.room_disks.specs.Crashes.{Course, Within, IsImage, Since, settled}
 use Rattle.journal_file.specs.Layout.{IsLine, front_of}
 
 -- what an append writes behind the closed gate: the line, a line feed, and the next gate
 abbrev pub piece_of : List ℕ → List ℕ
 piece_of line = line ++ 10 ∷ 45 ∷ []
 
--- What a crash may leave of the file of these lines. Settled: a closed gate ends it. Staging: something may stand behind
--- the closed gate. Opening: the line stands behind the gate, of which it is open whether it is closed.
+-- What a crash may leave of the file of these lines. Settled: a closed gate ends it. Staging: something may stand
+-- behind the closed gate. Opening: the line stands behind the gate, which may be open or closed.
 abbrev pub Stands : Stage → List (List ℕ) → List ℕ → Course → Type 0
 Stands Settled lines line c = (gate : ℕ) × (gate ≢ 43) × Within (λ image. image ≡ front_of lines ++ gate ∷ []) c.now
 Stands Staging lines line c = (gate : ℕ) × (gate ≢ 43)
-    × Within (λ image. (rest : List ℕ) × (length rest ≤ length (piece_of line)) × (image ≡ front_of lines ++ gate ∷ rest)) c.now
+    × Within (λ image. (rest : List ℕ) × (length rest ≤ length (piece_of line))
+    × (image ≡ front_of lines ++ gate ∷ rest)) c.now
 Stands Opening lines line c = Within (λ image. (gate : ℕ) × (image ≡ front_of lines ++ gate ∷ piece_of line)) c.now
 
 abbrev pub IsHeld : Stage → List ℕ → Type 0
@@ -30,7 +31,8 @@ pending_of Staging line = Some line
 pending_of Opening line = Some line
 
 -- what an open file knows of its disk
-pub record IsFiled (course : Option Course) (lines : List (List ℕ)) (count gate : ℕ) (stage : Stage) (line : List ℕ) : Type 0 where
+pub record IsFiled (course : Option Course) (lines : List (List ℕ)) (count gate : ℕ) (stage : Stage) (line : List ℕ)
+    : Type 0 where
   pub are_lines : AllByRecursion IsLine lines
   pub counts : length lines ≡ count
   pub place : gate ≡ length (front_of lines)

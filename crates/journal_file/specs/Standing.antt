@@ -2,7 +2,7 @@
 use Rattle.std.specs.Prelude.{◌≡◌, ◌⊎◌, ℕ, ◌<◌, ◌≤◌, ◌^◌, List, [], ◌∷◌, ◌++◌, length, Option, Some, None, IfSome}
 use Rattle.journal_file.specs.declared.faults.OpenFault.{OpenFault}
 use Rattle.journal_file.specs.declared.faults.OpenFault.TheVariants.{Failed, TooLarge, Damaged, Memory}
-use Rattle.journal_file.specs.Crashes.{Course, Within, Told, Stays, Since}
+use Rattle.room_disks.specs.Crashes.{Course, Within, Told, Stays, Since}
 use Rattle.journal_file.specs.Layout.{Kept, IsDamagedAt}
 
 -- an open file: its disk, how many records it has, and the line of an append that failed and is to be tried again
@@ -19,7 +19,8 @@ HoldsLines (Some line) lines bytes = Kept bytes lines ⊎ Kept bytes (lines ++ l
 -- It stands for so many lines as it counts, and whatever a crash leaves now has these lines. So of a disk that tells
 -- nothing it says no more than the count.
 abbrev pub StandsFor : {D : Type 0} → (D → Option Course) → JournalState D → List (List ℕ) → Type 0
-StandsFor course j lines = (length lines ≡ j.count) × IfSome (course j.disk) (λ c. Within (HoldsLines j.pending lines) c.now)
+StandsFor course j lines =
+    (length lines ≡ j.count) × IfSome (course j.disk) (λ c. Within (HoldsLines j.pending lines) c.now)
 
 -- The file is as it was, or has the records that it had.
 abbrev pub KeepsRecords : List ℕ → List ℕ → Type 0
@@ -29,10 +30,11 @@ KeepsRecords old new = (new ≡ old) ⊎ ((lines : List (List ℕ)) × Kept old 
 abbrev pub Explains : OpenFault → Option Course → Option Course → Type 0
 Explains Failed before after = Unit {0}
 Explains TooLarge before after = Told (λ old new. 2 ^ 27 < length old.now.reads) before after
-Explains (Damaged at) before after = Told (λ old new. (length old.now.reads ≤ 2 ^ 27) × IsDamagedAt old.now.reads at) before after
+Explains (Damaged at) before after =
+    Told (λ old new. (length old.now.reads ≤ 2 ^ 27) × IsDamagedAt old.now.reads at) before after
 Explains Memory before after = Unit {0}
 
--- Of an opening that failed a crash leaves what it could leave before, where the first sync failed, which was then the only
--- call; else what it leaves from then on is as the file was, or has the records that it had.
+-- Of an opening that failed a crash leaves what it could leave before, where the first sync failed, which was then the
+-- only call; else what it leaves from then on is as the file was, or has the records that it had.
 abbrev pub HarmsNothing : Course → Course → Type 0
 HarmsNothing old new = Stays old new ⊎ Since (KeepsRecords old.now.reads) old new

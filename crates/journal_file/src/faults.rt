@@ -14,8 +14,8 @@ pub enum OpenFault {
     Failed,
     /// The file has more than 128 MiB.
     TooLarge,
-    /// It is no kept file: place 0 where the header is wrong, else the place of the first `+` that begins no whole record,
-    /// or the file's length where it ends behind a record, without a gate.
+    /// It is no kept file: place 0 where the header is wrong, else the place of the first `+` that begins no whole
+    /// record, or the file's length where it ends behind a record, without a gate.
     Damaged(u32),
     /// There was not memory enough.
     Memory,

@@ -1,9 +1,10 @@
 // An open kept file, and an append to it.
-ghost use Rattle.std.specs.Prelude.{◌≡◌, ◌≢◌, ◌<◌, ◌≤◌, ◌+◌, ◌^◌, ◌++◌, ◌∷◌, ◌↔◌, List, ℕ, [], length, None, Some, Ok, IfOk, IfErr, IfSome, IsSome, IsTrue, OnOk, OnErr};
+ghost use Rattle.std.specs.Prelude.{◌≡◌, ◌≢◌, ◌<◌, ◌≤◌, ◌+◌, ◌^◌, ◌++◌, ◌∷◌, ◌↔◌, List, ℕ, [], length, None, Some, Ok};
+ghost use Rattle.std.specs.Prelude.{IfOk, IfErr, IfSome, IsSome, IsTrue, OnOk, OnErr};
 ghost use Rattle.room_ports.specs.Counts.{HasRisen};
 ghost use Rattle.journal_file.specs.declared.faults.OpenFault.TheVariants as faults;
 ghost use Rattle.journal_file.specs.declared.stage.Stage.TheVariants as stages;
-ghost use Rattle.journal_file.specs.Crashes.{Told, Since, AtMost, Within};
+ghost use Rattle.room_disks.specs.Crashes.{Told, Since, AtMost, Within};
 ghost use Rattle.journal_file.specs.Layout.{Kept, IsLine, front_of};
 ghost use Rattle.journal_file.specs.Stages.{Stands, IsEither, piece_of};
 ghost use Rattle.journal_file.specs.Standing.{StandsFor, HoldsLines, Explains, HarmsNothing};
@@ -12,7 +13,8 @@ use crate::line::GateLine;
 use crate::opening::opened;
 use crate::pending::put_pending;
 use crate::stage::Stage;
-use crate::{Disk, OpenFault, Record};
+use crate::{OpenFault, Record};
+use room_disks::Disk;
 use room_ports::Failed;
 use std::alloc::Global;
 use std::marker::Model;
@@ -48,8 +50,8 @@ impl<D: Disk> Model for JournalFile<D> {
 }
 
 impl<D: Disk> JournalFile<D> {
-    /// Opens the file of a disk and gives its records, or hands the disk back with the fault. A new file is written; of any
-    /// other what follows its gate is cut.
+    /// Opens the file of a disk and gives its records, or hands the disk back with the fault. A new file is written; of
+    /// any other what follows its gate is cut.
     pub fn open(alloc: Global, disk: D) -> Result<(JournalFile<D>, Vec<Record>), (OpenFault, D)>
         ensures records { IfOk result (λ r. Told (λ o n. Kept o.now.reads r.1.items)
             (D.course disk) (D.course r.0.disk)) }

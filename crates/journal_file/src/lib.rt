@@ -1,33 +1,22 @@
 //! A journal that outlives a stop: a file of records, each on the disk before it is acknowledged. `JournalFile::open`
-//! gives the records of a file, or says where it is damaged. `JournalFile::append` adds one: a crash at any moment leaves
-//! the records from before the call, or these and the new one, and once it has answered `Ok` every crash leaves the new
-//! one.
+//! gives the records of a file, or says where it is damaged. `JournalFile::append` adds one: a crash at any moment
+//! leaves the records from before the call, or these and the new one, and once it has answered `Ok` every crash leaves
+//! the new one.
 #![tactic(auto)]
 
-mod disk;
 mod faults;
 mod journal_file;
 pub mod laws;
 mod line;
-mod memory_disk;
-mod noting;
 mod opening;
 mod pending;
 mod reading;
 mod record;
 mod stage;
-mod standard_disk;
-mod sure_disk;
 mod syncing;
-mod tape;
 
-pub use disk::Disk;
 pub use faults::OpenFault;
 pub use journal_file::{JournalFile, MOST_RECORDS};
-pub use memory_disk::MemDisk;
 pub use opening::MOST_BYTES;
 pub use reading::MOST_LINE;
 pub use record::Record;
-pub use standard_disk::StdDisk;
-pub use sure_disk::SureDisk;
-pub use tape::{DiskCall, TapeFile};

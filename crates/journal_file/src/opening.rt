@@ -2,14 +2,15 @@
 ghost use Rattle.std.specs.Prelude.{◌≡◌, ◌<◌, ◌≤◌, ◌+◌, ◌^◌, [], length, IfOk, IfErr, IfSome, Err};
 ghost use Rattle.room_ports.specs.Counts.{HasRisen};
 ghost use Rattle.journal_file.specs.declared.faults.OpenFault.TheVariants as faults;
-ghost use Rattle.journal_file.specs.Crashes.{Told, Stays, Since, settled};
+ghost use Rattle.room_disks.specs.Crashes.{Told, Stays, Since, settled};
 ghost use Rattle.journal_file.specs.Layout.{Kept};
 ghost use Rattle.journal_file.specs.Stages.{HasRead, IsOpened};
 ghost use Rattle.journal_file.specs.Standing.{Explains, HarmsNothing, KeepsRecords};
 
 use crate::reading::{HEADER, records_in};
 use crate::syncing::{cut_and_sync, write_and_sync};
-use crate::{Disk, OpenFault, Record};
+use crate::{OpenFault, Record};
+use room_disks::Disk;
 use std::alloc::Global;
 
 /// The most bytes of a kept file.

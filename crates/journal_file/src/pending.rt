@@ -2,17 +2,18 @@
 ghost use Rattle.std.specs.Prelude.{◌≡◌, ◌≢◌, ◌<◌, ◌+◌, ◌^◌, ◌++◌, ◌∷◌, List, ℕ, length, IfSome, OnOk, OnErr};
 ghost use Rattle.room_ports.specs.Counts.{HasRisen};
 ghost use Rattle.journal_file.specs.declared.stage.Stage.TheVariants as stages;
-ghost use Rattle.journal_file.specs.Crashes.{Told, Since, AtMost};
+ghost use Rattle.room_disks.specs.Crashes.{Told, Since, AtMost};
 ghost use Rattle.journal_file.specs.Layout.{front_of};
 ghost use Rattle.journal_file.specs.Stages.{Stands, IsAppended, IsEither};
 
-use crate::Disk;
 use crate::line::GateLine;
 use crate::stage::Stage;
 use crate::syncing::write_and_sync;
+use room_disks::Disk;
 use room_ports::Failed;
 
-// Goes on where the append has come to: puts the line behind the closed gate, where that is not done, and opens the gate.
+// Goes on where the append has come to: puts the line behind the closed gate, where that is not done, and opens the
+// gate.
 pub fn put_pending<D: Disk>(
     disk: &mut D,
     stage: &mut Stage,

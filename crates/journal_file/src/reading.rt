@@ -1,5 +1,6 @@
 // The records of a kept file.
-ghost use Rattle.std.specs.Prelude.{◌≡◌, ◌<◌, ◌≤◌, ◌+◌, ◌++◌, ◌∷◌, ◌^◌, List, ℕ, [], length, Some, None, IfOk, IfErr, IfSome, IsNone, position};
+ghost use Rattle.std.specs.Prelude.{◌≡◌, ◌<◌, ◌≤◌, ◌+◌, ◌++◌, ◌∷◌, ◌^◌, List, ℕ, [], length, position};
+ghost use Rattle.std.specs.Prelude.{Some, None, IfOk, IfErr, IfSome, IsNone};
 ghost use Rattle.std.specs.List.{AllByRecursion};
 ghost use Rattle.journal_file.specs.Layout.{IsLine, record_of, records_of, NoRecord, front_of, HasLines};
 ghost use Rattle.journal_file.specs.Reading.{is_lf, HasGateAt, IsReadFault};

@@ -1,9 +1,9 @@
 // A change of a file that is synced at once.
 ghost use Rattle.std.specs.Prelude.{◌≡◌, length, take, OnOk, OnErr, [], ◌∷◌};
 ghost use Rattle.room_ports.specs.Counts.{HasRisen};
-ghost use Rattle.journal_file.specs.Crashes.{Range, Cut, Told, Since, AtMost, TurnedFrom, written, settled};
+ghost use Rattle.room_disks.specs.Crashes.{Range, Cut, Told, Since, AtMost, TurnedFrom, written, settled};
 
-use crate::Disk;
+use room_disks::Disk;
 use room_ports::Failed;
 
 // Writes bytes at a place, and syncs.

@@ -1,6 +1,6 @@
 use Rattle.std.proofs.Common.{◌≡◌, sym, subst}
 use Rattle.std.proofs.lemmas.Result.{err_from_is_err_and}
-use Rattle.journal_file.specs.Crashes.{Told}
+use Rattle.room_disks.specs.Crashes.{Told}
 use Rattle.journal_file.specs.Layout.{Kept}
 use Rattle.journal_file.proofs.Openings.{told_opened, told_only_read, told_not_settled}
 use Rattle.journal_file.proofs.opening.opened.Goals as goal

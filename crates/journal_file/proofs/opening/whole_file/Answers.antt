@@ -1,5 +1,5 @@
 use Rattle.std.proofs.Common.{◌≡◌, ◌∙◌, [], length, refl, sym, subst, arith, rules}
-use Rattle.journal_file.specs.Crashes.{Told}
+use Rattle.room_disks.specs.Crashes.{Told}
 use Rattle.journal_file.specs.Stages.{HasRead}
 use Rattle.journal_file.proofs.Openings.{told_read_start, told_read_stays, told_read_more_at, told_forget}
 use Rattle.journal_file.proofs.opening.whole_file.Goals as goal

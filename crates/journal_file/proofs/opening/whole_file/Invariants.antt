@@ -1,5 +1,5 @@
 use Rattle.std.proofs.Common.{◌≡◌, ◌+◌, ◌-◌, ◌≤◌, length, vec_len}
-use Rattle.journal_file.specs.Crashes.{Told}
+use Rattle.room_disks.specs.Crashes.{Told}
 use Rattle.journal_file.specs.Stages.{HasRead}
 use Rattle.journal_file.proofs.opening.whole_file.Given as goal
 

@@ -1,6 +1,6 @@
 use Rattle.std.proofs.Common.{◌≡◌, ◌+◌, length, subst, arith}
 use Rattle.std.proofs.lemmas.Result.{err_from_is_err_and}
-use Rattle.journal_file.specs.Crashes.{Range, Told, Since, TurnedFrom, settled, written}
+use Rattle.room_disks.specs.Crashes.{Range, Told, Since, TurnedFrom, settled, written}
 use Rattle.journal_file.proofs.Moments.{law_of}
 use Rattle.journal_file.proofs.Appends.{Honest, told_staged_moments, told_staged_err, told_staged_ok, told_since_then, told_calls, told_fewer}
 use Rattle.journal_file.proofs.pending.put_line.Goals as goal

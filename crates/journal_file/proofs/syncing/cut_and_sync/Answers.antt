@@ -1,5 +1,5 @@
 use Rattle.std.proofs.Common.{take}
-use Rattle.journal_file.specs.Crashes.{Cut, IsImage}
+use Rattle.room_disks.specs.Crashes.{Cut, IsImage}
 use Rattle.journal_file.proofs.Moments.{law_of, told_changed, told_not_synced, told_synced, told_settled}
 use Rattle.journal_file.proofs.syncing.cut_and_sync.Goals as goal
 

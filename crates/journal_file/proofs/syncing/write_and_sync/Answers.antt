@@ -1,5 +1,5 @@
 use Rattle.std.proofs.Common.{length}
-use Rattle.journal_file.specs.Crashes.{Range, IsImage, written}
+use Rattle.room_disks.specs.Crashes.{Range, IsImage, written}
 use Rattle.journal_file.proofs.Moments.{law_of, told_changed, told_not_synced, told_synced, told_one, told_two_stays, told_two_syncs, told_settled}
 use Rattle.journal_file.proofs.syncing.write_and_sync.Goals as goal
 

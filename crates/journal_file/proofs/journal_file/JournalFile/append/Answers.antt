@@ -2,7 +2,7 @@ use Rattle.std.proofs.Common.{◌≡◌, ◌+◌, ◌∷◌, ◌++◌, List, ℕ
 use Rattle.std.specs.List.{AllByRecursion}
 use Rattle.std.proofs.lemmas.Result.{err_from_is_err_and}
 use Rattle.journal_file.specs.declared.stage.Stage.TheVariants.{Settled}
-use Rattle.journal_file.specs.Crashes.{Course, Within, Told, Since}
+use Rattle.room_disks.specs.Crashes.{Course, Within, Told, Since}
 use Rattle.journal_file.specs.Layout.{IsLine, front_of}
 use Rattle.journal_file.specs.Standing.{StandsFor, HoldsLines}
 use Rattle.journal_file.specs.Stages.{pending_of}

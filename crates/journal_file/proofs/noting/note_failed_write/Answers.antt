@@ -1,8 +1,0 @@
-use Rattle.std.proofs.Common.{length, refl}
-use Rattle.journal_file.specs.Crashes.{Range}
-use Rattle.journal_file.specs.Tapes.{FailsToPut}
-use Rattle.journal_file.proofs.Noted.{told_changes}
-use Rattle.journal_file.proofs.noting.note_failed_write.Goals as goal
-
-pub returns-clause-changes : goal.returns-clause-changes
-returns-clause-changes c = told_changes (Range c.args.at (length c.args.bytes.now)) (FailsToPut c.args.at (length c.args.bytes.now)) (λ k. refl) _ _ c.note.ensures

@@ -1,5 +1,0 @@
-use Rattle.journal_file.proofs.Noted.{told_looks}
-use Rattle.journal_file.proofs.noting.note_look.Goals as goal
-
-pub returns-clause-stays : goal.returns-clause-stays
-returns-clause-stays c = told_looks _ _ c.note.ensures

@@ -1,5 +1,0 @@
-use Rattle.journal_file.proofs.Noted.{told_syncs}
-use Rattle.journal_file.proofs.noting.note_sync.Goals as goal
-
-pub returns-clause-syncs : goal.returns-clause-syncs
-returns-clause-syncs c = told_syncs _ _ c.note.ensures
