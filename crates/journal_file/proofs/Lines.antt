@@ -1,5 +1,5 @@
 -- Lines and records in bytes: where a line ends, and that bytes begin with one record at most.
-use Rattle.std.proofs.Common.{◌≡◌, ◌≢◌, ⊎_elim, inl, inr, ℕ, zero, suc, ◌+◌, ◌<◌, ◌≤◌, List, [], ◌∷◌, ◌++◌, Bool, true, false, true≢false, Option, Some, None, cond, length, take, drop, get_or, position, refl, sym, ◌∙◌, ap, subst, arith, append_assoc, length-append}
+use Rattle.std.proofs.Common.{◌≡◌, ◌≢◌, ◌↔◌, IsTrue, ⊎_elim, inl, inr, ℕ, zero, suc, ◌+◌, ◌<◌, ◌≤◌, List, [], ◌∷◌, ◌++◌, Bool, true, false, true≢false, Option, Some, None, cond, length, take, drop, get_or, position, refl, sym, ◌∙◌, ap, subst, arith, append_assoc, length-append}
 use Rattle.std.specs.List.{position_or_len, flat_map, AllByRecursion}
 use Rattle.std.proofs.lemmas.Bool.{cases_eq, ltb-true, ltb-false}
 use Rattle.std.proofs.lemmas.Bool.Decides.{nat_tests}
@@ -112,3 +112,18 @@ ends_there xs i e line after is at =
     let l = line_at xs i e in
     let s = same_line (take i xs) line (drop (i + 1) xs) after l.0 is.one (sym l.1 ∙ at) in
     ap length (sym s.0) ∙ length-take-le i xs (omega (arith, p.0))
+
+-- bytes with a line feed are no line
+pub no_line : (xs : List ℕ) (i : ℕ) → position is_lf xs ≡ Some i → IsTrue false ↔ IsLine xs
+no_line xs i e = (λ y. absurd (true≢false (sym y)), λ is. absurd (without is))
+  where
+    without : IsLine xs → ⊥
+    without is = no_feed_no_line xs (take i xs) (drop (i + 1) xs) is.one (line_at xs i e).1
+
+-- bytes without one are a line where they are some and not too many
+pub whole_line : (xs : List ℕ) (b : Bool) → position is_lf xs ≡ None → IsTrue b ↔ (0 < length xs) × (length xs ≤ 1024)
+    → IsTrue b ↔ IsLine xs
+whole_line xs b none h = (
+  λ y. record { some = (h.0 y).0; most = (h.0 y).1; one = no_feed_all xs none },
+  λ is. h.1 (is.some, is.most),
+)

@@ -186,6 +186,14 @@ pub told_kept : (bytes : List ℕ) (lines : List (List ℕ)) (a b c d : Option C
 told_kept bytes lines a b c d kept s w t =
     told_then (λ o n. bytes ≡ o.now.reads) (Since (λ image. Kept image lines)) (λ o n. Kept o.now.reads lines) (λ o m n x y. subst (λ xs. Kept xs lines) x kept) a c d (told_reads bytes a b c s w) t
 
+-- and how long it was
+pub told_within : (P : List ℕ → Type 0) (bytes : List ℕ) (a b c d : Option Course) → length bytes ≤ 2 ^ 27
+    → Told Syncs a b → Told (λ o n. bytes ≡ o.now.reads) b c → Told (Since P) c d
+    → Told (λ o n. length o.now.reads ≤ 2 ^ 27) a d
+told_within P bytes a b c d short s w t =
+    told_then (λ o n. bytes ≡ o.now.reads) (Since P) (λ o n. length o.now.reads ≤ 2 ^ 27)
+    (λ o m n x y. subst (λ xs. length xs ≤ 2 ^ 27) x short) a c d (told_reads bytes a b c s w) t
+
 -- ---- the end of a settled file, as told
 
 module _ (bytes : List ℕ) (a : Option Course) (is : IfSome a (λ c. c.now ≡ settled bytes)) where

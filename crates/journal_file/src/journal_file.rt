@@ -55,6 +55,8 @@ impl<D: Disk> JournalFile<D> {
     pub fn open(alloc: Global, disk: D) -> Result<(JournalFile<D>, Vec<Record>), (OpenFault, D)>
         ensures records { IfOk result (λ r. Told (λ o n. Kept o.now.reads r.1.items)
             (D.course disk) (D.course r.0.disk)) }
+        ensures within { IfOk result (λ r. Told (λ o n. length o.now.reads ≤ 2 ^ 27)
+            (D.course disk) (D.course r.0.disk)) }
         ensures stands { IfOk result (λ r. StandsFor D.course r.0 r.1.items) }
         ensures settled { IfOk result (λ r. r.0.pending ≡ None) }
 

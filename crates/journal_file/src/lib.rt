@@ -18,5 +18,5 @@ mod syncing;
 pub use faults::OpenFault;
 pub use journal_file::{JournalFile, MOST_RECORDS};
 pub use opening::MOST_BYTES;
-pub use reading::MOST_LINE;
+pub use reading::{MOST_LINE, is_line};
 pub use record::Record;

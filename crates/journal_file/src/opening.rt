@@ -23,6 +23,8 @@ const MOST_NEW: usize = 19;
 pub fn opened<D: Disk>(alloc: Global, disk: &mut D) -> Result<(Vec<Record>, u32), OpenFault>
     ensures kept { IfOk result (λ r. Told (λ o n. Kept o.now.reads r.0.items)
         (D.course disk.old) (D.course disk.new)) }
+    ensures within { IfOk result (λ _. Told (λ o n. length o.now.reads ≤ 2 ^ 27)
+        (D.course disk.old) (D.course disk.new)) }
     ensures opened { IfOk result (λ r. IsOpened (D.course disk.new) r.0.items r.1) }
     ensures few { IfOk result (λ r. length r.0.items < 2 ^ 27) }
     ensures moments { IfOk result (λ r. Told (Since (λ bytes. Kept bytes r.0.items))

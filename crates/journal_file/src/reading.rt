@@ -1,6 +1,6 @@
 // The records of a kept file.
 ghost use Rattle.std.specs.Prelude.{◌≡◌, ◌<◌, ◌≤◌, ◌+◌, ◌++◌, ◌∷◌, ◌^◌, List, ℕ, [], length, position};
-ghost use Rattle.std.specs.Prelude.{Some, None, IfOk, IfErr, IfSome, IsNone};
+ghost use Rattle.std.specs.Prelude.{◌↔◌, Some, None, IfOk, IfErr, IfSome, IsNone, IsTrue};
 ghost use Rattle.std.specs.List.{AllByRecursion};
 ghost use Rattle.journal_file.specs.Layout.{IsLine, record_of, records_of, NoRecord, front_of, HasLines};
 ghost use Rattle.journal_file.specs.Reading.{is_lf, HasGateAt, IsReadFault};
@@ -14,6 +14,22 @@ pub(crate) const HEADER: [u8; 18] = *b"cutroom journal 1\n";
 
 /// The most bytes of a record's line.
 pub const MOST_LINE: usize = 1024;
+
+/// Whether an append takes these bytes as its line: 1 to 1,024 of them, and no line feed.
+pub fn is_line(bytes: &[u8]) -> bool
+    ensures { IsTrue result ↔ IsLine bytes.now }
+{
+    match lf_at(bytes) {
+        Some(_) => false,
+        None => is_length(bytes.len()),
+    }
+}
+
+fn is_length(len: usize) -> bool
+    ensures { IsTrue result ↔ (0 < len) × (len ≤ 1024) }
+{
+    0 < len && len <= MOST_LINE
+}
 
 // The records of a file that is not new, and the place of its gate.
 pub fn records_in(alloc: Global, bytes: &[u8]) -> Result<(Vec<Record>, usize), OpenFault>
