@@ -1,0 +1,81 @@
+-- A list in which one item is put in place of another that spans as many places.
+use Rattle.std.proofs.Common.{◌≡◌, ℕ, zero, suc, ◌+◌, ◌<◌, ◌≤◌, List, [], ◌∷◌, ◌++◌, length, take, drop, get_or, sum_by, slice_get, IfSome, sym, ap, ◌∙◌, arith}
+use Rattle.std.proofs.Math.ListN.{set}
+use Rattle.std.proofs.lemmas.List.{length-set, take_all}
+use Rattle.std.proofs.lemmas.List.Concat.{get_or-flat_map}
+use Rattle.std.proofs.lemmas.List.Sums.{sum_by-set}
+use Rattle.item_pages.specs.declared.spots.Spot.{Spot}
+use Rattle.item_pages.specs.Items.{Fits}
+use Rattle.item_pages.specs.Packing.{items_of, Packed, IsList}
+use Rattle.item_pages.specs.Spots.{IsSpot}
+use Rattle.item_pages.proofs.Packs.{around_page, packed_set, set_spot}
+use Rattle.item_pages.proofs.Holding.{sum_split}
+
+pub spot_inside : {T : Type 0} (pages : List (List T)) (n : ℕ) (spot : Spot) → IsSpot pages n spot → n < length (items_of pages) → spot.page < length pages
+spot_inside {T} pages n spot at low =
+    inside (λ (past : length pages ≤ spot.page). absurd (omega (arith, low, at.place, ap (λ (ps : List (List T)). length (items_of ps)) (take_all spot.page pages past)))) where
+      inside : (length pages ≤ spot.page → ⊥) → spot.page < length pages
+      inside never = Prim.grind (arith, never)
+
+same_span : {T : Type 0} (span : T → ℕ) (xs : List T) (i : ℕ) (x : T) → i < length xs → IfSome (slice_get xs i) (λ old. span old ≡ span x)
+    → span (get_or xs i x) ≡ span x
+same_span span [] i x h e = absurd (omega (arith, h))
+same_span span (y ∷ ys) zero x h e = e
+same_span span (y ∷ ys) (suc i) x h e = same_span span ys i x (omega (arith, h)) e
+
+-- what is known of the item's page
+within_page : {T : Type 0} (pages : List (List T)) (n : ℕ) (spot : Spot) (page : List T) → IsSpot pages n spot → page ≡ get_or pages spot.page page
+    → n < length (items_of pages) → spot.within < length page
+within_page pages n spot page at is low = omega (arith, ap length is, at.within page (spot_inside pages n spot at low))
+
+page_span : {T : Type 0} (span : T → ℕ) (pages : List (List T)) (n : ℕ) (spot : Spot) (page : List T) (item : T) → IsSpot pages n spot → page ≡ get_or pages spot.page page
+    → n < length (items_of pages) → IfSome (slice_get (items_of pages) n) (λ old. span old ≡ span item)
+    → span (get_or page spot.within item) ≡ span item
+page_span {T} span pages n spot page item at is low h =
+    let inside = spot_inside pages n spot at low in
+    let read = ap (λ (k : ℕ). get_or (items_of pages) k item) at.place
+    ∙ (get_or-flat_map (λ (p : List T). p) pages spot.page spot.within page item inside (at.within page inside)
+    ∙ ap (λ (q : List T). get_or q spot.within item) (sym is)) in
+    sym (ap span read) ∙ same_span span (items_of pages) n item low h
+
+pub set_span : {T : Type 0} (span : T → ℕ) (pages : List (List T)) (n : ℕ) (spot : Spot) (page : List T) (item : T) → IsSpot pages n spot → page ≡ get_or pages spot.page page
+    → n < length (items_of pages) → IfSome (slice_get (items_of pages) n) (λ old. span old ≡ span item)
+    → sum_by span (set page spot.within item) ≤ sum_by span (items_of pages)
+set_span span pages n spot page item at is low h =
+    let inside = spot_inside pages n spot at low in
+    omega (
+      arith,
+      sum_by-set span page spot.within item item (within_page pages n spot page at is low),
+      page_span span pages n spot page item at is low h,
+      sum_split span (items_of pages) (items_of (take spot.page pages)) page (items_of (drop (spot.page + 1) pages)) (around_page pages spot.page page inside is),
+    )
+
+pub set_items : {T : Type 0} (pages : List (List T)) (n : ℕ) (spot : Spot) (page new : List T) (item : T) → IsSpot pages n spot → page ≡ get_or pages spot.page page
+    → new ≡ set page spot.within item → n < length (items_of pages)
+    → items_of (set pages spot.page new) ≡ set (items_of pages) n item
+set_items {T} pages n spot page new item at is made low =
+    let i = spot.page in
+    let w = spot.within in
+    let inside = spot_inside pages n spot at low in
+    ap (λ (q : List T). items_of (set pages i q)) made
+    ∙ (ap (λ (q : List T). items_of (set pages i (set q w item))) is
+    ∙ (sym (set_spot pages i w page item inside (at.within page inside)) ∙ ap (λ (k : ℕ). set (items_of pages) k item) (sym at.place)))
+
+pub set_list : {T : Type 0} (span : T → ℕ) (pages : List (List T)) (n : ℕ) (spot : Spot) (page new : List T) (item : T) (count total : ℕ)
+    → IsSpot pages n spot → page ≡ get_or pages spot.page page → new ≡ set page spot.within item → n < length (items_of pages)
+    → IfSome (slice_get (items_of pages) n) (λ old. span old ≡ span item)
+    → IsList span pages count total → IsList span (set pages spot.page new) count total
+set_list span pages n spot page new item count total at is made low h list =
+    let all = items_of pages in
+    let changed = set_items pages n spot page new item at is made low in
+    let longer : length (get_or pages spot.page page) ≤ length new =
+    omega (arith, ap length made, length-set page spot.within item, ap length is) in
+    let count_same : length (items_of (set pages spot.page new)) ≡ length all = omega (arith, ap length changed, length-set all n item) in
+    let total_same : sum_by span (items_of (set pages spot.page new)) ≡ sum_by span all =
+    omega (arith, ap (sum_by span) changed, sum_by-set span all n item item low, same_span span all n item low h) in
+    record {
+      packed = packed_set pages spot.page page new longer list.packed;
+      fits = (omega (arith, count_same, list.fits.0), omega (arith, total_same, list.fits.1));
+      count_is = omega (arith, count_same, list.count_is);
+      total_is = omega (arith, total_same, list.total_is);
+    }

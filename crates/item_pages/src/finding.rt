@@ -1,0 +1,80 @@
+// Which item holds a place.
+ghost use Rattle.std.specs.Prelude.{◌≡◌, ◌+◌, ◌<◌, ◌≤◌, ◌↔◌, length, sum_by, IfSome, IsNone};
+ghost use Rattle.item_pages.specs.Items.{Fits, HoldsPlace};
+ghost use Rattle.item_pages.specs.Packing.{items_of};
+
+use crate::page::Page;
+use crate::{Found, Spanned};
+use std::sync::ledger::Ledger;
+use step_count::Steps;
+
+/// The item of these pages that holds the place `at`. A page that ends there or before is passed in one step.
+pub fn find_in_pages<T: Spanned + Copy, L: Ledger>(
+    pages: &[Page<T>],
+    at: u32,
+    steps: &mut Steps<L>,
+) -> Option<Found>
+    requires { Fits T.places (items_of pages.now) }
+    ensures found { IfSome result (λ f. HoldsPlace T.places (items_of pages.now) at f) }
+    ensures none { IsNone result ↔ (sum_by T.places (items_of pages.now) ≤ at) }
+    ensures least { steps.old ≤ steps.new }
+    ensures most { steps.new ≤ steps.old + length pages.now + 63 }
+{
+    let mut index = 0;
+    let mut from = 0;
+    for page in pages {
+        let to = from + page.span();
+        if at < to {
+            let found = find_in_page(page, at - from, steps);
+            return Some(Found {
+                index: index + found.index,
+                from: from + found.from,
+            });
+        }
+        steps.tick();
+        index += page.count();
+        from = to;
+    }
+    None
+}
+
+// The item of a page that holds a place, counted from where the page begins.
+fn find_in_page<T: Spanned + Copy, L: Ledger>(
+    page: &Page<T>,
+    at: u32,
+    steps: &mut Steps<L>,
+) -> Found
+    requires { at < sum_by T.places page.now }
+    ensures found { HoldsPlace T.places page.now at result }
+    ensures least { steps.old ≤ steps.new }
+    ensures most { steps.new ≤ steps.old + 64 }
+{
+    let _span = page.span();
+    match find_in(page.items(), at, steps) {
+        Some(found) => found,
+        None => unreachable!(),
+    }
+}
+
+// The item that holds a place, one after another.
+fn find_in<T: Spanned, L: Ledger>(items: &[T], at: u32, steps: &mut Steps<L>) -> Option<Found>
+    requires { Fits T.places items.now }
+    ensures found { IfSome result (λ f. HoldsPlace T.places items.now at f) }
+    ensures none { IsNone result ↔ (sum_by T.places items.now ≤ at) }
+    ensures least { steps.old ≤ steps.new }
+    ensures most { steps.new ≤ steps.old + length items.now }
+{
+    let mut from = 0;
+    for (index, item) in items.iter().enumerate() {
+        steps.tick();
+        let to = from + item.span();
+        if at < to {
+            return Some(Found {
+                index: index as u32,
+                from,
+            });
+        }
+        from = to;
+    }
+    None
+}

@@ -1,0 +1,15 @@
+//! A list of items in pages that copies share. Each item spans some places, and the list finds the item that holds a
+//! place page by page.
+//!
+//! The main contract is that of [`Pages`]: it is its list, whatever its pages are.
+#![tactic(auto)]
+
+mod finding;
+mod list;
+mod page;
+mod spans;
+mod spots;
+
+pub use list::Pages;
+pub use out_of_memory::Memory;
+pub use spans::{Found, Spanned};

@@ -1,0 +1,131 @@
+// A page: up to 64 items behind a pointer with several owners. No page changes once it is made.
+ghost use Rattle.std.specs.Prelude.{◌≡◌, ◌+◌, ◌<◌, ◌≤◌, ◌^◌, ◌++◌, length, sum_by, slice_set, IfOk};
+
+use crate::Spanned;
+use out_of_memory::Memory;
+use std::alloc::Global;
+use std::marker::Model;
+use std::sync::Arc;
+
+/// At most this many items are in a page.
+pub(crate) const MOST_ITEMS: usize = 64;
+
+/// A page. Contracts see its items.
+#[derive(Drop)]
+pub struct Page<T: Spanned + Copy> {
+    items: Arc<Vec<T>>,
+    count: u32,
+    span: u32,
+}
+
+impl<T: Spanned + Copy> Model for Page<T> {
+    ghost use Rattle.std.specs.Prelude.{List};
+    ghost use Rattle.std.specs.Arc.{arc_value};
+
+    ghost Value = { List T };
+
+    ghost view = { λ p. (arc_value p.items).items };
+
+    ghost use Rattle.item_pages.specs.Page.{IsPage};
+
+    ghost invariant = { λ p. IsPage T.places (arc_value p.items).items p.count p.span };
+}
+
+impl<T: Spanned + Copy> Page<T> {
+    /// The page of these items.
+    pub fn of(alloc: Global, items: Vec<T>) -> Result<Page<T>, Memory>
+        requires filled { 0 < length items.items }
+        requires within { length items.items ≤ 64 }
+        requires span { sum_by T.places items.items < 2 ^ 32 }
+        ensures { IfOk result (λ p. p ≡ items.items) }
+    {
+        let count = items.len() as u32;
+        let span = span_of(&items);
+        let items = Arc::new(alloc, items)?;
+        Ok(Page { items, count, span })
+    }
+
+    /// The page of a copy of these items.
+    pub fn copied(alloc: Global, items: &[T]) -> Result<Page<T>, Memory>
+        requires filled { 0 < length items.now }
+        requires within { length items.now ≤ 64 }
+        requires span { sum_by T.places items.now < 2 ^ 32 }
+        ensures { IfOk result (λ p. p ≡ items.now) }
+    {
+        let items = Vec::from_slice(alloc, items)?;
+        Page::of(alloc, items)
+    }
+
+    /// The page of its items and then those of another.
+    pub fn joined(&self, alloc: Global, other: &Page<T>) -> Result<Page<T>, Memory>
+        requires within { length self.now + length other.now ≤ 64 }
+        requires span { sum_by T.places self.now + sum_by T.places other.now < 2 ^ 32 }
+        ensures { IfOk result (λ p. p ≡ self.now ++ other.now) }
+    {
+        let count = (self.count() + other.count()) as usize;
+        let mut items = Vec::with_capacity(alloc, count)?;
+        items.extend_from_slice(self.items())?;
+        items.extend_from_slice(other.items())?;
+        Page::of(alloc, items)
+    }
+
+    /// The page with another item in place of the one with this index.
+    pub fn with(&self, alloc: Global, index: usize, item: T) -> Result<Page<T>, Memory>
+        requires within { index < length self.now }
+        requires span { sum_by T.places (slice_set self.now index item) < 2 ^ 32 }
+        ensures { IfOk result (λ p. p ≡ slice_set self.now index item) }
+    {
+        let _count = self.count();
+        let mut items = Vec::from_slice(alloc, self.items())?;
+        items[index] = item;
+        Page::of(alloc, items)
+    }
+
+    /// The same page once more.
+    pub fn share(&self) -> Result<Page<T>, Memory>
+        ensures { IfOk result (λ p. p ≡ self.now) }
+    {
+        Ok(Page {
+            items: Arc::try_clone(&self.items)?,
+            count: self.count,
+            span: self.span,
+        })
+    }
+
+    /// Its items.
+    pub fn items(&self) -> &[T]
+        ensures items { result.now ≡ self.now }
+        ensures within { length result.now ≤ 64 }
+    {
+        self.items.as_slice()
+    }
+
+    /// How many items it has.
+    pub fn count(&self) -> u32
+        ensures count { result ≡ length self.now }
+        ensures filled { 0 < result }
+        ensures within { result ≤ 64 }
+    {
+        self.count
+    }
+
+    /// How many places its items span.
+    pub fn span(&self) -> u32
+        ensures span { result ≡ sum_by T.places self.now }
+        ensures within { length self.now ≤ 64 }
+    {
+        self.span
+    }
+}
+
+// How many places these items span.
+fn span_of<T: Spanned>(items: &[T]) -> u32
+    requires { sum_by T.places items.now < 2 ^ 32 }
+    ensures { result ≡ sum_by T.places items.now }
+{
+    let mut span = 0;
+    for item in items {
+        span += item.span();
+    }
+    span
+}
