@@ -1,0 +1,4 @@
+pub mod AsItWas
+pub mod Changes
+pub mod Rests
+pub mod Costs
