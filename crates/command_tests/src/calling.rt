@@ -56,9 +56,7 @@ pub(crate) fn status_of<R: Threads + Wait + Sync, H: Hall, G: Gate + Sync>(
     gate: &G,
     namer: Box<dyn ReelNamer>,
 ) -> u8 {
-    cut_main(
-        rt, alloc, words, files, input, output, hall, gate, namer,
-    )
+    cut_main(rt, alloc, words, files, input, output, hall, gate, namer)
 }
 
 // The status and the output of a run with these words, over these pieces of input and these calls that fail.

@@ -11,8 +11,8 @@ ghost use Rattle.station_sessions.specs.Served.{IsRoomOf};
 ghost use Rattle.station_sessions.specs.SessionInside.{TrackOpening, opened_with};
 
 use crate::seated::{SeatedStation, serve_all};
-use command_ends::Status;
 use call_text::{CutCall, CutObject, CutPart, journal_text};
+use command_ends::Status;
 use cut_room::{Room, RoomBlank};
 use edit_apply::Editor;
 use edit_journal::{Naming, Pass};

@@ -171,7 +171,14 @@ fn words_are_answered_once(rt: HostRuntime) -> Result<(), Memory> {
             false,
         ),
         (&["run", "none.otio", "24", "ndf"], &[], &[], 1, "", true),
-        (&["tape", "none.edl", "50"], &[1], &[], 3, "refused words\n", true),
+        (
+            &["tape", "none.edl", "50"],
+            &[1],
+            &[],
+            3,
+            "refused words\n",
+            true,
+        ),
         (&["tape", "none.edl", "24"], &[1], &[], 1, "", true),
         (
             &["run", "1", "0"],

@@ -40,19 +40,17 @@ as_many table from (suc count) (t ∷ ts) good = omega (arith, as_many table (fr
 layers_lie : (table : Table) (ls : List Layer) → All (IsSoundLayer table 7) ls → EachLiesInTrack ls
 layers_lie table [] sound = tt
 layers_lie table (l ∷ ls) sound =
-    let first = All-head (IsSoundLayer table 7) l ls sound in
-    (
+    let first = All-head (IsSoundLayer table 7) l ls sound in (
       record { order = first.ordered; within = first.within; short = omega (arith, first.track.good.frames) },
       layers_lie table ls (All-tail (IsSoundLayer table 7) l ls sound),
     )
 
 pub nests_lie : (table : Table) (ns : List Nest) → All (IsSoundNest table 7) ns → AreSound ns
 nests_lie table [] sound = tt
-nests_lie table (n ∷ ns) sound =
-    (
-      layers_lie table n.layers (All-head (IsSoundNest table 7) n ns sound).layers,
-      nests_lie table ns (All-tail (IsSoundNest table 7) n ns sound),
-    )
+nests_lie table (n ∷ ns) sound = (
+  layers_lie table n.layers (All-head (IsSoundNest table 7) n ns sound).layers,
+  nests_lie table ns (All-tail (IsSoundNest table 7) n ns sound),
+)
 
 -- there are few of them
 pub few_tracks : (o : Opening) (ts : List TrackState) → IsSoundOpening o → 0 < length o.tracks → AreGood (IsTrackOf o.table) (numbers 0 (track_count o.table)) ts

@@ -22,7 +22,11 @@ fn refuse_list<K: Sink>(code: &str, number: u32, output: &mut K) -> Status
     ensures { PutsWith NoList (refusal_text code.now number) (output_told K.taken K.write_faults output.old)
         (output_told K.taken K.write_faults output.new) result }
 {
-    end_with(Status::NoList, refusal_line(code, number).as_bytes(), output)
+    end_with(
+        Status::NoList,
+        refusal_line(code, number).as_bytes(),
+        output,
+    )
 }
 
 fn end_unlisted<K: Sink>(fault: &ListFault, output: &mut K) -> Status

@@ -46,7 +46,11 @@ fn list_point<K: Sink>(
 {
     if entries.len() < point as usize {
         let count = entries.len() as u32;
-        return end_with(Status::Refused, refusal_line("H5", count).as_bytes(), output);
+        return end_with(
+            Status::Refused,
+            refusal_line("H5", count).as_bytes(),
+            output,
+        );
     }
     let Opening {
         table,
@@ -58,7 +62,11 @@ fn list_point<K: Sink>(
     match replay(alloc, &editor, tracks.as_slice(), entries, point) {
         Ok(cut) => put_list(alloc, &editor.table, &cut, &counting, start, namer, output),
         Err(ReplayFault::Refused(place)) => {
-            end_with(Status::Refused, refusal_line("H3", place).as_bytes(), output)
+            end_with(
+                Status::Refused,
+                refusal_line("H3", place).as_bytes(),
+                output,
+            )
         }
         Err(ReplayFault::Memory) => Status::OutOfMemory,
     }
@@ -101,7 +109,13 @@ pub fn list_cut<F: Files, K: Sink>(
 {
     match open_document(alloc, files, place.document, &place.counting) {
         Ok(opening) => list_opened(
-            alloc, files, opening, place.journal, place.point, namer, output,
+            alloc,
+            files,
+            opening,
+            place.journal,
+            place.point,
+            namer,
+            output,
         ),
         Err(fault) => end_unopened(fault, output),
     }

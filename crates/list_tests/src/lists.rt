@@ -45,7 +45,10 @@ fn a_cut_at_a_point_is_listed(rt: HostRuntime) -> Result<(), Fail> {
     let alloc = rt.alloc();
     let outside = with_journal(JOURNAL);
     for (point, text) in [(0, LIST), (3, LAST)] {
-        assert!(rt; as_is_so(alloc, &outside, point, Status::Done, text)?, "{point}");
+        assert!(rt;
+            as_is_so(alloc, &outside, point, Status::Done, text)?,
+            "{point}"
+        );
     }
     let namer = Box::new(alloc, Numbered::new(alloc))?;
     assert!(rt; lists_so(alloc, &outside, 0, namer, Status::Done, NUMBERED)?);
@@ -60,14 +63,25 @@ fn a_journal_is_refused(rt: HostRuntime) -> Result<(), Fail> {
         ("", 0, "refused H1 1\n"),
         ("journal 1\n0 1 slice 0 12", 0, "refused H1 2\n"),
         ("journal 2\n0 1 slice 0 12\n", 5, "refused H2 1\n"),
-        ("journal 2\n0 1 slice 0 12\n0 1 slice 0 13\n", 5, "refused H4 3\n"),
+        (
+            "journal 2\n0 1 slice 0 12\n0 1 slice 0 13\n",
+            5,
+            "refused H4 3\n",
+        ),
         (JOURNAL, 4, "refused H5 3\n"),
         ("journal 0\n", 4_294_967_295, "refused H5 0\n"),
-        ("journal 2\n0 1 slice 0 12\n0 2 remove 0 9\n", 2, "refused H3 1\n"),
+        (
+            "journal 2\n0 1 slice 0 12\n0 2 remove 0 9\n",
+            2,
+            "refused H3 1\n",
+        ),
         ("journal 1\n0 1 remove 9 0\n", 1, "refused H3 0\n"),
     ] {
         let outside = with_journal(journal);
-        assert!(rt; as_is_so(alloc, &outside, point, Status::Refused, text)?, "{journal}");
+        assert!(rt;
+            as_is_so(alloc, &outside, point, Status::Refused, text)?,
+            "{journal}"
+        );
     }
     Ok(())
 }
@@ -90,7 +104,10 @@ fn a_document_is_refused_first(rt: HostRuntime) -> Result<(), Fail> {
             document,
             ..with_journal("")
         };
-        assert!(rt; as_is_so(alloc, &outside, 9, Status::Refused, text)?, "{document}");
+        assert!(rt;
+            as_is_so(alloc, &outside, 9, Status::Refused, text)?,
+            "{document}"
+        );
     }
     Ok(())
 }
@@ -113,7 +130,10 @@ fn a_call_that_fails_ends_a_list(rt: HostRuntime) -> Result<(), Fail> {
             reads,
             writes,
         };
-        assert!(rt; as_is_so(alloc, &outside, 0, wanted, text)?, "{reads:?} {writes:?}");
+        assert!(rt;
+            as_is_so(alloc, &outside, 0, wanted, text)?,
+            "{reads:?} {writes:?}"
+        );
     }
     Ok(())
 }
@@ -143,12 +163,18 @@ fn a_cut_has_no_list(rt: HostRuntime) -> Result<(), Fail> {
             document,
             ..with_journal("journal 0\n")
         };
-        assert!(rt; as_is_so(alloc, &outside, 0, Status::NoList, text)?, "{text}");
+        assert!(rt;
+            as_is_so(alloc, &outside, 0, Status::NoList, text)?,
+            "{text}"
+        );
         let failing = Outside {
             writes: &[1],
             ..outside
         };
-        assert!(rt; as_is_so(alloc, &failing, 0, Status::WriteFault, "")?, "{text}");
+        assert!(rt;
+            as_is_so(alloc, &failing, 0, Status::WriteFault, "")?,
+            "{text}"
+        );
     }
     Ok(())
 }

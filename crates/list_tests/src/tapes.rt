@@ -28,8 +28,14 @@ fn a_list_is_refused(rt: HostRuntime) -> Result<(), Fail> {
             "refused P10 3 1\n",
         ),
     ] {
-        assert!(rt; plays_so(alloc, list, &[], &[], Status::Refused, text)?, "{text}");
-        assert!(rt; plays_so(alloc, list, &[], &[1], Status::WriteFault, "")?, "{text}");
+        assert!(rt;
+            plays_so(alloc, list, &[], &[], Status::Refused, text)?,
+            "{text}"
+        );
+        assert!(rt;
+            plays_so(alloc, list, &[], &[1], Status::WriteFault, "")?,
+            "{text}"
+        );
     }
     Ok(())
 }

@@ -14,13 +14,12 @@ pub returns-in-Err : goal.returns-in-Err
 returns-in-Err g c =
     let before = g.F.Files.told c.args.files.now in
     let after = g.F.Files.told c.open_document.new.files in
-    let content = before.file c.args.name.now in
-    (
+    let content = before.file c.args.name.now in (
       c.in-Err.ensures.same,
       inr (
         refl,
         unopened (Describes c.args.counting.now content) (IsDocumentRefused c.args.counting.now content) document_line before after
-        (change (output_told g.K.Sink.taken g.K.Sink.write_faults) c.args.output.now c.end_unopened.new.output) c.in-Err.fault c.end_unopened.result c.in-Err.ensures.opens
-        c.in-Err.ensures.counts c.end_unopened.ensures,
+            (change (output_told g.K.Sink.taken g.K.Sink.write_faults) c.args.output.now c.end_unopened.new.output) c.in-Err.fault c.end_unopened.result c.in-Err.ensures.opens
+            c.in-Err.ensures.counts c.end_unopened.ensures,
       ),
     )

@@ -26,6 +26,6 @@ returns-in-Err g c =
       refl,
       c.in-Err.ensures.same,
       unopened (Describes c.args.counting.now content) (IsDocumentRefused c.args.counting.now content) document_line before after
-      (change (output_told g.K.Sink.taken g.K.Sink.write_faults) c.args.output.now c.end_unopened.new.output) c.in-Err.fault c.end_unopened.result c.in-Err.ensures.opens
-      c.in-Err.ensures.counts c.end_unopened.ensures,
+          (change (output_told g.K.Sink.taken g.K.Sink.write_faults) c.args.output.now c.end_unopened.new.output) c.in-Err.fault c.end_unopened.result c.in-Err.ensures.opens
+          c.in-Err.ensures.counts c.end_unopened.ensures,
     )

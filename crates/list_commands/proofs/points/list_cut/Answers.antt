@@ -6,8 +6,7 @@ pub returns-in-Ok : goal.returns-in-Ok
 returns-in-Ok g c =
     let before = g.F.Files.told c.args.files.now in
     let between = g.F.Files.told c.open_document.new.files in
-    let after = g.F.Files.told c.list_opened.new.files in
-    (
+    let after = g.F.Files.told c.list_opened.new.files in (
       read_then before between after c.in-Ok.ensures.same c.list_opened.ensures.0,
       inl (record {
         opening = c.in-Ok.opening;
