@@ -2,7 +2,7 @@ use Rattle.edit_apply.specs.Apply.{editing}
 use Rattle.edit_apply.specs.NamingLaws.{editing-opens}
 use Rattle.edit_apply.specs.RoomTracks.{IsOpening}
 use Rattle.history_points.proofs.Openings.{of_opening}
-use Rattle.cut_server.proofs.Openings.{sound_opens}
+use Rattle.input_files.proofs.Openings.{sound_opens}
 use Rattle.command_tests.proofs.replays.replayed.Goals as goal
 
 pub replay-requires-clause-from : goal.replay-requires-clause-from
