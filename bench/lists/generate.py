@@ -12,17 +12,78 @@ def time_of(value):
     return {"OTIO_SCHEMA": "RationalTime.1", "rate": RATE, "value": value}
 
 
-def clip(reel, start):
-    span = {"OTIO_SCHEMA": "TimeRange.1", "start_time": time_of(start), "duration": time_of(FRAMES)}
-    return {"OTIO_SCHEMA": "Clip.1", "name": reel, "source_range": span}
+def span(start, frames):
+    return {"OTIO_SCHEMA": "TimeRange.1", "start_time": time_of(start), "duration": time_of(frames)}
+
+
+def clip(reel, start, frames=FRAMES):
+    return {"OTIO_SCHEMA": "Clip.1", "name": reel, "source_range": span(start, frames)}
+
+
+def clips(reel, start, count, frames):
+    """Clips that go on from one another."""
+    return [clip(reel, start + at * frames, frames) for at in range(count)]
+
+
+def gap(frames):
+    return {"OTIO_SCHEMA": "Gap.1", "source_range": span(0, frames)}
+
+
+def dissolve():
+    """A dissolve of two frames, one on each side of its cut."""
+    offsets = {"in_offset": time_of(1), "out_offset": time_of(1)}
+    return {"OTIO_SCHEMA": "Transition.1", "transition_type": "SMPTE_Dissolve", **offsets}
+
+
+def nest(reel, frames):
+    """A nest of two layers, the lower of which is covered."""
+    layers = [{"OTIO_SCHEMA": "Track.1", "children": [clip(name, 7, frames)]} for name in ("Z", reel)]
+    return {"OTIO_SCHEMA": "Stack.1", "source_range": span(0, frames), "children": layers}
+
+
+def track(kind, children):
+    return {"OTIO_SCHEMA": "Track.1", "kind": kind, "children": children}
+
+
+def timeline(tracks):
+    stack = {"OTIO_SCHEMA": "Stack.1", "children": tracks}
+    return json.dumps({"OTIO_SCHEMA": "Timeline.1", "tracks": stack}, separators=(",", ":"))
 
 
 def document():
     """One track of 64,935 clips, 65 of which each go on from one another and so are one event."""
-    clips = [clip(f"R{event % REELS}", event * 2000 + k * FRAMES) for event in range(EVENTS) for k in range(CLIPS)]
-    track = {"OTIO_SCHEMA": "Track.1", "kind": "Video", "children": clips}
-    stack = {"OTIO_SCHEMA": "Stack.1", "children": [track]}
-    return json.dumps({"OTIO_SCHEMA": "Timeline.1", "tracks": stack}, separators=(",", ":"))
+    row = [clip(f"R{event % REELS}", event * 2000 + k * FRAMES) for event in range(EVENTS) for k in range(CLIPS)]
+    return timeline([track("Video", row)])
+
+
+def picture(items, frames):
+    """The topmost picture: of each 50 items two runs of clips with a dissolve between them, a nest, and a gap."""
+    for at in range(items // 50):
+        yield from clips("AB"[at % 2], 9, 24, frames)
+        yield dissolve()
+        yield from clips("CD"[at % 2], 9, 24, frames)
+        yield nest("EF"[at % 2], frames)
+        yield gap(frames)
+
+
+def lower(items, frames):
+    """Clips and gaps by turns, of which the topmost picture shows one in each of its gaps at most."""
+    for at in range(items // 2):
+        yield gap(frames)
+        yield clip("G", at % 9, frames)
+
+
+def sound(items, frames):
+    """Runs of 125 clips."""
+    for at in range(items // 125):
+        yield from clips("HI"[at % 2], 9, 125, frames)
+
+
+def layers(items, frames):
+    """16 tracks of so many items and gaps: thirteen under the topmost picture, and two of sound."""
+    pictures = [*(lower for _ in range(13)), picture]
+    tracks = [track("Video", list(row(items, frames))) for row in pictures]
+    return timeline(tracks + [track("Audio", list(sound(items, frames))) for _ in range(2)])
 
 
 def label(frame):
@@ -47,6 +108,13 @@ def events(count, is_scattered):
             yield f"{name} D    002 {times}\n"
         else:
             yield f"{name} C        {times}\n"
+
+
+def notes(most):
+    """A list of about so many bytes, nearly all of them notes."""
+    note = "* FROM CLIP NAME:  A NAME AS LONG AS NAMES OF CLIPS ARE\n"
+    head = "TITLE: CUT\nFCM: NON-DROP FRAME\n" + next(events(1, False))
+    return head + note * ((most - len(head)) // len(note))
 
 
 def tape_list(most, is_scattered=False):
