@@ -190,6 +190,30 @@ journal 4
 0 5 undissolve 0 10
 ";
 
+/// A dissolve between two long items, behind the place 1,000.
+const LONG_ITEMS: &str = "\
+> overwrite 0 0 @0 100 2000
+ok 0 item 0
+> overwrite 0 2000 @0 5000 2000
+ok 1 item 1
+> dissolve 0 2000 3 4
+ok 2
+> view 0 1990 2010
+seen 3 @0 2090 7 mix @0 2097 @0 4997 1 8 7 @0 5004 6
+> undissolve 0 2000
+ok 3
+> overwrite 0 500 @0 9000 1500
+ok 4 item 2
+> items 0
+items 5 0 @0 100 500 2 @0 9000 1500 1 @0 5000 2000
+journal 5
+0 1 overwrite 0 0 @0 100 2000
+0 2 overwrite 0 2000 @0 5000 2000
+0 3 dissolve 0 2000 3 4
+0 5 undissolve 0 2000
+0 6 overwrite 0 500 @0 9000 1500
+";
+
 /// A slice beside a dissolve, and one in it.
 const CUT_DISSOLVE: &str = "\
 > overwrite 0 0 @0 100 10
@@ -242,7 +266,7 @@ journal 2
 #[test]
 fn dissolves_are_answered(rt: HostRuntime) -> Result<(), Fail> {
     let alloc = rt.alloc();
-    for talk in [DISSOLVE, CUT_DISSOLVE, REFUSED_DISSOLVES] {
+    for talk in [DISSOLVE, LONG_ITEMS, CUT_DISSOLVE, REFUSED_DISSOLVES] {
         assert!(rt; is_answered(&rt, alloc, "run 2 1", talk)?, "{talk}");
     }
     Ok(())
