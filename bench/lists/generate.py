@@ -113,7 +113,7 @@ def events(count, is_scattered):
 def notes(most):
     """A list of about so many bytes, nearly all of them notes."""
     note = "* FROM CLIP NAME:  A NAME AS LONG AS NAMES OF CLIPS ARE\n"
-    head = "TITLE: CUT\nFCM: NON-DROP FRAME\n" + next(events(1, False))
+    head = "TITLE: CUT\nFCM: NON-DROP FRAME\n" + "".join(events(1, False))
     return head + note * ((most - len(head)) // len(note))
 
 
