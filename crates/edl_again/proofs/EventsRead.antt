@@ -16,13 +16,13 @@ use Rattle.edl_events.specs.Channels.{set_of}
 use Rattle.edl_write.specs.declared.lines.Line.{Line}
 use Rattle.edl_write.specs.Text.{events_text, line_text, lines_from as lines_of_event}
 use Rattle.edl_read.specs.declared.fault.ListReadFault.{ListReadFault}
-use Rattle.edl_read.specs.declared.fault.LineCode.TheVariants.{P9}
+use Rattle.edl_lines.specs.declared.code.LineCode.TheVariants.{P9}
 use Rattle.edl_read.specs.declared.fault.ListReadFault.TheVariants.{Refused}
-use Rattle.edl_read.specs.EventLines.{line_with, words_say}
-use Rattle.edl_read.specs.ListLines.{ListLine, list_lines}
+use Rattle.edl_lines.specs.EventLines.{line_with, words_say}
+use Rattle.edl_lines.specs.ListLines.{ListLine, list_lines}
 use Rattle.edl_read.specs.Overlaps.{first_overlap, overlap}
 use Rattle.edl_read.specs.Reading.{after_event, after_line, after_said, cut_event, dissolve_event, is_pair, list_from, played_on, unless_overlap, waiting_cut, with_event}
-use Rattle.edl_read.specs.Spelling.{◌>>=◌}
+use Rattle.edl_lines.specs.Spelling.{◌>>=◌}
 use Rattle.edl_again.proofs.LineBytes.{next_line}
 use Rattle.edl_again.proofs.LinesRead.{IsLength, IsReadable, body_text, line_fits, line_says_words, line_then, words_behind, words_say_event}
 use Rattle.edl_again.proofs.PartsRead.{go_on, no_counting, no_note}

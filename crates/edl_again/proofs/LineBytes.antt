@@ -11,7 +11,7 @@ use Rattle.line_words.specs.declared.line.LineEnd.{LineEnd}
 use Rattle.line_words.specs.declared.line.LineEnd.TheVariants.{Whole}
 use Rattle.line_words.proofs.WordLaws.{words_of-blank, words_of-word}
 use Rattle.edl_write.specs.Text.{padded}
-use Rattle.edl_read.specs.ListLines.{ListLine, end_of, ended_line, lines_from, list_lines}
+use Rattle.edl_lines.specs.ListLines.{ListLine, end_of, ended_line, lines_from, list_lines}
 
 -- each byte is above a number
 abbrev pub EachAbove : ℕ → List ℕ → Type 0

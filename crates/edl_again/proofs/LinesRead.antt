@@ -18,9 +18,9 @@ use Rattle.edl_events.specs.Channels.{set_of}
 use Rattle.edl_write.specs.declared.lines.Line.{Line}
 use Rattle.edl_write.specs.Lines.{line_times}
 use Rattle.edl_write.specs.Text.{channel_text, edit_text, line_text, padded, time_text, times_text}
-use Rattle.edl_read.specs.declared.fault.LineCode.TheVariants.{P1, P4}
-use Rattle.edl_read.specs.EventLines.{cut_line, dissolve_line, event_line, line_number, line_of_words, line_says, line_with, within_event, words_say}
-use Rattle.edl_read.specs.Spelling.{◌>>=◌, channels_of, dissolve_length, laid_out, reel_of, span_of, time_of}
+use Rattle.edl_lines.specs.declared.code.LineCode.TheVariants.{P1, P4}
+use Rattle.edl_lines.specs.EventLines.{cut_line, dissolve_line, event_line, line_number, line_of_words, line_says, line_with, within_event, words_say}
+use Rattle.edl_lines.specs.Spelling.{◌>>=◌, channels_of, dissolve_length, laid_out, reel_of, span_of, time_of}
 use Rattle.edl_again.proofs.LineBytes.{EachAbove, above_append, above_less, above_replicate, is_word, next_word, padded_word, spaces}
 use Rattle.edl_again.proofs.PartsRead.{IsPlain, IsTime, channel_is_plain, channel_is_read, go_on, length_is_read, name_is_plain, number_is_read, span_is_read, three_above, time_is_time}
 

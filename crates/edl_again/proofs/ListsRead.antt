@@ -28,7 +28,7 @@ use Rattle.edl_write.specs.Order.{AreEventsOf, same_channel}
 use Rattle.edl_write.specs.Refusals.{list_of as written_list, over_999}
 use Rattle.edl_write.specs.Text.{counting_text, events_text, list_text}
 use Rattle.edl_read.specs.declared.list.TheConstants.{MAX_LIST}
-use Rattle.edl_read.specs.ListLines.{ListLine, list_lines}
+use Rattle.edl_lines.specs.ListLines.{ListLine, list_lines}
 use Rattle.edl_read.specs.Overlaps.{overlap, share}
 use Rattle.edl_read.specs.Reading.{after_line, first_reading, list_from, list_of, played_on}
 use Rattle.edl_again.specs.Meanings.{HasName, IsCounting, WrittenIsReadAgain}

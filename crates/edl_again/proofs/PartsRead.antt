@@ -20,13 +20,13 @@ use Rattle.edl_events.specs.declared.channel.Channel.TheVariants.{V, A, A2}
 use Rattle.edl_events.specs.Channels.{set_of}
 use Rattle.edl_write.specs.Text.{channel_text, label_text, time_text}
 use Rattle.edl_write.proofs.Labels.{two_digits}
-use Rattle.edl_read.specs.declared.fault.LineCode.{LineCode}
-use Rattle.edl_read.specs.declared.fault.LineCode.TheVariants.{P7, P11}
+use Rattle.edl_lines.specs.declared.code.LineCode.{LineCode}
+use Rattle.edl_lines.specs.declared.code.LineCode.TheVariants.{P7, P11}
 use Rattle.line_words.specs.declared.numbers.NumberFault.{NumberFault}
-use Rattle.edl_read.specs.EventLines.{line_number}
-use Rattle.edl_read.specs.Labels.{frame_named}
-use Rattle.edl_read.specs.Spelling.{◌>>=◌, channels_of, dissolve_length, is_note, number_of_event, or_layout, or_no_label, span_between, span_of, time_of, value_if_any, within_999}
-use Rattle.edl_read.proofs.LabelFrames.{frame_named-found}
+use Rattle.edl_lines.specs.EventLines.{line_number}
+use Rattle.edl_lines.specs.Labels.{frame_named}
+use Rattle.edl_lines.specs.Spelling.{◌>>=◌, channels_of, dissolve_length, is_note, number_of_event, or_layout, or_no_label, span_between, span_of, time_of, value_if_any, within_999}
+use Rattle.edl_lines.proofs.LabelFrames.{frame_named-found}
 use Rattle.edl_again.proofs.LineBytes.{EachAbove}
 
 -- what was read is gone on with

@@ -1,8 +1,4 @@
-pub mod LabelFrames
-pub mod WordFacts
-pub mod CutLines
 pub mod ApartFacts
-pub mod RowWords
 pub mod RunTexts
 pub mod EventFrames
 pub mod LaidFacts

@@ -4,18 +4,18 @@ use Rattle.std.specs.Prelude.{ℕ, ◌+◌, Bool, false, ◌&&◌, ◌==◌, Lis
 use Rattle.timecode12.specs.declared.rate.SequenceRate.{SequenceRate}
 use Rattle.timecode12.specs.Numbers.{Counted}
 use Rattle.edl_events.specs.declared.event.Event.{Event}
-use Rattle.edl_read.specs.declared.fault.LineCode.{LineCode}
-use Rattle.edl_read.specs.declared.fault.LineCode.TheVariants.{P9, P10}
+use Rattle.edl_lines.specs.declared.code.LineCode.{LineCode}
+use Rattle.edl_lines.specs.declared.code.LineCode.TheVariants.{P9, P10}
 use Rattle.edl_read.specs.declared.fault.ListReadFault.{ListReadFault}
 use Rattle.edl_read.specs.declared.fault.ListReadFault.TheVariants.{Refused}
-use Rattle.edl_read.specs.declared.event_line.EventLine.{EventLine}
-use Rattle.edl_read.specs.declared.said.Said.{Said}
-use Rattle.edl_read.specs.declared.said.Said.TheVariants.{Skipped, Counts, Tells}
+use Rattle.edl_lines.specs.declared.event_line.EventLine.{EventLine}
+use Rattle.edl_lines.specs.declared.said.Said.{Said}
+use Rattle.edl_lines.specs.declared.said.Said.TheVariants.{Skipped, Counts, Tells}
 use Rattle.edl_read.specs.declared.reading.Waiting.{Waiting}
 use Rattle.edl_read.specs.declared.reading.Reading.{Reading}
-use Rattle.edl_read.specs.ListLines.{ListLine, list_lines}
-use Rattle.edl_read.specs.Spelling.{◌>>=◌}
-use Rattle.edl_read.specs.EventLines.{line_says}
+use Rattle.edl_lines.specs.ListLines.{ListLine, list_lines}
+use Rattle.edl_lines.specs.Spelling.{◌>>=◌}
+use Rattle.edl_lines.specs.EventLines.{line_says}
 use Rattle.edl_read.specs.Overlaps.{first_overlap}
 
 -- a cut of zero length waits, with the line that it stands on

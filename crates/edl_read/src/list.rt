@@ -4,10 +4,10 @@ ghost use Rattle.edl_events.specs.Events.{IsEvent};
 ghost use Rattle.edl_read.specs.Reading.{list_of};
 ghost use Rattle.edl_read.specs.ReadLists.{CanBeRead, IsFaultOf};
 
-use crate::lines::first_line;
 use crate::played::Played;
 use crate::reading::{after_line, at_end, first_reading};
 use crate::{Event, ListReadFault, Memory};
+use edl_lines::first_line;
 use std::alloc::Global;
 use std::marker::Model;
 use std::slice::from_ref;

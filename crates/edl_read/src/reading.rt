@@ -1,14 +1,13 @@
 // A list as it is read, line by line.
 ghost use Rattle.std.specs.Prelude.{◌≡◌, IfErr, IfOk};
-ghost use Rattle.edl_read.specs.LineFacts.{IsLine, IsSaid, IsWaiting};
+ghost use Rattle.edl_lines.specs.LineFacts.{IsLine, IsSaid};
 ghost use Rattle.edl_read.specs.Reading.{after_counting, after_cut, after_dissolve, after_event, after_line, after_said, at_end, cut_event, dissolve_event, first_reading, is_pair, waiting_cut};
 ghost use Rattle.edl_read.specs.ReadLists.{IsFaultOf};
+ghost use Rattle.edl_read.specs.Waits.{IsWaiting};
 
-use crate::event_line::EventLine;
-use crate::parts::non_drop;
 use crate::played::Played;
-use crate::said::{Said, line_says};
 use crate::{Event, FromLine, LineCode, ListReadFault};
+use edl_lines::{EventLine, Said, line_says, non_drop};
 use line_words::LineEnd;
 use reel_names::Name;
 use std::alloc::Global;

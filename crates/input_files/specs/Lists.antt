@@ -4,8 +4,8 @@ use Rattle.room_files.specs.Files.{Content, IsWhole, IsLonger}
 use Rattle.timecode12.specs.declared.rate.SequenceRate.{SequenceRate}
 use Rattle.edl_events.specs.declared.event.Event.{Event}
 use Rattle.edl_read.specs.declared.list.TheConstants.{MAX_LIST}
-use Rattle.edl_read.specs.declared.fault.LineCode.{LineCode}
-use Rattle.edl_read.specs.declared.fault.LineCode.TheVariants.{P1, P2, P3, P4, P5, P6, P7, P8, P9, P10, P11, P12}
+use Rattle.edl_lines.specs.declared.code.LineCode.{LineCode}
+use Rattle.edl_lines.specs.declared.code.LineCode.TheVariants.{P1, P2, P3, P4, P5, P6, P7, P8, P9, P10, P11, P12}
 use Rattle.edl_read.specs.declared.fault.ListReadFault.TheVariants.{Refused}
 use Rattle.edl_read.specs.Reading.{list_of}
 use Rattle.command_ends.specs.Texts.{refusal_text}

@@ -1,7 +1,7 @@
 use Rattle.std.proofs.Common.{◌≡◌, ℕ, ◌+◌, ◌≤◌, List, Option, Some, None, Bor, length, option_map}
-use Rattle.edl_read.specs.ListLines.{lines_behind}
-use Rattle.edl_read.specs.LineFacts.{IsWaiting}
+use Rattle.edl_lines.specs.ListLines.{lines_behind}
 use Rattle.edl_read.specs.Reading.{list_from, list_of}
+use Rattle.edl_read.specs.Waits.{IsWaiting}
 use Rattle.edl_read.proofs.list.lines_read.Given as goal
 
 -- the bytes left, and one for the line that they begin

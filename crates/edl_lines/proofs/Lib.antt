@@ -1,0 +1,4 @@
+pub mod LabelFrames
+pub mod WordFacts
+pub mod CutLines
+pub mod RowWords

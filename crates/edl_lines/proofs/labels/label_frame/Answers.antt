@@ -1,0 +1,27 @@
+use Rattle.std.proofs.Common.{sym, refl, arith}
+use Rattle.timecode12.specs.Labels.{day_of}
+use Rattle.edl_lines.proofs.LabelFrames.{within, some_same, found_same, frame_named-found, frame_named-no_label, frame_named-no_frame, never_ok}
+use Rattle.edl_lines.proofs.labels.label_frame.Goals as goal
+
+pub returns-in_err-label-clause-frame : goal.returns-in_err-label-clause-frame
+returns-in_err-label-clause-frame c = rw c.from_residual.ensures (sym (frame_named-no_label c.args.counting.now c.args.word.now (c.in_err-label.ensures.none.0 refl)))
+
+pub returns-in-Ok-clause-frame : goal.returns-in-Ok-clause-frame
+returns-in-Ok-clause-frame c =
+    let label = c.in_ok-label.label in
+    let frame = c.in-Ok.frame in
+    sym (frame_named-found c.args.counting.now c.args.word.now label frame ((c.in_ok-label.ensures.some label).0 refl)
+    (λ l spelled. some_same label l ((c.in_ok-label.ensures.some l).1 spelled))
+    ((c.in-Ok.ensures.ok frame).0 refl) (λ f stands. found_same frame f ((c.in-Ok.ensures.ok f).1 stands)))
+
+pub returns-in-Ok-clause-within : goal.returns-in-Ok-clause-within
+returns-in-Ok-clause-within c =
+    let inside = within (day_of c.args.counting.now) c.in-Ok.frame c.in_ok-label.label ((c.in-Ok.ensures.ok c.in-Ok.frame).0 refl) in
+    omega (arith, inside, c.day-day.ensures.length, c.day-day.ensures.most)
+
+pub returns-in-Err-clause-frame : goal.returns-in-Err-clause-frame
+returns-in-Err-clause-frame c =
+    let label = c.in_ok-label.label in
+    sym (frame_named-no_frame c.args.counting.now c.args.word.now label
+    (λ l spelled. some_same label l ((c.in_ok-label.ensures.some l).1 spelled))
+    (λ f stands. never_ok c.in-Err.field-0 f ((c.in-Err.ensures.ok f).1 stands)))
