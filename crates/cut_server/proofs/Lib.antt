@@ -5,3 +5,4 @@ pub mod Sound
 pub mod Closing
 pub mod Seating
 pub mod AllStations
+pub mod EndingWell

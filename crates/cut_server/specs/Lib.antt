@@ -3,6 +3,7 @@ pub mod Stations
 pub mod Journals
 pub mod Runs
 pub mod Halls
+pub mod Unhindered
 -- For the steps of the code, for proofs and for tests.
 pub mod Closed
 pub mod Seated

@@ -4,7 +4,6 @@ use Rattle.std.specs.Prelude.{◌≡◌, ℕ, ◌⊎◌, List, ◌++◌, Option,
 use Rattle.room_files.specs.Files.{FilesTold}
 use Rattle.room_halls.specs.Stations.{HallTold}
 use Rattle.room_ports.specs.Bytes.{Takes, TakesFront}
-use Rattle.room_ports.specs.Counts.{HasRisen}
 use Rattle.line_words.specs.Lines.{Line as InputLine}
 use Rattle.otio_json.specs.Openings.{plain_opening}
 use Rattle.otio_json.specs.declared.opening.Opening.{Opening}

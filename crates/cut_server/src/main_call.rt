@@ -1,5 +1,5 @@
 // The call that the program makes.
-ghost use Rattle.std.specs.Prelude.{◌≡◌, ◌<◌, ◌≤◌, [], Some, length, vec_capacity};
+ghost use Rattle.std.specs.Prelude.{◌≡◌, ◌<◌, ◌≤◌, ◌⊎◌, [], Some, length, vec_capacity};
 ghost use Rattle.command_words.specs.Commands.{command_of, least_tracks, most_tracks, most_reels, least_stations, most_stations};
 ghost use Rattle.otio_json.specs.Openings.{plain_opening};
 ghost use Rattle.otio_json.specs.Soundness.{IsSoundOpening};
@@ -8,6 +8,7 @@ ghost use Rattle.otio_json.specs.declared.opening.Opening.{Opening as OpeningOf}
 ghost use Rattle.command_ends.specs.Ports.{change, input_told, output_told};
 ghost use Rattle.list_commands.specs.Cuts.{namer_told};
 ghost use Rattle.cut_server.specs.Runs.{both, JournalEnds, RunEnds, RunsOver, DocumentEnds, ServeEnds, CommandEnds, EndsWith};
+ghost use Rattle.cut_server.specs.Unhindered.{IsUnhindered};
 ghost use Rattle.station_sessions.specs.Served.{IsRoomOf};
 ghost use Rattle.station_sessions.specs.SessionInside.{TrackOpening, opened_with};
 ghost use Rattle.edit_journal.specs.Turns.{AreFresh};
@@ -359,10 +360,17 @@ pub fn cut_main<R: Threads + Wait + Sync, F: Files, S: Source, K: Sink, H: Hall,
     // again, plays as exactly the frames and weights of the cut. `CommandEnds` says for
     // each command and each status what was read, what was written and which count of faults rose, by what the files, the
     // input, the output and the hall told before and tell after.
-    ensures { EndsWith result (CommandEnds (change F.told files.old files.new)
+    ensures ends { EndsWith result (CommandEnds (change F.told files.old files.new)
         (change (input_told S.left S.read_faults) input.old input.new)
         (change (output_told K.taken K.write_faults) output.old output.new)
         (change H.told hall.old hall.new) (namer_told (rule namer) (given namer)) (command_of words.now)) }
+    // Completeness: where the words are a command's, what it reads is accepted, no input has more than 64 MiB and no count
+    // of faults rises, the status is 0, or 6 for want of memory.
+    ensures complete { IsUnhindered (change F.told files.old files.new)
+        (change (input_told S.left S.read_faults) input.old input.new)
+        (change (output_told K.taken K.write_faults) output.old output.new)
+        (change H.told hall.old hall.new) (namer_told (rule namer) (given namer)) (command_of words.now)
+        → (result ≡ 0) ⊎ (result ≡ 6) }
 {
     do_command(rt, alloc, words, files, input, output, hall, gate, namer).number()
 }

@@ -1,0 +1,294 @@
+-- A command that nothing hinders ends with 0, or with 6.
+use Rattle.std.proofs.Common.{◌≡◌, ◌≢◌, ℕ, suc, ◌+◌, ◌<◌, ◌≤◌, ◌⊎◌, inl, inr, List, [], ◌∷◌, ◌++◌, Option, Some, None, Result, Ok, Err, IfSome, IsSomeAnd, length, length-append, map, take, slice_get, refl, sym, ap, ◌∙◌, subst, arith}
+use Rattle.std.proofs.lemmas.List.{take-take}
+use Rattle.std.proofs.lemmas.Option.{same_Some, slice_get_within}
+use Rattle.composables.specs.TrackState.{TrackState}
+use Rattle.timecode12.specs.Numbers.{Counted}
+use Rattle.timecode12.specs.declared.rate.SequenceRate.{SequenceRate}
+use Rattle.line_words.specs.Lines.{Line as InputLine}
+use Rattle.room_core.specs.declared.entry.Entry.{Entry}
+use Rattle.room_core.specs.History.{replay}
+use Rattle.room_core.specs.Whole.{whole}
+use Rattle.room_files.specs.Files.{Content, Untold, Missing, Bytes, FilesTold, IsWhole, IsLonger, IsUnchanged}
+use Rattle.room_halls.specs.Stations.{HallTold}
+use Rattle.edit_apply.specs.Apply.{editing}
+use Rattle.edit_apply.specs.declared.asks.Call.{Call}
+use Rattle.edl_events.specs.declared.event.Event.{Event}
+use Rattle.edl_read.specs.Reading.{list_of}
+use Rattle.edl_read.specs.declared.list.TheConstants.{MAX_LIST}
+use Rattle.edl_write.specs.declared.fault.ListFault.{ListFault}
+use Rattle.edl_write.specs.declared.fault.ListFault.TheVariants.{Memory}
+use Rattle.otio_json.specs.Openings.{plain_opening}
+use Rattle.otio_json.specs.Timelines.{document_read}
+use Rattle.otio_json.specs.declared.opening.Opening.{Opening}
+use Rattle.call_text.specs.JournalFaults.{AreEntriesOf, IsFaulty}
+use Rattle.call_text.specs.declared.journal_reading.TheConstants.{MAX_JOURNAL}
+use Rattle.call_text.proofs.JournalLaws.{no_fault, one_journal}
+use Rattle.cut_room.proofs.Journals.{front_applies}
+use Rattle.command_words.specs.Commands.{Asked, RunPlain, RunDocument, Serve, ListCut, PlayList}
+use Rattle.command_ends.specs.declared.status.Status.{Status}
+use Rattle.command_ends.specs.declared.status.Status.TheVariants.{Done, ReadFault, WriteFault, NotSeated, OutOfMemory, TooMuchInput}
+use Rattle.command_ends.specs.Ports.{Change, InputTold, OutputTold}
+use Rattle.command_ends.specs.Statuses.{number_of}
+use Rattle.command_ends.specs.Texts.{PutsWith}
+use Rattle.input_files.specs.Unopened.{EndsUnopened, IsUnread}
+use Rattle.input_files.specs.Documents.{Describes, IsDocumentRefused, document_line}
+use Rattle.input_files.specs.Journals.{HoldsJournal, IsJournalRefused, journal_line}
+use Rattle.input_files.specs.Lists.{HoldsList, IsListRefused, list_line}
+use Rattle.input_files.specs.declared.documents.TheConstants.{MAX_DOCUMENT}
+use Rattle.input_files.specs.declared.documents.DocumentRefusal.{DocumentRefusal}
+use Rattle.input_files.specs.declared.journals.JournalRefusal.{JournalRefusal}
+use Rattle.input_files.specs.declared.lists.ListRefusal.{ListRefusal}
+use Rattle.input_files.specs.declared.lists.ListRefusal.TheVariants.{TooLarge, Faulty}
+use Rattle.list_commands.specs.Cuts.{NamerTold, CutEnds, UnlistedEnds}
+use Rattle.list_commands.specs.Points.{IsCutAt, HasFewer, DoesNotApply, PointEnds, JournalEnds, ListEnds, OpensDocument}
+use Rattle.list_commands.specs.Tapes.{TapeEnds}
+use Rattle.station_sessions.specs.declared.serve.End.{End}
+use Rattle.station_sessions.specs.declared.serve.End.TheVariants as end
+use Rattle.station_sessions.specs.Outside.{Outside, most_input, most_read}
+use Rattle.station_sessions.specs.Rooms.{History}
+use Rattle.station_sessions.specs.Serving.{SessionEnds}
+use Rattle.cut_server.specs.Halls.{EndsUnserved, FileEnds, HallEnds, SessionsEnd, TellsStation, first_fault, line_at, or_next, status_of}
+use Rattle.cut_server.specs.Runs.{both, CommandEnds, DocumentEnds, OpensNoRoom, RunEnds, RunsOver, ServeEnds}
+use Rattle.cut_server.specs.Unhindered.{AreStill, AreWithin, FitOnList, IsStill, IsUnhindered, IsWithin, TellsCut, TellsDocument, TellsList}
+
+-- it is 0, or 6
+abbrev pub EndsWell : Status → Type 0
+EndsWell status = (status ≡ Done) ⊎ (status ≡ OutOfMemory)
+
+-- ---- a session over an input that is not too long
+
+not_past : (left rest : Option (List ℕ)) (Answered : List ℕ → Type 0) → IsWithin left
+    → IfSome left (λ bytes. IsSomeAnd rest (λ behind. (got : List ℕ) × (bytes ≡ got ++ behind) × ((most_input < length got) × (length got ≤ most_input + most_read) × Answered got))) → ⊥
+not_past None rest Answered short past = absurd short
+not_past (Some bytes) None Answered short past = absurd past
+not_past (Some bytes) (Some behind) Answered short past =
+    let n : length bytes ≡ length past.0 + length behind = ap length past.1 ∙ length-append past.0 behind in
+    let more : most_input < length past.0 = past.2.0 in
+    omega (arith, n, short, more)
+
+session_well : (Answers : List InputLine → (List (List ℕ) → Type 0) → Type 0) (old new : Outside) (e : End) → AreStill old new → IsWithin old.left
+    → SessionEnds Answers old new e → e ≡ end.Ended
+session_well Answers old new end.Ended still short ends = refl
+session_well Answers old new end.ReadFault still short ends = absurd (still.0 ends.0.0)
+session_well Answers old new end.WriteFault still short ends = absurd (still.1 ends.0.0)
+session_well Answers old new end.TooMuchInput still short ends = absurd (not_past old.left new.left _ short ends.1)
+
+run_well : (o : Opening) (old new : Outside) (Untouched : Type 0) (s : Status) → AreStill old new → IsWithin old.left → RunEnds o old new Untouched s → EndsWell s
+run_well o old new Untouched Done still short ends = inl refl
+run_well o old new Untouched ReadFault still short ends = absurd (still.0 ends.0.0)
+run_well o old new Untouched WriteFault still short (inl ends) = absurd (still.1 ends.0.0)
+run_well o old new Untouched WriteFault still short (inr ends) = absurd (still.1 ends.0.0)
+run_well o old new Untouched OutOfMemory still short ends = inr refl
+run_well o old new Untouched TooMuchInput still short ends = absurd (not_past old.left new.left _ short ends.1)
+run_well o old new Untouched other still short ends = absurd ends
+
+runs_well : (o : Opening) (input : Change InputTold) (output : Change OutputTold) (s : Status) → AreStill (both input.before output.before) (both input.after output.after)
+    → IsWithin input.before.left → RunsOver o input output s → EndsWell s
+runs_well o input output s still short ends =
+    run_well o (both input.before output.before) (both input.after output.after) (input.Untouched × output.Untouched) s still short ends
+
+-- ---- a text, and what is not opened
+
+put_well : (all : Status) (text : List ℕ) (old new : OutputTold) (s : Status) → IsStill old.faults new.faults → PutsWith all text old new s → s ≡ all
+put_well all text old new s still (inl put) = put.0
+put_well all text old new s still (inr cut) = absurd (still cut.1.0)
+
+unread_well : (old new : FilesTold) (output : Change OutputTold) (s : Status) → IsStill old.reads new.reads → IsUnread old new output s → EndsWell s
+unread_well old new output ReadFault still unread = absurd (still unread.0)
+unread_well old new output OutOfMemory still unread = inr refl
+unread_well old new output other still unread = absurd unread
+
+-- what is accepted has no fault
+unopened_well : {R : Type 0} (HasFault : R → Type 0) (line : R → List ℕ) (old new : FilesTold) (output : Change OutputTold) (s : Status) → ((r : R) → HasFault r → ⊥)
+    → IsStill old.reads new.reads → EndsUnopened old new output HasFault line s → EndsWell s
+unopened_well HasFault line old new output s none still (inl refused) = absurd (none refused.refusal refused.refused)
+unopened_well HasFault line old new output s none still (inr unread) = unread_well old new output s still unread
+
+-- ---- contents of files that are told
+
+same_bytes : (c : Content) (a b : List ℕ) → c ≢ Untold → IsWhole c a → IsWhole c b → a ≡ b
+same_bytes Untold a b told x y = absurd (told refl)
+same_bytes Missing a b told x y = absurd x
+same_bytes (Bytes all) a b told x y = x ∙ sym y
+
+not_longer : (c : Content) (a : List ℕ) (most : ℕ) → c ≢ Untold → IsWhole c a → length a ≤ most → IsLonger c most → ⊥
+not_longer Untold a most told x within longer = absurd (told refl)
+not_longer Missing a most told x within longer = absurd x
+not_longer (Bytes all) a most told x within longer = let n : length a ≡ length all = ap length x in omega (arith, n, within, longer)
+
+same_content : (old new : Content) → IsUnchanged old new → new ≢ Untold → old ≡ new
+same_content old Untold same told = absurd (told refl)
+same_content old Missing same told = same
+same_content old (Bytes all) same told = same
+
+ok_or_err : {A B : Type 0} (a : A) (b : B) → ◌≡◌ {A = Result A B} (Ok a) (Err b) → ⊥
+ok_or_err a b is = Prim.grind (arith, is)
+
+same_ok : {A B : Type 0} (a b : A) → ◌≡◌ {A = Result A B} (Ok a) (Ok b) → a ≡ b
+same_ok a b is = Prim.grind (arith, is)
+
+-- a document
+module _ (counting : Counted) (c : Content) (o : Opening) (told : c ≢ Untold) (d : Describes counting c o) where
+  no_document_fault : (r : DocumentRefusal) → IsDocumentRefused counting c r → ⊥
+  no_document_fault r (inl large) = not_longer c d.0 MAX_DOCUMENT told d.1 d.2 large.0
+  no_document_fault r (inr fault) = ok_or_err o _ (sym d.3 ∙ (ap (document_read counting) (same_bytes c d.0 fault.0 told d.1 fault.1) ∙ fault.3))
+
+  one_opening : (p : Opening) → Describes counting c p → p ≡ o
+  one_opening p e = same_ok p o (sym e.3 ∙ (ap (document_read counting) (same_bytes c e.0 d.0 told e.1 d.1) ∙ d.3))
+
+-- a journal
+module _ (c : Content) (entries : List (Entry Call)) (told : c ≢ Untold) (h : HoldsJournal c entries) where
+  no_journal_fault : (r : JournalRefusal) → IsJournalRefused c r → ⊥
+  no_journal_fault r (inl large) = not_longer c h.0 MAX_JOURNAL told h.1 h.2 large.0
+  no_journal_fault r (inr fault) =
+      no_fault h.0 entries r.code r.line h.3 (subst (λ (bytes : List ℕ). IsFaulty bytes r.code r.line) (same_bytes c fault.0 h.0 told fault.1 h.1) fault.3)
+
+  one_history : (others : List (Entry Call)) → HoldsJournal c others → others ≡ entries
+  one_history others k = one_journal h.0 others entries (subst (λ (bytes : List ℕ). AreEntriesOf bytes others) (same_bytes c k.0 h.0 told k.1 h.1) k.3) h.3
+
+-- a list
+no_list_fault : (rate : SequenceRate) (c : Content) (events : List Event) → c ≢ Untold → HoldsList rate c events → (r : ListRefusal) → IsListRefused rate c r → ⊥
+no_list_fault rate c events told h TooLarge fault = not_longer c h.0 MAX_LIST told h.1 h.2 fault
+no_list_fault rate c events told h (Faulty code line other) fault =
+    ok_or_err events _ (sym h.3 ∙ (ap (list_of rate) (same_bytes c h.0 fault.0 told h.1 fault.1) ∙ fault.3))
+
+-- ---- `run` and `serve`
+
+no_room_well : (name : List ℕ) (counting : Counted) (files : Change FilesTold) (output : Change OutputTold) (s : Status) → TellsDocument counting (files.before.file name)
+    → IsStill files.before.reads files.after.reads → OpensNoRoom name counting files output s → EndsWell s
+no_room_well name counting files output s tells still ends =
+    let content = files.before.file name in
+    unopened_well (IsDocumentRefused counting content) document_line files.before files.after output s (no_document_fault counting content tells.1 tells.0 tells.2) still ends
+
+document_well : (name : List ℕ) (counting : Counted) (files : Change FilesTold) (output : Change OutputTold) (input : Change InputTold) (s : Status)
+    → TellsDocument counting (files.before.file name) → IsStill files.before.reads files.after.reads → AreStill (both input.before output.before) (both input.after output.after)
+    → IsWithin input.before.left → DocumentEnds name counting files output input s → EndsWell s
+document_well name counting files output input s tells reads still short (only, inl run) = runs_well run.opening input output s still short run.ends
+document_well name counting files output input s tells reads still short (only, inr none) = no_room_well name counting files output s tells reads none.1
+
+file_well : (name : List ℕ) (before after : FilesTold) (h : History) (s : Status) → IsStill before.writes after.writes → FileEnds name before after h s → EndsWell s
+file_well name before after h Done still ends = inl refl
+file_well name before after h WriteFault still ends = absurd (still ends.2)
+file_well name before after h OutOfMemory still ends = inr refl
+file_well name before after h other still ends = absurd ends
+
+all_done : (ends : List End) → ((k : ℕ) (e : End) → slice_get ends k ≡ Some e → e ≡ end.Ended) → first_fault (map status_of ends) ≡ Done
+all_done [] each = refl
+all_done (e ∷ es) each = ap (λ (x : End). or_next (status_of x) (first_fault (map status_of es))) (each 0 e refl) ∙ all_done es (λ k x at. each (suc k) x at)
+
+sessions_well : (o : Opening) (stations : ℕ) (h : History) (before after : HallTold) (s : Status) → ((k : ℕ) → AreStill (line_at before k) (line_at after k))
+    → AreWithin stations before → SessionsEnd o stations h before after s → s ≡ Done
+sessions_well o stations h before after s still short ended = ended.status_is ∙ all_done ended.ends each
+  where
+    each : (k : ℕ) (e : End) → slice_get ended.ends k ≡ Some e → e ≡ end.Ended
+    each k e at =
+        let low = slice_get_within ended.ends k e at in
+        session_well (TellsStation o h k) (line_at before k) (line_at after k) e (still k) (short k (omega (arith, low, ended.served.count))) (ended.served.each k e at)
+
+unserved_well : (o : Opening) (stations : ℕ) (address : List ℕ) (Keeps : History → Status → Type 0) (Unkept : Type 0) (old new : HallTold) (s : Status)
+    → IsStill old.faults new.faults → EndsUnserved o stations address Keeps Unkept old new s → EndsWell s
+unserved_well o stations address Keeps Unkept old new NotSeated still ends = absurd (still ends.0)
+unserved_well o stations address Keeps Unkept old new OutOfMemory still ends = inr refl
+unserved_well o stations address Keeps Unkept old new other still ends = absurd ends
+
+hall_well : (o : Opening) (stations : ℕ) (address : List ℕ) (Keeps : History → Status → Type 0) (Unkept : Type 0) (old new : HallTold) (s : Status)
+    → IsStill old.faults new.faults → ((k : ℕ) → AreStill (line_at old k) (line_at new k)) → AreWithin stations old
+    → ((h : History) (t : Status) → Keeps h t → EndsWell t) → HallEnds o stations address Keeps Unkept old new s → EndsWell s
+hall_well o stations address Keeps Unkept old new s calls still short kept (inl served) =
+    let done = sessions_well o stations served.journal old new served.of_sessions still short served.sessions in
+    let is : s ≡ served.of_keeping = served.status_is ∙ ap (λ (first : Status). or_next first served.of_keeping) done in
+    subst EndsWell (sym is) (kept served.journal served.of_keeping served.keeps)
+hall_well o stations address Keeps Unkept old new s calls still short kept (inr unserved) = unserved_well o stations address Keeps Unkept old new s calls unserved
+
+-- ---- `list` and `tape`
+
+unlisted_well : (fault : ListFault) (output : Change OutputTold) (s : Status) → fault ≡ Memory → UnlistedEnds fault output s → EndsWell s
+unlisted_well fault output s is ends = let memory : UnlistedEnds Memory output s = subst (λ (f : ListFault). UnlistedEnds f output s) is ends in inr memory.0
+
+cut_well : (o : Opening) (tracks : List TrackState) (namer : NamerTold) (output : Change OutputTold) (s : Status) → FitOnList o tracks namer
+    → IsStill output.before.faults output.after.faults → CutEnds o.table tracks o.counting o.start namer output s → EndsWell s
+cut_well o tracks namer output s fits still (inl list) = inl (put_well Done list.list.text output.before output.after s still list.put)
+cut_well o tracks namer output s fits still (inr none) = unlisted_well none.fault output s (fits none.fault none.refused) none.ends
+
+-- what has a cut at a point is not refused there
+not_refused : (o : Opening) (entries : List (Entry Call)) (point : ℕ) (tracks : List TrackState) (code : List ℕ) (number : ℕ) → IsCutAt o entries point tracks
+    → HasFewer entries point code number ⊎ DoesNotApply o entries point code number → ⊥
+not_refused o entries point tracks code number cut (inl fewer) = let few = fewer.0 in omega (arith, cut.within, few)
+not_refused o entries point tracks code number cut (inr apart) =
+    let apply = whole (editing o.table) in
+    let below = apart.1.within in
+    let front = take-take (number + 1) point entries (omega (arith, below)) in
+    front_applies apply o.tracks tracks (take point entries) (number + 1) cut.comes (ap (replay apply o.tracks) front ∙ apart.1.refused)
+
+point_well : (o : Opening) (entries : List (Entry Call)) (point : ℕ) (tracks : List TrackState) (namer : NamerTold) (output : Change OutputTold) (s : Status)
+    → IsCutAt o entries point tracks → FitOnList o tracks namer → IsStill output.before.faults output.after.faults → PointEnds o entries point namer output s → EndsWell s
+point_well o entries point tracks namer output s cut fits still (inl cuts) =
+    let same = same_Some cuts.tracks tracks (sym cuts.cut.comes ∙ cut.comes) in
+    cut_well o tracks namer output s fits still (subst (λ (ts : List TrackState). CutEnds o.table ts o.counting o.start namer output s) same cuts.ends)
+point_well o entries point tracks namer output s cut fits still (inr (inl refused)) =
+    absurd (not_refused o entries point tracks refused.code refused.number cut refused.why)
+point_well o entries point tracks namer output s cut fits still (inr (inr memory)) = inr memory.0
+
+journal_well : (o : Opening) (journal : List ℕ) (point : ℕ) (namer : NamerTold) (old new : FilesTold) (output : Change OutputTold) (s : Status)
+    (entries : List (Entry Call)) (tracks : List TrackState) → old.file journal ≢ Untold → HoldsJournal (old.file journal) entries → IsCutAt o entries point tracks
+    → FitOnList o tracks namer → IsStill old.reads new.reads → IsStill output.before.faults output.after.faults → JournalEnds o journal point namer old new output s → EndsWell s
+journal_well o journal point namer old new output s entries tracks told holds cut fits reads still (only, inl opens) =
+    let same = one_history (old.file journal) entries told holds opens.entries opens.holds in
+    point_well o entries point tracks namer output s cut fits still (subst (λ (es : List (Entry Call)). PointEnds o es point namer output s) same opens.ends)
+journal_well o journal point namer old new output s entries tracks told holds cut fits reads still (only, inr unopened) =
+    let content = old.file journal in
+    unopened_well (IsJournalRefused content) journal_line old new output s (no_journal_fault content entries told holds) reads unopened
+
+module _ (document : List ℕ) (counting : Counted) (journal : List ℕ) (point : ℕ) (namer : NamerTold) (files : Change FilesTold) (output : Change OutputTold) (s : Status)
+    (tells : TellsCut document counting journal point namer files) (reads : IsStill files.before.reads files.after.reads) (still : IsStill output.before.faults output.after.faults) where
+  opened_well : OpensDocument document counting journal point namer files output s → EndsWell s
+  opened_well opens =
+      let between = opens.between in
+      let then_so = same_content (between.file journal) (files.after.file journal) (opens.ends.0.0 journal) tells.still_told in
+      let told : between.file journal ≢ Untold = λ untold. tells.still_told (sym then_so ∙ untold) in
+      let first_so = same_content (files.before.file journal) (between.file journal) (opens.quiet.0.0 journal) told in
+      let same = one_opening counting (files.before.file document) tells.opening tells.told tells.described opens.opening opens.described in
+      journal_well tells.opening journal point namer between files.after output s tells.entries tells.tracks told
+      (subst (λ (c : Content). HoldsJournal c tells.entries) first_so tells.holds) tells.cut tells.fits
+      (subst (λ (n : ℕ). IsStill n files.after.reads) (sym opens.quiet.1) reads) still
+      (subst (λ (o : Opening). JournalEnds o journal point namer between files.after output s) same opens.ends)
+
+  list_well : ListEnds document counting journal point namer files output s → EndsWell s
+  list_well (only, inl opens) = opened_well opens
+  list_well (only, inr unopened) =
+      let content = files.before.file document in
+      unopened_well (IsDocumentRefused counting content) document_line files.before files.after output s
+      (no_document_fault counting content tells.opening tells.told tells.described) reads unopened
+
+tape_well : (name : List ℕ) (rate : SequenceRate) (files : Change FilesTold) (output : Change OutputTold) (s : Status) → TellsList rate (files.before.file name)
+    → IsStill files.before.reads files.after.reads → IsStill output.before.faults output.after.faults → TapeEnds name rate files output s → EndsWell s
+tape_well name rate files output s tells reads still (only, inl plays) = inl (put_well Done _ output.before output.after s still plays.put)
+tape_well name rate files output s tells reads still (only, inr unopened) =
+    let content = files.before.file name in
+    unopened_well (IsListRefused rate content) list_line files.before files.after output s (no_list_fault rate content tells.1 tells.0 tells.2) reads unopened
+
+-- ---- a command
+
+module _ (files : Change FilesTold) (input : Change InputTold) (output : Change OutputTold) (hall : Change HallTold) (namer : NamerTold) where
+  serve_well : (name : List ℕ) (counting : Counted) (stations : ℕ) (address journal : List ℕ) (s : Status)
+      → IsUnhindered files input output hall namer (Some (Serve name counting stations address journal))
+      → ServeEnds name counting files output stations address journal hall s → EndsWell s
+  serve_well name counting stations address journal s un (inl serves) =
+      hall_well serves.opening stations address (FileEnds journal files.before files.after) _ hall.before hall.after s un.1.calls un.1.lines un.0.1
+      (λ h t keeps. file_well journal files.before files.after h t un.1.writes keeps) serves.ends
+  serve_well name counting stations address journal s un (inr none) = no_room_well name counting files output s un.0.0 un.1.reads none.2
+
+  pub ends_well : (asked : Option Asked) (s : Status) → IsUnhindered files input output hall namer asked → CommandEnds files input output hall namer asked s → EndsWell s
+  ends_well None s un ends = absurd un.0
+  ends_well (Some (RunPlain tracks reels)) s un ends = runs_well (plain_opening tracks reels) input output s un.1.streams un.0 ends.2
+  ends_well (Some (RunDocument name counting)) s un ends = document_well name counting files output input s un.0.0 un.1.reads un.1.streams un.0.1 ends.1
+  ends_well (Some (Serve name counting stations address journal)) s un ends = serve_well name counting stations address journal s un ends.1
+  ends_well (Some (ListCut document counting journal point)) s un ends =
+      list_well document counting journal point namer files output s un.0 un.1.reads un.1.streams.1 ends.2
+  ends_well (Some (PlayList name rate)) s un ends = tape_well name rate files output s un.0 un.1.reads un.1.streams.1 ends.2
+
+-- by its number
+pub numbered_well : (n : ℕ) (s : Status) → n ≡ number_of s → EndsWell s → (n ≡ 0) ⊎ (n ≡ 6)
+numbered_well n s is (inl done) = inl (is ∙ ap number_of done)
+numbered_well n s is (inr memory) = inr (is ∙ ap number_of memory)

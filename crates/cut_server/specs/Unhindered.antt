@@ -1,0 +1,104 @@
+-- When nothing hinders a command: its words are a command's, what it reads of files is told and accepted, no input has
+-- more than 64 MiB, and no count of faults rises. It then ends with 0, or with 6 where memory ran out.
+use Rattle.std.specs.Prelude.{◌≡◌, ◌≢◌, ℕ, ◌<◌, ◌≤◌, List, Option, Some, None, length}
+use Rattle.std.specs.Option.{IsSomeAnd}
+use Rattle.composables.specs.TrackState.{TrackState}
+use Rattle.timecode12.specs.Numbers.{Counted}
+use Rattle.timecode12.specs.declared.rate.SequenceRate.{SequenceRate}
+use Rattle.room_core.specs.declared.entry.Entry.{Entry}
+use Rattle.room_files.specs.Files.{Content, Untold, FilesTold}
+use Rattle.room_halls.specs.Stations.{HallTold}
+use Rattle.room_ports.specs.Counts.{HasRisen}
+use Rattle.edit_apply.specs.declared.asks.Call.{Call}
+use Rattle.edl_events.specs.declared.event.Event.{Event}
+use Rattle.edl_write.specs.declared.fault.ListFault.{ListFault}
+use Rattle.edl_write.specs.declared.fault.ListFault.TheVariants.{Memory}
+use Rattle.edl_write.specs.Refusals.{IsRefused}
+use Rattle.otio_json.specs.declared.opening.Opening.{Opening}
+use Rattle.command_words.specs.Commands.{Asked, RunPlain, RunDocument, Serve, ListCut, PlayList}
+use Rattle.command_ends.specs.Ports.{Change, InputTold, OutputTold}
+use Rattle.input_files.specs.Documents.{Describes}
+use Rattle.input_files.specs.Journals.{HoldsJournal}
+use Rattle.input_files.specs.Lists.{HoldsList}
+use Rattle.list_commands.specs.Cuts.{NamerTold}
+use Rattle.list_commands.specs.Points.{IsCutAt}
+use Rattle.station_sessions.specs.Outside.{Outside, most_input}
+use Rattle.cut_server.specs.Halls.{line_at}
+use Rattle.cut_server.specs.Runs.{both}
+
+-- ---- inputs
+
+-- its bytes are told, and are at most 64 MiB
+abbrev pub IsWithin : Option (List ℕ) → Type 0
+IsWithin left = IsSomeAnd left (λ bytes. length bytes ≤ most_input)
+
+-- so are those of the line of each of these stations
+abbrev pub AreWithin : ℕ → HallTold → Type 0
+AreWithin stations hall = (station : ℕ) → station < stations → IsWithin (line_at hall station).left
+
+-- ---- counts of faults
+
+-- the count has not risen
+abbrev pub IsStill : ℕ → ℕ → Type 0
+IsStill before after = HasRisen before after → ⊥
+
+-- neither the count of reads nor that of writes has
+abbrev pub AreStill : Outside → Outside → Type 0
+AreStill old new = IsStill old.reads new.reads × IsStill old.writes new.writes
+
+-- ---- files
+
+-- its bytes are told, and describe an opening
+abbrev pub TellsDocument : Counted → Content → Type 0
+TellsDocument counting content = (content ≢ Untold) × (o : Opening) × Describes counting content o
+
+-- its bytes are told, and are a list
+abbrev pub TellsList : SequenceRate → Content → Type 0
+TellsList rate content = (content ≢ Untold) × (events : List Event) × HoldsList rate content events
+
+-- for no reason have these tracks of a room no list; want of memory is none of theirs
+abbrev pub FitOnList : Opening → List TrackState → NamerTold → Type 0
+FitOnList o tracks namer =
+    (fault : ListFault) → IsRefused o.table tracks o.counting o.start namer.rule namer.given fault → fault ≡ Memory
+
+-- The document describes a room, the journal has a cut of it at the point, and the cut fits on a list. The journal is
+-- told before the call and after it, and so when it was read.
+pub record TellsCut (document : List ℕ) (counting : Counted) (journal : List ℕ) (point : ℕ) (namer : NamerTold)
+    (files : Change FilesTold) : Type 0 where
+  pub opening : Opening
+  pub told : files.before.file document ≢ Untold
+  pub described : Describes counting (files.before.file document) opening
+  pub entries : List (Entry Call)
+  pub holds : HoldsJournal (files.before.file journal) entries
+  pub still_told : files.after.file journal ≢ Untold
+  pub tracks : List TrackState
+  pub cut : IsCutAt opening entries point tracks
+  pub fits : FitOnList opening tracks namer
+
+-- ---- a command
+
+-- by what its files, its input, its output and its hall told before and tell after, and by the namer that it was handed
+module _ (files : Change FilesTold) (input : Change InputTold) (output : Change OutputTold) (hall : Change HallTold)
+    (namer : NamerTold) where
+  -- no count of faults has risen
+  pub record NothingFails : Type 0 where
+    pub reads : IsStill files.before.reads files.after.reads
+    pub writes : IsStill files.before.writes files.after.writes
+    pub streams : AreStill (both input.before output.before) (both input.after output.after)
+    pub calls : IsStill hall.before.faults hall.after.faults
+    pub lines : (station : ℕ) → AreStill (line_at hall.before station) (line_at hall.after station)
+
+  -- what the command reads is accepted, and not too long
+  abbrev pub IsAccepted : Option Asked → Type 0
+  IsAccepted None = ⊥
+  IsAccepted (Some (RunPlain tracks reels)) = IsWithin input.before.left
+  IsAccepted (Some (RunDocument name counting)) =
+      TellsDocument counting (files.before.file name) × IsWithin input.before.left
+  IsAccepted (Some (Serve name counting stations address journal)) =
+      TellsDocument counting (files.before.file name) × AreWithin stations hall.before
+  IsAccepted (Some (ListCut document counting journal point)) =
+      TellsCut document counting journal point namer files
+  IsAccepted (Some (PlayList name rate)) = TellsList rate (files.before.file name)
+
+  abbrev pub IsUnhindered : Option Asked → Type 0
+  IsUnhindered asked = IsAccepted asked × NothingFails
