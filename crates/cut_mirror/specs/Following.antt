@@ -11,4 +11,5 @@ GoesOn before place e after =
 -- what a list comes to by a stream, one entry after another
 abbrev pub Follows : {C : Type 0} → List (Entry C) → List (ℕ × Entry C) → List (Entry C) → Type 0
 Follows before [] after = after ≡ before
-Follows before (item ∷ items) after = (next : List (Entry _)) × GoesOn before item.0 item.1 next × Follows next items after
+Follows before (item ∷ items) after =
+    (next : List (Entry _)) × GoesOn before item.0 item.1 next × Follows next items after

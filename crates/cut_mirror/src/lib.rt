@@ -1,8 +1,8 @@
 //! A mirror of a room: a second program that follows a room takes its entries, each with its place, and has what they
 //! come to. It works over any object of parts whose calls compare by equality.
 //!
-//! [`Mirror::take`] is the main contract: it goes on by one entry, or says which rule of the stream the entry breaks. What
-//! a mirror has taken is a legal history of its opening, and its parts are those that this history comes to.
+//! [`Mirror::take`] is the main contract: it goes on by one entry, or says which rule of the stream the entry breaks.
+//! What a mirror has taken is a legal history of its opening, and its parts are those that this history comes to.
 #![tactic(auto)]
 
 mod calls;

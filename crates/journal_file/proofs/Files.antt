@@ -1,11 +1,14 @@
 -- What files of headers, records and gates are kept files of.
-use Rattle.std.proofs.Common.{◌≡◌, ◌≢◌, ◌⊎◌, ⊎_elim, inl, inr, ℕ, ◌+◌, ◌-◌, ◌<◌, ◌≤◌, List, [], ◌∷◌, ◌++◌, Option, Some, None, length, take, drop, refl, sym, ◌∙◌, ap, subst, arith, append_assoc, length-append, take-append-drop}
+use Rattle.std.proofs.Common.{◌≡◌, ◌≢◌, ◌⊎◌, ⊎_elim, inl, inr, ℕ, ◌+◌, ◌-◌, ◌<◌, ◌≤◌, List, [], ◌∷◌, ◌++◌, Option, Some}
+use Rattle.std.proofs.Common.{None, length, take, drop, refl, sym, ◌∙◌, ap, subst, arith, append_assoc, length-append}
+use Rattle.std.proofs.Common.{take-append-drop}
 use Rattle.std.specs.List.{flat_map, slice_get, AllByRecursion}
 use Rattle.std.proofs.lemmas.Option.{none-some, same_Some}
 use Rattle.std.proofs.lemmas.Bool.{cases_eq, cases_lt}
 use Rattle.std.proofs.lemmas.List.{append-nil, append_cancel_left, append_cancel_right, take_at}
 use Rattle.room_disks.specs.Crashes.{Course, Within, IsImage}
-use Rattle.journal_file.specs.Layout.{header, IsLine, record_of, records_of, front_of, HasLines, Kept, NoRecord, IsBroken, BreaksAt, IsDamagedAt}
+use Rattle.journal_file.specs.Layout.{header, IsLine, record_of, records_of, front_of, HasLines, Kept, NoRecord}
+use Rattle.journal_file.specs.Layout.{IsBroken, BreaksAt, IsDamagedAt}
 use Rattle.journal_file.specs.Reading.{HasGateAt}
 use Rattle.journal_file.specs.Standing.{HoldsLines}
 use Rattle.journal_file.specs.Stages.{piece_of, IsEither}
@@ -25,31 +28,58 @@ no_records [] e = refl
 no_records (l ∷ ls) e = absurd (omega (arith, e, length-append (record_of l) (records_of ls), length-record l))
 
 -- a gate behind whole records makes a kept file, also a short one
-pub kept_behind : (lines : List (List ℕ)) (gate : ℕ) (rest bytes : List ℕ) → AllByRecursion IsLine lines → gate ≢ 43 → bytes ≡ front_of lines ++ gate ∷ rest → Kept bytes lines
+pub kept_behind : (lines : List (List ℕ)) (gate : ℕ) (rest bytes : List ℕ) → AllByRecursion IsLine lines → gate ≢ 43
+    → bytes ≡ front_of lines ++ gate ∷ rest → Kept bytes lines
 kept_behind lines gate rest bytes all closed is = ⊎_elim
-    (λ (long : 19 < length bytes). inr (long, record { gate = gate; rest = rest; closed = closed; are_lines = all; parts = is }))
-    (λ (short : length bytes ≤ 19). inl (short, no_records lines (omega (arith, short, ap length is, length-append (front_of lines) (gate ∷ rest), length-front lines))))
+    (λ (long : 19 < length bytes). inr (
+      long,
+      record {
+        gate = gate;
+        rest = rest;
+        closed = closed;
+        are_lines = all;
+        parts = is;
+      },
+    ))
+    (λ (short : length bytes ≤ 19). inl (
+      short,
+      no_records lines
+          (omega (arith, short, ap length is, length-append (front_of lines) (gate ∷ rest), length-front lines)),
+    ))
     (cases_lt 19 (length bytes))
 
 -- one record more
-pub front_more : (lines : List (List ℕ)) (line : List ℕ) → front_of lines ++ 43 ∷ piece_of line ≡ front_of (lines ++ line ∷ []) ++ 45 ∷ []
+pub front_more : (lines : List (List ℕ)) (line : List ℕ) → front_of lines ++ 43 ∷ piece_of line ≡ front_of
+    (lines ++ line ∷ []) ++ 45 ∷ []
 front_more lines line =
     append_assoc header (records_of lines) (43 ∷ piece_of line)
-    ∙ ap (λ t. header ++ t) (ap (λ t. records_of lines ++ t) (sym (record_split line (45 ∷ []))) ∙ records_push lines line (45 ∷ []))
+    ∙ ap (λ t. header ++ t) (ap (λ t. records_of lines ++ t) (sym (record_split line (45 ∷ [])))
+    ∙ records_push lines line (45 ∷ []))
     ∙ sym (append_assoc header (records_of (lines ++ line ∷ [])) (45 ∷ []))
 
-pub length-front_more : (lines : List (List ℕ)) (line : List ℕ) → length (front_of (lines ++ line ∷ [])) ≡ length (front_of lines) + (length line + 2)
+pub length-front_more : (lines : List (List ℕ)) (line : List ℕ) → length (front_of (lines ++ line ∷ [])) ≡ length
+    (front_of lines) + (length line + 2)
 length-front_more lines line =
     let e = ap length (front_more lines line) in
-    omega (arith, e, length-append (front_of lines) (43 ∷ piece_of line), length-append (front_of (lines ++ line ∷ [])) (45 ∷ []), length-append line (10 ∷ 45 ∷ []))
+    omega (
+      arith,
+      e,
+      length-append (front_of lines) (43 ∷ piece_of line),
+      length-append (front_of (lines ++ line ∷ []))
+          (45 ∷ []),
+      length-append line (10 ∷ 45 ∷ []),
+    )
 
 pub open_gate : ◌≢◌ {A = ℕ} 45 43
 open_gate e = omega (arith, e)
 
 -- what an append may leave
-pub either_holds : (lines : List (List ℕ)) (line bytes : List ℕ) → AllByRecursion IsLine lines → IsLine line → IsEither lines line bytes → HoldsLines (Some line) lines bytes
-either_holds lines line bytes all is (inl (gate, rest, closed, e)) = inl (kept_behind lines gate rest bytes all closed e)
-either_holds lines line bytes all is (inr e) = inr (kept_behind (lines ++ line ∷ []) 45 [] bytes (all_push IsLine lines line all is) open_gate (e ∙ front_more lines line))
+pub either_holds : (lines : List (List ℕ)) (line bytes : List ℕ) → AllByRecursion IsLine lines → IsLine line
+    → IsEither lines line bytes → HoldsLines (Some line) lines bytes
+either_holds lines line bytes all is (inl (gate, rest, closed, e)) =
+    inl (kept_behind lines gate rest bytes all closed e)
+either_holds lines line bytes all is (inr e) = inr (kept_behind (lines ++ line ∷ []) 45 [] bytes
+    (all_push IsLine lines line all is) open_gate (e ∙ front_more lines line))
 
 -- ---- a file has one list of records
 
@@ -68,43 +98,54 @@ cons_tail a b xs ys e = ap tail e
     tail (z ∷ zs) = zs
 
 -- a record's bytes before what follows
-record_first : (l : List ℕ) (ls : List (List ℕ)) (rest : List ℕ) → records_of (l ∷ ls) ++ rest ≡ 43 ∷ (l ++ 10 ∷ (records_of ls ++ rest))
+record_first : (l : List ℕ) (ls : List (List ℕ)) (rest : List ℕ) → records_of (l ∷ ls)
+    ++ rest ≡ 43 ∷ (l ++ 10 ∷ (records_of ls ++ rest))
 record_first l ls rest = append_assoc (record_of l) (records_of ls) rest ∙ record_split l (records_of ls ++ rest)
 
 -- what no record begins, behind whole records, is told apart from them
-split_same : (ls ms : List (List ℕ)) (xs ys : List ℕ) → AllByRecursion IsLine ls → AllByRecursion IsLine ms → NoRecord xs → NoRecord ys → records_of ls ++ xs ≡ records_of ms ++ ys → (ls ≡ ms) × (xs ≡ ys)
+split_same : (ls ms : List (List ℕ)) (xs ys : List ℕ) → AllByRecursion IsLine ls → AllByRecursion IsLine ms
+    → NoRecord xs → NoRecord ys → records_of ls ++ xs ≡ records_of ms ++ ys → (ls ≡ ms) × (xs ≡ ys)
 split_same [] [] xs ys al am nx ny e = (refl, e)
-split_same [] (m ∷ ms) xs ys al am nx ny e = absurd (nx m (records_of ms ++ ys) am.0 (e ∙ append_assoc (record_of m) (records_of ms) ys))
-split_same (l ∷ ls) [] xs ys al am nx ny e = absurd (ny l (records_of ls ++ xs) al.0 (sym e ∙ append_assoc (record_of l) (records_of ls) xs))
+split_same [] (m ∷ ms) xs ys al am nx ny e = absurd (nx m (records_of ms ++ ys) am.0
+    (e ∙ append_assoc (record_of m) (records_of ms) ys))
+split_same (l ∷ ls) [] xs ys al am nx ny e = absurd (ny l (records_of ls ++ xs) al.0
+    (sym e ∙ append_assoc (record_of l) (records_of ls) xs))
 split_same (l ∷ ls) (m ∷ ms) xs ys al am nx ny e =
-    let t = cons_tail 43 43 (l ++ 10 ∷ (records_of ls ++ xs)) (m ++ 10 ∷ (records_of ms ++ ys)) (sym (record_first l ls xs) ∙ e ∙ record_first m ms ys) in
+    let t = cons_tail 43 43 (l ++ 10 ∷ (records_of ls ++ xs)) (m ++ 10 ∷ (records_of ms ++ ys))
+    (sym (record_first l ls xs) ∙ e ∙ record_first m ms ys) in
     let s = same_line l m (records_of ls ++ xs) (records_of ms ++ ys) al.0.one am.0.one t in
     let r = split_same ls ms xs ys al.1 am.1 nx ny s.1 in
     (ap (λ z. z ∷ ls) s.0 ∙ ap (λ z. m ∷ z) r.0, r.1)
 
 closed_no_record : (gate : ℕ) (rest : List ℕ) → gate ≢ 43 → NoRecord (gate ∷ rest)
-closed_no_record gate rest closed line after is e = closed (cons_head gate 43 rest (line ++ 10 ∷ after) (e ∙ record_split line after))
+closed_no_record gate rest closed line after is e = closed (cons_head gate 43 rest (line ++ 10 ∷ after)
+    (e ∙ record_split line after))
 
 nil_cons : (a : ℕ) (xs : List ℕ) → ◌≡◌ {A = List ℕ} [] (a ∷ xs) → ⊥
 nil_cons a xs e = let n = ap length e in omega (arith, n)
 
 broken_no_record : (rest : List ℕ) → IsBroken rest → NoRecord rest
-broken_no_record rest (inl end) line after is e = nil_cons 43 (line ++ 10 ∷ after) (sym end ∙ (e ∙ record_split line after))
+broken_no_record rest (inl end) line after is e = nil_cons 43 (line ++ 10 ∷ after)
+    (sym end ∙ (e ∙ record_split line after))
 broken_no_record rest (inr (more, plus, no_more)) line after is e = no_more line after is e
 
 not_closed : (rest : List ℕ) (gate : ℕ) (more : List ℕ) → IsBroken rest → gate ≢ 43 → rest ≡ gate ∷ more → ⊥
 not_closed rest gate more (inl end) closed e = nil_cons gate more (sym end ∙ e)
 not_closed rest gate more (inr (others, plus, no_more)) closed e = closed (cons_head gate 43 more others (sym e ∙ plus))
 
-behind_header : (bytes : List ℕ) (lines : List (List ℕ)) (xs : List ℕ) → bytes ≡ front_of lines ++ xs → bytes ≡ header ++ (records_of lines ++ xs)
+behind_header : (bytes : List ℕ) (lines : List (List ℕ)) (xs : List ℕ) → bytes ≡ front_of lines ++ xs → bytes ≡ header
+    ++ (records_of lines ++ xs)
 behind_header bytes lines xs e = e ∙ append_assoc header (records_of lines) xs
 
-apart : (bytes : List ℕ) (ls ms : List (List ℕ)) (xs ys : List ℕ) → bytes ≡ front_of ls ++ xs → bytes ≡ front_of ms ++ ys → records_of ls ++ xs ≡ records_of ms ++ ys
-apart bytes ls ms xs ys a b = append_cancel_left header (records_of ls ++ xs) (records_of ms ++ ys) (sym (behind_header bytes ls xs a) ∙ behind_header bytes ms ys b)
+apart : (bytes : List ℕ) (ls ms : List (List ℕ)) (xs ys : List ℕ) → bytes ≡ front_of ls ++ xs → bytes ≡ front_of ms
+    ++ ys → records_of ls ++ xs ≡ records_of ms ++ ys
+apart bytes ls ms xs ys a b = append_cancel_left header (records_of ls ++ xs) (records_of ms ++ ys)
+    (sym (behind_header bytes ls xs a) ∙ behind_header bytes ms ys b)
 
 pub same_lines : (bytes : List ℕ) (ls ms : List (List ℕ)) → HasLines bytes ls → HasLines bytes ms → ls ≡ ms
 same_lines bytes ls ms a b =
-    (split_same ls ms (a.gate ∷ a.rest) (b.gate ∷ b.rest) a.are_lines b.are_lines (closed_no_record a.gate a.rest a.closed) (closed_no_record b.gate b.rest b.closed)
+    (split_same ls ms (a.gate ∷ a.rest) (b.gate ∷ b.rest) a.are_lines b.are_lines
+    (closed_no_record a.gate a.rest a.closed) (closed_no_record b.gate b.rest b.closed)
     (apart bytes ls ms (a.gate ∷ a.rest) (b.gate ∷ b.rest) a.parts b.parts)).0
 
 pub same_kept : (bytes : List ℕ) (ls ms : List (List ℕ)) → Kept bytes ls → Kept bytes ms → ls ≡ ms
@@ -115,17 +156,22 @@ same_kept bytes ls ms (inr a) (inr b) = same_lines bytes ls ms a.1 b.1
 
 -- ---- a damaged file has none, and is damaged at one place
 
-header_is : (bytes : List ℕ) (lines : List (List ℕ)) (xs : List ℕ) → bytes ≡ front_of lines ++ xs → take 18 bytes ≡ header
-header_is bytes lines xs e = ap (take 18) (behind_header bytes lines xs e) ∙ take_at header (records_of lines ++ xs) 18 length-header
+header_is : (bytes : List ℕ) (lines : List (List ℕ)) (xs : List ℕ) → bytes ≡ front_of lines ++ xs
+    → take 18 bytes ≡ header
+header_is bytes lines xs e = ap (take 18) (behind_header bytes lines xs e)
+    ∙ take_at header (records_of lines ++ xs) 18 length-header
 
 breaks_not : (bytes : List ℕ) (at : ℕ) (lines : List (List ℕ)) → BreaksAt bytes at → HasLines bytes lines → ⊥
 breaks_not bytes at lines b h =
-    let s = split_same b.lines lines b.rest (h.gate ∷ h.rest) b.are_lines h.are_lines (broken_no_record b.rest b.broken) (closed_no_record h.gate h.rest h.closed) (apart bytes b.lines lines b.rest (h.gate ∷ h.rest) b.parts h.parts) in
+    let s = split_same b.lines lines b.rest (h.gate ∷ h.rest) b.are_lines h.are_lines (broken_no_record b.rest b.broken)
+    (closed_no_record h.gate h.rest h.closed) (apart bytes b.lines lines b.rest (h.gate ∷ h.rest) b.parts
+    h.parts) in
     not_closed b.rest h.gate h.rest b.broken h.closed s.1
 
 pub damaged_not_kept : (bytes : List ℕ) (at : ℕ) (lines : List (List ℕ)) → IsDamagedAt bytes at → Kept bytes lines → ⊥
 damaged_not_kept bytes at lines (long, why) (inl short) = omega (arith, long, short.0)
-damaged_not_kept bytes at lines (long, inl wrong) (inr (_, h)) = wrong.0 (header_is bytes lines (h.gate ∷ h.rest) h.parts)
+damaged_not_kept bytes at lines (long, inl wrong) (inr (_, h)) =
+    wrong.0 (header_is bytes lines (h.gate ∷ h.rest) h.parts)
 damaged_not_kept bytes at lines (long, inr b) (inr (_, h)) = breaks_not bytes at lines b h
 
 pub damaged_once : (bytes : List ℕ) (at again : ℕ) → IsDamagedAt bytes at → IsDamagedAt bytes again → at ≡ again
@@ -133,7 +179,9 @@ damaged_once bytes at again (_, inl a) (_, inl b) = a.1 ∙ sym b.1
 damaged_once bytes at again (_, inl a) (_, inr b) = absurd (a.0 (header_is bytes b.lines b.rest b.parts))
 damaged_once bytes at again (_, inr a) (_, inl b) = absurd (b.0 (header_is bytes a.lines a.rest a.parts))
 damaged_once bytes at again (_, inr a) (_, inr b) =
-    a.place ∙ (ap (λ ls. length (front_of ls)) (split_same a.lines b.lines a.rest b.rest a.are_lines b.are_lines (broken_no_record a.rest a.broken) (broken_no_record b.rest b.broken) (apart bytes a.lines b.lines a.rest b.rest a.parts b.parts)).0 ∙ sym b.place)
+    a.place ∙ (ap (λ ls. length (front_of ls)) (split_same a.lines b.lines a.rest b.rest a.are_lines b.are_lines
+    (broken_no_record a.rest a.broken) (broken_no_record b.rest b.broken)
+    (apart bytes a.lines b.lines a.rest b.rest a.parts b.parts)).0 ∙ sym b.place)
 
 -- a file has more bytes than records
 pub lines_fewer : (lines : List (List ℕ)) → length lines ≤ length (records_of lines)
@@ -142,11 +190,14 @@ lines_fewer (l ∷ ls) = omega (arith, lines_fewer ls, length-append (record_of 
 
 -- ---- what was read
 
-pub front_parts : (bytes : List ℕ) (lines : List (List ℕ)) (rest : List ℕ) → take 18 bytes ≡ header → drop 18 bytes ≡ records_of lines ++ rest → bytes ≡ front_of lines ++ rest
+pub front_parts : (bytes : List ℕ) (lines : List (List ℕ)) (rest : List ℕ) → take 18 bytes ≡ header
+    → drop 18 bytes ≡ records_of lines ++ rest → bytes ≡ front_of lines ++ rest
 front_parts bytes lines rest h r =
-    sym (take-append-drop 18 bytes) ∙ (ap (λ t. t ++ drop 18 bytes) h ∙ (ap (λ t. header ++ t) r ∙ sym (append_assoc header (records_of lines) rest)))
+    sym (take-append-drop 18 bytes) ∙ (ap (λ t. t ++ drop 18 bytes) h
+    ∙ (ap (λ t. header ++ t) r ∙ sym (append_assoc header (records_of lines) rest)))
 
-pub read_place : (bytes : List ℕ) (lines : List (List ℕ)) (rest : List ℕ) (at : ℕ) → bytes ≡ front_of lines ++ rest → at ≡ length bytes - length rest → at ≡ length (front_of lines)
+pub read_place : (bytes : List ℕ) (lines : List (List ℕ)) (rest : List ℕ) (at : ℕ) → bytes ≡ front_of lines ++ rest
+    → at ≡ length bytes - length rest → at ≡ length (front_of lines)
 read_place bytes lines rest at parts is = omega (arith, is, ap length parts, length-append (front_of lines) rest)
 
 -- the first byte of what is left
@@ -158,16 +209,47 @@ pub with_none : (rest : List ℕ) → ◌≡◌ {A = Option ℕ} None (slice_get
 with_none [] is = refl
 with_none (x ∷ xs) is = absurd (none-some x is)
 
-pub ends_at_plus : (bytes : List ℕ) (lines : List (List ℕ)) (rest more : List ℕ) (at : ℕ) → 19 < length bytes → AllByRecursion IsLine lines → bytes ≡ front_of lines ++ rest → rest ≡ 43 ∷ more → NoRecord rest → at ≡ length bytes - length rest → IsDamagedAt bytes at
-ends_at_plus bytes lines rest more at long all parts plus no_more is =
-    (long, inr (record { lines = lines; rest = rest; are_lines = all; parts = parts; broken = inr (more, plus, no_more); place = read_place bytes lines rest at parts is }))
+pub ends_at_plus : (bytes : List ℕ) (lines : List (List ℕ)) (rest more : List ℕ) (at : ℕ) → 19 < length bytes
+    → AllByRecursion IsLine lines → bytes ≡ front_of lines ++ rest → rest ≡ 43 ∷ more → NoRecord rest
+    → at ≡ length bytes - length rest → IsDamagedAt bytes at
+ends_at_plus bytes lines rest more at long all parts plus no_more is = (
+  long,
+  inr (record {
+    lines = lines;
+    rest = rest;
+    are_lines = all;
+    parts = parts;
+    broken = inr (more, plus, no_more);
+    place = read_place bytes lines rest at parts is;
+  }),
+)
 
-pub ends_at_end : (bytes : List ℕ) (lines : List (List ℕ)) (rest : List ℕ) (at : ℕ) → 19 < length bytes → AllByRecursion IsLine lines → bytes ≡ front_of lines ++ rest → rest ≡ [] → at ≡ length bytes - length rest → IsDamagedAt bytes at
-ends_at_end bytes lines rest at long all parts end is =
-    (long, inr (record { lines = lines; rest = rest; are_lines = all; parts = parts; broken = inl end; place = read_place bytes lines rest at parts is }))
+pub ends_at_end : (bytes : List ℕ) (lines : List (List ℕ)) (rest : List ℕ) (at : ℕ) → 19 < length bytes
+    → AllByRecursion IsLine lines → bytes ≡ front_of lines ++ rest → rest ≡ [] → at ≡ length bytes - length rest
+    → IsDamagedAt bytes at
+ends_at_end bytes lines rest at long all parts end is = (
+  long,
+  inr (record {
+    lines = lines;
+    rest = rest;
+    are_lines = all;
+    parts = parts;
+    broken = inl end;
+    place = read_place bytes lines rest at parts is;
+  }),
+)
 
-pub has_gate : (bytes : List ℕ) (lines : List (List ℕ)) (rest more : List ℕ) (gate at : ℕ) → AllByRecursion IsLine lines → bytes ≡ front_of lines ++ rest → rest ≡ gate ∷ more → gate ≢ 43 → at ≡ length bytes - length rest → HasGateAt bytes lines at
+pub has_gate : (bytes : List ℕ) (lines : List (List ℕ)) (rest more : List ℕ) (gate at : ℕ) → AllByRecursion IsLine lines
+    → bytes ≡ front_of lines ++ rest → rest ≡ gate ∷ more → gate ≢ 43 → at ≡ length bytes - length rest
+    → HasGateAt bytes lines at
 has_gate bytes lines rest more gate at all parts first closed is = record {
-  has = record { gate = gate; rest = more; closed = closed; are_lines = all; parts = parts ∙ ap (λ t. front_of lines ++ t) first };
+  has = record {
+    gate = gate;
+    rest = more;
+    closed = closed;
+    are_lines = all;
+    parts = parts
+        ∙ ap (λ t. front_of lines ++ t) first;
+  };
   place = read_place bytes lines rest at parts is;
 }

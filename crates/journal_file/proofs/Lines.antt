@@ -1,9 +1,12 @@
 -- Lines and records in bytes: where a line ends, and that bytes begin with one record at most.
-use Rattle.std.proofs.Common.{◌≡◌, ◌≢◌, ◌↔◌, IsTrue, ⊎_elim, inl, inr, ℕ, zero, suc, ◌+◌, ◌<◌, ◌≤◌, List, [], ◌∷◌, ◌++◌, Bool, true, false, true≢false, Option, Some, None, cond, length, take, drop, get_or, position, refl, sym, ◌∙◌, ap, subst, arith, append_assoc, length-append}
+use Rattle.std.proofs.Common.{◌≡◌, ◌≢◌, ◌↔◌, IsTrue, ⊎_elim, inl, inr, ℕ, zero, suc, ◌+◌, ◌<◌, ◌≤◌, List, [], ◌∷◌, ◌++◌}
+use Rattle.std.proofs.Common.{Bool, true, false, true≢false, Option, Some, None, cond, length, take, drop, get_or}
+use Rattle.std.proofs.Common.{position, refl, sym, ◌∙◌, ap, subst, arith, append_assoc, length-append}
 use Rattle.std.specs.List.{position_or_len, flat_map, AllByRecursion}
 use Rattle.std.proofs.lemmas.Bool.{cases_eq, ltb-true, ltb-false}
 use Rattle.std.proofs.lemmas.Bool.Decides.{nat_tests}
-use Rattle.std.proofs.lemmas.List.{append-nil, flat_map_more, take-append-drop, drop_more, drop-drop, length-take-le, append_cancel_left}
+use Rattle.std.proofs.lemmas.List.{append-nil, flat_map_more, take-append-drop, drop_more, drop-drop, length-take-le}
+use Rattle.std.proofs.lemmas.List.{append_cancel_left}
 use Rattle.std.proofs.lemmas.List.Quantifiers.{position-Some}
 use Rattle.std.proofs.lemmas.List.Sums.{fails_before_first}
 use Rattle.journal_file.specs.Layout.{IsLine, record_of, records_of, NoRecord, IsBroken}
@@ -19,15 +22,21 @@ not_lf x off is = Prim.grind (arith, nat_tests, off, is)
 pub is_feed : (x : ℕ) → is_lf x ≡ true → x ≡ 10
 is_feed x on = Prim.grind (arith, nat_tests, on)
 
-pub no_feed : (xs : List ℕ) (i : ℕ) → i ≤ length xs → ((k : ℕ) → k < i → is_lf (get_or xs k 0) ≡ false) → NoFeed (take i xs)
+pub no_feed : (xs : List ℕ) (i : ℕ) → i ≤ length xs → ((k : ℕ) → k < i → is_lf (get_or xs k 0) ≡ false)
+    → NoFeed (take i xs)
 no_feed xs zero le h = tt
 no_feed [] (suc i) le h = absurd (omega (arith, le))
-no_feed (x ∷ xs) (suc i) le h = (not_lf x (h 0 (omega arith)), no_feed xs i (omega (arith, le)) (λ k l. h (suc k) (omega (arith, l))))
+no_feed (x ∷ xs) (suc i) le h = (
+  not_lf x (h 0 (omega arith)),
+  no_feed xs i (omega (arith, le))
+      (λ k l. h (suc k) (omega (arith, l))),
+)
 
 pub no_feed_all : (xs : List ℕ) → position is_lf xs ≡ None → NoFeed xs
 no_feed_all xs none =
     let out = ltb-false (position_or_len is_lf xs) (length xs) (cond_out _ _ none) in
-    subst NoFeed (take_whole xs) (no_feed xs (length xs) (omega arith) (λ k l. fails_before_first is_lf xs k 0 (omega (arith, out, l))))
+    subst NoFeed (take_whole xs) (no_feed xs (length xs) (omega arith)
+    (λ k l. fails_before_first is_lf xs k 0 (omega (arith, out, l))))
   where
     cond_out : (b : Bool) (i : ℕ) → cond b (Some i) None ≡ None → b ≡ false
     cond_out true i e = Prim.grind (arith, e)
@@ -38,9 +47,11 @@ no_feed_all xs none =
     take_whole (y ∷ ys) = ap (λ l. y ∷ l) (take_whole ys)
 
 -- the bytes up to a line feed, and what is behind it
-pub at_feed : (xs : List ℕ) (i : ℕ) → i < length xs → is_lf (get_or xs i 0) ≡ true → xs ≡ take i xs ++ 10 ∷ drop (i + 1) xs
+pub at_feed : (xs : List ℕ) (i : ℕ) → i < length xs → is_lf (get_or xs i 0) ≡ true → xs ≡ take i xs
+    ++ 10 ∷ drop (i + 1) xs
 at_feed xs i lt on =
-    sym (take-append-drop i xs) ∙ ap (λ t. take i xs ++ t) (drop_more xs i 0 lt ∙ ap (λ b. b ∷ drop (i + 1) xs) (is_feed (get_or xs i 0) on))
+    sym (take-append-drop i xs) ∙ ap (λ t. take i xs ++ t) (drop_more xs i 0 lt ∙ ap (λ b. b ∷ drop (i + 1) xs)
+    (is_feed (get_or xs i 0) on))
 
 -- one line ends where the other does
 pub same_line : (l m xs ys : List ℕ) → NoFeed l → NoFeed m → l ++ 10 ∷ xs ≡ m ++ 10 ∷ ys → (l ≡ m) × (xs ≡ ys)
@@ -79,13 +90,16 @@ no_end (y ∷ m) ys n = no_end m ys n.1
 pub no_feed_no_line : (xs m ys : List ℕ) → NoFeed xs → xs ≡ m ++ 10 ∷ ys → ⊥
 no_feed_no_line xs m ys n e = no_end m ys (subst NoFeed e n)
 
-pub all_push : {A : Type 0} (P : A → Type 0) (xs : List A) (x : A) → AllByRecursion P xs → P x → AllByRecursion P (xs ++ x ∷ [])
+pub all_push : {A : Type 0} (P : A → Type 0) (xs : List A) (x : A) → AllByRecursion P xs → P x
+    → AllByRecursion P (xs ++ x ∷ [])
 all_push P [] x h p = (p, tt)
 all_push P (y ∷ xs) x h p = (h.0, all_push P xs x h.1 p)
 
 -- one record more
-pub records_push : (lines : List (List ℕ)) (line rest : List ℕ) → records_of lines ++ (record_of line ++ rest) ≡ records_of (lines ++ line ∷ []) ++ rest
-records_push lines line rest = sym (append_assoc (records_of lines) (record_of line) rest) ∙ ap (λ t. t ++ rest) (flat_map_more record_of [] lines line)
+pub records_push : (lines : List (List ℕ)) (line rest : List ℕ) → records_of lines
+    ++ (record_of line ++ rest) ≡ records_of (lines ++ line ∷ []) ++ rest
+records_push lines line rest = sym (append_assoc (records_of lines) (record_of line) rest)
+    ∙ ap (λ t. t ++ rest) (flat_map_more record_of [] lines line)
 
 -- the record and what is behind it
 pub record_split : (line rest : List ℕ) → record_of line ++ rest ≡ 43 ∷ (line ++ 10 ∷ rest)
@@ -94,19 +108,25 @@ record_split line rest = ap (λ t. 43 ∷ t) (append_assoc line (10 ∷ []) rest
 -- ---- a line and its line feed
 
 -- the line that ends at the first line feed
-pub line_at : (xs : List ℕ) (i : ℕ) → position is_lf xs ≡ Some i → NoFeed (take i xs) × (xs ≡ take i xs ++ 10 ∷ drop (i + 1) xs)
+pub line_at : (xs : List ℕ) (i : ℕ) → position is_lf xs ≡ Some i → NoFeed (take i xs)
+    × (xs ≡ take i xs ++ 10 ∷ drop (i + 1) xs)
 line_at xs i e =
     let p = position-Some is_lf xs i 0 e in
     (no_feed xs i (omega (arith, p.0)) p.2, at_feed xs i p.0 p.1)
 
-pub is_line_at : (xs : List ℕ) (i : ℕ) → position is_lf xs ≡ Some i → i < length xs → 0 < i → i ≤ 1024 → IsLine (take i xs) × (xs ≡ take i xs ++ 10 ∷ drop 1 (drop i xs))
+pub is_line_at : (xs : List ℕ) (i : ℕ) → position is_lf xs ≡ Some i → i < length xs → 0 < i → i ≤ 1024
+    → IsLine (take i xs) × (xs ≡ take i xs ++ 10 ∷ drop 1 (drop i xs))
 is_line_at xs i e lt some most =
     let l = line_at xs i e in
-    let n = length-take-le i xs (omega (arith, lt)) in
-    (record { some = omega (arith, n, some); most = omega (arith, n, most); one = l.0 }, l.1 ∙ ap (λ t. take i xs ++ 10 ∷ t) (sym (drop-drop 1 i xs)))
+    let n = length-take-le i xs (omega (arith, lt)) in (
+      record { some = omega (arith, n, some); most = omega (arith, n, most); one = l.0 },
+      l.1
+          ∙ ap (λ t. take i xs ++ 10 ∷ t) (sym (drop-drop 1 i xs)),
+    )
 
 -- any line that begins these bytes ends there
-pub ends_there : (xs : List ℕ) (i : ℕ) → position is_lf xs ≡ Some i → (line after : List ℕ) → IsLine line → xs ≡ line ++ 10 ∷ after → length line ≡ i
+pub ends_there : (xs : List ℕ) (i : ℕ) → position is_lf xs ≡ Some i → (line after : List ℕ) → IsLine line → xs ≡ line
+    ++ 10 ∷ after → length line ≡ i
 ends_there xs i e line after is at =
     let p = position-Some is_lf xs i 0 e in
     let l = line_at xs i e in

@@ -1,38 +1,46 @@
 -- How the course of a file goes on from call to call.
-use Rattle.std.proofs.Common.{◌≡◌, inl, inr, ⊎_elim, ℕ, zero, suc, ◌+◌, ◌≤◌, List, [], ◌∷◌, ◌++◌, length, take, Option, Some, None, refl, sym, ◌∙◌, ap, subst, arith, append_assoc, IfSome}
+use Rattle.std.proofs.Common.{◌≡◌, inl, inr, ⊎_elim, ℕ, zero, suc, ◌+◌, ◌≤◌, List, [], ◌∷◌, ◌++◌, length, take, Option}
+use Rattle.std.proofs.Common.{Some, None, refl, sym, ◌∙◌, ap, subst, arith, append_assoc, IfSome}
 use Rattle.std.specs.List.{AllByRecursion}
-use Rattle.room_disks.specs.Crashes.{Change, Range, Cut, Stand, Course, stands, moved, settled, IsImage, Within, Told, Stays, Syncs, Changes, Writes, Cuts, written, Since, AtMost, TurnedFrom}
+use Rattle.room_disks.specs.Crashes.{Change, Range, Cut, Stand, Course, stands, moved, settled, IsImage, Within, Told}
+use Rattle.room_disks.specs.Crashes.{Stays, Syncs, Changes, Writes, Cuts, written, Since, AtMost, TurnedFrom}
 
 -- ---- what is told of two and of three moments
 
-pub told_then : (R S T : Course → Course → Type 0) → ((o m n : Course) → R o m → S m n → T o n) → (a b c : Option Course) → Told R a b → Told S b c → Told T a c
+pub told_then : (R S T : Course → Course → Type 0) → ((o m n : Course) → R o m → S m n → T o n)
+    → (a b c : Option Course) → Told R a b → Told S b c → Told T a c
 told_then R S T f a b None r s = tt
 told_then R S T f a None (Some n) r s = absurd s
 told_then R S T f None (Some m) (Some n) r s = absurd r
 told_then R S T f (Some o) (Some m) (Some n) r s = f o m n r s
 
-pub told_both : (R S T : Course → Course → Type 0) → ((o n : Course) → R o n → S o n → T o n) → (a b : Option Course) → Told R a b → Told S a b → Told T a b
+pub told_both : (R S T : Course → Course → Type 0) → ((o n : Course) → R o n → S o n → T o n) → (a b : Option Course)
+    → Told R a b → Told S a b → Told T a b
 told_both R S T f a None r s = tt
 told_both R S T f None (Some n) r s = absurd r
 told_both R S T f (Some o) (Some n) r s = f o n r s
 
-pub told_weaker : (R T : Course → Course → Type 0) → ((o n : Course) → R o n → T o n) → (a b : Option Course) → Told R a b → Told T a b
+pub told_weaker : (R T : Course → Course → Type 0) → ((o n : Course) → R o n → T o n) → (a b : Option Course)
+    → Told R a b → Told T a b
 told_weaker R T f a b r = told_both R R T (λ o n x y. f o n x) a b r r
 
 -- with what is known of the first
-pub told_from : (P : Course → Type 0) (R T : Course → Course → Type 0) → ((o n : Course) → P o → R o n → T o n) → (a b : Option Course) → IfSome a P → Told R a b → Told T a b
+pub told_from : (P : Course → Type 0) (R T : Course → Course → Type 0) → ((o n : Course) → P o → R o n → T o n)
+    → (a b : Option Course) → IfSome a P → Told R a b → Told T a b
 told_from P R T f a None p r = tt
 told_from P R T f None (Some n) p r = absurd r
 told_from P R T f (Some o) (Some n) p r = f o n p r
 
 -- with what is known of the second
-pub told_to : (P : Course → Type 0) (R T : Course → Course → Type 0) → ((o n : Course) → P n → R o n → T o n) → (a b : Option Course) → IfSome b P → Told R a b → Told T a b
+pub told_to : (P : Course → Type 0) (R T : Course → Course → Type 0) → ((o n : Course) → P n → R o n → T o n)
+    → (a b : Option Course) → IfSome b P → Told R a b → Told T a b
 told_to P R T f a None p r = tt
 told_to P R T f None (Some n) p r = absurd r
 told_to P R T f (Some o) (Some n) p r = f o n p r
 
 -- what is known afterwards
-pub told_now : (P Q : Course → Type 0) (R : Course → Course → Type 0) → ((o n : Course) → P o → R o n → Q n) → (a b : Option Course) → IfSome a P → Told R a b → IfSome b Q
+pub told_now : (P Q : Course → Type 0) (R : Course → Course → Type 0) → ((o n : Course) → P o → R o n → Q n)
+    → (a b : Option Course) → IfSome a P → Told R a b → IfSome b Q
 told_now P Q R f a None p r = tt
 told_now P Q R f None (Some n) p r = absurd r
 told_now P Q R f (Some o) (Some n) p r = f o n p r
@@ -52,11 +60,13 @@ some_weaker P Q f (Some c) p = f c p
 
 -- ---- moments since
 
-pub all_weaker : (P Q : Stand → Type 0) → ((s : Stand) → P s → Q s) → (xs : List Stand) → AllByRecursion P xs → AllByRecursion Q xs
+pub all_weaker : (P Q : Stand → Type 0) → ((s : Stand) → P s → Q s) → (xs : List Stand) → AllByRecursion P xs
+    → AllByRecursion Q xs
 all_weaker P Q f [] h = tt
 all_weaker P Q f (x ∷ xs) h = (f x h.0, all_weaker P Q f xs h.1)
 
-all_append : (P : Stand → Type 0) (xs ys : List Stand) → AllByRecursion P xs → AllByRecursion P ys → AllByRecursion P (xs ++ ys)
+all_append : (P : Stand → Type 0) (xs ys : List Stand) → AllByRecursion P xs → AllByRecursion P ys
+    → AllByRecursion P (xs ++ ys)
 all_append P [] ys h k = k
 all_append P (x ∷ xs) ys h k = (h.0, all_append P xs ys h.1 k)
 
@@ -94,23 +104,27 @@ since_stays P o n here is = since_moved P o n o.now is here
 -- a change: each image has turned by it from an image before
 pub since_changes : (change : Change) (o n : Course) → Changes change o n → Since (TurnedFrom change o) o n
 since_changes change o n is =
-    since_moved (TurnedFrom change o) o n (record { reads = n.now.reads; synced = o.now.synced; changes = change ∷ o.now.changes }) is (λ x i. i)
+    since_moved (TurnedFrom change o) o n
+    (record { reads = n.now.reads; synced = o.now.synced; changes = change ∷ o.now.changes }) is (λ x i. i)
 
 -- a sync that succeeded, where what a read gives has P
 pub since_syncs : (P : List ℕ → Type 0) (o n : Course) → P o.now.reads → Syncs o n → Since P o n
 since_syncs P o n here is = since_moved P o n (settled o.now.reads) is (λ x i. subst P (sym i) here)
 
 -- a change and a sync that failed
-pub changes_stays : (change : Change) (o m n : Course) → Changes change o m → Stays m n → Since (TurnedFrom change o) o n
+pub changes_stays : (change : Change) (o m n : Course) → Changes change o m → Stays m n
+    → Since (TurnedFrom change o) o n
 changes_stays change o m n c s =
     let first = since_changes change o m c in
     since_then (TurnedFrom change o) o m n first (since_stays (TurnedFrom change o) m n first.here s)
 
 -- a change and a sync
-pub changes_syncs : (change : Change) (o m n : Course) → IsImage m.now m.now.reads → Changes change o m → Syncs m n → Since (TurnedFrom change o) o n
+pub changes_syncs : (change : Change) (o m n : Course) → IsImage m.now m.now.reads → Changes change o m → Syncs m n
+    → Since (TurnedFrom change o) o n
 changes_syncs change o m n image c s =
     let first = since_changes change o m c in
-    since_then (TurnedFrom change o) o m n first (since_syncs (TurnedFrom change o) m n (first.here m.now.reads image) s)
+    since_then (TurnedFrom change o) o m n first (since_syncs (TurnedFrom change o) m n
+    (first.here m.now.reads image) s)
 
 -- ---- how many calls
 
@@ -118,7 +132,8 @@ pub one_call : (s : Stand) (o n : Course) → n ≡ moved o s → length n.past 
 one_call s o n is = ap (λ (c : Course). length c.past) is ∙ omega arith
 
 pub changes_calls : (change : Change) (o n : Course) → Changes change o n → AtMost 1 o n
-changes_calls change o n is = ap_le o n (one_call (record { reads = n.now.reads; synced = o.now.synced; changes = change ∷ o.now.changes }) o n is)
+changes_calls change o n is = ap_le o n (one_call
+    (record { reads = n.now.reads; synced = o.now.synced; changes = change ∷ o.now.changes }) o n is)
   where
     ap_le : (a b : Course) → length b.past ≡ length a.past + 1 → length b.past ≤ length a.past + 1
     ap_le a b e = omega (arith, e)
@@ -136,24 +151,34 @@ calls_then j k o m n a b = omega (arith, a, b)
 
 module _ (change : Change) (a b c : Option Course) where
   pub told_changed : Told (Changes change) a b → Told (λ o n. Since (TurnedFrom change o) o n) a b
-  told_changed r = told_weaker (Changes change) (λ o n. Since (TurnedFrom change o) o n) (λ o n h. since_changes change o n h) a b r
+  told_changed r = told_weaker (Changes change) (λ o n. Since (TurnedFrom change o) o n)
+      (λ o n h. since_changes change o n h) a b r
 
   pub told_not_synced : Told (Changes change) a b → Told Stays b c → Told (λ o n. Since (TurnedFrom change o) o n) a c
-  told_not_synced r s = told_then (Changes change) Stays (λ o n. Since (TurnedFrom change o) o n) (λ o m n x y. changes_stays change o m n x y) a b c r s
+  told_not_synced r s = told_then (Changes change) Stays (λ o n. Since (TurnedFrom change o) o n)
+      (λ o m n x y. changes_stays change o m n x y) a b c r s
 
-  pub told_synced : IfSome b (λ m. IsImage m.now m.now.reads) → Told (Changes change) a b → Told Syncs b c → Told (λ o n. Since (TurnedFrom change o) o n) a c
+  pub told_synced : IfSome b (λ m. IsImage m.now m.now.reads) → Told (Changes change) a b → Told Syncs b c
+      → Told (λ o n. Since (TurnedFrom change o) o n) a c
   told_synced image r s =
-      told_then (λ o m. IsImage m.now m.now.reads × Changes change o m) Syncs (λ o n. Since (TurnedFrom change o) o n) (λ o m n x y. changes_syncs change o m n x.0 x.1 y) a b c
-      (told_to (λ m. IsImage m.now m.now.reads) (Changes change) (λ o m. IsImage m.now m.now.reads × Changes change o m) (λ o m i x. (i, x)) a b image r) s
+      told_then (λ o m. IsImage m.now m.now.reads × Changes change o m) Syncs (λ o n. Since (TurnedFrom change o) o n)
+      (λ o m n x y. changes_syncs change o m n x.0 x.1 y) a b c
+      (told_to (λ m. IsImage m.now m.now.reads) (Changes change) (λ o m. IsImage m.now m.now.reads × Changes change o m)
+      (λ o m i x. (i, x)) a b image r) s
 
   pub told_one : Told (Changes change) a b → Told (AtMost 2) a b
-  told_one r = told_weaker (Changes change) (AtMost 2) (λ o n h. let e = changes_calls change o n h in omega (arith, e)) a b r
+  told_one r = told_weaker (Changes change) (AtMost 2) (λ o n h. let e = changes_calls change o n h in
+      omega (arith, e)) a b r
 
   pub told_two_stays : Told (Changes change) a b → Told Stays b c → Told (AtMost 2) a c
-  told_two_stays r s = told_then (Changes change) Stays (AtMost 2) (λ o m n x y. calls_then 1 1 o m n (changes_calls change o m x) (stays_calls m n y)) a b c r s
+  told_two_stays r s = told_then (Changes change) Stays (AtMost 2)
+      (λ o m n x y. calls_then 1 1 o m n (changes_calls change o m x) (stays_calls m n y)) a b c r s
 
   pub told_two_syncs : Told (Changes change) a b → Told Syncs b c → Told (AtMost 2) a c
-  told_two_syncs r s = told_then (Changes change) Syncs (AtMost 2) (λ o m n x y. calls_then 1 1 o m n (changes_calls change o m x) (syncs_calls m n y)) a b c r s
+  told_two_syncs r s = told_then (Changes change) Syncs (AtMost 2)
+      (λ o m n x y. calls_then 1 1 o m n (changes_calls change o m x) (syncs_calls m n y)) a b c r s
 
-pub told_settled : (f : List ℕ → List ℕ) (a b c : Option Course) → Told (λ o m. m.now.reads ≡ f o.now.reads) a b → Told Syncs b c → Told (λ o n. n.now ≡ settled (f o.now.reads)) a c
-told_settled f a b c w s = told_then (λ o m. m.now.reads ≡ f o.now.reads) Syncs (λ o n. n.now ≡ settled (f o.now.reads)) (λ o m n x y. ap (λ (k : Course). k.now) y ∙ ap settled x) a b c w s
+pub told_settled : (f : List ℕ → List ℕ) (a b c : Option Course) → Told (λ o m. m.now.reads ≡ f o.now.reads) a b
+    → Told Syncs b c → Told (λ o n. n.now ≡ settled (f o.now.reads)) a c
+told_settled f a b c w s = told_then (λ o m. m.now.reads ≡ f o.now.reads) Syncs (λ o n. n.now ≡ settled (f o.now.reads))
+    (λ o m n x y. ap (λ (k : Course). k.now) y ∙ ap settled x) a b c w s

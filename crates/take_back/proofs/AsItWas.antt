@@ -1,5 +1,7 @@
 -- A call, whatever is done on other parts, and its taking back.
-use Rattle.std.proofs.Common.{◌≡◌, ℕ, zero, suc, ◌+◌, ◌<◌, ◌≤◌, List, [], ◌∷◌, Bool, true, false, ◌||◌, ◌==◌, Option, Some, None, Result, Ok, Err, cond, length, map, option_map, slice_get, refl, sym, ap, ◌∙◌, subst, arith}
+use Rattle.std.proofs.Common.{◌≡◌, ℕ, zero, suc, ◌+◌, ◌<◌, ◌≤◌, List, [], ◌∷◌, Bool, true, false, ◌||◌, ◌==◌, Option}
+use Rattle.std.proofs.Common.{Some, None, Result, Ok, Err, cond, length, map, option_map, slice_get, refl, sym, ap, ◌∙◌}
+use Rattle.std.proofs.Common.{subst, arith}
 use Rattle.std.proofs.lemmas.Bool.Decides.{nat_tests}
 use Rattle.part_sets.specs.Members.{first_absent, members}
 use Rattle.part_sets.specs.MemberLaws.{all_below, higher, members-set}
@@ -13,8 +15,10 @@ use Rattle.take_back.specs.Backs.{Naming}
 use Rattle.take_back.specs.History.{answered}
 use Rattle.take_back.specs.Left.{is_among}
 use Rattle.take_back.specs.LeftLaws.{Done, done_call, paired-changed, all_there, stands}
-use Rattle.take_back.specs.Lists.{among_below, get-map, get-put, get-there, map-picked, picked-same, or_true, is_itself, some_is}
-use Rattle.take_back.specs.Parts.{changed, changed_by, first_not, fresh, given_back, former_or, has_names, is_by, nows, CanOpen}
+use Rattle.take_back.specs.Lists.{among_below, get-map, get-put, get-there, map-picked, picked-same, or_true, is_itself}
+use Rattle.take_back.specs.Lists.{some_is}
+use Rattle.take_back.specs.Parts.{changed, changed_by, first_not, fresh, given_back, former_or, has_names, is_by, nows}
+use Rattle.take_back.specs.Parts.{CanOpen}
 use Rattle.take_back.specs.RoomyLaws.{Opening, stands_open}
 use Rattle.take_back.specs.Steps.{backed, missing, refusal_of, taken_back}
 use Rattle.take_back.specs.declared.answers.BackDone.{BackDone}
@@ -44,23 +48,30 @@ none_fails {P} test ks (n ∷ ns) h =
     ∙ (ap (λ b. cond b (first_not test ns (picked ks ns)) (Some n)) at.2
     ∙ none_fails test ks ns (λ x among. h x (or_true (n == x) (is_among ns x) among)))
 
-none_missing_of : (count : ℕ) (names : List ℕ) → 0 < length names → AscendBetween 0 count names → missing count names ≡ None
+none_missing_of : (count : ℕ) (names : List ℕ) → 0 < length names → AscendBetween 0 count names
+    → missing count names ≡ None
 none_missing_of count [] some a = absurd (omega (arith, some))
 none_missing_of count (n ∷ ns) some a = all_below 0 count (n ∷ ns) a
 
 back_again : {P D R : Type 0} (by tracks : ℕ) (names : List ℕ) (ks : List (Kept P)) (qs : List (Kept P))
     → first_not (is_by by) names ks ≡ None → first_not (has_names tracks) names ks ≡ None → map given_back ks ≡ qs
-    → unless_refused {A = List (Kept P) × BackDone D} {R = BackRefusal R} (option_map NotYours (first_not (is_by by) names ks))
-    (unless_refused {A = List (Kept P) × BackDone D} {R = BackRefusal R} (option_map OtherTracks (first_not (has_names tracks) names ks)) (Ok (map given_back ks, Plain)))
+    → unless_refused {A = List (Kept P) × BackDone D} {R = BackRefusal R}
+    (option_map NotYours (first_not (is_by by) names ks))
+    (unless_refused {A = List (Kept P) × BackDone D} {R = BackRefusal R}
+    (option_map OtherTracks (first_not (has_names tracks) names ks)) (Ok (map given_back ks, Plain)))
     ≡ Ok (qs, Plain)
 back_again {P} {D} {R} by tracks names ks qs first second same =
     let given : Result (List (Kept P) × BackDone D) (BackRefusal R) = Ok (map given_back ks, Plain) in
-    ap (λ o. unless_refused (option_map NotYours o) (unless_refused (option_map OtherTracks (first_not (has_names tracks) names ks)) given)) first
+    ap (λ o. unless_refused (option_map NotYours o) (unless_refused
+    (option_map OtherTracks (first_not (has_names tracks) names ks)) given)) first
     ∙ (ap (λ o. unless_refused (option_map OtherTracks o) given) second ∙ ap (λ xs. Ok (xs, Plain)) same)
 
-changed_still : {P C D R : Type 0} (m : Meaning P C D R) (count by : ℕ) (c : C) (before done after : List (Kept P)) (a : BackDone D) (between : List (Entry (Step C))) (x : ℕ)
-    → Done m by c before done a → AscendBetween 0 (length before) (m.names c) → of_part (backed count m).names x between ≡ []
-    → replay (whole (backed count m)) done between ≡ Some after → is_among (m.names c) x ≡ true → StandsChanged (set_of (m.names c)) by before after x
+changed_still : {P C D R : Type 0} (m : Meaning P C D R) (count by : ℕ) (c : C) (before done after : List (Kept P))
+    (a : BackDone D) (between : List (Entry (Step C))) (x : ℕ)
+    → Done m by c before done a → AscendBetween 0 (length before) (m.names c)
+    → of_part (backed count m).names x between ≡ []
+    → replay (whole (backed count m)) done between ≡ Some after → is_among (m.names c) x ≡ true
+    → StandsChanged (set_of (m.names c)) by before after x
 changed_still m count by c before done after a between x d a0 none comes among =
     let names = m.names c in
     let old = get-there before x (among_below 0 (length before) x names a0 among) in
@@ -74,27 +85,33 @@ changed_still m count by c before done after a between x d a0 none comes among =
           ∙ (ap (λ ys. slice_get ys x) (sym d.parts) ∙ (put.1 ∙ ap Some put.2.1));
     }
 
-pub as_it_was : {P C D R : Type 0} (m : Meaning P C D R) (good : ℕ → P → Type 0) (count : ℕ) (opens : List P → Type 0) (opening before done after : List (Kept P))
-    (entries between : List (Entry (Step C))) (by : ℕ) (c : C) (answer : BackDone D) → Naming m count → Opening good count opens → CanOpen opens opening
+pub as_it_was : {P C D R : Type 0} (m : Meaning P C D R) (good : ℕ → P → Type 0) (count : ℕ) (opens : List P → Type 0)
+    (opening before done after : List (Kept P))
+    (entries between : List (Entry (Step C))) (by : ℕ) (c : C) (answer : BackDone D) → Naming m count
+    → Opening good count opens → CanOpen opens opening
     → replay (whole (backed count m)) opening entries ≡ Some before
     → whole (backed count m) before (record { by = by; act = Do c }) ≡ Ok (done, answer)
     → ((x : ℕ) → is_among (m.names c) x ≡ true → of_part (backed count m).names x between ≡ [])
     → replay (whole (backed count m)) done between ≡ Some after
     → whole (backed count m) after (record { by = by; act = Back (set_of (m.names c)) })
     ≡ Ok (put_back after (m.names c) (map fresh (picked (nows before) (m.names c))), Plain)
-as_it_was {P} {C} {D} {R} m good count opens opening before done after entries between by c answer naming open_law can comes does apart leads =
+as_it_was {P} {C} {D} {R} m good count opens opening before done after entries between by c answer naming open_law can
+    comes does apart leads =
     let names = m.names c in
     let set = set_of names in
     let few = (open_law (nows opening) can.0).1 in
     let past = answered (whole (backed count m)) opening before entries comes in
-    let s = stands m count (nows opening) [] opening before past.answers naming few (stands_open m good count opens opening open_law can) past.leads in
+    let s = stands m count (nows opening) [] opening before past.answers naming few
+    (stands_open m good count opens opening open_law can) past.leads in
     let d = done_call m count by c before done answer does in
     let n = naming c d.named in
     let a0 = all_there 0 count names (length before) (sym s.as_many) n.ascend in
     let each : (x : ℕ) → is_among names x ≡ true → StandsChanged set by before after x =
     λ x among. changed_still m count by c before done after answer between x d a0 (apart x among) leads among in
-    let mine = none_fails (is_by by) after names (λ x among. let at = each x among in (changed_by set by at.was at.left, at.stands, is_itself by)) in
-    let whole_call = none_fails (has_names set) after names (λ x among. let at = each x among in (changed_by set by at.was at.left, at.stands, is_itself set)) in
+    let mine = none_fails (is_by by) after names (λ x among. let at = each x among in
+    (changed_by set by at.was at.left, at.stands, is_itself by)) in
+    let whole_call = none_fails (has_names set) after names (λ x among. let at = each x among in
+    (changed_by set by at.was at.left, at.stands, is_itself set)) in
     let given : map given_back (picked after names) ≡ map fresh (picked (nows before) names) =
     map-picked given_back after names
     ∙ (picked-same (map given_back after) (map fresh (nows before)) names
@@ -105,7 +122,11 @@ as_it_was {P} {C} {D} {R} m good count opens opening before done after entries b
     ∙ sym (map-picked fresh (nows before) names)) in
     let back : List ℕ → Result (List (Kept P) × BackDone D) (BackRefusal R) = λ ns.
     unless_refused (option_map NotYours (first_not (is_by by) ns (picked after ns)))
-    (unless_refused (option_map OtherTracks (first_not (has_names set) ns (picked after ns))) (Ok (map given_back (picked after ns), Plain))) in
-    ap (λ ns. unless_refused (option_map NoPart (missing count ns)) (on_whole after ns (back ns))) (members-set names (higher 0 count 32 names few n.ascend))
-    ∙ (ap (λ o. unless_refused (option_map NoPart o) (on_whole after names (back names))) (none_missing_of count names n.some n.ascend)
-    ∙ ap (on_whole after names) (back_again by set names (picked after names) (map fresh (picked (nows before) names)) mine whole_call given))
+    (unless_refused (option_map OtherTracks (first_not (has_names set) ns (picked after ns)))
+    (Ok (map given_back (picked after ns), Plain))) in
+    ap (λ ns. unless_refused (option_map NoPart (missing count ns)) (on_whole after ns (back ns)))
+    (members-set names (higher 0 count 32 names few n.ascend))
+    ∙ (ap (λ o. unless_refused (option_map NoPart o) (on_whole after names (back names)))
+    (none_missing_of count names n.some n.ascend)
+    ∙ ap (on_whole after names) (back_again by set names (picked after names) (map fresh (picked (nows before) names))
+    mine whole_call given))

@@ -1,5 +1,7 @@
 -- Entries, the newest first, that lead to parts, and what the parts were before the newest that names them.
-use Rattle.std.proofs.Common.{append_assoc, ◌≡◌, ℕ, zero, suc, ◌≤◌, List, [], ◌∷◌, ◌++◌, Bool, true, false, Option, Some, None, Result, Ok, Err, cond, fold, length, map, slice_get, refl, sym, ap, ◌∙◌, subst, arith, reverse}
+use Rattle.std.proofs.Common.{append_assoc, ◌≡◌, ℕ, zero, suc, ◌≤◌, List, [], ◌∷◌, ◌++◌, Bool, true, false, Option}
+use Rattle.std.proofs.Common.{Some, None, Result, Ok, Err, cond, fold, length, map, slice_get, refl, sym, ap, ◌∙◌}
+use Rattle.std.proofs.Common.{subst, arith, reverse}
 use Rattle.std.proofs.lemmas.List.{map-append}
 use Rattle.std.proofs.lemmas.Grind.{reverse_onto}
 use Rattle.room_core.specs.History.{after_entry, replay, state_in}
@@ -15,10 +17,12 @@ use Rattle.take_back.specs.declared.kept.Former.{Former}
 -- these entries, the newest first, each with its answer, lead from an opening to these parts
 abbrev pub Comes : {P C D R : Type 0} → Meaning P C D R → List P → List (Entry C × BackDone D) → List P → Type 0
 Comes m opening [] ps = opening ≡ ps
-Comes m opening (t ∷ ts) ps = (qs : List _) × Comes m opening ts qs × (d : _) × (t.1 ≡ Own d) × (whole m qs t.0.call ≡ Ok (ps, d))
+Comes m opening (t ∷ ts) ps = (qs : List _) × Comes m opening ts qs × (d : _) × (t.1 ≡ Own d)
+    × (whole m qs t.0.call ≡ Ok (ps, d))
 
 -- what a part was before the newest that names it
-abbrev pub HasFormer : {P C D R : Type 0} → Meaning P C D R → List P → List (Entry C × BackDone D) → ℕ → Former P → Type 0
+abbrev pub HasFormer : {P C D R : Type 0} → Meaning P C D R → List P → List (Entry C × BackDone D) → ℕ
+    → Former P → Type 0
 HasFormer m opening [] x f = ⊥
 HasFormer m opening (t ∷ ts) x f =
     cond (is_among (m.names t.0.call) x)
@@ -33,7 +37,8 @@ Falls (t ∷ ts) = (is_above t.0.station t.0.number (map (λ (u : Entry _ × _).
 ok_is : {S D R : Type 0} (s t : S) (d e : D) (r : Result (S × D) R) → r ≡ Ok (s, d) → r ≡ Ok (t, e) → s ≡ t
 ok_is s t d e r h k = let same = sym h ∙ k in Prim.grind (arith, same)
 
-pub one_state : {P C D R : Type 0} (m : Meaning P C D R) (opening : List P) (ts : List (Entry C × BackDone D)) (ps qs : List P)
+pub one_state : {P C D R : Type 0} (m : Meaning P C D R) (opening : List P) (ts : List (Entry C × BackDone D))
+    (ps qs : List P)
     → Comes m opening ts ps → Comes m opening ts qs → ps ≡ qs
 one_state m opening [] ps qs h k = sym h ∙ k
 one_state m opening (t ∷ ts) ps qs h k =
@@ -42,28 +47,34 @@ one_state m opening (t ∷ ts) ps qs h k =
     ok_is ps qs h.2 k.2 (whole m k.0 t.0.call) there k.4
 
 -- entries that lead on by one more
-leads-more : {S C D R : Type 0} (apply : S → C → Result (S × D) R) (s t u : S) (told : List (Entry C × D)) (e : Entry C) (d : D)
+leads-more : {S C D R : Type 0} (apply : S → C → Result (S × D) R) (s t u : S) (told : List (Entry C × D))
+    (e : Entry C) (d : D)
     → Leads apply s told t → apply t e.call ≡ Ok (u, d) → Leads apply s (told ++ (e, d) ∷ []) u
 leads-more apply s t u [] e d h k = (u, subst (λ x. apply x e.call ≡ Ok (u, d)) (sym h) k, refl)
 leads-more apply s t u (a ∷ told) e d h k = (h.0, h.1, leads-more apply h.0 t u told e d h.2 k)
 
-pub leads-replay : {S C D R : Type 0} (apply : S → C → Result (S × D) R) (s t : S) (told : List (Entry C × D)) → Leads apply s told t
+pub leads-replay : {S C D R : Type 0} (apply : S → C → Result (S × D) R) (s t : S) (told : List (Entry C × D))
+    → Leads apply s told t
     → replay apply s (map (λ (a : Entry C × D). a.0) told) ≡ Some t
 leads-replay apply s t [] h = ap Some h
 leads-replay apply s t (a ∷ told) h =
-    ap (λ r. fold (after_entry apply) (state_in r) (map (λ (a : Entry _ × _). a.0) told)) h.1 ∙ leads-replay apply h.0 t told h.2
+    ap (λ r. fold (after_entry apply) (state_in r) (map (λ (a : Entry _ × _). a.0) told)) h.1
+    ∙ leads-replay apply h.0 t told h.2
 
-no_state : {S C D R : Type 0} (apply : S → C → Result (S × D) R) (entries : List (Entry C)) → fold (after_entry apply) None entries ≡ None
+no_state : {S C D R : Type 0} (apply : S → C → Result (S × D) R) (entries : List (Entry C))
+    → fold (after_entry apply) None entries ≡ None
 no_state apply [] = refl
 no_state apply (e ∷ es) = no_state apply es
 
 -- a replay has an answer for each entry
-pub record Answered {S C D R : Type 0} (apply : S → C → Result (S × D) R) (s : S) (entries : List (Entry C)) (t : S) : Type 0 where
+pub record Answered {S C D R : Type 0} (apply : S → C → Result (S × D) R) (s : S) (entries : List (Entry C))
+    (t : S) : Type 0 where
   pub answers : List (Entry C × D)
   pub leads : Leads apply s answers t
   pub same : map (λ (a : Entry C × D). a.0) answers ≡ entries
 
-answered-next : {S C D R : Type 0} (apply : S → C → Result (S × D) R) (s t : S) (e : Entry C) (es : List (Entry C)) (r : Result (S × D) R) → apply s e.call ≡ r
+answered-next : {S C D R : Type 0} (apply : S → C → Result (S × D) R) (s t : S) (e : Entry C) (es : List (Entry C))
+    (r : Result (S × D) R) → apply s e.call ≡ r
     → fold (after_entry apply) (state_in r) es ≡ Some t
     → ((u : S) → replay apply u es ≡ Some t → Answered apply u es t) → Answered apply s (e ∷ es) t
 answered-next apply s t e es (Ok (u, d)) is comes rest =
@@ -71,13 +82,16 @@ answered-next apply s t e es (Ok (u, d)) is comes rest =
     record { answers = (e, d) ∷ later.answers; leads = (u, is, later.leads); same = ap (λ xs. e ∷ xs) later.same }
 answered-next apply s t e es (Err r) is comes rest = none_some t (sym (no_state apply es) ∙ comes)
 
-pub answered : {S C D R : Type 0} (apply : S → C → Result (S × D) R) (s t : S) (entries : List (Entry C)) → replay apply s entries ≡ Some t
+pub answered : {S C D R : Type 0} (apply : S → C → Result (S × D) R) (s t : S) (entries : List (Entry C))
+    → replay apply s entries ≡ Some t
     → Answered apply s entries t
 answered apply s t [] comes = record { answers = []; leads = Prim.grind (arith, comes); same = refl }
-answered apply s t (e ∷ es) comes = answered-next apply s t e es (apply s e.call) refl comes (λ u h. answered apply u t es h)
+answered apply s t (e ∷ es) comes = answered-next apply s t e es (apply s e.call) refl comes
+    (λ u h. answered apply u t es h)
 
 -- entries that come to parts, in their order, with the answers of the object itself
-pub record Ordered {P C D R : Type 0} (m : Meaning P C D R) (opening : List P) (ts : List (Entry C × BackDone D)) (ps : List P) : Type 0 where
+pub record Ordered {P C D R : Type 0} (m : Meaning P C D R) (opening : List P) (ts : List (Entry C × BackDone D))
+    (ps : List P) : Type 0 where
   pub answers : List (Entry C × D)
   pub leads : Leads (whole m) opening answers ps
   pub same : map as_own answers ≡ reverse ts
@@ -85,7 +99,8 @@ pub record Ordered {P C D R : Type 0} (m : Meaning P C D R) (opening : List P) (
 own_told : {C D : Type 0} (t : Entry C × BackDone D) (d : D) → t.1 ≡ Own d → (t.0, Own d) ≡ t
 own_told t d h = ap (λ a. (t.0, a)) (sym h)
 
-pub in_order : {P C D R : Type 0} (m : Meaning P C D R) (opening : List P) (ts : List (Entry C × BackDone D)) (ps : List P)
+pub in_order : {P C D R : Type 0} (m : Meaning P C D R) (opening : List P) (ts : List (Entry C × BackDone D))
+    (ps : List P)
     → Comes m opening ts ps → Ordered m opening ts ps
 in_order m opening [] ps h = record { answers = []; leads = h; same = refl }
 in_order m opening (t ∷ ts) ps h =
@@ -94,5 +109,6 @@ in_order m opening (t ∷ ts) ps h =
       answers = before.answers ++ (t.0, h.2) ∷ [];
       leads = leads-more (whole m) opening h.0 ps before.answers t.0 h.2 before.leads h.4;
       same = map-append as_own before.answers ((t.0, h.2) ∷ [])
-          ∙ (ap (λ xs. xs ++ as_own (t.0, h.2) ∷ []) before.same ∙ (ap (λ x. reverse ts ++ x ∷ []) (own_told t h.2 h.3) ∙ sym (reverse_onto ts t [])));
+          ∙ (ap (λ xs. xs ++ as_own (t.0, h.2) ∷ []) before.same
+          ∙ (ap (λ x. reverse ts ++ x ∷ []) (own_told t h.2 h.3) ∙ sym (reverse_onto ts t [])));
     }

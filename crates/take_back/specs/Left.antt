@@ -39,7 +39,8 @@ entered station number (Back tracks) = Back tracks
 -- the entries that are left of a history, in their order
 abbrev pub left : {C : Type 0} → (C → List ℕ) → List (Entry (Step C)) → List (Entry C)
 left names entries =
-    reverse (left_of (λ (e : Entry _). names e.call) (map (λ (e : Entry (Step _)). entered e.station e.number e.call.act) entries))
+    reverse (left_of (λ (e : Entry _). names e.call)
+    (map (λ (e : Entry (Step _)). entered e.station e.number e.call.act) entries))
 
 -- entries, each with the answer that it has, lead from a state to another
 abbrev pub Leads : {S C D R : Type 0} → (S → C → Result (S × D) R) → S → List (Entry C × D) → S → Type 0

@@ -1,5 +1,6 @@
 -- Parts with what they were before.
-use Rattle.std.specs.Prelude.{◌≡◌, ◌==◌, ℕ, List, [], ◌∷◌, Option, Some, None, Bool, false, All, IfSome, map, if◌then◌else◌}
+use Rattle.std.specs.Prelude.{◌≡◌, ◌==◌, ℕ, List, [], ◌∷◌, Option, Some, None, Bool, false}
+use Rattle.std.specs.Prelude.{All, IfSome, map, if◌then◌else◌}
 use Rattle.take_back.specs.declared.kept.Kept.{Kept}
 use Rattle.take_back.specs.declared.kept.Former.{Former}
 
@@ -15,7 +16,8 @@ nows ks = map (λ (k : Kept _). k.now) ks
 abbrev pub changed_by : {P : Type 0} → ℕ → ℕ → Kept P → P → Kept P
 changed_by names by k part = record { now = part; before = Some (record { part = k.now; names = names; by = by }) }
 
--- the parts that a call was done on, in their order, with what it left; where it left fewer, the others are as they were
+-- the parts that a call was done on, in their order, with what it left; where it left fewer, the others are as they
+-- were
 abbrev pub changed : {P : Type 0} → ℕ → ℕ → List (Kept P) → List P → List (Kept P)
 changed names by [] ps = []
 changed names by (k ∷ ks) [] = changed_by names by k k.now ∷ changed names by ks []

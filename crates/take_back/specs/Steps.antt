@@ -28,7 +28,8 @@ refusal_of count refuses (Do c) = option_map OwnRefusal (refuses c)
 refusal_of count refuses (Back tracks) = option_map NoPart (missing count (members tracks))
 
 -- a call was done: each part that it names has what it was as its former part
-abbrev pub done_by : {P D R : Type 0} → ℕ → ℕ → List (Kept P) → Result (List P × D) R → Result (List (Kept P) × BackDone D) (BackRefusal R)
+abbrev pub done_by : {P D R : Type 0} → ℕ → ℕ → List (Kept P) → Result (List P × D) R
+    → Result (List (Kept P) × BackDone D) (BackRefusal R)
 done_by names by ks (Ok (ps, d)) = Ok (changed names by ks ps, Own d)
 done_by names by ks (Err r) = Err (OwnRefusal r)
 
@@ -39,7 +40,8 @@ taken_back by tracks ks =
     (unless_refused (option_map OtherTracks (first_not (has_names tracks) (members tracks) ks))
     (Ok (map given_back ks, Plain)))
 
-abbrev pub applied_to : {P C D R : Type 0} → Meaning P C D R → List (Kept P) → ℕ → Deed C → Result (List (Kept P) × BackDone D) (BackRefusal R)
+abbrev pub applied_to : {P C D R : Type 0} → Meaning P C D R → List (Kept P) → ℕ → Deed C
+    → Result (List (Kept P) × BackDone D) (BackRefusal R)
 applied_to m ks by (Do c) = done_by (set_of (m.names c)) by ks (m.applied (nows ks) c)
 applied_to m ks by (Back tracks) = taken_back by tracks ks
 

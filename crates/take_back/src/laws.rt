@@ -38,7 +38,8 @@ pub fn what_is_left_is_a_history<O: PartObject>()
 {}
 
 /// A station's call on parts that a history of an opening comes to can be taken back by that station as long as
-/// nothing else names one of its parts. These are then as they were before the call, and the others as they have become.
+/// nothing else names one of its parts. These are then as they were before the call, and the others as they have
+/// become.
 pub fn taken_back_as_it_was<O: PartObject>()
     ensures { (o : O) (opening before done after : List (Kept O.Part))
         (entries between : List (Entry (Step O.Call))) (by : ℕ) (call : O.Call) (answer : BackDone O.Done)

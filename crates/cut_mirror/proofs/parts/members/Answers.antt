@@ -11,10 +11,13 @@ pub loop-number-preserved : goal.loop-number-preserved
 loop-number-preserved c =
     elim c.if-has.branch [
       | then-has+in_ok-push w ↦ rw (w.numbers-is, w.in_ok-push.ensures.items)
-          (one_listed c.args.set c.loop-number.number c.loop-number.numbers.items c.loop-number-test.true (sym c.has.ensures ∙ w.if-has.true) c.loop-number.invariant)
+          (one_listed c.args.set c.loop-number.number c.loop-number.numbers.items c.loop-number-test.true
+          (sym c.has.ensures ∙ w.if-has.true) c.loop-number.invariant)
       | else-has w ↦ rw w.numbers-is
-          (one_passed c.args.set c.loop-number.number c.loop-number.numbers.items c.loop-number-test.true (sym c.has.ensures ∙ w.if-has.false) c.loop-number.invariant)
+          (one_passed c.args.set c.loop-number.number c.loop-number.numbers.items c.loop-number-test.true
+          (sym c.has.ensures ∙ w.if-has.false) c.loop-number.invariant)
     ]
 
 pub returns : goal.returns
-returns c = all_listed c.args.set c.loop-number.number c.loop-number.numbers.items (omega (arith, c.loop-number-test.false, c.loop-number.auto.number-end)) c.loop-number.invariant
+returns c = all_listed c.args.set c.loop-number.number c.loop-number.numbers.items
+    (omega (arith, c.loop-number-test.false, c.loop-number.auto.number-end)) c.loop-number.invariant

@@ -13,16 +13,23 @@ returns-in_err-bytes-clause-harmless g c =
 pub returns-in_err-records-clause-harmless : goal.returns-in_err-records-clause-harmless
 returns-in_err-records-clause-harmless g c =
     let p = err_from_is_err_and c.from_residual-in_err-records.result c.from_residual-in_err-records.ensures.1 in
-    let whole = subst (λ bs. Told (λ o n. bs ≡ o.now.reads) (g.D.Disk.course c.sync.new.self) (g.D.Disk.course c.whole_file.new.disk)) (sym c.as_slice.ensures.value) c.in_ok-bytes.ensures.whole in
-    rw p.1 (told_not_settled c.as_slice.result.now _ _ _ _ c.in_ok-sync.ensures.syncs c.whole_file.ensures.looks whole c.in_err-records.ensures.harmless)
+    let whole = subst (λ bs. Told (λ o n. bs ≡ o.now.reads) (g.D.Disk.course c.sync.new.self)
+    (g.D.Disk.course c.whole_file.new.disk)) (sym c.as_slice.ensures.value) c.in_ok-bytes.ensures.whole in
+    rw p.1 (told_not_settled c.as_slice.result.now _ _ _ _ c.in_ok-sync.ensures.syncs c.whole_file.ensures.looks whole
+    c.in_err-records.ensures.harmless)
 
 pub returns-clause-moments : goal.returns-clause-moments
 returns-clause-moments g c =
-    let whole = subst (λ bs. Told (λ o n. bs ≡ o.now.reads) (g.D.Disk.course c.sync.new.self) (g.D.Disk.course c.whole_file.new.disk)) (sym c.as_slice.ensures.value) c.in_ok-bytes.ensures.whole in
-    told_opened (λ image. Kept image c.in_ok-records.records.items) c.as_slice.result.now _ _ _ _ c.in_ok-records.ensures.kept c.in_ok-sync.ensures.syncs c.whole_file.ensures.looks whole c.in_ok-records.ensures.moments
+    let whole = subst (λ bs. Told (λ o n. bs ≡ o.now.reads) (g.D.Disk.course c.sync.new.self)
+    (g.D.Disk.course c.whole_file.new.disk)) (sym c.as_slice.ensures.value) c.in_ok-bytes.ensures.whole in
+    told_opened (λ image. Kept image c.in_ok-records.records.items) c.as_slice.result.now _ _ _ _
+    c.in_ok-records.ensures.kept c.in_ok-sync.ensures.syncs c.whole_file.ensures.looks whole
+    c.in_ok-records.ensures.moments
 
 pub returns-clause-within : goal.returns-clause-within
 returns-clause-within g c =
-    let whole = subst (λ bs. Told (λ o n. bs ≡ o.now.reads) (g.D.Disk.course c.sync.new.self) (g.D.Disk.course c.whole_file.new.disk)) (sym c.as_slice.ensures.value) c.in_ok-bytes.ensures.whole in
+    let whole = subst (λ bs. Told (λ o n. bs ≡ o.now.reads) (g.D.Disk.course c.sync.new.self)
+    (g.D.Disk.course c.whole_file.new.disk)) (sym c.as_slice.ensures.value) c.in_ok-bytes.ensures.whole in
     let short = subst (λ bs. length bs ≤ 2 ^ 27) (sym c.as_slice.ensures.value) c.in_ok-bytes.ensures.within in
-    told_within (λ image. Kept image c.in_ok-records.records.items) c.as_slice.result.now _ _ _ _ short c.in_ok-sync.ensures.syncs whole c.in_ok-records.ensures.moments
+    told_within (λ image. Kept image c.in_ok-records.records.items) c.as_slice.result.now _ _ _ _ short
+    c.in_ok-sync.ensures.syncs whole c.in_ok-records.ensures.moments

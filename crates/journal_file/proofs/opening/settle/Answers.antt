@@ -1,7 +1,9 @@
-use Rattle.std.proofs.Common.{length-append, ◌≡◌, ◌++◌, ◌∷◌, [], ℕ, length, refl, sym, subst, arith, rules, ap, inl, inr}
+use Rattle.std.proofs.Common.{length-append, ◌≡◌, ◌++◌, ◌∷◌, [], ℕ, length, refl, sym, subst, arith, rules, ap, inl}
+use Rattle.std.proofs.Common.{inr}
 use Rattle.std.proofs.lemmas.Result.{err_from_is_err_and}
 use Rattle.journal_file.specs.Layout.{front_of}
-use Rattle.journal_file.proofs.Openings.{told_new_moments, told_new_harmless, told_new_stands, told_cut_moments, told_cut_harmless, told_cut_stands}
+use Rattle.journal_file.proofs.Openings.{told_new_moments, told_new_harmless, told_new_stands, told_cut_moments}
+use Rattle.journal_file.proofs.Openings.{told_cut_harmless, told_cut_stands}
 use Rattle.journal_file.proofs.Files.{lines_fewer, length-front}
 use Rattle.journal_file.proofs.opening.settle.Goals as goal
 
@@ -10,7 +12,8 @@ returns-in_err-write_and_sync-clause-harmless g c =
     let n : c.as_slice.result.now ≡ front_of [] ++ 45 ∷ [] = search rules in
     let long : length c.as_slice.result.now ≡ 19 = ap length n in
     let p = err_from_is_err_and c.from_residual.result c.from_residual.ensures.1 in
-    rw p.1 (told_new_harmless c.args.bytes.now (g.D.Disk.course c.args.disk.now) c.requires.settled c.as_slice.result.now long c.if-bytes-le-MOST_NEW.true _ c.write_and_sync.ensures.moments)
+    rw p.1 (told_new_harmless c.args.bytes.now (g.D.Disk.course c.args.disk.now) c.requires.settled
+    c.as_slice.result.now long c.if-bytes-le-MOST_NEW.true _ c.write_and_sync.ensures.moments)
 
 pub returns-then-bytes-le-MOST_NEW-clause-opened : goal.returns-then-bytes-le-MOST_NEW-clause-opened
 returns-then-bytes-le-MOST_NEW-clause-opened g c =
@@ -19,32 +22,51 @@ returns-then-bytes-le-MOST_NEW-clause-opened g c =
     rw c.new.ensures.items (record {
       are_lines = tt;
       place = refl;
-      stands = told_new_stands c.args.bytes.now (g.D.Disk.course c.args.disk.now) c.requires.settled c.as_slice.result.now long c.if-bytes-le-MOST_NEW.true _ n c.in_ok-write_and_sync.ensures.ok;
+      stands = told_new_stands c.args.bytes.now (g.D.Disk.course c.args.disk.now) c.requires.settled
+          c.as_slice.result.now long c.if-bytes-le-MOST_NEW.true _ n c.in_ok-write_and_sync.ensures.ok;
     })
 
 pub returns-then-bytes-le-MOST_NEW-clause-moments : goal.returns-then-bytes-le-MOST_NEW-clause-moments
 returns-then-bytes-le-MOST_NEW-clause-moments g c =
     let n : c.as_slice.result.now ≡ front_of [] ++ 45 ∷ [] = search rules in
     let long : length c.as_slice.result.now ≡ 19 = ap length n in
-    rw c.new.ensures.items (told_new_moments c.args.bytes.now (g.D.Disk.course c.args.disk.now) c.requires.settled c.as_slice.result.now long c.if-bytes-le-MOST_NEW.true _ c.write_and_sync.ensures.moments)
+    rw c.new.ensures.items (told_new_moments c.args.bytes.now (g.D.Disk.course c.args.disk.now) c.requires.settled
+    c.as_slice.result.now long c.if-bytes-le-MOST_NEW.true _ c.write_and_sync.ensures.moments)
 
 pub returns-in_err-cut_and_sync-clause-harmless : goal.returns-in_err-cut_and_sync-clause-harmless
 returns-in_err-cut_and_sync-clause-harmless g c =
-    let p = err_from_is_err_and c.from_residual-in_err-cut_and_sync.result c.from_residual-in_err-cut_and_sync.ensures.1 in
-    rw p.1 (told_cut_harmless c.args.bytes.now (g.D.Disk.course c.args.disk.now) c.requires.settled c.in_ok-records.records.items c.in_ok-records.gate c.in_ok-records.ensures.kept (omega (arith, c.if-bytes-le-MOST_NEW.false)) _ c.cut_and_sync.ensures.moments)
+    let p = err_from_is_err_and c.from_residual-in_err-cut_and_sync.result
+    c.from_residual-in_err-cut_and_sync.ensures.1 in
+    rw p.1 (told_cut_harmless c.args.bytes.now (g.D.Disk.course c.args.disk.now) c.requires.settled
+    c.in_ok-records.records.items c.in_ok-records.gate c.in_ok-records.ensures.kept
+    (omega (arith, c.if-bytes-le-MOST_NEW.false)) _ c.cut_and_sync.ensures.moments)
 
 pub returns-clause-opened : goal.returns-clause-opened
 returns-clause-opened g c = record {
   are_lines = c.in_ok-records.ensures.kept.has.are_lines;
   place = c.in_ok-records.ensures.kept.place;
-  stands = told_cut_stands c.args.bytes.now (g.D.Disk.course c.args.disk.now) c.requires.settled c.in_ok-records.records.items c.in_ok-records.gate c.in_ok-records.ensures.kept (omega (arith, c.if-bytes-le-MOST_NEW.false)) _ c.in_ok-cut_and_sync.ensures.ok;
+  stands = told_cut_stands c.args.bytes.now (g.D.Disk.course c.args.disk.now) c.requires.settled
+      c.in_ok-records.records.items c.in_ok-records.gate c.in_ok-records.ensures.kept
+      (omega (arith, c.if-bytes-le-MOST_NEW.false)) _ c.in_ok-cut_and_sync.ensures.ok;
 }
 
 pub returns-clause-few : goal.returns-clause-few
 returns-clause-few g c =
     let k = c.in_ok-records.ensures.kept in
-    omega (arith, lines_fewer c.in_ok-records.records.items, length-front c.in_ok-records.records.items, k.place, ap length k.has.parts, c.requires.within, length-append (front_of c.in_ok-records.records.items) (k.has.gate ∷ k.has.rest))
+    omega (
+      arith,
+      lines_fewer c.in_ok-records.records.items,
+      length-front c.in_ok-records.records.items,
+      k.place,
+      ap
+          length k.has.parts,
+      c.requires.within,
+      length-append (front_of c.in_ok-records.records.items)
+          (k.has.gate ∷ k.has.rest),
+    )
 
 pub returns-clause-moments : goal.returns-clause-moments
 returns-clause-moments g c =
-    told_cut_moments c.args.bytes.now (g.D.Disk.course c.args.disk.now) c.requires.settled c.in_ok-records.records.items c.in_ok-records.gate c.in_ok-records.ensures.kept (omega (arith, c.if-bytes-le-MOST_NEW.false)) _ c.cut_and_sync.ensures.moments
+    told_cut_moments c.args.bytes.now (g.D.Disk.course c.args.disk.now) c.requires.settled c.in_ok-records.records.items
+    c.in_ok-records.gate c.in_ok-records.ensures.kept (omega (arith, c.if-bytes-le-MOST_NEW.false)) _
+    c.cut_and_sync.ensures.moments

@@ -17,13 +17,16 @@ loop-number-init g c =
 
 pub bounds-parts-at : goal.bounds-parts-at
 bounds-parts-at g c =
-    (counted c.args.tracks c.loop-number.number c.loop-number.at _ c.loop-number-test.true (sym c.has.ensures ∙ c.if-has.true) c.loop-number.invariant.as_many).0
+    (counted c.args.tracks c.loop-number.number c.loop-number.at _ c.loop-number-test.true
+    (sym c.has.ensures ∙ c.if-has.true) c.loop-number.invariant.as_many).0
 
 pub returns-then-not-passes : goal.returns-then-not-passes
 returns-then-not-passes g c =
     let is = sym c.has.ensures ∙ c.if-has.true in
-    let there = (counted c.args.tracks c.loop-number.number c.loop-number.at _ c.loop-number-test.true is c.loop-number.invariant.as_many).0 in
-    fails_here (passes c.args.rule) c.args.tracks c.loop-number.number c.loop-number.at c.args.parts.now _ _ c.loop-number-test.true is there
+    let there = (counted c.args.tracks c.loop-number.number c.loop-number.at _ c.loop-number-test.true is
+    c.loop-number.invariant.as_many).0 in
+    fails_here (passes c.args.rule) c.args.tracks c.loop-number.number c.loop-number.at c.args.parts.now _ _
+    c.loop-number-test.true is there
     (sym c.passes.ensures ∙ c.if-not-passes.true) c.loop-number.invariant.first
 
 pub overflow_add-at : goal.overflow_add-at
@@ -34,19 +37,23 @@ loop-number-preserved g c =
     elim c.if-has.branch [
       | then-has+else-not-passes w ↦
           let is = sym c.has.ensures ∙ w.if-has.true in
-          let next = counted c.args.tracks c.loop-number.number c.loop-number.at _ c.loop-number-test.true is c.loop-number.invariant.as_many in
+          let next = counted c.args.tracks c.loop-number.number c.loop-number.at _ c.loop-number-test.true is
+          c.loop-number.invariant.as_many in
           rw w.at-is (record {
             few = omega (arith, c.loop-number.invariant.few);
             as_many = next.1;
-            first = passes_next (passes c.args.rule) c.args.tracks c.loop-number.number c.loop-number.at c.args.parts.now _ _ c.loop-number-test.true is next.0
+            first = passes_next (passes c.args.rule) c.args.tracks c.loop-number.number c.loop-number.at
+                c.args.parts.now _ _ c.loop-number-test.true is next.0
                 (sym w.passes.ensures ∙ w.if-not-passes.false) c.loop-number.invariant.first;
           })
       | else-has w ↦
           let is = sym c.has.ensures ∙ w.if-has.false in
           rw w.at-is (record {
             few = omega (arith, c.loop-number.invariant.few);
-            as_many = passed_over c.args.tracks c.loop-number.number c.loop-number.at _ c.loop-number-test.true is c.loop-number.invariant.as_many;
-            first = not_looked (passes c.args.rule) c.args.tracks c.loop-number.number c.loop-number.at c.args.parts.now _ c.loop-number-test.true is c.loop-number.invariant.first;
+            as_many = passed_over c.args.tracks c.loop-number.number c.loop-number.at _ c.loop-number-test.true is
+                c.loop-number.invariant.as_many;
+            first = not_looked (passes c.args.rule) c.args.tracks c.loop-number.number c.loop-number.at c.args.parts.now
+                _ c.loop-number-test.true is c.loop-number.invariant.first;
           })
     ]
 

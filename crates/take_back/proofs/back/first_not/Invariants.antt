@@ -9,5 +9,6 @@ abbrev pub invariant-loop-number : goal.invariant-loop-number
 invariant-loop-number g l = record {
   few : l.at ≤ l.number;
   as_many : l.at + length (members_after l.tracks l.number) ≡ length l.parts;
-  first : first_not (passes l.rule) (members_after l.tracks l.number) (drop l.at l.parts) ≡ first_not (passes l.rule) (members l.tracks) l.parts;
+  first : first_not (passes l.rule) (members_after l.tracks l.number) (drop l.at l.parts) ≡ first_not (passes l.rule)
+      (members l.tracks) l.parts;
 }

@@ -9,7 +9,8 @@ returns-in-Err-clause-most g c =
     let o = c.args.object.now in
     let parts = c.args.parts.now.items in
     let naming = g.met.O.PartObject.named o c.args.call.now c.requires.named in
-    let many = good_length (IsGoodKept (g.O.PartObject.good o)) ((g.O.PartObject.meaning o).names c.args.call.now) parts c.requires.good in
+    let many = good_length (IsGoodKept (g.O.PartObject.good o)) ((g.O.PartObject.meaning o).names c.args.call.now) parts
+    c.requires.good in
     let cost = many_cost g.O.PartObject.size parts in
     omega (arith, c.tick.ensures, naming.some, many, cost)
 
@@ -17,7 +18,8 @@ pub apply-requires-clause-good : goal.apply-requires-clause-good
 apply-requires-clause-good g c =
     let o = c.args.object.now in
     rw (c.in-Ok.ensures, c.deref.ensures.value)
-    (good_nows (g.O.PartObject.good o) ((g.O.PartObject.meaning o).names c.args.call.now) c.args.parts.now.items c.requires.good)
+    (good_nows (g.O.PartObject.good o) ((g.O.PartObject.meaning o).names c.args.call.now) c.args.parts.now.items
+    c.requires.good)
 
 pub apply-requires-clause-roomy : goal.apply-requires-clause-roomy
 apply-requires-clause-roomy g c =
@@ -38,5 +40,6 @@ pub returns-clause-good : goal.returns-clause-good
 returns-clause-good g c =
     let o = c.args.object.now in
     rw c.change_all.ensures
-    (good_changed (g.O.PartObject.good o) _ c.args.by ((g.O.PartObject.meaning o).names c.args.call.now) c.args.parts.now.items c.apply.new.parts.items
+    (good_changed (g.O.PartObject.good o) _ c.args.by ((g.O.PartObject.meaning o).names c.args.call.now)
+    c.args.parts.now.items c.apply.new.parts.items
     c.requires.good c.apply.ensures.good)

@@ -6,5 +6,6 @@ pub store-requires : goal.store-requires
 store-requires c = (
   ap (λ k. k.table) c.clerk.view_is ∙ (c.requires.table ∙ sym c.self.view_is),
   omega (arith, c.self.invariant),
-  counts_record _ _ c.clerk.inside.seat.me.0 c.clerk.inside.seat.me.1 c.from.result c.clerk.invariant.1 (omega (arith, c.from.ensures, c.clerk.invariant.2)),
+  counts_record _ _ c.clerk.inside.seat.me.0 c.clerk.inside.seat.me.1 c.from.result c.clerk.invariant.1
+      (omega (arith, c.from.ensures, c.clerk.invariant.2)),
 )

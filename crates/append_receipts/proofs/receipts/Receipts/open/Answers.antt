@@ -4,4 +4,5 @@ use Rattle.append_receipts.proofs.Moves.{begins}
 use Rattle.append_receipts.proofs.receipts.Receipts.open.Goals as goal
 
 pub of_words-requires : goal.of_words-requires
-of_words-requires c = subst (λ k. Counted (k ∷ 0 ∷ []) (clerk c.args.kept 0 ∷ [])) (sym c.from.ensures) (begins c.args.kept)
+of_words-requires c = subst (λ k. Counted (k ∷ 0 ∷ []) (clerk c.args.kept 0 ∷ [])) (sym c.from.ensures)
+    (begins c.args.kept)
