@@ -1,3 +1,4 @@
 pub mod Packs
 pub mod Holding
 pub mod Setting
+pub mod Filling

@@ -1,12 +1,11 @@
 -- A list in which one item is put in place of another that spans as many places.
-use Rattle.std.proofs.Common.{◌≡◌, ℕ, zero, suc, ◌+◌, ◌<◌, ◌≤◌, List, [], ◌∷◌, ◌++◌, length, take, drop, get_or, sum_by, slice_get, IfSome, sym, ap, ◌∙◌, arith}
+use Rattle.std.proofs.Common.{◌≡◌, ℕ, zero, suc, ◌+◌, ◌<◌, ◌≤◌, List, [], ◌∷◌, length, take, drop, get_or, sum_by, slice_get, IfSome, sym, ap, ◌∙◌, arith}
 use Rattle.std.proofs.Math.ListN.{set}
 use Rattle.std.proofs.lemmas.List.{length-set, take_all}
 use Rattle.std.proofs.lemmas.List.Concat.{get_or-flat_map}
 use Rattle.std.proofs.lemmas.List.Sums.{sum_by-set}
 use Rattle.item_pages.specs.declared.spots.Spot.{Spot}
-use Rattle.item_pages.specs.Items.{Fits}
-use Rattle.item_pages.specs.Packing.{items_of, Packed, IsList}
+use Rattle.item_pages.specs.Packing.{items_of, IsList}
 use Rattle.item_pages.specs.Spots.{IsSpot}
 use Rattle.item_pages.proofs.Packs.{around_page, packed_set, set_spot}
 use Rattle.item_pages.proofs.Holding.{sum_split}

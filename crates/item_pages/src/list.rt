@@ -1,9 +1,10 @@
 // A list in pages, which contracts see as its items.
-ghost use Rattle.std.specs.Prelude.{◌≡◌, ◌+◌, ◌<◌, ◌≤◌, ◌/◌, ◌↔◌, [], length, sum_by, slice_get, slice_set, take, drop, IfOk, IfSome, IsNone, OnOk, OnErr};
+ghost use Rattle.std.specs.Prelude.{◌≡◌, ◌+◌, ◌<◌, ◌≤◌, ◌^◌, ◌/◌, ◌++◌, ◌∷◌, ◌↔◌, [], length, sum_by, slice_get, slice_set, take, drop, IfOk, IfSome, IsNone, OnOk, OnErr};
 
 use crate::finding::find_in_pages;
-use crate::page::Page;
-use crate::spots::{behind, spot_of};
+use crate::packing::push_page;
+use crate::page::{MOST_ITEMS, Page};
+use crate::spots::{before, behind, spot_of};
 use crate::{Found, Spanned};
 use out_of_memory::Memory;
 use std::alloc::Global;
@@ -33,7 +34,8 @@ impl<T: Spanned + Copy> Model for Pages<T> {
 
 impl<T: Spanned + Copy> Pages<T> {
     ghost use Rattle.std.specs.Option.{option_copied};
-    ghost use Rattle.item_pages.specs.Items.{Fits, HoldsPlace};
+    ghost use Rattle.item_pages.specs.Items.{Fits, HoldsPlace, replaced};
+    ghost use Rattle.item_pages.specs.Packing.{items_of};
 
     /// A list without items. It takes no memory.
     pub fn new(alloc: Global) -> Pages<T>
@@ -117,4 +119,137 @@ impl<T: Spanned + Copy> Pages<T> {
             total: self.total,
         })
     }
+
+    /// Its items in one piece.
+    pub fn to_vec(&self, alloc: Global) -> Result<Vec<T>, Memory>
+        ensures { IfOk result (λ all. all.items ≡ self.now) }
+    {
+        let mut all = Vec::with_capacity(alloc, self.count as usize)?;
+        for page in &self.pages {
+            all.extend_from_slice(page.items())?;
+        }
+        Ok(all)
+    }
+
+    /// Adds an item at the end.
+    pub fn push(&mut self, item: T) -> Result<(), Memory>
+        requires { Fits T.places (self.old ++ item ∷ []) }
+        ensures ok { OnOk result (self.new ≡ self.old ++ item ∷ []) }
+        ensures err { OnErr result (self.new ≡ self.old) }
+    {
+        let mut one = Vec::with_capacity(self.alloc, 1)?;
+        one.push(item)?;
+        let page = Page::of(self.alloc, one)?;
+        self.push_page(page)
+    }
+
+    /// Puts these in place of the items from index `from` up to before `to`. Pages wholly before or behind are kept, one
+    /// in a step; to copy items into new pages counts no step.
+    pub fn replace<L: Ledger>(
+        &mut self,
+        from: u32,
+        to: u32,
+        items: Vec<T>,
+        steps: &mut Steps<L>,
+    ) -> Result<(), Memory>
+        requires order { from ≤ to }
+        requires within { to ≤ length self.old }
+        requires fits { Fits T.places (replaced self.old from to items.items) }
+        ensures ok { OnOk result (self.new ≡ replaced self.old from to items.items) }
+        ensures err { OnErr result (self.new ≡ self.old) }
+        ensures least { steps.old + 1 ≤ steps.new }
+        ensures most { steps.new ≤ steps.old + length self.old / 32 + 3 }
+    {
+        steps.tick();
+        let all = self.with_replaced(from, to, &items, steps)?;
+        *self = all;
+        Ok(())
+    }
+
+    // The list with these in place of the items from index `from` up to before `to`.
+    fn with_replaced<L: Ledger>(
+        &self,
+        from: u32,
+        to: u32,
+        items: &[T],
+        steps: &mut Steps<L>,
+    ) -> Result<Pages<T>, Memory>
+        requires order { from ≤ to }
+        requires within { to ≤ length self.now }
+        requires fits { Fits T.places (replaced self.now from to items.now) }
+        ensures ok { IfOk result (λ p. p ≡ replaced self.now from to items.now) }
+        ensures least { steps.old ≤ steps.new }
+        ensures most { steps.new ≤ steps.old + length self.now / 32 + 2 }
+    {
+        let (whole, front) = before(&self.pages, from);
+        let (back, rest) = behind(&self.pages, to);
+        let middle = in_one_piece(self.alloc, front, items, back)?;
+        let mut all = Pages::new(self.alloc);
+        all.push_pages(whole, steps)?;
+        all.push_items(&middle)?;
+        all.push_pages(rest, steps)?;
+        Ok(all)
+    }
+
+    // Puts these pages behind the others, shared: one step for each.
+    fn push_pages<L: Ledger>(
+        &mut self,
+        pages: &[Page<T>],
+        steps: &mut Steps<L>,
+    ) -> Result<(), Memory>
+        requires { Fits T.places (self.old ++ items_of pages.now) }
+        ensures ok { OnOk result (self.new ≡ self.old ++ items_of pages.now) }
+        ensures least { steps.old ≤ steps.new }
+        ensures most { steps.new ≤ steps.old + length pages.now }
+    {
+        for page in pages {
+            steps.tick();
+            self.push_page(page.share()?)?;
+        }
+        Ok(())
+    }
+
+    // Puts these items behind the others, in pages that are made for them.
+    fn push_items(&mut self, items: &[T]) -> Result<(), Memory>
+        requires { Fits T.places (self.old ++ items.now) }
+        ensures { OnOk result (self.new ≡ self.old ++ items.now) }
+    {
+        let mut left = items;
+        while !left.is_empty() {
+            let (filled, rest) = left.split_at(left.len().min(MOST_ITEMS));
+            self.push_page(Page::copied(self.alloc, filled)?)?;
+            left = rest;
+        }
+        Ok(())
+    }
+
+    // Puts a page behind the others.
+    fn push_page(&mut self, page: Page<T>) -> Result<(), Memory>
+        requires { Fits T.places (self.old ++ page) }
+        ensures ok { OnOk result (self.new ≡ self.old ++ page) }
+        ensures err { OnErr result (self.new ≡ self.old) }
+    {
+        let (count, span) = (page.count(), page.span());
+        push_page(self.alloc, &mut self.pages, page)?;
+        self.count += count;
+        self.total += span;
+        Ok(())
+    }
+}
+
+// These items in one piece, one run behind another.
+fn in_one_piece<T: Copy>(
+    alloc: Global,
+    front: &[T],
+    items: &[T],
+    back: &[T],
+) -> Result<Vec<T>, Memory>
+    requires { length front.now + length items.now + length back.now < 2 ^ 33 }
+    ensures { IfOk result (λ all. all.items ≡ front.now ++ (items.now ++ back.now)) }
+{
+    let mut all = Vec::with_capacity(alloc, front.len() + items.len() + back.len())?;
+    all.extend_from_slice(front)?;
+    all.extend_from_slice(items)?;
+    all.extend_from_slice(back)?;
+    Ok(all)
 }

@@ -1,4 +1,4 @@
-use Rattle.std.proofs.Common.{◌≡◌, ◌+◌, ◌<◌, ◌≤◌, ap, sum_by, length, take, drop, arith}
+use Rattle.std.proofs.Common.{◌+◌, ◌<◌, sum_by, take, drop, arith}
 use Rattle.item_pages.specs.Packing.{items_of}
 use Rattle.item_pages.proofs.Packs.{around_page}
 use Rattle.item_pages.proofs.Holding.{holds_on, length_split, sum_split}

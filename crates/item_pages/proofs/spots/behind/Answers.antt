@@ -1,4 +1,4 @@
-use Rattle.std.proofs.Common.{◌≡◌, ◌+◌, ◌<◌, ◌≤◌, List, ◌++◌, length, take, drop, ap, sym, ◌∙◌, get_or, arith}
+use Rattle.std.proofs.Common.{◌+◌, ◌<◌, List, ◌++◌, length, drop, ap, sym, ◌∙◌, get_or, arith}
 use Rattle.item_pages.specs.Packing.{items_of}
 use Rattle.item_pages.proofs.Packs.{drop_spot, packed_drop}
 use Rattle.item_pages.proofs.spots.behind.Goals as goal

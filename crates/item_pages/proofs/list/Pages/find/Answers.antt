@@ -1,4 +1,4 @@
-use Rattle.std.proofs.Common.{◌≤◌, ◌+◌, ◌/◌, length, ap, arith}
+use Rattle.std.proofs.Common.{length, ap, arith}
 use Rattle.item_pages.proofs.Packs.{packed_few}
 use Rattle.item_pages.proofs.list.Pages.find.Goals as goal
 

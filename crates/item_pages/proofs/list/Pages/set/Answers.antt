@@ -1,6 +1,5 @@
-use Rattle.std.proofs.Common.{◌≡◌, ◌+◌, ◌<◌, ◌≤◌, length, take, drop, ap, sym, ◌∙◌, get_or, arith}
-use Rattle.item_pages.specs.Packing.{items_of}
-use Rattle.item_pages.proofs.Setting.{spot_inside, set_span, set_list, set_items}
+use Rattle.std.proofs.Common.{arith}
+use Rattle.item_pages.proofs.Setting.{set_span, set_list, set_items}
 use Rattle.item_pages.proofs.list.Pages.set.Goals as goal
 
 pub with-requires-clause-span : goal.with-requires-clause-span
