@@ -143,8 +143,8 @@ impl<T: Spanned + Copy> Pages<T> {
         self.push_page(page)
     }
 
-    /// Puts these in place of the items from index `from` up to before `to`. Pages wholly before or behind are kept, one
-    /// in a step; to copy items into new pages counts no step.
+    /// Puts these in place of the items from index `from` up to before `to`. Pages wholly before or behind are kept,
+    /// one in a step; to copy items into new pages counts no step.
     pub fn replace<L: Ledger>(
         &mut self,
         from: u32,
