@@ -1,0 +1,12 @@
+pub mod TrackRows
+pub mod ShotRows
+pub mod KeptTracks
+pub mod Orders
+pub mod ReelFacts
+pub mod ShotsGood
+pub mod Counting
+pub mod SoundImports
+pub mod ShotFrames
+pub mod NamedFrames
+pub mod TapeIs
+pub mod ShownImports
