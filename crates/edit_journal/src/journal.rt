@@ -135,6 +135,26 @@ impl<O: PartObject, J: Naming<O, O::Part>> Journal<O, J> {
         } = log;
         entries
     }
+
+    /// The same, with one pass more, for which the others need no room.
+    pub fn close_with(self, passes: Vec<Pass<O, J>>, more: Pass<O, J>) -> Vec<Entry<O::Call>>
+        ensures journal { IsJournal O.meaning O.opens J.stations J.opening result.items }
+        ensures passes { All (λ p. StandsIn O.meaning J.opening result.items
+            (Station p.number) p.entries) passes.items }
+        ensures more { StandsIn O.meaning J.opening result.items (Station more.number)
+            more.entries }
+    {
+        let Journal { log, words } = self;
+        let mut log = log.into_inner();
+        take_each_back(&mut log, &words, passes, more);
+        let Log {
+            entries,
+            lasts: _,
+            keeper: _,
+            of: _,
+        } = log;
+        entries
+    }
 }
 
 // A seat for each part.
@@ -191,4 +211,21 @@ fn take_all_back<O: PartObject, J: Naming<O, O::Part>>(
     for pass in passes {
         log.take_back(words, pass);
     }
+}
+
+// The same, with one pass more.
+fn take_each_back<O: PartObject, J: Naming<O, O::Part>>(
+    log: &mut Log<O, J>,
+    words: &Words<O>,
+    passes: Vec<Pass<O, J>>,
+    more: Pass<O, J>,
+)
+    requires words { (words.now.shared.table_id ≡ J.table) × (J.table.words ≡ 1) }
+    ensures agree { All (λ p. StandsIn O.meaning J.opening log.new.0.entries
+        (Station p.number) p.entries) passes.items }
+    ensures more { StandsIn O.meaning J.opening log.new.0.entries (Station more.number)
+        more.entries }
+{
+    take_all_back(log, words, passes);
+    log.take_back(words, more);
 }

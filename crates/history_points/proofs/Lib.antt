@@ -3,3 +3,5 @@ pub mod Slotted
 pub mod NamedCalls
 pub mod Renumbered
 pub mod Openings
+pub mod Keeping
+pub mod Meeting

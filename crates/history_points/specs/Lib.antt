@@ -2,5 +2,7 @@
 pub mod Replays
 pub mod Reached
 pub mod InPlace
+pub mod KeptCuts
 -- For the steps of the code, for proofs and for tests.
 pub mod Slots
+pub mod KeptInside

@@ -4,10 +4,10 @@ ghost use Rattle.room_core.specs.Projection.{of_station};
 ghost use Rattle.edit_journal.specs.declared.name.Name.TheVariants.{Station};
 ghost use Rattle.edit_journal.specs.Seats.{Begins};
 ghost use Rattle.edit_journal.specs.Turns.{gathered, given};
-ghost use Rattle.kept_cuts.specs.KeptCuts.{IsCutOf, MayKeep, kept_at};
+ghost use Rattle.history_points.specs.KeptCuts.{IsCutOf, MayKeep, kept_at};
 
+use crate::copy_parts;
 use edit_journal::{Naming, Pass, Turn};
-use history_points::copy_parts;
 use room_core::{Memory, PartObject};
 use std::alloc::Global;
 use std::collections::BTreeMap;
@@ -26,8 +26,8 @@ pub struct Points<O: PartObject, J: Naming<O, O::Part>> {
 
 impl<O: PartObject, J: Naming<O, O::Part>> Model for Points<O, J> {
     ghost use Rattle.std.specs.Prelude.{IsSome};
-    ghost use Rattle.kept_cuts.specs.KeptCuts.{AreKept, KeptCuts};
-    ghost use Rattle.kept_cuts.specs.KeptInside.{known_by};
+    ghost use Rattle.history_points.specs.KeptCuts.{AreKept, KeptCuts};
+    ghost use Rattle.history_points.specs.KeptInside.{known_by};
 
     ghost Value = { KeptCuts O O.Part O.Call };
 

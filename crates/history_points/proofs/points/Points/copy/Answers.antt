@@ -1,9 +1,9 @@
 use Rattle.std.proofs.Common.{◌≡◌, Some, sym, ap, ◌∙◌}
 use Rattle.std.specs.Option.{option_copied}
-use Rattle.kept_cuts.specs.KeptCuts.{kept_at}
-use Rattle.kept_cuts.specs.KeptInside.{known_by}
-use Rattle.kept_cuts.proofs.Keeping.{copied_cut}
-use Rattle.kept_cuts.proofs.points.Points.copy.Goals as goal
+use Rattle.history_points.specs.KeptCuts.{kept_at}
+use Rattle.history_points.specs.KeptInside.{known_by}
+use Rattle.history_points.proofs.Keeping.{copied_cut}
+use Rattle.history_points.proofs.points.Points.copy.Goals as goal
 
 pub returns-clause-cut : goal.returns-clause-cut
 returns-clause-cut g c =

@@ -1,5 +1,5 @@
-use Rattle.kept_cuts.proofs.Meeting.{pass_stands, pass_there}
-use Rattle.kept_cuts.proofs.points.met.Goals as goal
+use Rattle.history_points.proofs.Meeting.{pass_stands, pass_there}
+use Rattle.history_points.proofs.points.met.Goals as goal
 
 pub give_pass-requires-clause-has : goal.give_pass-requires-clause-has
 give_pass-requires-clause-has g c =

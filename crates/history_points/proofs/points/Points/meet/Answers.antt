@@ -1,6 +1,6 @@
 use Rattle.std.proofs.Common.{refl}
-use Rattle.kept_cuts.proofs.Keeping.{kept_further}
-use Rattle.kept_cuts.proofs.points.Points.meet.Goals as goal
+use Rattle.history_points.proofs.Keeping.{kept_further}
+use Rattle.history_points.proofs.points.Points.meet.Goals as goal
 
 pub taken-requires : goal.taken-requires
 taken-requires g c = c.self.invariant.0

@@ -11,7 +11,7 @@ use Rattle.room_core.specs.Projection.{of_station}
 use Rattle.room_core.specs.Whole.{Meaning, whole}
 use Rattle.edit_journal.specs.Seats.{Begins, Opening}
 use Rattle.edit_journal.specs.Turns.{Known}
-use Rattle.kept_cuts.specs.KeptCuts.{IsCutOf, AreKept, MayKeep, kept_at}
+use Rattle.history_points.specs.KeptCuts.{IsCutOf, AreKept, MayKeep, kept_at}
 
 is_some : {A : Type 0} (o : Option A) (a : A) → o ≡ Some a → IsSome o
 is_some o a h = rw h refl

@@ -1,5 +1,5 @@
-use Rattle.kept_cuts.proofs.Keeping.{not_above, not_below}
-use Rattle.kept_cuts.proofs.points.Points.nearest.Goals as goal
+use Rattle.history_points.proofs.Keeping.{not_above, not_below}
+use Rattle.history_points.proofs.points.Points.nearest.Goals as goal
 
 pub returns-in-Some-clause-greatest : goal.returns-in-Some-clause-greatest
 returns-in-Some-clause-greatest g c =

@@ -1,6 +1,6 @@
-use Rattle.kept_cuts.proofs.Keeping.{kept_more}
-use Rattle.kept_cuts.specs.KeptInside.{known_by}
-use Rattle.kept_cuts.proofs.points.Points.keep.Goals as goal
+use Rattle.history_points.proofs.Keeping.{kept_more}
+use Rattle.history_points.specs.KeptInside.{known_by}
+use Rattle.history_points.proofs.points.Points.keep.Goals as goal
 
 pub invariant_of-self-2 : goal.invariant_of-self-2
 invariant_of-self-2 g c =
