@@ -7,6 +7,8 @@ mod given;
 mod name;
 mod namer;
 mod numbered;
+mod table;
+mod tabled;
 
 pub use as_is::AsIs;
 pub use digits::three_digits;
@@ -14,3 +16,5 @@ pub use given::name_among;
 pub use name::{MAX_NAME, Name};
 pub use namer::{NameFault, ReelName, ReelNamer};
 pub use numbered::{MAX_NUMBERED, Numbered};
+pub use table::TableFault;
+pub use tabled::Tabled;
