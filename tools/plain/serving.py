@@ -53,7 +53,9 @@ class Server:
         return line
 
     def listen(self):
-        self.port = port_in(self.line())
+        """Waits until it says where it listens, or has ended."""
+        while self.port is None and (line := self.line()):
+            self.port = port_in(line)
         return self
 
     def connect(self, timeout=None):

@@ -8,6 +8,7 @@ use Rattle.room_halls.specs.Stations.{HallTold}
 use Rattle.command_ends.specs.Ports.{Change, InputTold, OutputTold}
 use Rattle.list_commands.specs.Cuts.{NamerTold}
 use Rattle.cut_server.specs.Runs.{CommandEnds, EndsWith}
+use Rattle.cut_server.specs.Unhindered.{IsStill, IsUnhindered as IsUnhinderedCommand}
 use Rattle.cutroom.specs.declared.notice.Notice.{Notice}
 use Rattle.cutroom.specs.declared.notice.Notice.TheVariants.{Help, Version}
 use Rattle.cutroom.specs.Notices.{text_of}
@@ -34,16 +35,22 @@ module _ (files : Change FilesTold) (input : Change InputTold) (output : Change 
   abbrev pub ProgramEnds : List (List ℕ) → ℕ → Type 0
   ProgramEnds words status = EndsBy (notice_of words) words status
 
+  -- no write of a notice fails; or the words are a command's, and nothing hinders it
+  abbrev pub IsUnhinderedBy : Option Notice → List (List ℕ) → Type 0
+  IsUnhinderedBy (Some notice) words = IsStill output.before.faults output.after.faults
+  IsUnhinderedBy None words = IsUnhinderedCommand files input output hall namer (command_of words)
+
+  abbrev pub IsUnhindered : List (List ℕ) → Type 0
+  IsUnhindered words = IsUnhinderedBy (notice_of words) words
+
 -- a number as RATE that is the rate of no sequence
 abbrev pub rate_complaint : Bool → List ℕ
 rate_complaint true = codes "cutroom: RATE is one of 23.976, 24, 25, 29.97 and 30\n"
 rate_complaint false = []
 
--- what standard error is told of these words at a status, nothing where the status says enough
+-- what standard error is told of these words at a status, nothing where the status or the object that failed says enough
 abbrev pub complaint_of : List (List ℕ) → ℕ → List ℕ
 complaint_of words status =
-    if status == 1 then codes "cutroom: standard input, a line or a file could not be read\n"
-    else (if status == 2 then codes "cutroom: standard output, a line or the journal could not be written\n"
-    else (if status == 3 then rate_complaint (asks_for_another_rate words)
+    if status == 3 then rate_complaint (asks_for_another_rate words)
     else (if status == 5 then codes "cutroom: the address could not be opened, or a station not seated\n"
-    else (if status == 7 then codes "cutroom: the input, or a line, has more than 64 MiB\n" else []))))
+    else (if status == 7 then codes "cutroom: the input, or a line, has more than 64 MiB\n" else []))

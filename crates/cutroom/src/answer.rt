@@ -1,8 +1,8 @@
 // What the program answers to its words.
-ghost use Rattle.std.specs.Prelude.{◌≡◌};
+ghost use Rattle.std.specs.Prelude.{◌≡◌, ◌⊎◌};
 ghost use Rattle.command_ends.specs.Ports.{change, input_told, output_told};
 ghost use Rattle.list_commands.specs.Cuts.{namer_told};
-ghost use Rattle.cutroom.specs.Answers.{ProgramEnds, complaint_of, rate_complaint};
+ghost use Rattle.cutroom.specs.Answers.{IsUnhindered, ProgramEnds, complaint_of, rate_complaint};
 
 use crate::notice::Notice;
 use cut_server::{asks_for_another_rate, cut_main};
@@ -27,10 +27,15 @@ pub fn answer<R: Threads + Wait + Sync, F: Files, S: Source, K: Sink, H: Hall>(
     hall: &mut H,
     namer: Box<dyn ReelNamer>,
 ) -> u8
-    ensures { ProgramEnds (change F.told files.old files.new)
+    ensures ends { ProgramEnds (change F.told files.old files.new)
         (change (input_told S.left S.read_faults) input.old input.new)
         (change (output_told K.taken K.write_faults) output.old output.new)
         (change H.told hall.old hall.new) (namer_told (rule namer) (given namer)) words.now result }
+    ensures complete { IsUnhindered (change F.told files.old files.new)
+        (change (input_told S.left S.read_faults) input.old input.new)
+        (change (output_told K.taken K.write_faults) output.old output.new)
+        (change H.told hall.old hall.new) (namer_told (rule namer) (given namer)) words.now
+        → (result ≡ 0) ⊎ (result ≡ 6) }
 {
     match Notice::asked_by(words) {
         Some(notice) => notice.tell(output),
@@ -40,13 +45,11 @@ pub fn answer<R: Threads + Wait + Sync, F: Files, S: Source, K: Sink, H: Hall>(
     }
 }
 
-/// What is told on standard error of a fault that the status alone does not tell, or nothing.
+/// What is told on standard error of a fault that neither the status tells nor the object that failed, or nothing.
 pub fn complaint(words: &Words, status: u8) -> &'static str
     ensures { result.now ≡ complaint_of words.now status }
 {
     match status {
-        1 => "cutroom: standard input, a line or a file could not be read\n",
-        2 => "cutroom: standard output, a line or the journal could not be written\n",
         3 => rate_complaint(asks_for_another_rate(words)),
         5 => "cutroom: the address could not be opened, or a station not seated\n",
         7 => "cutroom: the input, or a line, has more than 64 MiB\n",

@@ -1,6 +1,6 @@
 //! The program of the cutting room. It hands its arguments, the files of the system, its standard input, its standard
-//! output and a hall over TCP to `answer`, which has the main contract, puts a line on standard error where the status does
-//! not say enough, and ends with the status.
+//! output and a hall over TCP to `answer`, which has the main contract, and ends with the status. Files, streams and the
+//! hall tell standard error what failed and why; `main` puts a line more there where the status does not say enough.
 #![tactic(auto)]
 
 mod answer;
@@ -12,14 +12,17 @@ mod tests;
 
 use answer::{answer, complaint};
 use arguments::command_words;
+use command_words::{Command, command_in};
 use cut_server::wants_numbers;
-use line_words::Memory;
+use line_words::{Memory, Words};
 use memory::keep_freed_memory;
 use reel_names::{AsIs, Numbered, ReelNamer};
-use room_files::StdFiles;
+use room_files::{Report, Reported, StdFiles};
 use room_halls::TcpHall;
 use room_ports::{StdSink, StdSource, put};
+use std::io::Write;
 use std::process::ExitCode;
+use std::rt::Files;
 
 /// The status of a program that found no memory to begin with, or was given more words than a list of them takes.
 const OUT_OF_MEMORY: u8 = 6;
@@ -31,9 +34,11 @@ fn main(rt: HostRuntime) -> ExitCode {
         Ok(words) => words,
         Err(Memory) => return ExitCode::from(OUT_OF_MEMORY),
     };
-    let mut files = StdFiles::new(&rt);
-    let mut input = StdSource::new(rt.stdin());
-    let mut output = StdSink::new(rt.stdout());
+    let report = Report::new(alloc, rt.stderr());
+    let mut files = StdFiles::new(&rt, report);
+    look_ahead(&files, &words);
+    let mut input = StdSource::new(Reported::new(rt.stdin(), "standard input", report));
+    let mut output = StdSink::new(Reported::new(rt.stdout(), "standard output", report));
     let mut hall = TcpHall::new(alloc, &rt, rt.stderr());
     let namer: Box<dyn ReelNamer> = if wants_numbers(&words) {
         match Box::new(alloc, Numbered::new(alloc)) {
@@ -61,4 +66,12 @@ fn main(rt: HostRuntime) -> ExitCode {
         complaint(&words, status).as_bytes(),
     );
     ExitCode::from(status)
+}
+
+// Looks whether the journal of a hall that these words ask for can be written, before anybody works for it.
+fn look_ahead<R: Files, W: Write + Copy>(files: &StdFiles<'_, R, W>, words: &Words) {
+    match command_in(words) {
+        Some(Command::Serve { journal, .. }) => files.look(journal),
+        _ => {}
+    }
 }

@@ -137,14 +137,14 @@ fn answered<R: Threads + Wait + Sync>(
     Ok((status, output.bytes() == Some(text.as_bytes()), complains))
 }
 
-// The status, what was written, and whether standard error is told something.
+// The status, what was written, and whether standard error is told something beside what the failing object tells.
 #[test]
 fn words_are_answered_once(rt: HostRuntime) -> Result<(), Memory> {
     let alloc = rt.alloc();
     let cases: [(&[&str], &[u32], &[u32], u8, &str, bool); 13] = [
         (&["--help"], &[1], &[], 0, HELP, false),
         (&["--version"], &[1], &[], 0, VERSION, false),
-        (&["--version"], &[], &[1], 2, "", true),
+        (&["--version"], &[], &[1], 2, "", false),
         (&["run"], &[1], &[], 3, "refused words\n", false),
         (
             &["run", "none.otio", "50", "ndf"],
@@ -170,7 +170,7 @@ fn words_are_answered_once(rt: HostRuntime) -> Result<(), Memory> {
             "refused words\n",
             false,
         ),
-        (&["run", "none.otio", "24", "ndf"], &[], &[], 1, "", true),
+        (&["run", "none.otio", "24", "ndf"], &[], &[], 1, "", false),
         (
             &["tape", "none.edl", "50"],
             &[1],
@@ -179,7 +179,7 @@ fn words_are_answered_once(rt: HostRuntime) -> Result<(), Memory> {
             "refused words\n",
             true,
         ),
-        (&["tape", "none.edl", "24"], &[1], &[], 1, "", true),
+        (&["tape", "none.edl", "24"], &[1], &[], 1, "", false),
         (
             &["run", "1", "0"],
             &[],
@@ -188,8 +188,8 @@ fn words_are_answered_once(rt: HostRuntime) -> Result<(), Memory> {
             "point 0\njournal 0\n",
             false,
         ),
-        (&["run", "1", "0"], &[1], &[], 1, "", true),
-        (&["run", "1", "0"], &[], &[1], 2, "", true),
+        (&["run", "1", "0"], &[1], &[], 1, "", false),
+        (&["run", "1", "0"], &[], &[1], 2, "", false),
     ];
     for (texts, reads, writes, status, text, complains) in cases {
         let (ended, is_written, is_told) = answered(&rt, alloc, texts, reads, writes, text)?;

@@ -1,5 +1,5 @@
 // What files answer, call by call.
-use room_files::{FileFault, Files, MemFiles, StdFiles, SureFiles};
+use room_files::{FileFault, Files, MemFiles, Report, StdFiles, SureFiles};
 use room_ports::Memory;
 use std::alloc::{AllocError, Global};
 
@@ -161,7 +161,7 @@ fn files_that_never_fail_tell_up_to_their_room(rt: HostRuntime) -> Result<(), Me
 fn files_of_the_system_are_read_whole(rt: HostRuntime) -> Result<(), AllocError> {
     use Step::{Read, Write};
     let alloc = rt.alloc();
-    let mut files = StdFiles::new(&rt);
+    let mut files = StdFiles::new(&rt, Report::new(alloc, rt.stderr()));
     let steps = [
         Read("a", 9),
         Write("a", "text"),

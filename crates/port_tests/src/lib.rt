@@ -1,5 +1,5 @@
-//! Tests of ports, files and halls, over memory and over those of the system: what each call answers. There is nothing
-//! here to run besides.
+//! Tests of ports, files and halls, over memory and over those of the system: what each call answers, and what is told of
+//! those that fail. There is nothing here to run besides.
 #![tactic(auto)]
 
 #[cfg(test)]
@@ -8,3 +8,5 @@ mod files;
 mod halls;
 #[cfg(test)]
 mod ports;
+#[cfg(test)]
+mod reports;
