@@ -4,7 +4,8 @@
 -- `serve` DOC RATE DROP STATIONS ADDRESS JOURNAL asks for STATIONS of them, from 1 to 16, in such a room, over a hall at
 -- ADDRESS, and for the journal in the file JOURNAL. `list` DOC RATE DROP JOURNAL POINT asks for the edit decision list of the
 -- cut after POINT entries of the journal in the file JOURNAL, whose room the document describes; a last word `numbered` says
--- how its reels are to be named. `tape` LIST RATE asks for the tape of the list in the file LIST.
+-- how its reels are to be named. `tape` LIST RATE asks for the tape of the list in the file LIST. `import` LIST RATE DROP asks
+-- for the document of the list in the file LIST.
 use Rattle.std.specs.Prelude.{ℕ, ◌≤◌, Bool, true, false, ◌&&◌, ◌||◌, ◌==◌, List, [], ◌∷◌, Option, Some, None, Result, Ok, Err, option_and_then, is_some, is_none, slice_get, slice_index_or, length, nat_le, codes, bytes_eq, if◌then◌else◌}
 use Rattle.line_words.specs.Digits.{number_of}
 use Rattle.line_words.specs.declared.numbers.NumberFault.{NumberFault}
@@ -27,6 +28,8 @@ pub data Asked : Type 0 where
   ListCut : List ℕ → Counted → List ℕ → ℕ → Asked
   -- the tape of the list in a file, at a rate
   PlayList : List ℕ → SequenceRate → Asked
+  -- the document of the list in a file, whose frames are counted so
+  Import : List ℕ → Counted → Asked
 
 -- ---- a plain room
 
@@ -128,6 +131,10 @@ abbrev pub played_so : List ℕ → Option SequenceRate → Option Asked
 played_so name None = None
 played_so name (Some rate) = Some (PlayList name rate)
 
+abbrev pub imported_so : List ℕ → Option Counted → Option Asked
+imported_so name None = None
+imported_so name (Some counting) = Some (Import name counting)
+
 -- ---- the table
 
 abbrev pub run_of : List (List ℕ) → Option Asked
@@ -164,13 +171,21 @@ tape_of (a ∷ []) = None
 tape_of (name ∷ rate ∷ []) = played_so name (rate_of_word rate)
 tape_of (a ∷ b ∷ c ∷ words) = None
 
+abbrev pub import_of : List (List ℕ) → Option Asked
+import_of [] = None
+import_of (a ∷ []) = None
+import_of (a ∷ b ∷ []) = None
+import_of (name ∷ rate ∷ drop ∷ []) = imported_so name (counting_of rate drop)
+import_of (a ∷ b ∷ c ∷ d ∷ words) = None
+
 -- what words that begin so ask for
 abbrev pub asked_of : List ℕ → List (List ℕ) → Option Asked
 asked_of first words =
     if bytes_eq first (codes "run") then run_of words else
     if bytes_eq first (codes "serve") then serve_of words else
     if bytes_eq first (codes "list") then list_of words else
-    if bytes_eq first (codes "tape") then tape_of words else None
+    if bytes_eq first (codes "tape") then tape_of words else
+    if bytes_eq first (codes "import") then import_of words else None
 
 -- what these words ask for
 abbrev pub command_of : List (List ℕ) → Option Asked
@@ -189,7 +204,8 @@ is_over_file words =
     (is_word (slice_get words 0) (codes "run") && length words == 4)
     || ((is_word (slice_get words 0) (codes "serve") && length words == 7)
     || ((is_word (slice_get words 0) (codes "list") && (length words == 6 || length words == 7))
-    || (is_word (slice_get words 0) (codes "tape") && length words == 3)))
+    || ((is_word (slice_get words 0) (codes "tape") && length words == 3)
+    || (is_word (slice_get words 0) (codes "import") && length words == 4))))
 
 -- a number, but the rate of no sequence
 abbrev pub is_other_rate : Option (List ℕ) → Bool
@@ -209,6 +225,7 @@ asks_for_list (Some (RunDocument document counting)) = false
 asks_for_list (Some (Serve document counting stations address journal)) = false
 asks_for_list (Some (ListCut document counting journal point)) = true
 asks_for_list (Some (PlayList name rate)) = false
+asks_for_list (Some (Import name counting)) = false
 
 -- a list is asked for, and the last word says that its reels are to be numbered
 abbrev pub wants_numbers : List (List ℕ) → Bool
@@ -226,6 +243,7 @@ asked_by (command.RunDocument document counting) = RunDocument document.now coun
 asked_by (command.Serve document counting stations address journal) = Serve document.now counting stations address.now journal.now
 asked_by (command.ListCut document counting journal point) = ListCut document.now counting journal.now point
 asked_by (command.PlayList name rate) = PlayList name.now rate
+asked_by (command.Import name counting) = Import name.now counting
 
 -- so many tracks and reels as a plain room may have, and so many stations as a hall
 abbrev pub HasBounds : Command → Type 0
@@ -234,3 +252,4 @@ HasBounds (command.RunDocument document counting) = Unit {0}
 HasBounds (command.Serve document counting stations address journal) = (least_stations ≤ stations) × (stations ≤ most_stations)
 HasBounds (command.ListCut document counting journal point) = Unit {0}
 HasBounds (command.PlayList name rate) = Unit {0}
+HasBounds (command.Import name counting) = Unit {0}

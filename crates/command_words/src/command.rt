@@ -2,7 +2,7 @@
 ghost use Rattle.std.specs.Prelude.{◌≡◌, ◌<◌, IfSome, Some, drop, is_some, codes, length, option_and_then, option_map, slice_get};
 ghost use Rattle.json_tokens.specs.ReadingNumerals.{numeral_in};
 ghost use Rattle.ratio_time.specs.Rates.{rate_value};
-ghost use Rattle.command_words.specs.Commands.{command_of, run_of, serve_of, list_of, tape_of, plain_of, document_of, hall_of, cut_of};
+ghost use Rattle.command_words.specs.Commands.{command_of, run_of, serve_of, list_of, tape_of, import_of, plain_of, document_of, hall_of, cut_of};
 ghost use Rattle.command_words.specs.Commands.{counting_of, rate_of_word, sequence_of, number_within, asked_by, HasBounds, is_over_file, is_other_rate, asks_for_another_rate, is_word, wants_numbers, word_at};
 
 use json_tree::numeral;
@@ -54,6 +54,11 @@ pub enum Command<'a> {
     PlayList {
         name: &'a str,
         rate: SequenceRate,
+    },
+    /// The document of the list in the file of this name, whose frames are counted so.
+    Import {
+        name: &'a str,
+        counting: Counting,
     },
 }
 
@@ -244,6 +249,21 @@ fn tape_in(words: &Words) -> Option<Command<'_>>
     })
 }
 
+// What the words after `import` ask for.
+fn import_in(words: &Words) -> Option<Command<'_>>
+    ensures command { option_map asked_by result ≡ import_of (drop 1 words.now) }
+    ensures bound { IfSome result HasBounds }
+{
+    if words.count() != 4 {
+        return None;
+    }
+    let counting = counting(words.word(2), words.word(3))?;
+    Some(Command::Import {
+        name: words.word(1),
+        counting,
+    })
+}
+
 /// The command that the words are, or `None` where they are none.
 pub fn command_in(words: &Words) -> Option<Command<'_>>
     ensures command { option_map asked_by result ≡ command_of words.now }
@@ -257,6 +277,7 @@ pub fn command_in(words: &Words) -> Option<Command<'_>>
         "serve" => serve_in(words),
         "list" => list_in(words),
         "tape" => tape_in(words),
+        "import" => import_in(words),
         _ => None,
     }
 }
@@ -274,6 +295,7 @@ fn is_over_file(words: &Words) -> bool
         "serve" => count == 7,
         "list" => count == 6 || count == 7,
         "tape" => count == 3,
+        "import" => count == 4,
         _ => false,
     }
 }
