@@ -1,5 +1,5 @@
 -- A cut that was written is read again as the same cut.
-use Rattle.std.proofs.Common.{◌≡◌, ℕ, suc, ◌+◌, ◌^◌, ◌<◌, ◌≤◌, true, false, ◌&&◌, pos, List, [], ◌∷◌, length, Ok, refl, sym, ap, subst, ◌∙◌, arith, if◌then◌else◌}
+use Rattle.std.proofs.Common.{◌≡◌, ℕ, suc, ◌+◌, ◌^◌, ◌<◌, ◌≤◌, true, false, ◌&&◌, pos, List, [], ◌∷◌, ◌++◌, length, Ok, inl, inr, refl, sym, ap, subst, ◌∙◌, arith, if◌then◌else◌}
 use Rattle.std.specs.Prelude.{codes}
 use Rattle.std.proofs.lemmas.Bool.{le-leb, lt-ltb}
 use Rattle.std.proofs.lemmas.List.{append-nil}
@@ -8,6 +8,7 @@ use Rattle.timecode12.specs.declared.rate.SequenceRate.{SequenceRate}
 use Rattle.timecode12.specs.Labels.{day_of}
 use Rattle.composables.specs.declared.media.Table.{Table}
 use Rattle.composables.specs.TrackState.{TrackState}
+use Rattle.json_tokens.specs.Grammar.{AreBlanks}
 use Rattle.json_tree.specs.Tree.{Tree, At, Null, trees, in_trees}
 use Rattle.json_tree.specs.Parts.{place_of, kind_in}
 use Rattle.json_tree.specs.Grammar.{Spells}
@@ -26,7 +27,7 @@ use Rattle.otio_tracks.specs.Clips.{empty_table}
 use Rattle.otio_tracks.specs.ReelTexts.{AreTexts}
 use Rattle.otio_json.specs.Timelines.{rate_counted, in_day, start_if, start_read, untrimmed, tracks_read, opened, sequence_read, timeline_read, json_read, tree_read, document_read}
 use Rattle.otio_again.specs.CutTrees.{list_tree, time_tree, stack_of_tracks, timeline_of, track_trees}
-use Rattle.otio_again.specs.Meanings.{text_of_cut, tree_of_cut, WrittenIsReadAgain}
+use Rattle.otio_again.specs.Meanings.{text_of_cut, tree_of_cut, LineIsReadAgain, OpensAs, WrittenIsReadAgain}
 use Rattle.otio_again.specs.SameCut.{SameCut}
 use Rattle.otio_again.proofs.CutTexts.{timeline_spelled}
 use Rattle.otio_again.proofs.CutLawful.{cut_lawful}
@@ -118,29 +119,44 @@ timeline_back o sound some at =
       record { kinds = sym b.kinds; counting = refl; start = refl; tracks = b.same },
     )
 
--- the text spells the tree, with its places
-text_spelled : (t : Tree) → is_writable t 64 ≡ true → IsSound t → Spells 64 (tree_text t) (placed 0 t)
+-- the text, with blanks behind it, spells the tree, with its places
+text_spelled : (t : Tree) (behind : List ℕ) → AreBlanks behind → is_writable t 64 ≡ true → IsSound t → Spells 64 (tree_text t ++ behind) (placed 0 t)
 unfolding Spells
-text_spelled t w s = record {
+text_spelled t behind blanks w s = record {
   before = [];
   text = tree_text t;
-  behind = [];
-  bytes_are = sym (append-nil (tree_text t));
+  behind = behind;
+  bytes_are = refl;
   blanks_before = tt;
-  blanks_behind = tt;
+  blanks_behind = blanks;
   value = tree_spelled t 64 0 w s;
 }
 
-tree_back : (o : Opening) → IsSoundCut o → AreTexts o.table.reels → length (text_of_cut o) ≤ 33554432 → tree_read (text_of_cut o) ≡ Ok (placed 0 (tree_of_cut o))
+tree_back : (o : Opening) (behind : List ℕ) → AreBlanks behind → IsSoundCut o → AreTexts o.table.reels → length (text_of_cut o ++ behind) ≤ 33554432
+    → tree_read (text_of_cut o ++ behind) ≡ Ok (placed 0 (tree_of_cut o))
 unfolding tree_read
-tree_back o sound texts fits =
+tree_back o behind blanks sound texts fits =
     let small : o.start < 10 ^ 18 = omega (arith, start_small o sound) in
     let lawful = cut_lawful o sound texts small in
-    let spelled = subst (λ (bytes : List ℕ). Spells 64 bytes (placed 0 (tree_of_cut o))) (timeline_spelled o sound small) (text_spelled (tree_of_cut o) lawful.writable lawful.sound) in
-    ap json_read (document_again (text_of_cut o) (placed 0 (tree_of_cut o)) fits spelled)
+    let spelled =
+        subst (λ (bytes : List ℕ). Spells 64 (bytes ++ behind) (placed 0 (tree_of_cut o))) (timeline_spelled o sound small) (text_spelled (tree_of_cut o) behind blanks lawful.writable lawful.sound)
+    in
+    ap json_read (document_again (text_of_cut o ++ behind) (placed 0 (tree_of_cut o)) fits spelled)
+
+-- what is written is read again with blanks behind it
+read_before : (o : Opening) (behind : List ℕ) → AreBlanks behind → IsSoundCut o → AreTexts o.table.reels → 0 < length o.tracks
+    → length (text_of_cut o ++ behind) ≤ 33554432 → OpensAs o (text_of_cut o ++ behind)
+unfolding document_read
+read_before o behind blanks sound texts some fits =
+    let b = timeline_back o sound some 0 in
+    (b.0, goes (tree_read (text_of_cut o ++ behind)) _ (placed 0 (tree_of_cut o)) _ (tree_back o behind blanks sound texts fits) b.1, b.2)
 
 pub written_is_read_again : WrittenIsReadAgain
-unfolding document_read
-written_is_read_again o sound texts some fits =
-    let b = timeline_back o sound some 0 in
-    (b.0, goes (tree_read (text_of_cut o)) _ (placed 0 (tree_of_cut o)) _ (tree_back o sound texts fits) b.1, b.2)
+written_is_read_again o sound texts some =
+    subst (λ (bytes : List ℕ). length bytes ≤ 33554432 → OpensAs o bytes) (append-nil (text_of_cut o)) (read_before o [] tt sound texts some)
+
+line_feed : AreBlanks (codes "\n")
+line_feed = (inr (inr (inl refl)), tt)
+
+pub line_is_read_again : LineIsReadAgain
+line_is_read_again o sound texts some fits = read_before o (codes "\n") line_feed sound texts some fits

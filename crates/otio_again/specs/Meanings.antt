@@ -1,5 +1,5 @@
 -- What is true of every cut and its text.
-use Rattle.std.specs.Prelude.{◌≡◌, ◌<◌, ◌≤◌, ℕ, List, length, Ok}
+use Rattle.std.specs.Prelude.{◌≡◌, ◌<◌, ◌≤◌, ℕ, List, ◌++◌, length, Ok, codes}
 use Rattle.json_tree.specs.Tree.{Tree}
 use Rattle.json_tree.specs.Sound.{SpellsAgain}
 use Rattle.otio_tracks.specs.ReelTexts.{AreTexts}
@@ -21,11 +21,23 @@ tree_of_cut o = timeline_tree o.table o.tracks o.counting o.start
 abbrev pub WrittenIsSpelled : Type 0
 WrittenIsSpelled = (o : Opening) → IsSoundCut o → AreTexts o.table.reels → SpellsAgain 64 (text_of_cut o) (tree_of_cut o)
 
+-- a text is opened at the counting of a cut as the same cut
+abbrev pub OpensAs : Opening → List ℕ → Type 0
+OpensAs o bytes = (p : Opening) × (document_read o.counting bytes ≡ Ok p) × SameCut o p
+
 -- the text of a cut with a track, if it has at most 32 MiB, is opened at the same counting as the same cut
 abbrev pub IsReadAgain : Opening → Type 0
-IsReadAgain o = 0 < length o.tracks → length (text_of_cut o) ≤ 33554432
-    → (p : Opening) × (document_read o.counting (text_of_cut o) ≡ Ok p) × SameCut o p
+IsReadAgain o = 0 < length o.tracks → length (text_of_cut o) ≤ 33554432 → OpensAs o (text_of_cut o)
 
 -- The text of each sound cut is.
 abbrev pub WrittenIsReadAgain : Type 0
 WrittenIsReadAgain = (o : Opening) → IsSoundCut o → AreTexts o.table.reels → IsReadAgain o
+
+-- the text of the cut as a file has it: a line
+abbrev pub line_of_cut : Opening → List ℕ
+line_of_cut o = text_of_cut o ++ codes "\n"
+
+-- and so is its line, if that has at most 32 MiB
+abbrev pub LineIsReadAgain : Type 0
+LineIsReadAgain =
+    (o : Opening) → IsSoundCut o → AreTexts o.table.reels → 0 < length o.tracks → length (line_of_cut o) ≤ 33554432 → OpensAs o (line_of_cut o)

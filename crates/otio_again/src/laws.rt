@@ -1,5 +1,5 @@
 // What is true of every cut and its text.
-ghost use Rattle.otio_again.specs.Meanings.{WrittenIsReadAgain, WrittenIsSpelled};
+ghost use Rattle.otio_again.specs.Meanings.{LineIsReadAgain, WrittenIsReadAgain, WrittenIsSpelled};
 ghost use Rattle.otio_again.specs.Points.{PointsAreReadAgain, PointsAreSoundCuts};
 ghost use Rattle.otio_again.specs.SoundCuts.{OpeningsAreSoundCuts};
 
@@ -14,6 +14,11 @@ pub fn what_is_written_is_spelled()
 /// are compared by what they are, items by the order in which they come, and links are left out.
 pub fn a_written_cut_is_read_again()
     ensures { WrittenIsReadAgain }
+{}
+
+/// So is its line, as a file has it: what is written, and a line feed behind it, if the two have at most 32 MiB.
+pub fn a_written_line_is_read_again()
+    ensures { LineIsReadAgain }
 {}
 
 /// What a document describes, and what a plain room begins with, is a sound cut. A sound cut may besides have links, and

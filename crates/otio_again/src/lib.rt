@@ -9,5 +9,5 @@ mod laws;
 
 pub use laws::{
     a_cut_at_any_point_is_read_again, a_sound_opening_is_a_sound_cut, a_written_cut_is_read_again,
-    what_is_written_is_spelled,
+    a_written_line_is_read_again, what_is_written_is_spelled,
 };
