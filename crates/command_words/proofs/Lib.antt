@@ -1,2 +1,4 @@
 pub mod Rates
 pub mod Asking
+pub mod NameRows
+pub mod LastEqual

@@ -4,8 +4,8 @@
 -- `serve` DOC RATE DROP STATIONS ADDRESS JOURNAL asks for STATIONS of them, from 1 to 16, in such a room, over a hall at
 -- ADDRESS, and for the journal in the file JOURNAL. `list` DOC RATE DROP JOURNAL POINT asks for the edit decision list of the
 -- cut after POINT entries of the journal in the file JOURNAL, whose room the document describes; a last word `numbered` says
--- how its reels are to be named. `tape` LIST RATE asks for the tape of the list in the file LIST. `import` LIST RATE DROP asks
--- for the document of the list in the file LIST.
+-- how its reels are to be named, and so do a word `names` and one or more TEXT=NAME behind it. `tape` LIST RATE asks for the
+-- tape of the list in the file LIST. `import` LIST RATE DROP asks for the document of the list in the file LIST.
 use Rattle.std.specs.Prelude.{ℕ, ◌≤◌, Bool, true, false, ◌&&◌, ◌||◌, ◌==◌, List, [], ◌∷◌, Option, Some, None, Result, Ok, Err, option_and_then, is_some, is_none, slice_get, slice_index_or, length, nat_le, codes, bytes_eq, if◌then◌else◌}
 use Rattle.line_words.specs.Digits.{number_of}
 use Rattle.line_words.specs.declared.numbers.NumberFault.{NumberFault}
@@ -14,6 +14,7 @@ use Rattle.otio_tracks.specs.Times.{rate_meant}
 use Rattle.timecode12.specs.Numbers.{Counted, sequence_rate}
 use Rattle.timecode12.specs.declared.rate.SequenceRate.{SequenceRate}
 use Rattle.timecode12.specs.declared.rate.SequenceRate.TheVariants.{F23976, F24, F25, F2997, F30}
+use Rattle.command_words.specs.Names.{first_fault}
 use Rattle.command_words.specs.declared.command.Command.{Command}
 use Rattle.command_words.specs.declared.command.Command.TheVariants as command
 
@@ -163,7 +164,8 @@ list_of (a ∷ b ∷ c ∷ d ∷ []) = None
 list_of (document ∷ rate ∷ drop ∷ journal ∷ point ∷ []) = cut_of document rate drop journal point
 list_of (document ∷ rate ∷ drop ∷ journal ∷ point ∷ last ∷ []) =
     if bytes_eq last (codes "numbered") then cut_of document rate drop journal point else None
-list_of (a ∷ b ∷ c ∷ d ∷ e ∷ f ∷ g ∷ words) = None
+list_of (document ∷ rate ∷ drop ∷ journal ∷ point ∷ word ∷ row ∷ rows) =
+    if bytes_eq word (codes "names") && is_none (first_fault [] (row ∷ rows)) then cut_of document rate drop journal point else None
 
 abbrev pub tape_of : List (List ℕ) → Option Asked
 tape_of [] = None
@@ -203,7 +205,7 @@ abbrev pub is_over_file : List (List ℕ) → Bool
 is_over_file words =
     (is_word (slice_get words 0) (codes "run") && length words == 4)
     || ((is_word (slice_get words 0) (codes "serve") && length words == 7)
-    || ((is_word (slice_get words 0) (codes "list") && (length words == 6 || length words == 7))
+    || ((is_word (slice_get words 0) (codes "list") && nat_le 6 (length words))
     || ((is_word (slice_get words 0) (codes "tape") && length words == 3)
     || (is_word (slice_get words 0) (codes "import") && length words == 4))))
 

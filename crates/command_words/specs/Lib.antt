@@ -1,2 +1,4 @@
 -- To be read: public clauses speak of these.
 pub mod Commands
+pub mod Names
+pub mod NamedLists

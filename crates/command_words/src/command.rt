@@ -5,6 +5,7 @@ ghost use Rattle.ratio_time.specs.Rates.{rate_value};
 ghost use Rattle.command_words.specs.Commands.{command_of, run_of, serve_of, list_of, tape_of, import_of, plain_of, document_of, hall_of, cut_of};
 ghost use Rattle.command_words.specs.Commands.{counting_of, rate_of_word, sequence_of, number_within, asked_by, HasBounds, is_over_file, is_other_rate, asks_for_another_rate, is_word, wants_numbers, word_at};
 
+use crate::names::has_rows;
 use json_tree::numeral;
 use line_words::{Words, number};
 use ratio_time::{Numeral, rate_of};
@@ -224,6 +225,9 @@ fn list_in(words: &Words) -> Option<Command<'_>>
     ensures command { option_map asked_by result ≡ list_of (drop 1 words.now) }
     ensures bound { IfSome result HasBounds }
 {
+    if words.count() > 7 {
+        return named_cut_in(words);
+    }
     match words.count() {
         6 => cut_in(words),
         7 => match words.word(6) {
@@ -232,6 +236,18 @@ fn list_in(words: &Words) -> Option<Command<'_>>
         },
         _ => None,
     }
+}
+
+// The list of a cut that the words after `list` ask for, where they give its reels their names.
+fn named_cut_in(words: &Words) -> Option<Command<'_>>
+    requires { 7 < length words.now }
+    ensures command { option_map asked_by result ≡ list_of (drop 1 words.now) }
+    ensures bound { IfSome result HasBounds }
+{
+    if !has_rows(words) {
+        return None;
+    }
+    cut_in(words)
 }
 
 // What the words after `tape` ask for.
@@ -293,7 +309,7 @@ fn is_over_file(words: &Words) -> bool
     match words.word(0) {
         "run" => count == 4,
         "serve" => count == 7,
-        "list" => count == 6 || count == 7,
+        "list" => count >= 6,
         "tape" => count == 3,
         "import" => count == 4,
         _ => false,

@@ -4,5 +4,9 @@
 #![tactic(auto)]
 
 mod command;
+mod names;
+mod tables;
 
 pub use command::{Command, asks_for_another_rate, command_in, wants_numbers};
+pub use names::RowFault;
+pub use tables::{refused_row, tabled_of};
