@@ -3,7 +3,7 @@ use Rattle.std.proofs.Common.{◌≡◌, ℕ, zero, suc, Bool, true, false, if�
 use Rattle.std.specs.Prelude.{codes, bytes_eq}
 use Rattle.std.proofs.lemmas.Option.{none-some, same_Some}
 use Rattle.std.proofs.lemmas.Slice.Eq.{bytes_eq-Decides}
-use Rattle.command_words.specs.Commands.{Asked, command_of, run_of, serve_of, list_of, tape_of, import_of, hall_of, cut_of, word_at}
+use Rattle.command_words.specs.Commands.{Asked, command_of, run_of, serve_of, list_of, tape_of, import_of, make_of, hall_of, cut_of, word_at}
 
 -- six words behind the first
 six_behind : (ws : List (List ℕ)) (b c d e f g : List ℕ) → length ws ≡ 7 → slice_get ws 1 ≡ Some b → slice_get ws 2 ≡ Some c → slice_get ws 3 ≡ Some d
@@ -56,25 +56,27 @@ at_last (a ∷ b ∷ c ∷ d ∷ e' ∷ f ∷ w ∷ x ∷ ws) last is n g e = ab
 pub other_words : (ws : List (List ℕ)) (last : List ℕ) → length ws ≡ 7 → slice_get ws 6 ≡ Some last → (last ≡ codes "numbered" → ⊥) → None ≡ list_of (drop 1 ws)
 other_words ws last n g e = at_last ws last false n g (unlike last (codes "numbered") e)
 
--- words whose first is none of these five ask for nothing
-none_at : (run serve list tape import : Bool) (ws : List (List ℕ)) → run ≡ false → serve ≡ false → list ≡ false → tape ≡ false → import ≡ false
+-- words whose first is none of these six ask for nothing
+none_at : (run serve list tape import make : Bool) (ws : List (List ℕ)) → run ≡ false → serve ≡ false → list ≡ false → tape ≡ false → import ≡ false → make ≡ false
     → ◌≡◌ {A = Option Asked} None
-    (if run then run_of ws else if serve then serve_of ws else if list then list_of ws else if tape then tape_of ws else if import then import_of ws else None)
-none_at true serve list tape import ws r s l t i = absurd (Prim.grind (arith, r))
-none_at false true list tape import ws r s l t i = absurd (Prim.grind (arith, s))
-none_at false false true tape import ws r s l t i = absurd (Prim.grind (arith, l))
-none_at false false false true import ws r s l t i = absurd (Prim.grind (arith, t))
-none_at false false false false true ws r s l t i = absurd (Prim.grind (arith, i))
-none_at false false false false false ws r s l t i = refl
+    (if run then run_of ws else if serve then serve_of ws else if list then list_of ws else if tape then tape_of ws else if import then import_of ws else if make then make_of ws else None)
+none_at true serve list tape import make ws r s l t i m = absurd (Prim.grind (arith, r))
+none_at false true list tape import make ws r s l t i m = absurd (Prim.grind (arith, s))
+none_at false false true tape import make ws r s l t i m = absurd (Prim.grind (arith, l))
+none_at false false false true import make ws r s l t i m = absurd (Prim.grind (arith, t))
+none_at false false false false true make ws r s l t i m = absurd (Prim.grind (arith, i))
+none_at false false false false false true ws r s l t i m = absurd (Prim.grind (arith, m))
+none_at false false false false false false ws r s l t i m = refl
 
 pub none_of_these : (ws : List (List ℕ)) (first : List ℕ) → slice_get ws 0 ≡ Some first → (first ≡ codes "run" → ⊥) → (first ≡ codes "serve" → ⊥)
-    → (first ≡ codes "list" → ⊥) → (first ≡ codes "tape" → ⊥) → (first ≡ codes "import" → ⊥) → None ≡ command_of ws
-none_of_these [] first is r s l t i = absurd (none-some first is)
-none_of_these (a ∷ ws) first is r s l t i =
+    → (first ≡ codes "list" → ⊥) → (first ≡ codes "tape" → ⊥) → (first ≡ codes "import" → ⊥) → (first ≡ codes "make" → ⊥) → None ≡ command_of ws
+none_of_these [] first is r s l t i m = absurd (none-some first is)
+none_of_these (a ∷ ws) first is r s l t i m =
     let same : a ≡ first = same_Some a first is in
-    none_at (bytes_eq a (codes "run")) (bytes_eq a (codes "serve")) (bytes_eq a (codes "list")) (bytes_eq a (codes "tape")) (bytes_eq a (codes "import")) ws
+    none_at (bytes_eq a (codes "run")) (bytes_eq a (codes "serve")) (bytes_eq a (codes "list")) (bytes_eq a (codes "tape")) (bytes_eq a (codes "import")) (bytes_eq a (codes "make")) ws
     (ap (λ (w : List ℕ). bytes_eq w (codes "run")) same ∙ unlike first (codes "run") r)
     (ap (λ (w : List ℕ). bytes_eq w (codes "serve")) same ∙ unlike first (codes "serve") s)
     (ap (λ (w : List ℕ). bytes_eq w (codes "list")) same ∙ unlike first (codes "list") l)
     (ap (λ (w : List ℕ). bytes_eq w (codes "tape")) same ∙ unlike first (codes "tape") t)
     (ap (λ (w : List ℕ). bytes_eq w (codes "import")) same ∙ unlike first (codes "import") i)
+    (ap (λ (w : List ℕ). bytes_eq w (codes "make")) same ∙ unlike first (codes "make") m)

@@ -6,6 +6,8 @@
 -- cut after POINT entries of the journal in the file JOURNAL, whose room the document describes; a last word `numbered` says
 -- how its reels are to be named, and so do a word `names` and one or more TEXT=NAME behind it. `tape` LIST RATE asks for the
 -- tape of the list in the file LIST. `import` LIST RATE DROP asks for the document of the list in the file LIST.
+-- `make` NUMBER COUNT asks for the generated session of the number NUMBER, of which each station sends COUNT lines, from 1
+-- to 20,000.
 use Rattle.std.specs.Prelude.{ℕ, ◌≤◌, Bool, true, false, ◌&&◌, ◌||◌, ◌==◌, List, [], ◌∷◌, Option, Some, None, Result, Ok, Err, option_and_then, is_some, is_none, slice_get, slice_index_or, length, nat_le, codes, bytes_eq, if◌then◌else◌}
 use Rattle.line_words.specs.Digits.{number_of}
 use Rattle.line_words.specs.declared.numbers.NumberFault.{NumberFault}
@@ -31,6 +33,8 @@ pub data Asked : Type 0 where
   PlayList : List ℕ → SequenceRate → Asked
   -- the document of the list in a file, whose frames are counted so
   Import : List ℕ → Counted → Asked
+  -- the summary of the generated session of a number, in which each station sends so many lines
+  Make : ℕ → ℕ → Asked
 
 -- ---- a plain room
 
@@ -136,6 +140,23 @@ abbrev pub imported_so : List ℕ → Option Counted → Option Asked
 imported_so name None = None
 imported_so name (Some counting) = Some (Import name counting)
 
+-- ---- a generated session
+
+-- the least and the most lines that a station of it sends
+abbrev pub least_lines : ℕ
+least_lines = 1
+
+abbrev pub most_lines : ℕ
+most_lines = 20000
+
+abbrev pub made_so : Result ℕ NumberFault → Option ℕ → Option Asked
+made_so (Err fault) count = None
+made_so (Ok number) None = None
+made_so (Ok number) (Some count) = Some (Make number count)
+
+abbrev pub session_of : List ℕ → List ℕ → Option Asked
+session_of number count = made_so (number_of number) (number_within count least_lines most_lines)
+
 -- ---- the table
 
 abbrev pub run_of : List (List ℕ) → Option Asked
@@ -180,6 +201,12 @@ import_of (a ∷ b ∷ []) = None
 import_of (name ∷ rate ∷ drop ∷ []) = imported_so name (counting_of rate drop)
 import_of (a ∷ b ∷ c ∷ d ∷ words) = None
 
+abbrev pub make_of : List (List ℕ) → Option Asked
+make_of [] = None
+make_of (a ∷ []) = None
+make_of (number ∷ count ∷ []) = session_of number count
+make_of (a ∷ b ∷ c ∷ words) = None
+
 -- what words that begin so ask for
 abbrev pub asked_of : List ℕ → List (List ℕ) → Option Asked
 asked_of first words =
@@ -187,7 +214,8 @@ asked_of first words =
     if bytes_eq first (codes "serve") then serve_of words else
     if bytes_eq first (codes "list") then list_of words else
     if bytes_eq first (codes "tape") then tape_of words else
-    if bytes_eq first (codes "import") then import_of words else None
+    if bytes_eq first (codes "import") then import_of words else
+    if bytes_eq first (codes "make") then make_of words else None
 
 -- what these words ask for
 abbrev pub command_of : List (List ℕ) → Option Asked
@@ -228,6 +256,7 @@ asks_for_list (Some (Serve document counting stations address journal)) = false
 asks_for_list (Some (ListCut document counting journal point)) = true
 asks_for_list (Some (PlayList name rate)) = false
 asks_for_list (Some (Import name counting)) = false
+asks_for_list (Some (Make number count)) = false
 
 -- a list is asked for, and the last word says that its reels are to be numbered
 abbrev pub wants_numbers : List (List ℕ) → Bool
@@ -246,8 +275,9 @@ asked_by (command.Serve document counting stations address journal) = Serve docu
 asked_by (command.ListCut document counting journal point) = ListCut document.now counting journal.now point
 asked_by (command.PlayList name rate) = PlayList name.now rate
 asked_by (command.Import name counting) = Import name.now counting
+asked_by (command.Make number count) = Make number count
 
--- so many tracks and reels as a plain room may have, and so many stations as a hall
+-- so many tracks and reels as a plain room may have, so many stations as a hall, and so many lines as a generated session
 abbrev pub HasBounds : Command → Type 0
 HasBounds (command.Run tracks reels) = (least_tracks ≤ tracks) × (tracks ≤ most_tracks) × (reels ≤ most_reels)
 HasBounds (command.RunDocument document counting) = Unit {0}
@@ -255,3 +285,4 @@ HasBounds (command.Serve document counting stations address journal) = (least_st
 HasBounds (command.ListCut document counting journal point) = Unit {0}
 HasBounds (command.PlayList name rate) = Unit {0}
 HasBounds (command.Import name counting) = Unit {0}
+HasBounds (command.Make number count) = (least_lines ≤ count) × (count ≤ most_lines)

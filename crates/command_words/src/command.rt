@@ -2,7 +2,7 @@
 ghost use Rattle.std.specs.Prelude.{◌≡◌, ◌<◌, IfSome, Some, drop, is_some, codes, length, option_and_then, option_map, slice_get};
 ghost use Rattle.json_tokens.specs.ReadingNumerals.{numeral_in};
 ghost use Rattle.ratio_time.specs.Rates.{rate_value};
-ghost use Rattle.command_words.specs.Commands.{command_of, run_of, serve_of, list_of, tape_of, import_of, plain_of, document_of, hall_of, cut_of};
+ghost use Rattle.command_words.specs.Commands.{command_of, run_of, serve_of, list_of, tape_of, import_of, make_of, plain_of, document_of, hall_of, cut_of, session_of};
 ghost use Rattle.command_words.specs.Commands.{counting_of, rate_of_word, sequence_of, number_within, asked_by, HasBounds, is_over_file, is_other_rate, asks_for_another_rate, is_word, wants_numbers, word_at};
 
 use crate::names::has_rows;
@@ -22,6 +22,11 @@ const MOST_REELS: u32 = 999;
 const LEAST_STATIONS: u32 = 1;
 
 const MOST_STATIONS: u32 = 16;
+
+/// The least and the most lines that a station of a generated session sends.
+const LEAST_LINES: u32 = 1;
+
+const MOST_LINES: u32 = 20_000;
 
 /// What the program is asked for.
 #[derive(Clone, Copy)]
@@ -60,6 +65,11 @@ pub enum Command<'a> {
     Import {
         name: &'a str,
         counting: Counting,
+    },
+    /// The summary of the generated session of a number, in which each station sends so many lines.
+    Make {
+        number: u32,
+        count: u32,
     },
 }
 
@@ -280,6 +290,30 @@ fn import_in(words: &Words) -> Option<Command<'_>>
     })
 }
 
+fn session<'a>(number_word: &str, count: &str) -> Option<Command<'a>>
+    ensures command { option_map asked_by result ≡ session_of number_word.now count.now }
+    ensures bound { IfSome result HasBounds }
+{
+    match number(number_word.as_bytes()) {
+        Ok(number) => {
+            let count = number_within(count, LEAST_LINES, MOST_LINES)?;
+            Some(Command::Make { number, count })
+        }
+        Err(_) => None,
+    }
+}
+
+// What the words after `make` ask for.
+fn make_in(words: &Words) -> Option<Command<'_>>
+    ensures command { option_map asked_by result ≡ make_of (drop 1 words.now) }
+    ensures bound { IfSome result HasBounds }
+{
+    if words.count() != 3 {
+        return None;
+    }
+    session(words.word(1), words.word(2))
+}
+
 /// The command that the words are, or `None` where they are none.
 pub fn command_in(words: &Words) -> Option<Command<'_>>
     ensures command { option_map asked_by result ≡ command_of words.now }
@@ -294,6 +328,7 @@ pub fn command_in(words: &Words) -> Option<Command<'_>>
         "list" => list_in(words),
         "tape" => tape_in(words),
         "import" => import_in(words),
+        "make" => make_in(words),
         _ => None,
     }
 }
