@@ -4,3 +4,5 @@ pub mod Gathering
 pub mod Passes
 pub mod Putting
 pub mod Cuts
+pub mod Replaying
+pub mod Stations

@@ -20,7 +20,7 @@ use Rattle.track_locks.proofs.Stands.{one_at}
 use Rattle.cut_room.specs.Gathered.{ComesTo}
 use Rattle.cut_room.specs.Rooms.{told, Stays, IsAtPoint, IsCommitted, IsTurnedDown, FindsNoRoom, IsSight}
 
-one_opening : {A : Type 0} (o : Option A) (a b : A) → o ≡ Some a → o ≡ Some b → a ≡ b
+pub one_opening : {A : Type 0} (o : Option A) (a b : A) → o ≡ Some a → o ≡ Some b → a ≡ b
 one_opening o a b x y = let e : Some a ≡ Some b = sym x ∙ y in Prim.grind (arith, e)
 
 pub comes_to : {A : Type 0} (o : Option A) → IsSome o → (a : A) × (o ≡ Some a)

@@ -7,6 +7,7 @@
 
 mod answers;
 mod committing;
+mod keeping;
 mod room;
 
 pub use answers::{Answer, Sight};
