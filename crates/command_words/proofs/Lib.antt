@@ -2,3 +2,4 @@ pub mod Rates
 pub mod Asking
 pub mod NameRows
 pub mod LastEqual
+pub mod ListedRows

@@ -1,0 +1,111 @@
+-- Words that ask for a list whose seventh is `names`: the rows behind it are those of a table.
+use Rattle.std.proofs.Common.{◌≡◌, ℕ, Bool, true, false, ◌&&◌, if◌then◌else◌, List, [], ◌∷◌, drop, Option, Some, None, Result, Ok, Err, slice_get, refl, sym, ap, ◌∙◌, arith}
+use Rattle.std.specs.Prelude.{codes, bytes_eq, is_none}
+use Rattle.line_words.specs.declared.numbers.NumberFault.{NumberFault}
+use Rattle.timecode12.specs.Numbers.{Counted}
+use Rattle.timecode12.specs.declared.rate.SequenceRate.{SequenceRate}
+use Rattle.command_words.specs.declared.names.RowFault.{RowFault}
+use Rattle.command_words.specs.Commands.{Asked, asks_for_list, command_of, counted_so, counting_of, imported_so, import_of, is_word, list_of, made_so, make_of, number_within, least_lines, least_stations, least_tracks, most_lines, most_reels, most_stations, most_tracks, plain_asked, played_so, rate_of_word, run_of, serve_of, served_so, tape_of}
+use Rattle.command_words.specs.Names.{first_fault}
+use Rattle.line_words.specs.Digits.{number_of}
+
+not_true : false ≡ true → ⊥
+not_true h = Prim.grind (arith, h)
+
+plain_is_no_list : (tracks reels : Option ℕ) → asks_for_list (plain_asked tracks reels) ≡ true → ⊥
+plain_is_no_list None reels h = not_true h
+plain_is_no_list (Some tracks) None h = not_true h
+plain_is_no_list (Some tracks) (Some reels) h = not_true h
+
+counted_is_no_list : (document : List ℕ) (counting : Option Counted) → asks_for_list (counted_so document counting) ≡ true → ⊥
+counted_is_no_list document None h = not_true h
+counted_is_no_list document (Some counting) h = not_true h
+
+served_is_no_list : (document address journal : List ℕ) (counting : Option Counted) (stations : Option ℕ) → asks_for_list (served_so document address journal counting stations) ≡ true → ⊥
+served_is_no_list document address journal None stations h = not_true h
+served_is_no_list document address journal (Some counting) None h = not_true h
+served_is_no_list document address journal (Some counting) (Some stations) h = not_true h
+
+played_is_no_list : (name : List ℕ) (rate : Option SequenceRate) → asks_for_list (played_so name rate) ≡ true → ⊥
+played_is_no_list name None h = not_true h
+played_is_no_list name (Some rate) h = not_true h
+
+imported_is_no_list : (name : List ℕ) (counting : Option Counted) → asks_for_list (imported_so name counting) ≡ true → ⊥
+imported_is_no_list name None h = not_true h
+imported_is_no_list name (Some counting) h = not_true h
+
+made_is_no_list : (number : Result ℕ NumberFault) (count : Option ℕ) → asks_for_list (made_so number count) ≡ true → ⊥
+made_is_no_list (Err fault) count h = not_true h
+made_is_no_list (Ok number) None h = not_true h
+made_is_no_list (Ok number) (Some count) h = not_true h
+
+run_is_no_list : (ws : List (List ℕ)) → asks_for_list (run_of ws) ≡ true → ⊥
+run_is_no_list [] h = not_true h
+run_is_no_list (a ∷ []) h = not_true h
+run_is_no_list (a ∷ b ∷ []) h = plain_is_no_list (number_within a least_tracks most_tracks) (number_within b 0 most_reels) h
+run_is_no_list (a ∷ b ∷ c ∷ []) h = counted_is_no_list a (counting_of b c) h
+run_is_no_list (a ∷ b ∷ c ∷ d ∷ ws) h = not_true h
+
+serve_is_no_list : (ws : List (List ℕ)) → asks_for_list (serve_of ws) ≡ true → ⊥
+serve_is_no_list [] h = not_true h
+serve_is_no_list (a ∷ []) h = not_true h
+serve_is_no_list (a ∷ b ∷ []) h = not_true h
+serve_is_no_list (a ∷ b ∷ c ∷ []) h = not_true h
+serve_is_no_list (a ∷ b ∷ c ∷ d ∷ []) h = not_true h
+serve_is_no_list (a ∷ b ∷ c ∷ d ∷ e ∷ []) h = not_true h
+serve_is_no_list (a ∷ b ∷ c ∷ d ∷ e ∷ f ∷ []) h = served_is_no_list a e f (counting_of b c) (number_within d least_stations most_stations) h
+serve_is_no_list (a ∷ b ∷ c ∷ d ∷ e ∷ f ∷ g ∷ ws) h = not_true h
+
+tape_is_no_list : (ws : List (List ℕ)) → asks_for_list (tape_of ws) ≡ true → ⊥
+tape_is_no_list [] h = not_true h
+tape_is_no_list (a ∷ []) h = not_true h
+tape_is_no_list (a ∷ b ∷ []) h = played_is_no_list a (rate_of_word b) h
+tape_is_no_list (a ∷ b ∷ c ∷ ws) h = not_true h
+
+import_is_no_list : (ws : List (List ℕ)) → asks_for_list (import_of ws) ≡ true → ⊥
+import_is_no_list [] h = not_true h
+import_is_no_list (a ∷ []) h = not_true h
+import_is_no_list (a ∷ b ∷ []) h = not_true h
+import_is_no_list (a ∷ b ∷ c ∷ []) h = imported_is_no_list a (counting_of b c) h
+import_is_no_list (a ∷ b ∷ c ∷ d ∷ ws) h = not_true h
+
+make_is_no_list : (ws : List (List ℕ)) → asks_for_list (make_of ws) ≡ true → ⊥
+make_is_no_list [] h = not_true h
+make_is_no_list (a ∷ []) h = not_true h
+make_is_no_list (a ∷ b ∷ []) h = made_is_no_list (number_of a) (number_within b least_lines most_lines) h
+make_is_no_list (a ∷ b ∷ c ∷ ws) h = not_true h
+
+-- of the commands only `list` asks for a list
+begins_so : (run serve list tape import make : Bool) (ws : List (List ℕ))
+    → asks_for_list (if run then run_of ws else if serve then serve_of ws else if list then list_of ws else if tape then tape_of ws else if import then import_of ws else if make then make_of ws else None) ≡ true
+    → asks_for_list (list_of ws) ≡ true
+begins_so true serve list tape import make ws h = absurd (run_is_no_list ws h)
+begins_so false true list tape import make ws h = absurd (serve_is_no_list ws h)
+begins_so false false true tape import make ws h = h
+begins_so false false false true import make ws h = absurd (tape_is_no_list ws h)
+begins_so false false false false true make ws h = absurd (import_is_no_list ws h)
+begins_so false false false false false true ws h = absurd (make_is_no_list ws h)
+begins_so false false false false false false ws h = absurd (not_true h)
+
+sound_rows : (is : Bool) (fault : Option (List ℕ × RowFault)) (asked : Option Asked) → asks_for_list (if is && is_none fault then asked else None) ≡ true → fault ≡ None
+sound_rows true None asked h = refl
+sound_rows true (Some fault) asked h = absurd (not_true h)
+sound_rows false fault asked h = absurd (not_true h)
+
+rows_behind : (ws : List (List ℕ)) → asks_for_list (list_of ws) ≡ true → is_word (slice_get ws 5) (codes "names") ≡ true → first_fault [] (drop 6 ws) ≡ None
+rows_behind [] h names = absurd (not_true h)
+rows_behind (a ∷ []) h names = absurd (not_true h)
+rows_behind (a ∷ b ∷ []) h names = absurd (not_true h)
+rows_behind (a ∷ b ∷ c ∷ []) h names = absurd (not_true h)
+rows_behind (a ∷ b ∷ c ∷ d ∷ []) h names = absurd (not_true h)
+rows_behind (a ∷ b ∷ c ∷ d ∷ e ∷ []) h names = absurd (not_true names)
+rows_behind (a ∷ b ∷ c ∷ d ∷ e ∷ f ∷ []) h names = refl
+rows_behind (a ∷ b ∷ c ∷ d ∷ e ∷ f ∷ g ∷ ws) h names = sound_rows (bytes_eq f (codes "names")) (first_fault [] (g ∷ ws)) _ h
+
+-- so no row of such a list is at fault
+pub rows_of_list : (ws : List (List ℕ)) → asks_for_list (command_of ws) ≡ true → is_word (slice_get ws 6) (codes "names") ≡ true → first_fault [] (drop 7 ws) ≡ None
+rows_of_list [] h names = absurd (not_true h)
+rows_of_list (first ∷ ws) h names =
+    rows_behind ws
+    (begins_so (bytes_eq first (codes "run")) (bytes_eq first (codes "serve")) (bytes_eq first (codes "list")) (bytes_eq first (codes "tape")) (bytes_eq first (codes "import")) (bytes_eq first (codes "make")) ws h)
+    names
