@@ -10,3 +10,6 @@ pub mod ShotFrames
 pub mod NamedFrames
 pub mod TapeIs
 pub mod ShownImports
+pub mod OneOrder
+pub mod OneImport
+pub mod RefusedBy

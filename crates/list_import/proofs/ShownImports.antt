@@ -89,7 +89,7 @@ dark_before events c q low = dark_where events c q (λ i f there on begun past. 
 
 -- ---- the whole
 
-abbrev opening_with : List Event → Counted → List TrackState → Opening
+abbrev pub opening_with : List Event → Counted → List TrackState → Opening
 opening_with events counted ts = record { table = table_of events; tracks = ts; counting = counted; start = start_of events }
 
 tracks_shown : (events : List Event) (counted : Counted) (ts : List TrackState) → CanBeRead events → first_refused events ≡ None → AreTracksOf (start_of events) (shots_of events) ts → ShowsTheTape events (opening_with events counted ts)
@@ -109,7 +109,7 @@ tracks_shown events counted (v ∷ a ∷ a2 ∷ []) read none are = record {
     on A2 place = track_shown events 2 A2 a2 place read none are.2
 tracks_shown events counted (v ∷ a ∷ a2 ∷ x ∷ xs) read none are = absurd are
 
-opened : (events : List Event) (counted : Counted) (o : Opening) → Imports events counted o → o ≡ opening_with events counted o.tracks
+pub opened : (events : List Event) (counted : Counted) (o : Opening) → Imports events counted o → o ≡ opening_with events counted o.tracks
 opened events counted o is =
     ap (λ (t : Table). record { table = t; tracks = o.tracks; counting = o.counting; start = o.start }) is.table
     ∙ (ap (λ (c : Counted). record { table = table_of events; tracks = o.tracks; counting = c; start = o.start }) is.counting

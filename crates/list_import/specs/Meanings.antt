@@ -20,3 +20,9 @@ abbrev pub ImportsShowTheirTape : Type 0
 ImportsShowTheirTape =
     (events : List Event) (counted : Counted) (o : Opening)
     → CanBeRead events → first_refused events ≡ None → Imports events counted o → ShowsTheTape events o
+
+-- and there is one only
+abbrev pub ImportsAreOne : Type 0
+ImportsAreOne =
+    (events : List Event) (counted : Counted) (o p : Opening)
+    → CanBeRead events → first_refused events ≡ None → Imports events counted o → Imports events counted p → o ≡ p
