@@ -1,6 +1,6 @@
 """Decision lists, written, read and played as docs/LISTS.md says, over the room of plain lists.
 
-usage: python3 tools/plain/edl.py list DOC RATE DROP JOURNAL POINT [numbered]
+usage: python3 tools/plain/edl.py list DOC RATE DROP JOURNAL POINT [numbered | names TEXT=NAME ..]
        python3 tools/plain/edl.py tape LIST RATE
 
 With words it is a plain program for these two commands: it puts on output what `cutroom` does, and has its status."""
@@ -54,6 +54,11 @@ def label(count, frame):
 # ------------------------------------------------------------------------------------------------------------- written
 
 
+def fits(name):
+    """Whether a list that is written can have this name."""
+    return re.fullmatch("[A-Z0-9_]{1,8}", name) and name != "BL"
+
+
 class Namer:
     """The names given so far, by the number of the reel."""
 
@@ -63,7 +68,7 @@ class Namer:
     def name(self, reel, text):
         if reel not in self.names:
             name = self.new(text)
-            if not re.fullmatch("[A-Z0-9_]{1,8}", name) or name == "BL" or name in self.names.values():
+            if not fits(name) or name in self.names.values():
                 raise Refused(f"L4 {reel}")
             self.names[reel] = name
         return self.names[reel]
@@ -78,6 +83,36 @@ class Numbered(Namer):
     def new(self, text):
         count = len(self.names) + 1
         return f"R{count:03}" if count <= MOST_NUMBERED else ""
+
+
+class Tabled(Namer):
+    """Names out of a table, by the texts of reels."""
+
+    def __init__(self, table):
+        super().__init__()
+        self.table = table
+
+    def new(self, text):
+        return self.table.get(text, "")
+
+
+def table_in(words):
+    """The table that words TEXT=NAME give, or none where one of them can't."""
+    table = {}
+    for word in words:
+        text, _, name = word.rpartition("=")
+        if not text or not fits(name) or text in table or name in table.values():
+            return None
+        table[text] = name
+    return table
+
+
+def namer_in(words):
+    """The namer that the words behind POINT ask for, or none."""
+    if words[:1] == ["names"] and len(words) > 1:
+        table = table_in(words[1:])
+        return table and Tabled(table)
+    return {(): AsIs, ("numbered",): Numbered}.get(tuple(words), lambda: None)()
 
 
 def lines_of(events, start):
@@ -337,11 +372,11 @@ def answer(words):
     """What the program has to put on output for its words, and its status."""
     if len(words) == 3 and words[0] == "tape" and rate_in(words[2]):
         return tape_answer(pathlib.Path(words[1]).read_bytes(), rate_in(words[2]))
-    if len(words) in (6, 7) and words[0] == "list" and words[6:] in ([], ["numbered"]):
+    if len(words) >= 6 and words[0] == "list" and namer_in(words[6:]):
         _, document, rate, drop, journal, point = words[:6]
         rate, point = rate_in(rate), number_in(point)
         if rate and point is not None and (drop == "ndf" or drop == "drop" and rate == "29.97"):
-            journal, namer = pathlib.Path(journal), Numbered() if words[6:] else AsIs()
+            journal, namer = pathlib.Path(journal), namer_in(words[6:])
             document = pathlib.Path(document).read_bytes()
             return list_answer(document, rate, drop == "drop", journal.read_bytes, point, namer)
     return "refused words\n", 3

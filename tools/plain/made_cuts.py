@@ -23,6 +23,18 @@ def length(part):
     return sum(map(length, part.get("children", [])))
 
 
+def rows(r):
+    """Words of a table of names, for most texts of reels; one in five tables has a row that it may not have."""
+    texts = [text for text in NAMES + UNFIT if text and "\n" not in text]
+    names = r.sample([*NAMES, *"C D E F G H I J".split()], len(texts))
+    words = [f"{text}={name}" for text, name in zip(texts, names) if r.random() < 0.95]
+    if r.random() < 0.2:
+        text, name = r.choice(texts), r.choice(names)
+        spoiled = [f"{text}={name}", text, f"={name}", f"{text}={r.choice(UNFIT[1:])}", f"{text}==Z1", ""]
+        words.insert(r.randint(0, len(words)), r.choice(spoiled).replace("\n", ""))
+    return words
+
+
 class Maker:
     """Makes a document at a rate. `late` is a frame that its sources begin near."""
 

@@ -1,8 +1,8 @@
 -- How the program ends: by a notice, or as its words ask.
-use Rattle.std.specs.Prelude.{◌≡◌, ℕ, Bool, true, false, ◌⊎◌, List, [], ◌∷◌, Option, Some, None, codes, bytes_eq, ◌==◌, if◌then◌else◌}
+use Rattle.std.specs.Prelude.{◌≡◌, ℕ, ◌⊎◌, List, [], ◌∷◌, Option, Some, None, codes, bytes_eq, if◌then◌else◌}
 use Rattle.room_ports.specs.Bytes.{Takes, TakesFront}
 use Rattle.room_ports.specs.Counts.{HasRisen}
-use Rattle.command_words.specs.Commands.{asks_for_another_rate, command_of}
+use Rattle.command_words.specs.Commands.{command_of}
 use Rattle.room_files.specs.Files.{FilesTold}
 use Rattle.room_halls.specs.Stations.{HallTold}
 use Rattle.command_ends.specs.Ports.{Change, InputTold, OutputTold}
@@ -42,15 +42,3 @@ module _ (files : Change FilesTold) (input : Change InputTold) (output : Change 
 
   abbrev pub IsUnhindered : List (List ℕ) → Type 0
   IsUnhindered words = IsUnhinderedBy (notice_of words) words
-
--- a number as RATE that is the rate of no sequence
-abbrev pub rate_complaint : Bool → List ℕ
-rate_complaint true = codes "cutroom: RATE is one of 23.976, 24, 25, 29.97 and 30\n"
-rate_complaint false = []
-
--- what standard error is told of these words at a status, nothing where the status or the object that failed says enough
-abbrev pub complaint_of : List (List ℕ) → ℕ → List ℕ
-complaint_of words status =
-    if status == 3 then rate_complaint (asks_for_another_rate words)
-    else (if status == 5 then codes "cutroom: the address could not be opened, or a station not seated\n"
-    else (if status == 7 then codes "cutroom: the input, or a line, has more than 64 MiB\n" else []))

@@ -2,10 +2,10 @@
 ghost use Rattle.std.specs.Prelude.{◌≡◌, ◌⊎◌};
 ghost use Rattle.command_ends.specs.Ports.{change, input_told, output_told};
 ghost use Rattle.list_commands.specs.Cuts.{namer_told};
-ghost use Rattle.cutroom.specs.Answers.{IsUnhindered, ProgramEnds, complaint_of, rate_complaint};
+ghost use Rattle.cutroom.specs.Answers.{IsUnhindered, ProgramEnds};
 
 use crate::notice::Notice;
-use cut_server::{asks_for_another_rate, cut_main};
+use cut_server::cut_main;
 use line_words::Words;
 use reel_names::ReelNamer;
 use room_files::Files;
@@ -42,27 +42,5 @@ pub fn answer<R: Threads + Wait + Sync, F: Files, S: Source, K: Sink, H: Hall>(
         None => cut_main(
             rt, alloc, words, files, input, output, hall, &OpenGate, namer,
         ),
-    }
-}
-
-/// What is told on standard error of a fault that neither the status tells nor the object that failed, or nothing.
-pub fn complaint(words: &Words, status: u8) -> &'static str
-    ensures { result.now ≡ complaint_of words.now status }
-{
-    match status {
-        3 => rate_complaint(asks_for_another_rate(words)),
-        5 => "cutroom: the address could not be opened, or a station not seated\n",
-        7 => "cutroom: the input, or a line, has more than 64 MiB\n",
-        _ => "",
-    }
-}
-
-fn rate_complaint(is_other_rate: bool) -> &'static str
-    ensures { result.now ≡ rate_complaint is_other_rate }
-{
-    if is_other_rate {
-        "cutroom: RATE is one of 23.976, 24, 25, 29.97 and 30\n"
-    } else {
-        ""
     }
 }

@@ -5,16 +5,18 @@
 
 mod answer;
 mod arguments;
+mod complaint;
 mod memory;
 mod notice;
 #[cfg(test)]
 mod tests;
 
-use answer::{answer, complaint};
+use answer::answer;
 use arguments::command_words;
 use command_words::{Command, command_in};
-use cut_server::wants_numbers;
-use line_words::{Memory, Words};
+use complaint::complaint;
+use cut_server::{tabled_of, wants_numbers};
+use line_words::Words;
 use memory::keep_freed_memory;
 use reel_names::{AsIs, Numbered, ReelNamer};
 use room_files::{Report, Reported, StdFiles};
@@ -30,9 +32,8 @@ const OUT_OF_MEMORY: u8 = 6;
 fn main(rt: HostRuntime) -> ExitCode {
     let alloc = rt.alloc();
     keep_freed_memory(alloc);
-    let words = match command_words(&rt, alloc) {
-        Ok(words) => words,
-        Err(Memory) => return ExitCode::from(OUT_OF_MEMORY),
+    let Ok(words) = command_words(&rt, alloc) else {
+        return ExitCode::from(OUT_OF_MEMORY);
     };
     let report = Report::new(alloc, rt.stderr());
     let mut files = StdFiles::new(&rt, report);
@@ -40,16 +41,22 @@ fn main(rt: HostRuntime) -> ExitCode {
     let mut input = StdSource::new(Reported::new(rt.stdin(), "standard input", report));
     let mut output = StdSink::new(Reported::new(rt.stdout(), "standard output", report));
     let mut hall = TcpHall::new(alloc, &rt, rt.stderr());
-    let namer: Box<dyn ReelNamer> = if wants_numbers(&words) {
-        match Box::new(alloc, Numbered::new(alloc)) {
+    let Ok(tabled) = tabled_of(alloc, &words) else {
+        return ExitCode::from(OUT_OF_MEMORY);
+    };
+    let namer: Box<dyn ReelNamer> = match tabled {
+        Some(tabled) => match Box::new(alloc, tabled) {
             Ok(namer) => namer,
             Err(_) => return ExitCode::from(OUT_OF_MEMORY),
-        }
-    } else {
-        match Box::new(alloc, AsIs::new(alloc)) {
+        },
+        None if wants_numbers(&words) => match Box::new(alloc, Numbered::new(alloc)) {
             Ok(namer) => namer,
             Err(_) => return ExitCode::from(OUT_OF_MEMORY),
-        }
+        },
+        None => match Box::new(alloc, AsIs::new(alloc)) {
+            Ok(namer) => namer,
+            Err(_) => return ExitCode::from(OUT_OF_MEMORY),
+        },
     };
     let status = answer(
         &rt,
@@ -61,10 +68,11 @@ fn main(rt: HostRuntime) -> ExitCode {
         &mut hall,
         namer,
     );
-    let _ = put(
-        &mut StdSink::new(rt.stderr()),
-        complaint(&words, status).as_bytes(),
-    );
+    let told = complaint(&words, status);
+    let mut errors = StdSink::new(rt.stderr());
+    for text in [told.before, told.word, told.after] {
+        let _ = put(&mut errors, text.as_bytes());
+    }
     ExitCode::from(status)
 }
 

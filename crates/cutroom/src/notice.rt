@@ -16,8 +16,9 @@ run TRACKS REELS   one station on an empty cut: lines from standard input; repli
 run DOC RATE DROP  the same on the cut that a document describes
 serve DOC RATE DROP STATIONS ADDRESS JOURNAL
                    that many stations at once on such a cut, each over a connection to ADDRESS; the journal to the file JOURNAL
-list DOC RATE DROP JOURNAL POINT [numbered]
-                   the CMX 3600 list of the cut after POINT entries of the journal; numbered: reels are R001, R002 and so on
+list DOC RATE DROP JOURNAL POINT [numbered | names TEXT=NAME ..]
+                   the CMX 3600 list of the cut after POINT entries of the journal; numbered: reels are R001, R002 and so on;
+                   names: the document's reel TEXT is NAME, which has 1 to 8 characters of A-Z, 0-9 and _
 tape LIST RATE     what a CMX 3600 list shows: for V, A and A2 each run of frames
 --help             this text
 --version          the version

@@ -1,7 +1,9 @@
 // What the program tells of itself, and to whom.
-use crate::answer::{answer, complaint};
+use crate::answer::answer;
 use crate::arguments::words_after_the_name;
+use crate::complaint::complaint;
 use crate::notice::{HELP, Notice, VERSION};
+use cut_server::tabled_of;
 use line_words::{Memory, Words};
 use reel_names::AsIs;
 use room_files::MemFiles;
@@ -19,8 +21,9 @@ run TRACKS REELS   one station on an empty cut: lines from standard input; repli
 run DOC RATE DROP  the same on the cut that a document describes
 serve DOC RATE DROP STATIONS ADDRESS JOURNAL
                    that many stations at once on such a cut, each over a connection to ADDRESS; the journal to the file JOURNAL
-list DOC RATE DROP JOURNAL POINT [numbered]
-                   the CMX 3600 list of the cut after POINT entries of the journal; numbered: reels are R001, R002 and so on
+list DOC RATE DROP JOURNAL POINT [numbered | names TEXT=NAME ..]
+                   the CMX 3600 list of the cut after POINT entries of the journal; numbered: reels are R001, R002 and so on;
+                   names: the document's reel TEXT is NAME, which has 1 to 8 characters of A-Z, 0-9 and _
 tape LIST RATE     what a CMX 3600 list shows: for V, A and A2 each run of frames
 --help             this text
 --version          the version
@@ -133,7 +136,7 @@ fn answered<R: Threads + Wait + Sync>(
     let mut input = MemSource::new(pieces, reads.to_vec(alloc)?);
     let mut output = MemSink::new(alloc, writes.to_vec(alloc)?);
     let status = status_of(rt, alloc, &words, &mut input, &mut output)?;
-    let complains = !complaint(&words, status).is_empty();
+    let complains = !complaint(&words, status).before.is_empty();
     Ok((status, output.bytes() == Some(text.as_bytes()), complains))
 }
 
@@ -141,7 +144,7 @@ fn answered<R: Threads + Wait + Sync>(
 #[test]
 fn words_are_answered_once(rt: HostRuntime) -> Result<(), Memory> {
     let alloc = rt.alloc();
-    let cases: [(&[&str], &[u32], &[u32], u8, &str, bool); 13] = [
+    let cases: [(&[&str], &[u32], &[u32], u8, &str, bool); 16] = [
         (&["--help"], &[1], &[], 0, HELP, false),
         (&["--version"], &[1], &[], 0, VERSION, false),
         (&["--version"], &[], &[1], 2, "", false),
@@ -181,6 +184,30 @@ fn words_are_answered_once(rt: HostRuntime) -> Result<(), Memory> {
         ),
         (&["tape", "none.edl", "24"], &[1], &[], 1, "", false),
         (
+            &["list", "d", "24", "ndf", "j", "0", "names", "A=B", "A=C"],
+            &[1],
+            &[],
+            3,
+            "refused words\n",
+            true,
+        ),
+        (
+            &["list", "d", "24", "ndf", "j", "0", "names"],
+            &[1],
+            &[],
+            3,
+            "refused words\n",
+            false,
+        ),
+        (
+            &["list", "d", "24", "ndf", "j", "0", "names", "A=B"],
+            &[1],
+            &[],
+            1,
+            "",
+            true,
+        ),
+        (
             &["run", "1", "0"],
             &[],
             &[],
@@ -196,6 +223,69 @@ fn words_are_answered_once(rt: HostRuntime) -> Result<(), Memory> {
         assert_eq!(rt; ended, status, "{texts:?}");
         assert!(rt; is_written, "{texts:?}");
         assert_eq!(rt; is_told, complains, "{texts:?}");
+    }
+    Ok(())
+}
+
+// What standard error is told of words that are refused.
+#[test]
+fn a_word_that_names_no_reel_is_told(rt: HostRuntime) -> Result<(), Memory> {
+    let alloc = rt.alloc();
+    let (unfit, again) = (
+        ": a NAME has 1 to 8 characters of A-Z, 0-9 and _, and is not BL\n",
+        ": an earlier word has this TEXT\n",
+    );
+    let no_text = ": wanted is TEXT=NAME, with TEXT the name of a reel in the document\n";
+    let taken = ": an earlier word has this NAME\n";
+    let cases: [(&[&str], &str, &str); 10] = [
+        (&["A=B", "TAPE=toolong123", "A=B"], "TAPE=toolong123", unfit),
+        (&["A=BL"], "A=BL", unfit),
+        (&["A="], "A=", unfit),
+        (&["A"], "A", no_text),
+        (&["=A"], "=A", no_text),
+        (&["="], "=", no_text),
+        (&["A=B", "A=C"], "A=C", again),
+        (&["A=B", "A=B"], "A=B", again),
+        (&["A=B", "C=D", "E=B"], "E=B", taken),
+        (&["A==B", "A=C", "=A=D"], "", ""),
+    ];
+    for (rows, word, rule) in cases {
+        let mut words = words_in(alloc, &["list", "d", "24", "ndf", "j", "0", "names"])?;
+        for row in rows {
+            if words.count() < u32::MAX {
+                words.push(row)?;
+            }
+        }
+        let told = complaint(&words, 3);
+        assert!(rt; told.word == word && told.after == rule, "{rows:?}");
+        assert_eq!(rt;
+            tabled_of(alloc, &words)?.is_some(),
+            word.is_empty(),
+            "{rows:?}"
+        );
+    }
+    Ok(())
+}
+
+// The words of a list, and whether they ask for a table of names.
+#[test]
+fn a_table_is_asked_for_by_names(rt: HostRuntime) -> Result<(), Memory> {
+    let alloc = rt.alloc();
+    let cases: [(&[&str], bool); 7] = [
+        (&["list", "d", "24", "ndf", "j", "0", "names", "A=B"], true),
+        (&["list", "d", "24", "ndf", "j", "0", "names"], false),
+        (&["list", "d", "24", "ndf", "j", "0"], false),
+        (&["list", "d", "24", "ndf", "j", "0", "numbered"], false),
+        (
+            &["list", "d", "24", "ndf", "j", "0", "numbered", "A=B"],
+            false,
+        ),
+        (&["list", "d", "50", "ndf", "j", "0", "names", "A=B"], false),
+        (&["tape", "d", "24", "ndf", "j", "0", "names", "A=B"], false),
+    ];
+    for (texts, has_table) in cases {
+        let words = words_in(alloc, texts)?;
+        assert_eq!(rt; tabled_of(alloc, &words)?.is_some(), has_table, "{texts:?}");
     }
     Ok(())
 }

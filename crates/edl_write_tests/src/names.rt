@@ -1,5 +1,5 @@
 // Names of reels, and namers.
-use reel_names::{AsIs, Name, NameFault, Numbered, ReelNamer};
+use reel_names::{AsIs, Name, NameFault, Numbered, ReelNamer, TableFault, Tabled};
 use std::test::Fail;
 
 const LONG: &str = "ABCDEFGHIJKLMNOPQRSTUVWXYZ012345";
@@ -90,6 +90,54 @@ fn numbered_names_end_at_999(rt: HostRuntime) -> Result<(), Fail> {
         (1, None),
     ] {
         match namer.name(reel, "TAPE") {
+            Ok(name) => assert!(rt; want.is_some_and(|text| text.as_bytes() == name.as_bytes())),
+            Err(fault) => assert!(rt; want.is_none() && fault == NameFault::NoName),
+        }
+    }
+    Ok(())
+}
+
+// A row with each fault that it may have, and the first of those that it has.
+#[test]
+fn a_table_takes_a_text_and_a_name_once(rt: HostRuntime) -> Result<(), Fail> {
+    let mut namer = Tabled::new(rt.alloc());
+    for (text, name, want) in [
+        ("tape 1", "A", None),
+        ("", "B", None),
+        ("tape 2", "toolong123", Some(TableFault::Unfit)),
+        ("tape 1", "BL", Some(TableFault::Unfit)),
+        ("tape 1", "A", Some(TableFault::Again)),
+        ("tape 1", "C", Some(TableFault::Again)),
+        ("tape 2", "B", Some(TableFault::Taken)),
+        ("tape 2", "ABCDEFGHI", Some(TableFault::Unfit)),
+        ("tape 2", "ABCDEFGH", None),
+        ("TAPE 2", "ABCDEFG_", None),
+    ] {
+        let name = Name::of(name.as_bytes()).ok_or("name")?;
+        assert!(rt; namer.add(text, &name).err() == want, "{text}");
+    }
+    Ok(())
+}
+
+// The reel, its text, and its name, which is given to one reel only.
+#[test]
+fn a_table_gives_its_names(rt: HostRuntime) -> Result<(), Fail> {
+    let mut namer = Tabled::new(rt.alloc());
+    for (text, name) in [("tape 1", "A"), ("tape 2", "B"), ("=", "C")] {
+        let name = Name::of(name.as_bytes()).ok_or("name")?;
+        assert!(rt; namer.add(text, &name).is_ok(), "{text}");
+    }
+    for (reel, text, want) in [
+        (7, "tape 2", Some("B")),
+        (7, "", Some("B")),
+        (8, "tape 2", None),
+        (8, "tape 3", None),
+        (8, "B", None),
+        (8, "=", Some("C")),
+        (0, "tape 1", Some("A")),
+        (7, "tape 1", Some("B")),
+    ] {
+        match namer.name(reel, text) {
             Ok(name) => assert!(rt; want.is_some_and(|text| text.as_bytes() == name.as_bytes())),
             Err(fault) => assert!(rt; want.is_none() && fault == NameFault::NoName),
         }

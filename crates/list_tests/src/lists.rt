@@ -1,8 +1,8 @@
 // Lists of cuts.
 use crate::calling::{Outside, lists_so, with_journal};
-use crate::documents::{DOCUMENT, LIST, NUMBERED};
+use crate::documents::{DOCUMENT, LIST, NAMED, NUMBERED};
 use command_ends::Status;
-use reel_names::{AsIs, Numbered};
+use reel_names::{AsIs, Name, Numbered, Tabled};
 use std::alloc::Global;
 use std::test::Fail;
 
@@ -52,6 +52,40 @@ fn a_cut_at_a_point_is_listed(rt: HostRuntime) -> Result<(), Fail> {
     }
     let namer = Box::new(alloc, Numbered::new(alloc))?;
     assert!(rt; lists_so(alloc, &outside, 0, namer, Status::Done, NUMBERED)?);
+    Ok(())
+}
+
+// The table, and how the list ends whose reels have their names from it.
+#[test]
+fn a_list_has_the_names_of_a_table(rt: HostRuntime) -> Result<(), Fail> {
+    let alloc = rt.alloc();
+    let outside = with_journal("journal 0\n");
+    let cases: [(&[(&str, &str)], Status, &str); 3] = [
+        (
+            &[("TAPE1", "A"), ("GFX1", "C")],
+            Status::NoList,
+            "refused L4 1\n",
+        ),
+        (
+            &[("TAPE1", "A"), ("GFX1", "C"), ("TAPE2", "B")],
+            Status::Done,
+            NAMED,
+        ),
+        (
+            &[("TAPE", "TAPE1"), ("GFX1", "C"), ("TAPE2", "B")],
+            Status::NoList,
+            "refused L4 0\n",
+        ),
+    ];
+    for (rows, wanted, text) in cases {
+        let mut namer = Tabled::new(alloc);
+        for (text, name) in rows {
+            let name = Name::of(name.as_bytes()).ok_or("name")?;
+            assert!(rt; namer.add(text, &name).is_ok(), "{text}");
+        }
+        let namer = Box::new(alloc, namer)?;
+        assert!(rt; lists_so(alloc, &outside, 0, namer, wanted, text)?);
+    }
     Ok(())
 }
 
