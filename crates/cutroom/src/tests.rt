@@ -205,7 +205,7 @@ fn words_are_answered_once(rt: HostRuntime) -> Result<(), Memory> {
             &[],
             1,
             "",
-            true,
+            false,
         ),
         (
             &["run", "1", "0"],
