@@ -284,10 +284,8 @@ fn import_in(words: &Words) -> Option<Command<'_>>
         return None;
     }
     let counting = counting(words.word(2), words.word(3))?;
-    Some(Command::Import {
-        name: words.word(1),
-        counting,
-    })
+    let name = words.word(1);
+    Some(Command::Import { name, counting })
 }
 
 fn session<'a>(number_word: &str, count: &str) -> Option<Command<'a>>

@@ -25,7 +25,7 @@ use Rattle.call_text.specs.JournalFaults.{AreEntriesOf, IsFaulty}
 use Rattle.call_text.specs.declared.journal_reading.TheConstants.{MAX_JOURNAL}
 use Rattle.call_text.proofs.JournalLaws.{no_fault, one_journal}
 use Rattle.cut_room.proofs.Journals.{front_applies}
-use Rattle.command_words.specs.Commands.{Asked, RunPlain, RunDocument, Serve, ListCut, PlayList}
+use Rattle.command_words.specs.Commands.{Asked, RunPlain, RunDocument, Serve, ListCut, PlayList, Import}
 use Rattle.command_ends.specs.declared.status.Status.{Status}
 use Rattle.command_ends.specs.declared.status.Status.TheVariants.{Done, ReadFault, WriteFault, NotSeated, OutOfMemory, TooMuchInput}
 use Rattle.command_ends.specs.Ports.{Change, InputTold, OutputTold}
@@ -41,6 +41,7 @@ use Rattle.input_files.specs.declared.journals.JournalRefusal.{JournalRefusal}
 use Rattle.input_files.specs.declared.lists.ListRefusal.{ListRefusal}
 use Rattle.input_files.specs.declared.lists.ListRefusal.TheVariants.{TooLarge, Faulty}
 use Rattle.list_commands.specs.Cuts.{NamerTold, CutEnds, UnlistedEnds}
+use Rattle.list_commands.specs.Imports.{EventsEnd, HasNoDocument, ImportEnds}
 use Rattle.list_commands.specs.Points.{IsCutAt, HasFewer, DoesNotApply, PointEnds, JournalEnds, ListEnds, OpensDocument}
 use Rattle.list_commands.specs.Tapes.{TapeEnds}
 use Rattle.station_sessions.specs.declared.serve.End.{End}
@@ -50,7 +51,7 @@ use Rattle.station_sessions.specs.Rooms.{History}
 use Rattle.station_sessions.specs.Serving.{SessionEnds}
 use Rattle.cut_server.specs.Halls.{EndsUnserved, FileEnds, HallEnds, SessionsEnd, TellsStation, first_fault, line_at, or_next, status_of}
 use Rattle.cut_server.specs.Runs.{both, CommandEnds, DocumentEnds, OpensNoRoom, RunEnds, RunsOver, ServeEnds}
-use Rattle.cut_server.specs.Unhindered.{AreStill, AreWithin, FitOnList, IsStill, IsUnhindered, IsWithin, TellsCut, TellsDocument, TellsList}
+use Rattle.cut_server.specs.Unhindered.{AreStill, AreWithin, FitOnList, IsStill, IsUnhindered, IsWithin, TellsCut, TellsDocument, TellsImport, TellsList}
 
 -- it is 0, or 6
 abbrev pub EndsWell : Status → Type 0
@@ -148,6 +149,9 @@ module _ (c : Content) (entries : List (Entry Call)) (told : c ≢ Untold) (h : 
   one_history others k = one_journal h.0 others entries (subst (λ (bytes : List ℕ). AreEntriesOf bytes others) (same_bytes c k.0 h.0 told k.1 h.1) k.3) h.3
 
 -- a list
+one_list : (rate : SequenceRate) (c : Content) (events others : List Event) → c ≢ Untold → HoldsList rate c events → HoldsList rate c others → others ≡ events
+one_list rate c events others told h k = same_ok others events (sym k.3 ∙ (ap (list_of rate) (same_bytes c k.0 h.0 told k.1 h.1) ∙ h.3))
+
 no_list_fault : (rate : SequenceRate) (c : Content) (events : List Event) → c ≢ Untold → HoldsList rate c events → (r : ListRefusal) → IsListRefused rate c r → ⊥
 no_list_fault rate c events told h TooLarge fault = not_longer c h.0 MAX_LIST told h.1 h.2 fault
 no_list_fault rate c events told h (Faulty code line other) fault =
@@ -201,7 +205,7 @@ hall_well o stations address Keeps Unkept old new s calls still short kept (inl 
     subst EndsWell (sym is) (kept served.journal served.of_keeping served.keeps)
 hall_well o stations address Keeps Unkept old new s calls still short kept (inr unserved) = unserved_well o stations address Keeps Unkept old new s calls unserved
 
--- ---- `list` and `tape`
+-- ---- `list`, `tape` and `import`
 
 unlisted_well : (fault : ListFault) (output : Change OutputTold) (s : Status) → fault ≡ Memory → UnlistedEnds fault output s → EndsWell s
 unlisted_well fault output s is ends = let memory : UnlistedEnds Memory output s = subst (λ (f : ListFault). UnlistedEnds f output s) is ends in inr memory.0
@@ -268,6 +272,21 @@ tape_well name rate files output s tells reads still (only, inr unopened) =
     let content = files.before.file name in
     unopened_well (IsListRefused rate content) list_line files.before files.after output s (no_list_fault rate content tells.1 tells.0 tells.2) reads unopened
 
+events_well : (events : List Event) (counting : Counted) (output : Change OutputTold) (s : Status) → ((line : List ℕ) → HasNoDocument events counting line → ⊥)
+    → IsStill output.before.faults output.after.faults → EventsEnd events counting output s → EndsWell s
+events_well events counting output s none still (inl document) = inl (put_well Done _ output.before output.after s still document.put)
+events_well events counting output s none still (inr (inl refused)) = absurd (none refused.line refused.why)
+events_well events counting output s none still (inr (inr memory)) = inr memory.0
+
+import_well : (name : List ℕ) (counting : Counted) (files : Change FilesTold) (output : Change OutputTold) (s : Status) → TellsImport counting (files.before.file name)
+    → IsStill files.before.reads files.after.reads → IsStill output.before.faults output.after.faults → ImportEnds name counting files output s → EndsWell s
+import_well name counting files output s tells reads still (only, inl opens) =
+    let same = one_list counting.rate (files.before.file name) tells.1 opens.events tells.0 tells.2.0 opens.holds in
+    events_well tells.1 counting output s tells.2.1 still (subst (λ (es : List Event). EventsEnd es counting output s) same opens.ends)
+import_well name counting files output s tells reads still (only, inr unopened) =
+    let content = files.before.file name in
+    unopened_well (IsListRefused counting.rate content) list_line files.before files.after output s (no_list_fault counting.rate content tells.1 tells.0 tells.2.0) reads unopened
+
 -- ---- a command
 
 module _ (files : Change FilesTold) (input : Change InputTold) (output : Change OutputTold) (hall : Change HallTold) (namer : NamerTold) where
@@ -287,6 +306,7 @@ module _ (files : Change FilesTold) (input : Change InputTold) (output : Change 
   ends_well (Some (ListCut document counting journal point)) s un ends =
       list_well document counting journal point namer files output s un.0 un.1.reads un.1.streams.1 ends.2
   ends_well (Some (PlayList name rate)) s un ends = tape_well name rate files output s un.0 un.1.reads un.1.streams.1 ends.2
+  ends_well (Some (Import name counting)) s un ends = import_well name counting files output s un.0 un.1.reads un.1.streams.1 ends.2
 
 -- by its number
 pub numbered_well : (n : ℕ) (s : Status) → n ≡ number_of s → EndsWell s → (n ≡ 0) ⊎ (n ≡ 6)

@@ -15,12 +15,13 @@ use Rattle.edl_write.specs.declared.fault.ListFault.{ListFault}
 use Rattle.edl_write.specs.declared.fault.ListFault.TheVariants.{Memory}
 use Rattle.edl_write.specs.Refusals.{IsRefused}
 use Rattle.otio_json.specs.declared.opening.Opening.{Opening}
-use Rattle.command_words.specs.Commands.{Asked, RunPlain, RunDocument, Serve, ListCut, PlayList}
+use Rattle.command_words.specs.Commands.{Asked, RunPlain, RunDocument, Serve, ListCut, PlayList, Import}
 use Rattle.command_ends.specs.Ports.{Change, InputTold, OutputTold}
 use Rattle.input_files.specs.Documents.{Describes}
 use Rattle.input_files.specs.Journals.{HoldsJournal}
 use Rattle.input_files.specs.Lists.{HoldsList}
 use Rattle.list_commands.specs.Cuts.{NamerTold}
+use Rattle.list_commands.specs.Imports.{HasNoDocument}
 use Rattle.list_commands.specs.Points.{IsCutAt}
 use Rattle.station_sessions.specs.Outside.{Outside, most_input}
 use Rattle.cut_server.specs.Halls.{line_at}
@@ -55,6 +56,11 @@ TellsDocument counting content = (content ≢ Untold) × (o : Opening) × Descri
 -- its bytes are told, and are a list
 abbrev pub TellsList : SequenceRate → Content → Type 0
 TellsList rate content = (content ≢ Untold) × (events : List Event) × HoldsList rate content events
+
+-- its bytes are told, and are a list which has a document
+abbrev pub TellsImport : Counted → Content → Type 0
+TellsImport counting content = (content ≢ Untold)
+    × (events : List Event) × HoldsList counting.rate content events × ((line : List ℕ) → HasNoDocument events counting line → ⊥)
 
 -- for no reason have these tracks of a room no list; want of memory is none of theirs
 abbrev pub FitOnList : Opening → List TrackState → NamerTold → Type 0
@@ -99,6 +105,7 @@ module _ (files : Change FilesTold) (input : Change InputTold) (output : Change 
   IsAccepted (Some (ListCut document counting journal point)) =
       TellsCut document counting journal point namer files
   IsAccepted (Some (PlayList name rate)) = TellsList rate (files.before.file name)
+  IsAccepted (Some (Import name counting)) = TellsImport counting (files.before.file name)
 
   abbrev pub IsUnhindered : Option Asked → Type 0
   IsUnhindered asked = IsAccepted asked × NothingFails

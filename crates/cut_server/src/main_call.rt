@@ -22,7 +22,7 @@ use edit_apply::Editor;
 use edit_journal::{Naming, Pass};
 use input_files::{end_unopened, open_document};
 use line_words::Words;
-use list_commands::{CutPlace, list_cut, play_list};
+use list_commands::{CutPlace, import_file, list_cut, play_list};
 use otio_json::Opening;
 use reel_names::ReelNamer;
 use room_core::Entry;
@@ -309,6 +309,9 @@ fn do_command<R: Threads + Wait + Sync, F: Files, S: Source, K: Sink, H: Hall, G
             list_cut(alloc, files, &place, namer, output)
         }
         Some(Command::PlayList { name, rate }) => play_list(alloc, files, name, *rate, output),
+        Some(Command::Import { name, counting }) => {
+            import_file(alloc, files, name, counting, output)
+        }
         None => end_with(Status::NoCommand, b"refused words\n", output),
     }
 }
@@ -328,7 +331,8 @@ fn do_command<R: Threads + Wait + Sync, F: Files, S: Source, K: Sink, H: Hall, G
 /// `list DOC RATE DROP JOURNAL POINT` puts the CMX 3600 list of the cut after the first POINT entries of the journal in the
 /// file JOURNAL, of at most 64 MiB, whose room the document describes. The namer gives its reels their names; a last word
 /// `numbered` tells the program which namer to hand in. `tape LIST RATE` puts the tape of the list in the file LIST, of at
-/// most 32 MiB.
+/// most 32 MiB. `import LIST RATE DROP` puts the document of such a list in a line, with its channels V, A and A2 as tracks,
+/// if that has at most 32 MiB; it opens as the same cut.
 ///
 /// | Status | Comes where |
 /// |---|---|
@@ -336,7 +340,7 @@ fn do_command<R: Threads + Wait + Sync, F: Files, S: Source, K: Sink, H: Hall, G
 /// | 1 | a read of the input, of a line or of a file failed |
 /// | 2 | a write of the output, of a line or of the journal's file failed |
 /// | 3 | the words are no command |
-/// | 4 | the document, the journal or the list is refused, and a line tells its first fault with its place |
+/// | 4 | the document, the journal or the list is refused, or the list has no document, and a line tells why |
 /// | 5 | the hall was not opened, or a station not seated: no session was begun |
 /// | 6 | there was no memory to begin with, or none for a list or for the journal's text |
 /// | 7 | the input, or a line, gave more than 64 MiB |
@@ -357,9 +361,9 @@ pub fn cut_main<R: Threads + Wait + Sync, F: Files, S: Source, K: Sink, H: Hall,
     // The headline: whatever the stations send at once, in whatever pieces, the room's journal is one legal serial history,
     // each committed edit stands in it once, after all its station had been told of, and every reply names its point there
     // and says what the entries before it give. Linked items keep one offset at every point of it. A list that is put, read
-    // again, plays as exactly the frames and weights of the cut. `CommandEnds` says for
-    // each command and each status what was read, what was written and which count of faults rose, by what the files, the
-    // input, the output and the hall told before and tell after.
+    // again, plays as exactly the frames and weights of the cut; the document of a list shows what the list's tape shows, and
+    // opens as that cut. `CommandEnds` says for each command and each status what was read, what was written and which count
+    // of faults rose, by what the files, the input, the output and the hall told before and tell after.
     ensures ends { EndsWith result (CommandEnds (change F.told files.old files.new)
         (change (input_told S.left S.read_faults) input.old input.new)
         (change (output_told K.taken K.write_faults) output.old output.new)

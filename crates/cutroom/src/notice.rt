@@ -20,6 +20,8 @@ list DOC RATE DROP JOURNAL POINT [numbered | names TEXT=NAME ..]
                    the CMX 3600 list of the cut after POINT entries of the journal; numbered: reels are R001, R002 and so on;
                    names: the document's reel TEXT is NAME, which has 1 to 8 characters of A-Z, 0-9 and _
 tape LIST RATE     what a CMX 3600 list shows: for V, A and A2 each run of frames
+import LIST RATE DROP
+                   a CMX 3600 list as an OpenTimelineIO document: V, A and A2 as tracks, to standard output
 --help             this text
 --version          the version
 

@@ -2,3 +2,4 @@
 pub mod Cuts
 pub mod Points
 pub mod Tapes
+pub mod Imports

@@ -1,7 +1,7 @@
 // The commands over objects in memory.
 use crate::documents::DOCUMENT;
 use command_ends::Status;
-use list_commands::{CutPlace, list_cut, play_list};
+use list_commands::{CutPlace, import_file, list_cut, play_list};
 use reel_names::ReelNamer;
 use room_files::MemFiles;
 use room_ports::MemSink;
@@ -72,5 +72,22 @@ pub(crate) fn plays_so(
     files.put("cut.edl", list.as_bytes())?;
     let mut output = MemSink::new(alloc, writes.to_vec(alloc)?);
     let status = play_list(alloc, &mut files, "cut.edl", SequenceRate::F24, &mut output);
+    Ok(ended(status, &output, wanted, text))
+}
+
+/// Whether the document of a list whose frames are counted so ends with this status, and with this text on the output.
+pub(crate) fn imports_so(
+    alloc: Global,
+    list: &str,
+    counting: &Counting,
+    reads: &[u32],
+    writes: &[u32],
+    wanted: Status,
+    text: &str,
+) -> Result<bool, Fail> {
+    let mut files = MemFiles::new(alloc, reads.to_vec(alloc)?);
+    files.put("cut.edl", list.as_bytes())?;
+    let mut output = MemSink::new(alloc, writes.to_vec(alloc)?);
+    let status = import_file(alloc, &mut files, "cut.edl", counting, &mut output);
     Ok(ended(status, &output, wanted, text))
 }

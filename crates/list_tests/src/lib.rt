@@ -1,12 +1,14 @@
 //! Tests of the commands of edit decision lists over objects in memory: the list of a document's cut and of a cut at a
-//! point, each refusal with its line, each call of the files and of the output failing, and tapes. There is nothing here to
-//! run besides.
+//! point, each refusal with its line, each call of the files and of the output failing, tapes, and documents of lists. There
+//! is nothing here to run besides.
 #![tactic(auto)]
 
 #[cfg(test)]
 mod calling;
 #[cfg(test)]
 mod documents;
+#[cfg(test)]
+mod imports;
 #[cfg(test)]
 mod lists;
 #[cfg(test)]
