@@ -25,7 +25,7 @@ use Rattle.call_text.specs.JournalFaults.{AreEntriesOf, IsFaulty}
 use Rattle.call_text.specs.declared.journal_reading.TheConstants.{MAX_JOURNAL}
 use Rattle.call_text.proofs.JournalLaws.{no_fault, one_journal}
 use Rattle.cut_room.proofs.Journals.{front_applies}
-use Rattle.command_words.specs.Commands.{Asked, RunPlain, RunDocument, Serve, ListCut, PlayList, Import}
+use Rattle.command_words.specs.Commands.{Asked, RunPlain, RunDocument, Serve, ListCut, PlayList, Import, Make}
 use Rattle.command_ends.specs.declared.status.Status.{Status}
 use Rattle.command_ends.specs.declared.status.Status.TheVariants.{Done, ReadFault, WriteFault, NotSeated, OutOfMemory, TooMuchInput}
 use Rattle.command_ends.specs.Ports.{Change, InputTold, OutputTold}
@@ -44,6 +44,7 @@ use Rattle.list_commands.specs.Cuts.{NamerTold, CutEnds, UnlistedEnds}
 use Rattle.list_commands.specs.Imports.{EventsEnd, HasNoDocument, ImportEnds}
 use Rattle.list_commands.specs.Points.{IsCutAt, HasFewer, DoesNotApply, PointEnds, JournalEnds, ListEnds, OpensDocument}
 use Rattle.list_commands.specs.Tapes.{TapeEnds}
+use Rattle.made_sessions.specs.Sessions.{MakeEnds}
 use Rattle.station_sessions.specs.declared.serve.End.{End}
 use Rattle.station_sessions.specs.declared.serve.End.TheVariants as end
 use Rattle.station_sessions.specs.Outside.{Outside, most_input, most_read}
@@ -287,6 +288,12 @@ import_well name counting files output s tells reads still (only, inr unopened) 
     let content = files.before.file name in
     unopened_well (IsListRefused counting.rate content) list_line files.before files.after output s (no_list_fault counting.rate content tells.1 tells.0 tells.2.0) reads unopened
 
+-- ---- `make`
+
+make_well : (number count : ℕ) (output : Change OutputTold) (s : Status) → IsStill output.before.faults output.after.faults → MakeEnds number count output s → EndsWell s
+make_well number count output s still (inl made) = inl (put_well Done made.0 output.before output.after s still made.2)
+make_well number count output s still (inr memory) = inr memory.0
+
 -- ---- a command
 
 module _ (files : Change FilesTold) (input : Change InputTold) (output : Change OutputTold) (hall : Change HallTold) (namer : NamerTold) where
@@ -307,6 +314,7 @@ module _ (files : Change FilesTold) (input : Change InputTold) (output : Change 
       list_well document counting journal point namer files output s un.0 un.1.reads un.1.streams.1 ends.2
   ends_well (Some (PlayList name rate)) s un ends = tape_well name rate files output s un.0 un.1.reads un.1.streams.1 ends.2
   ends_well (Some (Import name counting)) s un ends = import_well name counting files output s un.0 un.1.reads un.1.streams.1 ends.2
+  ends_well (Some (Make number count)) s un ends = make_well number count output s un.1.streams.1 ends.3
 
 -- by its number
 pub numbered_well : (n : ℕ) (s : Status) → n ≡ number_of s → EndsWell s → (n ≡ 0) ⊎ (n ≡ 6)

@@ -9,7 +9,7 @@ use Rattle.otio_json.specs.Openings.{plain_opening}
 use Rattle.otio_json.specs.declared.opening.Opening.{Opening}
 use Rattle.call_text.specs.Journals.{journal_text_of}
 use Rattle.timecode12.specs.Numbers.{Counted}
-use Rattle.command_words.specs.Commands.{Asked, RunPlain, RunDocument, Serve, ListCut, PlayList, Import}
+use Rattle.command_words.specs.Commands.{Asked, RunPlain, RunDocument, Serve, ListCut, PlayList, Import, Make}
 use Rattle.command_ends.specs.Ports.{Change, InputTold, OutputTold}
 use Rattle.command_ends.specs.Texts.{PutsWith}
 use Rattle.input_files.specs.Unopened.{AreQuiet, EndsUnopened, OnlyRead}
@@ -18,6 +18,7 @@ use Rattle.list_commands.specs.Cuts.{NamerTold}
 use Rattle.list_commands.specs.Imports.{ImportEnds}
 use Rattle.list_commands.specs.Points.{ListEnds}
 use Rattle.list_commands.specs.Tapes.{TapeEnds}
+use Rattle.made_sessions.specs.Sessions.{MakeEnds}
 use Rattle.station_sessions.specs.declared.serve.End.TheVariants as end
 use Rattle.command_ends.specs.declared.status.Status.{Status}
 use Rattle.command_ends.specs.declared.status.Status.TheVariants.{Done, ReadFault, WriteFault, NoCommand, OutOfMemory, TooMuchInput}
@@ -129,6 +130,8 @@ module _ (files : Change FilesTold) (input : Change InputTold) (output : Change 
       input.Untouched × hall.Untouched × ListEnds document counting journal point namer files output status
   CommandEnds (Some (PlayList name rate)) status = input.Untouched × hall.Untouched × TapeEnds name rate files output status
   CommandEnds (Some (Import name counting)) status = input.Untouched × hall.Untouched × ImportEnds name counting files output status
+  CommandEnds (Some (Make number count)) status =
+      files.Untouched × input.Untouched × hall.Untouched × MakeEnds number count output status
 
 -- it ends with the number of a status that it may have
 abbrev pub EndsWith : ℕ → (Status → Type 0) → Type 0

@@ -15,7 +15,7 @@ use Rattle.edl_write.specs.declared.fault.ListFault.{ListFault}
 use Rattle.edl_write.specs.declared.fault.ListFault.TheVariants.{Memory}
 use Rattle.edl_write.specs.Refusals.{IsRefused}
 use Rattle.otio_json.specs.declared.opening.Opening.{Opening}
-use Rattle.command_words.specs.Commands.{Asked, RunPlain, RunDocument, Serve, ListCut, PlayList, Import}
+use Rattle.command_words.specs.Commands.{Asked, RunPlain, RunDocument, Serve, ListCut, PlayList, Import, Make}
 use Rattle.command_ends.specs.Ports.{Change, InputTold, OutputTold}
 use Rattle.input_files.specs.Documents.{Describes}
 use Rattle.input_files.specs.Journals.{HoldsJournal}
@@ -106,6 +106,8 @@ module _ (files : Change FilesTold) (input : Change InputTold) (output : Change 
       TellsCut document counting journal point namer files
   IsAccepted (Some (PlayList name rate)) = TellsList rate (files.before.file name)
   IsAccepted (Some (Import name counting)) = TellsImport counting (files.before.file name)
+  -- it reads nothing
+  IsAccepted (Some (Make number count)) = Unit {0}
 
   abbrev pub IsUnhindered : Option Asked → Type 0
   IsUnhindered asked = IsAccepted asked × NothingFails

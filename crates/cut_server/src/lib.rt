@@ -7,6 +7,7 @@
 #![tactic(auto)]
 
 pub mod laws;
+mod made;
 mod main_call;
 mod seated;
 mod stations;

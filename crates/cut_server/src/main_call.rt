@@ -13,6 +13,7 @@ ghost use Rattle.station_sessions.specs.Served.{IsRoomOf};
 ghost use Rattle.station_sessions.specs.SessionInside.{TrackOpening, opened_with};
 ghost use Rattle.edit_journal.specs.Turns.{AreFresh};
 
+use crate::made::make_session;
 use crate::stations::{Place, serve_opened};
 use call_text::{CutCall, CutObject, CutPart, journal_text};
 use command_ends::{Status, end_with};
@@ -311,6 +312,9 @@ fn do_command<R: Threads + Wait + Sync, F: Files, S: Source, K: Sink, H: Hall, G
         Some(Command::PlayList { name, rate }) => play_list(alloc, files, name, *rate, output),
         Some(Command::Import { name, counting }) => {
             import_file(alloc, files, name, counting, output)
+        }
+        Some(Command::Make { number, count }) => {
+            make_session(rt, alloc, *number, *count, output, gate)
         }
         None => end_with(Status::NoCommand, b"refused words\n", output),
     }

@@ -50,7 +50,7 @@ fn or_next(status: Status, next: Status) -> Status
 }
 
 // Seats each station with its pass, from the lowest on, over a line of the hall.
-fn seat_all<H: Hall, J: Naming<CutObject, CutPart>>(
+pub(crate) fn seat_all<H: Hall, J: Naming<CutObject, CutPart>>(
     alloc: Global,
     hall: &mut H,
     passes: Vec<Pass<CutObject, J>>,
@@ -114,7 +114,7 @@ fn stand_all_up<H: Hall, J: Naming<CutObject, CutPart>>(
 
 // Serves the stations that are seated, gives the hall their lines back and closes the room: the first status of a session
 // that is not 0, and the journal.
-fn serve_seated<
+pub(crate) fn serve_seated<
     R: Threads + Wait + Sync,
     H: Hall,
     G: Gate + Sync,
