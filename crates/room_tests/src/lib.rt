@@ -7,6 +7,8 @@ mod counted;
 #[cfg(test)]
 mod flags;
 #[cfg(test)]
+mod kept;
+#[cfg(test)]
 mod locks;
 #[cfg(test)]
 mod machine;
