@@ -47,9 +47,7 @@ fn serve_lines<
     let back = Vec::with_capacity(alloc, count).ok()?;
     match seat_all(alloc, hall, passes, &mut seated) {
         Ok(()) => {
-            let (_, entries) = serve_seated(
-                rt, alloc, room, seated, back, setting, hall, gate,
-            );
+            let (_, entries) = serve_seated(rt, alloc, room, seated, back, setting, hall, gate);
             Some(entries)
         }
         Err(_) => None,

@@ -8,7 +8,6 @@ use Rattle.room_halls.specs.Stations.{HallTold}
 use Rattle.command_ends.specs.Ports.{Change, InputTold, OutputTold}
 use Rattle.list_commands.specs.Cuts.{NamerTold}
 use Rattle.cut_server.specs.Runs.{CommandEnds, EndsWith}
-use Rattle.cut_server.specs.Unhindered.{IsStill, IsUnhindered as IsUnhinderedCommand}
 use Rattle.cutroom.specs.declared.notice.Notice.{Notice}
 use Rattle.cutroom.specs.declared.notice.Notice.TheVariants.{Help, Version}
 use Rattle.cutroom.specs.Notices.{text_of}
@@ -34,11 +33,3 @@ module _ (files : Change FilesTold) (input : Change InputTold) (output : Change 
 
   abbrev pub ProgramEnds : List (List ℕ) → ℕ → Type 0
   ProgramEnds words status = EndsBy (notice_of words) words status
-
-  -- no write of a notice fails; or the words are a command's, and nothing hinders it
-  abbrev pub IsUnhinderedBy : Option Notice → List (List ℕ) → Type 0
-  IsUnhinderedBy (Some notice) words = IsStill output.before.faults output.after.faults
-  IsUnhinderedBy None words = IsUnhinderedCommand files input output hall namer (command_of words)
-
-  abbrev pub IsUnhindered : List (List ℕ) → Type 0
-  IsUnhindered words = IsUnhinderedBy (notice_of words) words

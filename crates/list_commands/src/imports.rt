@@ -86,12 +86,7 @@ fn refuse_import<K: Sink>(code: ImportCode, number: u32, output: &mut K) -> Stat
 }
 
 // Puts the document of a list on the output, or the line that says why it has none.
-fn import_events<K: Sink>(
-    alloc: Global,
-    list: &List,
-    counting: &Counting,
-    output: &mut K,
-) -> Status
+fn import_events<K: Sink>(alloc: Global, list: &List, counting: &Counting, output: &mut K) -> Status
     requires { CanBeRead list.now }
     ensures { EventsEnd list.now counting.now (change (output_told K.taken K.write_faults) output.old output.new) result }
 {

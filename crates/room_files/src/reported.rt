@@ -46,7 +46,8 @@ impl<T: Write, W: Write + Copy> Write for Reported<'_, T, W> {
     fn write(&mut self, piece: &[u8]) -> io::Result<usize> {
         match self.inner.write(piece) {
             Ok(0) if !piece.is_empty() => {
-                self.report.unwritten(self.name, &io::Error::from(io::ErrorKind::WriteZero));
+                self.report
+                    .unwritten(self.name, &io::Error::from(io::ErrorKind::WriteZero));
                 Ok(0)
             }
             Ok(n) => Ok(n),

@@ -168,7 +168,11 @@ fn is_writable<R: System>(system: &R, name: &str) -> io::Result<()> {
 
 // Whether a file can be made that is not there. The one that was made is removed; what was there already stays.
 fn is_makeable<R: System>(system: &R, name: &str) -> io::Result<()> {
-    match OpenOptions::new().write(true).create_new(true).open(system, name) {
+    match OpenOptions::new()
+        .write(true)
+        .create_new(true)
+        .open(system, name)
+    {
         Ok(_) => {
             let _ = fs::remove_file(system, name);
             Ok(())
