@@ -27,12 +27,13 @@ list DOC RATE DROP JOURNAL POINT [numbered | names TEXT=NAME ..]
 tape LIST RATE     what a CMX 3600 list shows: for V, A and A2 each run of frames
 import LIST RATE DROP
                    a CMX 3600 list as an OpenTimelineIO document: V, A and A2 as tracks, to standard output
+make NUMBER COUNT  a session of four stations at once, COUNT generated edits each; what it comes to, the same at each run
 --help             this text
 --version          the version
 
 TRACKS is 1 to 32 and REELS is 0 to 999. DOC is the path of an OpenTimelineIO file, RATE is its frames a second, one of
 23.976, 24, 25, 29.97 and 30, and DROP is ndf, or drop at 29.97. STATIONS is 1 to 16, and ADDRESS is as localhost:7000.
-JOURNAL and LIST are paths of files, and POINT 0 is the document's own cut.
+JOURNAL and LIST are paths of files, and POINT 0 is the document's own cut. COUNT is 1 to 20,000.
 
 Examples:
   printf 'items 0\\nview 0 0 96\\n' | cutroom run examples/kitchen.otio 24 ndf
