@@ -1,0 +1,143 @@
+// Lists beside the tracks that they make.
+use crate::lists::opened;
+use composables::{ItemView, Table, Track};
+use frame_meaning::{Mark, Side, What};
+use otio_json::Opening;
+use std::alloc::Global;
+use std::test::Fail;
+
+// An item or gap: its number, the media and the source frame that it shows, its frames, and the mark before it.
+type Row = (Option<u32>, Option<(u32, u32)>, u32, Option<(u32, u32)>);
+
+// A list of a cut that begins at 01:00:00:00, at 24 frames a second.
+const WORKED: &str = "TITLE: CUT
+FCM: NON-DROP FRAME
+001  TAPE1    V     C        00:02:30:00 00:02:31:23 01:00:00:00 01:00:01:23
+002  TAPE1    A     C        00:02:30:00 00:02:33:00 01:00:00:00 01:00:03:00
+003  TAPE1    V     C        00:02:31:23 00:02:31:23 01:00:01:23 01:00:01:23
+003  TAPE2    V     D    003 00:00:04:03 00:00:04:16 01:00:01:23 01:00:02:12
+004  TAPE2    A2    C        00:00:04:04 00:00:05:04 01:00:02:00 01:00:03:00
+005  GFX1     V     C        00:00:00:00 00:00:00:06 01:00:02:12 01:00:02:18
+006  TAPE2    V     C        00:00:04:22 00:00:05:04 01:00:02:18 01:00:03:00
+";
+
+const WORKED_V: [Row; 5] = [
+    (Some(0), Some((0, 3600)), 47, None),
+    (Some(1), Some((0, 3647)), 3, None),
+    (Some(2), Some((1, 102)), 10, Some((3, 0))),
+    (Some(3), Some((2, 0)), 6, None),
+    (Some(4), Some((1, 118)), 6, None),
+];
+
+const WORKED_A: [Row; 1] = [(Some(0), Some((0, 3600)), 72, None)];
+
+const WORKED_A2: [Row; 2] = [(None, None, 48, None), (Some(0), Some((1, 100)), 24, None)];
+
+// The later event stands first. The first event of the record dissolves from black to a reel in all its frames; the other
+// dissolves from a reel to black. A last event is black, on a channel of sound.
+const TURNED: &str = "1 C V C 00:00:00:00 00:00:00:00 00:00:01:00 00:00:01:00
+1 BL V D 002 00:00:00:00 00:00:00:05 00:00:01:00 00:00:01:05
+2 BL V C 00:00:00:00 00:00:00:00 00:00:00:10 00:00:00:10
+2 B V D 003 00:00:00:07 00:00:00:10 00:00:00:10 00:00:00:13
+3 BL A C 00:00:00:00 00:00:00:04 00:00:00:10 00:00:00:14
+";
+
+const TURNED_V: [Row; 5] = [
+    (None, None, 2, None),
+    (Some(0), Some((1, 9)), 1, Some((2, 1))),
+    (None, None, 11, None),
+    (Some(1), Some((0, 0)), 2, None),
+    (None, None, 3, Some((2, 0))),
+];
+
+const TURNED_A: [Row; 1] = [(None, None, 4, None)];
+
+const NO_ROWS: [Row; 0] = [];
+
+fn side(shown: Option<(u32, u32)>) -> Side<What> {
+    match shown {
+        None => Side::Dark,
+        Some((media, source)) => Side::Pic {
+            what: What::Media(media),
+            source,
+        },
+    }
+}
+
+fn mark(frames: Option<(u32, u32)>) -> Option<Mark> {
+    match frames {
+        None => None,
+        Some((a, b)) => Some(Mark { a, b }),
+    }
+}
+
+fn view(row: Row) -> ItemView {
+    let (item, shown, len, frames) = row;
+    ItemView {
+        item,
+        first: side(shown),
+        len,
+        mark: mark(frames),
+        link: None,
+    }
+}
+
+// Whether a track has these items and gaps, and no others.
+fn has_rows(track: &Track, rows: &[Row]) -> bool {
+    if track.count() as usize != rows.len() {
+        return false;
+    }
+    for (index, row) in rows.iter().enumerate() {
+        if track.item(index as u32) != Some(view(*row)) {
+            return false;
+        }
+    }
+    true
+}
+
+fn has_tracks(opening: &Opening, rows: [&[Row]; 3]) -> bool {
+    let tracks = opening.tracks.as_slice();
+    tracks.len() == 3
+        && has_rows(&tracks[0], rows[0])
+        && has_rows(&tracks[1], rows[1])
+        && has_rows(&tracks[2], rows[2])
+}
+
+fn has_reels(table: &Table, names: &[&str]) -> bool {
+    if table.reels.count() as usize != names.len() {
+        return false;
+    }
+    for (reel, name) in names.iter().enumerate() {
+        if table.reels.name(reel as u32) != Some(*name) {
+            return false;
+        }
+    }
+    true
+}
+
+#[test]
+fn a_list_has_a_track_for_each_channel(rt: HostRuntime) -> Result<(), Fail> {
+    let opening = opened(rt.alloc(), WORKED.as_bytes(), false)?;
+    assert_eq!(rt; opening.start, 86_400);
+    assert!(rt; has_reels(&opening.table, &["TAPE1", "TAPE2", "GFX1"]));
+    assert!(rt; has_tracks(&opening, [&WORKED_V, &WORKED_A, &WORKED_A2]));
+    Ok(())
+}
+
+#[test]
+fn events_are_laid_by_their_record_ins(rt: HostRuntime) -> Result<(), Fail> {
+    let opening = opened(rt.alloc(), TURNED.as_bytes(), false)?;
+    assert_eq!(rt; opening.start, 10);
+    assert!(rt; has_reels(&opening.table, &["C", "B"]));
+    assert!(rt; has_tracks(&opening, [&TURNED_V, &TURNED_A, &NO_ROWS]));
+    Ok(())
+}
+
+#[test]
+fn an_empty_list_has_three_empty_tracks(rt: HostRuntime) -> Result<(), Fail> {
+    let opening = opened(rt.alloc(), b"TITLE: NONE\n", false)?;
+    assert_eq!(rt; opening.start, 0);
+    assert!(rt; has_reels(&opening.table, &[]));
+    assert!(rt; has_tracks(&opening, [&NO_ROWS, &NO_ROWS, &NO_ROWS]));
+    Ok(())
+}
