@@ -7,6 +7,8 @@ mod calling;
 #[cfg(test)]
 mod documents;
 #[cfg(test)]
+mod made;
+#[cfg(test)]
 mod replays;
 #[cfg(test)]
 mod soak;
