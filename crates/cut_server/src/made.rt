@@ -1,6 +1,6 @@
 // A generated session: four stations are served at once over lines in memory, and the summary of the journal of their
 // closed room is put.
-ghost use Rattle.std.specs.Prelude.{◌≡◌, ◌≤◌};
+ghost use Rattle.std.specs.Prelude.{◌≡◌, ◌<◌, ◌≤◌};
 ghost use Rattle.command_ends.specs.Ports.{change, output_told};
 ghost use Rattle.edit_journal.specs.Turns.{AreFresh};
 ghost use Rattle.made_sessions.specs.Sessions.{MakeEnds};
