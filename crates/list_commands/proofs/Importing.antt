@@ -1,11 +1,14 @@
 -- What an import gives to its document: it has tracks, so its document opens again as the same cut.
-use Rattle.std.proofs.Common.{◌≡◌, ℕ, ◌<◌, ◌≤◌, List, [], ◌∷◌, length, inl, inr, refl, arith}
+use Rattle.std.proofs.Common.{◌≡◌, ℕ, ◌<◌, ◌≤◌, List, [], ◌∷◌, length, Err, inl, inr, refl, arith, subst}
 use Rattle.timecode12.specs.Numbers.{Counted}
 use Rattle.composables.specs.TrackState.{TrackState}
 use Rattle.edl_events.specs.declared.event.Event.{Event}
 use Rattle.otio_tracks.specs.ReelTexts.{AreTexts}
 use Rattle.otio_json.specs.Soundness.{IsSoundOpening}
 use Rattle.otio_json.specs.declared.opening.Opening.{Opening}
+use Rattle.otio_text.specs.Documents.{Writes}
+use Rattle.otio_text.specs.declared.writing.WriteFault.{WriteFault}
+use Rattle.otio_text.specs.declared.writing.WriteFault.TheVariants.{TooLarge}
 use Rattle.otio_again.specs.Meanings.{OpensAs, line_of_cut}
 use Rattle.otio_again.proofs.CutBack.{line_is_read_again}
 use Rattle.otio_again.proofs.SoundOpenings.{openings_are_sound_cuts}
@@ -18,6 +21,13 @@ use Rattle.list_import.specs.TrackItems.{AreTracksOf}
 use Rattle.command_ends.specs.declared.status.Status.{Status}
 use Rattle.command_ends.specs.Ports.{Change, OutputTold}
 use Rattle.list_commands.specs.Imports.{EventsEnd, OpeningEnds, long_line}
+
+-- a text that was not written since it is too long
+pub too_long : (o : Opening) (f : WriteFault) → f ≡ TooLarge → Writes (line_of_cut o) (Err f) → 33554432 < length (line_of_cut o)
+too_long o f e w = long
+  where
+    long : Writes (line_of_cut o) (Err TooLarge)
+    long = subst (λ (x : WriteFault). Writes (line_of_cut o) (Err x)) e w
 
 has_tracks : (start : ℕ) (shots : List Shot) (ts : List TrackState) → AreTracksOf start shots ts → 0 < length ts
 has_tracks start shots [] are = absurd are
