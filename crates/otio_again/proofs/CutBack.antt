@@ -139,7 +139,7 @@ tree_back o behind blanks sound texts fits =
     let small : o.start < 10 ^ 18 = omega (arith, start_small o sound) in
     let lawful = cut_lawful o sound texts small in
     let spelled =
-        subst (λ (bytes : List ℕ). Spells 64 (bytes ++ behind) (placed 0 (tree_of_cut o))) (timeline_spelled o sound small) (text_spelled (tree_of_cut o) behind blanks lawful.writable lawful.sound)
+    subst (λ (bytes : List ℕ). Spells 64 (bytes ++ behind) (placed 0 (tree_of_cut o))) (timeline_spelled o sound small) (text_spelled (tree_of_cut o) behind blanks lawful.writable lawful.sound)
     in
     ap json_read (document_again (text_of_cut o ++ behind) (placed 0 (tree_of_cut o)) fits spelled)
 
