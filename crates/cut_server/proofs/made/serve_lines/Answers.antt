@@ -8,4 +8,4 @@ seat_all-requires-clause-passes g c κs within =
     subst (λ (n : ℕ). AreFresh g.J.Naming.opening n c.args.passes.items) (fresh_count c.args.passes.items 0 c.args.room.stations c.requires.passes.0) c.requires.passes
 
 pub serve_seated-entries-requires-clause-count : goal.serve_seated-entries-requires-clause-count
-serve_seated-entries-requires-clause-count g c κs within = c.in-Ok-seat_all.ensures.all ∙ sym (fresh_count c.args.passes.items 0 c.args.room.stations c.requires.passes.0)
+serve_seated-entries-requires-clause-count g c κs within = c.in-Ok.ensures.all ∙ sym (fresh_count c.args.passes.items 0 c.args.room.stations c.requires.passes.0)
