@@ -10,7 +10,6 @@ use Rattle.edit_journal.specs.Seats.{Begins}
 use Rattle.edit_journal.specs.Turns.{Known}
 use Rattle.edit_journal.specs.declared.log.CopyFault.{CopyFault}
 use Rattle.edit_journal.specs.declared.log.CopyFault.TheVariants as fault
-use Rattle.edit_journal.specs.Faults.{SaysNoPoint}
 use Rattle.cut_room.specs.declared.answers.Answer.{Answer}
 use Rattle.cut_room.specs.declared.answers.Answer.TheVariants as answer
 use Rattle.cut_room.specs.declared.answers.Sight.{Sight}
@@ -105,11 +104,6 @@ abbrev pub Looked : {O P C D R A S Q : Type 0} → Meaning P C D R → List P �
 Looked m opening asked seen before after (sight.Seen point what) = IsSight m opening asked seen before after point (Ok what)
 Looked m opening asked seen before after (sight.Refused point refusal) = IsSight m opening asked seen before after point (Err refusal)
 Looked m opening asked seen before after sight.Memory = Stays m opening before after
-
--- the first so many of these entries, or why they were not copied
-abbrev pub IsCopied : {C : Type 0} → ℕ → List (Entry C) → Result (Vec (Entry C) Global) CopyFault → Type 0
-IsCopied n entries (Ok copied) = (copied.items ≡ take n entries) × (n ≤ length entries)
-IsCopied n entries (Err f) = SaysNoPoint f n (length entries)
 
 -- the parts after so many of the entries that the pass knows now
 abbrev pub IsCut : {O P C D R : Type 0} → Meaning P C D R → List P → ℕ → Known O P C → Known O P C → Result (Vec P Global) CopyFault → Type 0
