@@ -282,11 +282,11 @@ events_well events counting output s none still (inr (inr memory)) = inr memory.
 import_well : (name : List ℕ) (counting : Counted) (files : Change FilesTold) (output : Change OutputTold) (s : Status) → TellsImport counting (files.before.file name)
     → IsStill files.before.reads files.after.reads → IsStill output.before.faults output.after.faults → ImportEnds name counting files output s → EndsWell s
 import_well name counting files output s tells reads still (only, inl opens) =
-    let same = one_list counting.rate (files.before.file name) tells.1 opens.events tells.0 tells.2.0 opens.holds in
-    events_well tells.1 counting output s tells.2.1 still (subst (λ (es : List Event). EventsEnd es counting output s) same opens.ends)
+    let same = one_list counting.rate (files.before.file name) tells.1 opens.events tells.0 tells.2 opens.holds in
+    events_well tells.1 counting output s tells.3 still (subst (λ (es : List Event). EventsEnd es counting output s) same opens.ends)
 import_well name counting files output s tells reads still (only, inr unopened) =
     let content = files.before.file name in
-    unopened_well (IsListRefused counting.rate content) list_line files.before files.after output s (no_list_fault counting.rate content tells.1 tells.0 tells.2.0) reads unopened
+    unopened_well (IsListRefused counting.rate content) list_line files.before files.after output s (no_list_fault counting.rate content tells.1 tells.0 tells.2) reads unopened
 
 -- ---- `make`
 
