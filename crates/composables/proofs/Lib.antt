@@ -7,4 +7,6 @@ pub mod Changing
 pub mod Finding
 pub mod MarkStanding
 pub mod Numbered
+pub mod Unlinked
+pub mod Pieces
 pub mod OwnTracks

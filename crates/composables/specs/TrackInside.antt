@@ -1,6 +1,7 @@
 -- A track as the code keeps it.
-use Rattle.std.specs.Prelude.{◌≡◌, length}
+use Rattle.std.specs.Prelude.{◌≡◌, false, length}
 use Rattle.composables.specs.declared.tracks.Track.TheInside.{Inside}
+use Rattle.composables.specs.Good.{AllUnlinked}
 use Rattle.composables.specs.Items.{cells_of}
 use Rattle.composables.specs.TrackState.{TrackState}
 use Rattle.composables.specs.TrackFacts.{IsKept}
@@ -14,3 +15,4 @@ pub record IsTrack (t : Inside) : Type 0 where
   pub filled : AllFilled t.items.items
   pub total : t.total ≡ length (cells_of t.items.items)
   pub kept : IsKept (state_of t)
+  pub links : t.linked ≡ false → AllUnlinked t.items.items

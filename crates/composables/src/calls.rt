@@ -1,7 +1,8 @@
 // The calls that edit a cut. Names and meanings are those of OpenTimelineIO's editAlgorithm, but for `Extract`,
 // `Dissolve`, `Undissolve`, `Link3` and `Unlink`, and for edits over several named tracks, which are this project's
 // own. Places and lengths are record frames, `from` is a source frame, `by` is a delta in frames, positive is later,
-// and bit t of `tracks` names track t.
+// and bit t of `tracks` names track t. With `keep` dissolves beside the edit are made shorter where it leaves them no
+// room, and stay; without it those are dropped.
 
 use crate::Listed;
 use frame_meaning::What;
@@ -31,6 +32,7 @@ pub struct Overwrite {
     pub what: What,
     pub from: u32,
     pub len: u32,
+    pub keep: bool,
 }
 
 /// Puts a new item at `at`, and moves what is from there on later, on all named tracks.
@@ -42,6 +44,7 @@ pub struct Insert {
     pub what: What,
     pub from: u32,
     pub len: u32,
+    pub keep: bool,
 }
 
 /// Leaves a gap in place of an item.
@@ -49,6 +52,7 @@ pub struct Insert {
 pub struct Remove {
     pub track: u32,
     pub item: u32,
+    pub keep: bool,
 }
 
 /// Takes an item out, and moves what is after it earlier, on all named tracks.
@@ -57,6 +61,7 @@ pub struct Extract {
     pub tracks: u32,
     pub track: u32,
     pub item: u32,
+    pub keep: bool,
 }
 
 /// Cuts the item at a place in two.
@@ -64,6 +69,7 @@ pub struct Extract {
 pub struct Slice {
     pub track: u32,
     pub at: u32,
+    pub keep: bool,
 }
 
 /// Puts a new item at the start of the gap that holds `at`.
@@ -74,6 +80,7 @@ pub struct Fill {
     pub what: What,
     pub from: u32,
     pub length: FillLength,
+    pub keep: bool,
 }
 
 /// Moves an end of an item and nothing else.

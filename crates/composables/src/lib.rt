@@ -8,6 +8,7 @@
 mod calls;
 mod cells;
 mod facts;
+mod item_reader;
 mod items;
 mod laws;
 mod laying;
@@ -26,6 +27,7 @@ pub use calls::{
     Roll, Slice, Slide, Slip, Trim, Undissolve, Unlink,
 };
 pub use facts::holds;
+pub use item_reader::ItemReader;
 pub use items::{ItemView, Place};
 pub use laws::{
     a_dissolve_may_stand_at_a_cut, a_place_lies_in_one_item, a_track_is_kept, limits_are_these,

@@ -1,5 +1,6 @@
 // A track of items and gaps, which contracts see as its cells.
-ghost use Rattle.std.specs.Prelude.{◌≡◌, ◌+◌, ◌<◌, ◌≤◌, ◌^◌, length, take, drop, slice_get};
+ghost use Rattle.std.specs.Prelude.{◌≡◌, ◌+◌, ◌<◌, ◌≤◌, ◌^◌, false, length, take, drop, slice_get};
+ghost use Rattle.composables.specs.Good.{AllUnlinked};
 ghost use Rattle.composables.specs.Joined.{frames_around, frames_in};
 ghost use Rattle.composables.specs.Changes.{side_from};
 
@@ -26,6 +27,7 @@ pub struct Track {
     next_item: u32,
     next_link: u32,
     total: u32,
+    linked: bool,
     whole: Vec<ItemView>,
     middle: Vec<ItemView>,
 }
@@ -43,7 +45,8 @@ impl Model for Track {
 }
 
 impl Track {
-    ghost use Rattle.std.specs.Prelude.{◌≡◌, ◌+◌, ◌<◌, ◌≤◌, ◌↔◌, [], length, slice_get, vec_len, vec_capacity, option_map, IfSome, IfOk, IsNone, OnOk, OnErr};
+    ghost use Rattle.std.specs.Prelude.{◌≡◌, ◌+◌, ◌<◌, ◌≤◌, ◌↔◌, [], false, length, take, drop, slice_get, vec_len, vec_capacity, option_map, IfSome, IfOk, IsNone, OnOk, OnErr};
+    ghost use Rattle.composables.specs.Good.{AllUnlinked};
     ghost use Rattle.composables.specs.Items.{items_of};
     ghost use Rattle.composables.specs.Sizes.{size_of};
     ghost use Rattle.composables.specs.SpareState.{spare_for};
@@ -65,6 +68,7 @@ impl Track {
             next_item: 0,
             next_link: 0,
             total: 0,
+            linked: false,
             whole: Vec::new(alloc),
             middle: Vec::new(alloc),
         }
@@ -113,6 +117,21 @@ impl Track {
         view_at(&self.items, index)
     }
 
+    /// The items and gaps from an index on, as many of them as lie together: at least one where there is one.
+    pub fn items_from(&self, index: u32) -> &[ItemView]
+        ensures front { result.now ≡ take (length result.now) (drop index (items_of self.now.cells)) }
+        ensures filled { index < length (items_of self.now.cells) → 0 < length result.now }
+    {
+        views_from(&self.items, index)
+    }
+
+    /// Whether items of it may have a link: one was given to an item or came with one, be it gone again or not.
+    pub fn has_links(&self) -> bool
+        ensures none { result ≡ false → AllUnlinked (items_of self.now.cells) }
+    {
+        self.linked
+    }
+
     /// All its items and gaps, in order.
     pub fn items(&self, alloc: Global) -> Result<Vec<ItemView>, Memory>
         ensures { IfOk result (λ all. all.items ≡ items_of self.now.cells) }
@@ -157,6 +176,7 @@ impl Track {
             next_item: self.next_item,
             next_link: self.next_link,
             total: self.total,
+            linked: self.linked,
             whole: Vec::new(alloc),
             middle: Vec::new(alloc),
         })
@@ -171,6 +191,7 @@ impl Track {
         ensures err { OnErr result (self.new ≡ self.old) }
     {
         push_item(&mut self.items, view)?;
+        self.linked |= view.link.is_some();
         self.next_item = number_past(self.next_item, view.item);
         self.total += view.len;
         Ok(())
@@ -256,6 +277,7 @@ impl Track {
         let total = frames_around(self.total, &self.items, from, to, middle);
         let all = lay_around(room, &self.items, from, to, middle, steps);
         self.next_item = number_past_all(self.next_item, middle);
+        self.linked |= any_linked(middle);
         self.total = total;
         self.whole = mem::replace(&mut self.items, all);
     }
@@ -276,6 +298,7 @@ impl Track {
         ensures { self.new ≡ changed_track self.old index (with_link link) }
     {
         self.items[index as usize].link = link;
+        self.linked |= link.is_some();
     }
 
     /// Moves the source frames of the item with this index, so that it shows them from this one on.
@@ -308,6 +331,23 @@ fn view_at(items: &[ItemView], index: u32) -> Option<ItemView>
     ensures { result ≡ slice_get items.now index }
 {
     items.get(index as usize).copied()
+}
+
+fn views_from(items: &[ItemView], index: u32) -> &[ItemView]
+    ensures { result.now ≡ drop index items.now }
+{
+    items.get(index as usize..).unwrap_or_default()
+}
+
+fn any_linked(items: &[ItemView]) -> bool
+    ensures { result ≡ false → AllUnlinked items.now }
+{
+    for view in items {
+        if view.link.is_some() {
+            return true;
+        }
+    }
+    false
 }
 
 // What a side shows whose source frames begin at this one.

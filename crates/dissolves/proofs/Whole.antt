@@ -1,5 +1,5 @@
 -- Where a walk over the items and gaps of a track stands.
-use Rattle.std.proofs.Common.{◌≡◌, ℕ, zero, suc, ◌+◌, ◌<◌, ◌≤◌, List, [], ◌∷◌, length, drop, Option, Some, None, refl, sym, ap, ◌∙◌, arith, subst}
+use Rattle.std.proofs.Common.{◌≡◌, ℕ, zero, suc, ◌+◌, ◌<◌, ◌≤◌, List, [], ◌∷◌, length, drop, Option, Some, None, IfSome, IsNone, refl, sym, ap, ◌∙◌, arith, subst}
 use Rattle.std.specs.List.{slice_get}
 use Rattle.std.proofs.lemmas.List.{drop_more}
 use Rattle.std.proofs.lemmas.Option.{slice_get_within, get_or_from_slice_get}
@@ -23,8 +23,8 @@ first_at [] (suc i) = refl
 first_at (v ∷ vs) zero = refl
 first_at (v ∷ vs) (suc i) = first_at vs i
 
-pub none_left : (vs : List ItemView) (i : ℕ) (o : Option ItemView) → o ≡ first_of (drop i vs) → o ≡ None → drop i vs ≡ []
-none_left vs i o first is = empty (drop i vs) (sym first ∙ is) where
+pub none_left : (ws : List ItemView) (o : Option ItemView) → o ≡ first_of ws → o ≡ None → ws ≡ []
+none_left ws o first is = empty ws (sym first ∙ is) where
   empty : (ws : List ItemView) → first_of ws ≡ None → ws ≡ []
   empty [] h = refl
   empty (w ∷ ws) h = cc
@@ -37,9 +37,6 @@ mark-first (v ∷ vs) = refl
 
 pub frames_of_items : (cs : List Cell) → cells_of (items_of cs) ≡ cs → frames_in (items_of cs) ≡ length cs
 frames_of_items cs whole = sym (length-cells_of (items_of cs)) ∙ ap length whole
-
-pub index_below : (cs : List Cell) (i : ℕ) (v : ItemView) → first_of (drop i (items_of cs)) ≡ Some v → i < length cs
-index_below cs i v is = omega (arith, slice_get_within (items_of cs) i v (first_at (items_of cs) i ∙ is), length-items_of cs)
 
 -- the numbers that dissolves have
 
@@ -88,20 +85,33 @@ between_all before (v ∷ vs) b h n = (
   between_all (Some v) vs h.0 h.1 n.1,
 )
 
--- what is known of the item or gap at an index
-pub record AtIndex (vs : List ItemView) (i : ℕ) (before : Option ItemView) (v : ItemView) (after : Option ItemView) : Type 0 where
-  pub rest : drop i vs ≡ v ∷ drop (i + 1) vs
-  pub next : after ≡ first_of (drop (i + 1) vs)
-  pub between : Between before v after
-  pub each : EachBetween (Some v) (drop (i + 1) vs)
-  pub inside : i < length vs
+-- those that are left, where this one, if it is there, was read from the front of the others
+abbrev pub with_next : Option ItemView → List ItemView → List ItemView
+with_next None vs = vs
+with_next (Some v) vs = v ∷ vs
 
-pub at_index : (vs : List ItemView) (i : ℕ) (before o after : Option ItemView) (v : ItemView) → o ≡ first_of (drop i vs) → o ≡ Some v → after ≡ slice_get vs (i + 1)
-    → EachBetween before (drop i vs) → AtIndex vs i before v after
-at_index vs i before o after v first is read each =
-    let found : slice_get vs i ≡ Some v = first_at vs i ∙ (sym first ∙ is) in
-    let inside = slice_get_within vs i v found in
-    let rest = drop_more vs i v inside ∙ ap (λ (w : ItemView). w ∷ drop (i + 1) vs) (get_or_from_slice_get vs i v v found) in
-    let next = read ∙ first_at vs (i + 1) in
+-- what a reader gives next, with what is left then, is what was left before
+pub still_left : (o : Option ItemView) (old new : List ItemView) → IfSome o (λ v. old ≡ v ∷ new) → (IsNone o → (old ≡ []) × (new ≡ [])) → with_next o new ≡ old
+still_left None old new some none = let e = none refl in e.1 ∙ sym e.0
+still_left (Some v) old new some none = sym some
+
+pub is_first : (o : Option ItemView) (old new : List ItemView) → IfSome o (λ v. old ≡ v ∷ new) → (IsNone o → (old ≡ []) × (new ≡ [])) → o ≡ first_of old
+is_first None old new some none = ap first_of (sym (none refl).0)
+is_first (Some v) old new some none = ap first_of (sym some)
+
+-- what is known of the item or gap that was read, once the next one is
+pub record AtNext (left : List ItemView) (before : Option ItemView) (v : ItemView) (after : Option ItemView) (behind : List ItemView) : Type 0 where
+  pub rest : left ≡ v ∷ behind
+  pub next : after ≡ first_of behind
+  pub between : Between before v after
+  pub each : EachBetween (Some v) behind
+
+pub at_next : (before o after : Option ItemView) (v : ItemView) (old new : List ItemView) → o ≡ Some v
+    → IfSome after (λ w. old ≡ w ∷ new) → (IsNone after → (old ≡ []) × (new ≡ []))
+    → EachBetween before (with_next o old) → AtNext (with_next o old) before v after (with_next after new)
+at_next before o after v old new is some none each =
+    let left = still_left after old new some none in
+    let next = is_first after old new some none ∙ ap first_of (sym left) in
+    let rest = ap (λ (p : Option ItemView). with_next p old) is ∙ ap (λ (ws : List ItemView). v ∷ ws) (sym left) in
     let here = subst (EachBetween before) rest each in
-    record { rest = rest; next = next; between = subst (Between before v) (sym next) here.0; each = here.1; inside = inside }
+    record { rest = rest; next = next; between = subst (Between before v) (sym next) here.0; each = here.1 }

@@ -8,7 +8,7 @@ ghost use Rattle.composables.specs.Places.{IsPlaceOf};
 ghost use Rattle.dissolves.specs.Parts.{item_before};
 
 use crate::parts::add_item;
-use composables::{ItemView, Place, Track};
+use composables::{ItemReader, ItemView, Place, Track};
 use frame_meaning::{Memory, Run, What};
 use std::alloc::Global;
 use std::marker::Brand;
@@ -33,17 +33,16 @@ pub fn runs_in(alloc: Global, track: &Track, a: u32, b: u32) -> Result<Vec<Run<W
         return Ok(shown);
     };
     let mut from = place.from;
-    let mut index = place.index;
-    let mut before = view_before(track, index);
-    let mut here = track.item(index);
+    let mut before = view_before(track, place.index);
+    let mut items = ItemReader::at(track, place.index);
+    let mut here = items.next();
     while let Some(view) = here {
         if from >= b {
             return Ok(shown);
         }
-        let after = track.item(index + 1);
+        let after = items.next();
         add_item(&mut shown, before, view, after, from, a, b)?;
         from += view.len;
-        index += 1;
         before = here;
         here = after;
     }

@@ -1,5 +1,5 @@
 -- What an edit that splices one track leaves of the facts on it.
-use Rattle.std.proofs.Common.{ℕ, ◌-◌, ◌<◌, ◌≤◌, List, [], ◌∷◌, Option, Some, None, IfSome, refl, arith}
+use Rattle.std.proofs.Common.{ℕ, ◌-◌, ◌<◌, ◌≤◌, List, [], ◌∷◌, Option, Some, None, IfSome, refl, arith, Bool}
 use Rattle.composables.specs.declared.items.ItemView.{ItemView}
 use Rattle.composables.specs.declared.media.Table.{Table}
 use Rattle.composables.specs.Good.{IsGood}
@@ -19,8 +19,8 @@ pub below-more : (n m : ℕ) (vs : List ItemView) → n ≤ m → NumbersBelow n
 below-more n m [] le h = tt
 below-more n m (v ∷ vs) le h = (if_more v.item n m le h.0, below-more n m vs le h.1)
 
-pub parts-kept : (table : Table) (t : TrackState) (x y : ℕ) (views : List ItemView) → IsGood table t → AreParts table t x y views → IsWithinLimits (spliced_track t x y views) → IsKept (spliced_track t x y views)
-parts-kept table t x y views g f limits = (good-parts table t x y views g f.order f.within f.may limits).kept
+pub parts-kept : (keep : Bool) (table : Table) (t : TrackState) (x y : ℕ) (views : List ItemView) → IsGood table t → AreParts table t x y views → IsWithinLimits (spliced_track keep t x y views) → IsKept (spliced_track keep t x y views)
+parts-kept keep table t x y views g f limits = (good-parts keep table t x y views g f.order f.within f.may limits).kept
 
-pub stays-spliced : (table : Table) (t : TrackState) (x y : ℕ) (views : List ItemView) → IsGood table t → AreParts table t x y views → IsWithinLimits (spliced_track t x y views) → StaysGood table t (spliced_track t x y views)
-stays-spliced table t x y views g f limits = record { good = good-parts table t x y views g f.order f.within f.may limits; number = refl }
+pub stays-spliced : (keep : Bool) (table : Table) (t : TrackState) (x y : ℕ) (views : List ItemView) → IsGood table t → AreParts table t x y views → IsWithinLimits (spliced_track keep t x y views) → StaysGood table t (spliced_track keep t x y views)
+stays-spliced keep table t x y views g f limits = record { good = good-parts keep table t x y views g f.order f.within f.may limits; number = refl }

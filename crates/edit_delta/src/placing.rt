@@ -1,5 +1,5 @@
 // Parts of items in place of a range of one track, within its limits.
-ghost use Rattle.std.specs.Prelude.{◌+◌, ◌*◌, ◌≤◌, length};
+ghost use Rattle.std.specs.Prelude.{◌+◌, ◌*◌, ◌≤◌, false, length};
 ghost use Rattle.out_of_memory.specs.Answers.{Answers};
 ghost use Rattle.composables.specs.Good.{IsGood};
 ghost use Rattle.composables.specs.Items.{items_of};
@@ -30,7 +30,7 @@ pub fn place_parts<L: Ledger>(
     requires good { IsGood table.now track.old }
     requires roomy { IsRoomy track.old }
     requires parts { AreParts table.now track.old x y parts.now }
-    ensures answers { Answers (track_within_limits (spliced_track track.old x y parts.now) done)
+    ensures answers { Answers (track_within_limits (spliced_track false track.old x y parts.now) done)
         track.old track.new result }
     ensures good { StaysGood table.now track.old track.new }
     ensures least { steps.old ≤ steps.new }

@@ -102,12 +102,12 @@ fewer table what from asked len c some le = record { filled = some; source = ome
 -- what the code puts in
 pub fill-parts : (table : Table) (c : Fill) (t : TrackState) (g h len number : ℕ) (items : List ItemView) → source_refusal table t.number c.what c.from (frames_asked c.length (h - g)) ≡ None
     → len ≡ min (frames_asked c.length (h - g)) (h - g) → number ≡ t.next_item → items ≡ gap_views 0 ++ new_views (Some (clip_view number c.what c.from len))
-    → fill_gap table c t g h ≡ track_within_limits (spliced_track t g (g + len) items) (Item number)
+    → fill_gap table c t g h ≡ track_within_limits (spliced_track c.keep t g (g + len) items) (Item number)
 fill-parts table c t g h len number items none is next all =
     ap (λ (r : Option Refusal). unless r (track_within_limits (filled t c g (min (frames_asked c.length (h - g)) (h - g))) (Item t.next_item))) none
     ∙ (ap (λ (n : ℕ). track_within_limits (filled t c g n) (Item t.next_item)) (sym is)
-    ∙ (ap (λ (n : ℕ). track_within_limits (spliced_track t g (g + len) (clip_view n c.what c.from len ∷ [])) (Item n)) (sym next)
-    ∙ ap (λ (vs : List ItemView). track_within_limits (spliced_track t g (g + len) vs) (Item number)) (sym all)))
+    ∙ (ap (λ (n : ℕ). track_within_limits (spliced_track c.keep t g (g + len) (clip_view n c.what c.from len ∷ [])) (Item n)) (sym next)
+    ∙ ap (λ (vs : List ItemView). track_within_limits (spliced_track c.keep t g (g + len) vs) (Item number)) (sym all)))
 
 pub fill-refused : (table : Table) (c : Fill) (t : TrackState) (g h : ℕ) (why : Refusal) → source_refusal table t.number c.what c.from (frames_asked c.length (h - g)) ≡ Some why → fill_gap table c t g h ≡ Err why
 fill-refused table c t g h why e = ap (λ (r : Option Refusal). unless r (track_within_limits (filled t c g (min (frames_asked c.length (h - g)) (h - g))) (Item t.next_item))) e

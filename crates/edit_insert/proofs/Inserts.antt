@@ -58,11 +58,11 @@ pub insert-refused : (table : Table) (c : Insert) (ts : List TrackState) (own : 
     → insert_named table ts c ≡ Err why
 insert-refused table c ts own why o e =
     for-found c.track (inserted table c ts) ts own o.found
-    ∙ ap (λ (r : Option Refusal). unless r (shift_of c.track c.at c.at (clip_view own.next_item c.what c.from c.len ∷ []) (Item own.next_item) (with_track ts (padded_track own c.at))))
+    ∙ ap (λ (r : Option Refusal). unless r (shift_of c.keep c.track c.at c.at (clip_view own.next_item c.what c.from c.len ∷ []) (Item own.next_item) (with_track ts (padded_track own c.at))))
     (ap (λ (n : ℕ). source_refusal table n c.what c.from c.len) o.number ∙ e)
 
 abbrev pub shift_at : Insert → ItemView → Shift
-shift_at c v = record { own = c.track; x = c.at; y = c.at; new = Some v }
+shift_at c v = record { own = c.track; x = c.at; y = c.at; new = Some v; keep = c.keep }
 
 -- the shift of an insert splits links as they are split cell by cell: what is put into the own track ends with an item
 -- that is new to it
@@ -84,10 +84,10 @@ pub insert-allowed : (table : Table) (c : Insert) (tracks : ℕ) (ts : List Trac
     → insert_named table ts c ≡ linked_shift (shift_at c v) (c.at + v.len) (Item number) ts
 insert-allowed table c tracks ts own v number o e some numbers good fits kept f g =
     for-found c.track (inserted table c ts) ts own o.found
-    ∙ (ap (λ (r : Option Refusal). unless r (shift_of c.track c.at c.at (clip_view own.next_item c.what c.from c.len ∷ []) (Item own.next_item) (with_track ts (padded_track own c.at))))
+    ∙ (ap (λ (r : Option Refusal). unless r (shift_of c.keep c.track c.at c.at (clip_view own.next_item c.what c.from c.len ∷ []) (Item own.next_item) (with_track ts (padded_track own c.at))))
     (ap (λ (n : ℕ). source_refusal table n c.what c.from c.len) o.number ∙ e)
-    ∙ (ap (λ (n : ℕ). shift_of c.track c.at c.at (clip_view n c.what c.from c.len ∷ []) (Item n) (with_track ts (padded_track own c.at))) (sym f)
-    ∙ (ap (λ (w : ItemView). shift_of c.track c.at c.at (w ∷ []) (Item number) (with_track ts (padded_track own c.at))) (sym g)
+    ∙ (ap (λ (n : ℕ). shift_of c.keep c.track c.at c.at (clip_view n c.what c.from c.len ∷ []) (Item n) (with_track ts (padded_track own c.at))) (sym f)
+    ∙ (ap (λ (w : ItemView). shift_of c.keep c.track c.at c.at (w ∷ []) (Item number) (with_track ts (padded_track own c.at))) (sym g)
     ∙ shift-meant (shift_at c v) (Item number) ts (with_track ts (padded_track own c.at))
     (insert-moved (shift_at c v) ts own (subst Rise (sym numbers) (tracks-rise tracks)) o.found kept refl)
     (outside-padded ts own c.at c.at (subst (λ (n : ℕ). All (λ (t : TrackState). t.number ≡ n → t ≡ own) ts) (sym o.number) o.only))
@@ -103,12 +103,12 @@ insert-put table c ts own v number o clip f g k d lt = put-shift table (shift_at
       (put-clip table (get_or ts k d) (c.at - length (get_or ts k d).cells) number c.what c.from c.len (f ∙ ap (λ (t : TrackState). t.next_item) (sym here)) clip)
 
 abbrev pub shift_out : Extract → ℕ → ℕ → Shift
-shift_out c x y = record { own = c.track; x = x; y = y; new = None }
+shift_out c x y = record { own = c.track; x = x; y = y; new = None; keep = c.keep }
 
 pub extract-missing : (c : Extract) (ts : List TrackState) (own : TrackState) → IsOwn c.track ts own → range_of own.cells c.item ≡ None → extract_named ts c ≡ Err NoItem
 extract-missing c ts own o e =
     for-found c.track (extracted c ts) ts own o.found
-    ∙ ap (λ (r : Option (ℕ × ℕ)). on_range (λ x y. shift_of c.track x y [] Plain ts) r) e
+    ∙ ap (λ (r : Option (ℕ × ℕ)). on_range (λ x y. shift_of c.keep c.track x y [] Plain ts) r) e
 
 -- the range of an item that is taken out there lies on its own track, and no link is split within an item by it
 pub out-long : (c : Extract) (ts : List TrackState) (own : TrackState) (x y : ℕ) → IsOwn c.track ts own → (x ≤ y) × (y ≤ length own.cells)
@@ -127,7 +127,7 @@ pub extract-found : (table : Table) (c : Extract) (ts : List TrackState) (own : 
 extract-found table c ts own x y o e good fits kept =
     let within = range-within own c.item x y kept e in
     for-found c.track (extracted c ts) ts own o.found
-    ∙ (ap (λ (r : Option (ℕ × ℕ)). on_range (λ x y. shift_of c.track x y [] Plain ts) r) e
+    ∙ (ap (λ (r : Option (ℕ × ℕ)). on_range (λ x y. shift_of c.keep c.track x y [] Plain ts) r) e
     ∙ shift-meant (shift_out c x y) Plain ts ts (extract-moved (shift_out c x y) ts (out-long c ts own x y o within)) refl within.0 (within-kept (shift_out c x y) ts within.0 fits) (out-uncut table c ts own x y o within good))
 
 pub extract-put : (table : Table) (c : Extract) (ts : List TrackState) (x y : ℕ) → All (λ (t : TrackState). PutIn table t (put_views (shift_out c x y) t)) ts

@@ -59,15 +59,15 @@ range-within t i x y kept e =
 pub remove-stays : (table : Table) (c : Remove) (t u : TrackState) (result : Result Done (Fault Refusal)) → IsGood table t → Answers (remove_track c t) t u result → StaysGood table t u
 remove-stays table c t u result g = by (range_of t.cells c.item) refl where
   by : (o : Option (ℕ × ℕ)) → range_of t.cells c.item ≡ o
-      → Answers (on_range (λ x y. track_within_limits (spliced_track t x y (gap_views (y - x))) Plain) o) t u result → StaysGood table t u
+      → Answers (on_range (λ x y. track_within_limits (spliced_track c.keep t x y (gap_views (y - x))) Plain) o) t u result → StaysGood table t u
   by None e a = stays-refused table t u NoItem result g a
   by (Some r) e a =
       let h : (r.0 ≤ r.1) × (r.1 ≤ length t.cells) = range-within t c.item r.0 r.1 g.kept e in
-      stays-placed table t u r.0 r.1 (gap_views (r.1 - r.0)) Plain result g h.0 h.1 (put-gap table t (r.1 - r.0)) a
+      stays-placed c.keep table t u r.0 r.1 (gap_views (r.1 - r.0)) Plain result g h.0 h.1 (put-gap table t (r.1 - r.0)) a
 
 pub slice-stays : (table : Table) (c : Slice) (t u : TrackState) (result : Result Done (Fault Refusal)) → IsGood table t → Answers (slice_track c t) t u result → StaysGood table t u
 slice-stays table c t u result g = by (ltb c.at (length t.cells)) refl where
   by : (b : Bool) → ltb c.at (length t.cells) ≡ b
-      → Answers (cond b (track_within_limits (spliced_track t c.at c.at []) Plain) (Err NoItem)) t u result → StaysGood table t u
-  by true e a = stays-placed table t u c.at c.at [] Plain result g (omega arith) (omega (arith, ltb-true c.at (length t.cells) e)) (put-gap table t 0) a
+      → Answers (cond b (track_within_limits (spliced_track c.keep t c.at c.at []) Plain) (Err NoItem)) t u result → StaysGood table t u
+  by true e a = stays-placed c.keep table t u c.at c.at [] Plain result g (omega arith) (omega (arith, ltb-true c.at (length t.cells) e)) (put-gap table t 0) a
   by false e a = stays-refused table t u NoItem result g a

@@ -41,7 +41,7 @@ refusal_without table track what from Sequence = thing_refusal table track what
 
 -- the new item at the start of a gap at g
 abbrev pub filled : TrackState → Fill → ℕ → ℕ → TrackState
-filled t c g len = spliced_track t g (g + len) (clip_view t.next_item c.what c.from len ∷ [])
+filled t c g len = spliced_track c.keep t g (g + len) (clip_view t.next_item c.what c.from len ∷ [])
 
 -- in the gap [g, h): as many of the frames asked for as it has room for
 abbrev pub fill_gap : Table → Fill → TrackState → ℕ → ℕ → Result (TrackState × Done) Refusal

@@ -108,6 +108,7 @@ fn fill_gap<L: Ledger>(
         track,
         gap.from,
         gap.from + len,
+        call.keep,
         items.as_slice(),
         Done::Item(number),
         steps,

@@ -86,6 +86,7 @@ fn insert_at<L: Ledger>(
         x: call.at,
         y: call.at,
         new: Some(ItemView::clip(number, call.what, call.from, call.len)),
+        keep: call.keep,
     };
     let at = u64::from(call.at);
     let len = u64::from(call.len);
@@ -151,6 +152,7 @@ fn extract_at<L: Ledger>(
                 x: found.from,
                 y: found.to,
                 new: None,
+                keep: call.keep,
             };
             let place = u64::from(found.from);
             shift_linked(alloc, named, &made, place, Done::Plain, steps)

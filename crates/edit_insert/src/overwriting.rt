@@ -17,7 +17,8 @@ use step_count::Steps;
 
 /// Puts a new item over the places [at, at + len) of the one track that is named, which grows by dark frames up to
 /// `at` where it is shorter, and by the new item where that reaches past its end. An item that stood on both sides is
-/// cut in two, and its later part gets the number after the new item's. `from` is a source frame of `what`.
+/// cut in two, and its later part gets the number after the new item's. `from` is a source frame of `what`. Dissolves
+/// beside the new item are dropped where it leaves them no room, or with `keep` made as short as it leaves them.
 ///
 /// It answers the number of the new item, or the first of these refusals that holds: `NoMedia`, `EmptyRange`,
 /// `MediaEnds`, `TooLong`, `TooManyItems`.
@@ -77,6 +78,7 @@ fn overwrite_track<L: Ledger>(
         track,
         call.at.min(length),
         (call.at + call.len).min(length),
+        call.keep,
         items.as_slice(),
         Done::Item(number),
         steps,

@@ -62,6 +62,7 @@ fn remove_track<L: Ledger>(
                 track,
                 found.from,
                 found.to,
+                call.keep,
                 items.as_slice(),
                 Done::Plain,
                 steps,
@@ -114,5 +115,14 @@ fn slice_track<L: Ledger>(
     if call.at >= track.length() {
         return Err(EditFault::Refused(Refusal::NoItem));
     }
-    place(alloc, track, call.at, call.at, &[], Done::Plain, steps)
+    place(
+        alloc,
+        track,
+        call.at,
+        call.at,
+        call.keep,
+        &[],
+        Done::Plain,
+        steps,
+    )
 }

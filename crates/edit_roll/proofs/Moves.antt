@@ -136,16 +136,16 @@ pub roll-still : (table : Table) (t : TrackState) (at : ℕ) (by : ℤ) (u : Use
 roll-still table t at by u is way = still-means t (rolled_later t at) (rolled_earlier t at) (may_move_later table t at at) (may_move_earlier table t at at) by u is way
 
 pub roll-later : (table : Table) (t : TrackState) (at : ℕ) (l r g : ItemView) (n : ℕ) (by : ℤ) (u : Used) → Around table t at at l r → IsUsedOf (may_move_later table t at at) (may_move_earlier table t at at) by u → u.way ≡ Later n
-    → g ≡ going_on (cell_in l (l.len - 1)) n → roll_cut table t by at ≡ track_within_limits (spliced_track t at (at + n) (g ∷ [])) u.done
+    → g ≡ going_on (cell_in l (l.len - 1)) n → roll_cut table t by at ≡ track_within_limits (spliced_track false t at (at + n) (g ∷ [])) u.done
 roll-later table t at l r g n by u a is way e =
     later-means t (rolled_later t at) (rolled_earlier t at) (may_move_later table t at at) (may_move_earlier table t at at) n by u is way
-    ∙ ap (λ (v : ItemView). track_within_limits (spliced_track t at (at + n) (v ∷ [])) u.done) (ap (λ (c : Cell). going_on c n) (spot-last table t a.before l (at - l.len) at a.left) ∙ sym e)
+    ∙ ap (λ (v : ItemView). track_within_limits (spliced_track false t at (at + n) (v ∷ [])) u.done) (ap (λ (c : Cell). going_on c n) (spot-last table t a.before l (at - l.len) at a.left) ∙ sym e)
 
 pub roll-earlier : (table : Table) (t : TrackState) (at : ℕ) (l r b : ItemView) (n : ℕ) (by : ℤ) (u : Used) → Around table t at at l r → IsUsedOf (may_move_later table t at at) (may_move_earlier table t at at) by u → u.way ≡ Earlier n
-    → b ≡ reaching_back (cell_in r 0) n → roll_cut table t by at ≡ track_within_limits (spliced_track t (at - n) at (b ∷ [])) u.done
+    → b ≡ reaching_back (cell_in r 0) n → roll_cut table t by at ≡ track_within_limits (spliced_track false t (at - n) at (b ∷ [])) u.done
 roll-earlier table t at l r b n by u a is way e =
     earlier-means t (rolled_later t at) (rolled_earlier t at) (may_move_later table t at at) (may_move_earlier table t at at) n by u is way
-    ∙ ap (λ (v : ItemView). track_within_limits (spliced_track t (at - n) at (v ∷ [])) u.done) (ap (λ (c : Cell). reaching_back c n) (spot-head table t a.behind r at (at + r.len) a.right) ∙ sym e)
+    ∙ ap (λ (v : ItemView). track_within_limits (spliced_track false t (at - n) at (v ∷ [])) u.done) (ap (λ (c : Cell). reaching_back c n) (spot-head table t a.behind r at (at + r.len) a.right) ∙ sym e)
 
 -- the cut that was found, or none
 pub track-rolls : (table : Table) (c : Roll) (t : TrackState) → SFits w32 c.by → is_cut t.cells c.at ≡ true → roll_track table c t ≡ roll_cut table t (to_z w32 (of_z w32 c.by)) c.at

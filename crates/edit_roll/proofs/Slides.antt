@@ -165,18 +165,18 @@ slide-still table t x y by u is way =
     still-means t (slid_later t x y) (slid_earlier t x y) (λ n. has_neighbours t.cells x y && may_move_later table t x y n) (λ n. has_neighbours t.cells x y && may_move_earlier table t x y n) by u is way
 
 pub slide-later : (table : Table) (t : TrackState) (i : ℕ) (v l r g b : ItemView) (x y n : ℕ) (by : ℤ) (u : Used) → Spot table t i v x y → Around table t x y l r → SlideUsed table t x y by u → u.way ≡ Later n
-    → g ≡ going_on (cell_in l (l.len - 1)) n → b ≡ bare_view v → slide_range table t by x y ≡ track_within_limits (spliced_track t x (y + n) (g ∷ b ∷ [])) u.done
+    → g ≡ going_on (cell_in l (l.len - 1)) n → b ≡ bare_view v → slide_range table t by x y ≡ track_within_limits (spliced_track false t x (y + n) (g ∷ b ∷ [])) u.done
 slide-later table t i v l r g b x y n by u s a is way e bare =
     later-means t (slid_later t x y) (slid_earlier t x y) (λ n. has_neighbours t.cells x y && may_move_later table t x y n) (λ n. has_neighbours t.cells x y && may_move_earlier table t x y n) n by u is way
-    ∙ (ap (λ (w : ItemView). track_within_limits (spliced_track t x (y + n) (w ∷ bare_item (cell_at t.cells x) (y - x) ∷ [])) u.done) (ap (λ (c : Cell). going_on c n) (spot-last table t a.before l (x - l.len) x a.left) ∙ sym e)
-    ∙ ap (λ (w : ItemView). track_within_limits (spliced_track t x (y + n) (g ∷ w ∷ [])) u.done) (bare_is table t i v b x y s bare))
+    ∙ (ap (λ (w : ItemView). track_within_limits (spliced_track false t x (y + n) (w ∷ bare_item (cell_at t.cells x) (y - x) ∷ [])) u.done) (ap (λ (c : Cell). going_on c n) (spot-last table t a.before l (x - l.len) x a.left) ∙ sym e)
+    ∙ ap (λ (w : ItemView). track_within_limits (spliced_track false t x (y + n) (g ∷ w ∷ [])) u.done) (bare_is table t i v b x y s bare))
 
 pub slide-earlier : (table : Table) (t : TrackState) (i : ℕ) (v l r g b : ItemView) (x y n : ℕ) (by : ℤ) (u : Used) → Spot table t i v x y → Around table t x y l r → SlideUsed table t x y by u → u.way ≡ Earlier n
-    → g ≡ reaching_back (cell_in r 0) n → b ≡ bare_view v → slide_range table t by x y ≡ track_within_limits (spliced_track t (x - n) y (b ∷ g ∷ [])) u.done
+    → g ≡ reaching_back (cell_in r 0) n → b ≡ bare_view v → slide_range table t by x y ≡ track_within_limits (spliced_track false t (x - n) y (b ∷ g ∷ [])) u.done
 slide-earlier table t i v l r g b x y n by u s a is way e bare =
     earlier-means t (slid_later t x y) (slid_earlier t x y) (λ n. has_neighbours t.cells x y && may_move_later table t x y n) (λ n. has_neighbours t.cells x y && may_move_earlier table t x y n) n by u is way
-    ∙ (ap (λ (w : ItemView). track_within_limits (spliced_track t (x - n) y (bare_item (cell_at t.cells x) (y - x) ∷ w ∷ [])) u.done) (ap (λ (c : Cell). reaching_back c n) (spot-head table t a.behind r y (y + r.len) a.right) ∙ sym e)
-    ∙ ap (λ (w : ItemView). track_within_limits (spliced_track t (x - n) y (w ∷ g ∷ [])) u.done) (bare_is table t i v b x y s bare))
+    ∙ (ap (λ (w : ItemView). track_within_limits (spliced_track false t (x - n) y (bare_item (cell_at t.cells x) (y - x) ∷ w ∷ [])) u.done) (ap (λ (c : Cell). reaching_back c n) (spot-head table t a.behind r y (y + r.len) a.right) ∙ sym e)
+    ∙ ap (λ (w : ItemView). track_within_limits (spliced_track false t (x - n) y (w ∷ g ∷ [])) u.done) (bare_is table t i v b x y s bare))
 
 -- the item that was found
 pub slide-means : (table : Table) (c : Slide) (t : TrackState) (o : Option Place) (p : Place) → SFits w32 c.by → range_of t.cells c.item ≡ option_map (λ (p : Place). (p.from, p.to)) o → o ≡ Some p

@@ -1,6 +1,6 @@
 -- What a roll means, as OpenTimelineIO's editAlgorithm names it; its limits are this project's own. The cut moves, what
 -- stands at one side grows, as an item with its number and link or as dark cells, and the other side gives way.
-use Rattle.std.specs.Prelude.{ℕ, ◌+◌, ◌-◌, ℤ, List, [], ◌∷◌, Result, Err, if◌then◌else◌}
+use Rattle.std.specs.Prelude.{ℕ, ◌+◌, ◌-◌, ℤ, List, [], ◌∷◌, Result, Err, if◌then◌else◌, false}
 use Rattle.frame_meaning.specs.Render.{cell_at}
 use Rattle.composables.specs.declared.calls.Roll.{Roll}
 use Rattle.composables.specs.declared.media.Table.{Table}
@@ -19,10 +19,10 @@ use Rattle.edit_roll.specs.Neighbours.{move_allows}
 
 -- the track with the cut n frames later, and n frames earlier
 abbrev pub rolled_later : TrackState → ℕ → ℕ → TrackState
-rolled_later t at n = spliced_track t at (at + n) (going_on (cell_at t.cells (at - 1)) n ∷ [])
+rolled_later t at n = spliced_track false t at (at + n) (going_on (cell_at t.cells (at - 1)) n ∷ [])
 
 abbrev pub rolled_earlier : TrackState → ℕ → ℕ → TrackState
-rolled_earlier t at n = spliced_track t (at - n) at (reaching_back (cell_at t.cells at) n ∷ [])
+rolled_earlier t at n = spliced_track false t (at - n) at (reaching_back (cell_at t.cells at) n ∷ [])
 
 abbrev pub rolled : TrackState → ℕ → ℤ → TrackState
 rolled t at = by_sign (rolled_later t at) (rolled_earlier t at)

@@ -1,7 +1,7 @@
 -- What a slide means, as OpenTimelineIO's editAlgorithm names it; its limits are this project's own. The item moves, with
 -- what it shows, over frames of the neighbour that it comes near, and the neighbour that it leaves grows. Where something
 -- else has its link the item must stay, since the two would no longer have one offset.
-use Rattle.std.specs.Prelude.{◌≡◌, ℕ, zero, suc, ◌+◌, ◌-◌, ℤ, pos, negsuc, ◌+ℤ◌, Bool, ◌&&◌, List, [], ◌∷◌, Option, Some, None, Result, if◌then◌else◌}
+use Rattle.std.specs.Prelude.{◌≡◌, ℕ, zero, suc, ◌+◌, ◌-◌, ℤ, pos, negsuc, ◌+ℤ◌, Bool, ◌&&◌, List, [], ◌∷◌, Option, Some, None, Result, if◌then◌else◌, false}
 use Rattle.frame_meaning.specs.declared.cells.Cell.{Cell}
 use Rattle.frame_meaning.specs.declared.cells.Link.{Link}
 use Rattle.frame_meaning.specs.Render.{cell_at}
@@ -41,12 +41,12 @@ bare_view v = record v { mark = None }
 -- the track with the item on [x, y) n frames later: what stands before it goes on, and then comes the item
 abbrev pub slid_later : TrackState → ℕ → ℕ → ℕ → TrackState
 slid_later t x y n =
-    spliced_track t x (y + n) (going_on (cell_at t.cells (x - 1)) n ∷ bare_item (cell_at t.cells x) (y - x) ∷ [])
+    spliced_track false t x (y + n) (going_on (cell_at t.cells (x - 1)) n ∷ bare_item (cell_at t.cells x) (y - x) ∷ [])
 
 -- n frames earlier: the item, and then what stands behind it reaches back
 abbrev pub slid_earlier : TrackState → ℕ → ℕ → ℕ → TrackState
 slid_earlier t x y n =
-    spliced_track t (x - n) y (bare_item (cell_at t.cells x) (y - x) ∷ reaching_back (cell_at t.cells y) n ∷ [])
+    spliced_track false t (x - n) y (bare_item (cell_at t.cells x) (y - x) ∷ reaching_back (cell_at t.cells y) n ∷ [])
 
 abbrev pub slid : TrackState → ℕ → ℕ → ℤ → TrackState
 slid t x y = by_sign (slid_later t x y) (slid_earlier t x y)

@@ -51,26 +51,26 @@ below_parts n [] ys b = (tt, b)
 below_parts n (x ∷ xs) ys b = let rest = below_parts n xs ys b.1 in ((b.0, rest.0), rest.1)
 
 -- items that stand by themselves
-pub good-alone : (table : Table) (t : TrackState) (x y : ℕ) (views : List ItemView) → IsGood table t → x ≤ y → y ≤ length t.cells → StandAlone table t x y views → IsWithinLimits (spliced_track t x y views) → IsGood table (spliced_track t x y views)
-good-alone table t x y views g order within n limits =
+pub good-alone : (keep : Bool) (table : Table) (t : TrackState) (x y : ℕ) (views : List ItemView) → IsGood table t → x ≤ y → y ≤ length t.cells → StandAlone table t x y views → IsWithinLimits (spliced_track keep t x y views) → IsGood table (spliced_track keep t x y views)
+good-alone keep table t x y views g order within n limits =
     let k = g.kept in
     let found = seams-exist t.cells x y k.whole (omega (arith, order, within)) in
     let s : Seams = found.0 in
     let fresh : ℕ = next_past_all t.next_item views in
     let stand = stand_of t k in
     let rises = next-rises t.next_item views in
-    good_parts table (spliced_track t x y views) (before_range (items_of t.cells) s.left x) views (behind_range (items_of t.cells) s.left s.right s.after y fresh)
-    (sym (cells_all t.cells x y fresh s views k.whole k.each k.apart order found.1))
-    (sound_before t.next_item t.cells x s.left stand found.1.left)
+    good_parts table (spliced_track keep t x y views) (before_range keep (items_of t.cells) s.left x) views (behind_range keep (items_of t.cells) s.left s.right s.after y fresh)
+    (sym (cells_all keep t.cells x y fresh s views k.whole k.each k.apart order found.1))
+    (sound_before keep t.next_item t.cells x s.left stand found.1.left)
     (sound_alone table t x y views n)
-    (sound_behind t.next_item fresh t.cells y s.left s.right s.after rises stand found.1.right found.1.after)
-    (foreign-before t x y s.left views stand found.1.left n.free)
-    (foreign_sides t.next_item fresh t.cells x y s.left s.right s.after rises order stand found.1.left found.1.right found.1.after)
-    (foreign-behind t fresh x y s.left s.right s.after views rises (below-next t.next_item views) stand found.1.right found.1.after n.free)
-    (lie-before table t.number t.cells x s.left (lie_good table t g) found.1.left)
+    (sound_behind keep t.next_item fresh t.cells y s.left s.right s.after rises stand found.1.right found.1.after)
+    (foreign-before keep t x y s.left views stand found.1.left n.free)
+    (foreign_sides keep t.next_item fresh t.cells x y s.left s.right s.after rises order stand found.1.left found.1.right found.1.after)
+    (foreign-behind keep t fresh x y s.left s.right s.after views rises (below-next t.next_item views) stand found.1.right found.1.after n.free)
+    (lie-before keep table t.number t.cells x s.left (lie_good table t g) found.1.left)
     (lie_alone table t x y views n)
-    (lie-behind table t.number fresh t.cells y s.left s.right s.after (lie_good table t g) found.1.right found.1.after)
-    (below_all t.next_item t.cells x y s views k.whole k.below order found.1)
+    (lie-behind keep table t.number fresh t.cells y s.left s.right s.after (lie_good table t g) found.1.right found.1.after)
+    (below_all keep t.next_item t.cells x y s views k.whole k.below order found.1)
     limits
 
 -- the one that goes on
@@ -80,9 +80,9 @@ left_held t x i from v k s =
     let some = (holds-read (items_of t.cells) i v s.read k.each).0.filled in
     (omega (arith, end, some), record { read = s.read; from = s.starts; begins = omega (arith, end, some); ends = omega (arith, end, some) })
 
-pub good-going-on : (table : Table) (t : TrackState) (x y : ℕ) (v : ItemView) (views : List ItemView) → IsGood table t → x ≤ y → y ≤ length t.cells → GoesOn table t x v → StandAlone table t x y views
-    → IsWithinLimits (spliced_track t x y (v ∷ views)) → IsGood table (spliced_track t x y (v ∷ views))
-good-going-on table t x y v views g order within on n limits =
+pub good-going-on : (keep : Bool) (table : Table) (t : TrackState) (x y : ℕ) (v : ItemView) (views : List ItemView) → IsGood table t → x ≤ y → y ≤ length t.cells → GoesOn table t x v → StandAlone table t x y views
+    → IsWithinLimits (spliced_track keep t x y (v ∷ views)) → IsGood table (spliced_track keep t x y (v ∷ views))
+good-going-on keep table t x y v views g order within on n limits =
     let k = g.kept in
     let vs : List ItemView = items_of t.cells in
     let h : Held = record { index = on.index; from = on.from; view = on.before } in
@@ -94,8 +94,8 @@ good-going-on table t x y v views g order within on n limits =
     let stand = stand_of t k in
     let rises = next-rises t.next_item (v ∷ views) in
     let us : List ItemView = take on.index vs in
-    let f : ItemView = front_view on.before (x - on.from) in
-    let zs : List ItemView = behind_range vs s.left s.right s.after y fresh in
+    let f : ItemView = front_view keep on.before (x - on.from) in
+    let zs : List ItemView = behind_range keep vs s.left s.right s.after y fresh in
     let end = frames_to vs on.index on.before on.from x on.stands in
     let some : 0 < x - on.from = omega (arith, l.0, l.1.begins) in
     let len : on.before.len ≡ x - on.from = omega (arith, end) in
@@ -104,21 +104,21 @@ good-going-on table t x y v views g order within on n limits =
     let R : Side What → Type 0 = λ d. SideLiesIn table d v.len 0 0 in
     let cells = cells-longer f v some on.part.bare on.item on.link side in
     let row = cells_of-append ((us ++ f ∷ []) ++ v ∷ views) zs ∙ (ap (λ cs. cs ++ cells_of zs) (cells-on us f (longer f v.len) v views cells) ∙ sym (cells_of-append ((us ++ longer f v.len ∷ []) ++ views) zs)) in
-    let all = below_all t.next_item t.cells x y s (v ∷ views) k.whole k.below order seams in
-    let m : ℕ = (spliced_track t x y (v ∷ views)).next_item in
+    let all = below_all keep t.next_item t.cells x y s (v ∷ views) k.whole k.below order seams in
+    let m : ℕ = (spliced_track keep t x y (v ∷ views)).next_item in
     let parts = below_parts m ((us ++ f ∷ []) ++ v ∷ views) zs all in
     let inner = below_parts m (us ++ f ∷ []) (v ∷ views) parts.0 in
-    good_parts table (spliced_track t x y (v ∷ views)) (us ++ longer f v.len ∷ []) views zs
-    (sym (cells_all t.cells x y fresh s (v ∷ views) k.whole k.each k.apart order seams) ∙ row)
-    (sound-on us f v.len (sound_before t.next_item t.cells x s.left stand l) (subst S side on.part.source))
+    good_parts table (spliced_track keep t x y (v ∷ views)) (us ++ longer f v.len ∷ []) views zs
+    (sym (cells_all keep t.cells x y fresh s (v ∷ views) k.whole k.each k.apart order seams) ∙ row)
+    (sound-on us f v.len (sound_before keep t.next_item t.cells x s.left stand l) (subst S side on.part.source))
     (sound_alone table t x y views n)
-    (sound_behind t.next_item fresh t.cells y s.left s.right s.after rises stand r.1 refl)
-    (foreign-on us f v.len views (foreign-before t x y s.left views stand l n.free))
-    (foreign-on us f v.len zs (foreign_sides t.next_item fresh t.cells x y s.left s.right s.after rises order stand l r.1 refl))
-    (foreign-behind t fresh x y s.left s.right s.after views rises (below-next t.next_item (v ∷ views)).1 stand r.1 refl n.free)
-    (lie-on table t.number us f v.len (lie-before table t.number t.cells x s.left (lie_good table t g) l) (subst R side on.part.range))
+    (sound_behind keep t.next_item fresh t.cells y s.left s.right s.after rises stand r.1 refl)
+    (foreign-on us f v.len views (foreign-before keep t x y s.left views stand l n.free))
+    (foreign-on us f v.len zs (foreign_sides keep t.next_item fresh t.cells x y s.left s.right s.after rises order stand l r.1 refl))
+    (foreign-behind keep t fresh x y s.left s.right s.after views rises (below-next t.next_item (v ∷ views)).1 stand r.1 refl n.free)
+    (lie-on table t.number us f v.len (lie-before keep table t.number t.cells x s.left (lie_good table t g) l) (subst R side on.part.range))
     (lie_alone table t x y views n)
-    (lie-behind table t.number fresh t.cells y s.left s.right s.after (lie_good table t g) r.1 refl)
+    (lie-behind keep table t.number fresh t.cells y s.left s.right s.after (lie_good table t g) r.1 refl)
     (below-append m ((us ++ longer f v.len ∷ []) ++ views) zs (below-append m (us ++ longer f v.len ∷ []) views (below-on m us f v.len inner.0) inner.1.1) parts.1)
     limits
 
@@ -143,9 +143,9 @@ before_it : (t : TrackState) (x y : ℕ) (l : Option Held) (h : Held) → x ≤ 
 before_it t x y None h le at is e = tt
 before_it t x y (Some g) h le at is e = (e.1.read, frames_less (items_of t.cells) g.index h.index (omega (arith, le, at, is, e.0, e.1.from, e.1.begins)))
 
-pub good-reaching-back : (table : Table) (t : TrackState) (x y : ℕ) (v : ItemView) (views : List ItemView) → IsGood table t → x ≤ y → y ≤ length t.cells → ReachesBack table t y v → StandAlone table t x y views
-    → IsWithinLimits (spliced_track t x y (views ++ v ∷ [])) → IsGood table (spliced_track t x y (views ++ v ∷ []))
-good-reaching-back table t x y v views g order within back n limits =
+pub good-reaching-back : (keep : Bool) (table : Table) (t : TrackState) (x y : ℕ) (v : ItemView) (views : List ItemView) → IsGood table t → x ≤ y → y ≤ length t.cells → ReachesBack table t y v → StandAlone table t x y views
+    → IsWithinLimits (spliced_track keep t x y (views ++ v ∷ [])) → IsGood table (spliced_track keep t x y (views ++ v ∷ []))
+good-reaching-back keep table t x y v views g order within back n limits =
     let k = g.kept in
     let vs : List ItemView = items_of t.cells in
     let h : Held = record { index = back.index; from = y; view = back.after } in
@@ -157,48 +157,48 @@ good-reaching-back table t x y v views g order within back n limits =
     let fresh : ℕ = next_past_all t.next_item put in
     let stand = stand_of t k in
     let rises = next-rises t.next_item put in
-    let bs : List ItemView = before_range vs s.left x in
+    let bs : List ItemView = before_range keep vs s.left x in
     let ws : List ItemView = drop (suc back.index) vs in
     let none : y - y ≡ 0 = omega arith in
     let b : ItemView = later_view back.after 0 in
-    let zs : List ItemView = first_kept (back.after.len - (y - y)) ws in
+    let zs : List ItemView = first_kept keep (back.after.len - (y - y)) ws in
     let split = cut_whole vs s.left h k.apart back.stands.read (before_it t x y s.left h order refl back.stands.starts l.1) in
-    let one : behind_range vs s.left s.right s.after y fresh ≡ b ∷ zs =
-    behind_is vs s.left h s.after y fresh refl
+    let one : behind_range keep vs s.left s.right s.after y fresh ≡ b ∷ zs =
+    behind_is keep vs s.left h s.after y fresh refl
     ∙ (ap (λ (o : Option ℕ). renumbered_view o fresh (later_view back.after (y - y)) ∷ zs) split ∙ ap (λ (j : ℕ). later_view back.after j ∷ zs) none) in
     let side : b.first ≡ later_side v.first v.len = later-zero back.after.first ∙ back.side in
     let P : List ItemView → Type 0 = λ ds. Sound ds in
     let Q : List ItemView → Type 0 = λ ds. Lie table t.number ds in
     let F : List ItemView → Type 0 = λ ds. Foreign bs ds in
     let V : List ItemView → Type 0 = λ ds. Foreign views ds in
-    let m : ℕ = (spliced_track t x y put).next_item in
+    let m : ℕ = (spliced_track keep t x y put).next_item in
     let N : List ItemView → Type 0 = λ ds. NumbersBelow m ((bs ++ put) ++ ds) in
     let w : ItemView = longer v b.len in
     let cells : view_cells w ≡ view_cells v ++ view_cells b = cells-longer v b back.part.filled refl (sym back.item) (sym back.link) side in
     let row : cells_of ((bs ++ put) ++ b ∷ zs) ≡ cells_of ((bs ++ views) ++ w ∷ zs) =
     ap (λ ds. cells_of (ds ++ b ∷ zs)) (sym (append_assoc bs views (v ∷ []))) ∙ cells-back (bs ++ views) v b w zs cells in
-    let all = subst N one (below_all t.next_item t.cells x y s put k.whole k.below order seams) in
+    let all = subst N one (below_all keep t.next_item t.cells x y s put k.whole k.below order seams) in
     let parts = below_parts m (bs ++ put) (b ∷ zs) all in
     let inner = below_parts m bs put parts.0 in
-    good_parts table (spliced_track t x y put) bs views (w ∷ zs)
-    (sym (cells_all t.cells x y fresh s put k.whole k.each k.apart order seams) ∙ (ap (λ ds. cells_of ((bs ++ put) ++ ds)) one ∙ row))
-    (sound_before t.next_item t.cells x s.left stand l.1)
+    good_parts table (spliced_track keep t x y put) bs views (w ∷ zs)
+    (sym (cells_all keep t.cells x y fresh s put k.whole k.each k.apart order seams) ∙ (ap (λ ds. cells_of ((bs ++ put) ++ ds)) one ∙ row))
+    (sound_before keep t.next_item t.cells x s.left stand l.1)
     (sound_alone table t x y views n)
-    (sound-back v b zs (subst P one (sound_behind t.next_item fresh t.cells y s.left s.right s.after rises stand r refl)) back.part.bare back.item back.link side back.part.source)
-    (foreign-before t x y s.left views stand l.1 n.free)
-    (foreign-same v b b.len zs bs back.item (subst F one (foreign_sides t.next_item fresh t.cells x y s.left s.right s.after rises order stand l.1 r refl)))
-    (foreign-same v b b.len zs views back.item (subst V one (foreign-behind t fresh x y s.left s.right s.after views rises (below_parts fresh views (v ∷ []) (below-next t.next_item put)).0 stand r refl n.free)))
-    (lie-before table t.number t.cells x s.left (lie_good table t g) l.1)
+    (sound-back v b zs (subst P one (sound_behind keep t.next_item fresh t.cells y s.left s.right s.after rises stand r refl)) back.part.bare back.item back.link side back.part.source)
+    (foreign-before keep t x y s.left views stand l.1 n.free)
+    (foreign-same v b b.len zs bs back.item (subst F one (foreign_sides keep t.next_item fresh t.cells x y s.left s.right s.after rises order stand l.1 r refl)))
+    (foreign-same v b b.len zs views back.item (subst V one (foreign-behind keep t fresh x y s.left s.right s.after views rises (below_parts fresh views (v ∷ []) (below-next t.next_item put)).0 stand r refl n.free)))
+    (lie-before keep table t.number t.cells x s.left (lie_good table t g) l.1)
     (lie_alone table t x y views n)
-    (lie-back table t.number v b zs (subst Q one (lie-behind table t.number fresh t.cells y s.left s.right s.after (lie_good table t g) r refl)) back.part.bare back.link side back.part.range)
+    (lie-back table t.number v b zs (subst Q one (lie-behind keep table t.number fresh t.cells y s.left s.right s.after (lie_good table t g) r refl)) back.part.bare back.link side back.part.range)
     (below-append m (bs ++ views) (w ∷ zs) (below-append m bs views inner.0 (below_parts m views (v ∷ []) inner.1).0) (below-same m v b b.len zs back.item parts.1))
     limits
 
 -- all that may be put in
-pub good-parts : (table : Table) (t : TrackState) (x y : ℕ) (views : List ItemView) → IsGood table t → x ≤ y → y ≤ length t.cells → MayBePutIn table t x y views → IsWithinLimits (spliced_track t x y views) → IsGood table (spliced_track t x y views)
-good-parts table t x y views g order within (alone {views = vs} n) limits = good-alone table t x y vs g order within n limits
-good-parts table t x y views g order within (going_on {view = v} {views = vs} on n) limits = good-going-on table t x y v vs g order within on n limits
-good-parts table t x y views g order within (reaching_back {view = v} {views = vs} back n) limits = good-reaching-back table t x y v vs g order within back n limits
+pub good-parts : (keep : Bool) (table : Table) (t : TrackState) (x y : ℕ) (views : List ItemView) → IsGood table t → x ≤ y → y ≤ length t.cells → MayBePutIn table t x y views → IsWithinLimits (spliced_track keep t x y views) → IsGood table (spliced_track keep t x y views)
+good-parts keep table t x y views g order within (alone {views = vs} n) limits = good-alone keep table t x y vs g order within n limits
+good-parts keep table t x y views g order within (going_on {view = v} {views = vs} on n) limits = good-going-on keep table t x y v vs g order within on n limits
+good-parts keep table t x y views g order within (reaching_back {view = v} {views = vs} back n) limits = good-reaching-back keep table t x y v vs g order within back n limits
 
 -- new items are among them
 free_new : (t : TrackState) (x y : ℕ) (views : List ItemView) → NumbersFrom t.next_item views → AllFree t x y views

@@ -67,30 +67,30 @@ foreign-new n (x ∷ xs) ys b f =
     (if_known x.item (λ i. Lacks i ys) (λ i e. lacks_from n i ys f (known x.item i (λ j. j < n) b.0 e)), foreign-new n xs ys b.1 f)
 
 -- the items before the range
-lacks_front : (i : ℕ) (us : List ItemView) (v : ItemView) (ws : List ItemView) (n : ℕ) → Lacks i (us ++ v ∷ ws) → Lacks i (us ++ front_view v n ∷ [])
-lacks_front i [] v ws n l = (l.0, tt)
-lacks_front i (u ∷ us) v ws n l = (l.0, lacks_front i us v ws n l.1)
+lacks_front : (keep : Bool) (i : ℕ) (us : List ItemView) (v : ItemView) (ws : List ItemView) (n : ℕ) → Lacks i (us ++ v ∷ ws) → Lacks i (us ++ front_view keep v n ∷ [])
+lacks_front keep i [] v ws n l = (l.0, tt)
+lacks_front keep i (u ∷ us) v ws n l = (l.0, lacks_front keep i us v ws n l.1)
 
 lacks_nothing : (o : Option ℕ) → IfSome o (λ i. Lacks i [])
 lacks_nothing None = tt
 lacks_nothing (Some i) = tt
 
-pub apart-front : (us : List ItemView) (v : ItemView) (ws : List ItemView) (n : ℕ) → Apart (us ++ v ∷ ws) → Apart (us ++ front_view v n ∷ [])
-apart-front [] v ws n a = (lacks_nothing v.item, tt)
-apart-front (u ∷ us) v ws n a = (if-lacks u.item (us ++ v ∷ ws) (us ++ front_view v n ∷ []) (λ i. lacks_front i us v ws n) a.0, apart-front us v ws n a.1)
+pub apart-front : (keep : Bool) (us : List ItemView) (v : ItemView) (ws : List ItemView) (n : ℕ) → Apart (us ++ v ∷ ws) → Apart (us ++ front_view keep v n ∷ [])
+apart-front keep [] v ws n a = (lacks_nothing v.item, tt)
+apart-front keep (u ∷ us) v ws n a = (if-lacks u.item (us ++ v ∷ ws) (us ++ front_view keep v n ∷ []) (λ i. lacks_front keep i us v ws n) a.0, apart-front keep us v ws n a.1)
 
-pub below-front : (m : ℕ) (us : List ItemView) (v : ItemView) (ws : List ItemView) (n : ℕ) → NumbersBelow m (us ++ v ∷ ws) → NumbersBelow m (us ++ front_view v n ∷ [])
-below-front m [] v ws n b = (b.0, tt)
-below-front m (u ∷ us) v ws n b = (b.0, below-front m us v ws n b.1)
+pub below-front : (keep : Bool) (m : ℕ) (us : List ItemView) (v : ItemView) (ws : List ItemView) (n : ℕ) → NumbersBelow m (us ++ v ∷ ws) → NumbersBelow m (us ++ front_view keep v n ∷ [])
+below-front keep m [] v ws n b = (b.0, tt)
+below-front keep m (u ∷ us) v ws n b = (b.0, below-front keep m us v ws n b.1)
 
 -- those behind it
-lacks_kept : (i n : ℕ) (ws : List ItemView) → Lacks i ws → Lacks i (first_kept n ws)
-lacks_kept i n [] l = tt
-lacks_kept i n (w ∷ ws) l = l
+lacks_kept : (keep : Bool) (i n : ℕ) (ws : List ItemView) → Lacks i ws → Lacks i (first_kept keep n ws)
+lacks_kept keep i n [] l = tt
+lacks_kept keep i n (w ∷ ws) l = l
 
-apart_kept : (n : ℕ) (ws : List ItemView) → Apart ws → Apart (first_kept n ws)
-apart_kept n [] a = tt
-apart_kept n (w ∷ ws) a = a
+apart_kept : (keep : Bool) (n : ℕ) (ws : List ItemView) → Apart ws → Apart (first_kept keep n ws)
+apart_kept keep n [] a = tt
+apart_kept keep n (w ∷ ws) a = a
 
 other_number : (s : Option ℕ) (fresh i : ℕ) (v : ItemView) → v.item ≢ Some i → i ≢ fresh → (renumbered_view s fresh v).item ≢ Some i
 other_number None fresh i v ne off = ne
@@ -99,40 +99,40 @@ other_number (Some j) fresh i v ne off = by_test (same_number v.item (Some j)) w
   by_test true = λ e. (let same : i ≡ fresh = cc in off same)
   by_test false = ne
 
-pub lacks_back : (s : Option ℕ) (fresh k n i : ℕ) (v : ItemView) (ws : List ItemView) → i ≢ fresh → Lacks i (v ∷ ws) → Lacks i (renumbered_view s fresh (later_view v k) ∷ first_kept n ws)
-lacks_back s fresh k n i v ws off l = (other_number s fresh i (later_view v k) l.0 off, lacks_kept i n ws l.1)
+pub lacks_back : (keep : Bool) (s : Option ℕ) (fresh k n i : ℕ) (v : ItemView) (ws : List ItemView) → i ≢ fresh → Lacks i (v ∷ ws) → Lacks i (renumbered_view s fresh (later_view v k) ∷ first_kept keep n ws)
+lacks_back keep s fresh k n i v ws off l = (other_number s fresh i (later_view v k) l.0 off, lacks_kept keep i n ws l.1)
 
-pub apart-back : (s : Option ℕ) (fresh k n : ℕ) (v : ItemView) (ws : List ItemView) → Apart (v ∷ ws) → Lacks fresh ws → Apart (renumbered_view s fresh (later_view v k) ∷ first_kept n ws)
-apart-back s fresh k n v ws a l = (lacking s, apart_kept n ws a.1) where
-  own : IfSome v.item (λ i. Lacks i (first_kept n ws))
-  own = if-lacks v.item ws (first_kept n ws) (λ i. lacks_kept i n ws) a.0
+pub apart-back : (keep : Bool) (s : Option ℕ) (fresh k n : ℕ) (v : ItemView) (ws : List ItemView) → Apart (v ∷ ws) → Lacks fresh ws → Apart (renumbered_view s fresh (later_view v k) ∷ first_kept keep n ws)
+apart-back keep s fresh k n v ws a l = (lacking s, apart_kept keep n ws a.1) where
+  own : IfSome v.item (λ i. Lacks i (first_kept keep n ws))
+  own = if-lacks v.item ws (first_kept keep n ws) (λ i. lacks_kept keep i n ws) a.0
 
-  lacking : (s : Option ℕ) → IfSome (renumbered_view s fresh (later_view v k)).item (λ i. Lacks i (first_kept n ws))
+  lacking : (s : Option ℕ) → IfSome (renumbered_view s fresh (later_view v k)).item (λ i. Lacks i (first_kept keep n ws))
   lacking None = own
   lacking (Some j) =
-      cond_both (same_number v.item (Some j)) (record (later_view v k) { item = Some fresh }) (later_view v k) (λ (w : ItemView). IfSome w.item (λ i. Lacks i (first_kept n ws)))
-      (λ t. lacks_kept fresh n ws l) (λ t. own)
+      cond_both (same_number v.item (Some j)) (record (later_view v k) { item = Some fresh }) (later_view v k) (λ (w : ItemView). IfSome w.item (λ i. Lacks i (first_kept keep n ws)))
+      (λ t. lacks_kept keep fresh n ws l) (λ t. own)
 
 -- the new items are not among those behind it
 pub less_other : (i n : ℕ) → i < n → i ≢ n
 less_other i n h e = omega (arith, h, e)
 
-pub foreign-back-new : (s : Option ℕ) (next fresh k n : ℕ) (xs : List ItemView) (v : ItemView) (ws : List ItemView) → NumbersFrom next xs → NumbersBelow fresh xs → NumbersBelow next (v ∷ ws)
-    → Foreign xs (renumbered_view s fresh (later_view v k) ∷ first_kept n ws)
-foreign-back-new s next fresh k n [] v ws f b old = tt
-foreign-back-new s next fresh k n (x ∷ xs) v ws f b old = (
-  if_known x.item (λ i. Lacks i (renumbered_view s fresh (later_view v k) ∷ first_kept n ws))
-      (λ i e. lacks_back s fresh k n i v ws (less_other i fresh (known x.item i (λ j. j < fresh) b.0 e)) (lacks-below next i (v ∷ ws) old (known x.item i (λ j. next ≤ j) f.0 e))),
-  foreign-back-new s next fresh k n xs v ws f.1 b.1 old,
+pub foreign-back-new : (keep : Bool) (s : Option ℕ) (next fresh k n : ℕ) (xs : List ItemView) (v : ItemView) (ws : List ItemView) → NumbersFrom next xs → NumbersBelow fresh xs → NumbersBelow next (v ∷ ws)
+    → Foreign xs (renumbered_view s fresh (later_view v k) ∷ first_kept keep n ws)
+foreign-back-new keep s next fresh k n [] v ws f b old = tt
+foreign-back-new keep s next fresh k n (x ∷ xs) v ws f b old = (
+  if_known x.item (λ i. Lacks i (renumbered_view s fresh (later_view v k) ∷ first_kept keep n ws))
+      (λ i e. lacks_back keep s fresh k n i v ws (less_other i fresh (known x.item i (λ j. j < fresh) b.0 e)) (lacks-below next i (v ∷ ws) old (known x.item i (λ j. next ≤ j) f.0 e))),
+  foreign-back-new keep s next fresh k n xs v ws f.1 b.1 old,
 )
 
 -- nor are those before it
-foreign_back : (s : Option ℕ) (fresh k n : ℕ) (xs : List ItemView) (v : ItemView) (ws : List ItemView) → NumbersBelow fresh xs → Foreign xs (v ∷ ws) → Foreign xs (renumbered_view s fresh (later_view v k) ∷ first_kept n ws)
-foreign_back s fresh k n [] v ws b f = tt
-foreign_back s fresh k n (x ∷ xs) v ws b f = (
-  if_known x.item (λ i. Lacks i (renumbered_view s fresh (later_view v k) ∷ first_kept n ws))
-      (λ i e. lacks_back s fresh k n i v ws (less_other i fresh (known x.item i (λ j. j < fresh) b.0 e)) (known x.item i (λ j. Lacks j (v ∷ ws)) f.0 e)),
-  foreign_back s fresh k n xs v ws b.1 f.1,
+foreign_back : (keep : Bool) (s : Option ℕ) (fresh k n : ℕ) (xs : List ItemView) (v : ItemView) (ws : List ItemView) → NumbersBelow fresh xs → Foreign xs (v ∷ ws) → Foreign xs (renumbered_view s fresh (later_view v k) ∷ first_kept keep n ws)
+foreign_back keep s fresh k n [] v ws b f = tt
+foreign_back keep s fresh k n (x ∷ xs) v ws b f = (
+  if_known x.item (λ i. Lacks i (renumbered_view s fresh (later_view v k) ∷ first_kept keep n ws))
+      (λ i e. lacks_back keep s fresh k n i v ws (less_other i fresh (known x.item i (λ j. j < fresh) b.0 e)) (known x.item i (λ j. Lacks j (v ∷ ws)) f.0 e)),
+  foreign_back keep s fresh k n xs v ws b.1 f.1,
 )
 
 lacks_drop : (i j : ℕ) (vs : List ItemView) → Lacks i vs → Lacks i (drop j vs)
@@ -170,16 +170,16 @@ cut_number g h fresh k i is lt = by_test (same_number g.view.item h.view.item) r
       let never : true ≡ false = sym same ∙ e in
       absurd cc)
 
-pub foreign-front : (vs : List ItemView) (g h : Held) (m fresh k n : ℕ) → slice_get vs g.index ≡ Some g.view → drop h.index vs ≡ h.view ∷ drop (suc h.index) vs → g.index ≤ h.index → Apart vs
+pub foreign-front : (keep : Bool) (vs : List ItemView) (g h : Held) (m fresh k n : ℕ) → slice_get vs g.index ≡ Some g.view → drop h.index vs ≡ h.view ∷ drop (suc h.index) vs → g.index ≤ h.index → Apart vs
     → NumbersBelow fresh (take g.index vs) → IfSome g.view.item (λ i. i < fresh)
-    → Foreign (take g.index vs ++ front_view g.view m ∷ []) (renumbered_view (split_between (Some g) (Some h)) fresh (later_view h.view k) ∷ first_kept n (drop (suc h.index) vs))
-foreign-front vs g h m fresh k n read cut le a below own =
+    → Foreign (take g.index vs ++ front_view keep g.view m ∷ []) (renumbered_view (split_between (Some g) (Some h)) fresh (later_view h.view k) ∷ first_kept keep n (drop (suc h.index) vs))
+foreign-front keep vs g h m fresh k n read cut le a below own =
     let ws : List ItemView = drop (suc h.index) vs in
     let s : Option ℕ = split_between (Some g) (Some h) in
     let P : List ItemView → Type 0 = λ zs. Foreign (take g.index vs) zs in
-    foreign-append (take g.index vs) (front_view g.view m ∷ []) (renumbered_view s fresh (later_view h.view k) ∷ first_kept n ws)
-    (foreign_back s fresh k n (take g.index vs) h.view ws below (subst P cut (foreign_apart vs g.index h.index le a))) (
-      if_known g.view.item (λ i. Lacks i (renumbered_view s fresh (later_view h.view k) ∷ first_kept n ws))
-          (λ i e. (cut_number g h fresh k i e (known g.view.item i (λ j. j < fresh) own e), lacks_kept i n ws (known g.view.item i (λ j. Lacks j ws) (item_lacks vs g.index h.index g.view read le a) e))),
+    foreign-append (take g.index vs) (front_view keep g.view m ∷ []) (renumbered_view s fresh (later_view h.view k) ∷ first_kept keep n ws)
+    (foreign_back keep s fresh k n (take g.index vs) h.view ws below (subst P cut (foreign_apart vs g.index h.index le a))) (
+      if_known g.view.item (λ i. Lacks i (renumbered_view s fresh (later_view h.view k) ∷ first_kept keep n ws))
+          (λ i e. (cut_number g h fresh k i e (known g.view.item i (λ j. j < fresh) own e), lacks_kept keep i n ws (known g.view.item i (λ j. Lacks j ws) (item_lacks vs g.index h.index g.view read le a) e))),
       tt,
     )

@@ -110,8 +110,8 @@ only-one n (t ∷ ts) own r e = by (eqb t.number n) refl e (only-one n ts own r.
     not_both false p q = Prim.grind (arith, q)
 
 -- on another track
-other_moved : (s : Shift) (t : TrackState) → t.number ≢ s.own → shifted_track s.own s.x s.y (new_views s.new) t ≡ moved s t
-other_moved s t n = along ∙ sym (ap (λ (vs : List ItemView). spliced_track t (min s.x (length t.cells)) (min s.y (length t.cells)) vs) (put-other s t n)) where
+other_moved : (s : Shift) (t : TrackState) → t.number ≢ s.own → shifted_track s.keep s.own s.x s.y (new_views s.new) t ≡ moved s t
+other_moved s t n = along ∙ sym (ap (λ (vs : List ItemView). spliced_track s.keep t (min s.x (length t.cells)) (min s.y (length t.cells)) vs) (put-other s t n)) where
   not_own : eqb t.number s.own ≡ false
   not_own = by (eqb t.number s.own) refl where
     by : (b : Bool) → eqb t.number s.own ≡ b → b ≡ false
@@ -122,35 +122,35 @@ other_moved s t n = along ∙ sym (ap (λ (vs : List ItemView). spliced_track t 
   frames None = refl
   frames (Some v) = omega arith
 
-  along : shifted_track s.own s.x s.y (new_views s.new) t ≡ spliced_track t (min s.x (length t.cells)) (min s.y (length t.cells)) (cond (ltb s.x (length t.cells)) (gap_views (new_len s.new)) [])
+  along : shifted_track s.keep s.own s.x s.y (new_views s.new) t ≡ spliced_track s.keep t (min s.x (length t.cells)) (min s.y (length t.cells)) (cond (ltb s.x (length t.cells)) (gap_views (new_len s.new)) [])
   along =
-      ap (λ (b : Bool). cond b (spliced_track t s.x s.y (new_views s.new)) (shifted_along t s.x s.y (frames_in (new_views s.new)))) not_own
-      ∙ ap (λ (k : ℕ). shifted_along t s.x s.y k) (frames s.new)
+      ap (λ (b : Bool). cond b (spliced_track s.keep t s.x s.y (new_views s.new)) (shifted_along s.keep t s.x s.y (frames_in (new_views s.new)))) not_own
+      ∙ ap (λ (k : ℕ). shifted_along s.keep t s.x s.y k) (frames s.new)
 
 -- on the own track, which an insert pads
-padded_moved : (s : Shift) (t : TrackState) → IsKept t → t.number ≡ s.own → s.y ≡ s.x → shifted_track s.own s.x s.y (new_views s.new) (padded_track t s.x) ≡ moved s t
+padded_moved : (s : Shift) (t : TrackState) → IsKept t → t.number ≡ s.own → s.y ≡ s.x → shifted_track s.keep s.own s.x s.y (new_views s.new) (padded_track t s.x) ≡ moved s t
 padded_moved s t kept e f =
-    ap (λ (b : Bool). cond b (spliced_track (padded_track t s.x) s.x s.y (new_views s.new)) (shifted_along (padded_track t s.x) s.x s.y (frames_in (new_views s.new)))) (eq-eqb t.number s.own e)
-    ∙ ap (λ (y : ℕ). spliced_track (padded_track t s.x) s.x y (new_views s.new)) (f ∙ padded-reaches t s.x)
-    ∙ padded-put t s.x s.x (new_views s.new) kept (omega arith)
-    ∙ ap (λ (y : ℕ). spliced_track t (min s.x (length t.cells)) (min y (length t.cells)) (gap_views (s.x - length t.cells) ++ new_views s.new)) (sym f)
-    ∙ sym (ap (λ (vs : List ItemView). spliced_track t (min s.x (length t.cells)) (min s.y (length t.cells)) vs) (put-own s t e))
+    ap (λ (b : Bool). cond b (spliced_track s.keep (padded_track t s.x) s.x s.y (new_views s.new)) (shifted_along s.keep (padded_track t s.x) s.x s.y (frames_in (new_views s.new)))) (eq-eqb t.number s.own e)
+    ∙ ap (λ (y : ℕ). spliced_track s.keep (padded_track t s.x) s.x y (new_views s.new)) (f ∙ padded-reaches t s.x)
+    ∙ padded-put s.keep t s.x s.x (new_views s.new) kept (omega arith)
+    ∙ ap (λ (y : ℕ). spliced_track s.keep t (min s.x (length t.cells)) (min y (length t.cells)) (gap_views (s.x - length t.cells) ++ new_views s.new)) (sym f)
+    ∙ sym (ap (λ (vs : List ItemView). spliced_track s.keep t (min s.x (length t.cells)) (min s.y (length t.cells)) vs) (put-own s t e))
 
 -- and which an extract finds long enough
-own_moved : (s : Shift) (t : TrackState) → t.number ≡ s.own → s.x ≤ length t.cells → s.y ≤ length t.cells → shifted_track s.own s.x s.y (new_views s.new) t ≡ moved s t
+own_moved : (s : Shift) (t : TrackState) → t.number ≡ s.own → s.x ≤ length t.cells → s.y ≤ length t.cells → shifted_track s.keep s.own s.x s.y (new_views s.new) t ≡ moved s t
 own_moved s t e h k =
     let z : s.x - length t.cells ≡ 0 = omega (arith, h) in
     let x : s.x ≡ min s.x (length t.cells) = omega (arith, h) in
     let y : s.y ≡ min s.y (length t.cells) = omega (arith, k) in
-    ap (λ (b : Bool). cond b (spliced_track t s.x s.y (new_views s.new)) (shifted_along t s.x s.y (frames_in (new_views s.new)))) (eq-eqb t.number s.own e)
-    ∙ ap (λ (n : ℕ). spliced_track t n s.y (new_views s.new)) x
-    ∙ ap (λ (n : ℕ). spliced_track t (min s.x (length t.cells)) n (new_views s.new)) y
-    ∙ sym (ap (λ (vs : List ItemView). spliced_track t (min s.x (length t.cells)) (min s.y (length t.cells)) vs) (put-own s t e ∙ ap (λ (n : ℕ). gap_views n ++ new_views s.new) z))
+    ap (λ (b : Bool). cond b (spliced_track s.keep t s.x s.y (new_views s.new)) (shifted_along s.keep t s.x s.y (frames_in (new_views s.new)))) (eq-eqb t.number s.own e)
+    ∙ ap (λ (n : ℕ). spliced_track s.keep t n s.y (new_views s.new)) x
+    ∙ ap (λ (n : ℕ). spliced_track s.keep t (min s.x (length t.cells)) n (new_views s.new)) y
+    ∙ sym (ap (λ (vs : List ItemView). spliced_track s.keep t (min s.x (length t.cells)) (min s.y (length t.cells)) vs) (put-own s t e ∙ ap (λ (n : ℕ). gap_views n ++ new_views s.new) z))
 
-rest_moved : (s : Shift) (ts : List TrackState) → All (λ (t : TrackState). t.number ≢ s.own) ts → shifted s.own s.x s.y (new_views s.new) ts ≡ all_moved s ts
+rest_moved : (s : Shift) (ts : List TrackState) → All (λ (t : TrackState). t.number ≢ s.own) ts → shifted s.keep s.own s.x s.y (new_views s.new) ts ≡ all_moved s ts
 rest_moved s [] h = refl
 rest_moved s (t ∷ ts) h =
-    ap (λ (u : TrackState). u ∷ shifted s.own s.x s.y (new_views s.new) ts) (other_moved s t (all_head (λ (t : TrackState). t.number ≢ s.own) t ts h))
+    ap (λ (u : TrackState). u ∷ shifted s.keep s.own s.x s.y (new_views s.new) ts) (other_moved s t (all_head (λ (t : TrackState). t.number ≢ s.own) t ts h))
     ∙ ap (λ (us : List TrackState). moved s t ∷ us) (rest_moved s ts (all_tail (λ (t : TrackState). t.number ≢ s.own) t ts h))
 
 neq_from : (a b : ℕ) → eqb a b ≡ false → a ≢ b
@@ -159,34 +159,34 @@ neq_from a b f e = true_not (sym (eq-eqb a b e) ∙ f) where
   true_not p = Prim.grind (arith, p)
 
 pub insert-moved : (s : Shift) (ts : List TrackState) (own : TrackState) → Rise (numbers_of ts) → track_numbered s.own ts ≡ Some own → IsKept own → s.y ≡ s.x
-    → shifted s.own s.x s.y (new_views s.new) (with_track ts (padded_track own s.x)) ≡ all_moved s ts
+    → shifted s.keep s.own s.x s.y (new_views s.new) (with_track ts (padded_track own s.x)) ≡ all_moved s ts
 insert-moved s [] own r e kept f = refl
 insert-moved s (t ∷ ts) own r e kept f = by (eqb t.number s.own) refl e (λ k. insert-moved s ts own r.1 k kept f) where
   by : (b : Bool) → eqb t.number s.own ≡ b → cond b (Some t) (track_numbered s.own ts) ≡ Some own
-      → (track_numbered s.own ts ≡ Some own → shifted s.own s.x s.y (new_views s.new) (with_track ts (padded_track own s.x)) ≡ all_moved s ts)
-      → shifted s.own s.x s.y (new_views s.new) (cond (eqb t.number own.number) (padded_track own s.x ∷ ts) (t ∷ with_track ts (padded_track own s.x))) ≡ all_moved s (t ∷ ts)
+      → (track_numbered s.own ts ≡ Some own → shifted s.keep s.own s.x s.y (new_views s.new) (with_track ts (padded_track own s.x)) ≡ all_moved s ts)
+      → shifted s.keep s.own s.x s.y (new_views s.new) (cond (eqb t.number own.number) (padded_track own s.x ∷ ts) (t ∷ with_track ts (padded_track own s.x))) ≡ all_moved s (t ∷ ts)
   by true g k later =
       let here : t ≡ own = ap (λ (o : Option TrackState). unwrap_or o t) k in
       let number : t.number ≡ s.own = eqb-true t.number s.own g in
       let own_number : own.number ≡ s.own = sym (ap (λ (u : TrackState). u.number) here) ∙ number in
-      ap (λ (b : Bool). shifted s.own s.x s.y (new_views s.new) (cond b (padded_track own s.x ∷ ts) (t ∷ with_track ts (padded_track own s.x)))) (eq-eqb t.number own.number (number ∙ sym own_number))
-      ∙ ap (λ (us : List TrackState). shifted_track s.own s.x s.y (new_views s.new) (padded_track own s.x) ∷ us) (rest_moved s ts (others s.own ts (subst (λ (m : ℕ). Above m (numbers_of ts)) number r.0)))
+      ap (λ (b : Bool). shifted s.keep s.own s.x s.y (new_views s.new) (cond b (padded_track own s.x ∷ ts) (t ∷ with_track ts (padded_track own s.x)))) (eq-eqb t.number own.number (number ∙ sym own_number))
+      ∙ ap (λ (us : List TrackState). shifted_track s.keep s.own s.x s.y (new_views s.new) (padded_track own s.x) ∷ us) (rest_moved s ts (others s.own ts (subst (λ (m : ℕ). Above m (numbers_of ts)) number r.0)))
       ∙ ap (λ (u : TrackState). u ∷ all_moved s ts) (padded_moved s own kept own_number f ∙ ap (moved s) (sym here))
   by false g k later =
       let own_number : own.number ≡ s.own = is-numbered s.own ts own k in
       let not_own : eqb t.number own.number ≡ false = ap (eqb t.number) own_number ∙ g in
-      ap (λ (b : Bool). shifted s.own s.x s.y (new_views s.new) (cond b (padded_track own s.x ∷ ts) (t ∷ with_track ts (padded_track own s.x)))) not_own
-      ∙ ap (λ (u : TrackState). u ∷ shifted s.own s.x s.y (new_views s.new) (with_track ts (padded_track own s.x))) (other_moved s t (neq_from t.number s.own g))
+      ap (λ (b : Bool). shifted s.keep s.own s.x s.y (new_views s.new) (cond b (padded_track own s.x ∷ ts) (t ∷ with_track ts (padded_track own s.x)))) not_own
+      ∙ ap (λ (u : TrackState). u ∷ shifted s.keep s.own s.x s.y (new_views s.new) (with_track ts (padded_track own s.x))) (other_moved s t (neq_from t.number s.own g))
       ∙ ap (λ (us : List TrackState). moved s t ∷ us) (later k)
 
 pub extract-moved : (s : Shift) (ts : List TrackState) → All (λ (t : TrackState). t.number ≡ s.own → (s.x ≤ length t.cells) × (s.y ≤ length t.cells)) ts
-    → shifted s.own s.x s.y (new_views s.new) ts ≡ all_moved s ts
+    → shifted s.keep s.own s.x s.y (new_views s.new) ts ≡ all_moved s ts
 extract-moved s [] h = refl
 extract-moved s (t ∷ ts) h =
     let here = all_head (λ (t : TrackState). t.number ≡ s.own → (s.x ≤ length t.cells) × (s.y ≤ length t.cells)) t ts h in
-    ap (λ (u : TrackState). u ∷ shifted s.own s.x s.y (new_views s.new) ts) (by (eqb t.number s.own) refl here)
+    ap (λ (u : TrackState). u ∷ shifted s.keep s.own s.x s.y (new_views s.new) ts) (by (eqb t.number s.own) refl here)
     ∙ ap (λ (us : List TrackState). moved s t ∷ us) (extract-moved s ts (all_tail (λ (t : TrackState). t.number ≡ s.own → (s.x ≤ length t.cells) × (s.y ≤ length t.cells)) t ts h)) where
-      by : (b : Bool) → eqb t.number s.own ≡ b → (t.number ≡ s.own → (s.x ≤ length t.cells) × (s.y ≤ length t.cells)) → shifted_track s.own s.x s.y (new_views s.new) t ≡ moved s t
+      by : (b : Bool) → eqb t.number s.own ≡ b → (t.number ≡ s.own → (s.x ≤ length t.cells) × (s.y ≤ length t.cells)) → shifted_track s.keep s.own s.x s.y (new_views s.new) t ≡ moved s t
       by true e here = own_moved s t (eqb-true t.number s.own e) (here (eqb-true t.number s.own e)).0 (here (eqb-true t.number s.own e)).1
       by false e here = other_moved s t (neq_from t.number s.own e)
 
@@ -206,7 +206,7 @@ abbrev pub StaysMoved : Table → Shift → TrackState → Type 0
 StaysMoved table s t = IsWithinLimits (moved s t) → StaysGood table t (moved s t)
 
 pub put-moved : (table : Table) (s : Shift) (t : TrackState) → s.x ≤ s.y → IsGood table t → PutIn table t (put_views s t) → StaysMoved table s t
-put-moved table s t le g p limits = stays-spliced table t (min s.x (length t.cells)) (min s.y (length t.cells)) (put_views s t) g (omega (arith, le)) (omega arith) p limits
+put-moved table s t le g p limits = stays-spliced s.keep table t (min s.x (length t.cells)) (min s.y (length t.cells)) (put_views s t) g (omega (arith, le)) (omega arith) p limits
 
 each_moved : (table : Table) (s : Shift) (ts : List TrackState) → All (StaysMoved table s) ts
     → All (λ (t : TrackState). length (moved s t).cells ≤ MAX_FRAMES) ts → All (λ (t : TrackState). length (items_of (moved s t).cells) ≤ MAX_ITEMS) ts → EachStaysGood table ts (all_moved s ts)

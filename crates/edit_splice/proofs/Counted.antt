@@ -76,15 +76,15 @@ begun-tight [] t = refl
 begun-tight (v ∷ vs) t = omega (arith, begun_apart v vs t)
 
 -- before the range
-before_begun : (next : ℕ) (cs : List Cell) (x : ℕ) (l : Option Held) → Stand next (items_of cs) → EndsAt cs x l
-    → (begun None (numbers (before_range (items_of cs) l x)) ≡ count_by l) × (last_of None (numbers (before_range (items_of cs) l x)) ≡ number_of l)
-before_begun next cs x None s e = (refl, refl)
-before_begun next cs x (Some g) s e =
+before_begun : (keep : Bool) (next : ℕ) (cs : List Cell) (x : ℕ) (l : Option Held) → Stand next (items_of cs) → EndsAt cs x l
+    → (begun None (numbers (before_range keep (items_of cs) l x)) ≡ count_by l) × (last_of None (numbers (before_range keep (items_of cs) l x)) ≡ number_of l)
+before_begun keep next cs x None s e = (refl, refl)
+before_begun keep next cs x (Some g) s e =
     let vs : List ItemView = items_of cs in
     let us : List ItemView = take g.index vs in
-    let front : ItemView = front_view g.view (x - g.from) in
+    let front : ItemView = front_view keep g.view (x - g.from) in
     let T : List ItemView → Type 0 = λ zs. IsTight zs in
-    let tight : IsTight (us ++ front ∷ []) = tight_front us g.view (drop (suc g.index) vs) (x - g.from) (subst T (split-at vs g.index g.view e.1.read) s.tight) in
+    let tight : IsTight (us ++ front ∷ []) = tight_front keep us g.view (drop (suc g.index) vs) (x - g.from) (subst T (split-at vs g.index g.view e.1.read) s.tight) in
     let inside = slice_get_within vs g.index g.view e.1.read in
     let row = map-append (λ (v : ItemView). v.item) us (front ∷ []) in
     let count : begun None (numbers (us ++ front ∷ [])) ≡ g.index + 1 = omega (arith, begun-tight (us ++ front ∷ []) tight, length-append us (front ∷ []), length-take g.index vs, inside) in
@@ -115,25 +115,25 @@ tight_back : (s : Option ℕ) (next fresh : ℕ) (v : ItemView) (ws : List ItemV
 tight_back s next fresh v [] le t b = tt
 tight_back s next fresh v (w ∷ ws) le t b = (not_same s fresh v w t.0 (lacks-below next fresh (w ∷ ws) b le).0, t.1)
 
-numbers_kept : (n : ℕ) (ws : List ItemView) → numbers (first_kept n ws) ≡ numbers ws
-numbers_kept n [] = refl
-numbers_kept n (w ∷ ws) = refl
+numbers_kept : (keep : Bool) (n : ℕ) (ws : List ItemView) → numbers (first_kept keep n ws) ≡ numbers ws
+numbers_kept keep n [] = refl
+numbers_kept keep n (w ∷ ws) = refl
 
-behind_begun : (o : Option (Option ℕ)) (next fresh : ℕ) (cs : List Cell) (y : ℕ) (l r : Option Held) (a : Option ItemView) → next ≤ fresh → Stand next (items_of cs) → StandsFrom cs y r → a ≡ view_after (items_of cs) r
-    → begun o (numbers (behind_range (items_of cs) l r a y fresh)) ≡ begun o (option_to_list (back_number r (split_between l r) fresh)) + count_past r (length (items_of cs))
-behind_begun o next fresh cs y l None a le s e is =
-    let none : begun o (numbers (behind_range (items_of cs) l None a y fresh)) ≡ 0 = ap (λ zs. begun o (numbers zs)) (behind_none (items_of cs) l a y fresh) in
+behind_begun : (keep : Bool) (o : Option (Option ℕ)) (next fresh : ℕ) (cs : List Cell) (y : ℕ) (l r : Option Held) (a : Option ItemView) → next ≤ fresh → Stand next (items_of cs) → StandsFrom cs y r → a ≡ view_after (items_of cs) r
+    → begun o (numbers (behind_range keep (items_of cs) l r a y fresh)) ≡ begun o (option_to_list (back_number r (split_between l r) fresh)) + count_past r (length (items_of cs))
+behind_begun keep o next fresh cs y l None a le s e is =
+    let none : begun o (numbers (behind_range keep (items_of cs) l None a y fresh)) ≡ 0 = ap (λ zs. begun o (numbers zs)) (behind_none keep (items_of cs) l a y fresh) in
     omega (arith, none)
-behind_begun o next fresh cs y l (Some h) a le s e is =
+behind_begun keep o next fresh cs y l (Some h) a le s e is =
     let vs : List ItemView = items_of cs in
     let ws : List ItemView = drop (suc h.index) vs in
     let split : Option ℕ = split_between l (Some h) in
     let part : ItemView = renumbered_view split fresh h.view in
     let S : List ItemView → Type 0 = λ zs. Stand next zs in
     let at = stand_at next (take h.index vs) h.view ws (subst S (split-at vs h.index h.view e.read) s) in
-    let first = ap (λ (n : Option ℕ). begun o (n ∷ numbers (first_kept (h.view.len - (y - h.from)) ws))) (item_later split fresh (y - h.from) h.view)
-    ∙ ap (λ ns. begun o (part.item ∷ ns)) (numbers_kept (h.view.len - (y - h.from)) ws) in
-    let all : begun o (numbers (behind_range vs l (Some h) a y fresh)) ≡ begun o (part.item ∷ numbers ws) = ap (λ zs. begun o (numbers zs)) (behind_is vs l h a y fresh is) ∙ first in
+    let first = ap (λ (n : Option ℕ). begun o (n ∷ numbers (first_kept keep (h.view.len - (y - h.from)) ws))) (item_later split fresh (y - h.from) h.view)
+    ∙ ap (λ ns. begun o (part.item ∷ ns)) (numbers_kept keep (h.view.len - (y - h.from)) ws) in
+    let all : begun o (numbers (behind_range keep vs l (Some h) a y fresh)) ≡ begun o (part.item ∷ numbers ws) = ap (λ zs. begun o (numbers zs)) (behind_is keep vs l h a y fresh is) ∙ first in
     let rest = begun_apart part ws (tight_back split next fresh h.view ws le at.1 at.3.1) in
     omega (arith, all, rest, length-drop (suc h.index) vs)
 
@@ -142,28 +142,28 @@ last_through : (o : Option (Option ℕ)) (ms ns : List (Option ℕ)) → last_of
 last_through o [] ns = refl
 last_through o (m ∷ ms) ns = last_through (Some m) ms ns
 
-pub count-spliced : (t : TrackState) (x y : ℕ) (s : Seams) (views : List ItemView) → IsKept t → x ≤ y → AllFilled views → AreSeams t.cells x y s
+pub count-spliced : (keep : Bool) (t : TrackState) (x y : ℕ) (s : Seams) (views : List ItemView) → IsKept t → x ≤ y → AllFilled views → AreSeams t.cells x y s
     → count_by s.left + begun (number_of s.left) (numbers views ++ option_to_list (back_number s.right (split_between s.left s.right) (next_past_all t.next_item views))) + count_past s.right (length (items_of t.cells))
-    ≡ length (items_of (spliced_track t x y views).cells)
-count-spliced t x y s views k le filled seams =
+    ≡ length (items_of (spliced_track keep t x y views).cells)
+count-spliced keep t x y s views k le filled seams =
     let vs : List ItemView = items_of t.cells in
     let fresh : ℕ = next_past_all t.next_item views in
     let stand = stand_of t k in
     let rises = next-rises t.next_item views in
-    let B : List ItemView = before_range vs s.left x in
-    let A : List ItemView = behind_range vs s.left s.right s.after y fresh in
+    let B : List ItemView = before_range keep vs s.left x in
+    let A : List ItemView = behind_range keep vs s.left s.right s.after y fresh in
     let nB : List (Option ℕ) = numbers B in
     let nV : List (Option ℕ) = numbers views in
     let nA : List (Option ℕ) = numbers A in
     let back : List (Option ℕ) = option_to_list (back_number s.right (split_between s.left s.right) fresh) in
-    let full : AllFilled (all_parts vs s x y views fresh) =
-    filled-append (B ++ views) A (filled-append B views (filled-each B (sound_before t.next_item t.cells x s.left stand seams.left).each) filled)
-    (filled-each A (sound_behind t.next_item fresh t.cells y s.left s.right s.after rises stand seams.right seams.after).each) in
-    let items : length (items_of (spliced_track t x y views).cells) ≡ length (joined (all_parts vs s x y views fresh)) =
-    ap (λ cs. length (items_of cs)) (sym (cells_all t.cells x y fresh s views k.whole k.each k.apart le seams)) ∙ ap length (items_of-cells_of (all_parts vs s x y views fresh) full) in
-    let row : numbers (all_parts vs s x y views fresh) ≡ (nB ++ nV) ++ nA = map-append (λ (v : ItemView). v.item) (B ++ views) A ∙ ap (λ ns. ns ++ nA) (map-append (λ (v : ItemView). v.item) B views) in
-    let whole = length-joined (all_parts vs s x y views fresh) ∙ ap (begun None) row in
-    let before = before_begun t.next_item t.cells x s.left stand seams.left in
+    let full : AllFilled (all_parts keep vs s x y views fresh) =
+    filled-append (B ++ views) A (filled-append B views (filled-each B (sound_before keep t.next_item t.cells x s.left stand seams.left).each) filled)
+    (filled-each A (sound_behind keep t.next_item fresh t.cells y s.left s.right s.after rises stand seams.right seams.after).each) in
+    let items : length (items_of (spliced_track keep t x y views).cells) ≡ length (joined (all_parts keep vs s x y views fresh)) =
+    ap (λ cs. length (items_of cs)) (sym (cells_all keep t.cells x y fresh s views k.whole k.each k.apart le seams)) ∙ ap length (items_of-cells_of (all_parts keep vs s x y views fresh) full) in
+    let row : numbers (all_parts keep vs s x y views fresh) ≡ (nB ++ nV) ++ nA = map-append (λ (v : ItemView). v.item) (B ++ views) A ∙ ap (λ ns. ns ++ nA) (map-append (λ (v : ItemView). v.item) B views) in
+    let whole = length-joined (all_parts keep vs s x y views fresh) ∙ ap (begun None) row in
+    let before = before_begun keep t.next_item t.cells x s.left stand seams.left in
     let last : last_of None (nB ++ nV) ≡ last_of (number_of s.left) nV = last_through None nB nV ∙ ap (λ o. last_of o nV) before.1 in
     let between : begun (last_of None nB) nV ≡ begun (number_of s.left) nV = ap (λ o. begun o nV) before.1 in
     let behind : begun (last_of None (nB ++ nV)) nA ≡ begun (last_of (number_of s.left) nV) nA = ap (λ o. begun o nA) last in
@@ -176,22 +176,22 @@ count-spliced t x y s views k le filled seams =
       before.0,
       between,
       behind,
-      behind_begun (last_of (number_of s.left) nV) t.next_item fresh t.cells y s.left s.right s.after rises stand seams.right seams.after,
+      behind_begun keep (last_of (number_of s.left) nV) t.next_item fresh t.cells y s.left s.right s.after rises stand seams.right seams.after,
       begun-append (number_of s.left) nV back,
     )
 
 -- what the code adds up, with the seams that it found
-pub counted : (t : TrackState) (x y fresh n before between past : ℕ) (s : Seams) (split : Option ℕ) (left right : Option (Option ℕ)) (views : List ItemView) → IsKept t → x ≤ y → AllFilled views → AreSeams t.cells x y s
+pub counted : (keep : Bool) (t : TrackState) (x y fresh n before between past : ℕ) (s : Seams) (split : Option ℕ) (left right : Option (Option ℕ)) (views : List ItemView) → IsKept t → x ≤ y → AllFilled views → AreSeams t.cells x y s
     → fresh ≡ next_past_all t.next_item views → split ≡ split_between s.left s.right → n ≡ length (items_of t.cells)
     → left ≡ number_of s.left → right ≡ back_number s.right split fresh
     → before ≡ count_by s.left → between ≡ begun left (numbers views ++ option_to_list right) → past ≡ count_past s.right n
-    → before + between + past ≡ length (items_of (spliced_track t x y views).cells)
-counted t x y fresh n before between past s split left right views k le filled seams new cut many l r b w p =
+    → before + between + past ≡ length (items_of (spliced_track keep t x y views).cells)
+counted keep t x y fresh n before between past s split left right views k le filled seams new cut many l r b w p =
     let place : right ≡ back_number s.right (split_between s.left s.right) (next_past_all t.next_item views) =
     r ∙ (ap (λ (o : Option ℕ). back_number s.right o fresh) cut ∙ ap (back_number s.right (split_between s.left s.right)) new) in
     let middle : between ≡ begun (number_of s.left) (numbers views ++ option_to_list (back_number s.right (split_between s.left s.right) (next_past_all t.next_item views))) =
     w ∙ (ap (λ o. begun o (numbers views ++ option_to_list right)) l ∙ ap (λ o. begun (number_of s.left) (numbers views ++ option_to_list o)) place) in
-    omega (arith, b, middle, p ∙ ap (count_past s.right) many, count-spliced t x y s views k le filled seams)
+    omega (arith, b, middle, p ∙ ap (count_past s.right) many, count-spliced keep t x y s views k le filled seams)
 
 -- an item or gap at an end of the range is one of them
 pub left-within : (cs : List Cell) (x : ℕ) (l : Option Held) → EndsAt cs x l → count_by l ≤ length (items_of cs)

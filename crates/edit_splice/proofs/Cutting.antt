@@ -1,6 +1,6 @@
 -- The parts of a track at the ends of a range hold their dissolves.
-use Rattle.std.proofs.Common.{◌≡◌, ℕ, ◌+◌, ◌-◌, ◌<◌, ◌≤◌, ◌^◌, true, false, leb, ltb, ◌&&◌, List, [], ◌∷◌, ◌++◌, Option, Some, None, refl, sym, ap, arith, subst}
-use Rattle.std.proofs.lemmas.Bool.{cond_both, leb-true, and_parts}
+use Rattle.std.proofs.Common.{◌≡◌, ℕ, ◌+◌, ◌-◌, ◌<◌, ◌≤◌, ◌^◌, true, false, leb, ltb, ◌&&◌, List, [], ◌∷◌, ◌++◌, min, Option, Some, None, refl, sym, ap, arith, subst, Bool}
+use Rattle.std.proofs.lemmas.Bool.{cond_both, leb-true, ltb-true, and_parts}
 use Rattle.frame_meaning.specs.declared.cells.What.{What}
 use Rattle.frame_meaning.specs.declared.cells.What.TheVariants.{Media, Nest}
 use Rattle.frame_meaning.specs.declared.cells.Mark.{Mark}
@@ -10,22 +10,43 @@ use Rattle.frame_meaning.specs.declared.frames.Side.TheVariants.{Dark, Pic}
 use Rattle.frame_meaning.specs.Cells.{later_side, same_number}
 use Rattle.composables.specs.declared.items.ItemView.{ItemView}
 use Rattle.composables.specs.Joined.{IsTight}
-use Rattle.composables.specs.TrackFacts.{ShowsAsItem, HasSource, IsNoNest, Holds, EachHolds, first_mark, left_reach, right_reach}
+use Rattle.composables.specs.TrackFacts.{IsFilled, ShowsAsItem, HasSource, IsNoNest, Holds, EachHolds, first_mark, left_reach, right_reach}
 use Rattle.composables.proofs.Joining.{same-is}
 use Rattle.composables.specs.Views.{later_view}
 use Rattle.edit_splice.specs.Parts.{kept_before, kept_behind, front_view, after_view, renumbered_view}
 use Rattle.edit_splice.specs.NewItems.{MeetsFirst, Meet}
 use Rattle.edit_splice.proofs.Ends.{first_kept}
 
--- a dissolve is dropped, or it stays and does not reach too far
-kept_left_cases : (n : ℕ) (m : Option Mark) (P : Option Mark → Type 0) → P None → (right_reach m ≤ n → P m) → P (kept_before n m)
-kept_left_cases n None P none some = none
-kept_left_cases n (Some m) P none some = cond_both (leb m.b n) (Some m) None P (λ t. some (leb-true m.b n t)) (λ t. none)
+-- a mark that is as another was, but that it may reach less far
+record Within (k m : Option Mark) : Type 0 where
+  left : left_reach k ≤ left_reach m
+  right : right_reach k ≤ right_reach m
+  filled : IsFilled m → IsFilled k
+  no_nest : (s : Side What) → IsNoNest s m → IsNoNest s k
 
-kept_right_cases : (n : ℕ) (m : Option Mark) (P : Option Mark → Type 0) → P None → (left_reach m ≤ n → P m) → P (kept_behind n m)
-kept_right_cases n None P none some = none
-kept_right_cases n (Some m) P none some =
-    cond_both (ltb 0 n && leb m.a n) (Some m) None P (λ t. some (leb-true m.a n (and_parts (ltb 0 n) (leb m.a n) t).1)) (λ t. none)
+within_itself : (m : Option Mark) → Within m m
+within_itself m = record { left = omega arith; right = omega arith; filled = λ f. f; no_nest = λ s h. h }
+
+same_nest : (m k : Mark) (s : Side What) → IsNoNest s (Some m) → IsNoNest s (Some k)
+same_nest m k Dark h = tt
+same_nest m k (Pic (Media n) s) h = tt
+same_nest m k (Pic (Nest j) s) h = h
+
+-- a dissolve is dropped, or it stays, maybe shorter, and does not reach too far
+kept_left_cases : (keep : Bool) (n : ℕ) (m : Option Mark) (P : Option Mark → Type 0) → 0 < n → P None → ((k : Option Mark) → Within k m → right_reach k ≤ n → P k) → P (kept_before keep n m)
+kept_left_cases keep n None P p none some = none
+kept_left_cases true n (Some m) P p none some =
+    some (Some (record m { b = min m.b n })) (record { left = omega arith; right = omega arith; filled = λ f. omega (arith, f, p); no_nest = same_nest m (record m { b = min m.b n }) }) (omega arith)
+kept_left_cases false n (Some m) P p none some = cond_both (leb m.b n) (Some m) None P (λ t. some (Some m) (within_itself (Some m)) (leb-true m.b n t)) (λ t. none)
+
+kept_right_cases : (keep : Bool) (n : ℕ) (m : Option Mark) (P : Option Mark → Type 0) → P None → ((k : Option Mark) → Within k m → left_reach k ≤ n → P k) → P (kept_behind keep n m)
+kept_right_cases keep n None P none some = none
+kept_right_cases true n (Some m) P none some =
+    cond_both (ltb 0 n) (Some (record m { a = min m.a n })) None P
+    (λ t. some (Some (record m { a = min m.a n })) (record { left = omega arith; right = omega arith; filled = λ f. omega (arith, f, ltb-true 0 n t); no_nest = same_nest m (record m { a = min m.a n }) }) (omega arith))
+    (λ t. none)
+kept_right_cases false n (Some m) P none some =
+    cond_both (ltb 0 n && leb m.a n) (Some m) None P (λ t. some (Some m) (within_itself (Some m)) (leb-true m.a n (and_parts (ltb 0 n) (leb m.a n) t).1)) (λ t. none)
 
 -- fewer source frames are needed
 source_less : (s : Side What) (len n before after b a : ℕ) → n ≤ len → b ≤ before → a ≤ after → HasSource s len before after → HasSource s n b a
@@ -53,6 +74,30 @@ shows_number : (o : Option ℕ) (s : Side What) (l : Option Link) (j fresh : ℕ
 shows_number None s l j fresh e h = absurd cc
 shows_number (Some i) Dark l j fresh e h = h
 shows_number (Some i) (Pic w s) l j fresh e h = tt
+
+-- with a dissolve at its tail that reaches less far
+tail_within : (v : ItemView) (tail k : Option Mark) → Within k tail → Holds v tail → Holds v k
+tail_within v tail k w h = record {
+  filled = h.filled;
+  shows = h.shows;
+  mark_filled = h.mark_filled;
+  room = omega (arith, h.room, w.left);
+  source = source_less v.first v.len v.len (left_reach v.mark) (right_reach tail) (left_reach v.mark) (right_reach k) (omega arith) (omega arith) w.right h.source;
+  head_no_nest = h.head_no_nest;
+  tail_no_nest = w.no_nest v.first h.tail_no_nest;
+}
+
+-- with one at its head that reaches less far
+head_within : (v : ItemView) (tail k : Option Mark) → Within k v.mark → Holds v tail → Holds (record v { mark = k }) tail
+head_within v tail k w h = record {
+  filled = h.filled;
+  shows = h.shows;
+  mark_filled = w.filled h.mark_filled;
+  room = omega (arith, h.room, w.right);
+  source = source_less v.first v.len v.len (left_reach v.mark) (right_reach tail) (left_reach k) (right_reach tail) (omega arith) w.left (omega arith) h.source;
+  head_no_nest = w.no_nest v.first h.head_no_nest;
+  tail_no_nest = h.tail_no_nest;
+}
 
 -- without the dissolve at its tail
 untailed : (v : ItemView) (tail : Option Mark) → Holds v tail → Holds v None
@@ -92,11 +137,11 @@ shorter v n some le room h = record {
 none_fits : (n : ℕ) → 0 ≤ n
 none_fits n = omega arith
 
-front_holds : (v : ItemView) (n : ℕ) (tail : Option Mark) → 0 < n → n ≤ v.len → Holds v tail → Holds (front_view v n) None
-front_holds v n tail some le h =
+front_holds : (keep : Bool) (v : ItemView) (n : ℕ) (tail : Option Mark) → 0 < n → n ≤ v.len → Holds v tail → Holds (front_view keep v n) None
+front_holds keep v n tail some le h =
     let P : Option Mark → Type 0 = λ m. Holds (record v { len = n; mark = m }) None in
     let bare : Holds (record v { len = n; mark = None }) None = shorter (record v { mark = None }) n some le (none_fits n) (unheaded v None (untailed v tail h)) in
-    kept_left_cases n v.mark P bare (λ r. shorter v n some le r (untailed v tail h))
+    kept_left_cases keep n v.mark P some bare (λ k w r. shorter (record v { mark = k }) n some le r (head_within v None k w (untailed v tail h)))
 
 later_holds : (v : ItemView) (k : ℕ) (tail : Option Mark) → k < v.len → left_reach tail ≤ v.len - k → Holds v tail → Holds (later_view v k) tail
 later_holds v k tail lt room h = record {
@@ -117,23 +162,23 @@ renumbered_holds (Some j) fresh v tail h =
     (λ t. h)
 
 -- all before the range
-pub each-front : (us : List ItemView) (v : ItemView) (ws : List ItemView) (n : ℕ) → 0 < n → n ≤ v.len → EachHolds (us ++ v ∷ ws) → EachHolds (us ++ front_view v n ∷ [])
-each-front [] v ws n some le h = (front_holds v n (first_mark ws) some le h.0, tt)
-each-front (u ∷ []) v ws n some le h =
+pub each-front : (keep : Bool) (us : List ItemView) (v : ItemView) (ws : List ItemView) (n : ℕ) → 0 < n → n ≤ v.len → EachHolds (us ++ v ∷ ws) → EachHolds (us ++ front_view keep v n ∷ [])
+each-front keep [] v ws n some le h = (front_holds keep v n (first_mark ws) some le h.0, tt)
+each-front keep (u ∷ []) v ws n some le h =
     let P : Option Mark → Type 0 = λ m. Holds u m in
-    (kept_left_cases n v.mark P (untailed u v.mark h.0) (λ r. h.0), each-front [] v ws n some le h.1)
-each-front (u ∷ w ∷ us) v ws n some le h = (h.0, each-front (w ∷ us) v ws n some le h.1)
+    (kept_left_cases keep n v.mark P some (untailed u v.mark h.0) (λ k w r. tail_within u v.mark k w h.0), each-front keep [] v ws n some le h.1)
+each-front keep (u ∷ w ∷ us) v ws n some le h = (h.0, each-front keep (w ∷ us) v ws n some le h.1)
 
 -- all behind it
-after_holds : (v : ItemView) (n : ℕ) (tail : Option Mark) → Holds v tail → Holds (after_view n v) tail
-after_holds v n tail h = let P : Option Mark → Type 0 = λ m. Holds (record v { mark = m }) tail in kept_right_cases n v.mark P (unheaded v tail h) (λ r. h)
+after_holds : (keep : Bool) (v : ItemView) (n : ℕ) (tail : Option Mark) → Holds v tail → Holds (after_view keep n v) tail
+after_holds keep v n tail h = let P : Option Mark → Type 0 = λ m. Holds (record v { mark = m }) tail in kept_right_cases keep n v.mark P (unheaded v tail h) (λ k w r. head_within v tail k w h)
 
-pub each-back : (s : Option ℕ) (fresh k : ℕ) (v : ItemView) (ws : List ItemView) → k < v.len → EachHolds (v ∷ ws) → EachHolds (renumbered_view s fresh (later_view v k) ∷ first_kept (v.len - k) ws)
-each-back s fresh k v [] lt h = (renumbered_holds s fresh (later_view v k) None (later_holds v k None lt (none_fits (v.len - k)) h.0), tt)
-each-back s fresh k v (w ∷ ws) lt h =
+pub each-back : (keep : Bool) (s : Option ℕ) (fresh k : ℕ) (v : ItemView) (ws : List ItemView) → k < v.len → EachHolds (v ∷ ws) → EachHolds (renumbered_view s fresh (later_view v k) ∷ first_kept keep (v.len - k) ws)
+each-back keep s fresh k v [] lt h = (renumbered_holds s fresh (later_view v k) None (later_holds v k None lt (none_fits (v.len - k)) h.0), tt)
+each-back keep s fresh k v (w ∷ ws) lt h =
     let P : Option Mark → Type 0 = λ m. Holds (later_view v k) m in
-    let part = kept_right_cases (v.len - k) w.mark P (later_holds v k None lt (none_fits (v.len - k)) (untailed v w.mark h.0)) (λ r. later_holds v k w.mark lt r h.0) in
-    (renumbered_holds s fresh (later_view v k) (kept_behind (v.len - k) w.mark) part, (after_holds w (v.len - k) (first_mark ws) h.1.0, h.1.1))
+    let part = kept_right_cases keep (v.len - k) w.mark P (later_holds v k None lt (none_fits (v.len - k)) (untailed v w.mark h.0)) (λ m in_mark r. later_holds v k m lt r (tail_within v w.mark m in_mark h.0)) in
+    (renumbered_holds s fresh (later_view v k) (kept_behind keep (v.len - k) w.mark) part, (after_holds keep w (v.len - k) (first_mark ws) h.1.0, h.1.1))
 
 -- the first of them has no dissolve
 pub back-bare : (s : Option ℕ) (fresh k : ℕ) (v : ItemView) → (renumbered_view s fresh (later_view v k)).mark ≡ None
@@ -159,30 +204,30 @@ meet-tight [] t = tt
 meet-tight (r ∷ []) t = (tt, tt)
 meet-tight (r ∷ s ∷ rs) t = ((λ e f. absurd (two_gaps r.item s.item t.0 e f)), meet-tight (s ∷ rs) t.1)
 
-pub tight_front : (us : List ItemView) (v : ItemView) (ws : List ItemView) (n : ℕ) → IsTight (us ++ v ∷ ws) → IsTight (us ++ front_view v n ∷ [])
-tight_front [] v ws n t = tt
-tight_front (u ∷ []) v ws n t = (t.0, tt)
-tight_front (u ∷ w ∷ us) v ws n t = (t.0, tight_front (w ∷ us) v ws n t.1)
+pub tight_front : (keep : Bool) (us : List ItemView) (v : ItemView) (ws : List ItemView) (n : ℕ) → IsTight (us ++ v ∷ ws) → IsTight (us ++ front_view keep v n ∷ [])
+tight_front keep [] v ws n t = tt
+tight_front keep (u ∷ []) v ws n t = (t.0, tt)
+tight_front keep (u ∷ w ∷ us) v ws n t = (t.0, tight_front keep (w ∷ us) v ws n t.1)
 
-pub meet-front : (us : List ItemView) (v : ItemView) (ws : List ItemView) (n : ℕ) → IsTight (us ++ v ∷ ws) → Meet (us ++ front_view v n ∷ [])
-meet-front us v ws n t = meet-tight (us ++ front_view v n ∷ []) (tight_front us v ws n t)
+pub meet-front : (keep : Bool) (us : List ItemView) (v : ItemView) (ws : List ItemView) (n : ℕ) → IsTight (us ++ v ∷ ws) → Meet (us ++ front_view keep v n ∷ [])
+meet-front keep us v ws n t = meet-tight (us ++ front_view keep v n ∷ []) (tight_front keep us v ws n t)
 
-tight_kept : (n : ℕ) (ws : List ItemView) → IsTight ws → IsTight (first_kept n ws)
-tight_kept n [] t = tt
-tight_kept n (w ∷ []) t = tt
-tight_kept n (w ∷ x ∷ xs) t = t
+tight_kept : (keep : Bool) (n : ℕ) (ws : List ItemView) → IsTight ws → IsTight (first_kept keep n ws)
+tight_kept keep n [] t = tt
+tight_kept keep n (w ∷ []) t = tt
+tight_kept keep n (w ∷ x ∷ xs) t = t
 
 gap_stays : (s : Option ℕ) (fresh : ℕ) (v : ItemView) → (renumbered_view s fresh v).item ≡ None → v.item ≡ None
 gap_stays None fresh v e = e
 gap_stays (Some j) fresh v e =
     cond_both (same_number v.item (Some j)) (record v { item = Some fresh }) v (λ (w : ItemView). w.item ≡ None → v.item ≡ None) (λ t h. absurd cc) (λ t h. h) e
 
-back_meets : (s : Option ℕ) (fresh k n : ℕ) (v : ItemView) (ws : List ItemView) → IsTight (v ∷ ws) → MeetsFirst (renumbered_view s fresh (later_view v k)) (first_kept n ws)
-back_meets s fresh k n v [] t = tt
-back_meets s fresh k n v (w ∷ ws) t = λ e f. absurd (two_gaps v.item w.item t.0 (gap_stays s fresh (later_view v k) e) f)
+back_meets : (keep : Bool) (s : Option ℕ) (fresh k n : ℕ) (v : ItemView) (ws : List ItemView) → IsTight (v ∷ ws) → MeetsFirst (renumbered_view s fresh (later_view v k)) (first_kept keep n ws)
+back_meets keep s fresh k n v [] t = tt
+back_meets keep s fresh k n v (w ∷ ws) t = λ e f. absurd (two_gaps v.item w.item t.0 (gap_stays s fresh (later_view v k) e) f)
 
-pub meet-back : (s : Option ℕ) (fresh k n : ℕ) (v : ItemView) (ws : List ItemView) → IsTight (v ∷ ws) → Meet (renumbered_view s fresh (later_view v k) ∷ first_kept n ws)
-meet-back s fresh k n v ws t = (back_meets s fresh k n v ws t, meet-tight (first_kept n ws) (tight_kept n ws (tight_tail v ws t)))
+pub meet-back : (keep : Bool) (s : Option ℕ) (fresh k n : ℕ) (v : ItemView) (ws : List ItemView) → IsTight (v ∷ ws) → Meet (renumbered_view s fresh (later_view v k) ∷ first_kept keep n ws)
+meet-back keep s fresh k n v ws t = (back_meets keep s fresh k n v ws t, meet-tight (first_kept keep n ws) (tight_kept keep n ws (tight_tail v ws t)))
 
 -- two lists in a row, the second without a dissolve at its front
 bare_meets : (r : ItemView) (ys : List ItemView) → first_mark ys ≡ None → MeetsFirst r ys
@@ -203,6 +248,6 @@ pub mark-append : (xs ys : List ItemView) → first_mark xs ≡ None → first_m
 mark-append [] ys e f = f
 mark-append (x ∷ xs) ys e f = e
 
-pub mark-front : (us : List ItemView) (v : ItemView) (ws : List ItemView) (n : ℕ) → first_mark (us ++ v ∷ ws) ≡ None → first_mark (us ++ front_view v n ∷ []) ≡ None
-mark-front [] v ws n e = ap (kept_before n) e
-mark-front (u ∷ us) v ws n e = e
+pub mark-front : (keep : Bool) (us : List ItemView) (v : ItemView) (ws : List ItemView) (n : ℕ) → first_mark (us ++ v ∷ ws) ≡ None → first_mark (us ++ front_view keep v n ∷ []) ≡ None
+mark-front keep [] v ws n e = ap (kept_before keep n) e
+mark-front keep (u ∷ us) v ws n e = e

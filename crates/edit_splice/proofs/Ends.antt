@@ -1,5 +1,5 @@
 -- The items and gaps at the ends of a range, among all of the track.
-use Rattle.std.proofs.Common.{◌≡◌, ℕ, zero, suc, ◌+◌, ◌-◌, ◌<◌, ◌≤◌, List, [], ◌∷◌, ◌++◌, length, Option, Some, None, IfSome, refl, sym, ap, ◌∙◌, arith, take, drop, slice_get, subst}
+use Rattle.std.proofs.Common.{◌≡◌, ℕ, zero, suc, ◌+◌, ◌-◌, ◌<◌, ◌≤◌, List, [], ◌∷◌, ◌++◌, length, Option, Some, None, IfSome, refl, sym, ap, ◌∙◌, arith, take, drop, slice_get, subst, Bool}
 use Rattle.std.proofs.lemmas.Bool.{cond_both}
 use Rattle.std.proofs.lemmas.Option.{slice_get_within, get_or_from_slice_get}
 use Rattle.frame_meaning.specs.Cells.{same_number}
@@ -79,22 +79,22 @@ split-none None = refl
 split-none (Some g) = refl
 
 -- those after it, the first of which may lose its dissolve
-abbrev pub first_kept : ℕ → List ItemView → List ItemView
-first_kept n [] = []
-first_kept n (w ∷ ws) = after_view n w ∷ ws
+abbrev pub first_kept : Bool → ℕ → List ItemView → List ItemView
+first_kept keep n [] = []
+first_kept keep n (w ∷ ws) = after_view keep n w ∷ ws
 
-pub after-parts : (vs : List ItemView) (h : Held) (o : Option ItemView) (y count : ℕ) → o ≡ slice_get vs (h.index + 1)
-    → after_views (Some h) o y ++ drop (end_at (Some h) o count) vs ≡ first_kept (h.view.len - (y - h.from)) (drop (suc h.index) vs)
-after-parts vs h None y count e =
+pub after-parts : (keep : Bool) (vs : List ItemView) (h : Held) (o : Option ItemView) (y count : ℕ) → o ≡ slice_get vs (h.index + 1)
+    → after_views keep (Some h) o y ++ drop (end_at (Some h) o count) vs ≡ first_kept keep (h.view.len - (y - h.from)) (drop (suc h.index) vs)
+after-parts keep vs h None y count e =
     let next : h.index + 1 ≡ suc h.index = omega arith in
     let none : drop (h.index + 1) vs ≡ [] = drop_none vs (h.index + 1) (sym e) in
-    none ∙ ap (first_kept (h.view.len - (y - h.from))) (sym none ∙ ap (λ (k : ℕ). drop k vs) next)
-after-parts vs h (Some w) y count e =
+    none ∙ ap (first_kept keep (h.view.len - (y - h.from))) (sym none ∙ ap (λ (k : ℕ). drop k vs) next)
+after-parts keep vs h (Some w) y count e =
     let next : h.index + 1 ≡ suc h.index = omega arith in
     let last : h.index + 2 ≡ suc (h.index + 1) = omega arith in
     let n : ℕ = h.view.len - (y - h.from) in
-    ap (λ (k : ℕ). after_view n w ∷ drop k vs) last
-    ∙ ap (first_kept n) (sym (drop-some vs (h.index + 1) w (sym e)) ∙ ap (λ (k : ℕ). drop k vs) next)
+    ap (λ (k : ℕ). after_view keep n w ∷ drop k vs) last
+    ∙ ap (first_kept keep n) (sym (drop-some vs (h.index + 1) w (sym e)) ∙ ap (λ (k : ℕ). drop k vs) next)
 
 -- the indices
 pub end-within : (vs : List ItemView) (y : ℕ) (r : Option Held) (o : Option ItemView) → IfSome r (λ h. slice_get vs h.index ≡ Some h.view) → o ≡ view_after vs r → end_at r o (length vs) ≤ length vs

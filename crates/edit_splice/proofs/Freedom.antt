@@ -1,5 +1,5 @@
 -- Numbers that are free: no item before a range or behind it has them.
-use Rattle.std.proofs.Common.{◌≡◌, ◌≢◌, ℕ, zero, suc, ◌+◌, ◌-◌, ◌<◌, ◌≤◌, ◌⊎◌, ⊎_elim, List, [], ◌∷◌, ◌++◌, Option, Some, None, IfSome, refl, sym, ap, ◌∙◌, arith, subst, take, drop, slice_get}
+use Rattle.std.proofs.Common.{◌≡◌, ◌≢◌, ℕ, zero, suc, ◌+◌, ◌-◌, ◌<◌, ◌≤◌, ◌⊎◌, ⊎_elim, List, [], ◌∷◌, ◌++◌, Option, Some, None, IfSome, refl, sym, ap, ◌∙◌, arith, subst, take, drop, slice_get, Bool}
 use Rattle.std.proofs.lemmas.Option.{slice_get_within, get_or_from_slice_get}
 use Rattle.composables.specs.declared.items.ItemView.{ItemView}
 use Rattle.composables.specs.Items.{items_of}
@@ -50,26 +50,26 @@ lacks_taken i zero vs w a e is = tt
 lacks_taken i (suc k) [] w a e is = tt
 lacks_taken i (suc k) (v ∷ vs) w a e is = (not_read v.item i k vs w a.0 e is, lacks_taken i k vs w a.1 e is)
 
-lacks_earlier : (i k m n : ℕ) (vs : List ItemView) (g : ItemView) → Lacks i (take k vs) → slice_get vs m ≡ Some g → m < k → Lacks i (take m vs ++ front_view g n ∷ [])
-lacks_earlier i k m n [] g l e lt = absurd (omega (arith, slice_get_within [] m g e))
-lacks_earlier i zero m n (v ∷ vs) g l e lt = absurd (omega (arith, lt))
-lacks_earlier i (suc k) zero n (v ∷ vs) g l e lt = let same : v ≡ g = cc in (let P : ItemView → Type 0 = λ u. u.item ≢ Some i in (subst P same l.0, tt))
-lacks_earlier i (suc k) (suc m) n (v ∷ vs) g l e lt = (l.0, lacks_earlier i k m n vs g l.1 e (omega (arith, lt)))
+lacks_earlier : (keep : Bool) (i k m n : ℕ) (vs : List ItemView) (g : ItemView) → Lacks i (take k vs) → slice_get vs m ≡ Some g → m < k → Lacks i (take m vs ++ front_view keep g n ∷ [])
+lacks_earlier keep i k m n [] g l e lt = absurd (omega (arith, slice_get_within [] m g e))
+lacks_earlier keep i zero m n (v ∷ vs) g l e lt = absurd (omega (arith, lt))
+lacks_earlier keep i (suc k) zero n (v ∷ vs) g l e lt = let same : v ≡ g = cc in (let P : ItemView → Type 0 = λ u. u.item ≢ Some i in (subst P same l.0, tt))
+lacks_earlier keep i (suc k) (suc m) n (v ∷ vs) g l e lt = (l.0, lacks_earlier keep i k m n vs g l.1 e (omega (arith, lt)))
 
 -- the item with a free number stands behind what ends at x, and before what stands at y
 pub frames_to : (vs : List ItemView) (k : ℕ) (w : ItemView) (from to : ℕ) → TakesUp vs k w from to → to ≡ from + w.len
 frames_to vs k w from to s =
     omega (arith, s.starts, s.stops, frames_in-take_more vs k no_view (slice_get_within vs k w s.read), ap (λ (u : ItemView). u.len) (get_or_from_slice_get vs k w no_view s.read))
 
-free_before : (next i : ℕ) (t : TrackState) (x y : ℕ) (l : Option Held) → next ≡ t.next_item → Stand next (items_of t.cells) → EndsAt t.cells x l → (t.next_item ≤ i) ⊎ StandsWithin t x y i → Lacks i (before_range (items_of t.cells) l x)
-free_before next i t x y None is s e f = tt
-free_before next i t x y (Some g) is s e f =
+free_before : (keep : Bool) (next i : ℕ) (t : TrackState) (x y : ℕ) (l : Option Held) → next ≡ t.next_item → Stand next (items_of t.cells) → EndsAt t.cells x l → (t.next_item ≤ i) ⊎ StandsWithin t x y i → Lacks i (before_range keep (items_of t.cells) l x)
+free_before keep next i t x y None is s e f = tt
+free_before keep next i t x y (Some g) is s e f =
     let vs : List ItemView = items_of t.cells in
     ⊎_elim
-    (λ (new : t.next_item ≤ i). lacks-below next i (before_range vs (Some g) x) (below_before next t.cells x (Some g) s e) (omega (arith, is, new)))
+    (λ (new : t.next_item ≤ i). lacks-below next i (before_range keep vs (Some g) x) (below_before keep next t.cells x (Some g) s e) (omega (arith, is, new)))
     (λ (w : StandsWithin t x y i). (
     let less : g.index < w.index = frames_less vs g.index w.index (omega (arith, e.0, e.1.from, e.1.begins, w.stands.starts, w.begins)) in
-    lacks_earlier i w.index g.index (x - g.from) vs g.view (lacks_taken i w.index vs w.view s.apart w.stands.read w.is) e.1.read less))
+    lacks_earlier keep i w.index g.index (x - g.from) vs g.view (lacks_taken i w.index vs w.view s.apart w.stands.read w.is) e.1.read less))
     f
 
 pub lacks_behind : (i j h : ℕ) (vs : List ItemView) (v w : ItemView) → slice_get vs j ≡ Some w → w.item ≡ Some i → j < h → drop h vs ≡ v ∷ drop (suc h) vs → Apart vs → Lacks i (v ∷ drop (suc h) vs)
@@ -78,12 +78,12 @@ lacks_behind i j (suc h) vs v w e is lt cut a =
     let P : List ItemView → Type 0 = λ zs. Lacks i zs in
     subst P cut (known w.item i (λ k. Lacks k (drop (suc h) vs)) (item_lacks vs j h w e (omega (arith, lt)) a) is)
 
-free_behind : (next fresh i : ℕ) (t : TrackState) (x y : ℕ) (l r : Option Held) (o : Option ItemView) → next ≡ t.next_item → next ≤ fresh → i < fresh → Stand next (items_of t.cells) → StandsFrom t.cells y r → o ≡ view_after (items_of t.cells) r
-    → (t.next_item ≤ i) ⊎ StandsWithin t x y i → Lacks i (behind_range (items_of t.cells) l r o y fresh)
-free_behind next fresh i t x y l None o is le lt s e a f =
+free_behind : (keep : Bool) (next fresh i : ℕ) (t : TrackState) (x y : ℕ) (l r : Option Held) (o : Option ItemView) → next ≡ t.next_item → next ≤ fresh → i < fresh → Stand next (items_of t.cells) → StandsFrom t.cells y r → o ≡ view_after (items_of t.cells) r
+    → (t.next_item ≤ i) ⊎ StandsWithin t x y i → Lacks i (behind_range keep (items_of t.cells) l r o y fresh)
+free_behind keep next fresh i t x y l None o is le lt s e a f =
     let P : List ItemView → Type 0 = λ zs. Lacks i zs in
-    subst P (sym (behind_none (items_of t.cells) l o y fresh)) tt
-free_behind next fresh i t x y l (Some h) o is le lt s e a f =
+    subst P (sym (behind_none keep (items_of t.cells) l o y fresh)) tt
+free_behind keep next fresh i t x y l (Some h) o is le lt s e a f =
     let vs : List ItemView = items_of t.cells in
     let ws : List ItemView = drop (suc h.index) vs in
     let P : List ItemView → Type 0 = λ zs. Lacks i zs in
@@ -99,8 +99,8 @@ free_behind next fresh i t x y l (Some h) o is le lt s e a f =
     let less : w.index + 1 < h.index + 1 = frames_less vs (w.index + 1) (h.index + 1) (omega (arith, up, e.ends, w.stands.stops, w.ends)) in
     lacks_behind i w.index h.index vs h.view w.view w.stands.read w.is (omega (arith, less)) cut s.apart))
     f in
-    subst P (sym (behind_is vs l h o y fresh a))
-    (lacks_back (split_between l (Some h)) fresh (y - h.from) (h.view.len - (y - h.from)) i h.view ws (less_other i fresh lt) old) where
+    subst P (sym (behind_is keep vs l h o y fresh a))
+    (lacks_back keep (split_between l (Some h)) fresh (y - h.from) (h.view.len - (y - h.from)) i h.view ws (less_other i fresh lt) old) where
       below_drop : (n i : ℕ) (vs : List ItemView) → NumbersBelow n vs → NumbersBelow n (drop i vs)
       below_drop n zero vs b = b
       below_drop n (suc i) [] b = tt
@@ -111,21 +111,21 @@ if_free : (o : Option ℕ) (t : TrackState) (x y : ℕ) (zs : List ItemView) →
 if_free None t x y zs f h = tt
 if_free (Some i) t x y zs f h = f i refl h
 
-free-before : (t : TrackState) (x y : ℕ) (l : Option Held) (views : List ItemView) → Stand t.next_item (items_of t.cells) → EndsAt t.cells x l → AllFree t x y views → Foreign views (before_range (items_of t.cells) l x)
-free-before t x y l [] s e f = tt
-free-before t x y l (v ∷ vs) s e f = (
-  if_free v.item t x y (before_range (items_of t.cells) l x) (λ i is h. free_before t.next_item i t x y l refl s e h) f.0,
-  free-before t x y l vs s e f.1,
+free-before : (keep : Bool) (t : TrackState) (x y : ℕ) (l : Option Held) (views : List ItemView) → Stand t.next_item (items_of t.cells) → EndsAt t.cells x l → AllFree t x y views → Foreign views (before_range keep (items_of t.cells) l x)
+free-before keep t x y l [] s e f = tt
+free-before keep t x y l (v ∷ vs) s e f = (
+  if_free v.item t x y (before_range keep (items_of t.cells) l x) (λ i is h. free_before keep t.next_item i t x y l refl s e h) f.0,
+  free-before keep t x y l vs s e f.1,
 )
 
-pub foreign-before : (t : TrackState) (x y : ℕ) (l : Option Held) (views : List ItemView) → Stand t.next_item (items_of t.cells) → EndsAt t.cells x l → AllFree t x y views → Foreign (before_range (items_of t.cells) l x) views
-foreign-before t x y l views s e f = foreign-sym (before_range (items_of t.cells) l x) views (free-before t x y l views s e f)
+pub foreign-before : (keep : Bool) (t : TrackState) (x y : ℕ) (l : Option Held) (views : List ItemView) → Stand t.next_item (items_of t.cells) → EndsAt t.cells x l → AllFree t x y views → Foreign (before_range keep (items_of t.cells) l x) views
+foreign-before keep t x y l views s e f = foreign-sym (before_range keep (items_of t.cells) l x) views (free-before keep t x y l views s e f)
 
-pub foreign-behind : (t : TrackState) (fresh x y : ℕ) (l r : Option Held) (o : Option ItemView) (views : List ItemView) → t.next_item ≤ fresh → NumbersBelow fresh views → Stand t.next_item (items_of t.cells) → StandsFrom t.cells y r
-    → o ≡ view_after (items_of t.cells) r → AllFree t x y views → Foreign views (behind_range (items_of t.cells) l r o y fresh)
-foreign-behind t fresh x y l r o [] le b s e a f = tt
-foreign-behind t fresh x y l r o (v ∷ vs) le b s e a f = (
-  if_free v.item t x y (behind_range (items_of t.cells) l r o y fresh)
-      (λ i is h. free_behind t.next_item fresh i t x y l r o refl le (known v.item i (λ j. j < fresh) b.0 is) s e a h) f.0,
-  foreign-behind t fresh x y l r o vs le b.1 s e a f.1,
+pub foreign-behind : (keep : Bool) (t : TrackState) (fresh x y : ℕ) (l r : Option Held) (o : Option ItemView) (views : List ItemView) → t.next_item ≤ fresh → NumbersBelow fresh views → Stand t.next_item (items_of t.cells) → StandsFrom t.cells y r
+    → o ≡ view_after (items_of t.cells) r → AllFree t x y views → Foreign views (behind_range keep (items_of t.cells) l r o y fresh)
+foreign-behind keep t fresh x y l r o [] le b s e a f = tt
+foreign-behind keep t fresh x y l r o (v ∷ vs) le b s e a f = (
+  if_free v.item t x y (behind_range keep (items_of t.cells) l r o y fresh)
+      (λ i is h. free_behind keep t.next_item fresh i t x y l r o refl le (known v.item i (λ j. j < fresh) b.0 is) s e a h) f.0,
+  foreign-behind keep t fresh x y l r o vs le b.1 s e a f.1,
 )

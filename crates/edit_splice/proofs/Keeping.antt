@@ -1,8 +1,8 @@
 -- New items may be put in place of any range of a track: what the splice leaves is a track again.
-use Rattle.std.proofs.Common.{◌≡◌, ℕ, zero, suc, ◌+◌, ◌-◌, ◌<◌, ◌≤◌, ◌^◌, List, [], ◌∷◌, ◌++◌, length, map, min, Option, Some, None, IfSome, refl, sym, ap, ◌∙◌, arith, take, drop, slice_get, subst, append_assoc}
+use Rattle.std.proofs.Common.{◌≡◌, ℕ, zero, suc, ◌+◌, ◌-◌, ◌<◌, ◌≤◌, ◌^◌, List, [], ◌∷◌, ◌++◌, length, map, min, Option, Some, None, IfSome, refl, sym, ap, ◌∙◌, arith, take, drop, slice_get, subst, append_assoc, Bool}
 use Rattle.std.proofs.lemmas.List.{drop_all, length-append, length-take, length-drop, length-map}
 use Rattle.frame_meaning.specs.declared.cells.Cell.{Cell}
-use Rattle.frame_meaning.specs.Splice.{Rule, kept_or_dropped, with_marks, renumbered, split_item, spliced, next_after_splice}
+use Rattle.frame_meaning.specs.Splice.{Rule, rule_of, with_marks, renumbered, split_item, spliced, next_after_splice}
 use Rattle.composables.specs.declared.items.ItemView.{ItemView}
 use Rattle.composables.specs.Items.{cells_of, items_of}
 use Rattle.composables.specs.Joined.{frames_in, IsTight, joined}
@@ -25,11 +25,11 @@ use Rattle.edit_splice.proofs.Apartness.{Foreign, apart-append, foreign-append, 
 use Rattle.edit_splice.proofs.Existing.{seams-exist}
 
 -- what stands before the range and what stands behind it
-abbrev pub before_range : List ItemView → Option Held → ℕ → List ItemView
-before_range vs l x = take (first_index l) vs ++ front_views l x
+abbrev pub before_range : Bool → List ItemView → Option Held → ℕ → List ItemView
+before_range keep vs l x = take (first_index l) vs ++ front_views keep l x
 
-abbrev pub behind_range : List ItemView → Option Held → Option Held → Option ItemView → ℕ → ℕ → List ItemView
-behind_range vs l r o y fresh = (back_views r y (split_between l r) fresh ++ after_views r o y) ++ drop (end_at r o (length vs)) vs
+abbrev pub behind_range : Bool → List ItemView → Option Held → Option Held → Option ItemView → ℕ → ℕ → List ItemView
+behind_range keep vs l r o y fresh = (back_views r y (split_between l r) fresh ++ after_views keep r o y) ++ drop (end_at r o (length vs)) vs
 
 -- items and gaps that may stand in a row once gaps that meet are one
 pub record Sound (zs : List ItemView) : Type 0 where
@@ -67,27 +67,27 @@ stand_of t k =
     let same : joined vs ≡ vs = sym (items_of-cells_of vs (filled-each vs k.each)) ∙ ap items_of k.whole in
     record { each = k.each; first = k.not_before; tight = subst P same (tight-joined vs); apart = k.apart; below = k.below }
 
-sound_front : (next : ℕ) (us : List ItemView) (v : ItemView) (ws : List ItemView) (n : ℕ) → Stand next (us ++ v ∷ ws) → 0 < n → n ≤ v.len → Sound (us ++ front_view v n ∷ [])
-sound_front next us v ws n s some le = record {
-  each = each-front us v ws n some le s.each;
-  first = mark-front us v ws n s.first;
-  meet = meet-front us v ws n s.tight;
-  apart = apart-front us v ws n s.apart;
+sound_front : (keep : Bool) (next : ℕ) (us : List ItemView) (v : ItemView) (ws : List ItemView) (n : ℕ) → Stand next (us ++ v ∷ ws) → 0 < n → n ≤ v.len → Sound (us ++ front_view keep v n ∷ [])
+sound_front keep next us v ws n s some le = record {
+  each = each-front keep us v ws n some le s.each;
+  first = mark-front keep us v ws n s.first;
+  meet = meet-front keep us v ws n s.tight;
+  apart = apart-front keep us v ws n s.apart;
 }
 
-pub sound_before : (next : ℕ) (cs : List Cell) (x : ℕ) (l : Option Held) → Stand next (items_of cs) → EndsAt cs x l → Sound (before_range (items_of cs) l x)
-sound_before next cs x None s e = sound_nothing
-sound_before next cs x (Some g) s e =
+pub sound_before : (keep : Bool) (next : ℕ) (cs : List Cell) (x : ℕ) (l : Option Held) → Stand next (items_of cs) → EndsAt cs x l → Sound (before_range keep (items_of cs) l x)
+sound_before keep next cs x None s e = sound_nothing
+sound_before keep next cs x (Some g) s e =
     let vs : List ItemView = items_of cs in
     let P : List ItemView → Type 0 = λ zs. Stand next zs in
-    sound_front next (take g.index vs) g.view (drop (suc g.index) vs) (x - g.from) (subst P (split-at vs g.index g.view e.1.read) s) (omega (arith, e.0, e.1.begins)) (omega (arith, e.0, e.1.ends))
+    sound_front keep next (take g.index vs) g.view (drop (suc g.index) vs) (x - g.from) (subst P (split-at vs g.index g.view e.1.read) s) (omega (arith, e.0, e.1.begins)) (omega (arith, e.0, e.1.ends))
 
-pub below_before : (next : ℕ) (cs : List Cell) (x : ℕ) (l : Option Held) → Stand next (items_of cs) → EndsAt cs x l → NumbersBelow next (before_range (items_of cs) l x)
-below_before next cs x None s e = tt
-below_before next cs x (Some g) s e =
+pub below_before : (keep : Bool) (next : ℕ) (cs : List Cell) (x : ℕ) (l : Option Held) → Stand next (items_of cs) → EndsAt cs x l → NumbersBelow next (before_range keep (items_of cs) l x)
+below_before keep next cs x None s e = tt
+below_before keep next cs x (Some g) s e =
     let vs : List ItemView = items_of cs in
     let P : List ItemView → Type 0 = λ zs. NumbersBelow next zs in
-    below-front next (take g.index vs) g.view (drop (suc g.index) vs) (x - g.from) (subst P (split-at vs g.index g.view e.1.read) s.below)
+    below-front keep next (take g.index vs) g.view (drop (suc g.index) vs) (x - g.from) (subst P (split-at vs g.index g.view e.1.read) s.below)
 
 -- behind the range
 pub stand_at : (next : ℕ) (us : List ItemView) (v : ItemView) (ws : List ItemView) → Stand next (us ++ v ∷ ws) → EachHolds (v ∷ ws) × IsTight (v ∷ ws) × Apart (v ∷ ws) × NumbersBelow next (v ∷ ws)
@@ -100,36 +100,36 @@ stand_at next us v ws s = (holds-at us v ws s.each, tight-at us v ws s.tight, al
   all_below n [] v ws b = b
   all_below n (u ∷ us) v ws b = all_below n us v ws b.1
 
-abbrev pub kept_behind_range : List ItemView → Option Held → Held → ℕ → ℕ → List ItemView
-kept_behind_range vs l h y fresh = renumbered_view (split_between l (Some h)) fresh (later_view h.view (y - h.from)) ∷ first_kept (h.view.len - (y - h.from)) (drop (suc h.index) vs)
+abbrev pub kept_behind_range : Bool → List ItemView → Option Held → Held → ℕ → ℕ → List ItemView
+kept_behind_range keep vs l h y fresh = renumbered_view (split_between l (Some h)) fresh (later_view h.view (y - h.from)) ∷ first_kept keep (h.view.len - (y - h.from)) (drop (suc h.index) vs)
 
-pub behind_is : (vs : List ItemView) (l : Option Held) (h : Held) (o : Option ItemView) (y fresh : ℕ) → o ≡ slice_get vs (h.index + 1) → behind_range vs l (Some h) o y fresh ≡ kept_behind_range vs l h y fresh
-behind_is vs l h o y fresh e =
-    ap (λ zs. renumbered_view (split_between l (Some h)) fresh (later_view h.view (y - h.from)) ∷ zs) (after-parts vs h o y (length vs) e)
+pub behind_is : (keep : Bool) (vs : List ItemView) (l : Option Held) (h : Held) (o : Option ItemView) (y fresh : ℕ) → o ≡ slice_get vs (h.index + 1) → behind_range keep vs l (Some h) o y fresh ≡ kept_behind_range keep vs l h y fresh
+behind_is keep vs l h o y fresh e =
+    ap (λ zs. renumbered_view (split_between l (Some h)) fresh (later_view h.view (y - h.from)) ∷ zs) (after-parts keep vs h o y (length vs) e)
 
-pub behind_none : (vs : List ItemView) (l : Option Held) (o : Option ItemView) (y fresh : ℕ) → behind_range vs l None o y fresh ≡ []
-behind_none vs l o y fresh = drop_all (length vs) vs (omega arith)
+pub behind_none : (keep : Bool) (vs : List ItemView) (l : Option Held) (o : Option ItemView) (y fresh : ℕ) → behind_range keep vs l None o y fresh ≡ []
+behind_none keep vs l o y fresh = drop_all (length vs) vs (omega arith)
 
-sound_back : (next fresh k : ℕ) (s : Option ℕ) (v : ItemView) (ws : List ItemView) → next ≤ fresh → k < v.len → EachHolds (v ∷ ws) → IsTight (v ∷ ws) → Apart (v ∷ ws) → NumbersBelow next (v ∷ ws)
-    → Sound (renumbered_view s fresh (later_view v k) ∷ first_kept (v.len - k) ws)
-sound_back next fresh k s v ws le lt h t a b = record {
-  each = each-back s fresh k v ws lt h;
+sound_back : (keep : Bool) (next fresh k : ℕ) (s : Option ℕ) (v : ItemView) (ws : List ItemView) → next ≤ fresh → k < v.len → EachHolds (v ∷ ws) → IsTight (v ∷ ws) → Apart (v ∷ ws) → NumbersBelow next (v ∷ ws)
+    → Sound (renumbered_view s fresh (later_view v k) ∷ first_kept keep (v.len - k) ws)
+sound_back keep next fresh k s v ws le lt h t a b = record {
+  each = each-back keep s fresh k v ws lt h;
   first = back-bare s fresh k v;
-  meet = meet-back s fresh k (v.len - k) v ws t;
-  apart = apart-back s fresh k (v.len - k) v ws a (lacks-below next fresh ws b.1 le);
+  meet = meet-back keep s fresh k (v.len - k) v ws t;
+  apart = apart-back keep s fresh k (v.len - k) v ws a (lacks-below next fresh ws b.1 le);
 }
 
-pub sound_behind : (next fresh : ℕ) (cs : List Cell) (y : ℕ) (l r : Option Held) (o : Option ItemView) → next ≤ fresh → Stand next (items_of cs) → StandsFrom cs y r → o ≡ view_after (items_of cs) r → Sound (behind_range (items_of cs) l r o y fresh)
-sound_behind next fresh cs y l None o le s e is =
+pub sound_behind : (keep : Bool) (next fresh : ℕ) (cs : List Cell) (y : ℕ) (l r : Option Held) (o : Option ItemView) → next ≤ fresh → Stand next (items_of cs) → StandsFrom cs y r → o ≡ view_after (items_of cs) r → Sound (behind_range keep (items_of cs) l r o y fresh)
+sound_behind keep next fresh cs y l None o le s e is =
     let P : List ItemView → Type 0 = λ zs. Sound zs in
-    subst P (sym (behind_none (items_of cs) l o y fresh)) sound_nothing
-sound_behind next fresh cs y l (Some h) o le s e is =
+    subst P (sym (behind_none keep (items_of cs) l o y fresh)) sound_nothing
+sound_behind keep next fresh cs y l (Some h) o le s e is =
     let vs : List ItemView = items_of cs in
     let P : List ItemView → Type 0 = λ zs. Sound zs in
     let S : List ItemView → Type 0 = λ zs. Stand next zs in
     let at = stand_at next (take h.index vs) h.view (drop (suc h.index) vs) (subst S (split-at vs h.index h.view e.read) s) in
-    subst P (sym (behind_is vs l h o y fresh is))
-    (sound_back next fresh (y - h.from) (split_between l (Some h)) h.view (drop (suc h.index) vs) le (omega (arith, e.begins, e.ends)) at.0 at.1 at.2 at.3)
+    subst P (sym (behind_is keep vs l h o y fresh is))
+    (sound_back keep next fresh (y - h.from) (split_between l (Some h)) h.view (drop (suc h.index) vs) le (omega (arith, e.begins, e.ends)) at.0 at.1 at.2 at.3)
 
 -- no number is on two sides
 pub foreign_nothing : (xs : List ItemView) → Foreign xs []
@@ -139,74 +139,74 @@ foreign_nothing (x ∷ xs) = (nothing x.item, foreign_nothing xs) where
   nothing None = tt
   nothing (Some i) = tt
 
-pub foreign_sides : (next fresh : ℕ) (cs : List Cell) (x y : ℕ) (l r : Option Held) (o : Option ItemView) → next ≤ fresh → x ≤ y → Stand next (items_of cs) → EndsAt cs x l → StandsFrom cs y r → o ≡ view_after (items_of cs) r
-    → Foreign (before_range (items_of cs) l x) (behind_range (items_of cs) l r o y fresh)
-foreign_sides next fresh cs x y None r o le order s e f is = tt
-foreign_sides next fresh cs x y (Some g) None o le order s e f is =
-    let P : List ItemView → Type 0 = λ zs. Foreign (before_range (items_of cs) (Some g) x) zs in
-    subst P (sym (behind_none (items_of cs) (Some g) o y fresh)) (foreign_nothing (before_range (items_of cs) (Some g) x))
-foreign_sides next fresh cs x y (Some g) (Some h) o le order s e f is =
+pub foreign_sides : (keep : Bool) (next fresh : ℕ) (cs : List Cell) (x y : ℕ) (l r : Option Held) (o : Option ItemView) → next ≤ fresh → x ≤ y → Stand next (items_of cs) → EndsAt cs x l → StandsFrom cs y r → o ≡ view_after (items_of cs) r
+    → Foreign (before_range keep (items_of cs) l x) (behind_range keep (items_of cs) l r o y fresh)
+foreign_sides keep next fresh cs x y None r o le order s e f is = tt
+foreign_sides keep next fresh cs x y (Some g) None o le order s e f is =
+    let P : List ItemView → Type 0 = λ zs. Foreign (before_range keep (items_of cs) (Some g) x) zs in
+    subst P (sym (behind_none keep (items_of cs) (Some g) o y fresh)) (foreign_nothing (before_range keep (items_of cs) (Some g) x))
+foreign_sides keep next fresh cs x y (Some g) (Some h) o le order s e f is =
     let vs : List ItemView = items_of cs in
-    let P : List ItemView → Type 0 = λ zs. Foreign (before_range vs (Some g) x) zs in
+    let P : List ItemView → Type 0 = λ zs. Foreign (before_range keep vs (Some g) x) zs in
     let below = below-weaker next fresh vs le s.below in
-    subst P (sym (behind_is vs (Some g) h o y fresh is))
-    (foreign-front vs g h (x - g.from) fresh (y - h.from) (h.view.len - (y - h.from)) e.1.read (drop-some vs h.index h.view f.read) (index-order vs x y g h e.0 order e.1 f) s.apart
+    subst P (sym (behind_is keep vs (Some g) h o y fresh is))
+    (foreign-front keep vs g h (x - g.from) fresh (y - h.from) (h.view.len - (y - h.from)) e.1.read (drop-some vs h.index h.view f.read) (index-order vs x y g h e.0 order e.1 f) s.apart
     (below_take fresh g.index vs below) (below-read fresh vs g.index g.view e.1.read below)) where
       below_take : (n i : ℕ) (vs : List ItemView) → NumbersBelow n vs → NumbersBelow n (take i vs)
       below_take n zero vs b = tt
       below_take n (suc i) [] b = tt
       below_take n (suc i) (v ∷ vs) b = (b.0, below_take n i vs b.1)
 
-pub foreign_behind : (next fresh : ℕ) (cs : List Cell) (y : ℕ) (l r : Option Held) (o : Option ItemView) (views : List ItemView) → Stand next (items_of cs) → StandsFrom cs y r → o ≡ view_after (items_of cs) r → NumbersFrom next views → NumbersBelow fresh views
-    → Foreign views (behind_range (items_of cs) l r o y fresh)
-foreign_behind next fresh cs y l None o views s f is above below =
+pub foreign_behind : (keep : Bool) (next fresh : ℕ) (cs : List Cell) (y : ℕ) (l r : Option Held) (o : Option ItemView) (views : List ItemView) → Stand next (items_of cs) → StandsFrom cs y r → o ≡ view_after (items_of cs) r → NumbersFrom next views → NumbersBelow fresh views
+    → Foreign views (behind_range keep (items_of cs) l r o y fresh)
+foreign_behind keep next fresh cs y l None o views s f is above below =
     let P : List ItemView → Type 0 = λ zs. Foreign views zs in
-    subst P (sym (behind_none (items_of cs) l o y fresh)) (foreign_nothing views)
-foreign_behind next fresh cs y l (Some h) o views s f is above below =
+    subst P (sym (behind_none keep (items_of cs) l o y fresh)) (foreign_nothing views)
+foreign_behind keep next fresh cs y l (Some h) o views s f is above below =
     let vs : List ItemView = items_of cs in
     let P : List ItemView → Type 0 = λ zs. Foreign views zs in
     let S : List ItemView → Type 0 = λ zs. Stand next zs in
     let at = stand_at next (take h.index vs) h.view (drop (suc h.index) vs) (subst S (split-at vs h.index h.view f.read) s) in
-    subst P (sym (behind_is vs l h o y fresh is))
-    (foreign-back-new (split_between l (Some h)) next fresh (y - h.from) (h.view.len - (y - h.from)) views h.view (drop (suc h.index) vs) above below at.3)
+    subst P (sym (behind_is keep vs l h o y fresh is))
+    (foreign-back-new keep (split_between l (Some h)) next fresh (y - h.from) (h.view.len - (y - h.from)) views h.view (drop (suc h.index) vs) above below at.3)
 
 -- all of it
-abbrev pub all_parts : List ItemView → Seams → ℕ → ℕ → List ItemView → ℕ → List ItemView
-all_parts vs s x y views fresh = (before_range vs s.left x ++ views) ++ behind_range vs s.left s.right s.after y fresh
+abbrev pub all_parts : Bool → List ItemView → Seams → ℕ → ℕ → List ItemView → ℕ → List ItemView
+all_parts keep vs s x y views fresh = (before_range keep vs s.left x ++ views) ++ behind_range keep vs s.left s.right s.after y fresh
 
-pub sound_all : (next : ℕ) (cs : List Cell) (x y : ℕ) (s : Seams) (views : List ItemView) → x ≤ y → Stand next (items_of cs) → AreSeams cs x y s → AreNew next views
-    → Sound (all_parts (items_of cs) s x y views (next_past_all next views))
-sound_all next cs x y s views order t a n =
+pub sound_all : (keep : Bool) (next : ℕ) (cs : List Cell) (x y : ℕ) (s : Seams) (views : List ItemView) → x ≤ y → Stand next (items_of cs) → AreSeams cs x y s → AreNew next views
+    → Sound (all_parts keep (items_of cs) s x y views (next_past_all next views))
+sound_all keep next cs x y s views order t a n =
     let vs : List ItemView = items_of cs in
     let fresh : ℕ = next_past_all next views in
     let le = next-rises next views in
-    sound_append (before_range vs s.left x ++ views) (behind_range vs s.left s.right s.after y fresh)
-    (sound_append (before_range vs s.left x) views (sound_before next cs x s.left t a.left) (sound_new next views n) (foreign-new next (before_range vs s.left x) views (below_before next cs x s.left t a.left) n.above))
-    (sound_behind next fresh cs y s.left s.right s.after le t a.right a.after)
-    (foreign-append (before_range vs s.left x) views (behind_range vs s.left s.right s.after y fresh)
-    (foreign_sides next fresh cs x y s.left s.right s.after le order t a.left a.right a.after)
-    (foreign_behind next fresh cs y s.left s.right s.after views t a.right a.after n.above (below-next next views)))
+    sound_append (before_range keep vs s.left x ++ views) (behind_range keep vs s.left s.right s.after y fresh)
+    (sound_append (before_range keep vs s.left x) views (sound_before keep next cs x s.left t a.left) (sound_new next views n) (foreign-new next (before_range keep vs s.left x) views (below_before keep next cs x s.left t a.left) n.above))
+    (sound_behind keep next fresh cs y s.left s.right s.after le t a.right a.after)
+    (foreign-append (before_range keep vs s.left x) views (behind_range keep vs s.left s.right s.after y fresh)
+    (foreign_sides keep next fresh cs x y s.left s.right s.after le order t a.left a.right a.after)
+    (foreign_behind keep next fresh cs y s.left s.right s.after views t a.right a.after n.above (below-next next views)))
 
 views_in_a_row : (u f m b d : List ItemView) → (u ++ ((f ++ m) ++ b)) ++ d ≡ ((u ++ f) ++ m) ++ (b ++ d)
 views_in_a_row u f m b d =
     ap (λ cs. cs ++ d) (sym (append_assoc u (f ++ m) b) ∙ ap (λ cs. cs ++ b) (sym (append_assoc u f m)))
     ∙ append_assoc ((u ++ f) ++ m) b d
 
-parts_in_a_row : (vs : List ItemView) (s : Seams) (x y : ℕ) (views : List ItemView) (fresh : ℕ)
-    → (take (first_index s.left) vs ++ parts_between s x y views fresh) ++ drop (end_index s (length vs)) vs ≡ all_parts vs s x y views fresh
-parts_in_a_row vs s x y views fresh =
-    views_in_a_row (take (first_index s.left) vs) (front_views s.left x) views (back_views s.right y (split_between s.left s.right) fresh ++ after_views s.right s.after y) (drop (end_index s (length vs)) vs)
+parts_in_a_row : (keep : Bool) (vs : List ItemView) (s : Seams) (x y : ℕ) (views : List ItemView) (fresh : ℕ)
+    → (take (first_index s.left) vs ++ parts_between keep s x y views fresh) ++ drop (end_index s (length vs)) vs ≡ all_parts keep vs s x y views fresh
+parts_in_a_row keep vs s x y views fresh =
+    views_in_a_row (take (first_index s.left) vs) (front_views keep s.left x) views (back_views s.right y (split_between s.left s.right) fresh ++ after_views keep s.right s.after y) (drop (end_index s (length vs)) vs)
 
-pub cells_all : (cs : List Cell) (x y fresh : ℕ) (s : Seams) (views : List ItemView) → cells_of (items_of cs) ≡ cs → EachHolds (items_of cs) → Apart (items_of cs) → x ≤ y → AreSeams cs x y s
-    → cells_of (all_parts (items_of cs) s x y views fresh) ≡ spliced kept_or_dropped cs x y (cells_of views) fresh
-cells_all cs x y fresh s views whole h a order seams =
+pub cells_all : (keep : Bool) (cs : List Cell) (x y fresh : ℕ) (s : Seams) (views : List ItemView) → cells_of (items_of cs) ≡ cs → EachHolds (items_of cs) → Apart (items_of cs) → x ≤ y → AreSeams cs x y s
+    → cells_of (all_parts keep (items_of cs) s x y views fresh) ≡ spliced (rule_of keep) cs x y (cells_of views) fresh
+cells_all keep cs x y fresh s views whole h a order seams =
     let vs : List ItemView = items_of cs in
     let u : List ItemView = take (first_index s.left) vs in
-    let p : List ItemView = parts_between s x y views fresh in
+    let p : List ItemView = parts_between keep s x y views fresh in
     let d : List ItemView = drop (end_index s (length vs)) vs in
-    ap cells_of (sym (parts_in_a_row vs s x y views fresh))
+    ap cells_of (sym (parts_in_a_row keep vs s x y views fresh))
     ∙ (cells_of-append (u ++ p) d
-    ∙ (ap (λ ds. ds ++ cells_of d) (cells_of-append u p) ∙ cells-spliced cs x y fresh s views whole h a order seams))
+    ∙ (ap (λ ds. ds ++ cells_of d) (cells_of-append u p) ∙ cells-spliced keep cs x y fresh s views whole h a order seams))
 
 -- the numbers
 pub below_some : (n i : ℕ) (vs : List ItemView) → NumbersBelow n vs → NumbersBelow n (take i vs) × NumbersBelow n (drop i vs)
@@ -214,20 +214,20 @@ below_some n zero vs b = (tt, b)
 below_some n (suc i) [] b = (tt, tt)
 below_some n (suc i) (v ∷ vs) b = let rest = below_some n i vs b.1 in ((b.0, rest.0), rest.1)
 
-pub below_all : (next : ℕ) (cs : List Cell) (x y : ℕ) (s : Seams) (views : List ItemView) → cells_of (items_of cs) ≡ cs → NumbersBelow next (items_of cs) → x ≤ y → AreSeams cs x y s
-    → NumbersBelow (next_after_splice cs x y (next_past_all next views)) (all_parts (items_of cs) s x y views (next_past_all next views))
-below_all next cs x y s views whole b order seams =
+pub below_all : (keep : Bool) (next : ℕ) (cs : List Cell) (x y : ℕ) (s : Seams) (views : List ItemView) → cells_of (items_of cs) ≡ cs → NumbersBelow next (items_of cs) → x ≤ y → AreSeams cs x y s
+    → NumbersBelow (next_after_splice cs x y (next_past_all next views)) (all_parts keep (items_of cs) s x y views (next_past_all next views))
+below_all keep next cs x y s views whole b order seams =
     let vs : List ItemView = items_of cs in
     let fresh : ℕ = next_past_all next views in
-    let parts : List ItemView = parts_between s x y views fresh in
+    let parts : List ItemView = parts_between keep s x y views fresh in
     let m : ℕ = next_past_all next parts in
     let le : next ≤ m = next-rises next parts in
     let u : List ItemView = take (first_index s.left) vs in
     let d : List ItemView = drop (end_index s (length vs)) vs in
-    let K : ℕ → Type 0 = λ k. NumbersBelow k (all_parts vs s x y views fresh) in
+    let K : ℕ → Type 0 = λ k. NumbersBelow k (all_parts keep vs s x y views fresh) in
     let Z : List ItemView → Type 0 = λ zs. NumbersBelow m zs in
-    subst K (next-spliced next cs x y s views whole b order seams)
-    (subst Z (parts_in_a_row vs s x y views fresh)
+    subst K (next-spliced keep next cs x y s views whole b order seams)
+    (subst Z (parts_in_a_row keep vs s x y views fresh)
     (below-append m (u ++ parts) d
     (below-append m u parts (below-weaker next m u le (below_some next (first_index s.left) vs b).0) (below-next next parts))
     (below-weaker next m d le (below_some next (end_index s (length vs)) vs b).1)))
@@ -257,15 +257,15 @@ kept_sound u zs is s below short =
     }
 
 -- a splice of new items leaves a track
-pub kept_spliced : (t : TrackState) (x y : ℕ) (views : List ItemView) → IsKept t → x ≤ y → y ≤ length t.cells → AreNew t.next_item views → length t.cells + frames_in views < 2 ^ 32 → IsKept (spliced_track t x y views)
-kept_spliced t x y views k order within n short =
+pub kept_spliced : (keep : Bool) (t : TrackState) (x y : ℕ) (views : List ItemView) → IsKept t → x ≤ y → y ≤ length t.cells → AreNew t.next_item views → length t.cells + frames_in views < 2 ^ 32 → IsKept (spliced_track keep t x y views)
+kept_spliced keep t x y views k order within n short =
     let found = seams-exist t.cells x y k.whole (omega (arith, order, within)) in
     let fresh : ℕ = next_past_all t.next_item views in
-    kept_sound (spliced_track t x y views) (all_parts (items_of t.cells) found.0 x y views fresh)
-    (sym (cells_all t.cells x y fresh found.0 views k.whole k.each k.apart order found.1))
-    (sound_all t.next_item t.cells x y found.0 views order (stand_of t k) found.1 n)
-    (below_all t.next_item t.cells x y found.0 views k.whole k.below order found.1)
-    (omega (arith, order, within, short, length-spliced kept_or_dropped t.cells x y (cells_of views) fresh, length-cells_of views))
+    kept_sound (spliced_track keep t x y views) (all_parts keep (items_of t.cells) found.0 x y views fresh)
+    (sym (cells_all keep t.cells x y fresh found.0 views k.whole k.each k.apart order found.1))
+    (sound_all keep t.next_item t.cells x y found.0 views order (stand_of t k) found.1 n)
+    (below_all keep t.next_item t.cells x y found.0 views k.whole k.below order found.1)
+    (omega (arith, order, within, short, length-spliced (rule_of keep) t.cells x y (cells_of views) fresh, length-cells_of views))
 
 -- the same where the new numbers are from a higher one on
 from_weaker : (m n : ℕ) (vs : List ItemView) → n ≤ m → NumbersFrom m vs → NumbersFrom n vs
@@ -278,5 +278,5 @@ from_weaker m n (v ∷ vs) le a = (from_item v.item a.0, from_weaker m n vs le a
 pub new-weaker : (m n : ℕ) (views : List ItemView) → n ≤ m → AreNew m views → AreNew n views
 new-weaker m n views le a = record { each = a.each; first = a.first; meet = a.meet; apart = a.apart; above = from_weaker m n views le a.above }
 
-pub kept_put : (t : TrackState) (x y m : ℕ) (views : List ItemView) → IsKept t → x ≤ y → y ≤ length t.cells → t.next_item ≤ m → AreNew m views → length t.cells ≤ 100 → frames_in views < 100 → IsKept (spliced_track t x y views)
-kept_put t x y m views k order within next n short few = kept_spliced t x y views k order within (new-weaker m t.next_item views next n) (omega (arith, short, few))
+pub kept_put : (keep : Bool) (t : TrackState) (x y m : ℕ) (views : List ItemView) → IsKept t → x ≤ y → y ≤ length t.cells → t.next_item ≤ m → AreNew m views → length t.cells ≤ 100 → frames_in views < 100 → IsKept (spliced_track keep t x y views)
+kept_put keep t x y m views k order within next n short few = kept_spliced keep t x y views k order within (new-weaker m t.next_item views next n) (omega (arith, short, few))

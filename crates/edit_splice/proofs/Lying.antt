@@ -1,6 +1,6 @@
 -- What the parts of a track at the ends of a range show lies in the ranges of the table, and their links are the
 -- track's own.
-use Rattle.std.proofs.Common.{◌≡◌, ℕ, ◌+◌, ◌-◌, ◌<◌, ◌≤◌, Bool, true, false, cond, leb, ltb, ◌&&◌, List, [], ◌∷◌, ◌++◌, Option, Some, None, IfSome, refl, sym, arith, subst}
+use Rattle.std.proofs.Common.{◌≡◌, ℕ, ◌+◌, ◌-◌, ◌<◌, ◌≤◌, Bool, true, false, cond, leb, ltb, ◌&&◌, List, [], ◌∷◌, ◌++◌, min, Option, Some, None, IfSome, refl, sym, arith, subst}
 use Rattle.std.proofs.lemmas.Bool.{cond_both}
 use Rattle.frame_meaning.specs.declared.cells.What.{What}
 use Rattle.frame_meaning.specs.declared.cells.Mark.{Mark}
@@ -40,24 +40,30 @@ lies_later : (table : Table) (s : Side What) (len k before after : ℕ) → k < 
 lies_later table Dark len k before after lt h = tt
 lies_later table (Pic w s) len k before after lt h = bounded_later (bounds_of table w) s len k before after lt h
 
--- a dissolve that may be dropped reaches no further
-before_left : (n : ℕ) (m : Option Mark) → left_reach (kept_before n m) ≤ left_reach m
-before_left n None = omega arith
-before_left n (Some m) = by_test (leb m.b n) where
+-- a dissolve that may be dropped, or made shorter, reaches no further
+before_left : (keep : Bool) (n : ℕ) (m : Option Mark) → left_reach (kept_before keep n m) ≤ left_reach m
+before_left keep n None = omega arith
+before_left true n (Some m) = omega arith
+before_left false n (Some m) = by_test (leb m.b n) where
   by_test : (t : Bool) → left_reach (cond t (Some m) None) ≤ m.a
   by_test true = omega arith
   by_test false = omega arith
 
-before_right : (n : ℕ) (m : Option Mark) → right_reach (kept_before n m) ≤ right_reach m
-before_right n None = omega arith
-before_right n (Some m) = by_test (leb m.b n) where
+before_right : (keep : Bool) (n : ℕ) (m : Option Mark) → right_reach (kept_before keep n m) ≤ right_reach m
+before_right keep n None = omega arith
+before_right true n (Some m) = omega arith
+before_right false n (Some m) = by_test (leb m.b n) where
   by_test : (t : Bool) → right_reach (cond t (Some m) None) ≤ m.b
   by_test true = omega arith
   by_test false = omega arith
 
-behind_both : (n : ℕ) (m : Option Mark) → (left_reach (kept_behind n m) ≤ left_reach m) × (right_reach (kept_behind n m) ≤ right_reach m)
-behind_both n None = (omega arith, omega arith)
-behind_both n (Some m) = by_test (ltb 0 n && leb m.a n) where
+behind_both : (keep : Bool) (n : ℕ) (m : Option Mark) → (left_reach (kept_behind keep n m) ≤ left_reach m) × (right_reach (kept_behind keep n m) ≤ right_reach m)
+behind_both keep n None = (omega arith, omega arith)
+behind_both true n (Some m) = by_test (ltb 0 n) where
+  by_test : (t : Bool) → (left_reach (cond t (Some (record m { a = min m.a n })) None) ≤ m.a) × (right_reach (cond t (Some (record m { a = min m.a n })) None) ≤ m.b)
+  by_test true = (omega arith, omega arith)
+  by_test false = (omega arith, omega arith)
+behind_both false n (Some m) = by_test (ltb 0 n && leb m.a n) where
   by_test : (t : Bool) → (left_reach (cond t (Some m) None) ≤ m.a) × (right_reach (cond t (Some m) None) ≤ m.b)
   by_test true = (omega arith, omega arith)
   by_test false = (omega arith, omega arith)
@@ -69,12 +75,12 @@ none_most : (n : ℕ) → 0 ≤ n
 none_most n = omega arith
 
 -- before the range
-pub lies-front : (table : Table) (us : List ItemView) (v : ItemView) (ws : List ItemView) (n : ℕ) → n ≤ v.len → EachLiesIn table (us ++ v ∷ ws) → EachLiesIn table (us ++ front_view v n ∷ [])
-lies-front table [] v ws n le h =
-    (lies-less table v.first v.len n (left_reach v.mark) (right_reach (first_mark ws)) (left_reach (kept_before n v.mark)) 0 le (before_left n v.mark) (none_most (right_reach (first_mark ws))) h.0, tt)
-lies-front table (u ∷ []) v ws n le h =
-    (lies-less table u.first u.len u.len (left_reach u.mark) (right_reach v.mark) (left_reach u.mark) (right_reach (kept_before n v.mark)) (same_len u.len) (same_len (left_reach u.mark)) (before_right n v.mark) h.0, lies-front table [] v ws n le h.1)
-lies-front table (u ∷ w ∷ us) v ws n le h = (h.0, lies-front table (w ∷ us) v ws n le h.1)
+pub lies-front : (keep : Bool) (table : Table) (us : List ItemView) (v : ItemView) (ws : List ItemView) (n : ℕ) → n ≤ v.len → EachLiesIn table (us ++ v ∷ ws) → EachLiesIn table (us ++ front_view keep v n ∷ [])
+lies-front keep table [] v ws n le h =
+    (lies-less table v.first v.len n (left_reach v.mark) (right_reach (first_mark ws)) (left_reach (kept_before keep n v.mark)) 0 le (before_left keep n v.mark) (none_most (right_reach (first_mark ws))) h.0, tt)
+lies-front keep table (u ∷ []) v ws n le h =
+    (lies-less table u.first u.len u.len (left_reach u.mark) (right_reach v.mark) (left_reach u.mark) (right_reach (kept_before keep n v.mark)) (same_len u.len) (same_len (left_reach u.mark)) (before_right keep n v.mark) h.0, lies-front keep table [] v ws n le h.1)
+lies-front keep table (u ∷ w ∷ us) v ws n le h = (h.0, lies-front keep table (w ∷ us) v ws n le h.1)
 
 -- behind it
 pub lies-at : (table : Table) (us : List ItemView) (v : ItemView) (ws : List ItemView) → EachLiesIn table (us ++ v ∷ ws) → EachLiesIn table (v ∷ ws)
@@ -93,12 +99,12 @@ later_lies table s fresh k after tail v lt le h =
     renumbered_lies table s fresh (later_view v k) tail
     (lies-less table (later_side v.first k) (v.len - k) (v.len - k) 0 after 0 tail (same_len (v.len - k)) (same_len 0) le (lies_later table v.first v.len k (left_reach v.mark) after lt h))
 
-pub lies-back : (table : Table) (s : Option ℕ) (fresh k : ℕ) (v : ItemView) (ws : List ItemView) → k < v.len → EachLiesIn table (v ∷ ws) → EachLiesIn table (renumbered_view s fresh (later_view v k) ∷ first_kept (v.len - k) ws)
-lies-back table s fresh k v [] lt h = (later_lies table s fresh k 0 0 v lt (same_len 0) h.0, tt)
-lies-back table s fresh k v (w ∷ ws) lt h =
-    let most = behind_both (v.len - k) w.mark in (
-      later_lies table s fresh k (right_reach w.mark) (right_reach (kept_behind (v.len - k) w.mark)) v lt most.1 h.0,
-      (lies-less table w.first w.len w.len (left_reach w.mark) (right_reach (first_mark ws)) (left_reach (kept_behind (v.len - k) w.mark)) (right_reach (first_mark ws)) (same_len w.len) most.0 (same_len (right_reach (first_mark ws))) h.1.0, h.1.1),
+pub lies-back : (keep : Bool) (table : Table) (s : Option ℕ) (fresh k : ℕ) (v : ItemView) (ws : List ItemView) → k < v.len → EachLiesIn table (v ∷ ws) → EachLiesIn table (renumbered_view s fresh (later_view v k) ∷ first_kept keep (v.len - k) ws)
+lies-back keep table s fresh k v [] lt h = (later_lies table s fresh k 0 0 v lt (same_len 0) h.0, tt)
+lies-back keep table s fresh k v (w ∷ ws) lt h =
+    let most = behind_both keep (v.len - k) w.mark in (
+      later_lies table s fresh k (right_reach w.mark) (right_reach (kept_behind keep (v.len - k) w.mark)) v lt most.1 h.0,
+      (lies-less table w.first w.len w.len (left_reach w.mark) (right_reach (first_mark ws)) (left_reach (kept_behind keep (v.len - k) w.mark)) (right_reach (first_mark ws)) (same_len w.len) most.0 (same_len (right_reach (first_mark ws))) h.1.0, h.1.1),
     )
 
 -- in a row
@@ -129,9 +135,9 @@ lies-joined table (v ∷ vs) h a p =
     lies_with_view table v (joined vs) h.0.shows (if-lacks v.item vs (joined vs) (λ i. lacks-joined i vs) a.0) (subst P (sym (mark-joined vs)) p.0) (lies-joined table vs h.1 a.1 p.1)
 
 -- links
-pub links-front : (number : ℕ) (us : List ItemView) (v : ItemView) (ws : List ItemView) (n : ℕ) → EachLinkOf number (us ++ v ∷ ws) → EachLinkOf number (us ++ front_view v n ∷ [])
-links-front number [] v ws n h = (h.0, tt)
-links-front number (u ∷ us) v ws n h = (h.0, links-front number us v ws n h.1)
+pub links-front : (keep : Bool) (number : ℕ) (us : List ItemView) (v : ItemView) (ws : List ItemView) (n : ℕ) → EachLinkOf number (us ++ v ∷ ws) → EachLinkOf number (us ++ front_view keep v n ∷ [])
+links-front keep number [] v ws n h = (h.0, tt)
+links-front keep number (u ∷ us) v ws n h = (h.0, links-front keep number us v ws n h.1)
 
 pub links-at : (number : ℕ) (us : List ItemView) (v : ItemView) (ws : List ItemView) → EachLinkOf number (us ++ v ∷ ws) → EachLinkOf number (v ∷ ws)
 links-at number [] v ws h = h
@@ -142,12 +148,12 @@ renumbered_link number None fresh v h = h
 renumbered_link number (Some j) fresh v h =
     cond_both (same_number v.item (Some j)) (record v { item = Some fresh }) v (λ (w : ItemView). IsLinkOf number w.link) (λ t. h) (λ t. h)
 
-links_kept : (number n : ℕ) (ws : List ItemView) → EachLinkOf number ws → EachLinkOf number (first_kept n ws)
-links_kept number n [] h = tt
-links_kept number n (w ∷ ws) h = h
+links_kept : (keep : Bool) (number n : ℕ) (ws : List ItemView) → EachLinkOf number ws → EachLinkOf number (first_kept keep n ws)
+links_kept keep number n [] h = tt
+links_kept keep number n (w ∷ ws) h = h
 
-pub links-back : (number : ℕ) (s : Option ℕ) (fresh k n : ℕ) (v : ItemView) (ws : List ItemView) → EachLinkOf number (v ∷ ws) → EachLinkOf number (renumbered_view s fresh (later_view v k) ∷ first_kept n ws)
-links-back number s fresh k n v ws h = (renumbered_link number s fresh (later_view v k) h.0, links_kept number n ws h.1)
+pub links-back : (keep : Bool) (number : ℕ) (s : Option ℕ) (fresh k n : ℕ) (v : ItemView) (ws : List ItemView) → EachLinkOf number (v ∷ ws) → EachLinkOf number (renumbered_view s fresh (later_view v k) ∷ first_kept keep n ws)
+links-back keep number s fresh k n v ws h = (renumbered_link number s fresh (later_view v k) h.0, links_kept keep number n ws h.1)
 
 pub links-append : (number : ℕ) (xs ys : List ItemView) → EachLinkOf number xs → EachLinkOf number ys → EachLinkOf number (xs ++ ys)
 links-append number [] ys h k = k

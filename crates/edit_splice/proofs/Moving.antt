@@ -45,7 +45,7 @@ put-none s t n h = put-other s t n ∙ ap (λ (b : Bool). cond b (gap_views (new
 
 pub length-moved : (s : Shift) (t : TrackState) → s.x ≤ s.y
     → length (moved s t).cells ≡ min s.x (length t.cells) + frames_in (put_views s t) + (length t.cells - min s.y (length t.cells))
-length-moved s t le = length-spliced_track t (min s.x (length t.cells)) (min s.y (length t.cells)) (put_views s t) (omega (arith, le)) (omega arith)
+length-moved s t le = length-spliced_track s.keep t (min s.x (length t.cells)) (min s.y (length t.cells)) (put_views s t) (omega (arith, le)) (omega arith)
 
 pub length-own : (s : Shift) (t : TrackState) → s.x ≤ s.y → t.number ≡ s.own
     → length (moved s t).cells ≡ min s.x (length t.cells) + (length t.cells - min s.y (length t.cells)) + (s.x - length t.cells) + new_len s.new
@@ -62,13 +62,13 @@ length-none s t le n h = omega (arith, length-moved s t le, ap frames_in (put-no
 -- on a track that keeps its limits it leaves one that keeps what every track keeps
 pub new-kept : (s : Shift) (t : TrackState) → IsKept t → length t.cells ≤ MAX_FRAMES → AreNew t.next_item (put_views s t) → s.x ≤ s.y → IsWithinLimits (moved s t) → IsKept (moved s t)
 new-kept s t kept frames new le limits =
-    kept_spliced t (min s.x (length t.cells)) (min s.y (length t.cells)) (put_views s t) kept (omega (arith, le)) (omega arith) new
+    kept_spliced s.keep t (min s.x (length t.cells)) (min s.y (length t.cells)) (put_views s t) kept (omega (arith, le)) (omega arith) new
     (omega (arith, length-moved s t le, limits.frames, frames, le))
 
 pub kept-put : (s : Shift) (t : TrackState) (x y : ℕ) (views : List ItemView) → s.x ≤ s.y → IsShiftOf s t → IsWithinLimits (moved s t)
-    → x ≡ min s.x (length t.cells) → y ≡ min s.y (length t.cells) → views ≡ put_views s t → IsKept (spliced_track t x y views)
+    → x ≡ min s.x (length t.cells) → y ≡ min s.y (length t.cells) → views ≡ put_views s t → IsKept (spliced_track s.keep t x y views)
 kept-put s t x y views le f limits e h k =
-    let same : moved s t ≡ spliced_track t x y views =
-    ap (λ (n : ℕ). spliced_track t n (min s.y (length t.cells)) (put_views s t)) (sym e)
-    ∙ (ap (λ (n : ℕ). spliced_track t x n (put_views s t)) (sym h) ∙ ap (spliced_track t x y) (sym k)) in
+    let same : moved s t ≡ spliced_track s.keep t x y views =
+    ap (λ (n : ℕ). spliced_track s.keep t n (min s.y (length t.cells)) (put_views s t)) (sym e)
+    ∙ (ap (λ (n : ℕ). spliced_track s.keep t x n (put_views s t)) (sym h) ∙ ap (spliced_track s.keep t x y) (sym k)) in
     subst IsKept same (f.stays le limits)

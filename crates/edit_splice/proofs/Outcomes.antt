@@ -6,7 +6,7 @@ use Rattle.frame_meaning.specs.declared.cells.Link.{Link}
 use Rattle.frame_meaning.specs.declared.cells.Cell.{Cell}
 use Rattle.frame_meaning.specs.declared.frames.Side.{Side}
 use Rattle.frame_meaning.specs.Cells.{span, next_side, same_number}
-use Rattle.frame_meaning.specs.Splice.{Rule, kept_or_dropped, with_marks, renumbered, split_item, spliced, next_after_splice}
+use Rattle.frame_meaning.specs.Splice.{Rule, rule_of, with_marks, renumbered, split_item, spliced, next_after_splice}
 use Rattle.composables.specs.declared.items.ItemView.{ItemView}
 use Rattle.composables.specs.Good.{AllUnlinked}
 use Rattle.composables.specs.Items.{marked, view_cells, cells_of, with_cell, view_from, items_of}
@@ -20,18 +20,18 @@ use Rattle.edit_splice.proofs.Numbers.{next-most, next-rises, split-rises}
 use Rattle.edit_splice.proofs.Keeping.{length-spliced}
 
 -- the length
-pub length-spliced_track : (t : TrackState) (x y : ℕ) (views : List ItemView) → x ≤ y → y ≤ length t.cells → length (spliced_track t x y views).cells ≡ x + frames_in views + (length t.cells - y)
-length-spliced_track t x y views le within =
+pub length-spliced_track : (keep : Bool) (t : TrackState) (x y : ℕ) (views : List ItemView) → x ≤ y → y ≤ length t.cells → length (spliced_track keep t x y views).cells ≡ x + frames_in views + (length t.cells - y)
+length-spliced_track keep t x y views le within =
     let fresh : ℕ = next_past_all t.next_item views in
-    omega (arith, le, within, length-spliced kept_or_dropped t.cells x y (cells_of views) fresh, length-cells_of views)
+    omega (arith, le, within, length-spliced (rule_of keep) t.cells x y (cells_of views) fresh, length-cells_of views)
 
 -- the next item number
 split_most : (s : Option ℕ) (fresh : ℕ) → after_split s fresh ≤ fresh + 1
 split_most None fresh = omega arith
 split_most (Some i) fresh = omega arith
 
-pub next-bounds : (t : TrackState) (x y n : ℕ) (views : List ItemView) → NumbersBelow (t.next_item + n) views → (t.next_item ≤ (spliced_track t x y views).next_item) × ((spliced_track t x y views).next_item ≤ t.next_item + n + 1)
-next-bounds t x y n views below =
+pub next-bounds : (keep : Bool) (t : TrackState) (x y n : ℕ) (views : List ItemView) → NumbersBelow (t.next_item + n) views → (t.next_item ≤ (spliced_track keep t x y views).next_item) × ((spliced_track keep t x y views).next_item ≤ t.next_item + n + 1)
+next-bounds keep t x y n views below =
     let fresh : ℕ = next_past_all t.next_item views in
     let s : Option ℕ = split_item t.cells x y in
     let is : next_after_splice t.cells x y fresh ≡ after_split s fresh = next-splice t.cells x y fresh s refl in
@@ -95,14 +95,14 @@ numbers_unlinked : (s : Option ℕ) (fresh : ℕ) (cs : List Cell) → NoLinks c
 numbers_unlinked s fresh [] h = tt
 numbers_unlinked s fresh (c ∷ cs) h = (cell_unlinked s fresh c h.0, numbers_unlinked s fresh cs h.1)
 
-pub unlinked-spliced : (t : TrackState) (x y : ℕ) (views : List ItemView) → IsKept t → AllUnlinked (items_of t.cells) → AllUnlinked views → AllUnlinked (items_of (spliced_track t x y views).cells)
-unlinked-spliced t x y views k old new =
+pub unlinked-spliced : (keep : Bool) (t : TrackState) (x y : ℕ) (views : List ItemView) → IsKept t → AllUnlinked (items_of t.cells) → AllUnlinked views → AllUnlinked (items_of (spliced_track keep t x y views).cells)
+unlinked-spliced keep t x y views k old new =
     let fresh : ℕ = next_past_all t.next_item views in
     let s : Option ℕ = split_item t.cells x y in
     let P : List Cell → Type 0 = λ cs. NoLinks cs in
-    let all : List Cell = with_marks kept_or_dropped x y 0 t.cells in
-    let bare : NoLinks all = marks_unlinked kept_or_dropped x y 0 t.cells (subst P k.whole (cells_unlinked (items_of t.cells) old)) in
-    items_unlinked (spliced kept_or_dropped t.cells x y (cells_of views) fresh)
+    let all : List Cell = with_marks (rule_of keep) x y 0 t.cells in
+    let bare : NoLinks all = marks_unlinked (rule_of keep) x y 0 t.cells (subst P k.whole (cells_unlinked (items_of t.cells) old)) in
+    items_unlinked (spliced (rule_of keep) t.cells x y (cells_of views) fresh)
     (append_unlinked (take x all ++ cells_of views) (map (renumbered s fresh) (drop y all))
     (append_unlinked (take x all) (cells_of views) (take_unlinked x all bare) (cells_unlinked views new))
     (numbers_unlinked s fresh (drop y all) (drop_unlinked y all bare)))
@@ -112,5 +112,5 @@ pub count-filled : (vs : List ItemView) → AllFilled vs → length vs ≤ frame
 count-filled [] h = omega arith
 count-filled (v ∷ vs) h = omega (arith, h.0, count-filled vs h.1)
 
-pub few-put : (t : TrackState) (x y n : ℕ) (views : List ItemView) → x ≤ y → y ≤ length t.cells → AllFilled views → length (spliced_track t x y views).cells < n → length views < n
-few-put t x y n views le within filled short = omega (arith, short, length-spliced_track t x y views le within, count-filled views filled)
+pub few-put : (keep : Bool) (t : TrackState) (x y n : ℕ) (views : List ItemView) → x ≤ y → y ≤ length t.cells → AllFilled views → length (spliced_track keep t x y views).cells < n → length views < n
+few-put keep t x y n views le within filled short = omega (arith, short, length-spliced_track keep t x y views le within, count-filled views filled)

@@ -1,5 +1,5 @@
 -- What the code puts in place, with the indices that it found, leaves the track of the splice.
-use Rattle.std.proofs.Common.{◌≡◌, ℕ, ◌+◌, ◌<◌, ◌≤◌, List, [], ◌++◌, length, Option, Some, None, IfSome, sym, ap, ◌∙◌, arith, subst, slice_get}
+use Rattle.std.proofs.Common.{◌≡◌, ℕ, ◌+◌, ◌<◌, ◌≤◌, List, [], ◌++◌, length, Option, Some, None, IfSome, sym, ap, ◌∙◌, arith, subst, slice_get, Bool}
 use Rattle.std.proofs.lemmas.Option.{slice_get_within}
 use Rattle.frame_meaning.specs.declared.cells.Cell.{Cell}
 use Rattle.composables.specs.declared.items.ItemView.{ItemView}
@@ -44,35 +44,35 @@ ends-ordered cs x y n from to s le a is first last =
     omega (arith, first, last ∙ ap (end_index s) is, order)
 
 -- the track that the code leaves
-pub replaced-is : (t : TrackState) (x y n fresh from to : ℕ) (s : Seams) (views parts : List ItemView) → IsKept t → x ≤ y → AreSeams t.cells x y s → n ≡ length (items_of t.cells) → fresh ≡ next_past_all t.next_item views
-    → from ≡ first_index s.left → to ≡ end_index s n → parts ≡ parts_between s x y views fresh → replaced t from to parts ≡ spliced_track t x y views
-replaced-is t x y n fresh from to s views parts k le a is new first last made =
-    let all : parts ≡ parts_between s x y views (next_past_all t.next_item views) = made ∙ ap (parts_between s x y views) new in
+pub replaced-is : (keep : Bool) (t : TrackState) (x y n fresh from to : ℕ) (s : Seams) (views parts : List ItemView) → IsKept t → x ≤ y → AreSeams t.cells x y s → n ≡ length (items_of t.cells) → fresh ≡ next_past_all t.next_item views
+    → from ≡ first_index s.left → to ≡ end_index s n → parts ≡ parts_between keep s x y views fresh → replaced t from to parts ≡ spliced_track keep t x y views
+replaced-is keep t x y n fresh from to s views parts k le a is new first last made =
+    let all : parts ≡ parts_between keep s x y views (next_past_all t.next_item views) = made ∙ ap (parts_between keep s x y views) new in
     let end : to ≡ end_index s (length (items_of t.cells)) = last ∙ ap (end_index s) is in
     ap (λ (i : ℕ). replaced t i to parts) first
     ∙ (ap (λ (i : ℕ). replaced t (first_index s.left) i parts) end
     ∙ (ap (replaced t (first_index s.left) (end_index s (length (items_of t.cells)))) all
     ∙ same_state t.number t.next_link _ _ _ _
-    (cells-spliced t.cells x y (next_past_all t.next_item views) s views k.whole k.each k.apart le a)
-    (next-spliced t.next_item t.cells x y s views k.whole k.below le a)))
+    (cells-spliced keep t.cells x y (next_past_all t.next_item views) s views k.whole k.each k.apart le a)
+    (next-spliced keep t.next_item t.cells x y s views k.whole k.below le a)))
 
-pub kept-replaced : (t : TrackState) (x y n fresh from to : ℕ) (s : Seams) (views parts : List ItemView) → IsKept t → x ≤ y → AreSeams t.cells x y s → n ≡ length (items_of t.cells) → fresh ≡ next_past_all t.next_item views
-    → from ≡ first_index s.left → to ≡ end_index s n → parts ≡ parts_between s x y views fresh → IsKept (spliced_track t x y views) → IsKept (replaced t from to parts)
-kept-replaced t x y n fresh from to s views parts k le a is new first last made kept =
+pub kept-replaced : (keep : Bool) (t : TrackState) (x y n fresh from to : ℕ) (s : Seams) (views parts : List ItemView) → IsKept t → x ≤ y → AreSeams t.cells x y s → n ≡ length (items_of t.cells) → fresh ≡ next_past_all t.next_item views
+    → from ≡ first_index s.left → to ≡ end_index s n → parts ≡ parts_between keep s x y views fresh → IsKept (spliced_track keep t x y views) → IsKept (replaced t from to parts)
+kept-replaced keep t x y n fresh from to s views parts k le a is new first last made kept =
     let P : TrackState → Type 0 = λ u. IsKept u in
-    subst P (sym (replaced-is t x y n fresh from to s views parts k le a is new first last made)) kept
+    subst P (sym (replaced-is keep t x y n fresh from to s views parts k le a is new first last made)) kept
 
-pub filled-made : (cs : List Cell) (x y fresh : ℕ) (s : Seams) (views parts : List ItemView) → EachHolds (items_of cs) → AreSeams cs x y s → AllFilled views → parts ≡ parts_between s x y views fresh → AllFilled parts
-filled-made cs x y fresh s views parts h a f made =
+pub filled-made : (keep : Bool) (cs : List Cell) (x y fresh : ℕ) (s : Seams) (views parts : List ItemView) → EachHolds (items_of cs) → AreSeams cs x y s → AllFilled views → parts ≡ parts_between keep s x y views fresh → AllFilled parts
+filled-made keep cs x y fresh s views parts h a f made =
     let P : List ItemView → Type 0 = λ vs. AllFilled vs in
-    subst P (sym made) (filled-parts fresh cs x y s views a h f)
+    subst P (sym made) (filled-parts keep fresh cs x y s views a h f)
 
-pub below-made : (t : TrackState) (x y fresh m : ℕ) (s : Seams) (views parts : List ItemView) → IsKept t → AreSeams t.cells x y s → t.next_item ≤ m → NumbersBelow m views → fresh ≡ next_past_all t.next_item views
-    → NumbersBelow (m + 1) views → parts ≡ parts_between s x y views fresh → NumbersBelow (m + 1) parts
-below-made t x y fresh m s views parts k a next below new more made =
+pub below-made : (keep : Bool) (t : TrackState) (x y fresh m : ℕ) (s : Seams) (views parts : List ItemView) → IsKept t → AreSeams t.cells x y s → t.next_item ≤ m → NumbersBelow m views → fresh ≡ next_past_all t.next_item views
+    → NumbersBelow (m + 1) views → parts ≡ parts_between keep s x y views fresh → NumbersBelow (m + 1) parts
+below-made keep t x y fresh m s views parts k a next below new more made =
     let P : List ItemView → Type 0 = λ vs. NumbersBelow (m + 1) vs in
     let most : fresh < m + 1 = omega (arith, new, next-most m t.next_item views next below) in
-    subst P (sym made) (below-parts t.next_item fresh (m + 1) t.cells x y s views (omega (arith, next)) most a k.below more)
+    subst P (sym made) (below-parts keep t.next_item fresh (m + 1) t.cells x y s views (omega (arith, next)) most a k.below more)
 
 -- what was laid in empty memory
 pub laid-alone : (old new : SpareState) (parts : List ItemView) → old.laid ≡ [] → new ≡ laid_more old parts → new.laid ≡ parts

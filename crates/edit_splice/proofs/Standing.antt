@@ -1,5 +1,5 @@
 -- What an edit leaves of the facts on its tracks.
-use Rattle.std.proofs.Common.{◌≡◌, ℕ, suc, ◌≤◌, List, [], ◌∷◌, All, length, map, Result, Ok, Err, refl, sym, ap, ◌∙◌, arith, subst}
+use Rattle.std.proofs.Common.{◌≡◌, ℕ, suc, ◌≤◌, List, [], ◌∷◌, All, length, map, Result, Ok, Err, refl, sym, ap, ◌∙◌, arith, subst, Bool}
 use Rattle.std.proofs.lemmas.List.Elements.{All-cons}
 use Rattle.composables.specs.declared.items.ItemView.{ItemView}
 use Rattle.composables.specs.declared.media.Table.{Table}
@@ -21,19 +21,19 @@ use Rattle.edit_splice.proofs.Put.{PutIn}
 pub stays-self : (table : Table) (t : TrackState) → IsGood table t → StaysGood table t t
 stays-self table t g = record { good = g; number = refl }
 
-pub stays-spliced : (table : Table) (t : TrackState) (x y : ℕ) (views : List ItemView) → IsGood table t → x ≤ y → y ≤ length t.cells → PutIn table t views
-    → IsWithinLimits (spliced_track t x y views) → StaysGood table t (spliced_track t x y views)
-stays-spliced table t x y views g le within p limits = record { good = good-spliced table t x y views g le within p.new limits; number = refl }
+pub stays-spliced : (keep : Bool) (table : Table) (t : TrackState) (x y : ℕ) (views : List ItemView) → IsGood table t → x ≤ y → y ≤ length t.cells → PutIn table t views
+    → IsWithinLimits (spliced_track keep t x y views) → StaysGood table t (spliced_track keep t x y views)
+stays-spliced keep table t x y views g le within p limits = record { good = good-spliced keep table t x y views g le within p.new limits; number = refl }
 
 -- an edit that puts items into one track
-pub stays-placed : (table : Table) (t u : TrackState) (x y : ℕ) (views : List ItemView) (done : Done) (result : Result Done (Fault Refusal))
+pub stays-placed : (keep : Bool) (table : Table) (t u : TrackState) (x y : ℕ) (views : List ItemView) (done : Done) (result : Result Done (Fault Refusal))
     → IsGood table t → x ≤ y → y ≤ length t.cells → PutIn table t views
-    → Answers (track_within_limits (spliced_track t x y views) done) t u result → StaysGood table t u
-stays-placed table t u x y views done (Ok d) g le within p a =
-    let k : (u ≡ spliced_track t x y views) × (d ≡ done) × IsWithinLimits (spliced_track t x y views) = within-done (spliced_track t x y views) done u d a in
-    subst (StaysGood table t) (sym k.0) (stays-spliced table t x y views g le within p k.2)
-stays-placed table t u x y views done (Err (Refused why)) g le within p a = subst (StaysGood table t) (sym a.1) (stays-self table t g)
-stays-placed table t u x y views done (Err Memory) g le within p a = subst (StaysGood table t) (sym a.1) (stays-self table t g)
+    → Answers (track_within_limits (spliced_track keep t x y views) done) t u result → StaysGood table t u
+stays-placed keep table t u x y views done (Ok d) g le within p a =
+    let k : (u ≡ spliced_track keep t x y views) × (d ≡ done) × IsWithinLimits (spliced_track keep t x y views) = within-done (spliced_track keep t x y views) done u d a in
+    subst (StaysGood table t) (sym k.0) (stays-spliced keep table t x y views g le within p k.2)
+stays-placed keep table t u x y views done (Err (Refused why)) g le within p a = subst (StaysGood table t) (sym a.1) (stays-self table t g)
+stays-placed keep table t u x y views done (Err Memory) g le within p a = subst (StaysGood table t) (sym a.1) (stays-self table t g)
 
 -- a refusal leaves it as it is
 pub stays-refused : (table : Table) (t u : TrackState) (why : Refusal) (result : Result Done (Fault Refusal)) → IsGood table t → Answers (Err why) t u result → StaysGood table t u

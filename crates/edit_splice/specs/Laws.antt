@@ -1,5 +1,5 @@
 -- What every splice leaves, as laws over all tracks.
-use Rattle.std.specs.Prelude.{◌≡◌, ◌+◌, ◌-◌, ◌<◌, ◌≤◌, ◌^◌, ℕ, List, length, true}
+use Rattle.std.specs.Prelude.{◌≡◌, ◌+◌, ◌-◌, ◌<◌, ◌≤◌, ◌^◌, ℕ, Bool, List, length, true}
 use Rattle.frame_meaning.specs.declared.cells.Cell.{Cell}
 use Rattle.frame_meaning.specs.Marks.{covers}
 use Rattle.frame_meaning.specs.Render.{cell_at}
@@ -23,22 +23,22 @@ pub record IsWithinLimits (t : TrackState) : Type 0 where
 
 -- new items in place of a range of a track leave a track
 abbrev pub NewItemsMayBePutIn : Type 0
-NewItemsMayBePutIn = (t : TrackState) (x y : ℕ) (views : List ItemView) → IsKept t
+NewItemsMayBePutIn = (keep : Bool) (t : TrackState) (x y : ℕ) (views : List ItemView) → IsKept t
     → x ≤ y → y ≤ length t.cells → AreNew t.next_item views → length t.cells + frames_in views < 2 ^ 32
-    → IsKept (spliced_track t x y views)
+    → IsKept (spliced_track keep t x y views)
 
 -- within the limits a track that is good in a table is good in it with new items in place of a range
 abbrev pub GoodStaysGood : Type 0
-GoodStaysGood = (table : Table) (t : TrackState) (x y : ℕ) (views : List ItemView) → IsGood table t
-    → x ≤ y → y ≤ length t.cells → AreNewFor table t views → IsWithinLimits (spliced_track t x y views)
-    → IsGood table (spliced_track t x y views)
+GoodStaysGood = (keep : Bool) (table : Table) (t : TrackState) (x y : ℕ) (views : List ItemView) → IsGood table t
+    → x ≤ y → y ≤ length t.cells → AreNewFor table t views → IsWithinLimits (spliced_track keep t x y views)
+    → IsGood table (spliced_track keep t x y views)
 
 -- and with all that may be put in: also with items that stood within the range, where the item or gap before it goes on,
 -- and where the one behind it reaches back
 abbrev pub GoodTakesParts : Type 0
-GoodTakesParts = (table : Table) (t : TrackState) (x y : ℕ) (views : List ItemView) → IsGood table t
-    → x ≤ y → y ≤ length t.cells → MayBePutIn table t x y views → IsWithinLimits (spliced_track t x y views)
-    → IsGood table (spliced_track t x y views)
+GoodTakesParts = (keep : Bool) (table : Table) (t : TrackState) (x y : ℕ) (views : List ItemView) → IsGood table t
+    → x ≤ y → y ≤ length t.cells → MayBePutIn table t x y views → IsWithinLimits (spliced_track keep t x y views)
+    → IsGood table (spliced_track keep t x y views)
 
 -- new items may be put in
 abbrev pub NewMayBePutIn : Type 0
@@ -47,21 +47,21 @@ NewMayBePutIn = (table : Table) (t : TrackState) (x y : ℕ) (views : List ItemV
 
 -- where the numbers of what is put in are below the next item number and n, that rises by n and one more at most
 abbrev pub NumbersRise : Type 0
-NumbersRise = (t : TrackState) (x y n : ℕ) (views : List ItemView)
+NumbersRise = (keep : Bool) (t : TrackState) (x y n : ℕ) (views : List ItemView)
     → NumbersBelow (t.next_item + n) views
-    → (t.next_item ≤ (spliced_track t x y views).next_item) ×
-    ((spliced_track t x y views).next_item ≤ t.next_item + n + 1)
+    → (t.next_item ≤ (spliced_track keep t x y views).next_item) ×
+    ((spliced_track keep t x y views).next_item ≤ t.next_item + n + 1)
 
 -- a track without links has none after items without links were put in
 abbrev pub UnlinkedStaysUnlinked : Type 0
-UnlinkedStaysUnlinked = (t : TrackState) (x y : ℕ) (views : List ItemView) → IsKept t
+UnlinkedStaysUnlinked = (keep : Bool) (t : TrackState) (x y : ℕ) (views : List ItemView) → IsKept t
     → AllUnlinked (items_of t.cells) → AllUnlinked views
-    → AllUnlinked (items_of (spliced_track t x y views).cells)
+    → AllUnlinked (items_of (spliced_track keep t x y views).cells)
 
 -- it has the frames before the range, those put in, and those behind it
 abbrev pub LengthsAdd : Type 0
-LengthsAdd = (t : TrackState) (x y : ℕ) (views : List ItemView) → x ≤ y → y ≤ length t.cells
-    → length (spliced_track t x y views).cells ≡ x + frames_in views + (length t.cells - y)
+LengthsAdd = (keep : Bool) (t : TrackState) (x y : ℕ) (views : List ItemView) → x ≤ y → y ≤ length t.cells
+    → length (spliced_track keep t x y views).cells ≡ x + frames_in views + (length t.cells - y)
 
 -- the cell at a place, with its mark by the rule
 abbrev pub ruled_cell : Rule → List Cell → ℕ → ℕ → ℕ → Cell

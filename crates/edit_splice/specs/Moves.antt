@@ -22,7 +22,7 @@ put_views s t =
     else (if nat_lt s.x (length t.cells) then gap_views (new_len s.new) else [])
 
 abbrev pub moved : Shift → TrackState → TrackState
-moved s t = spliced_track t (min s.x (length t.cells)) (min s.y (length t.cells)) (put_views s t)
+moved s t = spliced_track s.keep t (min s.x (length t.cells)) (min s.y (length t.cells)) (put_views s t)
 
 abbrev pub all_moved : Shift → List TrackState → List TrackState
 all_moved s named = map (moved s) named

@@ -1,5 +1,5 @@
 -- The items and gaps at the two ends of a range of a track, and what is put in their place.
-use Rattle.std.specs.Prelude.{◌≡◌, ℕ, ◌+◌, ◌-◌, ◌<◌, ◌≤◌, ◌&&◌, List, [], ◌∷◌, ◌++◌, Option, Some, None, take, length, nat_le, nat_lt, slice_get, if◌then◌else◌}
+use Rattle.std.specs.Prelude.{◌≡◌, ℕ, ◌+◌, ◌-◌, ◌<◌, ◌≤◌, Bool, ◌&&◌, List, [], ◌∷◌, ◌++◌, Option, Some, None, min, take, length, nat_le, nat_lt, slice_get, if◌then◌else◌}
 use Rattle.frame_meaning.specs.declared.cells.Mark.{Mark}
 use Rattle.frame_meaning.specs.declared.cells.Cell.{Cell}
 use Rattle.frame_meaning.specs.Cells.{same_number}
@@ -56,23 +56,28 @@ split_between None right = None
 split_between (Some h) None = None
 split_between (Some h) (Some k) = if same_number h.view.item k.view.item then k.view.item else None
 
--- a dissolve whose cut stands n frames before a range survives where its frames after the cut are no more
-abbrev pub kept_before : ℕ → Option Mark → Option Mark
-kept_before n None = None
-kept_before n (Some m) = if nat_le m.b n then Some m else None
+-- a dissolve whose cut stands n frames before a range survives where its frames after the cut are no more; where
+-- dissolves are kept it is made no longer
+abbrev pub kept_before : Bool → ℕ → Option Mark → Option Mark
+kept_before keep n None = None
+kept_before keep n (Some m) =
+    if keep then Some (record m { b = min m.b n }) else (if nat_le m.b n then Some m else None)
 
 -- one whose cut stands n frames behind a range survives where its frames before the cut are no more, and n is not 0
-abbrev pub kept_behind : ℕ → Option Mark → Option Mark
-kept_behind n None = None
-kept_behind n (Some m) = if nat_lt 0 n && nat_le m.a n then Some m else None
+abbrev pub kept_behind : Bool → ℕ → Option Mark → Option Mark
+kept_behind keep n None = None
+kept_behind keep n (Some m) =
+    if keep
+    then (if nat_lt 0 n then Some (record m { a = min m.a n }) else None)
+    else (if nat_lt 0 n && nat_le m.a n then Some m else None)
 
--- the first n frames of an item or gap; its dissolve stays where it ends by then
-abbrev pub front_view : ItemView → ℕ → ItemView
-front_view v n = record v { len = n; mark = kept_before n v.mark }
+-- the first n frames of an item or gap, with its dissolve as far as that is kept
+abbrev pub front_view : Bool → ItemView → ℕ → ItemView
+front_view keep v n = record v { len = n; mark = kept_before keep n v.mark }
 
-abbrev pub front_views : Option Held → ℕ → List ItemView
-front_views None x = []
-front_views (Some h) x = front_view h.view (x - h.from) ∷ []
+abbrev pub front_views : Bool → Option Held → ℕ → List ItemView
+front_views keep None x = []
+front_views keep (Some h) x = front_view keep h.view (x - h.from) ∷ []
 
 -- an item with a fresh number, if it is the one that is split
 abbrev pub renumbered_view : Option ℕ → ℕ → ItemView → ItemView
@@ -83,19 +88,19 @@ abbrev pub back_views : Option Held → ℕ → Option ℕ → ℕ → List Item
 back_views None y split fresh = []
 back_views (Some h) y split fresh = renumbered_view split fresh (later_view h.view (y - h.from)) ∷ []
 
--- an item or gap that begins n frames behind the range; its dissolve stays where it begins by then
-abbrev pub after_view : ℕ → ItemView → ItemView
-after_view n v = record v { mark = kept_behind n v.mark }
+-- an item or gap that begins n frames behind the range, with its dissolve as far as that is kept
+abbrev pub after_view : Bool → ℕ → ItemView → ItemView
+after_view keep n v = record v { mark = kept_behind keep n v.mark }
 
-abbrev pub after_views : Option Held → Option ItemView → ℕ → List ItemView
-after_views None after y = []
-after_views (Some h) None y = []
-after_views (Some h) (Some v) y = after_view (h.view.len - (y - h.from)) v ∷ []
+abbrev pub after_views : Bool → Option Held → Option ItemView → ℕ → List ItemView
+after_views keep None after y = []
+after_views keep (Some h) None y = []
+after_views keep (Some h) (Some v) y = after_view keep (h.view.len - (y - h.from)) v ∷ []
 
 -- what is put in place of the items and gaps at the ends of the range [x, y), with these between
-abbrev pub parts_between : Seams → ℕ → ℕ → List ItemView → ℕ → List ItemView
-parts_between s x y views fresh =
-    (front_views s.left x ++ views) ++ (back_views s.right y (split_between s.left s.right) fresh ++ after_views s.right s.after y)
+abbrev pub parts_between : Bool → Seams → ℕ → ℕ → List ItemView → ℕ → List ItemView
+parts_between keep s x y views fresh =
+    (front_views keep s.left x ++ views) ++ (back_views s.right y (split_between s.left s.right) fresh ++ after_views keep s.right s.after y)
 
 -- the index of the first item or gap that is replaced, and the index behind the last, of this many
 abbrev pub first_index : Option Held → ℕ

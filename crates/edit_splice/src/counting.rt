@@ -1,8 +1,8 @@
 // How many items and gaps a splice leaves, told before anything is changed.
-ghost use Rattle.std.specs.Prelude.{◌≡◌, ◌+◌, ◌*◌, ◌<◌, ◌≤◌, ◌^◌, ◌++◌, length};
+ghost use Rattle.std.specs.Prelude.{◌≡◌, ◌+◌, ◌*◌, ◌-◌, ◌<◌, ◌≤◌, ◌^◌, ◌++◌, Bool, length};
 ghost use Rattle.std.specs.Option.{option_to_list};
 ghost use Rattle.composables.specs.Items.{items_of};
-ghost use Rattle.composables.specs.Joined.{AllFilled};
+ghost use Rattle.composables.specs.Joined.{AllFilled, frames_in};
 ghost use Rattle.composables.specs.Sizes.{size_of};
 ghost use Rattle.composables.specs.TrackFacts.{NumbersBelow};
 ghost use Rattle.edit_splice.specs.Counting.{back_number, begun, belongs, count_by, count_past, number_of, numbers};
@@ -15,7 +15,7 @@ use frame_meaning::same_item;
 use std::sync::ledger::Ledger;
 use step_count::Steps;
 
-/// How many items and gaps a track has after a splice. It looks at the items and gaps at the ends of the range and at
+/// How many items and gaps a track has after a splice, whether that keeps dissolves or not. It looks at the items and gaps at the ends of the range and at
 /// those that are put in, and at no others.
 pub fn count_after<L: Ledger>(
     track: &Track,
@@ -28,9 +28,10 @@ pub fn count_after<L: Ledger>(
     requires within { y ≤ length track.now.cells }
     requires filled { AllFilled items.now }
     requires numbers { NumbersBelow 4294967295 items.now }
-    requires short { length (spliced_track track.now x y items.now).cells < 2 ^ 32 }
+    requires short { x + frames_in items.now + (length track.now.cells - y) < 2 ^ 32 }
 
-    ensures count { result ≡ length (items_of (spliced_track track.now x y items.now).cells) }
+    ensures count { (keep : Bool) → result
+        ≡ length (items_of (spliced_track keep track.now x y items.now).cells) }
 
     ensures least { steps.old ≤ steps.new }
     ensures most { steps.new ≤ steps.old + 2 * size_of track.now + length items.now }

@@ -28,4 +28,4 @@ pub use laws::{
 };
 pub use placing::place;
 pub use shifting::{Shift, new_len, over_limits, shift_tracks, shift_within};
-pub use splicing::{spare_for, splice, splice_in};
+pub use splicing::{spare_for, splice, splice_in, splice_keeping};

@@ -10,17 +10,25 @@ use frame_meaning::{Mark, same_item};
 
 /// Lays in spare memory what stands in place of the items and gaps at the ends of the range [x, y), where the later part
 /// of an item that is split takes the number `fresh`.
-pub fn lay_parts(seams: &Seams, x: u32, y: u32, items: &[ItemView], fresh: u32, spare: &mut Spare)
+pub fn lay_parts(
+    seams: &Seams,
+    x: u32,
+    y: u32,
+    keep: bool,
+    items: &[ItemView],
+    fresh: u32,
+    spare: &mut Spare,
+)
     requires left { begins_by x seams.now.left }
     requires right { reaches_past y seams.now.right }
     requires room { length spare.old.laid + length items.now + 3 ≤ spare.old.more }
-    ensures { spare.new ≡ laid_more spare.old (parts_between seams.now x y items.now fresh) }
+    ensures { spare.new ≡ laid_more spare.old (parts_between keep seams.now x y items.now fresh) }
 {
     let split = split_between(seams.left, seams.right);
-    push_front(seams.left, x, spare);
+    push_front(seams.left, x, keep, spare);
     push_items(items, spare);
     push_back(seams.right, y, split, fresh, spare);
-    push_after(seams.right, seams.after, y, spare);
+    push_after(seams.right, seams.after, y, keep, spare);
 }
 
 /// The index of the first item or gap that is replaced.
@@ -58,16 +66,16 @@ pub fn split_between(left: Option<Held>, right: Option<Held>) -> Option<u32>
     }
 }
 
-// The part before x. Its dissolve stays where it ends by then.
-fn push_front(left: Option<Held>, x: u32, spare: &mut Spare)
+// The part before x, with its dissolve as far as that is kept.
+fn push_front(left: Option<Held>, x: u32, keep: bool, spare: &mut Spare)
     requires begins { begins_by x left }
     requires room { length spare.old.laid + 1 ≤ spare.old.more }
-    ensures { spare.new ≡ laid_more spare.old (front_views left x) }
+    ensures { spare.new ≡ laid_more spare.old (front_views keep left x) }
 {
     match left {
         Some(held) => {
             let len = x - held.from;
-            let mark = mark_before(len, held.view.mark);
+            let mark = mark_before(keep, len, held.view.mark);
             spare.push(ItemView {
                 len,
                 mark,
@@ -78,12 +86,17 @@ fn push_front(left: Option<Held>, x: u32, spare: &mut Spare)
     }
 }
 
-fn mark_before(frames: u32, mark: Option<Mark>) -> Option<Mark>
-    ensures { result ≡ kept_before frames mark }
+// A dissolve whose cut stands so many frames before a range.
+fn mark_before(keep: bool, frames: u32, mark: Option<Mark>) -> Option<Mark>
+    ensures { result ≡ kept_before keep frames mark }
 {
     match mark {
-        Some(m) => { if m.b <= frames { Some(m) } else { None } }
-        None => None,
+        Some(m) if keep => Some(Mark {
+            b: m.b.min(frames),
+            ..m
+        }),
+        Some(m) if m.b <= frames => Some(m),
+        _ => None,
     }
 }
 
@@ -122,32 +135,31 @@ pub fn renumbered(view: &ItemView, split: Option<u32>, fresh: u32) -> ItemView
     }
 }
 
-// The one after it. Its dissolve stays where it begins at y or later.
-fn push_after(right: Option<Held>, after: Option<ItemView>, y: u32, spare: &mut Spare)
+// The one after it, with its dissolve as far as that is kept.
+fn push_after(right: Option<Held>, after: Option<ItemView>, y: u32, keep: bool, spare: &mut Spare)
     requires reaches { reaches_past y right }
     requires room { length spare.old.laid + 1 ≤ spare.old.more }
-    ensures { spare.new ≡ laid_more spare.old (after_views right after y) }
+    ensures { spare.new ≡ laid_more spare.old (after_views keep right after y) }
 {
     match (right, after) {
         (Some(held), Some(view)) => {
-            let mark = mark_behind(held.view.len - (y - held.from), view.mark);
+            let mark = mark_behind(keep, held.view.len - (y - held.from), view.mark);
             spare.push(ItemView { mark, ..view });
         }
         _ => {}
     }
 }
 
-fn mark_behind(frames: u32, mark: Option<Mark>) -> Option<Mark>
-    ensures { result ≡ kept_behind frames mark }
+// One whose cut stands so many frames behind it.
+fn mark_behind(keep: bool, frames: u32, mark: Option<Mark>) -> Option<Mark>
+    ensures { result ≡ kept_behind keep frames mark }
 {
     match mark {
-        Some(m) => {
-            if 0 < frames && m.a <= frames {
-                Some(m)
-            } else {
-                None
-            }
-        }
-        None => None,
+        Some(m) if 0 < frames && keep => Some(Mark {
+            a: m.a.min(frames),
+            ..m
+        }),
+        Some(m) if 0 < frames && m.a <= frames => Some(m),
+        _ => None,
     }
 }

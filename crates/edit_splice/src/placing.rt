@@ -9,13 +9,14 @@ ghost use Rattle.edit_splice.specs.Splicing.{placed};
 ghost use Rattle.out_of_memory.specs.Answers.{Answers};
 
 use crate::counting::count_after;
-use crate::splicing::splice;
+use crate::splicing::splice_by;
 use composables::{Done, EditFault, ItemView, MAX_FRAMES, MAX_ITEMS, Refusal, Track};
 use std::alloc::Global;
 use std::sync::ledger::Ledger;
 use step_count::Steps;
 
-/// Puts at most two new items and gaps in place of the record frames [x, y) of a track, which is not too long with them.
+/// Puts at most two new items and gaps in place of the record frames [x, y) of a track, which is not too long with them;
+/// dissolves beside it are kept as far as there is room, or not.
 /// It answers `done`, or `TooManyItems` where the track would have too many items and gaps; then, and for want of memory,
 /// the track is as it was.
 pub fn place<L: Ledger>(
@@ -23,6 +24,7 @@ pub fn place<L: Ledger>(
     track: &mut Track,
     x: u32,
     y: u32,
+    keep: bool,
     items: &[ItemView],
     done: Done,
     steps: &mut Steps<L>,
@@ -36,13 +38,13 @@ pub fn place<L: Ledger>(
     requires new { AreNew track.old.next_item items.now }
     requires numbers { NumbersBelow (track.old.next_item + 1) items.now }
     requires short { x + frames_in items.now + (length track.old.cells - y) ≤ MAX_FRAMES }
-    ensures answers { Answers (placed track.old x y items.now done) track.old track.new result }
+    ensures answers { Answers (placed keep track.old x y items.now done) track.old track.new result }
     ensures least { steps.old ≤ steps.new }
     ensures most { steps.new ≤ steps.old + 16 * size_of track.old }
 {
     if count_after(track, x, y, items, steps) > MAX_ITEMS {
         return Err(EditFault::Refused(Refusal::TooManyItems(track.number())));
     }
-    splice(alloc, track, x, y, items, steps)?;
+    splice_by(alloc, track, x, y, keep, items, steps)?;
     Ok(done)
 }

@@ -21,13 +21,15 @@ use std::sync::ledger::Ledger;
 use step_count::Steps;
 
 /// What is put in place of the record frames [x, y): `new` on the track `own`, which grows by dark frames up to x where
-/// it is shorter; on each other track, as far as it has these places, as many dark frames as `new` has.
+/// it is shorter; on each other track, as far as it has these places, as many dark frames as `new` has. Dissolves beside
+/// the range are kept as far as there is room, or not.
 #[derive(Clone, Copy)]
 pub struct Shift {
     pub own: u32,
     pub x: u32,
     pub y: u32,
     pub new: Option<ItemView>,
+    pub keep: bool,
 }
 
 /// Shifts all these tracks, or none: the first that would be too long, and else the first that would have too many
@@ -248,6 +250,7 @@ fn shift_track<L: Ledger>(track: &mut Track, shift: &Shift, spare: Spare, steps:
         track,
         shift.x.min(length),
         shift.y.min(length),
+        shift.keep,
         views.as_slice(),
         spare,
         steps,

@@ -9,7 +9,7 @@ use Rattle.frame_meaning.specs.declared.cells.What.{What}
 use Rattle.frame_meaning.specs.declared.frames.Side.{Side}
 use Rattle.frame_meaning.specs.Cells.{dark_cell, next_side, span}
 use Rattle.frame_meaning.specs.Render.{cell_at}
-use Rattle.frame_meaning.specs.Splice.{kept_or_dropped, next_after_splice, renumbered, split_item, with_marks}
+use Rattle.frame_meaning.specs.Splice.{rule_of, next_after_splice, renumbered, split_item, with_marks}
 use Rattle.composables.specs.declared.items.ItemView.{ItemView}
 use Rattle.composables.specs.declared.media.Table.{Table}
 use Rattle.composables.specs.declared.refusals.Done.{Done}
@@ -129,7 +129,7 @@ ends-nothing t y n e some = absurd (omega (arith, some, frames-put n None, e))
 -- where an item reaches back, with its link or with the one that its frames get
 
 abbrev pub back_shift : ℕ → ℕ → ItemView → Shift
-back_shift own x g = record { own = own; x = x; y = x; new = Some g }
+back_shift own x g = record { own = own; x = x; y = x; new = Some g; keep = false }
 
 put_changed : (f : Cell → Cell) (front put after tail : List Cell) (x z : ℕ) → length front ≡ x → x + length after ≡ z → map f put ≡ after
     → take z ((front ++ after) ++ tail) ++ map f (drop z ((front ++ after) ++ tail)) ≡ take x ((front ++ put) ++ tail) ++ map f (drop x ((front ++ put) ++ tail))
@@ -159,20 +159,20 @@ dark_moved tracks splits n = by (eqb n 0) where
 one_moved : (tracks : List TrackState) (splits : List Link) (g : ItemView) → map (moved_cell tracks splits) (cells_of (g ∷ [])) ≡ cells_of (with_link (moved_link tracks splits g.link) g ∷ [])
 one_moved tracks splits g = map-append (moved_cell tracks splits) (view_cells g) [] ∙ ap (λ (cs : List Cell). cs ++ []) (view-moved tracks splits g)
 
-front_long : (t : TrackState) (x y : ℕ) → x ≤ length t.cells → length (take x (with_marks kept_or_dropped x y 0 t.cells)) ≡ x
-front_long t x y le = omega (arith, length-take x (with_marks kept_or_dropped x y 0 t.cells), length-marks kept_or_dropped x y 0 t.cells, le)
+front_long : (t : TrackState) (x y : ℕ) → x ≤ length t.cells → length (take x (with_marks (rule_of false) x y 0 t.cells)) ≡ x
+front_long t x y le = omega (arith, length-take x (with_marks (rule_of false) x y 0 t.cells), length-marks (rule_of false) x y 0 t.cells, le)
 
 -- a track into which frames are put at x is split behind them or, where they have got no link yet, before them
 spliced_reach : (tracks : List TrackState) (splits : List Link) (x : ℕ) (g : ItemView) (t : TrackState) (ws vs : List ItemView) → next_past_all t.next_item ws ≡ next_past_all t.next_item vs → x ≤ length t.cells → frames_in ws ≡ g.len
-    → map (moved_cell tracks splits) (cells_of vs) ≡ cells_of ws → split_track (x + g.len) tracks splits (spliced_track t x x ws) ≡ split_track x tracks splits (spliced_track t x x vs)
+    → map (moved_cell tracks splits) (cells_of vs) ≡ cells_of ws → split_track (x + g.len) tracks splits (spliced_track false t x x ws) ≡ split_track x tracks splits (spliced_track false t x x vs)
 spliced_reach tracks splits x g t ws vs e le sum same =
-    ap (λ (n : ℕ). split_track (x + g.len) tracks splits (record t { cells = (take x (with_marks kept_or_dropped x x 0 t.cells) ++ cells_of ws) ++ map (renumbered (split_item t.cells x x) n) (drop x (with_marks kept_or_dropped x x 0 t.cells)); next_item = next_after_splice t.cells x x n })) e
+    ap (λ (n : ℕ). split_track (x + g.len) tracks splits (record t { cells = (take x (with_marks (rule_of false) x x 0 t.cells) ++ cells_of ws) ++ map (renumbered (split_item t.cells x x) n) (drop x (with_marks (rule_of false) x x 0 t.cells)); next_item = next_after_splice t.cells x x n })) e
     ∙ ap (λ (cs : List Cell). record t { cells = cs; next_item = next_after_splice t.cells x x (next_past_all t.next_item vs); next_link = t.next_link + count_at_home splits t.number })
-    (put_changed (moved_cell tracks splits) (take x (with_marks kept_or_dropped x x 0 t.cells)) (cells_of vs) (cells_of ws) (map (renumbered (split_item t.cells x x) (next_past_all t.next_item vs)) (drop x (with_marks kept_or_dropped x x 0 t.cells))) x (x + g.len)
+    (put_changed (moved_cell tracks splits) (take x (with_marks (rule_of false) x x 0 t.cells)) (cells_of vs) (cells_of ws) (map (renumbered (split_item t.cells x x) (next_past_all t.next_item vs)) (drop x (with_marks (rule_of false) x x 0 t.cells))) x (x + g.len)
     (front_long t x x le) (omega (arith, length-cells_of ws, sum)) same)
 
 pub own-reach : (tracks : List TrackState) (splits : List Link) (x : ℕ) (g : ItemView) (t : TrackState) → x ≤ length t.cells
-    → split_track (x + g.len) tracks splits (spliced_track t x x (with_link (moved_link tracks splits g.link) g ∷ [])) ≡ split_track x tracks splits (spliced_track t x x (g ∷ []))
+    → split_track (x + g.len) tracks splits (spliced_track false t x x (with_link (moved_link tracks splits g.link) g ∷ [])) ≡ split_track x tracks splits (spliced_track false t x x (g ∷ []))
 own-reach tracks splits x g t le = spliced_reach tracks splits x g t (with_link (moved_link tracks splits g.link) g ∷ []) (g ∷ []) refl le (omega arith) (one_moved tracks splits g)
 
 -- the cells of one track
@@ -189,12 +189,12 @@ reach_cells tracks splits own x g t some has = by (eqb t.number own) refl (ltb x
   k = min x (length t.cells)
 
   Goal : List ItemView → List ItemView → Type 0
-  Goal ws vs = split_track (x + g.len) tracks splits (spliced_track t (min x (length t.cells)) (min x (length t.cells)) ws) ≡ split_track x tracks splits (spliced_track t (min x (length t.cells)) (min x (length t.cells)) vs)
+  Goal ws vs = split_track (x + g.len) tracks splits (spliced_track false t (min x (length t.cells)) (min x (length t.cells)) ws) ≡ split_track x tracks splits (spliced_track false t (min x (length t.cells)) (min x (length t.cells)) vs)
 
   same_next : (ws vs : List ItemView) → next_past_all t.next_item ws ≡ next_past_all t.next_item vs → x ≤ length t.cells → frames_in ws ≡ g.len → map (moved_cell tracks splits) (cells_of vs) ≡ cells_of ws → Goal ws vs
   same_next ws vs e le sum same =
       let at : min x (length t.cells) ≡ x = omega (arith, le) in
-      subst (λ (m : ℕ). split_track (x + g.len) tracks splits (spliced_track t m m ws) ≡ split_track x tracks splits (spliced_track t m m vs)) (sym at)
+      subst (λ (m : ℕ). split_track (x + g.len) tracks splits (spliced_track false t m m ws) ≡ split_track x tracks splits (spliced_track false t m m vs)) (sym at)
       (spliced_reach tracks splits x g t ws vs e le sum same)
 
   by : (a : Bool) → eqb t.number own ≡ a → (b : Bool) → ltb x (length t.cells) ≡ b
@@ -207,11 +207,11 @@ reach_cells tracks splits own x g t some has = by (eqb t.number own) refl (ltb x
   by false e true h = same_next (gap_views g.len) (gap_views g.len) refl (omega (arith, ltb-true x (length t.cells) h)) (frames-gap g.len) (dark_moved tracks splits g.len)
   by false e false h =
       let le : length t.cells ≤ x = ltb-false x (length t.cells) h in
-      let long : length (spliced_track t (min x (length t.cells)) (min x (length t.cells)) []).cells ≡ length t.cells =
-      length-spliced kept_or_dropped t.cells (min x (length t.cells)) (min x (length t.cells)) [] t.next_item ∙ omega arith in
-      ap (λ (cs : List Cell). record t { cells = cs; next_item = (spliced_track t (min x (length t.cells)) (min x (length t.cells)) []).next_item; next_link = t.next_link + count_at_home splits t.number })
-      (past_all (moved_cell tracks splits) (x + g.len) (spliced_track t (min x (length t.cells)) (min x (length t.cells)) []).cells (omega (arith, long, le))
-      ∙ sym (past_all (moved_cell tracks splits) x (spliced_track t (min x (length t.cells)) (min x (length t.cells)) []).cells (omega (arith, long, le))))
+      let long : length (spliced_track false t (min x (length t.cells)) (min x (length t.cells)) []).cells ≡ length t.cells =
+      length-spliced (rule_of false) t.cells (min x (length t.cells)) (min x (length t.cells)) [] t.next_item ∙ omega arith in
+      ap (λ (cs : List Cell). record t { cells = cs; next_item = (spliced_track false t (min x (length t.cells)) (min x (length t.cells)) []).next_item; next_link = t.next_link + count_at_home splits t.number })
+      (past_all (moved_cell tracks splits) (x + g.len) (spliced_track false t (min x (length t.cells)) (min x (length t.cells)) []).cells (omega (arith, long, le))
+      ∙ sym (past_all (moved_cell tracks splits) x (spliced_track false t (min x (length t.cells)) (min x (length t.cells)) []).cells (omega (arith, long, le))))
 
 reach_each : (tracks : List TrackState) (splits : List Link) (own x : ℕ) (g : ItemView) (ts : List TrackState) → 0 < g.len → All (λ (t : TrackState). t.number ≡ own → x ≤ length t.cells) ts
     → map (split_track (x + g.len) tracks splits) (all_moved (back_shift own x (with_link (moved_link tracks splits g.link) g)) ts) ≡ map (split_track x tracks splits) (all_moved (back_shift own x g) ts)
@@ -247,23 +247,23 @@ same_moved own x l g t = by (eqb t.number own) where
   k = min x (length t.cells)
 
   at : (ws vs : List ItemView) → next_past_all t.next_item ws ≡ next_past_all t.next_item vs → SameItems (cells_of ws) (cells_of vs)
-      → SameItems (spliced_track t (min x (length t.cells)) (min x (length t.cells)) ws).cells (spliced_track t (min x (length t.cells)) (min x (length t.cells)) vs).cells
+      → SameItems (spliced_track false t (min x (length t.cells)) (min x (length t.cells)) ws).cells (spliced_track false t (min x (length t.cells)) (min x (length t.cells)) vs).cells
   at ws vs e h =
-      let all : List Cell = with_marks kept_or_dropped (min x (length t.cells)) (min x (length t.cells)) 0 t.cells in
+      let all : List Cell = with_marks (rule_of false) (min x (length t.cells)) (min x (length t.cells)) 0 t.cells in
       let tail : ℕ → List Cell = λ n. map (renumbered (split_item t.cells (min x (length t.cells)) (min x (length t.cells))) n) (drop (min x (length t.cells)) all) in
       same-append (take (min x (length t.cells)) all ++ cells_of ws) (take (min x (length t.cells)) all ++ cells_of vs) (tail (next_past_all t.next_item ws)) (tail (next_past_all t.next_item vs))
       (same-append (take (min x (length t.cells)) all) (take (min x (length t.cells)) all) (cells_of ws) (cells_of vs) (same-items (take (min x (length t.cells)) all)) h)
       (subst (λ (n : ℕ). SameItems (tail n) (tail (next_past_all t.next_item vs))) (sym e) (same-items (tail (next_past_all t.next_item vs))))
 
-  by : (a : Bool) → SameItems (spliced_track t (min x (length t.cells)) (min x (length t.cells)) (cond a (gap_views (x - length t.cells) ++ with_link l g ∷ []) (cond (ltb x (length t.cells)) (gap_views g.len) []))).cells
-      (spliced_track t (min x (length t.cells)) (min x (length t.cells)) (cond a (gap_views (x - length t.cells) ++ g ∷ []) (cond (ltb x (length t.cells)) (gap_views g.len) []))).cells
+  by : (a : Bool) → SameItems (spliced_track false t (min x (length t.cells)) (min x (length t.cells)) (cond a (gap_views (x - length t.cells) ++ with_link l g ∷ []) (cond (ltb x (length t.cells)) (gap_views g.len) []))).cells
+      (spliced_track false t (min x (length t.cells)) (min x (length t.cells)) (cond a (gap_views (x - length t.cells) ++ g ∷ []) (cond (ltb x (length t.cells)) (gap_views g.len) []))).cells
   by true =
       at (gap_views (x - length t.cells) ++ with_link l g ∷ []) (gap_views (x - length t.cells) ++ g ∷ [])
       (next-append t.next_item (gap_views (x - length t.cells)) (with_link l g ∷ []) ∙ sym (next-append t.next_item (gap_views (x - length t.cells)) (g ∷ [])))
       (subst (λ (cs : List Cell). SameItems cs (cells_of (gap_views (x - length t.cells) ++ g ∷ []))) (sym (cells_of-append (gap_views (x - length t.cells)) (with_link l g ∷ [])))
       (subst (λ (cs : List Cell). SameItems (cells_of (gap_views (x - length t.cells)) ++ cells_of (with_link l g ∷ [])) cs) (sym (cells_of-append (gap_views (x - length t.cells)) (g ∷ [])))
       (same-append (cells_of (gap_views (x - length t.cells))) (cells_of (gap_views (x - length t.cells))) (cells_of (with_link l g ∷ [])) (cells_of (g ∷ [])) (same-items (cells_of (gap_views (x - length t.cells)))) (same_views l g))))
-  by false = same-items (spliced_track t (min x (length t.cells)) (min x (length t.cells)) (cond (ltb x (length t.cells)) (gap_views g.len) [])).cells
+  by false = same-items (spliced_track false t (min x (length t.cells)) (min x (length t.cells)) (cond (ltb x (length t.cells)) (gap_views g.len) [])).cells
 
 long_moved : (own x : ℕ) (l : Option Link) (g : ItemView) (ts : List TrackState) → too_long (all_moved (back_shift own x (with_link l g)) ts) ≡ too_long (all_moved (back_shift own x g) ts)
 long_moved own x l g [] = refl
@@ -301,10 +301,10 @@ reach_uncut table own t i v x y n u good s some other only after = by (eqb u.num
     put : put_views (back_shift own x (reaching_back (cell_in v 0) n)) u ≡ reaching_back (cell_in v 0) n ∷ []
     put = let z : x - length u.cells ≡ 0 = omega (arith, le) in put-own (back_shift own x (reaching_back (cell_in v 0) n)) u is ∙ ap (λ (k : ℕ). gap_views k ++ reaching_back (cell_in v 0) n ∷ []) z
 
-    same : moved (back_shift own x (reaching_back (cell_in v 0) n)) u ≡ spliced_track u x x (reaching_back (cell_in v 0) n ∷ [])
+    same : moved (back_shift own x (reaching_back (cell_in v 0) n)) u ≡ spliced_track false u x x (reaching_back (cell_in v 0) n ∷ [])
     same =
         let at : min x (length u.cells) ≡ x = omega (arith, le) in
-        ap (spliced_track u (min x (length u.cells)) (min x (length u.cells))) put ∙ ap (λ (k : ℕ). spliced_track u k k (reaching_back (cell_in v 0) n ∷ [])) at
+        ap (spliced_track false u (min x (length u.cells)) (min x (length u.cells))) put ∙ ap (λ (k : ℕ). spliced_track false u k k (reaching_back (cell_in v 0) n ∷ [])) at
 
     between : 0 < x → x < length (moved (back_shift own x (reaching_back (cell_in v 0) n)) u).cells
         → (cell_at (moved (back_shift own x (reaching_back (cell_in v 0) n)) u).cells (x - 1)).item ≡ (cell_at (moved (back_shift own x (reaching_back (cell_in v 0) n)) u).cells x).item
@@ -314,7 +314,7 @@ reach_uncut table own t i v x y n u good s some other only after = by (eqb u.num
       fresh = next_past_all u.next_item (reaching_back (cell_in v 0) n ∷ [])
 
       cells : List Cell
-      cells = (spliced_track u x x (reaching_back (cell_in v 0) n ∷ [])).cells
+      cells = (spliced_track false u x x (reaching_back (cell_in v 0) n ∷ [])).cells
 
       zero_at : x + 0 ≡ x
       zero_at = omega arith
@@ -322,14 +322,14 @@ reach_uncut table own t i v x y n u good s some other only after = by (eqb u.num
       second : (cell_at (moved (back_shift own x (reaching_back (cell_in v 0) n)) u).cells x).item ≡ v.item
       second =
           ap (λ (w : TrackState). (cell_at w.cells x).item) same
-          ∙ (ap (λ (k : ℕ). (cell_at (spliced_track u x x (reaching_back (cell_in v 0) n ∷ [])).cells k).item) (sym zero_at)
-          ∙ (ap (λ (c : Cell). c.item) (cell-between kept_or_dropped u.cells x x (cells_of (reaching_back (cell_in v 0) n ∷ [])) (next_past_all u.next_item (reaching_back (cell_in v 0) n ∷ [])) 0 le (omega (arith, length-cells_of (reaching_back (cell_in v 0) n ∷ []), some)))
+          ∙ (ap (λ (k : ℕ). (cell_at (spliced_track false u x x (reaching_back (cell_in v 0) n ∷ [])).cells k).item) (sym zero_at)
+          ∙ (ap (λ (c : Cell). c.item) (cell-between (rule_of false) u.cells x x (cells_of (reaching_back (cell_in v 0) n ∷ [])) (next_past_all u.next_item (reaching_back (cell_in v 0) n ∷ [])) 0 le (omega (arith, length-cells_of (reaching_back (cell_in v 0) n ∷ []), some)))
           ∙ ap (λ (c : Cell). c.item) (cell-there (reaching_back (cell_in v 0) n ∷ []) 0 0 (reaching_back (cell_in v 0) n) refl some)))
 
       first : (cell_at (moved (back_shift own x (reaching_back (cell_in v 0) n)) u).cells (x - 1)).item ≡ (cell_at t.cells (x - 1)).item
       first =
           ap (λ (w : TrackState). (cell_at w.cells (x - 1)).item) same
-          ∙ (ap (λ (c : Cell). c.item) (cell-before kept_or_dropped u.cells x x (cells_of (reaching_back (cell_in v 0) n ∷ [])) (next_past_all u.next_item (reaching_back (cell_in v 0) n ∷ [])) (x - 1) le (omega (arith, start)))
+          ∙ (ap (λ (c : Cell). c.item) (cell-before (rule_of false) u.cells x x (cells_of (reaching_back (cell_in v 0) n ∷ [])) (next_past_all u.next_item (reaching_back (cell_in v 0) n ∷ [])) (x - 1) le (omega (arith, start)))
           ∙ ap (λ (w : TrackState). (cell_at w.cells (x - 1)).item) here)
 
       at : (o : Option ℕ) → v.item ≡ o → (cell_at (moved (back_shift own x (reaching_back (cell_in v 0) n)) u).cells x).item ≡ None
@@ -345,10 +345,10 @@ reach_uncut table own t i v x y n u good s some other only after = by (eqb u.num
     less : x < length u.cells
     less = ltb-true x (length u.cells) f
 
-    same : moved (back_shift own x (reaching_back (cell_in v 0) n)) u ≡ spliced_track u x x (gap_views n)
+    same : moved (back_shift own x (reaching_back (cell_in v 0) n)) u ≡ spliced_track false u x x (gap_views n)
     same =
         let at : min x (length u.cells) ≡ x = omega (arith, less) in
-        ap (spliced_track u (min x (length u.cells)) (min x (length u.cells))) (put-along (back_shift own x (reaching_back (cell_in v 0) n)) u not_own less) ∙ ap (λ (k : ℕ). spliced_track u k k (gap_views n)) at
+        ap (spliced_track false u (min x (length u.cells)) (min x (length u.cells))) (put-along (back_shift own x (reaching_back (cell_in v 0) n)) u not_own less) ∙ ap (λ (k : ℕ). spliced_track false u k k (gap_views n)) at
 
     zero_at : x + 0 ≡ x
     zero_at = omega arith
@@ -358,9 +358,9 @@ reach_uncut table own t i v x y n u good s some other only after = by (eqb u.num
 
     dark : (cell_at (moved (back_shift own x (reaching_back (cell_in v 0) n)) u).cells x).item ≡ None
     dark =
-        ap (λ (w : TrackState). (cell_at w.cells x).item) (same ∙ ap (spliced_track u x x) gaps)
-        ∙ (ap (λ (k : ℕ). (cell_at (spliced_track u x x (gap_view n ∷ [])).cells k).item) (sym zero_at)
-        ∙ (ap (λ (c : Cell). c.item) (cell-between kept_or_dropped u.cells x x (cells_of (gap_view n ∷ [])) (next_past_all u.next_item (gap_view n ∷ [])) 0 (omega (arith, less)) (omega (arith, length-cells_of (gap_view n ∷ []), some)))
+        ap (λ (w : TrackState). (cell_at w.cells x).item) (same ∙ ap (spliced_track false u x x) gaps)
+        ∙ (ap (λ (k : ℕ). (cell_at (spliced_track false u x x (gap_view n ∷ [])).cells k).item) (sym zero_at)
+        ∙ (ap (λ (c : Cell). c.item) (cell-between (rule_of false) u.cells x x (cells_of (gap_view n ∷ [])) (next_past_all u.next_item (gap_view n ∷ [])) 0 (omega (arith, less)) (omega (arith, length-cells_of (gap_view n ∷ []), some)))
         ∙ ap (λ (c : Cell). c.item) (cell-there (gap_view n ∷ []) 0 0 (gap_view n) refl some)))
   by false e false f =
       uncut-beyond (moved (back_shift own x (reaching_back (cell_in v 0) n)) u) x after
@@ -393,9 +393,9 @@ split-reach table ts t i v x y n s found =
 -- the shift by which an item reaches back
 pub reach-meant : (table : Table) (ts : List TrackState) (t : TrackState) (i : ℕ) (v : ItemView) (own x y n : ℕ) (done : Done) → All (IsGood table) ts → IsGood table t → Spot table t i v x y → 0 < n → All (λ (u : TrackState). u.number ≡ own → u ≡ t) ts
     → All (IsShiftOf (back_shift own x (reaching_back (cell_in v 0) n))) ts
-    → shift_of own x x (with_link (moved_link ts (split_links x x ts) v.link) (reaching_back (cell_in v 0) n) ∷ []) done ts ≡ linked_shift (back_shift own x (reaching_back (cell_in v 0) n)) x done ts
+    → shift_of false own x x (with_link (moved_link ts (split_links x x ts) v.link) (reaching_back (cell_in v 0) n) ∷ []) done ts ≡ linked_shift (back_shift own x (reaching_back (cell_in v 0) n)) x done ts
 reach-meant table ts t i v own x y n done all good s some only fits =
-    ap (λ (k : ℕ). unless (shift_refusal x x k ts) (within_limits (cond (eqb k (x - x)) (shifted own x x (new ∷ []) ts) (links_split x (x + k) (shifted own x x (new ∷ []) ts))) done)) len
+    ap (λ (k : ℕ). unless (shift_refusal x x k ts) (within_limits (cond (eqb k (x - x)) (shifted false own x x (new ∷ []) ts) (links_split x (x + k) (shifted false own x x (new ∷ []) ts))) done)) len
     ∙ (ap (λ (us : List TrackState). unless (shift_refusal x x n ts) (within_limits (cond (eqb n (x - x)) us (links_split x (x + n) us)) done)) (extract-moved (back_shift own x new) ts long)
     ∙ (ap (λ (b : Bool). unless (cond b None (link_outside ts (cells_from x ts))) (within_limits (cond b (all_moved (back_shift own x new) ts) (links_split x (x + n) (all_moved (back_shift own x new) ts))) done)) moves
     ∙ (ap (unless (link_outside ts (cells_from x ts))) inner

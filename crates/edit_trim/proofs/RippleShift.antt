@@ -1,5 +1,5 @@
 -- The shift that a ripple makes, on all named tracks.
-use Rattle.std.proofs.Common.{◌≡◌, ℕ, zero, suc, ◌+◌, ◌-◌, ◌<◌, ◌≤◌, ◌^◌, List, [], ◌∷◌, All, length, Option, Some, None, Ok, refl, sym, ap, ◌∙◌, arith, subst, option_map, slice_get}
+use Rattle.std.proofs.Common.{◌≡◌, ℕ, zero, suc, ◌+◌, ◌-◌, ◌<◌, ◌≤◌, ◌^◌, List, [], ◌∷◌, All, length, Option, Some, None, Ok, refl, sym, ap, ◌∙◌, arith, subst, option_map, slice_get, false}
 use Rattle.composables.specs.declared.calls.End.{End}
 use Rattle.composables.specs.declared.calls.End.TheVariants.{Head, Tail}
 use Rattle.composables.specs.declared.calls.Ripple.{Ripple}
@@ -41,11 +41,11 @@ parts_of table ts t i j v p room c r s Head good spot read number small has is s
   by : (w : Way) → EndFits table Head v room w → shift_by c.track Head p v w ≡ Some s → AreParts table t s.x s.y (new_views s.new)
   by Still f e = absurd cc
   by (Later n) f e =
-      let m : Shift = record { own = c.track; x = p.from; y = p.from + n; new = None } in
+      let m : Shift = record { own = c.track; x = p.from; y = p.from + n; new = None; keep = false } in
       let same : m ≡ s = cc in
       subst (λ (z : Shift). AreParts table t z.x z.y (new_views z.new)) same (none-parts table t p.from (p.from + n) good (omega arith) (omega (arith, f.1, spot.long, spot.within)))
   by (Earlier n) f e =
-      let m : Shift = record { own = c.track; x = p.from; y = p.from; new = Some (reaching_back (cell_in v 0) n) } in
+      let m : Shift = record { own = c.track; x = p.from; y = p.from; new = Some (reaching_back (cell_in v 0) n); keep = false } in
       let same : m ≡ s = cc in
       let free : length t.cells + n ≤ MAX_FRAMES = own-room c.track p.from n room ts i t has small f.1 read number in
       subst (λ (z : Shift). AreParts table t z.x z.y (new_views z.new)) same
@@ -54,13 +54,13 @@ parts_of table ts t i j v p room c r s Tail good spot read number small has is s
   by : (w : Way) → EndFits table Tail v room w → shift_by c.track Tail p v w ≡ Some s → AreParts table t s.x s.y (new_views s.new)
   by Still f e = absurd cc
   by (Later n) f e =
-      let m : Shift = record { own = c.track; x = p.to; y = p.to; new = Some (going_on (cell_in v (v.len - 1)) n) } in
+      let m : Shift = record { own = c.track; x = p.to; y = p.to; new = Some (going_on (cell_in v (v.len - 1)) n); keep = false } in
       let same : m ≡ s = cc in
       let free : length t.cells + n ≤ MAX_FRAMES = own-room c.track p.to n room ts i t has small f.1 read number in
       subst (λ (z : Shift). AreParts table t z.x z.y (new_views z.new)) same
       (on-parts table t j v (going_on (cell_in v (v.len - 1)) n) p.from p.to p.to n spot f.0 (omega arith) spot.within (omega (arith, free, spot.within)) (after-of table v.first v.len n n spot.filled (omega arith) f.2 f.3 spot.lies) refl)
   by (Earlier n) f e =
-      let m : Shift = record { own = c.track; x = p.to - n; y = p.to; new = None } in
+      let m : Shift = record { own = c.track; x = p.to - n; y = p.to; new = None; keep = false } in
       let same : m ≡ s = cc in
       subst (λ (z : Shift). AreParts table t z.x z.y (new_views z.new)) same (none-parts table t (p.to - n) p.to good (omega arith) spot.within)
 

@@ -81,14 +81,14 @@ own-room own place n room ts i t up small le read number = leb-true (length t.ce
   grows e = sym (ap (λ (b : Bool). cond (b || ltb place (length t.cells)) (leb (length t.cells + n) MAX_FRAMES) true) (eq-eqb t.number own number)) ∙ e
 
 -- the own track, on which the shift is a splice
-own_spliced : (s : Shift) (t : TrackState) → t.number ≡ s.own → s.x ≤ length t.cells → s.y ≤ length t.cells → moved s t ≡ spliced_track t s.x s.y (new_views s.new)
+own_spliced : (s : Shift) (t : TrackState) → t.number ≡ s.own → s.x ≤ length t.cells → s.y ≤ length t.cells → moved s t ≡ spliced_track s.keep t s.x s.y (new_views s.new)
 own_spliced s t number x y =
     let a : min s.x (length t.cells) ≡ s.x = omega (arith, x) in
     let b : min s.y (length t.cells) ≡ s.y = omega (arith, y) in
     let z : s.x - length t.cells ≡ 0 = omega (arith, x) in
-    ap (λ (n : ℕ). spliced_track t n (min s.y (length t.cells)) (put_views s t)) a
-    ∙ (ap (λ (n : ℕ). spliced_track t s.x n (put_views s t)) b
-    ∙ ap (spliced_track t s.x s.y) (put-own s t number ∙ ap (λ (n : ℕ). gap_views n ++ new_views s.new) z))
+    ap (λ (n : ℕ). spliced_track s.keep t n (min s.y (length t.cells)) (put_views s t)) a
+    ∙ (ap (λ (n : ℕ). spliced_track s.keep t s.x n (put_views s t)) b
+    ∙ ap (spliced_track s.keep t s.x s.y) (put-own s t number ∙ ap (λ (n : ℕ). gap_views n ++ new_views s.new) z))
 
 own_views : (s : Shift) (t : TrackState) → t.number ≡ s.own → s.x ≤ length t.cells → put_views s t ≡ new_views s.new
 own_views s t number x = let z : s.x - length t.cells ≡ 0 = omega (arith, x) in put-own s t number ∙ ap (λ (n : ℕ). gap_views n ++ new_views s.new) z
@@ -101,7 +101,7 @@ own-shift table s t good roomy number p =
       kept = good.kept;
       roomy = roomy;
       frames = good.frames;
-      stays = λ le limits. subst IsKept (sym same) (parts-kept table t s.x s.y (new_views s.new) good p (subst IsWithinLimits same limits));
+      stays = λ le limits. subst IsKept (sym same) (parts-kept s.keep table t s.x s.y (new_views s.new) good p (subst IsWithinLimits same limits));
       filled = subst AllFilled (sym (own_views s t number x)) p.filled;
       numbers = subst (NumbersBelow (t.next_item + 1)) (sym (own_views s t number x)) (below-more t.next_item (t.next_item + 1) (new_views s.new) (omega arith) p.numbers);
     }
@@ -109,7 +109,7 @@ own-shift table s t good roomy number p =
 pub own-stays : (table : Table) (s : Shift) (t : TrackState) → IsGood table t → t.number ≡ s.own → (p : AreParts table t s.x s.y (new_views s.new)) → StaysMoved table s t
 own-stays table s t good number p limits =
     let same = own_spliced s t number (omega (arith, p.order, p.within)) p.within in
-    subst (StaysGood table t) (sym same) (stays-spliced table t s.x s.y (new_views s.new) good p (subst IsWithinLimits same limits))
+    subst (StaysGood table t) (sym same) (stays-spliced s.keep table t s.x s.y (new_views s.new) good p (subst IsWithinLimits same limits))
 
 -- the other tracks, into which dark frames are put
 pub other-put : (table : Table) (s : Shift) (t : TrackState) → t.number ≢ s.own → PutIn table t (put_views s t)

@@ -102,7 +102,7 @@ used_earlier ts f g d (suc n) h e = ap (used_from ts (λ done. by_sign (f done) 
 
 -- a shift as it is made, where the own track has the places
 pub made : (s : Shift) (done : Done) (ts : List TrackState) → All (λ (t : TrackState). t.number ≡ s.own → (s.x ≤ length t.cells) × (s.y ≤ length t.cells)) ts → s.x ≤ s.y → All (IsShiftOf s) ts → EachUncut s ts
-    → shift_of s.own s.x s.y (new_views s.new) done ts ≡ linked_shift s (s.x + new_len s.new) done ts
+    → shift_of s.keep s.own s.x s.y (new_views s.new) done ts ≡ linked_shift s (s.x + new_len s.new) done ts
 made s done ts long order fits uncut = shift-meant s done ts ts (extract-moved s ts long) refl order (within-kept s ts order fits) uncut
 
 -- the room of all named tracks, one after another
@@ -254,10 +254,10 @@ tail_means table ts t i v p room c r s spot is used good own only fits long some
   d = nearest (ripple_allows table c.track ts t p.from p.to Tail) c.by
 
   on : Done → ℕ → Applied
-  on done n = shift_of c.track p.to p.to (going_on (cell_at t.cells (p.to - 1)) n ∷ []) done ts
+  on done n = shift_of false c.track p.to p.to (going_on (cell_at t.cells (p.to - 1)) n ∷ []) done ts
 
   back : Done → ℕ → Applied
-  back done n = shift_of c.track (p.to - n) p.to [] done ts
+  back done n = shift_of false c.track (p.to - n) p.to [] done ts
 
   said : By d ≡ r.done
   said = sym used.done ∙ sym is.done
@@ -265,16 +265,16 @@ tail_means table ts t i v p room c r s spot is used good own only fits long some
   by_way : (w : Way) → is.delta.way ≡ w → EndFits table Tail v room w → shift_by c.track Tail p v w ≡ Some s → ripple_end table c.track ts t Tail c.by p.from p.to ≡ linked_shift s (s.x + new_len s.new) r.done ts
   by_way Still k f e = absurd cc
   by_way (Later n) k f e =
-      let m : Shift = record { own = c.track; x = p.to; y = p.to; new = Some (going_on (cell_in v (v.len - 1)) n) } in
+      let m : Shift = record { own = c.track; x = p.to; y = p.to; new = Some (going_on (cell_in v (v.len - 1)) n); keep = false } in
       let same : m ≡ s = cc in
       let way = way_of_used d is.delta (Later n) used k in
       let ends : Ends m ts = λ k d lt e. subst (λ (u : TrackState). EndsApart u (min p.to (length u.cells)) (gap_views (p.to - length u.cells) ++ going_on (cell_in v (v.len - 1)) n ∷ [])) (sym (only k d lt e)) (tail-ends table t i v p.from p.to n own spot f.0) in
       used_later ts on back d n way.0 way.1
-      ∙ (ap (λ (g : ItemView). shift_of c.track p.to p.to (g ∷ []) (By d) ts) (ap (λ (x : Cell). going_on x n) (spot-last table t i v p.from p.to spot))
+      ∙ (ap (λ (g : ItemView). shift_of false c.track p.to p.to (g ∷ []) (By d) ts) (ap (λ (x : Cell). going_on x n) (spot-last table t i v p.from p.to spot))
       ∙ (made m (By d) ts (places_of m c.track p.to ts refl (omega arith) (omega arith) long) (omega arith) (subst (λ (z : Shift). All (IsShiftOf z) ts) (sym same) fits) (uncut-ripple table m ts (omega arith) good ends)
       ∙ (ap (λ (z : Shift). linked_shift z (z.x + new_len z.new) (By d) ts) same ∙ ap (λ (a : Done). linked_shift s (s.x + new_len s.new) a ts) said)))
   by_way (Earlier n) k f e =
-      let m : Shift = record { own = c.track; x = p.to - n; y = p.to; new = None } in
+      let m : Shift = record { own = c.track; x = p.to - n; y = p.to; new = None; keep = false } in
       let same : m ≡ s = cc in
       let way = way_of_used d is.delta (Earlier n) used k in
       used_earlier ts on back d n way.0 way.1
@@ -290,10 +290,10 @@ head_means table ts t i v p room c r s spot is used found good own only fits lon
   d = nearest (ripple_allows table c.track ts t p.from p.to Head) c.by
 
   out : Done → ℕ → Applied
-  out done n = shift_of c.track p.from (p.from + n) [] done ts
+  out done n = shift_of false c.track p.from (p.from + n) [] done ts
 
   back : Done → ℕ → Applied
-  back done n = shift_of c.track p.from p.from (reaching_back (cell_at (as_split p.from ts t).cells p.from) n ∷ []) done ts
+  back done n = shift_of false c.track p.from p.from (reaching_back (cell_at (as_split p.from ts t).cells p.from) n ∷ []) done ts
 
   said : By d ≡ r.done
   said = sym used.done ∙ sym is.done
@@ -301,7 +301,7 @@ head_means table ts t i v p room c r s spot is used found good own only fits lon
   by_way : (w : Way) → is.delta.way ≡ w → EndFits table Head v room w → shift_by c.track Head p v w ≡ Some s → ripple_end table c.track ts t Head c.by p.from p.to ≡ linked_shift s s.x r.done ts
   by_way Still k f e = absurd cc
   by_way (Later n) k f e =
-      let m : Shift = record { own = c.track; x = p.from; y = p.from + n; new = None } in
+      let m : Shift = record { own = c.track; x = p.from; y = p.from + n; new = None; keep = false } in
       let same : m ≡ s = cc in
       let way = way_of_used d is.delta (Later n) used k in
       let none : p.from + 0 ≡ p.from = omega arith in
@@ -311,10 +311,10 @@ head_means table ts t i v p room c r s spot is used found good own only fits lon
       ∙ (ap (λ (q : ℕ). linked_shift m q (By d) ts) none
       ∙ (ap (λ (z : Shift). linked_shift z z.x (By d) ts) same ∙ ap (λ (a : Done). linked_shift s s.x a ts) said)))
   by_way (Earlier n) k f e =
-      let m : Shift = record { own = c.track; x = p.from; y = p.from; new = Some (reaching_back (cell_in v 0) n) } in
+      let m : Shift = record { own = c.track; x = p.from; y = p.from; new = Some (reaching_back (cell_in v 0) n); keep = false } in
       let same : m ≡ s = cc in
       let way = way_of_used d is.delta (Earlier n) used k in
       used_earlier ts out back d n way.0 way.1
-      ∙ (ap (λ (g : ItemView). shift_of c.track p.from p.from (g ∷ []) (By d) ts) (split-reach table ts t i v p.from p.to n spot found)
+      ∙ (ap (λ (g : ItemView). shift_of false c.track p.from p.from (g ∷ []) (By d) ts) (split-reach table ts t i v p.from p.to n spot found)
       ∙ (reach-meant table ts t i v c.track p.from p.to n (By d) good own spot f.0 only (subst (λ (z : Shift). All (IsShiftOf z) ts) (sym same) fits)
       ∙ (ap (λ (z : Shift). linked_shift z z.x (By d) ts) same ∙ ap (λ (a : Done). linked_shift s s.x a ts) said)))

@@ -60,7 +60,7 @@ room-there cs y dark reach most n d e small le =
 
 -- what is meant by the delta that is used
 abbrev one_put : TrackState → ℕ → ℕ → Done → List ItemView → Result (TrackState × Done) Refusal
-one_put t x y done views = track_within_limits (spliced_track t x y views) done
+one_put t x y done views = track_within_limits (spliced_track false t x y views) done
 
 abbrev pub HeadUsed : Table → TrackState → ℕ → ℕ → ℤ → Used → Type 0
 HeadUsed table t x y by u = IsUsedOf (keeps_a_cell x y) (head_may_grow table t x) by u
@@ -82,13 +82,13 @@ pub head-still : (table : Table) (t : TrackState) (x y : ℕ) (by : ℤ) (u : Us
 head-still table t x y by u is way = still-means t (head_later t x) (head_earlier t x) (keeps_a_cell x y) (head_may_grow table t x) by u is way
 
 pub head-later : (table : Table) (t : TrackState) (g : ItemView) (x y n : ℕ) (by : ℤ) (u : Used) → HeadUsed table t x y by u → u.way ≡ Later n → 0 < n → g ≡ gap_view n
-    → trim_end table t Head by x y ≡ track_within_limits (spliced_track t x (x + n) (g ∷ [])) u.done
+    → trim_end table t Head by x y ≡ track_within_limits (spliced_track false t x (x + n) (g ∷ [])) u.done
 head-later table t g x y n by u is way h e =
     later-means t (head_later t x) (head_earlier t x) (keeps_a_cell x y) (head_may_grow table t x) n by u is way
     ∙ ap (one_put t x (x + n) u.done) (gap-alone n h ∙ ap (λ (u : ItemView). u ∷ []) (sym e))
 
 pub head-earlier : (table : Table) (t : TrackState) (i : ℕ) (v g : ItemView) (x y n : ℕ) (by : ℤ) (u : Used) → Spot table t i v x y → HeadUsed table t x y by u → u.way ≡ Earlier n → g ≡ reaching_back (cell_in v 0) n
-    → trim_end table t Head by x y ≡ track_within_limits (spliced_track t (x - n) x (g ∷ [])) u.done
+    → trim_end table t Head by x y ≡ track_within_limits (spliced_track false t (x - n) x (g ∷ [])) u.done
 head-earlier table t i v g x y n by u s is way e =
     earlier-means t (head_later t x) (head_earlier t x) (keeps_a_cell x y) (head_may_grow table t x) n by u is way
     ∙ ap (one_put t (x - n) x u.done) (ap (λ (c : Cell). reaching_back c n ∷ []) (spot-head table t i v x y s) ∙ ap (λ (u : ItemView). u ∷ []) (sym e))
@@ -97,14 +97,14 @@ pub tail-still : (table : Table) (t : TrackState) (x y : ℕ) (by : ℤ) (u : Us
 tail-still table t x y by u is way = still-means t (tail_later t y) (tail_earlier t y) (tail_may_grow table t y) (keeps_a_cell x y) by u is way
 
 pub tail-later : (table : Table) (t : TrackState) (i : ℕ) (v g : ItemView) (x y z n : ℕ) (by : ℤ) (u : Used) → Spot table t i v x y → TailUsed table t x y by u → u.way ≡ Later n → z ≡ min (y + n) (length t.cells)
-    → g ≡ going_on (cell_in v (v.len - 1)) n → trim_end table t Tail by x y ≡ track_within_limits (spliced_track t y z (g ∷ [])) u.done
+    → g ≡ going_on (cell_in v (v.len - 1)) n → trim_end table t Tail by x y ≡ track_within_limits (spliced_track false t y z (g ∷ [])) u.done
 tail-later table t i v g x y z n by u s is way end e =
     later-means t (tail_later t y) (tail_earlier t y) (tail_may_grow table t y) (keeps_a_cell x y) n by u is way
     ∙ (ap (λ (w : ℕ). one_put t y w u.done (going_on (cell_at t.cells (y - 1)) n ∷ [])) (sym end)
     ∙ ap (one_put t y z u.done) (ap (λ (c : Cell). going_on c n ∷ []) (spot-last table t i v x y s) ∙ ap (λ (u : ItemView). u ∷ []) (sym e)))
 
 pub tail-earlier : (table : Table) (t : TrackState) (g : ItemView) (x y n : ℕ) (by : ℤ) (u : Used) → TailUsed table t x y by u → u.way ≡ Earlier n → 0 < n → g ≡ gap_view n
-    → trim_end table t Tail by x y ≡ track_within_limits (spliced_track t (y - n) y (g ∷ [])) u.done
+    → trim_end table t Tail by x y ≡ track_within_limits (spliced_track false t (y - n) y (g ∷ [])) u.done
 tail-earlier table t g x y n by u is way h e =
     earlier-means t (tail_later t y) (tail_earlier t y) (tail_may_grow table t y) (keeps_a_cell x y) n by u is way
     ∙ ap (one_put t (y - n) y u.done) (gap-alone n h ∙ ap (λ (u : ItemView). u ∷ []) (sym e))

@@ -1,6 +1,6 @@
 -- What a ripple means, as OpenTimelineIO's editAlgorithm names it; its limits and named tracks are this project's own. An
 -- end of the item moves, and all that is behind it comes as much later or earlier on all named tracks.
-use Rattle.std.specs.Prelude.{ℕ, ◌+◌, ◌-◌, ℤ, Bool, true, ◌&&◌, ◌||◌, List, [], ◌∷◌, nat_eq, nat_le, nat_lt, length, unwrap_or, if◌then◌else◌}
+use Rattle.std.specs.Prelude.{ℕ, ◌+◌, ◌-◌, ℤ, Bool, true, ◌&&◌, ◌||◌, List, [], ◌∷◌, nat_eq, nat_le, nat_lt, length, unwrap_or, if◌then◌else◌, false}
 use Rattle.frame_meaning.specs.Render.{cell_at}
 use Rattle.composables.specs.declared.calls.End.{End}
 use Rattle.composables.specs.declared.calls.End.TheVariants.{Head, Tail}
@@ -42,9 +42,9 @@ as_split place named t = unwrap_or (track_numbered t.number (links_split place p
 -- reaches back it does so with the link that its frames get, which are moved.
 abbrev pub rippled : ℕ → List TrackState → TrackState → ℕ → ℕ → End → Done → ℤ → Applied
 rippled own named t x y Head done =
-    by_sign (λ n. shift_of own x (x + n) [] done named) (λ n. shift_of own x x (reaching_back (cell_at (as_split x named t).cells x) n ∷ []) done named)
+    by_sign (λ n. shift_of false own x (x + n) [] done named) (λ n. shift_of false own x x (reaching_back (cell_at (as_split x named t).cells x) n ∷ []) done named)
 rippled own named t x y Tail done =
-    by_sign (λ n. shift_of own y y (going_on (cell_at t.cells (y - 1)) n ∷ []) done named) (λ n. shift_of own (y - n) y [] done named)
+    by_sign (λ n. shift_of false own y y (going_on (cell_at t.cells (y - 1)) n ∷ []) done named) (λ n. shift_of false own (y - n) y [] done named)
 
 -- an end of the item on [x, y) moved by the delta that is used of the one asked for
 abbrev pub ripple_end : Table → ℕ → List TrackState → TrackState → End → ℤ → ℕ → ℕ → Applied

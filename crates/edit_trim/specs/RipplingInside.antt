@@ -1,5 +1,5 @@
 -- What the steps of a ripple find: how far an end may come, and the shift by which it does.
-use Rattle.std.specs.Prelude.{◌≡◌, ◌<◌, ◌≤◌, Some, None, ℕ, ◌+◌, ◌-◌, ◌^◌, nat_abs, Bool, true, ◌&&◌, List, Option, nat_le, nat_lt}
+use Rattle.std.specs.Prelude.{◌≡◌, ◌<◌, ◌≤◌, Some, None, ℕ, ◌+◌, ◌-◌, ◌^◌, nat_abs, Bool, true, ◌&&◌, List, Option, nat_le, nat_lt, false}
 use Rattle.frame_meaning.specs.Cells.{later_side}
 use Rattle.frame_meaning.specs.Numbered.{SideIsNumbered}
 use Rattle.composables.specs.declared.calls.End.{End}
@@ -34,10 +34,10 @@ may_come_earlier table Tail v room n = nat_lt n v.len
 -- the shift of an end of the item v at a place of the track own, by a delta's way
 abbrev pub shift_by : ℕ → End → Place → ItemView → Way → Option Shift
 shift_by own end p v Still = None
-shift_by own Head p v (Later n) = Some (record { own = own; x = p.from; y = p.from + n; new = None })
-shift_by own Head p v (Earlier n) = Some (record { own = own; x = p.from; y = p.from; new = Some (reaching_back (cell_in v 0) n) })
-shift_by own Tail p v (Later n) = Some (record { own = own; x = p.to; y = p.to; new = Some (going_on (cell_in v (v.len - 1)) n) })
-shift_by own Tail p v (Earlier n) = Some (record { own = own; x = p.to - n; y = p.to; new = None })
+shift_by own Head p v (Later n) = Some (record { own = own; x = p.from; y = p.from + n; new = None; keep = false })
+shift_by own Head p v (Earlier n) = Some (record { own = own; x = p.from; y = p.from; new = Some (reaching_back (cell_in v 0) n); keep = false })
+shift_by own Tail p v (Later n) = Some (record { own = own; x = p.to; y = p.to; new = Some (going_on (cell_in v (v.len - 1)) n); keep = false })
+shift_by own Tail p v (Earlier n) = Some (record { own = own; x = p.to - n; y = p.to; new = None; keep = false })
 
 -- the record frame after that shift from which on items are moved: with its head the item is, with its tail what follows
 abbrev pub place_after : End → Shift → ℕ

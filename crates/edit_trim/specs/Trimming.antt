@@ -1,6 +1,6 @@
 -- What a trim means, as OpenTimelineIO's editAlgorithm names it; its limits are this project's own. The item's head or
 -- tail moves and nothing else. Frames that the item gives up become dark, and it grows only over dark frames.
-use Rattle.std.specs.Prelude.{ℕ, ◌+◌, ◌-◌, ℤ, Bool, ◌&&◌, List, [], ◌∷◌, Result, min, length}
+use Rattle.std.specs.Prelude.{ℕ, ◌+◌, ◌-◌, ℤ, Bool, ◌&&◌, List, [], ◌∷◌, Result, min, length, false}
 use Rattle.frame_meaning.specs.Render.{cell_at}
 use Rattle.composables.specs.declared.calls.End.{End}
 use Rattle.composables.specs.declared.calls.End.TheVariants.{Head, Tail}
@@ -33,16 +33,16 @@ trim_allows table t x y Tail = by_sign (tail_may_grow table t y) (keeps_a_cell x
 
 -- the track with the head at x, or the tail at y, n frames later or earlier
 abbrev pub head_later : TrackState → ℕ → ℕ → TrackState
-head_later t x n = spliced_track t x (x + n) (gap_views n)
+head_later t x n = spliced_track false t x (x + n) (gap_views n)
 
 abbrev pub head_earlier : TrackState → ℕ → ℕ → TrackState
-head_earlier t x n = spliced_track t (x - n) x (reaching_back (cell_at t.cells x) n ∷ [])
+head_earlier t x n = spliced_track false t (x - n) x (reaching_back (cell_at t.cells x) n ∷ [])
 
 abbrev pub tail_later : TrackState → ℕ → ℕ → TrackState
-tail_later t y n = spliced_track t y (min (y + n) (length t.cells)) (going_on (cell_at t.cells (y - 1)) n ∷ [])
+tail_later t y n = spliced_track false t y (min (y + n) (length t.cells)) (going_on (cell_at t.cells (y - 1)) n ∷ [])
 
 abbrev pub tail_earlier : TrackState → ℕ → ℕ → TrackState
-tail_earlier t y n = spliced_track t (y - n) y (gap_views n)
+tail_earlier t y n = spliced_track false t (y - n) y (gap_views n)
 
 abbrev pub trimmed : TrackState → ℕ → ℕ → End → ℤ → TrackState
 trimmed t x y Head = by_sign (head_later t x) (head_earlier t x)

@@ -12,7 +12,7 @@ ghost use Rattle.edit_trim.specs.LinkedSlips.{AllMove, EachMoves, ReachesBack, R
 ghost use Rattle.edit_trim.specs.Slipping.{mark_of, slip_linked};
 
 use crate::slipping::{mark_of, room_earlier, room_later};
-use composables::{Done, EditFault, ItemView, Table, Track};
+use composables::{Done, EditFault, ItemReader, ItemView, Table, Track};
 use edit_delta::{Way, used_within};
 use frame_meaning::{Link, Side};
 use link_groups::{carries, outside_refusal};
@@ -84,9 +84,10 @@ fn room_on<L: Ledger>(table: &Table, track: &Track, link: Link, steps: &mut Step
         earlier: u32::MAX,
         later: u32::MAX,
     };
+    let mut items = ItemReader::at(track, 0);
     for index in 0..track.count() {
         steps.tick();
-        let Some(view) = track.item(index) else {
+        let Some(view) = items.next() else {
             unreachable!()
         };
         if carries(link, view.link) {

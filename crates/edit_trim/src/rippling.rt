@@ -178,6 +178,7 @@ fn head_shift(own: u32, found: Place, view: &ItemView, way: Way) -> Option<Shift
         x: found.from,
         y: found.from,
         new: None,
+        keep: false,
     };
     match way {
         Way::Still => None,
@@ -202,6 +203,7 @@ fn tail_shift(own: u32, found: Place, view: &ItemView, way: Way) -> Option<Shift
         x: found.to,
         y: found.to,
         new: None,
+        keep: false,
     };
     match way {
         Way::Still => None,

@@ -1,6 +1,6 @@
 -- A splice puts cells in place of the places [x, y). What becomes of a mark is said by a rule; the mark's place moves
 -- with its cell. If one item stood on both sides, its cells on the right take a new number.
-use Rattle.std.specs.Prelude.{ℕ, ◌+◌, ◌-◌, Bool, ◌&&◌, ◌||◌, List, [], ◌∷◌, ◌++◌, Option, Some, None, map, take, drop, nat_le, nat_lt, length, if◌then◌else◌}
+use Rattle.std.specs.Prelude.{ℕ, ◌+◌, ◌-◌, Bool, true, false, ◌&&◌, ◌||◌, List, [], ◌∷◌, ◌++◌, Option, Some, None, map, min, take, drop, nat_le, nat_lt, length, if◌then◌else◌}
 use Rattle.frame_meaning.specs.declared.cells.Mark.{Mark}
 use Rattle.frame_meaning.specs.declared.cells.Cell.{Cell}
 use Rattle.frame_meaning.specs.Cells.{same_number, belong}
@@ -18,6 +18,19 @@ survives x y p m = (nat_lt p x && nat_le (p + m.b) x) || (nat_lt y p && nat_le (
 -- a mark that survives stays as it is, and each other is dropped
 abbrev pub kept_or_dropped : Rule
 kept_or_dropped x y p m = if survives x y p m then Some m else None
+
+-- a mark before the range keeps the frames after its cut as far as the range leaves them, one behind it the frames before
+-- its cut as far; one that stands within the range, or at one of its ends, is dropped
+abbrev pub shortened : Rule
+shortened x y p m =
+    if nat_lt p x
+    then Some (record m { b = min m.b (x - p) })
+    else (if nat_lt y p then Some (record m { a = min m.a (p - y) }) else None)
+
+-- the rule of a splice that keeps dissolves as far as there is room for them, or of one that does not
+abbrev pub rule_of : Bool → Rule
+rule_of true = shortened
+rule_of false = kept_or_dropped
 
 abbrev pub mark_under : Rule → ℕ → ℕ → ℕ → Option Mark → Option Mark
 mark_under rule x y p None = None

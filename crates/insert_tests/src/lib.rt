@@ -5,6 +5,8 @@
 #[cfg(test)]
 mod edits;
 #[cfg(test)]
+mod moves;
+#[cfg(test)]
 mod one_track;
 #[cfg(test)]
 mod plain;

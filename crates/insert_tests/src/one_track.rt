@@ -33,6 +33,7 @@ fn over_on(track: u32, at: u32, from: u32, len: u32) -> OnOne {
         what: What::Media(0),
         from,
         len,
+        keep: false,
     })
 }
 
@@ -41,11 +42,19 @@ fn over(at: u32, from: u32, len: u32) -> OnOne {
 }
 
 fn out(item: u32) -> OnOne {
-    OnOne::Out(Remove { track: 0, item })
+    OnOne::Out(Remove {
+        track: 0,
+        item,
+        keep: false,
+    })
 }
 
 fn cut(at: u32) -> OnOne {
-    OnOne::Cut(Slice { track: 0, at })
+    OnOne::Cut(Slice {
+        track: 0,
+        at,
+        keep: false,
+    })
 }
 
 fn fill_with(at: u32, what: What, from: u32, length: FillLength) -> OnOne {
@@ -55,6 +64,7 @@ fn fill_with(at: u32, what: What, from: u32, length: FillLength) -> OnOne {
         what,
         from,
         length,
+        keep: false,
     })
 }
 
@@ -336,6 +346,7 @@ fn the_first_refusal_of_an_overwrite_is_answered(rt: HostRuntime) -> Result<(), 
         what: What::Media(0),
         from: 0,
         len: 1,
+        keep: false,
     };
     for (row, edit, refusal) in [
         (

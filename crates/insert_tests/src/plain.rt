@@ -1,4 +1,4 @@
-// The edits of one track frame by frame: a plain program to compare with. Its new items show media 0 from 500 on.
+// The edits frame by frame: a plain program to compare with. Its new items show media 0 from 500 on.
 ghost use Rattle.std.specs.Prelude.{◌≤◌};
 
 use crate::edits::Edit;
@@ -6,7 +6,8 @@ use composables::Memory;
 use frame_meaning::{Cell, Mark, Side, What};
 use std::alloc::Global;
 
-// What stands in place of the places [x, y), and the number of the later part of an item that is split.
+// What stands in place of the places [x, y), the number of the later part of an item that is split, and whether
+// dissolves are kept as far as there is room for them.
 #[derive(Clone, Copy)]
 struct Change {
     x: usize,
@@ -14,11 +15,41 @@ struct Change {
     number: Option<u32>,
     len: usize,
     fresh: u32,
+    keep: bool,
 }
 
 // The cells after an edit of a track of these, whose next item number this is.
-pub fn plainly(alloc: Global, cells: &[Cell], edit: Edit, next: u32) -> Result<Vec<Cell>, Memory> {
-    changed(alloc, cells, change_of(cells, edit, next))
+pub fn plainly(
+    alloc: Global,
+    cells: &[Cell],
+    edit: Edit,
+    keep: bool,
+    next: u32,
+) -> Result<Vec<Cell>, Memory> {
+    let change = change_of(cells, edit, next);
+    changed(alloc, cells, Change { keep, ..change })
+}
+
+// The cells of another track of these, whose next item number this is, after an edit of a track of those which moves
+// what is behind it: as many dark frames as the edit puts in, as far as the track has its places.
+pub fn plainly_beside(
+    alloc: Global,
+    own: &[Cell],
+    cells: &[Cell],
+    edit: Edit,
+    keep: bool,
+    next: u32,
+) -> Result<Vec<Cell>, Memory> {
+    let moved = change_of(own, edit, next);
+    let change = Change {
+        x: moved.x.min(cells.len()),
+        y: moved.y.min(cells.len()),
+        number: None,
+        len: if moved.x < cells.len() { moved.len } else { 0 },
+        fresh: next,
+        keep,
+    };
+    changed(alloc, cells, change)
 }
 
 fn change_of(cells: &[Cell], edit: Edit, next: u32) -> Change {
@@ -38,10 +69,14 @@ fn change_of(cells: &[Cell], edit: Edit, next: u32) -> Change {
         }
         Edit::Cut(at) => in_place(at as usize, at as usize, 0, next),
         // there is one gap
-        Edit::Fill(len) => {
+        Edit::Fill(_, len) => {
             let (g, h) = range(cells, None);
             let some = (h - g).min(len as usize);
             new_item(g, g.saturating_add(some), some, next)
+        }
+        Edit::FillAll(_) => {
+            let (g, h) = range(cells, None);
+            new_item(g, h, h - g, next)
         }
     }
 }
@@ -54,6 +89,7 @@ fn new_item(x: usize, y: usize, len: usize, next: u32) -> Change {
         number: Some(next),
         len,
         fresh: next.saturating_add(1),
+        keep: false,
     }
 }
 
@@ -65,6 +101,7 @@ fn in_place(x: usize, y: usize, len: usize, fresh: u32) -> Change {
         number: None,
         len,
         fresh,
+        keep: false,
     }
 }
 
@@ -104,10 +141,25 @@ fn changed(alloc: Global, cells: &[Cell], change: Change) -> Result<Vec<Cell>, M
 
 fn before(cells: &[Cell], change: Change, place: usize) -> Cell {
     let cell = cells.get(place).copied().unwrap_or(dark());
-    let stays = |mark: &Mark| place.saturating_add(mark.b as usize) <= change.x;
     Cell {
-        mark: cell.mark.filter(stays),
+        mark: left_before(change, place, cell.mark),
         ..cell
+    }
+}
+
+// A dissolve at a place before the range stays where it ends by the range, or is shortened to end there.
+fn left_before(change: Change, place: usize, mark: Option<Mark>) -> Option<Mark> {
+    let mark = mark?;
+    let room = change.x.saturating_sub(place);
+    if mark.b as usize <= room {
+        Some(mark)
+    } else if change.keep {
+        Some(Mark {
+            b: u32::try_from(room).unwrap_or(mark.b),
+            ..mark
+        })
+    } else {
+        None
     }
 }
 
@@ -130,11 +182,28 @@ fn put(change: Change, k: usize) -> Cell {
 fn behind(cells: &[Cell], change: Change, place: usize) -> Cell {
     let cell = cells.get(place).copied().unwrap_or(dark());
     let split = cell.item.is_some() && cell.item == item_before(cells, change.x);
-    let stays = |mark: &Mark| change.y < place && change.y.saturating_add(mark.a as usize) <= place;
     Cell {
         item: if split { Some(change.fresh) } else { cell.item },
-        mark: cell.mark.filter(stays),
+        mark: left_behind(change, place, cell.mark),
         ..cell
+    }
+}
+
+// One behind the range stays where it begins at its end or later, or is shortened to begin there; one at its end goes.
+fn left_behind(change: Change, place: usize, mark: Option<Mark>) -> Option<Mark> {
+    let mark = mark?;
+    let room = place.saturating_sub(change.y);
+    if room == 0 {
+        None
+    } else if mark.a as usize <= room {
+        Some(mark)
+    } else if change.keep {
+        Some(Mark {
+            a: u32::try_from(room).unwrap_or(mark.a),
+            ..mark
+        })
+    } else {
+        None
     }
 }
 

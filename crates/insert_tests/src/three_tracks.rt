@@ -4,7 +4,7 @@ ghost use Rattle.composables.specs.Good.{IsGood};
 ghost use Rattle.composables.specs.OwnTracks.{numbers_of};
 ghost use Rattle.composables.specs.TrackSets.{tracks_in};
 
-use crate::tracks::{all_roomy, item, small_table, told_all};
+use crate::tracks::{all_roomy, item, small_table, three, told_all};
 use composables::{
     Done, EditFault, Extract, Insert, Link3, Memory, Numbers, Refusal, Table, Track,
 };
@@ -22,7 +22,7 @@ use step_count::Steps;
 // An edit over the tracks 0, 1 and 2: a new item on a track, at a place, of source frames from one on, so many; an item
 // taken out of a track; and an item of each track linked.
 #[derive(Clone, Copy, Debug, PartialEq, Eq)]
-enum OnThree {
+pub enum OnThree {
     Put(u32, u32, u32, u32),
     Take(u32, u32),
     Tie(u32, u32, u32),
@@ -34,7 +34,7 @@ fn must_be_of_three(rt: &impl Abort, track: u32)
     assert!(rt; track < 3);
 }
 
-fn put(track: u32, at: u32, from: u32, len: u32) -> Insert
+fn put(track: u32, at: u32, from: u32, len: u32, keep: bool) -> Insert
     ensures tracks { result.tracks ≡ 7 }
     ensures track { result.track ≡ track }
 {
@@ -45,10 +45,11 @@ fn put(track: u32, at: u32, from: u32, len: u32) -> Insert
         what: What::Media(0),
         from,
         len,
+        keep,
     }
 }
 
-fn take(track: u32, item: u32) -> Extract
+fn take(track: u32, item: u32, keep: bool) -> Extract
     ensures tracks { result.tracks ≡ 7 }
     ensures track { result.track ≡ track }
 {
@@ -56,6 +57,7 @@ fn take(track: u32, item: u32) -> Extract
         tracks: 7,
         track,
         item,
+        keep,
     }
 }
 
@@ -66,12 +68,14 @@ fn tie(alloc: Global, items: [u32; 3]) -> Result<Link3, Memory>
     Ok(Link3 { tracks: 7, items })
 }
 
-fn edit_three<L: Ledger>(
+// `keep` says whether dissolves are kept as far as there is room for them.
+pub fn edit_three<L: Ledger>(
     rt: &impl Abort,
     alloc: Global,
     table: &Table,
     named: &mut Vec<Track>,
     edit: OnThree,
+    keep: bool,
     steps: &mut Steps<L>,
 ) -> Result<Done, EditFault>
     requires named { numbers_of named.old.items ≡ tracks_in 7 }
@@ -83,11 +87,12 @@ fn edit_three<L: Ledger>(
     match edit {
         OnThree::Put(track, at, from, len) => {
             must_be_of_three(rt, track);
-            insert(alloc, table, named, &put(track, at, from, len), steps)
+            let call = put(track, at, from, len, keep);
+            insert(alloc, table, named, &call, steps)
         }
         OnThree::Take(track, item) => {
             must_be_of_three(rt, track);
-            extract(alloc, table, named, &take(track, item), steps)
+            extract(alloc, table, named, &take(track, item, keep), steps)
         }
         OnThree::Tie(a, b, c) => match tie(alloc, [a, b, c]) {
             Ok(call) => link(alloc, table, named, &call, steps),
@@ -111,7 +116,7 @@ fn edit_all_three<L: Ledger>(
     let mut steps = Steps::<L>::new(blank);
     let mut last = Ok(Done::Plain);
     for edit in edits {
-        last = edit_three(rt, alloc, table, named, *edit, &mut steps);
+        last = edit_three(rt, alloc, table, named, *edit, false, &mut steps);
     }
     last
 }
@@ -162,10 +167,7 @@ fn play_three(
     let Some(c) = start(alloc, &table, 2, lens[2])? else {
         return Ok(None);
     };
-    let mut named = Vec::new(alloc);
-    named.push(a)?;
-    named.push(b)?;
-    named.push(c)?;
+    let mut named = three(alloc, a, b, c)?;
     let answer = edit_all_three::<Brand>(rt, alloc, Blank::new(1), &table, &mut named, edits);
     Ok(Some(Played {
         first: shown(alloc, &named, 0)?,

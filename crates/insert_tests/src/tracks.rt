@@ -1,5 +1,5 @@
 // A small table, and what the tests make and look at.
-ghost use Rattle.std.specs.Prelude.{◌≡◌, All, IfOk, IsTrue};
+ghost use Rattle.std.specs.Prelude.{◌≡◌, [], ◌∷◌, All, IfOk, IsTrue};
 ghost use Rattle.composables.specs.Bounds.{bounds_of};
 ghost use Rattle.composables.specs.Roomy.{IsRoomy};
 
@@ -40,6 +40,17 @@ pub fn small_table(alloc: Global) -> Result<Table, Memory>
 
 pub fn item(number: u32, source: u32, len: u32) -> ItemView {
     ItemView::clip(number, What::Media(0), source, len)
+}
+
+// Three tracks that an edit names.
+pub fn three(alloc: Global, a: Track, b: Track, c: Track) -> Result<Vec<Track>, Memory>
+    ensures { IfOk result (λ named. named.items ≡ a ∷ b ∷ c ∷ []) }
+{
+    let mut named = Vec::new(alloc);
+    named.push(a)?;
+    named.push(b)?;
+    named.push(c)?;
+    Ok(named)
 }
 
 pub fn all_roomy(named: &[Track]) -> bool

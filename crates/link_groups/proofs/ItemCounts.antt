@@ -8,7 +8,7 @@ use Rattle.frame_meaning.specs.declared.cells.Mark.{Mark}
 use Rattle.frame_meaning.specs.declared.cells.What.{What}
 use Rattle.frame_meaning.specs.declared.frames.Side.{Side}
 use Rattle.frame_meaning.specs.Cells.{next_side, same_number, span}
-use Rattle.frame_meaning.specs.Splice.{Rule, kept_or_dropped, renumbered, split_item, with_marks}
+use Rattle.frame_meaning.specs.Splice.{Rule, rule_of, renumbered, split_item, with_marks}
 use Rattle.composables.specs.declared.items.ItemView.{ItemView}
 use Rattle.composables.specs.Items.{cells_of, items_of, marked, view_cells, view_from, with_cell}
 use Rattle.composables.specs.Sizes.{size_of, sizes_of}
@@ -201,12 +201,12 @@ same_drop (suc n) [] (d ∷ ds) h = absurd h
 same_drop (suc n) (c ∷ cs) [] h = absurd h
 same_drop (suc n) (c ∷ cs) (d ∷ ds) h = same_drop n cs ds h.1
 
-count_spliced : (t : TrackState) (x y : ℕ) (views : List ItemView) → x ≤ y → length (items_of (spliced_track t x y views).cells) ≤ length (items_of t.cells) + 1 + length views
-count_spliced t x y views le =
-    let all : List Cell = with_marks kept_or_dropped x y 0 t.cells in
+count_spliced : (keep : Bool) (t : TrackState) (x y : ℕ) (views : List ItemView) → x ≤ y → length (items_of (spliced_track keep t x y views).cells) ≤ length (items_of t.cells) + 1 + length views
+count_spliced keep t x y views le =
+    let all : List Cell = with_marks (rule_of keep) x y 0 t.cells in
     let s : Option ℕ = split_item t.cells x y in
     let fresh : ℕ = next_past_all t.next_item views in
-    let marks : SameItems all t.cells = same_marks kept_or_dropped x y 0 t.cells in
+    let marks : SameItems all t.cells = same_marks (rule_of keep) x y 0 t.cells in
     omega (
       arith,
       count_append (take x all ++ cells_of views) (map (renumbered s fresh) (drop y all)),
@@ -235,7 +235,7 @@ few_put s t = by (eqb t.number s.own) (ltb s.x (length t.cells)) where
   by false false = omega arith
 
 size_moved : (s : Shift) (t : TrackState) → s.x ≤ s.y → size_of (moved s t) ≤ 2 * size_of t
-size_moved s t le = omega (arith, count_spliced t (min s.x (length t.cells)) (min s.y (length t.cells)) (put_views s t) (omega (arith, le)), few_put s t)
+size_moved s t le = omega (arith, count_spliced s.keep t (min s.x (length t.cells)) (min s.y (length t.cells)) (put_views s t) (omega (arith, le)), few_put s t)
 
 pub sizes-moved : (s : Shift) (ts : List TrackState) → s.x ≤ s.y → sizes_of (all_moved s ts) ≤ 2 * sizes_of ts
 sizes-moved s [] le = omega arith

@@ -5,6 +5,7 @@ pub mod NamedSets
 pub mod Named
 pub mod LinkOrder
 pub mod LeastLinks
+pub mod Bare
 pub mod Elsewhere
 pub mod SplitKeys
 pub mod Relinking

@@ -37,11 +37,11 @@ use Rattle.link_groups.proofs.LinkedShifts.{EachUncut, KeptWithin, shift-items}
 use Rattle.link_groups.proofs.ShiftLinks.{gap-there, least-there, links, links-drop, there, there-append}
 use Rattle.link_groups.proofs.Uncut.{EndsApart, cell-there, uncut-spliced}
 
-pub shift-meant : (s : Shift) (done : Done) (ts named : List TrackState) → shifted s.own s.x s.y (new_views s.new) named ≡ all_moved s ts
+pub shift-meant : (s : Shift) (done : Done) (ts named : List TrackState) → shifted s.keep s.own s.x s.y (new_views s.new) named ≡ all_moved s ts
     → link_outside named (cells_from s.y named) ≡ link_outside ts (cells_from s.y ts) → s.x ≤ s.y → KeptWithin s ts → EachUncut s ts
-    → shift_of s.own s.x s.y (new_views s.new) done named ≡ linked_shift s (s.x + new_len s.new) done ts
+    → shift_of s.keep s.own s.x s.y (new_views s.new) done named ≡ linked_shift s (s.x + new_len s.new) done ts
 shift-meant s done ts named same outside order kept uncut =
-    ap (λ (n : ℕ). unless (shift_refusal s.x s.y n named) (within_limits (cond (eqb n (s.y - s.x)) (shifted s.own s.x s.y (new_views s.new) named) (links_split s.x (s.x + n) (shifted s.own s.x s.y (new_views s.new) named))) done)) (frames_new s.new)
+    ap (λ (n : ℕ). unless (shift_refusal s.x s.y n named) (within_limits (cond (eqb n (s.y - s.x)) (shifted s.keep s.own s.x s.y (new_views s.new) named) (links_split s.x (s.x + n) (shifted s.keep s.own s.x s.y (new_views s.new) named))) done)) (frames_new s.new)
     ∙ (ap (λ (us : List TrackState). unless (shift_refusal s.x s.y (new_len s.new) named) (within_limits (cond (eqb (new_len s.new) (s.y - s.x)) us (links_split s.x (s.x + new_len s.new) us)) done)) same
     ∙ (ap (λ (r : Option Refusal). unless (cond (eqb (new_len s.new) (s.y - s.x)) None r) (within_limits (cond (eqb (new_len s.new) (s.y - s.x)) (all_moved s ts) (links_split s.x (s.x + new_len s.new) (all_moved s ts))) done)) outside
     ∙ shift-items s done ts order kept uncut))
@@ -166,7 +166,7 @@ uncut-moved s t kept order apart after = by (eqb t.number s.own) refl (ltb s.x (
   at : (vs : List ItemView) → put_views s t ≡ vs → EndsApart t (min s.y (length t.cells)) vs → min s.x (length t.cells) + frames_in vs ≡ s.x + new_len s.new → IsUncut (s.x + new_len s.new) (moved s t)
   at vs e ends sum =
       subst (λ (z : ℕ). IsUncut z (moved s t)) (ap (λ (us : List ItemView). min s.x (length t.cells) + frames_in us) e ∙ sum)
-      (uncut-spliced t (min s.x (length t.cells)) (min s.y (length t.cells)) (put_views s t) kept (omega arith) (subst (EndsApart t (min s.y (length t.cells))) (sym e) ends) after)
+      (uncut-spliced s.keep t (min s.x (length t.cells)) (min s.y (length t.cells)) (put_views s t) kept (omega arith) (subst (EndsApart t (min s.y (length t.cells))) (sym e) ends) after)
 
   by : (a : Bool) → eqb t.number s.own ≡ a → (b : Bool) → ltb s.x (length t.cells) ≡ b → IsUncut (s.x + new_len s.new) (moved s t)
   by true e b f =

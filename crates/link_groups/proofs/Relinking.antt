@@ -198,9 +198,9 @@ own-link i [] v e = refl
 own-link zero (w ∷ ws) v e = let same : w ≡ v = cc in ap (λ (u : ItemView). with_link u.link w ∷ ws) (sym same)
 own-link (suc i) (w ∷ ws) v e = ap (λ (us : List ItemView). w ∷ us) (own-link i ws v e)
 
-pub same-track : (t : TrackState) (i : ℕ) (v : ItemView) → IsKept t → slice_get (items_of t.cells) i ≡ Some v → v.link ≡ None → t ≡ changed_track t i (with_link None)
-same-track t i v k e n =
-    sym (ap (λ (l : Option Link). changed_track t i (with_link l)) (sym n) ∙ ap (λ (vs : List ItemView). record t { cells = cells_of vs }) (own-link i (items_of t.cells) v e) ∙ ap (λ (cs : List _). record t { cells = cs }) k.whole)
+pub own-track : (t : TrackState) (i : ℕ) (v : ItemView) → IsKept t → slice_get (items_of t.cells) i ≡ Some v → t ≡ changed_track t i (with_link v.link)
+own-track t i v k e =
+    sym (ap (λ (vs : List ItemView). record t { cells = cells_of vs }) (own-link i (items_of t.cells) v e) ∙ ap (λ (cs : List _). record t { cells = cs }) k.whole)
 
 pub shows_at : (vs : List ItemView) (i : ℕ) (v : ItemView) → slice_get vs i ≡ Some v → EachHolds vs → ShowsAsItem v.item v.first v.link
 shows_at [] i v e h = absurd (omega (arith, slice_get_within [] i v e))

@@ -8,7 +8,7 @@ use Rattle.frame_meaning.specs.declared.cells.Link.{Link}
 use Rattle.frame_meaning.specs.declared.cells.Mark.{Mark}
 use Rattle.frame_meaning.specs.declared.cells.What.{What}
 use Rattle.frame_meaning.specs.declared.frames.Side.{Side}
-use Rattle.frame_meaning.specs.Splice.{Rule, kept_or_dropped, renumbered, split_item, with_marks}
+use Rattle.frame_meaning.specs.Splice.{Rule, rule_of, renumbered, split_item, with_marks}
 use Rattle.frame_meaning.specs.Cells.{next_side, same_number, span}
 use Rattle.composables.specs.declared.items.ItemView.{ItemView}
 use Rattle.composables.specs.Good.{AllUnlinked}
@@ -95,18 +95,18 @@ links_numbers s fresh (c ∷ cs) = ap (λ (l : Option Link). l ∷ links (map (r
 
 -- a splice
 
-pub links-spliced : (t : TrackState) (x y : ℕ) (views : List ItemView)
-    → links (spliced_track t x y views).cells ≡ take x (links t.cells) ++ (links (cells_of views) ++ drop y (links t.cells))
-links-spliced t x y views =
-    let all : List Cell = with_marks kept_or_dropped x y 0 t.cells in
+pub links-spliced : (keep : Bool) (t : TrackState) (x y : ℕ) (views : List ItemView)
+    → links (spliced_track keep t x y views).cells ≡ take x (links t.cells) ++ (links (cells_of views) ++ drop y (links t.cells))
+links-spliced keep t x y views =
+    let all : List Cell = with_marks (rule_of keep) x y 0 t.cells in
     let tail : List Cell = map (renumbered (split_item t.cells x y) (next_past_all t.next_item views)) (drop y all) in
     ap links (append_assoc (take x all) (cells_of views) tail)
     ∙ (map-append (λ (c : Cell). c.link) (take x all) (cells_of views ++ tail)
-    ∙ (ap (λ (ls : List (Option Link)). ls ++ links (cells_of views ++ tail)) (links-take x all ∙ ap (take x) (links_marks kept_or_dropped x y 0 t.cells))
+    ∙ (ap (λ (ls : List (Option Link)). ls ++ links (cells_of views ++ tail)) (links-take x all ∙ ap (take x) (links_marks (rule_of keep) x y 0 t.cells))
     ∙ ap (λ (ls : List (Option Link)). take x (links t.cells) ++ ls)
     (map-append (λ (c : Cell). c.link) (cells_of views) tail
     ∙ ap (λ (ls : List (Option Link)). links (cells_of views) ++ ls)
-    (links_numbers (split_item t.cells x y) (next_past_all t.next_item views) (drop y all) ∙ (links-drop y all ∙ ap (drop y) (links_marks kept_or_dropped x y 0 t.cells))))))
+    (links_numbers (split_item t.cells x y) (next_past_all t.next_item views) (drop y all) ∙ (links-drop y all ∙ ap (drop y) (links_marks (rule_of keep) x y 0 t.cells))))))
 
 abbrev Ends : ℕ → ℕ → ℕ → List (Option Link) → List (Option Link) → Type 0
 Ends x y z ls ms = (there (take x ms) ≡ there (take x ls)) × (there (drop z ms) ≡ there (drop y ls))
@@ -195,14 +195,14 @@ drop_least y ls n e = by (cases_lt (length ls) y) where
   by (inl less) = drop_all (min y n) ls (omega (arith, less, e)) ∙ sym (drop_all y ls (omega (arith, less)))
   by (inr le) = let f : min y n ≡ y = omega (arith, le, e) in ap (λ (k : ℕ). drop k ls) f
 
-ends_spliced : (t : TrackState) (x y k past z : ℕ) (views : List ItemView)
-    → Ends x y z (links t.cells) (take k (links t.cells) ++ (links (cells_of views) ++ drop past (links t.cells))) → Ends x y z (links t.cells) (links (spliced_track t k past views).cells)
-ends_spliced t x y k past z views h = subst (Ends x y z (links t.cells)) (sym (links-spliced t k past views)) h
+ends_spliced : (keep : Bool) (t : TrackState) (x y k past z : ℕ) (views : List ItemView)
+    → Ends x y z (links t.cells) (take k (links t.cells) ++ (links (cells_of views) ++ drop past (links t.cells))) → Ends x y z (links t.cells) (links (spliced_track keep t k past views).cells)
+ends_spliced keep t x y k past z views h = subst (Ends x y z (links t.cells)) (sym (links-spliced keep t k past views)) h
 
 pub ends-moved : (s : Shift) (t : TrackState) → s.x ≤ s.y → Ends s.x s.y (s.x + new_len s.new) (links t.cells) (links (moved s t).cells)
 ends-moved s t order = by (eqb t.number s.own) refl (cases_lt (length t.cells) s.x) where
   Goal : List ItemView → Type 0
-  Goal vs = Ends s.x s.y (s.x + new_len s.new) (links t.cells) (links (spliced_track t (min s.x (length t.cells)) (min s.y (length t.cells)) vs).cells)
+  Goal vs = Ends s.x s.y (s.x + new_len s.new) (links t.cells) (links (spliced_track s.keep t (min s.x (length t.cells)) (min s.y (length t.cells)) vs).cells)
 
   long : length (links t.cells) ≡ length t.cells
   long = long_links t.cells
@@ -210,8 +210,8 @@ ends-moved s t order = by (eqb t.number s.own) refl (cases_lt (length t.cells) s
   here : (vs : List ItemView) → s.x ≤ length t.cells → frames_in vs ≡ new_len s.new → Goal vs
   here vs le sum =
       let at : s.x ≡ min s.x (length t.cells) = omega (arith, le) in
-      subst (λ (k : ℕ). Ends s.x s.y (s.x + new_len s.new) (links t.cells) (links (spliced_track t k (min s.y (length t.cells)) vs).cells)) at
-      (ends_spliced t s.x s.y s.x (min s.y (length t.cells)) (s.x + new_len s.new) vs
+      subst (λ (k : ℕ). Ends s.x s.y (s.x + new_len s.new) (links t.cells) (links (spliced_track s.keep t k (min s.y (length t.cells)) vs).cells)) at
+      (ends_spliced s.keep t s.x s.y s.x (min s.y (length t.cells)) (s.x + new_len s.new) vs
       (inside (links t.cells) (links (cells_of vs)) s.x s.y (min s.y (length t.cells)) (s.x + new_len s.new) (omega (arith, le, long)) (drop_least s.y (links t.cells) (length t.cells) (sym long)) (omega (arith, sum, long_of vs))))
 
   own : (length t.cells < s.x) ⊎ (s.x ≤ length t.cells) → Goal (gap_views (s.x - length t.cells) ++ new_views s.new)
@@ -222,7 +222,7 @@ ends-moved s t order = by (eqb t.number s.own) refl (cases_lt (length t.cells) s
       let dark : List ItemView = gap_views (s.x - length t.cells) in
       let both : cells_of (gap_views (s.x - length t.cells) ++ new_views s.new) ≡ cells_of (gap_views (s.x - length t.cells)) ++ cells_of (new_views s.new) = cells_of-append (gap_views (s.x - length t.cells)) (new_views s.new) in
       let apart : links (cells_of (gap_views (s.x - length t.cells) ++ new_views s.new)) ≡ links (cells_of (gap_views (s.x - length t.cells))) ++ links (cells_of (new_views s.new)) = ap links both ∙ map-append (λ (c : Cell). c.link) (cells_of (gap_views (s.x - length t.cells))) (cells_of (new_views s.new)) in
-      ends_spliced t s.x s.y (min s.x (length t.cells)) (min s.y (length t.cells)) (s.x + new_len s.new) (gap_views (s.x - length t.cells) ++ new_views s.new)
+      ends_spliced s.keep t s.x s.y (min s.x (length t.cells)) (min s.y (length t.cells)) (s.x + new_len s.new) (gap_views (s.x - length t.cells) ++ new_views s.new)
       (subst (λ (ws : List (Option Link)). Ends s.x s.y (s.x + new_len s.new) (links t.cells) (take (min s.x (length t.cells)) (links t.cells) ++ (ws ++ drop (min s.y (length t.cells)) (links t.cells)))) (sym apart)
       (beyond (links t.cells) (links (cells_of (gap_views (s.x - length t.cells)))) (links (cells_of (new_views s.new))) s.x s.y (min s.x (length t.cells)) (min s.y (length t.cells)) (s.x + new_len s.new)
       (omega (arith, less, long)) (omega (arith, less, long)) (omega (arith, less, long, order)) order (gap-there (s.x - length t.cells))
@@ -234,7 +234,7 @@ ends-moved s t order = by (eqb t.number s.own) refl (cases_lt (length t.cells) s
   other false e =
       let past : length t.cells ≤ s.x = ltb-false s.x (length t.cells) e in
       let empty : length (links (cells_of [])) ≡ 0 = refl in
-      ends_spliced t s.x s.y (min s.x (length t.cells)) (min s.y (length t.cells)) (s.x + new_len s.new) []
+      ends_spliced s.keep t s.x s.y (min s.x (length t.cells)) (min s.y (length t.cells)) (s.x + new_len s.new) []
       (beyond (links t.cells) [] [] s.x s.y (min s.x (length t.cells)) (min s.y (length t.cells)) (s.x + new_len s.new)
       (omega (arith, past, long)) (omega (arith, past, long)) (omega (arith, past, long, order)) order refl (inr (omega arith)) (inr (omega arith, omega arith)))
 

@@ -12,7 +12,7 @@ use Rattle.frame_meaning.specs.declared.frames.Side.{Side}
 use Rattle.frame_meaning.specs.declared.frames.Side.TheVariants.{Dark, Pic}
 use Rattle.frame_meaning.specs.Cells.{belong, dark_cell, next_side, same_number, span}
 use Rattle.frame_meaning.specs.Render.{cell_at}
-use Rattle.frame_meaning.specs.Splice.{kept_or_dropped, renumbered, split_item, with_marks}
+use Rattle.frame_meaning.specs.Splice.{rule_of, renumbered, split_item, with_marks}
 use Rattle.composables.specs.declared.items.ItemView.{ItemView}
 use Rattle.composables.specs.Items.{cell_in, cells_of, items_of, marked, view_cells}
 use Rattle.composables.specs.Joined.{frames_in}
@@ -157,17 +157,17 @@ EndsApart t y views = (0 < frames_in views)
     → ((cell_at (cells_of views) (frames_in views - 1)).item ≡ None)
     ⊎ ((n : ℕ) × ((cell_at (cells_of views) (frames_in views - 1)).item ≡ Some n) × ((cell_at t.cells y).item ≢ Some n) × (n ≢ next_past_all t.next_item views))
 
-pub uncut-spliced : (t : TrackState) (x y : ℕ) (views : List ItemView) → IsKept t → x ≤ length t.cells → EndsApart t y views
-    → IsKept (spliced_track t x y views) → IsUncut (x + frames_in views) (spliced_track t x y views)
-uncut-spliced t x y views kept le apart after = uncut-by (spliced_track t x y views) (x + frames_in views) after between where
+pub uncut-spliced : (keep : Bool) (t : TrackState) (x y : ℕ) (views : List ItemView) → IsKept t → x ≤ length t.cells → EndsApart t y views
+    → IsKept (spliced_track keep t x y views) → IsUncut (x + frames_in views) (spliced_track keep t x y views)
+uncut-spliced keep t x y views kept le apart after = uncut-by (spliced_track keep t x y views) (x + frames_in views) after between where
   u : TrackState
-  u = spliced_track t x y views
+  u = spliced_track keep t x y views
 
   fresh : ℕ
   fresh = next_past_all t.next_item views
 
   all : List Cell
-  all = with_marks kept_or_dropped x y 0 t.cells
+  all = with_marks (rule_of keep) x y 0 t.cells
 
   s : Option ℕ
   s = split_item t.cells x y
@@ -175,13 +175,13 @@ uncut-spliced t x y views kept le apart after = uncut-by (spliced_track t x y vi
   put : length (cells_of views) ≡ frames_in views
   put = length-cells_of views
 
-  long : length (spliced_track t x y views).cells ≡ x + frames_in views + (length t.cells - y)
-  long = omega (arith, length-spliced kept_or_dropped t.cells x y (cells_of views) (next_past_all t.next_item views), put, le)
+  long : length (spliced_track keep t x y views).cells ≡ x + frames_in views + (length t.cells - y)
+  long = omega (arith, length-spliced (rule_of keep) t.cells x y (cells_of views) (next_past_all t.next_item views), put, le)
 
-  behind : y < length t.cells → cell_at (spliced_track t x y views).cells (x + frames_in views) ≡ renumbered s fresh (ruled_cell kept_or_dropped t.cells x y y)
+  behind : y < length t.cells → cell_at (spliced_track keep t x y views).cells (x + frames_in views) ≡ renumbered s fresh (ruled_cell (rule_of keep) t.cells x y y)
   behind less =
       let at : x + frames_in views ≡ x + length (cells_of views) + (y - y) = omega (arith, put) in
-      ap (λ (n : ℕ). cell_at (spliced_track t x y views).cells n) at ∙ cell-behind kept_or_dropped t.cells x y (cells_of views) fresh y le (omega arith) less
+      ap (λ (n : ℕ). cell_at (spliced_track keep t x y views).cells n) at ∙ cell-behind (rule_of keep) t.cells x y (cells_of views) fresh y le (omega arith) less
 
   bare : (d : Cell) (m : Option Mark) → (renumbered s fresh (record d { mark = m })).item ≡ (renumbered s fresh (record d { mark = None })).item
   bare d m = by s where
@@ -201,44 +201,44 @@ uncut-spliced t x y views kept le apart after = uncut-by (spliced_track t x y vi
     weaker None h = tt
     weaker (Some i) h = above i h
 
-  between : 0 < x + frames_in views → x + frames_in views < length (spliced_track t x y views).cells
-      → (cell_at (spliced_track t x y views).cells (x + frames_in views - 1)).item ≡ (cell_at (spliced_track t x y views).cells (x + frames_in views)).item
-      → (cell_at (spliced_track t x y views).cells (x + frames_in views)).item ≡ None
+  between : 0 < x + frames_in views → x + frames_in views < length (spliced_track keep t x y views).cells
+      → (cell_at (spliced_track keep t x y views).cells (x + frames_in views - 1)).item ≡ (cell_at (spliced_track keep t x y views).cells (x + frames_in views)).item
+      → (cell_at (spliced_track keep t x y views).cells (x + frames_in views)).item ≡ None
   between some inside same = ⊎_elim put_some put_none (cases_lt 0 (frames_in views)) where
     less : y < length t.cells
     less = omega (arith, inside, long)
 
-    put_some : 0 < frames_in views → (cell_at (spliced_track t x y views).cells (x + frames_in views)).item ≡ None
+    put_some : 0 < frames_in views → (cell_at (spliced_track keep t x y views).cells (x + frames_in views)).item ≡ None
     put_some h = by (apart h) where
       at : x + (frames_in views - 1) ≡ x + frames_in views - 1
       at = omega (arith, h)
 
-      last : (cell_at (spliced_track t x y views).cells (x + frames_in views - 1)).item ≡ (cell_at (cells_of views) (frames_in views - 1)).item
+      last : (cell_at (spliced_track keep t x y views).cells (x + frames_in views - 1)).item ≡ (cell_at (cells_of views) (frames_in views - 1)).item
       last =
-          ap (λ (n : ℕ). (cell_at (spliced_track t x y views).cells n).item) (sym at)
-          ∙ ap (λ (c : Cell). c.item) (cell-between kept_or_dropped t.cells x y (cells_of views) fresh (frames_in views - 1) le (omega (arith, h, put)))
+          ap (λ (n : ℕ). (cell_at (spliced_track keep t x y views).cells n).item) (sym at)
+          ∙ ap (λ (c : Cell). c.item) (cell-between (rule_of keep) t.cells x y (cells_of views) fresh (frames_in views - 1) le (omega (arith, h, put)))
 
       by : ((cell_at (cells_of views) (frames_in views - 1)).item ≡ None)
           ⊎ ((n : ℕ) × ((cell_at (cells_of views) (frames_in views - 1)).item ≡ Some n) × ((cell_at t.cells y).item ≢ Some n) × (n ≢ next_past_all t.next_item views))
-          → (cell_at (spliced_track t x y views).cells (x + frames_in views)).item ≡ None
+          → (cell_at (spliced_track keep t x y views).cells (x + frames_in views)).item ≡ None
       by (inl e) = sym same ∙ (last ∙ e)
-      by (inr e) = absurd (other (renumbered_item s fresh (ruled_cell kept_or_dropped t.cells x y y))) where
-        is : (renumbered s fresh (ruled_cell kept_or_dropped t.cells x y y)).item ≡ Some e.0
+      by (inr e) = absurd (other (renumbered_item s fresh (ruled_cell (rule_of keep) t.cells x y y))) where
+        is : (renumbered s fresh (ruled_cell (rule_of keep) t.cells x y y)).item ≡ Some e.0
         is = sym (ap (λ (c : Cell). c.item) (behind less)) ∙ (sym same ∙ (last ∙ e.1))
 
-        other : ((renumbered s fresh (ruled_cell kept_or_dropped t.cells x y y)).item ≡ (cell_at t.cells y).item) ⊎ ((renumbered s fresh (ruled_cell kept_or_dropped t.cells x y y)).item ≡ Some fresh) → ⊥
+        other : ((renumbered s fresh (ruled_cell (rule_of keep) t.cells x y y)).item ≡ (cell_at t.cells y).item) ⊎ ((renumbered s fresh (ruled_cell (rule_of keep) t.cells x y y)).item ≡ Some fresh) → ⊥
         other (inl f) = e.2 (sym f ∙ is)
         other (inr f) = e.3 (sym (some_is fresh e.0 (sym f ∙ is))) where
           some_is : (m n : ℕ) → Some m ≡ Some n → m ≡ n
           some_is m n g = cc
 
-    put_none : frames_in views ≤ 0 → (cell_at (spliced_track t x y views).cells (x + frames_in views)).item ≡ None
+    put_none : frames_in views ≤ 0 → (cell_at (spliced_track keep t x y views).cells (x + frames_in views)).item ≡ None
     put_none h =
         let at : x + frames_in views - 1 ≡ x - 1 = omega (arith, h) in
         let start : 0 < x = omega (arith, some, h) in
-        let first : (cell_at (spliced_track t x y views).cells (x + frames_in views - 1)).item ≡ (cell_at t.cells (x - 1)).item =
-        ap (λ (n : ℕ). (cell_at (spliced_track t x y views).cells n).item) at
-        ∙ ap (λ (c : Cell). c.item) (cell-before kept_or_dropped t.cells x y (cells_of views) fresh (x - 1) le (omega (arith, start))) in
-        let second : (cell_at (spliced_track t x y views).cells (x + frames_in views)).item ≡ (renumbered s fresh (record (cell_at t.cells y) { mark = None })).item =
+        let first : (cell_at (spliced_track keep t x y views).cells (x + frames_in views - 1)).item ≡ (cell_at t.cells (x - 1)).item =
+        ap (λ (n : ℕ). (cell_at (spliced_track keep t x y views).cells n).item) at
+        ∙ ap (λ (c : Cell). c.item) (cell-before (rule_of keep) t.cells x y (cells_of views) fresh (x - 1) le (omega (arith, start))) in
+        let second : (cell_at (spliced_track keep t x y views).cells (x + frames_in views)).item ≡ (renumbered s fresh (record (cell_at t.cells y) { mark = None })).item =
         ap (λ (c : Cell). c.item) (behind less) ∙ bare (cell_at t.cells y) _ in
         sym same ∙ (first ∙ split_apart t.cells x y fresh (cell_at t.cells (x - 1)).item None start less refl (below (x - 1)) (sym first ∙ (same ∙ second)))

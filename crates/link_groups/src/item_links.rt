@@ -4,7 +4,7 @@ ghost use Rattle.composables.specs.Sizes.{size_of, sizes_of};
 ghost use Rattle.link_groups.specs.ItemLinks.{carried_on, carried_outside, carries, is_elsewhere, link_of};
 
 use crate::finding::item_on;
-use composables::{ItemView, Track};
+use composables::{ItemReader, ItemView, Track, a_track_is_kept};
 use frame_meaning::{Link, same_item};
 use std::sync::ledger::Ledger;
 use step_count::Steps;
@@ -63,12 +63,14 @@ fn carried_on<L: Ledger>(
     ensures least { steps.old ≤ steps.new }
     ensures most { steps.new ≤ steps.old + size_of track.now }
 {
-    if track.length() == 0 {
+    a_track_is_kept(track);
+    if !track.has_links() {
         return false;
     }
+    let mut items = ItemReader::at(track, 0);
     for index in 0..track.count() {
         steps.tick();
-        let Some(view) = track.item(index) else {
+        let Some(view) = items.next() else {
             unreachable!()
         };
         if is_elsewhere(link, own, item, track.number(), &view) {

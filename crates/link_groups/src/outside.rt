@@ -5,7 +5,7 @@ ghost use Rattle.composables.specs.Links.{cells_from, first_unnamed, is_named, l
 ghost use Rattle.composables.specs.Sizes.{size_of, sizes_of};
 ghost use Rattle.composables.specs.TrackSets.{has_track, tracks_in};
 
-use composables::{Refusal, Track, has_track};
+use composables::{ItemReader, Refusal, Track, has_track};
 use frame_meaning::Link;
 use std::sync::ledger::Ledger;
 use step_count::Steps;
@@ -59,11 +59,15 @@ fn least_on<L: Ledger>(named: &[Track], track: &Track, y: u32, steps: &mut Steps
     if track.length() <= y {
         return None;
     }
+    if !track.has_links() {
+        return None;
+    }
+    let mut items = ItemReader::at(track, 0);
     let mut least = None;
     let mut to: u64 = 0;
     for index in 0..track.count() {
         steps.tick();
-        let Some(view) = track.item(index) else {
+        let Some(view) = items.next() else {
             unreachable!()
         };
         to += u64::from(view.len);

@@ -1,5 +1,5 @@
 // New links for the moved items of links that also have items which stay.
-ghost use Rattle.std.specs.Prelude.{◌≡◌, ◌+◌, ◌*◌, ◌<◌, ◌≤◌, ◌^◌, All, OnErr, OnOk, Some, None, map, slice_get, unwrap_or};
+ghost use Rattle.std.specs.Prelude.{◌≡◌, ◌+◌, ◌*◌, ◌<◌, ◌≤◌, ◌^◌, All, IfSome, IsNone, OnErr, OnOk, Some, None, map, slice_get, unwrap_or};
 ghost use Rattle.std.specs.BTreeMap.{get};
 ghost use Rattle.std.specs.Ordering.{nat_cmp};
 ghost use Rattle.composables.specs.Changes.{changed_track, with_link};
@@ -78,6 +78,9 @@ fn relink_items<L: Ledger>(track: &mut Track, place: u64, splits: &Splits, steps
     ensures most { steps.new ≤ steps.old + size_of track.old }
 {
     a_track_is_kept(track);
+    if !track.has_links() {
+        return;
+    }
     let mut end: u64 = 0;
     for index in 0..track.count() {
         steps.tick();
@@ -97,22 +100,25 @@ fn relink_item(track: &mut Track, index: u32, view: &ItemView, splits: &Splits)
     ensures { track.new
         ≡ changed_track track.old index (with_link (given_link splits.now view.now.link)) }
 {
-    match view.link {
-        Some(link) => {
-            track.set_link(index, Some(numbered(link, splits)));
-        }
+    match split_link(view.link, splits) {
+        Some(link) => track.set_link(index, Some(link)),
         None => {}
     }
 }
 
-fn numbered(link: Link, splits: &Splits) -> Link
-    ensures { given_link splits.now (Some link) ≡ Some result }
+// A link that is split, with its new number.
+fn split_link(link: Option<Link>, splits: &Splits) -> Option<Link>
+    ensures split { IfSome result (λ l. given_link splits.now link ≡ Some l) }
+    ensures whole { IsNone result → given_link splits.now link ≡ link }
 {
-    match splits.numbers.get(&(link.home, link.number)) {
-        Some(number) => Link {
-            number: *number,
-            ..link
+    match link {
+        Some(link) => match splits.numbers.get(&(link.home, link.number)) {
+            Some(number) => Some(Link {
+                number: *number,
+                ..link
+            }),
+            None => None,
         },
-        None => link,
+        None => None,
     }
 }

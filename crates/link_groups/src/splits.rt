@@ -8,7 +8,7 @@ ghost use Rattle.composables.specs.Sizes.{size_of, sizes_of};
 ghost use Rattle.link_groups.specs.Renumbering.{MayBeSplit};
 ghost use Rattle.link_groups.specs.Splits.{AreGiven, AreSplits, HasFew, cells_between, has_key, is_key_of, key_cmp};
 
-use composables::{Memory, Track, a_track_is_kept};
+use composables::{ItemReader, Memory, Track, a_track_is_kept};
 use frame_meaning::Link;
 use std::alloc::Global;
 use std::collections::{BTreeMap, BTreeSet};
@@ -80,10 +80,14 @@ fn add_linked<L: Ledger>(
     ensures most { steps.new ≤ steps.old + size_of track.now }
 {
     a_track_is_kept(track);
+    if !track.has_links() {
+        return Ok(());
+    }
+    let mut items = ItemReader::at(track, 0);
     let mut at: u64 = 0;
     for index in 0..track.count() {
         steps.tick();
-        let Some(view) = track.item(index) else {
+        let Some(view) = items.next() else {
             unreachable!()
         };
         let end = at + u64::from(view.len);

@@ -129,29 +129,29 @@ overwrite-one table c t =
     let p : TrackState = padded_track t c.at in
     let clip : List ItemView = clip_view t.next_item c.what c.from c.len ∷ [] in
     let one : c.at + frames_in clip ≡ c.at + c.len = omega arith in
-    unless_kept t (source_refusal table t.number c.what c.from c.len) (track_within_limits (overwritten t c.at c.what c.from c.len) (Item t.next_item))
-    (within_kept t (overwritten t c.at c.what c.from c.len) (Item t.next_item) refl
-    (keeps-then t p (overwritten t c.at c.what c.from c.len) (keeps-padded t c.at) (padded-runs t c.at)
-    (keeps-bare p c.at (min (c.at + c.len) (length p.cells)) clip (omega (arith, length-pad t c.at))
+    unless_kept t (source_refusal table t.number c.what c.from c.len) (track_within_limits (overwritten c.keep t c.at c.what c.from c.len) (Item t.next_item))
+    (within_kept t (overwritten c.keep t c.at c.what c.from c.len) (Item t.next_item) refl
+    (keeps-then t p (overwritten c.keep t c.at c.what c.from c.len) (keeps-padded t c.at) (padded-runs t c.at)
+    (keeps-bare c.keep p c.at (min (c.at + c.len) (length p.cells)) clip (omega (arith, length-pad t c.at))
     (subst (λ (k : ℕ). (k ≡ min (c.at + c.len) (length p.cells)) ⊎ (length p.cells ≤ min (c.at + c.len) (length p.cells))) (sym one) (up_to c.at c.len (length p.cells)))
     (refl, tt))))
 
 pub remove-one : (table : Table) (c : Remove) (t : TrackState) → KeptOne t (remove_track c t)
 remove-one table c t = by (range_of t.cells c.item) refl where
   by : (o : Option (ℕ × ℕ)) → range_of t.cells c.item ≡ o
-      → KeptOne t (on_range (λ x y. track_within_limits (spliced_track t x y (gap_views (y - x))) Plain) o)
+      → KeptOne t (on_range (λ x y. track_within_limits (spliced_track c.keep t x y (gap_views (y - x))) Plain) o)
   by None e = tt
   by (Some (x, y)) e =
       let r = item-range t c.item x y e in
-      within_kept t (spliced_track t x y (gap_views (y - x))) Plain refl
-      (keeps-bare t x y (gap_views (y - x)) (omega (arith, r.0, r.1)) (inl (omega (arith, r.0, frames-gap (y - x)))) (gap-bare (y - x)))
+      within_kept t (spliced_track c.keep t x y (gap_views (y - x))) Plain refl
+      (keeps-bare c.keep t x y (gap_views (y - x)) (omega (arith, r.0, r.1)) (inl (omega (arith, r.0, frames-gap (y - x)))) (gap-bare (y - x)))
 
 pub slice-one : (table : Table) (c : Slice) (t : TrackState) → KeptOne t (slice_track c t)
 slice-one table c t = by (ltb c.at (length t.cells)) refl where
-  by : (b : Bool) → ltb c.at (length t.cells) ≡ b → KeptOne t (cond b (track_within_limits (spliced_track t c.at c.at []) Plain) (Err NoItem))
+  by : (b : Bool) → ltb c.at (length t.cells) ≡ b → KeptOne t (cond b (track_within_limits (spliced_track c.keep t c.at c.at []) Plain) (Err NoItem))
   by true e =
-      within_kept t (spliced_track t c.at c.at []) Plain refl
-      (keeps-bare t c.at c.at [] (omega (arith, ltb-true c.at (length t.cells) e)) (inl (omega arith)) tt)
+      within_kept t (spliced_track c.keep t c.at c.at []) Plain refl
+      (keeps-bare c.keep t c.at c.at [] (omega (arith, ltb-true c.at (length t.cells) e)) (inl (omega arith)) tt)
   by false e = tt
 
 pub fill-one : (table : Table) (c : Fill) (t : TrackState) → KeptOne t (fill_track table c t)
@@ -164,7 +164,7 @@ fill-one table c t = by (gap_at t.cells c.at) refl where
       let len : ℕ = min asked (y - x) in
       unless_kept t (source_refusal table t.number c.what c.from asked) (track_within_limits (filled t c x len) (Item t.next_item))
       (within_kept t (filled t c x len) (Item t.next_item) refl
-      (keeps-bare t x (x + len) (clip_view t.next_item c.what c.from len ∷ []) (omega (arith, r.1, frames-all t.cells)) (inl (omega arith)) (refl, tt)))
+      (keeps-bare c.keep t x (x + len) (clip_view t.next_item c.what c.from len ∷ []) (omega (arith, r.1, frames-all t.cells)) (inl (omega arith)) (refl, tt)))
 
 pub putting-keeps : PuttingInKeepsTogether
 putting-keeps = record {
@@ -186,33 +186,33 @@ used-kept t moved allowed by each = at (nearest allowed by) (is-nearest allowed 
   at (negsuc k) (inl e) = absurd cc
   at (negsuc k) (inr e) = let r = each (negsuc k) e in within_kept t (moved (negsuc k)) (By (negsuc k)) r.0 r.1
 
-back_kept : (table : Table) (t : TrackState) (x n : ℕ) → n ≤ x → x ≤ length t.cells → has_before table (cell_at t.cells x).side n ≡ true
-    → Keeps t (spliced_track t (x - n) x (reaching_back (cell_at t.cells x) n ∷ []))
-back_kept table t x n le within has =
-    keeps-one t (x - n) x (reaching_back (cell_at t.cells x) n) (omega (arith, within)) (inl (omega (arith, le)))
+back_kept : (keep : Bool) (table : Table) (t : TrackState) (x n : ℕ) → n ≤ x → x ≤ length t.cells → has_before table (cell_at t.cells x).side n ≡ true
+    → Keeps t (spliced_track keep t (x - n) x (reaching_back (cell_at t.cells x) n ∷ []))
+back_kept keep table t x n le within has =
+    keeps-one keep t (x - n) x (reaching_back (cell_at t.cells x) n) (omega (arith, within)) (inl (omega (arith, le)))
     (λ l o h. seen-back table t x (x - n) n l o (omega (arith, le)) has h)
 
-on_kept : (t : TrackState) (y z n : ℕ) → 0 < y → y ≤ length t.cells → (y + n ≡ z) ⊎ (length t.cells ≤ z)
-    → Keeps t (spliced_track t y z (going_on (cell_at t.cells (y - 1)) n ∷ []))
-on_kept t y z n some within way =
+on_kept : (keep : Bool) (t : TrackState) (y z n : ℕ) → 0 < y → y ≤ length t.cells → (y + n ≡ z) ⊎ (length t.cells ≤ z)
+    → Keeps t (spliced_track keep t y z (going_on (cell_at t.cells (y - 1)) n ∷ []))
+on_kept keep t y z n some within way =
     let one : y + n ≡ y + (n + 0) = omega arith in
-    keeps-one t y z (going_on (cell_at t.cells (y - 1)) n) within (subst (λ (k : ℕ). (k ≡ z) ⊎ (length t.cells ≤ z)) one way)
+    keeps-one keep t y z (going_on (cell_at t.cells (y - 1)) n) within (subst (λ (k : ℕ). (k ≡ z) ⊎ (length t.cells ≤ z)) one way)
     (λ l o h. seen-on t y n l o some h)
 
-dark_kept : (t : TrackState) (x y n : ℕ) → x ≤ length t.cells → x + n ≡ y → Keeps t (spliced_track t x y (gap_views n))
-dark_kept t x y n within e = keeps-bare t x y (gap_views n) within (inl (omega (arith, e, frames-gap n))) (gap-bare n)
+dark_kept : (keep : Bool) (t : TrackState) (x y n : ℕ) → x ≤ length t.cells → x + n ≡ y → Keeps t (spliced_track keep t x y (gap_views n))
+dark_kept keep t x y n within e = keeps-bare keep t x y (gap_views n) within (inl (omega (arith, e, frames-gap n))) (gap-bare n)
 
 trim_kept : (table : Table) (t : TrackState) (x y : ℕ) (end : End) (d : ℤ) → x < y → y ≤ length t.cells → trim_allows table t x y end d ≡ true
     → ((trimmed t x y end d).number ≡ t.number) × Keeps t (trimmed t x y end d)
-trim_kept table t x y Head (pos k) less within e = (refl, dark_kept t x (x + k) k (omega (arith, less, within)) refl)
+trim_kept table t x y Head (pos k) less within e = (refl, dark_kept false t x (x + k) k (omega (arith, less, within)) refl)
 trim_kept table t x y Head (negsuc k) less within e =
     let a = and_parts (dark_before t.cells x (suc k)) (has_before table (cell_at t.cells x).side (suc k)) e in
     let le = leb-true (suc k) x (and_parts (nat_le (suc k) x) _ a.0).0 in
-    (refl, back_kept table t x (suc k) le (omega (arith, less, within)) a.1)
-trim_kept table t x y Tail (pos k) less within e = (refl, on_kept t y (min (y + k) (length t.cells)) k (omega (arith, less)) within (up_to y k (length t.cells)))
+    (refl, back_kept false table t x (suc k) le (omega (arith, less, within)) a.1)
+trim_kept table t x y Tail (pos k) less within e = (refl, on_kept false t y (min (y + k) (length t.cells)) k (omega (arith, less)) within (up_to y k (length t.cells)))
 trim_kept table t x y Tail (negsuc k) less within e =
     let fits : x + suc k < y = ltb-true (x + suc k) y e in
-    (refl, dark_kept t (y - suc k) y (suc k) (omega (arith, within)) (omega (arith, fits)))
+    (refl, dark_kept false t (y - suc k) y (suc k) (omega (arith, within)) (omega (arith, fits)))
 
 pub trim-one : (table : Table) (c : Trim) (t : TrackState) → KeptOne t (trim_track table c t)
 trim-one table c t = by (range_of t.cells c.item) refl where
@@ -224,11 +224,11 @@ trim-one table c t = by (range_of t.cells c.item) refl where
 
 roll_kept : (table : Table) (t : TrackState) (at : ℕ) (d : ℤ) → 0 < at → at ≤ length t.cells → move_allows table t at at d ≡ true
     → ((rolled t at d).number ≡ t.number) × Keeps t (rolled t at d)
-roll_kept table t at (pos k) some within e = (refl, on_kept t at (at + k) k some within (inl refl))
+roll_kept table t at (pos k) some within e = (refl, on_kept false t at (at + k) k some within (inl refl))
 roll_kept table t at (negsuc k) some within e =
     let a = and_parts (keeps_a_cell (begin_at t.cells (at - 1)) at (suc k)) (has_before table (cell_at t.cells at).side (suc k)) e in
     let fits : begin_at t.cells (at - 1) + suc k < at = ltb-true (begin_at t.cells (at - 1) + suc k) at a.0 in
-    (refl, back_kept table t at (suc k) (omega (arith, fits)) within a.1)
+    (refl, back_kept false table t at (suc k) (omega (arith, fits)) within a.1)
 
 pub roll-one : (table : Table) (c : Roll) (t : TrackState) → KeptOne t (roll_track table c t)
 roll-one table c t = by (is_cut t.cells c.at) refl where

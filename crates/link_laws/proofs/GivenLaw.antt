@@ -100,13 +100,13 @@ rises_self t = omega arith
 abbrev StayGiven : List TrackState → List TrackState → List TrackState → Type 0
 StayGiven all named news = StaysGiven all named news
 
-shifts_given : (all named : List TrackState) → IsNumbered all → AreNamed all named → AreGiven all → ByShifts (StayGiven all named) all named
-shifts_given all named room names are ts own x y views done c = shift-leaves (StayGiven all named) all named ts own x y views done c stays where
+shifts_given : (keep : Bool) (all named : List TrackState) → IsNumbered all → AreNamed all named → AreGiven all → ByShifts keep (StayGiven all named) all named
+shifts_given keep all named room names are ts own x y views done c = shift-leaves keep (StayGiven all named) all named ts own x y views done c stays where
   z : ℕ
   z = x + frames_in views
 
   us : List TrackState
-  us = shifted own x y views ts
+  us = shifted keep own x y views ts
 
   ls : List Link
   ls = split_links x z us
@@ -194,8 +194,8 @@ edits-keep-given = record {
   roll = λ table c. given-law (λ named. roll_named table named c) (λ named. own-kept c.track (roll_track table c) named (λ t e. roll-one table c t));
   dissolve = λ table c. given-law (λ named. dissolve_named table named c) (λ named. own-kept c.track (λ t. dissolve_on table t c) named (λ t e. dissolve-one table c t));
   undissolve = λ table c. given-law (λ named. undissolve_named named c) (λ named. own-kept c.track (λ t. undissolve_on t c) named (λ t e. undissolve-one table c t));
-  insert = λ table c. own-given c.track (inserted table c) (λ all named t room names g e. insert-leaves (StayGiven all named) table c all named t names e (shifts_given all named room names g));
-  extract = λ table c. own-given c.track (extracted c) (λ all named t room names g e. extract-leaves (StayGiven all named) c all named t names e (shifts_given all named room names g));
+  insert = λ table c. own-given c.track (inserted table c) (λ all named t room names g e. insert-leaves (StayGiven all named) table c all named t names e (shifts_given c.keep all named room names g));
+  extract = λ table c. own-given c.track (extracted c) (λ all named t room names g e. extract-leaves (StayGiven all named) c all named t names e (shifts_given c.keep all named room names g));
   ripple = λ table c. own-given c.track (ripple_own table c)
-      (λ all named t room names g e. ripple-leaves (StayGiven all named) table c all named t names e (same_given all named room names g) (shifts_given all named room names g));
+      (λ all named t room names g e. ripple-leaves (StayGiven all named) table c all named t names e (same_given all named room names g) (shifts_given false all named room names g));
 }

@@ -136,57 +136,57 @@ follows-splits x z ts us each fronts =
 abbrev Parted : ℕ → ℕ → TrackState → TrackState → Type 0
 Parted x z t u = Alike (take x t.cells) (take x u.cells) × Alike (drop x t.cells) (drop z u.cells)
 
-parted_in : (t : TrackState) (x past z : ℕ) (views : List ItemView) → x ≤ length t.cells → drop past t.cells ≡ drop x t.cells → x + frames_in views ≡ z → Parted x z t (spliced_track t x past views)
+parted_in : (t : TrackState) (x past z : ℕ) (views : List ItemView) → x ≤ length t.cells → drop past t.cells ≡ drop x t.cells → x + frames_in views ≡ z → Parted x z t (spliced_track false t x past views)
 parted_in t x past z views le same sum =
-    let parts = is-parted t x past z views le sum in
-    let front = alike-sym (front_of t x past) (take x t.cells) (front-alike t x past) in
-    let behind = alike-sym (behind_of t x past views) (drop past t.cells) (behind-alike t x past views) in (
+    let parts = is-parted false t x past z views le sum in
+    let front = alike-sym (front_of false t x past) (take x t.cells) (front-alike false t x past) in
+    let behind = alike-sym (behind_of false t x past views) (drop past t.cells) (behind-alike false t x past views) in (
       subst (Alike (take x t.cells)) (sym parts.before) front,
-      subst (Alike (drop x t.cells)) (sym parts.behind) (subst (λ (cs : List Cell). Alike cs (behind_of t x past views)) same behind),
+      subst (Alike (drop x t.cells)) (sym parts.behind) (subst (λ (cs : List Cell). Alike cs (behind_of false t x past views)) same behind),
     )
 
-parted_past : (t : TrackState) (x z k past : ℕ) → length t.cells ≤ x → x ≤ z → k ≡ length t.cells → length t.cells ≤ past → Parted x z t (spliced_track t k past [])
+parted_past : (t : TrackState) (x z k past : ℕ) → length t.cells ≤ x → x ≤ z → k ≡ length t.cells → length t.cells ≤ past → Parted x z t (spliced_track false t k past [])
 parted_past t x z k past short le is beyond =
-    let same = stays-past t k past is beyond in
-    let long = alike-length (spliced_track t k past []).cells t.cells same in
-    let past_end : drop z (spliced_track t k past []).cells ≡ [] = drop_all z (spliced_track t k past []).cells (omega (arith, long, short, le)) in (
-      alike-take x t.cells (spliced_track t k past []).cells (alike-sym (spliced_track t k past []).cells t.cells same),
-      subst (λ (cs : List Cell). Alike cs (drop z (spliced_track t k past []).cells)) (sym (drop_all x t.cells short)) (subst (Alike []) (sym past_end) tt),
+    let same = stays-past false t k past is beyond in
+    let long = alike-length (spliced_track false t k past []).cells t.cells same in
+    let past_end : drop z (spliced_track false t k past []).cells ≡ [] = drop_all z (spliced_track false t k past []).cells (omega (arith, long, short, le)) in (
+      alike-take x t.cells (spliced_track false t k past []).cells (alike-sym (spliced_track false t k past []).cells t.cells same),
+      subst (λ (cs : List Cell). Alike cs (drop z (spliced_track false t k past []).cells)) (sym (drop_all x t.cells short)) (subst (Alike []) (sym past_end) tt),
     )
 
-parted_along : (t : TrackState) (x n : ℕ) → Parted x (x + n) t (shifted_along t x x n)
+parted_along : (t : TrackState) (x n : ℕ) → Parted x (x + n) t (shifted_along false t x x n)
 parted_along t x n = by (ltb x (length t.cells)) refl where
-  by : (b : Bool) → ltb x (length t.cells) ≡ b → Parted x (x + n) t (spliced_track t (min x (length t.cells)) (min x (length t.cells)) (cond b (gap_views n) []))
+  by : (b : Bool) → ltb x (length t.cells) ≡ b → Parted x (x + n) t (spliced_track false t (min x (length t.cells)) (min x (length t.cells)) (cond b (gap_views n) []))
   by true e =
       let inside = ltb-true x (length t.cells) e in
       let at : x ≡ min x (length t.cells) = omega (arith, inside) in
-      subst (λ (k : ℕ). Parted x (x + n) t (spliced_track t k (min x (length t.cells)) (gap_views n))) at
+      subst (λ (k : ℕ). Parted x (x + n) t (spliced_track false t k (min x (length t.cells)) (gap_views n))) at
       (parted_in t x (min x (length t.cells)) (x + n) (gap_views n) (omega (arith, inside)) (drop-least x t.cells) (omega (arith, frames-gap n)))
   by false e =
       let past = ltb-false x (length t.cells) e in
       parted_past t x (x + n) (min x (length t.cells)) (min x (length t.cells)) (omega (arith, past)) (omega arith) (omega (arith, past)) (omega (arith, past))
 
-parted_one : (own x : ℕ) (views : List ItemView) (t : TrackState) → (t.number ≡ own → x ≤ length t.cells) → Parted x (x + frames_in views) t (shifted_track own x x views t)
+parted_one : (own x : ℕ) (views : List ItemView) (t : TrackState) → (t.number ≡ own → x ≤ length t.cells) → Parted x (x + frames_in views) t (shifted_track false own x x views t)
 parted_one own x views t has = by (eqb t.number own) refl where
-  by : (b : Bool) → eqb t.number own ≡ b → Parted x (x + frames_in views) t (cond b (spliced_track t x x views) (shifted_along t x x (frames_in views)))
+  by : (b : Bool) → eqb t.number own ≡ b → Parted x (x + frames_in views) t (cond b (spliced_track false t x x views) (shifted_along false t x x (frames_in views)))
   by true e = parted_in t x x (x + frames_in views) views (has (eqb-true t.number own e)) refl refl
   by false e = parted_along t x (frames_in views)
 
-next_shifted : (own x : ℕ) (views : List ItemView) (t : TrackState) → t.next_link ≡ (shifted_track own x x views t).next_link
+next_shifted : (own x : ℕ) (views : List ItemView) (t : TrackState) → t.next_link ≡ (shifted_track false own x x views t).next_link
 next_shifted own x views t = by (eqb t.number own) where
-  by : (b : Bool) → t.next_link ≡ (cond b (spliced_track t x x views) (shifted_along t x x (frames_in views))).next_link
+  by : (b : Bool) → t.next_link ≡ (cond b (spliced_track false t x x views) (shifted_along false t x x (frames_in views))).next_link
   by true = refl
   by false = refl
 
-follows_shifted : (own x : ℕ) (views : List ItemView) (ts : List TrackState) → HasPlace own x ts → Each (Follows x (x + frames_in views)) ts (shifted own x x views ts)
+follows_shifted : (own x : ℕ) (views : List ItemView) (ts : List TrackState) → HasPlace own x ts → Each (Follows x (x + frames_in views)) ts (shifted false own x x views ts)
 follows_shifted own x views [] has = tt
 follows_shifted own x views (t ∷ ts) has =
-    (shifted-number own x x views t, record { next = next_shifted own x views t; cells = (parted_one own x views t has.0).1 }, follows_shifted own x views ts has.1)
+    (shifted-number false own x x views t, record { next = next_shifted own x views t; cells = (parted_one own x views t has.0).1 }, follows_shifted own x views ts has.1)
 
-fronts_shifted : (own x : ℕ) (views : List ItemView) (ts : List TrackState) → HasPlace own x ts → Each (Fronts x) ts (shifted own x x views ts)
+fronts_shifted : (own x : ℕ) (views : List ItemView) (ts : List TrackState) → HasPlace own x ts → Each (Fronts x) ts (shifted false own x x views ts)
 fronts_shifted own x views [] has = tt
 fronts_shifted own x views (t ∷ ts) has =
-    (shifted-number own x x views t, (parted_one own x views t has.0).0, fronts_shifted own x views ts has.1)
+    (shifted-number false own x x views t, (parted_one own x views t has.0).0, fronts_shifted own x views ts has.1)
 
 -- sides stay
 
@@ -246,7 +246,7 @@ following R n (t ∷ ts) (u ∷ us) s each e = by (eqb t.number n) refl e (λ k.
 pub reached : (table : Table) (named : List TrackState) (t : TrackState) (own x n : ℕ) (l : Link) (o : Option ℤ) → track_numbered own named ≡ Some t → HasPlace own x named
     → has_before table (cell_at t.cells x).side n ≡ true
     → Shows x (cells_of (reaching_back (cell_at (as_split x named t).cells x) n ∷ [])) l o
-    → SeesFrom (x + (n + 0)) (links_split x (x + (n + 0)) (shifted own x x (reaching_back (cell_at (as_split x named t).cells x) n ∷ []) named)) l o
+    → SeesFrom (x + (n + 0)) (links_split x (x + (n + 0)) (shifted false own x x (reaching_back (cell_at (as_split x named t).cells x) n ∷ []) named)) l o
 reached table named t own x n l o e has before h = numbered_from own z vs after.0 l o after.1 shown where
   z : ℕ
   z = x + (n + 0)
@@ -258,7 +258,7 @@ reached table named t own x n l o e has before h = numbered_from own z vs after.
   ps = links_split x x named
 
   vs : List TrackState
-  vs = links_split x z (shifted own x x views named)
+  vs = links_split x z (shifted false own x x views named)
 
   found : (u : TrackState) × (track_numbered own ps ≡ Some u) × Shown t u
   found = following Shown own named ps t (shown_all x named (split_links x x named) named) e
@@ -274,7 +274,7 @@ reached table named t own x n l o e has before h = numbered_from own z vs after.
   put = shows-back table (cell_at (as_split x named t).cells x) x n l o (ap (λ (s : Side What). has_before table s n) (sym side) ∙ before) h
 
   after : (v : TrackState) × (track_numbered own vs ≡ Some v) × Follows x z found.0 v
-  after = following (Follows x z) own ps vs found.0 (follows-splits x z named (shifted own x x views named) (follows_shifted own x views named has) (fronts_shifted own x views named has)) found.1
+  after = following (Follows x z) own ps vs found.0 (follows-splits x z named (shifted false own x x views named) (follows_shifted own x views named has) (fronts_shifted own x views named has)) found.1
 
   there : Shows z (drop x found.0.cells) l (offset_of (cell_at found.0.cells x).side z)
   there = shows_from z x found.0.cells l (ap (λ (u : TrackState). (cell_at u.cells x).link) (sym is) ∙ put.0)

@@ -50,10 +50,10 @@ module _ (all named : List TrackState) (t : TrackState) (own : ℕ) (names : Are
   has : (x : ℕ) → x ≤ length t.cells → HasPlace own x named
   has x le = has-place all own x named t names.among (among-numbered all named own t names.among e) le
 
-  on_case : (y n : ℕ) → 0 < y → 0 < n → y ≤ length t.cells → ShiftCase all named named own y y (going_on (cell_at t.cells (y - 1)) n ∷ [])
+  on_case : (y n : ℕ) → 0 < y → 0 < n → y ≤ length t.cells → ShiftCase false all named named own y y (going_on (cell_at t.cells (y - 1)) n ∷ [])
   on_case y n some grows le = record {
     moves = λ z. omega (arith, z, grows);
-    each = shifts-each own y y (going_on (cell_at t.cells (y - 1)) n ∷ []) (PutAt y (going_on (cell_at t.cells (y - 1)) n ∷ [])) named (omega arith) (has y le) (λ l o h. h) (few-one (going_on (cell_at t.cells (y - 1)) n));
+    each = shifts-each false own y y (going_on (cell_at t.cells (y - 1)) n ∷ []) (PutAt y (going_on (cell_at t.cells (y - 1)) n ∷ [])) named (omega arith) (has y le) (λ l o h. h) (few-one (going_on (cell_at t.cells (y - 1)) n));
     sees = λ l b s. s;
     same = λ m. refl;
     put = λ l o h. inl (inl (numbered_before own y named t l o e (before l o h)));
@@ -64,10 +64,10 @@ module _ (all named : List TrackState) (t : TrackState) (own : ℕ) (names : Are
         subst (λ (a : Option ℤ). Shows 0 (take y t.cells) l a) r.1 (last_before t y l some r.0)
 
   back_case : (table : Table) (x n : ℕ) → 0 < n → x ≤ length t.cells → has_before table (cell_at t.cells x).side n ≡ true
-      → ShiftCase all named named own x x (reaching_back (cell_at (as_split x named t).cells x) n ∷ [])
+      → ShiftCase false all named named own x x (reaching_back (cell_at (as_split x named t).cells x) n ∷ [])
   back_case table x n grows le before = record {
     moves = λ z. omega (arith, z, grows);
-    each = shifts-each own x x (reaching_back (cell_at (as_split x named t).cells x) n ∷ []) (PutAt x (reaching_back (cell_at (as_split x named t).cells x) n ∷ [])) named (omega arith) (has x le) (λ l o h. h)
+    each = shifts-each false own x x (reaching_back (cell_at (as_split x named t).cells x) n ∷ []) (PutAt x (reaching_back (cell_at (as_split x named t).cells x) n ∷ [])) named (omega arith) (has x le) (λ l o h. h)
         (few-one (reaching_back (cell_at (as_split x named t).cells x) n));
     sees = λ l b s. s;
     same = λ m. refl;
@@ -75,11 +75,11 @@ module _ (all named : List TrackState) (t : TrackState) (own : ℕ) (names : Are
   }
 
 rippled_leaves : (P : List TrackState → Type 0) (table : Table) (all named : List TrackState) (t : TrackState) (own x y : ℕ) (end : End) (done : Done) (d : ℤ) → AreNamed all named
-    → track_numbered own named ≡ Some t → x < y → y ≤ length t.cells → ripple_allows table own named t x y end d ≡ true → (d ≡ pos 0 → ⊥) → ByShifts P all named
+    → track_numbered own named ≡ Some t → x < y → y ≤ length t.cells → ripple_allows table own named t x y end d ≡ true → (d ≡ pos 0 → ⊥) → ByShifts false P all named
     → Leaves P (rippled own named t x y end done d)
 rippled_leaves P table all named t own x y end done (pos zero) names e less within a differs shifts = absurd (differs refl)
 rippled_leaves P table all named t own x y Head done (pos (suc k)) names e less within a differs shifts =
-    shifts named own x (x + suc k) [] done (nothing-case all named t own x (x + suc k) names e (omega arith) (omega (arith, less, within)))
+    shifts named own x (x + suc k) [] done (nothing-case false all named t own x (x + suc k) names e (omega arith) (omega (arith, less, within)))
 rippled_leaves P table all named t own x y Head done (negsuc k) names e less within a differs shifts =
     shifts named own x x (reaching_back (cell_at (as_split x named t).cells x) (suc k) ∷ []) done
     (back_case all named t own names e table x (suc k) (omega arith) (omega (arith, less, within)) (and_parts (have_room own x named (suc k)) (has_before table (cell_at t.cells x).side (suc k)) a).1)
@@ -87,7 +87,7 @@ rippled_leaves P table all named t own x y Tail done (pos (suc k)) names e less 
     shifts named own y y (going_on (cell_at t.cells (y - 1)) (suc k) ∷ []) done (on_case all named t own names e y (suc k) (omega (arith, less)) (omega arith) within)
 rippled_leaves P table all named t own x y Tail done (negsuc k) names e less within a differs shifts =
     let fits : x + suc k < y = ltb-true (x + suc k) y a in
-    shifts named own (y - suc k) y [] done (nothing-case all named t own (y - suc k) y names e (omega (arith, fits)) (omega (arith, within)))
+    shifts named own (y - suc k) y [] done (nothing-case false all named t own (y - suc k) y names e (omega (arith, fits)) (omega (arith, within)))
 
 used_leaves : (P : List TrackState → Type 0) (named : List TrackState) (moved : Done → ℤ → Applied) (allowed : ℤ → Bool) (by : ℤ) → P named
     → ((done : Done) (d : ℤ) → allowed d ≡ true → (d ≡ pos 0 → ⊥) → Leaves P (moved done d)) → Leaves P (used_from named moved (nearest allowed by))
@@ -100,7 +100,7 @@ used_leaves P named moved allowed by same each = at (nearest allowed by) (is-nea
   at (negsuc k) (inr e) = each (By (negsuc k)) (negsuc k) e (λ z. absurd cc)
 
 pub ripple-leaves : (P : List TrackState → Type 0) (table : Table) (c : Ripple) (all named : List TrackState) (t : TrackState) → AreNamed all named → track_numbered c.track named ≡ Some t
-    → P named → ByShifts P all named → Leaves P (ripple_own table c named t)
+    → P named → ByShifts false P all named → Leaves P (ripple_own table c named t)
 ripple-leaves P table c all named t names e same shifts = by (range_of t.cells c.item) refl where
   by : (o : Option (ℕ × ℕ)) → range_of t.cells c.item ≡ o → Leaves P (on_range (ripple_end table c.track named t c.end c.by) o)
   by None f = tt

@@ -1,5 +1,5 @@
 -- A ripple keeps the tracks of a room together.
-use Rattle.std.proofs.Common.{List}
+use Rattle.std.proofs.Common.{List, false}
 use Rattle.composables.specs.declared.media.Table.{Table}
 use Rattle.composables.specs.TrackState.{TrackState}
 use Rattle.edit_trim.specs.Rippling.{ripple_own}
@@ -23,4 +23,4 @@ pub ripple-keeps : RippleKeepsTogether
 ripple-keeps table c =
     own-room table c.track (ripple_own table c)
     (λ all named t room names g e.
-    ripple-leaves (λ (news : List TrackState). StaysTogether all (with_tracks all news)) table c all named t names e (same_keeps table all named room names g) (shifts-together table all named room names g))
+    ripple-leaves (λ (news : List TrackState). StaysTogether all (with_tracks all news)) table c all named t names e (same_keeps table all named room names g) (shifts-together false table all named room names g))

@@ -138,14 +138,14 @@ module _ (h n : ℕ) where
 
   -- a splice
 
-  pub runs-spliced : (t : TrackState) (x y : ℕ) (views : List ItemView) → x ≤ y
-      → runs_in h n false (spliced_track t x y views).cells ≤ runs_in h n false t.cells + one h n (cell_at t.cells y).link + runs_in h n false (cells_of views)
-  runs-spliced t x y views le =
+  pub runs-spliced : (keep : Bool) (t : TrackState) (x y : ℕ) (views : List ItemView) → x ≤ y
+      → runs_in h n false (spliced_track keep t x y views).cells ≤ runs_in h n false t.cells + one h n (cell_at t.cells y).link + runs_in h n false (cells_of views)
+  runs-spliced keep t x y views le =
       omega (
         arith,
-        runs-append false (front_of t x y ++ cells_of views) (behind_of t x y views),
-        runs-append false (front_of t x y) (cells_of views),
-        runs-alike false (front_of t x y) (take x t.cells) (front-alike t x y),
-        runs-alike false (behind_of t x y views) (drop y t.cells) (behind-alike t x y views),
+        runs-append false (front_of keep t x y ++ cells_of views) (behind_of keep t x y views),
+        runs-append false (front_of keep t x y) (cells_of views),
+        runs-alike false (front_of keep t x y) (take x t.cells) (front-alike keep t x y),
+        runs-alike false (behind_of keep t x y views) (drop y t.cells) (behind-alike keep t x y views),
         runs-cut x y false t.cells le,
       )

@@ -1,5 +1,5 @@
 -- Edits that move what is behind them on all named tracks keep these together.
-use Rattle.std.proofs.Common.{◌≡◌, ℕ, ◌+◌, ◌<◌, ℤ, true, List, Option, Some, None, sym, ◌∙◌, IsBitSet}
+use Rattle.std.proofs.Common.{◌≡◌, ℕ, ◌+◌, ◌<◌, ℤ, true, List, Option, Some, None, sym, ◌∙◌, IsBitSet, Bool}
 use Rattle.frame_meaning.specs.declared.cells.Link.{Link}
 use Rattle.composables.specs.declared.media.Table.{Table}
 use Rattle.composables.specs.declared.refusals.Refusal.{Refusal}
@@ -32,15 +32,15 @@ own-room table own meant each all named room names g =
 
 -- a shift that moves something
 
-pub shifts-together : (table : Table) (all named : List TrackState) → IsRoom table all → AreNamed all named → Together all
-    → ByShifts (λ (news : List TrackState). StaysTogether all (with_tracks all news)) all named
-shifts-together table all named room names g ts own x y views done c =
-    shift-leaves (λ (news : List TrackState). StaysTogether all (with_tracks all news)) all named ts own x y views done c stays where
+pub shifts-together : (keep : Bool) (table : Table) (all named : List TrackState) → IsRoom table all → AreNamed all named → Together all
+    → ByShifts keep (λ (news : List TrackState). StaysTogether all (with_tracks all news)) all named
+shifts-together keep table all named room names g ts own x y views done c =
+    shift-leaves keep (λ (news : List TrackState). StaysTogether all (with_tracks all news)) all named ts own x y views done c stays where
       z : ℕ
       z = x + frames_in views
 
       us : List TrackState
-      us = shifted own x y views ts
+      us = shifted keep own x y views ts
 
       vs : List TrackState
       vs = links_split x z us
@@ -63,8 +63,8 @@ pub shifting-keeps : ShiftingKeepsTogether
 shifting-keeps = record {
   insert = λ table c. own-room table c.track (inserted table c)
       (λ all named t room names g e.
-      insert-leaves (λ (news : List TrackState). StaysTogether all (with_tracks all news)) table c all named t names e (shifts-together table all named room names g));
+      insert-leaves (λ (news : List TrackState). StaysTogether all (with_tracks all news)) table c all named t names e (shifts-together c.keep table all named room names g));
   extract = λ table c. own-room table c.track (extracted c)
       (λ all named t room names g e.
-      extract-leaves (λ (news : List TrackState). StaysTogether all (with_tracks all news)) c all named t names e (shifts-together table all named room names g));
+      extract-leaves (λ (news : List TrackState). StaysTogether all (with_tracks all news)) c all named t names e (shifts-together c.keep table all named room names g));
 }

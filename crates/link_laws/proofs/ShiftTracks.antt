@@ -40,9 +40,9 @@ few-none views bare = ([], omega arith, λ h n. omega (arith, runs-bare h n view
 pub few-one : (v : ItemView) → HasFew (v ∷ [])
 few-one v = (v.link ∷ [], omega arith, λ h n. omega (arith, runs-one h n v))
 
-pub shifts-in : (t : TrackState) (x y past z : ℕ) (views : List ItemView) (Put : Link → Option ℤ → Type 0) → x ≤ length t.cells → drop past t.cells ≡ drop y t.cells
-    → x + frames_in views ≡ z → ((l : Link) (o : Option ℤ) → Shows x (cells_of views) l o → Put l o) → x ≤ past → HasFew views → Shifts x y z Put t (spliced_track t x past views)
-shifts-in t x y past z views Put le same sum put order few = record {
+pub shifts-in : (keep : Bool) (t : TrackState) (x y past z : ℕ) (views : List ItemView) (Put : Link → Option ℤ → Type 0) → x ≤ length t.cells → drop past t.cells ≡ drop y t.cells
+    → x + frames_in views ≡ z → ((l : Link) (o : Option ℤ) → Shows x (cells_of views) l o → Put l o) → x ≤ past → HasFew views → Shifts x y z Put t (spliced_track keep t x past views)
+shifts-in keep t x y past z views Put le same sum put order few = record {
   low = low;
   high = high;
   back = back;
@@ -51,55 +51,55 @@ shifts-in t x y past z views Put le same sum put order few = record {
   put = (few.0, few.1, runs_low);
   parts = ((cell_at t.cells past).link ∷ [], omega arith, runs_parts);
 } where
-  parts : IsParted t x past z views
-  parts = is-parted t x past z views le sum
+  parts : IsParted keep t x past z views
+  parts = is-parted keep t x past z views le sum
 
-  low : (l : Link) (o : Option ℤ) → Shows 0 (take z (spliced_track t x past views).cells) l o → Shows 0 (take x t.cells) l o ⊎ Put l o
-  low l o h = by (shows-append 0 (front_of t x past) (cells_of views) l o (subst (λ (cs : List Cell). Shows 0 cs l o) parts.through h)) where
-    by : Shows 0 (front_of t x past) l o ⊎ Shows (0 + length (front_of t x past)) (cells_of views) l o → Shows 0 (take x t.cells) l o ⊎ Put l o
-    by (inl a) = inl (shows-alike 0 (front_of t x past) (take x t.cells) l o (front-alike t x past) a)
-    by (inr b) = inr (put l o (shows-at (0 + length (front_of t x past)) x (cells_of views) l o (omega (arith, parts.start)) b))
+  low : (l : Link) (o : Option ℤ) → Shows 0 (take z (spliced_track keep t x past views).cells) l o → Shows 0 (take x t.cells) l o ⊎ Put l o
+  low l o h = by (shows-append 0 (front_of keep t x past) (cells_of views) l o (subst (λ (cs : List Cell). Shows 0 cs l o) parts.through h)) where
+    by : Shows 0 (front_of keep t x past) l o ⊎ Shows (0 + length (front_of keep t x past)) (cells_of views) l o → Shows 0 (take x t.cells) l o ⊎ Put l o
+    by (inl a) = inl (shows-alike 0 (front_of keep t x past) (take x t.cells) l o (front-alike keep t x past) a)
+    by (inr b) = inr (put l o (shows-at (0 + length (front_of keep t x past)) x (cells_of views) l o (omega (arith, parts.start)) b))
 
-  high : (l : Link) (o : Option ℤ) → Shows z (drop z (spliced_track t x past views).cells) l o → (b : Option ℤ) × Shows y (drop y t.cells) l b × (o ≡ rebased y z b)
+  high : (l : Link) (o : Option ℤ) → Shows z (drop z (spliced_track keep t x past views).cells) l o → (b : Option ℤ) × Shows y (drop y t.cells) l b × (o ≡ rebased y z b)
   high l o h =
       shows-moved y z (drop y t.cells) l o
       (subst (λ (cs : List Cell). Shows z cs l o) same
-      (shows-alike z (behind_of t x past views) (drop past t.cells) l o (behind-alike t x past views) (subst (λ (cs : List Cell). Shows z cs l o) parts.behind h)))
+      (shows-alike z (behind_of keep t x past views) (drop past t.cells) l o (behind-alike keep t x past views) (subst (λ (cs : List Cell). Shows z cs l o) parts.behind h)))
 
-  back : (l : Link) (o : Option ℤ) → Shows 0 (take x t.cells) l o → Shows 0 (take x (spliced_track t x past views).cells) l o
+  back : (l : Link) (o : Option ℤ) → Shows 0 (take x t.cells) l o → Shows 0 (take x (spliced_track keep t x past views).cells) l o
   back l o h =
       subst (λ (cs : List Cell). Shows 0 cs l o) (sym parts.before)
-      (shows-alike 0 (take x t.cells) (front_of t x past) l o (alike-sym (front_of t x past) (take x t.cells) (front-alike t x past)) h)
+      (shows-alike 0 (take x t.cells) (front_of keep t x past) l o (alike-sym (front_of keep t x past) (take x t.cells) (front-alike keep t x past)) h)
 
-  forth : (l : Link) (o : Option ℤ) → Shows 0 (take x (spliced_track t x past views).cells) l o → Shows 0 (take x t.cells) l o
+  forth : (l : Link) (o : Option ℤ) → Shows 0 (take x (spliced_track keep t x past views).cells) l o → Shows 0 (take x t.cells) l o
   forth l o h =
-      shows-alike 0 (front_of t x past) (take x t.cells) l o (front-alike t x past) (subst (λ (cs : List Cell). Shows 0 cs l o) parts.before h)
+      shows-alike 0 (front_of keep t x past) (take x t.cells) l o (front-alike keep t x past) (subst (λ (cs : List Cell). Shows 0 cs l o) parts.before h)
 
-  runs_low : (h n : ℕ) → runs_in h n false (take z (spliced_track t x past views).cells) ≤ runs_in h n false (take x t.cells) + count h n few.0
+  runs_low : (h n : ℕ) → runs_in h n false (take z (spliced_track keep t x past views).cells) ≤ runs_in h n false (take x t.cells) + count h n few.0
   runs_low h n =
       omega (
         arith,
         ap (runs_in h n false) parts.through,
-        runs-append h n false (front_of t x past) (cells_of views),
-        runs-alike h n false (front_of t x past) (take x t.cells) (front-alike t x past),
+        runs-append h n false (front_of keep t x past) (cells_of views),
+        runs-alike h n false (front_of keep t x past) (take x t.cells) (front-alike keep t x past),
         few.2 h n,
       )
 
-  runs_parts : (h n : ℕ) → runs_in h n false (take x t.cells) + runs_in h n false (drop z (spliced_track t x past views).cells)
+  runs_parts : (h n : ℕ) → runs_in h n false (take x t.cells) + runs_in h n false (drop z (spliced_track keep t x past views).cells)
       ≤ runs_in h n false t.cells + count h n ((cell_at t.cells past).link ∷ [])
   runs_parts h n =
       omega (
         arith,
         ap (runs_in h n false) parts.behind,
-        runs-alike h n false (behind_of t x past views) (drop past t.cells) (behind-alike t x past views),
+        runs-alike h n false (behind_of keep t x past views) (drop past t.cells) (behind-alike keep t x past views),
         runs-cut h n x past false t.cells order,
       )
 
 -- a track that does not have the place
 
-shifts_past : (t : TrackState) (x y z k past : ℕ) (Put : Link → Option ℤ → Type 0) → length t.cells ≤ x → x ≤ z → k ≡ length t.cells → length t.cells ≤ past
-    → Shifts x y z Put t (spliced_track t k past [])
-shifts_past t x y z k past Put short le is beyond = record {
+shifts_past : (keep : Bool) (t : TrackState) (x y z k past : ℕ) (Put : Link → Option ℤ → Type 0) → length t.cells ≤ x → x ≤ z → k ≡ length t.cells → length t.cells ≤ past
+    → Shifts x y z Put t (spliced_track keep t k past [])
+shifts_past keep t x y z k past Put short le is beyond = record {
   low = low;
   high = high;
   back = back;
@@ -108,57 +108,57 @@ shifts_past t x y z k past Put short le is beyond = record {
   put = ([], omega arith, runs_low);
   parts = ([], omega arith, runs_parts);
 } where
-  same : Alike (spliced_track t k past []).cells t.cells
-  same = stays-past t k past is beyond
+  same : Alike (spliced_track keep t k past []).cells t.cells
+  same = stays-past keep t k past is beyond
 
-  long : length (spliced_track t k past []).cells ≡ length t.cells
-  long = alike-length (spliced_track t k past []).cells t.cells same
+  long : length (spliced_track keep t k past []).cells ≡ length t.cells
+  long = alike-length (spliced_track keep t k past []).cells t.cells same
 
-  low : (l : Link) (o : Option ℤ) → Shows 0 (take z (spliced_track t k past []).cells) l o → Shows 0 (take x t.cells) l o ⊎ Put l o
+  low : (l : Link) (o : Option ℤ) → Shows 0 (take z (spliced_track keep t k past []).cells) l o → Shows 0 (take x t.cells) l o ⊎ Put l o
   low l o h =
-      let shown = shows-take z 0 (spliced_track t k past []).cells l o h in
-      inl (subst (λ (cs : List Cell). Shows 0 cs l o) (sym (take_all x t.cells short)) (shows-alike 0 (spliced_track t k past []).cells t.cells l o same shown))
+      let shown = shows-take z 0 (spliced_track keep t k past []).cells l o h in
+      inl (subst (λ (cs : List Cell). Shows 0 cs l o) (sym (take_all x t.cells short)) (shows-alike 0 (spliced_track keep t k past []).cells t.cells l o same shown))
 
-  high : (l : Link) (o : Option ℤ) → Shows z (drop z (spliced_track t k past []).cells) l o → (b : Option ℤ) × Shows y (drop y t.cells) l b × (o ≡ rebased y z b)
+  high : (l : Link) (o : Option ℤ) → Shows z (drop z (spliced_track keep t k past []).cells) l o → (b : Option ℤ) × Shows y (drop y t.cells) l b × (o ≡ rebased y z b)
   high l o h =
-      absurd (subst (λ (cs : List Cell). Shows z cs l o) (drop_all z (spliced_track t k past []).cells (omega (arith, long, short, le))) h)
+      absurd (subst (λ (cs : List Cell). Shows z cs l o) (drop_all z (spliced_track keep t k past []).cells (omega (arith, long, short, le))) h)
 
-  back : (l : Link) (o : Option ℤ) → Shows 0 (take x t.cells) l o → Shows 0 (take x (spliced_track t k past []).cells) l o
+  back : (l : Link) (o : Option ℤ) → Shows 0 (take x t.cells) l o → Shows 0 (take x (spliced_track keep t k past []).cells) l o
   back l o h =
-      let shown = shows-alike 0 t.cells (spliced_track t k past []).cells l o (alike-sym (spliced_track t k past []).cells t.cells same) (shows-take x 0 t.cells l o h) in
-      subst (λ (cs : List Cell). Shows 0 cs l o) (sym (take_all x (spliced_track t k past []).cells (omega (arith, long, short)))) shown
+      let shown = shows-alike 0 t.cells (spliced_track keep t k past []).cells l o (alike-sym (spliced_track keep t k past []).cells t.cells same) (shows-take x 0 t.cells l o h) in
+      subst (λ (cs : List Cell). Shows 0 cs l o) (sym (take_all x (spliced_track keep t k past []).cells (omega (arith, long, short)))) shown
 
-  forth : (l : Link) (o : Option ℤ) → Shows 0 (take x (spliced_track t k past []).cells) l o → Shows 0 (take x t.cells) l o
+  forth : (l : Link) (o : Option ℤ) → Shows 0 (take x (spliced_track keep t k past []).cells) l o → Shows 0 (take x t.cells) l o
   forth l o h =
-      let shown = subst (λ (cs : List Cell). Shows 0 cs l o) (take_all x (spliced_track t k past []).cells (omega (arith, long, short))) h in
-      subst (λ (cs : List Cell). Shows 0 cs l o) (sym (take_all x t.cells short)) (shows-alike 0 (spliced_track t k past []).cells t.cells l o same shown)
+      let shown = subst (λ (cs : List Cell). Shows 0 cs l o) (take_all x (spliced_track keep t k past []).cells (omega (arith, long, short))) h in
+      subst (λ (cs : List Cell). Shows 0 cs l o) (sym (take_all x t.cells short)) (shows-alike 0 (spliced_track keep t k past []).cells t.cells l o same shown)
 
-  runs_low : (h n : ℕ) → runs_in h n false (take z (spliced_track t k past []).cells) ≤ runs_in h n false (take x t.cells) + count h n []
+  runs_low : (h n : ℕ) → runs_in h n false (take z (spliced_track keep t k past []).cells) ≤ runs_in h n false (take x t.cells) + count h n []
   runs_low h n =
       omega (
         arith,
-        ap (runs_in h n false) (take_all z (spliced_track t k past []).cells (omega (arith, long, short, le))),
+        ap (runs_in h n false) (take_all z (spliced_track keep t k past []).cells (omega (arith, long, short, le))),
         ap (runs_in h n false) (take_all x t.cells short),
-        runs-alike h n false (spliced_track t k past []).cells t.cells same,
+        runs-alike h n false (spliced_track keep t k past []).cells t.cells same,
       )
 
-  runs_parts : (h n : ℕ) → runs_in h n false (take x t.cells) + runs_in h n false (drop z (spliced_track t k past []).cells) ≤ runs_in h n false t.cells + count h n []
+  runs_parts : (h n : ℕ) → runs_in h n false (take x t.cells) + runs_in h n false (drop z (spliced_track keep t k past []).cells) ≤ runs_in h n false t.cells + count h n []
   runs_parts h n =
-      let none : runs_in h n false (drop z (spliced_track t k past []).cells) ≡ 0 = ap (runs_in h n false) (drop_all z (spliced_track t k past []).cells (omega (arith, long, short, le))) in
+      let none : runs_in h n false (drop z (spliced_track keep t k past []).cells) ≡ 0 = ap (runs_in h n false) (drop_all z (spliced_track keep t k past []).cells (omega (arith, long, short, le))) in
       omega (arith, none, ap (runs_in h n false) (take_all x t.cells short))
 
-shifts_along : (t : TrackState) (x y n : ℕ) (Put : Link → Option ℤ → Type 0) → x ≤ y → Shifts x y (x + n) Put t (shifted_along t x y n)
-shifts_along t x y n Put le = by (ltb x (length t.cells)) refl where
-  by : (b : Bool) → ltb x (length t.cells) ≡ b → Shifts x y (x + n) Put t (spliced_track t (min x (length t.cells)) (min y (length t.cells)) (cond b (gap_views n) []))
+shifts_along : (keep : Bool) (t : TrackState) (x y n : ℕ) (Put : Link → Option ℤ → Type 0) → x ≤ y → Shifts x y (x + n) Put t (shifted_along keep t x y n)
+shifts_along keep t x y n Put le = by (ltb x (length t.cells)) refl where
+  by : (b : Bool) → ltb x (length t.cells) ≡ b → Shifts x y (x + n) Put t (spliced_track keep t (min x (length t.cells)) (min y (length t.cells)) (cond b (gap_views n) []))
   by true e =
       let inside = ltb-true x (length t.cells) e in
       let at : x ≡ min x (length t.cells) = omega (arith, inside) in
-      subst (λ (k : ℕ). Shifts x y (x + n) Put t (spliced_track t k (min y (length t.cells)) (gap_views n))) at
-      (shifts-in t x y (min y (length t.cells)) (x + n) (gap_views n) Put (omega (arith, inside)) (drop-least y t.cells) (omega (arith, frames-gap n))
+      subst (λ (k : ℕ). Shifts x y (x + n) Put t (spliced_track keep t k (min y (length t.cells)) (gap_views n))) at
+      (shifts-in keep t x y (min y (length t.cells)) (x + n) (gap_views n) Put (omega (arith, inside)) (drop-least y t.cells) (omega (arith, frames-gap n))
       (λ l o h. absurd (shows-none x (gap_views n) l o (gap-bare n) h)) (omega (arith, inside, le)) (few-none (gap_views n) (gap-bare n)))
   by false e =
       let past = ltb-false x (length t.cells) e in
-      shifts_past t x y (x + n) (min x (length t.cells)) (min y (length t.cells)) Put (omega (arith, past)) (omega arith) (omega (arith, past)) (omega (arith, past, le))
+      shifts_past keep t x y (x + n) (min x (length t.cells)) (min y (length t.cells)) Put (omega (arith, past)) (omega arith) (omega (arith, past)) (omega (arith, past, le))
 
 -- all named tracks
 
@@ -167,24 +167,24 @@ abbrev pub HasPlace : ℕ → ℕ → List TrackState → Type 0
 HasPlace own x [] = Unit {0}
 HasPlace own x (t ∷ ts) = (t.number ≡ own → x ≤ length t.cells) × HasPlace own x ts
 
-pub shifts-one : (own x y : ℕ) (views : List ItemView) (Put : Link → Option ℤ → Type 0) (t : TrackState) → x ≤ y → (t.number ≡ own → x ≤ length t.cells)
-    → ((l : Link) (o : Option ℤ) → Shows x (cells_of views) l o → Put l o) → HasFew views → Shifts x y (x + frames_in views) Put t (shifted_track own x y views t)
-shifts-one own x y views Put t le has put few = by (eqb t.number own) refl where
-  by : (b : Bool) → eqb t.number own ≡ b → Shifts x y (x + frames_in views) Put t (cond b (spliced_track t x y views) (shifted_along t x y (frames_in views)))
-  by true e = shifts-in t x y y (x + frames_in views) views Put (has (eqb-true t.number own e)) refl refl put le few
-  by false e = shifts_along t x y (frames_in views) Put le
+pub shifts-one : (keep : Bool) (own x y : ℕ) (views : List ItemView) (Put : Link → Option ℤ → Type 0) (t : TrackState) → x ≤ y → (t.number ≡ own → x ≤ length t.cells)
+    → ((l : Link) (o : Option ℤ) → Shows x (cells_of views) l o → Put l o) → HasFew views → Shifts x y (x + frames_in views) Put t (shifted_track keep own x y views t)
+shifts-one keep own x y views Put t le has put few = by (eqb t.number own) refl where
+  by : (b : Bool) → eqb t.number own ≡ b → Shifts x y (x + frames_in views) Put t (cond b (spliced_track keep t x y views) (shifted_along keep t x y (frames_in views)))
+  by true e = shifts-in keep t x y y (x + frames_in views) views Put (has (eqb-true t.number own e)) refl refl put le few
+  by false e = shifts_along keep t x y (frames_in views) Put le
 
-pub shifted-number : (own x y : ℕ) (views : List ItemView) (t : TrackState) → (shifted_track own x y views t).number ≡ t.number
-shifted-number own x y views t = by (eqb t.number own) where
-  by : (b : Bool) → (cond b (spliced_track t x y views) (shifted_along t x y (frames_in views))).number ≡ t.number
+pub shifted-number : (keep : Bool) (own x y : ℕ) (views : List ItemView) (t : TrackState) → (shifted_track keep own x y views t).number ≡ t.number
+shifted-number keep own x y views t = by (eqb t.number own) where
+  by : (b : Bool) → (cond b (spliced_track keep t x y views) (shifted_along keep t x y (frames_in views))).number ≡ t.number
   by true = refl
   by false = refl
 
-pub shifts-each : (own x y : ℕ) (views : List ItemView) (Put : Link → Option ℤ → Type 0) (ts : List TrackState) → x ≤ y → HasPlace own x ts
-    → ((l : Link) (o : Option ℤ) → Shows x (cells_of views) l o → Put l o) → HasFew views → Each (Shifts x y (x + frames_in views) Put) ts (shifted own x y views ts)
-shifts-each own x y views Put [] le has put few = tt
-shifts-each own x y views Put (t ∷ ts) le has put few =
-    (shifted-number own x y views t, shifts-one own x y views Put t le has.0 put few, shifts-each own x y views Put ts le has.1 put few)
+pub shifts-each : (keep : Bool) (own x y : ℕ) (views : List ItemView) (Put : Link → Option ℤ → Type 0) (ts : List TrackState) → x ≤ y → HasPlace own x ts
+    → ((l : Link) (o : Option ℤ) → Shows x (cells_of views) l o → Put l o) → HasFew views → Each (Shifts x y (x + frames_in views) Put) ts (shifted keep own x y views ts)
+shifts-each keep own x y views Put [] le has put few = tt
+shifts-each keep own x y views Put (t ∷ ts) le has put few =
+    (shifted-number keep own x y views t, shifts-one keep own x y views Put t le has.0 put few, shifts-each keep own x y views Put ts le has.1 put few)
 
 pub has-place : (all : List TrackState) (own x : ℕ) (ts : List TrackState) (t : TrackState) → AreAmong all ts → track_numbered own all ≡ Some t → x ≤ length t.cells → HasPlace own x ts
 has-place all own x [] t a e le = tt

@@ -238,13 +238,13 @@ two_runs : (h n : ℕ) (v w : ItemView) → runs_in h n false (cells_of (v ∷ w
 two_runs h n v w =
     omega (arith, runs-append h n false (view_cells v) (cells_of (w ∷ [])), runs-all h n false v.link (view_cells v) (view-have h n v), runs-one h n w)
 
-spliced_light : (t : TrackState) (x y : ℕ) (v w : ItemView) → x ≤ y → Light t (spliced_track t x y (v ∷ w ∷ []))
+spliced_light : (t : TrackState) (x y : ℕ) (v w : ItemView) → x ≤ y → Light t (spliced_track false t x y (v ∷ w ∷ []))
 spliced_light t x y v w le =
-    (refl, ((cell_at t.cells y).link ∷ v.link ∷ w.link ∷ [], omega arith, λ h n. omega (arith, runs-spliced h n t x y (v ∷ w ∷ []) le, two_runs h n v w)))
+    (refl, ((cell_at t.cells y).link ∷ v.link ∷ w.link ∷ [], omega arith, λ h n. omega (arith, runs-spliced h n false t x y (v ∷ w ∷ []) le, two_runs h n v w)))
 
 later_moved : (t : TrackState) (x y n : ℕ) (m : Link) (o : Option ℤ) → 0 < x → x < y → y + n ≤ length t.cells → Shows 0 (slid_later t x y n).cells m o
     → Moved t.cells (cell_at t.cells x).link (offset_of (cell_at t.cells x).side (x + n)) x y m o
-later_moved t x y n m o some less within h = by (spliced-parts t x (y + n) (v ∷ w ∷ []) m o h) where
+later_moved t x y n m o some less within h = by (spliced-parts false t x (y + n) (v ∷ w ∷ []) m o h) where
   v : ItemView
   v = going_on (cell_at t.cells (x - 1)) n
 
@@ -279,7 +279,7 @@ later_moved t x y n m o some less within h = by (spliced-parts t x (y + n) (v �
 
 earlier_moved : (table : Table) (t : TrackState) (x y n : ℕ) (m : Link) (o : Option ℤ) → n ≤ x → x < y → y ≤ length t.cells → has_before table (cell_at t.cells y).side n ≡ true
     → Shows 0 (slid_earlier t x y n).cells m o → Moved t.cells (cell_at t.cells x).link (offset_of (cell_at t.cells x).side (x - n)) x y m o
-earlier_moved table t x y n m o le less within has h = by (spliced-parts t (x - n) y (w ∷ v ∷ []) m o h) where
+earlier_moved table t x y n m o le less within has h = by (spliced-parts false t (x - n) y (w ∷ v ∷ []) m o h) where
   w : ItemView
   w = bare_item (cell_at t.cells x) (y - x)
 

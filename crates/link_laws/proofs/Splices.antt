@@ -35,34 +35,34 @@ use Rattle.link_laws.proofs.Tied.{Keeps}
 abbrev pub start_of : TrackState → ℕ → ℕ
 start_of t x = length (take x t.cells)
 
-pub spliced-parts : (t : TrackState) (x y : ℕ) (views : List ItemView) (l : Link) (o : Option ℤ) → Shows 0 (spliced_track t x y views).cells l o
+pub spliced-parts : (keep : Bool) (t : TrackState) (x y : ℕ) (views : List ItemView) (l : Link) (o : Option ℤ) → Shows 0 (spliced_track keep t x y views).cells l o
     → Shows 0 (take x t.cells) l o ⊎ (Shows (start_of t x) (cells_of views) l o ⊎ Shows (start_of t x + frames_in views) (drop y t.cells) l o)
-spliced-parts t x y views l o h = outer (shows-append 0 (front_of t x y ++ cells_of views) (behind_of t x y views) l o h) where
-  same : length (front_of t x y) ≡ start_of t x
-  same = alike-length (front_of t x y) (take x t.cells) (front-alike t x y)
+spliced-parts keep t x y views l o h = outer (shows-append 0 (front_of keep t x y ++ cells_of views) (behind_of keep t x y views) l o h) where
+  same : length (front_of keep t x y) ≡ start_of t x
+  same = alike-length (front_of keep t x y) (take x t.cells) (front-alike keep t x y)
 
   Found : Type 0
   Found = Shows 0 (take x t.cells) l o ⊎ (Shows (start_of t x) (cells_of views) l o ⊎ Shows (start_of t x + frames_in views) (drop y t.cells) l o)
 
-  inner : Shows 0 (front_of t x y) l o ⊎ Shows (0 + length (front_of t x y)) (cells_of views) l o → Found
-  inner (inl a) = inl (shows-alike 0 (front_of t x y) (take x t.cells) l o (front-alike t x y) a)
-  inner (inr m) = inr (inl (shows-at (0 + length (front_of t x y)) (start_of t x) (cells_of views) l o (omega (arith, same)) m))
+  inner : Shows 0 (front_of keep t x y) l o ⊎ Shows (0 + length (front_of keep t x y)) (cells_of views) l o → Found
+  inner (inl a) = inl (shows-alike 0 (front_of keep t x y) (take x t.cells) l o (front-alike keep t x y) a)
+  inner (inr m) = inr (inl (shows-at (0 + length (front_of keep t x y)) (start_of t x) (cells_of views) l o (omega (arith, same)) m))
 
-  outer : Shows 0 (front_of t x y ++ cells_of views) l o ⊎ Shows (0 + length (front_of t x y ++ cells_of views)) (behind_of t x y views) l o → Found
-  outer (inl a) = inner (shows-append 0 (front_of t x y) (cells_of views) l o a)
+  outer : Shows 0 (front_of keep t x y ++ cells_of views) l o ⊎ Shows (0 + length (front_of keep t x y ++ cells_of views)) (behind_of keep t x y views) l o → Found
+  outer (inl a) = inner (shows-append 0 (front_of keep t x y) (cells_of views) l o a)
   outer (inr b) =
-      let e : 0 + length (front_of t x y ++ cells_of views) ≡ start_of t x + frames_in views = omega (arith, same, length-append (front_of t x y) (cells_of views), length-cells_of views) in
-      let there = shows-at (0 + length (front_of t x y ++ cells_of views)) (start_of t x + frames_in views) (behind_of t x y views) l o e b in
-      inr (inr (shows-alike (start_of t x + frames_in views) (behind_of t x y views) (drop y t.cells) l o (behind-alike t x y views) there))
+      let e : 0 + length (front_of keep t x y ++ cells_of views) ≡ start_of t x + frames_in views = omega (arith, same, length-append (front_of keep t x y) (cells_of views), length-cells_of views) in
+      let there = shows-at (0 + length (front_of keep t x y ++ cells_of views)) (start_of t x + frames_in views) (behind_of keep t x y views) l o e b in
+      inr (inr (shows-alike (start_of t x + frames_in views) (behind_of keep t x y views) (drop y t.cells) l o (behind-alike keep t x y views) there))
 
 -- where what stands behind the range stays at its place, or nothing does, and what is put in has no other link or offset
-pub keeps-spliced : (t : TrackState) (x y : ℕ) (views : List ItemView) → x ≤ length t.cells → (x + frames_in views ≡ y) ⊎ (length t.cells ≤ y)
+pub keeps-spliced : (keep : Bool) (t : TrackState) (x y : ℕ) (views : List ItemView) → x ≤ length t.cells → (x + frames_in views ≡ y) ⊎ (length t.cells ≤ y)
     → ((l : Link) (o : Option ℤ) → Shows x (cells_of views) l o → Shows 0 t.cells l o)
-    → (ws : List (Option Link)) → length ws ≤ 3 → ((h n : ℕ) → runs_in h n false (cells_of views) ≤ count h n ws) → Keeps t (spliced_track t x y views)
-keeps-spliced t x y views le way each ws few put = record {
-  shows = λ l o h. by l o way (spliced-parts t x y views l o h);
+    → (ws : List (Option Link)) → length ws ≤ 3 → ((h n : ℕ) → runs_in h n false (cells_of views) ≤ count h n ws) → Keeps t (spliced_track keep t x y views)
+keeps-spliced keep t x y views le way each ws few put = record {
+  shows = λ l o h. by l o way (spliced-parts keep t x y views l o h);
   next = refl;
-  grown = ((cell_at t.cells y).link ∷ ws, omega (arith, few), λ h n. omega (arith, runs-spliced h n t x y views (order way), put h n));
+  grown = ((cell_at t.cells y).link ∷ ws, omega (arith, few), λ h n. omega (arith, runs-spliced h n keep t x y views (order way), put h n));
 } where
   order : (x + frames_in views ≡ y) ⊎ (length t.cells ≤ y) → x ≤ y
   order (inl e) = omega (arith, e)
@@ -80,15 +80,15 @@ keeps-spliced t x y views le way each ws few put = record {
   by l o (inr past) (inr (inr b)) = absurd (subst (λ (cs : List Cell). Shows (start_of t x + frames_in views) cs l o) (drop_all y t.cells past) b)
 
 -- without links in what is put in
-pub keeps-bare : (t : TrackState) (x y : ℕ) (views : List ItemView) → x ≤ length t.cells → (x + frames_in views ≡ y) ⊎ (length t.cells ≤ y) → AllUnlinked views
-    → Keeps t (spliced_track t x y views)
-keeps-bare t x y views le way bare =
-    keeps-spliced t x y views le way (λ l o h. absurd (shows-none x views l o bare h)) [] (omega arith) (λ h n. omega (arith, runs-bare h n views bare))
+pub keeps-bare : (keep : Bool) (t : TrackState) (x y : ℕ) (views : List ItemView) → x ≤ length t.cells → (x + frames_in views ≡ y) ⊎ (length t.cells ≤ y) → AllUnlinked views
+    → Keeps t (spliced_track keep t x y views)
+keeps-bare keep t x y views le way bare =
+    keeps-spliced keep t x y views le way (λ l o h. absurd (shows-none x views l o bare h)) [] (omega arith) (λ h n. omega (arith, runs-bare h n views bare))
 
 -- with one item or gap put in
-pub keeps-one : (t : TrackState) (x y : ℕ) (v : ItemView) → x ≤ length t.cells → (x + frames_in (v ∷ []) ≡ y) ⊎ (length t.cells ≤ y)
-    → ((l : Link) (o : Option ℤ) → Shows x (cells_of (v ∷ [])) l o → Shows 0 t.cells l o) → Keeps t (spliced_track t x y (v ∷ []))
-keeps-one t x y v le way each = keeps-spliced t x y (v ∷ []) le way each (v.link ∷ []) (omega arith) (λ h n. omega (arith, runs-one h n v))
+pub keeps-one : (keep : Bool) (t : TrackState) (x y : ℕ) (v : ItemView) → x ≤ length t.cells → (x + frames_in (v ∷ []) ≡ y) ⊎ (length t.cells ≤ y)
+    → ((l : Link) (o : Option ℤ) → Shows x (cells_of (v ∷ [])) l o → Shows 0 t.cells l o) → Keeps t (spliced_track keep t x y (v ∷ []))
+keeps-one keep t x y v le way each = keeps-spliced keep t x y (v ∷ []) le way each (v.link ∷ []) (omega arith) (λ h n. omega (arith, runs-one h n v))
 
 -- dark frames have no run of a link
 pub dark-runs : (h n k : ℕ) (b : Bool) → runs_in h n b (cells_of (gap_views k)) ≤ 0

@@ -6,7 +6,7 @@ ghost use Rattle.composables.specs.Views.{clip_view, gap_view};
 ghost use Rattle.edit_splice.specs.NewItems.{AreNew};
 
 use composables::{ItemView, Memory, Track, a_track_is_kept};
-use edit_splice::{count_after, spare_for, splice, splice_in};
+use edit_splice::{count_after, spare_for, splice, splice_in, splice_keeping};
 use frame_meaning::{Cell, Link, Mark, Side, What};
 use std::alloc::Global;
 use std::marker::Brand;
@@ -97,6 +97,22 @@ fn linked(alloc: Global) -> Result<Vec<ItemView>, Memory>
     Ok(Vec::from_slice(alloc, &views)?)
 }
 
+// Items of four and seven frames, a gap of four and an item of three, 18 frames in all, with a dissolve at each cut that
+// has frames for most of what stands beside it.
+fn wide(alloc: Global) -> Result<Vec<ItemView>, Memory>
+    ensures new { IfOk result (λ views. AreNew 0 views.items) }
+    ensures numbers { IfOk result (λ views. NumbersBelow 100 views.items) }
+    ensures frames { IfOk result (λ views. frames_in views.items < 100) }
+{
+    let views = [
+        item(0, 50, 4),
+        marked(item(1, 200, 7), 4, 4),
+        marked(dark(4), 3, 0),
+        marked(item(2, 300, 3), 4, 3),
+    ];
+    Ok(Vec::from_slice(alloc, &views)?)
+}
+
 // New items: none.
 fn nothing(alloc: Global) -> Vec<ItemView>
     ensures new { AreNew 4 result.items }
@@ -125,23 +141,59 @@ fn three(alloc: Global) -> Result<Vec<ItemView>, Memory>
     Ok(Vec::from_slice(alloc, &views)?)
 }
 
-// A splice frame by frame.
+// What a splice of the places [x, y) leaves of a dissolve at a place before them: all of it where it ends by x, and
+// else what ends there, if dissolves are kept.
+fn left_before(place: usize, x: usize, keep: bool, mark: Option<Mark>) -> Option<Mark> {
+    let mark = mark?;
+    let room = x.saturating_sub(place);
+    if mark.b as usize <= room {
+        Some(mark)
+    } else if keep {
+        Some(Mark {
+            b: u32::try_from(room).unwrap_or(mark.b),
+            ..mark
+        })
+    } else {
+        None
+    }
+}
+
+// What it leaves of one at a place from y on: none of it at y itself, all of it where it begins at y or later, and else
+// what begins there, if dissolves are kept.
+fn left_behind(place: usize, y: usize, keep: bool, mark: Option<Mark>) -> Option<Mark> {
+    let mark = mark?;
+    let room = place.saturating_sub(y);
+    if room == 0 {
+        None
+    } else if mark.a as usize <= room {
+        Some(mark)
+    } else if keep {
+        Some(Mark {
+            a: u32::try_from(room).unwrap_or(mark.a),
+            ..mark
+        })
+    } else {
+        None
+    }
+}
+
+// A splice frame by frame, which keeps dissolves as far as there is room for them or does not.
 fn plain_splice(
     alloc: Global,
     cells: &[Cell],
-    x: usize,
-    y: usize,
+    range: (usize, usize),
+    keep: bool,
     middle: &[Cell],
     fresh: u32,
 ) -> Result<Vec<Cell>, Memory> {
+    let (x, y) = range;
     let mut after = Vec::new(alloc);
     let mut last = None;
     for (place, cell) in cells.iter().enumerate() {
         if place < x {
             last = cell.item;
-            let stays = |mark: &Mark| place < x && place.saturating_add(mark.b as usize) <= x;
             after.push(Cell {
-                mark: cell.mark.filter(stays),
+                mark: left_before(place, x, keep, cell.mark),
                 ..*cell
             })?;
         }
@@ -150,10 +202,9 @@ fn plain_splice(
     for (place, cell) in cells.iter().enumerate() {
         if y <= place {
             let split = cell.item.is_some() && cell.item == last;
-            let stays = |mark: &Mark| y < place && y.saturating_add(mark.a as usize) <= place;
             after.push(Cell {
                 item: if split { Some(fresh) } else { cell.item },
-                mark: cell.mark.filter(stays),
+                mark: left_behind(place, y, keep, cell.mark),
                 ..*cell
             })?;
         }
@@ -182,6 +233,7 @@ fn put<L: Ledger>(
     track: &mut Track,
     x: u32,
     y: u32,
+    keep: bool,
     views: &[ItemView],
     steps: &mut Steps<L>,
 ) -> Result<(), Memory>
@@ -194,7 +246,11 @@ fn put<L: Ledger>(
     requires frames { frames_in views.now < 100 }
 {
     a_track_is_kept(track);
-    splice(alloc, track, x, y, views, steps)
+    if keep {
+        splice_keeping(alloc, track, x, y, views, steps)
+    } else {
+        splice(alloc, track, x, y, views, steps)
+    }
 }
 
 // The same in memory that was taken before, with how many items and gaps it was to leave.
@@ -203,6 +259,7 @@ fn put_in<L: Ledger>(
     track: &mut Track,
     x: u32,
     y: u32,
+    keep: bool,
     views: &[ItemView],
     steps: &mut Steps<L>,
 ) -> Result<u32, Memory>
@@ -217,7 +274,7 @@ fn put_in<L: Ledger>(
     a_track_is_kept(track);
     let count = count_after(track, x, y, views, steps);
     let spare = spare_for(alloc, track, views.len() as u32)?;
-    splice_in(track, x, y, views, spare, steps);
+    splice_in(track, x, y, keep, views, spare, steps);
     Ok(count)
 }
 
@@ -242,6 +299,7 @@ fn play<L: Ledger>(
     before: &[ItemView],
     x: u32,
     y: u32,
+    keep: bool,
     views: &[ItemView],
 ) -> Result<Played, Memory>
     requires blank { (blank.name ≡ L.name) × (blank.parts ≡ L.parts) × (0 < blank.parts) }
@@ -260,15 +318,16 @@ fn play<L: Ledger>(
     for view in views {
         fresh = fresh.max(view.item.unwrap_or(0).saturating_add(1));
     }
-    let want = plain_splice(alloc, &cells, x as usize, y as usize, &middle, fresh)?;
+    let range = (x as usize, y as usize);
+    let want = plain_splice(alloc, &cells, range, keep, &middle, fresh)?;
     let (length, next) = (track.length(), track.next_item());
     assert!(rt; length <= 100);
     assert!(rt; next <= 4);
     assert!(rt; x <= y);
     assert!(rt; y <= length);
     let mut other = track.copy(alloc)?;
-    put(alloc, &mut track, x, y, views, &mut steps)?;
-    let count = put_in(alloc, &mut other, x, y, views, &mut steps)?;
+    put(alloc, &mut track, x, y, keep, views, &mut steps)?;
+    let count = put_in(alloc, &mut other, x, y, keep, views, &mut steps)?;
     Ok(Played {
         items: track.items(alloc)?,
         in_spare: other.items(alloc)?,
@@ -286,6 +345,7 @@ fn agrees(
     before: &[ItemView],
     x: u32,
     y: u32,
+    keep: bool,
     views: &[ItemView],
 ) -> Result<(), Memory>
     requires old { AreNew 0 before.now }
@@ -295,21 +355,21 @@ fn agrees(
     requires numbers { NumbersBelow 100 views.now }
     requires frames { frames_in views.now < 100 }
 {
-    let played = play::<Brand>(rt, alloc, Blank::new(1), before, x, y, views)?;
+    let played = play::<Brand>(rt, alloc, Blank::new(1), before, x, y, keep, views)?;
     assert_eq!(rt;
         played.cells.as_slice(),
         played.want.as_slice(),
-        "splice {x} {y}"
+        "splice {x} {y} {keep}"
     );
     assert_eq!(rt;
         played.in_spare.as_slice(),
         played.items.as_slice(),
-        "splice {x} {y} in spare memory"
+        "splice {x} {y} {keep} in spare memory"
     );
     assert_eq!(rt;
         played.count as usize,
         played.items.len(),
-        "count after splice {x} {y}"
+        "count after splice {x} {y} {keep}"
     );
     let split = played
         .want
@@ -320,21 +380,27 @@ fn agrees(
     } else {
         played.fresh
     };
-    assert_eq!(rt; played.next, next, "splice {x} {y}");
+    assert_eq!(rt; played.next, next, "splice {x} {y} {keep}");
     Ok(())
 }
 
 // All splices of a track of this many frames.
-fn all_agree(rt: &impl Abort, alloc: Global, before: &[ItemView], frames: u32) -> Result<(), Memory>
+fn all_agree(
+    rt: &impl Abort,
+    alloc: Global,
+    before: &[ItemView],
+    frames: u32,
+    keep: bool,
+) -> Result<(), Memory>
     requires old { AreNew 0 before.now }
     requires old_numbers { NumbersBelow 100 before.now }
     requires old_frames { frames_in before.now < 100 }
 {
     for y in 0..=frames {
         for x in 0..=y {
-            agrees(rt, alloc, before, x, y, &nothing(alloc))?;
-            agrees(rt, alloc, before, x, y, &one(alloc)?)?;
-            agrees(rt, alloc, before, x, y, &three(alloc)?)?;
+            agrees(rt, alloc, before, x, y, keep, &nothing(alloc))?;
+            agrees(rt, alloc, before, x, y, keep, &one(alloc)?)?;
+            agrees(rt, alloc, before, x, y, keep, &three(alloc)?)?;
         }
     }
     Ok(())
@@ -343,9 +409,12 @@ fn all_agree(rt: &impl Abort, alloc: Global, before: &[ItemView], frames: u32) -
 #[test]
 fn all_splices_are_those_of_the_plain_program(rt: HostRuntime) -> Result<(), Fail> {
     let alloc = rt.alloc();
-    all_agree(&rt, alloc, &base(alloc)?, 14)?;
-    all_agree(&rt, alloc, &linked(alloc)?, 8)?;
-    all_agree(&rt, alloc, &[dark(3)], 3)?;
+    for keep in [false, true] {
+        all_agree(&rt, alloc, &base(alloc)?, 14, keep)?;
+        all_agree(&rt, alloc, &linked(alloc)?, 8, keep)?;
+        all_agree(&rt, alloc, &wide(alloc)?, 18, keep)?;
+        all_agree(&rt, alloc, &[dark(3)], 3, keep)?;
+    }
     Ok(())
 }
 
@@ -353,6 +422,7 @@ fn shows(
     rt: &impl Abort,
     alloc: Global,
     range: (u32, u32),
+    keep: bool,
     views: &[ItemView],
     want: &[ItemView],
     next: u32,
@@ -362,7 +432,7 @@ fn shows(
     requires frames { frames_in views.now < 100 }
 {
     let (x, y) = range;
-    let played = play::<Brand>(rt, alloc, Blank::new(1), &base(alloc)?, x, y, views)?;
+    let played = play::<Brand>(rt, alloc, Blank::new(1), &base(alloc)?, x, y, keep, views)?;
     assert_eq!(rt; played.items.as_slice(), want, "splice {x} {y}");
     assert_eq!(rt; played.next, next, "splice {x} {y}");
     Ok(())
@@ -384,6 +454,7 @@ fn a_splice_cuts_drops_and_renumbers(rt: HostRuntime) -> Result<(), Fail> {
         &rt,
         alloc,
         (4, 4),
+        false,
         &nothing(alloc),
         &[
             gap,
@@ -401,6 +472,7 @@ fn a_splice_cuts_drops_and_renumbers(rt: HostRuntime) -> Result<(), Fail> {
         &rt,
         alloc,
         (3, 3),
+        false,
         &one(alloc)?,
         &[
             gap,
@@ -419,6 +491,7 @@ fn a_splice_cuts_drops_and_renumbers(rt: HostRuntime) -> Result<(), Fail> {
         &rt,
         alloc,
         (5, 5),
+        false,
         &nothing(alloc),
         &[
             gap,
@@ -436,6 +509,7 @@ fn a_splice_cuts_drops_and_renumbers(rt: HostRuntime) -> Result<(), Fail> {
         &rt,
         alloc,
         (6, 6),
+        false,
         &nothing(alloc),
         &[gap, first, item(1, 100, 3), dip, third, fourth],
         4,
@@ -445,6 +519,7 @@ fn a_splice_cuts_drops_and_renumbers(rt: HostRuntime) -> Result<(), Fail> {
         &rt,
         alloc,
         (2, 6),
+        false,
         &one(alloc)?,
         &[gap, item(4, 500, 2), item(1, 100, 3), dip, third, fourth],
         5,
@@ -454,6 +529,7 @@ fn a_splice_cuts_drops_and_renumbers(rt: HostRuntime) -> Result<(), Fail> {
         &rt,
         alloc,
         (10, 10),
+        false,
         &nothing(alloc),
         &[gap, first, second, dip, third, fourth],
         4,
@@ -463,6 +539,7 @@ fn a_splice_cuts_drops_and_renumbers(rt: HostRuntime) -> Result<(), Fail> {
         &rt,
         alloc,
         (1, 12),
+        false,
         &three(alloc)?,
         &[
             gap,
@@ -478,6 +555,7 @@ fn a_splice_cuts_drops_and_renumbers(rt: HostRuntime) -> Result<(), Fail> {
         &rt,
         alloc,
         (0, 0),
+        false,
         &one(alloc)?,
         &[item(4, 500, 2), gap, first, second, dip, third, fourth],
         5,
@@ -486,11 +564,104 @@ fn a_splice_cuts_drops_and_renumbers(rt: HostRuntime) -> Result<(), Fail> {
         &rt,
         alloc,
         (14, 14),
+        false,
         &one(alloc)?,
         &[gap, first, second, dip, third, fourth, item(4, 500, 2)],
         5,
     )?;
-    shows(&rt, alloc, (0, 14), &three(alloc)?, &three(alloc)?, 10)?;
-    shows(&rt, alloc, (0, 14), &nothing(alloc), &[], 4)?;
+    shows(
+        &rt,
+        alloc,
+        (0, 14),
+        false,
+        &three(alloc)?,
+        &three(alloc)?,
+        10,
+    )?;
+    shows(&rt, alloc, (0, 14), false, &nothing(alloc), &[], 4)?;
+    Ok(())
+}
+
+#[test]
+fn a_splice_that_keeps_dissolves_shortens_them(rt: HostRuntime) -> Result<(), Fail> {
+    let alloc = rt.alloc();
+    let [gap, second, dip, third, fourth] = [
+        dark(2),
+        marked(item(1, 100, 3), 2, 1),
+        marked(dark(2), 1, 1),
+        item(2, 7, 2),
+        marked(item(3, 7, 1), 0, 1),
+    ];
+    // a frame before the end of the dissolve before it
+    shows(
+        &rt,
+        alloc,
+        (3, 3),
+        true,
+        &one(alloc)?,
+        &[
+            gap,
+            marked(item(0, 50, 1), 1, 1),
+            item(4, 500, 2),
+            item(5, 51, 3),
+            second,
+            dip,
+            third,
+            fourth,
+        ],
+        6,
+    )?;
+    // a frame behind the start of the one behind it
+    shows(
+        &rt,
+        alloc,
+        (5, 5),
+        true,
+        &nothing(alloc),
+        &[
+            gap,
+            marked(item(0, 50, 3), 1, 2),
+            item(4, 53, 1),
+            marked(item(1, 100, 3), 1, 1),
+            dip,
+            third,
+            fourth,
+        ],
+        5,
+    )?;
+    // at a cut its own dissolve goes, and over a cut too
+    shows(
+        &rt,
+        alloc,
+        (6, 6),
+        true,
+        &nothing(alloc),
+        &[
+            gap,
+            marked(item(0, 50, 4), 1, 2),
+            item(1, 100, 3),
+            dip,
+            third,
+            fourth,
+        ],
+        4,
+    )?;
+    shows(
+        &rt,
+        alloc,
+        (3, 8),
+        true,
+        &one(alloc)?,
+        &[
+            gap,
+            marked(item(0, 50, 1), 1, 1),
+            item(4, 500, 2),
+            item(1, 102, 1),
+            dip,
+            third,
+            fourth,
+        ],
+        5,
+    )?;
     Ok(())
 }

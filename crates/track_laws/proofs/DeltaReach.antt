@@ -7,7 +7,7 @@ use Rattle.frame_meaning.specs.declared.cells.Cell.{Cell}
 use Rattle.frame_meaning.specs.declared.cells.Link.{Link}
 use Rattle.frame_meaning.specs.Cells.{belong, same_number}
 use Rattle.frame_meaning.specs.Render.{cell_at}
-use Rattle.frame_meaning.specs.Splice.{kept_or_dropped}
+use Rattle.frame_meaning.specs.Splice.{rule_of}
 use Rattle.composables.specs.declared.items.ItemView.{ItemView}
 use Rattle.composables.specs.declared.media.Table.{Table}
 use Rattle.composables.specs.declared.refusals.Done.{Done}
@@ -85,26 +85,26 @@ item_apart table t i v x y good s some e =
 
 -- the item that has reached back stands on one side of the place at which it is split
 own_uncut : (table : Table) (t : TrackState) (i : ℕ) (v g : ItemView) (x y : ℕ) → IsGood table t → Spot table t i v x y → 0 < g.len → g.item ≡ v.item
-    → IsKept (spliced_track t x x (g ∷ [])) → IsUncut x (spliced_track t x x (g ∷ []))
-own_uncut table t i v g x y good s some item after = uncut-by (spliced_track t x x (g ∷ [])) x after between where
+    → IsKept (spliced_track false t x x (g ∷ [])) → IsUncut x (spliced_track false t x x (g ∷ []))
+own_uncut table t i v g x y good s some item after = uncut-by (spliced_track false t x x (g ∷ [])) x after between where
   le : x ≤ length t.cells
   le = omega (arith, s.within, s.long)
 
   zero_at : x + 0 ≡ x
   zero_at = omega arith
 
-  between : 0 < x → x < length (spliced_track t x x (g ∷ [])).cells
-      → (cell_at (spliced_track t x x (g ∷ [])).cells (x - 1)).item ≡ (cell_at (spliced_track t x x (g ∷ [])).cells x).item
-      → (cell_at (spliced_track t x x (g ∷ [])).cells x).item ≡ None
+  between : 0 < x → x < length (spliced_track false t x x (g ∷ [])).cells
+      → (cell_at (spliced_track false t x x (g ∷ [])).cells (x - 1)).item ≡ (cell_at (spliced_track false t x x (g ∷ [])).cells x).item
+      → (cell_at (spliced_track false t x x (g ∷ [])).cells x).item ≡ None
   between start inside eq = absurd (item_apart table t i v x y good s start (sym first ∙ (eq ∙ second))) where
-    second : (cell_at (spliced_track t x x (g ∷ [])).cells x).item ≡ v.item
+    second : (cell_at (spliced_track false t x x (g ∷ [])).cells x).item ≡ v.item
     second =
-        ap (λ (k : ℕ). (cell_at (spliced_track t x x (g ∷ [])).cells k).item) (sym zero_at)
-        ∙ (ap (λ (c : Cell). c.item) (cell-between kept_or_dropped t.cells x x (cells_of (g ∷ [])) (next_past_all t.next_item (g ∷ [])) 0 le (omega (arith, length-cells_of (g ∷ []), some)))
+        ap (λ (k : ℕ). (cell_at (spliced_track false t x x (g ∷ [])).cells k).item) (sym zero_at)
+        ∙ (ap (λ (c : Cell). c.item) (cell-between (rule_of false) t.cells x x (cells_of (g ∷ [])) (next_past_all t.next_item (g ∷ [])) 0 le (omega (arith, length-cells_of (g ∷ []), some)))
         ∙ (ap (λ (c : Cell). c.item) (cell-there (g ∷ []) 0 0 g refl some) ∙ item))
 
-    first : (cell_at (spliced_track t x x (g ∷ [])).cells (x - 1)).item ≡ (cell_at t.cells (x - 1)).item
-    first = ap (λ (c : Cell). c.item) (cell-before kept_or_dropped t.cells x x (cells_of (g ∷ [])) (next_past_all t.next_item (g ∷ [])) (x - 1) le (omega (arith, start)))
+    first : (cell_at (spliced_track false t x x (g ∷ [])).cells (x - 1)).item ≡ (cell_at t.cells (x - 1)).item
+    first = ap (λ (c : Cell). c.item) (cell-before (rule_of false) t.cells x x (cells_of (g ∷ [])) (next_past_all t.next_item (g ∷ [])) (x - 1) le (omega (arith, start)))
 
 -- the limits of a track of which links are split
 
@@ -132,15 +132,15 @@ same_limits tracks splits z k u w e limits = record {
 -- after the shift
 
 own_back : (table : Table) (tracks : List TrackState) (splits : List Link) (t : TrackState) (i : ℕ) (v : ItemView) (x y n : ℕ) → IsGood table t → Spot table t i v x y → 0 < n → length t.cells + n ≤ MAX_FRAMES → Before table v.first n
-    → IsWithinLimits (spliced_track t x x (with_link (moved_link tracks splits v.link) (reaching_back (cell_in v 0) n) ∷ []))
-    → IsGood table (split_track (x + n) tracks splits (spliced_track t x x (with_link (moved_link tracks splits v.link) (reaching_back (cell_in v 0) n) ∷ [])))
+    → IsWithinLimits (spliced_track false t x x (with_link (moved_link tracks splits v.link) (reaching_back (cell_in v 0) n) ∷ []))
+    → IsGood table (split_track (x + n) tracks splits (spliced_track false t x x (with_link (moved_link tracks splits v.link) (reaching_back (cell_in v 0) n) ∷ [])))
 own_back table tracks splits t i v x y n good s some room before limits =
     let same = own-reach tracks splits x (reaching_back (cell_in v 0) n) t (omega (arith, s.within, s.long)) in
     let parts : AreParts table t x x (reaching_back (cell_in v 0) n ∷ []) = before-parts table t i v (reaching_back (cell_in v 0) n) x y n s some room before refl in
-    let after = (stays-spliced table t x x (reaching_back (cell_in v 0) n ∷ []) good parts
-    (same_limits tracks splits (x + n) x (spliced_track t x x (with_link (moved_link tracks splits v.link) (reaching_back (cell_in v 0) n) ∷ [])) (spliced_track t x x (reaching_back (cell_in v 0) n ∷ [])) same limits)).good in
+    let after = (stays-spliced false table t x x (reaching_back (cell_in v 0) n ∷ []) good parts
+    (same_limits tracks splits (x + n) x (spliced_track false t x x (with_link (moved_link tracks splits v.link) (reaching_back (cell_in v 0) n) ∷ [])) (spliced_track false t x x (reaching_back (cell_in v 0) n ∷ [])) same limits)).good in
     subst (IsGood table) (sym same)
-    (split_good table tracks splits x (spliced_track t x x (reaching_back (cell_in v 0) n ∷ [])) after (own_uncut table t i v (reaching_back (cell_in v 0) n) x y good s some refl after.kept))
+    (split_good table tracks splits x (spliced_track false t x x (reaching_back (cell_in v 0) n ∷ [])) after (own_uncut table t i v (reaching_back (cell_in v 0) n) x y good s some refl after.kept))
 
 other_back : (table : Table) (tracks : List TrackState) (splits : List Link) (own x : ℕ) (g : ItemView) (t : TrackState) → IsGood table t → t.number ≢ own → IsWithinLimits (moved (back_shift own x g) t)
     → IsGood table (split_track (x + g.len) tracks splits (moved (back_shift own x g) t))
@@ -149,12 +149,12 @@ other_back table tracks splits own x g t good other limits =
     split_good table tracks splits (x + g.len) (moved (back_shift own x g) t) after
     (uncut-moved (back_shift own x g) t good.kept (omega arith) (λ e. absurd (other e)) after.kept)
 
-own_moved : (own x : ℕ) (g : ItemView) (t : TrackState) → t.number ≡ own → x ≤ length t.cells → moved (back_shift own x g) t ≡ spliced_track t x x (g ∷ [])
+own_moved : (own x : ℕ) (g : ItemView) (t : TrackState) → t.number ≡ own → x ≤ length t.cells → moved (back_shift own x g) t ≡ spliced_track false t x x (g ∷ [])
 own_moved own x g t number le =
     let at : min x (length t.cells) ≡ x = omega (arith, le) in
     let none : x - length t.cells ≡ 0 = omega (arith, le) in
-    ap (λ (k : ℕ). spliced_track t k k (put_views (back_shift own x g) t)) at
-    ∙ ap (spliced_track t x x) (put-own (back_shift own x g) t number ∙ ap (λ (k : ℕ). gap_views k ++ g ∷ []) none)
+    ap (λ (k : ℕ). spliced_track false t k k (put_views (back_shift own x g) t)) at
+    ∙ ap (spliced_track false t x x) (put-own (back_shift own x g) t number ∙ ap (λ (k : ℕ). gap_views k ++ g ∷ []) none)
 
 -- what is known of an item that reaches back among these tracks
 pub record ReachesAmong (table : Table) (ts : List TrackState) (own : ℕ) (t : TrackState) (i : ℕ) (v : ItemView) (x y n : ℕ) : Type 0 where
@@ -174,9 +174,9 @@ one_back table ts splits own t i v x y n u r good here limits = by (eqb u.number
       let number : u.number ≡ own = eqb-true u.number own e in
       let is : u ≡ t = here number in
       let le : x ≤ length u.cells = omega (arith, r.spot.within, r.spot.long, ap (λ (w : TrackState). length w.cells) is) in
-      let same : moved (back_shift own x (with_link (moved_link ts splits v.link) (reaching_back (cell_in v 0) n))) u ≡ spliced_track t x x (with_link (moved_link ts splits v.link) (reaching_back (cell_in v 0) n) ∷ []) =
+      let same : moved (back_shift own x (with_link (moved_link ts splits v.link) (reaching_back (cell_in v 0) n))) u ≡ spliced_track false t x x (with_link (moved_link ts splits v.link) (reaching_back (cell_in v 0) n) ∷ []) =
       own_moved own x (with_link (moved_link ts splits v.link) (reaching_back (cell_in v 0) n)) u number le
-      ∙ ap (λ (w : TrackState). spliced_track w x x (with_link (moved_link ts splits v.link) (reaching_back (cell_in v 0) n) ∷ [])) is in
+      ∙ ap (λ (w : TrackState). spliced_track false w x x (with_link (moved_link ts splits v.link) (reaching_back (cell_in v 0) n) ∷ [])) is in
       subst (λ (w : TrackState). IsGood table (split_track (x + n) ts splits w)) (sym same)
       (own_back table ts splits t i v x y n r.good r.spot r.some r.room r.before (subst IsWithinLimits same limits))
   by false e = other_back table ts splits own x (with_link (moved_link ts splits v.link) (reaching_back (cell_in v 0) n)) u good (eqb-false u.number own e) limits
@@ -201,9 +201,9 @@ limits_good table us done h = by (too_long us) (too_many us) refl refl where
 
 -- the tracks after it, as it is meant
 back_after : (table : Table) (ts : List TrackState) (own : ℕ) (t : TrackState) (i : ℕ) (v : ItemView) (x y n : ℕ) (new : ItemView) → ReachesAmong table ts own t i v x y n → new.len ≡ n
-    → cond (eqb (n + 0) (x - x)) (shifted own x x (new ∷ []) ts) (links_split x (x + (n + 0)) (shifted own x x (new ∷ []) ts)) ≡ map (split_track (x + n) ts (split_links x x ts)) (all_moved (back_shift own x new) ts)
+    → cond (eqb (n + 0) (x - x)) (shifted false own x x (new ∷ []) ts) (links_split x (x + (n + 0)) (shifted false own x x (new ∷ []) ts)) ≡ map (split_track (x + n) ts (split_links x x ts)) (all_moved (back_shift own x new) ts)
 back_after table ts own t i v x y n new r len =
-    ap (λ (k : ℕ). cond (eqb k (x - x)) (shifted own x x (new ∷ []) ts) (links_split x (x + k) (shifted own x x (new ∷ []) ts))) none
+    ap (λ (k : ℕ). cond (eqb k (x - x)) (shifted false own x x (new ∷ []) ts) (links_split x (x + k) (shifted false own x x (new ∷ []) ts))) none
     ∙ (ap (λ (us : List TrackState). cond (eqb n (x - x)) us (links_split x (x + n) us)) (extract-moved (back_shift own x new) ts long)
     ∙ (ap (λ (b : Bool). cond b (all_moved (back_shift own x new) ts) (links_split x (x + n) (all_moved (back_shift own x new) ts))) moves
     ∙ (ap (λ (k : ℕ). links_split x (x + k) (all_moved (back_shift own x new) ts)) (sym len)
@@ -223,7 +223,7 @@ back_after table ts own t i v x y n new r len =
       long k d lt e = (has k d lt e, has k d lt e)
 
 pub back-good : (table : Table) (ts : List TrackState) (own : ℕ) (t : TrackState) (i : ℕ) (v : ItemView) (x y n : ℕ) (done : Done) → ReachesAmong table ts own t i v x y n → All (IsGood table) ts
-    → GoodAll table (shift_of own x x (with_link (moved_link ts (split_links x x ts) v.link) (reaching_back (cell_in v 0) n) ∷ []) done ts)
+    → GoodAll table (shift_of false own x x (with_link (moved_link ts (split_links x x ts) v.link) (reaching_back (cell_in v 0) n) ∷ []) done ts)
 back-good table ts own t i v x y n done r good =
     unless-good table (shift_refusal x x (n + 0) ts) _
     (subst (λ (us : List TrackState). GoodAll table (within_limits us done)) (sym (back_after table ts own t i v x y n (with_link (moved_link ts (split_links x x ts) v.link) (reaching_back (cell_in v 0) n)) r refl))

@@ -69,9 +69,9 @@ own_room own place n (u ∷ us) t e h = by (eqb u.number own) refl e (λ k. own_
 -- a shift that puts these parts into the own track
 parts_shift : (table : Table) (ts : List TrackState) (own : ℕ) (t : TrackState) (i : ℕ) (v : ItemView) (x y : ℕ) (s : Shift) (done : Done) → Owned table ts own t i v x y → s.own ≡ own
     → AreParts table t s.x s.y (new_views s.new) → ((u : TrackState) → u ≡ t → EndsApart u (min s.y (length u.cells)) (gap_views (s.x - length u.cells) ++ new_views s.new))
-    → GoodAll table (shift_of s.own s.x s.y (new_views s.new) done ts)
+    → GoodAll table (shift_of s.keep s.own s.x s.y (new_views s.new) done ts)
 parts_shift table ts own t i v x y s done o is parts ends =
-    all-leave table (shift_of s.own s.x s.y (new_views s.new) done ts)
+    all-leave table (shift_of s.keep s.own s.x s.y (new_views s.new) done ts)
     (λ us d k.
     shift-good table s done d ts ts us (extract-moved s ts long) refl parts.order o.all
     (all-stay table s ts t parts.order o.all only (own-stays table s t o.good (o.number ∙ sym is) parts))
@@ -87,47 +87,47 @@ parts_shift table ts own t i v x y s done o is parts ends =
 -- the head later, and earlier
 
 head_later : (table : Table) (ts : List TrackState) (own : ℕ) (t : TrackState) (i : ℕ) (v : ItemView) (x y n : ℕ) (done : Done) → Owned table ts own t i v x y → keeps_a_cell x y n ≡ true
-    → GoodAll table (shift_of own x (x + n) [] done ts)
+    → GoodAll table (shift_of false own x (x + n) [] done ts)
 head_later table ts own t i v x y n done o keeps =
     let less : x + n < y = ltb-true (x + n) y keeps in
-    parts_shift table ts own t i v x y (record { own = own; x = x; y = x + n; new = None }) done o refl
+    parts_shift table ts own t i v x y (record { own = own; x = x; y = x + n; new = None; keep = false }) done o refl
     (none-parts table t x (x + n) o.good (omega arith) (omega (arith, less, o.spot.within)))
     (λ u is.
     (let same : length u.cells ≡ length t.cells = ap (λ (w : TrackState). length w.cells) is in
     ends-nothing u (min (x + n) (length u.cells)) (x - length u.cells) (omega (arith, same, less, o.spot.within))))
 
 head_earlier : (table : Table) (ts : List TrackState) (own : ℕ) (t : TrackState) (i : ℕ) (v : ItemView) (x y n : ℕ) (done : Done) → Owned table ts own t i v x y → 0 < n
-    → have_room own x ts n && has_before table (cell_at t.cells x).side n ≡ true → GoodAll table (shift_of own x x (reaching_back (cell_at (as_split x ts t).cells x) n ∷ []) done ts)
+    → have_room own x ts n && has_before table (cell_at t.cells x).side n ≡ true → GoodAll table (shift_of false own x x (reaching_back (cell_at (as_split x ts t).cells x) n ∷ []) done ts)
 head_earlier table ts own t i v x y n done o some e =
     let b = and_parts (have_room own x ts n) (has_before table (cell_at t.cells x).side n) e in
     let side : (cell_at t.cells x).side ≡ v.first = ap (λ (c : Cell). c.side) (spot-head table t i v x y o.spot) ∙ side-head v in
     let has : has_before table v.first n ≡ true = subst (λ (d : Side What). has_before table d n ≡ true) side b.1 in
     let found : track_numbered t.number ts ≡ Some t = ap (λ (k : ℕ). track_numbered k ts) o.number ∙ o.found in
-    subst (λ (g : ItemView). GoodAll table (shift_of own x x (g ∷ []) done ts)) (sym (split-reach table ts t i v x y n o.spot found))
+    subst (λ (g : ItemView). GoodAll table (shift_of false own x x (g ∷ []) done ts)) (sym (split-reach table ts t i v x y n o.spot found))
     (back-good table ts own t i v x y n done
     (record { good = o.good; spot = o.spot; only = o.only; some = some; room = own_room own x n ts t o.found b.0; before = before-of table v.first v.len n has o.spot.source o.spot.lies }) o.all)
 
 -- the tail later, and earlier
 
 tail_later : (table : Table) (ts : List TrackState) (own : ℕ) (t : TrackState) (i : ℕ) (v : ItemView) (x y n : ℕ) (done : Done) → IsBounded table → Owned table ts own t i v x y → 0 < n
-    → have_room own y ts n && has_after table (cell_at t.cells (y - 1)).side n ≡ true → GoodAll table (shift_of own y y (going_on (cell_at t.cells (y - 1)) n ∷ []) done ts)
+    → have_room own y ts n && has_after table (cell_at t.cells (y - 1)).side n ≡ true → GoodAll table (shift_of false own y y (going_on (cell_at t.cells (y - 1)) n ∷ []) done ts)
 tail_later table ts own t i v x y n done bounded o some e =
     let b = and_parts (have_room own y ts n) (has_after table (cell_at t.cells (y - 1)).side n) e in
     let last = spot-last table t i v x y o.spot in
     let side : (cell_at t.cells (y - 1)).side ≡ later_side v.first (v.len - 1) = ap (λ (c : Cell). c.side) last in
     let has : has_after table (later_side v.first (v.len - 1)) n ≡ true = subst (λ (d : Side What). has_after table d n ≡ true) side b.1 in
     let room = own_room own y n ts t o.found b.0 in
-    subst (λ (c : Cell). GoodAll table (shift_of own y y (going_on c n ∷ []) done ts)) (sym last)
-    (parts_shift table ts own t i v x y (record { own = own; x = y; y = y; new = Some (going_on (cell_in v (v.len - 1)) n) }) done o refl
+    subst (λ (c : Cell). GoodAll table (shift_of false own y y (going_on c n ∷ []) done ts)) (sym last)
+    (parts_shift table ts own t i v x y (record { own = own; x = y; y = y; new = Some (going_on (cell_in v (v.len - 1)) n); keep = false }) done o refl
     (on-parts table t i v (going_on (cell_in v (v.len - 1)) n) x y y n o.spot some (omega arith) o.spot.within (omega (arith, room, o.spot.within)) (goes-after table v.first v.len n bounded o.spot.filled has o.spot.lies) refl)
     (λ u is.
     subst (λ (w : TrackState). EndsApart w (min y (length w.cells)) (gap_views (y - length w.cells) ++ going_on (cell_in v (v.len - 1)) n ∷ [])) (sym is) (tail-ends table t i v x y n o.good o.spot some)))
 
 tail_earlier : (table : Table) (ts : List TrackState) (own : ℕ) (t : TrackState) (i : ℕ) (v : ItemView) (x y n : ℕ) (done : Done) → Owned table ts own t i v x y → keeps_a_cell x y n ≡ true
-    → GoodAll table (shift_of own (y - n) y [] done ts)
+    → GoodAll table (shift_of false own (y - n) y [] done ts)
 tail_earlier table ts own t i v x y n done o keeps =
     let less : x + n < y = ltb-true (x + n) y keeps in
-    parts_shift table ts own t i v x y (record { own = own; x = y - n; y = y; new = None }) done o refl
+    parts_shift table ts own t i v x y (record { own = own; x = y - n; y = y; new = None; keep = false }) done o refl
     (none-parts table t (y - n) y o.good (omega arith) o.spot.within)
     (λ u is.
     (let same : length u.cells ≡ length t.cells = ap (λ (w : TrackState). length w.cells) is in

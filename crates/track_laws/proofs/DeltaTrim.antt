@@ -1,5 +1,5 @@
 -- A trim leaves good tracks.
-use Rattle.std.proofs.Common.{◌≡◌, ℕ, suc, ◌+◌, ◌-◌, ◌<◌, ◌≤◌, ℤ, true, leb, min, List, [], ◌∷◌, length, refl, sym, ap, ◌∙◌, arith, subst}
+use Rattle.std.proofs.Common.{◌≡◌, ℕ, suc, ◌+◌, ◌-◌, ◌<◌, ◌≤◌, ℤ, true, leb, min, List, [], ◌∷◌, length, refl, sym, ap, ◌∙◌, arith, subst, false}
 use Rattle.std.proofs.lemmas.Bool.{and_parts, leb-true, ltb-true}
 use Rattle.frame_meaning.specs.declared.cells.Cell.{Cell}
 use Rattle.frame_meaning.specs.declared.cells.What.{What}
@@ -28,11 +28,11 @@ use Rattle.track_laws.specs.Goods.{IsBounded, KeepsGood}
 use Rattle.track_laws.proofs.DeltaSteps.{GoodOne, all-good, goes-after, own-leaves, range-good, used-good}
 
 -- parts of items in place of some frames
-pub parts-good : (table : Table) (t : TrackState) (x y : ℕ) (views : List ItemView) → IsGood table t → AreParts table t x y views → IsWithinLimits (spliced_track t x y views) → IsGood table (spliced_track t x y views)
-parts-good table t x y views good parts limits = (stays-spliced table t x y views good parts limits).good
+pub parts-good : (table : Table) (t : TrackState) (x y : ℕ) (views : List ItemView) → IsGood table t → AreParts table t x y views → IsWithinLimits (spliced_track false t x y views) → IsGood table (spliced_track false t x y views)
+parts-good table t x y views good parts limits = (stays-spliced false table t x y views good parts limits).good
 
 -- frames that an item gives up
-dark_good : (table : Table) (t : TrackState) (x y n : ℕ) → IsGood table t → y ≡ x + suc n → y ≤ length t.cells → IsWithinLimits (spliced_track t x y (gap_views (suc n))) → IsGood table (spliced_track t x y (gap_views (suc n)))
+dark_good : (table : Table) (t : TrackState) (x y n : ℕ) → IsGood table t → y ≡ x + suc n → y ≤ length t.cells → IsWithinLimits (spliced_track false t x y (gap_views (suc n))) → IsGood table (spliced_track false t x y (gap_views (suc n)))
 dark_good table t x y n good long within limits =
     parts-good table t x y (gap_views (suc n)) good
     (subst (AreParts table t x y) (sym (gap-alone (suc n) (omega arith))) (gap-parts table t x y (suc n) good long within (omega arith))) limits

@@ -7,7 +7,7 @@ use Rattle.frame_meaning.specs.declared.cells.Mark.{Mark}
 use Rattle.frame_meaning.specs.declared.frames.Side.{Side}
 use Rattle.frame_meaning.specs.Cells.{next_side, same_number, span}
 use Rattle.frame_meaning.specs.Render.{cell_at}
-use Rattle.frame_meaning.specs.Splice.{Rule, kept_or_dropped, renumbered, split_item, with_marks}
+use Rattle.frame_meaning.specs.Splice.{Rule, rule_of, renumbered, split_item, with_marks}
 use Rattle.composables.specs.declared.items.ItemView.{ItemView}
 use Rattle.composables.specs.Items.{cells_of, marked, view_cells}
 use Rattle.composables.specs.Links.{moved_cell}
@@ -79,15 +79,15 @@ plain_numbers : (n : ℕ) (s : Option ℕ) (fresh : ℕ) (cs : List Cell) → fr
 plain_numbers n s fresh [] lt h = tt
 plain_numbers n s fresh (c ∷ cs) lt h = (plain_number n s fresh c lt h.0, plain_numbers n s fresh cs lt h.1)
 
-pub plain-spliced : (n : ℕ) (t : TrackState) (x y : ℕ) (views : List ItemView) → t.next_item ≤ n → ArePlain n t.cells → NumbersBelow n views
-    → ArePlain (n + 1) (spliced_track t x y views).cells
-plain-spliced n t x y views most h below =
-    let all : List Cell = with_marks kept_or_dropped x y 0 t.cells in
+pub plain-spliced : (keep : Bool) (n : ℕ) (t : TrackState) (x y : ℕ) (views : List ItemView) → t.next_item ≤ n → ArePlain n t.cells → NumbersBelow n views
+    → ArePlain (n + 1) (spliced_track keep t x y views).cells
+plain-spliced keep n t x y views most h below =
+    let all : List Cell = with_marks (rule_of keep) x y 0 t.cells in
     let s : Option ℕ = split_item t.cells x y in
     let fresh : ℕ = next_past_all t.next_item views in
     let up : n ≤ n + 1 = omega arith in
     let low : fresh < n + 1 = omega (arith, next-most n t.next_item views most below) in
-    let plain : ArePlain (n + 1) all = plain_marks (n + 1) kept_or_dropped x y 0 t.cells (plain-more n (n + 1) t.cells up h) in
+    let plain : ArePlain (n + 1) all = plain_marks (n + 1) (rule_of keep) x y 0 t.cells (plain-more n (n + 1) t.cells up h) in
     let middle : ArePlain (n + 1) (cells_of views) = plain-more n (n + 1) (cells_of views) up (plain-views n views below) in
     plain-append (n + 1) (take x all ++ cells_of views) (map (renumbered s fresh) (drop y all))
     (plain-append (n + 1) (take x all) (cells_of views) (plain-take (n + 1) x all plain) middle)

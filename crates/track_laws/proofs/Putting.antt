@@ -63,12 +63,12 @@ none-refused None meant x k = (refl, k)
 
 overwrite_good : (table : Table) (c : Overwrite) (t u : TrackState) (done : Done) → IsBounded table → IsGood table t → overwrite_track table c t ≡ Ok (u, done) → IsGood table u
 overwrite_good table c t u done bounded g k =
-    let meant : Result (TrackState × Done) Refusal = track_within_limits (overwritten t c.at c.what c.from c.len) (Item t.next_item) in
+    let meant : Result (TrackState × Done) Refusal = track_within_limits (overwritten c.keep t c.at c.what c.from c.len) (Item t.next_item) in
     let r = none-refused (source_refusal table t.number c.what c.from c.len) meant (u, done) k in
     let clip = clip-there table t.number c.what c.from c.len bounded r.0 in
-    let put : track_within_limits (spliced_track t (min c.at (length t.cells)) (min (c.at + c.len) (length t.cells)) (gap_views (c.at - length t.cells) ++ new_views (Some (clip_view t.next_item c.what c.from c.len)))) (Item t.next_item) ≡ Ok (u, done) =
-    ap (λ (w : TrackState). track_within_limits w (Item t.next_item)) (sym (over-put t c.at c.what c.from c.len g.kept)) ∙ r.1 in
-    (stays-placed table t u (min c.at (length t.cells)) (min (c.at + c.len) (length t.cells)) (gap_views (c.at - length t.cells) ++ new_views (Some (clip_view t.next_item c.what c.from c.len))) (Item t.next_item) (Ok done) g
+    let put : track_within_limits (spliced_track c.keep t (min c.at (length t.cells)) (min (c.at + c.len) (length t.cells)) (gap_views (c.at - length t.cells) ++ new_views (Some (clip_view t.next_item c.what c.from c.len)))) (Item t.next_item) ≡ Ok (u, done) =
+    ap (λ (w : TrackState). track_within_limits w (Item t.next_item)) (sym (over-put c.keep t c.at c.what c.from c.len g.kept)) ∙ r.1 in
+    (stays-placed c.keep table t u (min c.at (length t.cells)) (min (c.at + c.len) (length t.cells)) (gap_views (c.at - length t.cells) ++ new_views (Some (clip_view t.next_item c.what c.from c.len))) (Item t.next_item) (Ok done) g
     (omega arith) (omega arith) (put-clip table t (c.at - length t.cells) t.next_item c.what c.from c.len refl clip) put).good
 
 -- the places of a gap
@@ -104,7 +104,7 @@ fill_good table c t u done bounded good k = by (gap_at t.cells c.at) refl k wher
       let clip = clip-there table t.number c.what c.from (frames_asked c.length (h - g)) bounded r.0 in
       let put = fill-put table c t t.number t.next_item (frames_asked c.length (h - g)) (h - g) (min (frames_asked c.length (h - g)) (h - g)) (clip_view t.next_item c.what c.from (min (frames_asked c.length (h - g)) (h - g)) ∷ [])
       r.0 clip.filled clip.source (omega (arith, w.0)) refl refl refl in
-      (stays-placed table t u g (g + min (frames_asked c.length (h - g)) (h - g)) (clip_view t.next_item c.what c.from (min (frames_asked c.length (h - g)) (h - g)) ∷ []) (Item t.next_item) (Ok done) good
+      (stays-placed c.keep table t u g (g + min (frames_asked c.length (h - g)) (h - g)) (clip_view t.next_item c.what c.from (min (frames_asked c.length (h - g)) (h - g)) ∷ []) (Item t.next_item) (Ok done) good
       (omega arith) (omega (arith, w.0, w.1, long, length-cells_of (items_of t.cells))) put r.1).good
 
 pub putting-keeps : PuttingInKeepsGood

@@ -38,9 +38,9 @@ kept_within : (table : Table) (s : Shift) (ts : List TrackState) → All (StaysM
 kept_within table s ts stays long many k d lt = (stays k d lt (record { frames = short-all s ts long k d lt; items = few-all s ts many k d lt })).good.kept
 
 -- what it leaves is good
-pub shift-good : (table : Table) (s : Shift) (done d : Done) (ts named us : List TrackState) → shifted s.own s.x s.y (new_views s.new) named ≡ all_moved s ts
+pub shift-good : (table : Table) (s : Shift) (done d : Done) (ts named us : List TrackState) → shifted s.keep s.own s.x s.y (new_views s.new) named ≡ all_moved s ts
     → link_outside named (cells_from s.y named) ≡ link_outside ts (cells_from s.y ts) → s.x ≤ s.y → All (IsGood table) ts → All (StaysMoved table s) ts → EachUncut s ts
-    → shift_of s.own s.x s.y (new_views s.new) done named ≡ Ok (us, d) → All (IsGood table) us
+    → shift_of s.keep s.own s.x s.y (new_views s.new) done named ≡ Ok (us, d) → All (IsGood table) us
 shift-good table s done d ts named us same outside order good stays uncut k =
     each-good table ts us
     (each-linked table s (s.x + new_len s.new) ts us done (Ok d) good stays (sym (shift-meant s done ts named same outside order (kept_within table s ts stays) uncut) ∙ k))
@@ -54,7 +54,7 @@ insert_good : (table : Table) (c : Insert) (ts us : List TrackState) (own : Trac
 insert_good table c ts us own done bounded names good o k =
     let v : ItemView = clip_view own.next_item c.what c.from c.len in
     let s : Shift = shift_at c (clip_view own.next_item c.what c.from c.len) in
-    let r = none-refused (source_refusal table own.number c.what c.from c.len) (shift_of c.track c.at c.at (clip_view own.next_item c.what c.from c.len ∷ []) (Item own.next_item) (with_track ts (padded_track own c.at))) (us, done) k in
+    let r = none-refused (source_refusal table own.number c.what c.from c.len) (shift_of c.keep c.track c.at c.at (clip_view own.next_item c.what c.from c.len ∷ []) (Item own.next_item) (with_track ts (padded_track own c.at))) (us, done) k in
     let clip = clip-there table own.number c.what c.from c.len bounded r.0 in
     let kept : IsKept own = (found-good table c.track ts own good o.found).kept in
     let stays = each-stays table (shift_at c (clip_view own.next_item c.what c.from c.len)) ts (omega arith) good
@@ -66,7 +66,7 @@ insert_good table c ts us own done bounded names good o k =
 
 extract_good : (table : Table) (c : Extract) (ts us : List TrackState) (own : TrackState) (done : Done) → All (IsGood table) ts → IsOwn c.track ts own → extracted c ts own ≡ Ok (us, done) → All (IsGood table) us
 extract_good table c ts us own done good o k = by (range_of own.cells c.item) refl k where
-  by : (r : Option (ℕ × ℕ)) → range_of own.cells c.item ≡ r → on_range (λ x y. shift_of c.track x y [] Plain ts) r ≡ Ok (us, done) → All (IsGood table) us
+  by : (r : Option (ℕ × ℕ)) → range_of own.cells c.item ≡ r → on_range (λ x y. shift_of c.keep c.track x y [] Plain ts) r ≡ Ok (us, done) → All (IsGood table) us
   by None e k = absurd (Prim.grind (arith, k))
   by (Some (x, y)) e k =
       let within = range-within own c.item x y (found-good table c.track ts own good o.found).kept e in

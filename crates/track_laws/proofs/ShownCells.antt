@@ -8,7 +8,7 @@ use Rattle.frame_meaning.specs.declared.frames.Side.{Side}
 use Rattle.frame_meaning.specs.declared.frames.Side.TheVariants.{Dark, Pic}
 use Rattle.frame_meaning.specs.Cells.{next_side, same_number, span}
 use Rattle.frame_meaning.specs.Render.{cell_at, moved}
-use Rattle.frame_meaning.specs.Splice.{Rule, kept_or_dropped, renumbered, split_item, with_marks}
+use Rattle.frame_meaning.specs.Splice.{Rule, rule_of, renumbered, split_item, with_marks}
 use Rattle.composables.specs.declared.items.ItemView.{ItemView}
 use Rattle.composables.specs.Items.{cells_of, marked, view_cells}
 use Rattle.composables.specs.Links.{moved_cell}
@@ -101,13 +101,13 @@ have_numbers : (Has : What → Type 0) (s : Option ℕ) (fresh : ℕ) (cs : List
 have_numbers Has s fresh [] h = tt
 have_numbers Has s fresh (c ∷ cs) h = (has_number Has s fresh c h.0, have_numbers Has s fresh cs h.1)
 
-pub have-spliced : (Has : What → Type 0) (t : TrackState) (x y : ℕ) (views : List ItemView) → CellsHave Has t.cells → ViewsHave Has views
-    → CellsHave Has (spliced_track t x y views).cells
-have-spliced Has t x y views h v =
-    let all : List Cell = with_marks kept_or_dropped x y 0 t.cells in
+pub have-spliced : (keep : Bool) (Has : What → Type 0) (t : TrackState) (x y : ℕ) (views : List ItemView) → CellsHave Has t.cells → ViewsHave Has views
+    → CellsHave Has (spliced_track keep t x y views).cells
+have-spliced keep Has t x y views h v =
+    let all : List Cell = with_marks (rule_of keep) x y 0 t.cells in
     let s : Option ℕ = split_item t.cells x y in
     let fresh : ℕ = next_past_all t.next_item views in
-    let have : CellsHave Has all = have_marks Has kept_or_dropped x y 0 t.cells h in
+    let have : CellsHave Has all = have_marks Has (rule_of keep) x y 0 t.cells h in
     have-append Has (take x all ++ cells_of views) (map (renumbered s fresh) (drop y all))
     (have-append Has (take x all) (cells_of views) (have-take Has x all have) (have-views Has views v))
     (have_numbers Has s fresh (drop y all) (have-drop Has y all have))

@@ -90,8 +90,8 @@ is_suited (Some (low, high)) true from len e = refl
 
 module _ (May : ℕ → What → Type 0) where
   -- a splice, and dark frames behind
-  shown_spliced : (t : TrackState) (x y : ℕ) (views : List ItemView) → IsShown May t → ViewsHave (May t.number) views → IsShown May (spliced_track t x y views)
-  shown_spliced t x y views h v = have-spliced (May t.number) t x y views h v
+  shown_spliced : (keep : Bool) (t : TrackState) (x y : ℕ) (views : List ItemView) → IsShown May t → ViewsHave (May t.number) views → IsShown May (spliced_track keep t x y views)
+  shown_spliced keep t x y views h v = have-spliced keep (May t.number) t x y views h v
 
   shown_padded : (t : TrackState) (at : ℕ) → IsShown May t → IsShown May (padded_track t at)
   shown_padded t at h =
@@ -165,21 +165,21 @@ module _ (May : ℕ → What → Type 0) where
   on_range_shown meant (Some (x, y)) h = h x y
 
   -- a shift
-  along_shown : (t : TrackState) (x y len : ℕ) → IsShown May t → IsShown May (shifted_along t x y len)
-  along_shown t x y len h = by (nat_lt x (length t.cells)) where
-    by : (b : Bool) → IsShown May (spliced_track t (min x (length t.cells)) (min y (length t.cells)) (cond b (gap_views len) []))
-    by true = shown_spliced t (min x (length t.cells)) (min y (length t.cells)) (gap_views len) h (have-gaps (May t.number) len)
-    by false = shown_spliced t (min x (length t.cells)) (min y (length t.cells)) [] h tt
+  along_shown : (keep : Bool) (t : TrackState) (x y len : ℕ) → IsShown May t → IsShown May (shifted_along keep t x y len)
+  along_shown keep t x y len h = by (nat_lt x (length t.cells)) where
+    by : (b : Bool) → IsShown May (spliced_track keep t (min x (length t.cells)) (min y (length t.cells)) (cond b (gap_views len) []))
+    by true = shown_spliced keep t (min x (length t.cells)) (min y (length t.cells)) (gap_views len) h (have-gaps (May t.number) len)
+    by false = shown_spliced keep t (min x (length t.cells)) (min y (length t.cells)) [] h tt
 
-  shifted_shown : (own x y : ℕ) (views : List ItemView) (ts : List TrackState) → All (IsShown May) ts → ViewsHave (May own) views
-      → All (IsShown May) (shifted own x y views ts)
-  shifted_shown own x y views [] h v = all_none (IsShown May)
-  shifted_shown own x y views (t ∷ ts) h v =
-      All-cons (IsShown May) (shifted_track own x y views t) (shifted own x y views ts) (by (eqb t.number own) refl)
-      (shifted_shown own x y views ts (all_tail (IsShown May) t ts h) v) where
-        by : (b : Bool) → eqb t.number own ≡ b → IsShown May (cond b (spliced_track t x y views) (shifted_along t x y (frames_in views)))
-        by true e = shown_spliced t x y views (all_head (IsShown May) t ts h) (subst (λ (k : ℕ). ViewsHave (May k) views) (sym (eqb-true t.number own e)) v)
-        by false e = along_shown t x y (frames_in views) (all_head (IsShown May) t ts h)
+  shifted_shown : (keep : Bool) (own x y : ℕ) (views : List ItemView) (ts : List TrackState) → All (IsShown May) ts → ViewsHave (May own) views
+      → All (IsShown May) (shifted keep own x y views ts)
+  shifted_shown keep own x y views [] h v = all_none (IsShown May)
+  shifted_shown keep own x y views (t ∷ ts) h v =
+      All-cons (IsShown May) (shifted_track keep own x y views t) (shifted keep own x y views ts) (by (eqb t.number own) refl)
+      (shifted_shown keep own x y views ts (all_tail (IsShown May) t ts h) v) where
+        by : (b : Bool) → eqb t.number own ≡ b → IsShown May (cond b (spliced_track keep t x y views) (shifted_along keep t x y (frames_in views)))
+        by true e = shown_spliced keep t x y views (all_head (IsShown May) t ts h) (subst (λ (k : ℕ). ViewsHave (May k) views) (sym (eqb-true t.number own e)) v)
+        by false e = along_shown keep t x y (frames_in views) (all_head (IsShown May) t ts h)
 
   relinked_shown : (z : ℕ) (us : List TrackState) (ls : List Link) (ts : List TrackState) → All (IsShown May) ts → All (IsShown May) (map (split_track z us ls) ts)
   relinked_shown z us ls [] h = all_none (IsShown May)
@@ -193,17 +193,17 @@ module _ (May : ℕ → What → Type 0) where
   split_shown : (x z : ℕ) (ts : List TrackState) → All (IsShown May) ts → All (IsShown May) (links_split x z ts)
   split_shown x z ts h = relinked_shown z ts (split_links x z ts) ts h
 
-  shift_shown : (own x y : ℕ) (views : List ItemView) (done : Done) (ts : List TrackState) → All (IsShown May) ts → ViewsHave (May own) views
-      → AreShown May (shift_of own x y views done ts)
-  shift_shown own x y views done ts h v =
-      unless_shown (shift_refusal x y (frames_in views) ts) (within_limits (after_shift own x y views ts) done)
-      (λ e. within_shown (after_shift own x y views ts) done (by (eqb (frames_in views) (y - x)))) where
-        all : All (IsShown May) (shifted own x y views ts)
-        all = shifted_shown own x y views ts h v
+  shift_shown : (keep : Bool) (own x y : ℕ) (views : List ItemView) (done : Done) (ts : List TrackState) → All (IsShown May) ts → ViewsHave (May own) views
+      → AreShown May (shift_of keep own x y views done ts)
+  shift_shown keep own x y views done ts h v =
+      unless_shown (shift_refusal x y (frames_in views) ts) (within_limits (after_shift keep own x y views ts) done)
+      (λ e. within_shown (after_shift keep own x y views ts) done (by (eqb (frames_in views) (y - x)))) where
+        all : All (IsShown May) (shifted keep own x y views ts)
+        all = shifted_shown keep own x y views ts h v
 
-        by : (b : Bool) → All (IsShown May) (cond b (shifted own x y views ts) (links_split x (x + frames_in views) (shifted own x y views ts)))
+        by : (b : Bool) → All (IsShown May) (cond b (shifted keep own x y views ts) (links_split x (x + frames_in views) (shifted keep own x y views ts)))
         by true = all
-        by false = split_shown x (x + frames_in views) (shifted own x y views ts) all
+        by false = split_shown x (x + frames_in views) (shifted keep own x y views ts) all
 
   -- what is put on a track
   put_there : (table : Table) (t : TrackState) (own : ℕ) (what : What) (from len : ℕ) → t.number ≡ own → MayBePut table May own what → source_refusal table t.number what from len ≡ None → May t.number what
@@ -214,9 +214,9 @@ module _ (May : ℕ → What → Type 0) where
   shown-overwrite table ts c may h = on_own_shown c.track (overwrite_track table c) ts h each where
     each : (t : TrackState) → t.number ≡ c.track → IsShown May t → StaysShown May (overwrite_track table c t)
     each t n y =
-        unless_stays (source_refusal table t.number c.what c.from c.len) (track_within_limits (overwritten t c.at c.what c.from c.len) (Item t.next_item))
-        (λ e. within_stays (overwritten t c.at c.what c.from c.len) (Item t.next_item)
-        (shown_spliced (padded_track t c.at) c.at (min (c.at + c.len) (length (padded_track t c.at).cells)) (clip_view t.next_item c.what c.from c.len ∷ [])
+        unless_stays (source_refusal table t.number c.what c.from c.len) (track_within_limits (overwritten c.keep t c.at c.what c.from c.len) (Item t.next_item))
+        (λ e. within_stays (overwritten c.keep t c.at c.what c.from c.len) (Item t.next_item)
+        (shown_spliced c.keep (padded_track t c.at) c.at (min (c.at + c.len) (length (padded_track t c.at).cells)) (clip_view t.next_item c.what c.from c.len ∷ [])
         (shown_padded t c.at y) (put_there table t c.track c.what c.from c.len n may e, tt)))
 
   pub shown-insert : (table : Table) (ts : List TrackState) (c : Insert) → MayBePut table May c.track c.what → All (IsShown May) ts → AreShown May (insert_named table ts c)
@@ -224,8 +224,8 @@ module _ (May : ℕ → What → Type 0) where
     each : (t : TrackState) → t.number ≡ c.track → IsShown May t → AreShown May (inserted table c ts t)
     each t n y =
         unless_shown (source_refusal table t.number c.what c.from c.len)
-        (shift_of c.track c.at c.at (clip_view t.next_item c.what c.from c.len ∷ []) (Item t.next_item) (with_track ts (padded_track t c.at)))
-        (λ e. shift_shown c.track c.at c.at (clip_view t.next_item c.what c.from c.len ∷ []) (Item t.next_item) (with_track ts (padded_track t c.at))
+        (shift_of c.keep c.track c.at c.at (clip_view t.next_item c.what c.from c.len ∷ []) (Item t.next_item) (with_track ts (padded_track t c.at)))
+        (λ e. shift_shown c.keep c.track c.at c.at (clip_view t.next_item c.what c.from c.len ∷ []) (Item t.next_item) (with_track ts (padded_track t c.at))
         (with_shown ts (padded_track t c.at) h (shown_padded t c.at y))
         (subst (λ (k : ℕ). May k c.what) n (put_there table t c.track c.what c.from c.len n may e), tt))
 
@@ -239,27 +239,27 @@ module _ (May : ℕ → What → Type 0) where
           let asked : ℕ = frames_asked c.length (b - a) in
           unless_stays (source_refusal table t.number c.what c.from asked) (track_within_limits (filled t c a (min asked (b - a))) (Item t.next_item))
           (λ e. within_stays (filled t c a (min asked (b - a))) (Item t.next_item)
-          (shown_spliced t a (a + min asked (b - a)) (clip_view t.next_item c.what c.from (min asked (b - a)) ∷ []) y (put_there table t c.track c.what c.from asked n may e, tt)))
+          (shown_spliced c.keep t a (a + min asked (b - a)) (clip_view t.next_item c.what c.from (min asked (b - a)) ∷ []) y (put_there table t c.track c.what c.from asked n may e, tt)))
 
   -- what is taken out of one, and cut in two
   pub shown-remove : (ts : List TrackState) (c : Remove) → All (IsShown May) ts → AreShown May (remove_named ts c)
   shown-remove ts c h = on_own_shown c.track (remove_track c) ts h each where
     each : (t : TrackState) → t.number ≡ c.track → IsShown May t → StaysShown May (remove_track c t)
-    each t n y = for_range_stays (λ a b. track_within_limits (spliced_track t a b (gap_views (b - a))) Plain) (range_of t.cells c.item)
-        (λ a b. within_stays (spliced_track t a b (gap_views (b - a))) Plain
-        (shown_spliced t a b (gap_views (b - a)) y (have-gaps (May t.number) (b - a))))
+    each t n y = for_range_stays (λ a b. track_within_limits (spliced_track c.keep t a b (gap_views (b - a))) Plain) (range_of t.cells c.item)
+        (λ a b. within_stays (spliced_track c.keep t a b (gap_views (b - a))) Plain
+        (shown_spliced c.keep t a b (gap_views (b - a)) y (have-gaps (May t.number) (b - a))))
 
   pub shown-extract : (ts : List TrackState) (c : Extract) → All (IsShown May) ts → AreShown May (extract_named ts c)
   shown-extract ts c h = for_own_shown c.track (extracted c ts) ts h each where
     each : (t : TrackState) → t.number ≡ c.track → IsShown May t → AreShown May (extracted c ts t)
-    each t n y = for_range_shown (λ a b. shift_of c.track a b [] Plain ts) (range_of t.cells c.item) (λ a b. shift_shown c.track a b [] Plain ts h tt)
+    each t n y = for_range_shown (λ a b. shift_of c.keep c.track a b [] Plain ts) (range_of t.cells c.item) (λ a b. shift_shown c.keep c.track a b [] Plain ts h tt)
 
   pub shown-slice : (ts : List TrackState) (c : Slice) → All (IsShown May) ts → AreShown May (slice_named ts c)
   shown-slice ts c h = on_own_shown c.track (slice_track c) ts h each where
     each : (t : TrackState) → t.number ≡ c.track → IsShown May t → StaysShown May (slice_track c t)
     each t n y = by (nat_lt c.at (length t.cells)) where
-      by : (b : Bool) → StaysShown May (cond b (track_within_limits (spliced_track t c.at c.at []) Plain) (Err NoItem))
-      by true = within_stays (spliced_track t c.at c.at []) Plain (shown_spliced t c.at c.at [] y tt)
+      by : (b : Bool) → StaysShown May (cond b (track_within_limits (spliced_track c.keep t c.at c.at []) Plain) (Err NoItem))
+      by true = within_stays (spliced_track c.keep t c.at c.at []) Plain (shown_spliced c.keep t c.at c.at [] y tt)
       by false = tt
 
   -- a dissolve put or taken away
@@ -290,10 +290,10 @@ module _ (May : ℕ → What → Type 0) where
   back_side t p k y = has-earlier (May t.number) (cell_at t.cells p).side k (has-at (May t.number) t.cells p y)
 
   shown_trimmed : (t : TrackState) (x y : ℕ) (end : End) (d : ℤ) → IsShown May t → IsShown May (trimmed t x y end d)
-  shown_trimmed t x y Head (pos k) h = shown_spliced t x (x + k) (gap_views k) h (have-gaps (May t.number) k)
-  shown_trimmed t x y Head (negsuc k) h = shown_spliced t (x - suc k) x (reaching_back (cell_at t.cells x) (suc k) ∷ []) h (back_side t x (suc k) h, tt)
-  shown_trimmed t x y Tail (pos k) h = shown_spliced t y (min (y + k) (length t.cells)) (going_on (cell_at t.cells (y - 1)) k ∷ []) h (on_side t (y - 1) h, tt)
-  shown_trimmed t x y Tail (negsuc k) h = shown_spliced t (y - suc k) y (gap_views (suc k)) h (have-gaps (May t.number) (suc k))
+  shown_trimmed t x y Head (pos k) h = shown_spliced false t x (x + k) (gap_views k) h (have-gaps (May t.number) k)
+  shown_trimmed t x y Head (negsuc k) h = shown_spliced false t (x - suc k) x (reaching_back (cell_at t.cells x) (suc k) ∷ []) h (back_side t x (suc k) h, tt)
+  shown_trimmed t x y Tail (pos k) h = shown_spliced false t y (min (y + k) (length t.cells)) (going_on (cell_at t.cells (y - 1)) k ∷ []) h (on_side t (y - 1) h, tt)
+  shown_trimmed t x y Tail (negsuc k) h = shown_spliced false t (y - suc k) y (gap_views (suc k)) h (have-gaps (May t.number) (suc k))
 
   pub shown-trim : (table : Table) (ts : List TrackState) (c : Trim) → All (IsShown May) ts → AreShown May (trim_named table ts c)
   shown-trim table ts c h = on_own_shown c.track (trim_track table c) ts h each where
@@ -330,8 +330,8 @@ module _ (May : ℕ → What → Type 0) where
 
   -- a cut, and an item between its neighbours
   shown_rolled : (t : TrackState) (at : ℕ) (d : ℤ) → IsShown May t → IsShown May (rolled t at d)
-  shown_rolled t at (pos k) h = shown_spliced t at (at + k) (going_on (cell_at t.cells (at - 1)) k ∷ []) h (on_side t (at - 1) h, tt)
-  shown_rolled t at (negsuc k) h = shown_spliced t (at - suc k) at (reaching_back (cell_at t.cells at) (suc k) ∷ []) h (back_side t at (suc k) h, tt)
+  shown_rolled t at (pos k) h = shown_spliced false t at (at + k) (going_on (cell_at t.cells (at - 1)) k ∷ []) h (on_side t (at - 1) h, tt)
+  shown_rolled t at (negsuc k) h = shown_spliced false t (at - suc k) at (reaching_back (cell_at t.cells at) (suc k) ∷ []) h (back_side t at (suc k) h, tt)
 
   pub shown-roll : (table : Table) (ts : List TrackState) (c : Roll) → All (IsShown May) ts → AreShown May (roll_named table ts c)
   shown-roll table ts c h = on_own_shown c.track (roll_track table c) ts h each where
@@ -345,10 +345,10 @@ module _ (May : ℕ → What → Type 0) where
 
   shown_slid : (t : TrackState) (x y : ℕ) (d : ℤ) → IsShown May t → IsShown May (slid t x y d)
   shown_slid t x y (pos k) h =
-      shown_spliced t x (y + k) (going_on (cell_at t.cells (x - 1)) k ∷ bare_item (cell_at t.cells x) (y - x) ∷ []) h
+      shown_spliced false t x (y + k) (going_on (cell_at t.cells (x - 1)) k ∷ bare_item (cell_at t.cells x) (y - x) ∷ []) h
       (on_side t (x - 1) h, (has-at (May t.number) t.cells x h, tt))
   shown_slid t x y (negsuc k) h =
-      shown_spliced t (x - suc k) y (bare_item (cell_at t.cells x) (y - x) ∷ reaching_back (cell_at t.cells y) (suc k) ∷ []) h
+      shown_spliced false t (x - suc k) y (bare_item (cell_at t.cells x) (y - x) ∷ reaching_back (cell_at t.cells y) (suc k) ∷ []) h
       (has-at (May t.number) t.cells x h, (back_side t y (suc k) h, tt))
 
   pub shown-slide : (table : Table) (ts : List TrackState) (c : Slide) → All (IsShown May) ts → AreShown May (slide_named table ts c)
@@ -381,14 +381,14 @@ module _ (May : ℕ → What → Type 0) where
 
   shown_rippled : (own : ℕ) (ts : List TrackState) (t : TrackState) (x y : ℕ) (end : End) (done : Done) (d : ℤ) → t.number ≡ own → All (IsShown May) ts → IsShown May t
       → AreShown May (rippled own ts t x y end done d)
-  shown_rippled own ts t x y Head done (pos k) n h s = shift_shown own x (x + k) [] done ts h tt
+  shown_rippled own ts t x y Head done (pos k) n h s = shift_shown false own x (x + k) [] done ts h tt
   shown_rippled own ts t x y Head done (negsuc k) n h s =
-      shift_shown own x x (reaching_back (cell_at (as_split x ts t).cells x) (suc k) ∷ []) done ts h
+      shift_shown false own x x (reaching_back (cell_at (as_split x ts t).cells x) (suc k) ∷ []) done ts h
       (has-earlier (May own) (cell_at (as_split x ts t).cells x).side (suc k) (has-at (May own) (as_split x ts t).cells x (own_split x own ts t n h s)), tt)
   shown_rippled own ts t x y Tail done (pos k) n h s =
-      shift_shown own y y (going_on (cell_at t.cells (y - 1)) k ∷ []) done ts h
+      shift_shown false own y y (going_on (cell_at t.cells (y - 1)) k ∷ []) done ts h
       (subst (λ (i : ℕ). SideHas (May i) (next_side (cell_at t.cells (y - 1)).side)) n (on_side t (y - 1) s), tt)
-  shown_rippled own ts t x y Tail done (negsuc k) n h s = shift_shown own (y - suc k) y [] done ts h tt
+  shown_rippled own ts t x y Tail done (negsuc k) n h s = shift_shown false own (y - suc k) y [] done ts h tt
 
   pub shown-ripple : (table : Table) (ts : List TrackState) (c : Ripple) → All (IsShown May) ts → AreShown May (ripple_named table ts c)
   shown-ripple table ts c h = for_own_shown c.track (ripple_own table c ts) ts h each where

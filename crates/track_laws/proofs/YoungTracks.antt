@@ -89,18 +89,18 @@ StaysYoung n (Err r) = Unit {0}
 young_views : (n m : ℕ) (views : List ItemView) → n ≡ m → NumbersBelow n views → NumbersBelow m views
 young_views n m views e h = subst (λ (k : ℕ). NumbersBelow k views) e h
 
-pub young-spliced : (n : ℕ) (t : TrackState) (x y : ℕ) (views : List ItemView) → IsYoung n t → NumbersBelow (n + 1) views
-    → IsYoung (n + 2) (spliced_track t x y views)
-young-spliced n t x y views h below =
+pub young-spliced : (keep : Bool) (n : ℕ) (t : TrackState) (x y : ℕ) (views : List ItemView) → IsYoung n t → NumbersBelow (n + 1) views
+    → IsYoung (n + 2) (spliced_track keep t x y views)
+young-spliced keep n t x y views h below =
     let more : ℕ = n + 1 - t.next_item in
     let e : n + 1 ≡ t.next_item + more = omega (arith, h.item) in
-    let next = next-bounds t x y more views (young_views (n + 1) (t.next_item + more) views e below) in
-    let most : (spliced_track t x y views).next_item ≤ t.next_item + more + 1 = next.1 in
+    let next = next-bounds keep t x y more views (young_views (n + 1) (t.next_item + more) views e below) in
+    let most : (spliced_track keep t x y views).next_item ≤ t.next_item + more + 1 = next.1 in
     let up : n ≤ n + 1 = omega arith in
     let low : t.next_item ≤ n + 1 = omega (arith, h.item) in
-    let plain = plain-spliced (n + 1) t x y views low (plain-more n (n + 1) t.cells up h.plain) below in
+    let plain = plain-spliced keep (n + 1) t x y views low (plain-more n (n + 1) t.cells up h.plain) below in
     let same : n + 1 + 1 ≡ n + 2 = omega arith in
-    record { item = omega (arith, most, e); plain = subst (λ (k : ℕ). ArePlain k (spliced_track t x y views).cells) same plain }
+    record { item = omega (arith, most, e); plain = subst (λ (k : ℕ). ArePlain k (spliced_track keep t x y views).cells) same plain }
 
 gap_young : (n k : ℕ) → NumbersBelow n (gap_views k)
 gap_young n k = by (eqb k 0) where
@@ -175,21 +175,21 @@ for_range_young m meant None h = tt
 for_range_young m meant (Some (x, y)) h = h x y
 
 -- a shift
-along_young : (n : ℕ) (t : TrackState) (x y len : ℕ) → IsYoung n t → IsYoung (n + 2) (shifted_along t x y len)
-along_young n t x y len h = by (nat_lt x (length t.cells)) where
-  by : (b : Bool) → IsYoung (n + 2) (spliced_track t (min x (length t.cells)) (min y (length t.cells)) (cond b (gap_views len) []))
-  by true = young-spliced n t (min x (length t.cells)) (min y (length t.cells)) (gap_views len) h (gap_young (n + 1) len)
-  by false = young-spliced n t (min x (length t.cells)) (min y (length t.cells)) [] h tt
+along_young : (keep : Bool) (n : ℕ) (t : TrackState) (x y len : ℕ) → IsYoung n t → IsYoung (n + 2) (shifted_along keep t x y len)
+along_young keep n t x y len h = by (nat_lt x (length t.cells)) where
+  by : (b : Bool) → IsYoung (n + 2) (spliced_track keep t (min x (length t.cells)) (min y (length t.cells)) (cond b (gap_views len) []))
+  by true = young-spliced keep n t (min x (length t.cells)) (min y (length t.cells)) (gap_views len) h (gap_young (n + 1) len)
+  by false = young-spliced keep n t (min x (length t.cells)) (min y (length t.cells)) [] h tt
 
-shifted_young : (n own x y : ℕ) (views : List ItemView) (ts : List TrackState) → All (IsYoung n) ts → NumbersBelow (n + 1) views
-    → All (IsYoung (n + 2)) (shifted own x y views ts)
-shifted_young n own x y views [] h below = all_none (IsYoung (n + 2))
-shifted_young n own x y views (t ∷ ts) h below =
-    All-cons (IsYoung (n + 2)) (shifted_track own x y views t) (shifted own x y views ts) (by (eqb t.number own))
-    (shifted_young n own x y views ts (all_tail (IsYoung n) t ts h) below) where
-      by : (b : Bool) → IsYoung (n + 2) (cond b (spliced_track t x y views) (shifted_along t x y (frames_in views)))
-      by true = young-spliced n t x y views (all_head (IsYoung n) t ts h) below
-      by false = along_young n t x y (frames_in views) (all_head (IsYoung n) t ts h)
+shifted_young : (keep : Bool) (n own x y : ℕ) (views : List ItemView) (ts : List TrackState) → All (IsYoung n) ts → NumbersBelow (n + 1) views
+    → All (IsYoung (n + 2)) (shifted keep own x y views ts)
+shifted_young keep n own x y views [] h below = all_none (IsYoung (n + 2))
+shifted_young keep n own x y views (t ∷ ts) h below =
+    All-cons (IsYoung (n + 2)) (shifted_track keep own x y views t) (shifted keep own x y views ts) (by (eqb t.number own))
+    (shifted_young keep n own x y views ts (all_tail (IsYoung n) t ts h) below) where
+      by : (b : Bool) → IsYoung (n + 2) (cond b (spliced_track keep t x y views) (shifted_along keep t x y (frames_in views)))
+      by true = young-spliced keep n t x y views (all_head (IsYoung n) t ts h) below
+      by false = along_young keep n t x y (frames_in views) (all_head (IsYoung n) t ts h)
 
 -- links are split: no item number is given away
 relinked_young : (n z : ℕ) (us : List TrackState) (ls : List Link) (ts : List TrackState) → All (IsYoung n) ts → All (IsYoung n) (map (split_track z us ls) ts)
@@ -205,17 +205,17 @@ relinked_young n z us ls (t ∷ ts) h =
 split_young : (n x z : ℕ) (ts : List TrackState) → All (IsYoung n) ts → All (IsYoung n) (links_split x z ts)
 split_young n x z ts h = relinked_young n z ts (split_links x z ts) ts h
 
-shift_young : (n own x y : ℕ) (views : List ItemView) (done : Done) (ts : List TrackState) → All (IsYoung n) ts → NumbersBelow (n + 1) views
-    → AreYoung (n + 2) (shift_of own x y views done ts)
-shift_young n own x y views done ts h below =
-    unless_young (n + 2) (shift_refusal x y (frames_in views) ts) (within_limits (after_shift own x y views ts) done)
-    (within_young (n + 2) (after_shift own x y views ts) done (by (eqb (frames_in views) (y - x)))) where
-      all : All (IsYoung (n + 2)) (shifted own x y views ts)
-      all = shifted_young n own x y views ts h below
+shift_young : (keep : Bool) (n own x y : ℕ) (views : List ItemView) (done : Done) (ts : List TrackState) → All (IsYoung n) ts → NumbersBelow (n + 1) views
+    → AreYoung (n + 2) (shift_of keep own x y views done ts)
+shift_young keep n own x y views done ts h below =
+    unless_young (n + 2) (shift_refusal x y (frames_in views) ts) (within_limits (after_shift keep own x y views ts) done)
+    (within_young (n + 2) (after_shift keep own x y views ts) done (by (eqb (frames_in views) (y - x)))) where
+      all : All (IsYoung (n + 2)) (shifted keep own x y views ts)
+      all = shifted_young keep n own x y views ts h below
 
-      by : (b : Bool) → All (IsYoung (n + 2)) (cond b (shifted own x y views ts) (links_split x (x + frames_in views) (shifted own x y views ts)))
+      by : (b : Bool) → All (IsYoung (n + 2)) (cond b (shifted keep own x y views ts) (links_split x (x + frames_in views) (shifted keep own x y views ts)))
       by true = all
-      by false = split_young (n + 2) x (x + frames_in views) (shifted own x y views ts) all
+      by false = split_young (n + 2) x (x + frames_in views) (shifted keep own x y views ts) all
 
 -- each call
 clip_below : (n m : ℕ) (what : What) (from len : ℕ) → m ≤ n → NumbersBelow (n + 1) (clip_view m what from len ∷ [])
@@ -225,9 +225,9 @@ pub young-overwrite : (n : ℕ) (table : Table) (ts : List TrackState) (c : Over
 young-overwrite n table ts c h = on-own-young n (n + 2) c.track (overwrite_track table c) ts (omega arith) h each where
   each : (t : TrackState) → IsYoung n t → StaysYoung (n + 2) (overwrite_track table c t)
   each t y =
-      unless_stays (n + 2) (source_refusal table t.number c.what c.from c.len) (track_within_limits (overwritten t c.at c.what c.from c.len) (Item t.next_item))
-      (within_stays (n + 2) (overwritten t c.at c.what c.from c.len) (Item t.next_item)
-      (young-spliced n (padded_track t c.at) c.at (min (c.at + c.len) (length (padded_track t c.at).cells)) (clip_view t.next_item c.what c.from c.len ∷ [])
+      unless_stays (n + 2) (source_refusal table t.number c.what c.from c.len) (track_within_limits (overwritten c.keep t c.at c.what c.from c.len) (Item t.next_item))
+      (within_stays (n + 2) (overwritten c.keep t c.at c.what c.from c.len) (Item t.next_item)
+      (young-spliced c.keep n (padded_track t c.at) c.at (min (c.at + c.len) (length (padded_track t c.at).cells)) (clip_view t.next_item c.what c.from c.len ∷ [])
       (young-padded n t c.at y) (clip_below n t.next_item c.what c.from c.len y.item)))
 
 pub young-insert : (n : ℕ) (table : Table) (ts : List TrackState) (c : Insert) → All (IsYoung n) ts → AreYoung (n + 2) (insert_named table ts c)
@@ -235,28 +235,28 @@ young-insert n table ts c h = for_own_young n (n + 2) c.track (inserted table c 
   each : (t : TrackState) → IsYoung n t → AreYoung (n + 2) (inserted table c ts t)
   each t y =
       unless_young (n + 2) (source_refusal table t.number c.what c.from c.len)
-      (shift_of c.track c.at c.at (clip_view t.next_item c.what c.from c.len ∷ []) (Item t.next_item) (with_track ts (padded_track t c.at)))
-      (shift_young n c.track c.at c.at (clip_view t.next_item c.what c.from c.len ∷ []) (Item t.next_item) (with_track ts (padded_track t c.at))
+      (shift_of c.keep c.track c.at c.at (clip_view t.next_item c.what c.from c.len ∷ []) (Item t.next_item) (with_track ts (padded_track t c.at)))
+      (shift_young c.keep n c.track c.at c.at (clip_view t.next_item c.what c.from c.len ∷ []) (Item t.next_item) (with_track ts (padded_track t c.at))
       (with_young n ts (padded_track t c.at) h (young-padded n t c.at y)) (clip_below n t.next_item c.what c.from c.len y.item))
 
 pub young-remove : (n : ℕ) (ts : List TrackState) (c : Remove) → All (IsYoung n) ts → AreYoung (n + 2) (remove_named ts c)
 young-remove n ts c h = on-own-young n (n + 2) c.track (remove_track c) ts (omega arith) h each where
   each : (t : TrackState) → IsYoung n t → StaysYoung (n + 2) (remove_track c t)
-  each t y = for_range_stays (n + 2) (λ a b. track_within_limits (spliced_track t a b (gap_views (b - a))) Plain) (range_of t.cells c.item)
-      (λ a b. within_stays (n + 2) (spliced_track t a b (gap_views (b - a))) Plain
-      (young-spliced n t a b (gap_views (b - a)) y (gap_young (n + 1) (b - a))))
+  each t y = for_range_stays (n + 2) (λ a b. track_within_limits (spliced_track c.keep t a b (gap_views (b - a))) Plain) (range_of t.cells c.item)
+      (λ a b. within_stays (n + 2) (spliced_track c.keep t a b (gap_views (b - a))) Plain
+      (young-spliced c.keep n t a b (gap_views (b - a)) y (gap_young (n + 1) (b - a))))
 
 pub young-extract : (n : ℕ) (ts : List TrackState) (c : Extract) → All (IsYoung n) ts → AreYoung (n + 2) (extract_named ts c)
 young-extract n ts c h = for_own_young n (n + 2) c.track (extracted c ts) ts h each where
   each : (t : TrackState) → IsYoung n t → AreYoung (n + 2) (extracted c ts t)
-  each t y = for_range_young (n + 2) (λ a b. shift_of c.track a b [] Plain ts) (range_of t.cells c.item) (λ a b. shift_young n c.track a b [] Plain ts h tt)
+  each t y = for_range_young (n + 2) (λ a b. shift_of c.keep c.track a b [] Plain ts) (range_of t.cells c.item) (λ a b. shift_young c.keep n c.track a b [] Plain ts h tt)
 
 pub young-slice : (n : ℕ) (ts : List TrackState) (c : Slice) → All (IsYoung n) ts → AreYoung (n + 2) (slice_named ts c)
 young-slice n ts c h = on-own-young n (n + 2) c.track (slice_track c) ts (omega arith) h each where
   each : (t : TrackState) → IsYoung n t → StaysYoung (n + 2) (slice_track c t)
   each t y = by (nat_lt c.at (length t.cells)) where
-    by : (b : Bool) → StaysYoung (n + 2) (cond b (track_within_limits (spliced_track t c.at c.at []) Plain) (Err NoItem))
-    by true = within_stays (n + 2) (spliced_track t c.at c.at []) Plain (young-spliced n t c.at c.at [] y tt)
+    by : (b : Bool) → StaysYoung (n + 2) (cond b (track_within_limits (spliced_track c.keep t c.at c.at []) Plain) (Err NoItem))
+    by true = within_stays (n + 2) (spliced_track c.keep t c.at c.at []) Plain (young-spliced c.keep n t c.at c.at [] y tt)
     by false = tt
 
 -- a dissolve put or taken away
@@ -291,30 +291,30 @@ used_stays n t moved (pos (suc k)) y h = within_stays (n + 2) (moved (pos (suc k
 used_stays n t moved (negsuc k) y h = within_stays (n + 2) (moved (negsuc k)) (By (negsuc k)) h
 
 -- a part of an item that goes on or reaches back, with the item's number
-part_young : (n : ℕ) (t : TrackState) (x y p : ℕ) (v : ItemView) → IsYoung n t → v.item ≡ (cell_at t.cells p).item
-    → IsYoung (n + 2) (spliced_track t x y (v ∷ []))
-part_young n t x y p v h item =
+part_young : (keep : Bool) (n : ℕ) (t : TrackState) (x y p : ℕ) (v : ItemView) → IsYoung n t → v.item ≡ (cell_at t.cells p).item
+    → IsYoung (n + 2) (spliced_track keep t x y (v ∷ []))
+part_young keep n t x y p v h item =
     let plain : IsPlain n (cell_at t.cells p) = plain-at n t.cells p h.plain in
     let below : IfSome v.item (λ i. i < n) = subst (λ (o : Option ℕ). IfSome o (λ i. i < n)) (sym item) plain in
-    young-spliced n t x y (v ∷ []) h (if-weaker v.item n (n + 1) (omega arith) below, tt)
+    young-spliced keep n t x y (v ∷ []) h (if-weaker v.item n (n + 1) (omega arith) below, tt)
 
 -- two parts side by side
-parts_young : (n : ℕ) (t : TrackState) (x y p q : ℕ) (v w : ItemView) → IsYoung n t
+parts_young : (keep : Bool) (n : ℕ) (t : TrackState) (x y p q : ℕ) (v w : ItemView) → IsYoung n t
     → v.item ≡ (cell_at t.cells p).item → w.item ≡ (cell_at t.cells q).item
-    → IsYoung (n + 2) (spliced_track t x y (v ∷ w ∷ []))
-parts_young n t x y p q v w h vi wi =
-    young-spliced n t x y (v ∷ w ∷ []) h (below v p vi, (below w q wi, tt)) where
+    → IsYoung (n + 2) (spliced_track keep t x y (v ∷ w ∷ []))
+parts_young keep n t x y p q v w h vi wi =
+    young-spliced keep n t x y (v ∷ w ∷ []) h (below v p vi, (below w q wi, tt)) where
       below : (u : ItemView) (at : ℕ) → u.item ≡ (cell_at t.cells at).item → IfSome u.item (λ i. i < n + 1)
       below u at e = if-weaker u.item n (n + 1) (omega arith) (subst (λ (o : Option ℕ). IfSome o (λ i. i < n)) (sym e) (plain-at n t.cells at h.plain))
 
-dark_young : (n : ℕ) (t : TrackState) (x y k : ℕ) → IsYoung n t → IsYoung (n + 2) (spliced_track t x y (gap_views k))
-dark_young n t x y k h = young-spliced n t x y (gap_views k) h (gap_young (n + 1) k)
+dark_young : (keep : Bool) (n : ℕ) (t : TrackState) (x y k : ℕ) → IsYoung n t → IsYoung (n + 2) (spliced_track keep t x y (gap_views k))
+dark_young keep n t x y k h = young-spliced keep n t x y (gap_views k) h (gap_young (n + 1) k)
 
 young_trimmed : (n : ℕ) (t : TrackState) (x y : ℕ) (end : End) (d : ℤ) → IsYoung n t → IsYoung (n + 2) (trimmed t x y end d)
-young_trimmed n t x y Head (pos k) h = dark_young n t x (x + k) k h
-young_trimmed n t x y Head (negsuc k) h = part_young n t (x - suc k) x x (reaching_back (cell_at t.cells x) (suc k)) h refl
-young_trimmed n t x y Tail (pos k) h = part_young n t y (min (y + k) (length t.cells)) (y - 1) (going_on (cell_at t.cells (y - 1)) k) h refl
-young_trimmed n t x y Tail (negsuc k) h = dark_young n t (y - suc k) y (suc k) h
+young_trimmed n t x y Head (pos k) h = dark_young false n t x (x + k) k h
+young_trimmed n t x y Head (negsuc k) h = part_young false n t (x - suc k) x x (reaching_back (cell_at t.cells x) (suc k)) h refl
+young_trimmed n t x y Tail (pos k) h = part_young false n t y (min (y + k) (length t.cells)) (y - 1) (going_on (cell_at t.cells (y - 1)) k) h refl
+young_trimmed n t x y Tail (negsuc k) h = dark_young false n t (y - suc k) y (suc k) h
 
 pub young-trim : (n : ℕ) (table : Table) (ts : List TrackState) (c : Trim) → All (IsYoung n) ts → AreYoung (n + 2) (trim_named table ts c)
 young-trim n table ts c h = on-own-young n (n + 2) c.track (trim_track table c) ts (omega arith) h each where
@@ -371,8 +371,8 @@ young-slip n table ts c h = for_own_young n (n + 2) c.track (slip_own table ts c
 
 -- a cut, and an item between its neighbours
 young_rolled : (n : ℕ) (t : TrackState) (at : ℕ) (d : ℤ) → IsYoung n t → IsYoung (n + 2) (rolled t at d)
-young_rolled n t at (pos k) h = part_young n t at (at + k) (at - 1) (going_on (cell_at t.cells (at - 1)) k) h refl
-young_rolled n t at (negsuc k) h = part_young n t (at - suc k) at at (reaching_back (cell_at t.cells at) (suc k)) h refl
+young_rolled n t at (pos k) h = part_young false n t at (at + k) (at - 1) (going_on (cell_at t.cells (at - 1)) k) h refl
+young_rolled n t at (negsuc k) h = part_young false n t (at - suc k) at at (reaching_back (cell_at t.cells at) (suc k)) h refl
 
 pub young-roll : (n : ℕ) (table : Table) (ts : List TrackState) (c : Roll) → All (IsYoung n) ts → AreYoung (n + 2) (roll_named table ts c)
 young-roll n table ts c h = on-own-young n (n + 2) c.track (roll_track table c) ts (omega arith) h each where
@@ -386,9 +386,9 @@ young-roll n table ts c h = on-own-young n (n + 2) c.track (roll_track table c) 
 
 young_slid : (n : ℕ) (t : TrackState) (x y : ℕ) (d : ℤ) → IsYoung n t → IsYoung (n + 2) (slid t x y d)
 young_slid n t x y (pos k) h =
-    parts_young n t x (y + k) (x - 1) x (going_on (cell_at t.cells (x - 1)) k) (bare_item (cell_at t.cells x) (y - x)) h refl refl
+    parts_young false n t x (y + k) (x - 1) x (going_on (cell_at t.cells (x - 1)) k) (bare_item (cell_at t.cells x) (y - x)) h refl refl
 young_slid n t x y (negsuc k) h =
-    parts_young n t (x - suc k) y x y (bare_item (cell_at t.cells x) (y - x)) (reaching_back (cell_at t.cells y) (suc k)) h refl refl
+    parts_young false n t (x - suc k) y x y (bare_item (cell_at t.cells x) (y - x)) (reaching_back (cell_at t.cells y) (suc k)) h refl refl
 
 pub young-slide : (n : ℕ) (table : Table) (ts : List TrackState) (c : Slide) → All (IsYoung n) ts → AreYoung (n + 2) (slide_named table ts c)
 young-slide n table ts c h = for_own_young n (n + 2) c.track (slide_own table ts c) ts h each where
@@ -406,7 +406,7 @@ young-slide n table ts c h = for_own_young n (n + 2) c.track (slide_own table ts
 young_filled : (n : ℕ) (t : TrackState) (c : Fill) (at len : ℕ) → IsYoung n t → StaysYoung (n + 2) (track_within_limits (filled t c at len) (Item t.next_item))
 young_filled n t c at len h =
     within_stays (n + 2) (filled t c at len) (Item t.next_item)
-    (young-spliced n t at (at + len) (clip_view t.next_item c.what c.from len ∷ []) h (clip_below n t.next_item c.what c.from len h.item))
+    (young-spliced c.keep n t at (at + len) (clip_view t.next_item c.what c.from len ∷ []) h (clip_below n t.next_item c.what c.from len h.item))
 
 pub young-fill : (n : ℕ) (table : Table) (ts : List TrackState) (c : Fill) → All (IsYoung n) ts → AreYoung (n + 2) (fill_named table ts c)
 young-fill n table ts c h = on-own-young n (n + 2) c.track (fill_track table c) ts (omega arith) h each where
@@ -430,12 +430,12 @@ used_young n ts moved (pos zero) h m = all-more n (n + 2) ts (omega arith) h
 used_young n ts moved (pos (suc k)) h m = m
 used_young n ts moved (negsuc k) h m = m
 
-part_shifted : (n own x y p : ℕ) (t : TrackState) (v : ItemView) (done : Done) (ts : List TrackState) → All (IsYoung n) ts → IsYoung n t
-    → v.item ≡ (cell_at t.cells p).item → AreYoung (n + 2) (shift_of own x y (v ∷ []) done ts)
-part_shifted n own x y p t v done ts h young item =
+part_shifted : (keep : Bool) (n own x y p : ℕ) (t : TrackState) (v : ItemView) (done : Done) (ts : List TrackState) → All (IsYoung n) ts → IsYoung n t
+    → v.item ≡ (cell_at t.cells p).item → AreYoung (n + 2) (shift_of keep own x y (v ∷ []) done ts)
+part_shifted keep n own x y p t v done ts h young item =
     let plain : IsPlain n (cell_at t.cells p) = plain-at n t.cells p young.plain in
     let below : IfSome v.item (λ i. i < n) = subst (λ (o : Option ℕ). IfSome o (λ i. i < n)) (sym item) plain in
-    shift_young n own x y (v ∷ []) done ts h (if-weaker v.item n (n + 1) (omega arith) below, tt)
+    shift_young keep n own x y (v ∷ []) done ts h (if-weaker v.item n (n + 1) (omega arith) below, tt)
 
 -- the track as its links are split
 young_split : (n place : ℕ) (ts : List TrackState) (t : TrackState) → All (IsYoung n) ts → IsYoung n t → IsYoung n (as_split place ts t)
@@ -446,10 +446,10 @@ young_split n place ts t h young = by (track_numbered t.number (links_split plac
 
 young_rippled : (n own : ℕ) (ts : List TrackState) (t : TrackState) (x y : ℕ) (end : End) (done : Done) (d : ℤ) → All (IsYoung n) ts → IsYoung n t
     → AreYoung (n + 2) (rippled own ts t x y end done d)
-young_rippled n own ts t x y Head done (pos k) h young = shift_young n own x (x + k) [] done ts h tt
-young_rippled n own ts t x y Head done (negsuc k) h young = part_shifted n own x x x (as_split x ts t) (reaching_back (cell_at (as_split x ts t).cells x) (suc k)) done ts h (young_split n x ts t h young) refl
-young_rippled n own ts t x y Tail done (pos k) h young = part_shifted n own y y (y - 1) t (going_on (cell_at t.cells (y - 1)) k) done ts h young refl
-young_rippled n own ts t x y Tail done (negsuc k) h young = shift_young n own (y - suc k) y [] done ts h tt
+young_rippled n own ts t x y Head done (pos k) h young = shift_young false n own x (x + k) [] done ts h tt
+young_rippled n own ts t x y Head done (negsuc k) h young = part_shifted false n own x x x (as_split x ts t) (reaching_back (cell_at (as_split x ts t).cells x) (suc k)) done ts h (young_split n x ts t h young) refl
+young_rippled n own ts t x y Tail done (pos k) h young = part_shifted false n own y y (y - 1) t (going_on (cell_at t.cells (y - 1)) k) done ts h young refl
+young_rippled n own ts t x y Tail done (negsuc k) h young = shift_young false n own (y - suc k) y [] done ts h tt
 
 pub young-ripple : (n : ℕ) (table : Table) (ts : List TrackState) (c : Ripple) → All (IsYoung n) ts → AreYoung (n + 2) (ripple_named table ts c)
 young-ripple n table ts c h = for_own_young n (n + 2) c.track (ripple_own table c ts) ts h each where

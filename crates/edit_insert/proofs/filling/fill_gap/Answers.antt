@@ -77,6 +77,6 @@ pub returns-clause-good : goal.returns-clause-good
 returns-clause-good g c =
     let p = fill-put c.args.table.now c.args.call.now c.args.track.now c.number.result c.next_item-number.result c.frames_asked-asked.result (c.args.gap.to - c.args.gap.from) c.min-len.result c.as_slice.result.now (sym c.source_refusal.ensures.refusal ∙ c.in-None.is) (rw c.in-None.is at c.source_refusal.ensures.filled) (rw c.in-None.is at c.source_refusal.ensures.source)
     (omega (arith, place-some c.args.track.now c.args.gap c.requires.good.kept c.requires.gap)) c.min-len.ensures c.next_item-number.ensures (c.as_slice.ensures ∙ c.of-items.ensures ∙ ap (λ (v : ItemView). gap_views 0 ++ new_views (Some v)) c.clip-item.ensures) in
-    stays-placed c.args.table.now c.args.track.now c.place.new.track c.args.gap.from (c.args.gap.from + c.min-len.result) c.as_slice.result.now (Item c.next_item-number.result) c.place.result c.requires.good
+    stays-placed c.args.call.now.keep c.args.table.now c.args.track.now c.place.new.track c.args.gap.from (c.args.gap.from + c.min-len.result) c.as_slice.result.now (Item c.next_item-number.result) c.place.result c.requires.good
     (omega arith) (omega (arith, c.min-len.ensures, place-order c.args.track.now c.args.gap c.requires.gap, place-within c.args.track.now c.args.gap c.requires.good.kept c.requires.gap))
     p c.place.ensures.answers

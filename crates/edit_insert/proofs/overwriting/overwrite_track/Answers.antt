@@ -23,8 +23,8 @@ returns-then-from-clause-answers g c =
     ap (λ (n : ℕ). source_refusal c.args.table.now n c.args.call.now.what c.args.call.now.from c.args.call.now.len) (sym c.number.ensures)
     ∙ (sym c.source_refusal.ensures.refusal ∙ c.in-None.is) in (
       over-allowed c.args.table.now c.args.call.now c.args.track.now none
-          ∙ within-long (overwritten c.args.track.now c.args.call.now.at c.args.call.now.what c.args.call.now.from c.args.call.now.len) (Item c.args.track.now.next_item)
-          (omega (arith, over-length c.args.track.now c.args.call.now.at c.args.call.now.what c.args.call.now.from c.args.call.now.len c.requires.good.kept, c.if-from.true, c.from.ensures, c.from-2.ensures, c.from-3.ensures))
+          ∙ within-long (overwritten c.args.call.now.keep c.args.track.now c.args.call.now.at c.args.call.now.what c.args.call.now.from c.args.call.now.len) (Item c.args.track.now.next_item)
+          (omega (arith, over-length c.args.call.now.keep c.args.track.now c.args.call.now.at c.args.call.now.what c.args.call.now.from c.args.call.now.len c.requires.good.kept, c.if-from.true, c.from.ensures, c.from-2.ensures, c.from-3.ensures))
           ∙ ap (λ (n : ℕ). Err (TooLong n)) (sym c.number-then-from.ensures),
       refl,
     )
@@ -44,7 +44,7 @@ pub returns-clause-good : goal.returns-clause-good
 returns-clause-good g c =
     let none : source_refusal c.args.table.now c.number.result c.args.call.now.what c.args.call.now.from c.args.call.now.len ≡ None = sym c.source_refusal.ensures.refusal ∙ c.in-None.is in
     let clip = source-clip c.args.table.now c.number.result c.args.call.now.what c.args.call.now.from c.args.call.now.len none (rw c.in-None.is at c.source_refusal.ensures.filled) (rw c.in-None.is at c.source_refusal.ensures.source) in
-    stays-placed c.args.table.now c.args.track.now c.place.new.track c.min.result c.min-2.result c.as_slice.result.now (Item c.next_item-number.result) c.place.result c.requires.good
+    stays-placed c.args.call.now.keep c.args.table.now c.args.track.now c.place.new.track c.min.result c.min-2.result c.as_slice.result.now (Item c.next_item-number.result) c.place.result c.requires.good
     (omega (arith, c.min.ensures, c.min-2.ensures)) (omega (arith, c.min-2.ensures, c.length-length.ensures.value))
     (subst (PutIn c.args.table.now c.args.track.now) (sym (c.as_slice.ensures ∙ c.of-items.ensures ∙ ap (λ (v : ItemView). gap_views c.saturating_sub.result ++ new_views (Some v)) c.clip-item.ensures))
     (put-clip c.args.table.now c.args.track.now c.saturating_sub.result c.next_item-number.result c.args.call.now.what c.args.call.now.from c.args.call.now.len c.next_item-number.ensures clip))

@@ -1,7 +1,8 @@
-use Rattle.std.proofs.Common.{ℕ, ap, ◌∙◌, arith}
+use Rattle.std.proofs.Common.{ℕ, ap, ◌∙◌, arith, false}
 use Rattle.composables.specs.TrackState.{next_past_all}
 use Rattle.composables.proofs.Joining.{length-items_of}
 use Rattle.edit_splice.specs.Splicing.{spliced_track}
+use Rattle.edit_splice.proofs.Outcomes.{length-spliced_track}
 use Rattle.edit_splice.proofs.Counted.{counted, left-within, right-within}
 use Rattle.edit_splice.proofs.counting.count_after.Goals as goal
 
@@ -16,18 +17,19 @@ pub total-requires : goal.total-requires
 total-requires g c =
     omega (
       arith,
-      length-items_of (spliced_track c.args.track.now c.args.x c.args.y c.args.items.now).cells,
+      length-items_of (spliced_track false c.args.track.now c.args.x c.args.y c.args.items.now).cells,
+      length-spliced_track false c.args.track.now c.args.x c.args.y c.args.items.now c.requires.order c.requires.within,
       c.requires.short,
-      counted c.args.track.now c.args.x c.args.y c.number_past_all-fresh.result c.count.result c.count_by.result c.begun-between.result c.count_past-past.result c.seams_of-seams.result c.split_between-split.result
+      counted false c.args.track.now c.args.x c.args.y c.number_past_all-fresh.result c.count.result c.count_by.result c.begun-between.result c.count_past-past.result c.seams_of-seams.result c.split_between-split.result
           c.number_of.result c.back_number.result c.args.items.now c.a_track_is_kept.ensures c.requires.order c.requires.filled c.seams_of-seams.ensures.seams
           (c.number_past_all-fresh.ensures ∙ ap (λ (k : ℕ). next_past_all k c.args.items.now) c.next_item.ensures) c.split_between-split.ensures c.count.ensures c.number_of.ensures c.back_number.ensures
           c.count_by.ensures c.begun-between.ensures.begun c.count_past-past.ensures,
     )
 
 pub returns-clause-count : goal.returns-clause-count
-returns-clause-count g c =
+returns-clause-count g c keep =
     c.total.ensures
-    ∙ counted c.args.track.now c.args.x c.args.y c.number_past_all-fresh.result c.count.result c.count_by.result c.begun-between.result c.count_past-past.result c.seams_of-seams.result c.split_between-split.result
+    ∙ counted keep c.args.track.now c.args.x c.args.y c.number_past_all-fresh.result c.count.result c.count_by.result c.begun-between.result c.count_past-past.result c.seams_of-seams.result c.split_between-split.result
     c.number_of.result c.back_number.result c.args.items.now c.a_track_is_kept.ensures c.requires.order c.requires.filled c.seams_of-seams.ensures.seams
     (c.number_past_all-fresh.ensures ∙ ap (λ (k : ℕ). next_past_all k c.args.items.now) c.next_item.ensures) c.split_between-split.ensures c.count.ensures c.number_of.ensures c.back_number.ensures
     c.count_by.ensures c.begun-between.ensures.begun c.count_past-past.ensures

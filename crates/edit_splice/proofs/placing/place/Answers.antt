@@ -10,36 +10,36 @@ use Rattle.edit_splice.proofs.placing.place.Goals as goal
 
 pub count_after-requires-clause-short : goal.count_after-requires-clause-short
 count_after-requires-clause-short g c =
-    omega (arith, length-spliced_track c.args.track.now c.args.x c.args.y c.args.items.now c.requires.order c.requires.within, c.requires.short)
+    omega (arith, c.requires.short)
 
 pub returns-then-count_after-gt-MAX_ITEMS-clause-answers :
     goal.returns-then-count_after-gt-MAX_ITEMS-clause-answers
 returns-then-count_after-gt-MAX_ITEMS-clause-answers g c =
-    let u : TrackState = spliced_track c.args.track.now c.args.x c.args.y c.args.items.now in (
+    let u : TrackState = spliced_track c.args.keep c.args.track.now c.args.x c.args.y c.args.items.now in (
       within-many u c.args.done
-          (omega (arith, length-spliced_track c.args.track.now c.args.x c.args.y c.args.items.now c.requires.order c.requires.within, c.requires.short))
-          (omega (arith, c.count_after.ensures.count, c.if-count_after-gt-MAX_ITEMS.true))
+          (omega (arith, length-spliced_track c.args.keep c.args.track.now c.args.x c.args.y c.args.items.now c.requires.order c.requires.within, c.requires.short))
+          (omega (arith, c.count_after.ensures.count c.args.keep, c.if-count_after-gt-MAX_ITEMS.true))
           ∙ ap (λ n. Err (TooManyItems n)) (sym c.number.ensures),
       refl,
     )
 
-pub splice-requires-clause-kept : goal.splice-requires-clause-kept
-splice-requires-clause-kept g c =
-    kept_spliced c.args.track.now c.args.x c.args.y c.args.items.now c.requires.kept c.requires.order c.requires.within c.requires.new
+pub splice_by-requires-clause-kept : goal.splice_by-requires-clause-kept
+splice_by-requires-clause-kept g c =
+    kept_spliced c.args.keep c.args.track.now c.args.x c.args.y c.args.items.now c.requires.kept c.requires.order c.requires.within c.requires.new
     (omega (arith, c.requires.frames, c.requires.short, c.requires.order, c.requires.within))
 
-pub returns-in_err-splice-clause-answers : goal.returns-in_err-splice-clause-answers
-returns-in_err-splice-clause-answers g c =
-    let u : TrackState = spliced_track c.args.track.now c.args.x c.args.y c.args.items.now in
-    answers-memory (placed c.args.track.now c.args.x c.args.y c.args.items.now c.args.done) c.args.track.now c.splice.new.track c.from_residual.result c.from_residual.ensures.1
+pub returns-in_err-splice_by-clause-answers : goal.returns-in_err-splice_by-clause-answers
+returns-in_err-splice_by-clause-answers g c =
+    let u : TrackState = spliced_track c.args.keep c.args.track.now c.args.x c.args.y c.args.items.now in
+    answers-memory (placed c.args.keep c.args.track.now c.args.x c.args.y c.args.items.now c.args.done) c.args.track.now c.splice_by.new.track c.from_residual.result c.from_residual.ensures.1
     (ap is_ok (within-few u c.args.done
-    (omega (arith, length-spliced_track c.args.track.now c.args.x c.args.y c.args.items.now c.requires.order c.requires.within, c.requires.short))
-    (omega (arith, c.count_after.ensures.count, c.if-count_after-gt-MAX_ITEMS.false)))) c.in_err-splice.ensures.err
+    (omega (arith, length-spliced_track c.args.keep c.args.track.now c.args.x c.args.y c.args.items.now c.requires.order c.requires.within, c.requires.short))
+    (omega (arith, c.count_after.ensures.count c.args.keep, c.if-count_after-gt-MAX_ITEMS.false)))) c.in_err-splice_by.ensures.err
 
 pub returns-clause-answers : goal.returns-clause-answers
 returns-clause-answers g c =
-    let u : TrackState = spliced_track c.args.track.now c.args.x c.args.y c.args.items.now in
+    let u : TrackState = spliced_track c.args.keep c.args.track.now c.args.x c.args.y c.args.items.now in
     within-few u c.args.done
-    (omega (arith, length-spliced_track c.args.track.now c.args.x c.args.y c.args.items.now c.requires.order c.requires.within, c.requires.short))
-    (omega (arith, c.count_after.ensures.count, c.if-count_after-gt-MAX_ITEMS.false))
-    ∙ ap (λ n. Ok (n, c.args.done)) (sym c.in_ok-splice.ensures.ok)
+    (omega (arith, length-spliced_track c.args.keep c.args.track.now c.args.x c.args.y c.args.items.now c.requires.order c.requires.within, c.requires.short))
+    (omega (arith, c.count_after.ensures.count c.args.keep, c.if-count_after-gt-MAX_ITEMS.false))
+    ∙ ap (λ n. Ok (n, c.args.done)) (sym c.in_ok-splice_by.ensures.ok)

@@ -31,21 +31,21 @@ replace_in-requires-clause-within g c =
 
 pub replace_in-requires-clause-filled : goal.replace_in-requires-clause-filled
 replace_in-requires-clause-filled g c =
-    filled-made c.args.track.now.cells c.args.x c.args.y c.number_past_all-fresh.result c.seams_of-seams.result c.args.items.now c.lay_parts.new.spare.laid c.a_track_is_kept.ensures.each c.seams_of-seams.ensures.seams c.requires.filled (laid-alone c.args.spare c.lay_parts.new.spare (parts_between c.seams_of-seams.result c.args.x c.args.y c.args.items.now c.number_past_all-fresh.result) c.requires.room.empty c.lay_parts.ensures)
+    filled-made c.args.keep c.args.track.now.cells c.args.x c.args.y c.number_past_all-fresh.result c.seams_of-seams.result c.args.items.now c.lay_parts.new.spare.laid c.a_track_is_kept.ensures.each c.seams_of-seams.ensures.seams c.requires.filled (laid-alone c.args.spare c.lay_parts.new.spare (parts_between c.args.keep c.seams_of-seams.result c.args.x c.args.y c.args.items.now c.number_past_all-fresh.result) c.requires.room.empty c.lay_parts.ensures)
 
 pub replace_in-requires-clause-numbers : goal.replace_in-requires-clause-numbers
 replace_in-requires-clause-numbers g c =
-    below-made c.args.track.now c.args.x c.args.y c.number_past_all-fresh.result 4294967294 c.seams_of-seams.result c.args.items.now c.lay_parts.new.spare.laid c.a_track_is_kept.ensures c.seams_of-seams.ensures.seams
-    (omega (arith, c.requires.next)) c.requires.numbers (c.number_past_all-fresh.ensures ∙ ap (λ (k : ℕ). next_past_all k c.args.items.now) c.next_item.ensures) (below-weaker 4294967294 4294967295 c.args.items.now (omega arith) c.requires.numbers) (laid-alone c.args.spare c.lay_parts.new.spare (parts_between c.seams_of-seams.result c.args.x c.args.y c.args.items.now c.number_past_all-fresh.result) c.requires.room.empty c.lay_parts.ensures)
+    below-made c.args.keep c.args.track.now c.args.x c.args.y c.number_past_all-fresh.result 4294967294 c.seams_of-seams.result c.args.items.now c.lay_parts.new.spare.laid c.a_track_is_kept.ensures c.seams_of-seams.ensures.seams
+    (omega (arith, c.requires.next)) c.requires.numbers (c.number_past_all-fresh.ensures ∙ ap (λ (k : ℕ). next_past_all k c.args.items.now) c.next_item.ensures) (below-weaker 4294967294 4294967295 c.args.items.now (omega arith) c.requires.numbers) (laid-alone c.args.spare c.lay_parts.new.spare (parts_between c.args.keep c.seams_of-seams.result c.args.x c.args.y c.args.items.now c.number_past_all-fresh.result) c.requires.room.empty c.lay_parts.ensures)
 
 pub replace_in-requires-clause-kept : goal.replace_in-requires-clause-kept
 replace_in-requires-clause-kept g c =
-    kept-replaced c.args.track.now c.args.x c.args.y c.count.result c.number_past_all-fresh.result c.first_index-from.result c.end_index-to.result c.seams_of-seams.result c.args.items.now c.lay_parts.new.spare.laid
-    c.a_track_is_kept.ensures c.requires.order c.seams_of-seams.ensures.seams c.count.ensures (c.number_past_all-fresh.ensures ∙ ap (λ (k : ℕ). next_past_all k c.args.items.now) c.next_item.ensures) c.first_index-from.ensures c.end_index-to.ensures (laid-alone c.args.spare c.lay_parts.new.spare (parts_between c.seams_of-seams.result c.args.x c.args.y c.args.items.now c.number_past_all-fresh.result) c.requires.room.empty c.lay_parts.ensures) c.requires.kept
+    kept-replaced c.args.keep c.args.track.now c.args.x c.args.y c.count.result c.number_past_all-fresh.result c.first_index-from.result c.end_index-to.result c.seams_of-seams.result c.args.items.now c.lay_parts.new.spare.laid
+    c.a_track_is_kept.ensures c.requires.order c.seams_of-seams.ensures.seams c.count.ensures (c.number_past_all-fresh.ensures ∙ ap (λ (k : ℕ). next_past_all k c.args.items.now) c.next_item.ensures) c.first_index-from.ensures c.end_index-to.ensures (laid-alone c.args.spare c.lay_parts.new.spare (parts_between c.args.keep c.seams_of-seams.result c.args.x c.args.y c.args.items.now c.number_past_all-fresh.result) c.requires.room.empty c.lay_parts.ensures) c.requires.kept
 
 pub returns-clause-spliced : goal.returns-clause-spliced
 returns-clause-spliced g c =
     c.replace_in.ensures.replaced
-    ∙ replaced-is c.args.track.now c.args.x c.args.y c.count.result c.number_past_all-fresh.result c.first_index-from.result c.end_index-to.result c.seams_of-seams.result c.args.items.now c.lay_parts.new.spare.laid
+    ∙ replaced-is c.args.keep c.args.track.now c.args.x c.args.y c.count.result c.number_past_all-fresh.result c.first_index-from.result c.end_index-to.result c.seams_of-seams.result c.args.items.now c.lay_parts.new.spare.laid
     c.a_track_is_kept.ensures c.requires.order c.seams_of-seams.ensures.seams c.count.ensures (c.number_past_all-fresh.ensures ∙ ap (λ (k : ℕ). next_past_all k c.args.items.now) c.next_item.ensures) c.first_index-from.ensures c.end_index-to.ensures
-    (laid-alone c.args.spare c.lay_parts.new.spare (parts_between c.seams_of-seams.result c.args.x c.args.y c.args.items.now c.number_past_all-fresh.result) c.requires.room.empty c.lay_parts.ensures)
+    (laid-alone c.args.spare c.lay_parts.new.spare (parts_between c.args.keep c.seams_of-seams.result c.args.x c.args.y c.args.items.now c.number_past_all-fresh.result) c.requires.room.empty c.lay_parts.ensures)

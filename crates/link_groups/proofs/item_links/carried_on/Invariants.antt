@@ -7,6 +7,7 @@ use Rattle.link_groups.proofs.item_links.carried_on.Given as goal
 
 abbrev pub invariant-loop-index : goal.invariant-loop-index
 invariant-loop-index g l = record {
+  items : l.items ≡ drop l.index (items_of l.track.cells);
   on : carried_on l.link l.own l.item l.track ≡ list_any (λ (c : Cell). is_elsewhere l.link l.own l.item l.track.number c.item c.link) (cells_of (drop l.index (items_of l.track.cells)));
   from : l.fn.steps ≤ l.steps;
   most : l.steps ≤ l.fn.steps + l.index;

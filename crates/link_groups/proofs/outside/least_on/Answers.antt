@@ -1,7 +1,9 @@
-use Rattle.std.proofs.Common.{◌≡◌, Option, Some, take, drop, slice_get, ap, sym, ◌∙◌, arith}
+use Rattle.std.proofs.Common.{◌≡◌, Option, Some, take, drop, slice_get, ap, sym, ◌∙◌, arith, refl}
 use Rattle.frame_meaning.specs.declared.cells.Link.{Link}
 use Rattle.composables.specs.Items.{cells_of, items_of}
 use Rattle.composables.specs.Links.{least_link, least_outside}
+use Rattle.composables.proofs.Pieces.{left-first, left-rest, left-some}
+use Rattle.link_groups.proofs.Bare.{bare-cells, bare-drop, bare-outside}
 use Rattle.link_groups.proofs.LeastLinks.{filled-at, frames-more, frames-within, item-met, item-passed}
 use Rattle.link_groups.proofs.outside.least_on.Goals as goal
 use Rattle.link_groups.proofs.outside.least_on.Goals.{then-to-from, else-to-from}
@@ -9,12 +11,23 @@ use Rattle.link_groups.proofs.outside.least_on.Goals.{then-to-from, else-to-from
 pub overflow_add-to : goal.overflow_add-to
 overflow_add-to g c = omega (arith, c.loop-index.invariant.to, frames-within c.args.track.now c.loop-index.index c.length.ensures.kept)
 
+pub returns-then-not-has_links-clause-least : goal.returns-then-not-has_links-clause-least
+returns-then-not-has_links-clause-least g c =
+    let bare = bare-cells c.args.track.now c.length.ensures.kept (c.if-not-has_links.ensures.none refl) in
+    sym (bare-outside c.args.named.now (drop c.args.y c.args.track.now.cells) (bare-drop c.args.y c.args.track.now.cells bare))
+
+pub unreachable-requires : goal.unreachable-requires
+unreachable-requires g c =
+    left-some (items_of c.args.track.now.cells) c.loop-index.items c.loop-index.index (omega (arith, c.loop-index-test.true, c.count-index-end.ensures)) c.loop-index.invariant.items (c.in_default.ensures.none refl).0
+
 pub loop-index-preserved : goal.loop-index-preserved
 loop-index-preserved g c =
-    let read : slice_get (items_of c.args.track.now.cells) c.loop-index.index ≡ Some c.in-Some.view = sym c.item.ensures ∙ c.in-Some.is in
+    let read : slice_get (items_of c.args.track.now.cells) c.loop-index.index ≡ Some c.in-Some.view =
+    left-first (items_of c.args.track.now.cells) c.loop-index.items c.next.new.self c.loop-index.index c.in-Some.view c.loop-index.invariant.items c.in-Some.ensures.some in
     let more = frames-more (items_of c.args.track.now.cells) c.loop-index.index c.in-Some.view read in
     elim c.if-to-from.branch [
       | then-to-from w ↦ record {
+        items = left-rest (items_of c.args.track.now.cells) c.loop-index.items c.next.new.self c.loop-index.index c.in-Some.view c.loop-index.invariant.items c.in-Some.ensures.some;
         to = omega (arith, c.loop-index.invariant.to, c.from-to.ensures, more);
         least =
             w.least-is
@@ -28,6 +41,7 @@ loop-index-preserved g c =
         most = omega (arith, c.loop-index.invariant.most, c.tick.ensures);
       }
       | else-to-from w ↦ record {
+        items = left-rest (items_of c.args.track.now.cells) c.loop-index.items c.next.new.self c.loop-index.index c.in-Some.view c.loop-index.invariant.items c.in-Some.ensures.some;
         to = omega (arith, c.loop-index.invariant.to, c.from-to.ensures, more);
         least =
             w.least-is

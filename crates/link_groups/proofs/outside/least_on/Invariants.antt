@@ -6,6 +6,7 @@ use Rattle.link_groups.proofs.outside.least_on.Given as goal
 
 abbrev pub invariant-loop-index : goal.invariant-loop-index
 invariant-loop-index g l = record {
+  items : l.items ≡ drop l.index (items_of l.track.cells);
   to : l.to ≡ frames_in (take l.index (items_of l.track.cells));
   least : l.least ≡ least_outside l.named (drop l.y (cells_of (take l.index (items_of l.track.cells))));
   from : l.fn.steps ≤ l.steps;

@@ -1,9 +1,14 @@
-use Rattle.std.proofs.Common.{◌≡◌, Some, slice_get, sym, ◌∙◌, arith}
+use Rattle.std.proofs.Common.{◌≡◌, Some, slice_get, sym, ◌∙◌, arith, refl}
 use Rattle.composables.specs.Items.{items_of}
+use Rattle.link_groups.proofs.Bare.{bare-track}
 use Rattle.link_groups.proofs.LeastLinks.{frames-more, frames-within}
 use Rattle.link_groups.proofs.Relinking.{all-links, kept-now, more-met, more-past, none-there, read-now}
 use Rattle.link_groups.proofs.renumbering.relink_items.Goals as goal
 use Rattle.link_groups.proofs.renumbering.relink_items.Goals.{then-end-place, else-end-place}
+
+pub returns-then-not-has_links-clause-relinked : goal.returns-then-not-has_links-clause-relinked
+returns-then-not-has_links-clause-relinked g c =
+    bare-track c.args.splits.now c.args.place c.args.track.now c.a_track_is_kept.ensures (c.if-not-has_links.ensures.none refl)
 
 pub unreachable-requires : goal.unreachable-requires
 unreachable-requires g c =

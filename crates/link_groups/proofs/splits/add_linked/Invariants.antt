@@ -8,6 +8,7 @@ use Rattle.link_groups.proofs.splits.add_linked.Given as goal
 
 abbrev pub invariant-loop-index : goal.invariant-loop-index
 invariant-loop-index g l = record {
+  items : l.items ≡ drop l.index (items_of l.track.cells);
   at : l.at ≡ frames_in (take l.index (items_of l.track.cells));
   links : (q : ℕ × ℕ) → contains key_cmp l.links q ≡ (contains key_cmp l.fn.links q || list_any (has_key q) (drop l.from (take l.to (cells_of (take l.index (items_of l.track.cells))))));
   few : btree_set_len l.links ≤ btree_set_len l.fn.links + l.index;

@@ -1,4 +1,4 @@
-use Rattle.std.proofs.Common.{length, ap, arith}
+use Rattle.std.proofs.Common.{length, ap, arith, false}
 use Rattle.composables.specs.TrackState.{TrackState}
 use Rattle.edit_splice.proofs.Numbers.{below-weaker}
 use Rattle.edit_splice.proofs.Meeting.{filled-each}
@@ -13,6 +13,6 @@ splice-requires-clause-numbers g c = below-weaker 100 4294967294 c.args.views.no
 
 pub splice-requires-clause-kept : goal.splice-requires-clause-kept
 splice-requires-clause-kept g c =
-    kept_put c.empty-track.result c.length-end.result c.length-end.result 0 c.args.views.now c.length-end.ensures.kept (omega arith) (omega (arith, c.length-end.ensures.value))
+    kept_put false c.empty-track.result c.length-end.result c.length-end.result 0 c.args.views.now c.length-end.ensures.kept (omega arith) (omega (arith, c.length-end.ensures.value))
     (omega (arith, ap (λ (t : TrackState). t.next_item) c.empty-track.ensures)) c.requires.new
     (omega (arith, ap (λ (t : TrackState). length t.cells) c.empty-track.ensures)) c.requires.frames

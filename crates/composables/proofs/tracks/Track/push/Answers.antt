@@ -5,6 +5,7 @@ use Rattle.composables.specs.TrackState.{pushed}
 use Rattle.composables.specs.TrackInside.{state_of}
 use Rattle.composables.proofs.Joining.{length-cells_of, length-view_cells}
 use Rattle.composables.proofs.Keeping.{push_keeps, same_state}
+use Rattle.composables.proofs.Unlinked.{push_unlinked}
 use Rattle.composables.proofs.tracks.Track.push.Goals as goal
 
 pub push_item-requires : goal.push_item-requires
@@ -30,6 +31,7 @@ invariant_of-self-2 c =
       filled = k.filled;
       total = k.total_is;
       kept = rw (k.cells, c.number_past-self-inside.ensures) kept;
+      links = push_unlinked t.items.items c.push_item.new.items.items c.args.view t.linked c.is_some.result v.links c.is_some.ensures c.in_ok-push_item.ensures.ok;
     }
 
 pub returns-clause-ok : goal.returns-clause-ok

@@ -5,6 +5,7 @@ use Rattle.composables.specs.TrackState.{replaced}
 use Rattle.composables.specs.TrackInside.{state_of}
 use Rattle.composables.proofs.Joining.{items_of-tight, length-cells_of}
 use Rattle.composables.proofs.Keeping.{replace_keeps, replace_frames, same_state}
+use Rattle.composables.proofs.Unlinked.{put_unlinked}
 use Rattle.composables.proofs.tracks.Track.put.Goals as goal
 
 pub frames_around-total-requires-clause-within : goal.frames_around-total-requires-clause-within
@@ -52,6 +53,7 @@ invariant_of-self g c =
       filled = k.filled;
       total = k.total_is;
       kept = rw (k.cells, c.number_past_all-self-inside.ensures) kept;
+      links = put_unlinked xs c.replace.new.dest.items ws c.args.from c.args.to t.linked c.any_linked.result v.links c.any_linked.ensures is;
     }
 
 pub returns-clause-replaced : goal.returns-clause-replaced

@@ -2,6 +2,7 @@ use Rattle.std.proofs.Common.{arith, refl}
 use Rattle.composables.specs.Changes.{with_link}
 use Rattle.composables.proofs.Changing.{change_keeps, index_within}
 use Rattle.composables.proofs.Keeping.{same_state}
+use Rattle.composables.proofs.Unlinked.{link_unlinked}
 use Rattle.composables.proofs.tracks.Track.set_link.Goals as goal
 
 pub index_mut-requires : goal.index_mut-requires
@@ -13,7 +14,7 @@ invariant_of-self c =
     let t = c.self.inside in
     let within = rw (← c.self.view_is) at c.requires.within in
     let k = change_keeps (with_link c.args.link) t c.args.index c.index_mut.result.now (record { item = λ v. refl; len = λ v. refl }) v within c.index_mut.ensures.value in
-    record { tight = k.tight; filled = k.filled; total = k.total_is; kept = rw k.cells (rw (← c.self.view_is) at c.requires.kept) }
+    record { tight = k.tight; filled = k.filled; total = k.total_is; kept = rw k.cells (rw (← c.self.view_is) at c.requires.kept); links = link_unlinked t.items.items c.args.index c.index_mut.result.now c.args.link t.linked c.is_some.result v.links c.is_some.ensures }
 
 pub returns : goal.returns
 returns c =

@@ -7,6 +7,7 @@ use Rattle.composables.specs.Changes.{with_source, side_from}
 use Rattle.composables.proofs.Changing.{change_keeps, index_within}
 use Rattle.composables.proofs.Frames.{read_same}
 use Rattle.composables.proofs.Keeping.{same_state}
+use Rattle.composables.proofs.Unlinked.{stays_unlinked}
 use Rattle.composables.proofs.tracks.Track.set_source.Goals as goal
 
 pub index-requires : goal.index-requires
@@ -24,7 +25,7 @@ invariant_of-self c =
     let first = c.side_from.ensures ∙ ap (λ (u : ItemView). side_from u.first c.args.source) one in
     let same = ap (λ (s : Side What). set t.items.items c.args.index (record c.index_mut.result.now { first = s })) first in
     let k = rw (← same) at (change_keeps (with_source c.args.source) t c.args.index c.index_mut.result.now (record { item = λ v. refl; len = λ v. refl }) v within c.index_mut.ensures.value) in
-    record { tight = k.tight; filled = k.filled; total = k.total_is; kept = rw k.cells (rw (← c.self.view_is) at c.requires.kept) }
+    record { tight = k.tight; filled = k.filled; total = k.total_is; kept = rw k.cells (rw (← c.self.view_is) at c.requires.kept); links = λ h. stays_unlinked t.items.items c.args.index c.index_mut.result.now _ (index_within t c.args.index v within) c.index_mut.ensures.value refl (v.links h) }
 
 pub returns : goal.returns
 returns c =
