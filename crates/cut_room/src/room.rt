@@ -214,7 +214,7 @@ impl<O: PartObject + Drop, J: Naming<O, O::Part>> Room<O, J> {
         &self,
         rt: &R,
         alloc: Global,
-        held: Held<'_, O, J>,
+        mut held: Held<'_, O, J>,
         pass: Pass<O, J>,
         entry: Entry<O::Call>,
         gate: &G,
@@ -245,7 +245,8 @@ impl<O: PartObject + Drop, J: Naming<O, O::Part>> Room<O, J> {
                 self.commit(rt, alloc, held, parts, pass, entry, done)
             }
             Err(fault) => {
-                let (pass, point) = self.look(rt, held, pass);
+                let (pass, point) = self.look(rt, &mut held, pass);
+                held.release(rt);
                 match fault {
                     Fault::Refused(refusal) => (pass, Answer::Refused { point, refusal }),
                     Fault::Memory => (pass, Answer::Memory),
@@ -306,26 +307,34 @@ impl<O: PartObject + Drop, J: Naming<O, O::Part>> Room<O, J> {
         }
     }
 
-    // Looks at the journal with a pass and what is held, and puts this back.
-    fn look<R: Wait>(&self, rt: &R, mut held: Held<'_, O, J>, pass: Pass<O, J>) -> (Pass<O, J>, u32)
-        requires homes { AreHomes O.meaning O.opens J.opening held.numbers held.parts held.versions
-            held.seats }
-        requires good { AreGoodAt O.good J.opening held.numbers held.parts }
-        requires few { length held.numbers ≤ 32 }
+    // Looks at the journal with a pass and what is held, which stays held.
+    fn look<R: Wait>(
+        &self,
+        rt: &R,
+        held: &mut Held<'_, O, J>,
+        pass: Pass<O, J>,
+    ) -> (Pass<O, J>, u32)
+        requires homes { AreHomes O.meaning O.opens J.opening held.old.numbers held.old.parts
+            held.old.versions held.old.seats }
+        requires few { length held.old.numbers ≤ 32 }
         ensures at { IsAtPoint (O.meaning self.now.object) self.now.parts pass result.0 result.1 }
         ensures parts { ComesTo (O.meaning self.now.object) self.now.parts result.0.entries
-            held.entry.numbers held.entry.parts }
+            held.new.numbers held.new.parts }
+        ensures same { (held.new.numbers ≡ held.old.numbers)
+            × (held.new.parts ≡ held.old.parts) }
+        ensures homes { AreHomes O.meaning O.opens J.opening held.new.numbers held.new.parts
+            held.new.versions held.new.seats }
     {
         let station = pass.station();
         let mut turn = self.journal.lock(rt);
-        let point = gather(&mut turn, &mut held, pass);
-        let pass = give_back(&mut turn, &mut held, station);
+        let point = gather(&mut turn, held, pass);
+        let pass = give_back(&mut turn, held, station);
         turn.release();
-        held.release(rt);
         (pass, point)
     }
 
-    /// What a question is answered by the part that it is about, as it is at the point.
+    /// What a question is answered by the part that it is about, as it is at the point. The part is not copied: its lock
+    /// is held while the answer is made, and the journal's is not.
     pub fn see<R: Wait>(
         &self,
         rt: &R,
@@ -343,17 +352,14 @@ impl<O: PartObject + Drop, J: Naming<O, O::Part>> Room<O, J> {
                 return (pass, Sight::Refused { point, refusal });
             }
         };
-        let held = match self.hold_one(rt, alloc, part) {
+        let mut held = match self.hold_one(rt, alloc, part) {
             Ok(held) => held,
             Err(Memory) => return (pass, Sight::Memory),
         };
-        let copies = held.copy(alloc, &self.object);
-        let (pass, point) = self.look(rt, held, pass);
-        let copies = match copies {
-            Ok(copies) => copies,
-            Err(Memory) => return (pass, Sight::Memory),
-        };
-        match self.see_copy(alloc, &copies, ask) {
+        let (pass, point) = self.look(rt, &mut held, pass);
+        let seen = self.see_held(alloc, &held, ask);
+        held.release(rt);
+        match seen {
             Ok(seen) => (pass, Sight::Seen { point, seen }),
             Err(fault) => match fault {
                 Fault::Refused(refusal) => (pass, Sight::Refused { point, refusal }),
@@ -374,19 +380,19 @@ impl<O: PartObject + Drop, J: Naming<O, O::Part>> Room<O, J> {
         Ok(held)
     }
 
-    // What a question is answered by a copy of the part that it is about.
-    fn see_copy(
+    // What a question is answered by the part that is held for it.
+    fn see_held(
         &self,
         alloc: Global,
-        copies: &[O::Part],
+        held: &Held<'_, O, J>,
         ask: &O::Ask,
     ) -> Result<O::Seen, Fault<O::AskRefusal>>
         requires { (n : ℕ) × (O.asked self.now.object ask.now ≡ Ok n)
-            × AreGood (O.good self.now.object) (n ∷ []) copies.now }
-        ensures { (p : O.Part) × (copies.now ≡ p ∷ []) × Tells
+            × AreGood (O.good self.now.object) (n ∷ []) held.now.parts }
+        ensures { (p : O.Part) × (held.now.parts ≡ p ∷ []) × Tells
             (O.seen self.now.object p ask.now) result }
     {
-        self.object.see(alloc, &copies[0], ask)
+        self.object.see(alloc, held.part(0), ask)
     }
 
     /// The parts after the first `n` entries. Only the entries behind the nearest cut that is kept are done for it, and

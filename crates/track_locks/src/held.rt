@@ -1,5 +1,5 @@
 // Parts whose locks were taken.
-ghost use Rattle.std.specs.Prelude.{◌≡◌, ◌<◌, ◌≤◌, ◌+◌, ℕ, List, [], length, map, All, IfOk, vec_len, vec_capacity};
+ghost use Rattle.std.specs.Prelude.{◌≡◌, ◌<◌, ◌≤◌, ◌+◌, ℕ, List, [], length, map, slice_get, All, IfOk, Some, vec_len, vec_capacity};
 ghost use Rattle.room_core.specs.Parts.{AscendBetween, numbers as numbers_from};
 ghost use Rattle.edit_journal.specs.declared.name.Name.TheVariants.{Part};
 ghost use Rattle.edit_journal.specs.Seats.{In};
@@ -46,6 +46,14 @@ impl<'a, O: PartObject, J: Naming<O, O::Part>> Held<'a, O, J> {
         ensures { IfOk result (λ v. v.items ≡ self.now.parts) }
     {
         copied(alloc, object, &self.parts)
+    }
+
+    /// One of the parts, as it is held.
+    pub fn part(&self, index: usize) -> &O::Part
+        requires there { index < length self.now.parts }
+        ensures value { slice_get self.now.parts index ≡ Some result.now }
+    {
+        &self.parts[index]
     }
 
     /// Gathers the seats, the last first.

@@ -25,5 +25,5 @@ returns-in-Refused-clause-edited g c =
     let h = c.args.held in
     let meant = rw c.in-Refused.is at c.in-Err-apply.ensures.meant in
     rw (← c.self.view_is) (turned_down (g.O.PartObject.meaning s.object) s.opening.items c.args.entry.call c.args.pass c.look-pass.result.0 c.look-pass.result.1 h.numbers h.parts c.in-Refused.refusal
-    (rw (← c.self.view_is) at c.look-pass.ensures.at) (rw (← c.self.view_is) at c.look-pass.ensures.parts)
+    (rw (← c.self.view_is) at c.look-pass.ensures.at) (rw (← c.self.view_is, c.look-pass.ensures.same.0, c.look-pass.ensures.same.1) at c.look-pass.ensures.parts)
     (rw (← c.self.view_is) at c.requires.named) (rw (← c.self.view_is) at c.requires.numbers) (rw c.in-Ok.ensures at meant.0))

@@ -12,9 +12,9 @@ give_back-pass-requires-clause-station g c = rw c.station-station.ensures.number
 pub give_back-pass-requires-clause-tokens : goal.give_back-pass-requires-clause-tokens
 give_back-pass-requires-clause-tokens g c = rw c.gather-point.ensures.seats c.gather-point.ensures.gathered.tokens
 
-pub release-requires-2-clause-homes : goal.release-requires-2-clause-homes
-release-requires-2-clause-homes g c =
-    let h = c.args.held in
+pub returns-clause-homes : goal.returns-clause-homes
+returns-clause-homes g c =
+    let h = c.args.held.now in
     let all = c.gather-point.ensures.gathered in
     let back = c.give_back-pass.ensures in
     let same = c.gather-point.ensures.seats in
@@ -22,11 +22,6 @@ release-requires-2-clause-homes g c =
     rw (back.same.0, back.same.1, back.same.2, same)
     (homes_back g.O.PartObject.meaning g.O.PartObject.opens g.J.Naming.opening journal.opening journal.entries journal.entries h.numbers h.parts h.versions c.give_back-pass.new.held.seats
     c.requires.homes.parts c.requires.homes.versions all.parts_stand all.journal (back.seats ∙ ap (λ h. h.numbers) same) all.opening_is refl back.know)
-
-pub release-requires-2-clause-good : goal.release-requires-2-clause-good
-release-requires-2-clause-good g c =
-    let back = c.give_back-pass.ensures in
-    rw (back.same.0, back.same.1, c.gather-point.ensures.seats) c.requires.good
 
 pub returns-clause-at : goal.returns-clause-at
 returns-clause-at g c =
@@ -42,9 +37,15 @@ returns-clause-at g c =
 pub returns-clause-parts : goal.returns-clause-parts
 returns-clause-parts g c =
     let s = c.self.inside in
-    let h = c.args.held in
+    let h = c.args.held.now in
     let all = c.gather-point.ensures.gathered in
     let journal = c.gather-point.new.turn.journal in
-    rw (← c.self.view_is, c.give_back-pass.ensures.pass.2)
+    let back = c.give_back-pass.ensures in
+    rw (← c.self.view_is, back.pass.2, back.same.0, back.same.1, c.gather-point.ensures.seats)
     (held_parts g.O.PartObject.meaning g.O.PartObject.opens g.J.Naming.opening (s.object, s.opening.items) journal.entries h.numbers h.parts h.versions
     c.self.invariant.0 all.journal all.parts_stand c.requires.homes.parts c.requires.homes.versions)
+
+pub returns-clause-same : goal.returns-clause-same
+returns-clause-same g c =
+    let same = c.give_back-pass.ensures.same in
+    rw (same.0, same.1, c.gather-point.ensures.seats) (refl, refl)
