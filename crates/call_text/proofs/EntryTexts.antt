@@ -1,5 +1,5 @@
 -- The text of an entry has no line feed, and tells its entry.
-use Rattle.std.proofs.Common.{◌≡◌, ℕ, suc, ℤ, pos, negsuc, FitsSigned, ◌<◌, ◌≤◌, ◌^◌, List, [], ◌∷◌, ◌++◌, Bool, true, not, Option, Some, None, Ok, length, nat_le, inl, inr, refl, sym, ap, ◌∙◌, arith, append_assoc, codes}
+use Rattle.std.proofs.Common.{◌≡◌, ℕ, suc, ℤ, pos, negsuc, FitsSigned, ◌<◌, ◌≤◌, ◌^◌, List, [], ◌∷◌, ◌++◌, Bool, true, false, not, Option, Some, None, Ok, length, nat_le, inl, inr, refl, sym, ap, ◌∙◌, arith, append_assoc, codes}
 use Rattle.std.specs.Char.{is_ascii_digit}
 use Rattle.std.specs.Fmt.{decimal, signed_decimal}
 use Rattle.std.specs.Int.{w32}
@@ -26,7 +26,7 @@ use Rattle.room_core.specs.declared.entry.Entry.{Entry}
 use Rattle.call_text.specs.declared.lines.Line.TheVariants.{Edit}
 use Rattle.reply_text.specs.declared.line_fault.LineFault.TheVariants.{B5}
 use Rattle.reply_text.specs.Things.{what_text}
-use Rattle.call_text.specs.CallTexts.{numbers_after, tracks_text, frames_text, length_text, call_text_of, IsSmall, IsSmallWhat, IsSmallLength, IsWritten}
+use Rattle.call_text.specs.CallTexts.{keep_text, numbers_after, tracks_text, frames_text, length_text, call_text_of, IsSmall, IsSmallWhat, IsSmallLength, IsWritten}
 use Rattle.call_text.specs.JournalFaults.{HasNoEntry}
 use Rattle.call_text.specs.Journals.{entry_text, entry_line, count_text, count_line, HasLine}
 use Rattle.call_text.specs.LooseEntries.{loose_entry}
@@ -73,6 +73,14 @@ length_plain : (l : FillLength) → IsSmallLength l → is_plain (length_text l)
 length_plain (Source n) h = both_plain (codes "source ") (decimal n) refl (number_plain n h)
 length_plain Sequence h = refl
 
+keep_plain : (keep : Bool) → is_plain (keep_text keep) ≡ true
+keep_plain true = refl
+keep_plain false = refl
+
+-- a text and whether dissolves are kept
+kept_plain : (a : List ℕ) (keep : Bool) → is_plain a ≡ true → is_plain (a ++ keep_text keep) ≡ true
+kept_plain a keep h = both_plain a (keep_text keep) h (keep_plain keep)
+
 numbers_plain : (lead ns : List ℕ) → is_plain lead ≡ true → All IsSmall ns → is_plain (numbers_after lead ns) ≡ true
 numbers_plain lead [] first h = refl
 numbers_plain lead (n ∷ ns) first h =
@@ -97,19 +105,24 @@ frames_plain what from len w f n =
 call_plain : (c : Call) → IsWritten c → is_plain (call_text_of c) ≡ true
 call_plain (call.Overwrite c) (track, at, what, from, len) =
     let places = then_plain (codes "overwrite " ++ decimal c.track) (decimal c.at) (number_plain c.track (low c.track track)) (number_plain c.at at) in
-    then_plain (codes "overwrite " ++ decimal c.track ++ codes " " ++ decimal c.at) (frames_text c.what c.from c.len) places (frames_plain c.what c.from c.len what from len)
+    kept_plain (codes "overwrite " ++ decimal c.track ++ codes " " ++ decimal c.at ++ codes " " ++ frames_text c.what c.from c.len) c.keep
+    (then_plain (codes "overwrite " ++ decimal c.track ++ codes " " ++ decimal c.at) (frames_text c.what c.from c.len) places (frames_plain c.what c.from c.len what from len))
 call_plain (call.Insert c) (tracks, track, at, what, from, len) =
     let own = then_plain (codes "insert " ++ tracks_text c.tracks) (decimal c.track) (tracks_plain c.tracks) (number_plain c.track (low c.track track)) in
     let places = then_plain (codes "insert " ++ tracks_text c.tracks ++ codes " " ++ decimal c.track) (decimal c.at) own (number_plain c.at at) in
-    then_plain (codes "insert " ++ tracks_text c.tracks ++ codes " " ++ decimal c.track ++ codes " " ++ decimal c.at) (frames_text c.what c.from c.len) places
-    (frames_plain c.what c.from c.len what from len)
+    kept_plain (codes "insert " ++ tracks_text c.tracks ++ codes " " ++ decimal c.track ++ codes " " ++ decimal c.at ++ codes " " ++ frames_text c.what c.from c.len) c.keep
+    (then_plain (codes "insert " ++ tracks_text c.tracks ++ codes " " ++ decimal c.track ++ codes " " ++ decimal c.at) (frames_text c.what c.from c.len) places
+    (frames_plain c.what c.from c.len what from len))
 call_plain (call.Remove c) (track, item) =
-    then_plain (codes "remove " ++ decimal c.track) (decimal c.item) (number_plain c.track (low c.track track)) (number_plain c.item item)
+    kept_plain (codes "remove " ++ decimal c.track ++ codes " " ++ decimal c.item) c.keep
+    (then_plain (codes "remove " ++ decimal c.track) (decimal c.item) (number_plain c.track (low c.track track)) (number_plain c.item item))
 call_plain (call.Extract c) (tracks, track, item) =
     let own = then_plain (codes "extract " ++ tracks_text c.tracks) (decimal c.track) (tracks_plain c.tracks) (number_plain c.track (low c.track track)) in
-    then_plain (codes "extract " ++ tracks_text c.tracks ++ codes " " ++ decimal c.track) (decimal c.item) own (number_plain c.item item)
+    kept_plain (codes "extract " ++ tracks_text c.tracks ++ codes " " ++ decimal c.track ++ codes " " ++ decimal c.item) c.keep
+    (then_plain (codes "extract " ++ tracks_text c.tracks ++ codes " " ++ decimal c.track) (decimal c.item) own (number_plain c.item item))
 call_plain (call.Slice c) (track, at) =
-    then_plain (codes "slice " ++ decimal c.track) (decimal c.at) (number_plain c.track (low c.track track)) (number_plain c.at at)
+    kept_plain (codes "slice " ++ decimal c.track ++ codes " " ++ decimal c.at) c.keep
+    (then_plain (codes "slice " ++ decimal c.track) (decimal c.at) (number_plain c.track (low c.track track)) (number_plain c.at at))
 call_plain (call.Dissolve c) (track, at, a, b) =
     let places = then_plain (codes "dissolve " ++ decimal c.track) (decimal c.at) (number_plain c.track (low c.track track)) (number_plain c.at at) in
     let before = then_plain (codes "dissolve " ++ decimal c.track ++ codes " " ++ decimal c.at) (decimal c.a) places (number_plain c.a a) in
@@ -136,8 +149,9 @@ call_plain (call.Fill c) (track, at, what, from, len) =
     let things = then_plain (codes "fill " ++ decimal c.track ++ codes " " ++ decimal c.at) (what_text c.what) places (what_plain c.what what) in
     let sources =
     then_plain (codes "fill " ++ decimal c.track ++ codes " " ++ decimal c.at ++ codes " " ++ what_text c.what) (decimal c.from) things (number_plain c.from from) in
-    then_plain (codes "fill " ++ decimal c.track ++ codes " " ++ decimal c.at ++ codes " " ++ what_text c.what ++ codes " " ++ decimal c.from) (length_text c.length) sources
-    (length_plain c.length len)
+    kept_plain (codes "fill " ++ decimal c.track ++ codes " " ++ decimal c.at ++ codes " " ++ what_text c.what ++ codes " " ++ decimal c.from ++ codes " " ++ length_text c.length) c.keep
+    (then_plain (codes "fill " ++ decimal c.track ++ codes " " ++ decimal c.at ++ codes " " ++ what_text c.what ++ codes " " ++ decimal c.from) (length_text c.length) sources
+    (length_plain c.length len))
 call_plain (call.Ripple c) (tracks, track, item, by) =
     let own = then_plain (codes "ripple " ++ tracks_text c.tracks) (decimal c.track) (tracks_plain c.tracks) (number_plain c.track (low c.track track)) in
     let items = then_plain (codes "ripple " ++ tracks_text c.tracks ++ codes " " ++ decimal c.track) (decimal c.item) own (number_plain c.item item) in

@@ -12,16 +12,17 @@ use Rattle.line_words.specs.Digits.{number_of, signed_of}
 use Rattle.line_words.specs.declared.numbers.NumberFault.{NumberFault}
 use Rattle.line_words.specs.declared.numbers.NumberFault.TheVariants.{NotANumber, TooLarge}
 use Rattle.composables.specs.declared.calls.End.{End}
+use Rattle.composables.specs.declared.calls.FillLength.{FillLength}
 use Rattle.call_text.specs.declared.lines.Line.{Line}
 use Rattle.reply_text.specs.declared.line_fault.LineFault.{LineFault}
 use Rattle.reply_text.specs.declared.line_fault.LineFault.TheVariants.{B1, B2, B3, B4, B5, B6}
 use Rattle.call_text.specs.declared.first_words.FirstWord.{FirstWord}
 use Rattle.call_text.specs.declared.first_words.FirstWord.TheVariants as first_word
-use Rattle.call_text.specs.Spelling.{◌>>=◌, number_or_fault, numeral_of, numerals_of, numbers_of, delta_of, end_of, given_of, track_of, is_comma, set_with, tracks_of, number_or_label, place_of, what_of}
+use Rattle.call_text.specs.Spelling.{◌>>=◌, number_or_fault, numeral_of, numerals_of, numbers_of, delta_of, end_of, given_of, keep_of, filled_of, track_of, is_comma, set_with, tracks_of, number_or_label, place_of, what_of}
 use Rattle.call_text.specs.Reading.{first_word_of, overwrite_of, insert_of, fill_of, link_of, row_of, row_if, line_of_words, line_of}
 use Rattle.call_text.specs.Table.{IsLine, end_word, word_of}
-use Rattle.call_text.specs.Faults.{Part, Tracks, Track, Place, Thing, Number, Numbers, Ending, Delta, Given, rows_of, IsNoNumeral, IsTooLarge, IsNoDelta, IsDeltaTooLarge, IsBadTrack, AreBadTracks, AreBadNumerals, AreUneven, HasDigits, IsBadPart, IsPart, FirstIsBad, AreNoRow, AreBad, IsBad}
-use Rattle.call_text.proofs.ReadParts.{chosen, ok_same, err_ok, numeral_spelled, numeral_read, numerals_spelled, numerals_read, delta_spelled, delta_read, end_spelled, end_read, given_spelled, given_read, track_spelled, track_read, tracks_spelled, tracks_read, place_spelled, place_read, thing_spelled, thing_read}
+use Rattle.call_text.specs.Faults.{Part, Tracks, Track, Place, Thing, Number, Numbers, Ending, Delta, Given, rows_of, fill_rows, IsNoNumeral, IsTooLarge, IsNoDelta, IsDeltaTooLarge, IsBadTrack, AreBadTracks, AreBadNumerals, AreUneven, HasDigits, IsBadPart, IsPart, FirstIsBad, AreNoRow, AreBad, IsBad}
+use Rattle.call_text.proofs.ReadParts.{chosen, ok_same, err_ok, numeral_spelled, numeral_read, numerals_spelled, numerals_read, delta_spelled, delta_read, end_spelled, end_read, given_spelled, given_read, too_many, track_spelled, track_read, tracks_spelled, tracks_read, place_spelled, place_read, thing_spelled, thing_read}
 use Rattle.call_text.proofs.TableLaws.{first_spelled, first_read, line_spelled, line_read}
 
 -- the fault of what was not read
@@ -51,6 +52,10 @@ error_read r x h = ap error_of h
 error_bind : {A B : Type 0} (r : Result A LineFault) (f : A → Result B LineFault) (later : Option LineFault) → ((x : A) → error_of (f x) ≡ later) → error_of (r >>= f) ≡ or_later (error_of r) later
 error_bind (Ok x) f later h = h x
 error_bind (Err e) f later h = refl
+
+error_last : {A B : Type 0} (r : Result A LineFault) (f : A → Result B LineFault) → ((x : A) → error_of (f x) ≡ None) → error_of (r >>= f) ≡ error_of r
+error_last (Ok x) f h = h x
+error_last (Err e) f h = refl
 
 or_told : (o later : Option LineFault) (e : LineFault) → or_later o later ≡ Some e → (o ≡ Some e) ⊎ ((o ≡ None) × (later ≡ Some e))
 or_told (Some f) later e h = inl h
@@ -378,7 +383,12 @@ bad_rows place_at (row ∷ rows) words e (inr (other, more)) =
     rw not (bad_rows place_at rows words e more)
 
 -- the fault that is told of words is that of the table
-overwrite_error : (place_at : List ℕ → Option ℕ) (words : List (List ℕ)) → error_of (overwrite_of place_at words) ≡ rows_error place_at (rows_of first_word.Overwrite) words
+
+-- the word behind a row
+kept_error : {A : Type 0} (word : List ℕ) (f : Bool → Result A LineFault) → ((keep : Bool) → error_of (f keep) ≡ None) → error_of (keep_of (word ∷ []) >>= f) ≡ or_later (error_of (given_of (codes "keep") word)) None
+kept_error word f h = error_last (keep_of (word ∷ [])) f h ∙ error_bind (given_of (codes "keep") word) _ None (λ given. refl)
+
+overwrite_error : (place_at : List ℕ → Option ℕ) (words : List (List ℕ)) → error_of (overwrite_of place_at words) ≡ rows_error place_at (rows_of first_word.Overwrite words) words
 overwrite_error place_at [] = refl
 overwrite_error place_at (a ∷ []) = refl
 overwrite_error place_at (a ∷ b ∷ []) = refl
@@ -386,9 +396,11 @@ overwrite_error place_at (a ∷ b ∷ c ∷ []) = refl
 overwrite_error place_at (a ∷ b ∷ c ∷ d ∷ []) = refl
 overwrite_error place_at (a ∷ b ∷ c ∷ d ∷ e ∷ []) =
     error_bind (track_of a) _ _ (λ track. error_bind (place_of place_at b) _ _ (λ at. error_bind (what_of c) _ _ (λ what. error_bind (numeral_of d) _ _ (λ from. error_bind (numeral_of e) _ _ (λ len. refl)))))
-overwrite_error place_at (a ∷ b ∷ c ∷ d ∷ e ∷ f ∷ words) = refl
+overwrite_error place_at (a ∷ b ∷ c ∷ d ∷ e ∷ f ∷ []) =
+    error_bind (track_of a) _ _ (λ track. error_bind (place_of place_at b) _ _ (λ at. error_bind (what_of c) _ _ (λ what. error_bind (numeral_of d) _ _ (λ from. error_bind (numeral_of e) _ _ (λ len. kept_error f _ (λ keep. refl))))))
+overwrite_error place_at (a ∷ b ∷ c ∷ d ∷ e ∷ f ∷ g ∷ words) = let many = too_many 1 (f ∷ g ∷ words) (omega arith) in rw many refl
 
-insert_error : (place_at : List ℕ → Option ℕ) (words : List (List ℕ)) → error_of (insert_of place_at words) ≡ rows_error place_at (rows_of first_word.Insert) words
+insert_error : (place_at : List ℕ → Option ℕ) (words : List (List ℕ)) → error_of (insert_of place_at words) ≡ rows_error place_at (rows_of first_word.Insert words) words
 insert_error place_at [] = refl
 insert_error place_at (a ∷ []) = refl
 insert_error place_at (a ∷ b ∷ []) = refl
@@ -397,19 +409,55 @@ insert_error place_at (a ∷ b ∷ c ∷ d ∷ []) = refl
 insert_error place_at (a ∷ b ∷ c ∷ d ∷ e ∷ []) = refl
 insert_error place_at (a ∷ b ∷ c ∷ d ∷ e ∷ f ∷ []) =
     error_bind (tracks_of a) _ _ (λ tracks. error_bind (track_of b) _ _ (λ track. error_bind (place_of place_at c) _ _ (λ at. error_bind (what_of d) _ _ (λ what. error_bind (numeral_of e) _ _ (λ from. error_bind (numeral_of f) _ _ (λ len. refl))))))
-insert_error place_at (a ∷ b ∷ c ∷ d ∷ e ∷ f ∷ g ∷ words) = refl
+insert_error place_at (a ∷ b ∷ c ∷ d ∷ e ∷ f ∷ g ∷ []) =
+    error_bind (tracks_of a) _ _ (λ tracks. error_bind (track_of b) _ _ (λ track. error_bind (place_of place_at c) _ _ (λ at. error_bind (what_of d) _ _ (λ what. error_bind (numeral_of e) _ _ (λ from. error_bind (numeral_of f) _ _ (λ len. kept_error g _ (λ keep. refl)))))))
+insert_error place_at (a ∷ b ∷ c ∷ d ∷ e ∷ f ∷ g ∷ h ∷ words) = let many = too_many 1 (g ∷ h ∷ words) (omega arith) in rw many refl
 
-fill_error : (place_at : List ℕ → Option ℕ) (words : List (List ℕ)) → error_of (fill_of place_at words) ≡ rows_error place_at (rows_of first_word.Fill) words
+-- how much is filled
+unfilled_error : {A : Type 0} (how : List ℕ) (f : FillLength × Bool → Result A LineFault) → ((filled : FillLength × Bool) → error_of (f filled) ≡ None)
+    → error_of (filled_of how [] >>= f) ≡ or_later (error_of (given_of (codes "sequence") how)) None
+unfilled_error how f h = error_last (filled_of how []) f h ∙ error_bind (given_of (codes "sequence") how) _ None (λ given. refl)
+
+whole_error : {A : Type 0} (how last : List ℕ) (f : FillLength × Bool → Result A LineFault) → ((filled : FillLength × Bool) → error_of (f filled) ≡ None) → bytes_eq how (codes "sequence") ≡ true
+    → error_of (filled_of how (last ∷ []) >>= f) ≡ or_later (error_of (given_of (codes "sequence") how)) (or_later (error_of (given_of (codes "keep") last)) None)
+whole_error how last f h is = error_last (filled_of how (last ∷ [])) f h ∙ rw is (kept_error last _ (λ keep. refl))
+
+some_error : {A : Type 0} (how last : List ℕ) (f : FillLength × Bool → Result A LineFault) → ((filled : FillLength × Bool) → error_of (f filled) ≡ None) → bytes_eq how (codes "sequence") ≡ false
+    → error_of (filled_of how (last ∷ []) >>= f) ≡ or_later (error_of (given_of (codes "source") how)) (or_later (error_of (numeral_of last)) None)
+some_error how last f h is =
+    error_last (filled_of how (last ∷ [])) f h ∙ rw is (error_bind (given_of (codes "source") how) _ _ (λ given. error_bind (numeral_of last) _ None (λ n. refl)))
+
+kept_some_error : {A : Type 0} (how len last : List ℕ) (f : FillLength × Bool → Result A LineFault) → ((filled : FillLength × Bool) → error_of (f filled) ≡ None)
+    → error_of (filled_of how (len ∷ last ∷ []) >>= f) ≡ or_later (error_of (given_of (codes "source") how)) (or_later (error_of (numeral_of len)) (or_later (error_of (given_of (codes "keep") last)) None))
+kept_some_error how len last f h =
+    error_last (filled_of how (len ∷ last ∷ [])) f h
+    ∙ error_bind (given_of (codes "source") how) _ _ (λ given. error_bind (numeral_of len) _ _ (λ n. kept_error last _ (λ keep. refl)))
+
+-- by whether its fifth word is `sequence`
+fill_error_by : (place_at : List ℕ → Option ℕ) (a b c d e : List ℕ) (rest : List (List ℕ)) (whole : Bool) → bytes_eq e (codes "sequence") ≡ whole
+    → error_of (fill_of place_at (a ∷ b ∷ c ∷ d ∷ e ∷ rest)) ≡ rows_error place_at (fill_rows whole) (a ∷ b ∷ c ∷ d ∷ e ∷ rest)
+fill_error_by place_at a b c d e [] true is =
+    error_bind (track_of a) _ _ (λ track. error_bind (place_of place_at b) _ _ (λ at. error_bind (what_of c) _ _ (λ what. error_bind (numeral_of d) _ _ (λ from. unfilled_error e _ (λ filled. refl)))))
+fill_error_by place_at a b c d e [] false is =
+    error_bind (track_of a) _ _ (λ track. error_bind (place_of place_at b) _ _ (λ at. error_bind (what_of c) _ _ (λ what. error_bind (numeral_of d) _ _ (λ from. unfilled_error e _ (λ filled. refl)))))
+fill_error_by place_at a b c d e (f ∷ []) true is =
+    error_bind (track_of a) _ _ (λ track. error_bind (place_of place_at b) _ _ (λ at. error_bind (what_of c) _ _ (λ what. error_bind (numeral_of d) _ _ (λ from. whole_error e f _ (λ filled. refl) is))))
+fill_error_by place_at a b c d e (f ∷ []) false is =
+    error_bind (track_of a) _ _ (λ track. error_bind (place_of place_at b) _ _ (λ at. error_bind (what_of c) _ _ (λ what. error_bind (numeral_of d) _ _ (λ from. some_error e f _ (λ filled. refl) is))))
+fill_error_by place_at a b c d e (f ∷ g ∷ []) true is =
+    error_bind (track_of a) _ _ (λ track. error_bind (place_of place_at b) _ _ (λ at. error_bind (what_of c) _ _ (λ what. error_bind (numeral_of d) _ _ (λ from. kept_some_error e f g _ (λ filled. refl)))))
+fill_error_by place_at a b c d e (f ∷ g ∷ []) false is =
+    error_bind (track_of a) _ _ (λ track. error_bind (place_of place_at b) _ _ (λ at. error_bind (what_of c) _ _ (λ what. error_bind (numeral_of d) _ _ (λ from. kept_some_error e f g _ (λ filled. refl)))))
+fill_error_by place_at a b c d e (f ∷ g ∷ h ∷ words) true is = let many = too_many 2 (f ∷ g ∷ h ∷ words) (omega arith) in rw many refl
+fill_error_by place_at a b c d e (f ∷ g ∷ h ∷ words) false is = let many = too_many 2 (f ∷ g ∷ h ∷ words) (omega arith) in rw many refl
+
+fill_error : (place_at : List ℕ → Option ℕ) (words : List (List ℕ)) → error_of (fill_of place_at words) ≡ rows_error place_at (rows_of first_word.Fill words) words
 fill_error place_at [] = refl
 fill_error place_at (a ∷ []) = refl
 fill_error place_at (a ∷ b ∷ []) = refl
 fill_error place_at (a ∷ b ∷ c ∷ []) = refl
 fill_error place_at (a ∷ b ∷ c ∷ d ∷ []) = refl
-fill_error place_at (a ∷ b ∷ c ∷ d ∷ e ∷ []) =
-    error_bind (track_of a) _ _ (λ track. error_bind (place_of place_at b) _ _ (λ at. error_bind (what_of c) _ _ (λ what. error_bind (numeral_of d) _ _ (λ from. error_bind (given_of (codes "sequence") e) _ _ (λ how. refl)))))
-fill_error place_at (a ∷ b ∷ c ∷ d ∷ e ∷ f ∷ []) =
-    error_bind (track_of a) _ _ (λ track. error_bind (place_of place_at b) _ _ (λ at. error_bind (what_of c) _ _ (λ what. error_bind (numeral_of d) _ _ (λ from. error_bind (given_of (codes "source") e) _ _ (λ how. error_bind (numeral_of f) _ _ (λ len. refl))))))
-fill_error place_at (a ∷ b ∷ c ∷ d ∷ e ∷ f ∷ g ∷ words) = refl
+fill_error place_at (a ∷ b ∷ c ∷ d ∷ e ∷ rest) = fill_error_by place_at a b c d e rest (bytes_eq e (codes "sequence")) refl
 
 -- `link` has not as many items as tracks
 abbrev uneven_of : Result ℕ LineFault → Result (List ℕ) LineFault → Option LineFault
@@ -440,7 +488,7 @@ link_parts (Ok set) (Err e) = refl
 link_parts (Err e) s = refl
 
 link_error : (place_at : List ℕ → Option ℕ) (words : List (List ℕ))
-    → error_of (link_of words) ≡ or_later (rows_error place_at (rows_of first_word.Link) words) (uneven_words words)
+    → error_of (link_of words) ≡ or_later (rows_error place_at (rows_of first_word.Link words) words) (uneven_words words)
 link_error place_at [] = refl
 link_error place_at (a ∷ []) = refl
 link_error place_at (a ∷ b ∷ []) = link_parts (tracks_of a) (numbers_of b)
@@ -484,22 +532,26 @@ bad_uneven (a ∷ b ∷ []) e (set, items, is_tracks, are_numbers, uneven, is) =
     rw (tracks, numbers, count, is) refl
 bad_uneven (a ∷ b ∷ c ∷ words) e h = absurd h
 
-row_error : (place_at : List ℕ → Option ℕ) (k : FirstWord) (words : List (List ℕ)) → error_of (row_of place_at k words) ≡ or_later (rows_error place_at (rows_of k) words) (uneven_error (word_of k) words)
+row_error : (place_at : List ℕ → Option ℕ) (k : FirstWord) (words : List (List ℕ)) → error_of (row_of place_at k words) ≡ or_later (rows_error place_at (rows_of k words) words) (uneven_error (word_of k) words)
 row_error place_at first_word.Overwrite words = alone _ _ (overwrite_error place_at words)
 row_error place_at first_word.Insert words = alone _ _ (insert_error place_at words)
 row_error place_at first_word.Remove [] = refl
 row_error place_at first_word.Remove (a ∷ []) = refl
 row_error place_at first_word.Remove (a ∷ b ∷ []) = alone _ _ (error_bind (track_of a) _ _ (λ track. error_bind (numeral_of b) _ _ (λ item. refl)))
-row_error place_at first_word.Remove (a ∷ b ∷ c ∷ words) = refl
+row_error place_at first_word.Remove (a ∷ b ∷ c ∷ []) = alone _ _ (error_bind (track_of a) _ _ (λ track. error_bind (numeral_of b) _ _ (λ item. kept_error c _ (λ keep. refl))))
+row_error place_at first_word.Remove (a ∷ b ∷ c ∷ d ∷ words) = let many = too_many 1 (c ∷ d ∷ words) (omega arith) in rw many refl
 row_error place_at first_word.Extract [] = refl
 row_error place_at first_word.Extract (a ∷ []) = refl
 row_error place_at first_word.Extract (a ∷ b ∷ []) = refl
 row_error place_at first_word.Extract (a ∷ b ∷ c ∷ []) = alone _ _ (error_bind (tracks_of a) _ _ (λ tracks. error_bind (track_of b) _ _ (λ track. error_bind (numeral_of c) _ _ (λ item. refl))))
-row_error place_at first_word.Extract (a ∷ b ∷ c ∷ d ∷ words) = refl
+row_error place_at first_word.Extract (a ∷ b ∷ c ∷ d ∷ []) =
+    alone _ _ (error_bind (tracks_of a) _ _ (λ tracks. error_bind (track_of b) _ _ (λ track. error_bind (numeral_of c) _ _ (λ item. kept_error d _ (λ keep. refl)))))
+row_error place_at first_word.Extract (a ∷ b ∷ c ∷ d ∷ e ∷ words) = let many = too_many 1 (d ∷ e ∷ words) (omega arith) in rw many refl
 row_error place_at first_word.Slice [] = refl
 row_error place_at first_word.Slice (a ∷ []) = refl
 row_error place_at first_word.Slice (a ∷ b ∷ []) = alone _ _ (error_bind (track_of a) _ _ (λ track. error_bind (place_of place_at b) _ _ (λ at. refl)))
-row_error place_at first_word.Slice (a ∷ b ∷ c ∷ words) = refl
+row_error place_at first_word.Slice (a ∷ b ∷ c ∷ []) = alone _ _ (error_bind (track_of a) _ _ (λ track. error_bind (place_of place_at b) _ _ (λ at. kept_error c _ (λ keep. refl))))
+row_error place_at first_word.Slice (a ∷ b ∷ c ∷ d ∷ words) = let many = too_many 1 (c ∷ d ∷ words) (omega arith) in rw many refl
 row_error place_at first_word.Dissolve [] = refl
 row_error place_at first_word.Dissolve (a ∷ []) = refl
 row_error place_at first_word.Dissolve (a ∷ b ∷ []) = refl
@@ -580,8 +632,8 @@ if_bad : (place_at : List ℕ → Option ℕ) (first : List ℕ) (o : Option Fir
 if_bad place_at first None words e is h = inl (none_named first is, sym (err_same B1 e h))
 if_bad place_at first (Some k) words e is h =
     let same = first_spelled first k is in
-    elim (or_told (rows_error place_at (rows_of k) words) (uneven_error (word_of k) words) e (sym (row_error place_at k words) ∙ ap error_of h)) [
-      | inl here ↦ inr (inl (k, same, rows_bad place_at (rows_of k) words e here))
+    elim (or_told (rows_error place_at (rows_of k words) words) (uneven_error (word_of k) words) e (sym (row_error place_at k words) ∙ ap error_of h)) [
+      | inl here ↦ inr (inl (k, same, rows_bad place_at (rows_of k words) words e here))
       | inr later ↦ let uneven = uneven_bad (word_of k) words e later.1 in inr (inr (same ∙ uneven.0, uneven.1))
     ]
 
@@ -594,7 +646,7 @@ bad_words place_at [] e h = rw h refl
 bad_words place_at (first ∷ words) e (inl (none, is)) = let no = named_none first (first_word_of first) refl none in rw (no, is) refl
 bad_words place_at (first ∷ words) e (inr (inl (k, same, more))) =
     let named : first_word_of first ≡ Some k = ap first_word_of same ∙ first_read k in
-    let here : or_later (rows_error place_at (rows_of k) words) (uneven_error (word_of k) words) ≡ Some e = rw (bad_rows place_at (rows_of k) words e more) refl in
+    let here : or_later (rows_error place_at (rows_of k words) words) (uneven_error (word_of k) words) ≡ Some e = rw (bad_rows place_at (rows_of k words) words e more) refl in
     let read = error_told (row_of place_at k words) e (row_error place_at k words ∙ here) in
     rw (named, read) refl
 bad_words place_at (first ∷ words) e (inr (inr (same, uneven))) =

@@ -1,7 +1,7 @@
 -- What is read of a part is spelled there, and what is spelled there is read.
-use Rattle.std.proofs.Common.{◌≡◌, ℕ, ℤ, ◌+◌, ◌^◌, ◌<◌, ◌⊎◌, List, [], ◌∷◌, Bool, true, false, Option, Some, None, Result, Ok, Err, ◌==◌, nat_le, length, if◌then◌else◌, inl, inr, refl, ap, sym, subst, ◌∙◌, arith, pow_pos, codes}
+use Rattle.std.proofs.Common.{◌≡◌, ℕ, ℤ, ◌+◌, ◌^◌, ◌<◌, ◌≤◌, ◌⊎◌, List, [], ◌∷◌, Bool, true, false, Option, Some, None, Result, Ok, Err, ◌==◌, nat_le, length, if◌then◌else◌, inl, inr, refl, ap, sym, subst, ◌∙◌, arith, pow_pos, codes}
 use Rattle.std.specs.List.{slice_split}
-use Rattle.std.proofs.lemmas.Bool.{leb-true, le-leb, eqb-true}
+use Rattle.std.proofs.lemmas.Bool.{leb-true, le-leb, lt-leb, eqb-true}
 use Rattle.std.proofs.lemmas.List.Splits.{length-slice_split}
 use Rattle.std.proofs.lemmas.Slice.Eq.{bytes_eq-Decides}
 use Rattle.std.specs.Str.{bytes_eq}
@@ -10,12 +10,14 @@ use Rattle.line_words.specs.declared.numbers.NumberFault.{NumberFault}
 use Rattle.line_words.specs.declared.numbers.NumberFault.TheVariants.{NotANumber, TooLarge}
 use Rattle.composables.specs.declared.calls.End.{End}
 use Rattle.composables.specs.declared.calls.End.TheVariants.{Head, Tail}
+use Rattle.composables.specs.declared.calls.FillLength.{FillLength}
+use Rattle.composables.specs.declared.calls.FillLength.TheVariants.{Source, Sequence}
 use Rattle.frame_meaning.specs.declared.cells.What.{What}
 use Rattle.frame_meaning.specs.declared.cells.What.TheVariants.{Media, Nest}
 use Rattle.reply_text.specs.declared.line_fault.LineFault.{LineFault}
-use Rattle.reply_text.specs.declared.line_fault.LineFault.TheVariants.{B1, B3, B4, B6}
-use Rattle.call_text.specs.Spelling.{◌>>=◌, number_or_fault, numeral_of, numerals_of, delta_of, end_of, given_of, track_of, is_comma, set_with, tracks_of, place_or_fault, number_or_label, place_of, what_of}
-use Rattle.call_text.specs.Table.{AreNumerals, IsDelta, IsNumeral, NamesTrack, NamesTracks, IsPlace, IsThing, end_word}
+use Rattle.reply_text.specs.declared.line_fault.LineFault.TheVariants.{B1, B2, B3, B4, B6}
+use Rattle.call_text.specs.Spelling.{◌>>=◌, number_or_fault, numeral_of, numerals_of, delta_of, end_of, given_of, at_most_of, keep_of, filled_of, track_of, is_comma, set_with, tracks_of, place_or_fault, number_or_label, place_of, what_of}
+use Rattle.call_text.specs.Table.{AreLength, AreNumerals, IsDelta, IsNumeral, NamesTrack, NamesTracks, IsPlace, IsThing, end_word, keep_words}
 use Rattle.call_text.proofs.TrackSets.{AreRising, rising, set_below, spells}
 
 -- what was read first, where all was read
@@ -71,6 +73,62 @@ given_spelled given word is h = elim (chosen (bytes_eq word given) _ _ (Ok is) h
 
 pub given_read : (given word : List ℕ) → word ≡ given → given_of given word ≡ Ok tt
 given_read given word h = let same = (bytes_eq-Decides word given).1 h in rw same refl
+
+-- words behind a row, and whether they are few enough
+pub few_spelled : (most : ℕ) (words : List (List ℕ)) (few : Unit {0}) → at_most_of most words ≡ Ok few → length words ≤ most
+few_spelled most words few h = elim (chosen (nat_le (length words) most) _ _ (Ok few) h) [
+  | inl low ↦ leb-true (length words) most low.0
+  | inr high ↦ absurd (err_ok B2 few high.1)
+]
+
+pub too_many : (most : ℕ) (words : List (List ℕ)) → most < length words → at_most_of most words ≡ Err B2
+too_many most words h = let high = lt-leb (length words) most h in rw high refl
+
+-- whether dissolves are kept
+pub keep_spelled : (words : List (List ℕ)) (keep : Bool) → length words ≤ 1 → keep_of words ≡ Ok keep → words ≡ keep_words keep
+keep_spelled [] keep few h = let same = ok_same false keep h in ap keep_words same
+keep_spelled (word ∷ []) keep few h =
+    let given = bind_ok (given_of (codes "keep") word) _ keep h in
+    let same = ok_same true keep given.2 in
+    ap (λ (w : List ℕ). w ∷ []) (given_spelled (codes "keep") word given.0 given.1) ∙ ap keep_words same
+keep_spelled (word ∷ other ∷ words) keep few h = absurd (omega (arith, few))
+
+pub keep_read : (keep : Bool) → keep_of (keep_words keep) ≡ Ok keep
+keep_read true = refl
+keep_read false = refl
+
+pub few_read : (keep : Bool) → at_most_of 1 (keep_words keep) ≡ Ok tt
+few_read true = refl
+few_read false = refl
+
+-- how much is filled, and whether dissolves are kept
+pub filled_spelled : (how : List ℕ) (words : List (List ℕ)) (filled : FillLength × Bool) → length words ≤ 2 → filled_of how words ≡ Ok filled → AreLength (how ∷ words) filled.0 filled.1
+filled_spelled how [] filled few h =
+    let given = bind_ok (given_of (codes "sequence") how) _ filled h in
+    let same = ok_same (Sequence, false) filled given.2 in
+    rw (← same) (ap (λ (w : List ℕ). w ∷ []) (given_spelled (codes "sequence") how given.0 given.1))
+filled_spelled how (last ∷ []) filled few h = elim (chosen (bytes_eq how (codes "sequence")) _ _ (Ok filled) h) [
+  | inl whole ↦
+      let keep = bind_ok (keep_of (last ∷ [])) _ filled whole.1 in
+      let same = ok_same (Sequence, keep.0) filled keep.2 in
+      let words = keep_spelled (last ∷ []) keep.0 (omega arith) keep.1 in
+      let word = (bytes_eq-Decides how (codes "sequence")).0 whole.0 in
+      rw (← same) (ap (λ (w : List ℕ). w ∷ last ∷ []) word ∙ ap (λ (ws : List (List ℕ)). codes "sequence" ∷ ws) words)
+  | inr some ↦
+      let given = bind_ok (given_of (codes "source") how) _ filled some.1 in
+      let len = bind_ok (numeral_of last) _ filled given.2 in
+      let same = ok_same (Source len.0, false) filled len.2 in
+      rw (← same) (last, ap (λ (w : List ℕ). w ∷ last ∷ []) (given_spelled (codes "source") how given.0 given.1), numeral_spelled last len.0 len.1)
+]
+filled_spelled how (word ∷ last ∷ []) filled few h =
+    let given = bind_ok (given_of (codes "source") how) _ filled h in
+    let len = bind_ok (numeral_of word) _ filled given.2 in
+    let keep = bind_ok (keep_of (last ∷ [])) _ filled len.2 in
+    let same = ok_same (Source len.0, keep.0) filled keep.2 in
+    let words = keep_spelled (last ∷ []) keep.0 (omega arith) keep.1 in
+    let source = given_spelled (codes "source") how given.0 given.1 in
+    rw (← same) (word, ap (λ (w : List ℕ). w ∷ word ∷ last ∷ []) source ∙ ap (λ (ws : List (List ℕ)). codes "source" ∷ word ∷ ws) words, numeral_spelled word len.0 len.1)
+filled_spelled how (a ∷ b ∷ c ∷ words) filled few h = absurd (omega (arith, few))
 
 bounded : (b : Bool) (m n : ℕ) → (if b then Ok m else Err B4) ≡ Ok n → (b ≡ true) × (m ≡ n)
 bounded true m n h = (refl, cc)

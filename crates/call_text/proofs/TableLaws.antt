@@ -1,5 +1,5 @@
 -- What is read of a line is spelled there, and what is spelled there is read.
-use Rattle.std.proofs.Common.{◌≡◌, ℕ, true, Result, ◌∙◌, List, [], ◌∷◌, Option, Some, None, Ok, length, nat_eq, nat_le, inl, inr, refl, ap, if◌then◌else◌, codes}
+use Rattle.std.proofs.Common.{◌≡◌, ℕ, Bool, true, false, Result, ◌∙◌, List, [], ◌∷◌, Option, Some, None, Ok, length, nat_eq, nat_le, inl, inr, refl, ap, if◌then◌else◌, codes}
 use Rattle.std.proofs.lemmas.Bool.{eqb-true, eq-eqb, leb-true, le-leb}
 use Rattle.std.proofs.lemmas.Slice.Eq.{bytes_eq-Decides}
 use Rattle.std.specs.Str.{bytes_eq}
@@ -17,10 +17,10 @@ use Rattle.reply_text.specs.declared.line_fault.LineFault.{LineFault}
 use Rattle.reply_text.specs.declared.line_fault.LineFault.TheVariants.{B1, B2, B5}
 use Rattle.call_text.specs.declared.first_words.FirstWord.{FirstWord}
 use Rattle.call_text.specs.declared.first_words.FirstWord.TheVariants as first_word
-use Rattle.call_text.specs.Spelling.{is_comma, numeral_of, numbers_of, delta_of, end_of, given_of, track_of, tracks_of, place_of, what_of}
+use Rattle.call_text.specs.Spelling.{is_comma, numeral_of, numbers_of, delta_of, end_of, at_most_of, keep_of, filled_of, track_of, tracks_of, place_of, what_of}
 use Rattle.call_text.specs.Reading.{AreRead, IsRowRead, overwrite_of, insert_of, remove_of, extract_of, slice_of, dissolve_of, undissolve_of, trim_of, slip_of, roll_of, slide_of, fill_of, ripple_of, link_of, unlink_of, view_of, items_of, point_of, otio_of, are_linking, first_word_of, row_of, row_if, line_of_words, line_of}
 use Rattle.call_text.specs.Table.{AreLength, AreWords, IsLine, word_of}
-use Rattle.call_text.proofs.ReadParts.{bind_ok, chosen, ok_same, err_ok, numeral_spelled, numeral_read, numerals_spelled, numerals_read, delta_spelled, delta_read, end_spelled, end_read, given_spelled, track_spelled, track_read, tracks_spelled, tracks_read, place_spelled, place_read, thing_spelled, thing_read}
+use Rattle.call_text.proofs.ReadParts.{bind_ok, chosen, ok_same, err_ok, numeral_spelled, numeral_read, numerals_spelled, numerals_read, delta_spelled, delta_read, end_spelled, end_read, few_spelled, few_read, keep_spelled, keep_read, filled_spelled, track_spelled, track_read, tracks_spelled, tracks_read, place_spelled, place_read, thing_spelled, thing_read}
 
 some_same : {A : Type 0} (x y : A) → Some x ≡ Some y → x ≡ y
 some_same x y h = cc
@@ -87,27 +87,29 @@ overwrite_spelled place_at (a ∷ []) line h = absurd (err_ok B2 line h)
 overwrite_spelled place_at (a ∷ b ∷ []) line h = absurd (err_ok B2 line h)
 overwrite_spelled place_at (a ∷ b ∷ c ∷ []) line h = absurd (err_ok B2 line h)
 overwrite_spelled place_at (a ∷ b ∷ c ∷ d ∷ []) line h = absurd (err_ok B2 line h)
-overwrite_spelled place_at (a ∷ b ∷ c ∷ d ∷ e ∷ []) line h =
-    let track = bind_ok (track_of a) _ line h in
+overwrite_spelled place_at (a ∷ b ∷ c ∷ d ∷ e ∷ rest) line h =
+    let few = bind_ok (at_most_of 1 rest) _ line h in
+    let track = bind_ok (track_of a) _ line few.2 in
     let at = bind_ok (place_of place_at b) _ line track.2 in
     let what = bind_ok (what_of c) _ line at.2 in
     let from = bind_ok (numeral_of d) _ line what.2 in
     let len = bind_ok (numeral_of e) _ line from.2 in
-    let same = ok_same (Edit (call.Overwrite (record { track = track.0; at = at.0; what = what.0; from = from.0; len = len.0 }))) line len.2 in
+    let keep = bind_ok (keep_of rest) _ line len.2 in
+    let same = ok_same (Edit (call.Overwrite (record { track = track.0; at = at.0; what = what.0; from = from.0; len = len.0; keep = keep.0 }))) line keep.2 in
+    let last = keep_spelled rest keep.0 (few_spelled 1 rest few.0 few.1) keep.1 in
     rw (← same) (
       a,
       b,
       c,
       d,
       e,
-      refl,
+      ap (λ (ws : List (List ℕ)). word_of first_word.Overwrite ∷ a ∷ b ∷ c ∷ d ∷ e ∷ ws) last,
       track_spelled a track.0 track.1,
       place_spelled place_at b at.0 at.1,
       thing_spelled c what.0 what.1,
       numeral_spelled d from.0 from.1,
       numeral_spelled e len.0 len.1,
     )
-overwrite_spelled place_at (a ∷ b ∷ c ∷ d ∷ e ∷ f ∷ words) line h = absurd (err_ok B2 line h)
 
 insert_spelled : (place_at : List ℕ → Option ℕ) (words : List (List ℕ)) (line : Line) → insert_of place_at words ≡ Ok line → AreWords place_at (word_of first_word.Insert ∷ words) line
 insert_spelled place_at [] line h = absurd (err_ok B2 line h)
@@ -116,14 +118,17 @@ insert_spelled place_at (a ∷ b ∷ []) line h = absurd (err_ok B2 line h)
 insert_spelled place_at (a ∷ b ∷ c ∷ []) line h = absurd (err_ok B2 line h)
 insert_spelled place_at (a ∷ b ∷ c ∷ d ∷ []) line h = absurd (err_ok B2 line h)
 insert_spelled place_at (a ∷ b ∷ c ∷ d ∷ e ∷ []) line h = absurd (err_ok B2 line h)
-insert_spelled place_at (a ∷ b ∷ c ∷ d ∷ e ∷ f ∷ []) line h =
-    let tracks = bind_ok (tracks_of a) _ line h in
+insert_spelled place_at (a ∷ b ∷ c ∷ d ∷ e ∷ f ∷ rest) line h =
+    let few = bind_ok (at_most_of 1 rest) _ line h in
+    let tracks = bind_ok (tracks_of a) _ line few.2 in
     let track = bind_ok (track_of b) _ line tracks.2 in
     let at = bind_ok (place_of place_at c) _ line track.2 in
     let what = bind_ok (what_of d) _ line at.2 in
     let from = bind_ok (numeral_of e) _ line what.2 in
     let len = bind_ok (numeral_of f) _ line from.2 in
-    let same = ok_same (Edit (call.Insert (record { tracks = tracks.0; track = track.0; at = at.0; what = what.0; from = from.0; len = len.0 }))) line len.2 in
+    let keep = bind_ok (keep_of rest) _ line len.2 in
+    let same = ok_same (Edit (call.Insert (record { tracks = tracks.0; track = track.0; at = at.0; what = what.0; from = from.0; len = len.0; keep = keep.0 }))) line keep.2 in
+    let last = keep_spelled rest keep.0 (few_spelled 1 rest few.0 few.1) keep.1 in
     rw (← same) (
       a,
       b,
@@ -131,7 +136,7 @@ insert_spelled place_at (a ∷ b ∷ c ∷ d ∷ e ∷ f ∷ []) line h =
       d,
       e,
       f,
-      refl,
+      ap (λ (ws : List (List ℕ)). word_of first_word.Insert ∷ a ∷ b ∷ c ∷ d ∷ e ∷ f ∷ ws) last,
       tracks_spelled a tracks.0 tracks.1,
       track_spelled b track.0 track.1,
       place_spelled place_at c at.0 at.1,
@@ -139,39 +144,44 @@ insert_spelled place_at (a ∷ b ∷ c ∷ d ∷ e ∷ f ∷ []) line h =
       numeral_spelled e from.0 from.1,
       numeral_spelled f len.0 len.1,
     )
-insert_spelled place_at (a ∷ b ∷ c ∷ d ∷ e ∷ f ∷ g ∷ words) line h = absurd (err_ok B2 line h)
 
 remove_spelled : (place_at : List ℕ → Option ℕ) (words : List (List ℕ)) (line : Line) → remove_of words ≡ Ok line → AreWords place_at (word_of first_word.Remove ∷ words) line
 remove_spelled place_at [] line h = absurd (err_ok B2 line h)
 remove_spelled place_at (a ∷ []) line h = absurd (err_ok B2 line h)
-remove_spelled place_at (a ∷ b ∷ []) line h =
-    let track = bind_ok (track_of a) _ line h in
+remove_spelled place_at (a ∷ b ∷ rest) line h =
+    let few = bind_ok (at_most_of 1 rest) _ line h in
+    let track = bind_ok (track_of a) _ line few.2 in
     let item = bind_ok (numeral_of b) _ line track.2 in
-    let same = ok_same (Edit (call.Remove (record { track = track.0; item = item.0 }))) line item.2 in
-    rw (← same) (a, b, refl, track_spelled a track.0 track.1, numeral_spelled b item.0 item.1)
-remove_spelled place_at (a ∷ b ∷ c ∷ words) line h = absurd (err_ok B2 line h)
+    let keep = bind_ok (keep_of rest) _ line item.2 in
+    let same = ok_same (Edit (call.Remove (record { track = track.0; item = item.0; keep = keep.0 }))) line keep.2 in
+    let last = keep_spelled rest keep.0 (few_spelled 1 rest few.0 few.1) keep.1 in
+    rw (← same) (a, b, ap (λ (ws : List (List ℕ)). word_of first_word.Remove ∷ a ∷ b ∷ ws) last, track_spelled a track.0 track.1, numeral_spelled b item.0 item.1)
 
 extract_spelled : (place_at : List ℕ → Option ℕ) (words : List (List ℕ)) (line : Line) → extract_of words ≡ Ok line → AreWords place_at (word_of first_word.Extract ∷ words) line
 extract_spelled place_at [] line h = absurd (err_ok B2 line h)
 extract_spelled place_at (a ∷ []) line h = absurd (err_ok B2 line h)
 extract_spelled place_at (a ∷ b ∷ []) line h = absurd (err_ok B2 line h)
-extract_spelled place_at (a ∷ b ∷ c ∷ []) line h =
-    let tracks = bind_ok (tracks_of a) _ line h in
+extract_spelled place_at (a ∷ b ∷ c ∷ rest) line h =
+    let few = bind_ok (at_most_of 1 rest) _ line h in
+    let tracks = bind_ok (tracks_of a) _ line few.2 in
     let track = bind_ok (track_of b) _ line tracks.2 in
     let item = bind_ok (numeral_of c) _ line track.2 in
-    let same = ok_same (Edit (call.Extract (record { tracks = tracks.0; track = track.0; item = item.0 }))) line item.2 in
-    rw (← same) (a, b, c, refl, tracks_spelled a tracks.0 tracks.1, track_spelled b track.0 track.1, numeral_spelled c item.0 item.1)
-extract_spelled place_at (a ∷ b ∷ c ∷ d ∷ words) line h = absurd (err_ok B2 line h)
+    let keep = bind_ok (keep_of rest) _ line item.2 in
+    let same = ok_same (Edit (call.Extract (record { tracks = tracks.0; track = track.0; item = item.0; keep = keep.0 }))) line keep.2 in
+    let last = keep_spelled rest keep.0 (few_spelled 1 rest few.0 few.1) keep.1 in
+    rw (← same) (a, b, c, ap (λ (ws : List (List ℕ)). word_of first_word.Extract ∷ a ∷ b ∷ c ∷ ws) last, tracks_spelled a tracks.0 tracks.1, track_spelled b track.0 track.1, numeral_spelled c item.0 item.1)
 
 slice_spelled : (place_at : List ℕ → Option ℕ) (words : List (List ℕ)) (line : Line) → slice_of place_at words ≡ Ok line → AreWords place_at (word_of first_word.Slice ∷ words) line
 slice_spelled place_at [] line h = absurd (err_ok B2 line h)
 slice_spelled place_at (a ∷ []) line h = absurd (err_ok B2 line h)
-slice_spelled place_at (a ∷ b ∷ []) line h =
-    let track = bind_ok (track_of a) _ line h in
+slice_spelled place_at (a ∷ b ∷ rest) line h =
+    let few = bind_ok (at_most_of 1 rest) _ line h in
+    let track = bind_ok (track_of a) _ line few.2 in
     let at = bind_ok (place_of place_at b) _ line track.2 in
-    let same = ok_same (Edit (call.Slice (record { track = track.0; at = at.0 }))) line at.2 in
-    rw (← same) (a, b, refl, track_spelled a track.0 track.1, place_spelled place_at b at.0 at.1)
-slice_spelled place_at (a ∷ b ∷ c ∷ words) line h = absurd (err_ok B2 line h)
+    let keep = bind_ok (keep_of rest) _ line at.2 in
+    let same = ok_same (Edit (call.Slice (record { track = track.0; at = at.0; keep = keep.0 }))) line keep.2 in
+    let last = keep_spelled rest keep.0 (few_spelled 1 rest few.0 few.1) keep.1 in
+    rw (← same) (a, b, ap (λ (ws : List (List ℕ)). word_of first_word.Slice ∷ a ∷ b ∷ ws) last, track_spelled a track.0 track.1, place_spelled place_at b at.0 at.1)
 
 dissolve_spelled : (place_at : List ℕ → Option ℕ) (words : List (List ℕ)) (line : Line) → dissolve_of place_at words ≡ Ok line → AreWords place_at (word_of first_word.Dissolve ∷ words) line
 dissolve_spelled place_at [] line h = absurd (err_ok B2 line h)
@@ -295,48 +305,27 @@ fill_spelled place_at (a ∷ []) line h = absurd (err_ok B2 line h)
 fill_spelled place_at (a ∷ b ∷ []) line h = absurd (err_ok B2 line h)
 fill_spelled place_at (a ∷ b ∷ c ∷ []) line h = absurd (err_ok B2 line h)
 fill_spelled place_at (a ∷ b ∷ c ∷ d ∷ []) line h = absurd (err_ok B2 line h)
-fill_spelled place_at (a ∷ b ∷ c ∷ d ∷ e ∷ []) line h =
-    let track = bind_ok (track_of a) _ line h in
+fill_spelled place_at (a ∷ b ∷ c ∷ d ∷ e ∷ rest) line h =
+    let few = bind_ok (at_most_of 2 rest) _ line h in
+    let track = bind_ok (track_of a) _ line few.2 in
     let at = bind_ok (place_of place_at b) _ line track.2 in
     let what = bind_ok (what_of c) _ line at.2 in
     let from = bind_ok (numeral_of d) _ line what.2 in
-    let how = bind_ok (given_of (codes "sequence") e) _ line from.2 in
-    let same = ok_same (Edit (call.Fill (record { track = track.0; at = at.0; what = what.0; from = from.0; length = Sequence }))) line how.2 in
+    let filled = bind_ok (filled_of e rest) _ line from.2 in
+    let same = ok_same (Edit (call.Fill (record { track = track.0; at = at.0; what = what.0; from = from.0; length = filled.0.0; keep = filled.0.1 }))) line filled.2 in
     rw (← same) (
       a,
       b,
       c,
       d,
-      e ∷ [],
+      e ∷ rest,
       refl,
       track_spelled a track.0 track.1,
       place_spelled place_at b at.0 at.1,
       thing_spelled c what.0 what.1,
       numeral_spelled d from.0 from.1,
-      ap (λ (w : List ℕ). w ∷ []) (given_spelled (codes "sequence") e how.0 how.1),
+      filled_spelled e rest filled.0 (few_spelled 2 rest few.0 few.1) filled.1,
     )
-fill_spelled place_at (a ∷ b ∷ c ∷ d ∷ e ∷ f ∷ []) line h =
-    let track = bind_ok (track_of a) _ line h in
-    let at = bind_ok (place_of place_at b) _ line track.2 in
-    let what = bind_ok (what_of c) _ line at.2 in
-    let from = bind_ok (numeral_of d) _ line what.2 in
-    let how = bind_ok (given_of (codes "source") e) _ line from.2 in
-    let len = bind_ok (numeral_of f) _ line how.2 in
-    let same = ok_same (Edit (call.Fill (record { track = track.0; at = at.0; what = what.0; from = from.0; length = Source len.0 }))) line len.2 in
-    rw (← same) (
-      a,
-      b,
-      c,
-      d,
-      e ∷ f ∷ [],
-      refl,
-      track_spelled a track.0 track.1,
-      place_spelled place_at b at.0 at.1,
-      thing_spelled c what.0 what.1,
-      numeral_spelled d from.0 from.1,
-      (f, ap (λ (w : List ℕ). w ∷ f ∷ []) (given_spelled (codes "source") e how.0 how.1), numeral_spelled f len.0 len.1),
-    )
-fill_spelled place_at (a ∷ b ∷ c ∷ d ∷ e ∷ f ∷ g ∷ words) line h = absurd (err_ok B2 line h)
 
 ripple_spelled : (place_at : List ℕ → Option ℕ) (words : List (List ℕ)) (line : Line) → ripple_of words ≡ Ok line → AreWords place_at (word_of first_word.Ripple ∷ words) line
 ripple_spelled place_at [] line h = absurd (err_ok B2 line h)
@@ -457,13 +446,17 @@ line_spelled place_at bytes line h = elim (chosen (nat_le (length bytes) 1024) _
   | inr long ↦ absurd (err_ok B5 line long.1)
 ]
 
-fill_read : (place_at : List ℕ → Option ℕ) (t a w f : List ℕ) (rest : List (List ℕ)) (track at : ℕ) (what : What) (from : ℕ) (len : FillLength)
-    → track_of t ≡ Ok track → place_of place_at a ≡ Ok at → what_of w ≡ Ok what → numeral_of f ≡ Ok from → AreLength rest len
-    → fill_of place_at (t ∷ a ∷ w ∷ f ∷ rest) ≡ Ok (Edit (call.Fill (record { track = track; at = at; what = what; from = from; length = len })))
-fill_read place_at t a w f rest track at what from (Source n) is_track is_at is_what is_from (word, is_rest, is_number) =
+fill_read : (place_at : List ℕ → Option ℕ) (t a w f : List ℕ) (rest : List (List ℕ)) (track at : ℕ) (what : What) (from : ℕ) (len : FillLength) (keep : Bool)
+    → track_of t ≡ Ok track → place_of place_at a ≡ Ok at → what_of w ≡ Ok what → numeral_of f ≡ Ok from → AreLength rest len keep
+    → fill_of place_at (t ∷ a ∷ w ∷ f ∷ rest) ≡ Ok (Edit (call.Fill (record { track = track; at = at; what = what; from = from; length = len; keep = keep })))
+fill_read place_at t a w f rest track at what from (Source n) true is_track is_at is_what is_from (word, is_rest, is_number) =
     let number = numeral_read word n is_number in
     rw (is_rest, is_track, is_at, is_what, is_from, number) refl
-fill_read place_at t a w f rest track at what from Sequence is_track is_at is_what is_from is_rest = rw (is_rest, is_track, is_at, is_what, is_from) refl
+fill_read place_at t a w f rest track at what from (Source n) false is_track is_at is_what is_from (word, is_rest, is_number) =
+    let number = numeral_read word n is_number in
+    rw (is_rest, is_track, is_at, is_what, is_from, number) refl
+fill_read place_at t a w f rest track at what from Sequence true is_track is_at is_what is_from is_rest = rw (is_rest, is_track, is_at, is_what, is_from) refl
+fill_read place_at t a w f rest track at what from Sequence false is_track is_at is_what is_from is_rest = rw (is_rest, is_track, is_at, is_what, is_from) refl
 
 words_read : (place_at : List ℕ → Option ℕ) (words : List (List ℕ)) (line : Line) → AreWords place_at words line → line_of_words place_at words ≡ Ok line
 words_read place_at words (Edit (call.Overwrite c)) h =
@@ -472,7 +465,9 @@ words_read place_at words (Edit (call.Overwrite c)) h =
     let what = thing_read h.2 c.what h.8 in
     let from = numeral_read h.3 c.from h.9 in
     let len = numeral_read h.4 c.len h.10 in
-    rw (h.5, track, at, what, from, len) refl
+    let few = few_read c.keep in
+    let keep = keep_read c.keep in
+    rw (h.5, few, track, at, what, from, len, keep) refl
 words_read place_at words (Edit (call.Insert c)) h =
     let tracks = tracks_read h.0 c.tracks h.7 in
     let track = track_read h.1 c.track h.8 in
@@ -480,20 +475,28 @@ words_read place_at words (Edit (call.Insert c)) h =
     let what = thing_read h.3 c.what h.10 in
     let from = numeral_read h.4 c.from h.11 in
     let len = numeral_read h.5 c.len h.12 in
-    rw (h.6, tracks, track, at, what, from, len) refl
+    let few = few_read c.keep in
+    let keep = keep_read c.keep in
+    rw (h.6, few, tracks, track, at, what, from, len, keep) refl
 words_read place_at words (Edit (call.Remove c)) h =
     let track = track_read h.0 c.track h.3 in
     let item = numeral_read h.1 c.item h.4 in
-    rw (h.2, track, item) refl
+    let few = few_read c.keep in
+    let keep = keep_read c.keep in
+    rw (h.2, few, track, item, keep) refl
 words_read place_at words (Edit (call.Extract c)) h =
     let tracks = tracks_read h.0 c.tracks h.4 in
     let track = track_read h.1 c.track h.5 in
     let item = numeral_read h.2 c.item h.6 in
-    rw (h.3, tracks, track, item) refl
+    let few = few_read c.keep in
+    let keep = keep_read c.keep in
+    rw (h.3, few, tracks, track, item, keep) refl
 words_read place_at words (Edit (call.Slice c)) h =
     let track = track_read h.0 c.track h.3 in
     let at = place_read place_at h.1 c.at h.4 in
-    rw (h.2, track, at) refl
+    let few = few_read c.keep in
+    let keep = keep_read c.keep in
+    rw (h.2, few, track, at, keep) refl
 words_read place_at words (Edit (call.Dissolve c)) h =
     let track = track_read h.0 c.track h.5 in
     let at = place_read place_at h.1 c.at h.6 in
@@ -532,7 +535,7 @@ words_read place_at words (Edit (call.Fill c)) h =
     let at = place_read place_at h.1 c.at h.7 in
     let what = thing_read h.2 c.what h.8 in
     let from = numeral_read h.3 c.from h.9 in
-    rw h.5 (fill_read place_at h.0 h.1 h.2 h.3 h.4 c.track c.at c.what c.from c.length track at what from h.10)
+    rw h.5 (fill_read place_at h.0 h.1 h.2 h.3 h.4 c.track c.at c.what c.from c.length c.keep track at what from h.10)
 words_read place_at words (Edit (call.Ripple c)) h =
     let tracks = tracks_read h.0 c.tracks h.5 in
     let track = track_read h.1 c.track h.6 in

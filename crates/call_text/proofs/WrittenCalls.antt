@@ -1,6 +1,7 @@
 -- The text of a call is read again as that call.
-use Rattle.std.proofs.Common.{◌≡◌, ℕ, ◌+◌, ◌<◌, ◌≤◌, ◌^◌, List, [], ◌∷◌, ◌++◌, Option, Ok, length, inl, refl, ap, ◌∙◌, arith, append_assoc, length-append, codes}
+use Rattle.std.proofs.Common.{◌≡◌, ℕ, ◌+◌, ◌<◌, ◌≤◌, ◌^◌, Bool, true, false, List, [], ◌∷◌, ◌++◌, Option, Ok, length, inl, refl, ap, ◌∙◌, arith, append_assoc, length-append, codes}
 use Rattle.std.specs.Fmt.{decimal, signed_decimal}
+use Rattle.std.proofs.lemmas.List.{append-nil}
 use Rattle.line_words.specs.Blanks.{words_of, IsWord}
 use Rattle.line_words.proofs.DigitLaws.{number_of-decimal, signed_of-signed_decimal}
 use Rattle.line_words.proofs.WordLaws.{words_of-word, words_of-last}
@@ -10,12 +11,12 @@ use Rattle.edit_apply.specs.declared.asks.Call.{Call}
 use Rattle.edit_apply.specs.declared.asks.Call.TheVariants as call
 use Rattle.call_text.specs.declared.lines.Line.TheVariants.{Edit}
 use Rattle.reply_text.specs.Things.{what_text}
-use Rattle.call_text.specs.CallTexts.{numbers_after, tracks_text, length_text, call_text_of, IsSmallLength, IsWritten}
+use Rattle.call_text.specs.CallTexts.{keep_text, numbers_after, tracks_text, length_text, call_text_of, IsSmallLength, IsWritten}
 use Rattle.call_text.specs.Reading.{line_of}
-use Rattle.call_text.specs.Table.{AreCall, AreLength, end_word}
+use Rattle.call_text.specs.Table.{AreCall, AreLength, end_word, keep_words}
 use Rattle.call_text.proofs.TableLaws.{line_read}
 use Rattle.call_text.proofs.TrackSets.{tracks_in_count}
-use Rattle.call_text.proofs.WrittenParts.{IsNumbers-numbers_after, IsWord-numbers_after, length-numbers_after, some_tracks_in, IsWord-end, IsWord-signed, length-end, length-signed, length-decimal, IsWord-tested, IsWord-decimal, IsWord-what_text, length-what_text, IsThing-what_text, NamesTracks-tracks_text, IsWord-tracks_text, length-tracks_text}
+use Rattle.call_text.proofs.WrittenParts.{IsNumbers-numbers_after, IsWord-numbers_after, length-numbers_after, some_tracks_in, IsWord-end, IsWord-signed, length-end, length-keep, length-signed, length-decimal, IsWord-tested, IsWord-decimal, IsWord-what_text, length-what_text, IsThing-what_text, NamesTracks-tracks_text, IsWord-tracks_text, length-tracks_text}
 
 -- words with one space between
 abbrev spaced : List ℕ → List (List ℕ) → List ℕ
@@ -40,6 +41,20 @@ module _ (place_at : List ℕ → Option ℕ) (c : Call) (u : List ℕ) (ws : Li
 low : (t : ℕ) → t ≤ 31 → t < 2 ^ 32
 low t h = omega (arith, h)
 
+-- whether dissolves are kept, as a word or none
+are_keep_words : (keep : Bool) → AreAllWords (keep_words keep)
+are_keep_words true = (IsWord-tested (codes "keep") refl, tt)
+are_keep_words false = tt
+
+spaced_kept : (u : List ℕ) (ws : List (List ℕ)) (keep : Bool) → spaced u ws ++ keep_text keep ≡ spaced u (ws ++ keep_words keep)
+spaced_kept u [] true = refl
+spaced_kept u [] false = append-nil u
+spaced_kept u (w ∷ ws) keep = append_assoc u (32 ∷ spaced w ws) (keep_text keep) ∙ ap (λ more. u ++ 32 ∷ more) (spaced_kept w ws keep)
+
+-- words with one space between, and whether dissolves are kept behind them
+kept : (text u : List ℕ) (ws : List (List ℕ)) (keep : Bool) → text ≡ spaced u ws → text ++ keep_text keep ≡ spaced u (ws ++ keep_words keep)
+kept text u ws keep h = ap (λ front. front ++ keep_text keep) h ∙ spaced_kept u ws keep
+
 frames_spaced : (w f n : List ℕ) → w ++ codes " " ++ f ++ codes " " ++ n ≡ spaced w (f ∷ n ∷ [])
 frames_spaced w f n = simp append_assoc refl
 
@@ -48,13 +63,13 @@ abbrev length_words : FillLength → List (List ℕ)
 length_words (Source n) = codes "source" ∷ decimal n ∷ []
 length_words Sequence = codes "sequence" ∷ []
 
-are_length_words : (l : FillLength) → IsSmallLength l → AreAllWords (length_words l)
-are_length_words (Source n) h = (IsWord-tested (codes "source") refl, (IsWord-decimal n h, tt))
-are_length_words Sequence h = (IsWord-tested (codes "sequence") refl, tt)
+are_length_words : (l : FillLength) (keep : Bool) → IsSmallLength l → AreAllWords (length_words l ++ keep_words keep)
+are_length_words (Source n) keep h = (IsWord-tested (codes "source") refl, (IsWord-decimal n h, are_keep_words keep))
+are_length_words Sequence keep h = (IsWord-tested (codes "sequence") refl, are_keep_words keep)
 
-AreLength-words : (l : FillLength) → IsSmallLength l → AreLength (length_words l) l
-AreLength-words (Source n) h = (decimal n, refl, number_of-decimal n h)
-AreLength-words Sequence h = refl
+AreLength-words : (l : FillLength) (keep : Bool) → IsSmallLength l → AreLength (length_words l ++ keep_words keep) l keep
+AreLength-words (Source n) keep h = (decimal n, refl, number_of-decimal n h)
+AreLength-words Sequence keep h = refl
 
 length_length : (l : FillLength) → IsSmallLength l → length (length_text l) ≤ 17
 length_length (Source n) h = let digits = length-decimal n h in omega (arith, digits)
@@ -67,13 +82,15 @@ length_spaced Sequence t a w f = simp append_assoc refl
 
 pub written_call : (place_at : List ℕ → Option ℕ) (c : Call) → IsWritten c → line_of place_at (call_text_of c) ≡ Ok (Edit c)
 written_call place_at (call.Overwrite c) (track, at, what, from, len) =
-    is_read place_at (call.Overwrite c) (codes "overwrite") (decimal c.track ∷ decimal c.at ∷ what_text c.what ∷ decimal c.from ∷ decimal c.len ∷ [])
-    (regrouped (decimal c.track) (decimal c.at) (what_text c.what) (decimal c.from) (decimal c.len))
+    is_read place_at (call.Overwrite c) (codes "overwrite") (decimal c.track ∷ decimal c.at ∷ what_text c.what ∷ decimal c.from ∷ decimal c.len ∷ keep_words c.keep)
+    (kept _ (codes "overwrite") (decimal c.track ∷ decimal c.at ∷ what_text c.what ∷ decimal c.from ∷ decimal c.len ∷ []) c.keep
+    (regrouped (decimal c.track) (decimal c.at) (what_text c.what) (decimal c.from) (decimal c.len)))
     (IsWord-tested (codes "overwrite") refl)
-    (IsWord-decimal c.track (low c.track track), (IsWord-decimal c.at at, (IsWord-what_text c.what what, (IsWord-decimal c.from from, (IsWord-decimal c.len len, tt)))))
+    (IsWord-decimal c.track (low c.track track), (IsWord-decimal c.at at, (IsWord-what_text c.what what, (IsWord-decimal c.from from, (IsWord-decimal c.len len, are_keep_words c.keep)))))
     (omega (
       arith,
-      length-all (decimal c.track) (decimal c.at) (what_text c.what) (decimal c.from) (decimal c.len),
+      length-all (decimal c.track) (decimal c.at) (what_text c.what) (decimal c.from) (decimal c.len) (keep_text c.keep),
+      length-keep c.keep,
       length-decimal c.track (low c.track track),
       length-decimal c.at at,
       length-what_text c.what what,
@@ -99,16 +116,18 @@ written_call place_at (call.Overwrite c) (track, at, what, from, len) =
     regrouped : (t a w f n : List ℕ) → codes "overwrite " ++ t ++ codes " " ++ a ++ codes " " ++ (w ++ codes " " ++ f ++ codes " " ++ n) ≡ spaced (codes "overwrite") (t ∷ a ∷ w ∷ f ∷ n ∷ [])
     regrouped t a w f n = front t a _ ∙ ap (λ frames. codes "overwrite" ++ 32 ∷ (t ++ 32 ∷ (a ++ 32 ∷ frames))) (frames_spaced w f n)
 
-    length-all : (t a w f n : List ℕ) → length (codes "overwrite " ++ t ++ codes " " ++ a ++ codes " " ++ (w ++ codes " " ++ f ++ codes " " ++ n)) ≡ length t + length a + length w + length f + length n + 14
-    length-all t a w f n = simp length-append (omega arith)
+    length-all : (t a w f n k : List ℕ) → length (codes "overwrite " ++ t ++ codes " " ++ a ++ codes " " ++ (w ++ codes " " ++ f ++ codes " " ++ n) ++ k) ≡ length t + length a + length w + length f + length n + length k + 14
+    length-all t a w f n k = simp length-append (omega arith)
 written_call place_at (call.Insert c) ((some, tracks), track, at, what, from, len) =
-    is_read place_at (call.Insert c) (codes "insert") (tracks_text c.tracks ∷ decimal c.track ∷ decimal c.at ∷ what_text c.what ∷ decimal c.from ∷ decimal c.len ∷ [])
-    (regrouped (tracks_text c.tracks) (decimal c.track) (decimal c.at) (what_text c.what) (decimal c.from) (decimal c.len))
+    is_read place_at (call.Insert c) (codes "insert") (tracks_text c.tracks ∷ decimal c.track ∷ decimal c.at ∷ what_text c.what ∷ decimal c.from ∷ decimal c.len ∷ keep_words c.keep)
+    (kept _ (codes "insert") (tracks_text c.tracks ∷ decimal c.track ∷ decimal c.at ∷ what_text c.what ∷ decimal c.from ∷ decimal c.len ∷ []) c.keep
+    (regrouped (tracks_text c.tracks) (decimal c.track) (decimal c.at) (what_text c.what) (decimal c.from) (decimal c.len)))
     (IsWord-tested (codes "insert") refl)
-    (IsWord-tracks_text c.tracks some tracks, (IsWord-decimal c.track (low c.track track), (IsWord-decimal c.at at, (IsWord-what_text c.what what, (IsWord-decimal c.from from, (IsWord-decimal c.len len, tt))))))
+    (IsWord-tracks_text c.tracks some tracks, (IsWord-decimal c.track (low c.track track), (IsWord-decimal c.at at, (IsWord-what_text c.what what, (IsWord-decimal c.from from, (IsWord-decimal c.len len, are_keep_words c.keep))))))
     (omega (
       arith,
-      length-all (tracks_text c.tracks) (decimal c.track) (decimal c.at) (what_text c.what) (decimal c.from) (decimal c.len),
+      length-all (tracks_text c.tracks) (decimal c.track) (decimal c.at) (what_text c.what) (decimal c.from) (decimal c.len) (keep_text c.keep),
+      length-keep c.keep,
       length-tracks_text c.tracks some tracks,
       length-decimal c.track (low c.track track),
       length-decimal c.at at,
@@ -137,29 +156,30 @@ written_call place_at (call.Insert c) ((some, tracks), track, at, what, from, le
     regrouped : (s t a w f n : List ℕ) → codes "insert " ++ s ++ codes " " ++ t ++ codes " " ++ a ++ codes " " ++ (w ++ codes " " ++ f ++ codes " " ++ n) ≡ spaced (codes "insert") (s ∷ t ∷ a ∷ w ∷ f ∷ n ∷ [])
     regrouped s t a w f n = front s t a _ ∙ ap (λ frames. codes "insert" ++ 32 ∷ (s ++ 32 ∷ (t ++ 32 ∷ (a ++ 32 ∷ frames)))) (frames_spaced w f n)
 
-    length-all : (s t a w f n : List ℕ) → length (codes "insert " ++ s ++ codes " " ++ t ++ codes " " ++ a ++ codes " " ++ (w ++ codes " " ++ f ++ codes " " ++ n)) ≡ length s + length t + length a + length w + length f + length n + 12
-    length-all s t a w f n = simp length-append (omega arith)
+    length-all : (s t a w f n k : List ℕ) → length (codes "insert " ++ s ++ codes " " ++ t ++ codes " " ++ a ++ codes " " ++ (w ++ codes " " ++ f ++ codes " " ++ n) ++ k) ≡ length s + length t + length a + length w + length f + length n + length k + 12
+    length-all s t a w f n k = simp length-append (omega arith)
 written_call place_at (call.Remove c) (track, item) =
-    is_read place_at (call.Remove c) (codes "remove") (decimal c.track ∷ decimal c.item ∷ [])
-    (regrouped (decimal c.track) (decimal c.item))
+    is_read place_at (call.Remove c) (codes "remove") (decimal c.track ∷ decimal c.item ∷ keep_words c.keep)
+    (kept _ (codes "remove") (decimal c.track ∷ decimal c.item ∷ []) c.keep (regrouped (decimal c.track) (decimal c.item)))
     (IsWord-tested (codes "remove") refl)
-    (IsWord-decimal c.track (low c.track track), (IsWord-decimal c.item item, tt))
-    (omega (arith, length-all (decimal c.track) (decimal c.item), length-decimal c.track (low c.track track), length-decimal c.item item))
+    (IsWord-decimal c.track (low c.track track), (IsWord-decimal c.item item, are_keep_words c.keep))
+    (omega (arith, length-all (decimal c.track) (decimal c.item) (keep_text c.keep), length-keep c.keep, length-decimal c.track (low c.track track), length-decimal c.item item))
     (decimal c.track, decimal c.item, refl, (number_of-decimal c.track (low c.track track), track), number_of-decimal c.item item)
   where
     regrouped : (t i : List ℕ) → codes "remove " ++ t ++ codes " " ++ i ≡ spaced (codes "remove") (t ∷ i ∷ [])
     regrouped t i = simp append_assoc refl
 
-    length-all : (t i : List ℕ) → length (codes "remove " ++ t ++ codes " " ++ i) ≡ length t + length i + 8
-    length-all t i = simp length-append (omega arith)
+    length-all : (t i k : List ℕ) → length (codes "remove " ++ t ++ codes " " ++ i ++ k) ≡ length t + length i + length k + 8
+    length-all t i k = simp length-append (omega arith)
 written_call place_at (call.Extract c) ((some, tracks), track, item) =
-    is_read place_at (call.Extract c) (codes "extract") (tracks_text c.tracks ∷ decimal c.track ∷ decimal c.item ∷ [])
-    (regrouped (tracks_text c.tracks) (decimal c.track) (decimal c.item))
+    is_read place_at (call.Extract c) (codes "extract") (tracks_text c.tracks ∷ decimal c.track ∷ decimal c.item ∷ keep_words c.keep)
+    (kept _ (codes "extract") (tracks_text c.tracks ∷ decimal c.track ∷ decimal c.item ∷ []) c.keep (regrouped (tracks_text c.tracks) (decimal c.track) (decimal c.item)))
     (IsWord-tested (codes "extract") refl)
-    (IsWord-tracks_text c.tracks some tracks, (IsWord-decimal c.track (low c.track track), (IsWord-decimal c.item item, tt)))
+    (IsWord-tracks_text c.tracks some tracks, (IsWord-decimal c.track (low c.track track), (IsWord-decimal c.item item, are_keep_words c.keep)))
     (omega (
       arith,
-      length-all (tracks_text c.tracks) (decimal c.track) (decimal c.item),
+      length-all (tracks_text c.tracks) (decimal c.track) (decimal c.item) (keep_text c.keep),
+      length-keep c.keep,
       length-tracks_text c.tracks some tracks,
       length-decimal c.track (low c.track track),
       length-decimal c.item item,
@@ -176,21 +196,21 @@ written_call place_at (call.Extract c) ((some, tracks), track, item) =
     regrouped : (s t i : List ℕ) → codes "extract " ++ s ++ codes " " ++ t ++ codes " " ++ i ≡ spaced (codes "extract") (s ∷ t ∷ i ∷ [])
     regrouped s t i = simp append_assoc refl
 
-    length-all : (s t i : List ℕ) → length (codes "extract " ++ s ++ codes " " ++ t ++ codes " " ++ i) ≡ length s + length t + length i + 10
-    length-all s t i = simp length-append (omega arith)
+    length-all : (s t i k : List ℕ) → length (codes "extract " ++ s ++ codes " " ++ t ++ codes " " ++ i ++ k) ≡ length s + length t + length i + length k + 10
+    length-all s t i k = simp length-append (omega arith)
 written_call place_at (call.Slice c) (track, at) =
-    is_read place_at (call.Slice c) (codes "slice") (decimal c.track ∷ decimal c.at ∷ [])
-    (regrouped (decimal c.track) (decimal c.at))
+    is_read place_at (call.Slice c) (codes "slice") (decimal c.track ∷ decimal c.at ∷ keep_words c.keep)
+    (kept _ (codes "slice") (decimal c.track ∷ decimal c.at ∷ []) c.keep (regrouped (decimal c.track) (decimal c.at)))
     (IsWord-tested (codes "slice") refl)
-    (IsWord-decimal c.track (low c.track track), (IsWord-decimal c.at at, tt))
-    (omega (arith, length-all (decimal c.track) (decimal c.at), length-decimal c.track (low c.track track), length-decimal c.at at))
+    (IsWord-decimal c.track (low c.track track), (IsWord-decimal c.at at, are_keep_words c.keep))
+    (omega (arith, length-all (decimal c.track) (decimal c.at) (keep_text c.keep), length-keep c.keep, length-decimal c.track (low c.track track), length-decimal c.at at))
     (decimal c.track, decimal c.at, refl, (number_of-decimal c.track (low c.track track), track), inl (number_of-decimal c.at at))
   where
     regrouped : (t a : List ℕ) → codes "slice " ++ t ++ codes " " ++ a ≡ spaced (codes "slice") (t ∷ a ∷ [])
     regrouped t a = simp append_assoc refl
 
-    length-all : (t a : List ℕ) → length (codes "slice " ++ t ++ codes " " ++ a) ≡ length t + length a + 7
-    length-all t a = simp length-append (omega arith)
+    length-all : (t a k : List ℕ) → length (codes "slice " ++ t ++ codes " " ++ a ++ k) ≡ length t + length a + length k + 7
+    length-all t a k = simp length-append (omega arith)
 written_call place_at (call.Dissolve c) (track, at, a, b) =
     is_read place_at (call.Dissolve c) (codes "dissolve") (decimal c.track ∷ decimal c.at ∷ decimal c.a ∷ decimal c.b ∷ [])
     (regrouped (decimal c.track) (decimal c.at) (decimal c.a) (decimal c.b))
@@ -345,13 +365,15 @@ written_call place_at (call.Slide c) ((some, tracks), track, item, by) =
     length-all : (s t i d : List ℕ) → length (codes "slide " ++ s ++ codes " " ++ t ++ codes " " ++ i ++ codes " " ++ d) ≡ length s + length t + length i + length d + 9
     length-all s t i d = simp length-append (omega arith)
 written_call place_at (call.Fill c) (track, at, what, from, len) =
-    is_read place_at (call.Fill c) (codes "fill") (decimal c.track ∷ decimal c.at ∷ what_text c.what ∷ decimal c.from ∷ length_words c.length)
-    (length_spaced c.length (decimal c.track) (decimal c.at) (what_text c.what) (decimal c.from))
+    is_read place_at (call.Fill c) (codes "fill") (decimal c.track ∷ decimal c.at ∷ what_text c.what ∷ decimal c.from ∷ (length_words c.length ++ keep_words c.keep))
+    (kept _ (codes "fill") (decimal c.track ∷ decimal c.at ∷ what_text c.what ∷ decimal c.from ∷ length_words c.length) c.keep
+    (length_spaced c.length (decimal c.track) (decimal c.at) (what_text c.what) (decimal c.from)))
     (IsWord-tested (codes "fill") refl)
-    (IsWord-decimal c.track (low c.track track), (IsWord-decimal c.at at, (IsWord-what_text c.what what, (IsWord-decimal c.from from, are_length_words c.length len))))
+    (IsWord-decimal c.track (low c.track track), (IsWord-decimal c.at at, (IsWord-what_text c.what what, (IsWord-decimal c.from from, are_length_words c.length c.keep len))))
     (omega (
       arith,
-      length-all (decimal c.track) (decimal c.at) (what_text c.what) (decimal c.from) (length_text c.length),
+      length-all (decimal c.track) (decimal c.at) (what_text c.what) (decimal c.from) (length_text c.length) (keep_text c.keep),
+      length-keep c.keep,
       length-decimal c.track (low c.track track),
       length-decimal c.at at,
       length-what_text c.what what,
@@ -362,17 +384,17 @@ written_call place_at (call.Fill c) (track, at, what, from, len) =
       decimal c.at,
       what_text c.what,
       decimal c.from,
-      length_words c.length,
+      length_words c.length ++ keep_words c.keep,
       refl,
       (number_of-decimal c.track (low c.track track), track),
       inl (number_of-decimal c.at at),
       IsThing-what_text c.what what,
       number_of-decimal c.from from,
-      AreLength-words c.length len,
+      AreLength-words c.length c.keep len,
     )
   where
-    length-all : (t a w f n : List ℕ) → length (codes "fill " ++ t ++ codes " " ++ a ++ codes " " ++ w ++ codes " " ++ f ++ codes " " ++ n) ≡ length t + length a + length w + length f + length n + 9
-    length-all t a w f n = simp length-append (omega arith)
+    length-all : (t a w f n k : List ℕ) → length (codes "fill " ++ t ++ codes " " ++ a ++ codes " " ++ w ++ codes " " ++ f ++ codes " " ++ n ++ k) ≡ length t + length a + length w + length f + length n + length k + 9
+    length-all t a w f n k = simp length-append (omega arith)
 written_call place_at (call.Ripple c) ((some, tracks), track, item, by) =
     is_read place_at (call.Ripple c) (codes "ripple") (tracks_text c.tracks ∷ decimal c.track ∷ decimal c.item ∷ end_word c.end ∷ signed_decimal c.by ∷ [])
     (regrouped (tracks_text c.tracks) (decimal c.track) (decimal c.item) (end_word c.end) (signed_decimal c.by))

@@ -19,7 +19,7 @@ use Rattle.line_words.proofs.DigitLaws.{number_of-decimal}
 use Rattle.frame_meaning.specs.declared.cells.What.{What}
 use Rattle.frame_meaning.specs.declared.cells.What.TheVariants.{Media, Nest}
 use Rattle.reply_text.specs.Things.{what_text}
-use Rattle.call_text.specs.CallTexts.{numbers_after, tracks_text, IsSmall, IsSmallWhat}
+use Rattle.call_text.specs.CallTexts.{keep_text, numbers_after, tracks_text, IsSmall, IsSmallWhat}
 use Rattle.call_text.specs.Spelling.{is_comma}
 use Rattle.call_text.specs.Table.{IsThing, AreNumerals, IsNumbers, NamesTracks, end_word}
 use Rattle.composables.specs.declared.calls.End.{End}
@@ -183,3 +183,8 @@ IsWord-end Tail = IsWord-tested (codes "tail") refl
 pub length-end : (end : End) → length (end_word end) ≤ 4
 length-end Head = omega arith
 length-end Tail = omega arith
+
+-- whether dissolves are kept
+pub length-keep : (keep : Bool) → length (keep_text keep) ≤ 5
+length-keep true = omega arith
+length-keep false = omega arith

@@ -1,6 +1,6 @@
 -- The text of a call: its line with one space between words, lists of tracks ascending, places as
--- numbers, and numbers without leading zeros.
-use Rattle.std.specs.Prelude.{◌≡◌, ℕ, ◌<◌, ◌≤◌, ◌^◌, List, [], ◌∷◌, ◌++◌, All, codes, decimal, length, FitsSigned}
+-- numbers, and numbers without leading zeros. That of a call which keeps dissolves ends with `keep`.
+use Rattle.std.specs.Prelude.{◌≡◌, ℕ, ◌<◌, ◌≤◌, ◌^◌, Bool, true, false, List, [], ◌∷◌, ◌++◌, All, codes, decimal, length, FitsSigned}
 use Rattle.std.specs.Fmt.{signed_decimal}
 use Rattle.std.specs.Int.{w32}
 use Rattle.frame_meaning.specs.declared.cells.What.{What}
@@ -34,6 +34,11 @@ abbrev pub length_text : FillLength → List ℕ
 length_text (Source len) = codes "source " ++ decimal len
 length_text Sequence = codes "sequence"
 
+-- whether dissolves are kept
+abbrev pub keep_text : Bool → List ℕ
+keep_text false = []
+keep_text true = codes " keep"
+
 -- a text, and two numbers with a space between
 abbrev pub numbers_text : List ℕ → ℕ → ℕ → List ℕ
 numbers_text lead first second = lead ++ decimal first ++ codes " " ++ decimal second
@@ -41,15 +46,17 @@ numbers_text lead first second = lead ++ decimal first ++ codes " " ++ decimal s
 abbrev pub call_text_of : Call → List ℕ
 call_text_of (call.Overwrite c) =
     codes "overwrite " ++ decimal c.track ++ codes " " ++ decimal c.at ++ codes " "
-    ++ frames_text c.what c.from c.len
+    ++ frames_text c.what c.from c.len ++ keep_text c.keep
 call_text_of (call.Insert c) =
     codes "insert " ++ tracks_text c.tracks ++ codes " " ++ decimal c.track ++ codes " "
-    ++ decimal c.at ++ codes " " ++ frames_text c.what c.from c.len
-call_text_of (call.Remove c) = codes "remove " ++ decimal c.track ++ codes " " ++ decimal c.item
+    ++ decimal c.at ++ codes " " ++ frames_text c.what c.from c.len ++ keep_text c.keep
+call_text_of (call.Remove c) =
+    codes "remove " ++ decimal c.track ++ codes " " ++ decimal c.item ++ keep_text c.keep
 call_text_of (call.Extract c) =
     codes "extract " ++ tracks_text c.tracks ++ codes " " ++ decimal c.track ++ codes " "
-    ++ decimal c.item
-call_text_of (call.Slice c) = codes "slice " ++ decimal c.track ++ codes " " ++ decimal c.at
+    ++ decimal c.item ++ keep_text c.keep
+call_text_of (call.Slice c) =
+    codes "slice " ++ decimal c.track ++ codes " " ++ decimal c.at ++ keep_text c.keep
 call_text_of (call.Dissolve c) =
     codes "dissolve " ++ decimal c.track ++ codes " " ++ decimal c.at ++ codes " " ++ decimal c.a
     ++ codes " " ++ decimal c.b
@@ -69,7 +76,7 @@ call_text_of (call.Slide c) =
     ++ decimal c.item ++ codes " " ++ signed_decimal c.by
 call_text_of (call.Fill c) =
     codes "fill " ++ decimal c.track ++ codes " " ++ decimal c.at ++ codes " " ++ what_text c.what
-    ++ codes " " ++ decimal c.from ++ codes " " ++ length_text c.length
+    ++ codes " " ++ decimal c.from ++ codes " " ++ length_text c.length ++ keep_text c.keep
 call_text_of (call.Ripple c) =
     codes "ripple " ++ tracks_text c.tracks ++ codes " " ++ decimal c.track ++ codes " "
     ++ decimal c.item ++ codes " " ++ end_word c.end ++ codes " " ++ signed_decimal c.by

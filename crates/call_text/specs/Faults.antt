@@ -2,7 +2,7 @@
 -- first word is not in the table; no row of that word has so many words; and then, word by word from the
 -- left, a word is not spelled as its part of the row, or a number of it is past its bound, or its list
 -- of tracks does not rise, or it must be another; and at last `link` has not as many items as tracks.
-use Rattle.std.specs.Prelude.{◌≡◌, ◌≢◌, ℕ, ℤ, ◌+◌, ◌<◌, ◌≤◌, ◌⊎◌, List, [], ◌∷◌, ◌++◌, None, Err, length, codes}
+use Rattle.std.specs.Prelude.{◌≡◌, ◌≢◌, ℕ, ℤ, ◌+◌, ◌<◌, ◌≤◌, ◌⊎◌, Bool, true, false, List, [], ◌∷◌, ◌++◌, None, Err, length, bytes_eq, codes}
 use Rattle.std.specs.List.{slice_split}
 use Rattle.line_words.specs.Blanks.{words_of}
 use Rattle.line_words.specs.Digits.{number_of, signed_of}
@@ -31,29 +31,49 @@ pub data Part : Type 0 where
   Delta : Part
   Given : List ℕ → Part
 
--- the rows that begin with a first word, without it
-abbrev pub rows_of : FirstWord → List (List Part)
-rows_of first_word.Overwrite = (Track ∷ Place ∷ Thing ∷ Number ∷ Number ∷ []) ∷ []
-rows_of first_word.Insert = (Tracks ∷ Track ∷ Place ∷ Thing ∷ Number ∷ Number ∷ []) ∷ []
-rows_of first_word.Remove = (Track ∷ Number ∷ []) ∷ []
-rows_of first_word.Extract = (Tracks ∷ Track ∷ Number ∷ []) ∷ []
-rows_of first_word.Slice = (Track ∷ Place ∷ []) ∷ []
-rows_of first_word.Dissolve = (Track ∷ Place ∷ Number ∷ Number ∷ []) ∷ []
-rows_of first_word.Undissolve = (Track ∷ Place ∷ []) ∷ []
-rows_of first_word.Trim = (Track ∷ Number ∷ Ending ∷ Delta ∷ []) ∷ []
-rows_of first_word.Slip = (Tracks ∷ Track ∷ Number ∷ Delta ∷ []) ∷ []
-rows_of first_word.Roll = (Track ∷ Place ∷ Delta ∷ []) ∷ []
-rows_of first_word.Slide = (Tracks ∷ Track ∷ Number ∷ Delta ∷ []) ∷ []
-rows_of first_word.Fill =
+-- a row, and the same with keep behind it
+abbrev pub or_keep : List Part → List (List Part)
+or_keep row = row ∷ (row ++ Given (codes "keep") ∷ []) ∷ []
+
+-- the fifth word is `sequence`
+abbrev pub is_whole : List (List ℕ) → Bool
+is_whole (track ∷ at ∷ what ∷ from ∷ how ∷ rest) = bytes_eq how (codes "sequence")
+is_whole words = false
+
+-- the rows of fill: of the two with six words that of the fifth
+abbrev pub fill_rows : Bool → List (List Part)
+fill_rows true =
     (Track ∷ Place ∷ Thing ∷ Number ∷ Given (codes "sequence") ∷ [])
-    ∷ (Track ∷ Place ∷ Thing ∷ Number ∷ Given (codes "source") ∷ Number ∷ []) ∷ []
-rows_of first_word.Ripple = (Tracks ∷ Track ∷ Number ∷ Ending ∷ Delta ∷ []) ∷ []
-rows_of first_word.Link = (Tracks ∷ Numbers ∷ []) ∷ []
-rows_of first_word.Unlink = (Track ∷ Number ∷ []) ∷ []
-rows_of first_word.View = (Track ∷ Place ∷ Place ∷ []) ∷ []
-rows_of first_word.Items = (Track ∷ []) ∷ []
-rows_of first_word.Point = [] ∷ []
-rows_of first_word.Otio = (Number ∷ []) ∷ []
+    ∷ (Track ∷ Place ∷ Thing ∷ Number ∷ Given (codes "sequence") ∷ Given (codes "keep") ∷ [])
+    ∷ (Track ∷ Place ∷ Thing ∷ Number ∷ Given (codes "source") ∷ Number ∷ Given (codes "keep") ∷ [])
+    ∷ []
+fill_rows false =
+    (Track ∷ Place ∷ Thing ∷ Number ∷ Given (codes "sequence") ∷ [])
+    ∷ (Track ∷ Place ∷ Thing ∷ Number ∷ Given (codes "source") ∷ Number ∷ [])
+    ∷ (Track ∷ Place ∷ Thing ∷ Number ∷ Given (codes "source") ∷ Number ∷ Given (codes "keep") ∷ [])
+    ∷ []
+
+-- the rows that begin with a first word, without it, for the words behind it
+abbrev pub rows_of : FirstWord → List (List ℕ) → List (List Part)
+rows_of first_word.Overwrite words = or_keep (Track ∷ Place ∷ Thing ∷ Number ∷ Number ∷ [])
+rows_of first_word.Insert words = or_keep (Tracks ∷ Track ∷ Place ∷ Thing ∷ Number ∷ Number ∷ [])
+rows_of first_word.Remove words = or_keep (Track ∷ Number ∷ [])
+rows_of first_word.Extract words = or_keep (Tracks ∷ Track ∷ Number ∷ [])
+rows_of first_word.Slice words = or_keep (Track ∷ Place ∷ [])
+rows_of first_word.Dissolve words = (Track ∷ Place ∷ Number ∷ Number ∷ []) ∷ []
+rows_of first_word.Undissolve words = (Track ∷ Place ∷ []) ∷ []
+rows_of first_word.Trim words = (Track ∷ Number ∷ Ending ∷ Delta ∷ []) ∷ []
+rows_of first_word.Slip words = (Tracks ∷ Track ∷ Number ∷ Delta ∷ []) ∷ []
+rows_of first_word.Roll words = (Track ∷ Place ∷ Delta ∷ []) ∷ []
+rows_of first_word.Slide words = (Tracks ∷ Track ∷ Number ∷ Delta ∷ []) ∷ []
+rows_of first_word.Fill words = fill_rows (is_whole words)
+rows_of first_word.Ripple words = (Tracks ∷ Track ∷ Number ∷ Ending ∷ Delta ∷ []) ∷ []
+rows_of first_word.Link words = (Tracks ∷ Numbers ∷ []) ∷ []
+rows_of first_word.Unlink words = (Track ∷ Number ∷ []) ∷ []
+rows_of first_word.View words = (Track ∷ Place ∷ Place ∷ []) ∷ []
+rows_of first_word.Items words = (Track ∷ []) ∷ []
+rows_of first_word.Point words = [] ∷ []
+rows_of first_word.Otio words = (Number ∷ []) ∷ []
 
 -- the word is not one or more decimal digits
 abbrev pub IsNoNumeral : List ℕ → Type 0
@@ -153,7 +173,7 @@ abbrev pub AreBad : Naming → List (List ℕ) → LineFault → Type 0
 AreBad place_at [] fault = fault ≡ B2
 AreBad place_at (first ∷ words) fault =
     (((k : FirstWord) → first ≢ word_of k) × (fault ≡ B1))
-    ⊎ ((k : FirstWord) × (first ≡ word_of k) × AreNoRow place_at (rows_of k) words fault)
+    ⊎ ((k : FirstWord) × (first ≡ word_of k) × AreNoRow place_at (rows_of k words) words fault)
     ⊎ ((first ≡ word_of first_word.Link) × AreUneven words fault)
 
 -- the bytes are no line of the table, and this is why

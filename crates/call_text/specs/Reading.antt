@@ -1,12 +1,11 @@
 -- The table of the lines that a station sends, and the first fault of a line that is none of them: B5
 -- more than 1,024 bytes; B2 no word; B1 a first word that is not in the table; B2 not as many words as
--- the row has; then, word by word from the left, B3 a word that is not spelled so, B4 a number past its
+-- the row has, nor one more where it may end with `keep`; then, word by word from the left, B3 a word that is not spelled so, B4 a number past its
 -- bound, B6 a list of tracks that does not rise, B1 a word that must be another.
 use Rattle.std.specs.Prelude.{◌≡◌, ◌⊎◌, ℕ, Bool, false, IsTrue, List, [], ◌∷◌, Option, Some, None, Result, Ok, Err, length, map, nat_eq, nat_le, codes, bytes_eq, if◌then◌else◌}
 use Rattle.std.specs.Borrow.{Bor}
 use Rattle.line_words.specs.Blanks.{words_of}
 use Rattle.line_words.specs.declared.TheConstants.{MAX_LINE}
-use Rattle.composables.specs.declared.calls.FillLength.TheVariants.{Source, Sequence}
 use Rattle.composables.specs.TrackSets.{tracks_in}
 use Rattle.edit_apply.specs.declared.asks.Call.TheVariants as call
 use Rattle.edit_apply.specs.declared.asks.Ask.TheVariants as ask
@@ -16,38 +15,43 @@ use Rattle.reply_text.specs.declared.line_fault.LineFault.{LineFault}
 use Rattle.reply_text.specs.declared.line_fault.LineFault.TheVariants.{B1, B2, B5, Memory}
 use Rattle.call_text.specs.declared.first_words.FirstWord.{FirstWord}
 use Rattle.call_text.specs.declared.first_words.FirstWord.TheVariants as first_word
-use Rattle.call_text.specs.Spelling.{Naming, ◌>>=◌, numeral_of, delta_of, end_of, given_of, numbers_of, track_of, tracks_of, place_of, what_of}
+use Rattle.call_text.specs.Spelling.{Naming, ◌>>=◌, numeral_of, delta_of, end_of, at_most_of, keep_of, filled_of, numbers_of, track_of, tracks_of, place_of, what_of}
 
 -- the bytes of words
 abbrev pub texts_of : List (Bor (List ℕ)) → List (List ℕ)
 texts_of words = map (λ w. w.now) words
 
--- overwrite T P WHAT FROM LEN
+-- overwrite T P WHAT FROM LEN, or with keep behind it
 abbrev pub overwrite_of : Naming → List (List ℕ) → Result Line LineFault
-overwrite_of place_at (track ∷ at ∷ what ∷ from ∷ len ∷ []) = do
+overwrite_of place_at (track ∷ at ∷ what ∷ from ∷ len ∷ rest) = do
+  few ← at_most_of 1 rest
   track ← track_of track
   at ← place_of place_at at
   what ← what_of what
   from ← numeral_of from
   len ← numeral_of len
+  keep ← keep_of rest
   Ok (Edit (call.Overwrite (record {
     track = track;
     at = at;
     what = what;
     from = from;
     len = len;
+    keep = keep;
   })))
 overwrite_of place_at words = Err B2
 
--- insert TS T P WHAT FROM LEN
+-- insert TS T P WHAT FROM LEN, or with keep behind it
 abbrev pub insert_of : Naming → List (List ℕ) → Result Line LineFault
-insert_of place_at (tracks ∷ track ∷ at ∷ what ∷ from ∷ len ∷ []) = do
+insert_of place_at (tracks ∷ track ∷ at ∷ what ∷ from ∷ len ∷ rest) = do
+  few ← at_most_of 1 rest
   tracks ← tracks_of tracks
   track ← track_of track
   at ← place_of place_at at
   what ← what_of what
   from ← numeral_of from
   len ← numeral_of len
+  keep ← keep_of rest
   Ok (Edit (call.Insert (record {
     tracks = tracks;
     track = track;
@@ -55,32 +59,44 @@ insert_of place_at (tracks ∷ track ∷ at ∷ what ∷ from ∷ len ∷ []) = 
     what = what;
     from = from;
     len = len;
+    keep = keep;
   })))
 insert_of place_at words = Err B2
 
--- remove T I
+-- remove T I, or with keep behind it
 abbrev pub remove_of : List (List ℕ) → Result Line LineFault
-remove_of (track ∷ item ∷ []) = do
+remove_of (track ∷ item ∷ rest) = do
+  few ← at_most_of 1 rest
   track ← track_of track
   item ← numeral_of item
-  Ok (Edit (call.Remove (record { track = track; item = item })))
+  keep ← keep_of rest
+  Ok (Edit (call.Remove (record { track = track; item = item; keep = keep })))
 remove_of words = Err B2
 
--- extract TS T I
+-- extract TS T I, or with keep behind it
 abbrev pub extract_of : List (List ℕ) → Result Line LineFault
-extract_of (tracks ∷ track ∷ item ∷ []) = do
+extract_of (tracks ∷ track ∷ item ∷ rest) = do
+  few ← at_most_of 1 rest
   tracks ← tracks_of tracks
   track ← track_of track
   item ← numeral_of item
-  Ok (Edit (call.Extract (record { tracks = tracks; track = track; item = item })))
+  keep ← keep_of rest
+  Ok (Edit (call.Extract (record {
+    tracks = tracks;
+    track = track;
+    item = item;
+    keep = keep;
+  })))
 extract_of words = Err B2
 
--- slice T P
+-- slice T P, or with keep behind it
 abbrev pub slice_of : Naming → List (List ℕ) → Result Line LineFault
-slice_of place_at (track ∷ at ∷ []) = do
+slice_of place_at (track ∷ at ∷ rest) = do
+  few ← at_most_of 1 rest
   track ← track_of track
   at ← place_of place_at at
-  Ok (Edit (call.Slice (record { track = track; at = at })))
+  keep ← keep_of rest
+  Ok (Edit (call.Slice (record { track = track; at = at; keep = keep })))
 slice_of place_at words = Err B2
 
 -- dissolve T P A B
@@ -140,34 +156,22 @@ slide_of (tracks ∷ track ∷ item ∷ by ∷ []) = do
   Ok (Edit (call.Slide (record { tracks = tracks; track = track; item = item; by = by })))
 slide_of words = Err B2
 
--- fill T P WHAT FROM sequence · fill T P WHAT FROM source LEN
+-- fill T P WHAT FROM sequence · fill T P WHAT FROM source LEN, or one of these with keep behind it
 abbrev pub fill_of : Naming → List (List ℕ) → Result Line LineFault
-fill_of place_at (track ∷ at ∷ what ∷ from ∷ how ∷ []) = do
+fill_of place_at (track ∷ at ∷ what ∷ from ∷ how ∷ rest) = do
+  few ← at_most_of 2 rest
   track ← track_of track
   at ← place_of place_at at
   what ← what_of what
   from ← numeral_of from
-  how ← given_of (codes "sequence") how
+  filled ← filled_of how rest
   Ok (Edit (call.Fill (record {
     track = track;
     at = at;
     what = what;
     from = from;
-    length = Sequence;
-  })))
-fill_of place_at (track ∷ at ∷ what ∷ from ∷ how ∷ len ∷ []) = do
-  track ← track_of track
-  at ← place_of place_at at
-  what ← what_of what
-  from ← numeral_of from
-  how ← given_of (codes "source") how
-  len ← numeral_of len
-  Ok (Edit (call.Fill (record {
-    track = track;
-    at = at;
-    what = what;
-    from = from;
-    length = Source len;
+    length = filled.0;
+    keep = filled.1;
   })))
 fill_of place_at words = Err B2
 

@@ -1,20 +1,23 @@
 -- How the parts of a line are spelled, each as what its word says, or why the word is wrong: B3 where
 -- it is not spelled so, B4 where a number is past its bound, B6 where a list of tracks does not rise,
--- B1 where a word that must be `head`, `tail`, `source` or `sequence` is another.
+-- B1 where a word that must be `head`, `tail`, `source`, `sequence` or `keep` is another, and B2 where
+-- words stand behind the last of a row.
 -- This project's own protocol.
-use Rattle.std.specs.Prelude.{◌≡◌, ◌⊎◌, ℕ, ℤ, ◌+◌, ◌^◌, Bool, List, [], ◌∷◌, Option, Some, None, Result, Ok, Err, nat_le, ◌==◌, if◌then◌else◌, bytes_eq, codes}
+use Rattle.std.specs.Prelude.{◌≡◌, ◌⊎◌, ℕ, ℤ, ◌+◌, ◌^◌, Bool, true, false, List, [], ◌∷◌, Option, Some, None, Result, Ok, Err, length, nat_le, ◌==◌, if◌then◌else◌, bytes_eq, codes}
 use Rattle.std.specs.List.{slice_split}
 use Rattle.line_words.specs.Digits.{number_of, signed_of}
 use Rattle.line_words.specs.declared.numbers.NumberFault.{NumberFault}
 use Rattle.line_words.specs.declared.numbers.NumberFault.TheVariants.{NotANumber, TooLarge}
 use Rattle.composables.specs.declared.calls.End.{End}
 use Rattle.composables.specs.declared.calls.End.TheVariants.{Head, Tail}
+use Rattle.composables.specs.declared.calls.FillLength.{FillLength}
+use Rattle.composables.specs.declared.calls.FillLength.TheVariants.{Source, Sequence}
 use Rattle.frame_meaning.specs.declared.cells.What.{What}
 use Rattle.frame_meaning.specs.declared.cells.What.TheVariants.{Media, Nest}
 use Rattle.call_text.specs.declared.parts.TheConstants.{LAST_TRACK}
 use Rattle.reply_text.specs.LineFaults.{number_fault}
 use Rattle.reply_text.specs.declared.line_fault.LineFault.{LineFault}
-use Rattle.reply_text.specs.declared.line_fault.LineFault.TheVariants.{B1, B3, B4, B6, Memory}
+use Rattle.reply_text.specs.declared.line_fault.LineFault.TheVariants.{B1, B2, B3, B4, B6, Memory}
 
 -- this value, or want of memory
 abbrev pub IsOrMemory : {A : Type 0} → Result A LineFault → Result A LineFault → Type 0
@@ -53,6 +56,28 @@ end_of word =
 -- a word that must be this one
 abbrev pub given_of : List ℕ → List ℕ → Result (Unit {0}) LineFault
 given_of given word = if bytes_eq word given then Ok tt else Err B1
+
+-- so many words at most
+abbrev pub at_most_of : ℕ → List (List ℕ) → Result (Unit {0}) LineFault
+at_most_of most words = if nat_le (length words) most then Ok tt else Err B2
+
+-- whether dissolves are kept: the word behind a row, if there is one, must be `keep`
+abbrev pub keep_of : List (List ℕ) → Result Bool LineFault
+keep_of [] = Ok false
+keep_of (word ∷ words) = given_of (codes "keep") word >>= (λ given. Ok true)
+
+-- how much is filled, and whether dissolves are kept: `sequence`, or `source` and a number, and what
+-- stands behind
+abbrev pub filled_of : List ℕ → List (List ℕ) → Result (FillLength × Bool) LineFault
+filled_of how [] = given_of (codes "sequence") how >>= (λ given. Ok (Sequence, false))
+filled_of how (last ∷ []) =
+    if bytes_eq how (codes "sequence") then keep_of (last ∷ []) >>= (λ keep. Ok (Sequence, keep))
+    else given_of (codes "source") how >>= (λ given. numeral_of last >>= (λ n. Ok (Source n, false)))
+filled_of how (len ∷ last ∷ words) = do
+  given ← given_of (codes "source") how
+  n ← numeral_of len
+  keep ← keep_of (last ∷ words)
+  Ok (Source n, keep)
 
 -- a track: a number, at most 31
 abbrev pub track_of : List ℕ → Result ℕ LineFault

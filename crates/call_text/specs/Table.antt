@@ -1,5 +1,5 @@
 -- What the lines of the table are, word by word. place_at says which place a label names.
-use Rattle.std.specs.Prelude.{◌≡◌, ℕ, ℤ, ◌^◌, ◌<◌, ◌≤◌, ◌⊎◌, List, [], ◌∷◌, ◌++◌, Some, Ok, Err, length, codes}
+use Rattle.std.specs.Prelude.{◌≡◌, ℕ, ℤ, ◌^◌, ◌<◌, ◌≤◌, ◌⊎◌, Bool, true, false, List, [], ◌∷◌, ◌++◌, Some, Ok, Err, length, codes}
 use Rattle.std.specs.List.{slice_split}
 use Rattle.line_words.specs.Blanks.{words_of}
 use Rattle.line_words.specs.Digits.{number_of, signed_of}
@@ -66,10 +66,16 @@ abbrev pub IsThing : List ℕ → What → Type 0
 IsThing word (Media m) = (digits : List ℕ) × (word ≡ codes "@" ++ digits) × IsNumeral digits m
 IsThing word (Nest n) = (digits : List ℕ) × (word ≡ codes "#" ++ digits) × IsNumeral digits n
 
--- the words are how much is filled: so many source frames, or the whole gap
-abbrev pub AreLength : List (List ℕ) → FillLength → Type 0
-AreLength words (Source n) = (len : List ℕ) × (words ≡ codes "source" ∷ len ∷ []) × IsNumeral len n
-AreLength words Sequence = words ≡ codes "sequence" ∷ []
+-- the word at the end of a call that keeps dissolves
+abbrev pub keep_words : Bool → List (List ℕ)
+keep_words false = []
+keep_words true = codes "keep" ∷ []
+
+-- the words are how much is filled, so many source frames or the whole gap, and whether dissolves are kept
+abbrev pub AreLength : List (List ℕ) → FillLength → Bool → Type 0
+AreLength words (Source n) keep =
+    (len : List ℕ) × (words ≡ codes "source" ∷ len ∷ keep_words keep) × IsNumeral len n
+AreLength words Sequence keep = words ≡ codes "sequence" ∷ keep_words keep
 
 -- the bytes of a first word
 abbrev pub word_of : FirstWord → List ℕ
@@ -97,25 +103,28 @@ word_of first_word.Otio = codes "otio"
 -- · dissolve T P A B · undissolve T P · trim T I END D · slip TS T I D · roll T P D · slide TS T I D
 -- · fill T P WHAT FROM sequence · fill T P WHAT FROM source LEN · ripple TS T I END D
 -- · link TS IS · unlink T I
+-- and keep behind overwrite, insert, remove, extract, slice and fill, where they keep dissolves
 abbrev pub AreCall : Naming → List (List ℕ) → Call → Type 0
 AreCall place_at words (call.Overwrite c) =
     (track at what from len : List ℕ)
-    × (words ≡ word_of first_word.Overwrite ∷ track ∷ at ∷ what ∷ from ∷ len ∷ [])
+    × (words ≡ word_of first_word.Overwrite ∷ track ∷ at ∷ what ∷ from ∷ len ∷ keep_words c.keep)
     × NamesTrack track c.track × IsPlace place_at at c.at
     × IsThing what c.what × IsNumeral from c.from × IsNumeral len c.len
 AreCall place_at words (call.Insert c) =
     (tracks track at what from len : List ℕ)
-    × (words ≡ word_of first_word.Insert ∷ tracks ∷ track ∷ at ∷ what ∷ from ∷ len ∷ [])
+    × (words
+    ≡ word_of first_word.Insert ∷ tracks ∷ track ∷ at ∷ what ∷ from ∷ len ∷ keep_words c.keep)
     × NamesTracks tracks c.tracks × NamesTrack track c.track × IsPlace place_at at c.at
     × IsThing what c.what × IsNumeral from c.from × IsNumeral len c.len
 AreCall place_at words (call.Remove c) =
-    (track item : List ℕ) × (words ≡ word_of first_word.Remove ∷ track ∷ item ∷ [])
+    (track item : List ℕ) × (words ≡ word_of first_word.Remove ∷ track ∷ item ∷ keep_words c.keep)
     × NamesTrack track c.track × IsNumeral item c.item
 AreCall place_at words (call.Extract c) =
-    (tracks track item : List ℕ) × (words ≡ word_of first_word.Extract ∷ tracks ∷ track ∷ item ∷ [])
+    (tracks track item : List ℕ)
+    × (words ≡ word_of first_word.Extract ∷ tracks ∷ track ∷ item ∷ keep_words c.keep)
     × NamesTracks tracks c.tracks × NamesTrack track c.track × IsNumeral item c.item
 AreCall place_at words (call.Slice c) =
-    (track at : List ℕ) × (words ≡ word_of first_word.Slice ∷ track ∷ at ∷ [])
+    (track at : List ℕ) × (words ≡ word_of first_word.Slice ∷ track ∷ at ∷ keep_words c.keep)
     × NamesTrack track c.track × IsPlace place_at at c.at
 AreCall place_at words (call.Dissolve c) =
     (track at a b : List ℕ) × (words ≡ word_of first_word.Dissolve ∷ track ∷ at ∷ a ∷ b ∷ [])
@@ -142,7 +151,7 @@ AreCall place_at words (call.Fill c) =
     (track at what from : List ℕ) × (rest : List (List ℕ))
     × (words ≡ word_of first_word.Fill ∷ track ∷ at ∷ what ∷ from ∷ rest)
     × NamesTrack track c.track × IsPlace place_at at c.at
-    × IsThing what c.what × IsNumeral from c.from × AreLength rest c.length
+    × IsThing what c.what × IsNumeral from c.from × AreLength rest c.length c.keep
 AreCall place_at words (call.Ripple c) =
     (tracks track item by : List ℕ)
     × (words ≡ word_of first_word.Ripple ∷ tracks ∷ track ∷ item ∷ end_word c.end ∷ by ∷ [])

@@ -2,7 +2,7 @@
 ghost use Rattle.std.specs.Prelude.{◌≡◌, ◌++◌, [], IfOk, OnOk};
 ghost use Rattle.call_text.specs.CallTexts.{call_text_of, frames_text, numbers_after, numbers_text, tracks_text};
 
-use crate::part_texts::{put_end, put_length, put_signed};
+use crate::part_texts::{put_end, put_keep, put_length, put_signed};
 use composables::{Fill, Memory, Ripple, Slide, Slip, Trim, has_track};
 use edit_apply::Call;
 use frame_meaning::What;
@@ -25,22 +25,31 @@ pub(crate) fn put_call(out: &mut Vec<u8>, call: &Call) -> Result<(), Memory>
         Call::Overwrite(edit) => {
             put_numbers(out, b"overwrite ", edit.track, edit.at)?;
             put(out, b" ")?;
-            put_frames(out, &edit.what, edit.from, edit.len)
+            put_frames(out, &edit.what, edit.from, edit.len)?;
+            put_keep(out, edit.keep)
         }
         Call::Insert(edit) => {
             put_tracks(out, b"insert ", edit.tracks)?;
             put_number(out, b" ", edit.track)?;
             put_number(out, b" ", edit.at)?;
             put(out, b" ")?;
-            put_frames(out, &edit.what, edit.from, edit.len)
+            put_frames(out, &edit.what, edit.from, edit.len)?;
+            put_keep(out, edit.keep)
         }
-        Call::Remove(edit) => put_numbers(out, b"remove ", edit.track, edit.item),
+        Call::Remove(edit) => {
+            put_numbers(out, b"remove ", edit.track, edit.item)?;
+            put_keep(out, edit.keep)
+        }
         Call::Extract(edit) => {
             put_tracks(out, b"extract ", edit.tracks)?;
             put_number(out, b" ", edit.track)?;
-            put_number(out, b" ", edit.item)
+            put_number(out, b" ", edit.item)?;
+            put_keep(out, edit.keep)
         }
-        Call::Slice(edit) => put_numbers(out, b"slice ", edit.track, edit.at),
+        Call::Slice(edit) => {
+            put_numbers(out, b"slice ", edit.track, edit.at)?;
+            put_keep(out, edit.keep)
+        }
         Call::Dissolve(edit) => {
             put_numbers(out, b"dissolve ", edit.track, edit.at)?;
             put_number(out, b" ", edit.a)?;
@@ -111,7 +120,8 @@ fn put_fill(out: &mut Vec<u8>, edit: &Fill) -> Result<(), Memory>
     put_what(out, &edit.what)?;
     put_number(out, b" ", edit.from)?;
     put(out, b" ")?;
-    put_length(out, edit.length)
+    put_length(out, edit.length)?;
+    put_keep(out, edit.keep)
 }
 
 // A text, and two numbers with a space between.

@@ -1,7 +1,7 @@
 // Parts of a call as text.
 ghost use Rattle.std.specs.Prelude.{◌≡◌, ◌++◌, OnOk};
 ghost use Rattle.std.specs.Fmt.{signed_decimal};
-ghost use Rattle.call_text.specs.CallTexts.{length_text};
+ghost use Rattle.call_text.specs.CallTexts.{length_text, keep_text};
 ghost use Rattle.call_text.specs.Table.{end_word};
 
 use composables::{End, FillLength, Memory};
@@ -25,6 +25,13 @@ pub(crate) fn put_end(out: &mut Vec<u8>, end: End) -> Result<(), Memory>
         End::Head => put(out, b"head"),
         End::Tail => put(out, b"tail"),
     }
+}
+
+// Whether dissolves are kept.
+pub(crate) fn put_keep(out: &mut Vec<u8>, keep: bool) -> Result<(), Memory>
+    ensures { OnOk result (out.new.items ≡ out.old.items ++ keep_text keep) }
+{
+    put(out, if keep { b" keep" } else { b"" })
 }
 
 // How much is filled.

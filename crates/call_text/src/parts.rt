@@ -5,11 +5,12 @@ ghost use Rattle.std.specs.List.{slice_split};
 ghost use Rattle.composables.specs.TrackSets.{tracks_in};
 ghost use Rattle.call_text.specs.CallTexts.{IsSmall};
 ghost use Rattle.call_text.specs.Labels.{place_by};
-ghost use Rattle.call_text.specs.Spelling.{IsOrMemory, numeral_of, delta_of, end_of, given_of, numbers_of, track_of, is_comma, listed_in, tracks_of, place_of, what_of};
+ghost use Rattle.call_text.specs.Reading.{texts_of};
+ghost use Rattle.call_text.specs.Spelling.{IsOrMemory, numeral_of, delta_of, end_of, given_of, keep_of, filled_of, numbers_of, track_of, is_comma, listed_in, tracks_of, place_of, what_of};
 
 use crate::LineFault;
 use crate::labels::label_place;
-use composables::{End, Numbers, has_track};
+use composables::{End, FillLength, Numbers, has_track};
 use frame_meaning::What;
 use line_words::{NumberFault, number, signed};
 use std::alloc::Global;
@@ -46,13 +47,43 @@ pub(crate) fn end(word: &[u8]) -> Result<End, LineFault>
 }
 
 // A word that must be this one.
-pub(crate) fn given(word: &[u8], given: &[u8]) -> Result<(), LineFault>
+fn given(word: &[u8], given: &[u8]) -> Result<(), LineFault>
     ensures { result ≡ given_of given.now word.now }
 {
     if word == given {
         Ok(())
     } else {
         Err(LineFault::B1)
+    }
+}
+
+// Whether dissolves are kept, by what stands behind a row.
+pub(crate) fn keep(rest: &[&[u8]]) -> Result<bool, LineFault>
+    ensures { result ≡ keep_of (texts_of rest.now) }
+{
+    match rest {
+        [] => Ok(false),
+        [word, ..] => {
+            given(word, b"keep")?;
+            Ok(true)
+        }
+    }
+}
+
+// How much is filled, and whether dissolves are kept.
+pub(crate) fn filled(how: &[u8], rest: &[&[u8]]) -> Result<(FillLength, bool), LineFault>
+    ensures { result ≡ filled_of how.now (texts_of rest.now) }
+{
+    if rest.len() < 2 && how == b"sequence".as_slice() {
+        return Ok((FillLength::Sequence, keep(rest)?));
+    }
+    match rest {
+        [] => Err(LineFault::B1),
+        [len, rest @ ..] => {
+            given(how, b"source")?;
+            let length = FillLength::Source(numeral(len)?);
+            Ok((length, keep(rest)?))
+        }
     }
 }
 

@@ -6,12 +6,14 @@ ghost use Rattle.call_text.specs.Labels.{place_by};
 ghost use Rattle.call_text.specs.Reading.{AreRead, IsRead, IsRowRead, overwrite_of, insert_of, remove_of, extract_of, slice_of, dissolve_of, undissolve_of, trim_of, slip_of, roll_of, slide_of, fill_of, ripple_of, link_of, unlink_of, view_of, items_of, point_of, otio_of, texts_of};
 ghost use Rattle.call_text.specs.Spelling.{IsOrMemory};
 
-use crate::parts::{delta, end, given, numbers, numeral, place, track, track_count, tracks, what};
+use crate::parts::{
+    delta, end, filled, keep, numbers, numeral, place, track, track_count, tracks, what,
+};
 use crate::words::{first_word, line_words};
 use crate::{FirstWord, Line, LineFault};
 use composables::{
-    Dissolve, Extract, Fill, FillLength, Insert, Link3, Overwrite, Remove, Ripple, Roll, Slice,
-    Slide, Slip, Trim, Undissolve, Unlink,
+    Dissolve, Extract, Fill, Insert, Link3, Overwrite, Remove, Ripple, Roll, Slice, Slide, Slip,
+    Trim, Undissolve, Unlink,
 };
 use edit_apply::{Ask, Call};
 use line_words::MAX_LINE;
@@ -93,43 +95,46 @@ fn row(
     }
 }
 
-// overwrite T P WHAT FROM LEN
+// overwrite T P WHAT FROM LEN, or with keep
 fn overwrite(words: &[&[u8]], counting: &Counting, start: u32) -> Result<Line, LineFault>
     ensures read { result ≡ overwrite_of (place_by counting.now start) (texts_of words.now) }
     ensures written { IfOk result (λ read. NamesWritten read) }
 {
     match words {
-        [track_word, at, thing, from, len] => {
+        [track_word, at, thing, from, len, rest @ ..] if rest.len() <= 1 => {
             let track = track(track_word)?;
             let at = place(at, counting, start)?;
             let what = what(thing)?;
             let from = numeral(from)?;
             let len = numeral(len)?;
+            let keep = keep(rest)?;
             Ok(Line::Edit(Call::Overwrite(Overwrite {
                 track,
                 at,
                 what,
                 from,
                 len,
+                keep,
             })))
         }
         _ => Err(LineFault::B2),
     }
 }
 
-// insert TS T P WHAT FROM LEN
+// insert TS T P WHAT FROM LEN, or with keep
 fn insert(words: &[&[u8]], counting: &Counting, start: u32) -> Result<Line, LineFault>
     ensures read { result ≡ insert_of (place_by counting.now start) (texts_of words.now) }
     ensures written { IfOk result (λ read. NamesWritten read) }
 {
     match words {
-        [list, track_word, at, thing, from, len] => {
+        [list, track_word, at, thing, from, len, rest @ ..] if rest.len() <= 1 => {
             let tracks = tracks(list)?;
             let track = track(track_word)?;
             let at = place(at, counting, start)?;
             let what = what(thing)?;
             let from = numeral(from)?;
             let len = numeral(len)?;
+            let keep = keep(rest)?;
             Ok(Line::Edit(Call::Insert(Insert {
                 tracks,
                 track,
@@ -137,57 +142,62 @@ fn insert(words: &[&[u8]], counting: &Counting, start: u32) -> Result<Line, Line
                 what,
                 from,
                 len,
+                keep,
             })))
         }
         _ => Err(LineFault::B2),
     }
 }
 
-// remove T I
+// remove T I, or with keep
 fn remove(words: &[&[u8]]) -> Result<Line, LineFault>
     ensures read { result ≡ remove_of (texts_of words.now) }
     ensures written { IfOk result (λ read. NamesWritten read) }
 {
     match words {
-        [track_word, item] => {
+        [track_word, item, rest @ ..] if rest.len() <= 1 => {
             let track = track(track_word)?;
             let item = numeral(item)?;
-            Ok(Line::Edit(Call::Remove(Remove { track, item })))
+            let keep = keep(rest)?;
+            Ok(Line::Edit(Call::Remove(Remove { track, item, keep })))
         }
         _ => Err(LineFault::B2),
     }
 }
 
-// extract TS T I
+// extract TS T I, or with keep
 fn extract(words: &[&[u8]]) -> Result<Line, LineFault>
     ensures read { result ≡ extract_of (texts_of words.now) }
     ensures written { IfOk result (λ read. NamesWritten read) }
 {
     match words {
-        [list, track_word, item] => {
+        [list, track_word, item, rest @ ..] if rest.len() <= 1 => {
             let tracks = tracks(list)?;
             let track = track(track_word)?;
             let item = numeral(item)?;
+            let keep = keep(rest)?;
             Ok(Line::Edit(Call::Extract(Extract {
                 tracks,
                 track,
                 item,
+                keep,
             })))
         }
         _ => Err(LineFault::B2),
     }
 }
 
-// slice T P
+// slice T P, or with keep
 fn slice(words: &[&[u8]], counting: &Counting, start: u32) -> Result<Line, LineFault>
     ensures read { result ≡ slice_of (place_by counting.now start) (texts_of words.now) }
     ensures written { IfOk result (λ read. NamesWritten read) }
 {
     match words {
-        [track_word, at] => {
+        [track_word, at, rest @ ..] if rest.len() <= 1 => {
             let track = track(track_word)?;
             let at = place(at, counting, start)?;
-            Ok(Line::Edit(Call::Slice(Slice { track, at })))
+            let keep = keep(rest)?;
+            Ok(Line::Edit(Call::Slice(Slice { track, at, keep })))
         }
         _ => Err(LineFault::B2),
     }
@@ -307,40 +317,25 @@ fn slide(words: &[&[u8]]) -> Result<Line, LineFault>
     }
 }
 
-// fill T P WHAT FROM sequence, or fill T P WHAT FROM source LEN
+// fill T P WHAT FROM sequence, or fill T P WHAT FROM source LEN, or one of these with keep
 fn fill(words: &[&[u8]], counting: &Counting, start: u32) -> Result<Line, LineFault>
     ensures read { result ≡ fill_of (place_by counting.now start) (texts_of words.now) }
     ensures written { IfOk result (λ read. NamesWritten read) }
 {
     match words {
-        [track_word, at, thing, from, how] => {
+        [track_word, at, thing, from, how, rest @ ..] if rest.len() <= 2 => {
             let track = track(track_word)?;
             let at = place(at, counting, start)?;
             let what = what(thing)?;
             let from = numeral(from)?;
-            given(how, b"sequence")?;
-            let length = FillLength::Sequence;
+            let (length, keep) = filled(how, rest)?;
             Ok(Line::Edit(Call::Fill(Fill {
                 track,
                 at,
                 what,
                 from,
                 length,
-            })))
-        }
-        [track_word, at, thing, from, how, len] => {
-            let track = track(track_word)?;
-            let at = place(at, counting, start)?;
-            let what = what(thing)?;
-            let from = numeral(from)?;
-            given(how, b"source")?;
-            let length = FillLength::Source(numeral(len)?);
-            Ok(Line::Edit(Call::Fill(Fill {
-                track,
-                at,
-                what,
-                from,
-                length,
+                keep,
             })))
         }
         _ => Err(LineFault::B2),

@@ -26,9 +26,9 @@ first_word number station = (number + station) % words
 
 -- a call at an even place of a script, and at an odd one
 abbrev pub call_with : Bool → ℕ → ℕ → ℕ → ℕ → Call
-call_with true track at from len = Overwrite (record { track = track; at = at; what = Media 0; from = from; len = len })
+call_with true track at from len = Overwrite (record { track = track; at = at; what = Media 0; from = from; len = len; keep = false })
 call_with false track at from len =
-    Insert (record { tracks = 2 ^ track; track = track; at = at; what = Media 0; from = from; len = len })
+    Insert (record { tracks = 2 ^ track; track = track; at = at; what = Media 0; from = from; len = len; keep = false })
 
 -- the call at a place of a station's script, by the three words drawn
 abbrev pub call_drawn : ℕ → ℕ → ℕ → ℕ → ℕ → Call

@@ -32,6 +32,7 @@ fn call_with(even: bool, track: u32, at: u32, from: u32, len: u32) -> Call
             what,
             from,
             len,
+            keep: false,
         })
     } else {
         Call::Insert(Insert {
@@ -41,6 +42,7 @@ fn call_with(even: bool, track: u32, at: u32, from: u32, len: u32) -> Call
             what,
             from,
             len,
+            keep: false,
         })
     }
 }

@@ -238,6 +238,36 @@ journal 5
 0 6 slice 0 11
 ";
 
+/// A dissolve that is kept beside a cut, as far as there is room for it.
+const KEPT_DISSOLVE: &str = "\
+> overwrite 0 0 @0 100 10
+ok 0 item 0
+> overwrite 0 10 @1 200 10
+ok 1 item 1
+> dissolve 0 10 1 2
+ok 2
+> slice 0 11 kept
+bad B1
+> slice 0 11 keep keep
+bad B2
+> slice 0 11 keep
+ok 3
+> view 0 8 13
+seen 4 @0 108 1 mix @0 109 @1 199 1 3 2 @1 201 2
+> items 0
+items 4 0 @0 100 10 mark 1 1 1 @1 200 1 2 @1 201 9
+> slice 0 10 keep
+ok 4
+> view 0 8 12
+seen 5 @0 108 2 @1 200 2
+journal 5
+0 1 overwrite 0 0 @0 100 10
+0 2 overwrite 0 10 @1 200 10
+0 3 dissolve 0 10 1 2
+0 6 slice 0 11 keep
+0 9 slice 0 10 keep
+";
+
 /// Dissolves that are refused.
 const REFUSED_DISSOLVES: &str = "\
 > overwrite 0 0 @0 100 10
@@ -269,6 +299,7 @@ fn dissolves_are_answered(rt: HostRuntime) -> Result<(), Fail> {
     for talk in [DISSOLVE, LONG_ITEMS, CUT_DISSOLVE, REFUSED_DISSOLVES] {
         assert!(rt; is_answered(&rt, alloc, "run 2 1", talk)?, "{talk}");
     }
+    assert!(rt; is_answered(&rt, alloc, "run 1 2", KEPT_DISSOLVE)?);
     Ok(())
 }
 

@@ -50,6 +50,7 @@ fn overwrite_on(track: u32) -> Call {
         what: What::Media(0),
         from: 0,
         len: 1,
+        keep: false,
     })
 }
 
@@ -61,6 +62,7 @@ fn insert_on(tracks: u32, track: u32) -> Call {
         what: What::Media(0),
         from: 0,
         len: 1,
+        keep: false,
     })
 }
 
@@ -212,6 +214,7 @@ fn a_track_has_65536_items_at_most(rt: HostRuntime) -> Result<(), Fail> {
             what: What::Media(0),
             from: 9,
             len: 1,
+            keep: false,
         });
         let last = apply_on_zero::<Brand>(&rt, alloc, Blank::new(1), &editor, track, &call)?;
         assert_eq!(rt; last, answer);

@@ -22,6 +22,7 @@ fn put_or_taken(row: u32) -> Option<Written> {
                 what: What::Media(3),
                 from: 400,
                 len: 5000,
+                keep: false,
             }),
             "overwrite 1 20 @3 400 5000",
         )),
@@ -33,19 +34,35 @@ fn put_or_taken(row: u32) -> Option<Written> {
                 what: What::Nest(7),
                 from: 8,
                 len: 6,
+                keep: false,
             }),
             "insert 0,2 2 24 #7 8 6",
         )),
-        2 => Some((Call::Remove(Remove { track: 1, item: 0 }), "remove 1 0")),
+        2 => Some((
+            Call::Remove(Remove {
+                track: 1,
+                item: 0,
+                keep: false,
+            }),
+            "remove 1 0",
+        )),
         3 => Some((
             Call::Extract(Extract {
                 tracks: 2147483650,
                 track: 31,
                 item: 8,
+                keep: false,
             }),
             "extract 1,31 31 8",
         )),
-        4 => Some((Call::Slice(Slice { track: 3, at: 10 }), "slice 3 10")),
+        4 => Some((
+            Call::Slice(Slice {
+                track: 3,
+                at: 10,
+                keep: false,
+            }),
+            "slice 3 10",
+        )),
         5 => Some((
             Call::Fill(Fill {
                 track: 1,
@@ -53,6 +70,7 @@ fn put_or_taken(row: u32) -> Option<Written> {
                 what: What::Media(3),
                 from: 400,
                 length: FillLength::Sequence,
+                keep: false,
             }),
             "fill 1 20 @3 400 sequence",
         )),
@@ -63,6 +81,7 @@ fn put_or_taken(row: u32) -> Option<Written> {
                 what: What::Media(3),
                 from: 400,
                 length: FillLength::Source(7),
+                keep: false,
             }),
             "fill 1 20 @3 400 source 7",
         )),
@@ -74,6 +93,93 @@ fn put_or_taken(row: u32) -> Option<Written> {
 fn calls_that_put_and_take_have_these_texts(rt: HostRuntime) -> Result<(), Fail> {
     for row in 0..7u32 {
         let (call, want) = put_or_taken(row).ok_or("a row")?;
+        let text = call_text(rt.alloc(), &call)?;
+        assert_eq!(rt; text.as_slice(), want.as_bytes(), "row {row}");
+    }
+    Ok(())
+}
+
+// The same calls, where they keep dissolves.
+fn kept(row: u32) -> Option<Written> {
+    match row {
+        0 => Some((
+            Call::Overwrite(Overwrite {
+                track: 1,
+                at: 20,
+                what: What::Media(3),
+                from: 400,
+                len: 5000,
+                keep: true,
+            }),
+            "overwrite 1 20 @3 400 5000 keep",
+        )),
+        1 => Some((
+            Call::Insert(Insert {
+                tracks: 5,
+                track: 2,
+                at: 24,
+                what: What::Nest(7),
+                from: 8,
+                len: 6,
+                keep: true,
+            }),
+            "insert 0,2 2 24 #7 8 6 keep",
+        )),
+        2 => Some((
+            Call::Remove(Remove {
+                track: 1,
+                item: 0,
+                keep: true,
+            }),
+            "remove 1 0 keep",
+        )),
+        3 => Some((
+            Call::Extract(Extract {
+                tracks: 2147483650,
+                track: 31,
+                item: 8,
+                keep: true,
+            }),
+            "extract 1,31 31 8 keep",
+        )),
+        4 => Some((
+            Call::Slice(Slice {
+                track: 3,
+                at: 10,
+                keep: true,
+            }),
+            "slice 3 10 keep",
+        )),
+        5 => Some((
+            Call::Fill(Fill {
+                track: 1,
+                at: 20,
+                what: What::Media(3),
+                from: 400,
+                length: FillLength::Sequence,
+                keep: true,
+            }),
+            "fill 1 20 @3 400 sequence keep",
+        )),
+        6 => Some((
+            Call::Fill(Fill {
+                track: 1,
+                at: 20,
+                what: What::Media(3),
+                from: 400,
+                length: FillLength::Source(7),
+                keep: true,
+            }),
+            "fill 1 20 @3 400 source 7 keep",
+        )),
+        _ => None,
+    }
+}
+
+#[test]
+fn calls_that_keep_dissolves_have_these_texts(rt: HostRuntime) -> Result<(), Fail> {
+    for row in 0..7u32 {
+        let (call, want) = kept(row).ok_or("a row")?;
         let text = call_text(rt.alloc(), &call)?;
         assert_eq!(rt; text.as_slice(), want.as_bytes(), "row {row}");
     }
@@ -170,12 +276,16 @@ fn an_entry_has_its_station_and_its_number(rt: HostRuntime) -> Result<(), Fail> 
     let entry = Entry {
         station: 15,
         number: 70,
-        call: Call::Slice(Slice { track: 3, at: 10 }),
+        call: Call::Slice(Slice {
+            track: 3,
+            at: 10,
+            keep: true,
+        }),
     };
     let text = journal_text(rt.alloc(), &[entry])?;
     assert_eq!(rt;
         text.as_slice(),
-        b"journal 1\n15 70 slice 3 10\n".as_slice()
+        b"journal 1\n15 70 slice 3 10 keep\n".as_slice()
     );
     Ok(())
 }

@@ -57,6 +57,10 @@ journal 1/0 1 slice\t0 10/ | H1 2
 journal 1/0 1 slice 32 10/ | H1 2
 journal 1/0 1 slice 0 00:00:00:10/ | H1 2
 journal 1/0 1 items 0/ | H1 2
+journal 1/0 1 slice 0 10 kept/ | H1 2
+journal 1/0 1 slice 0 10  keep/ | H1 2
+journal 1/0 1 slice 0 10 keep / | H1 2
+journal 1/0 1 slice 0 10 / | H1 2
 journal 3/0 1 slice 0 1/0 x slice 0 1/ | H1 3
 journal 2/0 2 slice 0 1/0 2 slice 0 1/ | H4 3
 journal 3/0 2 slice 0 1/1 1 slice 0 1/0 1 slice 0 1/ | H4 4
@@ -66,6 +70,8 @@ const JOURNALS: &str = "\
 journal 0/
 journal 1/15 0 remove 31 4294967295/
 journal 3/0 1 overwrite 1 20 @3 400 5000/15 70 insert 0,2 2 24 #7 5 6/0 2 extract 1,2 1 3/
+journal 4/0 1 overwrite 1 20 @3 400 5000 keep/15 70 insert 0,2 2 24 #7 5 6 keep/0 2 extract 1,2 1 3 keep/0 3 remove 1 4 keep/
+journal 4/0 1 slice 0 10 keep/0 2 slice 0 11/0 3 fill 1 20 @3 400 source 7 keep/0 4 fill 1 20 @3 400 sequence keep/
 ";
 
 // A text with a line feed in place of each `/`.

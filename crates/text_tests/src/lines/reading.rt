@@ -39,6 +39,14 @@ ripple 0,2 2 7 tail -1 | ripple 0,2 2 7 tail -1
 link 0,2 007,4294967295 | link 0,2 7,4294967295
 link 31 0 | link 31 0
 unlink 3 010 | unlink 3 10
+overwrite 1 20 @3 400 5000 keep | overwrite 1 20 @3 400 5000 keep
+overwrite 001 00:00:01:00 #03 0400 005000\t keep  | overwrite 1 24 #3 400 5000 keep
+insert 0,2 2 24 #7 5 6 keep | insert 0,2 2 24 #7 5 6 keep
+remove 31 4294967295 keep | remove 31 4294967295 keep
+extract 30,31 0 9 keep | extract 30,31 0 9 keep
+slice 1 00:00:01:01 keep | slice 1 25 keep
+fill 1 20 @3 400 sequence keep | fill 1 20 @3 400 sequence keep
+fill 1 20 @3 400 source 07 keep | fill 1 20 @3 400 source 7 keep
 ";
 
 // Each row is a line that is none, ` | `, and the reply to it.
@@ -64,7 +72,7 @@ view 32 x 0 | bad B4
 view x 4294967296 0 | bad B3
 view 0 4294967296 x | bad B4
 overwrite 0 0 @0 0 | bad B2
-overwrite 0 0 @0 0 1 1 | bad B2
+overwrite 0 0 @0 0 1 1 | bad B1
 overwrite x 0 0 0 4294967296 | bad B3
 overwrite 32 0 0 0 x | bad B4
 overwrite 0 0 0 0 1 | bad B3
@@ -78,7 +86,7 @@ overwrite 1 2 3 4 5 6 7 8 | bad B2
 overwrite 1 2 3 4 5 6 7 8 9 10 | bad B2
 jump 1 2 3 4 5 6 7 8 9 10 | bad B1
 insert 0 0 0 @0 0 | bad B2
-insert 0 0 0 @0 0 1 1 | bad B2
+insert 0 0 0 @0 0 1 1 | bad B1
 insert 2,1 1 0 @0 0 1 | bad B6
 insert 1,1 1 0 @0 0 1 | bad B6
 insert 2,1,x 1 0 @0 0 1 | bad B6
@@ -92,7 +100,7 @@ insert 0 32 x x x x | bad B4
 insert 0 x 4294967296 x x x | bad B3
 insert 0 0 0 @0 0 x | bad B3
 remove 0 | bad B2
-remove 0 0 0 | bad B2
+remove 0 0 0 | bad B1
 remove 0 x | bad B3
 remove 0,1 0 | bad B3
 remove 32 x | bad B4
@@ -100,7 +108,7 @@ extract 0 0 | bad B2
 extract 0,32 x x | bad B4
 extract 0 0 00:00:00:01 | bad B3
 slice 0 | bad B2
-slice 0 0 0 | bad B2
+slice 0 0 0 | bad B1
 slice 0 4294967296 | bad B4
 slice x 4294967296 | bad B3
 dissolve 0 0 0 | bad B2
@@ -119,7 +127,7 @@ roll 0 0 | bad B2
 roll 0 4294967296 x | bad B4
 slide 0 0 0 1- | bad B3
 fill 0 0 @0 0 | bad B2
-fill 0 0 @0 0 sequence 1 1 | bad B2
+fill 0 0 @0 0 sequence 1 1 | bad B1
 fill 0 0 @0 0 source | bad B1
 fill 0 0 @0 0 sequence x | bad B1
 fill 0 0 @0 x sequenc | bad B3
@@ -146,6 +154,106 @@ unlink 32 x | bad B4
 unlink 0 0,1 | bad B3
 ";
 
+// The same for lines that end with a word more.
+const KEPT_FAULTS: &str = "\
+keep | bad B1
+slice 0 5 kept | bad B1
+slice 0 5 keep keep | bad B2
+slice 0 5 Keep | bad B1
+slice 0 5 kee | bad B1
+slice 0 keep | bad B3
+slice keep | bad B2
+slice 32 5 kept | bad B4
+slice 0 4294967296 kept | bad B4
+slice 32 x keep keep | bad B2
+slice keep 0 5 | bad B3
+overwrite 1 20 @3 400 5000 kept | bad B1
+overwrite 1 20 @3 400 5000 keep keep | bad B2
+overwrite 1 20 @3 400 keep | bad B3
+overwrite 1 20 @3 400 4294967296 kept | bad B4
+overwrite 1 20 @3 400 5000 6 keep | bad B2
+overwrite 32 x 3 x x kept keep | bad B2
+insert 0,2 2 24 #7 5 6 kept | bad B1
+insert 0,2 2 24 #7 5 6 keep keep | bad B2
+insert 2,1 2 24 #7 5 6 kept | bad B6
+insert 0,2 2 24 #7 5 x kept | bad B3
+insert 2,1 2 24 #7 5 6 keep 1 | bad B2
+insert 2,1 2 24 #7 5 6 keep 1 2 | bad B2
+remove 3 4 kept | bad B1
+remove 3 4 keep keep | bad B2
+remove 3 keep | bad B3
+remove 32 4 kept | bad B4
+extract 0,3 3 4 kept | bad B1
+extract 0,3 3 4 keep keep | bad B2
+extract 3,0 3 4 kept | bad B6
+extract 0,3 3 keep | bad B3
+fill keep | bad B2
+fill 1 20 @3 400 keep | bad B1
+fill 1 20 @3 400 sequence kept | bad B1
+fill 1 20 @3 400 sequence keep keep | bad B1
+fill 1 20 @3 400 sequence keep keep keep | bad B2
+fill 1 20 @3 400 source keep | bad B3
+fill 1 20 @3 400 source 7 kept | bad B1
+fill 1 20 @3 400 source 4294967296 kept | bad B4
+fill 1 20 @3 400 source 7 keep keep | bad B2
+dissolve 3 10 1 2 keep | bad B2
+undissolve 3 10 keep | bad B2
+trim 3 10 tail 1 keep | bad B2
+slip 3 3 10 1 keep | bad B2
+roll 3 10 1 keep | bad B2
+slide 3 3 10 1 keep | bad B2
+ripple 3 3 10 tail 1 keep | bad B2
+link 0 0 keep | bad B2
+unlink 3 10 keep | bad B2
+view 0 0 0 keep | bad B2
+";
+
+// Each count of words behind `fill`, and each wrong word of it.
+const FILLS: &str = "\
+fill | bad B2
+fill 0 | bad B2
+fill 0 0 | bad B2
+fill 0 0 @0 | bad B2
+fill 0 0 @0 0 | bad B2
+fill 0 0 @0 0 sequence | fill 0 0 @0 0 sequence
+fill 32 0 @0 0 sequence | bad B4
+fill 0 x @0 0 sequence | bad B3
+fill 0 0 0 0 sequence | bad B3
+fill 0 0 @0 x sequence | bad B3
+fill 0 0 @0 0 sequenc | bad B1
+fill 0 0 @0 0 source | bad B1
+fill 0 0 @0 0 sequence keep | fill 0 0 @0 0 sequence keep
+fill 32 0 @0 0 sequence kept | bad B4
+fill 0 x @0 0 sequence kept | bad B3
+fill 0 0 0 0 sequence kept | bad B3
+fill 0 0 @0 x sequence kept | bad B3
+fill 0 0 @0 0 sequence 1 | bad B1
+fill 0 0 @0 0 sequence source | bad B1
+fill 0 0 @0 0 source 1 | fill 0 0 @0 0 source 1
+fill 32 0 @0 0 sourc x | bad B4
+fill 0 x @0 0 sourc x | bad B3
+fill 0 0 0 0 sourc x | bad B3
+fill 0 0 @0 x sourc x | bad B3
+fill 0 0 @0 0 sourc x | bad B1
+fill 0 0 @0 0 sourc keep | bad B1
+fill 0 0 @0 0 1 source | bad B1
+fill 0 0 @0 0 source x | bad B3
+fill 0 0 @0 0 source 4294967296 | bad B4
+fill 0 0 @0 0 source 1 keep | fill 0 0 @0 0 source 1 keep
+fill 32 0 @0 0 sourc x kept | bad B4
+fill 0 x @0 0 sourc x kept | bad B3
+fill 0 0 0 0 sourc x kept | bad B3
+fill 0 0 @0 x sourc x kept | bad B3
+fill 0 0 @0 0 sourc x kept | bad B1
+fill 0 0 @0 0 sequence 1 keep | bad B1
+fill 0 0 @0 0 source x kept | bad B3
+fill 0 0 @0 0 source 4294967296 kept | bad B4
+fill 0 0 @0 0 source 1 sequence | bad B1
+fill 0 0 @0 0 source 1 keep 1 | bad B2
+fill 0 0 @0 0 source 1 keep 1 2 | bad B2
+fill x x x x x x x x | bad B2
+";
+
 #[test]
 fn lines_say_what_the_table_says(rt: HostRuntime) -> Result<(), Fail> {
     let film = film().ok_or("no such counting")?;
@@ -155,7 +263,14 @@ fn lines_say_what_the_table_says(rt: HostRuntime) -> Result<(), Fail> {
 #[test]
 fn the_first_fault_of_a_line_is_told(rt: HostRuntime) -> Result<(), Fail> {
     let film = film().ok_or("no such counting")?;
-    say(&rt, rt.alloc(), FAULTS, &film, 0)
+    say(&rt, rt.alloc(), FAULTS, &film, 0)?;
+    say(&rt, rt.alloc(), KEPT_FAULTS, &film, 0)
+}
+
+#[test]
+fn each_count_of_words_of_a_fill_has_its_row(rt: HostRuntime) -> Result<(), Fail> {
+    let film = film().ok_or("no such counting")?;
+    say(&rt, rt.alloc(), FILLS, &film, 0)
 }
 
 // Each line of these rows says what stands beside it.

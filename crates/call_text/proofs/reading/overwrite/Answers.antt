@@ -1,9 +1,0 @@
-use Rattle.std.proofs.Common.{rules}
-use Rattle.call_text.proofs.RowWords.{five_words}
-use Rattle.call_text.proofs.reading.overwrite.Goals as goal
-
-pub returns-in_err-what-in-len5-clause-read : goal.returns-in_err-what-in-len5-clause-read
-returns-in_err-what-in-len5-clause-read c = let words = five_words c.args.words.now c.in-len5.len_at_least c.in-len5.len_below in rw words (search rules)
-
-pub returns-in_err-from-in-len5-clause-read : goal.returns-in_err-from-in-len5-clause-read
-returns-in_err-from-in-len5-clause-read c = let words = five_words c.args.words.now c.in-len5.len_at_least c.in-len5.len_below in rw words (search rules)
