@@ -4,6 +4,7 @@ mod faults;
 mod limits;
 mod opened;
 mod short;
+mod spoiled;
 
 use otio_json::{DocFault, Opening, read_timeline};
 use std::alloc::{AllocError, Global};

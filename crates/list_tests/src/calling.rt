@@ -75,6 +75,16 @@ pub(crate) fn plays_so(
     Ok(ended(status, &output, wanted, text))
 }
 
+/// How the tape of these bytes as a list at 24 frames a second ends, and what is put on the output.
+pub(crate) fn played(alloc: Global, list: &[u8]) -> Result<(Status, Vec<u8>), Fail> {
+    let mut files = MemFiles::new(alloc, Vec::new(alloc));
+    files.put("cut.edl", list)?;
+    let mut output = MemSink::new(alloc, Vec::new(alloc));
+    let status = play_list(alloc, &mut files, "cut.edl", SequenceRate::F24, &mut output);
+    let bytes = output.bytes().ok_or("told")?;
+    Ok((status, bytes.to_vec(alloc)?))
+}
+
 /// Whether the document of a list whose frames are counted so ends with this status, and with this text on the output.
 pub(crate) fn imports_so(
     alloc: Global,

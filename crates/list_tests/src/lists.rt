@@ -89,6 +89,30 @@ fn a_list_has_the_names_of_a_table(rt: HostRuntime) -> Result<(), Fail> {
     Ok(())
 }
 
+// Each reel in its turn is one that the namer refuses.
+#[test]
+fn each_reel_may_be_refused(rt: HostRuntime) -> Result<(), Fail> {
+    let alloc = rt.alloc();
+    let outside = with_journal("journal 0\n");
+    for (refused, line) in [
+        ("TAPE1", "refused L4 0\n"),
+        ("TAPE2", "refused L4 1\n"),
+        ("GFX1", "refused L4 2\n"),
+    ] {
+        let mut namer = Tabled::new(alloc);
+        for (text, name) in [("TAPE1", "A"), ("TAPE2", "B"), ("GFX1", "C")] {
+            let name = Name::of(name.as_bytes()).ok_or("name")?;
+            assert!(rt; text == refused || namer.add(text, &name).is_ok(), "{text}");
+        }
+        let namer = Box::new(alloc, namer)?;
+        assert!(rt;
+            lists_so(alloc, &outside, 0, namer, Status::NoList, line)?,
+            "{refused}"
+        );
+    }
+    Ok(())
+}
+
 // The journal, the point, and the line of the refusal.
 #[test]
 fn a_journal_is_refused(rt: HostRuntime) -> Result<(), Fail> {

@@ -1,5 +1,5 @@
 // Tapes of lists.
-use crate::calling::plays_so;
+use crate::calling::{played, plays_so};
 use crate::documents::{LIST, TAPE};
 use command_ends::Status;
 use std::test::Fail;
@@ -37,5 +37,32 @@ fn a_list_is_refused(rt: HostRuntime) -> Result<(), Fail> {
             "{text}"
         );
     }
+    Ok(())
+}
+
+// What comes of the front of a list up to a byte within its line: what comes of the lines before, or a refusal of this one.
+fn is_cut_so(got: &(Status, Vec<u8>), before: &(Status, Vec<u8>), line: u8) -> bool {
+    let is_refused = got.0 == Status::Refused && got.1.ends_with(&[b' ', line, b'\n']);
+    is_refused || (got.0 == before.0 && got.1 == before.1)
+}
+
+// Where it lacks its line feed alone, a line says what it says with it.
+#[test]
+fn a_list_may_be_cut_at_any_byte(rt: HostRuntime) -> Result<(), Fail> {
+    let alloc = rt.alloc();
+    let bytes = LIST.as_bytes();
+    let mut before = played(alloc, b"")?;
+    let mut line = b'1';
+    for cut in 0..bytes.len() {
+        let got = played(alloc, &bytes[..cut])?;
+        if bytes[cut] == b'\n' {
+            before = played(alloc, &bytes[..cut + 1])?;
+            line = line.saturating_add(1);
+            assert!(rt; got.0 == before.0 && got.1 == before.1, "{cut}");
+        } else {
+            assert!(rt; is_cut_so(&got, &before, line), "{cut}");
+        }
+    }
+    assert!(rt; before.0 == Status::Done && before.1.as_slice() == TAPE.as_bytes());
     Ok(())
 }
