@@ -91,15 +91,24 @@ def reaching_back(cell, count):
 # ------------------------------------------------------------------------------------------------------- splice and shift
 
 
-def splice(track, x, y, middle):
-    """`middle` in place of the places [x, y)."""
-    old = track.cells
-    cells = list(old)
-    for p, cell in enumerate(old):
+def mark_beside(mark, p, x, y, keep):
+    """What an edit of the places [x, y) leaves of a dissolve at p."""
+    a, b = mark
+    if p < x:
+        room = x - p
+        return mark if b <= room else (a, room) if keep else None
+    if p > y:
+        room = p - y
+        return mark if a <= room else (room, b) if keep else None
+    return None
+
+
+def splice(track, x, y, middle, keep=False):
+    """`middle` in place of the places [x, y). Dissolves beside them are kept as far as there is room for them, or not."""
+    cells = list(track.cells)
+    for p, cell in enumerate(track.cells):
         if cell.mark:
-            a, b = cell.mark
-            if not (p < x and p + b <= x or p > y and p - a >= y):
-                cells[p] = replace(cell, mark=None)
+            cells[p] = replace(cell, mark=mark_beside(cell.mark, p, x, y, keep))
     left, right = cells[:x], cells[y:]
     if left and right and left[-1].item is not None and left[-1].item == right[0].item:
         later = track.next_item
@@ -129,7 +138,7 @@ def split_links(named, x, y):
             track.cells[y:] = [replace(cell, link=new) if cell.link == link else cell for cell in track.cells[y:]]
 
 
-def shift(named, own, x, y, middle):
+def shift(named, own, x, y, middle, keep=False):
     """`middle` in place of [x, y) of the own track, and as much dark on the others; what is behind moves."""
     moves = len(middle) != y - x
     if moves:
@@ -140,9 +149,9 @@ def shift(named, own, x, y, middle):
         if t == own:
             if moves and middle and middle[0].link and y < length and track.cells[y].item == middle[0].item:
                 middle = [replace(cell, link=track.cells[y].link) for cell in middle]
-            splice(track, x, y, middle)
+            splice(track, x, y, middle, keep)
         else:
-            splice(track, min(x, length), min(y, length), [DARK] * len(middle) if x < length else [])
+            splice(track, min(x, length), min(y, length), [DARK] * len(middle) if x < length else [], keep)
 
 
 # ------------------------------------------------------------------------------------------------------- the frames shown
@@ -275,24 +284,24 @@ class Room:
                 raise Refused(f"E14 {t}")
         return named, words
 
-    def do_overwrite(self, t, at, what, start, count):
+    def do_overwrite(self, t, at, what, start, count, keep):
         named = self.named([t], t)
         self.refuse_source(what, t, start, count)
         track = named[t]
         self.refuse_long({t: max(len(track.cells), at + count)})
         self.pad(track, at)
         item = self.new_number(track)
-        splice(track, at, min(at + count, len(track.cells)), new_item(item, what, start, count))
+        splice(track, at, min(at + count, len(track.cells)), new_item(item, what, start, count), keep)
         return named, f" item {item}"
 
-    def do_insert(self, tracks, t, at, what, start, count):
+    def do_insert(self, tracks, t, at, what, start, count, keep):
         named = self.named(tracks, t)
         self.refuse_source(what, t, start, count)
         refuse_links(named, at, at)
         self.refuse_long({u: (max(len(v.cells), at) if u == t else len(v.cells)) + (count if u == t or at < len(v.cells) else 0) for u, v in named.items()})
         self.pad(named[t], at)
         item = self.new_number(named[t])
-        shift(named, t, at, at, new_item(item, what, start, count))
+        shift(named, t, at, at, new_item(item, what, start, count), keep)
         return named, f" item {item}"
 
     def refuse_long(self, lengths):
@@ -313,26 +322,26 @@ class Room:
             raise Refused("E2")
         return found
 
-    def do_remove(self, t, item):
+    def do_remove(self, t, item, keep):
         named = self.named([t], t)
         x, y = self.own_item(named[t], item)
-        splice(named[t], x, y, [DARK] * (y - x))
+        splice(named[t], x, y, [DARK] * (y - x), keep)
         return named, ""
 
-    def do_extract(self, tracks, t, item):
+    def do_extract(self, tracks, t, item, keep):
         named = self.named(tracks, t)
         x, y = self.own_item(named[t], item)
-        shift(named, t, x, y, [])
+        shift(named, t, x, y, [], keep)
         return named, ""
 
-    def do_slice(self, t, at):
+    def do_slice(self, t, at, keep):
         named = self.named([t], t)
         if at >= len(named[t].cells):
             raise Refused("E2")
-        splice(named[t], at, at, [])
+        splice(named[t], at, at, [], keep)
         return named, ""
 
-    def do_fill(self, t, at, what, start, count):
+    def do_fill(self, t, at, what, start, count, keep):
         named = self.named([t], t)
         cells = named[t].cells
         gap = piece_at(cells, at) if at < len(cells) and cells[at].item is None else None
@@ -350,7 +359,7 @@ class Room:
         g, h = gap
         k = h - g if count is None else min(count, h - g)
         item = self.new_number(named[t])
-        splice(named[t], g, g + k, new_item(item, what, start, k))
+        splice(named[t], g, g + k, new_item(item, what, start, k), keep)
         return named, f" item {item}"
 
     def do_trim(self, t, item, end, by):
@@ -583,13 +592,19 @@ class Room:
         rows = [row for row in rows if len(row) == len(words) - 1]
         if not rows:
             raise Bad("B2")
+        row = rows[0]
+        if words[0] == b"fill":  # `sequence keep` and `source LEN` are of one length
+            row = next((one for one in rows if one[4] == (words[5].decode("latin-1"),)), row)
         read = []
-        for kind, word in zip(rows[0], words[1:]):
+        for kind, word in zip(row, words[1:]):
             read.append(self.word(kind, word))
         if words[0] == b"link" and len(read[0]) != len(read[1]):
             raise Bad("B2")
+        if words[0] in KEEPING:
+            keep = row[-1] == KEEP
+            read = (read[:-1] if keep else read) + [keep]
         if words[0] == b"fill":
-            read = read[:4] + [read[5] if read[4] == "source" else None]
+            read = read[:4] + [read[5] if read[4] == "source" else None, read[-1]]
         return (words[0].decode(), *read)
 
     def word(self, kind, word):
@@ -661,13 +676,21 @@ class Room:
         return frame - self.start if frame >= self.start else None
 
 
+KEEP = ("keep",)  # the last word of an edit that keeps dissolves beside it as far as there is room for them
+
+
+def keeping(*rows):
+    """These rows, and each with that word behind it."""
+    return [*rows, *((*row, KEEP) for row in rows)]
+
+
 ROWS = {
-    b"overwrite": [("track", "place", "what", "number", "number")],
-    b"insert": [("tracks", "track", "place", "what", "number", "number")],
-    b"remove": [("track", "number")],
-    b"extract": [("tracks", "track", "number")],
-    b"slice": [("track", "place")],
-    b"fill": [("track", "place", "what", "number", ("sequence",)), ("track", "place", "what", "number", ("source",), "number")],
+    b"overwrite": keeping(("track", "place", "what", "number", "number")),
+    b"insert": keeping(("tracks", "track", "place", "what", "number", "number")),
+    b"remove": keeping(("track", "number")),
+    b"extract": keeping(("tracks", "track", "number")),
+    b"slice": keeping(("track", "place")),
+    b"fill": keeping(("track", "place", "what", "number", ("sequence",)), ("track", "place", "what", "number", ("source",), "number")),
     b"trim": [("track", "number", ("head", "tail"), "delta")],
     b"slip": [("tracks", "track", "number", "delta")],
     b"ripple": [("tracks", "track", "number", ("head", "tail"), "delta")],
@@ -684,6 +707,9 @@ ROWS = {
 }
 
 
+KEEPING = {word for word, rows in ROWS.items() if rows[-1][-1:] == (KEEP,)}
+
+
 def call_text(call):
     def text(word):
         if isinstance(word, tuple):
@@ -691,8 +717,10 @@ def call_text(call):
         return ",".join(map(str, word)) if isinstance(word, list) else str(word)
 
     words = list(call)
+    if call[0].encode() in KEEPING:
+        words = words[:-1] + ["keep"] * call[-1]
     if call[0] == "fill":
-        words = words[:5] + (["sequence"] if call[5] is None else ["source", call[5]])
+        words[5:6] = ["sequence"] if call[5] is None else ["source", call[5]]
     return " ".join(text(word) for word in words)
 
 
