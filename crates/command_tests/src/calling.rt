@@ -11,7 +11,7 @@ use std::test::Fail;
 use std::thread::Threads;
 
 // The words of a text, parted by single spaces.
-fn parted(alloc: Global, text: &str) -> Result<Vec<&str>, Fail> {
+pub(crate) fn parted(alloc: Global, text: &str) -> Result<Vec<&str>, Fail> {
     let mut words = Vec::new(alloc);
     for word in text.split(' ') {
         words.push(word)?;

@@ -7,6 +7,10 @@ mod calling;
 #[cfg(test)]
 mod documents;
 #[cfg(test)]
+mod faults;
+#[cfg(test)]
+mod hall_faults;
+#[cfg(test)]
 mod made;
 #[cfg(test)]
 mod replays;
