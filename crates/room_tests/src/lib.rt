@@ -3,6 +3,8 @@
 #![tactic(auto)]
 
 #[cfg(test)]
+mod asked;
+#[cfg(test)]
 mod counted;
 #[cfg(test)]
 mod flags;
@@ -18,3 +20,5 @@ mod registers;
 mod replays;
 #[cfg(test)]
 mod rooms;
+#[cfg(test)]
+mod tallied;

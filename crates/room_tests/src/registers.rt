@@ -15,10 +15,10 @@ use std::sync::ledger::Ledger;
 use std::test::Fail;
 use step_count::Steps;
 
-// So many registers.
+// So many registers. One that holds the greatest number is never copied: it answers out of memory.
 #[derive(Clone, Copy, Debug)]
-struct Registers {
-    count: u32,
+pub struct Registers {
+    pub count: u32,
 }
 
 impl PartObject for Registers {
@@ -96,6 +96,9 @@ impl PartObject for Registers {
     }
 
     fn copy_part(&self, _alloc: Global, part: &u32) -> Result<u32, Memory> {
+        if *part == u32::MAX {
+            return Err(Memory);
+        }
         Ok(*part)
     }
 
