@@ -1,8 +1,10 @@
 // What the program answers to its words.
-ghost use Rattle.std.specs.Prelude.{◌≡◌};
+ghost use Rattle.std.specs.Prelude.{◌≡◌, ◌⊎◌, None};
+ghost use Rattle.command_words.specs.Commands.{command_of};
 ghost use Rattle.command_ends.specs.Ports.{change, input_told, output_told};
 ghost use Rattle.list_commands.specs.Cuts.{namer_told};
-ghost use Rattle.cutroom.specs.Answers.{ProgramEnds};
+ghost use Rattle.cut_server.specs.Unhindered.{IsUnhindered};
+ghost use Rattle.cutroom.specs.Answers.{ProgramEnds, notice_of};
 
 use crate::notice::Notice;
 use cut_server::cut_main;
@@ -27,10 +29,16 @@ pub fn answer<R: Threads + Wait + Sync, F: Files, S: Source, K: Sink, H: Hall>(
     hall: &mut H,
     namer: Box<dyn ReelNamer>,
 ) -> u8
-    ensures { ProgramEnds (change F.told files.old files.new)
+    ensures ends { ProgramEnds (change F.told files.old files.new)
         (change (input_told S.left S.read_faults) input.old input.new)
         (change (output_told K.taken K.write_faults) output.old output.new)
         (change H.told hall.old hall.new) (namer_told (rule namer) (given namer)) words.now result }
+    // Completeness, as `cut_main` has it, where no notice is asked for.
+    ensures complete { notice_of words.now ≡ None → IsUnhindered (change F.told files.old files.new)
+        (change (input_told S.left S.read_faults) input.old input.new)
+        (change (output_told K.taken K.write_faults) output.old output.new)
+        (change H.told hall.old hall.new) (namer_told (rule namer) (given namer)) (command_of words.now)
+        → (result ≡ 0) ⊎ (result ≡ 6) }
 {
     match Notice::asked_by(words) {
         Some(notice) => notice.tell(output),
