@@ -1,10 +1,16 @@
 -- Frames of items and gaps that are put one after another.
-use Rattle.std.proofs.Common.{◌≡◌, ℕ, zero, suc, ◌+◌, ◌<◌, ◌≤◌, Bool, true, false, cond, List, [], ◌∷◌, ◌++◌, length, None, refl, sym, ap, ◌∙◌, arith, take, drop, get_or, add-one, ◌-◌}
+use Rattle.std.proofs.Common.{◌≡◌, ℕ, zero, suc, ◌+◌, ◌<◌, ◌≤◌, Bool, true, false, cond, List, [], ◌∷◌, ◌++◌, length, slice_get, None, Some, refl, sym, ap, ◌∙◌, arith, take, drop, get_or, add-one, sum_by, ◌-◌}
 use Rattle.std.proofs.Math.ListN.{set}
+use Rattle.std.proofs.lemmas.List.Sums.{sum_by-cons}
 use Rattle.frame_meaning.specs.Cells.{same_number}
 use Rattle.frame_meaning.specs.declared.frames.Side.TheVariants.{Dark}
 use Rattle.composables.specs.declared.items.ItemView.{ItemView}
 use Rattle.composables.specs.Joined.{with_view, joined, push_view, frames_in}
+
+-- the places that they span
+pub frames_in-sum : (vs : List ItemView) → sum_by (λ (v : ItemView). v.len) vs ≡ frames_in vs
+frames_in-sum [] = refl
+frames_in-sum (v ∷ vs) = omega (arith, sum_by-cons (λ (w : ItemView). w.len) v vs, frames_in-sum vs)
 
 pub frames_in-append : (xs ys : List ItemView) → frames_in (xs ++ ys) ≡ frames_in xs + frames_in ys
 frames_in-append [] ys = omega arith
@@ -22,6 +28,16 @@ pub frames_in-take_le : (n : ℕ) (xs : List ItemView) → frames_in (take n xs)
 frames_in-take_le zero xs = omega arith
 frames_in-take_le (suc n) [] = omega arith
 frames_in-take_le (suc n) (x ∷ xs) = omega (arith, frames_in-take_le n xs)
+
+-- up to an index, and with the one there
+pub frames_at : (xs : List ItemView) (i : ℕ) (v : ItemView) → slice_get xs i ≡ Some v → frames_in (take (i + 1) xs) ≡ frames_in (take i xs) + v.len
+frames_at xs i v e = rw add-one (at xs i e) where
+  at : (ys : List ItemView) (k : ℕ) → slice_get ys k ≡ Some v → frames_in (take (suc k) ys) ≡ frames_in (take k ys) + v.len
+  at [] k f = absurd (never f) where
+    never : None ≡ Some v → ⊥
+    never h = cc
+  at (y ∷ ys) zero f = let same : v ≡ y = cc in omega (arith, ap (λ (w : ItemView). w.len) same)
+  at (y ∷ ys) (suc k) f = omega (arith, at ys k f)
 
 pub frames_in-drop : (xs : List ItemView) (i : ℕ) (d : ItemView) → i < length xs → frames_in (drop i xs) ≡ (get_or xs i d).len + frames_in (drop (suc i) xs)
 frames_in-drop [] i d h = absurd (omega arith)

@@ -1,5 +1,6 @@
 -- Items and gaps joined are those of their cells.
-use Rattle.std.proofs.Common.{◌≡◌, ℕ, zero, suc, ◌+◌, ◌<◌, ◌≤◌, Bool, true, false, cond, eqb, List, [], ◌∷◌, ◌++◌, length, Option, Some, None, refl, sym, ap, ◌∙◌, arith, take, drop, get_or, append_assoc}
+use Rattle.std.proofs.Common.{◌≡◌, ℕ, zero, suc, ◌+◌, ◌<◌, ◌≤◌, Bool, true, false, cond, eqb, List, [], ◌∷◌, ◌++◌, length, Option, Some, None, IsNone, refl, sym, ap, subst, ◌∙◌, arith, take, drop, append_assoc}
+use Rattle.std.specs.Option.{option_to_list}
 use Rattle.std.proofs.lemmas.Grind.{flat_map-append}
 use Rattle.std.proofs.lemmas.List.{length-append, append-nil}
 use Rattle.std.proofs.lemmas.Bool.Decides.{nat_tests}
@@ -203,48 +204,6 @@ pushes-joined vs (w ∷ ws) =
 pub push-tight : (vs : List ItemView) (v : ItemView) → IsTight vs → push_view vs v ≡ joined (vs ++ v ∷ [])
 push-tight vs v t = ap (λ zs. push_view zs v) (sym (joined-tight vs t)) ∙ push-joined vs v
 
--- what is put behind an item or gap with which it does not belong together
-length-with_view : (r : ItemView) (vs : List ItemView) → 0 < length (with_view r vs)
-length-with_view r [] = omega arith
-length-with_view r (v ∷ vs) = by_test (same_number r.item v.item) where
-  by_test : (b : Bool) → 0 < length (cond b (record r { len = r.len + v.len } ∷ vs) (r ∷ v ∷ vs))
-  by_test true = omega arith
-  by_test false = omega arith
-
-length-push : (zs : List ItemView) (v : ItemView) → 0 < length (push_view zs v)
-length-push [] v = omega arith
-length-push (r ∷ []) v = length-with_view r (v ∷ [])
-length-push (r ∷ s ∷ rs) v = omega arith
-
-push-behind : (r : ItemView) (zs : List ItemView) (v : ItemView) → 0 < length zs → push_view (r ∷ zs) v ≡ r ∷ push_view zs v
-push-behind r [] v h = absurd (omega (arith, h))
-push-behind r (z ∷ zs) v h = refl
-
-two_apart : (r c : ItemView) → same_number r.item c.item ≡ false → push_view (r ∷ []) c ≡ r ∷ c ∷ []
-two_apart r c e = ap (λ (b : Bool). cond b (record r { len = r.len + c.len } ∷ []) (r ∷ c ∷ [])) e
-
-push_apart : (zs : List ItemView) (v c : ItemView) → same_number v.item c.item ≡ false → push_view (push_view zs v) c ≡ push_view zs v ++ c ∷ []
-push_apart [] v c e = two_apart v c e
-push_apart (r ∷ []) v c e = by_test (same_number r.item v.item) refl where
-  by_test : (b : Bool) → same_number r.item v.item ≡ b
-      → push_view (cond b (record r { len = r.len + v.len } ∷ []) (r ∷ v ∷ [])) c ≡ cond b (record r { len = r.len + v.len } ∷ []) (r ∷ v ∷ []) ++ c ∷ []
-  by_test true same = two_apart (record r { len = r.len + v.len }) c (sym (same-along r.item v.item c.item same) ∙ e)
-  by_test false same = ap (λ zs. r ∷ zs) (two_apart v c e)
-push_apart (r ∷ s ∷ rs) v c e =
-    push-behind r (push_view (s ∷ rs) v) c (length-push (s ∷ rs) v) ∙ ap (λ zs. r ∷ zs) (push_apart (s ∷ rs) v c e)
-
-pushes_apart : (zs : List ItemView) (v : ItemView) (vs : List ItemView) → IsTight (v ∷ vs) → push_views (push_view zs v) vs ≡ push_view zs v ++ vs
-pushes_apart zs v [] t = sym (append-nil (push_view zs v))
-pushes_apart zs v (c ∷ cs) t =
-    pushes_apart (push_view zs v) c cs t.1
-    ∙ (ap (λ ys. ys ++ cs) (push_apart zs v c t.0) ∙ append_assoc (push_view zs v) (c ∷ []) cs)
-
--- of those that are tight only the first can join what is before it
-pub pushed_tight : (zs ws after all : List ItemView) (d : ItemView) → 0 < length ws → IsTight ws → after ≡ push_view zs (get_or ws 0 d)
-    → all ≡ after ++ drop 1 ws → all ≡ push_views zs ws
-pushed_tight zs [] after all d h t first rest = absurd (omega (arith, h))
-pushed_tight zs (w ∷ ws) after all d h t first rest = rest ∙ (ap (λ ys. ys ++ ws) first ∙ sym (pushes_apart zs w ws t))
-
 pub filled-append : (vs ws : List ItemView) → AllFilled vs → AllFilled ws → AllFilled (vs ++ ws)
 filled-append [] ws f g = g
 filled-append (v ∷ vs) ws f g = (f.0, filled-append vs ws f.1 g)
@@ -262,11 +221,68 @@ filled-drop (suc n) (v ∷ vs) f = filled-drop n vs f.1
 pub cells_of-append : (vs ws : List ItemView) → cells_of (vs ++ ws) ≡ cells_of vs ++ cells_of ws
 cells_of-append vs ws = flat_map-append view_cells vs ws
 
-pub laid_thrice : (zs bs cs ds fs ws ks : List ItemView) → zs ≡ [] → IsTight fs → bs ≡ zs ++ fs → cs ≡ push_views bs ws → ds ≡ push_views cs ks → ds ≡ joined (fs ++ ws ++ ks)
-laid_thrice zs bs cs ds fs ws ks none tight first second third =
-    let one : bs ≡ joined fs = first ∙ (ap (λ ys. ys ++ fs) none ∙ sym (joined-tight fs tight)) in
-    let two : cs ≡ joined (fs ++ ws) = second ∙ (ap (λ ys. push_views ys ws) one ∙ pushes-joined fs ws) in
-    third ∙ (ap (λ ys. push_views ys ks) two ∙ pushes-joined (fs ++ ws) ks)
+-- one in front of what it does not belong to
+apart_onto : (a l : ItemView) (zs : List ItemView) → same_number a.item l.item ≡ false → with_view a (with_view l zs) ≡ a ∷ with_view l zs
+apart_onto a l [] e = ap (λ (b : Bool). cond b (record a { len = a.len + l.len } ∷ []) (a ∷ l ∷ [])) e
+apart_onto a l (z ∷ zs) e = by_test (same_number l.item z.item) where
+  by_test : (b : Bool) → with_view a (cond b (record l { len = l.len + z.len } ∷ zs) (l ∷ z ∷ zs)) ≡ a ∷ cond b (record l { len = l.len + z.len } ∷ zs) (l ∷ z ∷ zs)
+  by_test true = ap (λ (b : Bool). cond b (record a { len = a.len + (l.len + z.len) } ∷ zs) (a ∷ record l { len = l.len + z.len } ∷ zs)) e
+  by_test false = ap (λ (b : Bool). cond b (record a { len = a.len + l.len } ∷ z ∷ zs) (a ∷ l ∷ z ∷ zs)) e
+
+-- what stands before an item or gap, and does not belong to it, stays as it is
+joined_past : (fs ks : List ItemView) (l : ItemView) → IsTight (fs ++ l ∷ []) → joined (fs ++ l ∷ ks) ≡ fs ++ joined (l ∷ ks)
+joined_past [] ks l t = refl
+joined_past (a ∷ []) ks l t = apart_onto a l (joined ks) t.0
+joined_past (a ∷ c ∷ cs) ks l t =
+    ap (with_view a) (joined_past (c ∷ cs) ks l t.1)
+    ∙ ap (λ (b : Bool). cond b (record a { len = a.len + c.len } ∷ (cs ++ joined (l ∷ ks))) (a ∷ c ∷ (cs ++ joined (l ∷ ks)))) t.0
+
+-- and so does what stands behind one
+onto_front : (m : ItemView) (xs cs : List ItemView) → 0 < length xs → with_view m (xs ++ cs) ≡ with_view m xs ++ cs
+onto_front m [] cs h = absurd (omega (arith, h))
+onto_front m (x ∷ xs) cs h = by_test (same_number m.item x.item) where
+  by_test : (b : Bool) → cond b (record m { len = m.len + x.len } ∷ (xs ++ cs)) (m ∷ x ∷ (xs ++ cs)) ≡ cond b (record m { len = m.len + x.len } ∷ xs) (m ∷ x ∷ xs) ++ cs
+  by_test true = refl
+  by_test false = refl
+
+length-with_view : (r : ItemView) (vs : List ItemView) → 0 < length (with_view r vs)
+length-with_view r [] = omega arith
+length-with_view r (v ∷ vs) = by_test (same_number r.item v.item) where
+  by_test : (b : Bool) → 0 < length (cond b (record r { len = r.len + v.len } ∷ vs) (r ∷ v ∷ vs))
+  by_test true = omega arith
+  by_test false = omega arith
+
+length-joined_onto : (ms : List ItemView) (r : ItemView) → 0 < length (joined (ms ++ r ∷ []))
+length-joined_onto [] r = omega arith
+length-joined_onto (m ∷ ms) r = length-with_view m (joined (ms ++ r ∷ []))
+
+joined_before : (ms cs : List ItemView) (r : ItemView) → IsTight (r ∷ cs) → joined (ms ++ r ∷ cs) ≡ joined (ms ++ r ∷ []) ++ cs
+joined_before [] cs r t = joined-tight (r ∷ cs) t
+joined_before (m ∷ ms) cs r t =
+    ap (with_view m) (joined_before ms cs r t) ∙ onto_front m (joined (ms ++ r ∷ [])) cs (length-joined_onto ms r)
+
+-- so of those that are put between others only the two beside them are joined with them
+behind_part : (ms cs : List ItemView) (r : Option ItemView) → IsTight (option_to_list r ++ cs) → (IsNone r → cs ≡ [])
+    → joined (ms ++ (option_to_list r ++ cs)) ≡ joined (ms ++ option_to_list r) ++ cs
+behind_part ms cs None t none = rw (none cc) (sym (append-nil (joined (ms ++ []))))
+behind_part ms cs (Some r) t none = joined_before ms cs r t
+
+before_part : (fs ks : List ItemView) (l : Option ItemView) → IsTight (fs ++ option_to_list l) → (IsNone l → fs ≡ [])
+    → joined ((fs ++ option_to_list l) ++ ks) ≡ fs ++ joined (option_to_list l ++ ks)
+before_part fs ks None t none = rw (none cc) refl
+before_part fs ks (Some l) t none = ap joined (append_assoc fs (l ∷ []) ks) ∙ joined_past fs ks l t
+
+pub joined_between : (hs cs ms fs bs : List ItemView) (l r : Option ItemView) → fs ≡ hs ++ option_to_list l → bs ≡ option_to_list r ++ cs
+    → IsTight fs → IsTight bs → (IsNone l → hs ≡ []) → (IsNone r → cs ≡ [])
+    → joined (fs ++ ms ++ bs) ≡ hs ++ (joined (option_to_list l ++ ms ++ option_to_list r) ++ cs)
+joined_between hs cs ms fs bs l r front back f b before behind =
+    let P : List ItemView → Type 0 = λ vs. IsTight vs in
+    ap joined (append_assoc fs ms bs)
+    ∙ (ap (λ (vs : List ItemView). joined (vs ++ (ms ++ bs))) front
+    ∙ (before_part hs (ms ++ bs) l (subst P front f) before
+    ∙ ap (λ (vs : List ItemView). hs ++ vs)
+    (ap joined (sym (append_assoc (option_to_list l) ms bs))
+    ∙ (ap (λ (vs : List ItemView). joined ((option_to_list l ++ ms) ++ vs)) back ∙ behind_part (option_to_list l ++ ms) cs r (subst P back b) behind))))
 
 pub tight-take : (n : ℕ) (vs : List ItemView) → IsTight vs → IsTight (take n vs)
 tight-take zero vs t = tt

@@ -1,5 +1,5 @@
 -- Items and gaps of which none is linked.
-use Rattle.std.proofs.Common.{◌≡◌, ℕ, zero, suc, ◌+◌, ◌<◌, Bool, true, false, ◌||◌, cond, List, [], ◌∷◌, ◌++◌, length, Option, Some, None, is_some, get_or, add-one, sym, ap, ◌∙◌, arith, take, drop, refl, subst}
+use Rattle.std.proofs.Common.{◌≡◌, ℕ, zero, suc, ◌+◌, ◌<◌, Bool, true, false, ◌||◌, cond, List, [], ◌∷◌, ◌++◌, length, Option, Some, None, is_some, get_or, slice_get, add-one, sym, ap, ◌∙◌, arith, take, drop, refl, subst}
 use Rattle.std.proofs.Math.ListN.{set}
 use Rattle.frame_meaning.specs.declared.cells.Link.{Link}
 use Rattle.frame_meaning.specs.Cells.{same_number}
@@ -55,10 +55,12 @@ unlinked-set [] i w h u = tt
 unlinked-set (x ∷ xs) zero w h u = (h, u.1)
 unlinked-set (x ∷ xs) (suc i) w h u = (u.0, unlinked-set xs i w h u.1)
 
-unlinked-at : (xs : List ItemView) (i : ℕ) (w : ItemView) → i < length xs → w ≡ get_or xs i w → AllUnlinked xs → w.link ≡ None
-unlinked-at [] i w h e u = absurd (omega arith)
-unlinked-at (x ∷ xs) zero w h e u = ap (λ (v : ItemView). v.link) e ∙ u.0
-unlinked-at (x ∷ xs) (suc i) w h e u = unlinked-at xs i w (omega (arith, h)) e u.1
+unlinked-at : (xs : List ItemView) (i : ℕ) (w : ItemView) → slice_get xs i ≡ Some w → AllUnlinked xs → w.link ≡ None
+unlinked-at [] i w e u = absurd (never e) where
+  never : None ≡ Some w → ⊥
+  never h = cc
+unlinked-at (x ∷ xs) zero w e u = let same : w ≡ x = cc in ap (λ (v : ItemView). v.link) same ∙ u.0
+unlinked-at (x ∷ xs) (suc i) w e u = unlinked-at xs i w e u.1
 
 -- those up to an index, and one more
 unlinked-suc : (xs : List ItemView) (i : ℕ) (d : ItemView) → i < length xs → (get_or xs i d).link ≡ None → AllUnlinked (take i xs) → AllUnlinked (take (suc i) xs)
@@ -89,5 +91,5 @@ link_unlinked xs i w l a b u is h =
     unlinked-set xs i (record w { link = l }) (no_link l (sym is ∙ two.1)) (u two.0)
 
 -- or is changed in another way
-pub stays_unlinked : (xs : List ItemView) (i : ℕ) (w z : ItemView) → i < length xs → w ≡ get_or xs i w → z.link ≡ w.link → AllUnlinked xs → AllUnlinked (set xs i z)
-stays_unlinked xs i w z h e same u = unlinked-set xs i z (same ∙ unlinked-at xs i w h e u) u
+pub stays_unlinked : (xs : List ItemView) (i : ℕ) (w z : ItemView) → slice_get xs i ≡ Some w → z.link ≡ w.link → AllUnlinked xs → AllUnlinked (set xs i z)
+stays_unlinked xs i w z e same u = unlinked-set xs i z (same ∙ unlinked-at xs i w e u) u

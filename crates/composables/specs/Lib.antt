@@ -10,7 +10,6 @@ pub mod Joined
 pub mod Places
 pub mod Good
 pub mod Roomy
-pub mod SpareState
 pub mod Ranges
 pub mod Changes
 pub mod Standing
@@ -21,4 +20,3 @@ pub mod TrackSets
 pub mod Links
 -- For the steps of the code, for proofs and for tests.
 pub mod TrackInside
-pub mod SpareInside

@@ -1,5 +1,5 @@
 -- The size of a track, by which the steps of its calls are bounded.
-use Rattle.std.specs.Prelude.{ℕ, ◌+◌, List, length, sum_by}
+use Rattle.std.specs.Prelude.{ℕ, ◌+◌, ◌/◌, List, length, sum_by}
 use Rattle.composables.specs.Items.{items_of}
 use Rattle.composables.specs.TrackState.{TrackState}
 
@@ -7,6 +7,10 @@ use Rattle.composables.specs.TrackState.{TrackState}
 abbrev pub size_of : TrackState → ℕ
 size_of t = length (items_of t.cells) + 64
 
--- that of these tracks together
+-- a look for a place passes pages, of which two neighbours hold more than 64 items and gaps, and then those of one page
+abbrev pub look_of : TrackState → ℕ
+look_of t = length (items_of t.cells) / 32 + 65
+
+-- the size of these tracks together
 abbrev pub sizes_of : List TrackState → ℕ
 sizes_of tracks = sum_by size_of tracks

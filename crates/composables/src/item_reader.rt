@@ -2,27 +2,23 @@
 ghost use Rattle.std.specs.Prelude.{◌≡◌, ◌∷◌, [], drop, IfSome, IsNone};
 ghost use Rattle.composables.specs.Items.{items_of};
 
-use crate::{ItemView, Track, a_track_is_kept};
+use crate::{ItemView, Track};
+use item_pages::Reader;
 use std::marker::Model;
 
 /// Reads the items and gaps of a track in order. Contracts see those that are left.
 #[derive(Drop)]
 pub struct ItemReader<'a> {
-    track: &'a Track,
-    piece: &'a [ItemView],
-    behind: u32,
+    left: Reader<'a, ItemView>,
 }
 
 impl<'a> Model for ItemReader<'a> {
-    ghost use Rattle.std.specs.Prelude.{◌≤◌, ◌++◌, List, drop, length};
+    ghost use Rattle.std.specs.Prelude.{List};
     ghost use Rattle.composables.specs.declared.items.ItemView.{ItemView};
-    ghost use Rattle.composables.specs.Items.{items_of};
 
     ghost Value = { List ItemView };
 
-    ghost view = { λ r. r.piece.now ++ drop r.behind (items_of r.track.now.cells) };
-
-    ghost invariant = { λ r. r.behind ≤ length (items_of r.track.now.cells) };
+    ghost view = { λ r. r.left };
 }
 
 impl<'a> ItemReader<'a> {
@@ -30,11 +26,8 @@ impl<'a> ItemReader<'a> {
     pub fn at(track: &'a Track, index: u32) -> ItemReader<'a>
         ensures { result ≡ drop index (items_of track.now.cells) }
     {
-        let behind = index.min(track.count());
         ItemReader {
-            track,
-            piece: Default::default(),
-            behind,
+            left: track.items_from(index),
         }
     }
 
@@ -43,17 +36,6 @@ impl<'a> ItemReader<'a> {
         ensures some { IfSome result (λ view. self.old ≡ view ∷ self.new) }
         ensures none { IsNone result → (self.old ≡ []) × (self.new ≡ []) }
     {
-        if self.piece.is_empty() {
-            a_track_is_kept(self.track);
-            self.piece = self.track.items_from(self.behind);
-            self.behind += self.piece.len() as u32;
-        }
-        match self.piece.split_first() {
-            Some((first, rest)) => {
-                self.piece = rest;
-                Some(*first)
-            }
-            None => None,
-        }
+        self.left.next()
     }
 }

@@ -4,6 +4,7 @@ ghost use Rattle.composables.specs.Views.{clip_view, first_view, gap_view, later
 ghost use Rattle.composables.specs.TrackFacts.{HasSource};
 
 use frame_meaning::{Link, Mark, Side, What};
+use item_pages::Spanned;
 
 /// An item or a gap: its number, or none of a gap; what its first frame shows; its length in frames; the dissolve at
 /// the cut before it; and its link.
@@ -62,6 +63,15 @@ impl ItemView {
             mark: None,
             ..*self
         }
+    }
+}
+
+impl Spanned for ItemView {
+    ghost places = { λ v. v.len };
+
+    /// Its length in frames.
+    fn span(&self) -> u32 {
+        self.len
     }
 }
 

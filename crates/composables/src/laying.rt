@@ -1,112 +1,80 @@
 // Items and gaps put one behind another. What belongs together and meets becomes one.
-ghost use Rattle.std.specs.Prelude.{◌≡◌, ◌+◌, ◌<◌, ◌≤◌, ◌^◌, ◌++◌, [], length, take, drop, vec_len, vec_capacity, OnOk, OnErr};
-ghost use Rattle.composables.specs.Joined.{around, frames_around, frames_in, joined, push_view, push_views, IsTight};
+ghost use Rattle.std.specs.Prelude.{◌≡◌, ◌+◌, ◌<◌, ◌≤◌, ◌^◌, ◌++◌, length, IfOk, OnOk, OnErr};
+ghost use Rattle.std.specs.Option.{option_to_list};
+ghost use Rattle.composables.specs.Joined.{frames_in, joined, push_view, push_views};
 
+use crate::places::view_at;
 use crate::{ItemView, Memory};
 use frame_meaning::same_item;
+use item_pages::Pages;
+use std::alloc::Global;
 use std::sync::ledger::Ledger;
 use step_count::Steps;
 
 /// Puts an item or gap behind others. Two gaps that meet become one, and so do two parts of one item.
-pub fn push_item(items: &mut Vec<ItemView>, view: ItemView) -> Result<(), Memory>
-    requires { frames_in items.old.items + view.len < 2 ^ 32 }
-    ensures ok { OnOk result (items.new.items ≡ push_view items.old.items view) }
-    ensures err { OnErr result (items.new.items ≡ items.old.items) }
+pub fn push_item(items: &mut Pages<ItemView>, view: ItemView) -> Result<(), Memory>
+    requires frames { frames_in items.old + view.len < 2 ^ 32 }
+    requires count { length items.old + 1 < 2 ^ 32 }
+    ensures ok { OnOk result (items.new ≡ push_view items.old view) }
+    ensures err { OnErr result (items.new ≡ items.old) }
 {
-    items.reserve(1)?;
-    push_joined(items, view);
-    Ok(())
-}
-
-// The same where there is room for one more.
-fn push_joined(items: &mut Vec<ItemView>, view: ItemView)
-    requires frames { frames_in items.old.items + view.len < 2 ^ 32 }
-    requires room { vec_len items.old < vec_capacity items.old }
-    ensures joined { items.new.items ≡ push_view items.old.items view }
-    ensures len { vec_len items.new ≤ vec_len items.old + 1 }
-    ensures capacity { vec_capacity items.new ≡ vec_capacity items.old }
-{
-    let count = items.len();
-    if count > 0 && same_item(items[count - 1].item, view.item) {
-        items[count - 1].len += view.len;
-        return;
+    let count = items.count();
+    if count > 0 {
+        let last = view_at(items, count - 1);
+        if same_item(last.item, view.item) {
+            let len = last.len + view.len;
+            return items.set_last(ItemView { len, ..last });
+        }
     }
-    items.push_reserved(view);
+    items.push(view)
 }
 
-/// The items and gaps with these in place of those from index `from` up to before `to`, laid out in room for all.
-pub fn lay_around<L: Ledger>(
-    room: Vec<ItemView>,
-    items: &[ItemView],
-    from: u32,
-    to: u32,
+/// These items and gaps joined, with the one before them and the one behind, if there are any.
+pub fn lay_between<L: Ledger>(
+    alloc: Global,
+    before: Option<ItemView>,
     middle: &[ItemView],
+    behind: Option<ItemView>,
     steps: &mut Steps<L>,
-) -> Vec<ItemView>
-    requires order { from ≤ to }
-    requires within { to ≤ length items.now }
-    requires tight { IsTight items.now }
-    requires frames { frames_around items.now middle.now from to < 2 ^ 32 }
-    requires empty { room.items ≡ [] }
-    requires room { length items.now + length middle.now ≤ vec_capacity room }
-    ensures joined { result.items ≡ joined (around items.now middle.now from to) }
+) -> Result<Vec<ItemView>, Memory>
+    requires { frames_in (option_to_list before)
+        + frames_in middle.now + frames_in (option_to_list behind) < 2 ^ 32 }
+    ensures joined { IfOk result (λ laid. laid.items
+        ≡ joined (option_to_list before ++ middle.now ++ option_to_list behind)) }
     ensures least { steps.old ≤ steps.new }
-    ensures most { steps.new ≤ steps.old + length middle.now + 1 }
+    ensures most { steps.new ≤ steps.old + length middle.now }
 {
-    let (front, _) = items.split_at(from as usize);
-    let (_, back) = items.split_at(to as usize);
-    let mut all = room;
-    copy_behind(&mut all, front);
-    push_each(&mut all, middle, steps);
-    push_tight(&mut all, back, steps);
-    all
-}
-
-// Puts these behind others as they are, where there is room for them.
-fn copy_behind(all: &mut Vec<ItemView>, items: &[ItemView])
-    requires { vec_len all.old + length items.now ≤ vec_capacity all.old }
-    ensures items { all.new.items ≡ all.old.items ++ items.now }
-    ensures len { vec_len all.new ≡ vec_len all.old + length items.now }
-    ensures capacity { vec_capacity all.old ≤ vec_capacity all.new }
-{
-    match all.extend_from_slice(items) {
-        Ok(()) => {}
-        Err(_) => unreachable!(),
-    }
-}
-
-// Puts each of these behind others, where there is room for them.
-fn push_each<L: Ledger>(all: &mut Vec<ItemView>, items: &[ItemView], steps: &mut Steps<L>)
-    requires frames { frames_in all.old.items + frames_in items.now < 2 ^ 32 }
-    requires room { vec_len all.old + length items.now ≤ vec_capacity all.old }
-    ensures joined { all.new.items ≡ push_views all.old.items items.now }
-    ensures frames { frames_in all.new.items ≡ frames_in all.old.items + frames_in items.now }
-    ensures len { vec_len all.new ≤ vec_len all.old + length items.now }
-    ensures capacity { vec_capacity all.old ≤ vec_capacity all.new }
-    ensures least { steps.old ≤ steps.new }
-    ensures most { steps.new ≤ steps.old + length items.now }
-{
-    for view in items {
+    let mut laid = Vec::with_capacity(alloc, middle.len().saturating_add(2))?;
+    push_some(&mut laid, before)?;
+    for view in middle {
         steps.tick();
-        push_joined(all, *view);
+        push_joined(&mut laid, *view)?;
+    }
+    push_some(&mut laid, behind)?;
+    Ok(laid)
+}
+
+// Puts an item or gap, if there is one, behind those that are laid.
+fn push_some(laid: &mut Vec<ItemView>, view: Option<ItemView>) -> Result<(), Memory>
+    requires { frames_in laid.old.items + frames_in (option_to_list view) < 2 ^ 32 }
+    ensures { OnOk result (laid.new.items ≡ push_views laid.old.items (option_to_list view)) }
+{
+    match view {
+        Some(view) => push_joined(laid, view),
+        None => Ok(()),
     }
 }
 
-// Puts these behind others, where there is room for them and no two neighbours of them belong together: only the first
-// can join what is before it.
-fn push_tight<L: Ledger>(all: &mut Vec<ItemView>, items: &[ItemView], steps: &mut Steps<L>)
-    requires frames { frames_in all.old.items + frames_in items.now < 2 ^ 32 }
-    requires room { vec_len all.old + length items.now ≤ vec_capacity all.old }
-    requires tight { IsTight items.now }
-    ensures joined { all.new.items ≡ push_views all.old.items items.now }
-    ensures least { steps.old ≤ steps.new }
-    ensures most { steps.new ≤ steps.old + 1 }
+// Puts an item or gap behind those that are laid.
+fn push_joined(laid: &mut Vec<ItemView>, view: ItemView) -> Result<(), Memory>
+    requires { frames_in laid.old.items + view.len < 2 ^ 32 }
+    ensures { OnOk result (laid.new.items ≡ push_view laid.old.items view) }
 {
-    if items.is_empty() {
-        return;
+    let count = laid.len();
+    if count > 0 && same_item(laid[count - 1].item, view.item) {
+        laid[count - 1].len += view.len;
+        return Ok(());
     }
-    steps.tick();
-    push_joined(all, items[0]);
-    let (_, rest) = items.split_at(1);
-    copy_behind(all, rest);
+    laid.push(view)?;
+    Ok(())
 }

@@ -19,7 +19,6 @@ mod numbers;
 mod places;
 mod reel_table;
 mod refusals;
-mod spares;
 mod tracks;
 
 pub use calls::{
@@ -34,12 +33,11 @@ pub use laws::{
 };
 pub use lists::Listed;
 pub use media::{Kind, Layer, Media, Nest, Table};
-pub use named_tracks::{has_track, own_index};
+pub use named_tracks::{copies_of, has_track, own_index};
 pub use numbers::{number_past, number_past_all};
 pub use out_of_memory::{Fault, Memory};
 pub use reel_table::Reels;
 pub use refusals::{Done, EditFault, Refusal, Which};
-pub use spares::Spare;
 pub use tracks::Track;
 
 /// The most frames of a track.

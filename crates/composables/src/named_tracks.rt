@@ -1,9 +1,10 @@
-// Sets of tracks, and the own track of a call among those that it names.
-ghost use Rattle.std.specs.Prelude.{◌≡◌, ◌<◌, IfSome, length};
+// Sets of tracks, the own track of a call among those that it names, and copies of these.
+ghost use Rattle.std.specs.Prelude.{◌≡◌, ◌<◌, IfOk, IfSome, length};
 ghost use Rattle.composables.specs.OwnTracks.{found_at, track_numbered};
 ghost use Rattle.composables.specs.TrackSets.{has_track};
 
-use crate::Track;
+use crate::{Memory, Track};
+use std::alloc::Global;
 
 /// Whether bit `track` of the set is set, which names that track.
 pub fn has_track(tracks: u32, track: u32) -> bool
@@ -24,4 +25,16 @@ pub fn own_index(named: &[Track], number: u32) -> Option<usize>
         }
     }
     None
+}
+
+/// Equal tracks, which share all their items and gaps with these.
+pub fn copies_of(alloc: Global, tracks: &[Track]) -> Result<Vec<Track>, Memory>
+    ensures { IfOk result (λ all. all.items ≡ tracks.now) }
+{
+    let mut all = Vec::with_capacity(alloc, tracks.len())?;
+    for track in tracks {
+        let copy = track.copy(alloc)?;
+        all.push(copy)?;
+    }
+    Ok(all)
 }

@@ -1,35 +1,30 @@
 // A track of items and gaps, which contracts see as its cells.
-ghost use Rattle.std.specs.Prelude.{◌≡◌, ◌+◌, ◌<◌, ◌≤◌, ◌^◌, false, length, take, drop, slice_get};
+ghost use Rattle.std.specs.Prelude.{◌≡◌, false};
 ghost use Rattle.composables.specs.Good.{AllUnlinked};
-ghost use Rattle.composables.specs.Joined.{frames_around, frames_in};
 ghost use Rattle.composables.specs.Changes.{side_from};
 
 use crate::cells::cells_in;
-use crate::laying::{lay_around, push_item};
+use crate::laying::{lay_between, push_item};
 use crate::numbers::{number_past, number_past_all};
-use crate::places::{find_item, find_place};
-use crate::spares::room_for;
-use crate::{ItemView, Memory, Place, Spare};
+use crate::places::{find_item, find_place, first_from, last_before, view_at};
+use crate::{ItemView, Memory, Place};
 use frame_meaning::{Cell, Link, Mark, Side, What};
+use item_pages::{Pages, Reader};
 use std::alloc::Global;
 use std::marker::Model;
-use std::mem;
 use std::sync::ledger::Ledger;
 use step_count::Steps;
 
 /// A track. Contracts see its number, its cells, one for each record frame, and its next item and link numbers. It keeps
-/// the memory of its last change for the next.
+/// its allocator, and shares with its copies all pages of items and gaps that no change has touched.
 #[derive(Drop)]
 pub struct Track {
     alloc: Global,
     number: u32,
-    items: Vec<ItemView>,
+    items: Pages<ItemView>,
     next_item: u32,
     next_link: u32,
-    total: u32,
     linked: bool,
-    whole: Vec<ItemView>,
-    middle: Vec<ItemView>,
 }
 
 impl Model for Track {
@@ -45,11 +40,10 @@ impl Model for Track {
 }
 
 impl Track {
-    ghost use Rattle.std.specs.Prelude.{◌≡◌, ◌+◌, ◌<◌, ◌≤◌, ◌↔◌, [], false, length, take, drop, slice_get, vec_len, vec_capacity, option_map, IfSome, IfOk, IsNone, OnOk, OnErr};
+    ghost use Rattle.std.specs.Prelude.{◌≡◌, ◌+◌, ◌<◌, ◌≤◌, ◌↔◌, [], false, length, drop, slice_get, vec_len, option_map, IfSome, IfOk, IsNone, OnOk, OnErr};
     ghost use Rattle.composables.specs.Good.{AllUnlinked};
     ghost use Rattle.composables.specs.Items.{items_of};
-    ghost use Rattle.composables.specs.Sizes.{size_of};
-    ghost use Rattle.composables.specs.SpareState.{spare_for};
+    ghost use Rattle.composables.specs.Sizes.{look_of, size_of};
     ghost use Rattle.composables.specs.TrackState.{pushed, replaced};
     ghost use Rattle.composables.specs.TrackFacts.{IsKept, Lacks, NumbersBelow};
     ghost use Rattle.composables.specs.Ranges.{range_of, HasNumber};
@@ -64,13 +58,10 @@ impl Track {
         Track {
             alloc,
             number,
-            items: Vec::new(alloc),
+            items: Pages::new(alloc),
             next_item: 0,
             next_link: 0,
-            total: 0,
             linked: false,
-            whole: Vec::new(alloc),
-            middle: Vec::new(alloc),
         }
     }
 
@@ -86,14 +77,14 @@ impl Track {
         ensures value { result ≡ length self.now.cells }
         ensures kept { IsKept self.now }
     {
-        self.total
+        self.items.total()
     }
 
     /// How many items and gaps it has.
     pub fn count(&self) -> u32
         ensures { result ≡ length (items_of self.now.cells) }
     {
-        self.items.len() as u32
+        self.items.count()
     }
 
     /// The number that the next new item gets.
@@ -114,15 +105,14 @@ impl Track {
     pub fn item(&self, index: u32) -> Option<ItemView>
         ensures { result ≡ slice_get (items_of self.now.cells) index }
     {
-        view_at(&self.items, index)
+        self.items.get(index).copied()
     }
 
-    /// The items and gaps from an index on, as many of them as lie together: at least one where there is one.
-    pub fn items_from(&self, index: u32) -> &[ItemView]
-        ensures front { result.now ≡ take (length result.now) (drop index (items_of self.now.cells)) }
-        ensures filled { index < length (items_of self.now.cells) → 0 < length result.now }
+    // The items and gaps from an index on.
+    pub(crate) fn items_from(&self, index: u32) -> Reader<'_, ItemView>
+        ensures { result ≡ drop index (items_of self.now.cells) }
     {
-        views_from(&self.items, index)
+        self.items.items_from(index)
     }
 
     /// Whether items of it may have a link: one was given to an item or came with one, be it gone again or not.
@@ -136,7 +126,7 @@ impl Track {
     pub fn items(&self, alloc: Global) -> Result<Vec<ItemView>, Memory>
         ensures { IfOk result (λ all. all.items ≡ items_of self.now.cells) }
     {
-        Ok(Vec::from_slice(alloc, &self.items)?)
+        self.items.to_vec(alloc)
     }
 
     /// Where the item or gap that holds the place `at` stands, or `None` where the track has no such place.
@@ -145,9 +135,9 @@ impl Track {
         ensures holds { IfSome result (λ p. (p.from ≤ at) × (at < p.to)) }
         ensures none { IsNone result ↔ (length self.now.cells ≤ at) }
         ensures least { steps.old + 1 ≤ steps.new }
-        ensures most { steps.new ≤ steps.old + length (items_of self.now.cells) + 64 }
+        ensures look { steps.new ≤ steps.old + look_of self.now }
+        ensures most { steps.new ≤ steps.old + size_of self.now }
     {
-        steps.tick();
         find_place(&self.items, at, steps)
     }
 
@@ -164,21 +154,15 @@ impl Track {
         find_item(&self.items, item, steps)
     }
 
-    /// An equal track, without memory for its next change.
+    /// An equal track, which shares all its items and gaps.
     pub fn copy(&self, alloc: Global) -> Result<Track, Memory>
         ensures { IfOk result (λ t. t ≡ self.now) }
     {
-        let items = Vec::from_slice(alloc, &self.items)?;
+        let items = self.items.copy(alloc)?;
         Ok(Track {
             alloc,
-            number: self.number,
             items,
-            next_item: self.next_item,
-            next_link: self.next_link,
-            total: self.total,
-            linked: self.linked,
-            whole: Vec::new(alloc),
-            middle: Vec::new(alloc),
+            ..*self
         })
     }
 
@@ -193,7 +177,6 @@ impl Track {
         push_item(&mut self.items, view)?;
         self.linked |= view.link.is_some();
         self.next_item = number_past(self.next_item, view.item);
-        self.total += view.len;
         Ok(())
     }
 
@@ -214,101 +197,56 @@ impl Track {
         ensures ok { OnOk result (self.new ≡ replaced self.old from to items.items) }
         ensures err { OnErr result (self.new ≡ self.old) }
         ensures least { steps.old + 1 ≤ steps.new }
-        ensures most { steps.new ≤ steps.old + size_of self.old + vec_len items }
+        ensures most { steps.new ≤ steps.old + look_of self.old + vec_len items }
     {
         steps.tick();
-        let used = mem::replace(&mut self.whole, Vec::new(self.alloc));
-        let room = room_for(self.alloc, used, self.items.len() + items.len())?;
-        self.put(from, to, room, &items, steps);
+        let before = last_before(&self.items, from);
+        let behind = first_from(&self.items, to);
+        let laid = lay_between(self.alloc, before, &items, behind, steps)?;
+        let first = from.saturating_sub(1);
+        let last = to.saturating_add(1).min(self.items.count());
+        self.items.replace(first, last, laid, steps)?;
+        self.next_item = number_past_all(self.next_item, &items);
+        self.linked |= any_linked(&items);
         Ok(())
     }
 
-    /// Memory for a change of the track that puts in so many items and gaps. Where there is none the track is as it was.
-    /// A change gives it back to the track for the next one, so that changes of a track that has stopped growing take no
-    /// more; the track keeps at most four times what its last change asked for.
-    pub fn take_spare(&mut self, alloc: Global, more: u32) -> Result<Spare, Memory>
-        ensures spare { IfOk result (λ s. s ≡ spare_for (length (items_of self.old.cells)) more) }
-        ensures same { self.new ≡ self.old }
-    {
-        let count = self.count();
-        let whole = mem::replace(&mut self.whole, Vec::new(alloc));
-        let middle = mem::replace(&mut self.middle, Vec::new(alloc));
-        Spare::of(alloc, whole, middle, count, more)
-    }
-
-    /// The same in memory that was taken beforehand, of what was laid in it. It can't fail.
-    pub fn replace_in<L: Ledger>(&mut self, from: u32, to: u32, spare: Spare, steps: &mut Steps<L>)
-        requires order { from ≤ to }
-        requires within { to ≤ length (items_of self.old.cells) }
-        requires room { length (items_of self.old.cells) ≤ spare.count }
-        requires filled { AllFilled spare.laid }
-        requires numbers { NumbersBelow 4294967295 spare.laid }
-        requires kept { IsKept (replaced self.old from to spare.laid) }
-        ensures replaced { self.new ≡ replaced self.old from to spare.laid }
-        ensures least { steps.old + 1 ≤ steps.new }
-        ensures most { steps.new ≤ steps.old + size_of self.old + length spare.laid }
-    {
-        steps.tick();
-        let Spare { whole, middle, .. } = spare;
-        self.put(from, to, whole, &middle, steps);
-        self.middle = middle;
-    }
-
-    // Puts these in place of the items and gaps from index `from` up to before `to`, in room for all.
-    fn put<L: Ledger>(
-        &mut self,
-        from: u32,
-        to: u32,
-        room: Vec<ItemView>,
-        middle: &[ItemView],
-        steps: &mut Steps<L>,
-    )
-        requires order { from ≤ to }
-        requires within { to ≤ length (items_of self.old.cells) }
-        requires empty { room.items ≡ [] }
-        requires room { length (items_of self.old.cells) + length middle.now ≤ vec_capacity room }
-        requires filled { AllFilled middle.now }
-        requires numbers { NumbersBelow 4294967295 middle.now }
-        requires kept { IsKept (replaced self.old from to middle.now) }
-        ensures replaced { self.new ≡ replaced self.old from to middle.now }
-        ensures least { steps.old ≤ steps.new }
-        ensures most { steps.new ≤ steps.old + length middle.now + 1 }
-    {
-        let total = frames_around(self.total, &self.items, from, to, middle);
-        let all = lay_around(room, &self.items, from, to, middle, steps);
-        self.next_item = number_past_all(self.next_item, middle);
-        self.linked |= any_linked(middle);
-        self.total = total;
-        self.whole = mem::replace(&mut self.items, all);
-    }
-
     /// Puts a dissolve at the cut before the item or gap with this index, or takes it away.
-    pub fn set_mark(&mut self, index: u32, mark: Option<Mark>)
+    pub fn set_mark(&mut self, alloc: Global, index: u32, mark: Option<Mark>) -> Result<(), Memory>
         requires within { index < length (items_of self.old.cells) }
         requires kept { IsKept (changed_track self.old index (with_mark mark)) }
-        ensures { self.new ≡ changed_track self.old index (with_mark mark) }
+        ensures ok { OnOk result (self.new ≡ changed_track self.old index (with_mark mark)) }
+        ensures err { OnErr result (self.new ≡ self.old) }
     {
-        self.items[index as usize].mark = mark;
+        let view = view_at(&self.items, index);
+        self.items.set(alloc, index, ItemView { mark, ..view })?;
+        Ok(())
     }
 
     /// Gives the item with this index a link, or takes it away.
-    pub fn set_link(&mut self, index: u32, link: Option<Link>)
+    pub fn set_link(&mut self, alloc: Global, index: u32, link: Option<Link>) -> Result<(), Memory>
         requires within { index < length (items_of self.old.cells) }
         requires kept { IsKept (changed_track self.old index (with_link link)) }
-        ensures { self.new ≡ changed_track self.old index (with_link link) }
+        ensures ok { OnOk result (self.new ≡ changed_track self.old index (with_link link)) }
+        ensures err { OnErr result (self.new ≡ self.old) }
     {
-        self.items[index as usize].link = link;
+        let view = view_at(&self.items, index);
+        self.items.set(alloc, index, ItemView { link, ..view })?;
         self.linked |= link.is_some();
+        Ok(())
     }
 
     /// Moves the source frames of the item with this index, so that it shows them from this one on.
-    pub fn set_source(&mut self, index: u32, source: u32)
+    pub fn set_source(&mut self, alloc: Global, index: u32, source: u32) -> Result<(), Memory>
         requires within { index < length (items_of self.old.cells) }
         requires kept { IsKept (changed_track self.old index (with_source source)) }
-        ensures { self.new ≡ changed_track self.old index (with_source source) }
+        ensures ok { OnOk result (self.new ≡ changed_track self.old index (with_source source)) }
+        ensures err { OnErr result (self.new ≡ self.old) }
     {
-        let first = self.items[index as usize].first;
-        self.items[index as usize].first = side_from(first, source);
+        let view = view_at(&self.items, index);
+        let first = side_from(view.first, source);
+        self.items.set(alloc, index, ItemView { first, ..view })?;
+        Ok(())
     }
 
     /// Raises the number that the next new link with this home gets.
@@ -323,20 +261,9 @@ impl Track {
     pub fn cells(&self, alloc: Global) -> Result<Vec<Cell>, Memory>
         ensures { IfOk result (λ all. all.items ≡ self.now.cells) }
     {
-        cells_in(alloc, &self.items)
+        let all = self.items.to_vec(alloc)?;
+        cells_in(alloc, &all)
     }
-}
-
-fn view_at(items: &[ItemView], index: u32) -> Option<ItemView>
-    ensures { result ≡ slice_get items.now index }
-{
-    items.get(index as usize).copied()
-}
-
-fn views_from(items: &[ItemView], index: u32) -> &[ItemView]
-    ensures { result.now ≡ drop index items.now }
-{
-    items.get(index as usize..).unwrap_or_default()
 }
 
 fn any_linked(items: &[ItemView]) -> bool
@@ -358,28 +285,4 @@ fn side_from(side: Side<What>, source: u32) -> Side<What>
         Side::Dark => Side::Dark,
         Side::Pic { what, .. } => Side::Pic { what, source },
     }
-}
-
-// How many frames there are with these in place of those from index `from` up to before `to`.
-fn frames_around(total: u32, items: &[ItemView], from: u32, to: u32, middle: &[ItemView]) -> u32
-    requires order { from ≤ to }
-    requires within { to ≤ length items.now }
-    requires total { total ≡ frames_in items.now }
-    requires frames { frames_around items.now middle.now from to < 2 ^ 32 }
-    ensures { result ≡ frames_around items.now middle.now from to }
-{
-    let (_, behind) = items.split_at(from as usize);
-    let (gone, _) = behind.split_at((to - from) as usize);
-    total - frames_of(gone) + frames_of(middle)
-}
-
-fn frames_of(items: &[ItemView]) -> u32
-    requires { frames_in items.now < 2 ^ 32 }
-    ensures { result ≡ frames_in items.now }
-{
-    let mut total = 0;
-    for view in items {
-        total += view.len;
-    }
-    total
 }

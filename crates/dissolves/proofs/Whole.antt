@@ -1,8 +1,6 @@
 -- Where a walk over the items and gaps of a track stands.
 use Rattle.std.proofs.Common.{◌≡◌, ℕ, zero, suc, ◌+◌, ◌<◌, ◌≤◌, List, [], ◌∷◌, length, drop, Option, Some, None, IfSome, IsNone, refl, sym, ap, ◌∙◌, arith, subst}
 use Rattle.std.specs.List.{slice_get}
-use Rattle.std.proofs.lemmas.List.{drop_more}
-use Rattle.std.proofs.lemmas.Option.{slice_get_within, get_or_from_slice_get}
 use Rattle.frame_meaning.specs.declared.cells.What.{What}
 use Rattle.frame_meaning.specs.declared.cells.Mark.{Mark}
 use Rattle.frame_meaning.specs.declared.cells.Cell.{Cell}
@@ -12,7 +10,7 @@ use Rattle.composables.specs.declared.items.ItemView.{ItemView}
 use Rattle.composables.specs.Items.{cells_of, items_of}
 use Rattle.composables.specs.Joined.{frames_in}
 use Rattle.composables.specs.TrackFacts.{Holds, EachHolds, HasSource, first_mark, left_reach, right_reach}
-use Rattle.composables.proofs.Joining.{length-cells_of, length-items_of}
+use Rattle.composables.proofs.Joining.{length-cells_of}
 use Rattle.dissolves.specs.Parts.{first_of, mark_of, SideHasFront, HoldsBefore, HasFront, MarkIsNumbered, Between, EachBetween}
 
 -- the items and gaps from an index on

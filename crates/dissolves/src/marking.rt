@@ -14,13 +14,13 @@ use std::sync::ledger::Ledger;
 use step_count::Steps;
 
 /// Puts a dissolve at the cut at `at` of the one track that is named, from `a` frames before the cut to `b` frames
-/// after it, in place of an earlier one there. Beside a gap it is a fade. The allocator is not used.
+/// after it, in place of an earlier one there. Beside a gap it is a fade. For want of memory the track is as it was.
 ///
 /// It answers the first of these refusals that holds: `EmptyRange`, where it has no frame; `NotACut`; `DissolveRoom` of
 /// the left side, and else of the right, where that side is a nest, is too short for its frames and those of the
 /// dissolve at its other end, or has too few source frames.
 pub fn dissolve<L: Ledger>(
-    _alloc: Global,
+    alloc: Global,
     table: &Table,
     named: &mut Vec<Track>,
     call: &Dissolve,
@@ -39,13 +39,13 @@ pub fn dissolve<L: Ledger>(
     ensures most { steps.new
         ≤ steps.old + sum_by (λ t. length (items_of t.cells) + 64) named.old.items }
 {
-    dissolve_track(table, &mut named[0], call, steps)
+    dissolve_track(alloc, table, &mut named[0], call, steps)
 }
 
-/// Takes the dissolve at `at` of the one track that is named away. The allocator is not used. It is refused by
-/// `NotACut` where none stands there.
+/// Takes the dissolve at `at` of the one track that is named away. It is refused by `NotACut` where none stands there.
+/// For want of memory the track is as it was.
 pub fn undissolve<L: Ledger>(
-    _alloc: Global,
+    alloc: Global,
     table: &Table,
     named: &mut Vec<Track>,
     call: &Undissolve,
@@ -64,11 +64,12 @@ pub fn undissolve<L: Ledger>(
     ensures most { steps.new
         ≤ steps.old + sum_by (λ t. length (items_of t.cells) + 64) named.old.items }
 {
-    undissolve_track(table, &mut named[0], call, steps)
+    undissolve_track(alloc, table, &mut named[0], call, steps)
 }
 
 // The same on the track itself.
 fn dissolve_track<L: Ledger>(
+    alloc: Global,
     table: &Table,
     track: &mut Track,
     call: &Dissolve,
@@ -100,11 +101,12 @@ fn dissolve_track<L: Ledger>(
         Some(refusal) => return Err(EditFault::Refused(refusal)),
         None => {}
     }
-    track.set_mark(cut.index, Some(mark));
+    track.set_mark(alloc, cut.index, Some(mark))?;
     Ok(Done::Plain)
 }
 
 fn undissolve_track<L: Ledger>(
+    alloc: Global,
     table: &Table,
     track: &mut Track,
     call: &Undissolve,
@@ -126,7 +128,7 @@ fn undissolve_track<L: Ledger>(
     if cut.right.mark.is_none() {
         return Err(EditFault::Refused(Refusal::NotACut(call.at)));
     }
-    track.set_mark(cut.index, None);
+    track.set_mark(alloc, cut.index, None)?;
     Ok(Done::Plain)
 }
 

@@ -30,5 +30,4 @@ pub mod Moving
 pub mod OneTrack
 pub mod Places
 pub mod Firsts
-pub mod PartMoved
 pub mod Bridging

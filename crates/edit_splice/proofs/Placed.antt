@@ -1,5 +1,5 @@
 -- What the code puts in place, with the indices that it found, leaves the track of the splice.
-use Rattle.std.proofs.Common.{◌≡◌, ℕ, ◌+◌, ◌<◌, ◌≤◌, List, [], ◌++◌, length, Option, Some, None, IfSome, sym, ap, ◌∙◌, arith, subst, slice_get, Bool}
+use Rattle.std.proofs.Common.{◌≡◌, ℕ, ◌+◌, ◌<◌, ◌≤◌, List, length, Option, Some, None, IfSome, sym, ap, ◌∙◌, arith, subst, slice_get, Bool}
 use Rattle.std.proofs.lemmas.Option.{slice_get_within}
 use Rattle.frame_meaning.specs.declared.cells.Cell.{Cell}
 use Rattle.composables.specs.declared.items.ItemView.{ItemView}
@@ -7,11 +7,10 @@ use Rattle.composables.specs.Items.{items_of}
 use Rattle.composables.specs.Joined.{AllFilled}
 use Rattle.composables.specs.TrackFacts.{IsKept, EachHolds, NumbersBelow}
 use Rattle.composables.specs.TrackState.{TrackState, replaced, next_past_all}
-use Rattle.composables.specs.SpareState.{SpareState}
 use Rattle.composables.proofs.Keeping.{same_state}
 use Rattle.edit_splice.specs.declared.seams.Held.{Held}
 use Rattle.edit_splice.specs.declared.seams.Seams.{Seams}
-use Rattle.edit_splice.specs.Parts.{AreSeams, EndsAt, StandsFrom, reaches_past, parts_between, first_index, end_at, end_index, laid_more}
+use Rattle.edit_splice.specs.Parts.{AreSeams, EndsAt, StandsFrom, reaches_past, parts_between, first_index, end_at, end_index}
 use Rattle.edit_splice.specs.Splicing.{spliced_track}
 use Rattle.edit_splice.proofs.Ends.{end-within, order-within, source-read}
 use Rattle.edit_splice.proofs.Numbers.{next-most}
@@ -73,7 +72,3 @@ below-made keep t x y fresh m s views parts k a next below new more made =
     let P : List ItemView → Type 0 = λ vs. NumbersBelow (m + 1) vs in
     let most : fresh < m + 1 = omega (arith, new, next-most m t.next_item views next below) in
     subst P (sym made) (below-parts keep t.next_item fresh (m + 1) t.cells x y s views (omega (arith, next)) most a k.below more)
-
--- what was laid in empty memory
-pub laid-alone : (old new : SpareState) (parts : List ItemView) → old.laid ≡ [] → new ≡ laid_more old parts → new.laid ≡ parts
-laid-alone old new parts empty is = ap (λ (s : SpareState). s.laid) is ∙ ap (λ zs. zs ++ parts) empty

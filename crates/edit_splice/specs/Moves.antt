@@ -1,15 +1,14 @@
 -- What a shift does on one track, of which it puts in place of the places [x, y), as far as the track has them, what
 -- is new to it.
-use Rattle.std.specs.Prelude.{◌+◌, ◌-◌, ◌≤◌, List, [], ◌∷◌, ◌++◌, map, min, nat_eq, nat_lt, length, if◌then◌else◌}
+use Rattle.std.specs.Prelude.{◌+◌, ◌-◌, ◌≤◌, List, [], ◌++◌, map, min, nat_eq, nat_lt, length, if◌then◌else◌}
 use Rattle.composables.specs.declared.items.ItemView.{ItemView}
 use Rattle.composables.specs.TrackState.{TrackState}
 use Rattle.composables.specs.declared.TheConstants.{MAX_FRAMES}
 use Rattle.composables.specs.Joined.{AllFilled}
 use Rattle.composables.specs.Roomy.{IsRoomy}
-use Rattle.composables.specs.SpareState.{SpareState}
 use Rattle.composables.specs.TrackFacts.{IsKept, NumbersBelow}
 use Rattle.edit_splice.specs.Laws.{IsWithinLimits}
-use Rattle.edit_splice.specs.Splicing.{HasRoom, spliced_track}
+use Rattle.edit_splice.specs.Splicing.{spliced_track}
 use Rattle.edit_splice.specs.declared.shifting.Shift.{Shift}
 use Rattle.composables.specs.Views.{gap_views}
 use Rattle.edit_splice.specs.Padding.{new_len, new_views}
@@ -35,10 +34,3 @@ pub record IsShiftOf (s : Shift) (t : TrackState) : Type 0 where
   pub stays : s.x ≤ s.y → IsWithinLimits (moved s t) → IsKept (moved s t)
   pub filled : AllFilled (put_views s t)
   pub numbers : NumbersBelow (t.next_item + 1) (put_views s t)
-
--- memory for each of these tracks, to splice two items or gaps into it
-abbrev pub HasRooms : List SpareState → List TrackState → Type 0
-HasRooms [] [] = Unit {0}
-HasRooms [] (t ∷ ts) = ⊥
-HasRooms (s ∷ ss) [] = ⊥
-HasRooms (s ∷ ss) (t ∷ ts) = HasRoom s t 2 × HasRooms ss ts

@@ -6,7 +6,6 @@ use Rattle.frame_meaning.specs.Cells.{same_number}
 use Rattle.composables.specs.declared.items.ItemView.{ItemView}
 use Rattle.composables.specs.Items.{items_of}
 use Rattle.composables.specs.Joined.{frames_in}
-use Rattle.composables.specs.SpareState.{SpareState}
 use Rattle.composables.specs.TrackFacts.{HasSource}
 use Rattle.composables.specs.Views.{later_view}
 use Rattle.edit_splice.specs.declared.seams.Held.{Held}
@@ -114,7 +113,3 @@ end_at (Some h) (Some v) count = h.index + 2
 
 abbrev pub end_index : Seams → ℕ → ℕ
 end_index s count = end_at s.right s.after count
-
--- spare memory with these laid behind what was laid before
-abbrev pub laid_more : SpareState → List ItemView → SpareState
-laid_more s views = record s { laid = s.laid ++ views }

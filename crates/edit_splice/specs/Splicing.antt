@@ -1,12 +1,11 @@
 -- What a splice leaves of a track.
-use Rattle.std.specs.Prelude.{◌≡◌, ℕ, ◌+◌, ◌≤◌, Bool, List, [], Result, length}
+use Rattle.std.specs.Prelude.{ℕ, Bool, List, Result}
 use Rattle.frame_meaning.specs.Splice.{rule_of, spliced, next_after_splice}
 use Rattle.composables.specs.declared.items.ItemView.{ItemView}
 use Rattle.composables.specs.declared.refusals.Done.{Done}
 use Rattle.composables.specs.declared.refusals.Refusal.{Refusal}
-use Rattle.composables.specs.Items.{cells_of, items_of}
+use Rattle.composables.specs.Items.{cells_of}
 use Rattle.composables.specs.Limits.{track_within_limits}
-use Rattle.composables.specs.SpareState.{SpareState}
 use Rattle.composables.specs.TrackState.{TrackState, next_past_all}
 
 -- the track with items in place of the record frames [x, y): the new items take their numbers first, and then the
@@ -22,10 +21,3 @@ spliced_track keep t x y views = after (next_past_all t.next_item views) where
 -- the same of a splice by an edit, which answers this where the track keeps its limits
 abbrev pub placed : Bool → TrackState → ℕ → ℕ → List ItemView → Done → Result (TrackState × Done) Refusal
 placed keep t x y views done = track_within_limits (spliced_track keep t x y views) done
-
--- spare memory in which this track can be laid out anew with n more items put in, and the parts of those at the ends of
--- the range: one before it, and two behind it
-pub record HasRoom (spare : SpareState) (t : TrackState) (n : ℕ) : Type 0 where
-  pub empty : spare.laid ≡ []
-  pub count : length (items_of t.cells) ≤ spare.count
-  pub more : n + 3 ≤ spare.more

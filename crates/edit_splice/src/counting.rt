@@ -3,20 +3,21 @@ ghost use Rattle.std.specs.Prelude.{◌≡◌, ◌+◌, ◌*◌, ◌-◌, ◌<�
 ghost use Rattle.std.specs.Option.{option_to_list};
 ghost use Rattle.composables.specs.Items.{items_of};
 ghost use Rattle.composables.specs.Joined.{AllFilled, frames_in};
-ghost use Rattle.composables.specs.Sizes.{size_of};
+ghost use Rattle.composables.specs.Sizes.{look_of};
 ghost use Rattle.composables.specs.TrackFacts.{NumbersBelow};
 ghost use Rattle.edit_splice.specs.Counting.{back_number, begun, belongs, count_by, count_past, number_of, numbers};
+ghost use Rattle.edit_splice.specs.Parts.{AreSeams};
 ghost use Rattle.edit_splice.specs.Splicing.{spliced_track};
 
 use crate::parts::{renumbered, split_between};
-use crate::seams::{Held, seams_of};
+use crate::seams::{Held, Seams, seams_of};
 use composables::{ItemView, Track, a_track_is_kept, number_past_all};
 use frame_meaning::same_item;
 use std::sync::ledger::Ledger;
 use step_count::Steps;
 
-/// How many items and gaps a track has after a splice, whether that keeps dissolves or not. It looks at the items and gaps at the ends of the range and at
-/// those that are put in, and at no others.
+/// How many items and gaps a track has after a splice, whether that keeps dissolves or not. It looks at the items and
+/// gaps at the ends of the range and at those that are put in, and at no others.
 pub fn count_after<L: Ledger>(
     track: &Track,
     x: u32,
@@ -34,10 +35,32 @@ pub fn count_after<L: Ledger>(
         ≡ length (items_of (spliced_track keep track.now x y items.now).cells) }
 
     ensures least { steps.old ≤ steps.new }
-    ensures most { steps.new ≤ steps.old + 2 * size_of track.now + length items.now }
+    ensures most { steps.new ≤ steps.old + 2 * look_of track.now + length items.now }
+{
+    let seams = seams_of(track, x, y, steps);
+    count_at(track, &seams, x, y, items, steps)
+}
+
+/// The same where it is known what stands at the ends of the range.
+pub(crate) fn count_at<L: Ledger>(
+    track: &Track,
+    seams: &Seams,
+    x: u32,
+    y: u32,
+    items: &[ItemView],
+    steps: &mut Steps<L>,
+) -> u32
+    requires seams { AreSeams track.now.cells x y seams.now }
+    requires order { x ≤ y }
+    requires within { y ≤ length track.now.cells }
+    requires filled { AllFilled items.now }
+    requires numbers { NumbersBelow 4294967295 items.now }
+    requires short { x + frames_in items.now + (length track.now.cells - y) < 2 ^ 32 }
+    ensures count { (keep : Bool) → result
+        ≡ length (items_of (spliced_track keep track.now x y items.now).cells) }
+    ensures steps { steps.new ≡ steps.old + length items.now }
 {
     a_track_is_kept(track);
-    let seams = seams_of(track, x, y, steps);
     let fresh = number_past_all(track.next_item(), items);
     let split = split_between(seams.left, seams.right);
     let between = begun(

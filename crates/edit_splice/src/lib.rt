@@ -1,12 +1,11 @@
 //! A splice of a track with its dissolves: items in place of a range of record frames.
 //!
 //! The main contract is that of `splice`: the track has the cells of `spliced` of frame_meaning and the next item
-//! number that goes with them; for want of memory it is as it was. `splice_in` does the same in memory that was taken
-//! before, so that several tracks are spliced whole or not at all, and `count_after` tells beforehand how many items
-//! and gaps there will be. They work on the few items at the two ends of the range. The laws say what may be put in.
+//! number that goes with them; for want of memory it is as it was. `count_after` tells beforehand how many items and
+//! gaps there will be. They work on the few items at the two ends of the range. The laws say what may be put in.
 //!
 //! Edits stand on `place`, a splice of one track within its limits, and on `shift_tracks`, a splice of several tracks by
-//! which what is behind it moves on each: it changes all of them or none. `over_limits` and `shift_within` are its two
+//! which what is behind it moves on each: it changes all of them or none. `over_limits` and `shifted` are its two
 //! halves, the refusal and the change.
 #![tactic(auto)]
 
@@ -27,5 +26,5 @@ pub use laws::{
     each_cell_has_its_place, new_items_may_be_put_in, next_numbers_rise_by_the_new_items,
 };
 pub use placing::place;
-pub use shifting::{Shift, new_len, over_limits, shift_tracks, shift_within};
-pub use splicing::{spare_for, splice, splice_in, splice_keeping};
+pub use shifting::{Shift, new_len, over_limits, shift_tracks, shifted};
+pub use splicing::{splice, splice_keeping};

@@ -1,34 +1,36 @@
 // What is put in place of the items and gaps at the ends of a range: what is left of them, and the new items.
-ghost use Rattle.std.specs.Prelude.{◌≡◌, ◌+◌, ◌-◌, ◌<◌, ◌≤◌, ◌++◌, [], length, take, drop};
+ghost use Rattle.std.specs.Prelude.{◌≡◌, ◌+◌, ◌-◌, ◌<◌, ◌≤◌, ◌++◌, IfOk, OnOk};
 ghost use Rattle.frame_meaning.specs.Cells.{same_number};
-ghost use Rattle.composables.specs.SpareState.{SpareState};
-ghost use Rattle.edit_splice.specs.Parts.{after_views, back_views, begins_by, end_index, first_index, front_views, kept_before, kept_behind, laid_more, parts_between, renumbered_view, reaches_past, split_between};
+ghost use Rattle.edit_splice.specs.Parts.{after_views, back_views, begins_by, end_index, first_index, front_views, kept_before, kept_behind, parts_between, renumbered_view, reaches_past, split_between};
 
 use crate::seams::{Held, Seams};
-use composables::{ItemView, Spare};
+use composables::{ItemView, Memory};
 use frame_meaning::{Mark, same_item};
+use std::alloc::Global;
 
-/// Lays in spare memory what stands in place of the items and gaps at the ends of the range [x, y), where the later part
-/// of an item that is split takes the number `fresh`.
-pub fn lay_parts(
+/// What stands in place of the items and gaps at the ends of the range [x, y), where the later part of an item that is
+/// split takes the number `fresh`.
+pub fn parts_between(
+    alloc: Global,
     seams: &Seams,
     x: u32,
     y: u32,
     keep: bool,
     items: &[ItemView],
     fresh: u32,
-    spare: &mut Spare,
-)
+) -> Result<Vec<ItemView>, Memory>
     requires left { begins_by x seams.now.left }
     requires right { reaches_past y seams.now.right }
-    requires room { length spare.old.laid + length items.now + 3 ≤ spare.old.more }
-    ensures { spare.new ≡ laid_more spare.old (parts_between keep seams.now x y items.now fresh) }
+    ensures { IfOk result
+        (λ parts. parts.items ≡ parts_between keep seams.now x y items.now fresh) }
 {
     let split = split_between(seams.left, seams.right);
-    push_front(seams.left, x, keep, spare);
-    push_items(items, spare);
-    push_back(seams.right, y, split, fresh, spare);
-    push_after(seams.right, seams.after, y, keep, spare);
+    let mut parts = Vec::with_capacity(alloc, items.len().saturating_add(3))?;
+    push_front(&mut parts, seams.left, x, keep)?;
+    parts.extend_from_slice(items)?;
+    push_back(&mut parts, seams.right, y, split, fresh)?;
+    push_after(&mut parts, seams.right, seams.after, y, keep)?;
+    Ok(parts)
 }
 
 /// The index of the first item or gap that is replaced.
@@ -66,24 +68,29 @@ pub fn split_between(left: Option<Held>, right: Option<Held>) -> Option<u32>
     }
 }
 
-// The part before x, with its dissolve as far as that is kept.
-fn push_front(left: Option<Held>, x: u32, keep: bool, spare: &mut Spare)
-    requires begins { begins_by x left }
-    requires room { length spare.old.laid + 1 ≤ spare.old.more }
-    ensures { spare.new ≡ laid_more spare.old (front_views keep left x) }
+// Puts the part before x behind others, with its dissolve as far as that is kept.
+fn push_front(
+    parts: &mut Vec<ItemView>,
+    left: Option<Held>,
+    x: u32,
+    keep: bool,
+) -> Result<(), Memory>
+    requires { begins_by x left }
+    ensures { OnOk result (parts.new.items ≡ parts.old.items ++ front_views keep left x) }
 {
     match left {
         Some(held) => {
             let len = x - held.from;
             let mark = mark_before(keep, len, held.view.mark);
-            spare.push(ItemView {
+            parts.push(ItemView {
                 len,
                 mark,
                 ..held.view
-            });
+            })?;
         }
         None => {}
     }
+    Ok(())
 }
 
 // A dissolve whose cut stands so many frames before a range.
@@ -100,26 +107,22 @@ fn mark_before(keep: bool, frames: u32, mark: Option<Mark>) -> Option<Mark>
     }
 }
 
-// The new items between.
-fn push_items(items: &[ItemView], spare: &mut Spare)
-    requires { length spare.old.laid + length items.now ≤ spare.old.more }
-    ensures { spare.new ≡ laid_more spare.old items.now }
-{
-    for view in items {
-        spare.push(*view);
-    }
-}
-
-// The part from y on, without a dissolve at the seam.
-fn push_back(right: Option<Held>, y: u32, split: Option<u32>, fresh: u32, spare: &mut Spare)
-    requires reaches { reaches_past y right }
-    requires room { length spare.old.laid + 1 ≤ spare.old.more }
-    ensures { spare.new ≡ laid_more spare.old (back_views right y split fresh) }
+// And the part from y on, without a dissolve at the seam.
+fn push_back(
+    parts: &mut Vec<ItemView>,
+    right: Option<Held>,
+    y: u32,
+    split: Option<u32>,
+    fresh: u32,
+) -> Result<(), Memory>
+    requires { reaches_past y right }
+    ensures { OnOk result (parts.new.items ≡ parts.old.items ++ back_views right y split fresh) }
 {
     match right {
-        Some(held) => spare.push(renumbered(&held.view.later(y - held.from), split, fresh)),
+        Some(held) => parts.push(renumbered(&held.view.later(y - held.from), split, fresh))?,
         None => {}
     }
+    Ok(())
 }
 
 /// An item or gap, with the number `fresh` if it is the one that is split.
@@ -135,19 +138,25 @@ pub fn renumbered(view: &ItemView, split: Option<u32>, fresh: u32) -> ItemView
     }
 }
 
-// The one after it, with its dissolve as far as that is kept.
-fn push_after(right: Option<Held>, after: Option<ItemView>, y: u32, keep: bool, spare: &mut Spare)
-    requires reaches { reaches_past y right }
-    requires room { length spare.old.laid + 1 ≤ spare.old.more }
-    ensures { spare.new ≡ laid_more spare.old (after_views keep right after y) }
+// And the one after it, with its dissolve as far as that is kept.
+fn push_after(
+    parts: &mut Vec<ItemView>,
+    right: Option<Held>,
+    after: Option<ItemView>,
+    y: u32,
+    keep: bool,
+) -> Result<(), Memory>
+    requires { reaches_past y right }
+    ensures { OnOk result (parts.new.items ≡ parts.old.items ++ after_views keep right after y) }
 {
     match (right, after) {
         (Some(held), Some(view)) => {
             let mark = mark_behind(keep, held.view.len - (y - held.from), view.mark);
-            spare.push(ItemView { mark, ..view });
+            parts.push(ItemView { mark, ..view })?;
         }
         _ => {}
     }
+    Ok(())
 }
 
 // One whose cut stands so many frames behind it.

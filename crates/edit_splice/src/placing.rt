@@ -8,8 +8,9 @@ ghost use Rattle.edit_splice.specs.NewItems.{AreNew};
 ghost use Rattle.edit_splice.specs.Splicing.{placed};
 ghost use Rattle.out_of_memory.specs.Answers.{Answers};
 
-use crate::counting::count_after;
-use crate::splicing::splice_by;
+use crate::counting::count_at;
+use crate::seams::seams_of;
+use crate::splicing::splice_at;
 use composables::{Done, EditFault, ItemView, MAX_FRAMES, MAX_ITEMS, Refusal, Track};
 use std::alloc::Global;
 use std::sync::ledger::Ledger;
@@ -42,9 +43,10 @@ pub fn place<L: Ledger>(
     ensures least { steps.old ≤ steps.new }
     ensures most { steps.new ≤ steps.old + 16 * size_of track.old }
 {
-    if count_after(track, x, y, items, steps) > MAX_ITEMS {
+    let seams = seams_of(track, x, y, steps);
+    if count_at(track, &seams, x, y, items, steps) > MAX_ITEMS {
         return Err(EditFault::Refused(Refusal::TooManyItems(track.number())));
     }
-    splice_by(alloc, track, x, y, keep, items, steps)?;
+    splice_at(alloc, track, &seams, x, y, keep, items, steps)?;
     Ok(done)
 }

@@ -1,6 +1,7 @@
 // The items and gaps at the two ends of a range of a track.
 ghost use Rattle.std.specs.Prelude.{◌≡◌, ◌+◌, ◌*◌, ◌-◌, ◌<◌, ◌≤◌, IfSome, IsNone, length};
 ghost use Rattle.composables.specs.Items.{items_of};
+ghost use Rattle.composables.specs.Sizes.{look_of};
 ghost use Rattle.edit_splice.specs.Parts.{AreSeams, EndsAt, Stands, StandsFrom, view_after};
 
 use composables::{ItemView, Track};
@@ -30,7 +31,7 @@ pub fn seams_of<L: Ledger>(track: &Track, x: u32, y: u32, steps: &mut Steps<L>) 
     requires within { y ≤ length track.now.cells }
     ensures seams { AreSeams track.now.cells x y result }
     ensures least { steps.old ≤ steps.new }
-    ensures most { steps.new ≤ steps.old + 2 * (length (items_of track.now.cells) + 64) }
+    ensures most { steps.new ≤ steps.old + 2 * look_of track.now }
 {
     let left = last_before(track, x, steps);
     let right = first_from(track, y, steps);
@@ -42,7 +43,7 @@ fn last_before<L: Ledger>(track: &Track, x: u32, steps: &mut Steps<L>) -> Option
     requires { x ≤ length track.now.cells }
     ensures ends { EndsAt track.now.cells x result }
     ensures least { steps.old ≤ steps.new }
-    ensures most { steps.new ≤ steps.old + length (items_of track.now.cells) + 64 }
+    ensures most { steps.new ≤ steps.old + look_of track.now }
 {
     if x == 0 {
         return None;
@@ -53,7 +54,7 @@ fn last_before<L: Ledger>(track: &Track, x: u32, steps: &mut Steps<L>) -> Option
 fn first_from<L: Ledger>(track: &Track, y: u32, steps: &mut Steps<L>) -> Option<Held>
     ensures stands { StandsFrom track.now.cells y result }
     ensures least { steps.old ≤ steps.new }
-    ensures most { steps.new ≤ steps.old + length (items_of track.now.cells) + 64 }
+    ensures most { steps.new ≤ steps.old + look_of track.now }
 {
     held_at(track, y, steps)
 }
@@ -63,7 +64,7 @@ fn held_at<L: Ledger>(track: &Track, at: u32, steps: &mut Steps<L>) -> Option<He
     ensures stands { IfSome result (λ h. Stands (items_of track.now.cells) at h) }
     ensures none { IsNone result → length track.now.cells ≤ at }
     ensures least { steps.old ≤ steps.new }
-    ensures most { steps.new ≤ steps.old + length (items_of track.now.cells) + 64 }
+    ensures most { steps.new ≤ steps.old + look_of track.now }
 {
     let place = track.item_at(at, steps)?;
     let view = track.item(place.index)?;

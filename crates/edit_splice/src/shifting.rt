@@ -1,21 +1,17 @@
 // A shift of several tracks: something new in place of their places [x, y), by which what is behind them moves.
-ghost use Rattle.std.specs.Prelude.{◌≡◌, ◌+◌, ◌*◌, ◌-◌, ◌<◌, ◌≤◌, All, IfOk, None, OnErr, OnOk, length, option_map, slice_index_or};
+ghost use Rattle.std.specs.Prelude.{◌≡◌, ◌+◌, ◌*◌, ◌-◌, ◌<◌, ◌≤◌, All, IfOk, None, length, option_map};
 ghost use Rattle.composables.specs.declared.refusals.Refusal.TheVariants.{TooLong, TooManyItems};
 ghost use Rattle.composables.specs.Items.{items_of};
-ghost use Rattle.composables.specs.TrackState.{TrackState};
 ghost use Rattle.composables.specs.Sizes.{size_of, sizes_of};
-ghost use Rattle.edit_splice.specs.Splicing.{HasRoom};
 ghost use Rattle.out_of_memory.specs.Answers.{Answers};
 ghost use Rattle.composables.specs.Limits.{over_limits, too_long, too_many, within_limits};
 ghost use Rattle.edit_splice.specs.Padding.{new_len};
-ghost use Rattle.edit_splice.specs.Moves.{HasRooms, IsShiftOf, all_moved, moved, put_views};
+ghost use Rattle.edit_splice.specs.Moves.{IsShiftOf, all_moved, moved, put_views};
 
 use crate::counting::count_after;
 use crate::few::Few;
-use crate::splicing::{spare_for, splice_in};
-use composables::{
-    Done, EditFault, ItemView, MAX_FRAMES, MAX_ITEMS, Memory, Refusal, Spare, Track,
-};
+use crate::splicing::splice_by;
+use composables::{Done, EditFault, ItemView, MAX_FRAMES, MAX_ITEMS, Memory, Refusal, Track};
 use std::alloc::Global;
 use std::sync::ledger::Ledger;
 use step_count::Steps;
@@ -33,7 +29,7 @@ pub struct Shift {
 }
 
 /// Shifts all these tracks, or none: the first that would be too long, and else the first that would have too many
-/// items and gaps, is told, and want of memory, before any of them is changed.
+/// items and gaps, is told, and want of memory, before one of them is changed.
 pub fn shift_tracks<L: Ledger>(
     alloc: Global,
     named: &mut Vec<Track>,
@@ -52,7 +48,8 @@ pub fn shift_tracks<L: Ledger>(
         Some(refusal) => return Err(EditFault::Refused(refusal)),
         None => {}
     }
-    shift_within(alloc, named, shift, steps)?;
+    let moved = shifted(alloc, named, shift, steps)?;
+    *named = moved;
     Ok(done)
 }
 
@@ -79,25 +76,21 @@ pub fn over_limits<L: Ledger>(
     }
 }
 
-/// Shifts all these tracks, which keep their limits, or none for want of memory, which it takes before any of them is
-/// changed.
-pub fn shift_within<L: Ledger>(
+/// These tracks after the shift, within their limits. They share with the tracks all that the shift leaves as it was.
+pub fn shifted<L: Ledger>(
     alloc: Global,
-    named: &mut Vec<Track>,
+    named: &[Track],
     shift: &Shift,
     steps: &mut Steps<L>,
-) -> Result<(), Memory>
+) -> Result<Vec<Track>, Memory>
     requires order { shift.now.x ≤ shift.now.y }
-    requires fits { All (λ t. IsShiftOf shift.now t) named.old.items }
-    requires within { over_limits (all_moved shift.now named.old.items) ≡ None }
-    ensures moved { OnOk result (named.new.items ≡ all_moved shift.now named.old.items) }
-    ensures memory { OnErr result (named.new.items ≡ named.old.items) }
+    requires fits { All (λ t. IsShiftOf shift.now t) named.now }
+    requires within { over_limits (all_moved shift.now named.now) ≡ None }
+    ensures moved { IfOk result (λ all. all.items ≡ all_moved shift.now named.now) }
     ensures least { steps.old ≤ steps.new }
-    ensures most { steps.new ≤ steps.old + 8 * sizes_of named.old.items }
+    ensures most { steps.new ≤ steps.old + 8 * sizes_of named.now }
 {
-    let spares = spares_for(alloc, named)?;
-    shift_all(named, shift, spares, steps);
-    Ok(())
+    all_moved(alloc, named, shift, steps)
 }
 
 fn first_too_long(named: &[Track], shift: &Shift) -> Option<u32>
@@ -188,71 +181,55 @@ fn items_after<L: Ledger>(track: &Track, shift: &Shift, steps: &mut Steps<L>) ->
     )
 }
 
-// Memory for each track, to splice two items or gaps into it.
-fn spares_for(alloc: Global, named: &mut Vec<Track>) -> Result<Vec<Spare>, Memory>
-    ensures rooms { IfOk result (λ spares. HasRooms spares.items named.old.items) }
-    ensures same { named.new.items ≡ named.old.items }
-{
-    let mut spares = Vec::new(alloc);
-    for index in 0..named.len() {
-        let spare = spare_at(alloc, named, index)?;
-        spares.push(spare)?;
-    }
-    Ok(spares)
-}
-
-fn spare_at(alloc: Global, named: &mut Vec<Track>, index: usize) -> Result<Spare, Memory>
-    requires { index < length named.old.items }
-    ensures room { IfOk result
-        (λ s. (t : TrackState) → HasRoom s (slice_index_or named.old.items index t) 2) }
-    ensures same { named.new.items ≡ named.old.items }
-{
-    spare_for(alloc, &mut named[index], 2)
-}
-
-// Shifts each track in its memory, the last first.
-fn shift_all<L: Ledger>(
-    named: &mut Vec<Track>,
+// The tracks after the shift.
+fn all_moved<L: Ledger>(
+    alloc: Global,
+    named: &[Track],
     shift: &Shift,
-    spares: Vec<Spare>,
     steps: &mut Steps<L>,
-)
+) -> Result<Vec<Track>, Memory>
     requires order { shift.now.x ≤ shift.now.y }
-    requires fits { All (λ t. IsShiftOf shift.now t) named.old.items }
-    requires short { All (λ t. length (moved shift.now t).cells ≤ MAX_FRAMES) named.old.items }
-    requires few { All (λ t. length (items_of (moved shift.now t).cells) ≤ MAX_ITEMS)
-        named.old.items }
-    requires rooms { HasRooms spares.items named.old.items }
-    ensures moved { named.new.items ≡ all_moved shift.now named.old.items }
+    requires fits { All (λ t. IsShiftOf shift.now t) named.now }
+    requires short { All (λ t. length (moved shift.now t).cells ≤ MAX_FRAMES) named.now }
+    requires few { All (λ t. length (items_of (moved shift.now t).cells) ≤ MAX_ITEMS) named.now }
+    ensures moved { IfOk result (λ all. all.items ≡ all_moved shift.now named.now) }
     ensures least { steps.old ≤ steps.new }
-    ensures most { steps.new ≤ steps.old + 8 * sizes_of named.old.items }
+    ensures most { steps.new ≤ steps.old + 8 * sizes_of named.now }
 {
-    let mut spares = spares;
-    while let Some(spare) = spares.pop() {
-        let index = spares.len();
-        shift_track(&mut named[index], shift, spare, steps);
+    let mut all = Vec::with_capacity(alloc, named.len())?;
+    for track in named {
+        let track = moved(alloc, track, shift, steps)?;
+        all.push(track)?;
     }
+    Ok(all)
 }
 
-fn shift_track<L: Ledger>(track: &mut Track, shift: &Shift, spare: Spare, steps: &mut Steps<L>)
+// A track after the shift.
+fn moved<L: Ledger>(
+    alloc: Global,
+    track: &Track,
+    shift: &Shift,
+    steps: &mut Steps<L>,
+) -> Result<Track, Memory>
     requires order { shift.now.x ≤ shift.now.y }
-    requires fits { IsShiftOf shift.now track.old }
-    requires short { length (moved shift.now track.old).cells ≤ MAX_FRAMES }
-    requires few { length (items_of (moved shift.now track.old).cells) ≤ MAX_ITEMS }
-    requires room { HasRoom spare track.old 2 }
-    ensures moved { track.new ≡ moved shift.now track.old }
+    requires fits { IsShiftOf shift.now track.now }
+    requires short { length (moved shift.now track.now).cells ≤ MAX_FRAMES }
+    requires few { length (items_of (moved shift.now track.now).cells) ≤ MAX_ITEMS }
+    ensures moved { IfOk result (λ t. t ≡ moved shift.now track.now) }
     ensures least { steps.old ≤ steps.new }
-    ensures most { steps.new ≤ steps.old + 8 * size_of track.old }
+    ensures most { steps.new ≤ steps.old + 8 * size_of track.now }
 {
     let length = track.length();
     let views = put_views(track, shift);
-    splice_in(
-        track,
+    let mut shifted = track.copy(alloc)?;
+    splice_by(
+        alloc,
+        &mut shifted,
         shift.x.min(length),
         shift.y.min(length),
         shift.keep,
         views.as_slice(),
-        spare,
         steps,
-    );
+    )?;
+    Ok(shifted)
 }

@@ -1,13 +1,14 @@
 // Splice: items in place of a range of a track.
-ghost use Rattle.std.specs.Prelude.{◌≡◌, ◌+◌, ◌*◌, ◌<◌, ◌≤◌, IfOk, OnOk, OnErr, false, length, true};
-ghost use Rattle.composables.specs.Sizes.{size_of};
+ghost use Rattle.std.specs.Prelude.{◌≡◌, ◌+◌, ◌*◌, ◌<◌, ◌≤◌, OnOk, OnErr, false, length, true};
+ghost use Rattle.composables.specs.Sizes.{look_of};
 ghost use Rattle.composables.specs.Joined.{AllFilled};
 ghost use Rattle.composables.specs.TrackFacts.{IsKept, NumbersBelow};
-ghost use Rattle.edit_splice.specs.Splicing.{HasRoom, spliced_track};
+ghost use Rattle.edit_splice.specs.Parts.{AreSeams};
+ghost use Rattle.edit_splice.specs.Splicing.{spliced_track};
 
-use crate::parts::{end_index, first_index, lay_parts};
-use crate::seams::seams_of;
-use composables::{ItemView, Memory, Spare, Track, a_track_is_kept, number_past_all};
+use crate::parts::{end_index, first_index, parts_between};
+use crate::seams::{Seams, seams_of};
+use composables::{ItemView, Memory, Track, a_track_is_kept, number_past_all};
 use std::alloc::Global;
 use std::sync::ledger::Ledger;
 use step_count::Steps;
@@ -38,7 +39,7 @@ pub fn splice<L: Ledger>(
     ensures err { OnErr result (track.new ≡ track.old) }
 
     ensures least { steps.old + 1 ≤ steps.new }
-    ensures most { steps.new ≤ steps.old + 6 * size_of track.old + length items.now }
+    ensures most { steps.new ≤ steps.old + 6 * look_of track.old + length items.now }
 {
     splice_by(alloc, track, x, y, false, items, steps)
 }
@@ -65,7 +66,7 @@ pub fn splice_keeping<L: Ledger>(
     ensures err { OnErr result (track.new ≡ track.old) }
 
     ensures least { steps.old + 1 ≤ steps.new }
-    ensures most { steps.new ≤ steps.old + 6 * size_of track.old + length items.now }
+    ensures most { steps.new ≤ steps.old + 6 * look_of track.old + length items.now }
 {
     splice_by(alloc, track, x, y, true, items, steps)
 }
@@ -89,56 +90,40 @@ pub(crate) fn splice_by<L: Ledger>(
     ensures ok { OnOk result (track.new ≡ spliced_track keep track.old x y items.now) }
     ensures err { OnErr result (track.new ≡ track.old) }
     ensures least { steps.old + 1 ≤ steps.new }
-    ensures most { steps.new ≤ steps.old + 6 * size_of track.old + length items.now }
+    ensures most { steps.new ≤ steps.old + 6 * look_of track.old + length items.now }
 {
     steps.tick();
-    let spare = spare_for(alloc, track, items.len() as u32)?;
-    splice_in(track, x, y, keep, items, spare, steps);
-    Ok(())
+    let seams = seams_of(track, x, y, steps);
+    splice_at(alloc, track, &seams, x, y, keep, items, steps)
 }
 
-/// Memory for a splice of a track that puts in so many items and gaps. The track is as it was; `splice_in` gives it the
-/// memory back for its next splice.
-pub fn spare_for(alloc: Global, track: &mut Track, items: u32) -> Result<Spare, Memory>
-    ensures room { IfOk result (λ spare. HasRoom spare track.old items) }
-    ensures same { track.new ≡ track.old }
-{
-    match items.checked_add(3) {
-        Some(more) => track.take_spare(alloc, more),
-        None => Err(Memory),
-    }
-}
-
-/// The same as `splice`, or `splice_keeping`, in memory that was taken before. It can't fail, so several tracks are
-/// spliced whole or not at all where the memory for each is taken first.
-pub fn splice_in<L: Ledger>(
+// The same where it is known what stands at the ends of the range.
+pub(crate) fn splice_at<L: Ledger>(
+    alloc: Global,
     track: &mut Track,
+    seams: &Seams,
     x: u32,
     y: u32,
     keep: bool,
     items: &[ItemView],
-    spare: Spare,
     steps: &mut Steps<L>,
-)
+) -> Result<(), Memory>
+    requires seams { AreSeams track.old.cells x y seams.now }
     requires order { x ≤ y }
     requires within { y ≤ length track.old.cells }
     requires next { track.old.next_item < 4294967294 }
     requires filled { AllFilled items.now }
     requires numbers { NumbersBelow 4294967294 items.now }
     requires kept { IsKept (spliced_track keep track.old x y items.now) }
-    requires room { HasRoom spare track.old (length items.now) }
-
-    ensures spliced { track.new ≡ spliced_track keep track.old x y items.now }
-
-    ensures least { steps.old + 1 ≤ steps.new }
-    ensures most { steps.new + 1 ≤ steps.old + 6 * size_of track.old + length items.now }
+    ensures ok { OnOk result (track.new ≡ spliced_track keep track.old x y items.now) }
+    ensures err { OnErr result (track.new ≡ track.old) }
+    ensures least { steps.old ≤ steps.new }
+    ensures most { steps.new ≤ steps.old + look_of track.old + length items.now + 3 }
 {
     a_track_is_kept(track);
-    let seams = seams_of(track, x, y, steps);
     let fresh = number_past_all(track.next_item(), items);
-    let mut spare = spare;
-    lay_parts(&seams, x, y, keep, items, fresh, &mut spare);
+    let parts = parts_between(alloc, seams, x, y, keep, items, fresh)?;
     let from = first_index(seams.left);
-    let to = end_index(&seams, track.count());
-    track.replace_in(from, to, spare, steps);
+    let to = end_index(seams, track.count());
+    track.replace(from, to, parts, steps)
 }

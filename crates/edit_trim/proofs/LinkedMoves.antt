@@ -204,15 +204,12 @@ all_part table l on back t (suc n) g h = by (slice_get (items_of t.cells) n) ref
 
 -- one step of the code
 
-pub read-part : (table : Table) (l : Link) (on back i : ℕ) (t u : TrackState) (v : ItemView) → IsGood table t → EachMoves table l (items_of t.cells) on back → u ≡ partly l on back i t
-    → slice_get (items_of u.cells) i ≡ Some v → slice_get (items_of t.cells) i ≡ Some v
-read-part table l on back i t u v g h is e =
-    let p = all_part table l on back t i g h in
-    sym (ap (λ (w : TrackState). slice_get (items_of w.cells) i) is ∙ (ap (λ (ws : List ItemView). slice_get ws i) p.items ∙ part_read l on back i i (items_of t.cells) (omega arith))) ∙ e
+pub start-part : (table : Table) (l : Link) (on back : ℕ) (t : TrackState) → IsGood table t → t ≡ partly l on back 0 t
+start-part table l on back t g = ap (λ (cs : List Cell). record t { cells = cs }) (sym g.kept.whole)
 
-pub moves-part : (table : Table) (l : Link) (on back i : ℕ) (t u : TrackState) (v : ItemView) → IsGood table t → EachMoves table l (items_of t.cells) on back → u ≡ partly l on back i t
-    → slice_get (items_of u.cells) i ≡ Some v → carries l v.link ≡ true → ShowsMoved table v (mark_of (slice_get (items_of t.cells) (suc i))) on back
-moves-part table l on back i t u v g h is e c = moves_at table l (items_of t.cells) i v on back (read-part table l on back i t u v g h is e) c h
+pub moves-part : (table : Table) (l : Link) (on back i : ℕ) (t : TrackState) (v : ItemView) → EachMoves table l (items_of t.cells) on back
+    → slice_get (items_of t.cells) i ≡ Some v → carries l v.link ≡ true → ShowsMoved table v (mark_of (slice_get (items_of t.cells) (suc i))) on back
+moves-part table l on back i t v h e c = moves_at table l (items_of t.cells) i v on back e c h
 
 -- what of that the code asks for
 bare_source : (d : Side What) (len a b : ℕ) → HasSource d len a b → HasSource d len 0 0
@@ -223,27 +220,27 @@ pub source-part : (table : Table) (v : ItemView) (tail : Option Mark) (on back :
 source-part table v tail on back h = bare_source (moved v.first on back) v.len (left_reach v.mark) (right_reach tail) h.source
 
 pub good-part : (table : Table) (l : Link) (on back i k : ℕ) (t u : TrackState) (v : ItemView) → IsGood table t → EachMoves table l (items_of t.cells) on back → u ≡ partly l on back i t
-    → slice_get (items_of u.cells) i ≡ Some v → carries l v.link ≡ true → side_from v.first k ≡ moved v.first on back → IsGood table (changed_track u i (with_source k))
+    → slice_get (items_of t.cells) i ≡ Some v → carries l v.link ≡ true → side_from v.first k ≡ moved v.first on back → IsGood table (changed_track u i (with_source k))
 good-part table l on back i k t u v g h is e c s =
     let p = all_part table l on back t i g h in
     subst (λ (w : TrackState). IsGood table (changed_track w i (with_source k))) (sym is)
-    (part_good table l on back i k t (partly l on back i t) v p (read-part table l on back i t u v g h is e) c h s)
+    (part_good table l on back i k t (partly l on back i t) v p e c h s)
 
 pub more-part : (table : Table) (l : Link) (on back i k : ℕ) (t u new : TrackState) (v : ItemView) → IsGood table t → EachMoves table l (items_of t.cells) on back → u ≡ partly l on back i t
-    → slice_get (items_of u.cells) i ≡ Some v → carries l v.link ≡ true → side_from v.first k ≡ moved v.first on back → new ≡ changed_track u i (with_source k) → new ≡ partly l on back (i + 1) t
+    → slice_get (items_of t.cells) i ≡ Some v → carries l v.link ≡ true → side_from v.first k ≡ moved v.first on back → new ≡ changed_track u i (with_source k) → new ≡ partly l on back (i + 1) t
 more-part table l on back i k t u new v g h is e c s made =
     let p = all_part table l on back t i g h in
     let more : suc i ≡ i + 1 = omega arith in
     made
     ∙ (ap (λ (w : TrackState). changed_track w i (with_source k)) is
-    ∙ (part_changed table l on back i k t (partly l on back i t) v p (read-part table l on back i t u v g h is e) c s ∙ ap (λ (n : ℕ). partly l on back n t) more))
+    ∙ (part_changed table l on back i k t (partly l on back i t) v p e c s ∙ ap (λ (n : ℕ). partly l on back n t) more))
 
-pub same-part : (table : Table) (l : Link) (on back i : ℕ) (t u : TrackState) (v : ItemView) → IsGood table t → EachMoves table l (items_of t.cells) on back → u ≡ partly l on back i t
-    → slice_get (items_of u.cells) i ≡ Some v → carries l v.link ≡ false → u ≡ partly l on back (i + 1) t
-same-part table l on back i t u v g h is e c =
+pub same-part : (table : Table) (l : Link) (on back i : ℕ) (t u : TrackState) (v : ItemView) → u ≡ partly l on back i t
+    → slice_get (items_of t.cells) i ≡ Some v → carries l v.link ≡ false → u ≡ partly l on back (i + 1) t
+same-part table l on back i t u v is e c =
     let more : suc i ≡ i + 1 = omega arith in
     is
-    ∙ (ap (λ (ws : List ItemView). record t { cells = cells_of ws }) (sym (part_passed l on back i (items_of t.cells) v (read-part table l on back i t u v g h is e) c))
+    ∙ (ap (λ (ws : List ItemView). record t { cells = cells_of ws }) (sym (part_passed l on back i (items_of t.cells) v e c))
     ∙ ap (λ (n : ℕ). partly l on back n t) more)
 
 pub count-part : (table : Table) (l : Link) (on back i : ℕ) (t u : TrackState) → IsGood table t → EachMoves table l (items_of t.cells) on back → u ≡ partly l on back i t → length (items_of u.cells) ≡ length (items_of t.cells)

@@ -1,5 +1,5 @@
 // Slip of all that has a link: one delta that suits each item, and then the source frames of each moved by it.
-ghost use Rattle.std.specs.Prelude.{◌≡◌, ◌+◌, ◌*◌, ◌<◌, ◌≤◌, All, Some, length, map, min, slice_get};
+ghost use Rattle.std.specs.Prelude.{◌≡◌, ◌+◌, ◌*◌, ◌<◌, ◌≤◌, All, OnOk, Some, length, map, min, slice_get};
 ghost use Rattle.frame_meaning.specs.Render.{moved};
 ghost use Rattle.out_of_memory.specs.Answers.{Answers};
 ghost use Rattle.composables.specs.Changes.{side_from};
@@ -12,10 +12,11 @@ ghost use Rattle.edit_trim.specs.LinkedSlips.{AllMove, EachMoves, ReachesBack, R
 ghost use Rattle.edit_trim.specs.Slipping.{mark_of, slip_linked};
 
 use crate::slipping::{mark_of, room_earlier, room_later};
-use composables::{Done, EditFault, ItemReader, ItemView, Table, Track};
+use composables::{Done, EditFault, ItemReader, ItemView, Memory, Table, Track, copies_of};
 use edit_delta::{Way, used_within};
 use frame_meaning::{Link, Side};
 use link_groups::{carries, outside_refusal};
+use std::alloc::Global;
 use std::sync::ledger::Ledger;
 use step_count::Steps;
 
@@ -27,7 +28,9 @@ pub struct SlipRoom {
 }
 
 /// Adds one delta to the source frames of all that has the link on these tracks, which must be all tracks of the link.
+/// For want of memory the tracks are as they were.
 pub fn slip_linked<L: Ledger>(
+    alloc: Global,
     table: &Table,
     named: &mut Vec<Track>,
     link: Link,
@@ -47,7 +50,9 @@ pub fn slip_linked<L: Ledger>(
     }
     let room = room_among(table, named, link, steps);
     let used = used_within(by, room.earlier, room.later);
-    move_all(table, named, link, used.way, steps);
+    let mut slipped = copies_of(alloc, named)?;
+    move_all(alloc, table, &mut slipped, link, used.way, steps)?;
+    *named = slipped;
     Ok(used.done)
 }
 
@@ -122,43 +127,55 @@ fn room_to_slip(table: &Table, track: &Track, index: u32, view: &ItemView) -> Sl
     }
 }
 
-// Moves the source frames of all that has the link on these tracks.
+// Moves the source frames of all that has the link on these tracks, which are copies.
 fn move_all<L: Ledger>(
+    alloc: Global,
     table: &Table,
     named: &mut Vec<Track>,
     link: Link,
     way: Way,
     steps: &mut Steps<L>,
-)
+) -> Result<(), Memory>
     requires good { All (λ t. IsGood table.now t) named.old.items }
     requires moves { AllMove table.now link named.old.items (on_of way) (back_of way) }
-    ensures moved { named.new.items ≡ map (moved_by link way) named.old.items }
+    ensures moved { OnOk result (named.new.items ≡ map (moved_by link way) named.old.items) }
     ensures least { steps.old ≤ steps.new }
     ensures most { steps.new ≤ steps.old + sizes_of named.old.items }
 {
     for index in 0..named.len() {
-        move_on(table, &mut named[index], link, way, steps);
+        move_on(alloc, table, &mut named[index], link, way, steps)?;
     }
+    Ok(())
 }
 
-// The same on one of the tracks.
-fn move_on<L: Ledger>(table: &Table, track: &mut Track, link: Link, way: Way, steps: &mut Steps<L>)
+// The same on one of the tracks. It reads the items of the track as it was while it changes some of them.
+fn move_on<L: Ledger>(
+    alloc: Global,
+    table: &Table,
+    track: &mut Track,
+    link: Link,
+    way: Way,
+    steps: &mut Steps<L>,
+) -> Result<(), Memory>
     requires good { IsGood table.now track.old }
     requires moves { EachMoves table.now link (items_of track.old.cells)
         (on_of way) (back_of way) }
-    ensures moved { track.new ≡ moved_by link way track.old }
+    ensures moved { OnOk result (track.new ≡ moved_by link way track.old) }
     ensures least { steps.old ≤ steps.new }
     ensures most { steps.new ≤ steps.old + size_of track.old }
 {
-    for index in 0..track.count() {
+    let old = track.copy(alloc)?;
+    let mut items = ItemReader::at(&old, 0);
+    for index in 0..old.count() {
         steps.tick();
-        let Some(view) = track.item(index) else {
+        let Some(view) = items.next() else {
             unreachable!()
         };
         if carries(link, view.link) {
-            track.set_source(index, moved_source(&view, way));
+            track.set_source(alloc, index, moved_source(&view, way))?;
         }
     }
+    Ok(())
 }
 
 // The source frame from which on an item shows its thing once it is moved.

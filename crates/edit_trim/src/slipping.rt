@@ -1,5 +1,5 @@
 // Slip: the source frames of an item moved, with those of all that has its link.
-ghost use Rattle.std.specs.Prelude.{◌≡◌, ◌+◌, ◌-◌, ◌*◌, ◌<◌, ◌≤◌, All, Ok, Some, length, nat_eq, slice_get, true};
+ghost use Rattle.std.specs.Prelude.{◌≡◌, ◌+◌, ◌-◌, ◌*◌, ◌<◌, ◌≤◌, All, Some, length, nat_eq, slice_get, true};
 ghost use Rattle.std.specs.List.{list_any};
 ghost use Rattle.frame_meaning.specs.Cells.{later_side};
 ghost use Rattle.out_of_memory.specs.Answers.{Answers};
@@ -25,12 +25,13 @@ use step_count::Steps;
 
 /// Adds the delta used to the source frames of an item of its own track and, where it has a link, of all items of the
 /// link on the named tracks. All stay where they are, by one delta that suits each of them. A dissolve at their ends
-/// stays, and the frames that it shows past them stay in the thing's range too. The allocator is not used.
+/// stays, and the frames that it shows past them stay in the thing's range too. For want of memory the tracks are as they
+/// were.
 ///
 /// It answers the delta used, or the first of these refusals that holds: `NoItem`, where its own track has no such item;
 /// `LinkOutside`, where the item's link has a track that is not named.
 pub fn slip<L: Ledger>(
-    _alloc: Global,
+    alloc: Global,
     table: &Table,
     named: &mut Vec<Track>,
     call: &Slip,
@@ -51,13 +52,14 @@ pub fn slip<L: Ledger>(
 {
     steps.tick();
     match own_index(named, call.track) {
-        Some(index) => slip_at(table, named, index, call, steps),
+        Some(index) => slip_at(alloc, table, named, index, call, steps),
         None => unreachable!(),
     }
 }
 
 // The same, where the own track stands at an index.
 fn slip_at<L: Ledger>(
+    alloc: Global,
     table: &Table,
     named: &mut Vec<Track>,
     index: usize,
@@ -76,13 +78,14 @@ fn slip_at<L: Ledger>(
     ensures most { steps.new ≤ steps.old + 4 * sizes_of named.old.items }
 {
     match link_of(&named[index], call.item, steps) {
-        Some(link) => slip_linked(table, named, link, call.by, steps),
-        None => slip_track(table, &mut named[index], call, steps),
+        Some(link) => slip_linked(alloc, table, named, link, call.by, steps),
+        None => slip_track(alloc, table, &mut named[index], call, steps),
     }
 }
 
 // The same of an item alone.
 fn slip_track<L: Ledger>(
+    alloc: Global,
     table: &Table,
     track: &mut Track,
     call: &Slip,
@@ -103,36 +106,38 @@ fn slip_track<L: Ledger>(
     let Side::Pic { source, .. } = view.first else {
         unreachable!()
     };
-    Ok(slip_item(table, track, found, &view, source, call.by))
+    slip_item(alloc, table, track, found, &view, source, call.by)
 }
 
 // The same of the item at a place, whose source frames begin at this one.
 fn slip_item(
+    alloc: Global,
     table: &Table,
     track: &mut Track,
     found: Place,
     view: &ItemView,
     source: u32,
     by: i32,
-) -> Done
+) -> Result<Done, EditFault>
     requires good { IsGood table.now track.old }
     requires place { IsPlaceOf track.old.cells found }
     requires view { slice_get (items_of track.old.cells) found.index ≡ Some view.now }
     requires source { shows_from view.now.first source }
-    ensures meant { slip_range table.now track.old by found.from found.to ≡ Ok (track.new, result) }
+    ensures answers { Answers (slip_range table.now track.old by found.from found.to)
+        track.old track.new result }
     ensures good { StaysGood table.now track.old track.new }
 {
     let tail = mark_of(track.item(found.index + 1));
     let used = used_within(by, room_earlier(table, view), room_later(table, view, tail));
     match used.way {
-        Way::Still => used.done,
+        Way::Still => Ok(used.done),
         Way::Later(frames) => {
-            track.set_source(found.index, source + frames);
-            used.done
+            track.set_source(alloc, found.index, source + frames)?;
+            Ok(used.done)
         }
         Way::Earlier(frames) => {
-            track.set_source(found.index, source - frames);
-            used.done
+            track.set_source(alloc, found.index, source - frames)?;
+            Ok(used.done)
         }
     }
 }

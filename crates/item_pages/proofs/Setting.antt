@@ -1,10 +1,11 @@
--- A list in which one item is put in place of another that spans as many places.
-use Rattle.std.proofs.Common.{◌≡◌, ℕ, zero, suc, ◌+◌, ◌<◌, ◌≤◌, List, [], ◌∷◌, length, take, drop, get_or, sum_by, slice_get, IfSome, sym, ap, ◌∙◌, arith}
+-- A list in which one item is put in place of another.
+use Rattle.std.proofs.Common.{◌≡◌, ℕ, zero, suc, ◌+◌, ◌-◌, ◌<◌, ◌≤◌, List, [], ◌∷◌, length, take, drop, get_or, sum_by, slice_get, IfSome, sym, ap, ◌∙◌, arith}
 use Rattle.std.proofs.Math.ListN.{set}
 use Rattle.std.proofs.lemmas.List.{length-set, take_all}
 use Rattle.std.proofs.lemmas.List.Concat.{get_or-flat_map}
 use Rattle.std.proofs.lemmas.List.Sums.{sum_by-set}
 use Rattle.item_pages.specs.declared.spots.Spot.{Spot}
+use Rattle.item_pages.specs.Items.{Fits}
 use Rattle.item_pages.specs.Packing.{items_of, IsList}
 use Rattle.item_pages.specs.Spots.{IsSpot}
 use Rattle.item_pages.proofs.Packs.{around_page, packed_set, set_spot}
@@ -27,27 +28,32 @@ within_page : {T : Type 0} (pages : List (List T)) (n : ℕ) (spot : Spot) (page
     → n < length (items_of pages) → spot.within < length page
 within_page pages n spot page at is low = omega (arith, ap length is, at.within page (spot_inside pages n spot at low))
 
-page_span : {T : Type 0} (span : T → ℕ) (pages : List (List T)) (n : ℕ) (spot : Spot) (page : List T) (item : T) → IsSpot pages n spot → page ≡ get_or pages spot.page page
-    → n < length (items_of pages) → IfSome (slice_get (items_of pages) n) (λ old. span old ≡ span item)
-    → span (get_or page spot.within item) ≡ span item
-page_span {T} span pages n spot page item at is low h =
+read_of : {T : Type 0} (pages : List (List T)) (n : ℕ) (spot : Spot) (page : List T) (item : T) → IsSpot pages n spot → page ≡ get_or pages spot.page page
+    → n < length (items_of pages) → get_or (items_of pages) n item ≡ get_or page spot.within item
+read_of {T} pages n spot page item at is low =
     let inside = spot_inside pages n spot at low in
-    let read = ap (λ (k : ℕ). get_or (items_of pages) k item) at.place
+    ap (λ (k : ℕ). get_or (items_of pages) k item) at.place
     ∙ (get_or-flat_map (λ (p : List T). p) pages spot.page spot.within page item inside (at.within page inside)
-    ∙ ap (λ (q : List T). get_or q spot.within item) (sym is)) in
-    sym (ap span read) ∙ same_span span (items_of pages) n item low h
+    ∙ ap (λ (q : List T). get_or q spot.within item) (sym is))
 
-pub set_span : {T : Type 0} (span : T → ℕ) (pages : List (List T)) (n : ℕ) (spot : Spot) (page : List T) (item : T) → IsSpot pages n spot → page ≡ get_or pages spot.page page
-    → n < length (items_of pages) → IfSome (slice_get (items_of pages) n) (λ old. span old ≡ span item)
-    → sum_by span (set page spot.within item) ≤ sum_by span (items_of pages)
-set_span span pages n spot page item at is low h =
+-- the places of a page with the item, and of the list: as many as before, less those of the item that gives way
+pub set_spans : {T : Type 0} (span : T → ℕ) (pages : List (List T)) (n : ℕ) (spot : Spot) (page : List T) (item : T) → IsSpot pages n spot → page ≡ get_or pages spot.page page
+    → n < length (items_of pages)
+    → (sum_by span (set page spot.within item) + sum_by span (items_of pages) ≡ sum_by span page + sum_by span (set (items_of pages) n item))
+    × (sum_by span page ≤ sum_by span (items_of pages)) × (sum_by span (set page spot.within item) ≤ sum_by span (set (items_of pages) n item))
+set_spans span pages n spot page item at is low =
     let inside = spot_inside pages n spot at low in
-    omega (
-      arith,
-      sum_by-set span page spot.within item item (within_page pages n spot page at is low),
-      page_span span pages n spot page item at is low h,
-      sum_split span (items_of pages) (items_of (take spot.page pages)) page (items_of (drop (spot.page + 1) pages)) (around_page pages spot.page page inside is),
-    )
+    let read = ap span (read_of pages n spot page item at is low) in
+    let here = sum_by-set span page spot.within item item (within_page pages n spot page at is low) in
+    let all = sum_by-set span (items_of pages) n item item low in
+    let parts = sum_split span (items_of pages) (items_of (take spot.page pages)) page (items_of (drop (spot.page + 1) pages)) (around_page pages spot.page page inside is) in
+    (omega (arith, read, here, all), omega (arith, parts), omega (arith, read, here, all, parts))
+
+-- what spans as many places fits where the other did
+pub set_fits : {T : Type 0} (span : T → ℕ) (xs : List T) (n : ℕ) (item : T) → n < length xs → IfSome (slice_get xs n) (λ old. span old ≡ span item)
+    → Fits span xs → Fits span (set xs n item)
+set_fits span xs n item low h fits =
+    (omega (arith, length-set xs n item, fits.0), omega (arith, sum_by-set span xs n item item low, same_span span xs n item low h, fits.1))
 
 pub set_items : {T : Type 0} (pages : List (List T)) (n : ℕ) (spot : Spot) (page new : List T) (item : T) → IsSpot pages n spot → page ≡ get_or pages spot.page page
     → new ≡ set page spot.within item → n < length (items_of pages)
@@ -62,19 +68,18 @@ set_items {T} pages n spot page new item at is made low =
 
 pub set_list : {T : Type 0} (span : T → ℕ) (pages : List (List T)) (n : ℕ) (spot : Spot) (page new : List T) (item : T) (count total : ℕ)
     → IsSpot pages n spot → page ≡ get_or pages spot.page page → new ≡ set page spot.within item → n < length (items_of pages)
-    → IfSome (slice_get (items_of pages) n) (λ old. span old ≡ span item)
-    → IsList span pages count total → IsList span (set pages spot.page new) count total
-set_list span pages n spot page new item count total at is made low h list =
+    → Fits span (set (items_of pages) n item)
+    → IsList span pages count total → IsList span (set pages spot.page new) count (total - sum_by span page + sum_by span new)
+set_list span pages n spot page new item count total at is made low fits list =
     let all = items_of pages in
     let changed = set_items pages n spot page new item at is made low in
     let longer : length (get_or pages spot.page page) ≤ length new =
     omega (arith, ap length made, length-set page spot.within item, ap length is) in
     let count_same : length (items_of (set pages spot.page new)) ≡ length all = omega (arith, ap length changed, length-set all n item) in
-    let total_same : sum_by span (items_of (set pages spot.page new)) ≡ sum_by span all =
-    omega (arith, ap (sum_by span) changed, sum_by-set span all n item item low, same_span span all n item low h) in
+    let spans = set_spans span pages n spot page item at is low in
     record {
       packed = packed_set pages spot.page page new longer list.packed;
-      fits = (omega (arith, count_same, list.fits.0), omega (arith, total_same, list.fits.1));
+      fits = (omega (arith, ap length changed, fits.0), omega (arith, ap (sum_by span) changed, fits.1));
       count_is = omega (arith, count_same, list.count_is);
-      total_is = omega (arith, total_same, list.total_is);
+      total_is = omega (arith, ap (sum_by span) changed, ap (sum_by span) made, spans.0, spans.1, list.total_is);
     }

@@ -19,6 +19,7 @@ pub fn find_in_pages<T: Spanned + Copy, L: Ledger>(
     ensures none { IsNone result ↔ (sum_by T.places (items_of pages.now) ≤ at) }
     ensures least { steps.old ≤ steps.new }
     ensures most { steps.new ≤ steps.old + length pages.now + 63 }
+    ensures few { steps.new ≤ steps.old + length (items_of pages.now) + 63 }
 {
     let mut index = 0;
     let mut from = 0;

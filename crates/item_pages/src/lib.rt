@@ -8,9 +8,11 @@ mod finding;
 mod list;
 mod packing;
 mod page;
+mod reading;
 mod spans;
 mod spots;
 
 pub use list::Pages;
 pub use out_of_memory::Memory;
+pub use reading::Reader;
 pub use spans::{Found, Spanned};

@@ -1,11 +1,11 @@
 // A list in pages, which contracts see as its items.
-ghost use Rattle.std.specs.Prelude.{◌≡◌, ◌+◌, ◌<◌, ◌≤◌, ◌^◌, ◌/◌, ◌++◌, ◌∷◌, ◌↔◌, [], length, sum_by, slice_get, slice_set, take, drop, IfOk, IfSome, IsNone, OnOk, OnErr};
+ghost use Rattle.std.specs.Prelude.{◌≡◌, ◌+◌, ◌-◌, ◌<◌, ◌≤◌, ◌^◌, ◌/◌, ◌++◌, ◌∷◌, ◌↔◌, [], length, sum_by, slice_get, slice_set, take, drop, IfOk, IfSome, IsNone, OnOk, OnErr};
 
 use crate::finding::find_in_pages;
 use crate::packing::push_page;
 use crate::page::{MOST_ITEMS, Page};
 use crate::spots::{before, behind, spot_of};
-use crate::{Found, Spanned};
+use crate::{Found, Reader, Spanned};
 use out_of_memory::Memory;
 use std::alloc::Global;
 use std::marker::Model;
@@ -68,16 +68,16 @@ impl<T: Spanned + Copy> Pages<T> {
     pub fn get(&self, index: u32) -> Option<&T>
         ensures { option_copied result ≡ slice_get self.now index }
     {
-        self.items_from(index).first()
+        let (piece, _) = behind(&self.pages, index);
+        piece.first()
     }
 
-    /// Items from this index on, as many as stand in one piece: not none, where there is an item with this index.
-    pub fn items_from(&self, index: u32) -> &[T]
-        ensures front { result.now ≡ take (length result.now) (drop index self.now) }
-        ensures filled { index < length self.now → 0 < length result.now }
+    /// The items from this index on, to be read in order.
+    pub fn items_from(&self, index: u32) -> Reader<'_, T>
+        ensures { result ≡ drop index self.now }
     {
-        let (items, _) = behind(&self.pages, index);
-        items
+        let (piece, behind) = behind(&self.pages, index);
+        Reader::of(piece, behind)
     }
 
     /// The item that holds the place `at`, or `None` where the list has no such place.
@@ -86,6 +86,7 @@ impl<T: Spanned + Copy> Pages<T> {
         ensures none { IsNone result ↔ (sum_by T.places self.now ≤ at) }
         ensures least { steps.old + 1 ≤ steps.new }
         ensures most { steps.new ≤ steps.old + length self.now / 32 + 65 }
+        ensures few { steps.new ≤ steps.old + length self.now + 64 }
     {
         steps.tick();
         find_in_pages(&self.pages, at, steps)
@@ -98,8 +99,32 @@ impl<T: Spanned + Copy> Pages<T> {
         ensures ok { OnOk result (self.new ≡ slice_set self.old index item) }
         ensures err { OnErr result (self.new ≡ self.old) }
     {
+        let _ = self.total(); // its clause says that they fit
+        self.put(alloc, index, item)
+    }
+
+    /// Puts an item in place of the last one, which may span more or fewer places.
+    pub fn set_last(&mut self, item: T) -> Result<(), Memory>
+        requires filled { 0 < length self.old }
+        requires fits { Fits T.places (slice_set self.old (length self.old - 1) item) }
+        ensures ok { OnOk result (self.new ≡ slice_set self.old (length self.old - 1) item) }
+        ensures err { OnErr result (self.new ≡ self.old) }
+    {
+        self.put(self.alloc, self.count - 1, item)
+    }
+
+    // Puts an item in place of the one with this index.
+    fn put(&mut self, alloc: Global, index: u32, item: T) -> Result<(), Memory>
+        requires within { index < length self.old }
+        requires fits { Fits T.places (slice_set self.old index item) }
+        ensures ok { OnOk result (self.new ≡ slice_set self.old index item) }
+        ensures err { OnErr result (self.new ≡ self.old) }
+    {
         let spot = spot_of(&self.pages, index);
-        let page = self.pages[spot.page].with(alloc, spot.within, item)?;
+        let held = &self.pages[spot.page];
+        let span = held.span();
+        let page = held.with(alloc, spot.within, item)?;
+        self.total = self.total - span + page.span();
         self.pages[spot.page] = page;
         Ok(())
     }

@@ -1,5 +1,5 @@
 // A page: up to 64 items behind a pointer with several owners. No page changes once it is made.
-ghost use Rattle.std.specs.Prelude.{◌≡◌, ◌+◌, ◌<◌, ◌≤◌, ◌^◌, ◌++◌, length, sum_by, slice_set, IfOk};
+ghost use Rattle.std.specs.Prelude.{◌≡◌, ◌+◌, ◌<◌, ◌≤◌, ◌^◌, ◌++◌, ◌∷◌, length, sum_by, slice_set, IfOk};
 
 use crate::Spanned;
 use out_of_memory::Memory;
@@ -98,6 +98,17 @@ impl<T: Spanned + Copy> Page<T> {
         ensures within { length result.now ≤ 64 }
     {
         self.items.as_slice()
+    }
+
+    /// Its first item, and those behind it.
+    pub fn split_first(&self) -> (&T, &[T])
+        ensures { self.now ≡ result.0.now ∷ result.1.now }
+    {
+        let _count = self.count();
+        match self.items().split_first() {
+            Some(parts) => parts,
+            None => unreachable!(),
+        }
     }
 
     /// How many items it has.

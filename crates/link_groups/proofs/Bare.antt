@@ -14,7 +14,7 @@ use Rattle.composables.specs.Links.{least_link, least_outside, outside}
 use Rattle.composables.specs.TrackFacts.{IsKept}
 use Rattle.composables.specs.TrackState.{TrackState}
 use Rattle.link_groups.specs.declared.splits.Splits.{Splits}
-use Rattle.link_groups.specs.ItemLinks.{carried_on, is_elsewhere}
+use Rattle.link_groups.specs.ItemLinks.{is_elsewhere}
 use Rattle.link_groups.specs.Splits.{given_link, has_key, is_key_of, relinked_cells, relinked_view, relinked_views}
 
 abbrev pub AreBare : List Cell → Type 0

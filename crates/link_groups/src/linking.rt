@@ -1,5 +1,5 @@
 // Items of several tracks linked.
-ghost use Rattle.std.specs.Prelude.{◌≡◌, ◌+◌, ◌*◌, ◌<◌, ◌≤◌, All, Some, is_some, length, true};
+ghost use Rattle.std.specs.Prelude.{◌≡◌, ◌+◌, ◌*◌, ◌<◌, ◌≤◌, All, OnOk, Some, is_some, length, true};
 ghost use Rattle.frame_meaning.specs.declared.cells.Link.{Link};
 ghost use Rattle.out_of_memory.specs.Answers.{Answers};
 ghost use Rattle.composables.specs.Good.{IsGood, IsLinkOf};
@@ -12,20 +12,20 @@ ghost use Rattle.link_groups.specs.Linking.{all_linked, already_linked, are_ther
 
 use crate::finding::item_on;
 use crate::offsets::offset;
-use composables::{Done, EditFault, Link3, Refusal, Table, Track};
+use composables::{Done, EditFault, Link3, Memory, Refusal, Table, Track, copies_of};
 use frame_meaning::Link;
 use std::alloc::Global;
 use std::sync::ledger::Ledger;
 use step_count::Steps;
 
 /// Links items, one on each named track, in the order of the tracks, which must have one offset and no link yet. Their
-/// new link has the lowest named track as its home, the next link number of that track, and the named tracks. The
-/// allocator is not used.
+/// new link has the lowest named track as its home, the next link number of that track, and the named tracks. For
+/// want of memory the tracks are as they were.
 ///
 /// It answers the link, or the first of these refusals that holds: `NoTrack(0)`, where no track is named; `NoItem`,
 /// also where there is not one item for each named track; `OffsetsDiffer`; `AlreadyLinked`.
 pub fn link<L: Ledger>(
-    _alloc: Global,
+    alloc: Global,
     table: &Table,
     named: &mut Vec<Track>,
     call: &Link3,
@@ -58,8 +58,10 @@ pub fn link<L: Ledger>(
         number,
         tracks: call.tracks,
     };
-    link_all(table, named, items, made, steps);
-    named[0].set_next_link(number + 1);
+    let mut linked = copies_of(alloc, named)?;
+    link_all(alloc, table, &mut linked, items, made, steps)?;
+    linked[0].set_next_link(number + 1);
+    *named = linked;
     Ok(Done::Linked { home, number })
 }
 
@@ -164,43 +166,47 @@ fn has_link<L: Ledger>(track: &Track, item: u32, steps: &mut Steps<L>) -> bool
     }
 }
 
-// Gives each of these items a link.
+// Gives each of these items a link, on copies of their tracks.
 fn link_all<L: Ledger>(
+    alloc: Global,
     table: &Table,
     named: &mut Vec<Track>,
     items: &[u32],
     made: Link,
     steps: &mut Steps<L>,
-)
+) -> Result<(), Memory>
     requires good { All (λ t. IsGood table.now t) named.old.items }
     requires there { are_there named.old.items items.now ≡ true }
     requires of { All (λ t. IsLinkOf t.number (Some made)) named.old.items }
-    ensures linked { named.new.items ≡ all_linked made named.old.items items.now }
+    ensures linked { OnOk result
+        (named.new.items ≡ all_linked made named.old.items items.now) }
     ensures least { steps.old ≤ steps.new }
     ensures most { steps.new ≤ steps.old + sizes_of named.old.items }
 {
     for index in 0..items.len() {
-        link_item(table, &mut named[index], items[index], made, steps);
+        link_item(alloc, table, &mut named[index], items[index], made, steps)?;
     }
+    Ok(())
 }
 
 // Gives an item of a track this link.
 fn link_item<L: Ledger>(
+    alloc: Global,
     table: &Table,
     track: &mut Track,
     item: u32,
     made: Link,
     steps: &mut Steps<L>,
-)
+) -> Result<(), Memory>
     requires good { IsGood table.now track.old }
     requires there { is_some (item_of track.old item) ≡ true }
     requires of { IsLinkOf track.old.number (Some made) }
-    ensures linked { track.new ≡ linked_item track.old item (Some made) }
+    ensures linked { OnOk result (track.new ≡ linked_item track.old item (Some made)) }
     ensures least { steps.old ≤ steps.new }
     ensures most { steps.new ≤ steps.old + size_of track.old }
 {
     let Some(found) = item_on(track, item, steps) else {
         unreachable!()
     };
-    track.set_link(found.index, Some(made));
+    track.set_link(alloc, found.index, Some(made))
 }

@@ -12,7 +12,7 @@ ghost use Rattle.link_groups.specs.Renumbering.{MayBeSplit, IsUncut};
 ghost use Rattle.link_groups.specs.Splits.{given_link, relinked_cells, relinked_track};
 
 use crate::splits::{Splits, splits_at};
-use composables::{ItemView, Memory, Track, a_track_is_kept};
+use composables::{ItemReader, ItemView, Memory, Track, a_track_is_kept, copies_of};
 use frame_meaning::Link;
 use std::alloc::Global;
 use std::sync::ledger::Ledger;
@@ -38,71 +38,101 @@ pub fn renumber<L: Ledger>(
     ensures most { steps.new ≤ steps.old + 4 * sizes_of named.old.items }
 {
     let splits = splits_at(alloc, named, x, y, steps)?;
-    relink_all(named, u64::from(y), &splits, steps);
+    let mut renumbered = copies_of(alloc, named)?;
+    relink_all(alloc, &mut renumbered, u64::from(y), &splits, steps)?;
+    *named = renumbered;
     Ok(())
 }
 
-// Gives the items that end past a place their new links, on each track.
+// Gives the items that end past a place their new links, on each of these tracks, which are copies.
 pub(crate) fn relink_all<L: Ledger>(
+    alloc: Global,
     named: &mut Vec<Track>,
     place: u64,
     splits: &Splits,
     steps: &mut Steps<L>,
-)
+) -> Result<(), Memory>
     requires next { All (λ t. t.next_link + unwrap_or (get nat_cmp splits.now.counts t.number) 0
         < 2 ^ 32) named.old.items }
-    ensures relinked { named.new.items ≡ map (relinked_track splits.now place) named.old.items }
+    ensures relinked { OnOk result
+        (named.new.items ≡ map (relinked_track splits.now place) named.old.items) }
     ensures least { steps.old ≤ steps.new }
     ensures most { steps.new ≤ steps.old + sizes_of named.old.items }
 {
     for index in 0..named.len() {
-        relink_track(&mut named[index], place, splits, steps);
+        relink_track(alloc, &mut named[index], place, splits, steps)?;
     }
+    Ok(())
 }
 
-fn relink_track<L: Ledger>(track: &mut Track, place: u64, splits: &Splits, steps: &mut Steps<L>)
+fn relink_track<L: Ledger>(
+    alloc: Global,
+    track: &mut Track,
+    place: u64,
+    splits: &Splits,
+    steps: &mut Steps<L>,
+) -> Result<(), Memory>
     requires next { track.old.next_link
         + unwrap_or (get nat_cmp splits.now.counts track.old.number) 0 < 2 ^ 32 }
-    ensures relinked { track.new ≡ relinked_track splits.now place track.old }
+    ensures relinked { OnOk result (track.new ≡ relinked_track splits.now place track.old) }
     ensures least { steps.old ≤ steps.new }
     ensures most { steps.new ≤ steps.old + size_of track.old }
 {
-    relink_items(track, place, splits, steps);
+    let old = track.copy(alloc)?;
+    relink_items(alloc, track, &old, place, splits, steps)?;
     let count = splits.counts.get(&track.number()).copied().unwrap_or(0);
     track.set_next_link(track.next_link() + count);
+    Ok(())
 }
 
-fn relink_items<L: Ledger>(track: &mut Track, place: u64, splits: &Splits, steps: &mut Steps<L>)
-    ensures relinked { track.new ≡ relinked_cells splits.now place track.old }
+// Reads the items of the track as it was while it gives some of them new links.
+fn relink_items<L: Ledger>(
+    alloc: Global,
+    track: &mut Track,
+    old: &Track,
+    place: u64,
+    splits: &Splits,
+    steps: &mut Steps<L>,
+) -> Result<(), Memory>
+    requires { old.now ≡ track.old }
+    ensures relinked { OnOk result (track.new ≡ relinked_cells splits.now place old.now) }
     ensures least { steps.old ≤ steps.new }
-    ensures most { steps.new ≤ steps.old + size_of track.old }
+    ensures most { steps.new ≤ steps.old + size_of old.now }
 {
-    a_track_is_kept(track);
-    if !track.has_links() {
-        return;
+    a_track_is_kept(old);
+    if !old.has_links() {
+        return Ok(());
     }
+    let mut items = ItemReader::at(old, 0);
     let mut end: u64 = 0;
-    for index in 0..track.count() {
+    for index in 0..old.count() {
         steps.tick();
-        let Some(view) = track.item(index) else {
+        let Some(view) = items.next() else {
             unreachable!()
         };
         end += u64::from(view.len);
         if end > place {
-            relink_item(track, index, &view, splits);
+            relink_item(alloc, track, index, &view, splits)?;
         }
     }
+    Ok(())
 }
 
-fn relink_item(track: &mut Track, index: u32, view: &ItemView, splits: &Splits)
+fn relink_item(
+    alloc: Global,
+    track: &mut Track,
+    index: u32,
+    view: &ItemView,
+    splits: &Splits,
+) -> Result<(), Memory>
     requires read { slice_get (items_of track.old.cells) index ≡ Some view.now }
     requires kept { IsKept track.old }
-    ensures { track.new
-        ≡ changed_track track.old index (with_link (given_link splits.now view.now.link)) }
+    ensures { OnOk result (track.new
+        ≡ changed_track track.old index (with_link (given_link splits.now view.now.link))) }
 {
     match split_link(view.link, splits) {
-        Some(link) => track.set_link(index, Some(link)),
-        None => {}
+        Some(link) => track.set_link(alloc, index, Some(link)),
+        None => Ok(()),
     }
 }
 

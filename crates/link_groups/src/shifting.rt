@@ -10,7 +10,7 @@ use crate::outside::check;
 use crate::renumbering::relink_all;
 use crate::splits::splits_at;
 use composables::{Done, EditFault, Track};
-use edit_splice::{Shift, new_len, over_limits, shift_tracks, shift_within};
+use edit_splice::{Shift, new_len, over_limits, shift_tracks, shifted};
 use std::alloc::Global;
 use std::sync::ledger::Ledger;
 use step_count::Steps;
@@ -21,7 +21,7 @@ use step_count::Steps;
 ///
 /// The first link of what is moved that has a track which is not among these is told, and else the first track that
 /// would be too long, and else the first that would have too many items and gaps. Only then it takes memory, all that it
-/// needs before any of them is changed.
+/// needs before one of them is changed.
 pub fn shift_linked<L: Ledger>(
     alloc: Global,
     named: &mut Vec<Track>,
@@ -50,7 +50,8 @@ pub fn shift_linked<L: Ledger>(
         None => {}
     }
     let splits = splits_at(alloc, named, shift.x, shift.y, steps)?;
-    shift_within(alloc, named, shift, steps)?;
-    relink_all(named, place, &splits, steps);
+    let mut moved = shifted(alloc, named, shift, steps)?;
+    relink_all(alloc, &mut moved, place, &splits, steps)?;
+    *named = moved;
     Ok(done)
 }

@@ -13,9 +13,9 @@ use std::sync::ledger::Ledger;
 use step_count::Steps;
 
 /// Takes the link from an item of the one track that is named; an item without one stays as it is. The other items of
-/// the link keep it. The allocator is not used. It answers `NoItem` where the track has no such item.
+/// the link keep it. It answers `NoItem` where the track has no such item. For want of memory the track is as it was.
 pub fn unlink<L: Ledger>(
-    _alloc: Global,
+    alloc: Global,
     table: &Table,
     named: &mut Vec<Track>,
     call: &Unlink,
@@ -33,10 +33,11 @@ pub fn unlink<L: Ledger>(
     ensures least { steps.old + 1 ≤ steps.new }
     ensures most { steps.new ≤ steps.old + sizes_of named.old.items }
 {
-    unlink_track(table, &mut named[0], call, steps)
+    unlink_track(alloc, table, &mut named[0], call, steps)
 }
 
 fn unlink_track<L: Ledger>(
+    alloc: Global,
     table: &Table,
     track: &mut Track,
     call: &Unlink,
@@ -52,6 +53,6 @@ fn unlink_track<L: Ledger>(
     let Some(found) = item_on(track, call.item, steps) else {
         return Err(EditFault::Refused(Refusal::NoItem));
     };
-    track.set_link(found.index, None);
+    track.set_link(alloc, found.index, None)?;
     Ok(Done::Plain)
 }

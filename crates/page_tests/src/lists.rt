@@ -62,7 +62,8 @@ fn is_list<L: Ledger>(
 ) -> Result<bool, Memory> {
     Ok(
         has_each(pages, shots, steps)
-            && in_pieces(alloc, pages)?.as_slice() == shots
+            && read(alloc, pages, 0)?.as_slice() == shots
+            && read(alloc, pages, 70)?.as_slice() == shots.get(70..).unwrap_or_default()
             && pages.to_vec(alloc)?.as_slice() == shots,
     )
 }
@@ -92,14 +93,15 @@ fn holds<L: Ledger>(pages: &Pages<Shot>, found: Found, last: u32, steps: &mut St
     pages.find(found.from, steps) == Some(found) && pages.find(last, steps) == Some(found)
 }
 
-// The list as it is read piece by piece.
-fn in_pieces(alloc: Global, pages: &Pages<Shot>) -> Result<Vec<Shot>, Memory> {
+// The list as it is read from an index on.
+fn read(alloc: Global, pages: &Pages<Shot>, from: u32) -> Result<Vec<Shot>, Memory> {
     let mut all = Vec::new(alloc);
-    let mut index: u32 = 0;
-    for _ in 0..pages.count() {
-        let piece = pages.items_from(index);
-        all.extend_from_slice(piece)?;
-        index = index.saturating_add(u32::try_from(piece.len()).unwrap_or(u32::MAX));
+    let mut left = pages.items_from(from);
+    for _ in 0..=pages.count() {
+        match left.next() {
+            Some(shot) => all.push(shot)?,
+            None => {}
+        }
     }
     Ok(all)
 }
@@ -259,6 +261,43 @@ fn a_shot_is_changed_in_one_list_alone(rt: HostRuntime) -> Result<(), Fail> {
         assert_eq!(rt; (now, then), (Some(number), Some(index)), "{index}");
     }
     assert_eq!(rt; pages.get(130), None);
+    Ok(())
+}
+
+// Gives the last shot another number and length.
+fn put_last(rt: &impl Abort, pages: &mut Pages<Shot>, shot: Shot) -> Result<(), Memory> {
+    let (count, total) = (pages.count(), pages.total());
+    assert!(rt; 0 < count);
+    assert!(rt; count < 1_000_000);
+    assert!(rt; total < 1_000_000);
+    pages.set_last(shot)
+}
+
+#[test]
+fn the_last_shot_gives_way_to_a_longer_one(rt: HostRuntime) -> Result<(), Fail> {
+    let alloc = rt.alloc();
+    for count in [1u32, 64, 65, 130] {
+        let old = shots(alloc, 4, count)?;
+        let mut pages = Pages::new(alloc);
+        push_all(&rt, &mut pages, &old)?;
+        let (before, total) = (pages.copy(alloc)?, pages.total());
+        let last = before.get(count - 1).copied();
+        let shot = Shot {
+            number: 9000,
+            len: 200,
+        };
+        put_last(&rt, &mut pages, shot)?;
+        assert_eq!(rt;
+            (pages.count(), pages.get(count - 1).copied()),
+            (count, Some(shot))
+        );
+        assert_eq!(rt; before.get(count - 1).copied(), last, "{count} shots");
+        let span = last.map(|shot| shot.span()).unwrap_or(0);
+        assert_eq!(rt;
+            pages.total(),
+            total.saturating_sub(span).saturating_add(200)
+        );
+    }
     Ok(())
 }
 

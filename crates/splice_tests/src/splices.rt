@@ -6,7 +6,7 @@ ghost use Rattle.composables.specs.Views.{clip_view, gap_view};
 ghost use Rattle.edit_splice.specs.NewItems.{AreNew};
 
 use composables::{ItemView, Memory, Track, a_track_is_kept};
-use edit_splice::{count_after, spare_for, splice, splice_in, splice_keeping};
+use edit_splice::{count_after, splice, splice_keeping};
 use frame_meaning::{Cell, Link, Mark, Side, What};
 use std::alloc::Global;
 use std::marker::Brand;
@@ -253,38 +253,28 @@ fn put<L: Ledger>(
     }
 }
 
-// The same in memory that was taken before, with how many items and gaps it was to leave.
-fn put_in<L: Ledger>(
-    alloc: Global,
-    track: &mut Track,
-    x: u32,
-    y: u32,
-    keep: bool,
-    views: &[ItemView],
-    steps: &mut Steps<L>,
-) -> Result<u32, Memory>
+// How many items and gaps there are to be with these in place of the frames [x, y) of a track.
+fn count<L: Ledger>(track: &Track, x: u32, y: u32, views: &[ItemView], steps: &mut Steps<L>) -> u32
     requires order { x ≤ y }
-    requires within { y ≤ length track.old.cells }
-    requires short { length track.old.cells ≤ 100 }
-    requires next { track.old.next_item ≤ 4 }
+    requires within { y ≤ length track.now.cells }
+    requires short { length track.now.cells ≤ 100 }
+    requires next { track.now.next_item ≤ 4 }
     requires new { AreNew 4 views.now }
     requires numbers { NumbersBelow 100 views.now }
     requires frames { frames_in views.now < 100 }
 {
     a_track_is_kept(track);
-    let count = count_after(track, x, y, views, steps);
-    let spare = spare_for(alloc, track, views.len() as u32)?;
-    splice_in(track, x, y, keep, views, spare, steps);
-    Ok(count)
+    count_after(track, x, y, views, steps)
 }
 
-// The items and gaps of a track, also where the memory was taken before, and how many there were to be; its next item
-// number, its cells, and those that the plain program says.
+// The items and gaps of a track, and how many there were to be; those that it had before, and those of a copy that was
+// made then; its next item number, its cells, and those that the plain program says.
 #[derive(Drop)]
 struct Played {
     items: Vec<ItemView>,
-    in_spare: Vec<ItemView>,
     count: u32,
+    old: Vec<ItemView>,
+    copied: Vec<ItemView>,
     next: u32,
     cells: Vec<Cell>,
     want: Vec<Cell>,
@@ -325,13 +315,14 @@ fn play<L: Ledger>(
     assert!(rt; next <= 4);
     assert!(rt; x <= y);
     assert!(rt; y <= length);
-    let mut other = track.copy(alloc)?;
+    let (old, copy) = (track.items(alloc)?, track.copy(alloc)?);
+    let count = count(&track, x, y, views, &mut steps);
     put(alloc, &mut track, x, y, keep, views, &mut steps)?;
-    let count = put_in(alloc, &mut other, x, y, keep, views, &mut steps)?;
     Ok(Played {
         items: track.items(alloc)?,
-        in_spare: other.items(alloc)?,
         count,
+        old,
+        copied: copy.items(alloc)?,
         next: track.next_item(),
         cells: track.cells(alloc)?,
         want,
@@ -362,9 +353,9 @@ fn agrees(
         "splice {x} {y} {keep}"
     );
     assert_eq!(rt;
-        played.in_spare.as_slice(),
-        played.items.as_slice(),
-        "splice {x} {y} {keep} in spare memory"
+        played.copied.as_slice(),
+        played.old.as_slice(),
+        "the copy before splice {x} {y} {keep}"
     );
     assert_eq!(rt;
         played.count as usize,

@@ -58,10 +58,8 @@ fn with_more<L: Ledger>(
 {
     let mut steps = Steps::<L>::new(blank);
     let mut before = item_gap_item(alloc)?;
-    let mut spare = before.take_spare(alloc, 2)?;
-    spare.push(ItemView::clip(5, REEL, 20, 1));
-    spare.push(ItemView::gap(4));
-    before.replace_in(1, 1, spare, &mut steps);
+    let more = Vec::from_slice(alloc, &[ItemView::clip(5, REEL, 20, 1), ItemView::gap(4)])?;
+    before.replace(1, 1, more, &mut steps)?;
     let mut behind = item_gap_item(alloc)?;
     let more = Vec::from_slice(alloc, &[ItemView::gap(4), ItemView::clip(5, REEL, 20, 1)])?;
     behind.replace(2, 2, more, &mut steps)?;
@@ -121,7 +119,7 @@ fn an_item_is_changed_in_place(rt: HostRuntime) -> Result<(), Fail> {
     let alloc = rt.alloc();
     let mut track = two_items(alloc)?;
     let mark = Some(Mark { a: 1, b: 2 });
-    track.set_mark(1, mark);
+    track.set_mark(alloc, 1, mark)?;
     assert_eq!(rt;
         track.item(1),
         Some(ItemView {
@@ -130,7 +128,7 @@ fn an_item_is_changed_in_place(rt: HostRuntime) -> Result<(), Fail> {
         })
     );
     let mut track = two_items(alloc)?;
-    track.set_source(0, 60);
+    track.set_source(alloc, 0, 60)?;
     assert_eq!(rt; track.item(0), Some(ItemView::clip(0, REEL, 60, 3)));
     let mut track = two_items(alloc)?;
     let link = Some(Link {
@@ -138,7 +136,7 @@ fn an_item_is_changed_in_place(rt: HostRuntime) -> Result<(), Fail> {
         number: 0,
         tracks: 8,
     });
-    track.set_link(0, link);
+    track.set_link(alloc, 0, link)?;
     assert_eq!(rt;
         track.item(0),
         Some(ItemView {

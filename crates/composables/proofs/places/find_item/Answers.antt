@@ -1,38 +1,106 @@
-use Rattle.std.proofs.Common.{◌+◌, arith, sym, ◌∙◌}
-use Rattle.composables.proofs.Frames.{frames_in-take_more, frames_in-take_le, no_view}
-use Rattle.composables.proofs.Finding.{range_found, range_next, range_end, number_at}
+use Rattle.std.proofs.Common.{◌≡◌, ◌+◌, ◌++◌, drop, length, sym, ap, ◌∙◌, arith}
+use Rattle.composables.specs.Ranges.{range_from}
+use Rattle.composables.proofs.Frames.{frames_in-sum, frames_in-take_le}
+use Rattle.composables.proofs.Finding.{behind_piece, frames_whole, number_in, piece_fits, range_here, range_past, stands_in}
 use Rattle.composables.proofs.places.find_item.Goals as goal
 
-pub overflow_add-to : goal.overflow_add-to
-overflow_add-to g c =
+pub find_in-requires-clause-frames : goal.find_in-requires-clause-frames
+find_in-requires-clause-frames g c =
     let xs = c.args.items.now in
-    omega (arith, c.loop-index.invariant.from, c.requires.frames, frames_in-take_more xs c.loop-index.index no_view c.loop-index-test.true, frames_in-take_le (c.loop-index.index + 1) xs)
+    let ps = c.next_piece-piece.result.now in
+    let rest = c.next_piece-piece.new.self in
+    let n = c.loop-left.index in
+    let e : drop n xs ≡ ps ++ rest = sym c.loop-left.invariant.left ∙ c.next_piece-piece.ensures.parts in
+    let h = c.loop-left.invariant.within in
+    omega (arith, c.loop-left.invariant.from, frames_whole n xs ps rest h e, frames_in-take_le (n + length ps) xs, frames_in-sum xs, c.total.ensures.fits.1)
 
-pub overflow_cast-result : goal.overflow_cast-result
-overflow_cast-result g c = omega (arith, c.requires.count, c.loop-index-test.true)
+pub find_in-requires-clause-count : goal.find_in-requires-clause-count
+find_in-requires-clause-count g c =
+    let xs = c.args.items.now in
+    let ps = c.next_piece-piece.result.now in
+    let rest = c.next_piece-piece.new.self in
+    let n = c.loop-left.index in
+    let e : drop n xs ≡ ps ++ rest = sym c.loop-left.invariant.left ∙ c.next_piece-piece.ensures.parts in
+    let h = c.loop-left.invariant.within in
+    omega (arith, piece_fits n xs ps rest h e, c.total.ensures.fits.0)
 
-pub returns-then-same_item-clause-found : goal.returns-then-same_item-clause-found
-returns-then-same_item-clause-found g c = record {
-  index = c.loop-index-test.true;
-  from = c.loop-index.invariant.from;
-  to = omega (arith, c.loop-index.invariant.from, frames_in-take_more c.args.items.now c.loop-index.index no_view c.loop-index-test.true);
-}
+pub returns-in-Ok-clause-found : goal.returns-in-Ok-clause-found
+returns-in-Ok-clause-found g c =
+    let xs = c.args.items.now in
+    let ps = c.next_piece-piece.result.now in
+    let rest = c.next_piece-piece.new.self in
+    let n = c.loop-left.index in
+    let e : drop n xs ≡ ps ++ rest = sym c.loop-left.invariant.left ∙ c.next_piece-piece.ensures.parts in
+    let h = c.loop-left.invariant.within in
+    stands_in n xs ps rest c.loop-left.from c.in-Ok.place h e c.loop-left.invariant.from c.in-Ok.ensures.found
 
-pub returns-then-same_item-clause-number : goal.returns-then-same_item-clause-number
-returns-then-same_item-clause-number g c =
-    number_at c.args.items.now c.loop-index.index no_view c.args.item c.loop-index-test.true (sym c.same_item.ensures ∙ c.if-same_item.true)
+pub returns-in-Ok-clause-number : goal.returns-in-Ok-clause-number
+returns-in-Ok-clause-number g c =
+    let xs = c.args.items.now in
+    let ps = c.next_piece-piece.result.now in
+    let rest = c.next_piece-piece.new.self in
+    let n = c.loop-left.index in
+    let e : drop n xs ≡ ps ++ rest = sym c.loop-left.invariant.left ∙ c.next_piece-piece.ensures.parts in
+    let h = c.loop-left.invariant.within in
+    number_in n xs ps rest c.loop-left.from c.in-Ok.place c.args.item e c.in-Ok.ensures.found c.in-Ok.ensures.number
 
-pub returns-then-same_item-clause-range : goal.returns-then-same_item-clause-range
-returns-then-same_item-clause-range g c =
-    sym c.loop-index.invariant.range ∙ range_found c.loop-index.from c.args.items.now c.loop-index.index no_view c.args.item c.loop-index-test.true (sym c.same_item.ensures ∙ c.if-same_item.true)
+pub returns-in-Ok-clause-range : goal.returns-in-Ok-clause-range
+returns-in-Ok-clause-range g c =
+    let xs = c.args.items.now in
+    let ps = c.next_piece-piece.result.now in
+    let rest = c.next_piece-piece.new.self in
+    let n = c.loop-left.index in
+    let e : drop n xs ≡ ps ++ rest = sym c.loop-left.invariant.left ∙ c.next_piece-piece.ensures.parts in
+    let h = c.loop-left.invariant.within in
+    sym c.loop-left.invariant.range
+    ∙ (ap (λ ys. range_from c.loop-left.from ys c.args.item) c.next_piece-piece.ensures.parts ∙ range_here c.loop-left.from ps rest c.args.item (c.in-Ok.place.from, c.in-Ok.place.to) c.in-Ok.ensures.range)
 
-pub returns-clause-range : goal.returns-clause-range
-returns-clause-range g c = sym c.loop-index.invariant.range ∙ range_end c.loop-index.from c.args.items.now c.loop-index.index c.args.item (omega (arith, c.loop-index-test.false))
+pub returns-in-Ok-clause-most : goal.returns-in-Ok-clause-most
+returns-in-Ok-clause-most g c =
+    let xs = c.args.items.now in
+    let ps = c.next_piece-piece.result.now in
+    let rest = c.next_piece-piece.new.self in
+    let n = c.loop-left.index in
+    let e : drop n xs ≡ ps ++ rest = sym c.loop-left.invariant.left ∙ c.next_piece-piece.ensures.parts in
+    let h = c.loop-left.invariant.within in
+    omega (arith, c.loop-left.invariant.most, c.find_in.ensures.most, piece_fits n xs ps rest h e)
 
-pub loop-index-preserved : goal.loop-index-preserved
-loop-index-preserved g c = record {
-  from = omega (arith, c.loop-index.invariant.from, frames_in-take_more c.args.items.now c.loop-index.index no_view c.loop-index-test.true);
-  range = sym (range_next c.loop-index.from c.args.items.now c.loop-index.index no_view c.args.item c.loop-index-test.true (sym c.same_item.ensures ∙ c.if-same_item.false)) ∙ c.loop-index.invariant.range;
-  least = omega (arith, c.loop-index.invariant.least, c.tick.ensures);
-  most = omega (arith, c.loop-index.invariant.most, c.tick.ensures);
-}
+pub overflow_cast-index : goal.overflow_cast-index
+overflow_cast-index g c =
+    let xs = c.args.items.now in
+    let ps = c.next_piece-piece.result.now in
+    let rest = c.next_piece-piece.new.self in
+    let n = c.loop-left.index in
+    let e : drop n xs ≡ ps ++ rest = sym c.loop-left.invariant.left ∙ c.next_piece-piece.ensures.parts in
+    let h = c.loop-left.invariant.within in
+    omega (arith, piece_fits n xs ps rest h e, c.total.ensures.fits.0)
+
+pub overflow_add-index : goal.overflow_add-index
+overflow_add-index g c =
+    let xs = c.args.items.now in
+    let ps = c.next_piece-piece.result.now in
+    let rest = c.next_piece-piece.new.self in
+    let n = c.loop-left.index in
+    let e : drop n xs ≡ ps ++ rest = sym c.loop-left.invariant.left ∙ c.next_piece-piece.ensures.parts in
+    let h = c.loop-left.invariant.within in
+    omega (arith, piece_fits n xs ps rest h e, c.total.ensures.fits.0)
+
+pub loop-left-preserved : goal.loop-left-preserved
+loop-left-preserved g c =
+    let xs = c.args.items.now in
+    let ps = c.next_piece-piece.result.now in
+    let rest = c.next_piece-piece.new.self in
+    let n = c.loop-left.index in
+    let e : drop n xs ≡ ps ++ rest = sym c.loop-left.invariant.left ∙ c.next_piece-piece.ensures.parts in
+    let h = c.loop-left.invariant.within in
+    record {
+      within = piece_fits n xs ps rest h e;
+      left = behind_piece n xs ps rest e;
+      from = omega (arith, c.in-Err.ensures.past, c.loop-left.invariant.from, frames_whole n xs ps rest h e);
+      range =
+          ap (λ k. range_from k rest c.args.item) c.in-Err.ensures.past
+          ∙ (sym (range_past c.loop-left.from ps rest c.args.item c.in-Err.ensures.none)
+          ∙ (sym (ap (λ ys. range_from c.loop-left.from ys c.args.item) c.next_piece-piece.ensures.parts) ∙ c.loop-left.invariant.range));
+      least = omega (arith, c.loop-left.invariant.least, c.find_in.ensures.least);
+      most = omega (arith, c.loop-left.invariant.most, c.find_in.ensures.most);
+    }

@@ -1,33 +1,38 @@
-use Rattle.std.proofs.Common.{◌+◌, ◌<◌, arith}
-use Rattle.composables.specs.Joined.{frames_in}
-use Rattle.composables.proofs.Frames.{frames_in-take_more, frames_in-take_le, no_view}
+use Rattle.std.proofs.Common.{◌+◌, refl, arith, take}
+use Rattle.composables.proofs.Frames.{frames_in-sum, frames_in-take_le, frames_at}
 use Rattle.composables.proofs.places.find_place.Goals as goal
 
-pub overflow_add-to : goal.overflow_add-to
-overflow_add-to g c =
+pub returns-in_err-found-clause-none : goal.returns-in_err-found-clause-none
+returns-in_err-found-clause-none g c =
+    (λ n. omega (arith, frames_in-sum c.args.items.now, c.in_err-found.ensures.none.0 refl), λ h. rw c.from_residual.ensures cc)
+
+pub overflow_add-result : goal.overflow_add-result
+overflow_add-result g c =
     let xs = c.args.items.now in
-    omega (arith, c.loop-index.invariant.from, c.requires.frames, frames_in-take_more xs c.loop-index.index no_view c.loop-index-test.true, frames_in-take_le (c.loop-index.index + 1) xs)
+    let h = c.in_ok-found.ensures.found in
+    omega (arith, c.total.ensures.fits.1, frames_in-sum xs, frames_in-sum (take c.in_ok-found.found.index xs), h.from, frames_at xs c.in_ok-found.found.index c.view_at-view.result c.view_at-view.ensures, frames_in-take_le (c.in_ok-found.found.index + 1) xs)
 
-pub overflow_cast-result : goal.overflow_cast-result
-overflow_cast-result g c = omega (arith, c.requires.count, c.loop-index-test.true)
-
-pub returns-then-at-to-clause-found : goal.returns-then-at-to-clause-found
-returns-then-at-to-clause-found g c = record {
-  index = c.loop-index-test.true;
-  from = c.loop-index.invariant.from;
-  to = omega (arith, c.loop-index.invariant.from, frames_in-take_more c.args.items.now c.loop-index.index no_view c.loop-index-test.true);
-}
-
-pub returns-then-at-to-clause-none : goal.returns-then-at-to-clause-none
-returns-then-at-to-clause-none g c =
+pub returns-clause-found : goal.returns-clause-found
+returns-clause-found g c =
     let xs = c.args.items.now in
-    let least : c.args.at < frames_in xs = omega (arith, c.loop-index.invariant.from, c.if-at-to.true, frames_in-take_more xs c.loop-index.index no_view c.loop-index-test.true, frames_in-take_le (c.loop-index.index + 1) xs) in
-    (λ none. cc, λ past. absurd (omega (arith, past)))
+    let h = c.in_ok-found.ensures.found in
+    let n = c.in_ok-found.found.index in
+    record {
+      index = h.index;
+      from = omega (arith, h.from, frames_in-sum (take n xs));
+      to = omega (arith, h.from, frames_in-sum (take n xs), frames_at xs n c.view_at-view.result c.view_at-view.ensures);
+    }
 
-pub loop-index-preserved : goal.loop-index-preserved
-loop-index-preserved g c = record {
-  from = omega (arith, c.loop-index.invariant.from, frames_in-take_more c.args.items.now c.loop-index.index no_view c.loop-index-test.true);
-  passed = omega (arith, c.if-at-to.false);
-  least = omega (arith, c.loop-index.invariant.least, c.tick.ensures);
-  most = omega (arith, c.loop-index.invariant.most, c.tick.ensures);
-}
+pub returns-clause-holds : goal.returns-clause-holds
+returns-clause-holds g c =
+    let xs = c.args.items.now in
+    let h = c.in_ok-found.ensures.found in
+    let n = c.in_ok-found.found.index in
+    (h.begins, omega (arith, h.ends, h.from, frames_in-sum (take n xs), frames_in-sum (take (n + 1) xs), frames_at xs n c.view_at-view.result c.view_at-view.ensures))
+
+pub returns-clause-none : goal.returns-clause-none
+returns-clause-none g c =
+    let xs = c.args.items.now in
+    let h = c.in_ok-found.ensures.found in
+    let n = c.in_ok-found.found.index in
+    (λ none. cc, λ past. absurd (omega (arith, past, h.ends, frames_in-sum (take (n + 1) xs), frames_in-take_le (n + 1) xs)))

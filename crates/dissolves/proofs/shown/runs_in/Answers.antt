@@ -1,4 +1,4 @@
-use Rattle.std.proofs.Common.{◌+◌, List, ◌++◌, Option, Some, length, drop, sym, ap, ◌∙◌, arith, subst}
+use Rattle.std.proofs.Common.{List, ◌++◌, Option, Some, length, drop, sym, ap, ◌∙◌, arith, subst}
 use Rattle.frame_meaning.specs.declared.cells.Cell.{Cell}
 use Rattle.frame_meaning.specs.Render.{render}
 use Rattle.composables.specs.declared.items.ItemView.{ItemView}

@@ -6,9 +6,9 @@ use Rattle.edit_splice.specs.Moves.{all_moved}
 use Rattle.edit_splice.proofs.Limits.{over-refused, within-all}
 use Rattle.edit_splice.proofs.shifting.shift_tracks.Goals as goal
 
-pub shift_within-requires-clause-within : goal.shift_within-requires-clause-within
-shift_within-requires-clause-within g c =
-    subst (λ (ts : List TrackState). over_limits (all_moved c.args.shift.now ts) ≡ None) c.deref.ensures.value (sym c.in-None.ensures.refusal)
+pub shifted-requires-clause-within : goal.shifted-requires-clause-within
+shifted-requires-clause-within g c =
+    subst (λ (ts : List TrackState). over_limits (all_moved c.args.shift.now ts) ≡ None) (c.deref.ensures.value ∙ sym c.deref-2.ensures.value) (sym c.in-None.ensures.refusal)
 
 pub returns-in-Some-clause-answers : goal.returns-in-Some-clause-answers
 returns-in-Some-clause-answers g c = (
@@ -17,15 +17,16 @@ returns-in-Some-clause-answers g c = (
   refl,
 )
 
-pub returns-in_err-shift_within-clause-answers : goal.returns-in_err-shift_within-clause-answers
-returns-in_err-shift_within-clause-answers g c =
+pub returns-in_err-moved-clause-answers : goal.returns-in_err-moved-clause-answers
+returns-in_err-moved-clause-answers g c =
     let none : over_limits (all_moved c.args.shift.now c.args.named.now.items) ≡ None =
     subst (λ (ts : List TrackState). over_limits (all_moved c.args.shift.now ts) ≡ None) c.deref.ensures.value (sym c.in-None.ensures.refusal) in
-    answers-memory (within_limits (all_moved c.args.shift.now c.args.named.now.items) c.args.done) c.args.named.now.items c.shift_within.new.named.items c.from_residual.result c.from_residual.ensures.1
-    (ap is_ok (within-all (all_moved c.args.shift.now c.args.named.now.items) c.args.done none)) c.in_err-shift_within.ensures.memory
+    answers-memory (within_limits (all_moved c.args.shift.now c.args.named.now.items) c.args.done) c.args.named.now.items c.args.named.now.items c.from_residual.result c.from_residual.ensures.1
+    (ap is_ok (within-all (all_moved c.args.shift.now c.args.named.now.items) c.args.done none)) refl
 
 pub returns-clause-answers : goal.returns-clause-answers
 returns-clause-answers g c =
     let none : over_limits (all_moved c.args.shift.now c.args.named.now.items) ≡ None =
     subst (λ (ts : List TrackState). over_limits (all_moved c.args.shift.now ts) ≡ None) c.deref.ensures.value (sym c.in-None.ensures.refusal) in
-    within-all (all_moved c.args.shift.now c.args.named.now.items) c.args.done none ∙ ap (λ (ts : List TrackState). Ok (ts, c.args.done)) (sym {A = List TrackState} c.in_ok-shift_within.ensures.moved)
+    let moved : c.in_ok-moved.moved.items ≡ all_moved c.args.shift.now c.args.named.now.items = c.in_ok-moved.ensures.moved ∙ ap (all_moved c.args.shift.now) c.deref-2.ensures.value in
+    within-all (all_moved c.args.shift.now c.args.named.now.items) c.args.done none ∙ ap (λ (ts : List TrackState). Ok (ts, c.args.done)) (sym {A = List TrackState} moved)

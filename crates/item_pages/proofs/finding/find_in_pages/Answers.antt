@@ -46,3 +46,19 @@ returns-then-at-to-clause-none g c =
     let below : c.args.at < sum_by g.T.Spanned.places (items_of pages) =
     omega (arith, c.loop-page.invariant.from, c.span.ensures.span, c.if-at-to.true, sum_split g.T.Spanned.places (items_of pages) (items_of (take i pages)) page (items_of (drop (i + 1) pages)) is) in
     (λ none. cc, λ past. absurd (omega (arith, past, below)))
+
+pub returns-then-at-to-clause-few : goal.returns-then-at-to-clause-few
+returns-then-at-to-clause-few g c =
+    let pages = c.args.pages.now in
+    let i = c.loop-page.page-index in
+    let page = c.page-item.result in
+    let is = around_page pages i page c.loop-page-test.true c.page-item.is in
+    omega (
+      arith,
+      c.loop-page.invariant.index,
+      c.loop-page.invariant.low,
+      c.loop-page.invariant.most,
+      c.find_in_page-found.ensures.most,
+      c.find_in_page-found.ensures.found.index,
+      length_split (items_of pages) (items_of (take i pages)) page (items_of (drop (i + 1) pages)) is,
+    )

@@ -7,6 +7,7 @@ invariant-loop-page g l = record {
   index : l.index ≡ length (items_of (take l.page-index l.pages));
   from : l.from ≡ sum_by g.T.Spanned.places (items_of (take l.page-index l.pages));
   passed : l.from ≤ l.at;
+  low : l.page-index ≤ l.index;
   least : l.fn.steps ≤ l.steps;
   most : l.steps ≤ l.fn.steps + l.page-index;
 }

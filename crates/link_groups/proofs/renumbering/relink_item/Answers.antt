@@ -11,7 +11,7 @@ set_link-requires-clause-kept c =
 
 pub returns-in-Some : goal.returns-in-Some
 returns-in-Some c =
-    c.set_link.ensures ∙ ap (λ (o : Option Link). changed_track c.args.track.now c.args.index (with_link o)) (sym c.in-Some.ensures.split)
+    rw (c.in-Some.ensures.split) c.set_link.ensures.ok
 
 pub returns-in-None : goal.returns-in-None
 returns-in-None c =

@@ -1,4 +1,4 @@
-use Rattle.std.proofs.Common.{◌≡◌, ◌-◌, false, eqb, None, Some, List, ap, is_ok, refl, ◌∙◌, arith, subst}
+use Rattle.std.proofs.Common.{◌≡◌, ◌-◌, false, eqb, None, Some, List, ap, is_ok, refl, sym, ◌∙◌, arith, subst}
 use Rattle.std.proofs.lemmas.Bool.{ne_eqb}
 use Rattle.composables.specs.Limits.{over_limits}
 use Rattle.composables.specs.Links.{split_links}
@@ -27,20 +27,48 @@ returns-in_err-splits-clause-answers g c =
     answers-memory (linked_shift c.args.shift.now c.args.place c.args.done c.args.named.now.items) c.args.named.now.items c.args.named.now.items c.from_residual.result c.from_residual.ensures.1
     (ap is_ok (linked-within c.args.shift.now c.args.place c.args.done c.args.named.now.items none within)) refl
 
-pub shift_within-requires-clause-within : goal.shift_within-requires-clause-within
-shift_within-requires-clause-within g c = over-is c.args.shift.now c.args.named.now.items c.deref-2.result.now None c.deref-2.ensures.value c.in-None-over_limits.ensures.refusal
+pub shifted-requires-clause-within : goal.shifted-requires-clause-within
+shifted-requires-clause-within g c =
+    subst (λ (ts : List TrackState). over_limits (all_moved c.args.shift.now ts) ≡ None) (sym c.deref-4.ensures.value)
+    (over-is c.args.shift.now c.args.named.now.items c.deref-2.result.now None c.deref-2.ensures.value c.in-None-over_limits.ensures.refusal)
 
-pub returns-in_err-shift_within-clause-answers : goal.returns-in_err-shift_within-clause-answers
-returns-in_err-shift_within-clause-answers g c =
+pub returns-in_err-moved-clause-answers : goal.returns-in_err-moved-clause-answers
+returns-in_err-moved-clause-answers g c =
     let moves : eqb (new_len c.args.shift.now.new) (c.args.shift.now.y - c.args.shift.now.x) ≡ false = ne_eqb (new_len c.args.shift.now.new) (c.args.shift.now.y - c.args.shift.now.x) (λ e. c.if-new_len-shift.false (c.new_len.ensures ∙ e)) in
     let none : linked_refusal c.args.shift.now c.args.named.now.items ≡ None = not-refused c.args.shift.now c.args.named.now.items c.deref.result.now c.check.result moves c.check.ensures.refusal c.deref.ensures.value c.in-None.is in
     let within : over_limits (all_moved c.args.shift.now c.args.named.now.items) ≡ None = over-is c.args.shift.now c.args.named.now.items c.deref-2.result.now None c.deref-2.ensures.value c.in-None-over_limits.ensures.refusal in
-    answers-memory (linked_shift c.args.shift.now c.args.place c.args.done c.args.named.now.items) c.args.named.now.items c.shift_within.new.named.items c.from_residual-in_err-shift_within.result c.from_residual-in_err-shift_within.ensures.1
-    (ap is_ok (linked-within c.args.shift.now c.args.place c.args.done c.args.named.now.items none within)) c.in_err-shift_within.ensures.memory
+    answers-memory (linked_shift c.args.shift.now c.args.place c.args.done c.args.named.now.items) c.args.named.now.items c.args.named.now.items c.from_residual-in_err-moved.result c.from_residual-in_err-moved.ensures.1
+    (ap is_ok (linked-within c.args.shift.now c.args.place c.args.done c.args.named.now.items none within)) refl
 
 pub relink_all-requires : goal.relink_all-requires
 relink_all-requires g c =
-    record { next = next-fits c.args.shift.now c.args.named.now.items c.shift_within.new.named.items c.in_ok-splits.splits c.requires.split.next c.in_ok-splits.ensures.few c.in_ok-shift_within.ensures.moved }
+    let moved : c.in_ok-moved.moved.items ≡ all_moved c.args.shift.now c.args.named.now.items = c.in_ok-moved.ensures.moved ∙ ap (all_moved c.args.shift.now) c.deref-4.ensures.value in
+    record { next = next-fits c.args.shift.now c.args.named.now.items c.in_ok-moved.moved.items c.in_ok-splits.splits c.requires.split.next c.in_ok-splits.ensures.few moved }
+
+pub returns-in_err-relink_all-clause-answers : goal.returns-in_err-relink_all-clause-answers
+returns-in_err-relink_all-clause-answers g c =
+    let moves : eqb (new_len c.args.shift.now.new) (c.args.shift.now.y - c.args.shift.now.x) ≡ false = ne_eqb (new_len c.args.shift.now.new) (c.args.shift.now.y - c.args.shift.now.x) (λ e. c.if-new_len-shift.false (c.new_len.ensures ∙ e)) in
+    let none : linked_refusal c.args.shift.now c.args.named.now.items ≡ None = not-refused c.args.shift.now c.args.named.now.items c.deref.result.now c.check.result moves c.check.ensures.refusal c.deref.ensures.value c.in-None.is in
+    let within : over_limits (all_moved c.args.shift.now c.args.named.now.items) ≡ None = over-is c.args.shift.now c.args.named.now.items c.deref-2.result.now None c.deref-2.ensures.value c.in-None-over_limits.ensures.refusal in
+    answers-memory (linked_shift c.args.shift.now c.args.place c.args.done c.args.named.now.items) c.args.named.now.items c.args.named.now.items c.from_residual-in_err-relink_all.result c.from_residual-in_err-relink_all.ensures.1
+    (ap is_ok (linked-within c.args.shift.now c.args.place c.args.done c.args.named.now.items none within)) refl
+
+pub returns-in_err-relink_all-clause-most : goal.returns-in_err-relink_all-clause-most
+returns-in_err-relink_all-clause-most g c =
+    let moved : c.in_ok-moved.moved.items ≡ all_moved c.args.shift.now c.args.named.now.items = c.in_ok-moved.ensures.moved ∙ ap (all_moved c.args.shift.now) c.deref-4.ensures.value in
+    omega (
+      arith,
+      c.check.ensures.most,
+      c.over_limits.ensures.most,
+      c.splits_at.ensures.most,
+      c.shifted.ensures.most,
+      c.relink_all.ensures.most,
+      ap sizes_of c.deref.ensures.value,
+      ap sizes_of c.deref-2.ensures.value,
+      ap sizes_of c.deref-3.ensures.value,
+      ap sizes_of c.deref-4.ensures.value,
+      sizes-done c.args.shift.now c.args.named.now.items c.in_ok-moved.moved.items c.requires.order moved,
+    )
 
 pub returns-clause-answers : goal.returns-clause-answers
 returns-clause-answers g c =
@@ -49,20 +77,23 @@ returns-clause-answers g c =
     let within : over_limits (all_moved c.args.shift.now c.args.named.now.items) ≡ None = over-is c.args.shift.now c.args.named.now.items c.deref-2.result.now None c.deref-2.ensures.value c.in-None-over_limits.ensures.refusal in
     let splits : AreSplits c.args.named.now.items (split_links c.args.shift.now.x c.args.shift.now.y c.args.named.now.items) c.in_ok-splits.splits =
     subst (λ (ts : List TrackState). AreSplits ts (split_links c.args.shift.now.x c.args.shift.now.y ts) c.in_ok-splits.splits) c.deref-3.ensures.value c.in_ok-splits.ensures.splits in
-    linked-done c.args.shift.now c.args.place c.args.done c.args.named.now.items c.shift_within.new.named.items c.relink_all.new.named.items c.in_ok-splits.splits moves none within splits
-    c.in_ok-shift_within.ensures.moved c.relink_all.ensures.relinked
+    let moved : c.in_ok-moved.moved.items ≡ all_moved c.args.shift.now c.args.named.now.items = c.in_ok-moved.ensures.moved ∙ ap (all_moved c.args.shift.now) c.deref-4.ensures.value in
+    linked-done c.args.shift.now c.args.place c.args.done c.args.named.now.items c.in_ok-moved.moved.items c.relink_all.new.named.items c.in_ok-splits.splits moves none within splits
+    moved c.in_ok-relink_all.ensures.relinked
 
 pub returns-clause-most : goal.returns-clause-most
 returns-clause-most g c =
+    let moved : c.in_ok-moved.moved.items ≡ all_moved c.args.shift.now c.args.named.now.items = c.in_ok-moved.ensures.moved ∙ ap (all_moved c.args.shift.now) c.deref-4.ensures.value in
     omega (
       arith,
       c.check.ensures.most,
       c.over_limits.ensures.most,
       c.splits_at.ensures.most,
-      c.shift_within.ensures.most,
+      c.shifted.ensures.most,
       c.relink_all.ensures.most,
       ap sizes_of c.deref.ensures.value,
       ap sizes_of c.deref-2.ensures.value,
       ap sizes_of c.deref-3.ensures.value,
-      sizes-done c.args.shift.now c.args.named.now.items c.shift_within.new.named.items c.requires.order c.in_ok-shift_within.ensures.moved,
+      ap sizes_of c.deref-4.ensures.value,
+      sizes-done c.args.shift.now c.args.named.now.items c.in_ok-moved.moved.items c.requires.order moved,
     )

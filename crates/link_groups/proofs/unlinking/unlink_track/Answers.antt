@@ -19,9 +19,9 @@ returns-clause-answers g c =
     let r = relinked c.args.table.now c.args.track.now c.in-Some.found.index c.args.call.now.item c.in-Some.found.view None c.requires.good c.in-Some.ensures.read c.in-Some.ensures.number tt in
     let after : TrackState = linked_item c.args.track.now c.args.call.now.item None in
     let meant : Result (TrackState × Done) Refusal = Ok (after, Plain) in
-    ap (λ (o : Option (ℕ × ItemView)). where_there o meant) c.in-Some.ensures.found ∙ ap (λ (u : TrackState). Ok (u, Plain)) (sym r.same ∙ sym c.set_link.ensures)
+    ap (λ (o : Option (ℕ × ItemView)). where_there o meant) c.in-Some.ensures.found ∙ ap (λ (u : TrackState). Ok (u, Plain)) (sym r.same ∙ sym c.in_ok-set_link.ensures.ok)
 
 pub returns-clause-good : goal.returns-clause-good
 returns-clause-good g c =
-    subst (IsGood c.args.table.now) (sym c.set_link.ensures)
+    subst (IsGood c.args.table.now) (sym c.in_ok-set_link.ensures.ok)
     (relinked c.args.table.now c.args.track.now c.in-Some.found.index c.args.call.now.item c.in-Some.found.view None c.requires.good c.in-Some.ensures.read c.in-Some.ensures.number tt).good

@@ -4,4 +4,4 @@ use Rattle.composables.proofs.tracks.Track.has_links.Goals as goal
 pub returns : goal.returns
 returns c =
     let v = c.self.invariant in
-    record { none = λ h. rw (← c.self.view_is) (rw (items_of-tight c.self.inside.items.items v.filled v.tight) (v.links h)) }
+    record { none = λ h. rw (← c.self.view_is) (rw (items_of-tight c.self.inside.items v.filled v.tight) (v.links h)) }

@@ -1,7 +1,8 @@
+use Rattle.std.proofs.Common.{◌∙◌}
 use Rattle.composables.proofs.Joining.{items_of-tight}
 use Rattle.composables.proofs.tracks.Track.item.Goals as goal
 
 pub returns : goal.returns
 returns c =
     let v = c.self.invariant in
-    rw (← c.self.view_is) (rw (items_of-tight c.self.inside.items.items v.filled v.tight) (rw c.deref.ensures.value at c.view_at.ensures))
+    rw (← c.self.view_is) (rw (items_of-tight c.self.inside.items v.filled v.tight) (c.copied.ensures ∙ c.get.ensures))

@@ -1,25 +1,26 @@
-use Rattle.std.proofs.Common.{arith, refl}
+use Rattle.std.proofs.Common.{refl}
 use Rattle.composables.specs.Changes.{with_mark}
 use Rattle.composables.proofs.Changing.{change_keeps, index_within}
 use Rattle.composables.proofs.Keeping.{same_state}
 use Rattle.composables.proofs.Unlinked.{stays_unlinked}
 use Rattle.composables.proofs.tracks.Track.set_mark.Goals as goal
 
-pub index_mut-requires : goal.index_mut-requires
-index_mut-requires c = omega (arith, index_within c.self.inside c.args.index c.self.invariant (rw (← c.self.view_is) at c.requires.within), c.self.inside.items.ok.0)
+pub view_at-view-requires : goal.view_at-view-requires
+view_at-view-requires c = index_within c.self.inside c.args.index c.self.invariant (rw (← c.self.view_is) at c.requires.within)
 
-pub invariant_of-self : goal.invariant_of-self
-invariant_of-self c =
+pub set-requires-clause-within : goal.set-requires-clause-within
+set-requires-clause-within c = index_within c.self.inside c.args.index c.self.invariant (rw (← c.self.view_is) at c.requires.within)
+
+pub invariant_of-self-2 : goal.invariant_of-self-2
+invariant_of-self-2 c =
     let v = c.self.invariant in
     let t = c.self.inside in
-    let within = rw (← c.self.view_is) at c.requires.within in
-    let k = change_keeps (with_mark c.args.mark) t c.args.index c.index_mut.result.now (record { item = λ v. refl; len = λ v. refl }) v within c.index_mut.ensures.value in
-    record { tight = k.tight; filled = k.filled; total = k.total_is; kept = rw k.cells (rw (← c.self.view_is) at c.requires.kept); links = λ h. stays_unlinked t.items.items c.args.index c.index_mut.result.now _ (index_within t c.args.index v within) c.index_mut.ensures.value refl (v.links h) }
+    let k = change_keeps (with_mark c.args.mark) t c.args.index c.view_at-view.result (record { item = λ v. refl; len = λ v. refl }) v c.view_at-view.ensures in
+    rw c.in_ok-set.ensures.ok (record { tight = k.tight; filled = k.filled; kept = rw k.cells (rw (← c.self.view_is) at c.requires.kept); links = λ h. stays_unlinked t.items c.args.index c.view_at-view.result _ c.view_at-view.ensures refl (v.links h) })
 
-pub returns : goal.returns
-returns c =
+pub returns-clause-ok : goal.returns-clause-ok
+returns-clause-ok c =
     let v = c.self.invariant in
     let t = c.self.inside in
-    let within = rw (← c.self.view_is) at c.requires.within in
-    let k = change_keeps (with_mark c.args.mark) t c.args.index c.index_mut.result.now (record { item = λ v. refl; len = λ v. refl }) v within c.index_mut.ensures.value in
-    rw (← c.self.view_is) (same_state t.number t.next_link _ _ _ _ k.cells refl)
+    let k = change_keeps (with_mark c.args.mark) t c.args.index c.view_at-view.result (record { item = λ v. refl; len = λ v. refl }) v c.view_at-view.ensures in
+    rw (← c.self.view_is) (rw c.in_ok-set.ensures.ok (same_state t.number t.next_link _ _ _ _ k.cells refl))

@@ -1,8 +1,0 @@
-use Rattle.std.proofs.Common.{◌∙◌, arith}
-use Rattle.edit_splice.proofs.Moving.{kept-put}
-use Rattle.edit_splice.proofs.shifting.shift_track.Goals as goal
-
-pub splice_in-requires-clause-kept : goal.splice_in-requires-clause-kept
-splice_in-requires-clause-kept g c =
-    kept-put c.args.shift.now c.args.track.now c.min.result c.min-2.result c.as_slice.result.now c.requires.order c.requires.fits (record { frames = c.requires.short; items = c.requires.few })
-    (omega (arith, c.min.ensures, c.length-length.ensures.value)) (omega (arith, c.min-2.ensures, c.length-length.ensures.value)) (c.as_slice.ensures ∙ c.put_views-views.ensures)
