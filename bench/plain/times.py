@@ -5,11 +5,15 @@ import os
 import subprocess
 import sys
 import tempfile
+import time
 
 PLACE_FRAMES = 100
 ITEM_FRAMES = 50
 # A prime: its multiples reach each of the places once, and in scattered order.
 STRIDE = 7919
+
+# An item or gap of the program, with its dissolve and its link.
+ITEM_BYTES = 56
 
 # A row is measured so often, and its least time is told.
 ROUNDS = 3
@@ -62,25 +66,24 @@ def fills_of_gaps(count, items):
     return [f"fill 0 {place} @0 0 source 10" for place in places]
 
 
-def run(program, lines):
-    """Runs the program on the lines. Answers its replies, the processor seconds that it took, and its most memory in
-    bytes."""
+def run(program, lines, tracks=1):
+    """Runs the program on the lines. Answers its replies and the processor seconds that it took."""
     with tempfile.TemporaryFile() as text, tempfile.TemporaryFile() as replies:
         text.write("".join(f"{line}\n" for line in lines).encode())
         text.seek(0)
-        process = subprocess.Popen([program, "run", "1", "1"], stdin=text, stdout=replies)
+        process = subprocess.Popen([program, "run", str(tracks), "1"], stdin=text, stdout=replies)
         _, status, used = os.wait4(process.pid, 0)
         process.returncode = status
         if status != 0:
             raise SystemExit(f"bench: {program} ended with {status}")
         replies.seek(0)
-        return replies.read(), used.ru_utime + used.ru_stime, used.ru_maxrss * 1024
+        return replies.read(), used.ru_utime + used.ru_stime
 
 
-def seconds_of(program, before, lines):
+def seconds_of(program, before, lines, tracks=1):
     """The least processor time for the lines behind those before them, which are not counted."""
-    whole = min(run(program, [*before, *lines])[1] for _ in range(ROUNDS))
-    return max(whole - min(run(program, before)[1] for _ in range(ROUNDS)), 1e-6)
+    whole = min(run(program, [*before, *lines], tracks)[1] for _ in range(ROUNDS))
+    return max(whole - min(run(program, before, tracks)[1] for _ in range(ROUNDS)), 1e-6)
 
 
 def compare(ours, plain, name, lines, before=()):
@@ -91,10 +94,67 @@ def compare(ours, plain, name, lines, before=()):
     print(f"{name:<52}{len(lines):>8}{one:>10.3f}{other:>10.3f}{one / other:>8.1f}", flush=True)
 
 
-def memory_of(ours, count):
-    lines = [f"overwrite 0 0 @0 0 {ITEM_FRAMES}"] * count
-    replies, _, most = run(ours, lines)
-    return most, replies.count(b"\n")
+def linked_pairs(items):
+    """Two tracks with the same scattered items, each linked with that of its number on the other."""
+    first = scattered(items)
+    second = [line.replace("overwrite 0 ", "overwrite 1 ") for line in first]
+    return first + second, [f"link 0,1 {number},{number}" for number in range(items)]
+
+
+def edits_of_two_tracks(count, items):
+    """For each kind, so many edits of two tracks in the middle."""
+    place = items // 2
+    middle = place * PLACE_FRAMES
+    item = next(number for number in range(items) if number * STRIDE % items == place)
+    return {
+        "insert into two tracks": [f"insert 0,1 0 {middle} @0 0 {ITEM_FRAMES}"] * count,
+        "slip of two tracks": [f"slip 0,1 0 {item} 5", f"slip 0,1 0 {item} -5"] * (count // 2),
+        "ripple of two tracks": [f"ripple 0,1 0 {item} tail 1", f"ripple 0,1 0 {item} tail -1"] * (count // 2),
+    }
+
+
+def compare_links(ours, items, count):
+    """Edits of two tracks beside the same where each item has a link."""
+    tracks, links = linked_pairs(items)
+    bare = first_source(tracks, 1_000)
+    for name, lines in edits_of_two_tracks(count, items).items():
+        one = seconds_of(ours, bare, lines, tracks=2)
+        other = seconds_of(ours, bare + links, lines, tracks=2)
+        print(f"{name + f' with {items:,} links':<52}{len(lines):>8}{other:>10.3f}{one:>10.3f}{other / one:>8.1f}", flush=True)
+
+
+def lines_of(file):
+    """How many lines a file has, which another process writes."""
+    return os.pread(file, os.fstat(file).st_size, 0).count(b"\n")
+
+
+def memory_of(ours, lines):
+    """The memory of the program itself once it has answered these lines, in bytes."""
+    with tempfile.TemporaryFile() as replies:
+        process = subprocess.Popen([ours, "run", "1", "1"], stdin=subprocess.PIPE, stdout=replies)
+        process.stdin.write("".join(f"{line}\n" for line in lines).encode())
+        process.stdin.flush()
+        answered = 0
+        while answered < len(lines):
+            time.sleep(0.05)
+            answered = lines_of(replies.fileno())
+        with open(f"/proc/{process.pid}/status", encoding="ascii") as status:
+            kilobytes = next(int(line.split()[1]) for line in status if line.startswith("VmRSS"))
+        process.stdin.close()
+        process.wait()
+        return kilobytes * 1024
+
+
+def tell_memory(ours):
+    """What the items of a track take, beside what as many edits of one place take."""
+    edits = 10_000
+    one_place = memory_of(ours, [f"overwrite 0 0 @0 0 {ITEM_FRAMES}"] * edits)
+    scattered_over = memory_of(ours, scattered(edits))
+    taken, items = scattered_over - one_place, (2 * edits - 1) * ITEM_BYTES
+    print(f"memory of {2 * edits - 1:,} items and gaps {taken / 1e6:.2f} MB, by count {items / 1e6:.2f} MB, ratio {taken / items:.2f}", flush=True)
+    for count in (1_000, 100_000):
+        most = memory_of(ours, [f"overwrite 0 0 @0 0 {ITEM_FRAMES}"] * count)
+        print(f"memory after {count:>7,} edits of one small track {most / 1e6:>10.1f} MB", flush=True)
 
 
 def main():
@@ -115,9 +175,8 @@ def main():
         for name, there_and_back in deltas_in_the_middle(items).items():
             compare(ours, plain, f"{name} in the middle of {items:,} items", there_and_back * 1_000, before)
         compare(ours, plain, f"fill of gaps between {items:,} items", fills_of_gaps(2_000, items), before)
-    for count in (1_000, 100_000):
-        most, _ = memory_of(ours, count)
-        print(f"memory after {count:>7,} edits of one small track {most / 1e6:>10.1f} MB", flush=True)
+    compare_links(ours, 10_000, 2_000)
+    tell_memory(ours)
 
 
 if __name__ == "__main__":
