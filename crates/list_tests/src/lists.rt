@@ -1,8 +1,11 @@
 // Lists of cuts.
+ghost use Rattle.std.specs.Prelude.{[]};
+ghost use Rattle.reel_names.specs.Namers.{numbered};
+
 use crate::calling::{Outside, lists_so, with_journal};
 use crate::documents::{DOCUMENT, LIST, NAMED, NUMBERED};
 use command_ends::Status;
-use reel_names::{AsIs, Name, Numbered, Tabled};
+use reel_names::{AsIs, Name, NameFault, Numbered, ReelNamer, Tabled};
 use std::alloc::Global;
 use std::test::Fail;
 
@@ -110,6 +113,30 @@ fn each_reel_may_be_refused(rt: HostRuntime) -> Result<(), Fail> {
             "{refused}"
         );
     }
+    Ok(())
+}
+
+// A namer that finds no memory for a name.
+#[derive(Drop)]
+struct Forgetful {}
+
+impl ReelNamer for Forgetful {
+    ghost given = { λ _. [] };
+
+    ghost rule = { λ _. numbered };
+
+    fn name(&mut self, _reel: u32, _text: &str) -> Result<Name, NameFault> {
+        Err(NameFault::Memory)
+    }
+}
+
+// Then there is no list, and nothing is put.
+#[test]
+fn a_namer_may_find_no_memory(rt: HostRuntime) -> Result<(), Fail> {
+    let alloc = rt.alloc();
+    let outside = with_journal("journal 0\n");
+    let namer = Box::new(alloc, Forgetful {})?;
+    assert!(rt; lists_so(alloc, &outside, 0, namer, Status::OutOfMemory, "")?);
     Ok(())
 }
 
