@@ -1,7 +1,7 @@
 // A question copies nothing: a part that is never copied answers it, and no edit.
 ghost use Rattle.std.specs.Prelude.{◌≡◌, ◌<◌};
 
-use crate::registers::Registers;
+use counters::Registers;
 use cut_room::{Answer, Room, RoomBlank, Sight};
 use edit_journal::Naming;
 use room_core::Memory;

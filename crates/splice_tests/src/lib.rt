@@ -9,6 +9,10 @@ mod laying;
 #[cfg(test)]
 mod links;
 #[cfg(test)]
+mod playing;
+#[cfg(test)]
+mod rows;
+#[cfg(test)]
 mod splices;
 #[cfg(test)]
 mod tracks;
