@@ -1,5 +1,5 @@
 // Documents that a run opens, and those that it writes.
-use crate::calling::{ended, ended_over};
+use program_runs::{ended, ended_over};
 use room_files::MemFiles;
 use std::alloc::Global;
 use std::sync::Wait;
@@ -77,12 +77,8 @@ fn ends<R: Threads + Wait + Sync>(
 ) -> Result<bool, Fail> {
     let mut files = MemFiles::new(alloc, fails.to_vec(alloc)?);
     files.put("cut", document)?;
-    let mut texts = Vec::new(alloc);
-    for word in words.split(' ') {
-        texts.push(word)?;
-    }
     let lines = LINES.as_bytes();
-    let (ended_with, output) = ended_over(rt, alloc, &texts, &mut files, &[lines], &[], writes)?;
+    let (ended_with, output) = ended_over(rt, alloc, words, &mut files, &[lines], &[], writes)?;
     Ok(ended_with == status && output.as_slice() == wanted.as_bytes())
 }
 
@@ -201,7 +197,7 @@ const EMPTY: &str =
 fn a_cut_is_written_at_any_point(rt: HostRuntime) -> Result<(), Fail> {
     let alloc = rt.alloc();
     let lines = b"otio 0\notio 1\noverwrite 0 0 @0 7 2\notio 00\notio\notio x\notio 4294967296\n";
-    let (status, output) = ended(&rt, alloc, &["run", "1", "1"], &[lines], &[], &[])?;
+    let (status, output) = ended(&rt, alloc, "run 1 1", &[lines], &[], &[])?;
     assert_eq!(rt; status, 0);
     let wanted = format!(in alloc;
         "otio 0 {EMPTY}\nno 0 V3\nok 0 item 0\notio 0 {EMPTY}\nbad B2\nbad B3\nbad B4\njournal 1\n0 3 overwrite 0 0 @0 7 2\n"
@@ -218,7 +214,7 @@ const FIVE: &str =
 fn a_clip_is_written(rt: HostRuntime) -> Result<(), Fail> {
     let alloc = rt.alloc();
     let lines = b"overwrite 0 0 @0 100 5\notio 1\n";
-    let (status, output) = ended(&rt, alloc, &["run", "1", "1"], &[lines], &[], &[])?;
+    let (status, output) = ended(&rt, alloc, "run 1 1", &[lines], &[], &[])?;
     assert_eq!(rt; status, 0);
     let front = EMPTY.strip_suffix("]}]}}").ok_or("back")?;
     let wanted = format!(in alloc;
@@ -233,7 +229,7 @@ fn a_clip_is_written(rt: HostRuntime) -> Result<(), Fail> {
 fn what_is_written_opens_again(rt: HostRuntime) -> Result<(), Fail> {
     let alloc = rt.alloc();
     let lines = b"overwrite 0 3 @0 7 2\notio 1\n";
-    let (_, first) = ended(&rt, alloc, &["run", "1", "1"], &[lines], &[], &[])?;
+    let (_, first) = ended(&rt, alloc, "run 1 1", &[lines], &[], &[])?;
     let text = first
         .as_slice()
         .strip_prefix(b"ok 0 item 0\notio 1 ".as_slice())

@@ -3,13 +3,7 @@
 #![tactic(auto)]
 
 #[cfg(test)]
-mod calling;
-#[cfg(test)]
 mod documents;
-#[cfg(test)]
-mod faults;
-#[cfg(test)]
-mod hall_faults;
 #[cfg(test)]
 mod made;
 #[cfg(test)]

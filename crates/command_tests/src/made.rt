@@ -1,5 +1,5 @@
 // Generated sessions: what is put of one is the same at each run, whatever the order was in which its stations were served.
-use crate::calling::ended;
+use program_runs::ended;
 use std::test::Fail;
 
 const FIRST: &str = "\
@@ -14,7 +14,7 @@ track 3 859 2
 fn a_generated_session_has_one_summary(rt: HostRuntime) -> Result<(), Fail> {
     let alloc = rt.alloc();
     for _ in 0..2 {
-        let (status, bytes) = ended(&rt, alloc, &["make", "1", "1"], &[], &[], &[])?;
+        let (status, bytes) = ended(&rt, alloc, "make 1 1", &[], &[], &[])?;
         assert_eq!(rt; status, 0);
         assert_eq!(rt; bytes.as_slice(), FIRST.as_bytes());
     }
@@ -23,7 +23,7 @@ fn a_generated_session_has_one_summary(rt: HostRuntime) -> Result<(), Fail> {
 
 #[test]
 fn a_summary_that_can_not_be_written_is_a_write_fault(rt: HostRuntime) -> Result<(), Fail> {
-    let (status, bytes) = ended(&rt, rt.alloc(), &["make", "1", "1"], &[], &[], &[1])?;
+    let (status, bytes) = ended(&rt, rt.alloc(), "make 1 1", &[], &[], &[1])?;
     assert_eq!(rt; status, 2);
     assert!(rt; bytes.is_empty());
     Ok(())
@@ -32,12 +32,12 @@ fn a_summary_that_can_not_be_written_is_a_write_fault(rt: HostRuntime) -> Result
 #[test]
 fn other_words_make_no_session(rt: HostRuntime) -> Result<(), Fail> {
     for words in [
-        ["make", "1", "0"],
-        ["make", "1", "20001"],
-        ["make", "-1", "1"],
-        ["make", "4294967296", "1"],
+        "make 1 0",
+        "make 1 20001",
+        "make -1 1",
+        "make 4294967296 1",
     ] {
-        let (status, bytes) = ended(&rt, rt.alloc(), words.as_slice(), &[], &[], &[])?;
+        let (status, bytes) = ended(&rt, rt.alloc(), words, &[], &[], &[])?;
         assert_eq!(rt; status, 3);
         assert_eq!(rt; bytes.as_slice(), b"refused words\n".as_slice());
     }

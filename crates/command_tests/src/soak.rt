@@ -1,5 +1,4 @@
 // Four stations that cut four tracks at once, some hundreds of lines each, and a fifth that looks at the end.
-use crate::calling::ended_over;
 use crate::documents::document_of;
 use crate::replays::replayed_document;
 use crate::stations::{Served, Serving, serve};
@@ -8,6 +7,7 @@ use call_text::{read_journal, sight_text};
 use composables::{Listed, Track};
 use cut_room::Sight;
 use edit_apply::{Editor, Seen};
+use program_runs::ended_over;
 use room_files::MemFiles;
 use std::alloc::Global;
 use std::sync::Wait;
@@ -283,9 +283,16 @@ fn is_answered_alone<R: Threads + Wait + Sync>(
 ) -> Result<bool, Fail> {
     let mut files = MemFiles::new(alloc, Vec::new(alloc));
     files.put("cut", document)?;
-    let words = ["run", "cut", "24", "ndf"];
     let pieces = [serial.sent.as_bytes()];
-    let (status, output) = ended_over(rt, alloc, &words, &mut files, &pieces, &[], &[])?;
+    let (status, output) = ended_over(
+        rt,
+        alloc,
+        "run cut 24 ndf",
+        &mut files,
+        &pieces,
+        &[],
+        &[],
+    )?;
     Ok(status == 0 && output.as_slice().starts_with(serial.replies.as_bytes()))
 }
 

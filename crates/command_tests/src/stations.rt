@@ -1,7 +1,7 @@
 // Stations of a hall over memory, served at once.
-use crate::calling::{status_of, words_in};
 use crate::documents::document_of;
 use crate::turns::{Deeds, HeldHall, Hold, HoldingGate, Until};
+use program_runs::{status_of, words_in};
 use reel_names::AsIs;
 use room_files::{Files, MemFiles};
 use room_halls::{Hall, MemHall};

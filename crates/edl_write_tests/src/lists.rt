@@ -5,30 +5,7 @@ use edl_write::{ListFault, Written};
 use laid_tracks::{clip, dissolve, gap};
 use reel_names::{AsIs, Numbered};
 use std::test::Fail;
-
-// A cut of a day that begins at 01:00:00:00: two clips with a dissolve between them and a title over the second, and
-// two tracks of sound.
-const LIST: &str = "TITLE: CUT
-FCM: NON-DROP FRAME
-001  TAPE1    V     C        00:02:30:00 00:02:31:23 01:00:00:00 01:00:01:23
-002  TAPE1    A     C        00:02:30:00 00:02:33:00 01:00:00:00 01:00:03:00
-003  TAPE1    V     C        00:02:31:23 00:02:31:23 01:00:01:23 01:00:01:23
-003  TAPE2    V     D    003 00:00:04:03 00:00:04:16 01:00:01:23 01:00:02:12
-004  TAPE2    A2    C        00:00:04:04 00:00:05:04 01:00:02:00 01:00:03:00
-005  GFX1     V     C        00:00:00:00 00:00:00:06 01:00:02:12 01:00:02:18
-006  TAPE2    V     C        00:00:04:22 00:00:05:04 01:00:02:18 01:00:03:00
-";
-
-const NUMBERED: &str = "TITLE: CUT
-FCM: NON-DROP FRAME
-001  R001     V     C        00:02:30:00 00:02:31:23 01:00:00:00 01:00:01:23
-002  R001     A     C        00:02:30:00 00:02:33:00 01:00:00:00 01:00:03:00
-003  R001     V     C        00:02:31:23 00:02:31:23 01:00:01:23 01:00:01:23
-003  R002     V     D    003 00:00:04:03 00:00:04:16 01:00:01:23 01:00:02:12
-004  R002     A2    C        00:00:04:04 00:00:05:04 01:00:02:00 01:00:03:00
-005  R003     V     C        00:00:00:00 00:00:00:06 01:00:02:12 01:00:02:18
-006  R002     V     C        00:00:04:22 00:00:05:04 01:00:02:18 01:00:03:00
-";
+use worked_cut::{LIST, NUMBERED};
 
 const FADES: &str = "TITLE: CUT
 FCM: NON-DROP FRAME

@@ -5,22 +5,12 @@ use frame_meaning::{Mark, Side, What};
 use otio_json::Opening;
 use std::alloc::Global;
 use std::test::Fail;
+use worked_cut::LIST;
 
 // An item or gap: its number, the media and the source frame that it shows, its frames, and the mark before it.
 type Row = (Option<u32>, Option<(u32, u32)>, u32, Option<(u32, u32)>);
 
-// A list of a cut that begins at 01:00:00:00, at 24 frames a second.
-const WORKED: &str = "TITLE: CUT
-FCM: NON-DROP FRAME
-001  TAPE1    V     C        00:02:30:00 00:02:31:23 01:00:00:00 01:00:01:23
-002  TAPE1    A     C        00:02:30:00 00:02:33:00 01:00:00:00 01:00:03:00
-003  TAPE1    V     C        00:02:31:23 00:02:31:23 01:00:01:23 01:00:01:23
-003  TAPE2    V     D    003 00:00:04:03 00:00:04:16 01:00:01:23 01:00:02:12
-004  TAPE2    A2    C        00:00:04:04 00:00:05:04 01:00:02:00 01:00:03:00
-005  GFX1     V     C        00:00:00:00 00:00:00:06 01:00:02:12 01:00:02:18
-006  TAPE2    V     C        00:00:04:22 00:00:05:04 01:00:02:18 01:00:03:00
-";
-
+// The tracks of the worked list.
 const WORKED_V: [Row; 5] = [
     (Some(0), Some((0, 3600)), 47, None),
     (Some(1), Some((0, 3647)), 3, None),
@@ -117,7 +107,7 @@ fn has_reels(table: &Table, names: &[&str]) -> bool {
 
 #[test]
 fn a_list_has_a_track_for_each_channel(rt: HostRuntime) -> Result<(), Fail> {
-    let opening = opened(rt.alloc(), WORKED.as_bytes(), false)?;
+    let opening = opened(rt.alloc(), LIST.as_bytes(), false)?;
     assert_eq!(rt; opening.start, 86_400);
     assert!(rt; has_reels(&opening.table, &["TAPE1", "TAPE2", "GFX1"]));
     assert!(rt; has_tracks(&opening, [&WORKED_V, &WORKED_A, &WORKED_A2]));

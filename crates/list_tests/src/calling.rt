@@ -1,5 +1,4 @@
 // The commands over objects in memory.
-use crate::documents::DOCUMENT;
 use command_ends::Status;
 use list_commands::{CutPlace, import_file, list_cut, play_list};
 use reel_names::ReelNamer;
@@ -8,6 +7,7 @@ use room_ports::MemSink;
 use std::alloc::Global;
 use std::test::Fail;
 use timecode12::{Counting, SequenceRate};
+use worked_cut::DOCUMENT;
 
 /// The files of a room, `cut` and `cut.journal`, and the calls of files and of the output that fail.
 #[derive(Clone, Copy)]

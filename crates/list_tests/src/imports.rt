@@ -1,10 +1,10 @@
 // Documents of lists.
 use crate::calling::imports_so;
-use crate::documents::{IMPORTED, LIST};
 use command_ends::Status;
 use std::alloc::Global;
 use std::test::Fail;
 use timecode12::{Counting, SequenceRate};
+use worked_cut::{IMPORTED, LIST};
 
 /// What a list without events is: three tracks without items, from the first frame of the day on.
 const EMPTY: &str = "\

@@ -6,8 +6,6 @@
 #[cfg(test)]
 mod calling;
 #[cfg(test)]
-mod documents;
-#[cfg(test)]
 mod imports;
 #[cfg(test)]
 mod lists;

@@ -3,11 +3,11 @@ ghost use Rattle.std.specs.Prelude.{[]};
 ghost use Rattle.reel_names.specs.Namers.{numbered};
 
 use crate::calling::{Outside, lists_so, with_journal};
-use crate::documents::{DOCUMENT, LIST, NAMED, NUMBERED};
 use command_ends::Status;
 use reel_names::{AsIs, Name, NameFault, Numbered, ReelNamer, Tabled};
 use std::alloc::Global;
 use std::test::Fail;
+use worked_cut::{DOCUMENT, LIST, NAMED, NUMBERED};
 
 /// A journal of three edits: five frames of the title over the first clip, these cut in two, and the sound of the second
 /// track taken out.

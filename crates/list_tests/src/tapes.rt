@@ -1,8 +1,8 @@
 // Tapes of lists.
 use crate::calling::{played, plays_so};
-use crate::documents::{LIST, TAPE};
 use command_ends::Status;
 use std::test::Fail;
+use worked_cut::{LIST, TAPE};
 
 #[test]
 fn a_list_is_played(rt: HostRuntime) -> Result<(), Fail> {

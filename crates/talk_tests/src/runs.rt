@@ -1,5 +1,6 @@
 // Runs of one station: its input in pieces, faults at each call, words and limits.
-use crate::answered::{ended, run_over, words_in};
+use program_runs::{ended, run_over, words_in};
+use room_files::MemFiles;
 use room_ports::{MemSink, MemSource};
 use std::alloc::Global;
 use std::process::Abort;
@@ -251,13 +252,9 @@ fn long_input<R: Threads + Wait + Sync>(
     pieces.push(vec![in alloc; b'x'; bytes]?)?;
     let mut input = MemSource::new(pieces, Vec::new(alloc));
     let mut output = MemSink::new(alloc, Vec::new(alloc));
-    let status = run_over(
-        rt,
-        alloc,
-        &words_in(alloc, "run 1 1")?,
-        &mut input,
-        &mut output,
-    )?;
+    let mut files = MemFiles::new(alloc, Vec::new(alloc));
+    let words = words_in(alloc, "run 1 1")?;
+    let status = run_over(rt, alloc, &words, &mut files, &mut input, &mut output)?;
     let told = output.bytes().ok_or("told")?;
     Ok((status, told.to_vec(alloc)?))
 }

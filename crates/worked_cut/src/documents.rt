@@ -1,7 +1,7 @@
-// A document with two tracks of picture and two of sound, the list of its cut, and the tape of that list.
+// The document of the cut, and the one that its list makes.
 
 /// The document. Its cut has a dissolve, a title over the second clip, and sound of its own from two tapes.
-pub(crate) const DOCUMENT: &str = "\
+pub const DOCUMENT: &str = "\
 {\"OTIO_SCHEMA\":\"Timeline.1\",\"metadata\":{\"made\":\"a\"},\"name\":\"reel one\",\"global_start_time\":{\
 \"OTIO_SCHEMA\":\"RationalTime.1\",\"rate\":24.0,\"value\":86400.0},\"tracks\":{\"OTIO_SCHEMA\":\"Stack.1\",\
 \"name\":\"tracks\",\"source_range\":null,\"effects\":[],\"markers\":[],\"metadata\":{\
@@ -50,58 +50,8 @@ pub(crate) const DOCUMENT: &str = "\
 \"rate\":24.0,\"value\":500.0},\"start_time\":{\"OTIO_SCHEMA\":\"RationalTime.1\",\"rate\":24.0,\
 \"value\":0.0}}}}]}]}}";
 
-/// Its list, where reels have their own names.
-pub(crate) const LIST: &str = "\
-TITLE: CUT
-FCM: NON-DROP FRAME
-001  TAPE1    V     C        00:02:30:00 00:02:31:23 01:00:00:00 01:00:01:23
-002  TAPE1    A     C        00:02:30:00 00:02:33:00 01:00:00:00 01:00:03:00
-003  TAPE1    V     C        00:02:31:23 00:02:31:23 01:00:01:23 01:00:01:23
-003  TAPE2    V     D    003 00:00:04:03 00:00:04:16 01:00:01:23 01:00:02:12
-004  TAPE2    A2    C        00:00:04:04 00:00:05:04 01:00:02:00 01:00:03:00
-005  GFX1     V     C        00:00:00:00 00:00:00:06 01:00:02:12 01:00:02:18
-006  TAPE2    V     C        00:00:04:22 00:00:05:04 01:00:02:18 01:00:03:00
-";
-
-/// Its list, where reels are numbered.
-pub(crate) const NUMBERED: &str = "\
-TITLE: CUT
-FCM: NON-DROP FRAME
-001  R001     V     C        00:02:30:00 00:02:31:23 01:00:00:00 01:00:01:23
-002  R001     A     C        00:02:30:00 00:02:33:00 01:00:00:00 01:00:03:00
-003  R001     V     C        00:02:31:23 00:02:31:23 01:00:01:23 01:00:01:23
-003  R002     V     D    003 00:00:04:03 00:00:04:16 01:00:01:23 01:00:02:12
-004  R002     A2    C        00:00:04:04 00:00:05:04 01:00:02:00 01:00:03:00
-005  R003     V     C        00:00:00:00 00:00:00:06 01:00:02:12 01:00:02:18
-006  R002     V     C        00:00:04:22 00:00:05:04 01:00:02:18 01:00:03:00
-";
-
-/// Its list, where TAPE1, TAPE2 and GFX1 are named A, B and C.
-pub(crate) const NAMED: &str = "\
-TITLE: CUT
-FCM: NON-DROP FRAME
-001  A        V     C        00:02:30:00 00:02:31:23 01:00:00:00 01:00:01:23
-002  A        A     C        00:02:30:00 00:02:33:00 01:00:00:00 01:00:03:00
-003  A        V     C        00:02:31:23 00:02:31:23 01:00:01:23 01:00:01:23
-003  B        V     D    003 00:00:04:03 00:00:04:16 01:00:01:23 01:00:02:12
-004  B        A2    C        00:00:04:04 00:00:05:04 01:00:02:00 01:00:03:00
-005  C        V     C        00:00:00:00 00:00:00:06 01:00:02:12 01:00:02:18
-006  B        V     C        00:00:04:22 00:00:05:04 01:00:02:18 01:00:03:00
-";
-
-/// What the list shows.
-pub(crate) const TAPE: &str = "\
-V 86400 47 TAPE1 3600
-V 86447 3 mix TAPE1 3647 TAPE2 99 1 4
-V 86450 10 TAPE2 102
-V 86460 6 GFX1 0
-V 86466 6 TAPE2 118
-A 86400 72 TAPE1 3600
-A2 86448 24 TAPE2 100
-";
-
 /// The document that the list makes.
-pub(crate) const IMPORTED: &str = "\
+pub const IMPORTED: &str = "\
 {\"OTIO_SCHEMA\":\"Timeline.1\",\"name\":\"\",\"metadata\":{},\
 \"global_start_time\":{\"OTIO_SCHEMA\":\"RationalTime.1\",\"rate\":24.0,\"value\":86400.0},\
 \"tracks\":{\"OTIO_SCHEMA\":\"Stack.1\",\"name\":\"tracks\",\"metadata\":{},\"source_range\":null,\

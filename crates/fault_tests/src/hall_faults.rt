@@ -1,6 +1,5 @@
 // Each call of the hall, of the files and of each station's line fails in its turn, where four stations are served.
-use crate::calling::{status_of, words_in};
-use crate::faults::document;
+use program_runs::{status_of, words_in};
 use reel_names::AsIs;
 use room_files::{Files, MemFiles};
 use room_halls::{Hall, MemHall};
@@ -9,6 +8,7 @@ use std::alloc::Global;
 use std::sync::Wait;
 use std::test::Fail;
 use std::thread::Threads;
+use worked_cut::IMPORTED;
 
 /// The numbers of the calls of the hall and of files that fail, and of the reads and writes of one station's line; 0 is
 /// none.
@@ -193,16 +193,15 @@ fn keeps_all_but(served: &Served, status: u8, station: u32, ok: u32, kept: u32) 
 #[test]
 fn each_call_of_a_hall_of_four_may_fail(rt: HostRuntime) -> Result<(), Fail> {
     let alloc = rt.alloc();
-    let cut = document(&rt, alloc)?;
     for hall in 1..=5u32 {
-        let served = serve_four(&rt, alloc, cut.as_str(), &SENT, Failing { hall, ..NONE })?;
+        let served = serve_four(&rt, alloc, IMPORTED, &SENT, Failing { hall, ..NONE })?;
         assert!(rt; keeps_none(&served, 5, 0), "call {hall}");
     }
     for (file, status, ok) in [(1u32, 1u8, 0u32), (2, 2, 3)] {
-        let served = serve_four(&rt, alloc, cut.as_str(), &SENT, Failing { file, ..NONE })?;
+        let served = serve_four(&rt, alloc, IMPORTED, &SENT, Failing { file, ..NONE })?;
         assert!(rt; keeps_none(&served, status, ok), "file {file}");
     }
-    let served = serve_four(&rt, alloc, cut.as_str(), &SENT, NONE)?;
+    let served = serve_four(&rt, alloc, IMPORTED, &SENT, NONE)?;
     assert!(rt; keeps_all_but(&served, 0, 0, 3, 3));
     Ok(())
 }
@@ -211,7 +210,6 @@ fn each_call_of_a_hall_of_four_may_fail(rt: HostRuntime) -> Result<(), Fail> {
 #[test]
 fn each_call_of_a_line_of_four_may_fail(rt: HostRuntime) -> Result<(), Fail> {
     let alloc = rt.alloc();
-    let cut = document(&rt, alloc)?;
     for station in 0..4u32 {
         for read in 1..=4u32 {
             let failing = Failing {
@@ -219,7 +217,7 @@ fn each_call_of_a_line_of_four_may_fail(rt: HostRuntime) -> Result<(), Fail> {
                 read,
                 ..NONE
             };
-            let served = serve_four(&rt, alloc, cut.as_str(), &SENT, failing)?;
+            let served = serve_four(&rt, alloc, IMPORTED, &SENT, failing)?;
             let ok = read.saturating_sub(1);
             assert!(rt;
                 keeps_all_but(&served, 1, station, ok, ok),
@@ -232,7 +230,7 @@ fn each_call_of_a_line_of_four_may_fail(rt: HostRuntime) -> Result<(), Fail> {
                 write,
                 ..NONE
             };
-            let served = serve_four(&rt, alloc, cut.as_str(), &SENT, failing)?;
+            let served = serve_four(&rt, alloc, IMPORTED, &SENT, failing)?;
             let ok = write.saturating_sub(1);
             assert!(rt;
                 keeps_all_but(&served, 2, station, ok, write),
@@ -247,7 +245,6 @@ fn each_call_of_a_line_of_four_may_fail(rt: HostRuntime) -> Result<(), Fail> {
 #[test]
 fn a_line_that_ends_is_answered(rt: HostRuntime) -> Result<(), Fail> {
     let alloc = rt.alloc();
-    let cut = document(&rt, alloc)?;
     let table = [
         (0u32, 0u8, "slice 0 10"),
         (2, 1, "slice 0 10\n"),
@@ -255,7 +252,7 @@ fn a_line_that_ends_is_answered(rt: HostRuntime) -> Result<(), Fail> {
     ];
     for (read, status, first) in table {
         let sent = [first, "slice 1 10\n", "", ""];
-        let served = serve_four(&rt, alloc, cut.as_str(), &sent, Failing { read, ..NONE })?;
+        let served = serve_four(&rt, alloc, IMPORTED, &sent, Failing { read, ..NONE })?;
         assert_eq!(rt; served.status, status, "{first}");
         assert_eq!(rt;
             served.answered.as_slice(),

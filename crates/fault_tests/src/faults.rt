@@ -1,23 +1,11 @@
 // Each call of files, input, output and hall fails in its turn, over a worked list, its document and four stations.
-use crate::calling::{ended_over, parted};
+use program_runs::ended_over;
 use room_files::MemFiles;
 use std::alloc::Global;
 use std::sync::Wait;
 use std::test::Fail;
 use std::thread::Threads;
-
-/// The list of a cut of picture with a dissolve and of sound on two tracks.
-const LIST: &str = "\
-TITLE: CUT
-FCM: NON-DROP FRAME
-001  TAPE1    V     C        00:02:30:00 00:02:31:23 01:00:00:00 01:00:01:23
-002  TAPE1    A     C        00:02:30:00 00:02:33:00 01:00:00:00 01:00:03:00
-003  TAPE1    V     C        00:02:31:23 00:02:31:23 01:00:01:23 01:00:01:23
-003  TAPE2    V     D    003 00:00:04:03 00:00:04:16 01:00:01:23 01:00:02:12
-004  TAPE2    A2    C        00:00:04:04 00:00:05:04 01:00:02:00 01:00:03:00
-005  GFX1     V     C        00:00:00:00 00:00:00:06 01:00:02:12 01:00:02:18
-006  TAPE2    V     C        00:00:04:22 00:00:05:04 01:00:02:18 01:00:03:00
-";
+use worked_cut::{IMPORTED, LIST};
 
 /// A cut that has no list: it has a third track of sound.
 const SOUND: &str = "\
@@ -68,16 +56,9 @@ fn ran<R: Threads + Wait + Sync>(
     for line in lines.split_inclusive('\n') {
         pieces.push(line.as_bytes())?;
     }
-    let words = parted(alloc, words)?;
     let (reads, writes) = ([failing.read], [failing.write]);
-    let (status, output) = ended_over(rt, alloc, &words, &mut files, &pieces, &reads, &writes)?;
+    let (status, output) = ended_over(rt, alloc, words, &mut files, &pieces, &reads, &writes)?;
     Ok((status, String::from_utf8(output)?))
-}
-
-// The document of the list.
-pub(crate) fn document<R: Threads + Wait + Sync>(rt: &R, alloc: Global) -> Result<String, Fail> {
-    let (_, output) = ran(rt, alloc, "import cut.edl 24 ndf", "", "", NONE)?;
-    Ok(output)
 }
 
 /// What is asked for, its status, and how many calls of files, reads and writes it makes.
@@ -129,18 +110,17 @@ fn ends_so<R: Threads + Wait + Sync>(
 #[test]
 fn each_file_and_each_read_may_fail(rt: HostRuntime) -> Result<(), Fail> {
     let alloc = rt.alloc();
-    let cut = document(&rt, alloc)?;
     for (words, _, files, reads, _) in COMMANDS {
-        let (_, whole) = ran(&rt, alloc, words, cut.as_str(), LINES, NONE)?;
+        let (_, whole) = ran(&rt, alloc, words, IMPORTED, LINES, NONE)?;
         for file in 1..=files {
             let failing = Failing { file, ..NONE };
-            let is_so = ends_so(&rt, alloc, words, cut.as_str(), failing, 1, "")?;
+            let is_so = ends_so(&rt, alloc, words, IMPORTED, failing, 1, "")?;
             assert!(rt; is_so, "{words}, file {file}");
         }
         for read in 1..=reads {
             let failing = Failing { read, ..NONE };
             let wanted = front(alloc, whole.as_str(), read.saturating_sub(1))?;
-            let is_so = ends_so(&rt, alloc, words, cut.as_str(), failing, 1, wanted.as_str())?;
+            let is_so = ends_so(&rt, alloc, words, IMPORTED, failing, 1, wanted.as_str())?;
             assert!(rt; is_so, "{words}, read {read}");
         }
     }
@@ -151,13 +131,12 @@ fn each_file_and_each_read_may_fail(rt: HostRuntime) -> Result<(), Fail> {
 #[test]
 fn each_write_may_fail(rt: HostRuntime) -> Result<(), Fail> {
     let alloc = rt.alloc();
-    let cut = document(&rt, alloc)?;
     for (words, status, files, reads, writes) in COMMANDS {
-        let (_, whole) = ran(&rt, alloc, words, cut.as_str(), LINES, NONE)?;
+        let (_, whole) = ran(&rt, alloc, words, IMPORTED, LINES, NONE)?;
         for write in 1..=writes {
             let failing = Failing { write, ..NONE };
             let wanted = front(alloc, whole.as_str(), write.saturating_sub(1))?;
-            let is_so = ends_so(&rt, alloc, words, cut.as_str(), failing, 2, wanted.as_str())?;
+            let is_so = ends_so(&rt, alloc, words, IMPORTED, failing, 2, wanted.as_str())?;
             assert!(rt; is_so, "{words}, write {write}");
         }
         let behind = Failing {
@@ -169,7 +148,7 @@ fn each_write_may_fail(rt: HostRuntime) -> Result<(), Fail> {
             &rt,
             alloc,
             words,
-            cut.as_str(),
+            IMPORTED,
             behind,
             status,
             whole.as_str(),
