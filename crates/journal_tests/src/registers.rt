@@ -6,7 +6,7 @@ use counters::Registers;
 use edit_journal::{
     Beginning, Blank, CopyFault, Journal, MOST_ENTRIES, Naming, PartSeat, Pass, Turn,
 };
-use room_core::{Entry, Memory};
+use room_core::{Entry, Memory, PartObject};
 use std::alloc::Global;
 use std::marker::Brand;
 use std::sync::Wait;

@@ -1,10 +1,8 @@
 // Lists of cuts.
-ghost use Rattle.std.specs.Prelude.{[]};
-ghost use Rattle.reel_names.specs.Namers.{numbered};
-
 use crate::calling::{Outside, lists_so, with_journal};
+use crate::forgetful::Forgetful;
 use command_ends::Status;
-use reel_names::{AsIs, Name, NameFault, Numbered, ReelNamer, Tabled};
+use reel_names::{AsIs, Name, Numbered, Tabled};
 use std::alloc::Global;
 use std::test::Fail;
 use worked_cut::{DOCUMENT, LIST, NAMED, NUMBERED};
@@ -116,27 +114,23 @@ fn each_reel_may_be_refused(rt: HostRuntime) -> Result<(), Fail> {
     Ok(())
 }
 
-// A namer that finds no memory for a name.
-#[derive(Drop)]
-struct Forgetful {}
-
-impl ReelNamer for Forgetful {
-    ghost given = { λ _. [] };
-
-    ghost rule = { λ _. numbered };
-
-    fn name(&mut self, _reel: u32, _text: &str) -> Result<Name, NameFault> {
-        Err(NameFault::Memory)
-    }
-}
-
-// Then there is no list, and nothing is put.
+// Each reel in its turn is one for which the namer finds no memory. Then there is no list, and nothing is put.
 #[test]
 fn a_namer_may_find_no_memory(rt: HostRuntime) -> Result<(), Fail> {
     let alloc = rt.alloc();
     let outside = with_journal("journal 0\n");
-    let namer = Box::new(alloc, Forgetful {})?;
-    assert!(rt; lists_so(alloc, &outside, 0, namer, Status::OutOfMemory, "")?);
+    for (reel, wanted, text) in [
+        (0, Status::OutOfMemory, ""),
+        (1, Status::OutOfMemory, ""),
+        (2, Status::OutOfMemory, ""),
+        (3, Status::Done, NUMBERED),
+    ] {
+        let namer = Box::new(alloc, Forgetful::new(alloc, reel))?;
+        assert!(rt;
+            lists_so(alloc, &outside, 0, namer, wanted, text)?,
+            "{reel}"
+        );
+    }
     Ok(())
 }
 
