@@ -2,3 +2,5 @@ pub mod Packs
 pub mod Holding
 pub mod Setting
 pub mod Filling
+pub mod Joining
+pub mod Placing

@@ -2,9 +2,9 @@
 ghost use Rattle.std.specs.Prelude.{◌≡◌, ◌+◌, ◌-◌, ◌<◌, ◌≤◌, ◌^◌, ◌/◌, ◌++◌, ◌∷◌, ◌↔◌, [], length, sum_by, slice_get, slice_set, take, drop, IfOk, IfSome, IsNone, OnOk, OnErr};
 
 use crate::finding::find_in_pages;
-use crate::packing::push_page;
-use crate::page::{MOST_ITEMS, Page};
-use crate::spots::{before, behind, spot_of};
+use crate::packing::{pages_between, push_page, put_between, shared, span_of_pages};
+use crate::page::Page;
+use crate::spots::{around, behind, spot_of};
 use crate::{Found, Reader, Spanned};
 use out_of_memory::Memory;
 use std::alloc::Global;
@@ -133,13 +133,9 @@ impl<T: Spanned + Copy> Pages<T> {
     pub fn copy(&self, alloc: Global) -> Result<Pages<T>, Memory>
         ensures { IfOk result (λ p. p ≡ self.now) }
     {
-        let mut pages = Vec::with_capacity(alloc, self.pages.len())?;
-        for page in &self.pages {
-            pages.push(page.share()?)?;
-        }
         Ok(Pages {
             alloc,
-            pages,
+            pages: shared(alloc, &self.pages)?,
             count: self.count,
             total: self.total,
         })
@@ -168,8 +164,9 @@ impl<T: Spanned + Copy> Pages<T> {
         self.push_page(page)
     }
 
-    /// Puts these in place of the items from index `from` up to before `to`. Pages wholly before or behind are kept,
-    /// one in a step; to copy items into new pages counts no step.
+    /// Puts these in place of the items from index `from` up to before `to`. Pages wholly before or behind are kept
+    /// where they are; those behind move along where there are more pages or fewer. It counts one step, and none for
+    /// pages that are passed or moved, nor for items that are copied into new pages.
     pub fn replace<L: Ledger>(
         &mut self,
         from: u32,
@@ -186,65 +183,16 @@ impl<T: Spanned + Copy> Pages<T> {
         ensures most { steps.new ≤ steps.old + length self.old / 32 + 3 }
     {
         steps.tick();
-        let all = self.with_replaced(from, to, &items, steps)?;
-        *self = all;
-        Ok(())
-    }
-
-    // The list with these in place of the items from index `from` up to before `to`.
-    fn with_replaced<L: Ledger>(
-        &self,
-        from: u32,
-        to: u32,
-        items: &[T],
-        steps: &mut Steps<L>,
-    ) -> Result<Pages<T>, Memory>
-        requires order { from ≤ to }
-        requires within { to ≤ length self.now }
-        requires fits { Fits T.places (replaced self.now from to items.now) }
-        ensures ok { IfOk result (λ p. p ≡ replaced self.now from to items.now) }
-        ensures least { steps.old ≤ steps.new }
-        ensures most { steps.new ≤ steps.old + length self.now / 32 + 2 }
-    {
-        let (whole, front) = before(&self.pages, from);
-        let (back, rest) = behind(&self.pages, to);
-        let middle = in_one_piece(self.alloc, front, items, back)?;
-        let mut all = Pages::new(self.alloc);
-        all.push_pages(whole, steps)?;
-        all.push_items(&middle)?;
-        all.push_pages(rest, steps)?;
-        Ok(all)
-    }
-
-    // Puts these pages behind the others, shared: one step for each.
-    fn push_pages<L: Ledger>(
-        &mut self,
-        pages: &[Page<T>],
-        steps: &mut Steps<L>,
-    ) -> Result<(), Memory>
-        requires { Fits T.places (self.old ++ items_of pages.now) }
-        ensures ok { OnOk result (self.new ≡ self.old ++ items_of pages.now) }
-        ensures least { steps.old ≤ steps.new }
-        ensures most { steps.new ≤ steps.old + length pages.now }
-    {
-        for page in pages {
-            steps.tick();
-            self.push_page(page.share()?)?;
-        }
-        Ok(())
-    }
-
-    // Puts these items behind the others, in pages that are made for them.
-    fn push_items(&mut self, items: &[T]) -> Result<(), Memory>
-        requires { Fits T.places (self.old ++ items.now) }
-        ensures { OnOk result (self.new ≡ self.old ++ items.now) }
-    {
-        let mut left = items;
-        while !left.is_empty() {
-            let (filled, rest) = left.split_at(left.len().min(MOST_ITEMS));
-            self.push_page(Page::copied(self.alloc, filled)?)?;
-            left = rest;
-        }
+        let parts = around(&self.pages, from, to);
+        let middle = in_one_piece(self.alloc, parts.front, &items, parts.back)?;
+        let fresh = pages_between(self.alloc, parts.near, &middle, parts.next)?;
+        let start = parts.kept.len();
+        let end = self.pages.len() - parts.far.len();
+        let gone = span_of_pages(&self.pages[start..end]);
+        let come = span_of_pages(&fresh);
+        put_between(&mut self.pages, start, end, fresh)?;
+        self.count = self.count - (to - from) + items.len() as u32;
+        self.total = self.total - gone + come;
         Ok(())
     }
 

@@ -1,7 +1,7 @@
 // Where an item stands among pages: which page, and where in it.
-ghost use Rattle.std.specs.Prelude.{◌≡◌, ◌+◌, ◌<◌, ◌≤◌, ◌^◌, ◌++◌, length, take, drop};
+ghost use Rattle.std.specs.Prelude.{◌≡◌, ◌+◌, ◌-◌, ◌<◌, ◌≤◌, ◌^◌, ◌++◌, length, take, drop};
 ghost use Rattle.item_pages.specs.Packing.{items_of, Packed};
-ghost use Rattle.item_pages.specs.Spots.{IsSpot};
+ghost use Rattle.item_pages.specs.Spots.{IsSpot, Surrounds};
 
 use crate::Spanned;
 use crate::page::Page;
@@ -34,10 +34,45 @@ pub fn spot_of<T: Spanned + Copy>(pages: &[Page<T>], index: u32) -> Spot
     }
 }
 
-/// What is before the item with this index: whole pages, and then items of its own page.
-pub fn before<T: Spanned + Copy>(pages: &[Page<T>], index: u32) -> (&[Page<T>], &[T])
+/// What is around some items: whole pages before and behind, of which the next ones stand apart, and the items that
+/// share their first page and their last.
+#[derive(Drop)]
+pub struct Surroundings<'a, T: Spanned + Copy> {
+    pub kept: &'a [Page<T>],
+    pub near: &'a [Page<T>],
+    pub front: &'a [T],
+    pub back: &'a [T],
+    pub next: &'a [Page<T>],
+    pub far: &'a [Page<T>],
+}
+
+/// What is around the items from index `from` up to before `to`.
+pub fn around<T: Spanned + Copy>(pages: &[Page<T>], from: u32, to: u32) -> Surroundings<'_, T>
+    requires order { from ≤ to }
+    requires within { to ≤ length (items_of pages.now) }
+    ensures { Surrounds pages.now from to result.kept.now result.near.now result.front.now result.back.now result.next.now result.far.now }
+{
+    let (whole, front) = before(pages, from);
+    let (_, tail) = pages.split_at(whole.len());
+    let (back, rest) = behind(tail, to - from + front.len() as u32);
+    let (kept, near) = whole.split_at(whole.len().saturating_sub(1));
+    let (next, far) = rest.split_at(rest.len().min(1));
+    Surroundings {
+        kept,
+        near,
+        front,
+        back,
+        next,
+        far,
+    }
+}
+
+// What is before the item with this index: whole pages, and then items of its own page.
+fn before<T: Spanned + Copy>(pages: &[Page<T>], index: u32) -> (&[Page<T>], &[T])
     requires within { index ≤ length (items_of pages.now) }
     ensures items { take index (items_of pages.now) ≡ items_of result.0.now ++ result.1.now }
+    ensures whole { result.0.now ≡ take (length result.0.now) pages.now }
+    ensures some { length result.0.now ≤ length pages.now }
     ensures packed { Packed pages.now → Packed result.0.now }
     ensures short { length result.1.now ≤ 64 }
 {
@@ -54,6 +89,8 @@ pub fn before<T: Spanned + Copy>(pages: &[Page<T>], index: u32) -> (&[Page<T>], 
 pub fn behind<T: Spanned + Copy>(pages: &[Page<T>], index: u32) -> (&[T], &[Page<T>])
     ensures items { drop index (items_of pages.now) ≡ result.0.now ++ items_of result.1.now }
     ensures filled { index < length (items_of pages.now) → 0 < length result.0.now }
+    ensures whole { result.1.now ≡ drop (length pages.now - length result.1.now) pages.now }
+    ensures some { length result.1.now ≤ length pages.now }
     ensures packed { Packed pages.now → Packed result.1.now }
     ensures short { length result.0.now ≤ 64 }
 {
