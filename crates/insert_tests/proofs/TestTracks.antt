@@ -33,10 +33,3 @@ below_three (suc (suc (suc t))) h = absurd (omega (arith, h))
 
 pub one-of-three : (tracks t : ℕ) → tracks ≡ 7 → t < 3 → list_any (nat_eq t) (tracks_in tracks) ≡ true
 one-of-three tracks t e h = ap (λ (s : ℕ). list_any (nat_eq t) (tracks_in s)) e ∙ below_three t h
-
-pub one-more : (ts : List TrackState) (i : ℕ) (t : TrackState) → ((k : ℕ) (d : TrackState) → k < i → IsRoomy (get_or ts k d)) → i < length ts → t ≡ get_or ts i t → IsRoomy t
-    → (k : ℕ) (d : TrackState) → k < i + 1 → IsRoomy (get_or ts k d)
-one-more ts i t before h is room k d lt = by (eqb k i) refl where
-  by : (b : Bool) → eqb k i ≡ b → IsRoomy (get_or ts k d)
-  by true e = subst IsRoomy (is ∙ get_or_default ts i t d h ∙ ap (λ (j : ℕ). get_or ts j d) (sym (eqb-true k i e))) room
-  by false e = before k d (let n = eqb-false k i e in omega (arith, n, lt))

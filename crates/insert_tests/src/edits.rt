@@ -5,14 +5,13 @@ ghost use Rattle.composables.specs.OwnTracks.{numbers_of};
 ghost use Rattle.composables.specs.Roomy.{IsRoomy};
 
 use crate::plain::plainly;
-use crate::tracks::small_table;
 use composables::{
     Done, EditFault, Extract, Fill, FillLength, Insert, ItemView, Memory, Overwrite, Remove, Slice,
     Table, Track,
 };
 use edit_insert::{extract, fill, insert, overwrite, remove, slice};
 use frame_meaning::{Cell, What};
-use laid_tracks::{clip, dissolve, gap, laid_track};
+use laid_tracks::{clip, dissolve, gap, laid_track, small_table};
 use std::alloc::Global;
 use std::marker::Brand;
 use std::sync::ledger::{Blank, Ledger};

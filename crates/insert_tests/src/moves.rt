@@ -6,11 +6,10 @@ ghost use Rattle.composables.specs.TrackSets.{tracks_in};
 
 use crate::edits::{Edit, dissolved, with_mark};
 use crate::plain::{plainly, plainly_beside};
-use crate::three_tracks::{OnThree, edit_three};
-use crate::tracks::{small_table, three};
+use crate::three_tracks::{OnThree, edit_three, three};
 use composables::{Memory, Table, Track};
 use frame_meaning::Cell;
-use laid_tracks::{clip, laid_track};
+use laid_tracks::{clip, laid_track, small_table};
 use std::alloc::Global;
 use std::marker::Brand;
 use std::process::Abort;

@@ -1,16 +1,15 @@
 // Worked examples of insert and extract over three tracks, also of linked items.
-ghost use Rattle.std.specs.Prelude.{◌≡◌, ◌<◌, All, IfOk, IfSome};
+ghost use Rattle.std.specs.Prelude.{◌≡◌, ◌<◌, [], ◌∷◌, All, IfOk, IfSome};
 ghost use Rattle.composables.specs.Good.{IsGood};
 ghost use Rattle.composables.specs.OwnTracks.{numbers_of};
 ghost use Rattle.composables.specs.TrackSets.{tracks_in};
 
-use crate::tracks::{all_roomy, item, small_table, three, told_all};
 use composables::{
     Done, EditFault, Extract, Insert, Link3, Memory, Numbers, Refusal, Table, Track,
 };
 use edit_insert::{extract, insert};
 use frame_meaning::What;
-use laid_tracks::laid_track;
+use laid_tracks::{all_roomy, clip, laid_track, small_table, told_all};
 use link_groups::link;
 use std::alloc::Global;
 use std::marker::Brand;
@@ -26,6 +25,17 @@ pub enum OnThree {
     Put(u32, u32, u32, u32),
     Take(u32, u32),
     Tie(u32, u32, u32),
+}
+
+// Three tracks that an edit names.
+pub fn three(alloc: Global, a: Track, b: Track, c: Track) -> Result<Vec<Track>, Memory>
+    ensures { IfOk result (λ named. named.items ≡ a ∷ b ∷ c ∷ []) }
+{
+    let mut named = Vec::new(alloc);
+    named.push(a)?;
+    named.push(b)?;
+    named.push(c)?;
+    Ok(named)
 }
 
 fn must_be_of_three(rt: &impl Abort, track: u32)
@@ -129,7 +139,7 @@ fn start(alloc: Global, table: &Table, number: u32, len: u32) -> Result<Option<T
     if len == 0 {
         laid_track(alloc, table, number, &[])
     } else {
-        laid_track(alloc, table, number, &[item(0, 0, len)])
+        laid_track(alloc, table, number, &[clip(0, 0, 0, len)])
     }
 }
 

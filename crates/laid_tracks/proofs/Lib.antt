@@ -1,3 +1,4 @@
 pub mod Laid
 pub mod Alone
 pub mod Found
+pub mod RoomyTracks

@@ -5,5 +5,11 @@
 #![tactic(auto)]
 
 mod laying;
+mod roomy;
+mod tables;
+mod texts;
 
 pub use laying::{clip, dissolve, gap, laid_track, linked, linked_track};
+pub use roomy::all_roomy;
+pub use tables::small_table;
+pub use texts::told_all;

@@ -10,7 +10,7 @@ use composables::{
     Track, Unlink,
 };
 use frame_meaning::{Link, Memory, What};
-use laid_tracks::{clip, laid_track};
+use laid_tracks::{all_roomy, clip, laid_track};
 use link_groups::{check, link, offset, renumber, unlink};
 use std::alloc::Global;
 use std::marker::Brand;
@@ -91,17 +91,6 @@ fn split_all<L: Ledger>(
 
 fn link_at(named: &[Track], index: usize) -> Option<Link> {
     named.get(index)?.item(0)?.link
-}
-
-fn all_roomy(named: &[Track]) -> bool
-    ensures { result ≡ true → All (λ t. IsRoomy t) named.now }
-{
-    for track in named {
-        if track.next_item() > 2_147_483_648 || track.next_link() > 2_147_483_648 {
-            return false;
-        }
-    }
-    true
 }
 
 fn play<L: Ledger>(

@@ -1,6 +1,6 @@
 use Rattle.std.proofs.Common.{arith}
-use Rattle.insert_tests.proofs.TestTracks.{one-more}
-use Rattle.insert_tests.proofs.tracks.all_roomy.Goals as goal
+use Rattle.laid_tracks.proofs.RoomyTracks.{one-more}
+use Rattle.laid_tracks.proofs.roomy.all_roomy.Goals as goal
 
 pub loop-track-preserved : goal.loop-track-preserved
 loop-track-preserved c =

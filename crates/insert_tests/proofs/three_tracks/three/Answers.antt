@@ -1,5 +1,5 @@
 use Rattle.insert_tests.proofs.TestTracks.{three-are}
-use Rattle.insert_tests.proofs.tracks.three.Goals as goal
+use Rattle.insert_tests.proofs.three_tracks.three.Goals as goal
 
 pub returns : goal.returns
 returns c =

@@ -3,13 +3,13 @@ ghost use Rattle.std.specs.Prelude.{◌≡◌, ◌<◌, [], ◌∷◌, All};
 ghost use Rattle.composables.specs.Good.{IsGood};
 ghost use Rattle.composables.specs.OwnTracks.{numbers_of};
 
-use crate::tracks::{all_roomy, item, shown_items, small_table, told_all};
 use composables::{
     Done, EditFault, Fill, FillLength, ItemView, MAX_FRAMES, Memory, Overwrite, Refusal, Remove,
     Slice, Table, Track,
 };
 use edit_insert::{fill, overwrite, remove, slice};
 use frame_meaning::What;
+use laid_tracks::{all_roomy, clip, small_table, told_all};
 use std::alloc::Global;
 use std::marker::Brand;
 use std::process::Abort;
@@ -160,7 +160,7 @@ fn play<L: Ledger>(
     named.push(track)?;
     let last = edit_all(rt, alloc, table, &mut named, edits, number, &mut steps);
     Ok(Played {
-        items: shown_items(alloc, &named[0])?,
+        items: named[0].items(alloc)?,
         next: named[0].next_item(),
         last,
     })
@@ -224,7 +224,7 @@ fn is_refused(
     refusal: Refusal,
 ) -> Result<bool, Memory> {
     let played = play_from_empty(rt, alloc, number, &[over_on(number, 0, 0, 4), edit])?;
-    let stays = played.next == 1 && played.items.as_slice() == [item(0, 0, 4)].as_slice();
+    let stays = played.next == 1 && played.items.as_slice() == [clip(0, 0, 0, 4)].as_slice();
     Ok(stays && played.last == Err(EditFault::Refused(refusal)))
 }
 
