@@ -31,12 +31,7 @@ fn a_summary_that_can_not_be_written_is_a_write_fault(rt: HostRuntime) -> Result
 
 #[test]
 fn other_words_make_no_session(rt: HostRuntime) -> Result<(), Fail> {
-    for words in [
-        "make 1 0",
-        "make 1 20001",
-        "make -1 1",
-        "make 4294967296 1",
-    ] {
+    for words in ["make 1 0", "make 1 20001", "make -1 1", "make 4294967296 1"] {
         let (status, bytes) = ended(&rt, rt.alloc(), words, &[], &[], &[])?;
         assert_eq!(rt; status, 3);
         assert_eq!(rt; bytes.as_slice(), b"refused words\n".as_slice());

@@ -284,15 +284,7 @@ fn is_answered_alone<R: Threads + Wait + Sync>(
     let mut files = MemFiles::new(alloc, Vec::new(alloc));
     files.put("cut", document)?;
     let pieces = [serial.sent.as_bytes()];
-    let (status, output) = ended_over(
-        rt,
-        alloc,
-        "run cut 24 ndf",
-        &mut files,
-        &pieces,
-        &[],
-        &[],
-    )?;
+    let (status, output) = ended_over(rt, alloc, "run cut 24 ndf", &mut files, &pieces, &[], &[])?;
     Ok(status == 0 && output.as_slice().starts_with(serial.replies.as_bytes()))
 }
 

@@ -144,15 +144,7 @@ fn each_write_may_fail(rt: HostRuntime) -> Result<(), Fail> {
             read: reads.saturating_add(1),
             write: writes.saturating_add(1),
         };
-        let is_so = ends_so(
-            &rt,
-            alloc,
-            words,
-            IMPORTED,
-            behind,
-            status,
-            whole.as_str(),
-        )?;
+        let is_so = ends_so(&rt, alloc, words, IMPORTED, behind, status, whole.as_str())?;
         assert!(rt; is_so, "{words}, no call");
     }
     Ok(())

@@ -4,8 +4,7 @@ use Rattle.list_tests.proofs.forgetful.ForgetfulReelNamer.name.Goals as goal
 
 pub invariant_of-self-2 : goal.invariant_of-self-2
 invariant_of-self-2 c =
-    let was = c.self.invariant.1 c.if-self-ge999.false in
-    (
+    let was = c.self.invariant.1 c.if-self-ge999.false in (
       c.in_ok-name.ensures.names,
       λ few. rw c.in_ok-name.ensures.grows (
         omega (arith, was.0, one_more c.self.inside.namer c.args.reel c.in_ok-name.name),
