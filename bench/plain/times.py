@@ -128,10 +128,10 @@ def lines_of(file):
     return os.pread(file, os.fstat(file).st_size, 0).count(b"\n")
 
 
-def memory_of(ours, lines):
+def memory_of(ours, lines, tracks=1):
     """The memory of the program itself once it has answered these lines, in bytes."""
     with tempfile.TemporaryFile() as replies:
-        process = subprocess.Popen([ours, "run", "1", "1"], stdin=subprocess.PIPE, stdout=replies)
+        process = subprocess.Popen([ours, "run", str(tracks), "1"], stdin=subprocess.PIPE, stdout=replies)
         process.stdin.write("".join(f"{line}\n" for line in lines).encode())
         process.stdin.flush()
         answered = 0
@@ -146,12 +146,13 @@ def memory_of(ours, lines):
 
 
 def tell_memory(ours):
-    """What the items of a track take, beside what as many edits of one place take."""
-    edits = 10_000
-    one_place = memory_of(ours, [f"overwrite 0 0 @0 0 {ITEM_FRAMES}"] * edits)
-    scattered_over = memory_of(ours, scattered(edits))
-    taken, items = scattered_over - one_place, (2 * edits - 1) * ITEM_BYTES
-    print(f"memory of {2 * edits - 1:,} items and gaps {taken / 1e6:.2f} MB, by count {items / 1e6:.2f} MB, ratio {taken / items:.2f}", flush=True)
+    """What the items of eight tracks take, beside what as many edits of one place of each take."""
+    tracks, edits = 8, 10_000
+    one_place = [f"overwrite {track} 0 @0 0 {ITEM_FRAMES}" for track in range(tracks) for _ in range(edits)]
+    all_over = [line.replace(" 0 ", f" {track} ", 1) for track in range(tracks) for line in scattered(edits)]
+    taken = memory_of(ours, all_over, tracks) - memory_of(ours, one_place, tracks)
+    count = tracks * (2 * edits - 1)
+    print(f"memory of {count:,} items and gaps {taken / 1e6:.2f} MB, by count {count * ITEM_BYTES / 1e6:.2f} MB, ratio {taken / (count * ITEM_BYTES):.2f}", flush=True)
     for count in (1_000, 100_000):
         most = memory_of(ours, [f"overwrite 0 0 @0 0 {ITEM_FRAMES}"] * count)
         print(f"memory after {count:>7,} edits of one small track {most / 1e6:>10.1f} MB", flush=True)

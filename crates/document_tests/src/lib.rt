@@ -1,10 +1,6 @@
-//! Tests of the crates that read and write documents: what JSON and documents are read as, their faults and limits,
-//! and that what is written is read again. There is nothing here to run besides.
+//! Tests of the crates that read and write documents: what documents are read as, their faults and limits, and that what
+//! is written is read again. There is nothing here to run besides.
 #![tactic(auto)]
 
 #[cfg(test)]
 mod documents;
-#[cfg(test)]
-mod tokens;
-#[cfg(test)]
-mod trees;

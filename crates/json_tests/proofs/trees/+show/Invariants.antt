@@ -1,4 +1,4 @@
-use Rattle.document_tests.proofs.trees.+show.Given as goal
+use Rattle.json_tests.proofs.trees.+show.Given as goal
 
 abbrev pub decreases-show : goal.decreases-show
 decreases-show l = l.levels
