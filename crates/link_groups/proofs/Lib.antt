@@ -18,3 +18,5 @@ pub mod LinkedShifts
 pub mod Uncut
 pub mod GoodShifts
 pub mod Meant
+pub mod Marked
+pub mod Unsplit

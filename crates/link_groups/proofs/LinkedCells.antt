@@ -1,8 +1,8 @@
 -- The links of what stands in a range of record frames, item by item and track by track.
-use Rattle.std.proofs.Common.{◌≡◌, ℕ, zero, suc, ◌+◌, ◌-◌, ◌<◌, ◌≤◌, max, min, Bool, true, false, ◌||◌, List, [], ◌∷◌, ◌++◌, All, length, take, drop, Option, Some, slice_get, refl, sym, ap, ◌∙◌, arith, ⊎_elim}
+use Rattle.std.proofs.Common.{◌≡◌, ℕ, zero, suc, ◌+◌, ◌-◌, ◌<◌, ◌≤◌, min, Bool, true, false, ◌&&◌, ◌||◌, List, [], ◌∷◌, ◌++◌, append_assoc, get_or, length, take, drop, Option, Some, slice_get, refl, sym, ap, ◌∙◌, arith, ⊎_elim}
 use Rattle.std.specs.List.{list_any}
 use Rattle.std.proofs.lemmas.Bool.{cases_lt}
-use Rattle.std.proofs.lemmas.List.{append-nil, take-append-le, take_all, take_more}
+use Rattle.std.proofs.lemmas.List.{append-nil, take-append-drop, take-append-le, take_all, take_more}
 use Rattle.std.proofs.lemmas.List.Folds.{list_any-append}
 use Rattle.std.proofs.lemmas.Option.{get_or_from_slice_get, slice_get_within}
 use Rattle.std.proofs.Math.Seq.{take-append-add}
@@ -13,14 +13,15 @@ use Rattle.frame_meaning.specs.declared.cells.What.{What}
 use Rattle.frame_meaning.specs.declared.frames.Side.{Side}
 use Rattle.frame_meaning.specs.Cells.{next_side, span}
 use Rattle.composables.specs.declared.items.ItemView.{ItemView}
-use Rattle.composables.specs.Items.{cells_of, marked, view_cells}
+use Rattle.composables.specs.Items.{cells_of, items_of, marked, view_cells}
 use Rattle.composables.specs.Joined.{frames_in}
-use Rattle.composables.specs.Links.{cells_before, cells_from}
+use Rattle.composables.specs.Links.{cells_before}
 use Rattle.composables.specs.TrackFacts.{IsKept}
 use Rattle.composables.specs.TrackState.{TrackState}
 use Rattle.composables.proofs.Frames.{no_view}
 use Rattle.composables.proofs.Joining.{cells_of-append, length-cells_of, length-view_cells}
-use Rattle.link_groups.specs.Splits.{cells_between, has_key, is_key_of}
+use Rattle.link_groups.specs.Splits.{has_key, is_key_of}
+use Rattle.link_groups.proofs.Bare.{AreBare, bare-drop, bare-keys}
 use Rattle.link_groups.proofs.LeastLinks.{drop_over}
 
 -- cells that all have one link
@@ -97,71 +98,102 @@ more_cells vs i v e =
     ap cells_of (take_more vs i no_view lt ∙ ap (λ (u : ItemView). take i vs ++ u ∷ []) (get_or_from_slice_get vs i v no_view e))
     ∙ (cells_of-append (take i vs) (v ∷ []) ∙ ap (λ (cs : List Cell). cells_of (take i vs) ++ cs) (append-nil (view_cells v)))
 
--- the items up to an index, and one more
-range_more : (q : ℕ × ℕ) (from to i : ℕ) (vs : List ItemView) (v : ItemView) → slice_get vs i ≡ Some v
-    → list_any (has_key q) (drop from (take to (cells_of (take (i + 1) vs))))
-    ≡ (list_any (has_key q) (drop from (take to (cells_of (take i vs)))) || list_any (has_key q) (drop (from - min to (frames_in (take i vs))) (take (to - frames_in (take i vs)) (view_cells v))))
-range_more q from to i vs v e =
-    let long : length (cells_of (take i vs)) ≡ frames_in (take i vs) = length-cells_of (take i vs) in
-    let part : length (take to (cells_of (take i vs))) ≡ min to (frames_in (take i vs)) = length_take to (cells_of (take i vs)) ∙ ap (min to) long in
-    ap (λ (cs : List Cell). list_any (has_key q) (drop from (take to cs))) (more_cells vs i v e)
-    ∙ (ap (λ (cs : List Cell). list_any (has_key q) (drop from cs)) (take_over to (cells_of (take i vs)) (view_cells v))
-    ∙ (ap (list_any (has_key q)) (drop_over from (take to (cells_of (take i vs))) (take (to - length (cells_of (take i vs))) (view_cells v)))
-    ∙ (list_any-append (has_key q) (drop from (take to (cells_of (take i vs)))) (drop (from - length (take to (cells_of (take i vs)))) (take (to - length (cells_of (take i vs))) (view_cells v)))
-    ∙ ap (λ (b : Bool). list_any (has_key q) (drop from (take to (cells_of (take i vs)))) || b)
-    (ap (λ (n : ℕ). list_any (has_key q) (drop (from - n) (take (to - length (cells_of (take i vs))) (view_cells v)))) part
-    ∙ ap (λ (n : ℕ). list_any (has_key q) (drop (from - min to (frames_in (take i vs))) (take (to - n) (view_cells v)))) long))))
-
-part_long : (from to at : ℕ) (v : ItemView) → length (drop (from - min to at) (take (to - at) (view_cells v))) ≡ min (to - at) v.len - (from - min to at)
-part_long from to at v =
-    length_drop (from - min to at) (take (to - at) (view_cells v))
-    ∙ ap (λ (n : ℕ). n - (from - min to at)) (length_take (to - at) (view_cells v) ∙ ap (min (to - at)) (length-view_cells v))
-
-pub range-met : (q : ℕ × ℕ) (from to i : ℕ) (vs : List ItemView) (v : ItemView) → slice_get vs i ≡ Some v → max (frames_in (take i vs)) from < min (frames_in (take i vs) + v.len) to
-    → list_any (has_key q) (drop from (take to (cells_of (take (i + 1) vs)))) ≡ (list_any (has_key q) (drop from (take to (cells_of (take i vs)))) || is_key_of q v.link)
-range-met q from to i vs v e met =
-    let at : ℕ = frames_in (take i vs) in
-    let cs : List Cell = drop (from - min to (frames_in (take i vs))) (take (to - frames_in (take i vs)) (view_cells v)) in
-    range_more q from to i vs v e
-    ∙ ap (λ (b : Bool). list_any (has_key q) (drop from (take to (cells_of (take i vs)))) || b)
-    (any_some q (is_key_of q v.link) (drop (from - min to (frames_in (take i vs))) (take (to - frames_in (take i vs)) (view_cells v)))
-    (same_drop q (is_key_of q v.link) (from - min to (frames_in (take i vs))) (take (to - frames_in (take i vs)) (view_cells v)) (same_take q (is_key_of q v.link) (to - frames_in (take i vs)) (view_cells v) (same_view q v)))
-    (omega (arith, part_long from to (frames_in (take i vs)) v, met)))
-
 or_assoc : (a b c : Bool) → ((a || b) || c) ≡ (a || (b || c))
 or_assoc true b c = refl
 or_assoc false b c = refl
-
--- beside what was there before
-pub or-again : (q : ℕ × ℕ) (from to i : ℕ) (vs : List ItemView) (v : ItemView) (old : Bool) → slice_get vs i ≡ Some v → max (frames_in (take i vs)) from < min (frames_in (take i vs) + v.len) to
-    → ((old || list_any (has_key q) (drop from (take to (cells_of (take i vs))))) || is_key_of q v.link) ≡ (old || list_any (has_key q) (drop from (take to (cells_of (take (i + 1) vs)))))
-or-again q from to i vs v old e met =
-    or_assoc old (list_any (has_key q) (drop from (take to (cells_of (take i vs))))) (is_key_of q v.link)
-    ∙ ap (λ (b : Bool). old || b) (sym (range-met q from to i vs v e met))
 
 or_none : (b : Bool) → (b || false) ≡ b
 or_none true = refl
 or_none false = refl
 
-pub range-passed : (q : ℕ × ℕ) (from to i : ℕ) (vs : List ItemView) (v : ItemView) → slice_get vs i ≡ Some v → min (frames_in (take i vs) + v.len) to ≤ max (frames_in (take i vs)) from
-    → list_any (has_key q) (drop from (take to (cells_of (take (i + 1) vs)))) ≡ list_any (has_key q) (drop from (take to (cells_of (take i vs))))
-range-passed q from to i vs v e passed =
-    range_more q from to i vs v e
-    ∙ (ap (λ (b : Bool). list_any (has_key q) (drop from (take to (cells_of (take i vs)))) || b)
-    (any_none q (drop (from - min to (frames_in (take i vs))) (take (to - frames_in (take i vs)) (view_cells v))) (omega (arith, part_long from to (frames_in (take i vs)) v, passed)))
-    ∙ or_none (list_any (has_key q) (drop from (take to (cells_of (take i vs))))))
+-- an item that begins before a place is before it with its first frame
+front_more : (q : ℕ × ℕ) (x i : ℕ) (vs : List ItemView) (v : ItemView) → slice_get vs i ≡ Some v → frames_in (take i vs) < x → 0 < v.len
+    → list_any (has_key q) (take x (cells_of (take (i + 1) vs))) ≡ (list_any (has_key q) (take x (cells_of (take i vs))) || is_key_of q v.link)
+front_more q x i vs v e less some =
+    let long : length (cells_of (take i vs)) ≡ frames_in (take i vs) = length-cells_of (take i vs) in
+    let part : length (take (x - length (cells_of (take i vs))) (view_cells v)) ≡ min (x - length (cells_of (take i vs))) (length (view_cells v)) = length_take (x - length (cells_of (take i vs))) (view_cells v) in
+    ap (λ (cs : List Cell). list_any (has_key q) (take x cs)) (more_cells vs i v e)
+    ∙ (ap (list_any (has_key q)) (take_over x (cells_of (take i vs)) (view_cells v))
+    ∙ (list_any-append (has_key q) (take x (cells_of (take i vs))) (take (x - length (cells_of (take i vs))) (view_cells v))
+    ∙ ap (λ (b : Bool). list_any (has_key q) (take x (cells_of (take i vs))) || b)
+    (any_some q (is_key_of q v.link) (take (x - length (cells_of (take i vs))) (view_cells v))
+    (same_take q (is_key_of q v.link) (x - length (cells_of (take i vs))) (view_cells v) (same_view q v))
+    (omega (arith, part, long, length-view_cells v, less, some)))))
 
--- the tracks up to an index, and one more
+-- beside what was there before
+pub front-again : (q : ℕ × ℕ) (x i : ℕ) (vs : List ItemView) (v : ItemView) (old : Bool) → slice_get vs i ≡ Some v → frames_in (take i vs) < x → 0 < v.len
+    → ((old || list_any (has_key q) (take x (cells_of (take i vs)))) || is_key_of q v.link) ≡ (old || list_any (has_key q) (take x (cells_of (take (i + 1) vs))))
+front-again q x i vs v old e less some =
+    or_assoc old (list_any (has_key q) (take x (cells_of (take i vs)))) (is_key_of q v.link)
+    ∙ ap (λ (b : Bool). old || b) (sym (front_more q x i vs v e less some))
 
--- all before a place, and all from one on
+-- items that reach a place have all that stands before it
+pub front-whole : (q : ℕ × ℕ) (x i : ℕ) (t : TrackState) → IsKept t → x ≤ frames_in (take i (items_of t.cells))
+    → list_any (has_key q) (take x (cells_of (take i (items_of t.cells)))) ≡ list_any (has_key q) (take x t.cells)
+front-whole q x i t kept le =
+    let long : length (cells_of (take i (items_of t.cells))) ≡ frames_in (take i (items_of t.cells)) = length-cells_of (take i (items_of t.cells)) in
+    ap (list_any (has_key q))
+    (sym (take-append-le x (cells_of (take i (items_of t.cells))) (cells_of (drop i (items_of t.cells))) (omega (arith, long, le)))
+    ∙ ap (take x) (sym (cells_of-append (take i (items_of t.cells)) (drop i (items_of t.cells))) ∙ (ap cells_of (take-append-drop i (items_of t.cells)) ∙ kept.whole)))
 
-pub all-before : (x : ℕ) (ts : List TrackState) → cells_between 0 x ts ≡ cells_before x ts
-all-before x [] = refl
-all-before x (t ∷ ts) = ap (λ (cs : List Cell). take x t.cells ++ cs) (all-before x ts)
+behind_more : (q : ℕ × ℕ) (y i : ℕ) (vs : List ItemView) (v : ItemView) → slice_get vs i ≡ Some v
+    → list_any (has_key q) (drop y (cells_of (take (i + 1) vs))) ≡ (list_any (has_key q) (drop y (cells_of (take i vs))) || list_any (has_key q) (drop (y - length (cells_of (take i vs))) (view_cells v)))
+behind_more q y i vs v e =
+    ap (λ (cs : List Cell). list_any (has_key q) (drop y cs)) (more_cells vs i v e)
+    ∙ (ap (list_any (has_key q)) (drop_over y (cells_of (take i vs)) (view_cells v))
+    ∙ list_any-append (has_key q) (drop y (cells_of (take i vs))) (drop (y - length (cells_of (take i vs))) (view_cells v)))
 
-pub all-from : (y : ℕ) (ts : List TrackState) → All (λ (t : TrackState). IsKept t) ts → cells_between y 4294967295 ts ≡ cells_from y ts
-all-from y [] h = refl
-all-from y (t ∷ ts) h =
-    let kept : IsKept t = h 0 t (omega arith) in
-    ap (λ (cs : List Cell). drop y cs ++ cells_between y 4294967295 ts) (take_all 4294967295 t.cells (omega (arith, kept.short)))
-    ∙ ap (λ (cs : List Cell). drop y t.cells ++ cs) (all-from y ts (λ k d lt. h (suc k) d (omega (arith, lt))))
+behind_met : (q : ℕ × ℕ) (y i : ℕ) (vs : List ItemView) (v : ItemView) → slice_get vs i ≡ Some v → y < frames_in (take i vs) + v.len → 0 < v.len
+    → list_any (has_key q) (drop y (cells_of (take (i + 1) vs))) ≡ (list_any (has_key q) (drop y (cells_of (take i vs))) || is_key_of q v.link)
+behind_met q y i vs v e less some =
+    let long : length (cells_of (take i vs)) ≡ frames_in (take i vs) = length-cells_of (take i vs) in
+    let part : length (drop (y - length (cells_of (take i vs))) (view_cells v)) ≡ length (view_cells v) - (y - length (cells_of (take i vs))) = length_drop (y - length (cells_of (take i vs))) (view_cells v) in
+    behind_more q y i vs v e
+    ∙ ap (λ (b : Bool). list_any (has_key q) (drop y (cells_of (take i vs))) || b)
+    (any_some q (is_key_of q v.link) (drop (y - length (cells_of (take i vs))) (view_cells v))
+    (same_drop q (is_key_of q v.link) (y - length (cells_of (take i vs))) (view_cells v) (same_view q v))
+    (omega (arith, part, long, length-view_cells v, less, some)))
+
+and_or : (old m d k : Bool) → ((old || (m && d)) || (m && k)) ≡ (old || (m && (d || k)))
+and_or true m d k = refl
+and_or false true d k = refl
+and_or false false d k = refl
+
+-- an item that ends past a place, beside what was there before; what is wanted of it is m
+pub behind-again : (q : ℕ × ℕ) (y i : ℕ) (vs : List ItemView) (v : ItemView) (old m : Bool) → slice_get vs i ≡ Some v → y < frames_in (take i vs) + v.len → 0 < v.len
+    → ((old || (m && list_any (has_key q) (drop y (cells_of (take i vs))))) || (m && is_key_of q v.link)) ≡ (old || (m && list_any (has_key q) (drop y (cells_of (take (i + 1) vs)))))
+behind-again q y i vs v old m e less some =
+    and_or old m (list_any (has_key q) (drop y (cells_of (take i vs)))) (is_key_of q v.link)
+    ∙ ap (λ (b : Bool). old || (m && b)) (sym (behind_met q y i vs v e less some))
+
+-- and one that ends there or before
+pub behind-passed : (q : ℕ × ℕ) (y i : ℕ) (vs : List ItemView) (v : ItemView) → slice_get vs i ≡ Some v → frames_in (take i vs) + v.len ≤ y
+    → list_any (has_key q) (drop y (cells_of (take (i + 1) vs))) ≡ list_any (has_key q) (drop y (cells_of (take i vs)))
+behind-passed q y i vs v e passed =
+    let long : length (cells_of (take i vs)) ≡ frames_in (take i vs) = length-cells_of (take i vs) in
+    let part : length (drop (y - length (cells_of (take i vs))) (view_cells v)) ≡ length (view_cells v) - (y - length (cells_of (take i vs))) = length_drop (y - length (cells_of (take i vs))) (view_cells v) in
+    behind_more q y i vs v e
+    ∙ (ap (λ (b : Bool). list_any (has_key q) (drop y (cells_of (take i vs))) || b)
+    (any_none q (drop (y - length (cells_of (take i vs))) (view_cells v)) (omega (arith, part, long, length-view_cells v, passed)))
+    ∙ or_none (list_any (has_key q) (drop y (cells_of (take i vs)))))
+
+or_and_none : (old m b : Bool) → b ≡ false → old ≡ (old || (m && b))
+or_and_none true m b e = refl
+or_and_none false true b e = sym e
+or_and_none false false b e = refl
+
+-- a track that ends at a place or before it has nothing behind it
+pub behind-none : (q : ℕ × ℕ) (y : ℕ) (cs : List Cell) (old m : Bool) → length cs ≤ y → old ≡ (old || (m && list_any (has_key q) (drop y cs)))
+behind-none q y cs old m le = or_and_none old m (list_any (has_key q) (drop y cs)) (any_none q (drop y cs) (omega (arith, length_drop y cs, le)))
+
+-- nor one without links
+pub behind-bare : (q : ℕ × ℕ) (y : ℕ) (cs : List Cell) (old m : Bool) → AreBare cs → old ≡ (old || (m && list_any (has_key q) (drop y cs)))
+behind-bare q y cs old m bare = or_and_none old m (list_any (has_key q) (drop y cs)) (bare-keys q (drop y cs) (bare-drop y cs bare))
+
+-- the tracks up to an index, and one more, and all
+pub tracks_more_before : (x i : ℕ) (ts : List TrackState) (t : TrackState) → i < length ts → t ≡ get_or ts i t → cells_before x (take (i + 1) ts) ≡ cells_before x (take i ts) ++ take x t.cells
+tracks_more_before x i ts t lt is =
+    ap (cells_before x) (take_more ts i t lt ∙ ap (λ (u : TrackState). take i ts ++ u ∷ []) (sym is)) ∙ added (take i ts) where
+      added : (us : List TrackState) → cells_before x (us ++ t ∷ []) ≡ cells_before x us ++ take x t.cells
+      added [] = append-nil (take x t.cells)
+      added (u ∷ us) = ap (λ (cs : List Cell). take x u.cells ++ cs) (added us) ∙ sym (append_assoc (take x u.cells) (cells_before x us) (take x t.cells))

@@ -148,12 +148,6 @@ any-keys q (l ∷ ls) =
     ap (λ (b : Bool). b || list_any (is_at (key_cmp q)) (map key_of ls)) (key-at q (key_of l))
     ∙ ap (λ (b : Bool). is_key_of q (Some l) || b) (any-keys q ls)
 
--- a set with the links of cells has their keys
-pub keys-of-set : (s : BTreeSet (ℕ × ℕ)) (cs : List Cell) → IsOrdered key_cmp s → ((q : ℕ × ℕ) → contains key_cmp s q ≡ list_any (has_key q) cs) → s.keys ≡ map key_of (links_in cs)
-keys-of-set s cs ordered has =
-    btree_set_from_contains key-total s (record { keys = map key_of (links_in cs) }) ordered (sorted_links cs)
-    (λ q. has q ∙ sym (any-keys q (links_in cs) ∙ any-links q cs)) key-exact
-
 -- the keys of the links that are split
 
 filter_keys : (p : ℕ × ℕ → Bool) (r : Link → Bool) (ls : List Link) → ((l : Link) → p (key_of l) ≡ r l) → filter p (map key_of ls) ≡ map key_of (filter r ls)
@@ -163,13 +157,60 @@ filter_keys p r (l ∷ ls) h = ap (λ (b : Bool). cond b (key_of l ∷ filter p 
   by true i = ap (λ (qs : List (ℕ × ℕ)). key_of l ∷ qs) i
   by false i = i
 
-pub split-keys : (before moved : BTreeSet (ℕ × ℕ)) (x z : ℕ) (ts : List TrackState) → IsOrdered key_cmp moved
-    → ((q : ℕ × ℕ) → contains key_cmp before q ≡ list_any (has_key q) (cells_before x ts)) → ((q : ℕ × ℕ) → contains key_cmp moved q ≡ list_any (has_key q) (cells_from z ts))
-    → filter (λ (k : ℕ × ℕ). contains key_cmp before k) moved.keys ≡ map key_of (split_links x z ts)
-split-keys before moved x z ts ordered has_before has_moved =
-    ap (filter (λ (k : ℕ × ℕ). contains key_cmp before k)) (keys-of-set moved (cells_from z ts) ordered has_moved)
-    ∙ filter_keys (λ (k : ℕ × ℕ). contains key_cmp before k) (λ (l : Link). list_any (same_link l) (links_in (cells_before x ts))) (links_in (cells_from z ts))
-    (λ l. has_before (key_of l) ∙ sym (any-links (key_of l) (cells_before x ts)))
+all_filtered : (P : ℕ × ℕ → Type 0) (r : Link → Bool) (ls : List Link) → AllByRecursion P (map key_of ls) → AllByRecursion P (map key_of (filter r ls))
+all_filtered P r [] a = tt
+all_filtered P r (l ∷ ls) a = by (r l) (all_filtered P r ls a.1) where
+  by : (b : Bool) → AllByRecursion P (map key_of (filter r ls)) → AllByRecursion P (map key_of (cond b (l ∷ filter r ls) (filter r ls)))
+  by true rest = (a.0, rest)
+  by false rest = rest
+
+sorted_filtered : (r : Link → Bool) (ls : List Link) → IsStrictlySortedBy key_cmp (map key_of ls) → IsStrictlySortedBy key_cmp (map key_of (filter r ls))
+unfolding IsStrictlySortedBy
+sorted_filtered r [] s = tt
+sorted_filtered r (l ∷ ls) s = by (r l) (sorted_filtered r ls s.1) where
+  by : (b : Bool) → IsStrictlySortedBy key_cmp (map key_of (filter r ls)) → IsStrictlySortedBy key_cmp (map key_of (cond b (l ∷ filter r ls) (filter r ls)))
+  by true rest = (all_filtered (λ (y : ℕ × ℕ). key_cmp (key_of l) y ≡ Less) r ls s.0, rest)
+  by false rest = rest
+
+and_false : (x : Bool) → (x && false) ≡ false
+and_false true = refl
+and_false false = refl
+
+-- where a test is the same of all that pass another, it holds of one that does if there is one and it is true
+any_filtered : (p r : Link → Bool) (b : Bool) (ls : List Link) → ((l : Link) → p l ≡ true → r l ≡ b) → list_any p (filter r ls) ≡ (b && list_any p ls)
+any_filtered p r b [] h = sym (and_false b)
+any_filtered p r b (l ∷ ls) h = by b (p l) (r l) refl refl (any_filtered p r b ls h) (h l) where
+  by : (b x y : Bool) → p l ≡ x → r l ≡ y → list_any p (filter r ls) ≡ (b && list_any p ls) → (p l ≡ true → r l ≡ b) → list_any p (cond y (l ∷ filter r ls) (filter r ls)) ≡ (b && (x || list_any p ls))
+  by true true true e f i k = ap (λ (z : Bool). z || list_any p (filter r ls)) e
+  by true true false e f i k = absurd (Prim.grind (arith, sym f ∙ k e))
+  by false true true e f i k = absurd (Prim.grind (arith, sym f ∙ k e))
+  by false true false e f i k = i
+  by b false true e f i k = ap (λ (z : Bool). z || list_any p (filter r ls)) e ∙ i
+  by b false false e f i k = i
+
+key_is : (q : ℕ × ℕ) (l : Link) → is_key_of q (Some l) ≡ true → q ≡ key_of l
+key_is q l e = by (eqb q.0 l.home) (eqb q.1 l.number) refl refl e where
+  by : (x y : Bool) → eqb q.0 l.home ≡ x → eqb q.1 l.number ≡ y → (x && y) ≡ true → q ≡ key_of l
+  by true true f g h = ap (λ (n : ℕ). (n, q.1)) (eqb-true q.0 l.home f) ∙ ap (λ (n : ℕ). (l.home, n)) (eqb-true q.1 l.number g)
+  by true false f g h = absurd cc
+  by false y f g h = absurd cc
+
+-- the keys of links that are both before and from a place on
+any_split : (q : ℕ × ℕ) (x z : ℕ) (ts : List TrackState)
+    → list_any (is_at (key_cmp q)) (map key_of (split_links x z ts)) ≡ (list_any (has_key q) (cells_before x ts) && list_any (has_key q) (cells_from z ts))
+any_split q x z ts =
+    any-keys q (split_links x z ts)
+    ∙ (any_filtered (λ (l : Link). is_key_of q (Some l)) (λ (l : Link). list_any (same_link l) (links_in (cells_before x ts))) (list_any (has_key q) (cells_before x ts)) (links_in (cells_from z ts))
+    (λ l e. any-links (key_of l) (cells_before x ts) ∙ ap (λ (k : ℕ × ℕ). list_any (has_key k) (cells_before x ts)) (sym (key_is q l e)))
+    ∙ ap (λ (b : Bool). list_any (has_key q) (cells_before x ts) && b) (any-links q (cells_from z ts)))
+
+pub split-keys : (split : BTreeSet (ℕ × ℕ)) (x z : ℕ) (ts : List TrackState) → IsOrdered key_cmp split
+    → ((q : ℕ × ℕ) → contains key_cmp split q ≡ (list_any (has_key q) (cells_before x ts) && list_any (has_key q) (cells_from z ts)))
+    → split.keys ≡ map key_of (split_links x z ts)
+split-keys split x z ts ordered has =
+    btree_set_from_contains key-total split (record { keys = map key_of (split_links x z ts) }) ordered
+    (sorted_filtered (λ (l : Link). list_any (same_link l) (links_in (cells_before x ts))) (links_in (cells_from z ts)) (sorted_links (cells_from z ts)))
+    (λ q. has q ∙ sym (any_split q x z ts)) key-exact
 
 -- counted by their keys
 
@@ -324,82 +365,55 @@ given-more tracks ks k q a = by (is_at (key_cmp k) q) refl where
   by true e = subst (λ (p : ℕ × ℕ). given tracks (ks ++ k ∷ []) p ≡ Some (next_link_at k.0 tracks + at_home k.0 ks)) (at_is k q e) (given_self tracks ks k a)
   by false e = given_other tracks ks k q a e
 
--- what stands before a key in order, also of those that pass a test, is below it
-pub all-below : (p : ℕ × ℕ → Bool) (ks rest : List (ℕ × ℕ)) (k : ℕ × ℕ) → IsStrictlySortedBy key_cmp (ks ++ k ∷ rest) → AllBelow k (filter p ks)
+-- what stands before a key in order is below it
+pub all-below : (ks rest : List (ℕ × ℕ)) (k : ℕ × ℕ) → IsStrictlySortedBy key_cmp (ks ++ k ∷ rest) → AllBelow k ks
 unfolding IsStrictlySortedBy
-all-below p [] rest k s = tt
-all-below p (f ∷ fs) rest k s = by (p f) (all-below p fs rest k s.1) (at_end fs s.0) where
+all-below [] rest k s = tt
+all-below (f ∷ fs) rest k s = (at_end fs s.0, all-below fs rest k s.1) where
   at_end : (fs : List (ℕ × ℕ)) → AllByRecursion (λ (y : ℕ × ℕ). key_cmp f y ≡ Less) (fs ++ k ∷ rest) → key_cmp f k ≡ Less
   at_end [] a = a.0
   at_end (g ∷ gs) a = at_end gs a.1
 
-  by : (b : Bool) → AllBelow k (filter p fs) → key_cmp f k ≡ Less → AllBelow k (cond b (f ∷ filter p fs) (filter p fs))
-  by true a e = (e, a)
-  by false a e = a
-
-pub ok-splits : (tracks : List TrackState) (x y : ℕ) (before moved : BTreeSet (ℕ × ℕ)) (r : Result Splits Memory)
-    → ((q : ℕ × ℕ) → contains key_cmp before q ≡ list_any (has_key q) (cells_before x tracks)) → ((q : ℕ × ℕ) → contains key_cmp moved q ≡ list_any (has_key q) (cells_from y tracks))
-    → IfOk r (λ s. AreGiven tracks (filter (λ (k : ℕ × ℕ). contains key_cmp before k) moved.keys) s) → IfOk r (λ s. IsOrdered key_cmp moved)
+pub ok-splits : (tracks : List TrackState) (x y : ℕ) (split : BTreeSet (ℕ × ℕ)) (r : Result Splits Memory)
+    → ((q : ℕ × ℕ) → contains key_cmp split q ≡ (list_any (has_key q) (cells_before x tracks) && list_any (has_key q) (cells_from y tracks)))
+    → IfOk r (λ s. AreGiven tracks split.keys s) → IfOk r (λ s. IsOrdered key_cmp split)
     → IfOk r (λ s. AreSplits tracks (split_links x y tracks) s)
-ok-splits tracks x y before moved (Ok s) has_before has_moved g o =
-    as-splits tracks (split_links x y tracks) (filter (λ (k : ℕ × ℕ). contains key_cmp before k) moved.keys) s (split-keys before moved x y tracks o has_before has_moved) g
-ok-splits tracks x y before moved (Err e) has_before has_moved g o = tt
+ok-splits tracks x y split (Ok s) has g o = as-splits tracks (split_links x y tracks) split.keys s (split-keys split x y tracks o has) g
+ok-splits tracks x y split (Err e) has g o = tt
 
--- the keys that were looked at, and what was given to those of them that are split
-abbrev pub SoFar : List TrackState → (ℕ × ℕ → Bool) → List (ℕ × ℕ) → List (ℕ × ℕ) → (ℕ × ℕ → Option ℕ) → (ℕ → ℕ) → Type 0
-SoFar tracks test keys rest number count =
-    (done : List (ℕ × ℕ)) × (keys ≡ done ++ rest) × ((q : ℕ × ℕ) → number q ≡ given tracks (filter test done) q) × ((home : ℕ) → count home ≡ at_home home (filter test done))
-
-filter_more : (test : ℕ × ℕ → Bool) (done : List (ℕ × ℕ)) (k : ℕ × ℕ) (b : Bool) → test k ≡ b → filter test (done ++ k ∷ []) ≡ filter test done ++ cond b (k ∷ []) []
-filter_more test [] k b e = ap (λ (c : Bool). cond c (k ∷ []) []) e
-filter_more test (d ∷ ds) k b e = by (test d) (filter_more test ds k b e) where
-  by : (c : Bool) → filter test (ds ++ k ∷ []) ≡ filter test ds ++ cond b (k ∷ []) []
-      → cond c (d ∷ filter test (ds ++ k ∷ [])) (filter test (ds ++ k ∷ [])) ≡ cond c (d ∷ filter test ds) (filter test ds) ++ cond b (k ∷ []) []
-  by true i = ap (λ (qs : List (ℕ × ℕ)). d ∷ qs) i
-  by false i = i
+-- the keys that were looked at, and what was given to them
+abbrev pub SoFar : List TrackState → List (ℕ × ℕ) → List (ℕ × ℕ) → (ℕ × ℕ → Option ℕ) → (ℕ → ℕ) → Type 0
+SoFar tracks keys rest number count =
+    (done : List (ℕ × ℕ)) × (keys ≡ done ++ rest) × ((q : ℕ × ℕ) → number q ≡ given tracks done q) × ((home : ℕ) → count home ≡ at_home home done)
 
 one_done : (keys done rest left : List (ℕ × ℕ)) (k : ℕ × ℕ) → keys ≡ done ++ rest → rest ≡ k ∷ left → keys ≡ (done ++ k ∷ []) ++ left
 one_done keys done rest left k e f = e ∙ (ap (λ (qs : List (ℕ × ℕ)). done ++ qs) f ∙ sym (append_assoc done (k ∷ []) left))
 
-pub more-split : (tracks : List TrackState) (test : ℕ × ℕ → Bool) (keys rest left : List (ℕ × ℕ)) (k : ℕ × ℕ) (old new : ℕ × ℕ → Option ℕ) (count more : ℕ → ℕ) → SoFar tracks test keys rest old count
-    → rest ≡ k ∷ left → IsStrictlySortedBy key_cmp keys → test k ≡ true
+pub more-split : (tracks : List TrackState) (keys rest left : List (ℕ × ℕ)) (k : ℕ × ℕ) (old new : ℕ × ℕ → Option ℕ) (count more : ℕ → ℕ) → SoFar tracks keys rest old count
+    → rest ≡ k ∷ left → IsStrictlySortedBy key_cmp keys
     → ((q : ℕ × ℕ) → new q ≡ cond (is_at (key_cmp k) q) (Some (next_link_at k.0 tracks + count k.0)) (old q)) → ((home : ℕ) → more home ≡ cond (eqb k.0 home) (count k.0 + 1) (count home))
-    → SoFar tracks test keys left new more
-more-split tracks test keys rest left k old new count more (done, whole, numbers, counts) is sorted passes news mores = (done ++ k ∷ [], one_done keys done rest left k whole is, each, homes) where
-  so_far : List (ℕ × ℕ)
-  so_far = filter test done
+    → SoFar tracks keys left new more
+more-split tracks keys rest left k old new count more (done, whole, numbers, counts) is sorted news mores = (done ++ k ∷ [], one_done keys done rest left k whole is, each, homes) where
+  below : AllBelow k done
+  below = all-below done left k (subst (IsStrictlySortedBy key_cmp) (whole ∙ ap (λ (qs : List (ℕ × ℕ)). done ++ qs) is) sorted)
 
-  below : AllBelow k (filter test done)
-  below = all-below test done left k (subst (IsStrictlySortedBy key_cmp) (whole ∙ ap (λ (qs : List (ℕ × ℕ)). done ++ qs) is) sorted)
-
-  each : (q : ℕ × ℕ) → new q ≡ given tracks (filter test (done ++ k ∷ [])) q
+  each : (q : ℕ × ℕ) → new q ≡ given tracks (done ++ k ∷ []) q
   each q =
       news q
       ∙ (ap (λ (n : ℕ). cond (is_at (key_cmp k) q) (Some (next_link_at k.0 tracks + n)) (old q)) (counts k.0)
-      ∙ (ap (λ (o : Option ℕ). cond (is_at (key_cmp k) q) (Some (next_link_at k.0 tracks + at_home k.0 (filter test done))) o) (numbers q)
-      ∙ (sym (given-more tracks (filter test done) k q below) ∙ ap (λ (qs : List (ℕ × ℕ)). given tracks qs q) (sym (filter_more test done k true passes)))))
+      ∙ (ap (λ (o : Option ℕ). cond (is_at (key_cmp k) q) (Some (next_link_at k.0 tracks + at_home k.0 done)) o) (numbers q)
+      ∙ sym (given-more tracks done k q below)))
 
-  homes : (home : ℕ) → more home ≡ at_home home (filter test (done ++ k ∷ []))
+  homes : (home : ℕ) → more home ≡ at_home home (done ++ k ∷ [])
   homes home =
       mores home
       ∙ (ap (λ (n : ℕ). cond (eqb k.0 home) (n + 1) (count home)) (counts k.0)
-      ∙ (ap (λ (n : ℕ). cond (eqb k.0 home) (at_home k.0 (filter test done) + 1) n) (counts home)
+      ∙ (ap (λ (n : ℕ). cond (eqb k.0 home) (at_home k.0 done + 1) n) (counts home)
       ∙ (by (eqb k.0 home) refl
-      ∙ (sym (at-home-more home (filter test done) k) ∙ ap (at_home home) (sym (filter_more test done k true passes)))))) where
-        by : (b : Bool) → eqb k.0 home ≡ b → cond b (at_home k.0 (filter test done) + 1) (at_home home (filter test done)) ≡ at_home home (filter test done) + cond (eqb k.0 home) 1 0
-        by true e = ap (λ (n : ℕ). at_home n (filter test done) + 1) (eqb-true k.0 home e) ∙ ap (λ (c : Bool). at_home home (filter test done) + cond c 1 0) (sym e)
-        by false e = let none : at_home home (filter test done) ≡ at_home home (filter test done) + 0 = omega arith in none ∙ ap (λ (c : Bool). at_home home (filter test done) + cond c 1 0) (sym e)
-
-pub more-passed : (tracks : List TrackState) (test : ℕ × ℕ → Bool) (keys rest left : List (ℕ × ℕ)) (k : ℕ × ℕ) (number : ℕ × ℕ → Option ℕ) (count : ℕ → ℕ) → SoFar tracks test keys rest number count
-    → rest ≡ k ∷ left → test k ≡ false → SoFar tracks test keys left number count
-more-passed tracks test keys rest left k number count (done, whole, numbers, counts) is no_test = (
-  done ++ k ∷ [],
-  one_done keys done rest left k whole is,
-  λ q. numbers q ∙ ap (λ (qs : List (ℕ × ℕ)). given tracks qs q) (sym same),
-  λ home. counts home ∙ ap (at_home home) (sym same),
-) where
-  same : filter test (done ++ k ∷ []) ≡ filter test done
-  same = filter_more test done k false no_test ∙ append-nil (filter test done)
+      ∙ sym (at-home-more home done k)))) where
+        by : (b : Bool) → eqb k.0 home ≡ b → cond b (at_home k.0 done + 1) (at_home home done) ≡ at_home home done + cond (eqb k.0 home) 1 0
+        by true e = ap (λ (n : ℕ). at_home n done + 1) (eqb-true k.0 home e) ∙ ap (λ (c : Bool). at_home home done + cond c 1 0) (sym e)
+        by false e = let none : at_home home done ≡ at_home home done + 0 = omega arith in none ∙ ap (λ (c : Bool). at_home home done + cond c 1 0) (sym e)
 
 -- one more for its home
 pub count-more : (a home n : ℕ) (o : Option ℕ) → unwrap_or (cond (is_at (nat_cmp a) home) (Some n) o) 0 ≡ cond (eqb a home) n (unwrap_or o 0)

@@ -6,3 +6,5 @@ pub mod Renumbering
 pub mod LinkedShifts
 -- For the steps of the code, for proofs and for tests.
 pub mod Splits
+pub mod Marks
+pub mod Inside

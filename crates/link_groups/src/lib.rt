@@ -7,6 +7,7 @@
 
 mod finding;
 mod item_links;
+mod link_marks;
 mod linking;
 mod offsets;
 mod outside;

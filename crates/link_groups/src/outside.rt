@@ -1,9 +1,10 @@
 // Links of what is moved that reach a track which is not named.
-ghost use Rattle.std.specs.Prelude.{◌≡◌, ◌+◌, ◌<◌, ◌≤◌, ◌&&◌, not, drop};
+ghost use Rattle.std.specs.Prelude.{◌≡◌, ◌+◌, ◌<◌, ◌≤◌, ◌&&◌, Some, true, not, drop};
 ghost use Rattle.std.specs.List.{list_any};
 ghost use Rattle.composables.specs.Links.{cells_from, first_unnamed, is_named, least_link, least_outside, link_before, link_outside, outside, outside_refusal};
 ghost use Rattle.composables.specs.Sizes.{size_of, sizes_of};
 ghost use Rattle.composables.specs.TrackSets.{has_track, tracks_in};
+ghost use Rattle.link_groups.specs.Inside.{AreInside};
 
 use composables::{ItemReader, Refusal, Track, has_track};
 use frame_meaning::Link;
@@ -64,6 +65,7 @@ fn least_on<L: Ledger>(named: &[Track], track: &Track, y: u32, steps: &mut Steps
     }
     let mut items = ItemReader::at(track, 0);
     let mut least = None;
+    let mut inside = None;
     let mut to: u64 = 0;
     for index in 0..track.count() {
         steps.tick();
@@ -72,7 +74,7 @@ fn least_on<L: Ledger>(named: &[Track], track: &Track, y: u32, steps: &mut Steps
         };
         to += u64::from(view.len);
         if to > u64::from(y) {
-            least = least_link(least, outside(named, view.link));
+            least = least_link(least, outside_past(named, view.link, &mut inside));
         }
     }
     least
@@ -96,19 +98,34 @@ fn link_before(k: Link, l: Link) -> bool
     k.home < l.home || (k.home == l.home && k.number < l.number)
 }
 
-// The link, if it has a track which is not named.
-fn outside(named: &[Track], link: Option<Link>) -> Option<Link>
-    ensures { result ≡ outside named.now link }
+// The link, if it has a track which is not named. `inside` are the tracks of a link before it that had none: most links
+// have the tracks of the one before.
+fn outside_past(named: &[Track], link: Option<Link>, inside: &mut Option<u32>) -> Option<Link>
+    requires inside { AreInside named.now inside.old }
+    ensures outside { result ≡ outside named.now link }
+    ensures inside { AreInside named.now inside.new }
 {
     match link {
         Some(l) => {
-            if first_unnamed(named, l.tracks).is_some() {
-                Some(l)
-            } else {
-                None
+            if are_these(*inside, l.tracks) {
+                return None;
             }
+            if first_unnamed(named, l.tracks).is_some() {
+                return Some(l);
+            }
+            *inside = Some(l.tracks);
+            None
         }
         None => None,
+    }
+}
+
+fn are_these(inside: Option<u32>, tracks: u32) -> bool
+    ensures { result ≡ true → inside ≡ Some tracks }
+{
+    match inside {
+        Some(held) => held == tracks,
+        None => false,
     }
 }
 

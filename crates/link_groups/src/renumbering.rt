@@ -78,11 +78,30 @@ fn relink_track<L: Ledger>(
     ensures least { steps.old ≤ steps.new }
     ensures most { steps.new ≤ steps.old + size_of track.old }
 {
-    let old = track.copy(alloc)?;
-    relink_items(alloc, track, &old, place, splits, steps)?;
+    relink_cells(alloc, track, place, splits, steps)?;
     let count = splits.counts.get(&track.number()).copied().unwrap_or(0);
     track.set_next_link(track.next_link() + count);
     Ok(())
+}
+
+// The same without the numbers that the track gives. Where no link is split, there is nothing to do.
+fn relink_cells<L: Ledger>(
+    alloc: Global,
+    track: &mut Track,
+    place: u64,
+    splits: &Splits,
+    steps: &mut Steps<L>,
+) -> Result<(), Memory>
+    ensures relinked { OnOk result (track.new ≡ relinked_cells splits.now place track.old) }
+    ensures least { steps.old ≤ steps.new }
+    ensures most { steps.new ≤ steps.old + size_of track.old }
+{
+    a_track_is_kept(track);
+    if splits.numbers.is_empty() {
+        return Ok(());
+    }
+    let old = track.copy(alloc)?;
+    relink_items(alloc, track, &old, place, splits, steps)
 }
 
 // Reads the items of the track as it was while it gives some of them new links.

@@ -1,13 +1,15 @@
 // The links that a shift splits, with the numbers that their moved items get.
-ghost use Rattle.std.specs.Prelude.{◌≡◌, ◌+◌, ◌*◌, ◌<◌, ◌≤◌, ◌^◌, ◌||◌, ℕ, All, IfOk, OnOk, drop, filter, length, sum_by, take};
+ghost use Rattle.std.specs.Prelude.{◌≡◌, ◌+◌, ◌*◌, ◌<◌, ◌≤◌, ◌^◌, ◌&&◌, ◌||◌, ℕ, All, IfOk, OnOk, drop, length, sum_by, take};
 ghost use Rattle.std.specs.List.{list_any};
 ghost use Rattle.std.specs.BTreeSet.{btree_set_len, contains, IsOrdered};
 ghost use Rattle.composables.specs.Items.{items_of};
-ghost use Rattle.composables.specs.Links.{next_link_at, split_links};
+ghost use Rattle.composables.specs.Links.{cells_before, cells_from, next_link_at, split_links};
 ghost use Rattle.composables.specs.Sizes.{size_of, sizes_of};
+ghost use Rattle.link_groups.specs.Marks.{is_marked};
 ghost use Rattle.link_groups.specs.Renumbering.{MayBeSplit};
-ghost use Rattle.link_groups.specs.Splits.{AreGiven, AreSplits, HasFew, cells_between, has_key, is_key_of, key_cmp};
+ghost use Rattle.link_groups.specs.Splits.{AreGiven, AreSplits, HasFew, has_key, is_key_of, key_cmp};
 
+use crate::link_marks::LinkMarks;
 use composables::{ItemReader, Memory, Track, a_track_is_kept};
 use frame_meaning::Link;
 use std::alloc::Global;
@@ -36,46 +38,39 @@ pub(crate) fn splits_at<L: Ledger>(
     ensures least { steps.old ≤ steps.new }
     ensures most { steps.new ≤ steps.old + 3 * sizes_of named.now }
 {
-    let before = linked_in(alloc, named, 0, x, steps)?;
-    let moved = linked_in(alloc, named, y, u32::MAX, steps)?;
-    number_splits(alloc, named, &before, &moved, steps)
+    let before = marks_before(alloc, named, x, steps)?;
+    let split = split_from(alloc, named, &before, y, steps)?;
+    number_splits(alloc, named, &split, steps)
 }
 
-// The links of items that have record frames in [from, to), by home and number.
-fn linked_in<L: Ledger>(
+// The links of items that begin before the record frame `x`.
+fn marks_before<L: Ledger>(
     alloc: Global,
     named: &[Track],
-    from: u32,
-    to: u32,
+    x: u32,
     steps: &mut Steps<L>,
-) -> Result<BTreeSet<(u32, u32)>, Memory>
-    ensures links { IfOk result (λ s. (q : ℕ × ℕ) → contains key_cmp s q
-        ≡ list_any (has_key q) (cells_between from to named.now)) }
-    ensures few { IfOk result (λ s. btree_set_len s
-        ≤ sum_by (λ t. length (items_of t.cells)) named.now) }
+) -> Result<LinkMarks, Memory>
+    ensures marks { IfOk result (λ m. (q : ℕ × ℕ) → is_marked m q
+        ≡ list_any (has_key q) (cells_before x named.now)) }
     ensures least { steps.old ≤ steps.new }
     ensures most { steps.new ≤ steps.old + sizes_of named.now }
 {
-    let mut links = BTreeSet::new(alloc);
+    let mut marks = LinkMarks::new(alloc)?;
     for track in named {
-        add_linked(&mut links, track, from, to, steps)?;
+        mark_before(&mut marks, track, x, steps)?;
     }
-    Ok(links)
+    Ok(marks)
 }
 
-// Adds those of one track.
-fn add_linked<L: Ledger>(
-    links: &mut BTreeSet<(u32, u32)>,
+// Marks those of one track.
+fn mark_before<L: Ledger>(
+    marks: &mut LinkMarks,
     track: &Track,
-    from: u32,
-    to: u32,
+    x: u32,
     steps: &mut Steps<L>,
 ) -> Result<(), Memory>
-    ensures links { OnOk result ((q : ℕ × ℕ) → contains key_cmp links.new q
-        ≡ (contains key_cmp links.old q
-        || list_any (has_key q) (drop from (take to track.now.cells)))) }
-    ensures few { OnOk result (btree_set_len links.new
-        ≤ btree_set_len links.old + length (items_of track.now.cells)) }
+    ensures marks { OnOk result ((q : ℕ × ℕ) → is_marked marks.new q
+        ≡ (is_marked marks.old q || list_any (has_key q) (take x track.now.cells))) }
     ensures least { steps.old ≤ steps.new }
     ensures most { steps.new ≤ steps.old + size_of track.now }
 {
@@ -84,61 +79,121 @@ fn add_linked<L: Ledger>(
         return Ok(());
     }
     let mut items = ItemReader::at(track, 0);
-    let mut at: u64 = 0;
+    let mut at: u32 = 0;
+    for index in 0..track.count() {
+        if at >= x {
+            return Ok(());
+        }
+        steps.tick();
+        let Some(view) = items.next() else {
+            unreachable!()
+        };
+        marks.add(view.link)?;
+        at += view.len;
+    }
+    Ok(())
+}
+
+// Those of these links that items have which end past the record frame `y`, by home and number.
+fn split_from<L: Ledger>(
+    alloc: Global,
+    named: &[Track],
+    before: &LinkMarks,
+    y: u32,
+    steps: &mut Steps<L>,
+) -> Result<BTreeSet<(u32, u32)>, Memory>
+    ensures links { IfOk result (λ s. (q : ℕ × ℕ) → contains key_cmp s q
+        ≡ (is_marked before.now q && list_any (has_key q) (cells_from y named.now))) }
+    ensures few { IfOk result (λ s. btree_set_len s
+        ≤ sum_by (λ t. length (items_of t.cells)) named.now) }
+    ensures least { steps.old ≤ steps.new }
+    ensures most { steps.new ≤ steps.old + sizes_of named.now }
+{
+    let mut split = BTreeSet::new(alloc);
+    for track in named {
+        add_split(&mut split, before, track, y, steps)?;
+    }
+    Ok(split)
+}
+
+// Adds those of one track.
+fn add_split<L: Ledger>(
+    split: &mut BTreeSet<(u32, u32)>,
+    before: &LinkMarks,
+    track: &Track,
+    y: u32,
+    steps: &mut Steps<L>,
+) -> Result<(), Memory>
+    ensures links { OnOk result ((q : ℕ × ℕ) → contains key_cmp split.new q
+        ≡ (contains key_cmp split.old q
+        || (is_marked before.now q && list_any (has_key q) (drop y track.now.cells)))) }
+    ensures few { OnOk result (btree_set_len split.new
+        ≤ btree_set_len split.old + length (items_of track.now.cells)) }
+    ensures least { steps.old ≤ steps.new }
+    ensures most { steps.new ≤ steps.old + size_of track.now }
+{
+    if track.length() <= y {
+        return Ok(());
+    }
+    if !track.has_links() {
+        return Ok(());
+    }
+    let mut items = ItemReader::at(track, 0);
+    let mut end: u32 = 0;
     for index in 0..track.count() {
         steps.tick();
         let Some(view) = items.next() else {
             unreachable!()
         };
-        let end = at + u64::from(view.len);
-        if at.max(u64::from(from)) < end.min(u64::from(to)) {
-            add_link(links, view.link)?;
+        end += view.len;
+        if end > y {
+            add_marked(split, before, view.link)?;
         }
-        at = end;
     }
     Ok(())
 }
 
-fn add_link(links: &mut BTreeSet<(u32, u32)>, link: Option<Link>) -> Result<(), Memory>
-    ensures links { OnOk result ((q : ℕ × ℕ) → contains key_cmp links.new q
-        ≡ (contains key_cmp links.old q || is_key_of q link)) }
-    ensures few { OnOk result (btree_set_len links.new ≤ btree_set_len links.old + 1) }
+// Adds a link, if it is one of these.
+fn add_marked(
+    split: &mut BTreeSet<(u32, u32)>,
+    before: &LinkMarks,
+    link: Option<Link>,
+) -> Result<(), Memory>
+    ensures links { OnOk result ((q : ℕ × ℕ) → contains key_cmp split.new q
+        ≡ (contains key_cmp split.old q || (is_marked before.now q && is_key_of q link))) }
+    ensures few { OnOk result (btree_set_len split.new ≤ btree_set_len split.old + 1) }
 {
     match link {
-        Some(link) => {
-            links.insert((link.home, link.number))?;
+        Some(link) if before.holds(link) => {
+            split.insert((link.home, link.number))?;
         }
-        None => {}
+        _ => {}
     }
     Ok(())
 }
 
-// The numbers that links get which are both among these and among those that are moved, in order of home and number.
+// The numbers that these links get, in order of home and number.
 fn number_splits<L: Ledger>(
     alloc: Global,
     named: &[Track],
-    before: &BTreeSet<(u32, u32)>,
-    moved: &BTreeSet<(u32, u32)>,
+    split: &BTreeSet<(u32, u32)>,
     steps: &mut Steps<L>,
 ) -> Result<Splits, Memory>
     requires next { All (λ t. t.next_link ≤ 2 ^ 31) named.now }
-    requires few { btree_set_len moved.now < 2 ^ 31 }
-    ensures given { IfOk result (λ s. AreGiven named.now
-        (filter (λ k. contains key_cmp before.now k) moved.now.keys) s) }
+    requires few { btree_set_len split.now < 2 ^ 31 }
+    ensures given { IfOk result (λ s. AreGiven named.now split.now.keys s) }
     ensures few { IfOk result (λ s. HasFew s) }
-    ensures ordered { IfOk result (λ _. IsOrdered key_cmp moved.now) }
+    ensures ordered { IfOk result (λ _. IsOrdered key_cmp split.now) }
     ensures least { steps.old ≤ steps.new }
-    ensures most { steps.new ≤ steps.old + btree_set_len moved.now }
+    ensures most { steps.new ≤ steps.old + btree_set_len split.now }
 {
     let mut numbers = BTreeMap::new(alloc);
     let mut counts = BTreeMap::new(alloc);
-    for key in moved {
+    for key in split {
         steps.tick();
-        if before.contains(key) {
-            let count = counts.get(&key.0).copied().unwrap_or(0);
-            numbers.insert(*key, next_link_at(named, key.0) + count)?;
-            counts.insert(key.0, count + 1)?;
-        }
+        let count = counts.get(&key.0).copied().unwrap_or(0);
+        numbers.insert(*key, next_link_at(named, key.0) + count)?;
+        counts.insert(key.0, count + 1)?;
     }
     Ok(Splits { numbers, counts })
 }

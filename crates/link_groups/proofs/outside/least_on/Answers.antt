@@ -1,8 +1,9 @@
-use Rattle.std.proofs.Common.{◌≡◌, Option, Some, take, drop, slice_get, ap, sym, ◌∙◌, arith, refl}
+use Rattle.std.proofs.Common.{◌≡◌, Option, Some, take, drop, slice_get, ap, sym, ◌∙◌, arith, refl, subst}
 use Rattle.frame_meaning.specs.declared.cells.Link.{Link}
 use Rattle.composables.specs.Items.{cells_of, items_of}
 use Rattle.composables.specs.Links.{least_link, least_outside}
 use Rattle.composables.proofs.Pieces.{left-first, left-rest, left-some}
+use Rattle.link_groups.specs.Inside.{AreInside}
 use Rattle.link_groups.proofs.Bare.{bare-cells, bare-drop, bare-outside}
 use Rattle.link_groups.proofs.LeastLinks.{filled-at, frames-more, frames-within, item-met, item-passed}
 use Rattle.link_groups.proofs.outside.least_on.Goals as goal
@@ -32,11 +33,12 @@ loop-index-preserved g c =
         least =
             w.least-is
             ∙ (w.least_link-least.ensures
-            ∙ (ap (λ (o : Option Link). least_link o w.outside.result) c.loop-index.invariant.least
-            ∙ (ap (least_link (least_outside c.args.named.now (drop c.args.y (cells_of (take c.loop-index.index (items_of c.args.track.now.cells)))))) w.outside.ensures
+            ∙ (ap (λ (o : Option Link). least_link o w.outside_past.result) c.loop-index.invariant.least
+            ∙ (ap (least_link (least_outside c.args.named.now (drop c.args.y (cells_of (take c.loop-index.index (items_of c.args.track.now.cells)))))) w.outside_past.ensures.outside
             ∙ sym (item-met c.args.named.now c.args.y c.loop-index.index (items_of c.args.track.now.cells) c.in-Some.view read
             (omega (arith, w.if-to-from.true, c.from.ensures, c.loop-index.invariant.to, c.from-to.ensures, more))
             (filled-at (items_of c.args.track.now.cells) c.loop-index.index c.in-Some.view read c.length.ensures.kept.each)))));
+        inside = subst (AreInside c.args.named.now) (sym w.inside-is) w.outside_past.ensures.inside;
         from = omega (arith, c.loop-index.invariant.from, c.tick.ensures);
         most = omega (arith, c.loop-index.invariant.most, c.tick.ensures);
       }
@@ -48,6 +50,7 @@ loop-index-preserved g c =
             ∙ (c.loop-index.invariant.least
             ∙ sym (item-passed c.args.named.now c.args.y c.loop-index.index (items_of c.args.track.now.cells) c.in-Some.view read
             (omega (arith, w.if-to-from.false, c.from.ensures, c.loop-index.invariant.to, c.from-to.ensures, more))));
+        inside = subst (AreInside c.args.named.now) (sym w.inside-is) c.loop-index.invariant.inside;
         from = omega (arith, c.loop-index.invariant.from, c.tick.ensures);
         most = omega (arith, c.loop-index.invariant.most, c.tick.ensures);
       }

@@ -1,17 +1,16 @@
 use Rattle.std.proofs.Common.{◌≡◌, ℕ, ◌+◌, ◌≤◌, ◌||◌, drop, take}
 use Rattle.std.specs.List.{list_any}
-use Rattle.std.specs.BTreeSet.{btree_set_len, contains}
 use Rattle.composables.specs.Items.{cells_of, items_of}
 use Rattle.composables.specs.Joined.{frames_in}
-use Rattle.link_groups.specs.Splits.{has_key, key_cmp}
-use Rattle.link_groups.proofs.splits.add_linked.Given as goal
+use Rattle.link_groups.specs.Marks.{is_marked}
+use Rattle.link_groups.specs.Splits.{has_key}
+use Rattle.link_groups.proofs.splits.mark_before.Given as goal
 
 abbrev pub invariant-loop-index : goal.invariant-loop-index
 invariant-loop-index g l = record {
   items : l.items ≡ drop l.index (items_of l.track.cells);
   at : l.at ≡ frames_in (take l.index (items_of l.track.cells));
-  links : (q : ℕ × ℕ) → contains key_cmp l.links q ≡ (contains key_cmp l.fn.links q || list_any (has_key q) (drop l.from (take l.to (cells_of (take l.index (items_of l.track.cells))))));
-  few : btree_set_len l.links ≤ btree_set_len l.fn.links + l.index;
+  marks : (q : ℕ × ℕ) → is_marked l.marks q ≡ (is_marked l.fn.marks q || list_any (has_key q) (take l.x (cells_of (take l.index (items_of l.track.cells)))));
   least : l.fn.steps ≤ l.steps;
   most : l.steps ≤ l.fn.steps + l.index;
 }

@@ -1,0 +1,6 @@
+use Rattle.std.proofs.Common.{refl}
+use Rattle.link_groups.proofs.Unsplit.{unsplit-track}
+use Rattle.link_groups.proofs.renumbering.relink_cells.Goals as goal
+
+pub returns-then-is_empty-clause-relinked : goal.returns-then-is_empty-clause-relinked
+returns-then-is_empty-clause-relinked g c = unsplit-track c.args.splits.now c.args.place c.args.track.now c.a_track_is_kept.ensures (c.is_empty.ensures.0 c.if-is_empty.true)
