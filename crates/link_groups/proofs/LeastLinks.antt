@@ -137,6 +137,12 @@ drop_over y cs ds = ⊎_elim before behind (cases_lt (length cs) y) where
       let z : y - length cs ≡ 0 = omega (arith, le) in
       drop-append-le y cs ds le ∙ ap (λ (n : ℕ). drop y cs ++ drop n ds) (sym z)
 
+-- nothing of the items before a place
+pub none-before : (named : List TrackState) (y i : ℕ) (vs : List ItemView) → frames_in (take i vs) ≤ y → None ≡ least_outside named (drop y (cells_of (take i vs)))
+none-before named y i vs le =
+    let all = length-cells_of (take i vs) in
+    sym (ap (least_outside named) (drop_all y (cells_of (take i vs)) (omega (arith, all, le))))
+
 pub item-passed : (named : List TrackState) (y i : ℕ) (vs : List ItemView) (v : ItemView) → slice_get vs i ≡ Some v → frames_in (take (i + 1) vs) ≤ y
     → least_outside named (drop y (cells_of (take (i + 1) vs))) ≡ least_outside named (drop y (cells_of (take i vs)))
 item-passed named y i vs v e le =

@@ -8,3 +8,4 @@ pub mod LinkedShifts
 pub mod Splits
 pub mod Marks
 pub mod Inside
+pub mod Starts

@@ -14,6 +14,7 @@ mod outside;
 mod renumbering;
 mod shifting;
 mod splits;
+mod starts;
 mod unlinking;
 
 pub use item_links::{carried_outside, carries, link_of};

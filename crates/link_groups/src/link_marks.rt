@@ -11,6 +11,7 @@ use std::collections::BTreeSet;
 
 /// Homes and numbers below these have their marks in rows.
 const ROW_HOMES: u32 = 32;
+
 const ROW_NUMBERS: u32 = 65_536;
 
 // A row grows by so many numbers.

@@ -1,11 +1,14 @@
 // Links of what is moved that reach a track which is not named.
-ghost use Rattle.std.specs.Prelude.{◌≡◌, ◌+◌, ◌<◌, ◌≤◌, ◌&&◌, Some, true, not, drop};
+ghost use Rattle.std.specs.Prelude.{◌≡◌, ◌+◌, ◌*◌, ◌<◌, ◌≤◌, ◌&&◌, Some, true, not, drop, length};
 ghost use Rattle.std.specs.List.{list_any};
+ghost use Rattle.composables.specs.Items.{items_of};
 ghost use Rattle.composables.specs.Links.{cells_from, first_unnamed, is_named, least_link, least_outside, link_before, link_outside, outside, outside_refusal};
 ghost use Rattle.composables.specs.Sizes.{size_of, sizes_of};
 ghost use Rattle.composables.specs.TrackSets.{has_track, tracks_in};
 ghost use Rattle.link_groups.specs.Inside.{AreInside};
+ghost use Rattle.link_groups.specs.Starts.{IsStart};
 
+use crate::starts::{Start, first, found};
 use composables::{ItemReader, Refusal, Track, has_track};
 use frame_meaning::Link;
 use std::sync::ledger::Ledger;
@@ -39,6 +42,20 @@ pub fn outside_refusal(named: &[Track], link: Option<Link>) -> Option<Refusal>
     }
 }
 
+/// The same, where the item that holds `y` is looked for on each track.
+pub(crate) fn check_moved<L: Ledger>(
+    named: &[Track],
+    y: u32,
+    steps: &mut Steps<L>,
+) -> Option<Refusal>
+    ensures refusal { result ≡ link_outside named.now (cells_from y named.now) }
+    ensures least { steps.old ≤ steps.new }
+    ensures most { 2 * steps.new ≤ 2 * steps.old + 3 * sizes_of named.now }
+{
+    let least = least_moved(named, y, steps);
+    outside_refusal(named, least)
+}
+
 fn least_outside<L: Ledger>(named: &[Track], y: u32, steps: &mut Steps<L>) -> Option<Link>
     ensures least { result ≡ least_outside named.now (cells_from y named.now) }
     ensures from { steps.old ≤ steps.new }
@@ -46,16 +63,50 @@ fn least_outside<L: Ledger>(named: &[Track], y: u32, steps: &mut Steps<L>) -> Op
 {
     let mut least = None;
     for track in named {
-        least = least_link(least, least_on(named, track, y, steps));
+        least = least_link(least, least_on(named, track, first(), y, steps));
+    }
+    least
+}
+
+fn least_moved<L: Ledger>(named: &[Track], y: u32, steps: &mut Steps<L>) -> Option<Link>
+    ensures least { result ≡ least_outside named.now (cells_from y named.now) }
+    ensures from { steps.old ≤ steps.new }
+    ensures most { 2 * steps.new ≤ 2 * steps.old + 3 * sizes_of named.now }
+{
+    let mut least = None;
+    for track in named {
+        least = least_link(least, least_found(named, track, y, steps));
     }
     least
 }
 
 // The same on one of the tracks.
-fn least_on<L: Ledger>(named: &[Track], track: &Track, y: u32, steps: &mut Steps<L>) -> Option<Link>
+fn least_found<L: Ledger>(
+    named: &[Track],
+    track: &Track,
+    y: u32,
+    steps: &mut Steps<L>,
+) -> Option<Link>
     ensures least { result ≡ least_outside named.now (drop y track.now.cells) }
     ensures from { steps.old ≤ steps.new }
-    ensures most { steps.new ≤ steps.old + size_of track.now }
+    ensures most { 2 * steps.new ≤ 2 * steps.old + 3 * size_of track.now }
+{
+    let start = found(track, y, steps);
+    least_on(named, track, start, y, steps)
+}
+
+// And from where it may be begun.
+fn least_on<L: Ledger>(
+    named: &[Track],
+    track: &Track,
+    start: Start,
+    y: u32,
+    steps: &mut Steps<L>,
+) -> Option<Link>
+    requires { IsStart y track.now start }
+    ensures least { result ≡ least_outside named.now (drop y track.now.cells) }
+    ensures from { steps.old ≤ steps.new }
+    ensures most { steps.new ≤ steps.old + length (items_of track.now.cells) }
 {
     if track.length() <= y {
         return None;
@@ -63,11 +114,11 @@ fn least_on<L: Ledger>(named: &[Track], track: &Track, y: u32, steps: &mut Steps
     if !track.has_links() {
         return None;
     }
-    let mut items = ItemReader::at(track, 0);
+    let mut items = ItemReader::at(track, start.index);
     let mut least = None;
     let mut inside = None;
-    let mut to: u64 = 0;
-    for index in 0..track.count() {
+    let mut to = u64::from(start.from);
+    for index in start.index..track.count() {
         steps.tick();
         let Some(view) = items.next() else {
             unreachable!()

@@ -6,9 +6,9 @@ ghost use Rattle.edit_splice.specs.Moves.{IsShiftOf};
 ghost use Rattle.link_groups.specs.LinkedShifts.{linked_shift};
 ghost use Rattle.link_groups.specs.Renumbering.{MayBeSplit};
 
-use crate::outside::check;
+use crate::outside::check_moved;
 use crate::renumbering::relink_all;
-use crate::splits::splits_at;
+use crate::splits::splits_moved;
 use composables::{Done, EditFault, Track};
 use edit_splice::{Shift, new_len, over_limits, shift_tracks, shifted};
 use std::alloc::Global;
@@ -41,7 +41,7 @@ pub fn shift_linked<L: Ledger>(
     if new_len(shift.new) == shift.y - shift.x {
         return shift_tracks(alloc, named, shift, done, steps);
     }
-    match check(named, shift.x, shift.y, steps) {
+    match check_moved(named, shift.y, steps) {
         Some(refusal) => return Err(EditFault::Refused(refusal)),
         None => {}
     }
@@ -49,7 +49,7 @@ pub fn shift_linked<L: Ledger>(
         Some(refusal) => return Err(EditFault::Refused(refusal)),
         None => {}
     }
-    let splits = splits_at(alloc, named, shift.x, shift.y, steps)?;
+    let splits = splits_moved(alloc, named, shift.x, shift.y, steps)?;
     let mut moved = shifted(alloc, named, shift, steps)?;
     relink_all(alloc, &mut moved, place, &splits, steps)?;
     *named = moved;

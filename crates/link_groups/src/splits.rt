@@ -8,8 +8,10 @@ ghost use Rattle.composables.specs.Sizes.{size_of, sizes_of};
 ghost use Rattle.link_groups.specs.Marks.{is_marked};
 ghost use Rattle.link_groups.specs.Renumbering.{MayBeSplit};
 ghost use Rattle.link_groups.specs.Splits.{AreGiven, AreSplits, HasFew, has_key, is_key_of, key_cmp};
+ghost use Rattle.link_groups.specs.Starts.{IsStart};
 
 use crate::link_marks::LinkMarks;
+use crate::starts::{Start, first, found};
 use composables::{ItemReader, Memory, Track, a_track_is_kept};
 use frame_meaning::Link;
 use std::alloc::Global;
@@ -40,6 +42,25 @@ pub(crate) fn splits_at<L: Ledger>(
 {
     let before = marks_before(alloc, named, x, steps)?;
     let split = split_from(alloc, named, &before, y, steps)?;
+    number_splits(alloc, named, &split, steps)
+}
+
+/// The same, where the item that holds `y` is looked for on each track.
+pub(crate) fn splits_moved<L: Ledger>(
+    alloc: Global,
+    named: &[Track],
+    x: u32,
+    y: u32,
+    steps: &mut Steps<L>,
+) -> Result<Splits, Memory>
+    requires room { MayBeSplit named.now }
+    ensures splits { IfOk result (λ s. AreSplits named.now (split_links x y named.now) s) }
+    ensures few { IfOk result (λ s. HasFew s) }
+    ensures least { steps.old ≤ steps.new }
+    ensures most { 2 * steps.new ≤ 2 * steps.old + 7 * sizes_of named.now }
+{
+    let before = marks_before(alloc, named, x, steps)?;
+    let split = split_moved(alloc, named, &before, y, steps)?;
     number_splits(alloc, named, &split, steps)
 }
 
@@ -111,13 +132,35 @@ fn split_from<L: Ledger>(
 {
     let mut split = BTreeSet::new(alloc);
     for track in named {
-        add_split(&mut split, before, track, y, steps)?;
+        add_split(&mut split, before, track, first(), y, steps)?;
+    }
+    Ok(split)
+}
+
+// The same, where the item that holds `y` is looked for.
+fn split_moved<L: Ledger>(
+    alloc: Global,
+    named: &[Track],
+    before: &LinkMarks,
+    y: u32,
+    steps: &mut Steps<L>,
+) -> Result<BTreeSet<(u32, u32)>, Memory>
+    ensures links { IfOk result (λ s. (q : ℕ × ℕ) → contains key_cmp s q
+        ≡ (is_marked before.now q && list_any (has_key q) (cells_from y named.now))) }
+    ensures few { IfOk result (λ s. btree_set_len s
+        ≤ sum_by (λ t. length (items_of t.cells)) named.now) }
+    ensures least { steps.old ≤ steps.new }
+    ensures most { 2 * steps.new ≤ 2 * steps.old + 3 * sizes_of named.now }
+{
+    let mut split = BTreeSet::new(alloc);
+    for track in named {
+        add_found(&mut split, before, track, y, steps)?;
     }
     Ok(split)
 }
 
 // Adds those of one track.
-fn add_split<L: Ledger>(
+fn add_found<L: Ledger>(
     split: &mut BTreeSet<(u32, u32)>,
     before: &LinkMarks,
     track: &Track,
@@ -130,7 +173,29 @@ fn add_split<L: Ledger>(
     ensures few { OnOk result (btree_set_len split.new
         ≤ btree_set_len split.old + length (items_of track.now.cells)) }
     ensures least { steps.old ≤ steps.new }
-    ensures most { steps.new ≤ steps.old + size_of track.now }
+    ensures most { 2 * steps.new ≤ 2 * steps.old + 3 * size_of track.now }
+{
+    let start = found(track, y, steps);
+    add_split(split, before, track, start, y, steps)
+}
+
+// And from where the walk may be begun.
+fn add_split<L: Ledger>(
+    split: &mut BTreeSet<(u32, u32)>,
+    before: &LinkMarks,
+    track: &Track,
+    start: Start,
+    y: u32,
+    steps: &mut Steps<L>,
+) -> Result<(), Memory>
+    requires { IsStart y track.now start }
+    ensures links { OnOk result ((q : ℕ × ℕ) → contains key_cmp split.new q
+        ≡ (contains key_cmp split.old q
+        || (is_marked before.now q && list_any (has_key q) (drop y track.now.cells)))) }
+    ensures few { OnOk result (btree_set_len split.new
+        ≤ btree_set_len split.old + length (items_of track.now.cells)) }
+    ensures least { steps.old ≤ steps.new }
+    ensures most { steps.new ≤ steps.old + length (items_of track.now.cells) }
 {
     if track.length() <= y {
         return Ok(());
@@ -138,9 +203,9 @@ fn add_split<L: Ledger>(
     if !track.has_links() {
         return Ok(());
     }
-    let mut items = ItemReader::at(track, 0);
-    let mut end: u32 = 0;
-    for index in 0..track.count() {
+    let mut items = ItemReader::at(track, start.index);
+    let mut end = start.from;
+    for index in start.index..track.count() {
         steps.tick();
         let Some(view) = items.next() else {
             unreachable!()

@@ -5,9 +5,20 @@ use Rattle.composables.specs.Links.{least_link, least_outside}
 use Rattle.composables.proofs.Pieces.{left-first, left-rest, left-some}
 use Rattle.link_groups.specs.Inside.{AreInside}
 use Rattle.link_groups.proofs.Bare.{bare-cells, bare-drop, bare-outside}
-use Rattle.link_groups.proofs.LeastLinks.{filled-at, frames-more, frames-within, item-met, item-passed}
+use Rattle.link_groups.proofs.LeastLinks.{filled-at, frames-more, frames-within, item-met, item-passed, none-before}
 use Rattle.link_groups.proofs.outside.least_on.Goals as goal
 use Rattle.link_groups.proofs.outside.least_on.Goals.{then-to-from, else-to-from}
+
+pub loop-index-init : goal.loop-index-init
+loop-index-init g c = record {
+  items = c.at-items.ensures;
+  within = c.requires.within;
+  to = c.from-to.ensures ∙ c.requires.from;
+  least = none-before c.args.named.now c.args.y c.args.start.index (items_of c.args.track.now.cells) (omega (arith, c.requires.from, c.requires.before));
+  inside = tt;
+  from = omega arith;
+  most = omega arith;
+}
 
 pub overflow_add-to : goal.overflow_add-to
 overflow_add-to g c = omega (arith, c.loop-index.invariant.to, frames-within c.args.track.now c.loop-index.index c.length.ensures.kept)
@@ -29,6 +40,7 @@ loop-index-preserved g c =
     elim c.if-to-from.branch [
       | then-to-from w ↦ record {
         items = left-rest (items_of c.args.track.now.cells) c.loop-index.items c.next.new.self c.loop-index.index c.in-Some.view c.loop-index.invariant.items c.in-Some.ensures.some;
+        within = omega (arith, c.loop-index-test.true, c.count-index-end.ensures);
         to = omega (arith, c.loop-index.invariant.to, c.from-to.ensures, more);
         least =
             w.least-is
@@ -44,6 +56,7 @@ loop-index-preserved g c =
       }
       | else-to-from w ↦ record {
         items = left-rest (items_of c.args.track.now.cells) c.loop-index.items c.next.new.self c.loop-index.index c.in-Some.view c.loop-index.invariant.items c.in-Some.ensures.some;
+        within = omega (arith, c.loop-index-test.true, c.count-index-end.ensures);
         to = omega (arith, c.loop-index.invariant.to, c.from-to.ensures, more);
         least =
             w.least-is
@@ -55,3 +68,6 @@ loop-index-preserved g c =
         most = omega (arith, c.loop-index.invariant.most, c.tick.ensures);
       }
     ]
+
+pub returns-clause-most : goal.returns-clause-most
+returns-clause-most g c = omega (arith, c.loop-index.invariant.most, c.loop-index.invariant.within)

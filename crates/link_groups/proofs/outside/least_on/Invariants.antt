@@ -1,4 +1,4 @@
-use Rattle.std.proofs.Common.{◌≡◌, ◌+◌, ◌≤◌, drop, take}
+use Rattle.std.proofs.Common.{◌≡◌, ◌+◌, ◌≤◌, drop, length, take}
 use Rattle.composables.specs.Items.{cells_of, items_of}
 use Rattle.composables.specs.Joined.{frames_in}
 use Rattle.composables.specs.Links.{least_outside}
@@ -8,6 +8,7 @@ use Rattle.link_groups.proofs.outside.least_on.Given as goal
 abbrev pub invariant-loop-index : goal.invariant-loop-index
 invariant-loop-index g l = record {
   items : l.items ≡ drop l.index (items_of l.track.cells);
+  within : l.index ≤ length (items_of l.track.cells);
   to : l.to ≡ frames_in (take l.index (items_of l.track.cells));
   least : l.least ≡ least_outside l.named (drop l.y (cells_of (take l.index (items_of l.track.cells))));
   inside : AreInside l.named l.inside;

@@ -6,6 +6,9 @@ use Rattle.composables.specs.Sizes.{size_of}
 use Rattle.link_groups.proofs.LeastLinks.{tracks-all, tracks-more}
 use Rattle.link_groups.proofs.outside.least_outside.Goals as goal
 
+pub least_on-requires : goal.least_on-requires
+least_on-requires g c = c.first.ensures c.args.y c.track-item.result
+
 pub loop-track-preserved : goal.loop-track-preserved
 loop-track-preserved g c = record {
   least =

@@ -15,14 +15,14 @@ use Rattle.link_groups.proofs.shifting.shift_linked.Goals as goal
 pub returns-in-Some-over_limits-clause-answers : goal.returns-in-Some-over_limits-clause-answers
 returns-in-Some-over_limits-clause-answers g c =
     let moves : eqb (new_len c.args.shift.now.new) (c.args.shift.now.y - c.args.shift.now.x) ≡ false = ne_eqb (new_len c.args.shift.now.new) (c.args.shift.now.y - c.args.shift.now.x) (λ e. c.if-new_len-shift.false (c.new_len.ensures ∙ e)) in
-    let none : linked_refusal c.args.shift.now c.args.named.now.items ≡ None = not-refused c.args.shift.now c.args.named.now.items c.deref.result.now c.check.result moves c.check.ensures.refusal c.deref.ensures.value c.in-None.is in
+    let none : linked_refusal c.args.shift.now c.args.named.now.items ≡ None = not-refused c.args.shift.now c.args.named.now.items c.deref.result.now c.check_moved.result moves c.check_moved.ensures.refusal c.deref.ensures.value c.in-None.is in
     let over : over_limits (all_moved c.args.shift.now c.args.named.now.items) ≡ Some c.in-Some-over_limits.refusal = over-is c.args.shift.now c.args.named.now.items c.deref-2.result.now (Some c.in-Some-over_limits.refusal) c.deref-2.ensures.value c.in-Some-over_limits.ensures.refusal in
     (linked-over c.args.shift.now c.args.place c.args.done c.args.named.now.items c.in-Some-over_limits.refusal none over, refl)
 
 pub returns-in_err-splits-clause-answers : goal.returns-in_err-splits-clause-answers
 returns-in_err-splits-clause-answers g c =
     let moves : eqb (new_len c.args.shift.now.new) (c.args.shift.now.y - c.args.shift.now.x) ≡ false = ne_eqb (new_len c.args.shift.now.new) (c.args.shift.now.y - c.args.shift.now.x) (λ e. c.if-new_len-shift.false (c.new_len.ensures ∙ e)) in
-    let none : linked_refusal c.args.shift.now c.args.named.now.items ≡ None = not-refused c.args.shift.now c.args.named.now.items c.deref.result.now c.check.result moves c.check.ensures.refusal c.deref.ensures.value c.in-None.is in
+    let none : linked_refusal c.args.shift.now c.args.named.now.items ≡ None = not-refused c.args.shift.now c.args.named.now.items c.deref.result.now c.check_moved.result moves c.check_moved.ensures.refusal c.deref.ensures.value c.in-None.is in
     let within : over_limits (all_moved c.args.shift.now c.args.named.now.items) ≡ None = over-is c.args.shift.now c.args.named.now.items c.deref-2.result.now None c.deref-2.ensures.value c.in-None-over_limits.ensures.refusal in
     answers-memory (linked_shift c.args.shift.now c.args.place c.args.done c.args.named.now.items) c.args.named.now.items c.args.named.now.items c.from_residual.result c.from_residual.ensures.1
     (ap is_ok (linked-within c.args.shift.now c.args.place c.args.done c.args.named.now.items none within)) refl
@@ -35,7 +35,7 @@ shifted-requires-clause-within g c =
 pub returns-in_err-moved-clause-answers : goal.returns-in_err-moved-clause-answers
 returns-in_err-moved-clause-answers g c =
     let moves : eqb (new_len c.args.shift.now.new) (c.args.shift.now.y - c.args.shift.now.x) ≡ false = ne_eqb (new_len c.args.shift.now.new) (c.args.shift.now.y - c.args.shift.now.x) (λ e. c.if-new_len-shift.false (c.new_len.ensures ∙ e)) in
-    let none : linked_refusal c.args.shift.now c.args.named.now.items ≡ None = not-refused c.args.shift.now c.args.named.now.items c.deref.result.now c.check.result moves c.check.ensures.refusal c.deref.ensures.value c.in-None.is in
+    let none : linked_refusal c.args.shift.now c.args.named.now.items ≡ None = not-refused c.args.shift.now c.args.named.now.items c.deref.result.now c.check_moved.result moves c.check_moved.ensures.refusal c.deref.ensures.value c.in-None.is in
     let within : over_limits (all_moved c.args.shift.now c.args.named.now.items) ≡ None = over-is c.args.shift.now c.args.named.now.items c.deref-2.result.now None c.deref-2.ensures.value c.in-None-over_limits.ensures.refusal in
     answers-memory (linked_shift c.args.shift.now c.args.place c.args.done c.args.named.now.items) c.args.named.now.items c.args.named.now.items c.from_residual-in_err-moved.result c.from_residual-in_err-moved.ensures.1
     (ap is_ok (linked-within c.args.shift.now c.args.place c.args.done c.args.named.now.items none within)) refl
@@ -48,7 +48,7 @@ relink_all-requires g c =
 pub returns-in_err-relink_all-clause-answers : goal.returns-in_err-relink_all-clause-answers
 returns-in_err-relink_all-clause-answers g c =
     let moves : eqb (new_len c.args.shift.now.new) (c.args.shift.now.y - c.args.shift.now.x) ≡ false = ne_eqb (new_len c.args.shift.now.new) (c.args.shift.now.y - c.args.shift.now.x) (λ e. c.if-new_len-shift.false (c.new_len.ensures ∙ e)) in
-    let none : linked_refusal c.args.shift.now c.args.named.now.items ≡ None = not-refused c.args.shift.now c.args.named.now.items c.deref.result.now c.check.result moves c.check.ensures.refusal c.deref.ensures.value c.in-None.is in
+    let none : linked_refusal c.args.shift.now c.args.named.now.items ≡ None = not-refused c.args.shift.now c.args.named.now.items c.deref.result.now c.check_moved.result moves c.check_moved.ensures.refusal c.deref.ensures.value c.in-None.is in
     let within : over_limits (all_moved c.args.shift.now c.args.named.now.items) ≡ None = over-is c.args.shift.now c.args.named.now.items c.deref-2.result.now None c.deref-2.ensures.value c.in-None-over_limits.ensures.refusal in
     answers-memory (linked_shift c.args.shift.now c.args.place c.args.done c.args.named.now.items) c.args.named.now.items c.args.named.now.items c.from_residual-in_err-relink_all.result c.from_residual-in_err-relink_all.ensures.1
     (ap is_ok (linked-within c.args.shift.now c.args.place c.args.done c.args.named.now.items none within)) refl
@@ -58,9 +58,9 @@ returns-in_err-relink_all-clause-most g c =
     let moved : c.in_ok-moved.moved.items ≡ all_moved c.args.shift.now c.args.named.now.items = c.in_ok-moved.ensures.moved ∙ ap (all_moved c.args.shift.now) c.deref-4.ensures.value in
     omega (
       arith,
-      c.check.ensures.most,
+      c.check_moved.ensures.most,
       c.over_limits.ensures.most,
-      c.splits_at.ensures.most,
+      c.splits_moved.ensures.most,
       c.shifted.ensures.most,
       c.relink_all.ensures.most,
       ap sizes_of c.deref.ensures.value,
@@ -73,7 +73,7 @@ returns-in_err-relink_all-clause-most g c =
 pub returns-clause-answers : goal.returns-clause-answers
 returns-clause-answers g c =
     let moves : eqb (new_len c.args.shift.now.new) (c.args.shift.now.y - c.args.shift.now.x) ≡ false = ne_eqb (new_len c.args.shift.now.new) (c.args.shift.now.y - c.args.shift.now.x) (λ e. c.if-new_len-shift.false (c.new_len.ensures ∙ e)) in
-    let none : linked_refusal c.args.shift.now c.args.named.now.items ≡ None = not-refused c.args.shift.now c.args.named.now.items c.deref.result.now c.check.result moves c.check.ensures.refusal c.deref.ensures.value c.in-None.is in
+    let none : linked_refusal c.args.shift.now c.args.named.now.items ≡ None = not-refused c.args.shift.now c.args.named.now.items c.deref.result.now c.check_moved.result moves c.check_moved.ensures.refusal c.deref.ensures.value c.in-None.is in
     let within : over_limits (all_moved c.args.shift.now c.args.named.now.items) ≡ None = over-is c.args.shift.now c.args.named.now.items c.deref-2.result.now None c.deref-2.ensures.value c.in-None-over_limits.ensures.refusal in
     let splits : AreSplits c.args.named.now.items (split_links c.args.shift.now.x c.args.shift.now.y c.args.named.now.items) c.in_ok-splits.splits =
     subst (λ (ts : List TrackState). AreSplits ts (split_links c.args.shift.now.x c.args.shift.now.y ts) c.in_ok-splits.splits) c.deref-3.ensures.value c.in_ok-splits.ensures.splits in
@@ -86,9 +86,9 @@ returns-clause-most g c =
     let moved : c.in_ok-moved.moved.items ≡ all_moved c.args.shift.now c.args.named.now.items = c.in_ok-moved.ensures.moved ∙ ap (all_moved c.args.shift.now) c.deref-4.ensures.value in
     omega (
       arith,
-      c.check.ensures.most,
+      c.check_moved.ensures.most,
       c.over_limits.ensures.most,
-      c.splits_at.ensures.most,
+      c.splits_moved.ensures.most,
       c.shifted.ensures.most,
       c.relink_all.ensures.most,
       ap sizes_of c.deref.ensures.value,

@@ -1,6 +1,7 @@
-use Rattle.std.proofs.Common.{◌≡◌, ◌+◌, Bool, Some, ◌&&◌, ◌||◌, slice_get, ap, sym, ◌∙◌, arith, refl}
+use Rattle.std.proofs.Common.{◌≡◌, ◌+◌, Bool, Some, ◌&&◌, ◌||◌, slice_get, ap, sym, ◌∙◌, arith, refl, take}
 use Rattle.std.specs.BTreeSet.{btree_set_len, contains}
-use Rattle.composables.specs.Items.{items_of}
+use Rattle.composables.specs.Items.{cells_of, items_of}
+use Rattle.composables.proofs.Joining.{length-cells_of}
 use Rattle.composables.proofs.Pieces.{left-first, left-rest, left-some}
 use Rattle.link_groups.specs.Marks.{is_marked}
 use Rattle.link_groups.specs.Splits.{is_key_of, key_cmp}
@@ -23,6 +24,19 @@ pub unreachable-requires : goal.unreachable-requires
 unreachable-requires g c =
     left-some (items_of c.args.track.now.cells) c.loop-index.items c.loop-index.index (omega (arith, c.loop-index-test.true, c.count-index-end.ensures)) c.loop-index.invariant.items (c.in_default.ensures.none refl).0
 
+pub loop-index-init : goal.loop-index-init
+loop-index-init g c = record {
+  items = c.at-items.ensures;
+  within = c.requires.within;
+  end = c.requires.from;
+  links = λ q.
+      behind-none q c.args.y (cells_of (take c.args.start.index (items_of c.args.track.now.cells))) (contains key_cmp c.args.split.now q) (is_marked c.args.before.now q)
+      (omega (arith, length-cells_of (take c.args.start.index (items_of c.args.track.now.cells)), c.requires.from, c.requires.before));
+  few = omega arith;
+  least = omega arith;
+  most = omega arith;
+}
+
 pub overflow_add-end : goal.overflow_add-end
 overflow_add-end g c =
     let read : slice_get (items_of c.args.track.now.cells) c.loop-index.index ≡ Some c.in-Some.view =
@@ -38,6 +52,7 @@ loop-index-preserved g c =
     elim c.if-end-y.branch [
       | then-end-y+in_ok-add_marked w ↦ record {
         items = rest;
+        within = omega (arith, c.loop-index-test.true, c.count-index-end.ensures);
         end = omega (arith, c.loop-index.invariant.end, more);
         links = λ q.
             ap (λ s. contains key_cmp s q) w.split-is
@@ -52,6 +67,7 @@ loop-index-preserved g c =
       }
       | else-end-y w ↦ record {
         items = rest;
+        within = omega (arith, c.loop-index-test.true, c.count-index-end.ensures);
         end = omega (arith, c.loop-index.invariant.end, more);
         links = λ q.
             ap (λ s. contains key_cmp s q) w.split-is
@@ -63,3 +79,9 @@ loop-index-preserved g c =
         most = omega (arith, c.loop-index.invariant.most, c.tick.ensures);
       }
     ]
+
+pub returns-clause-few : goal.returns-clause-few
+returns-clause-few g c = omega (arith, c.loop-index.invariant.few, c.loop-index.invariant.within)
+
+pub returns-clause-most : goal.returns-clause-most
+returns-clause-most g c = omega (arith, c.loop-index.invariant.most, c.loop-index.invariant.within)
