@@ -1,5 +1,5 @@
 -- The links of what stands in a range of record frames, item by item and track by track.
-use Rattle.std.proofs.Common.{◌≡◌, ℕ, zero, suc, ◌+◌, ◌-◌, ◌<◌, ◌≤◌, min, Bool, true, false, ◌&&◌, ◌||◌, List, [], ◌∷◌, ◌++◌, append_assoc, get_or, length, take, drop, Option, Some, slice_get, refl, sym, ap, ◌∙◌, arith, ⊎_elim}
+use Rattle.std.proofs.Common.{◌≡◌, ℕ, zero, suc, ◌+◌, ◌-◌, ◌<◌, ◌≤◌, min, Bool, true, false, ◌&&◌, ◌||◌, List, [], ◌∷◌, ◌++◌, length, take, drop, Option, Some, slice_get, refl, sym, ap, ◌∙◌, arith, ⊎_elim}
 use Rattle.std.specs.List.{list_any}
 use Rattle.std.proofs.lemmas.Bool.{cases_lt}
 use Rattle.std.proofs.lemmas.List.{append-nil, take-append-drop, take-append-le, take_all, take_more}
@@ -15,7 +15,6 @@ use Rattle.frame_meaning.specs.Cells.{next_side, span}
 use Rattle.composables.specs.declared.items.ItemView.{ItemView}
 use Rattle.composables.specs.Items.{cells_of, items_of, marked, view_cells}
 use Rattle.composables.specs.Joined.{frames_in}
-use Rattle.composables.specs.Links.{cells_before}
 use Rattle.composables.specs.TrackFacts.{IsKept}
 use Rattle.composables.specs.TrackState.{TrackState}
 use Rattle.composables.proofs.Frames.{no_view}
@@ -189,11 +188,3 @@ behind-none q y cs old m le = or_and_none old m (list_any (has_key q) (drop y cs
 -- nor one without links
 pub behind-bare : (q : ℕ × ℕ) (y : ℕ) (cs : List Cell) (old m : Bool) → AreBare cs → old ≡ (old || (m && list_any (has_key q) (drop y cs)))
 behind-bare q y cs old m bare = or_and_none old m (list_any (has_key q) (drop y cs)) (bare-keys q (drop y cs) (bare-drop y cs bare))
-
--- the tracks up to an index, and one more, and all
-pub tracks_more_before : (x i : ℕ) (ts : List TrackState) (t : TrackState) → i < length ts → t ≡ get_or ts i t → cells_before x (take (i + 1) ts) ≡ cells_before x (take i ts) ++ take x t.cells
-tracks_more_before x i ts t lt is =
-    ap (cells_before x) (take_more ts i t lt ∙ ap (λ (u : TrackState). take i ts ++ u ∷ []) (sym is)) ∙ added (take i ts) where
-      added : (us : List TrackState) → cells_before x (us ++ t ∷ []) ≡ cells_before x us ++ take x t.cells
-      added [] = append-nil (take x t.cells)
-      added (u ∷ us) = ap (λ (cs : List Cell). take x u.cells ++ cs) (added us) ∙ sym (append_assoc (take x u.cells) (cells_before x us) (take x t.cells))

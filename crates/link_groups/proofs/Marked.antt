@@ -1,12 +1,9 @@
 -- Marks in rows of Booleans, one for each home.
 use Rattle.std.proofs.Common.{◌≡◌, ℕ, zero, suc, ◌<◌, Bool, true, false, ◌&&◌, ◌||◌, eqb, List, [], ◌∷◌, ◌++◌, Vec, length, get_or, replicate, slice_get, slice_set, refl, sym, ap, ◌∙◌, arith}
 use Rattle.std.specs.Global.{Global}
-use Rattle.std.specs.BTreeSet.{contains}
 use Rattle.std.proofs.lemmas.Bool.{eqb-true, ne_eqb}
 use Rattle.composables.proofs.Joining.{eqb-refl}
-use Rattle.link_groups.specs.declared.link_marks.LinkMarks.{LinkMarks}
-use Rattle.link_groups.specs.Marks.{in_row, is_marked, is_set, row_has}
-use Rattle.link_groups.specs.Splits.{key_cmp}
+use Rattle.link_groups.specs.Marks.{in_row, row_has}
 
 true_false : true ≡ false → ⊥
 true_false e = cc
@@ -74,10 +71,6 @@ or-last false true true = refl
 or-last false true false = refl
 or-last false false true = refl
 or-last false false false = refl
-
-pub or-assoc : (a b c : Bool) → (a || (b || c)) ≡ ((a || b) || c)
-or-assoc true b c = refl
-or-assoc false b c = refl
 
 -- rows without marks, and one more
 pub rows-more : (rows : List (Vec Bool Global)) (row : Vec Bool Global) → row.items ≡ [] → ((i n : ℕ) → in_row (slice_get rows i) n ≡ false) → (i n : ℕ) → in_row (slice_get (rows ++ row ∷ []) i) n ≡ false

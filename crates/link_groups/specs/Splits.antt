@@ -1,6 +1,6 @@
 -- The links that a shift splits, and the numbers that their moved items get.
-use Rattle.std.specs.Prelude.{◌≡◌, ◌<◌, ◌^◌, ℕ, ◌+◌, ◌-◌, Bool, false, ◌&&◌, List, [], ◌∷◌, Option, Some, None, drop, filter, length, nat_eq, nat_lt, take, unwrap_or, if◌then◌else◌}
-use Rattle.std.specs.List.{flat_map, list_any}
+use Rattle.std.specs.Prelude.{◌≡◌, ◌<◌, ◌^◌, ℕ, ◌+◌, ◌-◌, Bool, false, ◌&&◌, List, [], ◌∷◌, Option, Some, None, filter, length, nat_eq, nat_lt, unwrap_or, if◌then◌else◌}
+use Rattle.std.specs.List.{list_any}
 use Rattle.std.specs.Ordering.{nat_cmp, ordering_then}
 use Rattle.std.specs.declared.cmp.Ordering.{Ordering}
 use Rattle.std.specs.BTreeMap.{get, is_at}
@@ -27,10 +27,6 @@ is_key_of k (Some l) = nat_eq k.0 l.home && nat_eq k.1 l.number
 
 abbrev pub has_key : ℕ × ℕ → Cell → Bool
 has_key k c = is_key_of k c.link
-
--- the cells of these tracks at the record frames [from, to)
-abbrev pub cells_between : ℕ → ℕ → List TrackState → List Cell
-cells_between from to tracks = flat_map (λ (t : TrackState). drop from (take to t.cells)) tracks
 
 -- how many of these keys have this home
 abbrev pub at_home : ℕ → List (ℕ × ℕ) → ℕ

@@ -9,7 +9,7 @@ use frame_meaning::Link;
 use std::alloc::Global;
 use std::collections::BTreeSet;
 
-/// Homes and numbers below these have their marks in rows.
+// Links whose home and number are below these are marked in rows.
 const ROW_HOMES: u32 = 32;
 
 const ROW_NUMBERS: u32 = 65_536;
@@ -90,7 +90,7 @@ fn row_has(row: &[bool], number: usize) -> bool
 
 // Marks a number in a row.
 fn mark(row: &mut Vec<bool>, number: u32) -> Result<(), Memory>
-    requires { number < 65536 }
+    requires { number < ROW_NUMBERS }
     ensures { OnOk result ((n : ℕ) → row_has row.new.items n
         ≡ (row_has row.old.items n || nat_eq n number)) }
 {
@@ -101,7 +101,7 @@ fn mark(row: &mut Vec<bool>, number: u32) -> Result<(), Memory>
 
 // Makes a row long enough for a number.
 fn reach(row: &mut Vec<bool>, number: usize) -> Result<(), Memory>
-    requires { number < 65536 }
+    requires { number < ROW_NUMBERS }
     ensures marks { OnOk result ((n : ℕ) → row_has row.new.items n ≡ row_has row.old.items n) }
     ensures long { OnOk result (number < length row.new.items) }
 {

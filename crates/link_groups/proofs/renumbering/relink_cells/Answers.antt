@@ -1,4 +1,3 @@
-use Rattle.std.proofs.Common.{refl}
 use Rattle.link_groups.proofs.Unsplit.{unsplit-track}
 use Rattle.link_groups.proofs.renumbering.relink_cells.Goals as goal
 

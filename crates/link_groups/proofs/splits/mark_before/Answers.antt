@@ -1,4 +1,4 @@
-use Rattle.std.proofs.Common.{◌≡◌, ◌+◌, Bool, Some, ◌||◌, slice_get, ap, sym, ◌∙◌, arith, refl, take}
+use Rattle.std.proofs.Common.{◌≡◌, ◌+◌, Bool, Some, ◌||◌, slice_get, ap, ◌∙◌, arith, refl, take}
 use Rattle.composables.specs.Items.{items_of}
 use Rattle.composables.proofs.Pieces.{left-first, left-rest, left-some}
 use Rattle.link_groups.specs.Marks.{is_marked}
