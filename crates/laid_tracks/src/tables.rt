@@ -1,5 +1,6 @@
 // A small table of media and nests.
 ghost use Rattle.std.specs.Prelude.{◌≡◌, IfOk, Some};
+ghost use Rattle.frame_meaning.specs.declared.cells.What.TheVariants.{Media as OfMedia};
 ghost use Rattle.composables.specs.Bounds.{bounds_of};
 
 use composables::{Kind, Listed, Media, Memory, Nest, Reels, Table};
@@ -8,7 +9,7 @@ use std::alloc::Global;
 /// A table of two tracks, 0 of video and 1 of audio; of media 0 with the frames [0, 86400) and media 1 with [50, 60); and
 /// of a nest of 50 frames.
 pub fn small_table(alloc: Global) -> Result<Table, Memory>
-    ensures media { IfOk result (λ table. bounds_of table (What.Media 0) ≡ Some (0, 86400)) }
+    ensures media { IfOk result (λ table. bounds_of table (OfMedia 0) ≡ Some (0, 86400)) }
 {
     let mut kinds = Listed::new(alloc);
     kinds.push(Kind::Video)?;
