@@ -102,12 +102,12 @@ def linked_pairs(items):
 
 
 def edits_of_two_tracks(count, items):
-    """For each kind, so many edits of two tracks in the middle."""
+    """For each kind, so many edits of two tracks in the middle; of inserts, which make them longer, a fifth."""
     place = items // 2
     middle = place * PLACE_FRAMES
     item = next(number for number in range(items) if number * STRIDE % items == place)
     return {
-        "insert into two tracks": [f"insert 0,1 0 {middle} @0 0 {ITEM_FRAMES}"] * count,
+        "insert into two tracks": [f"insert 0,1 0 {middle} @0 0 {ITEM_FRAMES}"] * (count // 5),
         "slip of two tracks": [f"slip 0,1 0 {item} 5", f"slip 0,1 0 {item} -5"] * (count // 2),
         "ripple of two tracks": [f"ripple 0,1 0 {item} tail 1", f"ripple 0,1 0 {item} tail -1"] * (count // 2),
     }
@@ -174,9 +174,9 @@ def main():
     for items in (1_000, 10_000):
         before = first_source(scattered(items), 1_000)
         for name, there_and_back in deltas_in_the_middle(items).items():
-            compare(ours, plain, f"{name} in the middle of {items:,} items", there_and_back * 1_000, before)
+            compare(ours, plain, f"{name} in the middle of {items:,} items", there_and_back * 10_000, before)
         compare(ours, plain, f"fill of gaps between {items:,} items", fills_of_gaps(2_000, items), before)
-    compare_links(ours, 10_000, 2_000)
+    compare_links(ours, 10_000, 20_000)
     tell_memory(ours)
 
 
