@@ -1,8 +1,7 @@
 // Stations of a hall over memory, served at once.
 use crate::documents::document_of;
 use crate::turns::{Deeds, HeldHall, Hold, HoldingGate, Until};
-use program_runs::{status_of, words_in};
-use reel_names::AsIs;
+use program_runs::served_over;
 use room_files::{Files, MemFiles};
 use room_halls::{Hall, MemHall};
 use room_ports::{MemLine, MemSink, MemSource};
@@ -109,33 +108,6 @@ fn hall_of(
     })
 }
 
-// The status of so many stations that are served over these files and this hall.
-fn status_over<R: Threads + Wait + Sync>(
-    rt: &R,
-    alloc: Global,
-    stations: usize,
-    files: &mut MemFiles,
-    hall: &mut HeldHall,
-    gate: &HoldingGate<'_>,
-) -> Result<u8, Fail> {
-    let command = format!(in alloc; "serve cut 24 ndf {stations} hall out.journal")?;
-    let words = words_in(alloc, command.as_str())?;
-    let mut input = MemSource::new(Vec::new(alloc), Vec::new(alloc));
-    let mut output = MemSink::new(alloc, Vec::new(alloc));
-    let namer = Box::new(alloc, AsIs::new(alloc))?;
-    Ok(status_of(
-        rt,
-        alloc,
-        &words,
-        files,
-        &mut input,
-        &mut output,
-        hall,
-        gate,
-        namer,
-    ))
-}
-
 pub(crate) fn serve<R: Threads + Wait + Sync>(
     rt: &R,
     alloc: Global,
@@ -149,7 +121,8 @@ pub(crate) fn serve<R: Threads + Wait + Sync>(
         holds: serving.at_gate,
     };
     let stations = serving.sent.len();
-    let status = status_over(rt, alloc, stations, &mut files, &mut hall, &gate)?;
+    let words = format!(in alloc; "serve cut 24 ndf {stations} hall out.journal")?;
+    let status = served_over(rt, alloc, words.as_str(), &mut files, &mut hall, &gate)?;
     Ok(Served {
         status,
         taken: taken_of(alloc, &mut hall.hall, stations)?,

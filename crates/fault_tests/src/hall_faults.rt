@@ -1,6 +1,5 @@
 // Each call of the hall, of the files and of each station's line fails in its turn, where four stations are served.
-use program_runs::{status_of, words_in};
-use reel_names::AsIs;
+use program_runs::served_over;
 use room_files::{Files, MemFiles};
 use room_halls::{Hall, MemHall};
 use room_ports::{MemLine, MemSink, MemSource, OpenGate};
@@ -117,30 +116,6 @@ fn entries(alloc: Global, journal: &[u8]) -> Result<Vec<u32>, Fail> {
     Ok(counts)
 }
 
-// The status of four stations that are served over these files and this hall.
-fn status_over<R: Threads + Wait + Sync>(
-    rt: &R,
-    alloc: Global,
-    files: &mut MemFiles,
-    hall: &mut MemHall,
-) -> Result<u8, Fail> {
-    let words = words_in(alloc, "serve cut 24 ndf 4 hall out.journal")?;
-    let mut input = MemSource::new(Vec::new(alloc), Vec::new(alloc));
-    let mut output = MemSink::new(alloc, Vec::new(alloc));
-    let namer = Box::new(alloc, AsIs::new(alloc))?;
-    Ok(status_of(
-        rt,
-        alloc,
-        &words,
-        files,
-        &mut input,
-        &mut output,
-        hall,
-        &OpenGate,
-        namer,
-    ))
-}
-
 // Four stations are served in the room of this document.
 fn serve_four<R: Threads + Wait + Sync>(
     rt: &R,
@@ -152,7 +127,8 @@ fn serve_four<R: Threads + Wait + Sync>(
     let mut files = MemFiles::new(alloc, only(alloc, failing.file)?);
     files.put("cut", cut.as_bytes())?;
     let mut hall = hall_of(alloc, sent, failing)?;
-    let status = status_over(rt, alloc, &mut files, &mut hall)?;
+    let words = "serve cut 24 ndf 4 hall out.journal";
+    let status = served_over(rt, alloc, words, &mut files, &mut hall, &OpenGate)?;
     let entries = match files.read_file(alloc, "out.journal", 1_000_000) {
         Ok(journal) => Some(entries(alloc, &journal)?),
         Err(_) => None,

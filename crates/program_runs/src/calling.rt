@@ -21,9 +21,9 @@ pub fn words_in(alloc: Global, text: &str) -> Result<Words, Fail> {
     Ok(words)
 }
 
-/// The status of the program's call over these objects. What its contract says is not told to the tests, which hold what
-/// they want against it.
-pub fn status_of<R: Threads + Wait + Sync, H: Hall, G: Gate + Sync>(
+// The status of the program's call over these objects. What its contract says is not told to the tests, which hold what
+// they want against it.
+fn status_of<R: Threads + Wait + Sync, H: Hall, G: Gate + Sync>(
     rt: &R,
     alloc: Global,
     words: &Words,
@@ -37,7 +37,34 @@ pub fn status_of<R: Threads + Wait + Sync, H: Hall, G: Gate + Sync>(
     cut_main(rt, alloc, words, files, input, output, hall, gate, namer)
 }
 
-/// The same over these files, with no hall, where nobody waits and reels have their own names.
+/// The status of the program's call with a hall that seats stations, over these files, with nothing on the input, where
+/// reels have their own names.
+pub fn served_over<R: Threads + Wait + Sync, H: Hall, G: Gate + Sync>(
+    rt: &R,
+    alloc: Global,
+    words: &str,
+    files: &mut MemFiles,
+    hall: &mut H,
+    gate: &G,
+) -> Result<u8, Fail> {
+    let words = words_in(alloc, words)?;
+    let mut input = MemSource::new(Vec::new(alloc), Vec::new(alloc));
+    let mut output = MemSink::new(alloc, Vec::new(alloc));
+    let namer = Box::new(alloc, AsIs::new(alloc))?;
+    Ok(status_of(
+        rt,
+        alloc,
+        &words,
+        files,
+        &mut input,
+        &mut output,
+        hall,
+        gate,
+        namer,
+    ))
+}
+
+/// The same over this input and output, with no hall, where nobody waits.
 pub fn run_over<R: Threads + Wait + Sync>(
     rt: &R,
     alloc: Global,
