@@ -50,6 +50,7 @@ pub struct Run<W> {
     pub len: u32,
 }
 
+// Whether a side goes on from the one before: dark after dark, or one thing with the next source frame.
 fn side_follows<W: Copy + Eq>(before: &Side<W>, after: &Side<W>) -> bool
     ensures { result ≡ side_goes_on W.eq before.now after.now }
 {

@@ -23,6 +23,7 @@ pub fn rendered(alloc: Global, cells: &[Cell]) -> Result<Vec<Frame<What>>, Memor
     Ok(frames)
 }
 
+// What a track of these cells shows at a place: the mix of the dissolve that covers it, or what its cell shows.
 fn frame_at(cells: &[Cell], place: usize) -> Frame<What>
     requires short { length cells.now < 2 ^ 32 }
     requires within { place < length cells.now }
@@ -55,6 +56,7 @@ fn dissolve_at(cells: &[Cell], place: usize) -> Option<(usize, Mark)>
     None
 }
 
+// Whether a dissolve at a cut covers a place: from `a` frames before the cut up to `b` frames after it.
 fn is_covered(mark: Mark, cut: usize, place: usize) -> bool
     requires cut { cut < 2 ^ 32 }
     requires place { place < 2 ^ 32 }
@@ -63,6 +65,7 @@ fn is_covered(mark: Mark, cut: usize, place: usize) -> bool
     cut <= place + mark.a as usize && place < cut + mark.b as usize
 }
 
+// A frame that shows one side alone.
 fn whole(side: Side<What>) -> Frame<What>
     ensures { result ≡ frame_of side }
 {
@@ -72,6 +75,8 @@ fn whole(side: Side<What>) -> Frame<What>
     }
 }
 
+// The frame of a dissolve at a place: what goes on from before the cut and what comes from after it, with
+// the weight of the latter.
 fn mixed(cells: &[Cell], cut: usize, mark: Mark, place: usize) -> Frame<What>
     requires short { length cells.now < 2 ^ 32 }
     requires cut { cut < length cells.now }
@@ -87,6 +92,7 @@ fn mixed(cells: &[Cell], cut: usize, mark: Mark, place: usize) -> Frame<What>
     }
 }
 
+// What a side shows `on` frames later and then `back` frames earlier, but no source frame below 0.
 fn side_moved(side: Side<What>, on: usize, back: usize) -> Side<What>
     requires on { on ≤ 2 ^ 32 }
     requires numbered { SideIsNumbered (moved side on back) }
@@ -113,6 +119,7 @@ pub fn runs_of(alloc: Global, frames: &[Frame<What>]) -> Result<Vec<Run<What>>, 
     Ok(all)
 }
 
+// Puts a frame before these runs: into the first of them where that goes on from it, else as a run of its own.
 fn put_before(all: &mut Vec<Run<What>>, frame: Frame<What>) -> Result<(), Memory>
     requires { first_len all.old.items + 1 < 2 ^ 32 }
     ensures ok { OnOk result (all.new.items ≡ with_frame same_what frame all.old.items) }
@@ -126,6 +133,7 @@ fn put_before(all: &mut Vec<Run<What>>, frame: Frame<What>) -> Result<(), Memory
     Ok(())
 }
 
+// Whether a frame of things goes on from the one before.
 fn what_goes_on(before: &Frame<What>, after: &Frame<What>) -> bool
     ensures { result ≡ frame_goes_on same_what before.now after.now }
 {

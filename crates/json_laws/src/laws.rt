@@ -11,15 +11,15 @@ pub fn bytes_have_one_meaning()
     ensures some { HasMeaning }
 {}
 
-/// What is read behind a quote is spelled by the bytes up to the next quote that closes it, and what is spelled so is
-/// read, whatever stands behind.
+/// What is read after a quote is spelled by the bytes up to the next quote that closes it, and what is spelled so is
+/// read, whatever stands after it.
 pub fn texts_are_those_of_the_grammar()
     ensures spelled { TextsAreSpelled }
     ensures read { TextsAreRead }
 {}
 
 /// What is read as a number is spelled by the bytes in front, and kept where it is one that is kept; what is spelled so
-/// is read, where nothing behind it goes on with the number.
+/// is read, where nothing after it goes on with the number.
 pub fn numbers_are_those_of_the_grammar()
     ensures spelled { NumbersAreSpelled }
     ensures read { NumbersAreRead }

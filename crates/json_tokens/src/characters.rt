@@ -13,12 +13,15 @@ use std::alloc::Global;
 /// How many bytes a raw character has past its first, and the bounds of its second byte.
 #[derive(Clone, Copy)]
 enum Lead {
+    /// One byte more, from 0x80 to 0xbf.
     Two,
+    /// Two bytes more.
     Three { low: u8, high: u8 },
+    /// Three bytes more.
     Four { low: u8, high: u8 },
 }
 
-/// The text behind an opening quote, up to the closing one and past it.
+/// The text after an opening quote, up to the closing one, and what is left past that.
 pub fn text_behind_quote(alloc: Global, rest: Rest<'_>) -> Result<(Text, Rest<'_>), JsonFault>
     ensures { Gives (λ r. (r.0, r.1.at, r.1.bytes.now)) result
         (text_at (length rest.entry.bytes.now) rest.entry.at rest.entry.bytes.now) }
@@ -70,6 +73,8 @@ fn character(rest: Rest<'_>) -> Result<(char, Rest<'_>), JsonFault>
     }
 }
 
+/// What the first byte of a raw character of two to four bytes asks of the bytes after it. `None`
+/// where no character begins so.
 fn lead_of(first: u8) -> Option<Lead>
     ensures { result ≡ lead first }
 {
@@ -103,7 +108,7 @@ fn lead_of(first: u8) -> Option<Lead>
     }
 }
 
-/// The raw character whose first byte stands at `start`, with `rest` behind that byte.
+/// The raw character whose first byte stands at `start`, with `rest` after that byte.
 #[tactic(auto, unfolding(crate::specs::ReadingTexts::sequence_at, crate::specs::ReadingTexts::two_at, crate::specs::ReadingTexts::three_at, crate::specs::ReadingTexts::four_at))]
 fn sequence(start: u32, first: u8, rest: Rest<'_>) -> Result<(char, Rest<'_>), JsonFault>
     ensures { Gives (λ r. (r.0, r.1.at, r.1.bytes.now)) result
@@ -137,7 +142,7 @@ fn sequence(start: u32, first: u8, rest: Rest<'_>) -> Result<(char, Rest<'_>), J
     }
 }
 
-/// The next byte of the raw character that begins at `start`.
+/// The next byte of the raw character that begins at `start`. A byte out of its bounds makes the character no UTF-8.
 fn continuation(start: u32, low: u8, high: u8, rest: Rest<'_>) -> Result<(u8, Rest<'_>), JsonFault>
     ensures within { IfOk result (λ r. (low ≤ r.0) × (r.0 ≤ high)) }
     ensures given { Gives (λ r. (r.0, r.1.at, r.1.bytes.now)) result
@@ -158,6 +163,7 @@ fn continuation(start: u32, low: u8, high: u8, rest: Rest<'_>) -> Result<(u8, Re
     }
 }
 
+/// The character of a number that is one of Unicode, and no half of a surrogate pair.
 fn scalar(code: u32) -> char
     requires { InScalarRange code }
     ensures { result ≡ code }
@@ -168,7 +174,7 @@ fn scalar(code: u32) -> char
     }
 }
 
-/// The character that is escaped by the backslash at `start`, with `rest` behind it.
+/// The character that is escaped by the backslash at `start`, with `rest` after it.
 #[tactic(auto, unfolding(crate::specs::ReadingTexts::escape_at))]
 fn escape(start: u32, rest: Rest<'_>) -> Result<(char, Rest<'_>), JsonFault>
     ensures { Gives (λ r. (r.0, r.1.at, r.1.bytes.now)) result
@@ -192,6 +198,7 @@ fn escape(start: u32, rest: Rest<'_>) -> Result<(char, Rest<'_>), JsonFault>
     }
 }
 
+/// The character that one letter after a backslash stands for; `None` for a letter that stands for none.
 fn short_escape(byte: u8) -> Option<char>
     ensures { result ≡ short_escape byte }
 {
@@ -222,7 +229,7 @@ fn unicode(start: u32, rest: Rest<'_>) -> Result<(char, Rest<'_>), JsonFault>
     pair(start, unit, rest)
 }
 
-/// The character of a pair, behind its first half.
+/// The character of a surrogate pair, after its first half, whose escape stands at `start`.
 #[tactic(auto, unfolding(crate::specs::ReadingTexts::pair_at))]
 fn pair(start: u32, first: u32, rest: Rest<'_>) -> Result<(char, Rest<'_>), JsonFault>
     requires low { 0xd800 ≤ first }
@@ -235,7 +242,7 @@ fn pair(start: u32, first: u32, rest: Rest<'_>) -> Result<(char, Rest<'_>), Json
     Ok((scalar(code), rest))
 }
 
-/// Four hexadecimal digits.
+/// The number of four hexadecimal digits at the front, or the fault at the first byte that is none.
 #[tactic(auto, unfolding(crate::specs::ReadingTexts::unit_at))]
 fn unit(rest: Rest<'_>) -> Result<(u32, Rest<'_>), JsonFault>
     ensures unit { IfOk result (λ r. r.0 < 0x10000) }
@@ -252,6 +259,7 @@ fn unit(rest: Rest<'_>) -> Result<(u32, Rest<'_>), JsonFault>
     ))
 }
 
+/// The value of the hexadecimal digit at the front, or the fault where none stands there.
 fn hex(rest: Rest<'_>) -> Result<(u32, Rest<'_>), JsonFault>
     ensures digit { IfOk result (λ r. r.0 < 16) }
     ensures given { Gives (λ r. (r.0, r.1.at, r.1.bytes.now)) result
@@ -272,6 +280,7 @@ fn hex(rest: Rest<'_>) -> Result<(u32, Rest<'_>), JsonFault>
     }
 }
 
+/// The value of a hexadecimal digit, in small letters or capitals.
 fn hex_value(byte: u8) -> Option<u32>
     ensures digit { IfSome result (λ value. value < 16) }
     ensures value { result ≡ hex_value byte }
@@ -297,6 +306,8 @@ fn second_half(start: u32, rest: Rest<'_>) -> Result<(u32, Rest<'_>), JsonFault>
     half_digits(start, rest)
 }
 
+/// The four digits of a second half, past `\u`: from dc00 to dfff. Any other digits are a fault of
+/// the first half, at `start`.
 #[tactic(auto, unfolding(crate::specs::ReadingTexts::half_digits_at))]
 fn half_digits(start: u32, rest: Rest<'_>) -> Result<(u32, Rest<'_>), JsonFault>
     ensures low { IfOk result (λ r. (0xdc00 ≤ r.0) × (r.0 < 0xe000)) }
@@ -314,6 +325,7 @@ fn half_digits(start: u32, rest: Rest<'_>) -> Result<(u32, Rest<'_>), JsonFault>
     half_end(start, second, rest)
 }
 
+/// The number of a second half by its last two digits; the two before them are `d` and `second`.
 #[tactic(auto, unfolding(crate::specs::ReadingTexts::half_end_at))]
 fn half_end(start: u32, second: u32, rest: Rest<'_>) -> Result<(u32, Rest<'_>), JsonFault>
     requires { second < 16 }
@@ -327,6 +339,8 @@ fn half_end(start: u32, second: u32, rest: Rest<'_>) -> Result<(u32, Rest<'_>), 
     Ok((0xd000 + second * 0x100 + third * 0x10 + fourth, rest))
 }
 
+/// Past a byte that a second half needs. Another byte is a fault of the first half, at `start`; the end
+/// is one of its own.
 fn half_byte(start: u32, wanted: u8, rest: Rest<'_>) -> Result<Rest<'_>, JsonFault>
     ensures { Gives (λ r. (r.at, r.bytes.now)) result
         (half_byte_at start wanted rest.entry.at rest.entry.bytes.now) }
@@ -345,6 +359,8 @@ fn half_byte(start: u32, wanted: u8, rest: Rest<'_>) -> Result<Rest<'_>, JsonFau
     }
 }
 
+/// The value of a hexadecimal digit that a second half needs. Another byte is a fault of the first half, at `start`;
+/// the end is one of its own.
 fn half_digit(start: u32, rest: Rest<'_>) -> Result<(u32, Rest<'_>), JsonFault>
     ensures digit { IfOk result (λ r. r.0 < 16) }
     ensures given { Gives (λ r. (r.0, r.1.at, r.1.bytes.now)) result

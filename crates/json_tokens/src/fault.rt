@@ -1,4 +1,4 @@
-// Why bytes are no tree, and the want of memory.
+// Why bytes are no tree, or that there is no memory for it.
 ghost use Rattle.std.specs.Prelude.{◌≡◌};
 ghost use Rattle.json_tokens.specs.declared.fault.JsonFault.TheVariants as faults;
 
@@ -18,7 +18,7 @@ pub enum JsonFault {
     NotUtf8(u32),
     /// There are more bytes than are read.
     TooLarge,
-    /// There was not memory enough.
+    /// There was no memory for what was read.
     Memory,
 }
 

@@ -1,6 +1,6 @@
 //! What a text in JSON (RFC 8259) is made of: blanks and literal words, texts in quotes, and numbers kept
 //! exactly. A reader takes what stands at the front of the bytes that are left, and gives it with what is
-//! left behind it, or the first fault with its place. [`numeral`] reads a whole text that is one number:
+//! left after it, or the first fault with its place. [`numeral`] reads a whole text that is one number:
 //! its contract is by the grammar alone.
 #![tactic(auto)]
 

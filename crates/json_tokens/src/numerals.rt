@@ -11,7 +11,7 @@ use crate::fault::JsonFault;
 use crate::rest::Rest;
 use ratio_time::Numeral;
 
-/// A number as it is spelled: digits before and behind the point, and the digits of its exponent.
+/// A number as it is spelled: digits before and after the point, and the digits of its exponent.
 #[derive(Clone, Copy)]
 struct Spelling<'a> {
     negative: bool,
@@ -41,12 +41,13 @@ pub fn numeral(text: &[u8]) -> Option<Numeral>
     ensures none { IfNone result ((d : Digits) (m : ℤ) (p : ℕ) → IsNumber text.now d → IsKept d m p
         → ⊥) }
 
-    // The same as a function, for definitions that compute.
+    // The answer as a function of the text, for definitions that compute.
     ensures value { numeral_kept result ≡ numeral_in text.now }
 {
     whole_text(text)
 }
 
+/// The numeral that the whole text spells, if it spells one that can be kept.
 fn whole_text(text: &[u8]) -> Option<Numeral>
     ensures { numeral_kept result ≡ numeral_in text.now }
 {
@@ -77,6 +78,7 @@ pub fn numeral_value(rest: Rest<'_>) -> Result<(Option<Numeral>, Rest<'_>), Json
     }
 }
 
+/// The number at the front as it is spelled, and what is left after it; or where a digit is missing.
 #[tactic(auto, unfolding(crate::specs::ReadingNumerals::spelling_at))]
 fn take_spelling(bytes: &[u8]) -> Result<(Spelling<'_>, &[u8]), NoDigit<'_>>
     ensures given { Takes (λ r. (digits_in r.0, r.1.now)) result (spelling_at bytes.now) }
@@ -97,6 +99,7 @@ fn take_spelling(bytes: &[u8]) -> Result<(Spelling<'_>, &[u8]), NoDigit<'_>>
     Ok((spelling, rest))
 }
 
+/// Whether a minus stands at the front, and what is left after it.
 fn take_minus(bytes: &[u8]) -> (bool, &[u8])
     ensures given { (result.0, result.1.now) ≡ minus_at bytes.now }
     ensures shorter { length result.1.now ≤ length bytes.now }
@@ -107,7 +110,7 @@ fn take_minus(bytes: &[u8]) -> (bool, &[u8])
     }
 }
 
-/// A zero alone, or digits that begin with another.
+/// The whole part: a zero alone, or digits that begin with another.
 #[tactic(auto, unfolding(crate::specs::ReadingNumerals::whole_at, crate::specs::ReadingNumerals::digits_at))]
 fn take_whole(bytes: &[u8]) -> Result<(&[u8], &[u8]), NoDigit<'_>>
     ensures given { Takes (λ r. (r.0.now, r.1.now)) result (whole_at bytes.now) }
@@ -121,6 +124,7 @@ fn take_whole(bytes: &[u8]) -> Result<(&[u8], &[u8]), NoDigit<'_>>
     }
 }
 
+/// The digits after a point at the front; none where no point stands there.
 #[tactic(auto, unfolding(crate::specs::ReadingNumerals::fraction_at))]
 fn take_fraction(bytes: &[u8]) -> Result<(&[u8], &[u8]), NoDigit<'_>>
     ensures given { Takes (λ r. (r.0.now, r.1.now)) result (fraction_at bytes.now) }
@@ -134,6 +138,7 @@ fn take_fraction(bytes: &[u8]) -> Result<(&[u8], &[u8]), NoDigit<'_>>
     }
 }
 
+/// The exponent at the front; one that moves the point by nothing where no `e` stands there.
 #[tactic(auto, unfolding(crate::specs::ReadingNumerals::exponent_at))]
 fn take_exponent(bytes: &[u8]) -> Result<(Exponent<'_>, &[u8]), NoDigit<'_>>
     ensures given { Takes (λ r. ((r.0.lowers, r.0.digits.now), r.1.now)) result
@@ -154,6 +159,7 @@ fn take_exponent(bytes: &[u8]) -> Result<(Exponent<'_>, &[u8]), NoDigit<'_>>
     }
 }
 
+/// The exponent past its `e`: a sign, if one stands there, and one digit or more.
 #[tactic(auto, unfolding(crate::specs::ReadingNumerals::power_at))]
 fn take_power(bytes: &[u8]) -> Result<(Exponent<'_>, &[u8]), NoDigit<'_>>
     ensures given { Takes (λ r. ((r.0.lowers, r.0.digits.now), r.1.now)) result
@@ -167,6 +173,7 @@ fn take_power(bytes: &[u8]) -> Result<(Exponent<'_>, &[u8]), NoDigit<'_>>
     Ok((Exponent { lowers, digits }, rest))
 }
 
+/// Whether the exponent lowers the number, past its sign if one stands there.
 fn take_exponent_sign(bytes: &[u8]) -> (bool, &[u8])
     ensures given { (result.0, result.1.now) ≡ exponent_sign_at bytes.now }
     ensures shorter { length result.1.now ≤ length bytes.now }
@@ -177,7 +184,7 @@ fn take_exponent_sign(bytes: &[u8]) -> (bool, &[u8])
     }
 }
 
-/// One digit or more.
+/// One digit or more at the front, and what is left after them.
 #[tactic(auto, using(crate::proofs::Digits::are_digits, crate::proofs::Digits::front_digits, crate::proofs::Digits::behind_digits, crate::proofs::Digits::few_digits), unfolding(crate::specs::ReadingNumerals::digits_at))]
 fn take_digits(bytes: &[u8]) -> Result<(&[u8], &[u8]), NoDigit<'_>>
     ensures given { Takes (λ r. (r.0.now, r.1.now)) result (digits_at bytes.now) }
@@ -210,7 +217,7 @@ const LIMIT: u128 = 1_000_000_000_000_000_000;
 /// Past this an exponent's size does not matter.
 const FAR: u128 = 1_000_000_000_000_000_000_000_000_000_000;
 
-/// Digits as `kept` with `zeros` zeros behind it, or more of them than are kept.
+/// The digits of a number so far: `kept` with `zeros` zeros after it, or more digits than are kept.
 #[derive(Clone, Copy)]
 struct Significant {
     kept: u64,
@@ -241,6 +248,7 @@ fn kept(spelling: &Spelling<'_>) -> Option<Numeral>
     }
 }
 
+/// The number with these digits after those that it has.
 fn with_digits(number: Significant, digits: &[u8]) -> Significant
     requires digits { AreDigits digits.now }
     requires zeros { number.zeros < 2 ^ 66 }
@@ -256,6 +264,7 @@ fn with_digits(number: Significant, digits: &[u8]) -> Significant
     number
 }
 
+/// The number with one digit after those that it has. Zeros are counted until another digit shows that they are kept.
 fn with_digit(number: Significant, digit: u8) -> Significant
     requires digit { digit < 10 }
     requires zeros { number.zeros < 2 ^ 67 }
@@ -282,6 +291,7 @@ fn with_digit(number: Significant, digit: u8) -> Significant
     }
 }
 
+/// The number with a zero after its digits; zeros before the first other digit change nothing.
 fn with_zero(number: Significant) -> Significant
     requires { number.zeros < 2 ^ 67 }
     ensures kept { result.kept ≡ number.kept }
@@ -298,7 +308,7 @@ fn with_zero(number: Significant) -> Significant
     }
 }
 
-// The same number, marked as one that has more digits than are kept.
+// The number marked as one that has more digits than are kept.
 fn with_too_many(number: Significant) -> Significant
     ensures { result ≡ record { kept = number.kept; zeros = number.zeros; too_many = true } }
 {
@@ -309,6 +319,7 @@ fn with_too_many(number: Significant) -> Significant
     }
 }
 
+/// 10^places, as a number of 128 bits.
 #[tactic(auto, using(crate::proofs::Fractions::power_small))]
 fn power_of_ten(places: u8) -> u128
     requires { places ≤ 18 }
@@ -318,7 +329,7 @@ fn power_of_ten(places: u8) -> u128
     10u128.pow(places as u32)
 }
 
-/// The number of the digits, or one that is as far where it is so large.
+/// The number that an exponent's digits spell; where that is too large to matter, one that is too large as well.
 fn size(digits: &[u8]) -> u128
     requires { AreDigits digits.now }
     ensures size { IsSize result (number_of digits.now) }
@@ -360,6 +371,7 @@ fn shifted(negative: bool, kept: u64, up: u128, down: u128) -> Option<Numeral>
     Some(numeral_with(negative, kept, places as u8))
 }
 
+/// The numeral size/10^places with its sign, whose digits end in no zero that could be left out.
 fn numeral_with(negative: bool, size: u64, places: u8) -> Numeral
     requires size { size < 10 ^ 18 }
     requires places { places ≤ 18 }

@@ -14,7 +14,7 @@ pub struct Rest<'a> {
     ghost within: { at + length bytes.now ≤ 33554432 },
 }
 
-/// Past spaces, tabs, line feeds and carriage returns.
+/// What is left past spaces, tabs, line feeds and carriage returns.
 #[tactic(auto, using(crate::proofs::Blanks::blank_on, crate::proofs::Blanks::blank_end, crate::proofs::Blanks::blank_shorter))]
 pub fn past_blanks(rest: Rest<'_>) -> Rest<'_>
     ensures { (result.at, result.bytes.now) ≡ past_blanks rest.entry.at rest.entry.bytes.now }
@@ -26,6 +26,7 @@ pub fn past_blanks(rest: Rest<'_>) -> Rest<'_>
     rest
 }
 
+/// What is left past one blank; `None` where none stands there.
 fn past_blank(rest: Rest<'_>) -> Option<Rest<'_>>
     ensures { option_map (λ r. (r.at, r.bytes.now)) result
         ≡ blank_at rest.entry.at rest.entry.bytes.now }
@@ -39,7 +40,7 @@ fn past_blank(rest: Rest<'_>) -> Option<Rest<'_>>
     }
 }
 
-/// Past that byte, if it stands there.
+/// What is left past that byte; `None` where another one stands there, or none.
 pub fn past_byte(byte: u8, rest: Rest<'_>) -> Option<Rest<'_>>
     ensures { option_map (λ r. (r.at, r.bytes.now)) result
         ≡ byte_at byte rest.entry.at rest.entry.bytes.now }
@@ -53,7 +54,7 @@ pub fn past_byte(byte: u8, rest: Rest<'_>) -> Option<Rest<'_>>
     }
 }
 
-/// Past the bytes of the word, or the fault at the first other one.
+/// What is left past the bytes of the word, or the fault at the first other one.
 pub fn word<'a>(word: &[u8], rest: Rest<'a>) -> Result<Rest<'a>, JsonFault>
     ensures { Gives (λ r. (r.at, r.bytes.now)) result
         (word_at word.now rest.entry.at rest.entry.bytes.now) }

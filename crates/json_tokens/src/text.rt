@@ -36,7 +36,7 @@ impl Text {
         Text { string }
     }
 
-    /// Its characters.
+    /// Its characters, which are UTF-8.
     pub fn as_str(&self) -> &str
         ensures text { result.now ≡ self.now }
         ensures utf8 { IsUtf8 self.now }

@@ -33,12 +33,13 @@ pub fn read(alloc: Global, bytes: &[u8]) -> Result<Json, JsonFault>
     ensures placed { IfErr result (λ fault. IsPlaced bytes.now fault) }
     // It has at most as many lists and objects as the text has bytes.
     ensures few { IfOk result (λ tree. tree_size (tree_of tree) ≤ length bytes.now) }
-    // The same answers, by a reading from left to right that can be computed.
+    // What it answers is what a reading from left to right gives, which definitions can compute.
     ensures exact { Gives tree_of result (document_at bytes.now) }
 {
     document(alloc, bytes)
 }
 
+/// The value that the bytes spell, with blanks around it and nothing after; or the first fault.
 #[tactic(auto, unfolding(crate::specs::ReadingValues::document_at))]
 fn document(alloc: Global, bytes: &[u8]) -> Result<Json, JsonFault>
     ensures { Gives tree_of result (document_at bytes.now) }

@@ -5,7 +5,7 @@ ghost use Rattle.json_tree.specs.View.{tree_of, member_of};
 
 use crate::tree::{Json, Member};
 
-/// The value of the last member of that name.
+/// The value of the last member of that name, or `None` where there is none.
 pub fn last_of<'a>(members: &'a [Member], name: &str) -> Option<&'a Json>
     ensures { option_map (λ j. tree_of j.now) result
         ≡ last_named name.now (map member_of members.now) }

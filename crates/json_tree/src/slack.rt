@@ -7,7 +7,7 @@ use std::alloc::Global;
 // library joins with no other: in hostile documents these pieces are more memory than the values.
 const FEW: usize = 64;
 
-/// The same elements, in a block of no more memory than they need, as far as the allocator gives one.
+/// A list's elements, in a block of no more memory than they need, as far as the allocator gives one.
 pub fn without_slack<T: Drop>(alloc: Global, list: Vec<T>) -> Vec<T>
     ensures { result.items ≡ list.items }
 {
@@ -19,7 +19,7 @@ pub fn without_slack<T: Drop>(alloc: Global, list: Vec<T>) -> Vec<T>
     moved(alloc, list)
 }
 
-/// The same elements in a new block, or in the old one where there is no memory.
+/// A list's elements in a new block, or in the old one where there is no memory.
 fn moved<T: Drop>(alloc: Global, list: Vec<T>) -> Vec<T>
     ensures { result.items ≡ list.items }
 {

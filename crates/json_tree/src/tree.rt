@@ -20,14 +20,19 @@ pub struct Json {
 #[derive(Debug, Drop)]
 #[cycle(tree)]
 pub enum Value {
+    /// The word `null`.
     Null,
+    /// The word `true` or `false`.
     Bool(bool),
     /// A number m/10^k with m below 10^18 in size and k at most 18, whichever way it was spelled.
     Numeral(Numeral),
     /// Any other number.
     Wide,
+    /// Characters, without the quotes and with no escapes.
     Text(Text),
+    /// Values in brackets, in order.
     List(Items),
+    /// Members in braces, in order.
     Object(Members),
 }
 
@@ -44,7 +49,7 @@ pub struct Items {
 pub struct Member {
     /// Its name, without quotes and escapes.
     pub name: Text,
-    /// The value behind the colon.
+    /// The value after the colon.
     pub value: Json,
 }
 
@@ -181,7 +186,7 @@ impl Items {
         Ok(())
     }
 
-    /// The same values, in a block of no more memory than they need, as far as the allocator gives one.
+    /// The list in a block of no more memory than its values need, as far as the allocator gives one.
     pub(crate) fn without_slack(self, alloc: Global) -> Items
         ensures { result ≡ self }
     {
@@ -224,7 +229,7 @@ impl Members {
         Ok(())
     }
 
-    /// The same members, in a block of no more memory than they need, as far as the allocator gives one.
+    /// The object in a block of no more memory than its members need, as far as the allocator gives one.
     pub(crate) fn without_slack(self, alloc: Global) -> Members
         ensures { result ≡ self }
     {
@@ -233,7 +238,7 @@ impl Members {
         }
     }
 
-    /// The value of the last member of that name.
+    /// The value of the last member of that name, or `None` where there is none.
     pub fn find(&self, name: &str) -> Option<&Json>
         ensures { option_map (λ j. tree_of j.now) result ≡ last_named name.now self.now }
     {

@@ -13,10 +13,12 @@ use json_tokens::{
 use ratio_time::Numeral;
 use std::alloc::Global;
 
-/// What stands behind a member of a list or an object.
+/// What stands after an element of a list or an object.
 #[derive(Clone, Copy)]
 enum Next {
+    /// A comma: another element has to follow.
     Another,
+    /// The closing bracket.
     End,
 }
 
@@ -32,6 +34,7 @@ fn value(alloc: Global, levels: u32, rest: Rest<'_>) -> Result<(Json, Rest<'_>),
     Ok((Json { at, value }, rest))
 }
 
+/// What the value at the front is, with at most `levels` levels of lists and objects.
 #[cycle(value)]
 fn kind(alloc: Global, levels: u32, rest: Rest<'_>) -> Result<(Value, Rest<'_>), JsonFault>
     ensures { Gives (λ r. (kind_of r.0, r.1.at, r.1.bytes.now)) result
@@ -47,7 +50,7 @@ fn kind(alloc: Global, levels: u32, rest: Rest<'_>) -> Result<(Value, Rest<'_>),
     }
 }
 
-/// A list behind the bracket at `start`.
+/// The list after the bracket at `start`, which is a fault where no level is left.
 #[cycle(value)]
 fn list(
     alloc: Global,
@@ -64,6 +67,7 @@ fn list(
     list_inside(alloc, levels - 1, rest)
 }
 
+/// The list past its bracket, whose values have at most `levels` levels.
 #[tactic(auto, unfolding(crate::specs::ReadingValues::items_at))]
 #[cycle(value)]
 fn list_inside(alloc: Global, levels: u32, rest: Rest<'_>) -> Result<(Value, Rest<'_>), JsonFault>
@@ -74,7 +78,7 @@ fn list_inside(alloc: Global, levels: u32, rest: Rest<'_>) -> Result<(Value, Res
     Ok((Value::List(items), rest))
 }
 
-/// An object behind the bracket at `start`.
+/// The object after the brace at `start`, which is a fault where no level is left.
 #[cycle(value)]
 fn object(
     alloc: Global,
@@ -91,6 +95,7 @@ fn object(
     object_inside(alloc, levels - 1, rest)
 }
 
+/// The object past its brace, whose values have at most `levels` levels.
 #[tactic(auto, unfolding(crate::specs::ReadingValues::members_at))]
 #[cycle(value)]
 fn object_inside(alloc: Global, levels: u32, rest: Rest<'_>) -> Result<(Value, Rest<'_>), JsonFault>
@@ -101,7 +106,7 @@ fn object_inside(alloc: Global, levels: u32, rest: Rest<'_>) -> Result<(Value, R
     Ok((Value::Object(members), rest))
 }
 
-/// A value that holds no others.
+/// A value that holds no others: a text, a word or a number.
 #[tactic(auto, unfolding(crate::specs::ReadingValues::scalar_at))]
 fn scalar(alloc: Global, rest: Rest<'_>) -> Result<(Value, Rest<'_>), JsonFault>
     ensures { Gives (λ r. (kind_of r.0, r.1.at, r.1.bytes.now)) result
@@ -122,6 +127,7 @@ fn scalar(alloc: Global, rest: Rest<'_>) -> Result<(Value, Rest<'_>), JsonFault>
     }
 }
 
+/// The number at the front, exactly, or `Wide` where it is not kept.
 #[tactic(auto, unfolding(crate::specs::ReadingValues::number_at))]
 fn number(rest: Rest<'_>) -> Result<(Value, Rest<'_>), JsonFault>
     ensures { Gives (λ r. (kind_of r.0, r.1.at, r.1.bytes.now)) result
@@ -131,6 +137,7 @@ fn number(rest: Rest<'_>) -> Result<(Value, Rest<'_>), JsonFault>
     Ok((number_value(numeral), rest))
 }
 
+/// The value of a number that was read: `Wide` where it is not kept.
 fn number_value(numeral: Option<Numeral>) -> Value
     ensures { kind_of result ≡ number_kind (numeral_kept numeral) }
 {
@@ -140,6 +147,7 @@ fn number_value(numeral: Option<Numeral>) -> Value
     }
 }
 
+/// A text past its opening quote.
 #[tactic(auto, unfolding(crate::specs::ReadingValues::quoted_at))]
 fn quoted(alloc: Global, rest: Rest<'_>) -> Result<(Value, Rest<'_>), JsonFault>
     ensures { Gives (λ r. (kind_of r.0, r.1.at, r.1.bytes.now)) result
@@ -149,7 +157,7 @@ fn quoted(alloc: Global, rest: Rest<'_>) -> Result<(Value, Rest<'_>), JsonFault>
     Ok((Value::Text(text), rest))
 }
 
-/// The values of a list, behind its bracket, and past the closing one.
+/// The values of a list, past its bracket, and what is left past the closing one.
 #[cycle(value)]
 #[tactic(auto, unfolding(crate::specs::ReadingValues::list_at))]
 fn items(alloc: Global, levels: u32, rest: Rest<'_>) -> Result<(Items, Rest<'_>), JsonFault>
@@ -166,6 +174,7 @@ fn items(alloc: Global, levels: u32, rest: Rest<'_>) -> Result<(Items, Rest<'_>)
     }
 }
 
+/// The values of a list that does not end at once, and what is left past its closing bracket.
 #[cycle(value)]
 fn some_items(alloc: Global, levels: u32, rest: Rest<'_>) -> Result<(Items, Rest<'_>), JsonFault>
     ensures { Gives (λ r. (r.0, r.1.at, r.1.bytes.now)) result
@@ -199,7 +208,7 @@ pub fn item(alloc: Global, levels: u32, rest: Rest<'_>) -> Result<(Json, Rest<'_
     Ok((value, past_blanks(rest)))
 }
 
-/// A comma or the closing bracket.
+/// A comma or the closing bracket, or the fault where another byte stands.
 fn separator(close: u8, rest: Rest<'_>) -> Result<(Next, Rest<'_>), JsonFault>
     ensures { Gives (λ r. (is_another r.0, r.1.at, r.1.bytes.now)) result
         (separator_at close rest.entry.at rest.entry.bytes.now) }
@@ -222,7 +231,7 @@ fn separator(close: u8, rest: Rest<'_>) -> Result<(Next, Rest<'_>), JsonFault>
     }
 }
 
-/// The members of an object, behind its bracket, and past the closing one.
+/// The members of an object, past its brace, and what is left past the closing one.
 #[cycle(value)]
 #[tactic(auto, unfolding(crate::specs::ReadingValues::list_at))]
 fn members(alloc: Global, levels: u32, rest: Rest<'_>) -> Result<(Members, Rest<'_>), JsonFault>
@@ -239,6 +248,7 @@ fn members(alloc: Global, levels: u32, rest: Rest<'_>) -> Result<(Members, Rest<
     }
 }
 
+/// The members of an object that does not end at once, and what is left past its closing brace.
 #[cycle(value)]
 fn some_members(
     alloc: Global,

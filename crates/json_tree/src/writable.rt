@@ -15,6 +15,7 @@ pub fn is_writable(tree: &Json) -> bool
     is_tree_writable(tree, MOST_LEVELS)
 }
 
+/// Whether a tree has no number that is `Wide`, and at most `levels` levels of lists and objects.
 #[cycle(writable)]
 fn is_tree_writable(tree: &Json, levels: u32) -> bool
     ensures { result ≡ is_writable (tree_of tree.now) levels }
@@ -29,6 +30,7 @@ fn is_tree_writable(tree: &Json, levels: u32) -> bool
     }
 }
 
+/// Whether all of these values can be written at `levels` levels.
 #[cycle(writable)]
 fn are_writable(items: &[Json], levels: u32) -> bool
     ensures { result ≡ are_writable (trees (map tree_of items.now)) levels }
@@ -41,6 +43,7 @@ fn are_writable(items: &[Json], levels: u32) -> bool
     true
 }
 
+/// Whether the values of all of these members can be written at `levels` levels.
 #[cycle(writable)]
 fn are_members_writable(named: &[Member], levels: u32) -> bool
     ensures { result ≡ are_members_writable (members (map member_of named.now)) levels }

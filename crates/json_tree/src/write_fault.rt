@@ -1,4 +1,4 @@
-// Why a text was not put behind what is written.
+// Why a text was not put after what is written.
 ghost use Rattle.std.specs.Prelude.{◌≡◌};
 ghost use Rattle.json_tree.specs.declared.write_fault.WriteFault.TheVariants as faults;
 
@@ -7,12 +7,12 @@ use std::alloc::AllocError;
 use std::error::Error;
 use std::fmt;
 
-/// Why a text was not put behind what is written.
+/// Why a text was not put after what is written. Nothing has changed.
 #[derive(Clone, Copy, Debug, PartialEq, Eq)]
 pub enum WriteFault {
     /// There would be more bytes than are allowed.
     TooLong,
-    /// There was not memory enough.
+    /// There was no memory for the text.
     Memory,
 }
 

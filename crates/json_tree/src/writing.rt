@@ -26,7 +26,7 @@ pub fn write(alloc: Global, tree: &Json) -> Result<Vec<u8>, Memory>
     Ok(out)
 }
 
-/// Puts the text of the tree, as `write` gives it, behind what is written, if there are then at most `most` bytes.
+/// Puts the text of the tree, as `write` gives it, after what is written, if there are then at most `most` bytes.
 /// After a fault nothing has changed: the text is made apart first, so for a moment it stands in memory twice.
 pub fn write_behind(
     alloc: Global,
@@ -39,6 +39,7 @@ pub fn write_behind(
     ensures behind { OnOk result (out.new.items ≡ out.old.items ++ tree_text (tree_of tree.now)) }
     ensures fits { OnOk result (length out.new.items ≤ most) }
 
+    // Nothing is written after a fault.
     ensures same { OnErr result (out.new.items ≡ out.old.items) }
     ensures too_long { result ≡ Err WriteFault.TooLong
         → most < length (out.old.items ++ tree_text (tree_of tree.now)) }
@@ -51,6 +52,7 @@ pub fn write_behind(
     Ok(())
 }
 
+/// Adds the text of a tree, and nothing for a number that is `Wide`.
 #[cycle(put)]
 fn put_tree(out: &mut Vec<u8>, tree: &Json) -> Result<(), Memory>
     ensures { OnOk result (out.new.items ≡ out.old.items ++ tree_text (tree_of tree.now)) }
@@ -67,6 +69,7 @@ fn put_tree(out: &mut Vec<u8>, tree: &Json) -> Result<(), Memory>
     }
 }
 
+/// Adds these bytes.
 fn put(out: &mut Vec<u8>, bytes: &[u8]) -> Result<(), Memory>
     ensures { OnOk result (out.new.items ≡ out.old.items ++ bytes.now) }
 {
@@ -74,6 +77,7 @@ fn put(out: &mut Vec<u8>, bytes: &[u8]) -> Result<(), Memory>
     Ok(())
 }
 
+/// Adds a list in its brackets.
 #[cycle(put)]
 fn put_items(out: &mut Vec<u8>, items: &Items) -> Result<(), Memory>
     ensures { OnOk result (out.new.items ≡ out.old.items
@@ -85,6 +89,7 @@ fn put_items(out: &mut Vec<u8>, items: &Items) -> Result<(), Memory>
     Ok(())
 }
 
+/// Adds values with commas between them.
 #[cycle(put)]
 fn put_joined_items(out: &mut Vec<u8>, items: &[Json]) -> Result<(), Memory>
     ensures { OnOk result (out.new.items ≡ out.old.items
@@ -99,6 +104,7 @@ fn put_joined_items(out: &mut Vec<u8>, items: &[Json]) -> Result<(), Memory>
     }
 }
 
+/// Adds the values past the first of a list, a comma before each.
 #[cycle(put)]
 fn put_other_items(out: &mut Vec<u8>, others: &[Json]) -> Result<(), Memory>
     ensures { OnOk result (out.new.items ≡ out.old.items
@@ -111,6 +117,7 @@ fn put_other_items(out: &mut Vec<u8>, others: &[Json]) -> Result<(), Memory>
     Ok(())
 }
 
+/// Adds an object in its braces.
 #[cycle(put)]
 fn put_members(out: &mut Vec<u8>, members: &Members) -> Result<(), Memory>
     ensures { OnOk result (out.new.items ≡ out.old.items
@@ -122,6 +129,7 @@ fn put_members(out: &mut Vec<u8>, members: &Members) -> Result<(), Memory>
     Ok(())
 }
 
+/// Adds members with commas between them.
 #[cycle(put)]
 fn put_joined_members(out: &mut Vec<u8>, members: &[Member]) -> Result<(), Memory>
     ensures { OnOk result (out.new.items ≡ out.old.items
@@ -136,6 +144,7 @@ fn put_joined_members(out: &mut Vec<u8>, members: &[Member]) -> Result<(), Memor
     }
 }
 
+/// Adds the members past the first of an object, a comma before each.
 #[cycle(put)]
 fn put_other_members(out: &mut Vec<u8>, others: &[Member]) -> Result<(), Memory>
     ensures { OnOk result (out.new.items ≡ out.old.items
@@ -148,6 +157,7 @@ fn put_other_members(out: &mut Vec<u8>, others: &[Member]) -> Result<(), Memory>
     Ok(())
 }
 
+/// Adds a member: its name in quotes, a colon and its value.
 #[cycle(put)]
 fn put_member(out: &mut Vec<u8>, member: &Member) -> Result<(), Memory>
     ensures { OnOk result (out.new.items ≡ out.old.items ++ member_text (member_of member.now)) }
@@ -157,6 +167,7 @@ fn put_member(out: &mut Vec<u8>, member: &Member) -> Result<(), Memory>
     put_tree(out, &member.value)
 }
 
+/// Adds a text in quotes, with the escapes that it needs.
 fn put_text(out: &mut Vec<u8>, text: &[u8]) -> Result<(), Memory>
     ensures { OnOk result (out.new.items ≡ out.old.items ++ quoted text.now) }
 {
@@ -175,6 +186,7 @@ pub fn quote(alloc: Global, text: &str) -> Result<Vec<u8>, Memory>
     Ok(out)
 }
 
+/// Adds the bytes of a text, with the escapes that it needs and no quotes.
 fn put_escaped(out: &mut Vec<u8>, text: &[u8]) -> Result<(), Memory>
     ensures { OnOk result (out.new.items ≡ out.old.items ++ flat_map escaped text.now) }
 {
@@ -184,6 +196,7 @@ fn put_escaped(out: &mut Vec<u8>, text: &[u8]) -> Result<(), Memory>
     Ok(())
 }
 
+/// Adds one byte of a text: quotes and backslashes after a backslash, bytes below 32 as `\u` and four digits.
 fn put_byte(out: &mut Vec<u8>, byte: u8) -> Result<(), Memory>
     ensures { OnOk result (out.new.items ≡ out.old.items ++ escaped byte) }
 {
@@ -198,6 +211,7 @@ fn put_byte(out: &mut Vec<u8>, byte: u8) -> Result<(), Memory>
     Ok(())
 }
 
+/// The hexadecimal digit of a value below 16, in small letters.
 fn hex_digit(value: u8) -> u8
     requires { value < 16 }
     ensures { result ≡ hex_digit value }
@@ -209,6 +223,7 @@ fn hex_digit(value: u8) -> u8
     }
 }
 
+/// Adds a number exactly: sign, whole part, point and as many places as it has, or `.0`.
 #[tactic(auto, unfolding(crate::specs::Writing::numeral_text))]
 fn put_numeral(out: &mut Vec<u8>, numeral: &Numeral) -> Result<(), Memory>
     ensures { OnOk result (out.new.items ≡ out.old.items
@@ -222,6 +237,7 @@ fn put_numeral(out: &mut Vec<u8>, numeral: &Numeral) -> Result<(), Memory>
     put_places(out, size % power, numeral.places)
 }
 
+/// Adds the minus of a number below 0.
 fn put_sign(out: &mut Vec<u8>, mantissa: i64) -> Result<(), Memory>
     ensures { OnOk result (out.new.items ≡ out.old.items ++ sign_text mantissa) }
 {
@@ -231,7 +247,7 @@ fn put_sign(out: &mut Vec<u8>, mantissa: i64) -> Result<(), Memory>
     Ok(())
 }
 
-/// The digits of the number, without zeros before it.
+/// Adds the digits of the number, without zeros before it.
 #[tactic(auto, unfolding(crate::specs::Writing::whole_text))]
 fn put_whole(out: &mut Vec<u8>, number: u64) -> Result<(), Memory>
     ensures { OnOk result (out.new.items ≡ out.old.items ++ whole_text number) }
@@ -239,6 +255,7 @@ fn put_whole(out: &mut Vec<u8>, number: u64) -> Result<(), Memory>
     put_digits(out, number, digits_needed(number))
 }
 
+/// How many digits a number below 10^18 has, 1 for 0.
 #[tactic(auto, using(crate::proofs::WritingSteps::needed_here, crate::proofs::WritingSteps::needed_on, crate::proofs::WritingSteps::needed_last))]
 fn digits_needed(number: u64) -> u8
     ensures count { result ≡ digits_needed number 17 1 }
@@ -252,6 +269,7 @@ fn digits_needed(number: u64) -> u8
     18
 }
 
+/// Adds the digits after the point, so many places, or one zero where there are none.
 #[tactic(auto, using(crate::proofs::WritingSteps::places_are))]
 fn put_places(out: &mut Vec<u8>, number: u64, places: u8) -> Result<(), Memory>
     requires { places ≤ 18 }
@@ -264,7 +282,7 @@ fn put_places(out: &mut Vec<u8>, number: u64, places: u8) -> Result<(), Memory>
     put_digits(out, number, places)
 }
 
-/// The last `count` digits of the number.
+/// Adds the last `count` digits of the number.
 #[tactic(auto, using(crate::proofs::WritingSteps::digit_first, crate::proofs::WritingSteps::digit_put))]
 fn put_digits(out: &mut Vec<u8>, number: u64, count: u8) -> Result<(), Memory>
     requires { count ≤ 19 }
@@ -278,6 +296,7 @@ fn put_digits(out: &mut Vec<u8>, number: u64, count: u8) -> Result<(), Memory>
     Ok(())
 }
 
+/// 10^places, as a number of 64 bits.
 #[tactic(auto, using(crate::proofs::WritingSteps::ten_positive))]
 fn power_of_ten(places: u8) -> u64
     requires { places ≤ 18 }

@@ -5,7 +5,7 @@ ghost use Rattle.line_words.specs.Lines.{without_cr};
 use crate::MAX_LINE;
 use std::marker::Model;
 
-// At most `MAX_LINE` bytes.
+// At most `MAX_LINE` bytes, in place: no call takes memory.
 #[derive(Drop)]
 pub struct LineBuffer {
     bytes: [u8; MAX_LINE],
@@ -24,6 +24,7 @@ impl Model for LineBuffer {
 }
 
 impl LineBuffer {
+    // No bytes.
     pub fn new() -> Self
         ensures { result ≡ [] }
     {
@@ -33,6 +34,7 @@ impl LineBuffer {
         }
     }
 
+    // How many bytes it holds.
     pub fn len(&self) -> usize
         ensures length { result ≡ length self.now }
         ensures within { result ≤ MAX_LINE }
@@ -40,6 +42,7 @@ impl LineBuffer {
         self.len
     }
 
+    // The bytes that it holds.
     pub fn as_slice(&self) -> &[u8]
         ensures bytes { result.now ≡ self.now }
         ensures within { length result.now ≤ MAX_LINE }
@@ -47,6 +50,7 @@ impl LineBuffer {
         &self.bytes[..self.len]
     }
 
+    // Adds these bytes at the end. They have to fit.
     pub fn push_all(&mut self, more: &[u8])
         requires { length self.old + length more.now ≤ MAX_LINE }
         ensures { self.new ≡ self.old ++ more.now }
@@ -64,6 +68,7 @@ impl LineBuffer {
         }
     }
 
+    // Forgets its bytes.
     pub fn clear(&mut self)
         ensures { self.new ≡ [] }
     {

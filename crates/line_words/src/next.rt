@@ -3,8 +3,8 @@ ghost use Rattle.std.specs.Prelude.{◌≡◌, ◌<◌, ◌≤◌, ◌+◌, ◌�
 ghost use Rattle.std.specs.List.{AllWithin};
 ghost use Rattle.line_words.specs.Blanks.{is_blank, past_word, words_of, words_from, IsNextWord, NoneBegins};
 
-/// The place of the next word of a line, from its first byte to behind its last: of the first word that begins at `from`
-/// or later. `None` exactly where no word begins there.
+/// The place of the next word of a line, as the places of its first byte and of the byte after its last: of the first
+/// word that begins at `from` or later. `None` exactly where no word begins there.
 ///
 /// Words are parted by spaces and tabs. Where `from` stands inside a word, that word has begun before and is passed over.
 pub fn next_word(line: &[u8], from: usize) -> Option<(usize, usize)>
@@ -67,6 +67,7 @@ fn word_end(line: &[u8], from: usize) -> usize
     at
 }
 
+// Whether a byte parts words. A carriage return does not.
 fn is_space_or_tab(byte: u8) -> bool
     ensures { result ≡ is_blank byte }
 {

@@ -53,12 +53,14 @@ pub fn signed(word: &[u8]) -> Result<i32, NumberFault>
     }
 }
 
+// Whether a word is spelled as a number: one decimal digit or more, and nothing else.
 fn is_spelled(word: &[u8]) -> bool
     ensures { result ≡ is_number word.now }
 {
     !word.is_empty() && are_digits(word)
 }
 
+// Whether all of these bytes are decimal digits.
 fn are_digits(word: &[u8]) -> bool
     ensures { result ≡ list_all is_ascii_digit word.now }
 {

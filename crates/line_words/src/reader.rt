@@ -84,7 +84,7 @@ impl LineReader {
         }
     }
 
-    /// Ends a last line, behind which no line feed stands: `None` where it has no byte.
+    /// Ends a last line, after which no line feed stands: `None` where it has no byte.
     ///
     /// The reader then stands at the start of a text.
     pub fn finish(&mut self) -> Option<LineEnd>
@@ -110,6 +110,7 @@ impl LineReader {
         self.last.as_slice()
     }
 
+    // Adds bytes to what is pending of the next line, or marks that line as too long where they do not fit.
     fn keep(&mut self, more: &[u8])
         ensures pending { self.new.pending ≡ grown self.old.pending more.now }
         ensures last { self.new.last ≡ self.old.last }
@@ -124,6 +125,7 @@ impl LineReader {
         self.pending.push_all(more);
     }
 
+    // Drops one carriage return at the end of what is pending.
     fn drop_cr(&mut self)
         ensures pending { self.new.pending ≡ ended_line self.old.pending }
         ensures last { self.new.last ≡ self.old.last }
@@ -131,6 +133,7 @@ impl LineReader {
         self.pending.drop_cr();
     }
 
+    // Makes what is pending the line that ended last, empty where it was too long, and begins the next line.
     fn end(&mut self) -> LineEnd
         ensures line { line_told result self.new.last ≡ self.old.pending }
         ensures too_long { result ≡ LineEnd.TooLong → self.new.last ≡ [] }
@@ -149,6 +152,7 @@ impl LineReader {
     }
 }
 
+// Where the first line feed of a piece stands; `None` where there is none.
 fn first_lf(piece: &[u8]) -> Option<usize>
     ensures at { result ≡ position is_lf piece.now }
     ensures within { IfSome result (λ at. at < length piece.now) }

@@ -6,10 +6,12 @@ use std::alloc::{AllocError, AllocFailed};
 use std::error::Error;
 use std::fmt;
 
-/// A call was refused, or found no memory; nothing has changed.
+/// Why a call did nothing: it was refused, or found no memory. Nothing has changed.
 #[derive(Debug, Drop, PartialEq, Eq)]
 pub enum Fault<R> {
+    /// The call's own refusal.
     Refused(R),
+    /// There was no memory for what the call would make.
     Memory,
 }
 

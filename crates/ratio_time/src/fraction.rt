@@ -1,7 +1,7 @@
 // A moment counted in frames, as a fraction, and its rounding.
 ghost use Rattle.std.specs.Prelude.{◌≡◌, ℕ, ◌<◌, ◌≤◌, ◌*◌, ◌^◌, ℤ, pos, ◌*ℤ◌, ◌≤ℤ◌, unsigned_abs, ◌↔◌};
 
-/// `over`/`under` frames.
+/// A moment as `over`/`under` frames of some rate, most often no whole number of them.
 #[derive(Clone, Copy)]
 pub struct Fraction {
     pub over: i128,

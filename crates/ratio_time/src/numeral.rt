@@ -46,7 +46,7 @@ impl Numeral {
     }
 }
 
-/// The number, or its negative.
+/// A size as a mantissa with its sign.
 fn signed(negative: bool, size: u64) -> i64
     requires { size < 10 ^ 18 }
     ensures value { result ≡ with_sign negative size }

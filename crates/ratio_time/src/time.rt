@@ -63,7 +63,7 @@ impl RationalTime {
             ↔ IsBetweenFrames self.now rate.now }
         ensures too_far { (result ≡ Err TimeFault.TooFar) ↔ IsOnFarFrame self.now rate.now }
 
-        // the same as a function
+        // The answer as a function of the moment and the rate, for definitions that compute.
         ensures value { result ≡ frames_of self.now rate.now }
     {
         let frame = self.floor_at(rate);
@@ -102,6 +102,7 @@ impl RationalTime {
         }
     }
 
+    /// The upper number of the moment counted in frames of the rate.
     fn over(&self, rate: &Rate) -> i128
         ensures value { result ≡ over self.now rate.now }
         ensures size { unsigned_abs result ≤ 10 ^ 36 }
@@ -110,6 +111,7 @@ impl RationalTime {
         i128::from(self.value.mantissa) * factor as i128
     }
 
+    /// The lower number of the moment counted in frames of the rate.
     fn under(&self, rate: &Rate) -> i128
         ensures value { result ≡ pos (under self.now rate.now) }
         ensures positive { 1 ≤ under self.now rate.now }
@@ -128,7 +130,7 @@ impl TimeRange {
             ↔ IsNarrowedNear self.now rate.now from to }
         ensures too_far { IsErr result ↔ IsNarrowedFar self.now rate.now }
 
-        // the same as a function
+        // The answer as a function of the range and the rate, for definitions that compute.
         ensures value { IsNarrowedValue self.now rate.now result }
     {
         let from = self.start.ceiling_at(rate);
@@ -137,7 +139,7 @@ impl TimeRange {
     }
 }
 
-/// The frame, where it is within 2,147,483,647 of 0.
+/// The frame, where it is within 2,147,483,647 of 0, so that 32 bits hold it.
 fn near(frame: i128) -> Result<i64, TooFar>
     ensures near { IfOk result (λ f. (f ≡ frame) × IsNear f) }
     ensures too_far { OnErr result (IsNear frame → ⊥) }

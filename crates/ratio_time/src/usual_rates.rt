@@ -27,7 +27,7 @@ pub fn rate_of(number: &Numeral) -> Option<Rate>
         → GivesRate result (unsigned_abs number.now.mantissa) (10 ^ number.now.places) }
     ensures none { IsNone result ↔ (IsUnusual number.now × (IsRateItself number.now → ⊥)) }
 
-    // the same as a function
+    // The answer as a function of the number, for definitions that compute.
     ensures value { MatchOption result (rate_value number.now ≡ None)
         (λ rate. rate_value number.now ≡ Some (rate.num, rate.den)) }
 {
@@ -37,7 +37,7 @@ pub fn rate_of(number: &Numeral) -> Option<Rate>
     }
 }
 
-/// The usual rate that the number stands for.
+/// The rate of film and television that the number stands for, if there is one.
 fn usual_rate(number: &Numeral) -> Option<Rate>
     ensures found { IfSome result (λ rate. Contains usual_rates (rate.num, rate.den)
         × StandsFor number.now (rate.num, rate.den)) }
@@ -70,7 +70,7 @@ fn apart(number: &Numeral, rate: &Rate) -> i128
     i128::from(number.mantissa) * i128::from(rate.den) - of_rate as i128
 }
 
-/// The number as a rate of its own.
+/// The number as a rate of its own, where it is positive, with a mantissa below 10^12 and at most six places.
 fn rate_itself(number: &Numeral) -> Option<Rate>
     ensures some { IfSome result (λ rate. (rate.num ≡ unsigned_abs number.now.mantissa)
         × (rate.den ≡ 10 ^ number.now.places)) }

@@ -5,6 +5,7 @@ use crate::Steps;
 use std::marker::Brand;
 use std::sync::ledger::{Blank, Ledger};
 
+// Two steps on a counter of any ledger.
 fn two_steps<L: Ledger>(blank: Blank)
     requires { (blank.name ≡ L.name) × (blank.parts ≡ L.parts) × (0 < blank.parts) }
 {

@@ -124,7 +124,7 @@ impl Counting {
         ensures dropped_number { (result ≡ Err LabelFault.DroppedNumber)
             ↔ ((HasLargeField self.now label.now → ⊥) × IsDropped self.now label.now) }
 
-        // the same as a function
+        // The answer as a function of the label, for definitions that compute.
         ensures value { result ≡ frame_value self.now label.now }
     {
         if self.has_large_field(label) {
@@ -136,6 +136,7 @@ impl Counting {
         Ok(self.units().frame_at(label))
     }
 
+    /// Whether hours, minutes or seconds are too large, or no second has this frame number.
     fn has_large_field(&self, label: &Label) -> bool
         ensures fact { IsTrue result ↔ HasLargeField self.now label.now }
         ensures test { result ≡ large_field self.now label.now }
@@ -146,6 +147,7 @@ impl Counting {
             || u32::from(label.frames) >= self.rate.numbers()
     }
 
+    /// Whether the counting leaves the label out, as drop-frame does with the first two of most minutes.
     fn is_dropped(&self, label: &Label) -> bool
         ensures fact { IsTrue result ↔ IsDropped self.now label.now }
         ensures test { result ≡ is_dropped self.now.drop_frame label.now }
@@ -153,6 +155,7 @@ impl Counting {
         self.drop && label.minutes % 10 != 0 && label.seconds == 0 && label.frames < 2
     }
 
+    /// How many numbers a second has, and how many a minute lacks.
     fn units(&self) -> Units
         ensures numbers { result.numbers ≡ numbers_a_second self.now.rate }
         ensures dropped { result.dropped ≡ (if self.now.drop_frame then 2 else 0) }

@@ -1,6 +1,6 @@
 // The label of a frame: a time of day and a frame number.
 
-/// A timecode, as `01:02:03:04`.
+/// A timecode, as `01:02:03:04`. It need be no label of any day.
 #[derive(Clone, Copy, Debug, PartialEq, Eq)]
 pub struct Label {
     pub hours: u8,

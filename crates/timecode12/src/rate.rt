@@ -35,7 +35,7 @@ impl SequenceRate {
         }
     }
 
-    /// The exact rate.
+    /// The exact rate, in frames a second.
     pub fn rate(self) -> Rate
         ensures num { result.num ≡ rate_num self }
         ensures den { result.den ≡ rate_den self }

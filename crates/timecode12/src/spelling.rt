@@ -45,7 +45,7 @@ fn has_marks(text: &[u8]) -> bool
     text.len() == 11 && text[2] == b':' && text[5] == b':' && (text[8] == b':' || text[8] == b';')
 }
 
-/// The number of two digits.
+/// The number that two digits write, or `None` where one of them is no digit.
 fn number(tens: u8, ones: u8) -> Option<u8>
     ensures some { (n : ℕ) → (result ≡ Some n)
         ↔ ((n < 100) × (tens ≡ 48 + n / 10) × (ones ≡ 48 + n % 10)) }

@@ -28,12 +28,14 @@ impl Units {
         10 * self.whole_minute() - 9 * self.dropped
     }
 
+    /// The frames of an hour.
     fn hour(&self) -> u32
         ensures { result ≡ hour self.now.numbers self.now.dropped }
     {
         6 * self.ten_minutes()
     }
 
+    /// The frames of a day of 24 hours.
     pub fn day(&self) -> u32
         ensures { result ≡ 24 * hour self.now.numbers self.now.dropped }
     {
