@@ -3,6 +3,9 @@
 // own. Places and lengths are record frames, `from` is a source frame, `by` is a delta in frames, positive is later,
 // and bit t of `tracks` names track t. With `keep` dissolves beside the edit are made shorter where it leaves them no
 // room, and stay; without it those are dropped.
+ghost use Rattle.std.specs.Prelude.{bytes_eq};
+ghost use Rattle.std.specs.Cmp.{partial_equiv_from_equiv};
+ghost use Rattle.std.specs.Cmp.Lexicographic.{nat_list_eq_equiv};
 
 use crate::Listed;
 use frame_meaning::What;
@@ -14,15 +17,32 @@ pub enum End {
     Tail,
 }
 
-/// How much a `Fill` puts into its gap: that many source frames or as many as fit, or the whole gap.
+/// How much a `Fill` puts into its gap.
 #[derive(Clone, Copy, Debug, PartialEq, Eq)]
 pub enum FillLength {
+    /// This many source frames, or as many as fit.
     Source(u32),
+    /// As many as the whole gap has.
     Sequence,
 }
 
-/// A list of numbers.
+/// A list of numbers, as of items in the order of their tracks.
 pub type Numbers = Listed<u32>;
+
+impl PartialEq for Numbers {
+    ghost eq = { λ a b. bytes_eq a b };
+
+    ghost laws = { partial_equiv_from_equiv nat_list_eq_equiv };
+
+    /// Whether both have the same numbers in the same order.
+    fn eq(&self, other: &Self) -> bool {
+        self.as_slice() == other.as_slice()
+    }
+}
+
+impl Eq for Numbers {
+    ghost laws = { nat_list_eq_equiv };
+}
 
 /// Puts a new item over [at, at + len). Where the track is shorter than `at` it grows by dark frames up to it.
 #[derive(Clone, Copy, Debug, PartialEq, Eq)]
@@ -111,7 +131,7 @@ pub struct Ripple {
     pub by: i32,
 }
 
-/// Moves a cut.
+/// Moves a cut: what is before it gets longer and what is after it shorter, or the other way round.
 #[derive(Clone, Copy, Debug, PartialEq, Eq)]
 pub struct Roll {
     pub track: u32,
@@ -137,7 +157,7 @@ pub struct Dissolve {
     pub b: u32,
 }
 
-/// Takes a dissolve away.
+/// Takes away the dissolve at a cut.
 #[derive(Clone, Copy, Debug, PartialEq, Eq)]
 pub struct Undissolve {
     pub track: u32,
@@ -145,7 +165,7 @@ pub struct Undissolve {
 }
 
 /// Links items, one on each named track, in the order of the tracks. The name differs from a cell's `Link`.
-#[derive(Drop)]
+#[derive(Drop, PartialEq, Eq)]
 pub struct Link3 {
     pub tracks: u32,
     pub items: Numbers,

@@ -7,7 +7,7 @@ use crate::{ItemView, Memory};
 use frame_meaning::Cell;
 use std::alloc::Global;
 
-/// The cells of these, in order.
+/// The cells of these items and gaps, in order.
 pub fn cells_in(alloc: Global, items: &[ItemView]) -> Result<Vec<Cell>, Memory>
     requires { EachHolds items.now }
     ensures { IfOk result (λ all. all.items ≡ cells_of items.now) }
@@ -19,6 +19,7 @@ pub fn cells_in(alloc: Global, items: &[ItemView]) -> Result<Vec<Cell>, Memory>
     Ok(all)
 }
 
+// Adds the cells of an item or gap.
 fn push_cells(into: &mut Vec<Cell>, view: &ItemView) -> Result<(), Memory>
     requires { HasSource view.now.first view.now.len 0 0 }
     ensures { OnOk result (into.new.items ≡ into.old.items ++ view_cells view.now) }
@@ -29,6 +30,7 @@ fn push_cells(into: &mut Vec<Cell>, view: &ItemView) -> Result<(), Memory>
     Ok(())
 }
 
+// The cell of frame `k` of an item or gap. The first alone has the dissolve at the cut before it.
 fn cell_of(view: &ItemView, k: u32) -> Cell
     requires within { k < view.now.len }
     requires source { HasSource view.now.first view.now.len 0 0 }

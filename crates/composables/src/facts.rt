@@ -24,6 +24,7 @@ pub fn holds(view: &ItemView, tail: Option<Mark>) -> bool
         && is_no_nest(view.first, tail)
 }
 
+// Whether it is an item that shows a thing, or a gap, which shows nothing and has no link.
 fn shows_as_item(view: &ItemView) -> bool
     ensures { IsTrue result ↔ ShowsAsItem view.now.item view.now.first view.now.link }
 {
@@ -34,6 +35,7 @@ fn shows_as_item(view: &ItemView) -> bool
     }
 }
 
+// Whether a dissolve, if there is one, has a frame before its cut or after it.
 fn is_filled(mark: Option<Mark>) -> bool
     ensures { IsTrue result ↔ IsFilled mark }
 {
@@ -43,6 +45,7 @@ fn is_filled(mark: Option<Mark>) -> bool
     }
 }
 
+// How many frames before its cut a dissolve begins; 0 of none.
 fn left_reach(mark: Option<Mark>) -> u64
     ensures value { result ≡ left_reach mark }
     ensures short { result < 2 ^ 32 }
@@ -53,6 +56,7 @@ fn left_reach(mark: Option<Mark>) -> u64
     }
 }
 
+// How many frames after its cut a dissolve ends; 0 of none.
 fn right_reach(mark: Option<Mark>) -> u64
     ensures value { result ≡ right_reach mark }
     ensures short { result < 2 ^ 32 }
@@ -63,6 +67,7 @@ fn right_reach(mark: Option<Mark>) -> u64
     }
 }
 
+// Whether the source frames of an item, with this many before and after for its dissolves, are numbers of 32 bits.
 fn has_source(side: Side<What>, len: u32, before: u64, after: u64) -> bool
     requires { after < 2 ^ 32 }
     ensures { IsTrue result ↔ HasSource side len before after }
@@ -76,6 +81,7 @@ fn has_source(side: Side<What>, len: u32, before: u64, after: u64) -> bool
     }
 }
 
+// Whether no nest takes part in a dissolve: what is shown is none, or there is no dissolve.
 fn is_no_nest(side: Side<What>, mark: Option<Mark>) -> bool
     ensures { IsTrue result ↔ IsNoNest side mark }
 {

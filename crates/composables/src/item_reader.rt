@@ -22,7 +22,7 @@ impl<'a> Model for ItemReader<'a> {
 }
 
 impl<'a> ItemReader<'a> {
-    /// At the item or gap of a track with this index.
+    /// A reader that begins at the item or gap of a track with this index.
     pub fn at(track: &'a Track, index: u32) -> ItemReader<'a>
         ensures { result ≡ drop index (items_of track.now.cells) }
     {

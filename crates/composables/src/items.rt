@@ -18,7 +18,7 @@ pub struct ItemView {
 }
 
 impl ItemView {
-    /// A gap of this many frames.
+    /// A gap of this many frames, with no dissolve before it.
     pub fn gap(len: u32) -> ItemView
         ensures { result ≡ gap_view len }
     {
@@ -31,7 +31,8 @@ impl ItemView {
         }
     }
 
-    /// An item with this number, which shows the source frames [from, from + len) of a thing.
+    /// An item with this number, which shows the source frames [from, from + len) of a thing, with no dissolve before
+    /// it and no link.
     pub fn clip(number: u32, what: What, from: u32, len: u32) -> ItemView
         ensures { result ≡ clip_view number what from len }
     {
@@ -44,7 +45,7 @@ impl ItemView {
         }
     }
 
-    /// Its first frames, this many.
+    /// Its first frames, this many, with the dissolve before it.
     pub fn first_frames(&self, len: u32) -> ItemView
         ensures { result ≡ first_view self.now len }
     {

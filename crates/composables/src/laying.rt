@@ -1,4 +1,4 @@
-// Items and gaps put one behind another. What belongs together and meets becomes one.
+// Items and gaps put one after another. What belongs together and meets becomes one.
 ghost use Rattle.std.specs.Prelude.{◌≡◌, ◌+◌, ◌<◌, ◌≤◌, ◌^◌, ◌++◌, length, IfOk, OnOk, OnErr};
 ghost use Rattle.std.specs.Option.{option_to_list};
 ghost use Rattle.composables.specs.Joined.{frames_in, joined, push_view, push_views};
@@ -11,7 +11,7 @@ use std::alloc::Global;
 use std::sync::ledger::Ledger;
 use step_count::Steps;
 
-/// Puts an item or gap behind others. Two gaps that meet become one, and so do two parts of one item.
+/// Puts an item or gap after others. Two gaps that meet become one, and so do two parts of one item.
 pub fn push_item(items: &mut Pages<ItemView>, view: ItemView) -> Result<(), Memory>
     requires frames { frames_in items.old + view.len < 2 ^ 32 }
     requires count { length items.old + 1 < 2 ^ 32 }
@@ -29,7 +29,8 @@ pub fn push_item(items: &mut Pages<ItemView>, view: ItemView) -> Result<(), Memo
     items.push(view)
 }
 
-/// These items and gaps joined, with the one before them and the one behind, if there are any.
+/// These items and gaps joined, with the one before them and the one after, if there are any.
+/// Only those between count steps.
 pub fn lay_between<L: Ledger>(
     alloc: Global,
     before: Option<ItemView>,
@@ -54,7 +55,7 @@ pub fn lay_between<L: Ledger>(
     Ok(laid)
 }
 
-// Puts an item or gap, if there is one, behind those that are laid.
+// Puts an item or gap, if there is one, after those that are laid.
 fn push_some(laid: &mut Vec<ItemView>, view: Option<ItemView>) -> Result<(), Memory>
     requires { frames_in laid.old.items + frames_in (option_to_list view) < 2 ^ 32 }
     ensures { OnOk result (laid.new.items ≡ push_views laid.old.items (option_to_list view)) }
@@ -65,7 +66,7 @@ fn push_some(laid: &mut Vec<ItemView>, view: Option<ItemView>) -> Result<(), Mem
     }
 }
 
-// Puts an item or gap behind those that are laid.
+// Puts an item or gap after those that are laid. Two gaps that meet become one, and so do two parts of one item.
 fn push_joined(laid: &mut Vec<ItemView>, view: ItemView) -> Result<(), Memory>
     requires { frames_in laid.old.items + view.len < 2 ^ 32 }
     ensures { OnOk result (laid.new.items ≡ push_view laid.old.items view) }

@@ -63,7 +63,7 @@ impl<T> Listed<T> {
 }
 
 impl<T: Copy> Listed<T> {
-    /// An equal list.
+    /// An equal list, in memory of its own.
     pub fn copy(&self, alloc: Global) -> Result<Listed<T>, Memory>
         ensures { IfOk result (λ l. l ≡ self.now) }
     {

@@ -38,7 +38,7 @@ pub struct Nest {
 }
 
 impl Layer {
-    /// An equal layer.
+    /// An equal layer, whose track shares all its items and gaps with this one's.
     pub fn copy(&self, alloc: Global) -> Result<Layer, Memory>
         ensures { IfOk result (λ l. l ≡ self.now) }
     {
@@ -52,7 +52,7 @@ impl Layer {
 }
 
 impl Nest {
-    /// An equal nest.
+    /// An equal nest, whose tracks share all their items and gaps with this one's.
     pub fn copy(&self, alloc: Global) -> Result<Nest, Memory>
         ensures { IfOk result (λ n. n ≡ self.now) }
     {
@@ -104,7 +104,7 @@ impl Table {
         }
     }
 
-    /// An equal table.
+    /// An equal table. The tracks of its nests share all their items and gaps with this one's.
     pub fn copy(&self, alloc: Global) -> Result<Table, Memory>
         ensures { IfOk result (λ t. t ≡ self.now) }
     {
@@ -121,6 +121,7 @@ impl Table {
     }
 }
 
+// Whether `len` frames from `source` on lie within these bounds, with this many frames before them and after them.
 fn lies_in(bounds: Option<(u32, u32)>, source: u32, len: u32, before: u32, after: u32) -> bool
     ensures { IsTrue result ↔ LiesIn bounds source len before after }
 {
@@ -133,6 +134,7 @@ fn lies_in(bounds: Option<(u32, u32)>, source: u32, len: u32, before: u32, after
     }
 }
 
+// Equal layers, whose tracks share all their items and gaps with these.
 fn copy_layers(alloc: Global, layers: &[Layer]) -> Result<Listed<Layer>, Memory>
     ensures { IfOk result (λ all. all ≡ layers.now) }
 {
@@ -143,6 +145,7 @@ fn copy_layers(alloc: Global, layers: &[Layer]) -> Result<Listed<Layer>, Memory>
     Ok(all)
 }
 
+// Equal nests, whose tracks share all their items and gaps with these.
 fn copy_nests(alloc: Global, nests: &[Nest]) -> Result<Listed<Nest>, Memory>
     ensures { IfOk result (λ all. all ≡ nests.now) }
 {

@@ -14,7 +14,7 @@ pub fn has_track(tracks: u32, track: u32) -> bool
     (tracks >> track) & 1 == 1
 }
 
-/// Where the track with a number stands among these.
+/// Where the track with a number stands among these, or `None` where none has it.
 pub fn own_index(named: &[Track], number: u32) -> Option<usize>
     ensures found { track_numbered number named.now ≡ found_at named.now result }
     ensures within { IfSome result (λ i. i < length named.now) }

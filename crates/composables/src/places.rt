@@ -11,7 +11,7 @@ use item_pages::Pages;
 use std::sync::ledger::Ledger;
 use step_count::Steps;
 
-/// The place of the item or gap that holds the place `at`.
+/// The place of the item or gap that holds the record frame `at`, or `None` where they end before it.
 pub fn find_place<L: Ledger>(
     items: &Pages<ItemView>,
     at: u32,
@@ -34,7 +34,7 @@ pub fn find_place<L: Ledger>(
     })
 }
 
-/// The place of the item with this number.
+/// The place of the item with this number, or `None` where no item has it.
 pub fn find_item<L: Ledger>(
     items: &Pages<ItemView>,
     item: u32,
@@ -109,7 +109,7 @@ pub fn view_at(items: &Pages<ItemView>, index: u32) -> ItemView
     }
 }
 
-/// The last item or gap before an index.
+/// The last item or gap before an index, or `None` where there is none.
 pub fn last_before(items: &Pages<ItemView>, index: u32) -> Option<ItemView>
     requires { index ≤ length items.now }
     ensures parts { take index items.now
@@ -122,7 +122,7 @@ pub fn last_before(items: &Pages<ItemView>, index: u32) -> Option<ItemView>
     items.get(index - 1).copied()
 }
 
-/// The first item or gap from an index on.
+/// The first item or gap from an index on, or `None` where there is none.
 pub fn first_from(items: &Pages<ItemView>, index: u32) -> Option<ItemView>
     ensures parts { drop index items.now
         ≡ option_to_list result ++ drop (index + 1) items.now }

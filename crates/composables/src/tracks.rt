@@ -266,6 +266,7 @@ impl Track {
     }
 }
 
+// Whether one of these has a link.
 fn any_linked(items: &[ItemView]) -> bool
     ensures { result ≡ false → AllUnlinked items.now }
 {

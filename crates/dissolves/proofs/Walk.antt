@@ -6,7 +6,7 @@ use Rattle.frame_meaning.specs.declared.frames.Frame.{Frame}
 use Rattle.frame_meaning.specs.declared.frames.Run.{Run}
 use Rattle.frame_meaning.specs.Going.{same_what, frame_goes_on}
 use Rattle.frame_meaning.specs.Runs.{runs}
-use Rattle.dissolves.specs.Pieces.{cut, run_frames, last_frame, len_of, push_run}
+use Rattle.dissolves.specs.Pieces.{cut, frames_from, run_frames, last_frame, len_of, push_run}
 use Rattle.dissolves.specs.Walk.{Walked}
 use Rattle.dissolves.proofs.Behind.{len_of-runs, length-frames_from}
 use Rattle.dissolves.proofs.Cutting.{cut-append}
@@ -94,6 +94,13 @@ walk_three v0 v1 v2 v3 from to a b h o t hs os ts rest all head own tail place o
     let begun = subst (λ (gs : List (Frame What)). Walked v0 from a b gs all) parts w in
     subst (λ (n : ℕ). Walked v3 n a b rest all) place
     (three rest all (two (run_frames t ++ rest) all (one (run_frames o ++ (run_frames t ++ rest)) all begun)))
+
+-- a run of no frames is passed
+pub walk_none : (shown : List (Run What)) (from a b : ℕ) (run : Run What) (rest all : List (Frame What)) → run.len ≡ 0 → Walked shown from a b (run_frames run ++ rest) all → Walked shown (from + run.len) a b rest all
+walk_none shown from a b run rest all none w =
+    let none_shown : run_frames run ++ rest ≡ rest = ap (λ (n : ℕ). frames_from run.frame n ++ rest) none in
+    let place : from ≡ from + run.len = omega (arith, none) in
+    subst (λ (n : ℕ). Walked shown n a b rest all) place (subst (λ (gs : List (Frame What)). Walked shown from a b gs all) none_shown w)
 
 -- the frames before the place b are all passed
 pub walk_past : (shown : List (Run What)) (from a b : ℕ) (rest all : List (Frame What)) → Walked shown from a b rest all → b ≤ from → shown ≡ runs same_what (cut a b all)

@@ -12,7 +12,7 @@ use frame_meaning::{Mark, Side, What};
 use std::sync::ledger::Ledger;
 use step_count::Steps;
 
-/// A cut: the index of the item or gap behind it, those before it and behind it, and the mark at the latter's end.
+/// A cut: the index of the item or gap after it, those before it and after it, and the mark at the latter's end.
 #[derive(Clone, Copy, Debug, PartialEq, Eq)]
 pub struct Cut {
     pub index: u32,
@@ -47,6 +47,7 @@ pub fn cut_at<L: Ledger>(track: &Track, at: u32, steps: &mut Steps<L>) -> Option
     })
 }
 
+// The dissolve at the head of an item or gap, if there are both.
 fn mark_before(view: Option<ItemView>) -> Option<Mark>
     ensures { result ≡ mark_of view }
 {
@@ -86,6 +87,7 @@ fn has_room_right(table: &Table, view: ItemView, tail: Option<Mark>, mark: Mark)
     !is_nest(view.first) && reach <= len && has_frames(table, view.first, mark.a, len)
 }
 
+/// How many frames a dissolve has after its cut; none where there is no dissolve.
 pub fn after_cut(mark: Option<Mark>) -> u32
     ensures { result ≡ right_reach mark }
 {
@@ -95,6 +97,7 @@ pub fn after_cut(mark: Option<Mark>) -> u32
     }
 }
 
+/// How many frames a dissolve has before its cut; none where there is no dissolve.
 pub fn before_cut(mark: Option<Mark>) -> u32
     ensures { result ≡ left_reach mark }
 {
@@ -104,6 +107,7 @@ pub fn before_cut(mark: Option<Mark>) -> u32
     }
 }
 
+// Whether a side shows a nest, which takes no part in a dissolve.
 fn is_nest(side: Side<What>) -> bool
     ensures { result ≡ is_nest side }
 {

@@ -14,7 +14,7 @@ use std::sync::ledger::Ledger;
 use step_count::Steps;
 
 /// Puts a dissolve at the cut at `at` of the one track that is named, from `a` frames before the cut to `b` frames
-/// after it, in place of an earlier one there. Beside a gap it is a fade. For want of memory the track is as it was.
+/// after it, in place of an earlier one there. Beside a gap it is a fade. Out of memory, the track is as it was.
 ///
 /// It answers the first of these refusals that holds: `EmptyRange`, where it has no frame; `NotACut`; `DissolveRoom` of
 /// the left side, and else of the right, where that side is a nest, is too short for its frames and those of the
@@ -43,7 +43,7 @@ pub fn dissolve<L: Ledger>(
 }
 
 /// Takes the dissolve at `at` of the one track that is named away. It is refused by `NotACut` where none stands there.
-/// For want of memory the track is as it was.
+/// Out of memory, the track is as it was.
 pub fn undissolve<L: Ledger>(
     alloc: Global,
     table: &Table,
@@ -67,7 +67,7 @@ pub fn undissolve<L: Ledger>(
     undissolve_track(alloc, table, &mut named[0], call, steps)
 }
 
-// The same on the track itself.
+// Puts the dissolve at the cut of the named track, or refuses it.
 fn dissolve_track<L: Ledger>(
     alloc: Global,
     table: &Table,
@@ -105,6 +105,7 @@ fn dissolve_track<L: Ledger>(
     Ok(Done::Plain)
 }
 
+// Takes the dissolve at the place of the named track away, or finds none there.
 fn undissolve_track<L: Ledger>(
     alloc: Global,
     table: &Table,
@@ -132,6 +133,7 @@ fn undissolve_track<L: Ledger>(
     Ok(Done::Plain)
 }
 
+// Whether a dissolve has no frame on either side of its cut.
 fn is_empty(mark: Mark) -> bool
     ensures { result ≡ nat_eq (mark.a + mark.b) 0 }
 {

@@ -19,8 +19,8 @@ const NOTHING: Run<What> = Run {
     len: 0,
 };
 
-/// Adds what is shown in the places [a, b) of an item or gap that begins at the place `from`, between those before and
-/// after it, if there are any.
+/// Adds what is shown in the places [a, b) of an item or gap that begins at the place `from`, where `before` and
+/// `after` stand beside it, if anything does.
 pub fn add_item(
     all: &mut Vec<Run<What>>,
     before: Option<ItemView>,
@@ -41,13 +41,17 @@ pub fn add_item(
     let head = head_of(before, &view);
     let tail = tail_of(&view, after);
     let own = own_of(&view, head.len, tail.len);
+    if head.len + tail.len == 0 {
+        add_part(all, own, from, a, b)?;
+        return Ok(());
+    }
     add_part(all, head, from, a, b)?;
     add_part(all, own, from + head.len, a, b)?;
     add_part(all, tail, from + head.len + own.len, a, b)?;
     Ok(())
 }
 
-// The rest of the dissolve at its head.
+// The part of the dissolve at its head that lies after the cut.
 fn head_of(before: Option<ItemView>, view: &ItemView) -> Run<What>
     requires holds_before { HoldsBefore before view.now.mark }
     requires reaches { SideReaches view.now.first (right_reach view.now.mark) }
@@ -75,7 +79,7 @@ fn head_of(before: Option<ItemView>, view: &ItemView) -> Run<What>
     }
 }
 
-// Its own frames but for this many at its head and its tail.
+// The frames that it shows alone: all but this many at its head and its tail.
 fn own_of(view: &ItemView, head: u32, tail: u32) -> Run<What>
     requires within { head + tail ≤ view.now.len }
     requires reaches { Reaches (frame_of view.now.first) view.now.len }
@@ -94,7 +98,7 @@ fn own_of(view: &ItemView, head: u32, tail: u32) -> Run<What>
     Run { frame, len }
 }
 
-// The front of the dissolve at its tail.
+// The part of the dissolve at its tail that lies before the cut.
 fn tail_of(view: &ItemView, after: Option<ItemView>) -> Run<What>
     requires holds { Holds view.now (mark_of after) }
     requires front { HasFront after }
@@ -123,6 +127,7 @@ fn tail_of(view: &ItemView, after: Option<ItemView>) -> Run<What>
     }
 }
 
+// The side so many source frames earlier; dark stays dark.
 fn side_earlier(side: Side<What>, n: u32) -> Side<What>
     requires { SideHasFront side n }
     ensures { result ≡ earlier_side side n }

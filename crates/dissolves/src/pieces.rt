@@ -1,4 +1,4 @@
-// Runs put one behind another.
+// Runs put one after another.
 ghost use Rattle.std.specs.Prelude.{◌≡◌, ◌+◌, ◌<◌, ◌≤◌, ◌^◌, ◌==◌, ◌++◌, List, OnOk};
 ghost use Rattle.frame_meaning.specs.declared.cells.What.{What};
 ghost use Rattle.frame_meaning.specs.declared.frames.Frame.{Frame};
@@ -9,7 +9,7 @@ ghost use Rattle.dissolves.specs.Walk.{Walked};
 
 use frame_meaning::{Frame, Memory, Run, Side, What};
 
-/// Adds the part of a run that lies in the places [a, b), where the run begins at the place `from`, behind the runs of
+/// Adds the part of a run that lies in the places [a, b), where the run begins at the place `from`, after the runs of
 /// all frames before it.
 pub fn add_part(
     all: &mut Vec<Run<What>>,
@@ -39,6 +39,7 @@ pub fn add_part(
     Ok(())
 }
 
+// Adds a run: to the last one where its first frame goes on from that, else as one more.
 fn push_run(all: &mut Vec<Run<What>>, run: Run<What>) -> Result<(), Memory>
     requires { len_of all.old.items + run.len < 2 ^ 32 }
     ensures { OnOk result (all.new.items ≡ push_run same_what all.old.items run) }
@@ -89,6 +90,7 @@ fn is_followed(run: &Run<What>, frame: &Frame<What>) -> bool
     }
 }
 
+// Whether a side goes on from another, so many frames after its first.
 fn is_side_followed(side: &Side<What>, more: u32, after: &Side<What>) -> bool
     ensures { result ≡ side_goes_on same_what (later_side side.now more) after.now }
 {
@@ -105,6 +107,7 @@ fn is_side_followed(side: &Side<What>, more: u32, after: &Side<What>) -> bool
     }
 }
 
+// Whether a number is the next after another and so many more.
 fn is_next(at: u32, more: u32, after: u32) -> bool
     ensures { result ≡ (after == at + more + 1) }
 {
@@ -136,6 +139,7 @@ fn frame_later(frame: Frame<What>, n: u32) -> Frame<What>
     }
 }
 
+/// The side so many source frames later; dark stays dark.
 pub fn side_later(side: Side<What>, n: u32) -> Side<What>
     requires { SideReaches side (n + 1) }
     ensures { result ≡ later_side side n }

@@ -60,6 +60,7 @@ fn place_at<L: Ledger>(blank: Blank, track: &Track, at: u32) -> Option<Place>
     track.item_at(at, &mut steps)
 }
 
+/// The item or gap before the one with this index, if there is one.
 pub fn view_before(track: &Track, index: u32) -> Option<ItemView>
     ensures { result ≡ item_before (items_of track.now.cells) index }
 {

@@ -30,7 +30,8 @@ pub fn place_parts<L: Ledger>(
     requires good { IsGood table.now track.old }
     requires roomy { IsRoomy track.old }
     requires parts { AreParts table.now track.old x y parts.now }
-    ensures answers { Answers (track_within_limits (spliced_track false track.old x y parts.now) done)
+    ensures answers { Answers
+        (track_within_limits (spliced_track false track.old x y parts.now) done)
         track.old track.new result }
     ensures good { StaysGood table.now track.old track.new }
     ensures least { steps.old ≤ steps.new }

@@ -44,7 +44,7 @@ pub fn frames_before(table: &Table, view: &ItemView) -> u32
     }
 }
 
-/// The frames by which an item or gap goes on behind its last.
+/// The frames by which an item or gap goes on after its last.
 pub fn going_on(view: &ItemView, len: u32) -> ItemView
     requires filled { 0 < view.now.len }
     requires source { SideIsNumbered (later_side view.now.first view.now.len) }
@@ -73,6 +73,7 @@ pub fn reaching_back(view: &ItemView, len: u32) -> ItemView
     }
 }
 
+// The side so many source frames earlier; dark stays dark.
 fn earlier(side: Side<What>, len: u32) -> Side<What>
     requires { HasSource side 0 len 0 }
     ensures { result ≡ earlier_side side len }

@@ -53,7 +53,7 @@ pub fn fill<L: Ledger>(
     fill_track(alloc, table, &mut named[0], call, steps)
 }
 
-// The same on the track itself.
+// Fills the gap that holds the place `at` of the named track, or refuses the fill.
 fn fill_track<L: Ledger>(
     alloc: Global,
     table: &Table,

@@ -1,4 +1,4 @@
-// Insert and extract: what is put into one track and taken out of it, and moves all that is behind it on each named
+// Insert and extract: what is put into one track and taken out of it, and moves all that is after it on each named
 // track.
 ghost use Rattle.std.specs.Prelude.{◌≡◌, ◌+◌, ◌*◌, ◌<◌, ◌≤◌, All, length, nat_eq, slice_get, true};
 ghost use Rattle.std.specs.List.{list_any};
@@ -55,7 +55,7 @@ pub fn insert<L: Ledger>(
     }
 }
 
-// The same, where the own track stands at an index.
+// Inserts the item, where its own track stands at this index among the named ones.
 fn insert_at<L: Ledger>(
     alloc: Global,
     table: &Table,
@@ -125,6 +125,7 @@ pub fn extract<L: Ledger>(
     }
 }
 
+// Takes the item out, where its own track stands at this index among the named ones.
 fn extract_at<L: Ledger>(
     alloc: Global,
     table: &Table,

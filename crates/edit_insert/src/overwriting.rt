@@ -46,7 +46,7 @@ pub fn overwrite<L: Ledger>(
     overwrite_track(alloc, table, &mut named[0], call, steps)
 }
 
-// The same on the track itself.
+// Puts the new item over the places of the named track, or refuses it.
 fn overwrite_track<L: Ledger>(
     alloc: Global,
     table: &Table,

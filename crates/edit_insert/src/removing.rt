@@ -40,7 +40,7 @@ pub fn remove<L: Ledger>(
     remove_track(alloc, &mut named[0], call, steps)
 }
 
-// The same on the track itself.
+// Leaves a gap in place of the item on the named track, or finds no such item.
 fn remove_track<L: Ledger>(
     alloc: Global,
     track: &mut Track,
@@ -98,7 +98,7 @@ pub fn slice<L: Ledger>(
     slice_track(alloc, &mut named[0], call, steps)
 }
 
-// The same on the track itself.
+// Cuts the item at the place of the named track in two, where the track has that place.
 fn slice_track<L: Ledger>(
     alloc: Global,
     track: &mut Track,

@@ -6,7 +6,7 @@ ghost use Rattle.edit_insert.specs.Sources.{suits, source_refusal};
 use composables::{Kind, Refusal, Table};
 use frame_meaning::What;
 
-// Why these source frames of a thing can't be put on a track, if they can't.
+/// Why these source frames of a thing can't be put on a track, if they can't.
 pub fn source_refusal(table: &Table, track: u32, what: What, from: u32, len: u32) -> Option<Refusal>
     ensures refusal { result ≡ source_refusal table.now track what from len }
     ensures filled { IfNone result (0 < len) }
@@ -28,7 +28,7 @@ pub fn source_refusal(table: &Table, track: u32, what: What, from: u32, len: u32
     None
 }
 
-// Why a thing can't stand on a track, if it can't.
+/// Why a thing can't stand on a track, if it can't.
 pub fn thing_refusal(table: &Table, track: u32, what: What) -> Option<Refusal>
     ensures { result ≡ thing_refusal table.now track what }
 {
@@ -51,6 +51,7 @@ fn lies_in(from: u32, len: u32, low: u32, high: u32) -> bool
     low <= from && u64::from(from) + u64::from(len) <= u64::from(high)
 }
 
+// Whether a thing may stand on a track of this kind: only a nest on an audio track may not.
 fn suits(kind: Option<Kind>, what: What) -> bool
     ensures { result ≡ suits kind what }
 {

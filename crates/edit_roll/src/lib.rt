@@ -2,7 +2,7 @@
 //!
 //! The main contract is that each call leaves on its tracks, and answers, exactly what its meaning says as a list of
 //! cells, by the delta that is used: the nearest to the one asked for of those that its limits allow. After a refusal,
-//! and for want of memory, all tracks are as they were.
+//! and out of memory, all tracks are as they were.
 #![tactic(auto)]
 
 mod laws;

@@ -79,6 +79,7 @@ fn broken_by(link: Link, from: u32, source: u32, way: Way) -> Option<Refusal>
     }
 }
 
+// The refusal that tells a link's offset and the one that the item would have after the slide.
 fn broken(link: Link, old: i64, new: i64) -> Refusal
     ensures { result ≡ LinkBroken link.home link.number old new }
 {

@@ -17,9 +17,9 @@ use std::sync::ledger::Ledger;
 use step_count::Steps;
 
 /// Moves the cut at a place of the one track that is named by the delta used, and nothing else. A positive delta is
-/// later: what stands before the cut goes on, and what stands behind it gives way; for a negative delta what stands
-/// behind it reaches back. Items and gaps grow alike. Both keep a frame, and what grows keeps its source in its range.
-/// A dissolve at the cut is dropped.
+/// later: what stands before the cut goes on, and what stands after it gives way; for a negative delta what stands
+/// after it reaches back. Items and gaps grow alike. Both keep a frame, and what grows keeps its source in its range. A
+/// dissolve at the cut is dropped.
 ///
 /// It answers the delta used, or the first of these refusals that holds: `NotACut`, `TooManyItems`.
 pub fn roll<L: Ledger>(
@@ -46,7 +46,7 @@ pub fn roll<L: Ledger>(
     roll_track(alloc, table, &mut named[0], call, steps)
 }
 
-// The same on the track itself.
+// Moves the cut at the place of the named track, or finds no cut there.
 fn roll_track<L: Ledger>(
     alloc: Global,
     table: &Table,
@@ -68,7 +68,7 @@ fn roll_track<L: Ledger>(
     }
 }
 
-// Moves the cut between these.
+// Moves the cut between these two items or gaps.
 fn roll_cut<L: Ledger>(
     alloc: Global,
     table: &Table,

@@ -58,7 +58,7 @@ pub fn slide<L: Ledger>(
     }
 }
 
-// The same, where the own track stands at an index.
+// Slides the item, unless its link refuses that, where its own track stands at this index among the named ones.
 fn slide_at<L: Ledger>(
     alloc: Global,
     table: &Table,
@@ -85,7 +85,7 @@ fn slide_at<L: Ledger>(
     }
 }
 
-// The same on the own track.
+// Slides the item of its own track, whose link allows it, or finds no such item.
 fn slide_track<L: Ledger>(
     alloc: Global,
     table: &Table,
@@ -113,7 +113,7 @@ fn slide_track<L: Ledger>(
     }
 }
 
-// Moves the item at a place between these.
+// Moves the item at a place between these two items or gaps.
 fn slide_item<L: Ledger>(
     alloc: Global,
     table: &Table,

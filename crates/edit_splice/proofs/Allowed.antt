@@ -14,7 +14,7 @@ use Rattle.composables.specs.TrackState.{TrackState, next_past_all}
 use Rattle.composables.specs.Views.{later_view}
 use Rattle.composables.proofs.Joining.{same-is, cells_of-append}
 use Rattle.composables.proofs.Spans.{later-zero}
-use Rattle.edit_splice.specs.declared.seams.Held.{Held}
+use Rattle.edit_splice.specs.declared.seams.ItemAt.{ItemAt}
 use Rattle.edit_splice.specs.declared.seams.Seams.{Seams}
 use Rattle.edit_splice.specs.Parts.{EndsAt, StandsFrom, AreSeams, view_after, split_between, front_view, renumbered_view}
 use Rattle.edit_splice.specs.Laws.{IsWithinLimits}
@@ -85,7 +85,7 @@ pub good-going-on : (keep : Bool) (table : Table) (t : TrackState) (x y : ℕ) (
 good-going-on keep table t x y v views g order within on n limits =
     let k = g.kept in
     let vs : List ItemView = items_of t.cells in
-    let h : Held = record { index = on.index; from = on.from; view = on.before } in
+    let h : ItemAt = record { index = on.index; from = on.from; view = on.before } in
     let l : EndsAt t.cells x (Some h) = left_held t x on.index on.from on.before k on.stands in
     let r = right_end t.cells y k.whole in
     let s : Seams = record { left = Some h; right = r.0; after = view_after vs r.0 } in
@@ -128,7 +128,7 @@ right_held t y i to v k s =
     let some = (holds-read (items_of t.cells) i v s.read k.each).0.filled in
     record { read = s.read; from = s.starts; begins = omega arith; ends = omega (arith, some) }
 
-cut_whole : (vs : List ItemView) (l : Option Held) (h : Held) → Apart vs → slice_get vs h.index ≡ Some h.view → IfSome l (λ g. (slice_get vs g.index ≡ Some g.view) × (g.index < h.index)) → split_between l (Some h) ≡ None
+cut_whole : (vs : List ItemView) (l : Option ItemAt) (h : ItemAt) → Apart vs → slice_get vs h.index ≡ Some h.view → IfSome l (λ g. (slice_get vs g.index ≡ Some g.view) × (g.index < h.index)) → split_between l (Some h) ≡ None
 cut_whole vs None h a e f = refl
 cut_whole vs (Some g) h a e f = by_test (same_number g.view.item h.view.item) refl where
   never : (o : Option ℕ) → h.view.item ≡ o → g.view.item ≡ o → o ≡ None
@@ -139,7 +139,7 @@ cut_whole vs (Some g) h a e f = by_test (same_number g.view.item h.view.item) re
   by_test true p = never h.view.item refl (same-is g.view.item h.view.item p)
   by_test false p = refl
 
-before_it : (t : TrackState) (x y : ℕ) (l : Option Held) (h : Held) → x ≤ y → h.from ≡ y → h.from ≡ frames_in (take h.index (items_of t.cells)) → EndsAt t.cells x l → IfSome l (λ g. (slice_get (items_of t.cells) g.index ≡ Some g.view) × (g.index < h.index))
+before_it : (t : TrackState) (x y : ℕ) (l : Option ItemAt) (h : ItemAt) → x ≤ y → h.from ≡ y → h.from ≡ frames_in (take h.index (items_of t.cells)) → EndsAt t.cells x l → IfSome l (λ g. (slice_get (items_of t.cells) g.index ≡ Some g.view) × (g.index < h.index))
 before_it t x y None h le at is e = tt
 before_it t x y (Some g) h le at is e = (e.1.read, frames_less (items_of t.cells) g.index h.index (omega (arith, le, at, is, e.0, e.1.from, e.1.begins)))
 
@@ -148,7 +148,7 @@ pub good-reaching-back : (keep : Bool) (table : Table) (t : TrackState) (x y : �
 good-reaching-back keep table t x y v views g order within back n limits =
     let k = g.kept in
     let vs : List ItemView = items_of t.cells in
-    let h : Held = record { index = back.index; from = y; view = back.after } in
+    let h : ItemAt = record { index = back.index; from = y; view = back.after } in
     let r : StandsFrom t.cells y (Some h) = right_held t y back.index back.to back.after k back.stands in
     let l = left_end t.cells x k.whole (omega (arith, order, within)) in
     let s : Seams = record { left = l.0; right = Some h; after = view_after vs (Some h) } in

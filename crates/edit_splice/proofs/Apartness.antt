@@ -6,7 +6,7 @@ use Rattle.frame_meaning.specs.Cells.{same_number}
 use Rattle.composables.specs.declared.items.ItemView.{ItemView}
 use Rattle.composables.specs.TrackFacts.{Lacks, Apart, NumbersBelow}
 use Rattle.composables.proofs.Joining.{same-is, same-refl}
-use Rattle.edit_splice.specs.declared.seams.Held.{Held}
+use Rattle.edit_splice.specs.declared.seams.ItemAt.{ItemAt}
 use Rattle.composables.specs.Views.{later_view}
 use Rattle.edit_splice.specs.Parts.{split_between, front_view, renumbered_view}
 use Rattle.edit_splice.specs.NewItems.{NumbersFrom}
@@ -156,7 +156,7 @@ item_lacks (x ∷ xs) (suc i) zero v e le a = absurd (omega (arith, le))
 item_lacks (x ∷ xs) (suc i) (suc j) v e le a = item_lacks xs i j v e (omega (arith, le)) a.1
 
 -- an item on both sides has a fresh number behind the range
-cut_number : (g h : Held) (fresh k i : ℕ) → g.view.item ≡ Some i → i < fresh → (renumbered_view (split_between (Some g) (Some h)) fresh (later_view h.view k)).item ≢ Some i
+cut_number : (g h : ItemAt) (fresh k i : ℕ) → g.view.item ≡ Some i → i < fresh → (renumbered_view (split_between (Some g) (Some h)) fresh (later_view h.view k)).item ≢ Some i
 cut_number g h fresh k i is lt = by_test (same_number g.view.item h.view.item) refl where
   by_test : (b : Bool) → same_number g.view.item h.view.item ≡ b → (renumbered_view (cond b h.view.item None) fresh (later_view h.view k)).item ≢ Some i
   by_test true e =
@@ -170,7 +170,7 @@ cut_number g h fresh k i is lt = by_test (same_number g.view.item h.view.item) r
       let never : true ≡ false = sym same ∙ e in
       absurd cc)
 
-pub foreign-front : (keep : Bool) (vs : List ItemView) (g h : Held) (m fresh k n : ℕ) → slice_get vs g.index ≡ Some g.view → drop h.index vs ≡ h.view ∷ drop (suc h.index) vs → g.index ≤ h.index → Apart vs
+pub foreign-front : (keep : Bool) (vs : List ItemView) (g h : ItemAt) (m fresh k n : ℕ) → slice_get vs g.index ≡ Some g.view → drop h.index vs ≡ h.view ∷ drop (suc h.index) vs → g.index ≤ h.index → Apart vs
     → NumbersBelow fresh (take g.index vs) → IfSome g.view.item (λ i. i < fresh)
     → Foreign (take g.index vs ++ front_view keep g.view m ∷ []) (renumbered_view (split_between (Some g) (Some h)) fresh (later_view h.view k) ∷ first_kept keep n (drop (suc h.index) vs))
 foreign-front keep vs g h m fresh k n read cut le a below own =

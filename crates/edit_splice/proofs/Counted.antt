@@ -11,7 +11,7 @@ use Rattle.composables.specs.Joined.{with_view, joined, IsTight, AllFilled}
 use Rattle.composables.specs.TrackFacts.{IsKept, NumbersBelow}
 use Rattle.composables.specs.TrackState.{TrackState, next_past_all}
 use Rattle.composables.proofs.Joining.{items_of-cells_of, filled-append, same-is}
-use Rattle.edit_splice.specs.declared.seams.Held.{Held}
+use Rattle.edit_splice.specs.declared.seams.ItemAt.{ItemAt}
 use Rattle.edit_splice.specs.declared.seams.Seams.{Seams}
 use Rattle.composables.specs.Views.{later_view}
 use Rattle.edit_splice.specs.Parts.{AreSeams, EndsAt, StandsFrom, view_after, split_between, front_view, renumbered_view}
@@ -76,7 +76,7 @@ begun-tight [] t = refl
 begun-tight (v ∷ vs) t = omega (arith, begun_apart v vs t)
 
 -- before the range
-before_begun : (keep : Bool) (next : ℕ) (cs : List Cell) (x : ℕ) (l : Option Held) → Stand next (items_of cs) → EndsAt cs x l
+before_begun : (keep : Bool) (next : ℕ) (cs : List Cell) (x : ℕ) (l : Option ItemAt) → Stand next (items_of cs) → EndsAt cs x l
     → (begun None (numbers (before_range keep (items_of cs) l x)) ≡ count_by l) × (last_of None (numbers (before_range keep (items_of cs) l x)) ≡ number_of l)
 before_begun keep next cs x None s e = (refl, refl)
 before_begun keep next cs x (Some g) s e =
@@ -119,7 +119,7 @@ numbers_kept : (keep : Bool) (n : ℕ) (ws : List ItemView) → numbers (first_k
 numbers_kept keep n [] = refl
 numbers_kept keep n (w ∷ ws) = refl
 
-behind_begun : (keep : Bool) (o : Option (Option ℕ)) (next fresh : ℕ) (cs : List Cell) (y : ℕ) (l r : Option Held) (a : Option ItemView) → next ≤ fresh → Stand next (items_of cs) → StandsFrom cs y r → a ≡ view_after (items_of cs) r
+behind_begun : (keep : Bool) (o : Option (Option ℕ)) (next fresh : ℕ) (cs : List Cell) (y : ℕ) (l r : Option ItemAt) (a : Option ItemView) → next ≤ fresh → Stand next (items_of cs) → StandsFrom cs y r → a ≡ view_after (items_of cs) r
     → begun o (numbers (behind_range keep (items_of cs) l r a y fresh)) ≡ begun o (option_to_list (back_number r (split_between l r) fresh)) + count_past r (length (items_of cs))
 behind_begun keep o next fresh cs y l None a le s e is =
     let none : begun o (numbers (behind_range keep (items_of cs) l None a y fresh)) ≡ 0 = ap (λ zs. begun o (numbers zs)) (behind_none keep (items_of cs) l a y fresh) in
@@ -194,10 +194,10 @@ counted keep t x y fresh n before between past s split left right views k le fil
     omega (arith, b, middle, p ∙ ap (count_past s.right) many, count-spliced keep t x y s views k le filled seams)
 
 -- an item or gap at an end of the range is one of them
-pub left-within : (cs : List Cell) (x : ℕ) (l : Option Held) → EndsAt cs x l → count_by l ≤ length (items_of cs)
+pub left-within : (cs : List Cell) (x : ℕ) (l : Option ItemAt) → EndsAt cs x l → count_by l ≤ length (items_of cs)
 left-within cs x None e = omega arith
 left-within cs x (Some g) e = omega (arith, slice_get_within (items_of cs) g.index g.view e.1.read)
 
-pub right-within : (cs : List Cell) (y n : ℕ) (r : Option Held) → StandsFrom cs y r → n ≡ length (items_of cs) → count_by r ≤ n
+pub right-within : (cs : List Cell) (y n : ℕ) (r : Option ItemAt) → StandsFrom cs y r → n ≡ length (items_of cs) → count_by r ≤ n
 right-within cs y n None e is = omega arith
 right-within cs y n (Some g) e is = omega (arith, is, slice_get_within (items_of cs) g.index g.view e.read)

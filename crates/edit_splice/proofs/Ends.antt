@@ -8,7 +8,7 @@ use Rattle.composables.specs.Joined.{frames_in}
 use Rattle.composables.specs.TrackFacts.{EachHolds, Apart, Lacks, NumbersBelow, HasSource}
 use Rattle.composables.proofs.Frames.{frames_in-take_more, no_view}
 use Rattle.composables.proofs.Spans.{holds-source}
-use Rattle.edit_splice.specs.declared.seams.Held.{Held}
+use Rattle.edit_splice.specs.declared.seams.ItemAt.{ItemAt}
 use Rattle.edit_splice.specs.Parts.{Stands, split_between, view_after, after_view, after_views, end_at}
 
 -- how the code comes to know where one stands
@@ -62,7 +62,7 @@ pub source-read : (vs : List ItemView) (i : ℕ) (v : ItemView) → slice_get vs
 source-read vs i v e h = holds-source v (drop (suc i) vs) (holds-read vs i v e h)
 
 -- the item that is split is the one that holds the first place behind the range
-pub split-lacks : (l : Option Held) (h : Held) (ws : List ItemView) → IfSome h.view.item (λ i. Lacks i ws) → IfSome (split_between l (Some h)) (λ i. Lacks i ws)
+pub split-lacks : (l : Option ItemAt) (h : ItemAt) (ws : List ItemView) → IfSome h.view.item (λ i. Lacks i ws) → IfSome (split_between l (Some h)) (λ i. Lacks i ws)
 split-lacks None h ws a = tt
 split-lacks (Some g) h ws a = cond_both (same_number g.view.item h.view.item) h.view.item None (λ (o : Option ℕ). IfSome o (λ i. Lacks i ws)) (λ t. a) (λ t. tt)
 
@@ -70,11 +70,11 @@ some_self : (o : Option ℕ) → IfSome o (λ i. o ≡ Some i)
 some_self None = tt
 some_self (Some i) = refl
 
-pub split-names : (l : Option Held) (h : Held) → IfSome (split_between l (Some h)) (λ i. h.view.item ≡ Some i)
+pub split-names : (l : Option ItemAt) (h : ItemAt) → IfSome (split_between l (Some h)) (λ i. h.view.item ≡ Some i)
 split-names None h = tt
 split-names (Some g) h = cond_both (same_number g.view.item h.view.item) h.view.item None (λ (o : Option ℕ). IfSome o (λ i. h.view.item ≡ Some i)) (λ t. some_self h.view.item) (λ t. tt)
 
-pub split-none : (l : Option Held) → split_between l None ≡ None
+pub split-none : (l : Option ItemAt) → split_between l None ≡ None
 split-none None = refl
 split-none (Some g) = refl
 
@@ -83,7 +83,7 @@ abbrev pub first_kept : Bool → ℕ → List ItemView → List ItemView
 first_kept keep n [] = []
 first_kept keep n (w ∷ ws) = after_view keep n w ∷ ws
 
-pub after-parts : (keep : Bool) (vs : List ItemView) (h : Held) (o : Option ItemView) (y count : ℕ) → o ≡ slice_get vs (h.index + 1)
+pub after-parts : (keep : Bool) (vs : List ItemView) (h : ItemAt) (o : Option ItemView) (y count : ℕ) → o ≡ slice_get vs (h.index + 1)
     → after_views keep (Some h) o y ++ drop (end_at (Some h) o count) vs ≡ first_kept keep (h.view.len - (y - h.from)) (drop (suc h.index) vs)
 after-parts keep vs h None y count e =
     let next : h.index + 1 ≡ suc h.index = omega arith in
@@ -97,7 +97,7 @@ after-parts keep vs h (Some w) y count e =
     ∙ ap (first_kept keep n) (sym (drop-some vs (h.index + 1) w (sym e)) ∙ ap (λ (k : ℕ). drop k vs) next)
 
 -- the indices
-pub end-within : (vs : List ItemView) (y : ℕ) (r : Option Held) (o : Option ItemView) → IfSome r (λ h. slice_get vs h.index ≡ Some h.view) → o ≡ view_after vs r → end_at r o (length vs) ≤ length vs
+pub end-within : (vs : List ItemView) (y : ℕ) (r : Option ItemAt) (o : Option ItemView) → IfSome r (λ h. slice_get vs h.index ≡ Some h.view) → o ≡ view_after vs r → end_at r o (length vs) ≤ length vs
 end-within vs y None o s e = omega arith
 end-within vs y (Some h) None s e = omega (arith, slice_get_within vs h.index h.view s)
 end-within vs y (Some h) (Some w) s e = omega (arith, slice_get_within vs (h.index + 1) w (sym e))
@@ -108,11 +108,11 @@ frames_less vs zero (suc j) h = omega arith
 frames_less [] (suc i) (suc j) h = absurd (omega (arith, h))
 frames_less (v ∷ vs) (suc i) (suc j) h = let less : i < j = frames_less vs i j (omega (arith, h)) in omega (arith, less)
 
-end_past : (h : Held) (o : Option ItemView) (n : ℕ) → h.index + 1 ≤ end_at (Some h) o n
+end_past : (h : ItemAt) (o : Option ItemView) (n : ℕ) → h.index + 1 ≤ end_at (Some h) o n
 end_past h None n = omega arith
 end_past h (Some w) n = omega arith
 
-pub index-order : (vs : List ItemView) (x y : ℕ) (g h : Held) → 0 < x → x ≤ y → Stands vs (x - 1) g → Stands vs y h → g.index ≤ h.index
+pub index-order : (vs : List ItemView) (x y : ℕ) (g h : ItemAt) → 0 < x → x ≤ y → Stands vs (x - 1) g → Stands vs y h → g.index ≤ h.index
 index-order vs x y g h some le s t =
     let inside = slice_get_within vs h.index h.view t.read in
     let more = frames_in-take_more vs h.index no_view inside in
@@ -120,5 +120,5 @@ index-order vs x y g h some le s t =
     let less : g.index < h.index + 1 = frames_less vs g.index (h.index + 1) (omega (arith, some, le, s.from, s.begins, t.from, t.ends, more, len)) in
     omega (arith, less)
 
-pub order-within : (vs : List ItemView) (x y : ℕ) (g h : Held) (o : Option ItemView) → 0 < x → x ≤ y → Stands vs (x - 1) g → Stands vs y h → g.index ≤ end_at (Some h) o (length vs)
+pub order-within : (vs : List ItemView) (x y : ℕ) (g h : ItemAt) (o : Option ItemView) → 0 < x → x ≤ y → Stands vs (x - 1) g → Stands vs y h → g.index ≤ end_at (Some h) o (length vs)
 order-within vs x y g h o some le s t = omega (arith, index-order vs x y g h some le s t, end_past h o (length vs))

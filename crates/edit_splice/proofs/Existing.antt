@@ -6,17 +6,17 @@ use Rattle.composables.specs.declared.items.ItemView.{ItemView}
 use Rattle.composables.specs.Items.{cells_of, items_of}
 use Rattle.composables.specs.Joined.{frames_in}
 use Rattle.composables.proofs.Joining.{length-cells_of}
-use Rattle.edit_splice.specs.declared.seams.Held.{Held}
+use Rattle.edit_splice.specs.declared.seams.ItemAt.{ItemAt}
 use Rattle.edit_splice.specs.declared.seams.Seams.{Seams}
 use Rattle.edit_splice.specs.Parts.{Stands, EndsAt, StandsFrom, AreSeams, view_after}
 
 here : (v : ItemView) (vs : List ItemView) (at : ℕ) → at < v.len → Stands (v ∷ vs) at (record { index = 0; from = 0; view = v })
 here v vs at lt = record { read = refl; from = refl; begins = omega arith; ends = omega (arith, lt) }
 
-further : (v : ItemView) (vs : List ItemView) (at : ℕ) (h : Held) → v.len ≤ at → Stands vs (at - v.len) h → Stands (v ∷ vs) at (record { index = suc h.index; from = v.len + h.from; view = h.view })
+further : (v : ItemView) (vs : List ItemView) (at : ℕ) (h : ItemAt) → v.len ≤ at → Stands vs (at - v.len) h → Stands (v ∷ vs) at (record { index = suc h.index; from = v.len + h.from; view = h.view })
 further v vs at h le s = record { read = s.read; from = ap (λ (k : ℕ). v.len + k) s.from; begins = omega (arith, le, s.begins); ends = omega (arith, le, s.ends) }
 
-found : (vs : List ItemView) (at : ℕ) → at < frames_in vs → (h : Held) × Stands vs at h
+found : (vs : List ItemView) (at : ℕ) → at < frames_in vs → (h : ItemAt) × Stands vs at h
 found [] at lt = absurd (omega (arith, lt))
 found (v ∷ vs) at lt =
     ⊎_elim
@@ -27,14 +27,14 @@ found (v ∷ vs) at lt =
 frames_of_cells : (cs : List Cell) → cells_of (items_of cs) ≡ cs → frames_in (items_of cs) ≡ length cs
 frames_of_cells cs whole = sym (length-cells_of (items_of cs)) ∙ ap length whole
 
-pub left_end : (cs : List Cell) (x : ℕ) → cells_of (items_of cs) ≡ cs → x ≤ length cs → (l : Option Held) × EndsAt cs x l
+pub left_end : (cs : List Cell) (x : ℕ) → cells_of (items_of cs) ≡ cs → x ≤ length cs → (l : Option ItemAt) × EndsAt cs x l
 left_end cs zero whole le = (None, refl)
 left_end cs (suc x) whole le =
     let inside : suc x - 1 < frames_in (items_of cs) = omega (arith, le, frames_of_cells cs whole) in
     let h = found (items_of cs) (suc x - 1) inside in
     (Some h.0, (omega arith, h.1))
 
-pub right_end : (cs : List Cell) (y : ℕ) → cells_of (items_of cs) ≡ cs → (r : Option Held) × StandsFrom cs y r
+pub right_end : (cs : List Cell) (y : ℕ) → cells_of (items_of cs) ≡ cs → (r : Option ItemAt) × StandsFrom cs y r
 right_end cs y whole =
     ⊎_elim
     (λ (less : y < length cs). (let h = found (items_of cs) y (omega (arith, less, frames_of_cells cs whole)) in (Some h.0, h.1)))

@@ -7,7 +7,7 @@ use Rattle.composables.specs.Joined.{frames_in}
 use Rattle.composables.specs.TrackFacts.{Lacks, Apart, NumbersBelow}
 use Rattle.composables.specs.TrackState.{TrackState}
 use Rattle.composables.proofs.Frames.{frames_in-take_more, no_view}
-use Rattle.edit_splice.specs.declared.seams.Held.{Held}
+use Rattle.edit_splice.specs.declared.seams.ItemAt.{ItemAt}
 use Rattle.edit_splice.specs.Parts.{EndsAt, StandsFrom, view_after, split_between, front_view}
 use Rattle.edit_splice.specs.PutIn.{TakesUp, StandsWithin, AllFree}
 use Rattle.edit_splice.proofs.Ends.{drop-some, frames_less}
@@ -61,7 +61,7 @@ pub frames_to : (vs : List ItemView) (k : ℕ) (w : ItemView) (from to : ℕ) �
 frames_to vs k w from to s =
     omega (arith, s.starts, s.stops, frames_in-take_more vs k no_view (slice_get_within vs k w s.read), ap (λ (u : ItemView). u.len) (get_or_from_slice_get vs k w no_view s.read))
 
-free_before : (keep : Bool) (next i : ℕ) (t : TrackState) (x y : ℕ) (l : Option Held) → next ≡ t.next_item → Stand next (items_of t.cells) → EndsAt t.cells x l → (t.next_item ≤ i) ⊎ StandsWithin t x y i → Lacks i (before_range keep (items_of t.cells) l x)
+free_before : (keep : Bool) (next i : ℕ) (t : TrackState) (x y : ℕ) (l : Option ItemAt) → next ≡ t.next_item → Stand next (items_of t.cells) → EndsAt t.cells x l → (t.next_item ≤ i) ⊎ StandsWithin t x y i → Lacks i (before_range keep (items_of t.cells) l x)
 free_before keep next i t x y None is s e f = tt
 free_before keep next i t x y (Some g) is s e f =
     let vs : List ItemView = items_of t.cells in
@@ -78,7 +78,7 @@ lacks_behind i j (suc h) vs v w e is lt cut a =
     let P : List ItemView → Type 0 = λ zs. Lacks i zs in
     subst P cut (known w.item i (λ k. Lacks k (drop (suc h) vs)) (item_lacks vs j h w e (omega (arith, lt)) a) is)
 
-free_behind : (keep : Bool) (next fresh i : ℕ) (t : TrackState) (x y : ℕ) (l r : Option Held) (o : Option ItemView) → next ≡ t.next_item → next ≤ fresh → i < fresh → Stand next (items_of t.cells) → StandsFrom t.cells y r → o ≡ view_after (items_of t.cells) r
+free_behind : (keep : Bool) (next fresh i : ℕ) (t : TrackState) (x y : ℕ) (l r : Option ItemAt) (o : Option ItemView) → next ≡ t.next_item → next ≤ fresh → i < fresh → Stand next (items_of t.cells) → StandsFrom t.cells y r → o ≡ view_after (items_of t.cells) r
     → (t.next_item ≤ i) ⊎ StandsWithin t x y i → Lacks i (behind_range keep (items_of t.cells) l r o y fresh)
 free_behind keep next fresh i t x y l None o is le lt s e a f =
     let P : List ItemView → Type 0 = λ zs. Lacks i zs in
@@ -111,17 +111,17 @@ if_free : (o : Option ℕ) (t : TrackState) (x y : ℕ) (zs : List ItemView) →
 if_free None t x y zs f h = tt
 if_free (Some i) t x y zs f h = f i refl h
 
-free-before : (keep : Bool) (t : TrackState) (x y : ℕ) (l : Option Held) (views : List ItemView) → Stand t.next_item (items_of t.cells) → EndsAt t.cells x l → AllFree t x y views → Foreign views (before_range keep (items_of t.cells) l x)
+free-before : (keep : Bool) (t : TrackState) (x y : ℕ) (l : Option ItemAt) (views : List ItemView) → Stand t.next_item (items_of t.cells) → EndsAt t.cells x l → AllFree t x y views → Foreign views (before_range keep (items_of t.cells) l x)
 free-before keep t x y l [] s e f = tt
 free-before keep t x y l (v ∷ vs) s e f = (
   if_free v.item t x y (before_range keep (items_of t.cells) l x) (λ i is h. free_before keep t.next_item i t x y l refl s e h) f.0,
   free-before keep t x y l vs s e f.1,
 )
 
-pub foreign-before : (keep : Bool) (t : TrackState) (x y : ℕ) (l : Option Held) (views : List ItemView) → Stand t.next_item (items_of t.cells) → EndsAt t.cells x l → AllFree t x y views → Foreign (before_range keep (items_of t.cells) l x) views
+pub foreign-before : (keep : Bool) (t : TrackState) (x y : ℕ) (l : Option ItemAt) (views : List ItemView) → Stand t.next_item (items_of t.cells) → EndsAt t.cells x l → AllFree t x y views → Foreign (before_range keep (items_of t.cells) l x) views
 foreign-before keep t x y l views s e f = foreign-sym (before_range keep (items_of t.cells) l x) views (free-before keep t x y l views s e f)
 
-pub foreign-behind : (keep : Bool) (t : TrackState) (fresh x y : ℕ) (l r : Option Held) (o : Option ItemView) (views : List ItemView) → t.next_item ≤ fresh → NumbersBelow fresh views → Stand t.next_item (items_of t.cells) → StandsFrom t.cells y r
+pub foreign-behind : (keep : Bool) (t : TrackState) (fresh x y : ℕ) (l r : Option ItemAt) (o : Option ItemView) (views : List ItemView) → t.next_item ≤ fresh → NumbersBelow fresh views → Stand t.next_item (items_of t.cells) → StandsFrom t.cells y r
     → o ≡ view_after (items_of t.cells) r → AllFree t x y views → Foreign views (behind_range keep (items_of t.cells) l r o y fresh)
 foreign-behind keep t fresh x y l r o [] le b s e a f = tt
 foreign-behind keep t fresh x y l r o (v ∷ vs) le b s e a f = (

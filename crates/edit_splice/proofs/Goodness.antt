@@ -10,7 +10,7 @@ use Rattle.composables.specs.Joined.{joined}
 use Rattle.composables.specs.TrackFacts.{NumbersBelow, first_mark}
 use Rattle.composables.specs.TrackState.{TrackState, next_past_all}
 use Rattle.composables.proofs.Joining.{items_of-cells_of}
-use Rattle.edit_splice.specs.declared.seams.Held.{Held}
+use Rattle.edit_splice.specs.declared.seams.ItemAt.{ItemAt}
 use Rattle.edit_splice.specs.declared.seams.Seams.{Seams}
 use Rattle.edit_splice.specs.Parts.{AreSeams, EndsAt, StandsFrom, view_after, split_between}
 use Rattle.edit_splice.specs.Splicing.{spliced_track}
@@ -35,7 +35,7 @@ pub lie-append : (table : Table) (number : ℕ) (xs ys : List ItemView) → firs
 lie-append table number xs ys e p q = record { ranges = lies-append table xs ys p.ranges q.ranges e; links = links-append number xs ys p.links q.links }
 
 -- before the range and behind it
-pub lie-before : (keep : Bool) (table : Table) (number : ℕ) (cs : List Cell) (x : ℕ) (l : Option Held) → Lie table number (items_of cs) → EndsAt cs x l → Lie table number (before_range keep (items_of cs) l x)
+pub lie-before : (keep : Bool) (table : Table) (number : ℕ) (cs : List Cell) (x : ℕ) (l : Option ItemAt) → Lie table number (items_of cs) → EndsAt cs x l → Lie table number (before_range keep (items_of cs) l x)
 lie-before keep table number cs x None h e = lie_nothing table number
 lie-before keep table number cs x (Some g) h e =
     let vs : List ItemView = items_of cs in
@@ -47,7 +47,7 @@ lie-before keep table number cs x (Some g) h e =
       links = links-front keep number (take g.index vs) g.view (drop (suc g.index) vs) (x - g.from) (subst L cut h.links);
     }
 
-pub lie-behind : (keep : Bool) (table : Table) (number fresh : ℕ) (cs : List Cell) (y : ℕ) (l r : Option Held) (o : Option ItemView) → Lie table number (items_of cs) → StandsFrom cs y r → o ≡ view_after (items_of cs) r
+pub lie-behind : (keep : Bool) (table : Table) (number fresh : ℕ) (cs : List Cell) (y : ℕ) (l r : Option ItemAt) (o : Option ItemView) → Lie table number (items_of cs) → StandsFrom cs y r → o ≡ view_after (items_of cs) r
     → Lie table number (behind_range keep (items_of cs) l r o y fresh)
 lie-behind keep table number fresh cs y l None o h e is =
     let P : List ItemView → Type 0 = λ zs. Lie table number zs in

@@ -9,7 +9,7 @@ use Rattle.composables.specs.Joined.{frames_in, IsTight, joined}
 use Rattle.composables.specs.TrackFacts.{IsKept, EachHolds, Apart, Lacks, NumbersBelow, first_mark}
 use Rattle.composables.specs.TrackState.{TrackState, next_past_all}
 use Rattle.composables.proofs.Joining.{cells_of-append, items_of-cells_of, tight-joined, length-cells_of}
-use Rattle.edit_splice.specs.declared.seams.Held.{Held}
+use Rattle.edit_splice.specs.declared.seams.ItemAt.{ItemAt}
 use Rattle.edit_splice.specs.declared.seams.Seams.{Seams}
 use Rattle.composables.specs.Views.{later_view}
 use Rattle.edit_splice.specs.Parts.{AreSeams, EndsAt, StandsFrom, view_after, split_between, front_view, front_views, renumbered_view, back_views, after_views, parts_between, first_index, end_at, end_index}
@@ -25,10 +25,10 @@ use Rattle.edit_splice.proofs.Apartness.{Foreign, apart-append, foreign-append, 
 use Rattle.edit_splice.proofs.Existing.{seams-exist}
 
 -- what stands before the range and what stands behind it
-abbrev pub before_range : Bool → List ItemView → Option Held → ℕ → List ItemView
+abbrev pub before_range : Bool → List ItemView → Option ItemAt → ℕ → List ItemView
 before_range keep vs l x = take (first_index l) vs ++ front_views keep l x
 
-abbrev pub behind_range : Bool → List ItemView → Option Held → Option Held → Option ItemView → ℕ → ℕ → List ItemView
+abbrev pub behind_range : Bool → List ItemView → Option ItemAt → Option ItemAt → Option ItemView → ℕ → ℕ → List ItemView
 behind_range keep vs l r o y fresh = (back_views r y (split_between l r) fresh ++ after_views keep r o y) ++ drop (end_at r o (length vs)) vs
 
 -- items and gaps that may stand in a row once gaps that meet are one
@@ -75,14 +75,14 @@ sound_front keep next us v ws n s some le = record {
   apart = apart-front keep us v ws n s.apart;
 }
 
-pub sound_before : (keep : Bool) (next : ℕ) (cs : List Cell) (x : ℕ) (l : Option Held) → Stand next (items_of cs) → EndsAt cs x l → Sound (before_range keep (items_of cs) l x)
+pub sound_before : (keep : Bool) (next : ℕ) (cs : List Cell) (x : ℕ) (l : Option ItemAt) → Stand next (items_of cs) → EndsAt cs x l → Sound (before_range keep (items_of cs) l x)
 sound_before keep next cs x None s e = sound_nothing
 sound_before keep next cs x (Some g) s e =
     let vs : List ItemView = items_of cs in
     let P : List ItemView → Type 0 = λ zs. Stand next zs in
     sound_front keep next (take g.index vs) g.view (drop (suc g.index) vs) (x - g.from) (subst P (split-at vs g.index g.view e.1.read) s) (omega (arith, e.0, e.1.begins)) (omega (arith, e.0, e.1.ends))
 
-pub below_before : (keep : Bool) (next : ℕ) (cs : List Cell) (x : ℕ) (l : Option Held) → Stand next (items_of cs) → EndsAt cs x l → NumbersBelow next (before_range keep (items_of cs) l x)
+pub below_before : (keep : Bool) (next : ℕ) (cs : List Cell) (x : ℕ) (l : Option ItemAt) → Stand next (items_of cs) → EndsAt cs x l → NumbersBelow next (before_range keep (items_of cs) l x)
 below_before keep next cs x None s e = tt
 below_before keep next cs x (Some g) s e =
     let vs : List ItemView = items_of cs in
@@ -100,14 +100,14 @@ stand_at next us v ws s = (holds-at us v ws s.each, tight-at us v ws s.tight, al
   all_below n [] v ws b = b
   all_below n (u ∷ us) v ws b = all_below n us v ws b.1
 
-abbrev pub kept_behind_range : Bool → List ItemView → Option Held → Held → ℕ → ℕ → List ItemView
+abbrev pub kept_behind_range : Bool → List ItemView → Option ItemAt → ItemAt → ℕ → ℕ → List ItemView
 kept_behind_range keep vs l h y fresh = renumbered_view (split_between l (Some h)) fresh (later_view h.view (y - h.from)) ∷ first_kept keep (h.view.len - (y - h.from)) (drop (suc h.index) vs)
 
-pub behind_is : (keep : Bool) (vs : List ItemView) (l : Option Held) (h : Held) (o : Option ItemView) (y fresh : ℕ) → o ≡ slice_get vs (h.index + 1) → behind_range keep vs l (Some h) o y fresh ≡ kept_behind_range keep vs l h y fresh
+pub behind_is : (keep : Bool) (vs : List ItemView) (l : Option ItemAt) (h : ItemAt) (o : Option ItemView) (y fresh : ℕ) → o ≡ slice_get vs (h.index + 1) → behind_range keep vs l (Some h) o y fresh ≡ kept_behind_range keep vs l h y fresh
 behind_is keep vs l h o y fresh e =
     ap (λ zs. renumbered_view (split_between l (Some h)) fresh (later_view h.view (y - h.from)) ∷ zs) (after-parts keep vs h o y (length vs) e)
 
-pub behind_none : (keep : Bool) (vs : List ItemView) (l : Option Held) (o : Option ItemView) (y fresh : ℕ) → behind_range keep vs l None o y fresh ≡ []
+pub behind_none : (keep : Bool) (vs : List ItemView) (l : Option ItemAt) (o : Option ItemView) (y fresh : ℕ) → behind_range keep vs l None o y fresh ≡ []
 behind_none keep vs l o y fresh = drop_all (length vs) vs (omega arith)
 
 sound_back : (keep : Bool) (next fresh k : ℕ) (s : Option ℕ) (v : ItemView) (ws : List ItemView) → next ≤ fresh → k < v.len → EachHolds (v ∷ ws) → IsTight (v ∷ ws) → Apart (v ∷ ws) → NumbersBelow next (v ∷ ws)
@@ -119,7 +119,7 @@ sound_back keep next fresh k s v ws le lt h t a b = record {
   apart = apart-back keep s fresh k (v.len - k) v ws a (lacks-below next fresh ws b.1 le);
 }
 
-pub sound_behind : (keep : Bool) (next fresh : ℕ) (cs : List Cell) (y : ℕ) (l r : Option Held) (o : Option ItemView) → next ≤ fresh → Stand next (items_of cs) → StandsFrom cs y r → o ≡ view_after (items_of cs) r → Sound (behind_range keep (items_of cs) l r o y fresh)
+pub sound_behind : (keep : Bool) (next fresh : ℕ) (cs : List Cell) (y : ℕ) (l r : Option ItemAt) (o : Option ItemView) → next ≤ fresh → Stand next (items_of cs) → StandsFrom cs y r → o ≡ view_after (items_of cs) r → Sound (behind_range keep (items_of cs) l r o y fresh)
 sound_behind keep next fresh cs y l None o le s e is =
     let P : List ItemView → Type 0 = λ zs. Sound zs in
     subst P (sym (behind_none keep (items_of cs) l o y fresh)) sound_nothing
@@ -139,7 +139,7 @@ foreign_nothing (x ∷ xs) = (nothing x.item, foreign_nothing xs) where
   nothing None = tt
   nothing (Some i) = tt
 
-pub foreign_sides : (keep : Bool) (next fresh : ℕ) (cs : List Cell) (x y : ℕ) (l r : Option Held) (o : Option ItemView) → next ≤ fresh → x ≤ y → Stand next (items_of cs) → EndsAt cs x l → StandsFrom cs y r → o ≡ view_after (items_of cs) r
+pub foreign_sides : (keep : Bool) (next fresh : ℕ) (cs : List Cell) (x y : ℕ) (l r : Option ItemAt) (o : Option ItemView) → next ≤ fresh → x ≤ y → Stand next (items_of cs) → EndsAt cs x l → StandsFrom cs y r → o ≡ view_after (items_of cs) r
     → Foreign (before_range keep (items_of cs) l x) (behind_range keep (items_of cs) l r o y fresh)
 foreign_sides keep next fresh cs x y None r o le order s e f is = tt
 foreign_sides keep next fresh cs x y (Some g) None o le order s e f is =
@@ -157,7 +157,7 @@ foreign_sides keep next fresh cs x y (Some g) (Some h) o le order s e f is =
       below_take n (suc i) [] b = tt
       below_take n (suc i) (v ∷ vs) b = (b.0, below_take n i vs b.1)
 
-pub foreign_behind : (keep : Bool) (next fresh : ℕ) (cs : List Cell) (y : ℕ) (l r : Option Held) (o : Option ItemView) (views : List ItemView) → Stand next (items_of cs) → StandsFrom cs y r → o ≡ view_after (items_of cs) r → NumbersFrom next views → NumbersBelow fresh views
+pub foreign_behind : (keep : Bool) (next fresh : ℕ) (cs : List Cell) (y : ℕ) (l r : Option ItemAt) (o : Option ItemView) (views : List ItemView) → Stand next (items_of cs) → StandsFrom cs y r → o ≡ view_after (items_of cs) r → NumbersFrom next views → NumbersBelow fresh views
     → Foreign views (behind_range keep (items_of cs) l r o y fresh)
 foreign_behind keep next fresh cs y l None o views s f is above below =
     let P : List ItemView → Type 0 = λ zs. Foreign views zs in

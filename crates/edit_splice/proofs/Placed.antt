@@ -8,7 +8,7 @@ use Rattle.composables.specs.Joined.{AllFilled}
 use Rattle.composables.specs.TrackFacts.{IsKept, EachHolds, NumbersBelow}
 use Rattle.composables.specs.TrackState.{TrackState, replaced, next_past_all}
 use Rattle.composables.proofs.Keeping.{same_state}
-use Rattle.edit_splice.specs.declared.seams.Held.{Held}
+use Rattle.edit_splice.specs.declared.seams.ItemAt.{ItemAt}
 use Rattle.edit_splice.specs.declared.seams.Seams.{Seams}
 use Rattle.edit_splice.specs.Parts.{AreSeams, EndsAt, StandsFrom, reaches_past, parts_between, first_index, end_at, end_index}
 use Rattle.edit_splice.specs.Splicing.{spliced_track}
@@ -16,14 +16,14 @@ use Rattle.edit_splice.proofs.Ends.{end-within, order-within, source-read}
 use Rattle.edit_splice.proofs.Numbers.{next-most}
 use Rattle.edit_splice.proofs.Whole.{cells-spliced, next-spliced, below-parts, filled-parts}
 
-reaches : (cs : List Cell) (y : ℕ) (r : Option Held) → EachHolds (items_of cs) → StandsFrom cs y r → reaches_past y r
+reaches : (cs : List Cell) (y : ℕ) (r : Option ItemAt) → EachHolds (items_of cs) → StandsFrom cs y r → reaches_past y r
 reaches cs y None h s = tt
 reaches cs y (Some g) h s = (s.begins, omega (arith, s.begins, s.ends), source-read (items_of cs) g.index g.view s.read h)
 
 pub seams-reach : (cs : List Cell) (x y : ℕ) (s : Seams) → EachHolds (items_of cs) → AreSeams cs x y s → reaches_past y s.right
 seams-reach cs x y s h a = reaches cs y s.right h a.right
 
-reads : (cs : List Cell) (y : ℕ) (r : Option Held) → StandsFrom cs y r → IfSome r (λ h. slice_get (items_of cs) h.index ≡ Some h.view)
+reads : (cs : List Cell) (y : ℕ) (r : Option ItemAt) → StandsFrom cs y r → IfSome r (λ h. slice_get (items_of cs) h.index ≡ Some h.view)
 reads cs y None s = tt
 reads cs y (Some g) s = s.read
 
@@ -32,7 +32,7 @@ end-fits cs x y n s a is =
     let P : ℕ → Type 0 = λ k. end_index s k ≤ k in
     subst P (sym is) (end-within (items_of cs) y s.right s.after (reads cs y s.right a.right) a.after)
 
-in_order : (cs : List Cell) (x y : ℕ) (l r : Option Held) (o : Option ItemView) → x ≤ y → EndsAt cs x l → StandsFrom cs y r → first_index l ≤ end_at r o (length (items_of cs))
+in_order : (cs : List Cell) (x y : ℕ) (l r : Option ItemAt) (o : Option ItemView) → x ≤ y → EndsAt cs x l → StandsFrom cs y r → first_index l ≤ end_at r o (length (items_of cs))
 in_order cs x y None r o le s t = omega arith
 in_order cs x y (Some g) None o le s t = omega (arith, slice_get_within (items_of cs) g.index g.view s.1.read)
 in_order cs x y (Some g) (Some h) o le s t = order-within (items_of cs) x y g h o s.0 le s.1 t

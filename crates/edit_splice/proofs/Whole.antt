@@ -9,7 +9,7 @@ use Rattle.composables.specs.Joined.{AllFilled, frames_in}
 use Rattle.composables.specs.TrackFacts.{EachHolds, Apart, Lacks, NumbersBelow}
 use Rattle.composables.specs.TrackState.{next_past_all}
 use Rattle.composables.proofs.Joining.{cells_of-append, filled-append, length-view_cells}
-use Rattle.edit_splice.specs.declared.seams.Held.{Held}
+use Rattle.edit_splice.specs.declared.seams.ItemAt.{ItemAt}
 use Rattle.edit_splice.specs.declared.seams.Seams.{Seams}
 use Rattle.composables.specs.Views.{later_view}
 use Rattle.edit_splice.specs.Parts.{AreSeams, EndsAt, StandsFrom, view_after, split_between, front_view, front_views, renumbered_view, back_views, after_view, after_views, parts_between, first_index, end_at, end_index}
@@ -35,7 +35,7 @@ left_in keep vs us v ws x from e h is lo hi =
     ∙ (ap (λ (k : ℕ). cells_of us ++ view_cells (front_view keep v k)) n
     ∙ ap (λ cs. cells_of us ++ cs) (sym (append-nil (view_cells (front_view keep v (x - from)))))))))
 
-left_cells : (keep : Bool) (cs : List Cell) (x : ℕ) (l : Option Held) → cells_of (items_of cs) ≡ cs → EachHolds (items_of cs) → EndsAt cs x l
+left_cells : (keep : Bool) (cs : List Cell) (x : ℕ) (l : Option ItemAt) → cells_of (items_of cs) ≡ cs → EachHolds (items_of cs) → EndsAt cs x l
     → before_splice keep x (take x cs) ≡ cells_of (take (first_index l) (items_of cs)) ++ cells_of (front_views keep l x)
 left_cells keep cs x None whole h none = ap (λ (k : ℕ). before_splice keep k (take k cs)) none
 left_cells keep cs x (Some g) whole h s =
@@ -63,7 +63,7 @@ right_in keep vs us v ws y from fresh s e h is lo hi l =
     ∙ (ap (λ cs. cs ++ map (renumbered s fresh) (behind_splice keep (v.len - (y - from)) (cells_of ws))) (view-renumbered s fresh (later_view v (y - from)))
     ∙ ap (λ cs. view_cells (renumbered_view s fresh (later_view v (y - from))) ++ cs) (rest_in keep s fresh (v.len - (y - from)) ws (omega (arith, lo, hi)) rest l))))))
 
-right_cells : (keep : Bool) (cs : List Cell) (y fresh : ℕ) (l r : Option Held) (o : Option ItemView) → cells_of (items_of cs) ≡ cs → EachHolds (items_of cs) → Apart (items_of cs) → StandsFrom cs y r → o ≡ view_after (items_of cs) r
+right_cells : (keep : Bool) (cs : List Cell) (y fresh : ℕ) (l r : Option ItemAt) (o : Option ItemView) → cells_of (items_of cs) ≡ cs → EachHolds (items_of cs) → Apart (items_of cs) → StandsFrom cs y r → o ≡ view_after (items_of cs) r
     → map (renumbered (split_between l r) fresh) (behind_splice keep 0 (drop y cs))
     ≡ cells_of (back_views r y (split_between l r) fresh ++ after_views keep r o y) ++ cells_of (drop (end_at r o (length (items_of cs))) (items_of cs))
 right_cells keep cs y fresh l None o whole h a past after =
@@ -84,7 +84,7 @@ right_cells keep cs y fresh l (Some g) o whole h a s after =
     ∙ sym (append_assoc (view_cells part) (cells_of (after_views keep (Some g) o y)) (cells_of (drop (end_at (Some g) o (length vs)) vs))))))
 
 -- the item that is split
-abbrev number_of : Held → Option ℕ
+abbrev number_of : ItemAt → Option ℕ
 number_of h = h.view.item
 
 last_in : (vs us : List ItemView) (v : ItemView) (ws : List ItemView) (x from : ℕ) → vs ≡ us ++ v ∷ ws → from ≡ frames_in us → from < x → x ≤ from + v.len → last_item (take x (cells_of vs)) ≡ Some v.item
@@ -95,7 +95,7 @@ last_in vs us v ws x from e is lo hi =
     ∙ (ap last_item (take-cells us v ws x (omega (arith, is, lo)) (omega (arith, is, hi)))
     ∙ (behind (cells_of us) (view_cells part) (omega (arith, length-view_cells part, some)) ∙ ends part some))
 
-last_is : (cs : List Cell) (x : ℕ) (l : Option Held) → cells_of (items_of cs) ≡ cs → EndsAt cs x l → last_item (take x cs) ≡ option_map number_of l
+last_is : (cs : List Cell) (x : ℕ) (l : Option ItemAt) → cells_of (items_of cs) ≡ cs → EndsAt cs x l → last_item (take x cs) ≡ option_map number_of l
 last_is cs x None whole none = ap (λ (k : ℕ). last_item (take k cs)) none
 last_is cs x (Some g) whole s =
     ap (λ ds. last_item (take x ds)) (sym whole)
@@ -108,13 +108,13 @@ first_in vs us v ws y from e is lo hi =
     ∙ (ap first_item (drop-cells us v ws y (omega (arith, is, lo)) (omega (arith, is, hi)))
     ∙ begins (view_from v (y - frames_in us)) (cells_of ws) (omega (arith, is, lo, hi)))
 
-first_is : (cs : List Cell) (y : ℕ) (r : Option Held) → cells_of (items_of cs) ≡ cs → StandsFrom cs y r → first_item (drop y cs) ≡ option_map number_of r
+first_is : (cs : List Cell) (y : ℕ) (r : Option ItemAt) → cells_of (items_of cs) ≡ cs → StandsFrom cs y r → first_item (drop y cs) ≡ option_map number_of r
 first_is cs y None whole past = ap first_item (drop_all y cs past)
 first_is cs y (Some g) whole s =
     ap (λ ds. first_item (drop y ds)) (sym whole)
     ∙ first_in (items_of cs) (take g.index (items_of cs)) g.view (drop (suc g.index) (items_of cs)) y g.from (split-at (items_of cs) g.index g.view s.read) s.from s.begins s.ends
 
-across_is : (l r : Option Held) → across (option_map number_of l) (option_map number_of r) ≡ split_between l r
+across_is : (l r : Option ItemAt) → across (option_map number_of l) (option_map number_of r) ≡ split_between l r
 across_is None r = refl
 across_is (Some g) None = refl
 across_is (Some g) (Some h) = refl
@@ -151,15 +151,15 @@ cells-spliced keep cs x y fresh s views whole h a le seams =
     ∙ sym (spliced-steps keep cs x y (cells_of views) fresh le))))
 
 -- the numbers
-front_below : (keep : Bool) (n : ℕ) (cs : List Cell) (x : ℕ) (l : Option Held) → EndsAt cs x l → NumbersBelow n (items_of cs) → NumbersBelow n (front_views keep l x)
+front_below : (keep : Bool) (n : ℕ) (cs : List Cell) (x : ℕ) (l : Option ItemAt) → EndsAt cs x l → NumbersBelow n (items_of cs) → NumbersBelow n (front_views keep l x)
 front_below keep n cs x None e b = tt
 front_below keep n cs x (Some g) s b = (below-read n (items_of cs) g.index g.view s.1.read b, tt)
 
-after_below : (keep : Bool) (n : ℕ) (vs : List ItemView) (h : Held) (o : Option ItemView) (y : ℕ) → o ≡ slice_get vs (h.index + 1) → NumbersBelow n vs → NumbersBelow n (after_views keep (Some h) o y)
+after_below : (keep : Bool) (n : ℕ) (vs : List ItemView) (h : ItemAt) (o : Option ItemView) (y : ℕ) → o ≡ slice_get vs (h.index + 1) → NumbersBelow n vs → NumbersBelow n (after_views keep (Some h) o y)
 after_below keep n vs h None y e b = tt
 after_below keep n vs h (Some w) y e b = (below-read n vs (h.index + 1) w (sym e) b, tt)
 
-back_next : (keep : Bool) (n fresh : ℕ) (cs : List Cell) (y : ℕ) (l r : Option Held) (o : Option ItemView) → n ≤ fresh → StandsFrom cs y r → o ≡ view_after (items_of cs) r → NumbersBelow n (items_of cs)
+back_next : (keep : Bool) (n fresh : ℕ) (cs : List Cell) (y : ℕ) (l r : Option ItemAt) (o : Option ItemView) → n ≤ fresh → StandsFrom cs y r → o ≡ view_after (items_of cs) r → NumbersBelow n (items_of cs)
     → next_past_all fresh (back_views r y (split_between l r) fresh ++ after_views keep r o y) ≡ after_split (split_between l r) fresh
 back_next keep n fresh cs y l None o le s e b = sym (ap (λ (p : Option ℕ). after_split p fresh) (split-none l))
 back_next keep n fresh cs y l (Some g) o le s e b =
@@ -181,7 +181,7 @@ next-spliced keep n cs x y s views whole b le seams =
     ∙ (back_next keep n fresh cs y s.left s.right s.after (next-rises n views) seams.right seams.after b
     ∙ sym (next-splice cs x y fresh split (split_is cs x y s whole le seams))))
 
-back_below : (keep : Bool) (n fresh m : ℕ) (cs : List Cell) (y : ℕ) (l r : Option Held) (o : Option ItemView) → n ≤ m → fresh < m → StandsFrom cs y r → o ≡ view_after (items_of cs) r → NumbersBelow n (items_of cs)
+back_below : (keep : Bool) (n fresh m : ℕ) (cs : List Cell) (y : ℕ) (l r : Option ItemAt) (o : Option ItemView) → n ≤ m → fresh < m → StandsFrom cs y r → o ≡ view_after (items_of cs) r → NumbersBelow n (items_of cs)
     → NumbersBelow m (back_views r y (split_between l r) fresh ++ after_views keep r o y)
 back_below keep n fresh m cs y l None o le lt s e b = tt
 back_below keep n fresh m cs y l (Some g) o le lt s e b = (
@@ -196,15 +196,15 @@ below-parts keep n fresh m cs x y s views le lt seams b new =
     (back_below keep n fresh m cs y s.left s.right s.after le lt seams.right seams.after b)
 
 -- none is empty
-front_filled : (keep : Bool) (cs : List Cell) (x : ℕ) (l : Option Held) → EndsAt cs x l → AllFilled (front_views keep l x)
+front_filled : (keep : Bool) (cs : List Cell) (x : ℕ) (l : Option ItemAt) → EndsAt cs x l → AllFilled (front_views keep l x)
 front_filled keep cs x None e = tt
 front_filled keep cs x (Some g) s = (omega (arith, s.0, s.1.begins), tt)
 
-after_filled : (keep : Bool) (vs : List ItemView) (h : Held) (o : Option ItemView) (y : ℕ) → o ≡ slice_get vs (h.index + 1) → EachHolds vs → AllFilled (after_views keep (Some h) o y)
+after_filled : (keep : Bool) (vs : List ItemView) (h : ItemAt) (o : Option ItemView) (y : ℕ) → o ≡ slice_get vs (h.index + 1) → EachHolds vs → AllFilled (after_views keep (Some h) o y)
 after_filled keep vs h None y e k = tt
 after_filled keep vs h (Some w) y e k = ((holds-read vs (h.index + 1) w (sym e) k).0.filled, tt)
 
-back_filled : (keep : Bool) (fresh : ℕ) (cs : List Cell) (y : ℕ) (l r : Option Held) (o : Option ItemView) → StandsFrom cs y r → o ≡ view_after (items_of cs) r → EachHolds (items_of cs)
+back_filled : (keep : Bool) (fresh : ℕ) (cs : List Cell) (y : ℕ) (l r : Option ItemAt) (o : Option ItemView) → StandsFrom cs y r → o ≡ view_after (items_of cs) r → EachHolds (items_of cs)
     → AllFilled (back_views r y (split_between l r) fresh ++ after_views keep r o y)
 back_filled keep fresh cs y l None o s e h = tt
 back_filled keep fresh cs y l (Some g) o s e h =

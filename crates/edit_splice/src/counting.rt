@@ -10,7 +10,7 @@ ghost use Rattle.edit_splice.specs.Parts.{AreSeams};
 ghost use Rattle.edit_splice.specs.Splicing.{spliced_track};
 
 use crate::parts::{renumbered, split_between};
-use crate::seams::{Held, Seams, seams_of};
+use crate::seams::{ItemAt, Seams, seams_of};
 use composables::{ItemView, Track, a_track_is_kept, number_past_all};
 use frame_meaning::same_item;
 use std::sync::ledger::Ledger;
@@ -41,7 +41,7 @@ pub fn count_after<L: Ledger>(
     count_at(track, &seams, x, y, items, steps)
 }
 
-/// The same where it is known what stands at the ends of the range.
+/// The count of `count_after`, where it is known what stands at the ends of the range.
 pub(crate) fn count_at<L: Ledger>(
     track: &Track,
     seams: &Seams,
@@ -73,6 +73,7 @@ pub(crate) fn count_at<L: Ledger>(
     total(count_by(seams.left), between, past)
 }
 
+// The items and gaps of the whole track: those before the range, those that begin in it, and those past it.
 fn total(before: u32, between: usize, past: u32) -> u32
     requires { before + between + past < 2 ^ 32 }
     ensures { result ≡ before + between + past }
@@ -80,7 +81,8 @@ fn total(before: u32, between: usize, past: u32) -> u32
     (before as usize + between + past as usize) as u32
 }
 
-fn number_of(held: Option<Held>) -> Option<Option<u32>>
+// The item number of what stands at an end of the range, if something does; a gap has no number.
+fn number_of(held: Option<ItemAt>) -> Option<Option<u32>>
     ensures { result ≡ number_of held }
 {
     match held {
@@ -90,7 +92,7 @@ fn number_of(held: Option<Held>) -> Option<Option<u32>>
 }
 
 // How many items and gaps there are up to this one.
-fn count_by(held: Option<Held>) -> u32
+fn count_by(held: Option<ItemAt>) -> u32
     requires { count_by held < 2 ^ 32 }
     ensures { result ≡ count_by held }
 {
@@ -100,8 +102,8 @@ fn count_by(held: Option<Held>) -> u32
     }
 }
 
-// How many there are after it.
-fn count_past(held: Option<Held>, count: u32) -> u32
+// How many of `count` items and gaps there are after this one.
+fn count_past(held: Option<ItemAt>, count: u32) -> u32
     requires { count_by held ≤ count }
     ensures { result ≡ count_past held count }
 {
@@ -111,8 +113,8 @@ fn count_past(held: Option<Held>, count: u32) -> u32
     }
 }
 
-// The number of the part behind the range, if there is one.
-fn back_number(held: Option<Held>, split: Option<u32>, fresh: u32) -> Option<Option<u32>>
+// The number of the part after the range, if there is one.
+fn back_number(held: Option<ItemAt>, split: Option<u32>, fresh: u32) -> Option<Option<u32>>
     ensures { result ≡ back_number held split fresh }
 {
     match held {
@@ -121,7 +123,7 @@ fn back_number(held: Option<Held>, split: Option<u32>, fresh: u32) -> Option<Opt
     }
 }
 
-// How many of these, and of the one behind them, do not belong to the one before.
+// How many of these, and of the one after them, do not belong to the one before.
 fn begun<L: Ledger>(
     before: Option<Option<u32>>,
     items: &[ItemView],
@@ -146,6 +148,7 @@ fn begun<L: Ledger>(
     }
 }
 
+// Whether what has this number belongs to the item or gap before it: what meets with one number, or dark, is one.
 fn belongs(before: Option<Option<u32>>, number: Option<u32>) -> bool
     ensures { result ≡ belongs before number }
 {

@@ -25,7 +25,7 @@ impl Model for Few {
 }
 
 impl Few {
-    /// A gap of so many frames, if there are any, and behind it an item, if there is one.
+    /// A gap of so many frames, if there are any, and after it an item, if there is one.
     pub fn of(dark: u32, item: Option<ItemView>) -> Few
         ensures { result ≡ gap_views dark ++ new_views item }
     {
@@ -46,7 +46,7 @@ impl Few {
         }
     }
 
-    /// Them, in order.
+    /// The items and gaps, in order.
     pub fn as_slice(&self) -> &[ItemView]
         ensures { result.now ≡ self.now }
     {

@@ -12,7 +12,7 @@ pub fn a_good_track_stays_good()
 {}
 
 /// Within the limits a track that is good in a table is good in it also with items put in that stood within the range,
-/// where the item or gap that ends at it goes on, and where the one that begins behind it reaches back.
+/// where the item or gap that ends at it goes on, and where the one that begins after it reaches back.
 pub fn a_good_track_takes_parts()
     ensures parts { GoodTakesParts }
     ensures new { NewMayBePutIn }
@@ -28,7 +28,7 @@ pub fn an_unlinked_track_stays_unlinked()
     ensures { UnlinkedStaysUnlinked }
 {}
 
-/// A splice leaves the frames before the range, those put in, and those behind it.
+/// A splice leaves the frames before the range, those put in, and those after it.
 pub fn a_spliced_track_is_as_long_as_its_parts()
     ensures { LengthsAdd }
 {}

@@ -1,11 +1,11 @@
 //! A splice of a track with its dissolves: items in place of a range of record frames.
 //!
 //! The main contract is that of `splice`: the track has the cells of `spliced` of frame_meaning and the next item
-//! number that goes with them; for want of memory it is as it was. `count_after` tells beforehand how many items and
-//! gaps there will be. They work on the few items at the two ends of the range. The laws say what may be put in.
+//! number that goes with them; out of memory, it is as it was. `count_after` tells beforehand how many items and gaps
+//! there will be. They work on the few items at the two ends of the range. The laws say what may be put in.
 //!
-//! Edits stand on `place`, a splice of one track within its limits, and on `shift_tracks`, a splice of several tracks by
-//! which what is behind it moves on each: it changes all of them or none. `over_limits` and `shifted` are its two
+//! Edits stand on `place`, a splice of one track within its limits, and on `shift_tracks`, a splice of several tracks
+//! by which what is after it moves on each: it changes all of them or none. `over_limits` and `shifted` are its two
 //! halves, the refusal and the change.
 #![tactic(auto)]
 

@@ -3,7 +3,7 @@ ghost use Rattle.std.specs.Prelude.{◌≡◌, ◌+◌, ◌-◌, ◌<◌, ◌≤
 ghost use Rattle.frame_meaning.specs.Cells.{same_number};
 ghost use Rattle.edit_splice.specs.Parts.{after_views, back_views, begins_by, end_index, first_index, front_views, kept_before, kept_behind, parts_between, renumbered_view, reaches_past, split_between};
 
-use crate::seams::{Held, Seams};
+use crate::seams::{ItemAt, Seams};
 use composables::{ItemView, Memory};
 use frame_meaning::{Mark, same_item};
 use std::alloc::Global;
@@ -33,8 +33,8 @@ pub fn parts_between(
     Ok(parts)
 }
 
-/// The index of the first item or gap that is replaced.
-pub fn first_index(left: Option<Held>) -> u32
+/// The index of the first item or gap that is replaced: that of the one before the range, or 0.
+pub fn first_index(left: Option<ItemAt>) -> u32
     ensures { result ≡ first_index left }
 {
     match left {
@@ -43,7 +43,7 @@ pub fn first_index(left: Option<Held>) -> u32
     }
 }
 
-/// The index behind the last that is replaced, of this many.
+/// The index after the last that is replaced, where the track has `count` items and gaps.
 pub fn end_index(seams: &Seams, count: u32) -> u32
     requires { end_index seams.now count ≤ count }
     ensures { result ≡ end_index seams.now count }
@@ -56,7 +56,7 @@ pub fn end_index(seams: &Seams, count: u32) -> u32
 }
 
 /// The number of the item that stands on both sides, if one item does.
-pub fn split_between(left: Option<Held>, right: Option<Held>) -> Option<u32>
+pub fn split_between(left: Option<ItemAt>, right: Option<ItemAt>) -> Option<u32>
     ensures { result ≡ split_between left right }
 {
     let left = left?;
@@ -68,10 +68,10 @@ pub fn split_between(left: Option<Held>, right: Option<Held>) -> Option<u32>
     }
 }
 
-// Puts the part before x behind others, with its dissolve as far as that is kept.
+// Adds what the item or gap at x has before x, if there is one, with its dissolve as far as that is kept.
 fn push_front(
     parts: &mut Vec<ItemView>,
-    left: Option<Held>,
+    left: Option<ItemAt>,
     x: u32,
     keep: bool,
 ) -> Result<(), Memory>
@@ -93,7 +93,7 @@ fn push_front(
     Ok(())
 }
 
-// A dissolve whose cut stands so many frames before a range.
+// What is kept of a dissolve whose cut stands so many frames before the range.
 fn mark_before(keep: bool, frames: u32, mark: Option<Mark>) -> Option<Mark>
     ensures { result ≡ kept_before keep frames mark }
 {
@@ -107,10 +107,10 @@ fn mark_before(keep: bool, frames: u32, mark: Option<Mark>) -> Option<Mark>
     }
 }
 
-// And the part from y on, without a dissolve at the seam.
+// Adds what the item or gap at y has from y on, if there is one, without a dissolve at the seam.
 fn push_back(
     parts: &mut Vec<ItemView>,
-    right: Option<Held>,
+    right: Option<ItemAt>,
     y: u32,
     split: Option<u32>,
     fresh: u32,
@@ -138,10 +138,10 @@ pub fn renumbered(view: &ItemView, split: Option<u32>, fresh: u32) -> ItemView
     }
 }
 
-// And the one after it, with its dissolve as far as that is kept.
+// Adds the item or gap after the one at y, if there is one, with its dissolve as far as that is kept.
 fn push_after(
     parts: &mut Vec<ItemView>,
-    right: Option<Held>,
+    right: Option<ItemAt>,
     after: Option<ItemView>,
     y: u32,
     keep: bool,
@@ -159,7 +159,7 @@ fn push_after(
     Ok(())
 }
 
-// One whose cut stands so many frames behind it.
+// What is kept of a dissolve whose cut stands so many frames after the range.
 fn mark_behind(keep: bool, frames: u32, mark: Option<Mark>) -> Option<Mark>
     ensures { result ≡ kept_behind keep frames mark }
 {

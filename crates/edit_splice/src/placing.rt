@@ -16,9 +16,9 @@ use std::alloc::Global;
 use std::sync::ledger::Ledger;
 use step_count::Steps;
 
-/// Puts at most two new items and gaps in place of the record frames [x, y) of a track, which is not too long with them;
-/// dissolves beside it are kept as far as there is room, or not.
-/// It answers `done`, or `TooManyItems` where the track would have too many items and gaps; then, and for want of memory,
+/// Puts at most two new items and gaps in place of the record frames [x, y) of a track, which is not too long with
+/// them; dissolves beside it are kept as far as there is room, or not.
+/// It answers `done`, or `TooManyItems` where the track would have too many items and gaps; then, and out of memory,
 /// the track is as it was.
 pub fn place<L: Ledger>(
     alloc: Global,
@@ -30,16 +30,22 @@ pub fn place<L: Ledger>(
     done: Done,
     steps: &mut Steps<L>,
 ) -> Result<Done, EditFault>
+    // [x, y) is a range of the track, and the track is within its limits.
     requires order { x ≤ y }
     requires within { y ≤ length track.old.cells }
     requires kept { IsKept track.old }
     requires roomy { IsRoomy track.old }
     requires frames { length track.old.cells ≤ MAX_FRAMES }
+
+    // What is put in is new and little, and with it the track is not too long.
     requires few { length items.now ≤ 2 }
     requires new { AreNew track.old.next_item items.now }
     requires numbers { NumbersBelow (track.old.next_item + 1) items.now }
     requires short { x + frames_in items.now + (length track.old.cells - y) ≤ MAX_FRAMES }
-    ensures answers { Answers (placed keep track.old x y items.now done) track.old track.new result }
+
+    // The track and the answer are those of the splice within the limits, in steps by the items of the track.
+    ensures answers { Answers (placed keep track.old x y items.now done)
+        track.old track.new result }
     ensures least { steps.old ≤ steps.new }
     ensures most { steps.new ≤ steps.old + 16 * size_of track.old }
 {

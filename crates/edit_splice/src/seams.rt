@@ -10,18 +10,18 @@ use step_count::Steps;
 
 /// An item or gap of a track, its index, and the record frame at which it begins.
 #[derive(Clone, Copy)]
-pub struct Held {
+pub struct ItemAt {
     pub index: u32,
     pub from: u32,
     pub view: ItemView,
 }
 
-/// What stands at the ends of a range: the item or gap of the last frame before it, if there is one; that of the
-/// first frame behind it, if there is one; and the one after that.
+/// What stands at the ends of a range: the item or gap of the last frame before it, if there is one; that of the first
+/// frame after it, if there is one; and the one after that.
 #[derive(Clone, Copy)]
 pub struct Seams {
-    pub left: Option<Held>,
-    pub right: Option<Held>,
+    pub left: Option<ItemAt>,
+    pub right: Option<ItemAt>,
     pub after: Option<ItemView>,
 }
 
@@ -39,7 +39,8 @@ pub fn seams_of<L: Ledger>(track: &Track, x: u32, y: u32, steps: &mut Steps<L>) 
     Seams { left, right, after }
 }
 
-fn last_before<L: Ledger>(track: &Track, x: u32, steps: &mut Steps<L>) -> Option<Held>
+// The item or gap of the last frame before `x`, if there is one.
+fn last_before<L: Ledger>(track: &Track, x: u32, steps: &mut Steps<L>) -> Option<ItemAt>
     requires { x ≤ length track.now.cells }
     ensures ends { EndsAt track.now.cells x result }
     ensures least { steps.old ≤ steps.new }
@@ -51,7 +52,8 @@ fn last_before<L: Ledger>(track: &Track, x: u32, steps: &mut Steps<L>) -> Option
     held_at(track, x - 1, steps)
 }
 
-fn first_from<L: Ledger>(track: &Track, y: u32, steps: &mut Steps<L>) -> Option<Held>
+// The item or gap of the frame `y`, if the track has it.
+fn first_from<L: Ledger>(track: &Track, y: u32, steps: &mut Steps<L>) -> Option<ItemAt>
     ensures stands { StandsFrom track.now.cells y result }
     ensures least { steps.old ≤ steps.new }
     ensures most { steps.new ≤ steps.old + look_of track.now }
@@ -60,7 +62,7 @@ fn first_from<L: Ledger>(track: &Track, y: u32, steps: &mut Steps<L>) -> Option<
 }
 
 // The item or gap that holds a place.
-fn held_at<L: Ledger>(track: &Track, at: u32, steps: &mut Steps<L>) -> Option<Held>
+fn held_at<L: Ledger>(track: &Track, at: u32, steps: &mut Steps<L>) -> Option<ItemAt>
     ensures stands { IfSome result (λ h. Stands (items_of track.now.cells) at h) }
     ensures none { IsNone result → length track.now.cells ≤ at }
     ensures least { steps.old ≤ steps.new }
@@ -68,14 +70,15 @@ fn held_at<L: Ledger>(track: &Track, at: u32, steps: &mut Steps<L>) -> Option<He
 {
     let place = track.item_at(at, steps)?;
     let view = track.item(place.index)?;
-    Some(Held {
+    Some(ItemAt {
         index: place.index,
         from: place.from,
         view,
     })
 }
 
-fn item_after(track: &Track, held: Option<Held>) -> Option<ItemView>
+// The item or gap that follows this one, if one does.
+fn item_after(track: &Track, held: Option<ItemAt>) -> Option<ItemView>
     requires { IfSome held (λ h. h.index < length (items_of track.now.cells)) }
     ensures { result ≡ view_after (items_of track.now.cells) held }
 {

@@ -1,4 +1,4 @@
-// A shift of several tracks: something new in place of their places [x, y), by which what is behind them moves.
+// A shift of several tracks: something new in place of their places [x, y), by which what is after them moves.
 ghost use Rattle.std.specs.Prelude.{◌≡◌, ◌+◌, ◌*◌, ◌-◌, ◌<◌, ◌≤◌, All, IfOk, None, length, option_map};
 ghost use Rattle.composables.specs.declared.refusals.Refusal.TheVariants.{TooLong, TooManyItems};
 ghost use Rattle.composables.specs.Items.{items_of};
@@ -28,8 +28,8 @@ pub struct Shift {
     pub keep: bool,
 }
 
-/// Shifts all these tracks, or none: the first that would be too long, and else the first that would have too many
-/// items and gaps, is told, and want of memory, before one of them is changed.
+/// Shifts all these tracks, or none. Before one of them is changed it tells the first that would be too long, or else
+/// the first that would have too many items and gaps, or that there is no memory.
 pub fn shift_tracks<L: Ledger>(
     alloc: Global,
     named: &mut Vec<Track>,
@@ -93,6 +93,7 @@ pub fn shifted<L: Ledger>(
     all_moved(alloc, named, shift, steps)
 }
 
+// The number of the first track that would have more than `MAX_FRAMES` frames after the shift.
 fn first_too_long(named: &[Track], shift: &Shift) -> Option<u32>
     requires order { shift.now.x ≤ shift.now.y }
     ensures { too_long (all_moved shift.now named.now) ≡ option_map TooLong result }
@@ -131,7 +132,8 @@ pub fn new_len(new: Option<ItemView>) -> u32
     }
 }
 
-// What is put into a track.
+// What the shift puts into a track: its new item on the own one, after dark frames where that is shorter, and as many
+// dark frames on another that has the place.
 fn put_views(track: &Track, shift: &Shift) -> Few
     ensures { result ≡ put_views shift.now track.now }
 {
@@ -145,6 +147,7 @@ fn put_views(track: &Track, shift: &Shift) -> Few
     }
 }
 
+// The number of the first track that would have more than `MAX_ITEMS` items and gaps after the shift.
 fn first_too_many<L: Ledger>(named: &[Track], shift: &Shift, steps: &mut Steps<L>) -> Option<u32>
     requires order { shift.now.x ≤ shift.now.y }
     requires fits { All (λ t. IsShiftOf shift.now t) named.now }

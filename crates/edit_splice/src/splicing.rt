@@ -44,9 +44,9 @@ pub fn splice<L: Ledger>(
     splice_by(alloc, track, x, y, false, items, steps)
 }
 
-/// The same, but that dissolves beside the range stay as far as it leaves them room: one whose cut is before x ends by
-/// x at the latest, and one whose cut is past y begins at y at the earliest. One whose cut is within the range or at an
-/// end of it is dropped.
+/// Puts items in place of the record frames [x, y) as `splice` does, but dissolves beside the range stay as far as it
+/// leaves them room: one whose cut is before x ends by x at the latest, and one whose cut is past y begins at y at the
+/// earliest. One whose cut is within the range or at an end of it is dropped.
 pub fn splice_keeping<L: Ledger>(
     alloc: Global,
     track: &mut Track,
@@ -97,7 +97,7 @@ pub(crate) fn splice_by<L: Ledger>(
     splice_at(alloc, track, &seams, x, y, keep, items, steps)
 }
 
-// The same where it is known what stands at the ends of the range.
+// The splice of `splice_by`, where it is known what stands at the ends of the range.
 pub(crate) fn splice_at<L: Ledger>(
     alloc: Global,
     track: &mut Track,
@@ -108,15 +108,22 @@ pub(crate) fn splice_at<L: Ledger>(
     items: &[ItemView],
     steps: &mut Steps<L>,
 ) -> Result<(), Memory>
+    // [x, y) is a range of the track, with these items and gaps at its ends.
     requires seams { AreSeams track.old.cells x y seams.now }
     requires order { x ≤ y }
     requires within { y ≤ length track.old.cells }
+
+    // There is a number left for an item that is cut in two, and what the splice leaves is a track.
     requires next { track.old.next_item < 4294967294 }
     requires filled { AllFilled items.now }
     requires numbers { NumbersBelow 4294967294 items.now }
     requires kept { IsKept (spliced_track keep track.old x y items.now) }
+
+    // The track is spliced, or as it was where memory runs out.
     ensures ok { OnOk result (track.new ≡ spliced_track keep track.old x y items.now) }
     ensures err { OnErr result (track.new ≡ track.old) }
+
+    // It looks at what is put in and at the ends of the range alone.
     ensures least { steps.old ≤ steps.new }
     ensures most { steps.new ≤ steps.old + look_of track.old + length items.now + 3 }
 {

@@ -28,7 +28,7 @@ pub struct SlipRoom {
 }
 
 /// Adds one delta to the source frames of all that has the link on these tracks, which must be all tracks of the link.
-/// For want of memory the tracks are as they were.
+/// Out of memory, the tracks are as they were.
 pub fn slip_linked<L: Ledger>(
     alloc: Global,
     table: &Table,
@@ -78,7 +78,7 @@ fn room_among<L: Ledger>(
     room
 }
 
-// The same on one of the tracks.
+// The room that suits all that has the link on this track.
 fn room_on<L: Ledger>(table: &Table, track: &Track, link: Link, steps: &mut Steps<L>) -> SlipRoom
     requires good { IsGood table.now track.now }
     ensures room { RoomOn table.now link (items_of track.now.cells) result }
@@ -102,6 +102,7 @@ fn room_on<L: Ledger>(table: &Table, track: &Track, link: Link, steps: &mut Step
     room
 }
 
+// The room that suits both: the lesser of each way.
 fn narrower(one: SlipRoom, other: SlipRoom) -> SlipRoom
     ensures earlier { result.earlier ≡ min one.earlier other.earlier }
     ensures later { result.later ≡ min one.later other.later }
@@ -148,7 +149,8 @@ fn move_all<L: Ledger>(
     Ok(())
 }
 
-// The same on one of the tracks. It reads the items of the track as it was while it changes some of them.
+// Moves the source frames of all that has the link on this track. It reads the items of the track as it was while it
+// changes some of them.
 fn move_on<L: Ledger>(
     alloc: Global,
     table: &Table,

@@ -1,4 +1,4 @@
-// Ripple: an end of an item moved, and all that is behind it.
+// Ripple: an end of an item moved, and all that is after it.
 ghost use Rattle.std.specs.Prelude.{◌≡◌, ◌+◌, ◌-◌, ◌*◌, ◌<◌, ◌≤◌, ◌||◌, All, length, nat_eq, nat_lt, slice_get, true};
 ghost use Rattle.std.specs.List.{list_any};
 ghost use Rattle.composables.specs.declared.calls.End.TheVariants.{Head, Tail};
@@ -25,10 +25,11 @@ use std::alloc::Global;
 use std::sync::ledger::Ledger;
 use step_count::Steps;
 
-/// Moves the head or the tail of an item of its own track by the delta used, and all that is behind the item as much,
-/// on all named tracks that have the place. Where the item grows, dark frames are put into the other tracks; where it
+/// Moves the head or the tail of an item of its own track by the delta used, and all that is after the item as much, on
+/// all named tracks that have the place. Where the item grows, dark frames are put into the other tracks; where it
 /// gives frames up, they lose the frames at those places. A positive delta is later. The item keeps a frame, its source
-/// stays in its range, and no named track becomes too long. What is moved gets new links where others of its links stay.
+/// stays in its range, and no named track becomes too long. What is moved gets new links where others of its links
+/// stay.
 ///
 /// It answers the delta used, or the first of these refusals that holds: `NoItem`; `LinkOutside` of the least link of
 /// what is moved that has a track which is not named; and `TooManyItems` of the first named track for which it holds.
@@ -60,7 +61,7 @@ pub fn ripple<L: Ledger>(
     }
 }
 
-// The same, where the own track stands at an index.
+// Ripples the item, where its own track stands at this index among the named ones.
 fn ripple_at<L: Ledger>(
     alloc: Global,
     table: &Table,
@@ -154,7 +155,7 @@ fn head_rippled(table: &Table, call: &Ripple, found: Place, view: &ItemView, roo
     }
 }
 
-// And of its tail.
+// A ripple of the tail of the item at a place, where the named tracks have room for so many frames more.
 fn tail_rippled(table: &Table, call: &Ripple, found: Place, view: &ItemView, room: u32) -> Rippled
     requires whole { IsWhole table.now view.now }
     requires long { found.to ≡ found.from + view.now.len }
@@ -193,7 +194,7 @@ fn head_shift(own: u32, found: Place, view: &ItemView, way: Way) -> Option<Shift
     }
 }
 
-// The shift by which its tail does.
+// The shift by which the tail of the item at a place moves so.
 fn tail_shift(own: u32, found: Place, view: &ItemView, way: Way) -> Option<Shift>
     requires { CanShift Tail found view.now way }
     ensures { result ≡ shift_by own Tail found view.now way }
@@ -242,6 +243,7 @@ fn room_of(track: &Track, own: u32, place: u32) -> u32
     }
 }
 
+// Whether a track grows at a place: the own one always, another where it has the place.
 fn grows_at(track: &Track, own: u32, place: u32) -> bool
     ensures { result ≡ (nat_eq track.now.number own || nat_lt place (length track.now.cells)) }
 {

@@ -1,5 +1,5 @@
 // Slip: the source frames of an item moved, with those of all that has its link.
-ghost use Rattle.std.specs.Prelude.{◌≡◌, ◌+◌, ◌-◌, ◌*◌, ◌<◌, ◌≤◌, All, Some, length, nat_eq, slice_get, true};
+ghost use Rattle.std.specs.Prelude.{◌≡◌, ◌+◌, ◌-◌, ◌*◌, ◌<◌, ◌≤◌, All, IfSome, Some, length, nat_eq, option_map, slice_get, true};
 ghost use Rattle.std.specs.List.{list_any};
 ghost use Rattle.frame_meaning.specs.Cells.{later_side};
 ghost use Rattle.out_of_memory.specs.Answers.{Answers};
@@ -7,6 +7,7 @@ ghost use Rattle.composables.specs.Good.{IsGood, SideLiesIn};
 ghost use Rattle.composables.specs.Items.{items_of};
 ghost use Rattle.composables.specs.OwnTracks.{numbers_of, track_numbered};
 ghost use Rattle.composables.specs.Places.{IsPlaceOf};
+ghost use Rattle.composables.specs.Ranges.{range_of, HasNumber};
 ghost use Rattle.composables.specs.Sizes.{size_of, sizes_of};
 ghost use Rattle.composables.specs.TrackFacts.{HasSource, left_reach, right_reach};
 ghost use Rattle.composables.specs.TrackSets.{tracks_in};
@@ -18,14 +19,14 @@ use crate::linked_slips::slip_linked;
 use composables::{Done, EditFault, ItemView, Place, Refusal, Slip, Table, Track, own_index};
 use edit_delta::{Way, used_within};
 use frame_meaning::{Mark, Side};
-use link_groups::link_of;
+use link_groups::{FoundItem, item_with_link};
 use std::alloc::Global;
 use std::sync::ledger::Ledger;
 use step_count::Steps;
 
 /// Adds the delta used to the source frames of an item of its own track and, where it has a link, of all items of the
 /// link on the named tracks. All stay where they are, by one delta that suits each of them. A dissolve at their ends
-/// stays, and the frames that it shows past them stay in the thing's range too. For want of memory the tracks are as they
+/// stays, and the frames that it shows past them stay in the thing's range too. Out of memory, the tracks are as they
 /// were.
 ///
 /// It answers the delta used, or the first of these refusals that holds: `NoItem`, where its own track has no such item;
@@ -57,7 +58,7 @@ pub fn slip<L: Ledger>(
     }
 }
 
-// The same, where the own track stands at an index.
+// Slips the item, or all that has its link, where its own track stands at this index among the named ones.
 fn slip_at<L: Ledger>(
     alloc: Global,
     table: &Table,
@@ -77,39 +78,67 @@ fn slip_at<L: Ledger>(
     ensures least { steps.old ≤ steps.new }
     ensures most { steps.new ≤ steps.old + 4 * sizes_of named.old.items }
 {
-    match link_of(&named[index], call.item, steps) {
+    let (found, link) = item_with_link(&named[index], call.item, steps);
+    match link {
         Some(link) => slip_linked(alloc, table, named, link, call.by, steps),
-        None => slip_track(alloc, table, &mut named[index], call, steps),
+        None => slip_track(alloc, table, &mut named[index], found, call),
     }
 }
 
-// The same of an item alone.
-fn slip_track<L: Ledger>(
+// Slips an item without a link, which was looked for on its track.
+fn slip_track(
     alloc: Global,
     table: &Table,
     track: &mut Track,
+    found: Option<FoundItem>,
     call: &Slip,
-    steps: &mut Steps<L>,
 ) -> Result<Done, EditFault>
     requires good { IsGood table.now track.old }
+    requires read { IfSome found (λ f. slice_get (items_of track.old.cells) f.index ≡ Some f.view) }
+    requires place { IfSome found (λ f. IsPlaceOf track.old.cells
+        (record { index = f.index; from = f.from; to = f.to })) }
+    requires has { IfSome found (λ f. HasNumber (items_of track.old.cells) f.index call.now.item) }
+    requires range { range_of track.old.cells call.now.item
+        ≡ option_map (λ f. (f.from, f.to)) found }
     ensures answers { Answers (slip_track table.now call.now track.old) track.old track.new result }
     ensures good { StaysGood table.now track.old track.new }
-    ensures least { steps.old ≤ steps.new }
-    ensures most { steps.new ≤ steps.old + size_of track.old }
 {
-    let Some(found) = track.item_by_id(call.item, steps) else {
-        return Err(EditFault::Refused(Refusal::NoItem));
-    };
-    let Some(view) = track.item(found.index) else {
-        unreachable!()
-    };
+    match found {
+        Some(found) => slip_found(alloc, table, track, found, call),
+        None => Err(EditFault::Refused(Refusal::NoItem)),
+    }
+}
+
+// Slips the item that was found, which has no link.
+fn slip_found(
+    alloc: Global,
+    table: &Table,
+    track: &mut Track,
+    found: FoundItem,
+    call: &Slip,
+) -> Result<Done, EditFault>
+    requires good { IsGood table.now track.old }
+    requires read { slice_get (items_of track.old.cells) found.index ≡ Some found.view }
+    requires place { IsPlaceOf track.old.cells
+        (record { index = found.index; from = found.from; to = found.to }) }
+    requires has { HasNumber (items_of track.old.cells) found.index call.now.item }
+    requires range { range_of track.old.cells call.now.item ≡ Some (found.from, found.to) }
+    ensures answers { Answers (slip_track table.now call.now track.old) track.old track.new result }
+    ensures good { StaysGood table.now track.old track.new }
+{
+    let view = found.view;
     let Side::Pic { source, .. } = view.first else {
         unreachable!()
     };
-    slip_item(alloc, table, track, found, &view, source, call.by)
+    let place = Place {
+        index: found.index,
+        from: found.from,
+        to: found.to,
+    };
+    slip_item(alloc, table, track, place, &view, source, call.by)
 }
 
-// The same of the item at a place, whose source frames begin at this one.
+// Slips the item at a place, whose source frames begin at this one.
 fn slip_item(
     alloc: Global,
     table: &Table,
@@ -170,6 +199,7 @@ pub fn room_later(table: &Table, view: &ItemView, tail: Option<Mark>) -> u32
     }
 }
 
+// How many frames a dissolve has after its cut, and so shows past the tail of the item before it.
 pub(crate) fn right_reach(mark: Option<Mark>) -> u32
     ensures { result ≡ right_reach mark }
 {
@@ -179,7 +209,7 @@ pub(crate) fn right_reach(mark: Option<Mark>) -> u32
     }
 }
 
-/// How many source frames earlier.
+/// How many source frames earlier an item may show its thing, with the dissolve at its head.
 pub fn room_earlier(table: &Table, view: &ItemView) -> u32
     requires lies { SideLiesIn table.now view.now.first view.now.len (left_reach view.now.mark) 0 }
     ensures { AreUpTo (may_slip_earlier table.now view.now.first view.now.mark) result }
@@ -193,6 +223,7 @@ pub fn room_earlier(table: &Table, view: &ItemView) -> u32
     }
 }
 
+// How many frames a dissolve has before its cut, and so shows ahead of the head of the item after it.
 pub(crate) fn left_reach(mark: Option<Mark>) -> u32
     ensures { result ≡ left_reach mark }
 {

@@ -50,7 +50,7 @@ pub fn trim<L: Ledger>(
     trim_track(alloc, table, &mut named[0], call, steps)
 }
 
-// The same on the track itself.
+// Moves the end of the item on the named track, or finds no such item.
 fn trim_track<L: Ledger>(
     alloc: Global,
     table: &Table,

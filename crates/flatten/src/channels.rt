@@ -39,6 +39,7 @@ pub fn flatten(alloc: Global, table: &Table, tracks: &[Track]) -> Result<Shown, 
     Ok(Shown { video, audio })
 }
 
+// The video tracks stacked into one channel, as its maximal runs.
 fn video_runs(
     alloc: Global,
     table: &Table,
@@ -54,6 +55,7 @@ fn video_runs(
     join_runs(alloc, strip.as_slice())
 }
 
+// Each audio track as a channel, as its maximal runs.
 fn audio_runs(
     alloc: Global,
     table: &Table,
@@ -68,6 +70,7 @@ fn audio_runs(
     join_each(alloc, strips.as_slice())
 }
 
+// The maximal runs of each of these channels.
 fn join_each(alloc: Global, strips: &[Listed<Run<u32>>]) -> Result<Listed<Listed<Run<u32>>>, Memory>
     requires fit { AllFit strips.now }
     requires short { AreBelow (2 ^ 32) (map frames_of strips.now) }
@@ -104,6 +107,7 @@ fn kind_strips(
     Ok(all)
 }
 
+// Whether the track at an index is of a kind, by the table's list of kinds.
 fn is_of_kind(table: &Table, index: usize, kind: Kind) -> bool
     ensures { result ≡ is_of_kind kind (slice_get table.now.kinds index) }
 {

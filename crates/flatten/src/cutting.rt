@@ -8,7 +8,7 @@ ghost use Rattle.flatten.specs.Strips.{frames_of};
 use frame_meaning::{Frame, Memory as NoMemory, Run, Side};
 use std::alloc::{AllocError, AllocFailed, Global};
 
-/// Dark frames, pictures of one reel, or a whole dissolve with what its incoming side shows behind it, all going on.
+/// Dark frames, pictures of one reel, or a whole dissolve with what its incoming side shows after it, all going on.
 #[derive(Clone, Copy, Debug, PartialEq, Eq)]
 pub struct Segment {
     /// The place of its first frame.
@@ -28,7 +28,7 @@ pub struct Segment {
 pub enum SegmentFault {
     /// A part of a dissolve is not seen; carries the place of the first of the frames that are.
     PartialDissolve(u32),
-    /// Want of memory.
+    /// Out of memory.
     Memory,
 }
 
@@ -38,14 +38,15 @@ impl From<NoMemory> for SegmentFault {
 
     ghost from_gives = { λ _ fault. fault ≡ Memory };
 
+    // The list of segments could not grow.
     fn from(_: NoMemory) -> Self {
         SegmentFault::Memory
     }
 }
 
 /// The one cutting of a channel into runs of dark frames, runs of pictures of one reel, and whole dissolves, each with
-/// the frames behind it in which its incoming side goes on; or the first dissolve of which only a part is seen. The
-/// runs are to be maximal.
+/// the frames after it in which its incoming side goes on; or the first dissolve of which only a part is seen. The runs
+/// are to be maximal.
 pub fn segments(alloc: Global, runs: &[Run<u32>]) -> Result<Vec<Segment>, SegmentFault>
     requires { CanBeCut runs.now }
     ensures segments { IfOk result (λ all. AreSegments all.items (frames_of runs.now)) }
@@ -62,6 +63,7 @@ pub fn segments(alloc: Global, runs: &[Run<u32>]) -> Result<Vec<Segment>, Segmen
     Ok(all)
 }
 
+// A run whose first frame stands at `at` as a segment, or `PartialDissolve` where it is only a part of a dissolve.
 fn segment_of(run: Run<u32>, at: u32) -> Result<Segment, SegmentFault>
     ensures segment { IfOk result (λ s. s ≡ segment_of at run.frame run.len) }
     ensures whole { OnOk result (is_whole run.frame run.len ≡ true) }
@@ -92,6 +94,7 @@ fn segment_of(run: Run<u32>, at: u32) -> Result<Segment, SegmentFault>
     }
 }
 
+// Dark frames or pictures that begin with this side, as a segment.
 fn without_dissolve(at: u32, len: u32, side: Side<u32>) -> Segment
     ensures { result ≡ record { at = at; len = len; from = None; frames = 0; side = side } }
 {
@@ -118,6 +121,7 @@ fn join(all: &mut Vec<Segment>, segment: Segment) -> Result<(), NoMemory>
     Ok(())
 }
 
+// Whether a segment is the same reel, or dark, and goes on from the last frame of the one before it.
 fn goes_on_in(last: &Segment, next: &Segment) -> bool
     ensures { result ≡ goes_on_in last.now next.now }
 {
@@ -136,6 +140,7 @@ fn goes_on_in(last: &Segment, next: &Segment) -> bool
     }
 }
 
+// Whether a source frame is the next after another and so many more.
 fn is_next(first: u32, more: u32, after: u32) -> bool
     ensures { result ≡ (after == first + more + 1) }
 {

@@ -38,7 +38,7 @@ impl Strip {
         Ok(Strip { runs, ends })
     }
 
-    /// The runs.
+    /// The runs, in order.
     pub fn as_slice(&self) -> &[Run<u32>]
         ensures { result.now ≡ self.now }
     {
@@ -56,6 +56,7 @@ impl Strip {
     }
 }
 
+// The place at which each run ends, which is where the next one begins.
 fn ends_of(alloc: Global, runs: &[Run<u32>]) -> Result<Listed<u32>, Memory>
     requires { length (frames_of runs.now) < 2 ^ 32 }
     ensures { IfOk result (λ ends. ends ≡ ends_of 0 runs.now) }
@@ -87,7 +88,7 @@ fn spot_in(ends: &[u32], place: u32) -> Spot
     Spot { index, used }
 }
 
-// The index of the first end behind a place.
+// The index of the first end after a place: that of the run which holds the place.
 fn first_behind(ends: &[u32], place: u32) -> usize
     ensures index { result ≤ length ends.now }
     ensures begun { begin_of 0 ends.now result ≤ place }
@@ -106,6 +107,7 @@ fn first_behind(ends: &[u32], place: u32) -> usize
     low
 }
 
+// The place at which the run with an index begins.
 fn begin_at(ends: &[u32], index: usize) -> u32
     requires { index ≤ length ends.now }
     ensures { result ≡ begin_of 0 ends.now index }

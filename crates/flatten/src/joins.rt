@@ -30,8 +30,8 @@ pub fn join_runs(alloc: Global, strip: &[Run<u32>]) -> Result<Listed<Run<u32>>, 
     }
 }
 
-// A run behind those so far, of which the last is held back: it is made longer where the run goes on from it, and else
-// it is added, and the run is held.
+// Adds a run after those so far, of which the last is held back: it is made longer where the run goes on from it, and
+// else it is added, and the run is held.
 fn add_run(
     all: &mut Listed<Run<u32>>,
     held: Option<Run<u32>>,

@@ -16,7 +16,7 @@ use dissolves::runs_in;
 use frame_meaning::{Frame, Memory, Run, Side, What};
 use std::alloc::Global;
 
-/// What each nest of a table shows, in order.
+/// What each nest of a table shows, in order. Only nests with lower numbers stand in a nest.
 pub fn nest_strips(alloc: Global, table: &Table) -> Result<Listed<Strip>, Memory>
     requires { AreSound table.now.nests }
     ensures { IfOk result (λ all. ShowEach all (frames_of_nests table.now)) }
@@ -29,6 +29,7 @@ pub fn nest_strips(alloc: Global, table: &Table) -> Result<Listed<Strip>, Memory
     Ok(all)
 }
 
+// What a nest shows, where those before it show these: its layers stacked, for as many frames as it has.
 fn nest_strip(alloc: Global, media: &[Media], nests: &[Strip], nest: &Nest) -> Result<Strip, Memory>
     requires fit { AllFit nests.now }
     requires layers { EachLiesInTrack nest.now.layers }
@@ -40,7 +41,7 @@ fn nest_strip(alloc: Global, media: &[Media], nests: &[Strip], nest: &Nest) -> R
     padded_strip(alloc, stacked.as_slice(), nest.length)
 }
 
-// The first frames of these runs, with dark frames behind them where there are fewer.
+// The first frames of these runs, with dark frames after them where there are fewer.
 fn padded_strip(alloc: Global, runs: &[Run<u32>], length: u32) -> Result<Strip, Memory>
     requires { AreFit runs.now }
     ensures { IfOk result (λ strip. Show strip (padded length (frames_of runs.now))) }
@@ -51,6 +52,7 @@ fn padded_strip(alloc: Global, runs: &[Run<u32>], length: u32) -> Result<Strip, 
     Ok(strip)
 }
 
+// What each of these layers shows of its track, in order.
 fn layer_strips(
     alloc: Global,
     media: &[Media],
@@ -91,6 +93,7 @@ pub fn strip_of(
     resolve_runs(alloc, media, nests, &shown)
 }
 
+// Runs of a track with media replaced by their reels, and nests by what they show.
 fn resolve_runs(
     alloc: Global,
     media: &[Media],
@@ -109,6 +112,7 @@ fn resolve_runs(
     Ok(all)
 }
 
+// Adds such a run: what a nest shows of it, or the same frames of a reel.
 fn add_resolved(
     all: &mut Listed<Run<u32>>,
     media: &[Media],
@@ -158,6 +162,7 @@ fn add_nest(
     }
 }
 
+// Adds so many frames of a strip from one on, and dark frames past its end.
 fn add_from(all: &mut Listed<Run<u32>>, strip: &Strip, source: u32, len: u32) -> Result<(), Memory>
     requires all { AreFit all.old }
     requires fit { AreFit strip.now }
@@ -170,6 +175,7 @@ fn add_from(all: &mut Listed<Run<u32>>, strip: &Strip, source: u32, len: u32) ->
     Ok(())
 }
 
+// Adds so many dark frames.
 fn add_dark(all: &mut Listed<Run<u32>>, len: u32) -> Result<(), Memory>
     requires { AreFit all.old }
     ensures added { OnOk result (frames_of all.new ≡ frames_of all.old ++ padded len []) }
@@ -192,6 +198,7 @@ fn nest_in(frame: Frame<What>) -> Option<(u32, u32)>
     }
 }
 
+// A frame that is of no nest, with its media replaced by their reels.
 fn reel_frame(media: &[Media], frame: Frame<What>) -> Frame<u32>
     ensures { result ≡ reel_frame media.now frame }
 {
@@ -215,6 +222,7 @@ fn reel_frame(media: &[Media], frame: Frame<What>) -> Frame<u32>
     }
 }
 
+// A side with its media replaced by their reels. No side of a mix is a nest.
 fn reel_side(media: &[Media], side: Side<What>) -> Side<u32>
     ensures { result ≡ reel_side media.now side }
 {
@@ -227,6 +235,7 @@ fn reel_side(media: &[Media], side: Side<What>) -> Side<u32>
     }
 }
 
+// A source frame of the reel that a media entry is of, and dark for a number that no entry has.
 fn reel_of(media: &[Media], m: u32, source: u32) -> Side<u32>
     ensures { result ≡ reel_of (slice_get media.now m) source }
 {

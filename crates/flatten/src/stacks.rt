@@ -21,6 +21,7 @@ pub fn stack(alloc: Global, channels: &[Listed<Run<u32>>]) -> Result<Listed<Run<
     Ok(all)
 }
 
+// A channel over another: where the upper one is dark, or has ended, the lower one is seen.
 fn lay_over(
     alloc: Global,
     upper: &[Run<u32>],
@@ -40,7 +41,7 @@ fn lay_over(
     Ok(all)
 }
 
-// Adds what is seen of a run over the lower channel from a spot on, and gives the spot behind that.
+// Adds what is seen of a run over the lower channel from a spot on, and gives the spot after that.
 fn add_over(
     all: &mut Listed<Run<u32>>,
     run: Run<u32>,

@@ -7,7 +7,7 @@ ghost use Rattle.flatten.specs.Strips.{AreFit, IsFit, IsSpot, frames_of, left_fr
 use composables::Listed;
 use frame_meaning::{Frame, Memory, Run};
 
-/// A spot in some runs: behind `used` frames of the run with this index.
+/// A spot in some runs: after `used` frames of the run with this index.
 #[derive(Clone, Copy, Debug, PartialEq, Eq)]
 pub struct Spot {
     pub index: usize,
@@ -42,7 +42,7 @@ pub fn later_frame(frame: Frame<u32>, n: u32) -> Frame<u32>
     }
 }
 
-/// What is left of the run at a spot, at most so many frames of it, and the spot behind it; `None` at the end.
+/// What is left of the run at a spot, at most so many frames of it, and the spot after it; `None` at the end.
 pub fn part_at(runs: &[Run<u32>], spot: Spot, most: u32) -> Option<(Run<u32>, Spot)>
     requires fit { AreFit runs.now }
     requires spot { IsSpot runs.now spot }
@@ -71,6 +71,7 @@ pub fn part_at(runs: &[Run<u32>], spot: Spot, most: u32) -> Option<(Run<u32>, Sp
     Some((Run { frame, len: most }, behind))
 }
 
+// The run with an index, if there is one.
 fn run_at(runs: &[Run<u32>], index: usize) -> Option<Run<u32>>
     ensures run { result ≡ slice_get runs.now index }
     ensures within { IfSome result (λ _. index < length runs.now) }
@@ -99,7 +100,7 @@ pub fn passed(runs: &[Run<u32>], spot: Spot, n: u32) -> Spot
     here
 }
 
-/// Adds that many frames from a spot on, with dark frames behind them where there are fewer, and gives the spot behind
+/// Adds that many frames from a spot on, with dark frames after them where there are fewer, and gives the spot after
 /// them.
 pub fn add_padded(
     all: &mut Listed<Run<u32>>,

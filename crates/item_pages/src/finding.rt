@@ -57,7 +57,7 @@ fn find_in_page<T: Spanned + Copy, L: Ledger>(
     }
 }
 
-// The item that holds a place, one after another.
+// The item that holds a place among these, in a step for each item that is looked at.
 fn find_in<T: Spanned, L: Ledger>(items: &[T], at: u32, steps: &mut Steps<L>) -> Option<Found>
     requires { Fits T.places items.now }
     ensures found { IfSome result (λ f. HoldsPlace T.places items.now at f) }

@@ -8,6 +8,7 @@ mod finding;
 mod list;
 mod packing;
 mod page;
+mod page_list;
 mod reading;
 mod spans;
 mod spots;

@@ -2,8 +2,9 @@
 ghost use Rattle.std.specs.Prelude.{◌≡◌, ◌+◌, ◌-◌, ◌<◌, ◌≤◌, ◌^◌, ◌/◌, ◌++◌, ◌∷◌, ◌↔◌, [], length, sum_by, slice_get, slice_set, take, drop, IfOk, IfSome, IsNone, OnOk, OnErr};
 
 use crate::finding::find_in_pages;
-use crate::packing::{pages_between, push_page, put_between, shared, span_of_pages};
+use crate::packing::{pages_between, span_of_pages};
 use crate::page::Page;
+use crate::page_list::PageList;
 use crate::spots::{around, behind, spot_of};
 use crate::{Found, Reader, Spanned};
 use out_of_memory::Memory;
@@ -12,11 +13,11 @@ use std::marker::Model;
 use std::sync::ledger::Ledger;
 use step_count::Steps;
 
-/// A list. Contracts see its items, in order. It keeps its allocator.
+/// A list in pages. Contracts see its items, in order. It keeps its allocator, for what it adds.
 #[derive(Drop)]
 pub struct Pages<T: Spanned + Copy> {
     alloc: Global,
-    pages: Vec<Page<T>>,
+    pages: PageList<T>,
     count: u32,
     total: u32,
 }
@@ -27,9 +28,9 @@ impl<T: Spanned + Copy> Model for Pages<T> {
 
     ghost Value = { List T };
 
-    ghost view = { λ p. items_of p.pages.items };
+    ghost view = { λ p. items_of p.pages };
 
-    ghost invariant = { λ p. IsList T.places p.pages.items p.count p.total };
+    ghost invariant = { λ p. IsList T.places p.pages p.count p.total };
 }
 
 impl<T: Spanned + Copy> Pages<T> {
@@ -43,7 +44,7 @@ impl<T: Spanned + Copy> Pages<T> {
     {
         Pages {
             alloc,
-            pages: Vec::new(alloc),
+            pages: PageList::new(),
             count: 0,
             total: 0,
         }
@@ -68,7 +69,7 @@ impl<T: Spanned + Copy> Pages<T> {
     pub fn get(&self, index: u32) -> Option<&T>
         ensures { option_copied result ≡ slice_get self.now index }
     {
-        let (piece, _) = behind(&self.pages, index);
+        let (piece, _) = behind(self.pages.as_slice(), index);
         piece.first()
     }
 
@@ -76,7 +77,7 @@ impl<T: Spanned + Copy> Pages<T> {
     pub fn items_from(&self, index: u32) -> Reader<'_, T>
         ensures { result ≡ drop index self.now }
     {
-        let (piece, behind) = behind(&self.pages, index);
+        let (piece, behind) = behind(self.pages.as_slice(), index);
         Reader::of(piece, behind)
     }
 
@@ -89,7 +90,7 @@ impl<T: Spanned + Copy> Pages<T> {
         ensures few { steps.new ≤ steps.old + length self.now + 64 }
     {
         steps.tick();
-        find_in_pages(&self.pages, at, steps)
+        find_in_pages(self.pages.as_slice(), at, steps)
     }
 
     /// Puts an item in place of the one with this index, which spans as many places.
@@ -113,40 +114,42 @@ impl<T: Spanned + Copy> Pages<T> {
         self.put(self.alloc, self.count - 1, item)
     }
 
-    // Puts an item in place of the one with this index.
+    // Puts an item in place of the one with this index, which may span more or fewer places.
     fn put(&mut self, alloc: Global, index: u32, item: T) -> Result<(), Memory>
         requires within { index < length self.old }
         requires fits { Fits T.places (slice_set self.old index item) }
         ensures ok { OnOk result (self.new ≡ slice_set self.old index item) }
         ensures err { OnErr result (self.new ≡ self.old) }
     {
-        let spot = spot_of(&self.pages, index);
-        let held = &self.pages[spot.page];
+        let pages = self.pages.as_slice();
+        let spot = spot_of(pages, index);
+        let held = &pages[spot.page];
         let span = held.span();
         let page = held.with(alloc, spot.within, item)?;
-        self.total = self.total - span + page.span();
-        self.pages[spot.page] = page;
+        let total = self.total - span + page.span();
+        self.pages.set(alloc, spot.page, page)?;
+        self.total = total;
         Ok(())
     }
 
-    /// An equal list, which shares each page.
+    /// An equal list, which shares each page until one of both changes it.
     pub fn copy(&self, alloc: Global) -> Result<Pages<T>, Memory>
         ensures { IfOk result (λ p. p ≡ self.now) }
     {
         Ok(Pages {
             alloc,
-            pages: shared(alloc, &self.pages)?,
+            pages: self.pages.share()?,
             count: self.count,
             total: self.total,
         })
     }
 
-    /// Its items in one piece.
+    /// Its items in one piece, copied.
     pub fn to_vec(&self, alloc: Global) -> Result<Vec<T>, Memory>
         ensures { IfOk result (λ all. all.items ≡ self.now) }
     {
         let mut all = Vec::with_capacity(alloc, self.count as usize)?;
-        for page in &self.pages {
+        for page in self.pages.as_slice() {
             all.extend_from_slice(page.items())?;
         }
         Ok(all)
@@ -164,8 +167,8 @@ impl<T: Spanned + Copy> Pages<T> {
         self.push_page(page)
     }
 
-    /// Puts these in place of the items from index `from` up to before `to`. Pages wholly before or behind are kept
-    /// where they are; those behind move along where there are more pages or fewer. It counts one step, and none for
+    /// Puts these in place of the items from index `from` up to before `to`. Pages wholly before or after are kept
+    /// where they are; those after move along where there are more pages or fewer. It counts one step, and none for
     /// pages that are passed or moved, nor for items that are copied into new pages.
     pub fn replace<L: Ledger>(
         &mut self,
@@ -183,34 +186,35 @@ impl<T: Spanned + Copy> Pages<T> {
         ensures most { steps.new ≤ steps.old + length self.old / 32 + 3 }
     {
         steps.tick();
-        let parts = around(&self.pages, from, to);
+        let pages = self.pages.as_slice();
+        let parts = around(pages, from, to);
         let middle = in_one_piece(self.alloc, parts.front, &items, parts.back)?;
         let fresh = pages_between(self.alloc, parts.near, &middle, parts.next)?;
         let start = parts.kept.len();
-        let end = self.pages.len() - parts.far.len();
-        let gone = span_of_pages(&self.pages[start..end]);
+        let end = pages.len() - parts.far.len();
+        let gone = span_of_pages(&pages[start..end]);
         let come = span_of_pages(&fresh);
-        put_between(&mut self.pages, start, end, fresh)?;
+        self.pages.put_between(self.alloc, start, end, fresh)?;
         self.count = self.count - (to - from) + items.len() as u32;
         self.total = self.total - gone + come;
         Ok(())
     }
 
-    // Puts a page behind the others.
+    // Puts a page after the others.
     fn push_page(&mut self, page: Page<T>) -> Result<(), Memory>
         requires { Fits T.places (self.old ++ page) }
         ensures ok { OnOk result (self.new ≡ self.old ++ page) }
         ensures err { OnErr result (self.new ≡ self.old) }
     {
         let (count, span) = (page.count(), page.span());
-        push_page(self.alloc, &mut self.pages, page)?;
+        self.pages.push(self.alloc, page)?;
         self.count += count;
         self.total += span;
         Ok(())
     }
 }
 
-// These items in one piece, one run behind another.
+// These items in one piece, one run after another.
 fn in_one_piece<T: Copy>(
     alloc: Global,
     front: &[T],

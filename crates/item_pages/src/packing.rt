@@ -1,4 +1,4 @@
-// Pages put one behind another, so that no two neighbours fit in one.
+// Pages put one after another, so that no two neighbours fit in one.
 ghost use Rattle.std.specs.Prelude.{◌≡◌, ◌+◌, ◌<◌, ◌≤◌, ◌^◌, ◌++◌, ◌∷◌, [], length, take, drop, sum_by, true, false, IfOk, OnOk, OnErr};
 ghost use Rattle.item_pages.specs.Items.{Fits};
 ghost use Rattle.item_pages.specs.Packing.{items_of, Packed, Begins, Ends};
@@ -8,7 +8,7 @@ use crate::page::{MOST_ITEMS, Page};
 use out_of_memory::Memory;
 use std::alloc::Global;
 
-/// The same pages once more.
+/// These pages in a list of its own, which shares each of them.
 pub fn shared<T: Spanned + Copy>(alloc: Global, pages: &[Page<T>]) -> Result<Vec<Page<T>>, Memory>
     ensures { IfOk result (λ all. all.items ≡ pages.now) }
 {
@@ -28,7 +28,8 @@ pub fn pages_between<T: Spanned + Copy>(
 ) -> Result<Vec<Page<T>>, Memory>
     requires alone { length near.now ≤ 1 }
     requires fits { Fits T.places ((items_of near.now ++ items.now) ++ items_of next.now) }
-    ensures items { IfOk result (λ all. items_of all.items ≡ (items_of near.now ++ items.now) ++ items_of next.now) }
+    ensures items { IfOk result (λ all. items_of all.items
+        ≡ (items_of near.now ++ items.now) ++ items_of next.now) }
     ensures packed { IfOk result (λ all. Packed all.items) }
     ensures begins { IfOk result (λ all. Begins near.now all.items) }
     ensures ends { IfOk result (λ all. Ends next.now all.items) }
@@ -39,7 +40,7 @@ pub fn pages_between<T: Spanned + Copy>(
     Ok(all)
 }
 
-// Puts these items behind those of others, in pages that are made for them.
+// Puts these items after those of other pages, in pages that are made for them.
 fn push_items<T: Spanned + Copy>(
     alloc: Global,
     pages: &mut Vec<Page<T>>,
@@ -60,7 +61,7 @@ fn push_items<T: Spanned + Copy>(
     Ok(())
 }
 
-// Puts these pages behind others, shared.
+// Puts these pages after others, shared.
 fn push_pages<T: Spanned + Copy>(
     alloc: Global,
     pages: &mut Vec<Page<T>>,
@@ -68,7 +69,8 @@ fn push_pages<T: Spanned + Copy>(
 ) -> Result<(), Memory>
     requires packed { Packed pages.old.items }
     requires fits { Fits T.places (items_of pages.old.items ++ items_of others.now) }
-    ensures items { OnOk result (items_of pages.new.items ≡ items_of pages.old.items ++ items_of others.now) }
+    ensures items { OnOk result (items_of pages.new.items
+        ≡ items_of pages.old.items ++ items_of others.now) }
     ensures packed { OnOk result (Packed pages.new.items) }
     ensures begins { OnOk result (Begins pages.old.items pages.new.items) }
     ensures ends { OnOk result (Ends others.now pages.new.items) }
@@ -79,7 +81,7 @@ fn push_pages<T: Spanned + Copy>(
     Ok(())
 }
 
-/// Puts a page behind others. Where it fits in one with the last of them, the two become one.
+/// Puts a page after others. Where it fits in one with the last of them, the two become one.
 pub fn push_page<T: Spanned + Copy>(
     alloc: Global,
     pages: &mut Vec<Page<T>>,
@@ -120,7 +122,8 @@ pub fn put_between<T: Spanned + Copy>(
 ) -> Result<(), Memory>
     requires order { start ≤ end }
     requires within { end ≤ length pages.old.items }
-    ensures ok { OnOk result (pages.new.items ≡ take start pages.old.items ++ (fresh.items ++ drop end pages.old.items)) }
+    ensures ok { OnOk result (pages.new.items
+        ≡ take start pages.old.items ++ (fresh.items ++ drop end pages.old.items)) }
     ensures err { OnErr result (pages.new.items ≡ pages.old.items) }
 {
     let _gone = pages.splice(start..end, fresh)?;

@@ -32,7 +32,7 @@ impl<T: Spanned + Copy> Model for Page<T> {
 }
 
 impl<T: Spanned + Copy> Page<T> {
-    /// The page of these items.
+    /// The page of these items, of which there are 1 to 64.
     pub fn of(alloc: Global, items: Vec<T>) -> Result<Page<T>, Memory>
         requires filled { 0 < length items.items }
         requires within { length items.items ≤ 64 }
@@ -81,7 +81,7 @@ impl<T: Spanned + Copy> Page<T> {
         Page::of(alloc, items)
     }
 
-    /// The same page once more.
+    /// The page once more, which shares its items.
     pub fn share(&self) -> Result<Page<T>, Memory>
         ensures { IfOk result (λ p. p ≡ self.now) }
     {
@@ -92,7 +92,7 @@ impl<T: Spanned + Copy> Page<T> {
         })
     }
 
-    /// Its items.
+    /// Its items, which are at most 64.
     pub fn items(&self) -> &[T]
         ensures items { result.now ≡ self.now }
         ensures within { length result.now ≤ 64 }
@@ -100,7 +100,7 @@ impl<T: Spanned + Copy> Page<T> {
         self.items.as_slice()
     }
 
-    /// Its first item, and those behind it.
+    /// Its first item, and those after it.
     pub fn split_first(&self) -> (&T, &[T])
         ensures { self.now ≡ result.0.now ∷ result.1.now }
     {

@@ -25,7 +25,7 @@ impl<'a, T: Spanned + Copy> Reader<'a, T> {
     ghost use Rattle.std.specs.Prelude.{◌++◌};
     ghost use Rattle.item_pages.specs.Packing.{items_of};
 
-    // Of a piece of a page and the pages behind it.
+    // A reader of these items of a page, and then of the pages after it.
     pub(crate) fn of(piece: &'a [T], behind: &'a [Page<T>]) -> Reader<'a, T>
         ensures { result ≡ piece.now ++ items_of behind.now }
     {

@@ -13,7 +13,7 @@ pub struct Spot {
     pub within: usize,
 }
 
-/// Where the item with this index stands. Past the last item it is behind the last page.
+/// Where the item with this index stands. Past the last item it is after the last page.
 pub fn spot_of<T: Spanned + Copy>(pages: &[Page<T>], index: u32) -> Spot
     ensures { IsSpot pages.now index result }
 {
@@ -34,15 +34,21 @@ pub fn spot_of<T: Spanned + Copy>(pages: &[Page<T>], index: u32) -> Spot
     }
 }
 
-/// What is around some items: whole pages before and behind, of which the next ones stand apart, and the items that
+/// What is around some items: whole pages before and after, of which the next ones stand apart, and the items that
 /// share their first page and their last.
 #[derive(Drop)]
 pub struct Surroundings<'a, T: Spanned + Copy> {
+    /// The whole pages before, but for the last of them.
     pub kept: &'a [Page<T>],
+    /// The last whole page before, if there is one.
     pub near: &'a [Page<T>],
+    /// The items before them on their first page.
     pub front: &'a [T],
+    /// The items after them on their last page.
     pub back: &'a [T],
+    /// The first whole page after, if there is one.
     pub next: &'a [Page<T>],
+    /// The whole pages after, but for the first of them.
     pub far: &'a [Page<T>],
 }
 
@@ -50,7 +56,8 @@ pub struct Surroundings<'a, T: Spanned + Copy> {
 pub fn around<T: Spanned + Copy>(pages: &[Page<T>], from: u32, to: u32) -> Surroundings<'_, T>
     requires order { from ≤ to }
     requires within { to ≤ length (items_of pages.now) }
-    ensures { Surrounds pages.now from to result.kept.now result.near.now result.front.now result.back.now result.next.now result.far.now }
+    ensures { Surrounds pages.now from to result.kept.now result.near.now
+        result.front.now result.back.now result.next.now result.far.now }
 {
     let (whole, front) = before(pages, from);
     let (_, tail) = pages.split_at(whole.len());
@@ -85,7 +92,7 @@ fn before<T: Spanned + Copy>(pages: &[Page<T>], index: u32) -> (&[Page<T>], &[T]
     (whole, items)
 }
 
-/// The items from this index on: those of its page, and the pages behind.
+/// The items from this index on: those of its page, and the pages after it.
 pub fn behind<T: Spanned + Copy>(pages: &[Page<T>], index: u32) -> (&[T], &[Page<T>])
     ensures items { drop index (items_of pages.now) ≡ result.0.now ++ items_of result.1.now }
     ensures filled { index < length (items_of pages.now) → 0 < length result.0.now }

@@ -1,6 +1,7 @@
 pub mod Relinked
 pub mod Found
 pub mod Linked
+pub mod AllFound
 pub mod NamedSets
 pub mod Named
 pub mod LinkOrder

@@ -198,10 +198,13 @@ as_many : (ts : List TrackState) → length (map (λ (t : TrackState). t.number)
 as_many [] = refl
 as_many (t ∷ ts) = ap suc (as_many ts)
 
+pub few-named : (ts : List TrackState) (set : ℕ) → map (λ (t : TrackState). t.number) ts ≡ tracks_in set → length ts ≤ 32
+few-named ts set named = omega (arith, as_many ts, ap length named, few_in set)
+
 pub may-split : (table : Table) (ts : List TrackState) (set : ℕ) → All (IsGood table) ts → All (λ (t : TrackState). IsRoomy t) ts → map (λ (t : TrackState). t.number) ts ≡ tracks_in set → MayBeSplit ts
 may-split table ts set good roomy named = record {
   kept = λ k d lt. (good k d lt).kept;
-  few = omega (arith, as_many ts, ap length named, few_in set);
+  few = few-named ts set named;
   next = λ k d lt. (roomy k d lt).link;
   items = λ k d lt. (good k d lt).items;
 }

@@ -9,3 +9,4 @@ pub mod Splits
 pub mod Marks
 pub mod Inside
 pub mod Starts
+pub mod FoundItems

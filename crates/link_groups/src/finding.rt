@@ -2,25 +2,32 @@
 ghost use Rattle.std.specs.Prelude.{◌≡◌, ◌+◌, ◌≤◌, IfSome, Some, option_map, slice_get};
 ghost use Rattle.composables.specs.Items.{items_of};
 ghost use Rattle.composables.specs.Sizes.{size_of};
+ghost use Rattle.composables.specs.Places.{IsPlaceOf};
+ghost use Rattle.composables.specs.Ranges.{range_of, HasNumber};
 ghost use Rattle.link_groups.specs.LinkedItems.{item_of};
 
 use composables::{ItemView, Track};
 use std::sync::ledger::Ledger;
 use step_count::Steps;
 
-/// An item of a track: its index, the record frame at which it begins, and the item.
+/// An item of a track: its index, the record frames [from, to) at which it stands, and the item.
 #[derive(Clone, Copy)]
-pub struct Found {
+pub struct FoundItem {
     pub index: u32,
     pub from: u32,
+    pub to: u32,
     pub view: ItemView,
 }
 
 /// The item of a track with this number, or `None` where the track has no such item.
-pub fn item_on<L: Ledger>(track: &Track, item: u32, steps: &mut Steps<L>) -> Option<Found>
+pub fn item_on<L: Ledger>(track: &Track, item: u32, steps: &mut Steps<L>) -> Option<FoundItem>
     ensures found { item_of track.now item ≡ option_map (λ f. (f.from, f.view)) result }
     ensures read { IfSome result (λ f. slice_get (items_of track.now.cells) f.index ≡ Some f.view) }
     ensures number { IfSome result (λ f. f.view.item ≡ Some item) }
+    ensures place { IfSome result (λ f. IsPlaceOf track.now.cells
+        (record { index = f.index; from = f.from; to = f.to })) }
+    ensures has { IfSome result (λ f. HasNumber (items_of track.now.cells) f.index item) }
+    ensures range { range_of track.now.cells item ≡ option_map (λ f. (f.from, f.to)) result }
     ensures least { steps.old + 1 ≤ steps.new }
     ensures most { steps.new ≤ steps.old + size_of track.now }
 {
@@ -34,9 +41,10 @@ pub fn item_on<L: Ledger>(track: &Track, item: u32, steps: &mut Steps<L>) -> Opt
     let Some(view) = track.item(place.index) else {
         unreachable!()
     };
-    Some(Found {
+    Some(FoundItem {
         index: place.index,
         from: place.from,
+        to: place.to,
         view,
     })
 }

@@ -1,9 +1,12 @@
 // The link of an item, and whether something else has it.
-ghost use Rattle.std.specs.Prelude.{◌≡◌, ◌+◌, ◌≤◌};
+ghost use Rattle.std.specs.Prelude.{◌≡◌, ◌+◌, ◌≤◌, IfSome, Some, option_map, slice_get};
+ghost use Rattle.composables.specs.Items.{items_of};
+ghost use Rattle.composables.specs.Places.{IsPlaceOf};
+ghost use Rattle.composables.specs.Ranges.{range_of, HasNumber};
 ghost use Rattle.composables.specs.Sizes.{size_of, sizes_of};
 ghost use Rattle.link_groups.specs.ItemLinks.{carried_on, carried_outside, carries, is_elsewhere, link_of};
 
-use crate::finding::item_on;
+use crate::finding::{FoundItem, item_on};
 use composables::{ItemReader, ItemView, Track, a_track_is_kept};
 use frame_meaning::{Link, same_item};
 use std::sync::ledger::Ledger;
@@ -19,6 +22,30 @@ pub fn link_of<L: Ledger>(track: &Track, item: u32, steps: &mut Steps<L>) -> Opt
         Some(found) => found.view.link,
         None => None,
     }
+}
+
+/// The item of a track with this number, if it is there, and its link, if it has one. It looks for the item once.
+pub fn item_with_link<L: Ledger>(
+    track: &Track,
+    item: u32,
+    steps: &mut Steps<L>,
+) -> (Option<FoundItem>, Option<Link>)
+    ensures link { result.1 ≡ link_of track.now item }
+    ensures read { IfSome result.0
+        (λ f. slice_get (items_of track.now.cells) f.index ≡ Some f.view) }
+    ensures place { IfSome result.0 (λ f. IsPlaceOf track.now.cells
+        (record { index = f.index; from = f.from; to = f.to })) }
+    ensures has { IfSome result.0 (λ f. HasNumber (items_of track.now.cells) f.index item) }
+    ensures range { range_of track.now.cells item ≡ option_map (λ f. (f.from, f.to)) result.0 }
+    ensures least { steps.old ≤ steps.new }
+    ensures most { steps.new ≤ steps.old + size_of track.now }
+{
+    let found = item_on(track, item, steps);
+    let link = match found {
+        Some(found) => found.view.link,
+        None => None,
+    };
+    (found, link)
 }
 
 /// Whether what has a link, or none, has this one. Links are told apart by home and number.
@@ -51,7 +78,7 @@ pub fn carried_outside<L: Ledger>(
     false
 }
 
-// The same on one of the tracks.
+// Whether something on this track has the link, outside that item of the track `own`.
 fn carried_on<L: Ledger>(
     track: &Track,
     link: Link,

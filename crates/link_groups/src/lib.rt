@@ -17,7 +17,8 @@ mod splits;
 mod starts;
 mod unlinking;
 
-pub use item_links::{carried_outside, carries, link_of};
+pub use finding::{FoundItem, item_on};
+pub use item_links::{carried_outside, carries, item_with_link, link_of};
 pub use linking::link;
 pub use offsets::offset;
 pub use outside::{check, outside_refusal};

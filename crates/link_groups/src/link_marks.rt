@@ -9,9 +9,10 @@ use frame_meaning::Link;
 use std::alloc::Global;
 use std::collections::BTreeSet;
 
-// Links whose home and number are below these are marked in rows.
+// Links whose home is below this, and whose number is below the next, are marked in rows.
 const ROW_HOMES: u32 = 32;
 
+// How many numbers a row has at most.
 const ROW_NUMBERS: u32 = 65_536;
 
 // A row grows by so many numbers.
@@ -51,6 +52,7 @@ impl LinkMarks {
         }
     }
 
+    // Adds this link: to the row of its home, or to those that stand in order.
     fn add_one(&mut self, link: Link) -> Result<(), Memory>
         ensures { OnOk result ((q : ℕ × ℕ) → is_marked self.new q
             ≡ (is_marked self.old q || is_key_of q (Some link))) }
@@ -69,6 +71,7 @@ impl LinkMarks {
         self.in_row(link) || self.others.contains(&(link.home, link.number))
     }
 
+    // Whether the link is marked in the row of its home, if that has one.
     fn in_row(&self, link: Link) -> bool
         ensures { result ≡ in_row (slice_get self.now.rows.items link.home) link.number }
     {
@@ -79,6 +82,7 @@ impl LinkMarks {
     }
 }
 
+// Whether a number is marked in a row. One past the row's end is not.
 fn row_has(row: &[bool], number: usize) -> bool
     ensures { result ≡ row_has row.now number }
 {

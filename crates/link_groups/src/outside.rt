@@ -42,7 +42,7 @@ pub fn outside_refusal(named: &[Track], link: Option<Link>) -> Option<Refusal>
     }
 }
 
-/// The same, where the item that holds `y` is looked for on each track.
+/// Why a shift is refused for its links, as `check` has it, where each walk begins at the item that holds `y`.
 pub(crate) fn check_moved<L: Ledger>(
     named: &[Track],
     y: u32,
@@ -56,6 +56,7 @@ pub(crate) fn check_moved<L: Ledger>(
     outside_refusal(named, least)
 }
 
+// The least link, of what these tracks have from `y` on, that has a track which is not named. It goes over all items.
 fn least_outside<L: Ledger>(named: &[Track], y: u32, steps: &mut Steps<L>) -> Option<Link>
     ensures least { result ≡ least_outside named.now (cells_from y named.now) }
     ensures from { steps.old ≤ steps.new }
@@ -68,6 +69,8 @@ fn least_outside<L: Ledger>(named: &[Track], y: u32, steps: &mut Steps<L>) -> Op
     least
 }
 
+// The least link, of what these tracks have from `y` on, that has a track which is not named. Each walk begins at the
+// item that holds `y`.
 fn least_moved<L: Ledger>(named: &[Track], y: u32, steps: &mut Steps<L>) -> Option<Link>
     ensures least { result ≡ least_outside named.now (cells_from y named.now) }
     ensures from { steps.old ≤ steps.new }
@@ -80,7 +83,7 @@ fn least_moved<L: Ledger>(named: &[Track], y: u32, steps: &mut Steps<L>) -> Opti
     least
 }
 
-// The same on one of the tracks.
+// The least such link of one track, where the walk begins at the item that holds `y`.
 fn least_found<L: Ledger>(
     named: &[Track],
     track: &Track,
@@ -95,7 +98,7 @@ fn least_found<L: Ledger>(
     least_on(named, track, start, y, steps)
 }
 
-// And from where it may be begun.
+// The least such link of one track, where the walk begins at this start.
 fn least_on<L: Ledger>(
     named: &[Track],
     track: &Track,
@@ -131,6 +134,7 @@ fn least_on<L: Ledger>(
     least
 }
 
+// The lesser of two links, or the one that there is.
 fn least_link(one: Option<Link>, other: Option<Link>) -> Option<Link>
     ensures { result ≡ least_link one other }
 {
@@ -143,6 +147,7 @@ fn least_link(one: Option<Link>, other: Option<Link>) -> Option<Link>
     }
 }
 
+// Whether the link `k` is less than the link `l`: by home, and then by number.
 fn link_before(k: Link, l: Link) -> bool
     ensures { result ≡ link_before k l }
 {
@@ -171,6 +176,7 @@ fn outside_past(named: &[Track], link: Option<Link>, inside: &mut Option<u32>) -
     }
 }
 
+// Whether these are the tracks of the link before, all of which are named.
 fn are_these(inside: Option<u32>, tracks: u32) -> bool
     ensures { result ≡ true → inside ≡ Some tracks }
 {
@@ -192,6 +198,7 @@ fn first_unnamed(named: &[Track], tracks: u32) -> Option<u32>
     None
 }
 
+// Whether a track is in the set and is not among the named ones.
 fn is_unnamed(named: &[Track], tracks: u32, track: u32) -> bool
     requires { track < 32 }
     ensures { result ≡ (has_track tracks track && not (is_named named.now track)) }
@@ -199,6 +206,7 @@ fn is_unnamed(named: &[Track], tracks: u32, track: u32) -> bool
     has_track(tracks, track) && !is_named(named, track)
 }
 
+// Whether a track with this number is among the named ones.
 fn is_named(named: &[Track], number: u32) -> bool
     ensures { result ≡ is_named named.now number }
 {

@@ -19,8 +19,8 @@ use std::sync::ledger::Ledger;
 use step_count::Steps;
 
 /// Gives the items from the record frame `y` on new links where others of their links stand before `x`: with the same
-/// home and tracks, and the next numbers of the home, in the order of the links. For want of memory the tracks are as
-/// they were.
+/// home and tracks, and the next numbers of the home, in the order of the links. Out of memory, the tracks are as they
+/// were.
 pub fn renumber<L: Ledger>(
     alloc: Global,
     named: &mut Vec<Track>,
@@ -65,6 +65,7 @@ pub(crate) fn relink_all<L: Ledger>(
     Ok(())
 }
 
+// Gives the items of one track that end past a place their new links, and the track its next link number.
 fn relink_track<L: Ledger>(
     alloc: Global,
     track: &mut Track,
@@ -84,7 +85,8 @@ fn relink_track<L: Ledger>(
     Ok(())
 }
 
-// The same without the numbers that the track gives. Where no link is split, there is nothing to do.
+// Gives the items their new links, and leaves the track's next link number. Where no link is split, there is nothing to
+// do.
 fn relink_cells<L: Ledger>(
     alloc: Global,
     track: &mut Track,
@@ -137,6 +139,7 @@ fn relink_items<L: Ledger>(
     Ok(())
 }
 
+// Gives an item at an index its new link, if its link is split.
 fn relink_item(
     alloc: Global,
     track: &mut Track,

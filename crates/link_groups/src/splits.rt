@@ -45,7 +45,7 @@ pub(crate) fn splits_at<L: Ledger>(
     number_splits(alloc, named, &split, steps)
 }
 
-/// The same, where the item that holds `y` is looked for on each track.
+/// The splits of `splits_at`, where each walk from `y` on begins at the item that holds `y`.
 pub(crate) fn splits_moved<L: Ledger>(
     alloc: Global,
     named: &[Track],
@@ -83,7 +83,7 @@ fn marks_before<L: Ledger>(
     Ok(marks)
 }
 
-// Marks those of one track.
+// Marks the links of items of one track that begin before the record frame `x`.
 fn mark_before<L: Ledger>(
     marks: &mut LinkMarks,
     track: &Track,
@@ -115,7 +115,7 @@ fn mark_before<L: Ledger>(
     Ok(())
 }
 
-// Those of these links that items have which end past the record frame `y`, by home and number.
+// Which of these links an item has too that ends past the record frame `y`, by home and number.
 fn split_from<L: Ledger>(
     alloc: Global,
     named: &[Track],
@@ -137,7 +137,7 @@ fn split_from<L: Ledger>(
     Ok(split)
 }
 
-// The same, where the item that holds `y` is looked for.
+// The links of `split_from`, where each walk begins at the item that holds `y`.
 fn split_moved<L: Ledger>(
     alloc: Global,
     named: &[Track],
@@ -159,7 +159,7 @@ fn split_moved<L: Ledger>(
     Ok(split)
 }
 
-// Adds those of one track.
+// Adds those that items of one track have; the walk begins at the item that holds `y`.
 fn add_found<L: Ledger>(
     split: &mut BTreeSet<(u32, u32)>,
     before: &LinkMarks,
@@ -179,7 +179,7 @@ fn add_found<L: Ledger>(
     add_split(split, before, track, start, y, steps)
 }
 
-// And from where the walk may be begun.
+// Adds those that items of one track have which end past `y`; the walk begins at this start.
 fn add_split<L: Ledger>(
     split: &mut BTreeSet<(u32, u32)>,
     before: &LinkMarks,
@@ -218,7 +218,7 @@ fn add_split<L: Ledger>(
     Ok(())
 }
 
-// Adds a link, if it is one of these.
+// Adds a link, if something before the shift has it too.
 fn add_marked(
     split: &mut BTreeSet<(u32, u32)>,
     before: &LinkMarks,

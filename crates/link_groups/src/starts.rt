@@ -15,14 +15,15 @@ pub struct Start {
     pub from: u32,
 }
 
-/// At the first item or gap.
+/// The start at the first item or gap.
 pub fn first() -> Start
     ensures { (y : ℕ) (t : TrackState) → IsStart y t result }
 {
     Start { index: 0, from: 0 }
 }
 
-/// At the item or gap that holds the record frame `y`, where the track has links.
+/// The start at the item or gap that holds the record frame `y`, where the track has links and that place; else at the
+/// first.
 pub fn found<L: Ledger>(track: &Track, y: u32, steps: &mut Steps<L>) -> Start
     ensures start { IsStart y track.now result }
     ensures least { steps.old ≤ steps.new }

@@ -13,7 +13,7 @@ use std::sync::ledger::Ledger;
 use step_count::Steps;
 
 /// Takes the link from an item of the one track that is named; an item without one stays as it is. The other items of
-/// the link keep it. It answers `NoItem` where the track has no such item. For want of memory the track is as it was.
+/// the link keep it. It answers `NoItem` where the track has no such item. Out of memory, the track is as it was.
 pub fn unlink<L: Ledger>(
     alloc: Global,
     table: &Table,
@@ -36,6 +36,7 @@ pub fn unlink<L: Ledger>(
     unlink_track(alloc, table, &mut named[0], call, steps)
 }
 
+// Takes the link from the item on the named track, or finds no such item.
 fn unlink_track<L: Ledger>(
     alloc: Global,
     table: &Table,

@@ -1,11 +1,7 @@
-use Rattle.std.proofs.Common.{◌≡◌, ◌+◌, ◌≤◌, drop, take, sum_by}
-use Rattle.composables.specs.Sizes.{size_of}
-use Rattle.link_groups.specs.Linking.{already_linked}
+use Rattle.std.proofs.Common.{◌≡◌, drop}
+use Rattle.link_groups.specs.FoundItems.{already_found}
 use Rattle.link_groups.proofs.linking.already_linked.Given as goal
 
 abbrev pub invariant-loop-index : goal.invariant-loop-index
-invariant-loop-index g l = record {
-  refusal : already_linked l.named l.items ≡ already_linked (drop l.index l.named) (drop l.index l.items);
-  least : l.fn.steps ≤ l.steps;
-  most : l.steps ≤ l.fn.steps + sum_by size_of (take l.index l.named);
-}
+invariant-loop-index l =
+    already_found l.named l.items l.found ≡ already_found (drop l.index l.named) (drop l.index l.items) (drop l.index l.found)

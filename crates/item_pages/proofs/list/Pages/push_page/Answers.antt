@@ -5,23 +5,23 @@ use Rattle.item_pages.specs.Packing.{items_of}
 use Rattle.item_pages.proofs.Filling.{list_more}
 use Rattle.item_pages.proofs.list.Pages.push_page.Goals as goal
 
-pub push_page-requires-clause-span : goal.push_page-requires-clause-span
-push_page-requires-clause-span g c =
+pub push-requires-clause-span : goal.push-requires-clause-span
+push-requires-clause-span g c =
     let fits = rw (← c.self.view_is) at c.requires in
-    omega (arith, fits.1, sum_by-append g.T.Spanned.places (items_of c.self.inside.pages.items) c.args.page)
+    omega (arith, fits.1, sum_by-append g.T.Spanned.places (items_of c.self.inside.pages) c.args.page)
 
 pub overflow_add-self : goal.overflow_add-self
 overflow_add-self g c =
     let fits = rw (← c.self.view_is) at c.requires in
-    omega (arith, fits.0, length-append (items_of c.self.inside.pages.items) c.args.page, c.self.invariant.count_is, c.count-count.ensures.count)
+    omega (arith, fits.0, length-append (items_of c.self.inside.pages) c.args.page, c.self.invariant.count_is, c.count-count.ensures.count)
 
 pub overflow_add-self-2 : goal.overflow_add-self-2
 overflow_add-self-2 g c =
     let fits = rw (← c.self.view_is) at c.requires in
-    omega (arith, fits.1, sum_by-append g.T.Spanned.places (items_of c.self.inside.pages.items) c.args.page, c.self.invariant.total_is, c.span-span.ensures.span)
+    omega (arith, fits.1, sum_by-append g.T.Spanned.places (items_of c.self.inside.pages) c.args.page, c.self.invariant.total_is, c.span-span.ensures.span)
 
 pub invariant_of-self-2 : goal.invariant_of-self-2
 invariant_of-self-2 g c =
     let fits = rw (← c.self.view_is) at c.requires in
-    list_more g.T.Spanned.places c.self.inside.pages.items c.push_page.new.pages.items c.args.page c.self.inside.count c.self.inside.total c.count-count.result c.span-span.result
-    c.in_ok-push_page.ensures.items c.in_ok-push_page.ensures.packed fits c.count-count.ensures.count c.span-span.ensures.span c.self.invariant
+    list_more g.T.Spanned.places c.self.inside.pages c.push.new.self c.args.page c.self.inside.count c.self.inside.total c.count-count.result c.span-span.result
+    c.in_ok-push.ensures.items c.in_ok-push.ensures.packed fits c.count-count.ensures.count c.span-span.ensures.span c.self.invariant
