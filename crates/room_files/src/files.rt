@@ -16,7 +16,7 @@ pub enum FileFault {
     Failed,
     /// The file has more bytes than were asked for.
     TooLarge,
-    /// There was not memory enough.
+    /// There was no memory for its bytes.
     Memory,
 }
 
@@ -61,7 +61,8 @@ pub trait Files {
     /// What is told of them: what each file holds, by its name, and how often a read and a write have failed.
     ghost told: { Self → FilesTold };
 
-    /// All bytes of a file, which are at most `limit`. A file that is not there is a fault.
+    /// All bytes of a file, which are at most `limit`; a file that has more is too large, and one that is
+    /// not there is a fault.
     fn read_file(&mut self, alloc: Global, name: &str, limit: u32) -> Result<Vec<u8>, FileFault>
         ensures whole { IfOk result (λ v. IsWhole ((told self.old).file name.now) v.items) }
         ensures within { IfOk result (λ v. length v.items ≤ limit) }

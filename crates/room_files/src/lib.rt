@@ -4,8 +4,10 @@
 //! readers and writers with a name, tell a report what failed and why.
 #![tactic(auto)]
 
+mod beside;
 mod files;
 mod memory_files;
+mod places;
 mod report;
 mod reported;
 mod standard_files;
@@ -16,5 +18,5 @@ pub use files::{FileFault, Files};
 pub use memory_files::MemFiles;
 pub use report::Report;
 pub use reported::Reported;
-pub use standard_files::StdFiles;
+pub use standard_files::{StdFiles, read_all};
 pub use sure_files::SureFiles;

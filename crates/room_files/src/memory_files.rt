@@ -61,7 +61,8 @@ impl MemFiles {
         }
     }
 
-    /// Places a file. It is no call.
+    /// Places a file, over one of the same name. It is not numbered among the reads and writes, so that it cannot be
+    /// told to fail.
     pub fn put(&mut self, name: &str, bytes: &[u8]) -> Result<(), Memory>
         ensures ok { OnOk result (self.new
             ≡ record self.old {
@@ -144,7 +145,8 @@ impl Files for MemFiles {
     }
 }
 
-// Reads a file of these. Where they were lost for want of memory that is told.
+// The bytes of a file of these: `Failed` where there is none of that name, too large where it has more than `limit`, no
+// memory where a write was once lost because there was none.
 fn read_in(
     alloc: Global,
     files: &Option<Vec<NamedFile>>,
@@ -183,7 +185,7 @@ fn find<'a>(files: &'a [NamedFile], name: &str) -> Option<&'a [u8]>
     found
 }
 
-// Puts a file behind the others.
+// Puts a file after the others, which hides one of the same name.
 fn add(alloc: Global, files: &mut Vec<NamedFile>, name: &str, bytes: &[u8]) -> Result<(), Memory>
     ensures ok { OnOk result (map named files.new.items
         ≡ with_file name.now bytes.now (map named files.old.items)) }
@@ -195,6 +197,7 @@ fn add(alloc: Global, files: &mut Vec<NamedFile>, name: &str, bytes: &[u8]) -> R
     Ok(())
 }
 
+// A copy of these bytes in memory of its own.
 pub(crate) fn copied(alloc: Global, bytes: &[u8]) -> Result<Vec<u8>, Memory>
     ensures { IfOk result (λ v. v.items ≡ bytes.now) }
 {

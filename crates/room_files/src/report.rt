@@ -10,9 +10,14 @@ pub struct Report<W> {
 }
 
 impl<W> Report<W> {
-    /// Tells it to this writer.
+    /// A report that tells this writer, and makes its lines in this memory.
     pub fn new(alloc: Global, to: W) -> Report<W> {
         Report { alloc, to }
+    }
+
+    /// Where the memory of its lines is from.
+    pub(crate) fn alloc(&self) -> Global {
+        self.alloc
     }
 }
 
@@ -25,7 +30,7 @@ impl<W: Write + Copy> Report<W> {
         }
     }
 
-    /// It could not be written.
+    /// What has this name could not be written.
     pub(crate) fn unwritten(&self, name: &str, error: &io::Error) {
         match format!(in self.alloc; "cutroom: {name} could not be written: {error}\n") {
             Ok(line) => self.tell(line.as_str()),
@@ -33,11 +38,19 @@ impl<W: Write + Copy> Report<W> {
         }
     }
 
-    /// It is to be written later, and can't be written now.
+    /// What has this name is to be written later, and can't be written now.
     pub(crate) fn unwritable(&self, name: &str, error: &io::Error) {
         match format!(in self.alloc; "cutroom: {name} can't be written yet: {error}\n") {
             Ok(line) => self.tell(line.as_str()),
             Err(_) => self.tell("cutroom: a file can't be written yet\n"),
+        }
+    }
+
+    /// What has this name is to be written later, and holds something now.
+    pub(crate) fn replaces(&self, name: &str) {
+        match format!(in self.alloc; "cutroom: {name} is there and will be replaced at the end\n") {
+            Ok(line) => self.tell(line.as_str()),
+            Err(_) => self.tell("cutroom: a file is there and will be replaced at the end\n"),
         }
     }
 

@@ -29,6 +29,7 @@ impl<'a, T, W> Reported<'a, T, W> {
 impl<T: Read, W: Write + Copy> Read for Reported<'_, T, W> {
     ghost remaining = { λ r. T.remaining r.inner };
 
+    /// Reads once, and tells the report where that fails.
     fn read(&mut self, into: &mut [u8]) -> io::Result<usize> {
         match self.inner.read(into) {
             Ok(n) => Ok(n),
@@ -43,6 +44,7 @@ impl<T: Read, W: Write + Copy> Read for Reported<'_, T, W> {
 impl<T: Write, W: Write + Copy> Write for Reported<'_, T, W> {
     ghost contents = { λ w. T.contents w.inner };
 
+    /// Writes once, and tells the report where that fails or takes nothing of a piece that is not empty.
     fn write(&mut self, piece: &[u8]) -> io::Result<usize> {
         match self.inner.write(piece) {
             Ok(0) if !piece.is_empty() => {
@@ -58,6 +60,7 @@ impl<T: Write, W: Write + Copy> Write for Reported<'_, T, W> {
         }
     }
 
+    /// Flushes, and tells the report where that fails.
     fn flush(&mut self) -> io::Result<()> {
         match self.inner.flush() {
             Ok(()) => Ok(()),
@@ -68,6 +71,7 @@ impl<T: Write, W: Write + Copy> Write for Reported<'_, T, W> {
         }
     }
 
+    /// Writes the whole piece, and tells the report once where that fails.
     fn write_all(&mut self, bytes: &[u8]) -> io::Result<()> {
         match self.inner.write_all(bytes) {
             Ok(()) => Ok(()),

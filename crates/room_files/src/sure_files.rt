@@ -50,7 +50,7 @@ impl SureFiles {
 impl Files for SureFiles {
     ghost told = { λ f. files_told (λ name. or_empty (content_of f.files name)) 0 0 };
 
-    /// Never answers `Failed`.
+    /// Never answers `Failed`: a name that was not written is an empty file.
     fn read_file(&mut self, alloc: Global, name: &str, limit: u32) -> Result<Vec<u8>, FileFault>
         ensures sure { (result ≡ Err faults.Failed) → ⊥ }
         ensures stays { self.new ≡ self.old }
@@ -66,7 +66,7 @@ impl Files for SureFiles {
         read_kept(alloc, &self.written, name, limit)
     }
 
-    /// Never fails.
+    /// Never fails. A write past the room, or past the 64 writes and the names that are told, loses all that was told.
     fn write_file(&mut self, name: &str, bytes: &[u8]) -> Result<(), Failed>
         ensures sure { IsOk result }
         ensures keeps { KeepsWithin self.old.room self.old.files self.new.files name.now bytes.now }
@@ -84,7 +84,8 @@ impl Files for SureFiles {
     }
 }
 
-// Reads what was written, if it is told.
+// Reads what was written last under this name: too large where it has more than `limit`, no
+// memory where nothing is told.
 fn read_kept(
     alloc: Global,
     written: &Option<Written>,

@@ -6,10 +6,10 @@ ghost use Rattle.room_files.specs.WrittenInside.{HasRoom, IsKept, cut, files_of,
 use room_ports::Memory;
 use std::alloc::Global;
 
-/// How many writes are told.
+/// The most writes that are told.
 pub const MAX_WRITES: usize = 64;
 
-/// How many bytes the names of all writes may have.
+/// The most bytes that the names of all writes may have together.
 pub const MAX_NAMES: usize = 4096;
 
 /// The lengths of a name and of what was written under it.
@@ -50,7 +50,7 @@ impl Written {
             && bytes.len() <= room - self.bytes.len()
     }
 
-    /// Puts a write behind the others.
+    /// Puts a write after the others, in the memory that there is room for.
     pub fn add(&mut self, room: usize, name: &str, bytes: &[u8]) -> Result<(), Memory>
         requires kept { IsKept room self.old }
         requires room { HasRoom room self.old name.now bytes.now }
@@ -77,7 +77,7 @@ impl Written {
 }
 
 // What the last of these writes under this name wrote, or nothing. They have these lengths, and their names and what
-// they wrote stand behind one another.
+// they wrote stand one after another.
 fn last_of<'a>(lengths: &[Lengths], names: &[u8], bytes: &'a [u8], name: &str) -> &'a [u8]
     requires names { names_length lengths.now ≤ length names.now }
     requires bytes { bytes_length lengths.now ≤ length bytes.now }
@@ -97,7 +97,7 @@ fn last_of<'a>(lengths: &[Lengths], names: &[u8], bytes: &'a [u8], name: &str) -
     found
 }
 
-// What was found so far, where a write of these bytes under `this_name` comes behind it.
+// What was found so far, where a write of these bytes under `this_name` comes after it.
 fn latest<'a>(this_name: &[u8], bytes: &'a [u8], name: &str, found: &'a [u8]) -> &'a [u8]
     ensures { Bytes result.now
         ≡ (if bytes_eq this_name.now name.now then Bytes bytes.now else Bytes found.now) }

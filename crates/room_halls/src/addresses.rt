@@ -23,7 +23,7 @@ impl Model for Addresses {
 }
 
 impl Addresses {
-    /// No address.
+    /// No address so far.
     pub fn none(alloc: Global) -> Addresses
         ensures { result ≡ Some [] }
     {

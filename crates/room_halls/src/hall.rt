@@ -14,7 +14,7 @@ use std::fmt;
 pub enum HallFault {
     /// No line came, or there is none for this station. The hall has counted the fault.
     Failed,
-    /// There was not memory enough.
+    /// There was no memory for the line.
     Memory,
 }
 
@@ -66,6 +66,7 @@ pub trait HallLine: Line {
 
 // Over memory nobody waits for the end of a session.
 impl HallLine for MemLine {
+    /// Does nothing.
     fn leave(&mut self) {}
 }
 
@@ -87,7 +88,8 @@ pub trait Hall {
         ensures cause { OnErr result (HasRisen (told self.old).faults (told self.new).faults) }
         ensures quiet { OnOk result ((told self.new).faults ≡ (told self.old).faults) };
 
-    /// Hands out the line of a station. It may wait for one. Where it hands out none, nothing that is told changes.
+    /// Hands out the line of a station. It may wait for one. Where it hands out none, nothing that is
+    /// told of a station changes.
     fn seat_station(&mut self, alloc: Global, station: u32) -> Result<Self::Line, HallFault>
         // The line stands as the hall told of it.
         ensures line { IfOk result (λ l. ((told self.old).station station).line

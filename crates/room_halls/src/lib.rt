@@ -13,6 +13,7 @@ mod sure_hall;
 mod sure_line;
 mod tcp_hall;
 mod tcp_line;
+mod timed;
 
 pub use hall::{Hall, HallFault, HallLine};
 pub use memory_hall::MemHall;
@@ -20,3 +21,4 @@ pub use sure_hall::SureHall;
 pub use sure_line::SurePair;
 pub use tcp_hall::TcpHall;
 pub use tcp_line::{Connection, TcpLine};
+pub use timed::Timed;

@@ -64,6 +64,7 @@ impl MemHall {
 }
 
 impl Hall for MemHall {
+    /// A source and a sink over memory, which fail where they are told to.
     type Line = MemLine;
 
     ghost told = { λ h. hall_told (mem_hall_tells h) h.faults h.opened };
@@ -95,10 +96,13 @@ impl Hall for MemHall {
 
     /// Fails exactly where the number of the call is listed, or the station has no line or its line is away.
     fn seat_station(&mut self, alloc: Global, station: u32) -> Result<MemLine, HallFault>
+        // Which calls fail, and how they are counted.
         ensures fails { (result ≡ Err faults.Failed)
             ↔ (FailsNext self.old.calls ⊎ (HasLine self.old station → ⊥)) }
         ensures listed { FailsNext self.old.calls → self.new.calls ≡ failed self.old.calls }
         ensures passed { FailsNext self.old.calls ⊎ (self.new.calls ≡ passed self.old.calls) }
+
+        // Of the station alone it is noted that its line is away; where none was handed out, of none.
         ensures away { OnOk result (note_of self.new.away station ≡ Some true) }
         ensures here { OnOk result ((s : ℕ) → s ≢ station
             → note_of self.new.away s ≡ note_of self.old.away s) }
@@ -132,7 +136,7 @@ impl Hall for MemHall {
         Ok(mem::replace(place, blank(alloc)))
     }
 
-    /// The line is the station's again.
+    /// Takes back the station's line, which the next `seat_station` hands out again.
     fn stand_up(&mut self, station: u32, line: MemLine)
         requires { (mem_hall_tells self.old station).seated ≡ true }
         ensures back { HasLine self.new station }

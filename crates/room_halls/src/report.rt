@@ -11,14 +11,14 @@ pub struct Report<W> {
 }
 
 impl<W> Report<W> {
-    /// Tells it to this writer.
+    /// A report that tells this writer, and makes its lines in this memory.
     pub(crate) fn new(alloc: Global, to: W) -> Report<W> {
         Report { alloc, to }
     }
 }
 
 impl<W: Write + Copy> Report<W> {
-    /// It listens at an address.
+    /// The hall listens at this address.
     pub(crate) fn listens(&self, address: SocketAddr) {
         match format!(in self.alloc; "cutroom: listening at {address}\n") {
             Ok(line) => self.tell(line.as_str()),
@@ -26,7 +26,7 @@ impl<W: Write + Copy> Report<W> {
         }
     }
 
-    /// It can't listen at an address.
+    /// The hall can't listen at this address, for the system's reason.
     pub(crate) fn refuses(&self, address: &str, error: &io::Error) {
         match format!(in self.alloc; "cutroom: {address}: {error}\n") {
             Ok(line) => self.tell(line.as_str()),
@@ -34,7 +34,7 @@ impl<W: Write + Copy> Report<W> {
         }
     }
 
-    /// A station sat down, over a connection from there.
+    /// A station sat down, over a connection from this peer.
     pub(crate) fn seats(&self, station: u32, peer: SocketAddr) {
         match format!(in self.alloc; "cutroom: station {station} sat down, from {peer}\n") {
             Ok(line) => self.tell(line.as_str()),
@@ -42,7 +42,7 @@ impl<W: Write + Copy> Report<W> {
         }
     }
 
-    /// What came of a station.
+    /// What came of a station, in words that go on after its number.
     pub(crate) fn station(&self, station: u32, text: &str) {
         match format!(in self.alloc; "cutroom: station {station} {text}\n") {
             Ok(line) => self.tell(line.as_str()),

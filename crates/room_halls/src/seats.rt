@@ -30,7 +30,7 @@ impl<T: Copy> Seats<T> {
         }
     }
 
-    /// The note of a station.
+    /// The note of a station, or `None` where nothing is noted of it.
     pub fn get(&self, station: u32) -> Option<T>
         ensures { result ≡ note_of self.now station }
     {
@@ -52,7 +52,7 @@ impl<T: Copy> Seats<T> {
         Ok(())
     }
 
-    /// Notes this of the station.
+    /// Notes this of the station, for which room was made. Of the others nothing changes.
     pub fn set(&mut self, station: u32, note: T)
         requires { station < length self.old }
         ensures { self.new ≡ slice_set self.old station (Some note) }

@@ -51,6 +51,7 @@ impl SureHall {
 }
 
 impl Hall for SureHall {
+    /// A source and a sink over memory that never fail.
     type Line = SurePair;
 
     ghost told = { λ h. hall_told (sure_hall_tells h) 0 h.opened };
@@ -91,13 +92,13 @@ impl Hall for SureHall {
         Ok(mem::replace(place, blank_line(alloc)))
     }
 
-    /// The line is the station's again.
+    /// Takes back the station's line, which the next `seat_station` hands out again.
     fn stand_up(&mut self, station: u32, line: SurePair) {
         self.lines[station as usize] = line;
     }
 }
 
-// Makes the lines of the stations up to this one that have none.
+// Makes blank lines for the stations up to this one that have none. What is told of a station does not change.
 fn make_lines(alloc: Global, lines: &mut Vec<SurePair>, station: u32) -> Result<(), Memory>
     ensures room { OnOk result (station < vec_len lines.new) }
     ensures grows { vec_len lines.old ≤ vec_len lines.new }

@@ -12,7 +12,9 @@ use std::alloc::Global;
 /// One line of a source and a sink over memory that never fail.
 #[derive(Drop)]
 pub struct SurePair {
+    /// What reads of the line come from.
     pub input: SureSource,
+    /// What writes to the line go to.
     pub output: SureSink,
 }
 
@@ -38,7 +40,7 @@ impl Source for SurePair {
       lent = owned;
     } };
 
-    /// Reads as its source does.
+    /// Reads from its source, which never fails.
     fn read(&mut self, into: &mut [u8]) -> Result<usize, Failed>
         ensures sure { IsOk result }
         ensures reads { IfOk result (λ n. Reads self.old.input self.new.input into.old into.new n) }
@@ -66,7 +68,7 @@ impl Sink for SurePair {
       lent = owned;
     } };
 
-    /// Writes as its sink does.
+    /// Writes to its sink, which takes the whole piece and never fails.
     fn write(&mut self, piece: &[u8]) -> Result<usize, Failed>
         ensures sure { IsOk result }
         ensures whole { IfOk result (λ n. n ≡ length piece.now) }
@@ -91,5 +93,6 @@ impl Line for SurePair {
 
 // Over memory nobody waits for the end of a session.
 impl HallLine for SurePair {
+    /// Does nothing.
     fn leave(&mut self) {}
 }

@@ -8,12 +8,14 @@ use crate::addresses::Addresses;
 use crate::report::Report;
 use crate::seats::Seats;
 use crate::tcp_line::{LineFaults, TcpLine};
+use crate::timed::Timed;
 use crate::{Hall, HallFault};
 use room_ports::Failed;
 use std::alloc::Global;
 use std::io::{self, Write};
 use std::marker::Model;
 use std::net::{Net, SocketAddr, TcpListener, TcpStream};
+use std::time::Duration;
 
 /// A hall that listens at an address. Each seat takes the next connection that comes, whoever makes it. It tells its
 /// writer where it listens, and of each station who sits down and how it leaves. No clause says what connections bring
@@ -23,6 +25,7 @@ pub struct TcpHall<'a, R: Net, W> {
     alloc: Global,
     net: &'a R,
     report: Report<W>,
+    idle: Option<Duration>,
     listener: Option<TcpListener>,
     seated: Seats<LineFaults>,
     faults: u64,
@@ -38,8 +41,9 @@ impl<'a, R: Net, W> Model for TcpHall<'a, R, W> {
 }
 
 impl<'a, R: Net<Listener = TcpListener, Stream = TcpStream>, W> TcpHall<'a, R, W> {
-    /// A hall that is not open yet, without a fault so far, which tells of itself to this writer.
-    pub fn new(alloc: Global, net: &'a R, to: W) -> Self
+    /// A hall that is not open yet, without a fault so far, which tells of itself to this writer. A station of which
+    /// nothing comes in the time given is cut off by a fault of its line; where none is given nobody is.
+    pub fn new(alloc: Global, net: &'a R, to: W, idle: Option<Duration>) -> Self
         ensures seated { result.seated ≡ [] }
         ensures faults { result.faults ≡ 0 }
         ensures opened { result.opened ≡ Some [] }
@@ -48,6 +52,7 @@ impl<'a, R: Net<Listener = TcpListener, Stream = TcpStream>, W> TcpHall<'a, R, W
             alloc,
             net,
             report: Report::new(alloc, to),
+            idle,
             listener: None,
             seated: Seats::new(alloc),
             faults: 0,
@@ -67,6 +72,7 @@ impl<'a, R: Net<Listener = TcpListener, Stream = TcpStream>, W> TcpHall<'a, R, W
 
 impl<R: Net<Listener = TcpListener, Stream = TcpStream>, W: Write + Copy + Send> Hall
     for TcpHall<'_, R, W> {
+    /// A connection over TCP, which tells no bytes.
     type Line = TcpLine<W>;
 
     ghost told = { λ h. hall_told (tcp_hall_tells h) h.faults h.opened };
@@ -96,11 +102,11 @@ impl<R: Net<Listener = TcpListener, Stream = TcpStream>, W: Write + Copy + Send>
             Some(faults) => faults,
             None => LineFaults::none(),
         };
-        match next_connection(&self.listener) {
+        match next_connection(&self.listener, self.idle) {
             Ok((stream, peer)) => {
                 self.report.seats(station, peer);
                 self.seated.set(station, faults);
-                Ok(TcpLine::new(stream, faults, station, self.report))
+                Ok(TcpLine::new(Timed::new(stream), faults, station, self.report))
             }
             Err(_) => {
                 self.report.station(station, "got no connection");
@@ -116,13 +122,18 @@ impl<R: Net<Listener = TcpListener, Stream = TcpStream>, W: Write + Copy + Send>
     }
 }
 
-// The next connection, which sends without delay.
-fn next_connection(listener: &Option<TcpListener>) -> io::Result<(TcpStream, SocketAddr)> {
+// The next connection, which sends without delay, and of which a read waits for so long, or for ever. An error where
+// the hall is not open or the system gives none.
+fn next_connection(
+    listener: &Option<TcpListener>,
+    idle: Option<Duration>,
+) -> io::Result<(TcpStream, SocketAddr)> {
     let Some(listener) = listener else {
         return Err(io::Error::from(io::ErrorKind::NotConnected));
     };
     let (stream, peer) = listener.accept()?;
     let _ = stream.set_nodelay(true);
+    stream.set_read_timeout(idle)?;
     Ok((stream, peer))
 }
 

@@ -6,6 +6,7 @@ ghost use Rattle.room_ports.specs.Sides.{owned};
 
 use crate::HallLine;
 use crate::report::Report;
+use crate::timed::Timed;
 use room_ports::{Failed, Line, Sink, Source, read_once, write_once};
 use std::io::{Read, Write};
 use std::marker::Model;
@@ -19,7 +20,7 @@ pub struct LineFaults {
 }
 
 impl LineFaults {
-    /// No fault.
+    /// No read and no write has failed.
     pub fn none() -> LineFaults
         ensures reads { result.reads ≡ 0 }
         ensures writes { result.writes ≡ 0 }
@@ -34,14 +35,19 @@ impl LineFaults {
 /// What came of the last read or write of a line that is worth telling.
 #[derive(Clone, Copy, Debug, PartialEq, Eq)]
 enum Came {
+    /// A read gave bytes, or nothing was read yet.
     Bytes,
+    /// A read was at the end of the input.
     End,
+    /// A read failed.
     ReadFault,
+    /// A write failed.
     WriteFault,
 }
 
 impl Came {
-    // How a session over the line ended, in words.
+    // How a session over the line ended, in words that go on after the station's number. A session whose last read gave
+    // bytes ended at the limit of its input.
     fn text(self) -> &'static str {
         match self {
             Came::Bytes => "left after more than 64 MiB",
@@ -64,8 +70,8 @@ pub struct Connection<T, W> {
     report: Report<W>,
 }
 
-/// A line over a TCP connection.
-pub type TcpLine<W> = Connection<TcpStream, W>;
+/// A line over a TCP connection. A read that waits longer than the connection's limit, where it has one, fails.
+pub type TcpLine<W> = Connection<Timed<TcpStream>, W>;
 
 impl<T, W> Model for Connection<T, W> {
     ghost use Rattle.room_halls.specs.Connections.{ConnectionState};
@@ -174,10 +180,21 @@ impl<T: Read + Write, W> Line for Connection<T, W> {
     ghost sink_side = { λ line. refl };
 }
 
-impl<W: Write + Copy> HallLine for Connection<TcpStream, W> {
+impl<W> Connection<Timed<TcpStream>, W> {
+    /// Whether what is written is sent at once, however little it is. No clause says it.
+    pub fn sends_at_once(&self) -> bool {
+        self.stream.inner().nodelay().unwrap_or(false)
+    }
+}
+
+impl<W: Write + Copy> HallLine for Connection<Timed<TcpStream>, W> {
     /// Tells how the session ended, and lets the peer read to the end of the replies. No clause says either.
     fn leave(&mut self) {
-        self.report.station(self.station, self.came.text());
-        let _ = self.stream.shutdown(Shutdown::Both);
+        let text = match self.came {
+            Came::ReadFault if self.stream.is_late() => "left, nothing came over its line in time",
+            came => came.text(),
+        };
+        self.report.station(self.station, text);
+        let _ = self.stream.inner().shutdown(Shutdown::Both);
     }
 }

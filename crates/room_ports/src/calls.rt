@@ -22,7 +22,7 @@ impl Model for FailingCalls {
 }
 
 impl FailingCalls {
-    /// Before the first call. Those whose numbers are in the list are to fail.
+    /// Before the first call. Calls are numbered from 1, and those whose numbers are in the list are to fail.
     pub fn new(failing: Vec<u32>) -> Self
         ensures { result ≡ no_calls failing.items }
     {
@@ -33,7 +33,7 @@ impl FailingCalls {
         }
     }
 
-    /// Makes the next call.
+    /// Numbers the next call, and fails, with a fault more, exactly where its number is listed.
     pub fn next(&mut self) -> Result<(), Failed>
         ensures fails { IsErr result ↔ FailsNext self.old }
         ensures ok { OnOk result (self.new ≡ passed self.old) }

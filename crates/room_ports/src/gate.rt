@@ -12,5 +12,6 @@ pub trait Gate {
 pub struct OpenGate;
 
 impl Gate for OpenGate {
+    /// Nobody waits.
     fn at_commit(&self, _station: u32) {}
 }

@@ -1,8 +1,8 @@
 //! The outside of the cutting room: sources and sinks of bytes, as two traits, with objects over memory and
 //! adapters over the readers and writers of std. A read gives the next bytes and a write takes a front of its
 //! piece, where the object tells its bytes; a call answers `Failed` only where the object's count of faults
-//! rose, and leaves the count as it was where it does not; `put` writes a whole piece or leaves a front of it
-//! behind. A `Line` is both in one: a read takes nothing of what is written to it, nor a write of what is left.
+//! rose, and leaves the count as it was where it does not; `put` writes a whole piece, or a front of it and
+//! fails. A `Line` is both in one: a read takes nothing of what is written to it, nor a write of what is left.
 #![tactic(auto)]
 
 mod calls;

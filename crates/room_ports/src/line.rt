@@ -11,7 +11,9 @@ use crate::{Failed, Line, MemSink, MemSource, Sink, Source};
 /// One line of a source and a sink that are lent.
 #[derive(Drop)]
 pub struct Pair<'a, S, K> {
+    /// What reads of the line come from.
     pub input: &'a mut S,
+    /// What writes to the line go to.
     pub output: &'a mut K,
 }
 
@@ -26,6 +28,7 @@ impl<S: Source, K: Sink> Source for Pair<'_, S, K> {
       lent = record { input = line.input.ghost_name; output = line.output.ghost_name };
     } };
 
+    /// Reads from the source that is lent; the sink is as it was.
     fn read(&mut self, into: &mut [u8]) -> Result<usize, Failed> {
         self.input.read(into)
     }
@@ -42,6 +45,7 @@ impl<S: Source, K: Sink> Sink for Pair<'_, S, K> {
       lent = record { input = line.input.ghost_name; output = line.output.ghost_name };
     } };
 
+    /// Writes to the sink that is lent; the source is as it was.
     fn write(&mut self, piece: &[u8]) -> Result<usize, Failed> {
         self.output.write(piece)
     }
@@ -61,7 +65,9 @@ impl<S: Source, K: Sink> Line for Pair<'_, S, K> {
 /// One line of a source and a sink over memory.
 #[derive(Drop)]
 pub struct MemLine {
+    /// What reads of the line come from.
     pub input: MemSource,
+    /// What writes to the line go to.
     pub output: MemSink,
 }
 
@@ -76,8 +82,9 @@ impl Source for MemLine {
       lent = owned;
     } };
 
-    /// Reads as its source does.
+    /// Reads from its source, and fails exactly where the number of the read is listed there.
     fn read(&mut self, into: &mut [u8]) -> Result<usize, Failed>
+        // Which reads fail, what the others give, and that the sink stays.
         ensures fails { IsErr result ↔ FailsNext self.old.input.calls }
         ensures reads { IfOk result
             (λ n. Reads self.old.input.pieces self.new.input.pieces into.old into.new n) }
@@ -112,8 +119,9 @@ impl Sink for MemLine {
       lent = owned;
     } };
 
-    /// Writes as its sink does.
+    /// Writes to its sink, and fails exactly where the number of the write is listed there.
     fn write(&mut self, piece: &[u8]) -> Result<usize, Failed>
+        // Which writes fail, that the others take the whole piece, and that the source stays.
         ensures fails { IsErr result ↔ FailsNext self.old.output.calls }
         ensures whole { IfOk result (λ n. n ≡ length piece.now) }
         ensures takes { OnOk result (Takes self.old.output.bytes self.new.output.bytes piece.now) }

@@ -6,8 +6,8 @@ ghost use Rattle.room_ports.specs.Counts.{counted};
 use crate::Failed;
 use std::io::{self, Read, Write};
 
-/// Reads from a reader, and counts a fault more where the reader fails. That it reads once is tested, and no clause says
-/// it.
+/// Reads from a reader into the head of `into`, and answers how many bytes; counts a fault more where the reader fails.
+/// That it reads once is tested, and no clause says it.
 pub fn read_once<R: Read>(
     reader: &mut R,
     into: &mut [u8],

@@ -22,7 +22,7 @@ impl Model for PieceReader {
 }
 
 impl PieceReader {
-    /// At the first byte.
+    /// These pieces, of which nothing was read so far.
     pub fn new(pieces: Vec<Vec<u8>>) -> Self
         ensures { result ≡ contents_of pieces.items }
     {

@@ -34,7 +34,7 @@ pub trait Source {
         ensures apart { as_sink self.new ≡ as_sink self.old };
 }
 
-/// Bytes that go outside.
+/// Bytes that go outside, as to a file, a terminal or a line.
 pub trait Sink {
     /// The bytes that it has taken, where the sink tells them.
     ghost taken: { Self → Option (List ℕ) };
@@ -64,14 +64,16 @@ pub trait Line: Source + Sink {
     /// What it stands over, where that is lent.
     ghost lent: { Self → Lent };
 
+    /// What it tells of its source as a sink is what it tells as a source.
     ghost source_side: { (line : Self) → Self.as_source line
         ≡ record { left = Self.left line; faults = Self.read_faults line; lent = lent line } };
 
+    /// What it tells of its sink as a source is what it tells as a sink.
     ghost sink_side: { (line : Self) → Self.as_sink line
         ≡ record { taken = Self.taken line; faults = Self.write_faults line; lent = lent line } };
 }
 
-/// Writes all bytes. After `Failed` the sink has taken a front of them.
+/// Writes all bytes, in as many writes as the sink needs. After `Failed` the sink has taken a front of them.
 pub fn put<K: Sink>(sink: &mut K, bytes: &[u8]) -> Result<(), Failed>
     ensures ok { OnOk result (Takes (K.taken sink.old) (K.taken sink.new) bytes.now) }
     ensures err { OnErr result (TakesFront (K.taken sink.old) (K.taken sink.new) bytes.now) }
