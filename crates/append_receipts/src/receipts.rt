@@ -28,7 +28,7 @@ impl Model for Receipts {
     ghost invariant = { λ r. r.words.shared.table_id.words ≡ 2 };
 }
 
-/// The one who counts.
+/// The one who counts. Contracts see the table, and how many records and failed appends were counted.
 #[derive(Drop)]
 pub struct Clerk {
     seat: Seat<(), View>,
@@ -49,7 +49,7 @@ impl Model for Clerk {
         × (c.seat.me.0.kept ≡ c.kept) × (c.seat.me.0.failed ≡ c.failed) };
 }
 
-/// The clerk's numbers of some time.
+/// The clerk's numbers of some time. Contracts see the table and these two numbers.
 #[derive(Drop)]
 pub struct Receipt {
     seat: Seat<(), View>,
@@ -117,7 +117,7 @@ impl Receipts {
         clerk.failed = failed;
     }
 
-    /// A receipt with the clerk's numbers.
+    /// Gives out a receipt with the clerk's numbers as they are.
     pub fn give(&self, clerk: &mut Clerk) -> Receipt
         requires { clerk.old.table ≡ self.now }
         ensures receipt { result ≡ clerk.old }

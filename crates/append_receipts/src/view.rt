@@ -7,26 +7,33 @@ pub enum Role {
     Clerk,
     /// One that has the clerk's numbers of some time.
     Receipt,
-    /// None any more.
+    /// Nobody's any more: the receipt was taken back.
     Spent,
 }
 
 /// How many records a file has as a table begins.
 #[derive(Clone, Copy)]
 pub struct Beginning {
+    /// That many records.
     pub kept: u32,
 }
 
 // What a seat knows: the records and the failed appends of its time, and of the clerk the numbers of the receipt that
 // it took back last. No value of it is made.
 pub struct View {
+    // Whose seat it is.
     pub role: Role,
+    // The records that were counted.
     pub kept: u64,
+    // The failed appends that were counted.
     pub failed: u64,
+    // The records on the receipt that the clerk took back last.
     pub last_kept: u64,
+    // The failed appends on that receipt.
     pub last_failed: u64,
 }
 
+// The rule that all seats of the table keep together: no receipt's numbers are above the clerk's.
 pub struct Law;
 
 impl TableRule<(), View, Beginning> for Law {

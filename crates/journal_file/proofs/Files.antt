@@ -1,18 +1,19 @@
 -- What files of headers, records and gates are kept files of.
-use Rattle.std.proofs.Common.{◌≡◌, ◌≢◌, ◌⊎◌, ⊎_elim, inl, inr, ℕ, ◌+◌, ◌-◌, ◌<◌, ◌≤◌, List, [], ◌∷◌, ◌++◌, Option, Some}
-use Rattle.std.proofs.Common.{None, length, take, drop, refl, sym, ◌∙◌, ap, subst, arith, append_assoc, length-append}
+use Rattle.std.proofs.Common.{◌≡◌, ◌≢◌, ⊎_elim, inl, inr, ℕ, ◌+◌, ◌-◌, ◌<◌, ◌≤◌, List, [], ◌∷◌, ◌++◌, Option, Some}
+use Rattle.std.proofs.Common.{None, length, take, drop, refl, sym, ◌∙◌, ap, arith, append_assoc, length-append}
 use Rattle.std.proofs.Common.{take-append-drop}
-use Rattle.std.specs.List.{flat_map, slice_get, AllByRecursion}
+use Rattle.std.specs.List.{slice_get, AllByRecursion}
 use Rattle.std.proofs.lemmas.Option.{none-some, same_Some}
-use Rattle.std.proofs.lemmas.Bool.{cases_eq, cases_lt}
-use Rattle.std.proofs.lemmas.List.{append-nil, append_cancel_left, append_cancel_right, take_at}
-use Rattle.room_disks.specs.Crashes.{Course, Within, IsImage}
+use Rattle.std.proofs.lemmas.Bool.{cases_lt}
+use Rattle.std.proofs.lemmas.List.{append_cancel_left, take_at}
 use Rattle.journal_file.specs.Layout.{header, IsLine, record_of, records_of, front_of, HasLines, Kept, NoRecord}
 use Rattle.journal_file.specs.Layout.{IsBroken, BreaksAt, IsDamagedAt}
 use Rattle.journal_file.specs.Reading.{HasGateAt}
 use Rattle.journal_file.specs.Standing.{HoldsLines}
-use Rattle.journal_file.specs.Stages.{piece_of, IsEither}
-use Rattle.journal_file.proofs.Lines.{NoFeed, same_line, all_push, records_push, record_split}
+use Rattle.journal_file.specs.Batches.{piece_of, IsBatch}
+use Rattle.journal_file.specs.Stages.{IsEither}
+use Rattle.std.proofs.lemmas.Grind.{flat_map-append}
+use Rattle.journal_file.proofs.Lines.{same_line, all_append, record_split}
 
 length-header : length header ≡ 18
 length-header = refl
@@ -48,38 +49,37 @@ kept_behind lines gate rest bytes all closed is = ⊎_elim
     ))
     (cases_lt 19 (length bytes))
 
--- one record more
-pub front_more : (lines : List (List ℕ)) (line : List ℕ) → front_of lines ++ 43 ∷ piece_of line ≡ front_of
-    (lines ++ line ∷ []) ++ 45 ∷ []
-front_more lines line =
-    append_assoc header (records_of lines) (43 ∷ piece_of line)
-    ∙ ap (λ t. header ++ t) (ap (λ t. records_of lines ++ t) (sym (record_split line (45 ∷ [])))
-    ∙ records_push lines line (45 ∷ []))
-    ∙ sym (append_assoc header (records_of (lines ++ line ∷ [])) (45 ∷ []))
+-- more records
+pub front_more : (lines batch : List (List ℕ)) → 0 < length batch → front_of lines ++ 43 ∷ piece_of batch ≡ front_of
+    (lines ++ batch) ++ 45 ∷ []
+front_more lines [] some = absurd (omega (arith, some))
+front_more lines (l ∷ ls) some =
+    append_assoc header (records_of lines) (records_of (l ∷ ls) ++ 45 ∷ [])
+    ∙ ap (λ t. header ++ t) (sym (append_assoc (records_of lines) (records_of (l ∷ ls)) (45 ∷ []))
+    ∙ ap (λ t. t ++ 45 ∷ []) (sym (flat_map-append record_of lines (l ∷ ls))))
+    ∙ sym (append_assoc header (records_of (lines ++ l ∷ ls)) (45 ∷ []))
 
-pub length-front_more : (lines : List (List ℕ)) (line : List ℕ) → length (front_of (lines ++ line ∷ [])) ≡ length
-    (front_of lines) + (length line + 2)
-length-front_more lines line =
-    let e = ap length (front_more lines line) in
+pub length-front_more : (lines batch : List (List ℕ)) → 0 < length batch → length (front_of (lines ++ batch)) ≡ length
+    (front_of lines) + length (piece_of batch)
+length-front_more lines batch some =
+    let e = ap length (front_more lines batch some) in
     omega (
       arith,
       e,
-      length-append (front_of lines) (43 ∷ piece_of line),
-      length-append (front_of (lines ++ line ∷ []))
-          (45 ∷ []),
-      length-append line (10 ∷ 45 ∷ []),
+      length-append (front_of lines) (43 ∷ piece_of batch),
+      length-append (front_of (lines ++ batch)) (45 ∷ []),
     )
 
 pub open_gate : ◌≢◌ {A = ℕ} 45 43
 open_gate e = omega (arith, e)
 
 -- what an append may leave
-pub either_holds : (lines : List (List ℕ)) (line bytes : List ℕ) → AllByRecursion IsLine lines → IsLine line
-    → IsEither lines line bytes → HoldsLines (Some line) lines bytes
-either_holds lines line bytes all is (inl (gate, rest, closed, e)) =
+pub either_holds : (lines batch : List (List ℕ)) (bytes : List ℕ) → AllByRecursion IsLine lines → IsBatch batch
+    → IsEither lines (piece_of batch) bytes → HoldsLines (Some batch) lines bytes
+either_holds lines batch bytes all is (inl (gate, rest, closed, e)) =
     inl (kept_behind lines gate rest bytes all closed e)
-either_holds lines line bytes all is (inr e) = inr (kept_behind (lines ++ line ∷ []) 45 [] bytes
-    (all_push IsLine lines line all is) open_gate (e ∙ front_more lines line))
+either_holds lines batch bytes all is (inr e) = inr (kept_behind (lines ++ batch) 45 [] bytes
+    (all_append IsLine lines batch all is.0) open_gate (e ∙ front_more lines batch is.1))
 
 -- ---- a file has one list of records
 
@@ -253,3 +253,12 @@ has_gate bytes lines rest more gate at all parts first closed is = record {
   };
   place = read_place bytes lines rest at parts is;
 }
+
+-- the records that were copied are those that were counted
+pub copied_same : (bytes : List ℕ) (lines records : List (List ℕ)) (at : ℕ) (rest : List ℕ) → HasGateAt bytes lines at
+    → AllByRecursion IsLine records → drop 18 bytes ≡ records_of records ++ rest → NoRecord rest → lines ≡ records
+copied_same bytes lines records at rest g all parts none =
+    let h = g.has in
+    (split_same lines records (h.gate ∷ h.rest) rest h.are_lines all (closed_no_record h.gate h.rest h.closed) none
+    (apart bytes lines records (h.gate ∷ h.rest) rest h.parts (front_parts bytes records rest
+    (header_is bytes lines (h.gate ∷ h.rest) h.parts) parts))).0

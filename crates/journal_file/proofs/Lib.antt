@@ -1,7 +1,9 @@
 mod Appends
+mod Counting
 mod Files
 mod Frames
 mod Lines
 mod Moments
 mod Openings
+mod Pushes
 mod Standings

@@ -1,15 +1,14 @@
 -- Lines and records in bytes: where a line ends, and that bytes begin with one record at most.
-use Rattle.std.proofs.Common.{◌≡◌, ◌≢◌, ◌↔◌, IsTrue, ⊎_elim, inl, inr, ℕ, zero, suc, ◌+◌, ◌<◌, ◌≤◌, List, [], ◌∷◌, ◌++◌}
-use Rattle.std.proofs.Common.{Bool, true, false, true≢false, Option, Some, None, cond, length, take, drop, get_or}
-use Rattle.std.proofs.Common.{position, refl, sym, ◌∙◌, ap, subst, arith, append_assoc, length-append}
-use Rattle.std.specs.List.{position_or_len, flat_map, AllByRecursion}
-use Rattle.std.proofs.lemmas.Bool.{cases_eq, ltb-true, ltb-false}
+use Rattle.std.proofs.Common.{◌≡◌, ◌≢◌, ◌↔◌, IsTrue, ℕ, zero, suc, ◌+◌, ◌<◌, ◌≤◌, List, [], ◌∷◌, ◌++◌}
+use Rattle.std.proofs.Common.{Bool, true, false, true≢false, Some, None, cond, length, take, drop, get_or}
+use Rattle.std.proofs.Common.{position, refl, sym, ◌∙◌, ap, subst, arith, append_assoc}
+use Rattle.std.specs.List.{position_or_len, AllByRecursion}
+use Rattle.std.proofs.lemmas.Bool.{ltb-false}
 use Rattle.std.proofs.lemmas.Bool.Decides.{nat_tests}
-use Rattle.std.proofs.lemmas.List.{append-nil, flat_map_more, take-append-drop, drop_more, drop-drop, length-take-le}
-use Rattle.std.proofs.lemmas.List.{append_cancel_left}
+use Rattle.std.proofs.lemmas.List.{flat_map_more, take-append-drop, drop_more, drop-drop, length-take-le}
 use Rattle.std.proofs.lemmas.List.Quantifiers.{position-Some}
 use Rattle.std.proofs.lemmas.List.Sums.{fails_before_first}
-use Rattle.journal_file.specs.Layout.{IsLine, record_of, records_of, NoRecord, IsBroken}
+use Rattle.journal_file.specs.Layout.{IsLine, record_of, records_of}
 use Rattle.journal_file.specs.Reading.{is_lf}
 
 -- no line feed among these
@@ -94,6 +93,11 @@ pub all_push : {A : Type 0} (P : A → Type 0) (xs : List A) (x : A) → AllByRe
     → AllByRecursion P (xs ++ x ∷ [])
 all_push P [] x h p = (p, tt)
 all_push P (y ∷ xs) x h p = (h.0, all_push P xs x h.1 p)
+
+pub all_append : {A : Type 0} (P : A → Type 0) (xs ys : List A) → AllByRecursion P xs → AllByRecursion P ys
+    → AllByRecursion P (xs ++ ys)
+all_append P [] ys h p = p
+all_append P (x ∷ xs) ys h p = (h.0, all_append P xs ys h.1 p)
 
 -- one record more
 pub records_push : (lines : List (List ℕ)) (line rest : List ℕ) → records_of lines

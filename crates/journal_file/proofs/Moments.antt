@@ -1,9 +1,9 @@
 -- How the course of a file goes on from call to call.
-use Rattle.std.proofs.Common.{◌≡◌, inl, inr, ⊎_elim, ℕ, zero, suc, ◌+◌, ◌≤◌, List, [], ◌∷◌, ◌++◌, length, take, Option}
+use Rattle.std.proofs.Common.{◌≡◌, ℕ, ◌+◌, ◌≤◌, List, [], ◌∷◌, ◌++◌, length, Option}
 use Rattle.std.proofs.Common.{Some, None, refl, sym, ◌∙◌, ap, subst, arith, append_assoc, IfSome}
 use Rattle.std.specs.List.{AllByRecursion}
-use Rattle.room_disks.specs.Crashes.{Change, Range, Cut, Stand, Course, stands, moved, settled, IsImage, Within, Told}
-use Rattle.room_disks.specs.Crashes.{Stays, Syncs, Changes, Writes, Cuts, written, Since, AtMost, TurnedFrom}
+use Rattle.room_disks.specs.Crashes.{Change, Stand, Course, stands, moved, settled, IsImage, Within, Told}
+use Rattle.room_disks.specs.Crashes.{Stays, Syncs, Changes, Since, AtMost, TurnedFrom}
 
 -- ---- what is told of two and of three moments
 

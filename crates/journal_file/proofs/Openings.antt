@@ -1,18 +1,17 @@
 -- How a file is read and its end settled.
-use Rattle.std.proofs.Common.{◌≡◌, ◌≢◌, inl, inr, ⊎_elim, ℕ, ◌+◌, ◌<◌, ◌≤◌, ◌^◌, max, List, [], ◌∷◌, ◌++◌, length, take}
+use Rattle.std.proofs.Common.{◌≡◌, inl, inr, ℕ, ◌+◌, ◌<◌, ◌≤◌, ◌^◌, List, [], ◌∷◌, ◌++◌, length, take}
 use Rattle.std.proofs.Common.{drop, Option, Some, None, refl, sym, ◌∙◌, ap, subst, arith, append_assoc, length-append}
 use Rattle.std.proofs.Common.{take-append-drop, IfSome}
-use Rattle.std.specs.List.{AllByRecursion}
 use Rattle.std.proofs.lemmas.List.{append-nil, drop_at, drop_all}
 use Rattle.journal_file.specs.declared.faults.OpenFault.{OpenFault}
-use Rattle.journal_file.specs.declared.faults.OpenFault.TheVariants.{Failed, TooLarge, Damaged, Memory}
+use Rattle.journal_file.specs.declared.faults.OpenFault.TheVariants.{Failed, TooLarge, Damaged, TooMany, Memory}
 use Rattle.journal_file.specs.declared.stage.Stage.TheVariants.{Settled}
-use Rattle.room_disks.specs.Crashes.{Change, Range, Cut, Stand, Course, Torn, stands, moved, settled, IsImage, Within}
+use Rattle.room_disks.specs.Crashes.{Range, Cut, Stand, Course, settled, IsImage, Within}
 use Rattle.room_disks.specs.Crashes.{Told, Stays, Syncs, written, Since, TurnedFrom}
-use Rattle.journal_file.specs.Layout.{header, IsLine, front_of, Kept, IsDamagedAt}
+use Rattle.journal_file.specs.Layout.{front_of, Kept, IsDamagedAt}
 use Rattle.journal_file.specs.Reading.{HasGateAt, IsReadFault}
-use Rattle.journal_file.specs.Stages.{Stands, HasRead, IsOpened}
-use Rattle.journal_file.specs.Standing.{KeepsRecords, Explains, HarmsNothing}
+use Rattle.journal_file.specs.Stages.{Stands, HasRead}
+use Rattle.journal_file.specs.Standing.{KeepsRecords, HasTooMany, Explains, HarmsNothing}
 use Rattle.journal_file.proofs.Moments.{told_then, told_both, told_weaker, told_from, told_to, told_now, told_start}
 use Rattle.journal_file.proofs.Moments.{since_start, since_weaker, since_then, since_stays, since_syncs}
 use Rattle.journal_file.proofs.Frames.{written_within, cut_behind}
@@ -126,6 +125,9 @@ read_fault bytes TooLarge a short h is = absurd h
 read_fault bytes (Damaged at) None short h is = tt
 read_fault bytes (Damaged at) (Some c) short h is = subst (λ (s : Stand). (length s.reads ≤ 2 ^ 27)
     × IsDamagedAt s.reads at) (sym is) (short, h)
+read_fault bytes (TooMany count) None short h is = tt
+read_fault bytes (TooMany count) (Some c) short h is = subst (λ (s : Stand). (length s.reads ≤ 2 ^ 27)
+    × HasTooMany s.reads count) (sym is) (short, h)
 read_fault bytes Memory a short h is = tt
 
 -- the same seen from a sync before
@@ -138,6 +140,10 @@ explains_from (Damaged at) a b c same h = told_then (λ o n. n.now.reads ≡ o.n
     (λ o n. (length o.now.reads ≤ 2 ^ 27) × IsDamagedAt o.now.reads at)
     (λ o n. (length o.now.reads ≤ 2 ^ 27) × IsDamagedAt o.now.reads at)
     (λ o m n s l. subst (λ xs. (length xs ≤ 2 ^ 27) × IsDamagedAt xs at) s l) a b c same h
+explains_from (TooMany count) a b c same h = told_then (λ o n. n.now.reads ≡ o.now.reads)
+    (λ o n. (length o.now.reads ≤ 2 ^ 27) × HasTooMany o.now.reads count)
+    (λ o n. (length o.now.reads ≤ 2 ^ 27) × HasTooMany o.now.reads count)
+    (λ o m n s l. subst (λ xs. (length xs ≤ 2 ^ 27) × HasTooMany xs count) s l) a b c same h
 explains_from Memory a b c same h = tt
 
 -- ---- reading, as told

@@ -1,20 +1,22 @@
 -- An open file stands for the lines that its disk has, before an append and after it.
-use Rattle.std.proofs.Common.{◌≡◌, ◌≢◌, ◌⊎◌, ⊎_elim, inl, inr, ℕ, ◌+◌, ◌*◌, ◌<◌, ◌≤◌, List, [], ◌∷◌, ◌++◌, length}
-use Rattle.std.proofs.Common.{Option, Some, None, refl, sym, ◌∙◌, ap, subst, arith, IfSome, length-append}
+use Rattle.std.proofs.Common.{◌≡◌, ◌≢◌, ⊎_elim, inl, inr, ℕ, ◌+◌, ◌*◌, ◌^◌, ◌<◌, ◌≤◌, List, [], ◌∷◌, ◌++◌, length}
+use Rattle.std.proofs.Common.{drop, Option, Some, None, refl, sym, ◌∙◌, ap, subst, arith, IfSome, IsSome, true≢false, length-append}
+use Rattle.std.specs.Option.{IsSomeAnd}
 use Rattle.std.specs.List.{AllByRecursion}
 use Rattle.std.proofs.lemmas.Bool.{cases_eq}
 use Rattle.std.proofs.lemmas.List.{append_cancel_right}
 use Rattle.journal_file.specs.declared.stage.Stage.{Stage}
 use Rattle.journal_file.specs.declared.stage.Stage.TheVariants.{Settled, Staging, Opening}
-use Rattle.room_disks.specs.Crashes.{Course, IsImage, Within, Told, Since, AtMost}
-use Rattle.journal_file.specs.Layout.{IsLine, record_of, records_of, front_of, Kept}
+use Rattle.room_disks.specs.Crashes.{Course, Within, Told, Since, AtMost}
+use Rattle.journal_file.specs.Layout.{IsLine, record_of, records_of, front_of}
 use Rattle.journal_file.specs.Standing.{HoldsLines}
-use Rattle.journal_file.specs.Stages.{Stands, IsHeld, pending_of, IsAppended, IsEither, piece_of}
-use Rattle.journal_file.proofs.Moments.{since_weaker}
+use Rattle.journal_file.specs.Batches.{piece_of}
+use Rattle.journal_file.specs.Stages.{Stands, IsFiled, Fits, IsHeld, pending_of, IsAppended, IsEither}
+use Rattle.journal_file.proofs.Moments.{since_weaker, told_weaker}
 use Rattle.journal_file.proofs.Appends.{Honest}
 use Rattle.journal_file.proofs.Files.{kept_behind, either_holds, same_kept, length-front, length-record, front_more}
-use Rattle.journal_file.proofs.Files.{open_gate}
-use Rattle.journal_file.proofs.Lines.{all_push}
+use Rattle.journal_file.proofs.Files.{length-front_more, open_gate}
+use Rattle.journal_file.proofs.Lines.{all_append}
 
 -- ---- sizes
 
@@ -29,121 +31,192 @@ records_short (l ∷ ls) all = let m = all.0.most in omega (
   length-record l,
 )
 
+one_less : (x : ℕ) (xs : List ℕ) → length (drop 1 (x ∷ xs) ++ 45 ∷ []) ≡ length (x ∷ xs)
+one_less x xs = omega (arith, length-append xs (45 ∷ []))
+
+pub length_piece : (batch : List (List ℕ)) → 0 < length batch → length (piece_of batch) ≡ length (records_of batch)
+length_piece [] some = absurd (omega (arith, some))
+length_piece (l ∷ ls) some = one_less 43 ((l ++ 10 ∷ []) ++ records_of ls)
+
 pub front_short : (lines : List (List ℕ)) → AllByRecursion IsLine lines
     → length (front_of lines) ≤ 18 + 1026 * length lines
 front_short lines all = omega (arith, records_short lines all, length-front lines)
 
--- ---- the pending line
+-- ---- the pending lines
 
-pub is_held : (s : Stage) (line : List ℕ) → IsLine line → IsHeld s line
-is_held Settled line is = tt
-is_held Staging line is = is
-is_held Opening line is = is
+pub is_held : (s : Stage) (count : ℕ) (batch : List (List ℕ)) → Fits count batch → IsHeld s count batch
+is_held Settled count batch is = tt
+is_held Staging count batch is = is
+is_held Opening count batch is = is
 
-pub is_pending : (s : Stage) (line : List ℕ) → s ≢ Settled → pending_of s line ≡ Some line
-is_pending Settled line not = absurd (not refl)
-is_pending Staging line not = refl
-is_pending Opening line not = refl
+pub is_pending : (s : Stage) (batch : List (List ℕ)) → s ≢ Settled → pending_of s batch ≡ Some batch
+is_pending Settled batch not = absurd (not refl)
+is_pending Staging batch not = refl
+is_pending Opening batch not = refl
 
--- the same line again
-restands : (s : Stage) (lines : List (List ℕ)) (old new : List ℕ) (c : Course)
-    → IfSome (pending_of s old) (λ p. p ≡ new) → Stands s lines old c → Stands s lines new c
+pub own_pending : (s : Stage) (batch : List (List ℕ)) → IfSome (pending_of s batch) (λ p. p ≡ batch)
+own_pending Settled batch = tt
+own_pending Staging batch = refl
+own_pending Opening batch = refl
+
+pub some_pending : (s : Stage) (batch : List (List ℕ)) → IsSome (pending_of s batch) → pending_of s batch ≡ Some batch
+some_pending Settled batch some = absurd (true≢false (sym some))
+some_pending Staging batch some = refl
+some_pending Opening batch some = refl
+
+pub fits_pending : (s : Stage) (count : ℕ) (batch : List (List ℕ)) → IsSome (pending_of s batch) → IsHeld s count batch
+    → Fits count batch
+fits_pending Settled count batch some held = absurd (true≢false (sym some))
+fits_pending Staging count batch some held = held
+fits_pending Opening count batch some held = held
+
+-- the same lines again
+restands : (s : Stage) (lines old new : List (List ℕ)) (c : Course) → IfSome (pending_of s old) (λ p. p ≡ new)
+    → Stands s lines (piece_of old) c → Stands s lines (piece_of new) c
 restands Settled lines old new c same h = h
-restands Staging lines old new c same h = subst (λ l. Stands Staging lines l c) same h
-restands Opening lines old new c same h = subst (λ l. Stands Opening lines l c) same h
+restands Staging lines old new c same h = subst (λ b. Stands Staging lines (piece_of b) c) same h
+restands Opening lines old new c same h = subst (λ b. Stands Opening lines (piece_of b) c) same h
 
-pub told_again : (s : Stage) (lines : List (List ℕ)) (old new : List ℕ) (a : Option Course)
-    → IfSome (pending_of s old) (λ p. p ≡ new) → IfSome a (Stands s lines old) → IfSome a (Stands s lines new)
+told_again : (s : Stage) (lines old new : List (List ℕ)) (a : Option Course) → IfSome (pending_of s old) (λ p. p ≡ new)
+    → IfSome a (Stands s lines (piece_of old)) → IfSome a (Stands s lines (piece_of new))
 told_again s lines old new None same h = tt
 told_again s lines old new (Some c) same h = restands s lines old new c same h
 
+-- an open file that is to take these lines, or the same again
+pub refiled : (a : Option Course) (lines : List (List ℕ)) (count gate : ℕ) (s : Stage) (old new : List (List ℕ))
+    → IfSome (pending_of s old) (λ p. p ≡ new) → Fits count new → IsFiled a lines count gate s old
+    → IsFiled a lines count gate s new
+refiled a lines count gate s old new again is f = record {
+  are_lines = f.are_lines;
+  counts = f.counts;
+  place = f.place;
+  held = is_held s count new is;
+  stands = told_again s lines old new a again f.stands;
+}
+
+-- the gate of a file that takes these lines
+pub gate_room : (a : Option Course) (lines : List (List ℕ)) (count gate : ℕ) (s : Stage) (old batch : List (List ℕ))
+    → IsFiled a lines count gate s old → Fits count batch → gate + length (piece_of batch) < 2 ^ 32
+gate_room a lines count gate s old batch f is = omega (
+  arith,
+  f.place,
+  front_short lines f.are_lines,
+  f.counts,
+  is.1,
+  records_short batch is.0.0,
+  length_piece batch is.0.1,
+)
+
 -- ---- what images hold
 
-holds : (s : Stage) (lines : List (List ℕ)) (line : List ℕ) (c : Course) → AllByRecursion IsLine lines → IsHeld s line
-    → Stands s lines line c → Within (HoldsLines (pending_of s line) lines) c.now
-holds Settled lines line c all held h x i = kept_behind lines h.0 [] x all h.1 (h.2 x i)
-holds Staging lines line c all held h x i = let r = h.2 x i in inl (kept_behind lines h.0 r.0 x all h.1 r.2)
-holds Opening lines line c all held h x i =
+holds : (s : Stage) (lines batch : List (List ℕ)) (count : ℕ) (c : Course) → AllByRecursion IsLine lines
+    → IsHeld s count batch → Stands s lines (piece_of batch) c → Within (HoldsLines (pending_of s batch) lines) c.now
+holds Settled lines batch count c all held h x i = kept_behind lines h.0 [] x all h.1 (h.2 x i)
+holds Staging lines batch count c all held h x i = let r = h.2 x i in inl (kept_behind lines h.0 r.0 x all h.1 r.2)
+holds Opening lines batch count c all held h x i =
     let r = h x i in
-    either_holds lines line x all held
-    (⊎_elim (λ (is : r.0 ≡ 43). inr (r.1 ∙ ap (λ g. front_of lines ++ g ∷ piece_of line) is))
-    (λ not. inl (r.0, piece_of line, not, r.1)) (cases_eq r.0 43))
+    either_holds lines batch x all held.0
+    (⊎_elim (λ (is : r.0 ≡ 43). inr (r.1 ∙ ap (λ g. front_of lines ++ g ∷ piece_of batch) is))
+    (λ not. inl (r.0, piece_of batch, not, r.1)) (cases_eq r.0 43))
 
-one_longer : (ls : List (List ℕ)) (line : List ℕ) → length (ls ++ line ∷ []) ≡ length ls + 1
-one_longer ls line = omega (arith, length-append ls (line ∷ []))
+known : (x : List ℕ) (batch ls ms : List (List ℕ)) → 0 < length batch → length ms ≡ length ls
+    → HoldsLines (Some batch) ls x → HoldsLines (Some batch) ms x → ms ≡ ls
+known x batch ls ms some len (inl a) (inl b) = same_kept x ms ls b a
+known x batch ls ms some len (inl a) (inr b) = absurd (let e = ap length (same_kept x ls (ms ++ batch) a b) in
+    omega (arith, len, e, length-append ms batch, some))
+known x batch ls ms some len (inr a) (inl b) = absurd (let e = ap length (same_kept x (ls ++ batch) ms a b) in
+    omega (arith, len, e, length-append ls batch, some))
+known x batch ls ms some len (inr a) (inr b) = append_cancel_right ms ls batch
+    (same_kept x (ms ++ batch) (ls ++ batch) b a)
 
-known : (x line : List ℕ) (ls ms : List (List ℕ)) → length ms ≡ length ls → HoldsLines (Some line) ls x
-    → HoldsLines (Some line) ms x → ms ≡ ls
-known x line ls ms len (inl a) (inl b) = same_kept x ms ls b a
-known x line ls ms len (inl a) (inr b) = absurd (let e = ap length (same_kept x ls (ms ++ line ∷ []) a b) in
-    omega (arith, len, e, one_longer ms line))
-known x line ls ms len (inr a) (inl b) = absurd (let e = ap length (same_kept x (ls ++ line ∷ []) ms a b) in
-    omega (arith, len, e, one_longer ls line))
-known x line ls ms len (inr a) (inr b) = append_cancel_right ms ls (line ∷ [])
-    (same_kept x (ms ++ line ∷ []) (ls ++ line ∷ []) b a)
-
-known_by : (s : Stage) (x line : List ℕ) (ls ms : List (List ℕ)) → length ms ≡ length ls
-    → HoldsLines (pending_of s line) ls x → HoldsLines (pending_of s line) ms x → ms ≡ ls
-known_by Settled x line ls ms len a b = same_kept x ms ls b a
-known_by Staging x line ls ms len a b = known x line ls ms len a b
-known_by Opening x line ls ms len a b = known x line ls ms len a b
+known_by : (s : Stage) (x : List ℕ) (batch ls ms : List (List ℕ)) (count : ℕ) → IsHeld s count batch
+    → length ms ≡ length ls → HoldsLines (pending_of s batch) ls x → HoldsLines (pending_of s batch) ms x → ms ≡ ls
+known_by Settled x batch ls ms count held len a b = same_kept x ms ls b a
+known_by Staging x batch ls ms count held len a b = known x batch ls ms held.0.1 len a b
+known_by Opening x batch ls ms count held len a b = known x batch ls ms held.0.1 len a b
 
 -- the lines for which a file stands are those of its images
-same_standing : (s : Stage) (lines ms : List (List ℕ)) (line : List ℕ) (c : Course) → AllByRecursion IsLine lines
-    → IsHeld s line → Stands s lines line c → Honest c → length ms ≡ length lines
-    → Within (HoldsLines (pending_of s line) ms) c.now → ms ≡ lines
-same_standing s lines ms line c all held h honest len w =
-    known_by s c.now.reads line lines ms len (holds s lines line c all held h c.now.reads honest) (w c.now.reads honest)
+same_standing : (s : Stage) (lines ms batch : List (List ℕ)) (count : ℕ) (c : Course) → AllByRecursion IsLine lines
+    → IsHeld s count batch → Stands s lines (piece_of batch) c → Honest c → length ms ≡ length lines
+    → Within (HoldsLines (pending_of s batch) ms) c.now → ms ≡ lines
+same_standing s lines ms batch count c all held h honest len w =
+    known_by s c.now.reads batch lines ms count held len (holds s lines batch count c all held h c.now.reads honest)
+    (w c.now.reads honest)
+
+-- what an open file has now
+pub files_now : (a : Option Course) (lines : List (List ℕ)) (count gate : ℕ) (s : Stage) (batch : List (List ℕ))
+    → IsFiled a lines count gate s batch → IfSome a (λ c. Within (HoldsLines (pending_of s batch) lines) c.now)
+files_now None lines count gate s batch f = tt
+files_now (Some c) lines count gate s batch f = holds s lines batch count c f.are_lines f.held f.stands
 
 -- ---- before and after
 
-pub stands_now : (s : Stage) (lines : List (List ℕ)) (line : List ℕ) (a : Option Course) → AllByRecursion IsLine lines
-    → IsHeld s line → IfSome a (Stands s lines line) → IfSome a (λ c. Within
-    (HoldsLines (pending_of s line) lines) c.now)
-stands_now s lines line None all held h = tt
-stands_now s lines line (Some c) all held h = holds s lines line c all held h
+-- What is so after a call of the lines of a file is so of those for which it stood before.
+pub carried : (a b : Option Course) (lines ms : List (List ℕ)) (count gate : ℕ) (s : Stage) (old : List (List ℕ))
+    (P : List (List ℕ) → Course → Type 0) → IsFiled a lines count gate s old → IfSome a Honest → Told (AtMost 4) a b
+    → length ms ≡ count → IfSome a (λ c. Within (HoldsLines (pending_of s old) ms) c.now) → IfSome b (P lines)
+    → IfSome b (P ms)
+carried a None lines ms count gate s old P f honest calls len w p = tt
+carried None (Some n) lines ms count gate s old P f honest calls len w p = absurd calls
+carried (Some o) (Some n) lines ms count gate s old P f honest calls len w p =
+    subst (λ (ls : List (List ℕ)). P ls n)
+    (sym (same_standing s lines ms old count o f.are_lines f.held f.stands honest (len ∙ sym f.counts) w)) p
 
-module _ (s : Stage) (lines : List (List ℕ)) (old line : List ℕ) (all : AllByRecursion IsLine lines)
-    (held : IsHeld s old) (is : IsLine line) where
-  after_ok : (n : Course) → IsAppended lines line n → Within (HoldsLines None (lines ++ line ∷ [])) n.now
-  after_ok n w x i = kept_behind (lines ++ line ∷ []) 45 [] x (all_push IsLine lines line all is) open_gate
-      (w x i ∙ front_more lines line)
+module _ (a b : Option Course) (lines ms old batch : List (List ℕ)) (count gate : ℕ) (s : Stage)
+    (f : IsFiled a lines count gate s old) (honest : IfSome a Honest) (calls : Told (AtMost 4) a b)
+    (len : length ms ≡ count) (w : IfSome a (λ c. Within (HoldsLines (pending_of s old) ms) c.now)) where
+  pub stands_ok : (later place : ℕ) (t : Stage) → IsFiled b (lines ++ batch) later place t batch
+      → IfSome b (λ c. Within (HoldsLines (pending_of t batch) (ms ++ batch)) c.now)
+  stands_ok later place t new =
+      carried a b lines ms count gate s old (λ ls c. Within (HoldsLines (pending_of t batch) (ls ++ batch)) c.now) f
+      honest calls len w (files_now b (lines ++ batch) later place t batch new)
 
-  pub stands_ok : (a b : Option Course) → Told (AtMost 4) a b → IfSome a (Stands s lines old) → IfSome a Honest
-      → IfSome b (IsAppended lines line)
-      → (ms : List (List ℕ)) → length ms ≡ length lines → IfSome a (λ c. Within (HoldsLines (pending_of s old) ms)
-      c.now) → IfSome b (λ c. Within (HoldsLines None (ms ++ line ∷ [])) c.now)
-  stands_ok a None calls h honest new ms len w = tt
-  stands_ok None (Some n) calls h honest new ms len w = absurd calls
-  stands_ok (Some o) (Some n) calls h honest new ms len w =
-      subst (λ (ls : List (List ℕ)). Within (HoldsLines None (ls ++ line ∷ [])) n.now)
-      (sym (same_standing s lines ms old o all held h honest len w)) (after_ok n new)
+  pub stands_err : (later place : ℕ) (t : Stage) → IsFiled b lines later place t batch
+      → IfSome b (λ c. Within (HoldsLines (pending_of t batch) ms) c.now)
+  stands_err later place t new =
+      carried a b lines ms count gate s old (λ ls c. Within (HoldsLines (pending_of t batch) ls) c.now) f honest calls
+      len w (files_now b lines later place t batch new)
 
-  pub stands_err : (t : Stage) (a b : Option Course) → t ≢ Settled → Told (AtMost 4) a b → IfSome a (Stands s lines old)
-      → IfSome a Honest → IfSome b (Stands t lines line)
-      → (ms : List (List ℕ)) → length ms ≡ length lines → IfSome a (λ c. Within (HoldsLines (pending_of s old) ms)
-      c.now) → IfSome b (λ c. Within (HoldsLines (pending_of t line) ms) c.now)
-  stands_err t a None not calls h honest new ms len w = tt
-  stands_err t None (Some n) not calls h honest new ms len w = absurd calls
-  stands_err t (Some o) (Some n) not calls h honest new ms len w =
-      subst (λ (ls : List (List ℕ)). Within (HoldsLines (pending_of t line) ls) n.now)
-      (sym (same_standing s lines ms old o all held h honest len w))
-      (holds t lines line n all (is_held t line is) new)
+  pub stands_meanwhile : Told (Since (HoldsLines (Some batch) lines)) a b → Told (Since (HoldsLines (Some batch) ms)) a b
+  stands_meanwhile since =
+      carried a b lines ms count gate s old (λ ls n. IsSomeAnd a (λ o. Since (HoldsLines (Some batch) ls) o n)) f honest
+      calls len w since
 
-  pub stands_meanwhile : (a b : Option Course) → IfSome a (Stands s lines old) → IfSome a Honest
-      → Told (Since (IsEither lines line)) a b
-      → (ms : List (List ℕ)) → length ms ≡ length lines → IfSome a (λ c. Within (HoldsLines (pending_of s old) ms)
-      c.now) → Told (Since (HoldsLines (Some line) ms)) a b
-  stands_meanwhile a None h honest since ms len w = tt
-  stands_meanwhile None (Some n) h honest since ms len w = absurd since
-  stands_meanwhile (Some o) (Some n) h honest since ms len w =
-      subst (λ (ls : List (List ℕ)). Since (HoldsLines (Some line) ls) o n)
-      (sym (same_standing s lines ms old o all held h honest len w))
-      (since_weaker (IsEither lines line) (HoldsLines (Some line) lines) (λ x e. either_holds lines line x all is e)
-      o n since)
+-- ---- one append, as told
 
--- a settled file of one line more
-pub stands_appended : (lines : List (List ℕ)) (line any : List ℕ) (b : Option Course) → IfSome b (IsAppended lines line)
-    → IfSome b (Stands Settled (lines ++ line ∷ []) any)
-stands_appended lines line any None h = tt
-stands_appended lines line any (Some c) h = (45, open_gate, λ x i. h x i ∙ front_more lines line)
+appended_now : (lines batch : List (List ℕ)) (c : Course) → 0 < length batch → IsAppended lines (piece_of batch) c
+    → Stands Settled (lines ++ batch) (piece_of batch) c
+appended_now lines batch c some h = (45, open_gate, λ x i. h x i ∙ front_more lines batch some)
+
+-- a settled file of more lines
+stands_appended : (lines batch : List (List ℕ)) (b : Option Course) → 0 < length batch
+    → IfSome b (IsAppended lines (piece_of batch)) → IfSome b (Stands Settled (lines ++ batch) (piece_of batch))
+stands_appended lines batch None some h = tt
+stands_appended lines batch (Some c) some h = appended_now lines batch c some h
+
+module _ (a b : Option Course) (lines batch : List (List ℕ)) (count gate : ℕ) (s : Stage) (fits : Fits count batch)
+    (f : IsFiled a lines count gate s batch) where
+  pub filed_ok : (later place : ℕ) → later ≡ count + length batch → place ≡ gate + length (piece_of batch)
+      → IfSome b (IsAppended lines (piece_of batch)) → IsFiled b (lines ++ batch) later place Settled batch
+  filed_ok later place counted moved now = record {
+    are_lines = all_append IsLine lines batch f.are_lines fits.0.0;
+    counts = omega (arith, length-append lines batch, f.counts, counted);
+    place = omega (arith, length-front_more lines batch fits.0.1, f.place, moved);
+    held = tt;
+    stands = stands_appended lines batch b fits.0.1 now;
+  }
+
+  pub filed_err : (t : Stage) → IfSome b (Stands t lines (piece_of batch)) → IsFiled b lines count gate t batch
+  filed_err t now = record {
+    are_lines = f.are_lines;
+    counts = f.counts;
+    place = f.place;
+    held = is_held t count batch fits;
+    stands = now;
+  }
+
+  pub filed_meanwhile : Told (Since (IsEither lines (piece_of batch))) a b
+      → Told (Since (HoldsLines (Some batch) lines)) a b
+  filed_meanwhile = told_weaker (Since (IsEither lines (piece_of batch))) (Since (HoldsLines (Some batch) lines))
+      (λ o n. since_weaker (IsEither lines (piece_of batch)) (HoldsLines (Some batch) lines)
+      (λ x e. either_holds lines batch x f.are_lines fits.0 e) o n) a b

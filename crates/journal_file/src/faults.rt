@@ -15,9 +15,11 @@ pub enum OpenFault {
     /// The file has more than 128 MiB.
     TooLarge,
     /// It is no kept file: place 0 where the header is wrong, else the place of the first `+` that begins no whole
-    /// record, or the file's length where it ends behind a record, without a gate.
+    /// record, or the file's length where it ends after a record, without a gate.
     Damaged(u32),
-    /// There was not memory enough.
+    /// It has so many records, more than the 100,000 that a kept file takes.
+    TooMany(u32),
+    /// There was no memory for the file's bytes or its records.
     Memory,
 }
 
@@ -27,6 +29,9 @@ impl fmt::Display for OpenFault {
             OpenFault::Failed => f.write_str("a call on the disk failed"),
             OpenFault::TooLarge => f.write_str("the file has more than 128 MiB"),
             OpenFault::Damaged(at) => write!(f, "the file is damaged at byte {at}"),
+            OpenFault::TooMany(count) => {
+                write!(f, "the file has {count} records, more than 100,000")
+            }
             OpenFault::Memory => f.write_str("out of memory"),
         }
     }

@@ -6,20 +6,21 @@ ghost use Rattle.journal_file.specs.declared.faults.OpenFault.TheVariants as fau
 ghost use Rattle.journal_file.specs.declared.stage.Stage.TheVariants as stages;
 ghost use Rattle.room_disks.specs.Crashes.{Told, Since, AtMost, Within};
 ghost use Rattle.journal_file.specs.Layout.{Kept, IsLine, front_of};
-ghost use Rattle.journal_file.specs.Stages.{Stands, IsEither, piece_of};
+ghost use Rattle.journal_file.specs.Stages.{Stands, IsEither, held_by};
 ghost use Rattle.journal_file.specs.Standing.{StandsFor, HoldsLines, Explains, HarmsNothing};
 
+use crate::held::Held;
 use crate::line::GateLine;
 use crate::opening::opened;
-use crate::pending::put_pending;
+use crate::pending::put_held;
 use crate::stage::Stage;
-use crate::{OpenFault, Record};
+use crate::{Batch, OpenFault, Record};
 use room_disks::Disk;
 use room_ports::Failed;
 use std::alloc::Global;
 use std::marker::Model;
 
-/// The most records of a file that takes one more.
+/// The most records of a kept file.
 pub const MOST_RECORDS: u32 = 100_000;
 
 /// A kept file on a disk, open for appends.
@@ -29,24 +30,24 @@ pub struct JournalFile<D: Disk> {
     count: u32,
     gate: u32,
     stage: Stage,
-    line: GateLine,
+    held: Held,
 }
 
 impl<D: Disk> Model for JournalFile<D> {
     ghost use Rattle.std.specs.Prelude.{List, ℕ};
     ghost use Rattle.journal_file.specs.Standing.{JournalState};
-    ghost use Rattle.journal_file.specs.Stages.{IsFiled, pending_of};
+    ghost use Rattle.journal_file.specs.Stages.{IsFiled, held_by, pending_of};
 
     ghost Value = { JournalState D };
 
     ghost view = { λ j. record {
       disk = j.disk;
       count = j.count;
-      pending = pending_of j.stage j.line;
+      pending = pending_of j.stage (held_by j.held);
     } };
 
     ghost invariant = { λ j. (lines : List (List ℕ))
-        × IsFiled (D.course j.disk) lines j.count j.gate j.stage j.line };
+        × IsFiled (D.course j.disk) lines j.count j.gate j.stage (held_by j.held) };
 }
 
 impl<D: Disk> JournalFile<D> {
@@ -59,6 +60,7 @@ impl<D: Disk> JournalFile<D> {
             (D.course disk) (D.course r.0.disk)) }
         ensures stands { IfOk result (λ r. StandsFor D.course r.0 r.1.items) }
         ensures settled { IfOk result (λ r. r.0.pending ≡ None) }
+        ensures few { IfOk result (λ r. r.0.count ≤ 100000) }
 
         // Once the first sync has succeeded, each crash leaves these records, no more and no fewer.
         ensures moments { IfOk result (λ r. Told (Since (λ bytes. Kept bytes r.1.items))
@@ -66,8 +68,6 @@ impl<D: Disk> JournalFile<D> {
 
         ensures fault { IfErr result (λ e. Explains e.0 (D.course disk) (D.course e.1)) }
         ensures harmless { IfErr result (λ e. Told HarmsNothing (D.course disk) (D.course e.1)) }
-        ensures model { IfOk result (λ r. D.keeps r.0.disk ≡ D.keeps disk) }
-        ensures model_err { IfErr result (λ e. D.keeps e.1 ≡ D.keeps disk) }
         ensures cause { IfErr result (λ e. e.0 ≡ faults.Failed
             → HasRisen (D.faults disk) (D.faults e.1)) }
         ensures quiet { IfOk result (λ r. D.faults r.0.disk ≡ D.faults disk) }
@@ -80,7 +80,7 @@ impl<D: Disk> JournalFile<D> {
                     count: records.len() as u32,
                     gate,
                     stage: Stage::Settled,
-                    line: GateLine::new(),
+                    held: Held::Lines(Batch::new(alloc)),
                 };
                 Ok((file, records))
             }
@@ -92,7 +92,7 @@ impl<D: Disk> JournalFile<D> {
     pub fn append(&mut self, line: &[u8]) -> Result<(), Failed>
         requires room { self.old.count < 100000 }
         requires line { IsLine line.now }
-        requires again { IfSome self.old.pending (λ pending. pending ≡ line.now) }
+        requires again { IfSome self.old.pending (λ pending. pending ≡ line.now ∷ []) }
 
         // Acknowledged: from then on every crash leaves the record.
         ensures ok { OnOk result ((lines : List (List ℕ)) → StandsFor D.course self.old lines
@@ -103,25 +103,105 @@ impl<D: Disk> JournalFile<D> {
         // Every crash leaves the records from before, or these and the new one.
         ensures err { OnErr result ((lines : List (List ℕ)) → StandsFor D.course self.old lines
             → StandsFor D.course self.new lines) }
-        ensures pending { OnErr result (self.new.pending ≡ Some line.now) }
+        ensures pending { OnErr result (self.new.pending ≡ Some (line.now ∷ [])) }
         ensures same { OnErr result (self.new.count ≡ self.old.count) }
 
         // So does a crash at any moment of the call.
         ensures moments { (lines : List (List ℕ)) → StandsFor D.course self.old lines
-            → Told (Since (HoldsLines (Some line.now) lines))
+            → Told (Since (HoldsLines (Some (line.now ∷ [])) lines))
             (D.course self.old.disk) (D.course self.new.disk) }
         ensures calls { Told (AtMost 4) (D.course self.old.disk) (D.course self.new.disk) }
 
-        ensures model { D.keeps self.new.disk ≡ D.keeps self.old.disk }
         ensures cause { OnErr result (HasRisen
             (D.faults self.old.disk) (D.faults self.new.disk)) }
         ensures quiet { OnOk result (D.faults self.new.disk ≡ D.faults self.old.disk) }
     {
-        self.line.hold(line);
-        put_pending(&mut self.disk, &mut self.stage, self.gate, &self.line)?;
-        self.stage = Stage::Settled;
-        self.gate += line.len() as u32 + 2;
-        self.count += 1;
+        self.held = Held::Line(GateLine::of(line));
+        put_held(
+            &mut self.disk,
+            &mut self.stage,
+            &mut self.gate,
+            &mut self.count,
+            &self.held,
+        )?;
+        Ok(())
+    }
+
+    /// Adds the records of all these lines, in order. It takes no memory, and syncs no more often than for one. After
+    /// `Failed` the file holds the lines, and `retry` goes on with them.
+    pub fn append_batch(&mut self, batch: Batch) -> Result<(), Failed>
+        requires settled { self.old.pending ≡ None }
+        requires some { 0 < length batch }
+        requires room { self.old.count + length batch ≤ 100000 }
+
+        // Acknowledged: from then on every crash leaves all the records.
+        ensures ok { OnOk result ((lines : List (List ℕ)) → StandsFor D.course self.old lines
+            → StandsFor D.course self.new (lines ++ batch)) }
+        ensures settled { OnOk result (self.new.pending ≡ None) }
+        ensures counted { OnOk result (self.new.count ≡ self.old.count + length batch) }
+
+        // Every crash leaves the records from before, or these and all the new ones.
+        ensures err { OnErr result ((lines : List (List ℕ)) → StandsFor D.course self.old lines
+            → StandsFor D.course self.new lines) }
+        ensures pending { OnErr result (self.new.pending ≡ Some batch) }
+        ensures same { OnErr result (self.new.count ≡ self.old.count) }
+
+        // So does a crash at any moment of the call.
+        ensures moments { (lines : List (List ℕ)) → StandsFor D.course self.old lines
+            → Told (Since (HoldsLines (Some batch) lines))
+            (D.course self.old.disk) (D.course self.new.disk) }
+        ensures calls { Told (AtMost 4) (D.course self.old.disk) (D.course self.new.disk) }
+
+        ensures cause { OnErr result (HasRisen
+            (D.faults self.old.disk) (D.faults self.new.disk)) }
+        ensures quiet { OnOk result (D.faults self.new.disk ≡ D.faults self.old.disk) }
+    {
+        batch.are_lines();
+        self.held = Held::Lines(batch);
+        put_held(
+            &mut self.disk,
+            &mut self.stage,
+            &mut self.gate,
+            &mut self.count,
+            &self.held,
+        )?;
+        Ok(())
+    }
+
+    /// Goes on with the append that failed: with its lines and no others.
+    pub fn retry(&mut self) -> Result<(), Failed>
+        requires pending { IsSome self.old.pending }
+
+        // Acknowledged: from then on every crash leaves all the records.
+        ensures ok { OnOk result ((lines batch : List (List ℕ)) → self.old.pending ≡ Some batch
+            → StandsFor D.course self.old lines → StandsFor D.course self.new (lines ++ batch)) }
+        ensures settled { OnOk result (self.new.pending ≡ None) }
+        ensures counted { OnOk result ((batch : List (List ℕ)) → self.old.pending ≡ Some batch
+            → self.new.count ≡ self.old.count + length batch) }
+
+        // Every crash leaves the records from before, or these and all the new ones.
+        ensures err { OnErr result ((lines : List (List ℕ)) → StandsFor D.course self.old lines
+            → StandsFor D.course self.new lines) }
+        ensures pending { OnErr result (self.new.pending ≡ self.old.pending) }
+        ensures same { OnErr result (self.new.count ≡ self.old.count) }
+
+        // So does a crash at any moment of the call.
+        ensures moments { (lines : List (List ℕ)) → StandsFor D.course self.old lines
+            → Told (Since (HoldsLines self.old.pending lines))
+            (D.course self.old.disk) (D.course self.new.disk) }
+        ensures calls { Told (AtMost 4) (D.course self.old.disk) (D.course self.new.disk) }
+
+        ensures cause { OnErr result (HasRisen
+            (D.faults self.old.disk) (D.faults self.new.disk)) }
+        ensures quiet { OnOk result (D.faults self.new.disk ≡ D.faults self.old.disk) }
+    {
+        put_held(
+            &mut self.disk,
+            &mut self.stage,
+            &mut self.gate,
+            &mut self.count,
+            &self.held,
+        )?;
         Ok(())
     }
 
@@ -132,7 +212,7 @@ impl<D: Disk> JournalFile<D> {
         self.count
     }
 
-    /// Whether the last append failed.
+    /// Whether the last append failed, and its lines are held for `retry`.
     pub fn pending(&self) -> bool
         ensures { IsTrue result ↔ IsSome self.now.pending }
     {
@@ -142,7 +222,7 @@ impl<D: Disk> JournalFile<D> {
         }
     }
 
-    /// Gives the disk as it is.
+    /// Gives the disk as it is. Of lines that are pending no more is written.
     pub fn close(self) -> D
         ensures { result ≡ self.disk }
     {

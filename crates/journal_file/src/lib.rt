@@ -1,10 +1,12 @@
 //! A journal that outlives a stop: a file of records, each on the disk before it is acknowledged. `JournalFile::open`
 //! gives the records of a file, or says where it is damaged. `JournalFile::append` adds one: a crash at any moment
 //! leaves the records from before the call, or these and the new one, and once it has answered `Ok` every crash leaves
-//! the new one.
+//! the new one. `JournalFile::append_batch` adds many lines at once, all or none, and syncs no more often.
 #![tactic(auto)]
 
+mod batch;
 mod faults;
+mod held;
 mod journal_file;
 pub mod laws;
 mod line;
@@ -15,6 +17,7 @@ mod record;
 mod stage;
 mod syncing;
 
+pub use batch::{Batch, MOST_LINES};
 pub use faults::OpenFault;
 pub use journal_file::{JournalFile, MOST_RECORDS};
 pub use opening::MOST_BYTES;

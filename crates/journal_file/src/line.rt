@@ -1,10 +1,9 @@
-// The line of an append, as it is written behind a gate.
+// The line of an append, as it is written after a gate.
 ghost use Rattle.std.specs.Prelude.{◌≡◌, ◌≤◌, ◌++◌, ◌∷◌, [], length};
-ghost use Rattle.journal_file.specs.Stages.{piece_of};
 
 use std::marker::Model;
 
-/// A line of at most 1,024 bytes, with a line feed and the next gate behind it.
+/// A line of at most 1,024 bytes, with a line feed and the next gate after it.
 #[derive(Drop)]
 pub struct GateLine {
     bytes: [u8; 1026],
@@ -23,40 +22,24 @@ impl Model for GateLine {
 }
 
 impl GateLine {
-    /// The empty line.
-    pub fn new() -> GateLine
-        ensures { result ≡ [] }
+    /// This line, with a closed gate after it.
+    pub fn of(line: &[u8]) -> GateLine
+        requires { length line.now ≤ 1024 }
+        ensures { result ≡ line.now }
     {
         let mut bytes = [0; 1026];
-        bytes[0] = b'\n';
-        bytes[1] = b'-';
-        GateLine { bytes, len: 0 }
-    }
-
-    /// Holds this line in place of the one before.
-    pub fn hold(&mut self, line: &[u8])
-        requires { length line.now ≤ 1024 }
-        ensures { self.new ≡ line.now }
-    {
         let len = line.len();
-        self.bytes[..len].copy_from_slice(line);
-        self.bytes[len] = b'\n';
-        self.bytes[len + 1] = b'-';
-        self.len = len;
+        bytes[..len].copy_from_slice(line);
+        bytes[len] = b'\n';
+        bytes[len + 1] = b'-';
+        GateLine { bytes, len }
     }
 
     /// The line, a line feed and the next gate.
     pub fn piece(&self) -> &[u8]
-        ensures { result.now ≡ piece_of self.now }
+        ensures piece { result.now ≡ self.now ++ 10 ∷ 45 ∷ [] }
+        ensures most { length result.now ≤ 1026 }
     {
         &self.bytes[..self.len + 2]
-    }
-
-    /// How many bytes the line has.
-    pub fn len(&self) -> usize
-        ensures len { result ≡ length self.now }
-        ensures most { result ≤ 1024 }
-    {
-        self.len
     }
 }

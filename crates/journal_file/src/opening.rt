@@ -19,20 +19,20 @@ pub const MOST_BYTES: u32 = 1 << 27;
 /// The most bytes of a file that counts as new.
 const MOST_NEW: usize = 19;
 
-// Reads the file, and settles its end: the records, and the place of the gate.
+// Reads the file, and settles its end: the records, and the place of the gate. It syncs first, so that what it reads is
+// what a crash leaves.
 pub fn opened<D: Disk>(alloc: Global, disk: &mut D) -> Result<(Vec<Record>, u32), OpenFault>
     ensures kept { IfOk result (λ r. Told (λ o n. Kept o.now.reads r.0.items)
         (D.course disk.old) (D.course disk.new)) }
     ensures within { IfOk result (λ _. Told (λ o n. length o.now.reads ≤ 2 ^ 27)
         (D.course disk.old) (D.course disk.new)) }
     ensures opened { IfOk result (λ r. IsOpened (D.course disk.new) r.0.items r.1) }
-    ensures few { IfOk result (λ r. length r.0.items < 2 ^ 27) }
+    ensures few { IfOk result (λ r. length r.0.items ≤ 100000) }
     ensures moments { IfOk result (λ r. Told (Since (λ bytes. Kept bytes r.0.items))
         (D.course disk.old) (D.course disk.new)) }
     ensures fault { IfErr result (λ e. Explains e (D.course disk.old) (D.course disk.new)) }
     ensures harmless { IfErr result (λ _. Told HarmsNothing
         (D.course disk.old) (D.course disk.new)) }
-    ensures model { D.keeps disk.new ≡ D.keeps disk.old }
     ensures cause { (result ≡ Err faults.Failed)
         → HasRisen (D.faults disk.old) (D.faults disk.new) }
     ensures quiet { IfOk result (λ _. D.faults disk.new ≡ D.faults disk.old) }
@@ -43,14 +43,13 @@ pub fn opened<D: Disk>(alloc: Global, disk: &mut D) -> Result<(Vec<Record>, u32)
     Ok((records, gate))
 }
 
-// All bytes of the file.
+// All bytes of the file, which are at most 128 MiB.
 fn whole_file<D: Disk>(alloc: Global, disk: &mut D) -> Result<Vec<u8>, OpenFault>
     ensures whole { IfOk result (λ v. Told (λ o n. v.items ≡ o.now.reads)
         (D.course disk.old) (D.course disk.new)) }
     ensures within { IfOk result (λ v. length v.items ≤ 2 ^ 27) }
     ensures looks { Told (HasRead []) (D.course disk.old) (D.course disk.new) }
     ensures fault { IfErr result (λ e. Explains e (D.course disk.old) (D.course disk.new)) }
-    ensures model { D.keeps disk.new ≡ D.keeps disk.old }
     ensures cause { (result ≡ Err faults.Failed)
         → HasRisen (D.faults disk.old) (D.faults disk.new) }
     ensures quiet { IfOk result (λ _. D.faults disk.new ≡ D.faults disk.old) }
@@ -70,7 +69,7 @@ fn whole_file<D: Disk>(alloc: Global, disk: &mut D) -> Result<Vec<u8>, OpenFault
     Err(OpenFault::TooLarge)
 }
 
-// Writes a new file, and cuts any other behind its gate.
+// Writes a new file, and cuts any other after its gate. It gives the records of these bytes and the place of the gate.
 fn settle<D: Disk>(
     alloc: Global,
     disk: &mut D,
@@ -80,13 +79,12 @@ fn settle<D: Disk>(
     requires within { length bytes.now ≤ 2 ^ 27 }
     ensures kept { IfOk result (λ r. Kept bytes.now r.0.items) }
     ensures opened { IfOk result (λ r. IsOpened (D.course disk.new) r.0.items r.1) }
-    ensures few { IfOk result (λ r. length r.0.items < 2 ^ 27) }
+    ensures few { IfOk result (λ r. length r.0.items ≤ 100000) }
     ensures moments { IfOk result (λ r. Told (Since (λ image. Kept image r.0.items))
         (D.course disk.old) (D.course disk.new)) }
     ensures fault { IfErr result (λ e. Explains e (D.course disk.old) (D.course disk.new)) }
     ensures harmless { IfErr result (λ _. Told (Since (KeepsRecords bytes.now))
         (D.course disk.old) (D.course disk.new)) }
-    ensures model { D.keeps disk.new ≡ D.keeps disk.old }
     ensures cause { (result ≡ Err faults.Failed)
         → HasRisen (D.faults disk.old) (D.faults disk.new) }
     ensures quiet { IfOk result (λ _. D.faults disk.new ≡ D.faults disk.old) }
@@ -101,5 +99,5 @@ fn settle<D: Disk>(
     Ok((records, gate))
 }
 
-// The header and a gate.
+// What a new file is written with: the header and a closed gate.
 const NEW_FILE: [u8; 19] = *b"cutroom journal 1\n-";

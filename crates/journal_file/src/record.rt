@@ -20,6 +20,7 @@ impl Model for Record {
 }
 
 impl Record {
+    /// A record of this line, which is copied.
     pub(crate) fn new(alloc: Global, line: &[u8]) -> Result<Record, Memory>
         ensures { IfOk result (λ r. r ≡ line.now) }
     {
@@ -28,7 +29,7 @@ impl Record {
         })
     }
 
-    /// Its bytes.
+    /// The bytes of its line, without the line feed.
     pub fn line(&self) -> &[u8]
         ensures { result.now ≡ self.now }
     {

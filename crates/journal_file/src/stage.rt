@@ -5,8 +5,8 @@
 pub enum Stage {
     /// None is pending.
     Settled,
-    /// The line may be written behind the closed gate, and is not known to be on the disk.
+    /// The lines may be written after the closed gate, and are not known to be on the disk.
     Staging,
-    /// The line is on the disk behind the gate, and the gate may be open.
+    /// The lines are on the disk after the gate, and the gate may be open.
     Opening,
 }

@@ -15,7 +15,6 @@ pub fn write_and_sync<D: Disk>(disk: &mut D, at: u32, bytes: &[u8]) -> Result<()
     ensures moments { Told (λ o n. Since (TurnedFrom (Range at (length bytes.now)) o) o n)
         (D.course disk.old) (D.course disk.new) }
     ensures calls { Told (AtMost 2) (D.course disk.old) (D.course disk.new) }
-    ensures model { D.keeps disk.new ≡ D.keeps disk.old }
     ensures cause { OnErr result (HasRisen (D.faults disk.old) (D.faults disk.new)) }
     ensures quiet { OnOk result (D.faults disk.new ≡ D.faults disk.old) }
 {
@@ -32,7 +31,6 @@ pub fn cut_and_sync<D: Disk>(disk: &mut D, len: u32) -> Result<(), Failed>
     // A crash at any moment leaves the file with the cut or without.
     ensures moments { Told (λ o n. Since (TurnedFrom (Cut len) o) o n)
         (D.course disk.old) (D.course disk.new) }
-    ensures model { D.keeps disk.new ≡ D.keeps disk.old }
     ensures cause { OnErr result (HasRisen (D.faults disk.old) (D.faults disk.new)) }
     ensures quiet { OnOk result (D.faults disk.new ≡ D.faults disk.old) }
 {

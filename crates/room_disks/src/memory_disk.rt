@@ -1,5 +1,5 @@
 // A disk over memory that fails where it is told to.
-ghost use Rattle.std.specs.Prelude.{◌≡◌, ◌≤◌, ◌<◌, ◌↔◌, ℕ, [], true, length, take, drop, refl};
+ghost use Rattle.std.specs.Prelude.{◌≡◌, ◌≤◌, ◌<◌, ◌↔◌, ℕ, [], length, take, drop};
 ghost use Rattle.std.specs.Prelude.{Some, None, option_map, IfOk, IfSome, IsErr, IsOk, OnOk, OnErr};
 ghost use Rattle.std.specs.Option.{option_copied};
 ghost use Rattle.room_ports.specs.Calls.{FailsNext, no_calls, passed, failed};
@@ -58,13 +58,11 @@ impl MemDisk {
 impl Disk for MemDisk {
     ghost course = { λ d. option_map course_of d.tape };
 
-    ghost keeps = { λ _. true };
+    ghost file = { λ d _. option_map course_of d.tape };
 
     ghost faults = { λ d. d.calls.faults };
 
     ghost reads_are_an_image = { λ d c told. reads_of d.tape c told };
-
-    ghost tells_what_it_keeps = { λ d c told. refl };
 
     /// Takes any name, and leaves the file as it is.
     fn open(&mut self, _name: &str) -> Result<(), Failed>
@@ -74,7 +72,8 @@ impl Disk for MemDisk {
         ensures failed { OnErr result (self.new.calls ≡ failed self.old.calls) }
 
         // What every disk promises.
-        ensures stays { Told Stays (option_map course_of self.old.tape) (option_map course_of self.new.tape) }
+        ensures stays { Told Stays
+            (option_map course_of self.old.tape) (option_map course_of self.new.tape) }
         ensures cause { OnErr result (HasRisen self.old.calls.faults self.new.calls.faults) }
         ensures quiet { OnOk result (self.new.calls.faults ≡ self.old.calls.faults) }
     {
@@ -90,6 +89,8 @@ impl Disk for MemDisk {
         }
     }
 
+    /// How many bytes the file has, and 0 where nothing is told any more. It fails exactly where the call's number is
+    /// listed, and notes a look in both cases.
     fn len(&mut self) -> Result<u32, Failed>
         ensures fails { IsErr result ↔ FailsNext self.old.calls }
         ensures notes { Adds Looks self.old.tape self.new.tape }
@@ -97,8 +98,10 @@ impl Disk for MemDisk {
         ensures failed { OnErr result (self.new.calls ≡ failed self.old.calls) }
 
         // What every disk promises.
-        ensures len { IfOk result (λ n. IfSome (option_map course_of self.old.tape) (λ c. n ≡ length c.now.reads)) }
-        ensures stays { Told Stays (option_map course_of self.old.tape) (option_map course_of self.new.tape) }
+        ensures len { IfOk result (λ n. IfSome (option_map course_of self.old.tape)
+            (λ c. n ≡ length c.now.reads)) }
+        ensures stays { Told Stays
+            (option_map course_of self.old.tape) (option_map course_of self.new.tape) }
         ensures cause { OnErr result (HasRisen self.old.calls.faults self.new.calls.faults) }
         ensures quiet { OnOk result (self.new.calls.faults ≡ self.old.calls.faults) }
     {
@@ -111,6 +114,8 @@ impl Disk for MemDisk {
         }
     }
 
+    /// Reads from a place on, and nothing where nothing is told any more. It fails exactly where the call's number is
+    /// listed, and notes a look in both cases.
     fn read(&mut self, at: u32, into: &mut [u8]) -> Result<usize, Failed>
         ensures fails { IsErr result ↔ FailsNext self.old.calls }
         ensures notes { Adds Looks self.old.tape self.new.tape }
@@ -121,9 +126,11 @@ impl Disk for MemDisk {
         ensures within { IfOk result (λ n. n ≤ length into.old) }
         ensures gives { IfOk result (λ n. IfSome (option_map course_of self.old.tape)
             (λ c. take n into.new ≡ take n (drop at c.now.reads))) }
-        ensures end { IfOk result (λ n. 0 < length into.old → IfSome (option_map course_of self.old.tape)
+        ensures end { IfOk result (λ n. 0 < length into.old
+            → IfSome (option_map course_of self.old.tape)
             (λ c. (n ≡ 0) ↔ (length c.now.reads ≤ at))) }
-        ensures stays { Told Stays (option_map course_of self.old.tape) (option_map course_of self.new.tape) }
+        ensures stays { Told Stays
+            (option_map course_of self.old.tape) (option_map course_of self.new.tape) }
         ensures cause { OnErr result (HasRisen self.old.calls.faults self.new.calls.faults) }
         ensures quiet { OnOk result (self.new.calls.faults ≡ self.old.calls.faults) }
     {
@@ -136,10 +143,13 @@ impl Disk for MemDisk {
         }
     }
 
+    /// Writes all bytes at a place, or fails exactly where the call's number is listed and writes none of them. Which
+    /// of both it was is noted.
     fn write_at(&mut self, at: u32, bytes: &[u8]) -> Result<(), Failed>
         ensures fails { IsErr result ↔ FailsNext self.old.calls }
         ensures notes { OnOk result (Adds (Puts at bytes.now) self.old.tape self.new.tape) }
-        ensures notes_err { OnErr result (Adds (FailsToPut at (length bytes.now)) self.old.tape self.new.tape) }
+        ensures notes_err { OnErr result (Adds (FailsToPut at (length bytes.now))
+            self.old.tape self.new.tape) }
         ensures passed { OnOk result (self.new.calls ≡ passed self.old.calls) }
         ensures failed { OnErr result (self.new.calls ≡ failed self.old.calls) }
 
@@ -163,6 +173,8 @@ impl Disk for MemDisk {
         }
     }
 
+    /// Cuts the file to a length, or fails exactly where the call's number is listed and leaves it. Which of both it
+    /// was is noted.
     fn cut(&mut self, len: u32) -> Result<(), Failed>
         ensures fails { IsErr result ↔ FailsNext self.old.calls }
         ensures notes { OnOk result (Adds (CutsTo len) self.old.tape self.new.tape) }
@@ -190,6 +202,7 @@ impl Disk for MemDisk {
         }
     }
 
+    /// Syncs, or fails exactly where the call's number is listed. A sync that failed is noted as a look.
     fn sync(&mut self) -> Result<(), Failed>
         ensures fails { IsErr result ↔ FailsNext self.old.calls }
         ensures notes { OnOk result (Adds Syncs self.old.tape self.new.tape) }

@@ -1,5 +1,5 @@
 // A disk over memory that never fails.
-ghost use Rattle.std.specs.Prelude.{◌≡◌, ◌≤◌, ◌<◌, ◌↔◌, ℕ, [], true, length, take, drop, refl};
+ghost use Rattle.std.specs.Prelude.{◌≡◌, ◌≤◌, ◌<◌, ◌↔◌, ℕ, [], length, take, drop};
 ghost use Rattle.std.specs.Prelude.{Some, None, option_map, IfOk, IfSome, IsErr, IsOk, OnOk, OnErr};
 ghost use Rattle.std.specs.Option.{option_copied};
 ghost use Rattle.room_ports.specs.Counts.{HasRisen};
@@ -52,13 +52,11 @@ impl SureDisk {
 impl Disk for SureDisk {
     ghost course = { λ d. option_map course_of d };
 
-    ghost keeps = { λ _. true };
+    ghost file = { λ d _. option_map course_of d };
 
     ghost faults = { λ _. 0 };
 
     ghost reads_are_an_image = { λ d c told. reads_of d c told };
-
-    ghost tells_what_it_keeps = { λ d c told. refl };
 
     /// Takes any name, and leaves the file as it is.
     fn open(&mut self, _name: &str) -> Result<(), Failed>
@@ -72,17 +70,20 @@ impl Disk for SureDisk {
         Ok(())
     }
 
+    /// How many bytes the file has, and 0 where nothing is told any more. A look is noted.
     fn len(&mut self) -> Result<u32, Failed>
         ensures sure { IsOk result }
         ensures notes { Adds Looks self.old self.new }
 
         // What every disk promises.
-        ensures len { IfOk result (λ n. IfSome (option_map course_of self.old) (λ c. n ≡ length c.now.reads)) }
+        ensures len { IfOk result (λ n. IfSome (option_map course_of self.old)
+            (λ c. n ≡ length c.now.reads)) }
         ensures stays { Told Stays (option_map course_of self.old) (option_map course_of self.new) }
     {
         Ok(noting::len(&mut self.tape))
     }
 
+    /// Reads from a place on, and nothing where nothing is told any more. A look is noted.
     fn read(&mut self, at: u32, into: &mut [u8]) -> Result<usize, Failed>
         ensures sure { IsOk result }
         ensures notes { Adds Looks self.old self.new }
@@ -98,6 +99,7 @@ impl Disk for SureDisk {
         Ok(noting::read(&mut self.tape, at, into))
     }
 
+    /// Writes all bytes at a place, which is noted.
     fn write_at(&mut self, at: u32, bytes: &[u8]) -> Result<(), Failed>
         ensures sure { IsOk result }
         ensures notes { Adds (Puts at bytes.now) self.old self.new }
@@ -112,24 +114,29 @@ impl Disk for SureDisk {
         Ok(())
     }
 
+    /// Cuts the file to a length, which is noted.
     fn cut(&mut self, len: u32) -> Result<(), Failed>
         ensures sure { IsOk result }
         ensures notes { Adds (CutsTo len) self.old self.new }
 
         // What every disk promises.
-        ensures cuts { OnOk result (Told (Cuts len) (option_map course_of self.old) (option_map course_of self.new)) }
-        ensures changes { Told (Changes (Cut len)) (option_map course_of self.old) (option_map course_of self.new) }
+        ensures cuts { OnOk result (Told (Cuts len)
+            (option_map course_of self.old) (option_map course_of self.new)) }
+        ensures changes { Told (Changes (Cut len))
+            (option_map course_of self.old) (option_map course_of self.new) }
     {
         noting::cut(&mut self.tape, len);
         Ok(())
     }
 
+    /// Syncs, which is noted: a crash leaves what a read gives.
     fn sync(&mut self) -> Result<(), Failed>
         ensures sure { IsOk result }
         ensures notes { Adds Syncs self.old self.new }
 
         // What every disk promises.
-        ensures syncs { OnOk result (Told IsSync (option_map course_of self.old) (option_map course_of self.new)) }
+        ensures syncs { OnOk result (Told IsSync
+            (option_map course_of self.old) (option_map course_of self.new)) }
     {
         note_sync(&mut self.tape);
         Ok(())

@@ -80,7 +80,7 @@ impl TapeFile {
         Ok(())
     }
 
-    /// Writes bytes at a place, or finds no memory.
+    /// Writes bytes at a place and notes it. It finds no memory also where the file gets longer than a u32 tells.
     pub fn write(&mut self, at: u32, piece: &[u8]) -> Result<(), Memory>
         ensures { OnOk result (self.new ≡ with_call (Puts at piece.now) self.old) }
     {
@@ -94,7 +94,7 @@ impl TapeFile {
         Ok(())
     }
 
-    /// Cuts the file to a length, or finds no memory.
+    /// Cuts the file to a length and notes it, or finds no memory. One that is no longer than that stays.
     pub fn cut(&mut self, len: u32) -> Result<(), Memory>
         ensures { OnOk result (self.new ≡ with_call (CutsTo len) self.old) }
     {
@@ -103,7 +103,7 @@ impl TapeFile {
         Ok(())
     }
 
-    /// The bytes from a place on, as many as there is room for.
+    /// Reads the bytes from a place on, as many as there is room for, and answers how many. No call is noted.
     pub fn read(&self, at: u32, into: &mut [u8]) -> usize
         ensures count { result ≡ min (length (held_by self.now) - at) (length into.old) }
         ensures bytes { take result into.new ≡ take result (drop at (held_by self.now)) }
@@ -111,6 +111,7 @@ impl TapeFile {
         copy_from(&self.bytes, at as usize, into)
     }
 
+    /// How many bytes a read gives. No call is noted.
     pub fn len(&self) -> u32
         ensures { result ≡ length (held_by self.now) }
     {
@@ -139,7 +140,7 @@ impl TapeFile {
     }
 }
 
-// Copies bytes from a place on, as many as there is room for.
+// Copies bytes from a place on, as many as there is room for, and answers how many.
 fn copy_from(bytes: &[u8], at: usize, into: &mut [u8]) -> usize
     ensures count { result ≡ min (length bytes.now - at) (length into.old) }
     ensures bytes { take result into.new ≡ take result (drop at bytes.now) }
@@ -164,7 +165,7 @@ fn written(alloc: Global, bytes: &[u8], at: usize, piece: &[u8]) -> Result<Vec<u
     Ok(next)
 }
 
-// What is behind a place and so many bytes more.
+// What is after a place and so many bytes more.
 fn behind(bytes: &[u8], at: usize, count: usize) -> &[u8]
     ensures { result.now ≡ drop (at + count) bytes.now }
 {

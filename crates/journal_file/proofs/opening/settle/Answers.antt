@@ -1,10 +1,8 @@
-use Rattle.std.proofs.Common.{length-append, ◌≡◌, ◌++◌, ◌∷◌, [], ℕ, length, refl, sym, subst, arith, rules, ap, inl}
-use Rattle.std.proofs.Common.{inr}
+use Rattle.std.proofs.Common.{◌≡◌, ◌++◌, ◌∷◌, [], length, refl, arith, rules, ap}
 use Rattle.std.proofs.lemmas.Result.{err_from_is_err_and}
 use Rattle.journal_file.specs.Layout.{front_of}
 use Rattle.journal_file.proofs.Openings.{told_new_moments, told_new_harmless, told_new_stands, told_cut_moments}
 use Rattle.journal_file.proofs.Openings.{told_cut_harmless, told_cut_stands}
-use Rattle.journal_file.proofs.Files.{lines_fewer, length-front}
 use Rattle.journal_file.proofs.opening.settle.Goals as goal
 
 pub returns-in_err-write_and_sync-clause-harmless : goal.returns-in_err-write_and_sync-clause-harmless
@@ -49,21 +47,6 @@ returns-clause-opened g c = record {
       c.in_ok-records.records.items c.in_ok-records.gate c.in_ok-records.ensures.kept
       (omega (arith, c.if-bytes-le-MOST_NEW.false)) _ c.in_ok-cut_and_sync.ensures.ok;
 }
-
-pub returns-clause-few : goal.returns-clause-few
-returns-clause-few g c =
-    let k = c.in_ok-records.ensures.kept in
-    omega (
-      arith,
-      lines_fewer c.in_ok-records.records.items,
-      length-front c.in_ok-records.records.items,
-      k.place,
-      ap
-          length k.has.parts,
-      c.requires.within,
-      length-append (front_of c.in_ok-records.records.items)
-          (k.has.gate ∷ k.has.rest),
-    )
 
 pub returns-clause-moments : goal.returns-clause-moments
 returns-clause-moments g c =

@@ -18,7 +18,6 @@ loop-piece-init g c = record {
   so_far = subst (λ bytes. Told (HasRead bytes) (g.D.Disk.course c.args.disk.now) (g.D.Disk.course c.len.new.self))
       (sym c.new-bytes.ensures.items) (told_read_stays [] _ _ _ (told_read_start (g.D.Disk.course c.args.disk.now))
       c.len.ensures.stays);
-  model = c.len.ensures.model;
   quiet = c.in_ok-len.ensures.quiet;
 }
 
@@ -41,7 +40,6 @@ loop-piece-preserved g c =
       room = search rules;
       so_far = subst (λ bytes. Told (HasRead bytes) (g.D.Disk.course c.args.disk.now) (g.D.Disk.course c.read.new.self))
           (sym c.in_ok-extend_from_slice.ensures.items) more;
-      model = c.read.ensures.model ∙ c.loop-piece.invariant.model;
       quiet = c.in_ok-count.ensures.quiet ∙ c.loop-piece.invariant.quiet;
     }
 

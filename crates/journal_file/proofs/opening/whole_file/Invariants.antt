@@ -1,4 +1,4 @@
-use Rattle.std.proofs.Common.{◌≡◌, ◌+◌, ◌-◌, ◌≤◌, length, vec_len}
+use Rattle.std.proofs.Common.{◌≡◌, ◌+◌, ◌-◌, length, vec_len}
 use Rattle.room_disks.specs.Crashes.{Told}
 use Rattle.journal_file.specs.Stages.{HasRead}
 use Rattle.journal_file.proofs.opening.whole_file.Given as goal
@@ -7,7 +7,6 @@ abbrev pub invariant-loop-piece : goal.invariant-loop-piece
 invariant-loop-piece g l = record {
   room : length l.piece ≡ 16384;
   so_far : Told (HasRead l.bytes.items) (g.D.Disk.course l.fn.disk) (g.D.Disk.course l.disk);
-  model : g.D.Disk.keeps l.disk ≡ g.D.Disk.keeps l.fn.disk;
   quiet : g.D.Disk.faults l.disk ≡ g.D.Disk.faults l.fn.disk;
 }
 

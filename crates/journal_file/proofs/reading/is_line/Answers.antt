@@ -1,4 +1,4 @@
-use Rattle.std.proofs.Common.{◌≡◌, sym, ◌∙◌}
+use Rattle.std.proofs.Common.{sym, ◌∙◌}
 use Rattle.journal_file.proofs.Lines.{no_line, whole_line}
 use Rattle.journal_file.proofs.reading.is_line.Goals as goal
 
