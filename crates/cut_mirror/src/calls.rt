@@ -20,7 +20,8 @@ fn named_by<O: PartObject>(alloc: Global, object: &O, call: &O::Call) -> Result<
     members(alloc, object.names(call))
 }
 
-// A call on the parts with these numbers, with its steps counted.
+// Does a call on copies of the parts with these numbers, with its steps counted, and puts what
+// it leaves in their places.
 fn apply_named<O: PartObject, L: Ledger>(
     blank: Blank,
     alloc: Global,

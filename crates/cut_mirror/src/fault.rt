@@ -18,6 +18,7 @@ pub enum MirrorFault {
     Late(u32),
     /// The entry at this place does not apply.
     Refused(u32),
+    /// There was no memory for the entry or for what it leaves.
     Memory,
 }
 

@@ -9,7 +9,7 @@ use room_core::PartObject;
 pub fn streams_come_to_one_list<O: PartObject>()
     ensures one { (before one other : List (Entry O.Call)) (items : List (ℕ × Entry O.Call))
         → Follows before items one → Follows before items other → one ≡ other }
-    ensures more { (before after next : List (Entry O.Call)) (items : List (ℕ × Entry O.Call)) (place : ℕ)
-        (e : Entry O.Call) → Follows before items after → GoesOn after place e next
+    ensures more { (before after next : List (Entry O.Call)) (items : List (ℕ × Entry O.Call))
+        (place : ℕ) (e : Entry O.Call) → Follows before items after → GoesOn after place e next
         → Follows before (items ++ (place, e) ∷ []) next }
 {}

@@ -28,14 +28,15 @@ impl<O: PartObject> Model for Mirror<O> {
 
     ghost Value = { Mirrored O O.Part O.Call };
 
-    ghost view = { λ m. record { object = m.object; entries = m.entries.items; parts = m.parts.items } };
+    ghost view = { λ m.
+        record { object = m.object; entries = m.entries.items; parts = m.parts.items } };
 
     ghost invariant = { λ m. AreGood (O.good m.object) (numbers 0 (O.count m.object)) m.parts.items
         × (opening : List O.Part) × IsMirrorOf O.meaning O.opens opening
         (record { object = m.object; entries = m.entries.items; parts = m.parts.items }) };
 }
 
-// Whether two entries are one.
+// Whether two entries have one station, one number and one call.
 fn is_same<C: Eq>(a: &Entry<C>, b: &Entry<C>) -> bool
     requires equality { (x y : C) → C.PartialEq.eq x y ≡ true → x ≡ y }
     ensures same { result ≡ true → a.now ≡ b.now }
@@ -59,7 +60,7 @@ impl<O: PartObject + Drop> Mirror<O> {
         }
     }
 
-    /// How many entries it has taken.
+    /// How many entries it has taken, which is the place of the next one.
     pub fn point(&self) -> u32
         ensures point { result ≡ length self.now.entries }
         ensures mirror { (opening : List O.Part) × IsMirrorOf O.meaning O.opens opening self.now }
@@ -67,7 +68,7 @@ impl<O: PartObject + Drop> Mirror<O> {
         self.entries.len() as u32
     }
 
-    /// What the entries that it has taken come to.
+    /// The parts that the entries come to that it has taken.
     pub fn parts(&self) -> &[O::Part]
         ensures parts { result.now ≡ self.now.parts }
         ensures mirror { (opening : List O.Part) × IsMirrorOf O.meaning O.opens opening self.now }
@@ -106,7 +107,7 @@ impl<O: PartObject + Drop> Mirror<O> {
         }
     }
 
-    // Takes the entry at the point.
+    // Takes the entry at the point, which goes on with the history. Where it does not, nothing has changed.
     fn add(&mut self, alloc: Global, entry: Entry<O::Call>) -> Result<(), MirrorFault>
         ensures takes { Takes (O.meaning self.old.object) self.old (length self.old.entries) entry
             self.new result }

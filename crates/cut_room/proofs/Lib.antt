@@ -6,3 +6,5 @@ pub mod Putting
 pub mod Cuts
 pub mod Replaying
 pub mod Stations
+pub mod Excerpts
+pub mod Standing

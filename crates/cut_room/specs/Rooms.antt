@@ -1,6 +1,6 @@
 -- A room of many stations: what the pass of a station knows before and after a call, and what the calls answer. A pass
 -- knows the entries that stood in the journal when the station last had an answer.
-use Rattle.std.specs.Prelude.{◌≡◌, ℕ, ◌+◌, ◌*◌, ◌<◌, ◌≤◌, List, [], ◌∷◌, ◌++◌, Vec, Option, Some, Result, Ok, Err, length, take, slice_get, option_map, sum_by}
+use Rattle.std.specs.Prelude.{◌≡◌, ℕ, ◌+◌, ◌*◌, ◌<◌, ◌≤◌, List, [], ◌∷◌, ◌++◌, Vec, Option, Some, None, Result, Ok, Err, IsOk, length, take, drop, slice_get, option_map, sum_by}
 use Rattle.std.specs.Global.{Global}
 use Rattle.room_core.specs.declared.entry.Entry.{Entry}
 use Rattle.room_core.specs.History.{replay, IsLegal, most_entries}
@@ -12,6 +12,7 @@ use Rattle.edit_journal.specs.declared.log.CopyFault.{CopyFault}
 use Rattle.edit_journal.specs.declared.log.CopyFault.TheVariants as fault
 use Rattle.cut_room.specs.declared.answers.Answer.{Answer}
 use Rattle.cut_room.specs.declared.answers.Answer.TheVariants as answer
+use Rattle.cut_room.specs.declared.answers.Excerpt.{Excerpt}
 use Rattle.cut_room.specs.declared.answers.Sight.{Sight}
 use Rattle.cut_room.specs.declared.answers.Sight.TheVariants as sight
 
@@ -80,12 +81,13 @@ module _ {O P C D R : Type 0} (m : Meaning P C D R) (opening : List P) where
     pub comes : replay (whole m) opening after.entries ≡ Some parts
     pub told_is : told asked seen parts ≡ Some answer
 
--- what an edit answers, of the entry that it would be, and what the pass knows then
+-- What an edit answers, of the entry that it would be, and what the pass knows then. One that is refused for its names is
+-- told so, whatever memory there is.
 abbrev pub Edited : {O P C D R A S Q : Type 0} → Meaning P C D R → List P → Entry C → Known O P C → Known O P C → Answer O P C D R A S Q → Type 0
 Edited m opening entry before after (answer.Done point done) = IsCommitted m opening entry before after point done
 Edited m opening entry before after (answer.Refused point refusal) = IsTurnedDown m opening entry.call before after point refusal
 Edited m opening entry before after (answer.Full point) = FindsNoRoom m opening entry.call before after point
-Edited m opening entry before after answer.Memory = Stays m opening before after
+Edited m opening entry before after answer.Memory = Stays m opening before after × (m.refuses entry.call ≡ None)
 
 -- the entries that stood before the point of an edit's answer, of those that the pass knows then
 abbrev pub stood_before : {O P C D R A S Q : Type 0} → List (Entry C) → Answer O P C D R A S Q → List (Entry C)
@@ -99,14 +101,20 @@ abbrev pub TakesAtMost : {P C D R : Type 0} → Meaning P C D R → List P → (
 TakesAtMost {P} m opening size call entries before after = (parts : List P) → replay (whole m) opening entries ≡ Some parts
     → after ≤ before + 32 * sum_by (λ p. size p + 64) (picked parts (m.names call))
 
--- what a question is answered
+-- What a question is answered. One that is about no part is told so, whatever memory there is.
 abbrev pub Looked : {O P C D R A S Q : Type 0} → Meaning P C D R → List P → Result ℕ Q → (P → Result S Q) → Known O P C → Known O P C → Sight O P C D R A S Q → Type 0
 Looked m opening asked seen before after (sight.Seen point what) = IsSight m opening asked seen before after point (Ok what)
 Looked m opening asked seen before after (sight.Refused point refusal) = IsSight m opening asked seen before after point (Err refusal)
-Looked m opening asked seen before after sight.Memory = Stays m opening before after
+Looked m opening asked seen before after sight.Memory = Stays m opening before after × IsOk asked
 
 -- the parts after so many of the entries that the pass knows now
 abbrev pub IsCut : {O P C D R : Type 0} → Meaning P C D R → List P → ℕ → Known O P C → Known O P C → Result (Vec P Global) CopyFault → Type 0
 IsCut m opening n before after (Ok parts) = Stays m opening before after × (n ≤ length after.entries) × (replay (whole m) opening (take n after.entries) ≡ Some parts.items)
 IsCut m opening n before after (Err (fault.NoPoint count)) = IsAtPoint m opening before after count × (count < n)
 IsCut m opening n before after (Err fault.Memory) = Stays m opening before after × (n ≤ length after.entries)
+
+-- the entries from one on, at most so many, of those that the pass knows now, which are all that the journal has
+abbrev pub IsExcerpt : {O P C D R : Type 0} → Meaning P C D R → List P → ℕ → ℕ → Known O P C → Known O P C → Result (Excerpt C) CopyFault → Type 0
+IsExcerpt m opening from most before after (Ok e) = IsAtPoint m opening before after e.length × (from ≤ e.length) × (e.entries.items ≡ take most (drop from after.entries))
+IsExcerpt m opening from most before after (Err (fault.NoPoint count)) = IsAtPoint m opening before after count × (count < from)
+IsExcerpt m opening from most before after (Err fault.Memory) = IsAtPoint m opening before after (length after.entries) × (from ≤ length after.entries)

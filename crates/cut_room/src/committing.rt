@@ -15,8 +15,11 @@ use track_locks::Held;
 // What became of an entry: it stands at a place, or the journal had no room, or there was no memory.
 #[derive(Clone, Copy, Debug, PartialEq, Eq)]
 pub enum Appended {
+    // It is the entry at this place, counted from 0.
     At(u32),
+    // The journal has its most entries.
     Full,
+    // There was no memory for the entry.
     Memory,
 }
 
@@ -39,7 +42,7 @@ pub fn gather<O: PartObject, J: Naming<O, O::Part>>(
     turn.look()
 }
 
-// Adds an entry.
+// Adds an entry, or says why it was not added. The tokens stay at the journal.
 pub fn append<O: PartObject, J: Naming<O, O::Part>>(
     alloc: Global,
     turn: &mut Turn<'_, O, J>,

@@ -1,24 +1,35 @@
 // Cuts that are kept, behind their lock, and what a cut is begun from.
-ghost use Rattle.std.specs.Prelude.{◌≡◌, ◌+◌, ◌-◌, ◌<◌, ◌≤◌, ◌↔◌, [], true, IfErr, IfOk, IsSome, OnOk, Some, drop, length, take};
+ghost use Rattle.std.specs.Prelude.{◌≡◌, ◌+◌, ◌-◌, ◌<◌, ◌≤◌, [], IfErr, IfOk, IsSome, OnOk, Some, drop, length, take};
 ghost use Rattle.room_core.specs.Projection.{of_station};
 ghost use Rattle.edit_journal.specs.declared.name.Name.TheVariants.{Station};
 ghost use Rattle.edit_journal.specs.Faults.{SaysNoPoint};
 ghost use Rattle.edit_journal.specs.Turns.{AreFresh, IsJournal, StandsIn};
-ghost use Rattle.history_points.specs.KeptCuts.{IsCutOf, MayKeep, kept_at};
+ghost use Rattle.history_points.specs.KeptCuts.{IsCutOf, kept_at};
 
 use crate::CutFault;
 use edit_journal::{Naming, Pass, Turn};
-use history_points::{KEPT_EVERY, Points, copy_parts};
+use history_points::{Points, copy_parts};
 use room_core::{Entry, Memory, PartObject};
 use std::alloc::Global;
 use std::marker::Model;
 
-// What a cut is begun from: the parts after the first `from` entries, and the entries behind them.
+/// How many entries a journal gains from one cut that is kept to the next. Once there are as many cuts as are kept, those
+/// that are kept stand further apart.
+pub const KEPT_EVERY: u32 = 256;
+
+// What a cut is begun from: the parts after the first `from` entries, and the entries after these.
 #[derive(Drop)]
 pub struct Begun<O: PartObject> {
     pub from: u32,
     pub parts: Vec<O::Part>,
     pub entries: Vec<Entry<O::Call>>,
+}
+
+// All parts, as they stand after the first `point` entries.
+#[derive(Drop)]
+pub struct Standing<O: PartObject> {
+    pub point: u32,
+    pub parts: Vec<O::Part>,
 }
 
 // What lies behind the lock: cuts of the journal's history, and the pass of its last station, which adds no entry.
@@ -82,7 +93,7 @@ impl<O: PartObject, J: Naming<O, O::Part>> Kept<O, J> {
         }
     }
 
-    // A copy of the cut at such a point.
+    // A copy of the cut that is kept at a point, or of the opening at 0.
     pub fn copy(
         &self,
         alloc: Global,
@@ -102,20 +113,20 @@ impl<O: PartObject, J: Naming<O, O::Part>> Kept<O, J> {
         self.points.copy(alloc, object, k)
     }
 
-    // Keeps a cut, where there is memory.
+    // Keeps a cut, where there is memory. Where there are as many as may be, another one is let go first.
     pub fn keep(&mut self, k: u32, parts: Vec<O::Part>)
-        requires point { MayKeep k }
         requires within { k ≤ length self.old.pass.entries }
         requires cut { IsCutOf O.meaning O.good O.count J.opening self.old.pass.entries k
             parts.items }
     {
+        self.points.make_room();
         match self.points.keep(k, parts) {
             Ok(()) => {}
             Err(Memory) => {}
         }
     }
 
-    // The pass. The cuts are let go.
+    // Gives the pass of the last station, which has no entry. The cuts are let go.
     pub fn into_pass(self) -> Pass<O, J>
         ensures last { result.number + 1 ≡ J.stations }
         ensures own { of_station result.number result.entries ≡ [] }
@@ -124,7 +135,7 @@ impl<O: PartObject, J: Naming<O, O::Part>> Kept<O, J> {
     }
 }
 
-// The passes of a new journal but the last one, and that.
+// The passes of a new journal but for that of its last station, and that one by itself.
 pub fn without_last<O: PartObject, J: Naming<O, O::Part>>(
     passes: Vec<Pass<O, J>>,
 ) -> (Vec<Pass<O, J>>, Pass<O, J>)
@@ -141,7 +152,7 @@ pub fn without_last<O: PartObject, J: Naming<O, O::Part>>(
     }
 }
 
-// The entries from one point up to another, or why there are none.
+// Copies of the entries from one point up to another, or how many there are where they are fewer.
 pub fn entries_between<O: PartObject, J: Naming<O, O::Part>>(
     alloc: Global,
     turn: &Turn<'_, O, J>,
@@ -162,14 +173,7 @@ pub fn entries_between<O: PartObject, J: Naming<O, O::Part>>(
     turn.entries(alloc, object, from, n - from)
 }
 
-// Whether a cut may be kept at a point.
-pub fn is_kept_at(point: u32) -> bool
-    ensures { result ≡ true → MayKeep point }
-{
-    point > 0 && point % KEPT_EVERY == 0
-}
-
-// The next point behind one at which a cut may be kept, but at most `n`.
+// The next point after one at which a cut is kept on the way to `n`, but at most `n`.
 pub fn next_kept(at: u32, n: u32) -> u32
     requires { at < n }
     ensures further { at < result }

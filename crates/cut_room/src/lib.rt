@@ -10,7 +10,8 @@ mod committing;
 mod keeping;
 mod room;
 
-pub use answers::{Answer, Sight};
+pub use answers::{Answer, Excerpt, Sight};
 /// Why there is no cut: why entries were not copied.
 pub use edit_journal::CopyFault as CutFault;
+pub use keeping::KEPT_EVERY;
 pub use room::{Room, RoomBlank};

@@ -1,5 +1,5 @@
 // A room of many stations: an object, the locks of its parts, and its journal.
-ghost use Rattle.std.specs.Prelude.{◌≡◌, ◌<◌, ◌≤◌, [], ◌∷◌, ℕ, None, Some, Ok, All, IfOk, length, map};
+ghost use Rattle.std.specs.Prelude.{◌≡◌, ◌≢◌, ◌<◌, ◌≤◌, [], ◌∷◌, ℕ, None, Some, Ok, All, IfOk, length, map};
 ghost use Rattle.out_of_memory.specs.Answers.{Tells};
 ghost use Rattle.room_core.specs.History.{IsLegal};
 ghost use Rattle.room_core.specs.Parts.{AreGood, numbers};
@@ -12,6 +12,8 @@ ghost use Rattle.cut_room.specs.Gathered.{ComesTo};
 ghost use Rattle.cut_room.specs.Rooms.{Edited, IsAtPoint, Looked, TakesAtMost, stood_before};
 
 mod cuts;
+mod excerpts;
+mod standing;
 
 use crate::committing::{Appended, append, gather, give_back, settle};
 use crate::keeping::{Kept, without_last};
@@ -186,6 +188,7 @@ impl<O: PartObject + Drop, J: Naming<O, O::Part>> Room<O, J> {
             result.1 }
         ensures most { TakesAtMost (O.meaning self.now.object) self.now.parts O.size call
             (stood_before result.0.entries result.1) steps.old steps.new }
+        ensures names { (O.meaning self.now.object).refuses call ≢ None → steps.new ≡ steps.old }
     {
         match self.object.refuse_names(&call) {
             Some(refusal) => {
@@ -207,7 +210,8 @@ impl<O: PartObject + Drop, J: Naming<O, O::Part>> Room<O, J> {
         }
     }
 
-    // Does the call of an entry on copies of the parts that are held for it.
+    // Does the call of an entry on copies of the parts that are held for it, commits it where it applies,
+    // and lets the parts go.
     fn edit_held<R: Wait, G: Gate, L: Ledger>(
         &self,
         rt: &R,
@@ -226,7 +230,8 @@ impl<O: PartObject + Drop, J: Naming<O, O::Part>> Room<O, J> {
         requires few { length held.numbers ≤ 32 }
         requires station { entry.station ≡ pass.number }
         requires number { last_of pass.number pass.entries < entry.number }
-        ensures edited { Edited (O.meaning self.now.object) self.now.parts entry pass result.0 result.1 }
+        ensures edited { Edited (O.meaning self.now.object) self.now.parts entry
+            pass result.0 result.1 }
         ensures most { TakesAtMost (O.meaning self.now.object) self.now.parts O.size entry.call
             (stood_before result.0.entries result.1) steps.old steps.new }
     {
@@ -254,9 +259,9 @@ impl<O: PartObject + Drop, J: Naming<O, O::Part>> Room<O, J> {
     }
 
     // Puts an entry into the journal whose call left these parts of those that are held. The call was done on what the
-    // entries known to their seats come to; behind all entries that stand at the turn it does the same, since no other
-    // has named these parts. It then puts the parts back as the call left them or, where there is no room for the
-    // entry, as they were.
+    // entries known to their seats come to; after all entries that stand at the turn it leaves and answers just that,
+    // since no entry that came meanwhile has named these parts. It then puts the parts back as the call left them or,
+    // where there is no room for the entry, as they were.
     fn commit<R: Wait>(
         &self,
         rt: &R,
@@ -267,18 +272,26 @@ impl<O: PartObject + Drop, J: Naming<O, O::Part>> Room<O, J> {
         entry: Entry<O::Call>,
         done: O::Done,
     ) -> (Pass<O, J>, Answer<O>)
+        // The parts that the call names are held, as the entries come to them that their seats know.
         requires named { (O.meaning self.now.object).refuses entry.call ≡ None }
         requires numbers { held.numbers ≡ (O.meaning self.now.object).names entry.call }
         requires homes { AreHomes O.meaning O.opens J.opening held.numbers held.parts held.versions
             held.seats }
         requires good { AreGoodAt O.good J.opening held.numbers held.parts }
         requires few { length held.numbers ≤ 32 }
+
+        // The entry is the next one of the pass's station.
         requires station { entry.station ≡ pass.number }
         requires number { last_of pass.number pass.entries < entry.number }
+
+        // Its call, done on what is held, left these parts and this answer.
         requires applies { (O.meaning self.now.object).applied held.parts entry.call
             ≡ Ok (parts.items, done) }
         requires good_now { AreGood (O.good self.now.object) held.numbers parts.items }
-        ensures edited { Edited (O.meaning self.now.object) self.now.parts entry pass result.0 result.1 }
+
+        // The answer is that of an edit, and what was held is what the entries before its point come to.
+        ensures edited { Edited (O.meaning self.now.object) self.now.parts entry
+            pass result.0 result.1 }
         ensures parts { ComesTo (O.meaning self.now.object) self.now.parts
             (stood_before result.0.entries result.1) held.entry.numbers held.entry.parts }
     {
@@ -340,8 +353,9 @@ impl<O: PartObject + Drop, J: Naming<O, O::Part>> Room<O, J> {
         pass: Pass<O, J>,
         ask: &O::Ask,
     ) -> (Pass<O, J>, Sight<O>)
-        ensures looked { Looked (O.meaning self.now.object) self.now.parts (O.asked self.now.object ask.now)
-            (λ p. O.seen self.now.object p ask.now) pass result.0 result.1 }
+        ensures looked { Looked (O.meaning self.now.object) self.now.parts
+            (O.asked self.now.object ask.now) (λ p. O.seen self.now.object p ask.now)
+            pass result.0 result.1 }
     {
         let part = match self.object.ask_part(ask) {
             Ok(part) => part,
@@ -366,7 +380,7 @@ impl<O: PartObject + Drop, J: Naming<O, O::Part>> Room<O, J> {
         }
     }
 
-    // Waits for the lock of one part, and takes it.
+    // Waits for the lock of one part, and holds that part alone.
     fn hold_one<R: Wait>(&self, rt: &R, alloc: Global, part: u32) -> Result<Held<'_, O, J>, Memory>
         requires { part < O.count self.now.object }
         ensures numbers { IfOk result (λ h. h.numbers ≡ part ∷ []) }

@@ -12,7 +12,7 @@ use std::alloc::Global;
 use std::marker::{Model, PhantomData};
 use std::sync::{Mutex, Wait};
 
-/// A new table, of which no journal is made yet.
+/// A new table of an opening, a count of parts and one of stations, of which no journal is made yet.
 #[derive(Drop)]
 pub struct Blank<O: PartObject> {
     words: Words<O>,
@@ -136,7 +136,7 @@ impl<O: PartObject, J: Naming<O, O::Part>> Journal<O, J> {
         entries
     }
 
-    /// The same, with one pass more, for which the others need no room.
+    /// Ends the journal as `close` does, with one pass beside the others, so that their list need not grow for it.
     pub fn close_with(self, passes: Vec<Pass<O, J>>, more: Pass<O, J>) -> Vec<Entry<O::Call>>
         ensures journal { IsJournal O.meaning O.opens J.stations J.opening result.items }
         ensures passes { All (λ p. StandsIn O.meaning J.opening result.items
@@ -157,7 +157,7 @@ impl<O: PartObject, J: Naming<O, O::Part>> Journal<O, J> {
     }
 }
 
-// A seat for each part.
+// A seat for each part, in ascending order, which knows no entry.
 fn seats_of<O: PartObject, J: Naming<O, O::Part>>(
     alloc: Global,
     log: &mut Log<O, J>,
@@ -179,7 +179,7 @@ fn seats_of<O: PartObject, J: Naming<O, O::Part>>(
     Ok(seats)
 }
 
-// A pass for each station.
+// A pass for each station, in ascending order, which knows no entry.
 fn passes_of<O: PartObject, J: Naming<O, O::Part>>(
     alloc: Global,
     log: &mut Log<O, J>,
@@ -198,7 +198,7 @@ fn passes_of<O: PartObject, J: Naming<O, O::Part>>(
     Ok(passes)
 }
 
-// Takes these passes in for good.
+// Takes these passes in for good. What each knew begins the journal, which has no entry more of its station.
 fn take_all_back<O: PartObject, J: Naming<O, O::Part>>(
     log: &mut Log<O, J>,
     words: &Words<O>,
@@ -213,7 +213,7 @@ fn take_all_back<O: PartObject, J: Naming<O, O::Part>>(
     }
 }
 
-// The same, with one pass more.
+// Takes in the passes of a list, and one pass beside them.
 fn take_each_back<O: PartObject, J: Naming<O, O::Part>>(
     log: &mut Log<O, J>,
     words: &Words<O>,

@@ -21,6 +21,7 @@ pub const MOST_ENTRIES: u32 = 100_000;
 pub enum CopyFault {
     /// There are fewer entries: so many.
     NoPoint(u32),
+    /// There was no memory for the copies.
     Memory,
 }
 
@@ -28,8 +29,11 @@ pub enum CopyFault {
 #[derive(Drop)]
 pub struct Log<O: PartObject, J: Naming<O, O::Part>> {
     pub(crate) entries: Vec<Entry<O::Call>>,
+    // The greatest number of each station's entries, 0 before the first.
     pub(crate) lasts: Vec<u32>,
+    // The journal's own seat, which has the names of all tokens that are not out.
     pub(crate) keeper: Token<O>,
+    // Which journal it is of.
     pub(crate) of: PhantomData<J>,
 }
 
@@ -48,6 +52,7 @@ impl<O: PartObject, J: Naming<O, O::Part>> Model for Log<O, J> {
 }
 
 impl<O: PartObject, J: Naming<O, O::Part>> Log<O, J> {
+    // Takes in the seat of a part: from then on entries may name the part.
     pub fn gather_seat(&mut self, words: &Words<O>, seat: PartSeat<O, J>)
         requires words { (words.now.shared.table_id ≡ J.table) × (J.table.words ≡ 1) }
         ensures at { self.new.0 ≡ gathered (Part seat.number) seat.opening seat.entries self.old.0 }
@@ -56,6 +61,7 @@ impl<O: PartObject, J: Naming<O, O::Part>> Log<O, J> {
         take(words, &mut self.keeper, seat.token);
     }
 
+    // Takes in the pass of a station: from then on entries may be the station's.
     pub fn gather_pass(&mut self, words: &Words<O>, pass: Pass<O, J>)
         requires words { (words.now.shared.table_id ≡ J.table) × (J.table.words ≡ 1) }
         ensures at { self.new.0 ≡ gathered (Station pass.number) pass.opening pass.entries
@@ -76,7 +82,8 @@ impl<O: PartObject, J: Naming<O, O::Part>> Log<O, J> {
         self.look(words);
     }
 
-    // How many entries there are, and what they are.
+    // How many entries there are. They are a legal history of the opening, and what each gathered token knew begins
+    // them and agrees with them on its name.
     pub fn look(&mut self, words: &Words<O>) -> u32
         requires words { (words.now.shared.table_id ≡ J.table) × (J.table.words ≡ 1) }
         ensures count { result ≡ length self.old.0.entries }
@@ -90,6 +97,7 @@ impl<O: PartObject, J: Naming<O, O::Part>> Log<O, J> {
         self.entries.len() as u32
     }
 
+    // Gives out the seat of a part, which knows all entries that there are.
     pub fn give_seat(&mut self, words: &Words<O>, part: u32) -> PartSeat<O, J>
         requires words { (words.now.shared.table_id ≡ J.table) × (J.table.words ≡ 1) }
         requires has { In (Part part) self.old.0.names }
@@ -106,6 +114,7 @@ impl<O: PartObject, J: Naming<O, O::Part>> Log<O, J> {
         }
     }
 
+    // Gives out the pass of a station, which knows all entries that there are and its last number.
     pub fn give_pass(&mut self, words: &Words<O>, station: u32) -> Pass<O, J>
         requires words { (words.now.shared.table_id ≡ J.table) × (J.table.words ≡ 1) }
         requires has { In (Station station) self.old.0.names }
@@ -124,6 +133,7 @@ impl<O: PartObject, J: Naming<O, O::Part>> Log<O, J> {
         }
     }
 
+    // Makes room for one entry, so that adding it takes no memory.
     pub fn reserve(&mut self) -> Result<(), Memory>
         ensures at { self.new.0 ≡ self.old.0 }
         ensures ok { OnOk result (length self.new.0.entries < self.new.1) }
@@ -155,7 +165,7 @@ impl<O: PartObject, J: Naming<O, O::Part>> Log<O, J> {
         Ok(place)
     }
 
-    // The entries from a place on, at most so many.
+    // Copies of the entries from a place on, at most so many, or how many there are where that is past them.
     pub fn copy_from(
         &self,
         alloc: Global,
@@ -176,7 +186,7 @@ impl<O: PartObject, J: Naming<O, O::Part>> Log<O, J> {
         Ok(copied(alloc, object, &rest[..wanted as usize])?)
     }
 
-    // The first n entries.
+    // Copies of the first n entries, or how many there are where they are fewer.
     pub fn copy_to(
         &self,
         alloc: Global,
@@ -195,7 +205,7 @@ impl<O: PartObject, J: Naming<O, O::Part>> Log<O, J> {
     }
 }
 
-// These entries, copied.
+// Copies of these entries, in their order.
 fn copied<O: PartObject>(
     alloc: Global,
     object: &O,

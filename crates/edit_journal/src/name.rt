@@ -4,7 +4,9 @@ use std::marker::Brand;
 /// What an entry names, and what a token stands for: a part of the object, or a station.
 #[derive(Clone, Copy, Debug, PartialEq, Eq)]
 pub enum Name {
+    /// The part with this number.
     Part(u32),
+    /// The station with this number.
     Station(u32),
 }
 
@@ -14,10 +16,13 @@ pub trait Naming<O, P> {
     ghost use Rattle.atomic_table.specs.Seated.{TableId};
     ghost use Rattle.edit_journal.specs.Seats.{Opening};
 
+    /// The table that the journal's tokens are seats of.
     ghost table: { TableId };
 
+    /// The object and the parts that it begins with.
     ghost opening: { Option (Opening O P) };
 
+    /// How many stations it has.
     ghost stations: { ℕ };
 }
 

@@ -11,6 +11,7 @@ use room_core::{Entry, PartObject};
 use std::alloc::{AllocError, Global};
 use std::marker::Brand;
 
+// The journal's table: one word, the number of entries, and what each seat of it knows.
 pub type Words<O> = Table<
     (),
     View<O, <O as PartObject>::Part, <O as PartObject>::Call>,
@@ -19,6 +20,7 @@ pub type Words<O> = Table<
     Global,
 >;
 
+// A seat of that table.
 pub type Token<O> = Seat<(), View<O, <O as PartObject>::Part, <O as PartObject>::Call>>;
 
 // A new table, with the seat of its journal.
@@ -52,7 +54,7 @@ pub fn look<O: PartObject>(words: &Words<O>, seat: &mut Token<O>) -> u64
     words.shared.load::<Looks>(seat, 0)
 }
 
-// Gives up a name to a new token.
+// Gives up a name to a new token, which knows all entries that there are. The name is picked by the call's type.
 fn give<O: PartObject, T: Wanted>(words: &Words<O>, seat: &mut Token<O>, name: Name) -> Token<O>
     requires seat { (seat.old.table_id ≡ words.now.shared.table_id)
         × (words.now.shared.table_id.words ≡ 1) }
@@ -67,7 +69,7 @@ fn give<O: PartObject, T: Wanted>(words: &Words<O>, seat: &mut Token<O>, name: N
     words.shared.split_seat::<Gives<T>>(seat)
 }
 
-// Takes a token's names in.
+// Takes a token's names in, and remembers what it knew.
 pub fn take<O: PartObject>(words: &Words<O>, seat: &mut Token<O>, other: Token<O>)
     requires seat { (seat.old.table_id ≡ words.now.shared.table_id)
         × (words.now.shared.table_id.words ≡ 1) }
@@ -80,7 +82,7 @@ pub fn take<O: PartObject>(words: &Words<O>, seat: &mut Token<O>, other: Token<O
     words.shared.join_seat::<Takes>(seat, other);
 }
 
-// Adds an entry, whose names the seat has.
+// Adds an entry, whose part and station the seat has. The entry is picked by the call's type.
 fn append<O: PartObject, T: Entered<O::Call>>(
     words: &Words<O>,
     seat: &mut Token<O>,
@@ -100,7 +102,7 @@ fn append<O: PartObject, T: Entered<O::Call>>(
     words.shared.store::<Adds<T>>(seat, 0, count + 1);
 }
 
-// The same, of a name that is known when it runs.
+// Gives up a name to a new token, as `give` does, where the name is a value.
 pub fn give_name<O: PartObject>(words: &Words<O>, seat: &mut Token<O>, name: Name) -> Token<O>
     requires seat { (seat.old.table_id ≡ words.now.shared.table_id)
         × (words.now.shared.table_id.words ≡ 1) }
@@ -114,7 +116,7 @@ pub fn give_name<O: PartObject>(words: &Words<O>, seat: &mut Token<O>, name: Nam
     give::<O, Brand>(words, seat, name)
 }
 
-// The same, of an entry that is known when it runs.
+// Adds an entry, as `append` does, where the entry is a value.
 pub fn append_entry<O: PartObject>(
     words: &Words<O>,
     seat: &mut Token<O>,

@@ -13,6 +13,7 @@ use std::marker::{Model, PhantomData};
 pub struct PartSeat<O: PartObject, J: Naming<O, O::Part>> {
     pub(crate) part: u32,
     pub(crate) token: Token<O>,
+    // Which journal it is of.
     pub(crate) of: PhantomData<J>,
 }
 
@@ -49,8 +50,10 @@ impl<O: PartObject, J: Naming<O, O::Part>> PartSeat<O, J> {
 #[derive(Drop)]
 pub struct Pass<O: PartObject, J: Naming<O, O::Part>> {
     pub(crate) station: u32,
+    // The greatest number of the station's own entries.
     pub(crate) last: u32,
     pub(crate) token: Token<O>,
+    // Which journal it is of.
     pub(crate) of: PhantomData<J>,
 }
 

@@ -17,6 +17,7 @@ use std::sync::MutexGuard;
 pub struct Turn<'a, O: PartObject, J: Naming<O, O::Part>> {
     pub(crate) log: MutexGuard<'a, Log<O, J>>,
     pub(crate) words: &'a Words<O>,
+    // How many tokens it has gathered and not given back.
     pub(crate) tokens: u32,
 }
 
@@ -37,7 +38,7 @@ impl<'a, O: PartObject, J: Naming<O, O::Part>> Model for Turn<'a, O, J> {
 }
 
 impl<'a, O: PartObject, J: Naming<O, O::Part>> Turn<'a, O, J> {
-    /// Takes in the seat of a part.
+    /// Takes in the seat of a part, so that entries may name the part in this turn.
     pub fn gather_seat(&mut self, seat: PartSeat<O, J>)
         requires tokens { self.old.tokens < 4294967295 }
         ensures at { self.new.journal ≡ gathered
@@ -48,7 +49,7 @@ impl<'a, O: PartObject, J: Naming<O, O::Part>> Turn<'a, O, J> {
         self.tokens += 1;
     }
 
-    /// Takes in the pass of a station.
+    /// Takes in the pass of a station, so that entries may be the station's in this turn.
     pub fn gather_pass(&mut self, pass: Pass<O, J>)
         requires tokens { self.old.tokens < 4294967295 }
         ensures at { self.new.journal ≡ gathered
@@ -98,7 +99,7 @@ impl<'a, O: PartObject, J: Naming<O, O::Part>> Turn<'a, O, J> {
         self.log.give_pass(self.words, station)
     }
 
-    /// Makes room for one entry.
+    /// Makes room for one entry, so that adding it takes no memory.
     pub fn reserve(&mut self, _alloc: Global) -> Result<(), Memory>
         ensures same { (self.new.journal ≡ self.old.journal) × (self.new.tokens ≡ self.old.tokens) }
         ensures ok { OnOk result (length self.new.journal.entries < self.new.room) }
@@ -113,10 +114,12 @@ impl<'a, O: PartObject, J: Naming<O, O::Part>> Turn<'a, O, J> {
         requires above { last_of entry.station self.old.journal.entries < entry.number }
         requires applies { Applies O.meaning self.old.journal entry }
 
+        // The entry is the last one, and its place is how many were there before.
         ensures ok { OnOk result (self.new.journal ≡ entered entry self.old.journal) }
         ensures place { IfOk result (λ n. (n ≡ length self.old.journal.entries) × (n < 100000)) }
         ensures tokens { self.new.tokens ≡ self.old.tokens }
 
+        // A full journal takes none, and nothing has changed.
         ensures full { OnErr result (length self.old.journal.entries ≡ 100000) }
         ensures back { IfErr result (λ e. e ≡ entry) }
         ensures err { OnErr result (self.new ≡ self.old) }
@@ -124,7 +127,8 @@ impl<'a, O: PartObject, J: Naming<O, O::Part>> Turn<'a, O, J> {
         self.log.append(self.words, entry)
     }
 
-    /// The entries from `from` on: all of them or, where there are more than `most`, the first `most` of them.
+    /// Copies of the entries from `from` on, the first `most` where there are more, or how many there are where `from`
+    /// is past them.
     pub fn entries(
         &self,
         alloc: Global,
@@ -140,7 +144,7 @@ impl<'a, O: PartObject, J: Naming<O, O::Part>> Turn<'a, O, J> {
         self.log.copy_from(alloc, object, from, most)
     }
 
-    /// The first n entries.
+    /// Copies of the first `n` entries, or how many there are where they are fewer.
     pub fn copy_to(
         &self,
         alloc: Global,
@@ -154,7 +158,7 @@ impl<'a, O: PartObject, J: Naming<O, O::Part>> Turn<'a, O, J> {
         self.log.copy_to(alloc, object, n)
     }
 
-    /// Ends the turn.
+    /// Ends the turn, so that others get theirs. All that was gathered has been given back.
     pub fn release(self)
         requires { self.tokens ≡ 0 }
     {

@@ -9,21 +9,31 @@ use std::marker::{Brand, PhantomData};
 
 /// What a journal begins with: an object, and the parts that it opens with.
 pub struct Beginning<O: PartObject> {
+    /// The object whose history the journal is.
     pub object: O,
+    /// Its parts before the first entry.
     pub parts: Vec<O::Part>,
+    /// How many parts get a seat.
     pub part_count: u32,
+    /// How many stations get a pass.
     pub station_count: u32,
 }
 
 // What a seat knows. It is the journal's where it keeps. No value of it is made.
 pub struct View<O, P, C> {
+    // Whether it is the journal's own seat.
     pub keeps: bool,
+    // The object and the parts that the journal begins with.
     pub opening: Option<(O, LinkedList<P>)>,
+    // The names that it has.
     pub names: LinkedList<Name>,
+    // The entries that it knows; the journal's own seat knows all.
     pub entries: LinkedList<Entry<C>>,
+    // What each token knew that was taken in, by the token's name.
     pub remembered: LinkedList<(Name, (Option<(O, LinkedList<P>)>, LinkedList<Entry<C>>))>,
 }
 
+// The rule that all seats of the table keep together.
 pub struct Law;
 
 impl<O: PartObject> TableRule<(), View<O, O::Part, O::Call>, Beginning<O>> for Law {
@@ -41,6 +51,7 @@ pub trait Wanted {
     ghost use Rattle.std.specs.Prelude.{Option};
     ghost use Rattle.edit_journal.specs.declared.name.Name.{Name};
 
+    /// That name, if the step is about one.
     ghost wanted: { Option Name };
 }
 
@@ -55,6 +66,7 @@ pub trait Entered<C> {
     ghost use Rattle.std.specs.Prelude.{Option};
     ghost use Rattle.room_core.specs.declared.entry.Entry.{Entry};
 
+    /// That entry, if the step is about one.
     ghost entry: { Option (Entry C) };
 }
 

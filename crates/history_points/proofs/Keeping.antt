@@ -1,5 +1,5 @@
 -- What is kept stays so: cuts of what begins a history are cuts of the history, and one cut more is kept.
-use Rattle.std.proofs.Common.{◌≡◌, ℕ, ◌≤◌, List, [], length, take, Bool, true, false, cond, Vec, Option, Some, Result, Ok, Err, IfOk, IsSome, refl, sym, ap, ◌∙◌, arith, subst}
+use Rattle.std.proofs.Common.{◌≡◌, ℕ, ◌+◌, ◌<◌, ◌≤◌, List, [], length, take, Bool, true, false, cond, Vec, Option, Some, Result, Ok, Err, IfOk, IsSome, refl, sym, ap, ◌∙◌, arith, subst}
 use Rattle.std.specs.BTreeMap.{is_at}
 use Rattle.std.specs.Global.{Global}
 use Rattle.std.specs.Ordering.{is_eq, is_gt, is_lt, nat_cmp}
@@ -11,7 +11,7 @@ use Rattle.room_core.specs.Projection.{of_station}
 use Rattle.room_core.specs.Whole.{Meaning, whole}
 use Rattle.edit_journal.specs.Seats.{Begins, Opening}
 use Rattle.edit_journal.specs.Turns.{Known}
-use Rattle.history_points.specs.KeptCuts.{IsCutOf, AreKept, MayKeep, kept_at}
+use Rattle.history_points.specs.KeptCuts.{IsCutOf, AreKept, kept_at, most_kept}
 
 is_some : {A : Type 0} (o : Option A) (a : A) → o ≡ Some a → IsSome o
 is_some o a h = rw h refl
@@ -39,7 +39,7 @@ module _ {O P C D R : Type 0} (meaning : O → Meaning P C D R) (good : O → �
       → AreKept meaning good count opening (record { pass = pass; cuts = cuts })
   nothing_kept pass cuts none own =
       subst (λ (l : List (ℕ × Vec P Global)). AreKept meaning good count opening (record { pass = pass; cuts = l })) (sym none)
-      record { own = own; points = λ k some. absurd (Prim.grind (arith, some)); cuts = λ k parts is. absurd (Prim.grind (arith, is)) }
+      record { own = own; points = λ k some. absurd (Prim.grind (arith, some)); cuts = λ k parts is. absurd (Prim.grind (arith, is)); few = omega arith }
 
   pub cut_further : (entries log : List (Entry C)) (point : ℕ) (parts : List P) → Begins log entries → point ≤ length entries
       → IsCutOf meaning good count opening entries point parts → IsCutOf meaning good count opening log point parts
@@ -58,29 +58,42 @@ module _ {O P C D R : Type 0} (meaning : O → Meaning P C D R) (good : O → �
     points = λ k some.
         let p = h.points k some in
         let longer = ap (λ (l : List (Entry C)). length l) (entries ∙ front.1) in
-        (p.0, omega (arith, longer, length-append before.entries front.0, p.1));
+        omega (arith, longer, length-append before.entries front.0, p);
     cuts = λ k parts is.
-        let within = (h.points k (is_some (kept_at cuts k) parts is)).1 in
+        let within = h.points k (is_some (kept_at cuts k) parts is) in
         subst (λ (l : List (Entry C)). IsCutOf meaning good count opening l k parts.items) (sym entries)
         (cut_further before.entries log k parts.items front within (h.cuts k parts is));
+    few = h.few;
   }
 
   -- one cut more
   pub kept_more : (pass : Known O P C) (before after : List (ℕ × Vec P Global)) (point : ℕ) (parts : Vec P Global) → AreKept meaning good count opening (record { pass = pass; cuts = before })
-      → MayKeep point → point ≤ length pass.entries → IsCutOf meaning good count opening pass.entries point parts.items
+      → length after ≤ most_kept → point ≤ length pass.entries → IsCutOf meaning good count opening pass.entries point parts.items
       → ((k : ℕ) → kept_at after k ≡ cond (is_at (nat_cmp point) k) (Some parts) (kept_at before k))
       → AreKept meaning good count opening (record { pass = pass; cuts = after })
-  kept_more pass before after point parts h may within cut is = record {
+  kept_more pass before after point parts h few within cut is = record {
     own = h.own;
     points = λ k some.
-        points_step (is_at (nat_cmp point) k) parts (kept_at before k) (MayKeep k × (k ≤ length pass.entries))
-        (λ at. subst (λ (n : ℕ). MayKeep n × (n ≤ length pass.entries)) (sym (same_point point k at)) (may, within))
+        points_step (is_at (nat_cmp point) k) parts (kept_at before k) (k ≤ length pass.entries)
+        (λ at. subst (λ (n : ℕ). n ≤ length pass.entries) (sym (same_point point k at)) within)
         (λ had. h.points k had) (subst (λ (o : Option (Vec P Global)). IsSome o) (is k) some);
     cuts = λ k found there.
         cuts_step (is_at (nat_cmp point) k) parts found (kept_at before k) (IsCutOf meaning good count opening pass.entries k found.items)
         (λ at same. subst (λ (v : Vec P Global). IsCutOf meaning good count opening pass.entries k v.items) same
         (subst (λ (n : ℕ). IsCutOf meaning good count opening pass.entries n parts.items) (sym (same_point point k at)) cut))
         (λ had. h.cuts k found had) (sym (is k) ∙ there);
+    few = few;
+  }
+
+  -- fewer cuts
+  pub kept_fewer : (pass : Known O P C) (before after : List (ℕ × Vec P Global)) → AreKept meaning good count opening (record { pass = pass; cuts = before })
+      → length after ≤ most_kept → ((k : ℕ) → IsSome (kept_at after k) → kept_at after k ≡ kept_at before k)
+      → AreKept meaning good count opening (record { pass = pass; cuts = after })
+  kept_fewer pass before after h few is = record {
+    own = h.own;
+    points = λ k some. h.points k (subst (λ (o : Option (Vec P Global)). IsSome o) (is k some) some);
+    cuts = λ k found there. h.cuts k found (sym (is k (is_some (kept_at after k) found there)) ∙ there);
+    few = few;
   }
 
   -- copies of the parts of a cut
@@ -88,3 +101,8 @@ module _ {O P C D R : Type 0} (meaning : O → Meaning P C D R) (good : O → �
       → IfOk r (λ v. v.items ≡ parts) → IfOk r (λ v. IsCutOf meaning good count opening entries point v.items)
   copied_cut entries point parts (Ok v) cut same = subst (λ (l : List P). IsCutOf meaning good count opening entries point l) (sym same) cut
   copied_cut entries point parts (Err e) cut same = tt
+
+-- one that is put in is at most one more
+pub one_more : (b : Bool) (before after : ℕ) → before < most_kept → after ≡ before + cond b 0 1 → after ≤ most_kept
+one_more true before after few is = omega (arith, few, is)
+one_more false before after few is = omega (arith, few, is)

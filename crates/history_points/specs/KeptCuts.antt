@@ -1,5 +1,5 @@
 -- Cuts that are kept of a history. A point counts entries, and the cut at a point is what the entries before it come to.
-use Rattle.std.specs.Prelude.{◌≡◌, ℕ, ◌<◌, ◌≤◌, ◌%◌, List, [], Vec, Option, Some, IsSome, length, take}
+use Rattle.std.specs.Prelude.{◌≡◌, ℕ, ◌≤◌, List, [], Vec, Option, Some, IsSome, length, take}
 use Rattle.std.specs.BTreeMap.{is_at}
 use Rattle.std.specs.Global.{Global}
 use Rattle.std.specs.Map.{lookup}
@@ -21,9 +21,9 @@ pub record KeptCuts (O P C : Type 0) : Type 0 where
 abbrev pub kept_at : {P : Type 0} → List (ℕ × Vec P Global) → ℕ → Option (Vec P Global)
 kept_at cuts point = lookup (is_at (nat_cmp point)) cuts
 
--- cuts are kept at multiples of 8,192, but at 0, where the opening stands
-abbrev pub MayKeep : ℕ → Type 0
-MayKeep point = (0 < point) × (point % 8192 ≡ 0)
+-- the most cuts that are kept
+abbrev pub most_kept : ℕ
+most_kept = 20
 
 -- the first so many entries come to these parts, on the opening that a journal has, and each is good at its number
 abbrev pub IsCutOf : {O P C D R : Type 0} → (O → Meaning P C D R) → (O → ℕ → P → Type 0) → (O → ℕ) → Option (Opening O P) → List (Entry C) → ℕ → List P → Type 0
@@ -31,9 +31,10 @@ IsCutOf {O} {P} meaning good count opening entries point parts = (o : Opening O 
     → (replay (whole (meaning o.0)) o.1 (take point entries) ≡ Some parts)
     × AreGood (good o.0) (numbers 0 (count o.0)) parts
 
--- the pass has no entry of its own, and each cut is kept where one may be, at a point of the history that the pass knows,
--- and is what that history comes to there
+-- The pass has no entry of its own. Each cut is kept at a point of the history that the pass knows, and is what that
+-- history comes to there; and there are no more than may be.
 pub record AreKept {O P C D R : Type 0} (meaning : O → Meaning P C D R) (good : O → ℕ → P → Type 0) (count : O → ℕ) (opening : Option (Opening O P)) (kept : KeptCuts O P C) : Type 0 where
   pub own : of_station kept.pass.number kept.pass.entries ≡ []
-  pub points : (k : ℕ) → IsSome (kept_at kept.cuts k) → MayKeep k × (k ≤ length kept.pass.entries)
+  pub points : (k : ℕ) → IsSome (kept_at kept.cuts k) → k ≤ length kept.pass.entries
   pub cuts : (k : ℕ) (parts : Vec P Global) → kept_at kept.cuts k ≡ Some parts → IsCutOf meaning good count opening kept.pass.entries k parts.items
+  pub few : length kept.cuts ≤ most_kept

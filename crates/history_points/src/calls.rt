@@ -13,7 +13,7 @@ use std::alloc::Global;
 use std::sync::ledger::Ledger;
 use step_count::Steps;
 
-// A call on the parts that it names, which are taken out of their places and put back.
+// Does a call on the parts that it names, which are taken out of their places and put back, changed or not.
 fn apply_named<O: PartObject, L: Ledger>(
     alloc: Global,
     object: &O,

@@ -10,6 +10,7 @@ use std::alloc::{AllocError, AllocFailed};
 pub enum ReplayFault {
     /// The first entry that does not apply, counted from 0.
     Refused(u32),
+    /// There was no memory for the parts.
     Memory,
 }
 

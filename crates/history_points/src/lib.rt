@@ -3,7 +3,7 @@
 //! [`replay`] is the main contract: it does the first entries of a list, one after another, each in place, on an
 //! opening or on what entries of an opening came to, or says which is the first that does not apply. Each cut that
 //! [`Points`] keeps is what the history comes to at its point, and the nearest one before a point is found, so that a
-//! replay can begin there.
+//! replay can begin there. It keeps 20 at most.
 #![tactic(auto)]
 
 mod calls;
@@ -16,5 +16,5 @@ mod replaying;
 pub use calls::apply_in_place;
 pub use fault::ReplayFault;
 pub use places::Places;
-pub use points::{KEPT_EVERY, Points};
+pub use points::{MOST_KEPT, Points};
 pub use replaying::{copy_parts, replay};

@@ -38,7 +38,7 @@ impl<P: Drop> Places<P> {
         Ok(Places { slots })
     }
 
-    /// The parts, in their order.
+    /// The parts, in their order, in a list that is made for them.
     pub fn into_vec(self, alloc: Global) -> Result<Vec<P>, Memory>
         ensures { IfOk result (λ parts. parts.items ≡ self) }
     {
@@ -54,7 +54,7 @@ impl<P: Drop> Places<P> {
     }
 }
 
-/// Takes the parts with these numbers out of their places.
+/// Takes the parts with these numbers out of their places, which are empty until `put_in` fills them again.
 pub(crate) fn take_out<P: Drop>(slots: &mut Vec<Option<P>>, names: &[u32], named: &mut Vec<P>)
     requires whole { IsWhole slots.old.items }
     requires names { AscendBetween 0 (length slots.old.items) names.now }

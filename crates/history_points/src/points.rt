@@ -1,10 +1,10 @@
 // Cuts that are kept of a journal's history.
-ghost use Rattle.std.specs.Prelude.{◌≡◌, ◌==◌, ◌<◌, ◌≤◌, ℕ, [], None, Some, IfNone, IfOk, IfSome, IsSome, IsSomeAnd, OnErr, OnOk, length, if◌then◌else◌};
+ghost use Rattle.std.specs.Prelude.{◌≡◌, ◌==◌, ◌+◌, ◌<◌, ◌≤◌, ℕ, [], None, Some, IfNone, IfOk, IfSome, IsSome, IsSomeAnd, OnErr, OnOk, length, if◌then◌else◌};
 ghost use Rattle.room_core.specs.Projection.{of_station};
 ghost use Rattle.edit_journal.specs.declared.name.Name.TheVariants.{Station};
 ghost use Rattle.edit_journal.specs.Seats.{Begins};
 ghost use Rattle.edit_journal.specs.Turns.{gathered, given};
-ghost use Rattle.history_points.specs.KeptCuts.{IsCutOf, MayKeep, kept_at};
+ghost use Rattle.history_points.specs.KeptCuts.{IsCutOf, kept_at, most_kept};
 
 use crate::copy_parts;
 use edit_journal::{Naming, Pass, Turn};
@@ -13,11 +13,11 @@ use std::alloc::Global;
 use std::collections::BTreeMap;
 use std::marker::Model;
 
-/// Cuts are kept at multiples of so many entries.
-pub const KEPT_EVERY: u32 = 8_192;
+/// The most cuts that are kept.
+pub const MOST_KEPT: usize = 20;
 
-/// Cuts of a journal's history, and a pass that knows this history, of a station that adds no entry. Contracts see what
-/// the pass knows, and each cut with its point in the history, which counts entries.
+/// Cuts of a journal's history, at most [`MOST_KEPT`], and a pass that knows this history, of a station that adds no
+/// entry. Contracts see what the pass knows, and each cut with its point in the history, which counts entries.
 #[derive(Drop)]
 pub struct Points<O: PartObject, J: Naming<O, O::Part>> {
     pass: Option<Pass<O, J>>,
@@ -69,10 +69,10 @@ impl<O: PartObject, J: Naming<O, O::Part>> Points<O, J> {
         count
     }
 
-    /// The greatest point up to this one at which a cut is kept.
+    /// The greatest point up to this one at which a cut is kept, or `None` where none is.
     pub fn nearest(&self, n: u32) -> Option<u32>
         ensures kept { IfSome result (λ k. (k ≤ n) × IsSome (kept_at self.now.cuts k)) }
-        ensures point { IfSome result (λ k. MayKeep k × (k ≤ length self.now.pass.entries)) }
+        ensures point { IfSome result (λ k. k ≤ length self.now.pass.entries) }
         ensures greatest { IfSome result (λ k. (j : ℕ) → j ≤ n → IsSome (kept_at self.now.cuts j)
             → j ≤ k) }
         ensures none { IfNone result ((j : ℕ) → j ≤ n → kept_at self.now.cuts j ≡ None) }
@@ -97,9 +97,26 @@ impl<O: PartObject, J: Naming<O, O::Part>> Points<O, J> {
         }
     }
 
-    /// Keeps the cut at a point of the history that the pass knows, a positive multiple of [`KEPT_EVERY`].
+    /// Lets a cut go where there are as many as may be: the one that is missed least, since its neighbours are nearest to
+    /// each other. The last one stays. So cuts that are kept as a journal grows, in equal steps, stand at most a tenth of
+    /// it apart, or one step; in a full journal no more than 8,192 entries.
+    pub fn make_room(&mut self)
+        ensures room { length self.new.cuts < most_kept }
+        ensures one { length self.old.cuts ≤ length self.new.cuts + 1 }
+        ensures fewer { (n : ℕ) → IsSome (kept_at self.new.cuts n) → kept_at self.new.cuts n
+            ≡ kept_at self.old.cuts n }
+        ensures pass { self.new.pass ≡ self.old.pass }
+    {
+        if self.cuts.len() < MOST_KEPT {
+            return;
+        }
+        let point = least_missed(&self.cuts);
+        let_one_go(&mut self.cuts, point);
+    }
+
+    /// Keeps the cut at a point of the history that the pass knows.
     pub fn keep(&mut self, k: u32, parts: Vec<O::Part>) -> Result<(), Memory>
-        requires point { MayKeep k }
+        requires room { length self.old.cuts < most_kept }
         requires within { k ≤ length self.old.pass.entries }
         requires cut { IsCutOf O.meaning O.good O.count J.opening self.old.pass.entries k
             parts.items }
@@ -112,7 +129,7 @@ impl<O: PartObject, J: Naming<O, O::Part>> Points<O, J> {
         Ok(())
     }
 
-    /// The pass. The cuts are let go.
+    /// Gives the pass, whose station has no entry. The cuts are let go.
     pub fn into_pass(self) -> Pass<O, J>
         ensures pass { result ≡ self.pass }
         ensures own { of_station self.pass.number self.pass.entries ≡ [] }
@@ -156,4 +173,37 @@ fn met<O: PartObject, J: Naming<O, O::Part>>(
     turn.gather_pass(pass);
     let count = turn.look();
     (turn.give_pass(station), count)
+}
+
+// The point of a cut whose neighbours are nearest to each other, where there are two cuts at least; the neighbour before
+// the first is the opening.
+fn least_missed<P>(cuts: &BTreeMap<u32, P>) -> u32 {
+    let mut missed = 0;
+    let mut nearest = u32::MAX;
+    let mut before = 0;
+    let mut at = 0;
+    for (next, _) in cuts {
+        let apart = next.saturating_sub(before);
+        if at > 0 && apart < nearest {
+            nearest = apart;
+            missed = at;
+        }
+        before = at;
+        at = *next;
+    }
+    missed
+}
+
+// Lets one cut go: the one at a point or, where none is there, the first.
+fn let_one_go<P: Drop>(cuts: &mut BTreeMap<u32, Vec<P>>, point: u32)
+    requires some { 0 < length cuts.old.entries }
+    ensures one { length cuts.new.entries + 1 ≡ length cuts.old.entries }
+    ensures left { (n : ℕ) → IsSome (kept_at cuts.new.entries n) → kept_at cuts.new.entries n
+        ≡ kept_at cuts.old.entries n }
+{
+    match cuts.remove(&point) {
+        Some(_) => return,
+        None => {}
+    }
+    let _ = cuts.pop_first();
 }

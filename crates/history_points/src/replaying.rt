@@ -11,7 +11,7 @@ use std::marker::Brand;
 use std::sync::ledger::{Blank, Ledger};
 use step_count::Steps;
 
-/// Equal parts.
+/// Equal parts, in their order.
 pub fn copy_parts<O: PartObject>(
     alloc: Global,
     object: &O,
@@ -26,7 +26,8 @@ pub fn copy_parts<O: PartObject>(
     Ok(copies)
 }
 
-// The same, with its steps counted.
+// Does the first `n` entries on copies of the parts, as `replay` says, with their steps counted in
+// a ledger of the call.
 fn replay_counted<O: PartObject, L: Ledger>(
     blank: Blank,
     alloc: Global,

@@ -10,6 +10,7 @@ pub fn has(set: u32, number: u32) -> bool
     (set >> number) & 1 == 1
 }
 
+// Whether a set names this part, which is not below the count.
 fn is_absent(count: u32, set: u32, number: u32) -> bool
     requires { number < 32 }
     ensures { result ≡ (has set number && not (nat_lt number count)) }
@@ -17,7 +18,7 @@ fn is_absent(count: u32, set: u32, number: u32) -> bool
     has(set, number) && number >= count
 }
 
-/// The least part of a set that is not below the count.
+/// The least part of a set that is not below the count of parts, so that no such part is there; `None` where all are.
 pub fn first_absent(count: u32, set: u32) -> Option<u32>
     ensures { result ≡ first_absent count (members set) }
 {

@@ -2,3 +2,4 @@ pub mod Histories
 pub mod Machines
 pub mod WholeParts
 pub mod Holding
+pub mod Order

@@ -3,6 +3,7 @@ pub mod Totals
 pub mod Calls
 pub mod History
 pub mod Machine
+pub mod OwnParts
 pub mod Parts
 pub mod Projection
 pub mod Whole

@@ -3,6 +3,7 @@ ghost use Rattle.std.specs.Prelude.{◌≡◌, ◌++◌, ℕ, List, None, Some, 
 ghost use Rattle.room_core.specs.declared.entry.Entry.{Entry};
 ghost use Rattle.room_core.specs.History.{replay, IsLegal};
 ghost use Rattle.room_core.specs.Machine.{Event, IsOfAnother, Machine, StaysHeld, is_held_by, opened, run, step};
+ghost use Rattle.room_core.specs.OwnParts.{AreOfFirst, KeepToOwn, by_station, calls_of};
 ghost use Rattle.room_core.specs.Parts.{AreGood, numbers};
 ghost use Rattle.room_core.specs.Projection.{of_part};
 ghost use Rattle.room_core.specs.Whole.{whole, picked, put_back};
@@ -52,4 +53,20 @@ pub fn other_parts_stay<O: PartObject>()
         → replay (whole (O.meaning o)) parts entries ≡ Some now
         → replay (whole (O.meaning o)) parts (entries ++ more) ≡ Some then_now
         → slice_get then_now part ≡ slice_get now part }
+{}
+
+/// Where each entry names one part alone, that of its station, the order between stations does not matter: the history
+/// comes to what it comes to station by station, or one of its entries does not apply either way.
+pub fn order_between_stations<O: PartObject>()
+    ensures { (o : O) (parts : List O.Part) (stations : ℕ) (entries : List (Entry O.Call))
+        → AreOfFirst stations entries → KeepToOwn (O.meaning o).names entries
+        → replay (whole (O.meaning o)) parts entries
+        ≡ replay (whole (O.meaning o)) parts (by_station stations entries) }
+{}
+
+/// What a history comes to are its calls alone, whoever sent them under whatever numbers.
+pub fn calls_alone_count<O: PartObject>()
+    ensures { (o : O) (parts : List O.Part) (entries others : List (Entry O.Call))
+        → calls_of entries ≡ calls_of others
+        → replay (whole (O.meaning o)) parts entries ≡ replay (whole (O.meaning o)) parts others }
 {}

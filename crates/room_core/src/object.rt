@@ -16,20 +16,25 @@ use step_count::Steps;
 /// An object over parts, numbered from 0. What its calls and questions mean depends on the object's value, the parts that
 /// the call names and the call alone.
 pub trait PartObject {
+    /// What a call takes, changes and gives back by itself, as a track of a cut.
     type Part: Drop;
 
+    /// What changes parts, as an edit.
     type Call: Drop;
 
     /// What a call answers that was done.
     type Done: Drop;
 
+    /// Why a call was not done.
     type Refusal: Drop;
 
     /// A question about one part.
     type Ask: Drop;
 
+    /// What a question is answered.
     type Seen: Drop;
 
+    /// Why a question has no answer.
     type AskRefusal: Drop;
 
     /// What its calls mean.
@@ -59,7 +64,7 @@ pub trait PartObject {
     /// What a question about a part is answered.
     ghost seen: { Self → Self.Part → Self.Ask → Result Self.Seen Self.AskRefusal };
 
-    /// How many parts it has.
+    /// How many parts it has, as a number of the program.
     fn parts(&self) -> u32
         ensures { result ≡ count self.now };
 
@@ -67,11 +72,11 @@ pub trait PartObject {
     fn names(&self, call: &Self::Call) -> u32
         ensures { result ≡ set_of ((meaning self.now).names call.now) };
 
-    /// Why a call is refused for the parts that it names.
+    /// Why a call is refused for the parts that it names, before one is looked at; `None` where they are there.
     fn refuse_names(&self, call: &Self::Call) -> Option<Self::Refusal>
         ensures { result ≡ (meaning self.now).refuses call.now };
 
-    /// The number of the part that a question is about.
+    /// The number of the part that a question is about, or why it is about none.
     fn ask_part(&self, ask: &Self::Ask) -> Result<u32, Self::AskRefusal>
         ensures asked { result ≡ asked self.now ask.now }
         ensures within { IfOk result (λ n. n < count self.now) };
@@ -90,13 +95,14 @@ pub trait PartObject {
             ((meaning self.now).names call.now) parts.old.items }
         requires roomy { All (roomy self.now) parts.old.items }
         ensures meant { AnswersCall (refuses_first self.now)
-            ((meaning self.now).applied parts.old.items call.now) parts.old.items parts.new.items result }
+            ((meaning self.now).applied parts.old.items call.now)
+            parts.old.items parts.new.items result }
         ensures good { AreGood (good self.now) ((meaning self.now).names call.now) parts.new.items }
 
         ensures least { steps.old + 1 ≤ steps.new }
         ensures most { steps.new ≤ steps.old + 32 * sum_by (λ p. size p + 64) parts.old.items };
 
-    /// Answers a question from the part that it is about.
+    /// Answers a question from the part that it is about, or refuses it, or finds no memory.
     fn see(
         &self,
         alloc: Global,
@@ -106,9 +112,11 @@ pub trait PartObject {
         requires good { (n : ℕ) × (asked self.now ask.now ≡ Ok n) × good self.now n part.now }
         ensures { Tells (seen self.now part.now ask.now) result };
 
+    /// An equal part.
     fn copy_part(&self, alloc: Global, part: &Self::Part) -> Result<Self::Part, Memory>
         ensures { IfOk result (λ copy. copy ≡ part.now) };
 
+    /// An equal call.
     fn copy_call(&self, alloc: Global, call: &Self::Call) -> Result<Self::Call, Memory>
         ensures { IfOk result (λ copy. copy ≡ call.now) };
 

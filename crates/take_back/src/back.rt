@@ -15,10 +15,13 @@ use step_count::Steps;
 // What is asked of a part's former part: that a call of this station changed it, or a call on these parts.
 #[derive(Clone, Copy)]
 pub(crate) enum Rule {
+    // A call of this station changed it last.
     By(u32),
+    // A call on these parts, a set, changed it last.
     Names(u32),
 }
 
+// Whether a part has a former part that keeps a rule.
 fn passes<P>(rule: Rule, before: &Option<Former<P>>) -> bool
     ensures { result ≡ passes rule before.now }
 {
@@ -31,7 +34,7 @@ fn passes<P>(rule: Rule, before: &Option<Former<P>>) -> bool
     }
 }
 
-// The first of the named parts that breaks a rule.
+// The number of the first of the named parts that breaks a rule. The parts stand in ascending order of their numbers.
 fn first_not<P>(rule: Rule, tracks: u32, parts: &[Kept<P>]) -> Option<u32>
     requires as_many { length parts.now ≡ length (members tracks) }
     ensures { result ≡ first_not (passes rule) (members tracks) parts.now }
@@ -59,6 +62,7 @@ pub(crate) fn missing(count: u32, tracks: u32) -> Option<u32>
     }
 }
 
+// Gives a part what it was before, of which nothing is kept then; one that has none stays.
 fn give_back<P: Drop>(kept: &mut Kept<P>)
     ensures { kept.new ≡ given_back kept.old }
 {
@@ -85,7 +89,8 @@ fn give_all_back<P: Drop, L: Ledger>(parts: &mut Vec<Kept<P>>, steps: &mut Steps
     }
 }
 
-// Takes back the last call on the named parts. It wants no memory.
+// Takes back the last call on the named parts, or says the first part whose last call was another station's or on other
+// parts. It wants no memory.
 pub(crate) fn take_back<O: PartObject, L: Ledger>(
     parts: &mut Vec<Kept<O::Part>>,
     tracks: u32,

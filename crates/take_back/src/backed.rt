@@ -23,16 +23,18 @@ use step_count::Steps;
 /// call on other parts changed last. Calls have the object's own refusals. A question is about the part as it is now.
 #[derive(Drop)]
 pub struct Backed<O> {
+    /// The object whose calls can be taken back.
     pub object: O,
 }
 
-// A set is that of its members.
+// The set of these parts, which is that of its members.
 fn set(tracks: u32) -> u32
     ensures { result ≡ set_of (members tracks) }
 {
     tracks
 }
 
+// An equal former part.
 fn copy_former<O: PartObject>(
     alloc: Global,
     object: &O,
@@ -48,18 +50,25 @@ fn copy_former<O: PartObject>(
 }
 
 impl<O: PartObject> PartObject for Backed<O> {
+    /// A part, with what it was before its last call.
     type Part = Kept<O::Part>;
 
+    /// A call of the object, or a taking back, with the station that sends it.
     type Call = Step<O::Call>;
 
+    /// The object's own answer, or that a call was taken back.
     type Done = BackDone<O::Done>;
 
+    /// The object's own refusal, or why nothing is taken back.
     type Refusal = BackRefusal<O::Refusal>;
 
+    /// A question of the object.
     type Ask = O::Ask;
 
+    /// The object's own answer.
     type Seen = O::Seen;
 
+    /// The object's own refusal.
     type AskRefusal = O::AskRefusal;
 
     ghost meaning = { λ o. backed (O.count o.object) (O.meaning o.object) };
@@ -80,10 +89,12 @@ impl<O: PartObject> PartObject for Backed<O> {
 
     ghost seen = { λ o k ask. O.seen o.object k.now ask };
 
+    /// As many parts as the object has.
     fn parts(&self) -> u32 {
         self.object.parts()
     }
 
+    /// The parts that the object's call names, or those whose last call is to be taken back.
     fn names(&self, step: &Step<O::Call>) -> u32 {
         match &step.act {
             Deed::Do(call) => self.object.names(call),
@@ -91,6 +102,7 @@ impl<O: PartObject> PartObject for Backed<O> {
         }
     }
 
+    /// The object's own refusal, or the least part of a taking back that is not there.
     fn refuse_names(&self, step: &Step<O::Call>) -> Option<BackRefusal<O::Refusal>> {
         match &step.act {
             Deed::Do(call) => match self.object.refuse_names(call) {
@@ -104,10 +116,12 @@ impl<O: PartObject> PartObject for Backed<O> {
         }
     }
 
+    /// The part that the object's question is about.
     fn ask_part(&self, ask: &O::Ask) -> Result<u32, O::AskRefusal> {
         self.object.ask_part(ask)
     }
 
+    /// Does the object's call, with what the parts were kept beside them, or takes back the last call.
     fn apply<L: Ledger>(
         &self,
         alloc: Global,
@@ -121,6 +135,7 @@ impl<O: PartObject> PartObject for Backed<O> {
         }
     }
 
+    /// Answers from the part as it is now.
     fn see(
         &self,
         alloc: Global,
@@ -130,6 +145,7 @@ impl<O: PartObject> PartObject for Backed<O> {
         self.object.see(alloc, &part.now, ask)
     }
 
+    /// An equal part, with an equal former part where it has one.
     fn copy_part(&self, alloc: Global, part: &Kept<O::Part>) -> Result<Kept<O::Part>, Memory> {
         let now = self.object.copy_part(alloc, &part.now)?;
         match &part.before {
@@ -141,6 +157,7 @@ impl<O: PartObject> PartObject for Backed<O> {
         }
     }
 
+    /// An equal step of the same station.
     fn copy_call(&self, alloc: Global, step: &Step<O::Call>) -> Result<Step<O::Call>, Memory> {
         match &step.act {
             Deed::Do(call) => Ok(Step {
@@ -160,6 +177,7 @@ impl<O: PartObject> PartObject for Backed<O> {
         (O.opening o.object) };
 
     ghost stays_roomy = { λ o ps qs entries can legal comes. backed-roomy (O.meaning o.object)
-        (O.good o.object) (O.count o.object) (O.opens o.object) (O.roomy o.object) (O.named o.object)
-        (O.opening o.object) (O.stays_roomy o.object) ps qs entries can legal comes };
+        (O.good o.object) (O.count o.object) (O.opens o.object) (O.roomy o.object)
+        (O.named o.object) (O.opening o.object) (O.stays_roomy o.object)
+        ps qs entries can legal comes };
 }

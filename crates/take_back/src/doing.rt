@@ -29,6 +29,7 @@ fn copy_nows<O: PartObject>(
     Ok(copies)
 }
 
+// Gives a part what a call left of it, and keeps what it was, with the parts that the call named and its station.
 fn change<P: Drop>(kept: &mut Kept<P>, part: P, names: u32, by: u32)
     ensures { kept.new ≡ changed_by names by kept.old part }
 {
@@ -36,7 +37,7 @@ fn change<P: Drop>(kept: &mut Kept<P>, part: P, names: u32, by: u32)
     kept.before = Some(Former { part, names, by });
 }
 
-// Gives each part what a call left of it.
+// Gives each part what a call left of it, and keeps what it was.
 fn change_all<P: Drop>(parts: &mut Vec<Kept<P>>, left: Vec<P>, names: u32, by: u32)
     requires as_many { length left.items ≡ length parts.old.items }
     ensures { parts.new.items ≡ changed names by parts.old.items left.items }

@@ -18,7 +18,8 @@ use room_core::PartObject;
 /// After any steps of an opening the parts are those that the object comes to by the calls that are left, one after
 /// another; each of these has the answer that it had when it was done; and what is left of a legal history is one.
 pub fn what_is_left_is_a_history<O: PartObject>()
-    ensures parts { (o : O) (opening now : List (Kept O.Part)) (entries : List (Entry (Step O.Call)))
+    ensures parts { (o : O) (opening now : List (Kept O.Part))
+        (entries : List (Entry (Step O.Call)))
         → CanOpen (O.opens o) opening
         → replay (whole (backed (O.count o) (O.meaning o))) opening entries ≡ Some now
         → replay (whole (O.meaning o)) (nows opening) (left (O.meaning o).names entries)
@@ -30,7 +31,8 @@ pub fn what_is_left_is_a_history<O: PartObject>()
         → (answers : List (Entry O.Call × O.Done))
         × Leads (whole (O.meaning o)) (nows opening) answers (nows now)
         × (map as_own answers ≡ left_told (O.meaning o).names told) }
-    ensures legal { (o : O) (opening now : List (Kept O.Part)) (entries : List (Entry (Step O.Call)))
+    ensures legal { (o : O) (opening now : List (Kept O.Part))
+        (entries : List (Entry (Step O.Call)))
         → CanOpen (O.opens o) opening
         → IsLegal (whole (backed (O.count o) (O.meaning o))) opening entries
         → replay (whole (backed (O.count o) (O.meaning o))) opening entries ≡ Some now
@@ -42,7 +44,8 @@ pub fn what_is_left_is_a_history<O: PartObject>()
 /// become.
 pub fn taken_back_as_it_was<O: PartObject>()
     ensures { (o : O) (opening before done after : List (Kept O.Part))
-        (entries between : List (Entry (Step O.Call))) (by : ℕ) (call : O.Call) (answer : BackDone O.Done)
+        (entries between : List (Entry (Step O.Call)))
+        (by : ℕ) (call : O.Call) (answer : BackDone O.Done)
         → CanOpen (O.opens o) opening
         → replay (whole (backed (O.count o) (O.meaning o))) opening entries ≡ Some before
         → whole (backed (O.count o) (O.meaning o)) before (record { by = by; act = Do call })

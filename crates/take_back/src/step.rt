@@ -1,9 +1,11 @@
 // What a station asks for.
 
-/// What a station asks for. `by` is that station.
+/// What a station asks for, and which station asks.
 #[derive(Debug, Drop, PartialEq, Eq)]
 pub struct Step<C> {
+    /// The station that asks.
     pub by: u32,
+    /// What it asks for.
     pub act: Deed<C>,
 }
 
@@ -11,6 +13,8 @@ pub struct Step<C> {
 /// at least one.
 #[derive(Debug, Drop, PartialEq, Eq)]
 pub enum Deed<C> {
+    /// This call is to be done.
     Do(C),
+    /// The last call on these parts is to be taken back.
     Back { tracks: u32 },
 }

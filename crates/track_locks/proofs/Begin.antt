@@ -1,5 +1,5 @@
 -- The homes of a new room.
-use Rattle.std.proofs.Common.{◌≡◌, ℕ, zero, suc, ◌+◌, ◌<◌, ◌≤◌, List, [], ◌∷◌, ◌++◌, length, map, drop, take, get_or, All, Bool, true, false, cond, ◌==◌, Option, Some, slice_get, slice_set, refl, sym, ap, ◌∙◌, subst, arith}
+use Rattle.std.proofs.Common.{◌≡◌, ℕ, zero, suc, ◌+◌, ◌<◌, ◌≤◌, List, [], ◌∷◌, ◌++◌, length, map, drop, take, get_or, All, Bool, true, false, cond, ◌==◌, Option, Some, slice_get, refl, sym, ap, ◌∙◌, subst, arith}
 use Rattle.std.specs.List.{list_any}
 use Rattle.std.proofs.lemmas.List.{length-append, map-append, get_or_append_left}
 use Rattle.std.proofs.Math.Seq.{get_or-append_seam}
@@ -44,7 +44,7 @@ numbers_at from zero k d lt = absurd (omega (arith, lt))
 numbers_at from (suc count) zero d lt = omega arith
 numbers_at from (suc count) (suc k) d lt = let r = numbers_at (from + 1) count k d (omega (arith, lt)) in omega (arith, r)
 
-map_length : {A B : Type 0} (f : A → B) (xs : List A) → length (map f xs) ≡ length xs
+pub map_length : {A B : Type 0} (f : A → B) (xs : List A) → length (map f xs) ≡ length xs
 map_length f [] = omega arith
 map_length f (x ∷ xs) = let r = map_length f xs in omega (arith, r)
 
@@ -91,19 +91,6 @@ take_more {A} xs i d lt = let e : i + 1 ≡ suc i = omega arith in ap (λ k. tak
     by_suc [] i lt = absurd (omega (arith, lt))
     by_suc (x ∷ xs) zero lt = refl
     by_suc (x ∷ xs) (suc i) lt = ap (λ l. x ∷ l) (by_suc xs i (omega (arith, lt)))
-
--- one element more is raised
-pub raise_more : (vs : List ℕ) (i : ℕ) → i < length vs
-    → slice_set (map (λ v. v + 1) (take i vs) ++ drop i vs) i (get_or (map (λ v. v + 1) (take i vs) ++ drop i vs) i 0 + 1)
-    ≡ map (λ v. v + 1) (take (i + 1) vs) ++ drop (i + 1) vs
-raise_more vs i lt = let e : suc i ≡ i + 1 = omega arith in by_suc vs i lt ∙ ap (λ k. map (λ v. v + 1) (take k vs) ++ drop k vs) e
-  where
-    by_suc : (vs : List ℕ) (i : ℕ) → i < length vs
-        → slice_set (map (λ v. v + 1) (take i vs) ++ drop i vs) i (get_or (map (λ v. v + 1) (take i vs) ++ drop i vs) i 0 + 1)
-        ≡ map (λ v. v + 1) (take (suc i) vs) ++ drop (suc i) vs
-    by_suc [] i lt = absurd (omega (arith, lt))
-    by_suc (v ∷ vs) zero lt = refl
-    by_suc (v ∷ vs) (suc i) lt = ap (λ l. (v + 1) ∷ l) (by_suc vs i (omega (arith, lt)))
 
 pub part_le : {C : Type 0} (names : C → List ℕ) (n : ℕ) (entries : List (Entry C)) → length (of_part names n entries) ≤ length entries
 part_le names n [] = omega arith

@@ -1,13 +1,15 @@
 // Parts whose locks were taken.
-ghost use Rattle.std.specs.Prelude.{◌≡◌, ◌<◌, ◌≤◌, ◌+◌, ℕ, List, [], length, map, slice_get, All, IfOk, Some, vec_len, vec_capacity};
+ghost use Rattle.std.specs.Prelude.{◌≡◌, ◌<◌, ◌≤◌, ◌+◌, ℕ, List, [], length, map, slice_get, All, IfOk, Some};
+ghost use Rattle.std.specs.List.{filter_map};
 ghost use Rattle.room_core.specs.Parts.{AscendBetween, numbers as numbers_from};
 ghost use Rattle.edit_journal.specs.declared.name.Name.TheVariants.{Part};
 ghost use Rattle.edit_journal.specs.Seats.{In};
 ghost use Rattle.track_locks.specs.Homes.{AreGoodAt, AreHomes, CanGive, all_gathered, all_given};
 
 use crate::home::{Home, Place};
+use crate::room::HeldHome;
 use crate::tracks::Tracks;
-use edit_journal::{Naming, PartSeat, Turn};
+use edit_journal::{Naming, Turn};
 use room_core::{Memory, PartObject};
 use std::alloc::Global;
 use std::marker::Model;
@@ -15,37 +17,36 @@ use std::sync::Wait;
 
 /// Parts that are held. It has to be released, with its seats in it.
 pub struct Held<'a, O: PartObject, J: Naming<O, O::Part>> {
+    // The locks that they were taken from.
     pub(crate) tracks: &'a Tracks<O, J>,
-    pub(crate) numbers: Vec<u32>,
-    pub(crate) parts: Vec<O::Part>,
-    pub(crate) versions: Vec<u32>,
-    pub(crate) seats: Vec<PartSeat<O, J>>,
+    // In ascending order of their numbers.
+    pub(crate) homes: Vec<HeldHome<O, J>>,
 }
 
 impl<'a, O: PartObject, J: Naming<O, O::Part>> Model for Held<'a, O, J> {
-    ghost use Rattle.std.specs.Prelude.{◌≤◌, length, vec_capacity};
+    ghost use Rattle.std.specs.Prelude.{map};
+    ghost use Rattle.std.specs.List.{filter_map};
     ghost use Rattle.room_core.specs.Parts.{AscendBetween};
     ghost use Rattle.track_locks.specs.Homes.{HeldParts};
 
     ghost Value = { HeldParts O O.Part O.Call };
 
     ghost view = { λ h. record {
-      numbers = h.numbers.items;
-      parts = h.parts.items;
-      versions = h.versions.items;
-      seats = h.seats.items;
+      numbers = map (λ e. e.number) h.homes.items;
+      parts = map (λ e. e.part) h.homes.items;
+      versions = map (λ e. e.version) h.homes.items;
+      seats = filter_map (λ e. e.seat) h.homes.items;
     } };
 
-    ghost invariant = { λ h. AscendBetween 0 h.tracks.now h.numbers.items
-        × (length h.numbers.items ≤ vec_capacity h.seats) };
+    ghost invariant = { λ h. AscendBetween 0 h.tracks.now (map (λ e. e.number) h.homes.items) };
 }
 
 impl<'a, O: PartObject, J: Naming<O, O::Part>> Held<'a, O, J> {
-    /// Copies of the parts.
+    /// Copies of the parts, on which a call can be tried.
     pub fn copy(&self, alloc: Global, object: &O) -> Result<Vec<O::Part>, Memory>
         ensures { IfOk result (λ v. v.items ≡ self.now.parts) }
     {
-        copied(alloc, object, &self.parts)
+        copied(alloc, object, &self.homes)
     }
 
     /// One of the parts, as it is held.
@@ -53,10 +54,10 @@ impl<'a, O: PartObject, J: Naming<O, O::Part>> Held<'a, O, J> {
         requires there { index < length self.now.parts }
         ensures value { slice_get self.now.parts index ≡ Some result.now }
     {
-        &self.parts[index]
+        &self.homes[index].part
     }
 
-    /// Gathers the seats, the last first.
+    /// Takes the seats to the journal, the last first.
     pub fn take_seats(&mut self, turn: &mut Turn<'_, O, J>)
         requires tokens { turn.old.tokens + length self.old.seats < 4294967296 }
         ensures seats { self.new ≡ record self.old { seats = [] } }
@@ -64,7 +65,7 @@ impl<'a, O: PartObject, J: Naming<O, O::Part>> Held<'a, O, J> {
         ensures tokens { (turn.new.tokens ≡ turn.old.tokens + length self.old.seats)
             × (turn.new.room ≡ turn.old.room) }
     {
-        gather_all(&mut self.seats, turn);
+        gather_all(&mut self.homes, turn);
     }
 
     /// Takes the seats back, which were gathered. They know all entries that there are.
@@ -73,6 +74,7 @@ impl<'a, O: PartObject, J: Naming<O, O::Part>> Held<'a, O, J> {
         requires names { All (λ n. In (Part n) turn.old.journal.names) self.old.numbers }
         requires tokens { length self.old.numbers ≤ turn.old.tokens }
 
+        // The seats are out again, and nothing else of what is held has changed.
         ensures journal { turn.new.journal ≡ all_given self.old.numbers turn.old.journal }
         ensures tokens { (turn.new.tokens + length self.old.numbers ≡ turn.old.tokens)
             × (turn.new.room ≡ turn.old.room) }
@@ -82,7 +84,7 @@ impl<'a, O: PartObject, J: Naming<O, O::Part>> Held<'a, O, J> {
         ensures same { (self.new.numbers ≡ self.old.numbers) × (self.new.parts ≡ self.old.parts)
             × (self.new.versions ≡ self.old.versions) }
     {
-        give_all(&self.numbers, &mut self.seats, turn);
+        give_all(&mut self.homes, turn);
     }
 
     /// Puts parts in the places of those that are held, after a commit, when the seats are back: each is what the entries
@@ -95,8 +97,7 @@ impl<'a, O: PartObject, J: Naming<O, O::Part>> Held<'a, O, J> {
           versions = map (λ v. v + 1) self.old.versions;
         } }
     {
-        self.parts = parts;
-        one_more(&mut self.versions);
+        put_parts(&mut self.homes, parts);
     }
 
     /// Puts each part with its seat back into its lock. No clause says that it is found there again.
@@ -105,103 +106,126 @@ impl<'a, O: PartObject, J: Naming<O, O::Part>> Held<'a, O, J> {
             self.seats }
         requires good { AreGoodAt O.good J.opening self.numbers self.parts }
     {
-        let Held {
-            tracks,
-            numbers,
-            parts,
-            versions,
-            seats,
-        } = self;
-        put_back(rt, &tracks.places, numbers, parts, versions, seats);
+        let Held { tracks, homes } = self;
+        put_back(rt, &tracks.places, homes);
     }
 }
 
-fn copied<O: PartObject>(
+// Equal parts, in their order.
+fn copied<O: PartObject, J: Naming<O, O::Part>>(
     alloc: Global,
     object: &O,
-    parts: &[O::Part],
+    homes: &[HeldHome<O, J>],
 ) -> Result<Vec<O::Part>, Memory>
-    ensures { IfOk result (λ v. v.items ≡ parts.now) }
+    ensures { IfOk result (λ v. v.items ≡ map (λ h. h.part) homes.now) }
 {
-    let mut all = Vec::new(alloc);
-    for part in parts {
-        all.push(object.copy_part(alloc, part)?)?;
+    let mut all = Vec::with_capacity(alloc, homes.len())?;
+    for home in homes {
+        let part = object.copy_part(alloc, &home.part)?;
+        all.push_reserved(part);
     }
     Ok(all)
 }
 
+// Takes the seats to the journal, the last first. Each home keeps its place.
 fn gather_all<O: PartObject, J: Naming<O, O::Part>>(
-    seats: &mut Vec<PartSeat<O, J>>,
+    homes: &mut [HeldHome<O, J>],
     turn: &mut Turn<'_, O, J>,
 )
-    requires tokens { turn.old.tokens + length seats.old.items < 4294967296 }
-    ensures none { seats.new.items ≡ [] }
-    ensures room { vec_capacity seats.new ≡ vec_capacity seats.old }
-    ensures journal { turn.new.journal ≡ all_gathered seats.old.items turn.old.journal }
-    ensures tokens { (turn.new.tokens ≡ turn.old.tokens + length seats.old.items)
+    requires tokens { turn.old.tokens + length (filter_map (λ h. h.seat) homes.old) < 4294967296 }
+    ensures seats { filter_map (λ h. h.seat) homes.new ≡ [] }
+    ensures numbers { map (λ h. h.number) homes.new ≡ map (λ h. h.number) homes.old }
+    ensures parts { map (λ h. h.part) homes.new ≡ map (λ h. h.part) homes.old }
+    ensures versions { map (λ h. h.version) homes.new ≡ map (λ h. h.version) homes.old }
+    ensures journal { turn.new.journal ≡ all_gathered (filter_map (λ h. h.seat) homes.old)
+        turn.old.journal }
+    ensures tokens { (turn.new.tokens
+        ≡ turn.old.tokens + length (filter_map (λ h. h.seat) homes.old))
         × (turn.new.room ≡ turn.old.room) }
 {
-    while let Some(seat) = seats.pop() {
-        turn.gather_seat(seat);
+    for index in (0..homes.len()).rev() {
+        match homes[index].take_seat() {
+            Some(seat) => turn.gather_seat(seat),
+            None => {}
+        }
     }
 }
 
+// Takes from the journal the seat of each home, the first first.
 fn give_all<O: PartObject, J: Naming<O, O::Part>>(
-    numbers: &[u32],
-    seats: &mut Vec<PartSeat<O, J>>,
+    homes: &mut [HeldHome<O, J>],
     turn: &mut Turn<'_, O, J>,
 )
-    requires empty { seats.old.items ≡ [] }
-    requires room { length numbers.now ≤ vec_capacity seats.old }
-    requires names { CanGive numbers.now turn.old.journal.names }
-    requires tokens { length numbers.now ≤ turn.old.tokens }
-    ensures journal { turn.new.journal ≡ all_given numbers.now turn.old.journal }
-    ensures tokens { (turn.new.tokens + length numbers.now ≡ turn.old.tokens)
+    requires empty { filter_map (λ h. h.seat) homes.old ≡ [] }
+    requires names { CanGive (map (λ h. h.number) homes.old) turn.old.journal.names }
+    requires tokens { length homes.old ≤ turn.old.tokens }
+    ensures journal { turn.new.journal
+        ≡ all_given (map (λ h. h.number) homes.old) turn.old.journal }
+    ensures tokens { (turn.new.tokens + length homes.old ≡ turn.old.tokens)
         × (turn.new.room ≡ turn.old.room) }
-    ensures seats { map (λ s. s.number) seats.new.items ≡ numbers.now }
+    ensures seats { map (λ s. s.number) (filter_map (λ h. h.seat) homes.new)
+        ≡ map (λ h. h.number) homes.old }
     ensures know { All (λ s. (s.opening ≡ turn.old.journal.opening)
-        × (s.entries ≡ turn.old.journal.entries)) seats.new.items }
-    ensures room { vec_capacity seats.new ≡ vec_capacity seats.old }
+        × (s.entries ≡ turn.old.journal.entries)) (filter_map (λ h. h.seat) homes.new) }
+    ensures numbers { map (λ h. h.number) homes.new ≡ map (λ h. h.number) homes.old }
+    ensures parts { map (λ h. h.part) homes.new ≡ map (λ h. h.part) homes.old }
+    ensures versions { map (λ h. h.version) homes.new ≡ map (λ h. h.version) homes.old }
 {
-    for number in numbers {
-        seats.push_reserved(turn.give_seat(*number));
+    for index in 0..homes.len() {
+        let seat = turn.give_seat(homes[index].number);
+        homes[index].put_seat(seat);
     }
 }
 
-fn one_more(versions: &mut [u32])
-    requires { All (λ v. v < 4294967295) versions.old }
-    ensures { versions.new ≡ map (λ v. v + 1) versions.old }
+// Puts parts in the places of those that are held, and raises each version by one, as by an entry that names all of them.
+fn put_parts<O: PartObject, J: Naming<O, O::Part>>(
+    homes: &mut [HeldHome<O, J>],
+    mut parts: Vec<O::Part>,
+)
+    requires each { length parts.items ≡ length homes.old }
+    requires few { All (λ v. v < 4294967295) (map (λ h. h.version) homes.old) }
+    ensures parts { map (λ h. h.part) homes.new ≡ parts.items }
+    ensures versions { map (λ h. h.version) homes.new
+        ≡ map (λ v. v + 1) (map (λ h. h.version) homes.old) }
+    ensures numbers { map (λ h. h.number) homes.new ≡ map (λ h. h.number) homes.old }
+    ensures seats { filter_map (λ h. h.seat) homes.new ≡ filter_map (λ h. h.seat) homes.old }
 {
-    for version in versions.iter_mut() {
-        *version += 1;
+    while let Some(part) = parts.pop() {
+        homes[parts.len()].renew(part);
     }
 }
 
+// Puts each part with its seat and its version into its lock, the last first.
 fn put_back<O: PartObject, J: Naming<O, O::Part>, R: Wait>(
     rt: &R,
     places: &[Place<O, J>],
-    mut numbers: Vec<u32>,
-    mut parts: Vec<O::Part>,
-    mut versions: Vec<u32>,
-    mut seats: Vec<PartSeat<O, J>>,
+    mut homes: Vec<HeldHome<O, J>>,
 )
     requires places { places.now ≡ numbers_from 0 (length places.now) }
-    requires within { All (λ n. n < length places.now) numbers.items }
-    requires homes { AreHomes O.meaning O.opens J.opening numbers.items parts.items versions.items
-        seats.items }
-    requires good { AreGoodAt O.good J.opening numbers.items parts.items }
+    requires within { All (λ n. n < length places.now) (map (λ h. h.number) homes.items) }
+    requires homes { AreHomes O.meaning O.opens J.opening (map (λ h. h.number) homes.items)
+        (map (λ h. h.part) homes.items) (map (λ h. h.version) homes.items)
+        (filter_map (λ h. h.seat) homes.items) }
+    requires good { AreGoodAt O.good J.opening (map (λ h. h.number) homes.items)
+        (map (λ h. h.part) homes.items) }
 {
-    while let (Some(number), Some(part), Some(version), Some(seat)) = (
-        numbers.pop(),
-        parts.pop(),
-        versions.pop(),
-        seats.pop(),
-    ) {
-        let home = Home {
+    while let Some(held) = homes.pop() {
+        let HeldHome {
+            number,
             part,
-            seat,
             version,
-        };
-        places[number as usize].give(rt, home);
+            seat,
+        } = held;
+        match seat {
+            Some(seat) => {
+                let home = Home {
+                    part,
+                    seat,
+                    version,
+                };
+                places[number as usize].give(rt, home);
+            }
+            None => unreachable!(),
+        }
     }
 }

@@ -11,7 +11,9 @@ use std::sync::{Condvar, Mutex, Wait};
 #[derive(Drop)]
 pub struct Home<O: PartObject, J: Naming<O, O::Part>> {
     pub(crate) part: O::Part,
+    // Knows the entries that the part is what they come to.
     pub(crate) seat: PartSeat<O, J>,
+    // How many of these entries name the part.
     pub(crate) version: u32,
 }
 
@@ -34,6 +36,7 @@ impl<O: PartObject, J: Naming<O, O::Part>> Model for Home<O, J> {
 }
 
 impl<O: PartObject, J: Naming<O, O::Part>> Home<O, J> {
+    /// The number of its part.
     pub fn number(&self) -> u32
         ensures { result ≡ self.now.number }
     {
@@ -58,6 +61,7 @@ impl<O: PartObject, J: Naming<O, O::Part>> Model for Place<O, J> {
 }
 
 impl<O: PartObject, J: Naming<O, O::Part>> Place<O, J> {
+    // The lock of this home's part, with the home in it.
     pub fn new(home: Home<O, J>) -> Self
         ensures { result ≡ home.number }
     {

@@ -8,6 +8,7 @@
 mod held;
 mod home;
 pub mod laws;
+mod room;
 mod tracks;
 
 pub use held::Held;

@@ -1,10 +1,13 @@
 // The locks of all parts.
-ghost use Rattle.std.specs.Prelude.{◌≡◌, ◌≤◌, IfOk, Some, length};
+ghost use Rattle.std.specs.Prelude.{◌≡◌, ◌≤◌, [], IfOk, Some, length, map, vec_capacity};
+ghost use Rattle.std.specs.Int.RustNames.{count_ones};
+ghost use Rattle.std.specs.List.{filter_map};
 ghost use Rattle.edit_journal.specs.Turns.{AreFresh};
 ghost use Rattle.track_locks.specs.Homes.{AreGoodAt, AreHomes, members};
 
 use crate::held::Held;
 use crate::home::{Home, Place};
+use crate::room::{HeldHome, Room, room_for};
 use edit_journal::{Naming, PartSeat};
 use room_core::{Memory, PartObject};
 use std::alloc::Global;
@@ -14,6 +17,7 @@ use std::sync::Wait;
 /// The lock of each part, by its number. Contracts see how many there are.
 #[derive(Drop)]
 pub struct Tracks<O: PartObject, J: Naming<O, O::Part>> {
+    // The lock of part n at index n.
     pub(crate) places: Vec<Place<O, J>>,
 }
 
@@ -30,7 +34,7 @@ impl<O: PartObject, J: Naming<O, O::Part>> Model for Tracks<O, J> {
 }
 
 impl<O: PartObject, J: Naming<O, O::Part>> Tracks<O, J> {
-    /// A lock for each part of the journal's opening, with its seat. Its clause says how many.
+    /// A lock for each part of the journal's opening, with its part and its seat in it.
     pub fn new(
         alloc: Global,
         object: &O,
@@ -60,8 +64,8 @@ impl<O: PartObject, J: Naming<O, O::Part>> Tracks<O, J> {
         Ok(Tracks { places })
     }
 
-    /// Waits for the locks of the parts of a set, bit n for the part n, and holds these parts, in ascending order. No clause
-    /// says that the locks are taken in this order, and the memory before the first, so that an `Err` holds no lock.
+    /// Waits for the locks of the parts of a set, bit n for the part n, and holds these parts, in ascending order. The memory
+    /// is taken before the first lock, so that an `Err` holds none. No clause says that the locks are taken in this order.
     pub fn hold<R: Wait>(&self, rt: &R, alloc: Global, set: u32) -> Result<Held<'_, O, J>, Memory>
         ensures numbers { IfOk result (λ h. h.numbers ≡ members self.now set) }
         ensures few { IfOk result (λ h. length h.numbers ≤ 32) }
@@ -69,30 +73,60 @@ impl<O: PartObject, J: Naming<O, O::Part>> Tracks<O, J> {
             (λ h. AreHomes O.meaning O.opens J.opening h.numbers h.parts h.versions h.seats) }
         ensures good { IfOk result (λ h. AreGoodAt O.good J.opening h.numbers h.parts) }
     {
-        let count = self.places.len();
-        let mut numbers = Vec::with_capacity(alloc, count)?;
-        let mut parts = Vec::with_capacity(alloc, count)?;
-        let mut versions = Vec::with_capacity(alloc, count)?;
-        let mut seats = Vec::with_capacity(alloc, count)?;
-        for (number, place) in self.places.iter().enumerate() {
-            if (set >> number as u32) % 2 == 1 {
-                let Home {
-                    part,
-                    seat,
-                    version,
-                } = place.take(rt, number as u32);
-                numbers.push_reserved(number as u32);
-                parts.push_reserved(part);
-                versions.push_reserved(version);
-                seats.push_reserved(seat);
-            }
-        }
-        Ok(Held {
+        let room = room_for(alloc, set.count_ones() as usize)?;
+        Ok(self.take_in(rt, room, set))
+    }
+
+    // Takes the locks of the parts of a set, and holds what was in them. It is handed no allocator.
+    fn take_in<R: Wait>(&self, rt: &R, room: Room<O, J>, set: u32) -> Held<'_, O, J>
+        requires none { room.homes.items ≡ [] }
+        requires room { vec_capacity room.homes ≡ count_ones set }
+        ensures numbers { result.numbers ≡ members self.now set }
+        ensures few { length result.numbers ≤ 32 }
+        ensures homes { AreHomes O.meaning O.opens J.opening result.numbers result.parts
+            result.versions result.seats }
+        ensures good { AreGoodAt O.good J.opening result.numbers result.parts }
+    {
+        let mut room = room;
+        take_each(rt, &self.places, set, &mut room);
+        Held {
             tracks: self,
-            numbers,
-            parts,
-            versions,
-            seats,
-        })
+            homes: room.into_homes(),
+        }
+    }
+}
+
+// Takes the locks of the parts of a set, one after another, and each home into the room. Nothing that it is handed has an
+// allocator to give, so it can't ask for memory while it holds a lock.
+fn take_each<O: PartObject, J: Naming<O, O::Part>, R: Wait>(
+    rt: &R,
+    places: &[Place<O, J>],
+    set: u32,
+    room: &mut Room<O, J>,
+)
+    requires few { length places.now ≤ 32 }
+    requires none { room.old.homes.items ≡ [] }
+    requires room { vec_capacity room.old.homes ≡ count_ones set }
+    ensures numbers { map (λ h. h.number) room.new.homes.items ≡ members (length places.now) set }
+    ensures homes { AreHomes O.meaning O.opens J.opening (map (λ h. h.number) room.new.homes.items)
+        (map (λ h. h.part) room.new.homes.items) (map (λ h. h.version) room.new.homes.items)
+        (filter_map (λ h. h.seat) room.new.homes.items) }
+    ensures good { AreGoodAt O.good J.opening (map (λ h. h.number) room.new.homes.items)
+        (map (λ h. h.part) room.new.homes.items) }
+{
+    for (number, place) in places.iter().enumerate() {
+        if (set >> number as u32) % 2 == 1 {
+            let Home {
+                part,
+                seat,
+                version,
+            } = place.take(rt, number as u32);
+            room.put(HeldHome {
+                number: number as u32,
+                part,
+                version,
+                seat: Some(seat),
+            });
+        }
     }
 }

@@ -5,13 +5,13 @@ ghost use Rattle.room_core.specs.Parts.{AreGood, numbers};
 ghost use Rattle.room_core.specs.Whole.{whole};
 ghost use Rattle.edit_journal.specs.declared.log.CopyFault.TheVariants.{Memory as NoMemory};
 ghost use Rattle.edit_journal.specs.Faults.{SaysNoPoint};
-ghost use Rattle.history_points.specs.KeptCuts.{IsCutOf, MayKeep};
+ghost use Rattle.history_points.specs.KeptCuts.{IsCutOf};
 ghost use Rattle.history_points.specs.Reached.{IsReached};
 ghost use Rattle.cut_room.specs.Rooms.{IsAtPoint, IsCut, Stays};
 
 use super::Room;
 use crate::CutFault;
-use crate::keeping::{Begun, Kept, entries_between, is_kept_at, next_kept};
+use crate::keeping::{Begun, Kept, entries_between, next_kept};
 use edit_journal::{Naming, Pass};
 use history_points::{ReplayFault, copy_parts, replay};
 use room_core::{Entry, Memory, PartObject};
@@ -19,10 +19,30 @@ use std::alloc::Global;
 use std::sync::Wait;
 
 impl<O: PartObject + Drop, J: Naming<O, O::Part>> Room<O, J> {
-    /// The parts after the first `n` entries. Only the entries behind the nearest cut that is kept are done for it, and
-    /// no lock is held meanwhile. A cut is kept wherever one may be; where there is no memory for it, or to keep one, no
-    /// clause says so.
+    /// The parts after the first `n` entries. Where these are all that there are, the room's own parts are copied, all of
+    /// which are held meanwhile. Else the entries after the nearest cut that is kept are done for it, and no lock is held
+    /// meanwhile. This cut is kept, and others on the way to it; where there is no memory to keep one, no clause says so.
     pub fn cut_at<R: Wait>(
+        &self,
+        rt: &R,
+        alloc: Global,
+        pass: Pass<O, J>,
+        n: u32,
+    ) -> (Pass<O, J>, Result<Vec<O::Part>, CutFault>)
+        ensures cut { IsCut (O.meaning self.now.object) self.now.parts n pass result.0 result.1 }
+        ensures good { IfOk result.1 (λ parts. AreGood (O.good self.now.object) (numbers 0
+            (O.count self.now.object)) parts.items) }
+    {
+        let _ = &self.object;
+        let (pass, standing) = self.standing_at(rt, alloc, pass, n);
+        match standing {
+            Some(parts) => (pass, Ok(parts)),
+            None => self.cut_by_replay(rt, alloc, pass, n),
+        }
+    }
+
+    // The same by the entries after the nearest cut that is kept.
+    fn cut_by_replay<R: Wait>(
         &self,
         rt: &R,
         alloc: Global,
@@ -68,7 +88,8 @@ impl<O: PartObject + Drop, J: Naming<O, O::Part>> Room<O, J> {
         self.begun_by(rt, alloc, &mut kept, pass, n)
     }
 
-    // The same with what is kept, whose lock is held. The journal's is held while entries are copied, and no longer.
+    // Begins a cut, as `begun` does, by what is kept, whose lock is held. The journal's lock is held while entries are
+    // copied, and no longer.
     fn begun_by<R: Wait>(
         &self,
         rt: &R,
@@ -108,7 +129,7 @@ impl<O: PartObject + Drop, J: Naming<O, O::Part>> Room<O, J> {
         }
     }
 
-    // The cut at `n`, from the one at `from` on, by the entries between them. Each cut on the way that may be kept is kept.
+    // The cut at `n`, from the one at `from` on, by the entries between them. It is kept, and others on the way.
     fn gone_on<R: Wait>(
         &self,
         rt: &R,
@@ -124,8 +145,8 @@ impl<O: PartObject + Drop, J: Naming<O, O::Part>> Room<O, J> {
         requires entries { entries.now ≡ take (n - from) (drop from pass.entries) }
         requires cut { IsCutOf O.meaning O.good O.count J.opening pass.entries from parts.items }
         ensures stays { Stays (O.meaning self.now.object) self.now.parts pass result.0 }
-        ensures parts { IfOk result.1 (λ ps. replay (whole (O.meaning self.now.object)) self.now.parts
-            (take n pass.entries) ≡ Some ps.items) }
+        ensures parts { IfOk result.1 (λ ps. replay (whole (O.meaning self.now.object))
+            self.now.parts (take n pass.entries) ≡ Some ps.items) }
         ensures good { IfOk result.1 (λ ps. AreGood (O.good self.now.object) (numbers 0
             (O.count self.now.object)) ps.items) }
         ensures fault { IfErr result.1 (λ f. f ≡ NoMemory) }
@@ -174,7 +195,7 @@ impl<O: PartObject + Drop, J: Naming<O, O::Part>> Room<O, J> {
         }
     }
 
-    // Keeps a copy of the cut at a point that the pass knows, where one may be kept there and there is memory. The lock
+    // Keeps a copy of the cut at a point that the pass knows, where there is memory; the opening is there without. The lock
     // of what is kept is taken for that alone; the pass shows its pass that the cut is one of the journal's history.
     fn keep<R: Wait>(
         &self,
@@ -188,18 +209,32 @@ impl<O: PartObject + Drop, J: Naming<O, O::Part>> Room<O, J> {
         requires cut { IsCutOf O.meaning O.good O.count J.opening pass.entries point parts.now }
         ensures stays { Stays (O.meaning self.now.object) self.now.parts pass result }
     {
-        if !is_kept_at(point) {
+        if point == 0 {
             return pass;
         }
-        let copy = match copy_parts(alloc, &self.object, parts) {
-            Ok(copy) => copy,
-            Err(Memory) => return pass,
-        };
-        let mut kept = self.kept.lock(rt);
-        self.keep_by(rt, &mut kept, pass, point, copy)
+        match copy_parts(alloc, &self.object, parts) {
+            Ok(copy) => self.keep_own(rt, pass, point, copy),
+            Err(Memory) => pass,
+        }
     }
 
-    // The same with what is kept, whose lock is held.
+    // Keeps these parts themselves.
+    pub(super) fn keep_own<R: Wait>(
+        &self,
+        rt: &R,
+        pass: Pass<O, J>,
+        point: u32,
+        parts: Vec<O::Part>,
+    ) -> Pass<O, J>
+        requires within { point ≤ length pass.entries }
+        requires cut { IsCutOf O.meaning O.good O.count J.opening pass.entries point parts.items }
+        ensures stays { Stays (O.meaning self.now.object) self.now.parts pass result }
+    {
+        let mut kept = self.kept.lock(rt);
+        self.keep_by(rt, &mut kept, pass, point, parts)
+    }
+
+    // Keeps a cut, as `keep` does, in what is kept, whose lock is held.
     fn keep_by<R: Wait>(
         &self,
         rt: &R,
@@ -208,7 +243,6 @@ impl<O: PartObject + Drop, J: Naming<O, O::Part>> Room<O, J> {
         point: u32,
         parts: Vec<O::Part>,
     ) -> Pass<O, J>
-        requires point { MayKeep point }
         requires within { point ≤ length pass.entries }
         requires cut { IsCutOf O.meaning O.good O.count J.opening pass.entries point parts.items }
         ensures stays { Stays (O.meaning self.now.object) self.now.parts pass result }

@@ -168,7 +168,7 @@ returns-in-Memory-clause-edited g c =
     let at = at_point g.O.PartObject.meaning g.O.PartObject.opens g.J.Naming.opening (s.object, s.opening.items) journal.entries c.args.pass c.give_back-pass.result (length journal.entries)
     c.self.invariant.0 all.journal all.pass_stands (back.0 ∙ c.station-station.ensures.number)
     (back.1 ∙ (c.append-appended.ensures.same.1 ∙ (all.opening_is ∙ sym c.station-station.ensures.opening))) (back.2 ∙ ap (λ j. j.entries) kept) refl in
-    rw (← c.self.view_is) at.stays
+    rw (← c.self.view_is) (at.stays, rw (← c.self.view_is) at c.requires.named)
 
 pub returns-in-At-clause-parts : goal.returns-in-At-clause-parts
 returns-in-At-clause-parts g c =

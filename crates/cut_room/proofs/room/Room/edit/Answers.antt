@@ -24,4 +24,4 @@ returns-in-Some-clause-edited g c =
     (rw (← c.self.view_is) at c.point-pass.ensures.at) (sym c.refuse_names.ensures ∙ c.in-Some.is))
 
 pub returns-in-Err-clause-edited : goal.returns-in-Err-clause-edited
-returns-in-Err-clause-edited g c = stays_same _ _ c.args.pass
+returns-in-Err-clause-edited g c = rw (← c.self.view_is) (stays_same _ _ c.args.pass, sym c.refuse_names.ensures ∙ c.in-None.is)

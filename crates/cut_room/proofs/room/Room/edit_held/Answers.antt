@@ -17,7 +17,7 @@ apply-requires-clause-roomy g c =
     (λ entries now legal comes. g.met.O.PartObject.stays_roomy s.object s.opening.items now entries c.self.invariant.1 legal comes))
 
 pub returns-in-Err-clause-edited : goal.returns-in-Err-clause-edited
-returns-in-Err-clause-edited g c = stays_same _ _ c.args.pass
+returns-in-Err-clause-edited g c = (stays_same _ _ c.args.pass, c.requires.named)
 
 pub returns-in-Refused-clause-edited : goal.returns-in-Refused-clause-edited
 returns-in-Refused-clause-edited g c =

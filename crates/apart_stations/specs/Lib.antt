@@ -1,2 +1,0 @@
--- To be read: public clauses speak of these.
-pub mod OwnParts
