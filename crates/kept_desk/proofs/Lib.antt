@@ -1,0 +1,3 @@
+mod Desks
+mod Entered
+mod Fronts

@@ -1,0 +1,82 @@
+// A desk behind its lock.
+ghost use Rattle.std.specs.Prelude.{◌≡◌, ◌≤◌, Some, IfErr, IfSome, OnOk};
+ghost use Rattle.kept_desk.specs.Faults.{IsCountedFault};
+
+use crate::{Desk, EntryLines, Filing, KeepFault, Taken};
+use cut_room::Room;
+use edit_journal::Naming;
+use room_core::PartObject;
+use room_disks::Disk;
+use std::alloc::Global;
+use std::sync::{Mutex, Wait};
+
+/// A desk that many stations share.
+#[derive(Drop)]
+pub struct KeptDesk<
+    D: Disk,
+    O: PartObject,
+    J: Naming<O, O::Part>,
+    K: Filing<O::Call>,
+    T: EntryLines<O>,
+> {
+    desk: Mutex<Desk<D, O, J, K, T>>,
+}
+
+impl<D: Disk, O: PartObject, J: Naming<O, O::Part>, K: Filing<O::Call>, T: EntryLines<O>> KeptDesk<
+    D,
+    O,
+    J,
+    K,
+    T,
+> {
+    /// Puts a desk behind a lock.
+    pub fn new(desk: Desk<D, O, J, K, T>) -> KeptDesk<D, O, J, K, T> {
+        KeptDesk {
+            desk: Mutex::new(desk),
+        }
+    }
+
+    /// Takes the desk out of its lock.
+    pub fn close(self) -> Desk<D, O, J, K, T> {
+        let KeptDesk { desk } = self;
+        desk.into_inner()
+    }
+}
+
+impl<
+    D: Disk,
+    O: PartObject + Drop,
+    J: Naming<O, O::Part>,
+    K: Filing<O::Call>,
+    T: EntryLines<O> + Drop,
+> KeptDesk<D, O, J, K, T> {
+    /// Has the file hold the room's entries before a point, and tells by receipts what it counted as it began and as it
+    /// ended. The receipts of the last taking are handed in, and are taken back. A point that the room has told somebody
+    /// is one that it has.
+    pub fn keep<R: Wait>(
+        &self,
+        rt: &R,
+        alloc: Global,
+        room: &Room<O, J>,
+        n: u32,
+        last: Option<Taken<O::Call, K>>,
+    ) -> (Result<(), KeepFault>, Taken<O::Call, K>)
+        requires room { J.opening ≡ Some (room.now.object, room.now.parts) }
+
+        // Kept: the file has at least so many records, which are the lines of the first entries of the journal.
+        ensures kept { OnOk result.0 (n ≤ result.1.after.kept) }
+        ensures ok { OnOk result.0 (result.1.after.failed ≡ result.1.before.failed) }
+
+        // The counts only rise, from one taking to the next too.
+        ensures rises { result.1.before.kept ≤ result.1.after.kept }
+        ensures last { IfSome last (λ t. (t.after.kept ≤ result.1.before.kept)
+            × (t.after.failed ≤ result.1.before.failed)) }
+
+        // A fault of the disk was counted; that there was no memory was not.
+        ensures fault { IfErr result.0
+            (λ f. IsCountedFault f result.1.before.failed result.1.after.failed) }
+    {
+        let mut desk = self.desk.lock(rt);
+        desk.keep(rt, alloc, room, n, last)
+    }
+}
