@@ -1,0 +1,4 @@
+mod Applied
+mod Entries
+mod Naming
+mod Texts
