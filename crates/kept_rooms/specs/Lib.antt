@@ -1,0 +1,4 @@
+-- To be read: public clauses speak of these.
+pub mod Records
+pub mod Kept
+pub mod Readings
