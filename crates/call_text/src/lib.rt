@@ -1,35 +1,14 @@
-//! Lines of a cutting room, and its journal as text. The replies are those of `reply_text`.
-//!
-//! The main contract is that of `read_line`: a line is read by the table, or refused by the first fault of it. What
-//! `call_text` writes is read again as that call: the law `written_calls_are_read`.
+//! Lines and replies of a cutting room, and its journal as text: what a client of a room needs, by one name. Lines, calls
+//! and journals are those of `line_table`, replies those of `reply_text`. Nothing is proved here.
 #![tactic(auto)]
 
-mod calls;
-mod first_words;
-mod journal;
-mod journal_fault;
-mod journal_reading;
-mod labels;
-mod laws;
-mod lines;
-mod part_texts;
-mod parts;
-mod reading;
-mod words;
-
-pub use calls::call_text;
-pub use composables::Memory;
-pub use first_words::FirstWord;
-pub use journal::journal_text;
-pub use journal_fault::{JournalCode, JournalFault};
-pub use journal_reading::{LAST_STATION, MAX_JOURNAL, read_journal};
-pub use laws::{
-    journals_have_one_reading, labels_name_places, limits_are_these, lines_are_those_of_the_table,
-    lines_have_one_meaning, written_calls_are_read,
+pub use line_table::{
+    EntryFault, FirstWord, JournalCode, JournalFault, LAST_STATION, LAST_TRACK, Line,
+    MAX_ENTRY_LINE, MAX_JOURNAL, MAX_JOURNAL_TEXT, Memory, call_text, entry_text, journal_room,
+    journal_text, journal_text_into, journals_have_one_reading, labels_name_places,
+    limits_are_these, lines_are_those_of_the_table, lines_have_one_meaning,
+    lines_of_entries_fit_a_line, read_entry, read_journal, read_line, written_calls_are_read,
 };
-pub use lines::Line;
-pub use parts::LAST_TRACK;
-pub use reading::read_line;
 pub use reply_text::{
     CutCall, CutObject, CutPart, LineFault, MAX_SHORT, MAX_SHORT_LINE, Short, answer_text,
     fault_text, point_text, sight_text,

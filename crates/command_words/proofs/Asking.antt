@@ -3,7 +3,7 @@ use Rattle.std.proofs.Common.{◌≡◌, ℕ, zero, suc, Bool, true, false, if�
 use Rattle.std.specs.Prelude.{codes, bytes_eq}
 use Rattle.std.proofs.lemmas.Option.{none-some, same_Some}
 use Rattle.std.proofs.lemmas.Slice.Eq.{bytes_eq-Decides}
-use Rattle.command_words.specs.Commands.{Asked, command_of, run_of, serve_of, list_of, tape_of, import_of, make_of, hall_of, cut_of, word_at}
+use Rattle.command_words.specs.Commands.{Asked, command_of, run_in, serve_in, list_in, tape_in, import_in, make_in, serve_room_in, list_cut_in, word_at}
 
 -- six words behind the first
 six_behind : (ws : List (List ℕ)) (b c d e f g : List ℕ) → length ws ≡ 7 → slice_get ws 1 ≡ Some b → slice_get ws 2 ≡ Some c → slice_get ws 3 ≡ Some d
@@ -19,7 +19,7 @@ six_behind (a ∷ p ∷ q ∷ r ∷ s ∷ t ∷ u ∷ []) b c d e f g n x1 x2 x3
 six_behind (a ∷ p ∷ q ∷ r ∷ s ∷ t ∷ u ∷ v ∷ ws) b c d e f g n x1 x2 x3 x4 x5 x6 = absurd (omega (arith, n))
 
 pub serve_words : (ws : List (List ℕ)) (b c d e f g : List ℕ) → length ws ≡ 7 → slice_get ws 1 ≡ Some b → slice_get ws 2 ≡ Some c → slice_get ws 3 ≡ Some d
-    → slice_get ws 4 ≡ Some e → slice_get ws 5 ≡ Some f → slice_get ws 6 ≡ Some g → hall_of b c d e f g ≡ serve_of (drop 1 ws)
+    → slice_get ws 4 ≡ Some e → slice_get ws 5 ≡ Some f → slice_get ws 6 ≡ Some g → serve_room_in b c d e f g ≡ serve_in (drop 1 ws)
 serve_words ws b c d e f g n x1 x2 x3 x4 x5 x6 = rw (six_behind ws b c d e f g n x1 x2 x3 x4 x5 x6) refl
 
 unlike : (a b : List ℕ) → (a ≡ b → ⊥) → bytes_eq a b ≡ false
@@ -35,12 +35,12 @@ word_is (a ∷ ws) zero w e = sym (same_Some a w e)
 word_is (a ∷ ws) (suc k) w e = word_is ws k w e
 
 pub cut_words : (ws : List (List ℕ)) (b c d e f : List ℕ) → slice_get ws 1 ≡ Some b → slice_get ws 2 ≡ Some c → slice_get ws 3 ≡ Some d
-    → slice_get ws 4 ≡ Some e → slice_get ws 5 ≡ Some f → cut_of b c d e f ≡ cut_of (word_at 1 ws) (word_at 2 ws) (word_at 3 ws) (word_at 4 ws) (word_at 5 ws)
+    → slice_get ws 4 ≡ Some e → slice_get ws 5 ≡ Some f → list_cut_in b c d e f ≡ list_cut_in (word_at 1 ws) (word_at 2 ws) (word_at 3 ws) (word_at 4 ws) (word_at 5 ws)
 cut_words ws b c d e f x1 x2 x3 x4 x5 = rw (word_is ws 1 b x1, word_is ws 2 c x2, word_is ws 3 d x3, word_is ws 4 e x4, word_is ws 5 f x5) refl
 
 -- five words behind the first, and perhaps one more
 at_last : (ws : List (List ℕ)) (last : List ℕ) (is : Bool) → length ws ≡ 7 → slice_get ws 6 ≡ Some last → bytes_eq last (codes "numbered") ≡ is
-    → (if is then cut_of (word_at 1 ws) (word_at 2 ws) (word_at 3 ws) (word_at 4 ws) (word_at 5 ws) else None) ≡ list_of (drop 1 ws)
+    → (if is then list_cut_in (word_at 1 ws) (word_at 2 ws) (word_at 3 ws) (word_at 4 ws) (word_at 5 ws) else None) ≡ list_in (drop 1 ws)
 at_last [] last is n g e = absurd (omega (arith, n))
 at_last (a ∷ []) last is n g e = absurd (omega (arith, n))
 at_last (a ∷ b ∷ []) last is n g e = absurd (omega (arith, n))
@@ -50,16 +50,16 @@ at_last (a ∷ b ∷ c ∷ d ∷ e' ∷ []) last is n g e = absurd (omega (arith
 at_last (a ∷ b ∷ c ∷ d ∷ e' ∷ f ∷ []) last is n g e = absurd (omega (arith, n))
 at_last (a ∷ b ∷ c ∷ d ∷ e' ∷ f ∷ w ∷ []) last is n g e =
     let same : w ≡ last = same_Some w last g in
-    ap (λ (t : Bool). if t then cut_of b c d e' f else None) (sym (ap (λ (x : List ℕ). bytes_eq x (codes "numbered")) same ∙ e))
+    ap (λ (t : Bool). if t then list_cut_in b c d e' f else None) (sym (ap (λ (x : List ℕ). bytes_eq x (codes "numbered")) same ∙ e))
 at_last (a ∷ b ∷ c ∷ d ∷ e' ∷ f ∷ w ∷ x ∷ ws) last is n g e = absurd (omega (arith, n))
 
-pub other_words : (ws : List (List ℕ)) (last : List ℕ) → length ws ≡ 7 → slice_get ws 6 ≡ Some last → (last ≡ codes "numbered" → ⊥) → None ≡ list_of (drop 1 ws)
+pub other_words : (ws : List (List ℕ)) (last : List ℕ) → length ws ≡ 7 → slice_get ws 6 ≡ Some last → (last ≡ codes "numbered" → ⊥) → None ≡ list_in (drop 1 ws)
 other_words ws last n g e = at_last ws last false n g (unlike last (codes "numbered") e)
 
 -- words whose first is none of these six ask for nothing
 none_at : (run serve list tape import make : Bool) (ws : List (List ℕ)) → run ≡ false → serve ≡ false → list ≡ false → tape ≡ false → import ≡ false → make ≡ false
     → ◌≡◌ {A = Option Asked} None
-    (if run then run_of ws else if serve then serve_of ws else if list then list_of ws else if tape then tape_of ws else if import then import_of ws else if make then make_of ws else None)
+    (if run then run_in ws else if serve then serve_in ws else if list then list_in ws else if tape then tape_in ws else if import then import_in ws else if make then make_in ws else None)
 none_at true serve list tape import make ws r s l t i m = absurd (Prim.grind (arith, r))
 none_at false true list tape import make ws r s l t i m = absurd (Prim.grind (arith, s))
 none_at false false true tape import make ws r s l t i m = absurd (Prim.grind (arith, l))

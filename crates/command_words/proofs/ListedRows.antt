@@ -5,7 +5,7 @@ use Rattle.line_words.specs.declared.numbers.NumberFault.{NumberFault}
 use Rattle.timecode12.specs.Numbers.{Counted}
 use Rattle.timecode12.specs.declared.rate.SequenceRate.{SequenceRate}
 use Rattle.command_words.specs.declared.names.RowFault.{RowFault}
-use Rattle.command_words.specs.Commands.{Asked, asks_for_list, command_of, counted_so, counting_of, imported_so, import_of, is_word, list_of, made_so, make_of, number_within, least_lines, least_stations, least_tracks, most_lines, most_reels, most_stations, most_tracks, plain_asked, played_so, rate_of_word, run_of, serve_of, served_so, tape_of}
+use Rattle.command_words.specs.Commands.{Asked, asks_for_list, command_of, counted_so, counting_of, imported_so, import_in, is_word, list_in, made_so, make_in, number_within, least_lines, least_stations, least_tracks, most_lines, most_reels, most_stations, most_tracks, plain_asked, played_so, rate_of_word, run_in, serve_in, served_so, tape_in}
 use Rattle.command_words.specs.Names.{first_fault}
 use Rattle.line_words.specs.Digits.{number_of}
 
@@ -39,14 +39,14 @@ made_is_no_list (Err fault) count h = not_true h
 made_is_no_list (Ok number) None h = not_true h
 made_is_no_list (Ok number) (Some count) h = not_true h
 
-run_is_no_list : (ws : List (List ℕ)) → asks_for_list (run_of ws) ≡ true → ⊥
+run_is_no_list : (ws : List (List ℕ)) → asks_for_list (run_in ws) ≡ true → ⊥
 run_is_no_list [] h = not_true h
 run_is_no_list (a ∷ []) h = not_true h
 run_is_no_list (a ∷ b ∷ []) h = plain_is_no_list (number_within a least_tracks most_tracks) (number_within b 0 most_reels) h
 run_is_no_list (a ∷ b ∷ c ∷ []) h = counted_is_no_list a (counting_of b c) h
 run_is_no_list (a ∷ b ∷ c ∷ d ∷ ws) h = not_true h
 
-serve_is_no_list : (ws : List (List ℕ)) → asks_for_list (serve_of ws) ≡ true → ⊥
+serve_is_no_list : (ws : List (List ℕ)) → asks_for_list (serve_in ws) ≡ true → ⊥
 serve_is_no_list [] h = not_true h
 serve_is_no_list (a ∷ []) h = not_true h
 serve_is_no_list (a ∷ b ∷ []) h = not_true h
@@ -56,20 +56,20 @@ serve_is_no_list (a ∷ b ∷ c ∷ d ∷ e ∷ []) h = not_true h
 serve_is_no_list (a ∷ b ∷ c ∷ d ∷ e ∷ f ∷ []) h = served_is_no_list a e f (counting_of b c) (number_within d least_stations most_stations) h
 serve_is_no_list (a ∷ b ∷ c ∷ d ∷ e ∷ f ∷ g ∷ ws) h = not_true h
 
-tape_is_no_list : (ws : List (List ℕ)) → asks_for_list (tape_of ws) ≡ true → ⊥
+tape_is_no_list : (ws : List (List ℕ)) → asks_for_list (tape_in ws) ≡ true → ⊥
 tape_is_no_list [] h = not_true h
 tape_is_no_list (a ∷ []) h = not_true h
 tape_is_no_list (a ∷ b ∷ []) h = played_is_no_list a (rate_of_word b) h
 tape_is_no_list (a ∷ b ∷ c ∷ ws) h = not_true h
 
-import_is_no_list : (ws : List (List ℕ)) → asks_for_list (import_of ws) ≡ true → ⊥
+import_is_no_list : (ws : List (List ℕ)) → asks_for_list (import_in ws) ≡ true → ⊥
 import_is_no_list [] h = not_true h
 import_is_no_list (a ∷ []) h = not_true h
 import_is_no_list (a ∷ b ∷ []) h = not_true h
 import_is_no_list (a ∷ b ∷ c ∷ []) h = imported_is_no_list a (counting_of b c) h
 import_is_no_list (a ∷ b ∷ c ∷ d ∷ ws) h = not_true h
 
-make_is_no_list : (ws : List (List ℕ)) → asks_for_list (make_of ws) ≡ true → ⊥
+make_is_no_list : (ws : List (List ℕ)) → asks_for_list (make_in ws) ≡ true → ⊥
 make_is_no_list [] h = not_true h
 make_is_no_list (a ∷ []) h = not_true h
 make_is_no_list (a ∷ b ∷ []) h = made_is_no_list (number_of a) (number_within b least_lines most_lines) h
@@ -77,8 +77,8 @@ make_is_no_list (a ∷ b ∷ c ∷ ws) h = not_true h
 
 -- of the commands only `list` asks for a list
 begins_so : (run serve list tape import make : Bool) (ws : List (List ℕ))
-    → asks_for_list (if run then run_of ws else if serve then serve_of ws else if list then list_of ws else if tape then tape_of ws else if import then import_of ws else if make then make_of ws else None) ≡ true
-    → asks_for_list (list_of ws) ≡ true
+    → asks_for_list (if run then run_in ws else if serve then serve_in ws else if list then list_in ws else if tape then tape_in ws else if import then import_in ws else if make then make_in ws else None) ≡ true
+    → asks_for_list (list_in ws) ≡ true
 begins_so true serve list tape import make ws h = absurd (run_is_no_list ws h)
 begins_so false true list tape import make ws h = absurd (serve_is_no_list ws h)
 begins_so false false true tape import make ws h = h
@@ -92,7 +92,7 @@ sound_rows true None asked h = refl
 sound_rows true (Some fault) asked h = absurd (not_true h)
 sound_rows false fault asked h = absurd (not_true h)
 
-rows_behind : (ws : List (List ℕ)) → asks_for_list (list_of ws) ≡ true → is_word (slice_get ws 5) (codes "names") ≡ true → first_fault [] (drop 6 ws) ≡ None
+rows_behind : (ws : List (List ℕ)) → asks_for_list (list_in ws) ≡ true → is_word (slice_get ws 5) (codes "names") ≡ true → first_fault [] (drop 6 ws) ≡ None
 rows_behind [] h names = absurd (not_true h)
 rows_behind (a ∷ []) h names = absurd (not_true h)
 rows_behind (a ∷ b ∷ []) h names = absurd (not_true h)

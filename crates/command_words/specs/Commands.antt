@@ -61,8 +61,8 @@ plain_asked None reels = None
 plain_asked (Some tracks) None = None
 plain_asked (Some tracks) (Some reels) = Some (RunPlain tracks reels)
 
-abbrev pub plain_of : List ℕ → List ℕ → Option Asked
-plain_of tracks reels = plain_asked (number_within tracks least_tracks most_tracks) (number_within reels 0 most_reels)
+abbrev pub run_plain_in : List ℕ → List ℕ → Option Asked
+run_plain_in tracks reels = plain_asked (number_within tracks least_tracks most_tracks) (number_within reels 0 most_reels)
 
 -- ---- the room of a document
 
@@ -101,8 +101,8 @@ abbrev pub counted_so : List ℕ → Option Counted → Option Asked
 counted_so document None = None
 counted_so document (Some counting) = Some (RunDocument document counting)
 
-abbrev pub document_of : List ℕ → List ℕ → List ℕ → Option Asked
-document_of document rate drop = counted_so document (counting_of rate drop)
+abbrev pub run_document_in : List ℕ → List ℕ → List ℕ → Option Asked
+run_document_in document rate drop = counted_so document (counting_of rate drop)
 
 -- ---- stations of a hall
 
@@ -118,8 +118,8 @@ served_so document address journal None stations = None
 served_so document address journal (Some counting) None = None
 served_so document address journal (Some counting) (Some stations) = Some (Serve document counting stations address journal)
 
-abbrev pub hall_of : List ℕ → List ℕ → List ℕ → List ℕ → List ℕ → List ℕ → Option Asked
-hall_of document rate drop stations address journal =
+abbrev pub serve_room_in : List ℕ → List ℕ → List ℕ → List ℕ → List ℕ → List ℕ → Option Asked
+serve_room_in document rate drop stations address journal =
     served_so document address journal (counting_of rate drop) (number_within stations least_stations most_stations)
 
 -- ---- edit decision lists
@@ -129,8 +129,8 @@ listed_so document journal None point = None
 listed_so document journal (Some counting) (Err fault) = None
 listed_so document journal (Some counting) (Ok point) = Some (ListCut document counting journal point)
 
-abbrev pub cut_of : List ℕ → List ℕ → List ℕ → List ℕ → List ℕ → Option Asked
-cut_of document rate drop journal point = listed_so document journal (counting_of rate drop) (number_of point)
+abbrev pub list_cut_in : List ℕ → List ℕ → List ℕ → List ℕ → List ℕ → Option Asked
+list_cut_in document rate drop journal point = listed_so document journal (counting_of rate drop) (number_of point)
 
 abbrev pub played_so : List ℕ → Option SequenceRate → Option Asked
 played_so name None = None
@@ -154,68 +154,68 @@ made_so (Err fault) count = None
 made_so (Ok number) None = None
 made_so (Ok number) (Some count) = Some (Make number count)
 
-abbrev pub session_of : List ℕ → List ℕ → Option Asked
-session_of number count = made_so (number_of number) (number_within count least_lines most_lines)
+abbrev pub make_session_in : List ℕ → List ℕ → Option Asked
+make_session_in number count = made_so (number_of number) (number_within count least_lines most_lines)
 
 -- ---- the table
 
-abbrev pub run_of : List (List ℕ) → Option Asked
-run_of [] = None
-run_of (a ∷ []) = None
-run_of (tracks ∷ reels ∷ []) = plain_of tracks reels
-run_of (document ∷ rate ∷ drop ∷ []) = document_of document rate drop
-run_of (a ∷ b ∷ c ∷ d ∷ words) = None
+abbrev pub run_in : List (List ℕ) → Option Asked
+run_in [] = None
+run_in (a ∷ []) = None
+run_in (tracks ∷ reels ∷ []) = run_plain_in tracks reels
+run_in (document ∷ rate ∷ drop ∷ []) = run_document_in document rate drop
+run_in (a ∷ b ∷ c ∷ d ∷ words) = None
 
-abbrev pub serve_of : List (List ℕ) → Option Asked
-serve_of [] = None
-serve_of (a ∷ []) = None
-serve_of (a ∷ b ∷ []) = None
-serve_of (a ∷ b ∷ c ∷ []) = None
-serve_of (a ∷ b ∷ c ∷ d ∷ []) = None
-serve_of (a ∷ b ∷ c ∷ d ∷ e ∷ []) = None
-serve_of (document ∷ rate ∷ drop ∷ stations ∷ address ∷ journal ∷ []) = hall_of document rate drop stations address journal
-serve_of (a ∷ b ∷ c ∷ d ∷ e ∷ f ∷ g ∷ words) = None
+abbrev pub serve_in : List (List ℕ) → Option Asked
+serve_in [] = None
+serve_in (a ∷ []) = None
+serve_in (a ∷ b ∷ []) = None
+serve_in (a ∷ b ∷ c ∷ []) = None
+serve_in (a ∷ b ∷ c ∷ d ∷ []) = None
+serve_in (a ∷ b ∷ c ∷ d ∷ e ∷ []) = None
+serve_in (document ∷ rate ∷ drop ∷ stations ∷ address ∷ journal ∷ []) = serve_room_in document rate drop stations address journal
+serve_in (a ∷ b ∷ c ∷ d ∷ e ∷ f ∷ g ∷ words) = None
 
-abbrev pub list_of : List (List ℕ) → Option Asked
-list_of [] = None
-list_of (a ∷ []) = None
-list_of (a ∷ b ∷ []) = None
-list_of (a ∷ b ∷ c ∷ []) = None
-list_of (a ∷ b ∷ c ∷ d ∷ []) = None
-list_of (document ∷ rate ∷ drop ∷ journal ∷ point ∷ []) = cut_of document rate drop journal point
-list_of (document ∷ rate ∷ drop ∷ journal ∷ point ∷ last ∷ []) =
-    if bytes_eq last (codes "numbered") then cut_of document rate drop journal point else None
-list_of (document ∷ rate ∷ drop ∷ journal ∷ point ∷ word ∷ row ∷ rows) =
-    if bytes_eq word (codes "names") && is_none (first_fault [] (row ∷ rows)) then cut_of document rate drop journal point else None
+abbrev pub list_in : List (List ℕ) → Option Asked
+list_in [] = None
+list_in (a ∷ []) = None
+list_in (a ∷ b ∷ []) = None
+list_in (a ∷ b ∷ c ∷ []) = None
+list_in (a ∷ b ∷ c ∷ d ∷ []) = None
+list_in (document ∷ rate ∷ drop ∷ journal ∷ point ∷ []) = list_cut_in document rate drop journal point
+list_in (document ∷ rate ∷ drop ∷ journal ∷ point ∷ last ∷ []) =
+    if bytes_eq last (codes "numbered") then list_cut_in document rate drop journal point else None
+list_in (document ∷ rate ∷ drop ∷ journal ∷ point ∷ word ∷ row ∷ rows) =
+    if bytes_eq word (codes "names") && is_none (first_fault [] (row ∷ rows)) then list_cut_in document rate drop journal point else None
 
-abbrev pub tape_of : List (List ℕ) → Option Asked
-tape_of [] = None
-tape_of (a ∷ []) = None
-tape_of (name ∷ rate ∷ []) = played_so name (rate_of_word rate)
-tape_of (a ∷ b ∷ c ∷ words) = None
+abbrev pub tape_in : List (List ℕ) → Option Asked
+tape_in [] = None
+tape_in (a ∷ []) = None
+tape_in (name ∷ rate ∷ []) = played_so name (rate_of_word rate)
+tape_in (a ∷ b ∷ c ∷ words) = None
 
-abbrev pub import_of : List (List ℕ) → Option Asked
-import_of [] = None
-import_of (a ∷ []) = None
-import_of (a ∷ b ∷ []) = None
-import_of (name ∷ rate ∷ drop ∷ []) = imported_so name (counting_of rate drop)
-import_of (a ∷ b ∷ c ∷ d ∷ words) = None
+abbrev pub import_in : List (List ℕ) → Option Asked
+import_in [] = None
+import_in (a ∷ []) = None
+import_in (a ∷ b ∷ []) = None
+import_in (name ∷ rate ∷ drop ∷ []) = imported_so name (counting_of rate drop)
+import_in (a ∷ b ∷ c ∷ d ∷ words) = None
 
-abbrev pub make_of : List (List ℕ) → Option Asked
-make_of [] = None
-make_of (a ∷ []) = None
-make_of (number ∷ count ∷ []) = session_of number count
-make_of (a ∷ b ∷ c ∷ words) = None
+abbrev pub make_in : List (List ℕ) → Option Asked
+make_in [] = None
+make_in (a ∷ []) = None
+make_in (number ∷ count ∷ []) = make_session_in number count
+make_in (a ∷ b ∷ c ∷ words) = None
 
 -- what words that begin so ask for
 abbrev pub asked_of : List ℕ → List (List ℕ) → Option Asked
 asked_of first words =
-    if bytes_eq first (codes "run") then run_of words else
-    if bytes_eq first (codes "serve") then serve_of words else
-    if bytes_eq first (codes "list") then list_of words else
-    if bytes_eq first (codes "tape") then tape_of words else
-    if bytes_eq first (codes "import") then import_of words else
-    if bytes_eq first (codes "make") then make_of words else None
+    if bytes_eq first (codes "run") then run_in words else
+    if bytes_eq first (codes "serve") then serve_in words else
+    if bytes_eq first (codes "list") then list_in words else
+    if bytes_eq first (codes "tape") then tape_in words else
+    if bytes_eq first (codes "import") then import_in words else
+    if bytes_eq first (codes "make") then make_in words else None
 
 -- what these words ask for
 abbrev pub command_of : List (List ℕ) → Option Asked

@@ -2,7 +2,7 @@
 ghost use Rattle.std.specs.Prelude.{◌≡◌, ◌<◌, IfSome, Some, drop, is_some, codes, length, option_and_then, option_map, slice_get};
 ghost use Rattle.json_tokens.specs.ReadingNumerals.{numeral_in};
 ghost use Rattle.ratio_time.specs.Rates.{rate_value};
-ghost use Rattle.command_words.specs.Commands.{command_of, run_of, serve_of, list_of, tape_of, import_of, make_of, plain_of, document_of, hall_of, cut_of, session_of};
+ghost use Rattle.command_words.specs.Commands.{command_of, run_in, serve_in, list_in, tape_in, import_in, make_in, run_plain_in, run_document_in, serve_room_in, list_cut_in, make_session_in};
 ghost use Rattle.command_words.specs.Commands.{counting_of, rate_of_word, sequence_of, number_within, asked_by, HasBounds, is_over_file, is_other_rate, asks_for_another_rate, is_word, wants_numbers, word_at};
 
 use crate::names::has_rows;
@@ -11,21 +11,25 @@ use line_words::{Words, number};
 use ratio_time::{Numeral, rate_of};
 use timecode12::{Counting, SequenceRate};
 
-/// The least and the most tracks, and the most reels, of a plain room.
+/// The fewest tracks of a plain room.
 const LEAST_TRACKS: u32 = 1;
 
+/// The most tracks of a plain room.
 const MOST_TRACKS: u32 = 32;
 
+/// The most reels of a plain room.
 const MOST_REELS: u32 = 999;
 
-/// The least and the most stations of a hall.
+/// The fewest stations of a hall.
 const LEAST_STATIONS: u32 = 1;
 
+/// The most stations of a hall.
 const MOST_STATIONS: u32 = 16;
 
-/// The least and the most lines that a station of a generated session sends.
+/// The fewest lines that a station of a generated session sends.
 const LEAST_LINES: u32 = 1;
 
+/// The most lines that a station of a generated session sends.
 const MOST_LINES: u32 = 20_000;
 
 /// What the program is asked for.
@@ -36,12 +40,14 @@ pub enum Command<'a> {
         tracks: u32,
         reels: u32,
     },
-    /// The same in the room that the document of this name describes, whose frames are counted so.
+    /// One station over input and output, in the room that the document of this name describes, whose frames are
+    /// counted so.
     RunDocument {
         document: &'a str,
         counting: Counting,
     },
-    /// So many stations in such a room, over a hall at this address, and the journal's text in the file of this name.
+    /// So many stations in the room of a document, over a hall at this address, and the journal's text in the file of
+    /// this name.
     Serve {
         document: &'a str,
         counting: Counting,
@@ -49,7 +55,7 @@ pub enum Command<'a> {
         address: &'a str,
         journal: &'a str,
     },
-    /// The list of the cut after so many entries of the journal in a file, in the room of such a document.
+    /// The list of the cut after so many entries of the journal in a file, in the room of a document.
     ListCut {
         document: &'a str,
         counting: Counting,
@@ -109,7 +115,7 @@ fn rate(word: &str) -> Option<SequenceRate>
     }
 }
 
-// How frames are counted, by these words.
+// How frames are counted, by a rate and `drop` or `ndf`; `drop` only at a rate that has it.
 fn counting(rate_word: &str, drop_word: &str) -> Option<Counting>
     ensures { result ≡ counting_of rate_word.now drop_word.now }
 {
@@ -121,8 +127,9 @@ fn counting(rate_word: &str, drop_word: &str) -> Option<Counting>
     }
 }
 
+// A run in a plain room, by its count of tracks and its count of reels, where both are within their limits.
 fn plain_room<'a>(tracks: &str, reels: &str) -> Option<Command<'a>>
-    ensures command { option_map asked_by result ≡ plain_of tracks.now reels.now }
+    ensures command { option_map asked_by result ≡ run_plain_in tracks.now reels.now }
     ensures bound { IfSome result HasBounds }
 {
     let tracks = number_within(tracks, LEAST_TRACKS, MOST_TRACKS)?;
@@ -130,14 +137,16 @@ fn plain_room<'a>(tracks: &str, reels: &str) -> Option<Command<'a>>
     Some(Command::Run { tracks, reels })
 }
 
+// A run in the room of a document, by its name and how its frames are counted.
 fn room_of<'a>(document: &'a str, rate: &str, drop: &str) -> Option<Command<'a>>
-    ensures command { option_map asked_by result ≡ document_of document.now rate.now drop.now }
+    ensures command { option_map asked_by result ≡ run_document_in document.now rate.now drop.now }
     ensures bound { IfSome result HasBounds }
 {
     let counting = counting(rate, drop)?;
     Some(Command::RunDocument { document, counting })
 }
 
+// A hall in the room of a document, by its count of stations, its address and the name of its journal's file.
 fn hall_of<'a>(
     document: &'a str,
     rate: &str,
@@ -147,7 +156,7 @@ fn hall_of<'a>(
     journal: &'a str,
 ) -> Option<Command<'a>>
     ensures command { option_map asked_by result
-        ≡ hall_of document.now rate.now drop.now stations.now address.now journal.now }
+        ≡ serve_room_in document.now rate.now drop.now stations.now address.now journal.now }
     ensures bound { IfSome result HasBounds }
 {
     let counting = counting(rate, drop)?;
@@ -163,7 +172,7 @@ fn hall_of<'a>(
 
 // What the words after `run` ask for.
 fn run_in(words: &Words) -> Option<Command<'_>>
-    ensures command { option_map asked_by result ≡ run_of (drop 1 words.now) }
+    ensures command { option_map asked_by result ≡ run_in (drop 1 words.now) }
     ensures bound { IfSome result HasBounds }
 {
     match words.count() {
@@ -175,7 +184,7 @@ fn run_in(words: &Words) -> Option<Command<'_>>
 
 // What the words after `serve` ask for.
 fn serve_in(words: &Words) -> Option<Command<'_>>
-    ensures command { option_map asked_by result ≡ serve_of (drop 1 words.now) }
+    ensures command { option_map asked_by result ≡ serve_in (drop 1 words.now) }
     ensures bound { IfSome result HasBounds }
 {
     if words.count() != 7 {
@@ -191,6 +200,7 @@ fn serve_in(words: &Words) -> Option<Command<'_>>
     )
 }
 
+// The list of a cut, by its document, how that is counted, its journal, and how many entries stand before it.
 fn cut_of<'a>(
     document: &'a str,
     rate: &str,
@@ -199,7 +209,7 @@ fn cut_of<'a>(
     point: &str,
 ) -> Option<Command<'a>>
     ensures command { option_map asked_by result
-        ≡ cut_of document.now rate.now drop.now journal.now point.now }
+        ≡ list_cut_in document.now rate.now drop.now journal.now point.now }
     ensures bound { IfSome result HasBounds }
 {
     let counting = counting(rate, drop)?;
@@ -217,7 +227,8 @@ fn cut_of<'a>(
 // The list of a cut that the first five words after `list` ask for.
 fn cut_in(words: &Words) -> Option<Command<'_>>
     requires { 5 < length words.now }
-    ensures command { option_map asked_by result ≡ cut_of (word_at 1 words.now) (word_at 2 words.now)
+    ensures command { option_map asked_by result
+        ≡ list_cut_in (word_at 1 words.now) (word_at 2 words.now)
         (word_at 3 words.now) (word_at 4 words.now) (word_at 5 words.now) }
     ensures bound { IfSome result HasBounds }
 {
@@ -232,7 +243,7 @@ fn cut_in(words: &Words) -> Option<Command<'_>>
 
 // What the words after `list` ask for.
 fn list_in(words: &Words) -> Option<Command<'_>>
-    ensures command { option_map asked_by result ≡ list_of (drop 1 words.now) }
+    ensures command { option_map asked_by result ≡ list_in (drop 1 words.now) }
     ensures bound { IfSome result HasBounds }
 {
     if words.count() > 7 {
@@ -251,7 +262,7 @@ fn list_in(words: &Words) -> Option<Command<'_>>
 // The list of a cut that the words after `list` ask for, where they give its reels their names.
 fn named_cut_in(words: &Words) -> Option<Command<'_>>
     requires { 7 < length words.now }
-    ensures command { option_map asked_by result ≡ list_of (drop 1 words.now) }
+    ensures command { option_map asked_by result ≡ list_in (drop 1 words.now) }
     ensures bound { IfSome result HasBounds }
 {
     if !has_rows(words) {
@@ -262,7 +273,7 @@ fn named_cut_in(words: &Words) -> Option<Command<'_>>
 
 // What the words after `tape` ask for.
 fn tape_in(words: &Words) -> Option<Command<'_>>
-    ensures command { option_map asked_by result ≡ tape_of (drop 1 words.now) }
+    ensures command { option_map asked_by result ≡ tape_in (drop 1 words.now) }
     ensures bound { IfSome result HasBounds }
 {
     if words.count() != 3 {
@@ -277,7 +288,7 @@ fn tape_in(words: &Words) -> Option<Command<'_>>
 
 // What the words after `import` ask for.
 fn import_in(words: &Words) -> Option<Command<'_>>
-    ensures command { option_map asked_by result ≡ import_of (drop 1 words.now) }
+    ensures command { option_map asked_by result ≡ import_in (drop 1 words.now) }
     ensures bound { IfSome result HasBounds }
 {
     if words.count() != 4 {
@@ -288,8 +299,9 @@ fn import_in(words: &Words) -> Option<Command<'_>>
     Some(Command::Import { name, counting })
 }
 
+// A generated session, by its number and how many lines each station sends.
 fn session<'a>(number_word: &str, count: &str) -> Option<Command<'a>>
-    ensures command { option_map asked_by result ≡ session_of number_word.now count.now }
+    ensures command { option_map asked_by result ≡ make_session_in number_word.now count.now }
     ensures bound { IfSome result HasBounds }
 {
     match number(number_word.as_bytes()) {
@@ -303,7 +315,7 @@ fn session<'a>(number_word: &str, count: &str) -> Option<Command<'a>>
 
 // What the words after `make` ask for.
 fn make_in(words: &Words) -> Option<Command<'_>>
-    ensures command { option_map asked_by result ≡ make_of (drop 1 words.now) }
+    ensures command { option_map asked_by result ≡ make_in (drop 1 words.now) }
     ensures bound { IfSome result HasBounds }
 {
     if words.count() != 3 {
@@ -331,7 +343,7 @@ pub fn command_in(words: &Words) -> Option<Command<'_>>
     }
 }
 
-// As many words as a command over a file has.
+// Whether there are as many words as the command over a file has that the first word begins.
 fn is_over_file(words: &Words) -> bool
     ensures { result ≡ is_over_file words.now }
 {
@@ -349,7 +361,7 @@ fn is_over_file(words: &Words) -> bool
     }
 }
 
-// A number, which may be the rate of no sequence.
+// Whether a word is a number, which may be the rate of no sequence.
 fn is_number(word: &str) -> bool
     ensures { result ≡ is_some (numeral_in word.now) }
 {
@@ -359,7 +371,7 @@ fn is_number(word: &str) -> bool
     }
 }
 
-// A number, but the rate of no sequence.
+// Whether a word is a number, but the rate of no sequence.
 fn is_other_rate(word: &str) -> bool
     ensures { result ≡ is_other_rate (Some word.now) }
 {

@@ -35,7 +35,8 @@ pub fn says_names(words: &Words) -> bool
 /// Whether the words of a list from the seventh on say that names follow, and one or more do, none of which is refused.
 pub fn has_rows(words: &Words) -> bool
     requires { 7 < length words.now }
-    ensures { result ≡ (is_word (slice_get words.now 6) (codes "names") && is_none (first_fault [] (drop 7 words.now))) }
+    ensures { result ≡ (is_word (slice_get words.now 6) (codes "names")
+        && is_none (first_fault [] (drop 7 words.now))) }
 {
     says_names(words) && first_fault(words).is_none()
 }
@@ -86,10 +87,11 @@ fn is_named(words: &Words, end: u32, name: &str) -> bool
     false
 }
 
-// Why this word can't stand behind those before it.
+// Why this word can't stand after those before it.
 fn fault_at(words: &Words, i: u32) -> Option<RowFault>
     requires { (7 ≤ i) × (i < length words.now) }
-    ensures { result ≡ word_fault (map row_of (drop 7 (take i words.now))) (row_of (slice_index_or words.now i [])) }
+    ensures { result ≡ word_fault (map row_of (drop 7 (take i words.now)))
+        (row_of (slice_index_or words.now i [])) }
 {
     let (text, name) = row_in(words.word(i));
     if text.is_empty() {
@@ -107,7 +109,7 @@ fn fault_at(words: &Words, i: u32) -> Option<RowFault>
     None
 }
 
-/// The first word behind the seventh that can't give a reel its name, and why.
+/// The first word after the seventh that can't give a reel its name, and why.
 pub fn first_fault(words: &Words) -> Option<(&str, RowFault)>
     requires { 7 ≤ length words.now }
     ensures { option_map (λ x. (x.0.now, x.1)) result ≡ first_fault [] (drop 7 words.now) }

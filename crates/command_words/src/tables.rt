@@ -50,11 +50,12 @@ fn wants_table(words: &Words) -> bool
     }
 }
 
-// The rows of all words behind the seventh.
+// The rows of all words after the seventh, as the table of a namer that has given no name.
 fn table_in(alloc: Global, words: &Words) -> Result<Tabled, Memory>
     requires count { 7 ≤ length words.now }
     requires rows { first_fault [] (drop 7 words.now) ≡ None }
-    ensures { IfOk result (λ namer. namer ≡ record { table = map row_of (drop 7 words.now); given = [] }) }
+    ensures { IfOk result (λ namer. namer
+        ≡ record { table = map row_of (drop 7 words.now); given = [] }) }
 {
     let mut namer = Tabled::new(alloc);
     for i in FIRST_ROW..words.count() {
@@ -63,7 +64,7 @@ fn table_in(alloc: Global, words: &Words) -> Result<Tabled, Memory>
     Ok(namer)
 }
 
-// The row that a word gives, behind the others.
+// Adds the row that a word gives, after the others.
 fn add_row(namer: &mut Tabled, word: &str) -> Result<(), Memory>
     requires { word_fault namer.old.table (row_of word.now) ≡ None }
     ensures { OnOk result (namer.new ≡ record {

@@ -12,34 +12,34 @@ use Rattle.room_core.specs.Whole.{whole}
 use Rattle.room_files.specs.Files.{Content, Untold, Missing, Bytes, FilesTold, IsWhole, IsLonger, IsUnchanged}
 use Rattle.room_halls.specs.Stations.{HallTold}
 use Rattle.edit_apply.specs.Apply.{editing}
-use Rattle.edit_apply.specs.declared.asks.Call.{Call}
+use Rattle.edit_calls.specs.declared.asks.Call.{Call}
 use Rattle.edl_events.specs.declared.event.Event.{Event}
-use Rattle.edl_read.specs.Reading.{list_of}
+use Rattle.edl_read.specs.Reading.{list_read}
 use Rattle.edl_read.specs.declared.list.TheConstants.{MAX_LIST}
 use Rattle.edl_write.specs.declared.fault.ListFault.{ListFault}
 use Rattle.edl_write.specs.declared.fault.ListFault.TheVariants.{Memory}
 use Rattle.otio_json.specs.Openings.{plain_opening}
 use Rattle.otio_json.specs.Timelines.{document_read}
 use Rattle.otio_json.specs.declared.opening.Opening.{Opening}
-use Rattle.call_text.specs.JournalFaults.{AreEntriesOf, IsFaulty}
-use Rattle.call_text.specs.declared.journal_reading.TheConstants.{MAX_JOURNAL}
-use Rattle.call_text.proofs.JournalLaws.{no_fault, one_journal}
+use Rattle.line_table.specs.JournalFaults.{AreEntriesOf, IsFaulty}
+use Rattle.line_table.specs.declared.journal_reading.TheConstants.{MAX_JOURNAL}
+use Rattle.line_table.proofs.JournalLaws.{no_fault, one_journal}
 use Rattle.cut_room.proofs.Journals.{front_applies}
 use Rattle.command_words.specs.Commands.{Asked, RunPlain, RunDocument, Serve, ListCut, PlayList, Import, Make}
-use Rattle.command_ends.specs.declared.status.Status.{Status}
-use Rattle.command_ends.specs.declared.status.Status.TheVariants.{Done, ReadFault, WriteFault, NotSeated, OutOfMemory, TooMuchInput}
-use Rattle.command_ends.specs.Ports.{Change, InputTold, OutputTold}
-use Rattle.command_ends.specs.Statuses.{number_of}
-use Rattle.command_ends.specs.Texts.{PutsWith}
-use Rattle.input_files.specs.Unopened.{EndsUnopened, IsUnread}
-use Rattle.input_files.specs.Documents.{Describes, IsDocumentRefused, document_line}
-use Rattle.input_files.specs.Journals.{HoldsJournal, IsJournalRefused, journal_line}
-use Rattle.input_files.specs.Lists.{HoldsList, IsListRefused, list_line}
-use Rattle.input_files.specs.declared.documents.TheConstants.{MAX_DOCUMENT}
-use Rattle.input_files.specs.declared.documents.DocumentRefusal.{DocumentRefusal}
-use Rattle.input_files.specs.declared.journals.JournalRefusal.{JournalRefusal}
-use Rattle.input_files.specs.declared.lists.ListRefusal.{ListRefusal}
-use Rattle.input_files.specs.declared.lists.ListRefusal.TheVariants.{TooLarge, Faulty}
+use Rattle.command_files.specs.declared.status.Status.{Status}
+use Rattle.command_files.specs.declared.status.Status.TheVariants.{Done, ReadFault, WriteFault, NotSeated, OutOfMemory, TooMuchInput}
+use Rattle.command_files.specs.Ports.{Change, InputTold, OutputTold}
+use Rattle.command_files.specs.Statuses.{number_of}
+use Rattle.command_files.specs.Texts.{PutsWith}
+use Rattle.command_files.specs.Unopened.{EndsUnopened, IsUnread}
+use Rattle.command_files.specs.Documents.{Describes, IsDocumentRefused, document_line}
+use Rattle.command_files.specs.Journals.{HoldsJournal, IsJournalRefused, journal_line}
+use Rattle.command_files.specs.Lists.{HoldsList, IsListRefused, list_line}
+use Rattle.command_files.specs.declared.documents.TheConstants.{MAX_DOCUMENT}
+use Rattle.command_files.specs.declared.documents.DocumentRefusal.{DocumentRefusal}
+use Rattle.command_files.specs.declared.journals.JournalRefusal.{JournalRefusal}
+use Rattle.command_files.specs.declared.lists.ListRefusal.{ListRefusal}
+use Rattle.command_files.specs.declared.lists.ListRefusal.TheVariants.{TooLarge, Faulty}
 use Rattle.list_commands.specs.Cuts.{NamerTold, CutEnds, UnlistedEnds}
 use Rattle.list_commands.specs.Imports.{EventsEnd, HasNoDocument, ImportEnds}
 use Rattle.list_commands.specs.Points.{IsCutAt, HasFewer, DoesNotApply, PointEnds, JournalEnds, ListEnds, OpensDocument}
@@ -50,7 +50,7 @@ use Rattle.station_sessions.specs.declared.serve.End.TheVariants as end
 use Rattle.station_sessions.specs.Outside.{Outside, most_input, most_read}
 use Rattle.station_sessions.specs.Rooms.{History}
 use Rattle.station_sessions.specs.Serving.{SessionEnds}
-use Rattle.cut_server.specs.Halls.{EndsUnserved, FileEnds, HallEnds, SessionsEnd, TellsStation, first_fault, line_at, or_next, status_of}
+use Rattle.served_rooms.specs.Halls.{EndsUnserved, FileEnds, HallEnds, SessionsEnd, TellsStation, first_fault, line_at, or_next, status_of}
 use Rattle.cut_server.specs.Runs.{both, CommandEnds, DocumentEnds, OpensNoRoom, RunEnds, RunsOver, ServeEnds}
 use Rattle.cut_server.specs.Unhindered.{AreStill, AreWithin, FitOnList, IsStill, IsUnhindered, IsWithin, TellsCut, TellsDocument, TellsImport, TellsList}
 
@@ -96,16 +96,16 @@ put_well : (all : Status) (text : List ℕ) (old new : OutputTold) (s : Status) 
 put_well all text old new s still (inl put) = put.0
 put_well all text old new s still (inr cut) = absurd (still cut.1.0)
 
-unread_well : (old new : FilesTold) (output : Change OutputTold) (s : Status) → IsStill old.reads new.reads → IsUnread old new output s → EndsWell s
-unread_well old new output ReadFault still unread = absurd (still unread.0)
-unread_well old new output OutOfMemory still unread = inr refl
-unread_well old new output other still unread = absurd unread
+unread_well : (Fits : Type 0) (old new : FilesTold) (output : Change OutputTold) (s : Status) → IsStill old.reads new.reads → IsUnread old new output Fits s → EndsWell s
+unread_well Fits old new output ReadFault still unread = absurd (still unread.0)
+unread_well Fits old new output OutOfMemory still unread = inr refl
+unread_well Fits old new output other still unread = absurd unread
 
 -- what is accepted has no fault
-unopened_well : {R : Type 0} (HasFault : R → Type 0) (line : R → List ℕ) (old new : FilesTold) (output : Change OutputTold) (s : Status) → ((r : R) → HasFault r → ⊥)
-    → IsStill old.reads new.reads → EndsUnopened old new output HasFault line s → EndsWell s
+unopened_well : {R Fits : Type 0} (HasFault : R → Type 0) (line : R → List ℕ) (old new : FilesTold) (output : Change OutputTold) (s : Status) → ((r : R) → HasFault r → ⊥)
+    → IsStill old.reads new.reads → EndsUnopened old new output HasFault line Fits s → EndsWell s
 unopened_well HasFault line old new output s none still (inl refused) = absurd (none refused.refusal refused.refused)
-unopened_well HasFault line old new output s none still (inr unread) = unread_well old new output s still unread
+unopened_well HasFault line old new output s none still (inr unread) = unread_well _ old new output s still unread
 
 -- ---- contents of files that are told
 
@@ -151,12 +151,12 @@ module _ (c : Content) (entries : List (Entry Call)) (told : c ≢ Untold) (h : 
 
 -- a list
 one_list : (rate : SequenceRate) (c : Content) (events others : List Event) → c ≢ Untold → HoldsList rate c events → HoldsList rate c others → others ≡ events
-one_list rate c events others told h k = same_ok others events (sym k.3 ∙ (ap (list_of rate) (same_bytes c k.0 h.0 told k.1 h.1) ∙ h.3))
+one_list rate c events others told h k = same_ok others events (sym k.3 ∙ (ap (list_read rate) (same_bytes c k.0 h.0 told k.1 h.1) ∙ h.3))
 
 no_list_fault : (rate : SequenceRate) (c : Content) (events : List Event) → c ≢ Untold → HoldsList rate c events → (r : ListRefusal) → IsListRefused rate c r → ⊥
 no_list_fault rate c events told h TooLarge fault = not_longer c h.0 MAX_LIST told h.1 h.2 fault
 no_list_fault rate c events told h (Faulty code line other) fault =
-    ok_or_err events _ (sym h.3 ∙ (ap (list_of rate) (same_bytes c h.0 fault.0 told h.1 fault.1) ∙ fault.3))
+    ok_or_err events _ (sym h.3 ∙ (ap (list_read rate) (same_bytes c h.0 fault.0 told h.1 fault.1) ∙ fault.3))
 
 -- ---- `run` and `serve`
 
@@ -175,7 +175,6 @@ document_well name counting files output input s tells reads still short (only, 
 file_well : (name : List ℕ) (before after : FilesTold) (h : History) (s : Status) → IsStill before.writes after.writes → FileEnds name before after h s → EndsWell s
 file_well name before after h Done still ends = inl refl
 file_well name before after h WriteFault still ends = absurd (still ends.2)
-file_well name before after h OutOfMemory still ends = inr refl
 file_well name before after h other still ends = absurd ends
 
 all_done : (ends : List End) → ((k : ℕ) (e : End) → slice_get ends k ≡ Some e → e ≡ end.Ended) → first_fault (map status_of ends) ≡ Done

@@ -4,16 +4,16 @@ use Rattle.std.specs.Option.{IsSomeAnd}
 use Rattle.room_ports.specs.Counts.{HasRisen}
 use Rattle.room_ports.proofs.Fronts.{takes-takes}
 use Rattle.line_words.specs.Lines.{Line as InputLine, lines_of}
-use Rattle.call_text.specs.Journals.{journal_text_of}
+use Rattle.line_table.specs.Journals.{journal_text_of, HasText}
 use Rattle.station_sessions.specs.declared.serve.End.{End}
 use Rattle.station_sessions.specs.declared.serve.End.TheVariants as end
-use Rattle.command_ends.specs.declared.status.Status.{Status}
-use Rattle.command_ends.specs.declared.status.Status.TheVariants.{Done, WriteFault, OutOfMemory}
-use Rattle.command_ends.specs.Ports.{Change, InputTold, OutputTold}
+use Rattle.command_files.specs.declared.status.Status.{Status}
+use Rattle.command_files.specs.declared.status.Status.TheVariants.{Done, WriteFault, OutOfMemory}
+use Rattle.command_files.specs.Ports.{Change, InputTold, OutputTold}
 use Rattle.station_sessions.specs.Outside.{Outside, AtEnd, AreSent}
 use Rattle.otio_json.specs.declared.opening.Opening.{Opening}
-use Rattle.cut_server.specs.Closed.{Closes}
-use Rattle.cut_server.specs.Stations.{AreOfStations}
+use Rattle.served_rooms.specs.Closed.{Closes}
+use Rattle.served_rooms.specs.Stations.{AreOfStations}
 use Rattle.room_core.specs.declared.entry.Entry.{Entry}
 use Rattle.room_core.specs.Projection.{of_station}
 use Rattle.std.proofs.lemmas.Bool.Decides.{nat_tests}
@@ -22,7 +22,7 @@ use Rattle.station_sessions.specs.Transcript.{new_room, sent}
 use Rattle.station_sessions.specs.Served.{Knows}
 use Rattle.station_sessions.specs.Serving.{SessionEnds}
 use Rattle.cut_server.specs.Runs.{both, IsTold, TellsOne, Tells, IsWhole, JournalIsCut, JournalEnds, RunEnds, RunsOver}
-use Rattle.cut_server.proofs.Sound.{has_text, stay_sound}
+use Rattle.served_rooms.proofs.Sound.{has_text, stay_sound}
 use Rattle.station_sessions.proofs.Serves.{takes-then_front}
 use Rattle.station_sessions.proofs.Knowing.{got_map, session_told}
 use Rattle.station_sessions.proofs.Transcripts.{transcript_more}
@@ -36,6 +36,10 @@ own_all : {C : Type 0} (h : List (Entry C)) → AreOfStations 1 h → of_station
 own_all [] s = refl
 own_all (e ∷ es) s = all_own (e.station == 0) e es (of_station 0 es) refl s.0 (own_all es s.1)
 
+-- the closed room's journal has a text
+pub text_by : (o : Opening) (g h : History) → Closes o 1 0 g h → AreWritten (of_station 0 g) → HasText h
+text_by o g h c w = has_text o 1 h (omega arith) c.legal c.seated (subst AreWritten (sym c.own ∙ own_all h c.seated) w)
+
 -- and the closed room's journal tells it too
 tells_by : (o : Opening) (g h : History) (ls : List InputLine) (Taken : List (List ℕ) → Type 0) → Closes o 1 0 g h → Knows o new_room 0 g ls Taken
     → (replies : List (List ℕ)) × IsTold o 1 h 0 ls replies × Taken replies
@@ -47,7 +51,7 @@ tells_by o g h ls Taken c k =
         journal = record {
           legal = c.legal;
           seated = c.seated;
-          text = has_text o 1 h (omega arith) c.legal c.seated (subst AreWritten (sym c.own ∙ own_all h c.seated) k.2);
+          text = text_by o g h c k.2;
           sound = stay_sound o h c.opens c.legal;
         };
         transcript = rw c.journal there;
@@ -79,13 +83,11 @@ run_ends o g h old mid new WriteFault c (quiet, ended) (failed, same, takes) = i
   at_end_then old mid new (λ ls. Knows o new_room 0 g ls (AreSent old.taken mid.taken)) (λ ls. TellsOne o ls (JournalIsCut old.taken new.taken)) same
       (λ ls k. let s = tells_by o g h ls (AreSent old.taken mid.taken) c k in (h, s.0, s.1, takes-then_front old.taken mid.taken new.taken (sent s.0) (journal_text_of h) s.2 takes)) ended,
 )
-run_ends o g h old mid new OutOfMemory c ended same = inr (session_ends o g h old new end.Ended c (subst (λ (x : Outside). SessionEnds (Knows o new_room 0 g) old x end.Ended) (sym same) ended))
 run_ends o g h old mid new other c ended journal = absurd journal
 
 -- a run in which something was begun
 pub run_begun : (o : Opening) (input : Change InputTold) (output : Change OutputTold) (s : Status) → RunEnds o (both input.before output.before) (both input.after output.after) ⊥ s → RunsOver o input output s
-run_begun o input output OutOfMemory (inl h) = absurd h
-run_begun o input output OutOfMemory (inr h) = inr h
+run_begun o input output OutOfMemory h = absurd h
 run_begun o input output other h = h
 
 -- a run in the room that is opened so

@@ -1,9 +1,3 @@
 -- To be read: public clauses speak of these.
-pub mod Stations
-pub mod Journals
 pub mod Runs
-pub mod Halls
 pub mod Unhindered
--- For the steps of the code, for proofs and for tests.
-pub mod Closed
-pub mod Seated

@@ -1,33 +1,34 @@
 -- How a run of the program ends, by its status: what was read and what stands on the output, and that one legal history
 -- tells the replies. Each relation by status has a case for each status with which it may end, and holds at no other.
 use Rattle.std.specs.Prelude.{◌≡◌, ℕ, ◌⊎◌, List, ◌++◌, Option, Some, None, codes}
-use Rattle.room_files.specs.Files.{FilesTold}
+use Rattle.room_files.specs.Files.{FilesTold, FitsIn}
 use Rattle.room_halls.specs.Stations.{HallTold}
 use Rattle.room_ports.specs.Bytes.{Takes, TakesFront}
 use Rattle.line_words.specs.Lines.{Line as InputLine}
 use Rattle.otio_json.specs.Openings.{plain_opening}
 use Rattle.otio_json.specs.declared.opening.Opening.{Opening}
-use Rattle.call_text.specs.Journals.{journal_text_of}
+use Rattle.line_table.specs.Journals.{journal_text_of}
 use Rattle.timecode12.specs.Numbers.{Counted}
 use Rattle.command_words.specs.Commands.{Asked, RunPlain, RunDocument, Serve, ListCut, PlayList, Import, Make}
-use Rattle.command_ends.specs.Ports.{Change, InputTold, OutputTold}
-use Rattle.command_ends.specs.Texts.{PutsWith}
-use Rattle.input_files.specs.Unopened.{AreQuiet, EndsUnopened, OnlyRead}
-use Rattle.input_files.specs.Documents.{Describes, IsDocumentRefused, document_line}
+use Rattle.command_files.specs.Ports.{Change, InputTold, OutputTold}
+use Rattle.command_files.specs.Texts.{PutsWith}
+use Rattle.command_files.specs.declared.documents.TheConstants.{MAX_DOCUMENT}
+use Rattle.command_files.specs.Unopened.{AreQuiet, EndsUnopened, OnlyRead}
+use Rattle.command_files.specs.Documents.{Describes, IsDocumentRefused, document_line}
 use Rattle.list_commands.specs.Cuts.{NamerTold}
 use Rattle.list_commands.specs.Imports.{ImportEnds}
 use Rattle.list_commands.specs.Points.{ListEnds}
 use Rattle.list_commands.specs.Tapes.{TapeEnds}
 use Rattle.made_sessions.specs.Sessions.{MakeEnds}
 use Rattle.station_sessions.specs.declared.serve.End.TheVariants as end
-use Rattle.command_ends.specs.declared.status.Status.{Status}
-use Rattle.command_ends.specs.declared.status.Status.TheVariants.{Done, ReadFault, WriteFault, NoCommand, OutOfMemory, TooMuchInput}
-use Rattle.cut_server.specs.Journals.{IsJournalOf}
-use Rattle.cut_server.specs.Halls.{FileEnds, HallEnds}
+use Rattle.command_files.specs.declared.status.Status.{Status}
+use Rattle.command_files.specs.declared.status.Status.TheVariants.{Done, ReadFault, WriteFault, NoCommand, OutOfMemory, TooMuchInput}
+use Rattle.served_rooms.specs.Journals.{IsJournalOf}
+use Rattle.served_rooms.specs.Halls.{FileEnds, HallEnds}
 use Rattle.station_sessions.specs.Outside.{Outside, outside, NoFault, WriteFailed, AtEnd, TakesThenFront}
 use Rattle.station_sessions.specs.Rooms.{History, RoomTranscript}
 use Rattle.station_sessions.specs.Serving.{SessionEnds}
-use Rattle.command_ends.specs.Statuses.{number_of}
+use Rattle.command_files.specs.Statuses.{number_of}
 use Rattle.station_sessions.specs.Transcript.{new_room, sent}
 
 -- what an input and an output tell together
@@ -60,8 +61,6 @@ module _ (h : History) (old new : Outside) where
   abbrev pub JournalEnds : Status → Type 0
   JournalEnds Done = NoFault old new × (new.left ≡ old.left) × Takes old.taken new.taken (journal_text_of h)
   JournalEnds WriteFault = WriteFailed old new × (new.left ≡ old.left) × TakesFront old.taken new.taken (journal_text_of h)
-  -- there was no memory for the text
-  JournalEnds OutOfMemory = new ≡ old
   JournalEnds other = ⊥
 
 -- a run of one station from this opening, where `Untouched` says that input and output are as they were
@@ -74,8 +73,8 @@ module _ (o : Opening) (old new : Outside) (Untouched : Type 0) where
   -- a reply is cut, or the journal's text behind all replies
   RunEnds WriteFault = SessionEnds (Tells o) old new end.WriteFault
       ⊎ (WriteFailed old new × AtEnd old new (λ lines. TellsOne o lines (JournalIsCut old.taken new.taken)))
-  -- nothing was begun, or the input was read to its end and the output is all replies without the journal
-  RunEnds OutOfMemory = Untouched ⊎ SessionEnds (Tells o) old new end.Ended
+  -- nothing was begun
+  RunEnds OutOfMemory = Untouched
   -- the lines that ended among the first 64 MiB are answered
   RunEnds TooMuchInput = SessionEnds (Tells o) old new end.TooMuchInput
   RunEnds other = ⊥
@@ -89,7 +88,7 @@ RunsOver o input output =
 module _ (name : List ℕ) (counting : Counted) (files : Change FilesTold) (output : Change OutputTold) where
   -- the document is refused, or its file was not read, or there was no memory: no room was opened
   abbrev pub OpensNoRoom : Status → Type 0
-  OpensNoRoom status = EndsUnopened files.before files.after output (IsDocumentRefused counting (files.before.file name)) document_line status
+  OpensNoRoom status = EndsUnopened files.before files.after output (IsDocumentRefused counting (files.before.file name)) document_line (FitsIn (files.before.file name) MAX_DOCUMENT) status
 
   -- the document describes an opening, of which the run is
   pub record RunsDocument (input : Change InputTold) (status : Status) : Type 0 where

@@ -9,22 +9,22 @@ use Rattle.room_core.specs.declared.entry.Entry.{Entry}
 use Rattle.room_files.specs.Files.{Content, Untold, FilesTold}
 use Rattle.room_halls.specs.Stations.{HallTold}
 use Rattle.room_ports.specs.Counts.{HasRisen}
-use Rattle.edit_apply.specs.declared.asks.Call.{Call}
+use Rattle.edit_calls.specs.declared.asks.Call.{Call}
 use Rattle.edl_events.specs.declared.event.Event.{Event}
 use Rattle.edl_write.specs.declared.fault.ListFault.{ListFault}
 use Rattle.edl_write.specs.declared.fault.ListFault.TheVariants.{Memory}
 use Rattle.edl_write.specs.Refusals.{IsRefused}
 use Rattle.otio_json.specs.declared.opening.Opening.{Opening}
 use Rattle.command_words.specs.Commands.{Asked, RunPlain, RunDocument, Serve, ListCut, PlayList, Import, Make}
-use Rattle.command_ends.specs.Ports.{Change, InputTold, OutputTold}
-use Rattle.input_files.specs.Documents.{Describes}
-use Rattle.input_files.specs.Journals.{HoldsJournal}
-use Rattle.input_files.specs.Lists.{HoldsList}
+use Rattle.command_files.specs.Ports.{Change, InputTold, OutputTold}
+use Rattle.command_files.specs.Documents.{Describes}
+use Rattle.command_files.specs.Journals.{HoldsJournal}
+use Rattle.command_files.specs.Lists.{HoldsList}
 use Rattle.list_commands.specs.Cuts.{NamerTold}
 use Rattle.list_commands.specs.Imports.{HasNoDocument}
 use Rattle.list_commands.specs.Points.{IsCutAt}
 use Rattle.station_sessions.specs.Outside.{Outside, most_input}
-use Rattle.cut_server.specs.Halls.{line_at}
+use Rattle.served_rooms.specs.Halls.{line_at}
 use Rattle.cut_server.specs.Runs.{both}
 
 -- ---- inputs

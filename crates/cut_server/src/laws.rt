@@ -1,8 +1,8 @@
 //! The numbers of the limits.
 ghost use Rattle.std.specs.Prelude.{◌≡◌};
 ghost use Rattle.command_words.specs.Commands.{least_tracks, most_tracks, most_reels};
-ghost use Rattle.input_files.specs.declared.documents.TheConstants.{MAX_DOCUMENT};
-ghost use Rattle.call_text.specs.declared.journal_reading.TheConstants.{MAX_JOURNAL};
+ghost use Rattle.command_files.specs.declared.documents.TheConstants.{MAX_DOCUMENT};
+ghost use Rattle.line_table.specs.declared.journal_reading.TheConstants.{MAX_JOURNAL};
 ghost use Rattle.edl_read.specs.declared.list.TheConstants.{MAX_LIST};
 
 /// The limits of a command: 32 MiB of a document or a list, 64 MiB of a journal, 1 to 32 tracks and up to 999 reels.

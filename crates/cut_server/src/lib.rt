@@ -7,10 +7,7 @@
 #![tactic(auto)]
 
 pub mod laws;
-mod made;
 mod main_call;
-mod seated;
-mod stations;
 
 pub use command_words::{RowFault, asks_for_another_rate, refused_row, tabled_of, wants_numbers};
 pub use main_call::cut_main;

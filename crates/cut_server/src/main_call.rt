@@ -1,11 +1,12 @@
 // The call that the program makes.
 ghost use Rattle.std.specs.Prelude.{◌≡◌, ◌<◌, ◌≤◌, ◌⊎◌, [], Some, length, vec_capacity};
 ghost use Rattle.command_words.specs.Commands.{command_of, least_tracks, most_tracks, most_reels, least_stations, most_stations};
+ghost use Rattle.line_table.specs.Journals.{HasRoomForText, HasText};
 ghost use Rattle.otio_json.specs.Openings.{plain_opening};
 ghost use Rattle.otio_json.specs.Soundness.{IsSoundOpening};
 ghost use Rattle.station_sessions.specs.Outside.{outside};
 ghost use Rattle.otio_json.specs.declared.opening.Opening.{Opening as OpeningOf};
-ghost use Rattle.command_ends.specs.Ports.{change, input_told, output_told};
+ghost use Rattle.command_files.specs.Ports.{change, input_told, output_told};
 ghost use Rattle.list_commands.specs.Cuts.{namer_told};
 ghost use Rattle.cut_server.specs.Runs.{both, JournalEnds, RunEnds, RunsOver, DocumentEnds, ServeEnds, CommandEnds, EndsWith};
 ghost use Rattle.cut_server.specs.Unhindered.{IsUnhindered};
@@ -13,15 +14,12 @@ ghost use Rattle.station_sessions.specs.Served.{IsRoomOf};
 ghost use Rattle.station_sessions.specs.SessionInside.{TrackOpening, opened_with};
 ghost use Rattle.edit_journal.specs.Turns.{AreFresh};
 
-use crate::made::make_session;
-use crate::stations::{Place, serve_opened};
-use call_text::{CutCall, CutObject, CutPart, journal_text};
-use command_ends::{Status, end_with};
+use call_text::{CutCall, CutObject, CutPart, journal_room, journal_text_into};
+use command_files::{Status, end_unopened, end_with, open_document};
 use command_words::{Command, command_in};
 use cut_room::{Room, RoomBlank};
 use edit_apply::Editor;
 use edit_journal::{Naming, Pass};
-use input_files::{end_unopened, open_document};
 use line_words::Words;
 use list_commands::{CutPlace, import_file, list_cut, play_list};
 use otio_json::Opening;
@@ -30,6 +28,7 @@ use room_core::Entry;
 use room_files::Files;
 use room_halls::Hall;
 use room_ports::{Gate, Line, Pair, Sink, Source, put};
+use served_rooms::{Venue, make_session, serve_opened};
 use station_sessions::{End, Session, Setting, serve_session};
 use std::alloc::Global;
 use std::marker::Brand;
@@ -37,8 +36,10 @@ use std::sync::Wait;
 use std::thread::Threads;
 use timecode12::Counting;
 
-// Puts the journal's text behind the replies.
-fn put_journal<L: Line>(alloc: Global, entries: &[Entry<CutCall>], line: &mut L) -> Status
+// Puts the journal's text after the replies, by way of the memory that was taken for it.
+fn put_journal<L: Line>(mut text: Vec<u8>, entries: &[Entry<CutCall>], line: &mut L) -> Status
+    requires text { HasText entries.now }
+    requires room { HasRoomForText text }
     ensures ends { JournalEnds entries.now
         (outside (L.left line.old) (L.read_faults line.old) (L.taken line.old)
         (L.write_faults line.old))
@@ -46,28 +47,28 @@ fn put_journal<L: Line>(alloc: Global, entries: &[Entry<CutCall>], line: &mut L)
         (L.write_faults line.new)) result }
     ensures lent { L.lent line.new ≡ L.lent line.old }
 {
-    let text = match journal_text(alloc, entries) {
-        Ok(text) => text,
-        Err(_) => return Status::OutOfMemory,
-    };
+    journal_text_into(&mut text, entries);
     match put(line, &text) {
         Ok(()) => Status::Done,
         Err(_) => Status::WriteFault,
     }
 }
 
-// Serves the session of the one station of a room that has just been opened, and puts its journal's text behind the replies.
+// Serves the session of the one station of a room that has just been opened, and puts its journal's text after the replies.
 fn run_session<R: Wait, G: Gate, J: Naming<CutObject, CutPart>, L: Line>(
     rt: &R,
     alloc: Global,
     room: Room<CutObject, J>,
     passes: Vec<Pass<CutObject, J>>,
     setting: Setting,
+    text: Vec<u8>,
     line: &mut L,
     gate: &G,
 ) -> Status
     requires passes { AreFresh J.opening 1 passes.items }
     requires stations { room.stations ≡ 1 }
+    requires opened { (o : OpeningOf) × IsRoomOf o room setting.counting setting.start }
+    requires text { HasRoomForText text }
     ensures ends { (o : OpeningOf) → IsRoomOf o room setting.counting setting.start → RunEnds o
         (outside (L.left line.old) (L.read_faults line.old) (L.taken line.old)
         (L.write_faults line.old))
@@ -80,7 +81,7 @@ fn run_session<R: Wait, G: Gate, J: Naming<CutObject, CutPart>, L: Line>(
     passes.push_reserved(pass);
     let entries = room.close(passes);
     match end {
-        End::Ended => put_journal(alloc, &entries, line),
+        End::Ended => put_journal(text, &entries, line),
         End::ReadFault => Status::ReadFault,
         End::WriteFault => Status::WriteFault,
         End::TooMuchInput => Status::TooMuchInput,
@@ -103,19 +104,22 @@ fn only_pass<J: Naming<CutObject, CutPart>>(
     }
 }
 
-// The same over an input and an output that are lent.
+// Serves the one station over an input and an output that are lent, and puts the journal's text after the replies.
 fn run_over<R: Wait, G: Gate, J: Naming<CutObject, CutPart>, S: Source, K: Sink>(
     rt: &R,
     alloc: Global,
     room: Room<CutObject, J>,
     passes: Vec<Pass<CutObject, J>>,
     setting: Setting,
+    text: Vec<u8>,
     input: &mut S,
     output: &mut K,
     gate: &G,
 ) -> Status
     requires passes { AreFresh J.opening 1 passes.items }
     requires stations { room.stations ≡ 1 }
+    requires opened { (o : OpeningOf) × IsRoomOf o room setting.counting setting.start }
+    requires text { HasRoomForText text }
     ensures { (o : OpeningOf) → IsRoomOf o room setting.counting setting.start → RunEnds o
         (both (input_told S.left S.read_faults input.old)
         (output_told K.taken K.write_faults output.old))
@@ -123,10 +127,10 @@ fn run_over<R: Wait, G: Gate, J: Naming<CutObject, CutPart>, S: Source, K: Sink>
         (output_told K.taken K.write_faults output.new)) ⊥ result }
 {
     let mut line = Pair { input, output };
-    run_session(rt, alloc, room, passes, setting, &mut line, gate)
+    run_session(rt, alloc, room, passes, setting, text, &mut line, gate)
 }
 
-// A run of one station in the room of a blank.
+// A run of one station in the room of a blank. The memory for the journal's text is taken before the first read.
 fn run_blank<R: Wait, G: Gate, J: Naming<CutObject, CutPart>, S: Source, K: Sink>(
     rt: &R,
     alloc: Global,
@@ -140,8 +144,12 @@ fn run_blank<R: Wait, G: Gate, J: Naming<CutObject, CutPart>, S: Source, K: Sink
     requires opening { J.opening ≡ blank.journal.opening }
     requires stations { J.stations ≡ blank.journal.stations }
     requires one { blank.stations ≡ 1 }
+    requires opened { (o : OpeningOf) × (opening : TrackOpening)
+        × (blank.journal.opening ≡ Some opening)
+        × IsRoomOf o (opened_with opening blank.stations) setting.counting setting.start }
     ensures { (o : OpeningOf) (opening : TrackOpening) → blank.journal.opening ≡ Some opening
-        → IsRoomOf o (opened_with opening blank.stations) setting.counting setting.start → RunsOver o
+        → IsRoomOf o (opened_with opening blank.stations) setting.counting setting.start
+        → RunsOver o
         (change (input_told S.left S.read_faults) input.old input.new)
         (change (output_told K.taken K.write_faults) output.old output.new) result }
 {
@@ -149,7 +157,11 @@ fn run_blank<R: Wait, G: Gate, J: Naming<CutObject, CutPart>, S: Source, K: Sink
         Ok(opened) => opened,
         Err(_) => return Status::OutOfMemory,
     };
-    run_over(rt, alloc, room, passes, setting, input, output, gate)
+    let text = match journal_room(alloc) {
+        Ok(text) => text,
+        Err(_) => return Status::OutOfMemory,
+    };
+    run_over(rt, alloc, room, passes, setting, text, input, output, gate)
 }
 
 // A run of one station in a room that begins so.
@@ -232,7 +244,7 @@ fn serve_document<R: Threads + Wait + Sync, F: Files, K: Sink, H: Hall, G: Gate 
     alloc: Global,
     name: &str,
     counting: &Counting,
-    place: &Place<'_>,
+    place: &Venue<'_>,
     files: &mut F,
     output: &mut K,
     hall: &mut H,
@@ -266,7 +278,8 @@ fn do_command<R: Threads + Wait + Sync, F: Files, S: Source, K: Sink, H: Hall, G
     ensures { CommandEnds (change F.told files.old files.new)
         (change (input_told S.left S.read_faults) input.old input.new)
         (change (output_told K.taken K.write_faults) output.old output.new)
-        (change H.told hall.old hall.new) (namer_told (rule namer) (given namer)) (command_of words.now) result }
+        (change H.told hall.old hall.new)
+        (namer_told (rule namer) (given namer)) (command_of words.now) result }
 {
     match &command_in(words) {
         Some(Command::Run { tracks, reels }) => {
@@ -284,7 +297,7 @@ fn do_command<R: Threads + Wait + Sync, F: Files, S: Source, K: Sink, H: Hall, G
                 journal,
             },
         ) => {
-            let place = Place {
+            let place = Venue {
                 stations: *stations,
                 address: *address,
                 journal: *journal,
@@ -346,7 +359,7 @@ fn do_command<R: Threads + Wait + Sync, F: Files, S: Source, K: Sink, H: Hall, G
 /// | 3 | the words are no command |
 /// | 4 | the document, the journal or the list is refused, or the list has no document, and a line tells why |
 /// | 5 | the hall was not opened, or a station not seated: no session was begun |
-/// | 6 | there was no memory to begin with, or none for a list or for the journal's text |
+/// | 6 | out of memory: nothing was begun, or there was none for a list |
 /// | 7 | the input, or a line, gave more than 64 MiB |
 /// | 8 | the cut has no list, and a line tells why |
 ///
@@ -371,13 +384,15 @@ pub fn cut_main<R: Threads + Wait + Sync, F: Files, S: Source, K: Sink, H: Hall,
     ensures ends { EndsWith result (CommandEnds (change F.told files.old files.new)
         (change (input_told S.left S.read_faults) input.old input.new)
         (change (output_told K.taken K.write_faults) output.old output.new)
-        (change H.told hall.old hall.new) (namer_told (rule namer) (given namer)) (command_of words.now)) }
-    // Completeness: where the words are a command's, what it reads is accepted, no input has more than 64 MiB and no count
-    // of faults rises, the status is 0, or 6 for want of memory.
+        (change H.told hall.old hall.new)
+        (namer_told (rule namer) (given namer)) (command_of words.now)) }
+    // Completeness: where the words are a command's, what it reads is accepted, no input has more than 64 MiB and no
+    // count of faults rises, the status is 0, or 6 where memory runs out.
     ensures complete { IsUnhindered (change F.told files.old files.new)
         (change (input_told S.left S.read_faults) input.old input.new)
         (change (output_told K.taken K.write_faults) output.old output.new)
-        (change H.told hall.old hall.new) (namer_told (rule namer) (given namer)) (command_of words.now)
+        (change H.told hall.old hall.new)
+        (namer_told (rule namer) (given namer)) (command_of words.now)
         → (result ≡ 0) ⊎ (result ≡ 6) }
 {
     do_command(rt, alloc, words, files, input, output, hall, gate, namer).number()

@@ -1,22 +1,18 @@
 -- How the program ends: by a notice, or as its words ask.
-use Rattle.std.specs.Prelude.{◌≡◌, ℕ, ◌⊎◌, List, [], ◌∷◌, Option, Some, None, codes, bytes_eq, if◌then◌else◌}
+use Rattle.std.specs.Prelude.{◌≡◌, ℕ, ◌⊎◌, Bool, true, false, List, [], ◌∷◌, Option, Some, None}
 use Rattle.room_ports.specs.Bytes.{Takes, TakesFront}
 use Rattle.room_ports.specs.Counts.{HasRisen}
-use Rattle.command_words.specs.Commands.{command_of}
+use Rattle.command_words.specs.Commands.{command_of, wants_numbers}
+use Rattle.command_words.specs.NamedLists.{table_asked}
+use Rattle.reel_names.specs.Namers.{as_is, numbered}
+use Rattle.reel_names.specs.Tables.{TableAndNames, tabled}
 use Rattle.room_files.specs.Files.{FilesTold}
 use Rattle.room_halls.specs.Stations.{HallTold}
-use Rattle.command_ends.specs.Ports.{Change, InputTold, OutputTold}
-use Rattle.list_commands.specs.Cuts.{NamerTold}
+use Rattle.command_files.specs.Ports.{Change, InputTold, OutputTold}
+use Rattle.list_commands.specs.Cuts.{NamerTold, namer_told}
 use Rattle.cut_server.specs.Runs.{CommandEnds, EndsWith}
-use Rattle.cutroom.specs.declared.notice.Notice.{Notice}
-use Rattle.cutroom.specs.declared.notice.Notice.TheVariants.{Help, Version}
-use Rattle.cutroom.specs.Notices.{text_of}
-
--- the notice that words ask for: it is their only word
-abbrev pub notice_of : List (List ℕ) → Option Notice
-notice_of [] = None
-notice_of (word ∷ []) = if bytes_eq word (codes "--help") then Some Help else (if bytes_eq word (codes "--version") then Some Version else None)
-notice_of (word ∷ next ∷ words) = None
+use Rattle.program_words.specs.declared.notice.Notice.{Notice}
+use Rattle.program_words.specs.Notices.{notice_of, text_of}
 
 -- the notice was written, or a write failed after a front of it
 abbrev pub NoticeEnds : Notice → OutputTold → OutputTold → ℕ → Type 0
@@ -33,3 +29,19 @@ module _ (files : Change FilesTold) (input : Change InputTold) (output : Change 
 
   abbrev pub ProgramEnds : List (List ℕ) → ℕ → Type 0
   ProgramEnds words status = EndsBy (notice_of words) words status
+
+-- the namer that words ask for: one with their table, one that numbers, or one that gives names as they are
+abbrev pub namer_by : Option TableAndNames → Bool → NamerTold
+namer_by (Some asked) numbers = namer_told (tabled asked.table) asked.given
+namer_by None true = namer_told numbered []
+namer_by None false = namer_told as_is []
+
+abbrev pub namer_asked : List (List ℕ) → NamerTold
+namer_asked words = namer_by (table_asked words) (wants_numbers words)
+
+-- the same by the namer that the words ask for, or there was no memory for one
+module _ (files : Change FilesTold) (input : Change InputTold) (output : Change OutputTold) (hall : Change HallTold) where
+  abbrev pub WordsEnd : List (List ℕ) → ℕ → Type 0
+  WordsEnd words status =
+      ProgramEnds files input output hall (namer_asked words) words status
+      ⊎ ((status ≡ 6) × files.Untouched × input.Untouched × output.Untouched × hall.Untouched)

@@ -1,4 +1,2 @@
--- To be read: public clauses speak of each of these.
-pub mod Notices
+-- To be read: public clauses speak of it.
 pub mod Answers
-pub mod Complaints

@@ -1,21 +1,84 @@
 // What the program answers to its words.
 ghost use Rattle.std.specs.Prelude.{◌≡◌, ◌⊎◌, None};
 ghost use Rattle.command_words.specs.Commands.{command_of};
-ghost use Rattle.command_ends.specs.Ports.{change, input_told, output_told};
+ghost use Rattle.command_words.specs.NamedLists.{table_asked};
+ghost use Rattle.command_files.specs.Ports.{change, input_told, output_told};
 ghost use Rattle.list_commands.specs.Cuts.{namer_told};
 ghost use Rattle.cut_server.specs.Unhindered.{IsUnhindered};
-ghost use Rattle.cutroom.specs.Answers.{ProgramEnds, notice_of};
+ghost use Rattle.cutroom.specs.Answers.{ProgramEnds, WordsEnd};
+ghost use Rattle.program_words.specs.Notices.{notice_of};
 
-use crate::notice::Notice;
-use cut_server::cut_main;
+use cut_server::{cut_main, tabled_of, wants_numbers};
 use line_words::Words;
-use reel_names::ReelNamer;
+use program_words::Notice;
+use reel_names::{AsIs, Numbered, ReelNamer};
 use room_files::Files;
 use room_halls::Hall;
 use room_ports::{OpenGate, Sink, Source};
 use std::alloc::Global;
 use std::sync::Wait;
 use std::thread::Threads;
+
+/// The status of a program that found no memory to begin with, or was given more words than a list of them takes.
+pub const OUT_OF_MEMORY: u8 = 6;
+
+/// Answers words with the namer that they ask for, whose names the reels of a list get. Where there is no memory for it, it
+/// answers 6 and does nothing.
+pub fn answer_words<R: Threads + Wait + Sync, F: Files, S: Source, K: Sink, H: Hall>(
+    rt: &R,
+    alloc: Global,
+    words: &Words,
+    files: &mut F,
+    input: &mut S,
+    output: &mut K,
+    hall: &mut H,
+) -> u8
+    ensures { WordsEnd (change F.told files.old files.new)
+        (change (input_told S.left S.read_faults) input.old input.new)
+        (change (output_told K.taken K.write_faults) output.old output.new)
+        (change H.told hall.old hall.new) words.now result }
+{
+    let tabled = match tabled_of(alloc, words) {
+        Ok(tabled) => tabled,
+        Err(_) => return OUT_OF_MEMORY,
+    };
+    match tabled {
+        Some(tabled) => match Box::new(alloc, tabled) {
+            Ok(namer) => answer(rt, alloc, words, files, input, output, hall, namer),
+            Err(_) => OUT_OF_MEMORY,
+        },
+        None => answer_plain(rt, alloc, words, files, input, output, hall),
+    }
+}
+
+// Answers words that give no table of names: a list's reels are named by numbers where that is asked for, else as they
+// are.
+fn answer_plain<R: Threads + Wait + Sync, F: Files, S: Source, K: Sink, H: Hall>(
+    rt: &R,
+    alloc: Global,
+    words: &Words,
+    files: &mut F,
+    input: &mut S,
+    output: &mut K,
+    hall: &mut H,
+) -> u8
+    requires { table_asked words.now ≡ None }
+    ensures { WordsEnd (change F.told files.old files.new)
+        (change (input_told S.left S.read_faults) input.old input.new)
+        (change (output_told K.taken K.write_faults) output.old output.new)
+        (change H.told hall.old hall.new) words.now result }
+{
+    match wants_numbers(words) {
+        true => match Box::new(alloc, Numbered::new(alloc)) {
+            Ok(namer) => answer(rt, alloc, words, files, input, output, hall, namer),
+            Err(_) => OUT_OF_MEMORY,
+        },
+        false => match Box::new(alloc, AsIs::new(alloc)) {
+            Ok(namer) => answer(rt, alloc, words, files, input, output, hall, namer),
+            Err(_) => OUT_OF_MEMORY,
+        },
+    }
+}
 
 /// Answers `--help` and `--version` by the notice that they ask for, and does what other words ask for. It answers the
 /// status that the program ends with.
@@ -37,7 +100,8 @@ pub fn answer<R: Threads + Wait + Sync, F: Files, S: Source, K: Sink, H: Hall>(
     ensures complete { notice_of words.now ≡ None → IsUnhindered (change F.told files.old files.new)
         (change (input_told S.left S.read_faults) input.old input.new)
         (change (output_told K.taken K.write_faults) output.old output.new)
-        (change H.told hall.old hall.new) (namer_told (rule namer) (given namer)) (command_of words.now)
+        (change H.told hall.old hall.new)
+        (namer_told (rule namer) (given namer)) (command_of words.now)
         → (result ≡ 0) ⊎ (result ≡ 6) }
 {
     match Notice::asked_by(words) {

@@ -1,64 +1,56 @@
 //! The program of the cutting room. It hands its arguments, the files of the system, its standard input, its standard
 //! output and a hall over TCP to `answer`, which has the main contract, and ends with the status. Files, streams and the
-//! hall tell standard error what failed and why; `main` puts a line more there where the status does not say enough.
+//! hall tell standard error what failed and why; `main` puts a line more there where the status does not say enough. Before
+//! that it sees to its standard streams, and to what a hall needs.
 #![tactic(auto)]
 
+mod ahead;
 mod answer;
-mod arguments;
-mod complaint;
+mod errors;
 mod memory;
-mod notice;
+mod start;
 #[cfg(test)]
 mod tests;
 
-use answer::answer;
-use arguments::command_words;
-use command_words::{Command, command_in};
-use complaint::complaint;
-use cut_server::{tabled_of, wants_numbers};
-use line_words::Words;
+use ahead::{longest_file, look_ahead};
+use answer::{OUT_OF_MEMORY, answer_words};
+use errors::Errors;
 use memory::keep_freed_memory;
-use reel_names::{AsIs, Numbered, ReelNamer};
+use program_words::{Message, complaint, hindrance_text, program_arguments};
 use room_files::{Report, Reported, StdFiles};
 use room_halls::TcpHall;
 use room_ports::{StdSink, StdSource, put};
+use start::fill_closed_streams;
 use std::io::Write;
 use std::process::ExitCode;
-use std::rt::Files;
+use std::sync::Mutex;
 
-/// The status of a program that found no memory to begin with, or was given more words than a list of them takes.
-const OUT_OF_MEMORY: u8 = 6;
+// The status of a hall that was not opened, or in which a station was not seated.
+const NOT_SEATED: u8 = 5;
 
+// Does what the arguments ask for, and ends with the status.
 fn main(rt: HostRuntime) -> ExitCode {
+    fill_closed_streams(&rt);
     let alloc = rt.alloc();
     keep_freed_memory(alloc);
-    let Ok(words) = command_words(&rt, alloc) else {
+    let Ok(words) = program_arguments(&rt, alloc) else {
         return ExitCode::from(OUT_OF_MEMORY);
     };
-    let report = Report::new(alloc, rt.stderr());
-    let mut files = StdFiles::new(&rt, report);
-    look_ahead(&files, &words);
+    let turn = Mutex::new(());
+    let errors = Errors::new(&rt, &turn, rt.stderr());
+    let report = Report::new(alloc, errors);
+    let mut files = StdFiles::new(&rt, report, longest_file());
+    let idle = match look_ahead(&rt, alloc, &files, &words) {
+        Ok(idle) => idle,
+        Err(why) => {
+            tell(errors, hindrance_text(why));
+            return ExitCode::from(NOT_SEATED);
+        }
+    };
     let mut input = StdSource::new(Reported::new(rt.stdin(), "standard input", report));
     let mut output = StdSink::new(Reported::new(rt.stdout(), "standard output", report));
-    let mut hall = TcpHall::new(alloc, &rt, rt.stderr());
-    let Ok(tabled) = tabled_of(alloc, &words) else {
-        return ExitCode::from(OUT_OF_MEMORY);
-    };
-    let namer: Box<dyn ReelNamer> = match tabled {
-        Some(tabled) => match Box::new(alloc, tabled) {
-            Ok(namer) => namer,
-            Err(_) => return ExitCode::from(OUT_OF_MEMORY),
-        },
-        None if wants_numbers(&words) => match Box::new(alloc, Numbered::new(alloc)) {
-            Ok(namer) => namer,
-            Err(_) => return ExitCode::from(OUT_OF_MEMORY),
-        },
-        None => match Box::new(alloc, AsIs::new(alloc)) {
-            Ok(namer) => namer,
-            Err(_) => return ExitCode::from(OUT_OF_MEMORY),
-        },
-    };
-    let status = answer(
+    let mut hall = TcpHall::new(alloc, &rt, errors, idle);
+    let status = answer_words(
         &rt,
         alloc,
         &words,
@@ -66,20 +58,15 @@ fn main(rt: HostRuntime) -> ExitCode {
         &mut input,
         &mut output,
         &mut hall,
-        namer,
     );
-    let told = complaint(&words, status);
-    let mut errors = StdSink::new(rt.stderr());
-    for text in [told.before, told.word, told.after] {
-        let _ = put(&mut errors, text.as_bytes());
-    }
+    tell(errors, complaint(&words, status));
     ExitCode::from(status)
 }
 
-// Looks whether the journal of a hall that these words ask for can be written, before anybody works for it.
-fn look_ahead<R: Files, W: Write + Copy>(files: &StdFiles<'_, R, W>, words: &Words) {
-    match command_in(words) {
-        Some(Command::Serve { journal, .. }) => files.look(journal),
-        _ => {}
-    }
+// Writes a message to a stream, or a front of it.
+fn tell<W: Write + Drop>(stream: W, told: Message<'_>) {
+    let mut errors = StdSink::new(stream);
+    let _ = put(&mut errors, told.before.as_bytes());
+    let _ = put(&mut errors, told.word.as_bytes());
+    let _ = put(&mut errors, told.after.as_bytes());
 }

@@ -1,8 +1,8 @@
 // What the program asks of the C library's allocator.
 use std::alloc::Global;
 
-// Bytes of the block. The library measures by blocks of up to 32 MiB.
-const BLOCK: usize = 31 << 20;
+// Bytes of the block: many times what an edit of the longest track makes anew, and little beside a document.
+const BLOCK: usize = 2 << 20;
 
 /// Has the C library keep what the program frees, for what it takes next. The library keeps twice the largest block that
 /// was freed, so one is taken and freed; its memory is not touched, so none is used. Otherwise the library gives a track's

@@ -25,8 +25,8 @@ use Rattle.track_laws.proofs.Linking.{linking-keeps}
 use Rattle.track_laws.proofs.Marking.{dissolving-keeps}
 use Rattle.track_laws.proofs.Putting.{putting-keeps}
 use Rattle.track_laws.proofs.Shifting.{shifting-keeps}
-use Rattle.edit_apply.specs.declared.asks.Call.{Call}
-use Rattle.edit_apply.specs.declared.asks.Call.TheVariants as call
+use Rattle.edit_calls.specs.declared.asks.Call.{Call}
+use Rattle.edit_calls.specs.declared.asks.Call.TheVariants as call
 use Rattle.edit_apply.specs.Apply.{applied_on, editing, names_of, refuse_names_of, track_count}
 use Rattle.edit_apply.specs.LinkLaws.{editing-given, tracks-bare, tracks-good, tracks-numbered}
 use Rattle.edit_apply.specs.NamingLaws.{editing-named}

@@ -13,8 +13,8 @@ use Rattle.room_core.proofs.WholeParts.{roomy_picked}
 use Rattle.track_laws.specs.Shown.{IsShownOn}
 use Rattle.track_laws.proofs.ShownLaws.{may-of-shown, shown-of-may}
 use Rattle.track_laws.proofs.ShownTracks.{AreShown, IsShown, shown-dissolve, shown-extract, shown-fill, shown-insert, shown-link, shown-overwrite, shown-remove, shown-ripple, shown-roll, shown-slice, shown-slide, shown-slip, shown-trim, shown-undissolve, shown-unlink}
-use Rattle.edit_apply.specs.declared.asks.Call.{Call}
-use Rattle.edit_apply.specs.declared.asks.Call.TheVariants as call
+use Rattle.edit_calls.specs.declared.asks.Call.{Call}
+use Rattle.edit_calls.specs.declared.asks.Call.TheVariants as call
 use Rattle.edit_apply.specs.Apply.{applied_on, editing, names_of, refuse_names_of}
 use Rattle.edit_apply.specs.RoomyLaws.{all-put, no_state}
 use Rattle.edit_apply.specs.TogetherLaws.{RoomsSuitTheirKinds}

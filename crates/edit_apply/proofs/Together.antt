@@ -24,8 +24,8 @@ use Rattle.link_laws.proofs.SlideLaw.{sliding-keeps}
 use Rattle.link_laws.proofs.SlipLaw.{slipping-keeps}
 use Rattle.link_laws.proofs.Tied.{stands-sees}
 use Rattle.link_laws.proofs.Wholes.{unlinked-together}
-use Rattle.edit_apply.specs.declared.asks.Call.{Call}
-use Rattle.edit_apply.specs.declared.asks.Call.TheVariants as call
+use Rattle.edit_calls.specs.declared.asks.Call.{Call}
+use Rattle.edit_calls.specs.declared.asks.Call.TheVariants as call
 use Rattle.edit_apply.specs.Apply.{applied_on, editing, track_count}
 use Rattle.edit_apply.specs.LinkLaws.{editing-given, tracks-bare, tracks-good, tracks-numbered}
 use Rattle.edit_apply.specs.RoomTracks.{IsTrackOf}

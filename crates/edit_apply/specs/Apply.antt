@@ -19,8 +19,8 @@ use Rattle.edit_trim.specs.Slipping.{slip_named}
 use Rattle.edit_trim.specs.Trimming.{trim_named}
 use Rattle.link_groups.specs.Linking.{link_named, unlink_named}
 use Rattle.room_core.specs.Whole.{Meaning}
-use Rattle.edit_apply.specs.declared.asks.Call.{Call}
-use Rattle.edit_apply.specs.declared.asks.Call.TheVariants as call
+use Rattle.edit_calls.specs.declared.asks.Call.{Call}
+use Rattle.edit_calls.specs.declared.asks.Call.TheVariants as call
 use Rattle.edit_apply.specs.declared.naming.NamedTracks.{NamedTracks}
 use Rattle.edit_apply.specs.declared.naming.NamedTracks.TheVariants.{One, Many}
 

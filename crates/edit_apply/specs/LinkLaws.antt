@@ -20,8 +20,8 @@ use Rattle.link_laws.proofs.GivenLinks.{linking-given, unlinking-given}
 use Rattle.link_laws.proofs.GivenSlips.{sliding-given, slipping-given}
 use Rattle.link_laws.proofs.Histories.{numbers-last}
 use Rattle.link_laws.proofs.Openings.{are-in, bare-given}
-use Rattle.edit_apply.specs.declared.asks.Call.{Call}
-use Rattle.edit_apply.specs.declared.asks.Call.TheVariants as call
+use Rattle.edit_calls.specs.declared.asks.Call.{Call}
+use Rattle.edit_calls.specs.declared.asks.Call.TheVariants as call
 use Rattle.edit_apply.specs.Apply.{applied_on, editing, names_of, track_count}
 use Rattle.edit_apply.specs.NamingLaws.{editing-named}
 use Rattle.edit_apply.specs.RoomTracks.{IsOpening, IsTrackOf, IsUnlinked}

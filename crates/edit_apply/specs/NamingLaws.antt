@@ -6,7 +6,7 @@ use Rattle.composables.specs.declared.refusals.Refusal.TheVariants.{NoTrack}
 use Rattle.composables.specs.TrackState.{TrackState}
 use Rattle.composables.specs.TrackSets.{has_track, tracks_from, tracks_in}
 use Rattle.room_core.specs.Parts.{AreGood, AscendBetween, IsNaming, numbers}
-use Rattle.edit_apply.specs.declared.asks.Call.{Call}
+use Rattle.edit_calls.specs.declared.asks.Call.{Call}
 use Rattle.edit_apply.specs.declared.naming.NamedTracks.{NamedTracks}
 use Rattle.edit_apply.specs.declared.naming.NamedTracks.TheVariants.{One, Many}
 use Rattle.edit_apply.specs.Apply.{editing, first_absent, first_of, named_by, own_outside, track_count, tracks_of, wrong_track_in}

@@ -6,7 +6,7 @@ use Rattle.composables.specs.Items.{items_of}
 use Rattle.composables.specs.TrackState.{TrackState}
 use Rattle.room_core.specs.Parts.{AreGood, numbers}
 use Rattle.track_laws.specs.Goods.{IsBounded}
-use Rattle.edit_apply.specs.declared.asks.Call.{Call}
+use Rattle.edit_calls.specs.declared.asks.Call.{Call}
 use Rattle.edit_apply.specs.Apply.{names_of, track_count}
 
 -- no item of the track is linked; a room is opened so

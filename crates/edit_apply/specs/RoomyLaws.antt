@@ -17,8 +17,8 @@ use Rattle.room_core.specs.Parts.{numbers}
 use Rattle.room_core.specs.Whole.{on_whole, picked, put_back, unless_refused, whole}
 use Rattle.room_core.proofs.WholeParts.{roomy_picked}
 use Rattle.link_laws.specs.Weights.{NextsWithin}
-use Rattle.edit_apply.specs.declared.asks.Call.{Call}
-use Rattle.edit_apply.specs.declared.asks.Call.TheVariants as call
+use Rattle.edit_calls.specs.declared.asks.Call.{Call}
+use Rattle.edit_calls.specs.declared.asks.Call.TheVariants as call
 use Rattle.edit_apply.specs.Apply.{applied_on, editing, names_of, refuse_names_of, track_count}
 use Rattle.edit_apply.specs.LinkLaws.{links-last, tracks-good}
 use Rattle.track_laws.proofs.PlainCells.{ArePlain, plain-more, plain-views}

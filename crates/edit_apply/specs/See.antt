@@ -6,12 +6,12 @@ use Rattle.frame_meaning.specs.Going.{same_what}
 use Rattle.composables.specs.declared.media.Table.{Table}
 use Rattle.composables.specs.Items.{items_of}
 use Rattle.composables.specs.TrackState.{TrackState}
-use Rattle.edit_apply.specs.declared.asks.Ask.{Ask}
-use Rattle.edit_apply.specs.declared.asks.Ask.TheVariants as ask
-use Rattle.edit_apply.specs.declared.asks.Seen.{Seen}
-use Rattle.edit_apply.specs.declared.asks.Seen.TheVariants as seen
-use Rattle.edit_apply.specs.declared.asks.AskRefusal.{AskRefusal}
-use Rattle.edit_apply.specs.declared.asks.AskRefusal.TheVariants.{NoTrack, Range}
+use Rattle.edit_calls.specs.declared.asks.Ask.{Ask}
+use Rattle.edit_calls.specs.declared.asks.Ask.TheVariants as ask
+use Rattle.edit_calls.specs.declared.asks.Seen.{Seen}
+use Rattle.edit_calls.specs.declared.asks.Seen.TheVariants as seen
+use Rattle.edit_calls.specs.declared.asks.AskRefusal.{AskRefusal}
+use Rattle.edit_calls.specs.declared.asks.AskRefusal.TheVariants.{NoTrack, Range}
 use Rattle.edit_apply.specs.Apply.{track_count}
 
 abbrev pub track_asked : Ask → ℕ

@@ -15,7 +15,7 @@ use Rattle.room_core.specs.Whole.{whole}
 use Rattle.link_laws.specs.Together.{Together}
 use Rattle.track_laws.specs.Goods.{IsBounded}
 use Rattle.track_laws.specs.Shown.{IsShownOn}
-use Rattle.edit_apply.specs.declared.asks.Call.{Call}
+use Rattle.edit_calls.specs.declared.asks.Call.{Call}
 use Rattle.edit_apply.specs.Apply.{editing, track_count}
 use Rattle.edit_apply.specs.RoomTracks.{IsOpening, IsTrackOf}
 

@@ -8,12 +8,12 @@ ghost use Rattle.edit_apply.specs.RoomTracks.{IsOpening, IsTrackOf};
 ghost use Rattle.edit_apply.specs.RoomyLaws.{editing-roomy};
 ghost use Rattle.edit_apply.specs.See.{ask_part_of, seen_on};
 
-use crate::asks::copy_call;
 use crate::edits::edit;
 use crate::naming::{named_by, set_named, track_count, wrong_track};
 use crate::sights::see;
 use crate::{Ask, AskRefusal, Call, Seen};
 use composables::{Done, Refusal, Table, Track};
+use edit_calls::copy_call;
 use room_core::{Fault, Memory, PartObject};
 use std::alloc::Global;
 use std::sync::ledger::Ledger;
@@ -61,14 +61,17 @@ impl PartObject for Editor {
 
     ghost seen = { λ o t ask. seen_on t ask };
 
+    // How many tracks the room has: one for each kind of the table, 32 at most.
     fn parts(&self) -> u32 {
         track_count(&self.table)
     }
 
+    // The tracks that a call names, as a set: bit t for track t.
     fn names(&self, call: &Call) -> u32 {
         set_named(named_by(call))
     }
 
+    // `NoTrack` of the first named track that is not in the room, or else of an own track that is not among them.
     fn refuse_names(&self, call: &Call) -> Option<Refusal> {
         match wrong_track(track_count(&self.table), named_by(call)) {
             Some(track) => Some(Refusal::NoTrack(track)),
@@ -76,6 +79,7 @@ impl PartObject for Editor {
         }
     }
 
+    // The track that a question is put to, or `NoTrack` where the room has no such track.
     fn ask_part(&self, ask: &Ask) -> Result<u32, AskRefusal> {
         let track = match ask {
             Ask::View { track, .. } => *track,
@@ -88,6 +92,7 @@ impl PartObject for Editor {
         }
     }
 
+    // Does a call on the tracks that it names, or leaves them as they are.
     fn apply<L: Ledger>(
         &self,
         alloc: Global,
@@ -98,10 +103,12 @@ impl PartObject for Editor {
         edit(alloc, &self.table, parts, call, steps)
     }
 
+    // Answers a question from the track as it is.
     fn see(&self, alloc: Global, part: &Track, ask: &Ask) -> Result<Seen, Fault<AskRefusal>> {
         see(alloc, part, ask)
     }
 
+    // An equal track, which shares its pages with this one.
     fn copy_part(&self, alloc: Global, part: &Track) -> Result<Track, Memory> {
         match part.copy(alloc) {
             Ok(copy) => Ok(copy),
@@ -109,6 +116,7 @@ impl PartObject for Editor {
         }
     }
 
+    // A copy of a call, which is equal to it.
     fn copy_call(&self, alloc: Global, call: &Call) -> Result<Call, Memory> {
         copy_call(alloc, call)
     }

@@ -4,13 +4,12 @@
 //! function of the table, the named tracks and the call alone, and all tracks of a history have room for one edit more.
 #![tactic(auto)]
 
-mod asks;
 mod editor;
 mod edits;
 mod laws;
 mod naming;
 mod sights;
 
-pub use asks::{Ask, AskRefusal, Call, Seen};
+pub use edit_calls::{Ask, AskRefusal, Call, Seen};
 pub use editor::Editor;
 pub use laws::{good_law, kinds_law, together_law};

@@ -115,6 +115,7 @@ fn first_absent(count: u32, tracks: u32) -> Option<u32>
     None
 }
 
+// Whether a track is in the set and not in a room of so many tracks.
 fn is_absent(count: u32, tracks: u32, track: u32) -> bool
     requires { track < 32 }
     ensures { result ≡ (has_track tracks track && not (nat_lt track count)) }
@@ -122,6 +123,7 @@ fn is_absent(count: u32, tracks: u32, track: u32) -> bool
     has_track(tracks, track) && track >= count
 }
 
+// Whether a track is in the set; a number over 31 is in none.
 fn is_among(tracks: u32, track: u32) -> bool
     ensures { result ≡ list_any (nat_eq track) (tracks_in tracks) }
 {

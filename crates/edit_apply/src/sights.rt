@@ -20,7 +20,7 @@ pub(crate) fn see(alloc: Global, part: &Track, ask: &Ask) -> Result<Seen, Fault<
     }
 }
 
-// The frames shown in the places [a, b), as maximal runs.
+// The frames shown in the places [a, b), as maximal runs, or `Range` where these are no places of the track.
 fn view(alloc: Global, part: &Track, a: u32, b: u32) -> Result<Seen, Fault<AskRefusal>>
     requires { length part.now.cells < 4294967295 }
     ensures { Tells (view_on part.now a b) result }
@@ -35,7 +35,7 @@ fn view(alloc: Global, part: &Track, a: u32, b: u32) -> Result<Seen, Fault<AskRe
     }
 }
 
-// The items and gaps.
+// The items and gaps of the track, in order.
 fn items(alloc: Global, part: &Track) -> Result<Seen, Fault<AskRefusal>>
     ensures { Tells (items_on part.now) result }
 {

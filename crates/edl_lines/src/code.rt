@@ -27,6 +27,6 @@ pub enum LineCode {
     P10,
     /// The number is over 999.
     P11,
-    /// Words behind `FCM:` that set no counting of the rate.
+    /// Words after `FCM:` that set no counting of the rate.
     P12,
 }

@@ -45,6 +45,7 @@ pub(crate) fn event_line(
     line_of_words(counting, end, number, words)
 }
 
+// The fourth word, which is the transition, or no bytes where there are fewer.
 fn fourth<'a>(words: &[&'a [u8]]) -> &'a [u8]
     ensures { result.now ≡ fourth (texts_of words.now) }
 {
@@ -54,6 +55,7 @@ fn fourth<'a>(words: &[&'a [u8]]) -> &'a [u8]
     }
 }
 
+// The event of a line by the number of its words: eight are a cut, nine a dissolve, any other count is P1.
 fn line_of_words(
     counting: &Counting,
     end: LineEnd,
@@ -74,6 +76,7 @@ fn line_of_words(
     }
 }
 
+// The cut that eight words say, after the number.
 fn cut_line(
     counting: &Counting,
     end: LineEnd,
@@ -104,6 +107,7 @@ fn cut_line(
     })
 }
 
+// The dissolve that nine words say, after the number.
 fn dissolve_line(
     counting: &Counting,
     end: LineEnd,
@@ -117,7 +121,8 @@ fn dissolve_line(
     record_in: &[u8],
     record_out: &[u8],
 ) -> Result<EventLine, LineCode>
-    ensures read { result ≡ dissolve_line counting.now end number reel.now channel.now transition.now
+    ensures read { result
+        ≡ dissolve_line counting.now end number reel.now channel.now transition.now
         length.now source_in.now source_out.now record_in.now record_out.now }
     ensures line { IfOk result (λ line. IsLine line) }
 {
@@ -128,7 +133,7 @@ fn dissolve_line(
     within_event(number, &reel, channels, frames, &span)
 }
 
-// A dissolve of an event that has its frames.
+// The dissolve of an event, or P4 where it has no frame or more than the event.
 fn within_event(
     number: u32,
     reel: &Name,

@@ -5,11 +5,11 @@ ghost use Rattle.edl_lines.specs.ListLines.{end_of, list_lines, lines_behind};
 
 use line_words::{LineEnd, MAX_LINE};
 
-/// The first line of a list, whether it has over 1,024 bytes, and the bytes behind its line feed, where there is one. A
+/// The first line of a list, whether it has over 1,024 bytes, and the bytes after its line feed, where there is one. A
 /// carriage return before the line feed is no part of the line, but counts for its length.
 pub fn first_line(bytes: &[u8]) -> (&[u8], LineEnd, Option<&[u8]>)
-    ensures lines { list_lines bytes.now
-        ≡ record { text = result.0.now; end = result.1 } ∷ lines_behind (option_map (λ more. more.now) result.2) }
+    ensures lines { list_lines bytes.now ≡ record { text = result.0.now; end = result.1 }
+        ∷ lines_behind (option_map (λ more. more.now) result.2) }
     ensures less { IfSome result.2 (λ more. length more.now < length bytes.now) }
 {
     match lf_at(bytes) {
@@ -22,6 +22,7 @@ pub fn first_line(bytes: &[u8]) -> (&[u8], LineEnd, Option<&[u8]>)
     }
 }
 
+// Where the first line feed stands, if there is one.
 fn lf_at(bytes: &[u8]) -> Option<usize>
     ensures at { result ≡ position is_lf bytes.now }
     ensures within { IfSome result (λ at. at < length bytes.now) }
@@ -29,6 +30,7 @@ fn lf_at(bytes: &[u8]) -> Option<usize>
     bytes.iter().position(|byte| *byte == b'\n')
 }
 
+// The bytes without a carriage return at their end.
 fn without_cr(part: &[u8]) -> &[u8]
     ensures { result.now ≡ without_cr part.now }
 {
@@ -38,6 +40,7 @@ fn without_cr(part: &[u8]) -> &[u8]
     &part[..part.len() - 1]
 }
 
+// Whether a line of these bytes is too long; they have its carriage return, but not its line feed.
 fn end_of(part: &[u8]) -> LineEnd
     ensures { result ≡ end_of part.now }
 {

@@ -21,13 +21,14 @@ pub(crate) struct Span {
     pub len: u32,
 }
 
-// Whether the first word is that of a line that is passed over.
+// Whether the first word is that of a line that is passed over: a note, which begins with `*`, or the title.
 pub(crate) fn is_note(word: &[u8]) -> bool
     ensures { result ≡ is_note word.now }
 {
     begins_with(word, b'*') || word == b"TITLE:".as_slice()
 }
 
+// Whether a word begins with this byte.
 fn begins_with(word: &[u8], byte: u8) -> bool
     ensures { result ≡ begins_with byte word.now }
 {
@@ -37,7 +38,7 @@ fn begins_with(word: &[u8], byte: u8) -> bool
     }
 }
 
-// The number of a line that is no change of speed.
+// The number of a line's event: P7 for a change of speed, P2 where it is no number of one to six digits, P11 over 999.
 pub(crate) fn line_number(word: &[u8]) -> Result<u32, LineCode>
     ensures { result ≡ line_number word.now }
 {
@@ -56,7 +57,7 @@ pub(crate) fn line_number(word: &[u8]) -> Result<u32, LineCode>
     }
 }
 
-// The number of at most so many digits.
+// The number that a word of at most so many digits is, if it is one.
 fn short_number(word: &[u8], most: usize) -> Option<u32>
     ensures { result ≡ short_number most word.now }
 {
@@ -69,7 +70,7 @@ fn short_number(word: &[u8], most: usize) -> Option<u32>
     }
 }
 
-// A transition that is no wipe and no key.
+// Refuses a wipe as P5 and a key as P6.
 pub(crate) fn plain_transition(word: &[u8]) -> Result<(), LineCode>
     ensures { result ≡ plain_transition word.now }
 {
@@ -82,7 +83,7 @@ pub(crate) fn plain_transition(word: &[u8]) -> Result<(), LineCode>
     Ok(())
 }
 
-// The reel of a line that is not too long and whose transition is the given one.
+// The reel of a line, or P1 where the line is too long, its transition is not the given one, or the reel is no name.
 pub(crate) fn laid_out(
     end: LineEnd,
     given: &[u8],
@@ -104,6 +105,7 @@ pub(crate) fn laid_out(
     }
 }
 
+// The name that a word is, or P1 where it is none.
 fn named(reel: &[u8]) -> Result<Name, LineCode>
     ensures read { result ≡ reel_of reel.now }
     ensures name { IfOk result (λ name. IsTrue (is_reel_name name)) }
@@ -114,7 +116,7 @@ fn named(reel: &[u8]) -> Result<Name, LineCode>
     }
 }
 
-// The length of a dissolve.
+// The length of a dissolve, or P1 where it is not one to three digits.
 pub(crate) fn dissolve_length(word: &[u8]) -> Result<u32, LineCode>
     ensures { result ≡ dissolve_length word.now }
 {
@@ -124,7 +126,7 @@ pub(crate) fn dissolve_length(word: &[u8]) -> Result<u32, LineCode>
     }
 }
 
-// The channels of a line: bit 0 is V, bit 1 is A, bit 2 is A2.
+// The channels of a line: bit 0 is V, bit 1 is A, bit 2 is A2. Any other word is P8.
 pub(crate) fn channels(word: &[u8]) -> Result<u8, LineCode>
     ensures read { result ≡ channels_of word.now }
     ensures some { IfOk result (λ set. (0 < set) × (set < 8)) }
@@ -148,6 +150,7 @@ pub(crate) fn channels(word: &[u8]) -> Result<u8, LineCode>
     }
 }
 
+// The frame of the day that a timecode names, or P3 where it names none.
 fn time(word: &[u8], counting: &Counting) -> Result<u32, LineCode>
     ensures read { result ≡ time_of counting.now word.now }
     ensures within { IfOk result (λ frame. frame < MAX_DAY_FRAMES) }
@@ -158,7 +161,7 @@ fn time(word: &[u8], counting: &Counting) -> Result<u32, LineCode>
     }
 }
 
-// What source in, source out, record in and record out name.
+// What source in, source out, record in and record out name: P3 of a label that is none, P4 where they don't fit.
 pub(crate) fn times(
     source_in: &[u8],
     source_out: &[u8],
@@ -178,6 +181,7 @@ pub(crate) fn times(
     span_between(source, source_end, place, place_end)
 }
 
+// The span from these ins to these outs, or P4 where an out is before its in, or the two lengths differ.
 fn span_between(source: u32, source_end: u32, place: u32, place_end: u32) -> Result<Span, LineCode>
     requires source { source_end < MAX_DAY_FRAMES }
     requires place { place_end < MAX_DAY_FRAMES }
@@ -198,7 +202,7 @@ fn span_between(source: u32, source_end: u32, place: u32, place_end: u32) -> Res
     })
 }
 
-// The counting that the words behind `FCM:` set.
+// The counting that the words after `FCM:` set, or P12 where they set none of the rate.
 pub(crate) fn counting_set(rate: SequenceRate, words: &[&[u8]]) -> Result<Counting, LineCode>
     ensures { result ≡ counting_of rate (texts_of words.now) }
 {
@@ -229,6 +233,7 @@ pub fn non_drop(rate: SequenceRate) -> Counting
     }
 }
 
+// Drop-frame counting, or P12 at a rate that has none.
 fn drop_frame(rate: SequenceRate) -> Result<Counting, LineCode>
     ensures { result ≡ drop_frame_at rate }
 {

@@ -36,6 +36,7 @@ pub fn line_says(
     words_say(rate, counting, end, words.as_slice())
 }
 
+// What a line of these words says: nothing without words or for a note, a counting after `FCM:`, else an event.
 fn words_say(
     rate: SequenceRate,
     counting: &Counting,
@@ -61,6 +62,7 @@ fn words_say(
     }
 }
 
+// The counting that a line sets, or P1 where the line is too long.
 fn set_counting(end: LineEnd, counting: Counting) -> Result<Said, LineCode>
     ensures read { result ≡ set_counting end counting }
     ensures line { IfOk result (λ said. IsSaid said) }

@@ -26,6 +26,7 @@ impl<'a> Model for LineWords<'a> {
 }
 
 impl<'a> LineWords<'a> {
+    /// The words, in order.
     pub(crate) fn as_slice(&self) -> &[&'a [u8]]
         ensures { map (λ w. w.now) result.now ≡ self.now }
     {

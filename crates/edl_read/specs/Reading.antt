@@ -123,5 +123,5 @@ first_reading rate = record {
 }
 
 -- the list that these bytes are at a rate, or its first fault
-abbrev pub list_of : SequenceRate → List ℕ → Result (List Event) ListReadFault
-list_of rate bytes = list_from rate 1 (first_reading rate) (list_lines bytes)
+abbrev pub list_read : SequenceRate → List ℕ → Result (List Event) ListReadFault
+list_read rate bytes = list_from rate 1 (first_reading rate) (list_lines bytes)

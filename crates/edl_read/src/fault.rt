@@ -23,6 +23,7 @@ pub enum ListReadFault {
 impl From<Memory> for ListReadFault {
     ghost from_gives = { λ _ fault. fault ≡ NoMemory };
 
+    // A call of a lower crate found no memory.
     fn from(_: Memory) -> Self {
         ListReadFault::Memory
     }
@@ -31,6 +32,7 @@ impl From<Memory> for ListReadFault {
 impl From<AllocError> for ListReadFault {
     ghost from_gives = { λ _ fault. fault ≡ NoMemory };
 
+    // A list could not be made or could not grow.
     fn from(_: AllocError) -> Self {
         ListReadFault::Memory
     }
@@ -39,6 +41,7 @@ impl From<AllocError> for ListReadFault {
 impl<T: Drop> From<AllocFailed<T>> for ListReadFault {
     ghost from_gives = { λ _ fault. fault ≡ NoMemory };
 
+    // There was no room for a value, which is dropped.
     fn from(_: AllocFailed<T>) -> Self {
         ListReadFault::Memory
     }

@@ -42,6 +42,7 @@ impl Model for Laid {
 }
 
 impl Laid {
+    /// No events.
     pub(crate) fn new(alloc: Global) -> Laid
         ensures { result ≡ [] }
     {
@@ -53,7 +54,7 @@ impl Laid {
         }
     }
 
-    // One event more, which overlaps with none.
+    // Adds an event, which overlaps with none.
     pub(crate) fn with(self, event: &Event) -> Result<Laid, Memory>
         requires event { IsEvent event.now }
         requires apart { first_overlap self event.now ≡ None }
@@ -78,6 +79,7 @@ impl Laid {
         })
     }
 
+    /// The events, in the order in which they were added.
     pub(crate) fn as_slice(&self) -> &[Event]
         ensures events { result.now ≡ self.now }
         ensures read { CanBeRead self.now }
@@ -85,6 +87,7 @@ impl Laid {
         self.events.as_slice()
     }
 
+    /// The events alone, as a list.
     pub(crate) fn into_list(self) -> List
         ensures events { result ≡ self }
         ensures read { CanBeRead self }
@@ -92,6 +95,7 @@ impl Laid {
         self.events
     }
 
+    // The event with an index.
     fn event(&self, index: usize) -> &Event
         requires { index < length self.now }
         ensures event { slice_get self.now index ≡ Some result.now }
@@ -102,6 +106,7 @@ impl Laid {
         item(events, index)
     }
 
+    // Where the events of a channel begin.
     fn starts(&self, channel: Channel) -> &Starts
         ensures { AreStarts channel self.now (start_of result.now) }
     {
@@ -182,6 +187,7 @@ impl Laid {
     }
 }
 
+// The event with an index, of these.
 fn item(events: &[Event], index: usize) -> &Event
     requires { index < length events.now }
     ensures { slice_get events.now index ≡ Some result.now }
@@ -189,10 +195,10 @@ fn item(events: &[Event], index: usize) -> &Event
     &events[index]
 }
 
-// An event with an index begins too, if it is on the channel.
+// Notes that the event with an index begins at its place, if it is on the channel.
 fn begin(starts: &mut Starts, channel: Channel, event: &Event, index: usize) -> Result<(), Memory>
-    ensures { OnOk result ((place : ℕ)
-        → start_of starts.new place ≡ start_with channel event.now index (start_of starts.old) place) }
+    ensures { OnOk result ((place : ℕ) → start_of starts.new place
+        ≡ start_with channel event.now index (start_of starts.old) place) }
 {
     if !channel.is_in(event.channels) {
         return Ok(());
@@ -215,6 +221,7 @@ fn first_overlap(events: &[Event], event: &Event) -> Option<u32>
     None
 }
 
+// Whether two events share a channel and a record frame.
 fn overlap(event: &Event, other: &Event) -> bool
     requires event { IsEvent event.now }
     requires other { IsEvent other.now }
@@ -225,6 +232,7 @@ fn overlap(event: &Event, other: &Event) -> bool
         && other.place < event.place + event.len
 }
 
+// Whether two sets of channels have one in common.
 fn share(channels: u8, others: u8) -> bool
     ensures { result ≡ share channels others }
 {

@@ -8,7 +8,7 @@ use frame_meaning::{Frame, Side};
 use itoa::Buffer;
 use reel_names::Name;
 
-// Puts the line of a run behind a text: none where it is dark.
+// Adds the line of a run to a text: none where it is dark.
 pub(crate) fn put_run(out: &mut Vec<u8>, channel: Channel, run: &Piece) -> Result<(), Memory>
     ensures { OnOk result (out.new.items
         ≡ out.old.items ++ run_text channel run.now.place run.now.len run.now.first) }
@@ -37,6 +37,7 @@ pub(crate) fn put_run(out: &mut Vec<u8>, channel: Channel, run: &Piece) -> Resul
     }
 }
 
+// Adds the channel, the record frame of a run and how many frames it has.
 fn put_place(out: &mut Vec<u8>, channel: Channel, place: u32, len: u32) -> Result<(), Memory>
     ensures { OnOk result (out.new.items ≡ out.old.items ++ place_text channel place len) }
 {
@@ -45,6 +46,7 @@ fn put_place(out: &mut Vec<u8>, channel: Channel, place: u32, len: u32) -> Resul
     put_number(out, len)
 }
 
+// A channel as the text writes it.
 fn channel_name(channel: Channel) -> &'static [u8]
     ensures { result.now ≡ channel_name channel }
 {
@@ -55,6 +57,7 @@ fn channel_name(channel: Channel) -> &'static [u8]
     }
 }
 
+// Adds a side of a mix: `BL` where it is dark, else its reel and source frame.
 fn put_side(out: &mut Vec<u8>, side: &Side<Name>) -> Result<(), Memory>
     ensures { OnOk result (out.new.items ≡ out.old.items ++ side_text side.now) }
 {
@@ -64,6 +67,7 @@ fn put_side(out: &mut Vec<u8>, side: &Side<Name>) -> Result<(), Memory>
     }
 }
 
+// Adds a reel and its source frame, each after a blank.
 fn put_picture(out: &mut Vec<u8>, reel: &Name, source: u32) -> Result<(), Memory>
     ensures { OnOk result (out.new.items ≡ out.old.items ++ picture_text reel.now source) }
 {
@@ -72,6 +76,7 @@ fn put_picture(out: &mut Vec<u8>, reel: &Name, source: u32) -> Result<(), Memory
     put_number(out, source)
 }
 
+// Adds a number in decimal, after a blank.
 fn put_number(out: &mut Vec<u8>, number: u32) -> Result<(), Memory>
     ensures { OnOk result (out.new.items ≡ out.old.items ++ number_text number) }
 {
@@ -80,6 +85,7 @@ fn put_number(out: &mut Vec<u8>, number: u32) -> Result<(), Memory>
     put(out, buffer.format(number).as_bytes())
 }
 
+// Adds bytes to a text.
 fn put(out: &mut Vec<u8>, bytes: &[u8]) -> Result<(), Memory>
     ensures { OnOk result (out.new.items ≡ out.old.items ++ bytes.now) }
 {

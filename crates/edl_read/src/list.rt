@@ -1,7 +1,7 @@
 // A list, read.
 ghost use Rattle.std.specs.Prelude.{◌≡◌, ◌≤◌, ◌++◌, ◌∷◌, [], IfErr, IfOk, length};
 ghost use Rattle.edl_events.specs.Events.{IsEvent};
-ghost use Rattle.edl_read.specs.Reading.{list_of};
+ghost use Rattle.edl_read.specs.Reading.{list_read};
 ghost use Rattle.edl_read.specs.ReadLists.{CanBeRead, IsFaultOf};
 
 use crate::played::Played;
@@ -32,6 +32,7 @@ impl Model for List {
 }
 
 impl List {
+    /// A list without events.
     pub(crate) fn new(alloc: Global) -> List
         ensures { result ≡ [] }
     {
@@ -40,7 +41,7 @@ impl List {
         }
     }
 
-    // One event more.
+    // Adds an event after the others.
     pub(crate) fn with(self, event: &Event) -> Result<List, Memory>
         requires { IsEvent event.now }
         ensures { IfOk result (λ list. list ≡ self ++ event.now ∷ []) }
@@ -50,7 +51,7 @@ impl List {
         Ok(List { events })
     }
 
-    /// The events.
+    /// The events, in the order of their lines.
     pub fn as_slice(&self) -> &[Event]
         ensures { result.now ≡ self.now }
     {
@@ -63,18 +64,19 @@ impl List {
 /// A dissolve is one event, with the line of its second line. Source and record times are frames of the day.
 pub fn read_list(alloc: Global, bytes: &[u8], rate: SequenceRate) -> Result<List, ListReadFault>
     requires { length bytes.now ≤ MAX_LIST }
-    ensures read { IfOk result (λ list. list_of rate bytes.now ≡ Ok list) }
-    ensures refused { IfErr result (λ fault. IsFaultOf (list_of rate bytes.now) fault) }
+    ensures read { IfOk result (λ list. list_read rate bytes.now ≡ Ok list) }
+    ensures refused { IfErr result (λ fault. IsFaultOf (list_read rate bytes.now) fault) }
     ensures apart { IfOk result (λ list. CanBeRead list) }
 {
     let played = lines_read(alloc, bytes, rate)?;
     Ok(played.into_list())
 }
 
+// The events of these lines, read one after another, or the first fault.
 fn lines_read(alloc: Global, bytes: &[u8], rate: SequenceRate) -> Result<Played, ListReadFault>
     requires { length bytes.now ≤ MAX_LIST }
-    ensures read { IfOk result (λ list. list_of rate bytes.now ≡ Ok list) }
-    ensures refused { IfErr result (λ fault. IsFaultOf (list_of rate bytes.now) fault) }
+    ensures read { IfOk result (λ list. list_read rate bytes.now ≡ Ok list) }
+    ensures refused { IfErr result (λ fault. IsFaultOf (list_read rate bytes.now) fault) }
 {
     let mut reading = first_reading(alloc, rate);
     let mut line = 1;

@@ -25,11 +25,11 @@ pub(crate) struct Piece {
 
 /// The piece that is held back until it is known where its run ends. Contracts see the piece.
 #[derive(Drop)]
-pub(crate) struct Held {
+pub(crate) struct Pending {
     piece: Piece,
 }
 
-impl Model for Held {
+impl Model for Pending {
     ghost use Rattle.edl_read.specs.declared.pieces.Piece.{Piece};
 
     ghost Value = { Piece };
@@ -37,12 +37,12 @@ impl Model for Held {
     ghost view = { λ h. h.piece };
 }
 
-impl Held {
+impl Pending {
     // No frame, before the first of a channel.
-    pub(crate) fn none() -> Held
+    pub(crate) fn none() -> Pending
         ensures { result ≡ record { place = 0; first = Dark; last = Dark; len = 0 } }
     {
-        Held {
+        Pending {
             piece: Piece {
                 place: 0,
                 first: Frame::Dark,
@@ -52,11 +52,11 @@ impl Held {
         }
     }
 
-    // Tells its run, if it has frames.
+    // Adds its run to a text, if it has frames.
     pub(crate) fn end(self, out: &mut Vec<u8>, channel: Channel) -> Result<(), Memory>
         ensures { OnOk result (out.new.items ≡ out.old.items ++ text_on channel self []) }
     {
-        let Held { piece } = self;
+        let Pending { piece } = self;
         if piece.len == 0 {
             return Ok(());
         }
@@ -69,10 +69,10 @@ impl Held {
 pub(crate) fn add_gap(
     out: &mut Vec<u8>,
     channel: Channel,
-    held: Held,
+    held: Pending,
     at: u32,
     to: u32,
-) -> Result<Held, Memory>
+) -> Result<Pending, Memory>
     requires order { at ≤ to }
     requires held { EndsAt held at }
     ensures text { IfOk result (λ p. (rest : List (Frame (List ℕ)))
@@ -86,16 +86,16 @@ pub(crate) fn add_gap(
         last: Frame::Dark,
         len: to - at,
     };
-    add(out, channel, held, &gap)
+    append_piece(out, channel, held, &gap)
 }
 
-// Adds the frames of an event: those of its dissolve, and those behind them.
+// Adds the frames of an event: those of its dissolve, and those after them.
 pub(crate) fn add_event(
     out: &mut Vec<u8>,
     channel: Channel,
-    held: Held,
+    held: Pending,
     event: &Event,
-) -> Result<Held, Memory>
+) -> Result<Pending, Memory>
     requires event { IsEvent event.now }
     requires held { EndsAt held event.now.place }
     ensures text { IfOk result (λ p. (rest : List (Frame (List ℕ)))
@@ -112,11 +112,11 @@ pub(crate) fn add_event(
 fn add_part(
     out: &mut Vec<u8>,
     channel: Channel,
-    held: Held,
+    held: Pending,
     event: &Event,
     from: u32,
     to: u32,
-) -> Result<Held, Memory>
+) -> Result<Pending, Memory>
     requires event { IsEvent event.now }
     requires order { from ≤ to }
     requires within { to ≤ event.now.len }
@@ -124,7 +124,8 @@ fn add_part(
     requires held { EndsAt held (event.now.place + from) }
     ensures text { IfOk result (λ p. (rest : List (Frame (List ℕ)))
         → out.new.items ++ text_on channel p rest
-        ≡ out.old.items ++ text_on channel held (frames_from (event_frame event.now from) (to - from) ++ rest)) }
+        ≡ out.old.items ++ text_on channel held
+        (frames_from (event_frame event.now from) (to - from) ++ rest)) }
     ensures held { IfOk result (λ p. EndsAt p (event.now.place + to)) }
 {
     if from == to {
@@ -136,11 +137,16 @@ fn add_part(
         last: event.frame_at(to - 1),
         len: to - from,
     };
-    add(out, channel, held, &part)
+    append_piece(out, channel, held, &part)
 }
 
-// A piece behind the one that is held: both as one where it goes on from that, and else that one's run is told.
-fn add(out: &mut Vec<u8>, channel: Channel, held: Held, piece: &Piece) -> Result<Held, Memory>
+// Appends a piece: joins it to the pending one where it goes on from that, and else writes the pending one's run.
+fn append_piece(
+    out: &mut Vec<u8>,
+    channel: Channel,
+    held: Pending,
+    piece: &Piece,
+) -> Result<Pending, Memory>
     requires held { EndsAt held piece.now.place }
     requires piece { IsPiece piece.now }
     requires end { piece.now.place + piece.now.len < 2 ^ 32 }
@@ -152,16 +158,16 @@ fn add(out: &mut Vec<u8>, channel: Channel, held: Held, piece: &Piece) -> Result
     if piece.len == 0 {
         return Ok(held);
     }
-    let Held { piece: before } = held;
+    let Pending { piece: before } = held;
     if before.len == 0 {
-        return Ok(Held { piece: *piece });
+        return Ok(Pending { piece: *piece });
     }
-    let last = add_behind(out, channel, &before, piece)?;
-    Ok(Held { piece: last })
+    let last = append_to_piece(out, channel, &before, piece)?;
+    Ok(Pending { piece: last })
 }
 
-// The same where neither is empty.
-fn add_behind(
+// Appends a piece to the pending one, where both have frames.
+fn append_to_piece(
     out: &mut Vec<u8>,
     channel: Channel,
     held: &Piece,

@@ -26,6 +26,7 @@ impl Model for Played {
 }
 
 impl Played {
+    /// No events.
     pub(crate) fn new(alloc: Global) -> Played
         ensures { result ≡ [] }
     {
@@ -34,7 +35,7 @@ impl Played {
         }
     }
 
-    // One event more, or that it overlaps with an earlier one, of which the first is told.
+    // Adds an event, or tells by P10 that it overlaps, with the line of the first that it overlaps with.
     pub(crate) fn with(self, event: &Event) -> Result<Played, ListReadFault>
         requires { IsEvent event.now }
         ensures read { IfOk result (λ p. with_event self event.now ≡ Ok p) }
@@ -54,6 +55,7 @@ impl Played {
         }
     }
 
+    /// The events as a list.
     pub(crate) fn into_list(self) -> List
         ensures events { result ≡ self }
         ensures read { CanBeRead self }

@@ -32,7 +32,7 @@ pub(crate) struct Reading {
     pub played: Played,
 }
 
-// Nothing is read yet.
+// What is read before the first line: lines count without drop-frame, no cut waits, and there are no events.
 pub(crate) fn first_reading(alloc: Global, rate: SequenceRate) -> Reading
     ensures reading { result ≡ first_reading rate }
     ensures waits { IsWaiting result.waits }
@@ -44,7 +44,7 @@ pub(crate) fn first_reading(alloc: Global, rate: SequenceRate) -> Reading
     }
 }
 
-// What is read after one line more.
+// What is read after one line more, or the fault at that line.
 pub(crate) fn after_line(
     rate: SequenceRate,
     line: u32,
@@ -53,8 +53,8 @@ pub(crate) fn after_line(
     end: LineEnd,
 ) -> Result<Reading, ListReadFault>
     requires { IsWaiting reading.waits }
-    ensures read { IfOk result (λ r. after_line rate line reading (record { text = text.now; end = end })
-        ≡ Ok r) }
+    ensures read { IfOk result (λ r.
+        after_line rate line reading (record { text = text.now; end = end }) ≡ Ok r) }
     ensures fault { IfErr result (λ fault.
         IsFaultOf (after_line rate line reading (record { text = text.now; end = end })) fault) }
     ensures waits { IfOk result (λ r. IsWaiting r.waits) }
@@ -81,6 +81,7 @@ fn refused(code: LineCode, line: u32) -> ListReadFault
     }
 }
 
+// Sets the counting of the lines that follow, or P9 where a cut waits for its dissolve.
 fn after_counting(reading: Reading, counting: Counting) -> Result<Reading, ListReadFault>
     ensures read { result ≡ after_counting reading.waits reading.played counting }
     ensures waits { IfOk result (λ r. IsWaiting r.waits) }
@@ -100,6 +101,7 @@ fn after_counting(reading: Reading, counting: Counting) -> Result<Reading, ListR
     }
 }
 
+// What is read after the line of an event: a cut, or a dissolve where it tells a length.
 fn after_event(line: u32, reading: Reading, event: &EventLine) -> Result<Reading, ListReadFault>
     requires waits { IsWaiting reading.waits }
     requires event { IsLine event.now }
@@ -114,6 +116,7 @@ fn after_event(line: u32, reading: Reading, event: &EventLine) -> Result<Reading
     }
 }
 
+// What is read after a cut. One of no frames waits for its dissolve. It is P9 where another waits already.
 fn after_cut(line: u32, reading: Reading, event: &EventLine) -> Result<Reading, ListReadFault>
     requires { IsLine event.now }
     ensures read { IfOk result (λ r.
@@ -147,6 +150,8 @@ fn after_cut(line: u32, reading: Reading, event: &EventLine) -> Result<Reading, 
     }
 }
 
+// What is read after a dissolve, which takes the cut that waits as its outgoing side. It is P9 where none waits, or one
+// of another event.
 fn after_dissolve(
     line: u32,
     reading: Reading,
@@ -159,7 +164,8 @@ fn after_dissolve(
     ensures read { IfOk result (λ r.
         after_dissolve line reading.counting reading.waits reading.played event.now frames ≡ Ok r) }
     ensures fault { IfErr result (λ fault. IsFaultOf
-        (after_dissolve line reading.counting reading.waits reading.played event.now frames) fault) }
+        (after_dissolve line reading.counting reading.waits reading.played event.now frames)
+        fault) }
     ensures waits { IfOk result (λ r. IsWaiting r.waits) }
 {
     let Reading {
@@ -183,6 +189,7 @@ fn after_dissolve(
     }
 }
 
+// A cut of no frames as it waits, with its line.
 fn waiting_cut(line: u32, event: &EventLine) -> Waiting
     ensures { result ≡ waiting_cut line event.now }
 {
@@ -196,12 +203,14 @@ fn waiting_cut(line: u32, event: &EventLine) -> Waiting
     }
 }
 
+// Whether a dissolve has the number, channels and record in of the cut that waits.
 fn is_pair(cut: &Waiting, event: &EventLine) -> bool
     ensures { result ≡ is_pair cut.now event.now }
 {
     event.number == cut.number && event.channels == cut.channels && event.place == cut.place
 }
 
+// A cut as an event.
 fn cut_event(line: u32, event: &EventLine) -> Event
     ensures { result ≡ cut_event line event.now }
 {
@@ -217,6 +226,7 @@ fn cut_event(line: u32, event: &EventLine) -> Event
     }
 }
 
+// A dissolve as an event, whose outgoing side is the cut that waited.
 fn dissolve_event(line: u32, cut: &Waiting, event: &EventLine, frames: u32) -> Event
     ensures { result ≡ dissolve_event line cut.now event.now frames }
 {
@@ -235,7 +245,7 @@ fn dissolve_event(line: u32, cut: &Waiting, event: &EventLine, frames: u32) -> E
     }
 }
 
-// The events of a list that ends here.
+// The events of a list that ends here, or P9 where a cut still waits.
 pub(crate) fn at_end(reading: Reading) -> Result<Played, ListReadFault>
     ensures { result ≡ at_end reading.waits reading.played }
 {

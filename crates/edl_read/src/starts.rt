@@ -13,6 +13,7 @@ pub(crate) struct Starts {
 }
 
 impl Starts {
+    /// No starts.
     pub(crate) fn new(alloc: Global) -> Starts
         ensures { (place : ℕ) → start_of result place ≡ None }
     {
@@ -21,10 +22,10 @@ impl Starts {
         }
     }
 
-    // One start more.
+    // Notes the event that begins at a record frame, in place of another there.
     pub(crate) fn add(&mut self, at: u32, index: usize) -> Result<(), Memory>
-        ensures { OnOk result ((place : ℕ)
-            → start_of self.new place ≡ (if place == at then Some index else start_of self.old place)) }
+        ensures { OnOk result ((place : ℕ) → start_of self.new place
+            ≡ (if place == at then Some index else start_of self.old place)) }
     {
         self.indices.insert(at, index)?;
         Ok(())
@@ -33,7 +34,8 @@ impl Starts {
     // The first start from a record frame on, and its index.
     pub(crate) fn first_from(&self, at: u32) -> Option<(u32, usize)>
         ensures begins { IfSome result (λ s. (at ≤ s.0) × (start_of self.now s.0 ≡ Some s.1)) }
-        ensures first { IfSome result (λ s. (place : ℕ) → at ≤ place → IsSome (start_of self.now place) → s.0 ≤ place) }
+        ensures first { IfSome result (λ s. (place : ℕ) → at ≤ place
+            → IsSome (start_of self.now place) → s.0 ≤ place) }
         ensures none { IfNone result ((place : ℕ) → at ≤ place → start_of self.now place ≡ None) }
     {
         match self.indices.range(at..).next() {
@@ -45,7 +47,8 @@ impl Starts {
     // The last start up to a record frame, that one too, and its index.
     pub(crate) fn last_up_to(&self, at: u32) -> Option<(u32, usize)>
         ensures begins { IfSome result (λ s. (s.0 ≤ at) × (start_of self.now s.0 ≡ Some s.1)) }
-        ensures last { IfSome result (λ s. (place : ℕ) → place ≤ at → IsSome (start_of self.now place) → place ≤ s.0) }
+        ensures last { IfSome result (λ s. (place : ℕ) → place ≤ at
+            → IsSome (start_of self.now place) → place ≤ s.0) }
         ensures none { IfNone result ((place : ℕ) → place ≤ at → start_of self.now place ≡ None) }
     {
         match self.indices.range(..=at).next_back() {

@@ -6,7 +6,7 @@ ghost use Rattle.edl_read.specs.TapeText.{channel_text, tape_text};
 
 use crate::laid::Laid;
 use crate::list::List;
-use crate::pieces::{Held, add_event, add_gap};
+use crate::pieces::{Pending, add_event, add_gap};
 use crate::{Channel, Memory};
 use frame_meaning::Frame;
 use reel_names::Name;
@@ -68,7 +68,7 @@ impl Tape {
 fn add_channel(laid: &Laid, out: &mut Vec<u8>, channel: Channel) -> Result<(), Memory>
     ensures { OnOk result (out.new.items ≡ out.old.items ++ channel_text laid.now channel) }
 {
-    let mut held = Held::none();
+    let mut held = Pending::none();
     let mut at = 0;
     while let Some(event) = laid.next_from(channel, at) {
         let before = add_gap(out, channel, held, at, event.place)?;

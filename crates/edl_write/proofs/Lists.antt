@@ -13,7 +13,7 @@ use Rattle.edl_write.specs.ListEvents.{event_of, events_behind, events_of, lines
 use Rattle.edl_write.specs.Naming.{naming, no_names, reels_of_all}
 use Rattle.edl_write.specs.NamingSteps.{IsRefusal, names_at}
 use Rattle.edl_write.specs.Order.{AreEventsOf}
-use Rattle.edl_write.specs.Refusals.{IsListOf, IsRefused, IsRefusedBefore, IsRefusedForChannels, first_past, list_of, long_in, named, over_999}
+use Rattle.edl_write.specs.Refusals.{IsListOf, IsRefused, IsRefusedBefore, IsRefusedForChannels, first_past, list_written, long_in, named, over_999}
 use Rattle.edl_write.specs.Text.{event_text, events_text, list_text}
 use Rattle.edl_write.proofs.Merging.{next}
 
@@ -24,7 +24,7 @@ record Passes (counting : Counted) (start : ℕ) (es : List ChannelSegment) : Ty
   past : first_past (length (day_of counting)) (times_of_all start es) ≡ None
 
 to_names : (counting : Counted) (start : ℕ) (rule : NamerRule) (given : List ReelName) (texts : List (List ℕ)) (es : List ChannelSegment) → Passes counting start es
-    → list_of counting start rule given texts es ≡ named counting start es (naming rule texts (Ok (no_names given)) (reels_of_all es))
+    → list_written counting start rule given texts es ≡ named counting start es (naming rule texts (Ok (no_names given)) (reels_of_all es))
 to_names counting start rule given texts es p = rw (p.long, p.count, p.past) refl
 
 pub listed : (table : Table) (tracks : List TrackState) (counting : Counted) (start : ℕ) (rule : NamerRule) (given after used : List ReelName) (es : List ChannelSegment) (text : List ℕ)

@@ -12,7 +12,7 @@ use Rattle.edl_write.specs.declared.fault.ListFault.TheVariants.{Channels, Disso
 use Rattle.edl_write.specs.declared.list.Written.{Written}
 use Rattle.edl_write.specs.declared.ordering.ChannelSegment.{ChannelSegment}
 use Rattle.edl_write.specs.Order.{AreEventsOf, audio_channel}
-use Rattle.edl_write.specs.Refusals.{IsAnswer, list_of, partial_in}
+use Rattle.edl_write.specs.Refusals.{IsAnswer, list_written, partial_in}
 use Rattle.edl_write.proofs.OneList.{one_list_of_events}
 
 record ByCount (table : Table) (tracks : List TrackState) (r : Result Written ListFault) : Type 0 where
@@ -28,7 +28,7 @@ record ByPart (table : Table) (tracks : List TrackState) (r : Result Written Lis
 record ByEvents (table : Table) (tracks : List TrackState) (counting : Counted) (start : ℕ) (rule : NamerRule) (given : List ReelName) (r : Result Written ListFault) : Type 0 where
   es : List ChannelSegment
   are : AreEventsOf table tracks es
-  is : list_of counting start rule given table.reels es ≡ r
+  is : list_written counting start rule given table.reels es ≡ r
 
 form_of : (table : Table) (tracks : List TrackState) (counting : Counted) (start : ℕ) (rule : NamerRule) (given : List ReelName) (r : Result Written ListFault)
     → IsAnswer table tracks counting start rule given r → (r ≡ Err Memory → ⊥) → ByCount table tracks r ⊎ (ByPart table tracks r ⊎ ByEvents table tracks counting start rule given r)
@@ -68,4 +68,4 @@ one_answer table tracks counting start rule given r s h k m n =
     same (inr (inl p)) (inr (inr q)) = absurd (some_other p.at (partial_in table tracks) p.part (no_part_in table tracks q.es q.are))
     same (inr (inr p)) (inl q) = absurd (omega (arith, q.over, p.are.few))
     same (inr (inr p)) (inr (inl q)) = absurd (some_other q.at (partial_in table tracks) q.part (no_part_in table tracks p.es p.are))
-    same (inr (inr p)) (inr (inr q)) = sym p.is ∙ (ap (list_of counting start rule given table.reels) (one_list_of_events table tracks p.es q.es p.are q.are) ∙ q.is)
+    same (inr (inr p)) (inr (inr q)) = sym p.is ∙ (ap (list_written counting start rule given table.reels) (one_list_of_events table tracks p.es q.es p.are q.are) ∙ q.is)

@@ -56,8 +56,8 @@ named counting start es (Err reel) = Err (Reel reel)
 named counting start es (Ok names) = Ok record { text = list_text counting (events_of start names.used es); names = names.used }
 
 -- the list of these events, or why there is none
-abbrev pub list_of : Counted → ℕ → NamerRule → List ReelName → List (List ℕ) → List ChannelSegment → Result Written ListFault
-list_of counting start rule given texts es =
+abbrev pub list_written : Counted → ℕ → NamerRule → List ReelName → List (List ℕ) → List ChannelSegment → Result Written ListFault
+list_written counting start rule given texts es =
     unless DissolveTooLong (long_in es)
     (unless Events (over_999 (length es))
     (unless PastDay (first_past (length (day_of counting)) (times_of_all start es))
@@ -66,12 +66,12 @@ list_of counting start rule given texts es =
 -- a list is that of the cut's events
 abbrev pub IsListOf : Table → List TrackState → Counted → ℕ → NamerRule → List ReelName → Written → Type 0
 IsListOf table tracks counting start rule given list =
-    (es : List ChannelSegment) × AreEventsOf table tracks es × (list_of counting start rule given table.reels es ≡ Ok list)
+    (es : List ChannelSegment) × AreEventsOf table tracks es × (list_written counting start rule given table.reels es ≡ Ok list)
 
 -- a refusal by the cut's events
 abbrev pub IsRefusedByEvents : Table → List TrackState → Counted → ℕ → NamerRule → List ReelName → ListFault → Type 0
 IsRefusedByEvents table tracks counting start rule given fault =
-    (es : List ChannelSegment) × AreEventsOf table tracks es × (list_of counting start rule given table.reels es ≡ Err fault)
+    (es : List ChannelSegment) × AreEventsOf table tracks es × (list_written counting start rule given table.reels es ≡ Err fault)
 
 -- a refusal of the cut's channels
 abbrev pub IsRefusedForChannels : Table → List TrackState → ListFault → Type 0

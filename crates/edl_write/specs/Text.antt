@@ -9,7 +9,7 @@ use Rattle.timecode12.specs.declared.label.Label.{Label}
 use Rattle.reel_names.specs.Namers.{three_digits}
 use Rattle.edl_events.specs.declared.event.Event.{Event}
 use Rattle.edl_events.specs.declared.event.FromLine.{FromLine}
-use Rattle.edl_write.specs.declared.lines.Line.{Line}
+use Rattle.edl_write.specs.declared.lines.EventText.{EventText}
 use Rattle.edl_write.specs.Lines.{line_times}
 
 -- with spaces behind it, to a width
@@ -38,13 +38,13 @@ edit_text None = codes "C        "
 edit_text (Some frames) = codes "D    " ++ three_digits frames ++ codes " "
 
 -- number, reel, channel, edit, and the four times
-abbrev pub line_text : Counted → Line → List ℕ
+abbrev pub line_text : Counted → EventText → List ℕ
 line_text counting l =
     three_digits l.number ++ codes "  " ++ padded 8 l.reel ++ codes " " ++ padded 5 (channel_text l.channels)
     ++ codes " " ++ edit_text l.dissolve ++ times_text counting (line_times l.source l.place l.len) ++ codes "\n"
 
 -- the lines of an event with a number
-abbrev pub lines_from : ℕ → Event → Option FromLine → List Line
+abbrev pub lines_from : ℕ → Event → Option FromLine → List EventText
 lines_from number e None =
     record { number = number; reel = e.reel; channels = e.channels; dissolve = None; source = e.source; place = e.place; len = e.len } ∷ []
 lines_from number e (Some from) =
@@ -52,7 +52,7 @@ lines_from number e (Some from) =
     ∷ record { number = number; reel = e.reel; channels = e.channels; dissolve = Some e.frames; source = e.source; place = e.place; len = e.len }
     ∷ []
 
-abbrev pub lines_of : ℕ → Event → List Line
+abbrev pub lines_of : ℕ → Event → List EventText
 lines_of number e = lines_from number e e.from
 
 abbrev pub event_text : Counted → ℕ → Event → List ℕ

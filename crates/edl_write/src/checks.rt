@@ -53,6 +53,7 @@ fn long_in(events: &[ChannelSegment]) -> Option<u32>
     }
 }
 
+// The place of the first dissolve of a channel that is too long.
 fn long_on(events: &[ChannelSegment], channel: Channel) -> Option<u32>
     ensures { result ≡ long_on channel events.now }
 {
@@ -80,6 +81,7 @@ fn first_past(events: &[ChannelSegment], day: u32, start: u32) -> Option<u32>
     None
 }
 
+// The first time of an event's lines that is not below the day.
 fn past_in(event: &ChannelSegment, day: u32, start: u32) -> Option<u32>
     requires short { event.now.segment.at + event.now.segment.len ≤ MAX_FRAMES }
     requires day { day ≤ MAX_FRAMES }
@@ -94,6 +96,7 @@ fn past_in(event: &ChannelSegment, day: u32, start: u32) -> Option<u32>
     }
 }
 
+// The first time of the line of a dissolve's outgoing side that is not below the day; a cut has no such line.
 fn past_in_left(from: Option<Side<u32>>, day: u32, place: u32) -> Option<u32>
     requires day { day ≤ MAX_FRAMES }
     ensures { result ≡ first_past day (left_times from place) }
@@ -104,6 +107,7 @@ fn past_in_left(from: Option<Side<u32>>, day: u32, place: u32) -> Option<u32>
     }
 }
 
+// The first of a line's source in, source out, record in and record out that is not below the day.
 fn past_in_line(day: u32, source: u32, place: u32, len: u32) -> Option<u32>
     requires day { day ≤ MAX_FRAMES }
     requires len { len ≤ MAX_FRAMES }

@@ -15,7 +15,7 @@ use flatten::{Segment, SegmentFault, flatten, segments};
 use frame_meaning::Run;
 use std::alloc::Global;
 
-/// The events of a cut, in order.
+/// The events of a cut, in order, or `Channels` or `PartialDissolve` where its channels have no list.
 pub fn cut_events(
     alloc: Global,
     table: &Table,
@@ -56,6 +56,7 @@ fn channel(audio: &[Listed<Run<u32>>], n: usize) -> &[Run<u32>]
     }
 }
 
+// A channel as segments, or `PartialDissolve`.
 fn cut(alloc: Global, runs: &[Run<u32>]) -> Result<Vec<Segment>, ListFault>
     requires { CanBeCut runs.now }
     ensures segments { IfOk result (λ all. AreSegments all.items (frames_of runs.now)) }

@@ -27,6 +27,7 @@ impl From<OutOfMemory> for ListFault {
 
     ghost from_gives = { λ _ fault. fault ≡ Memory };
 
+    // A call of a lower crate, or a list, found no memory.
     fn from(_: OutOfMemory) -> Self {
         ListFault::Memory
     }

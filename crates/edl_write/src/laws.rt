@@ -18,11 +18,12 @@ pub fn a_cut_has_one_list_of_events()
         → AreEventsOf table tracks es → AreEventsOf table tracks fs → es ≡ fs }
 {}
 
-/// A cut has one list or one refusal, with a counting, a start and a namer. So what `write_list` answers is decided but
-/// for want of memory, and a cut that it refuses has no list.
+/// A cut has one list or one refusal, with a counting, a start and a namer. So what `write_list` answers is decided,
+/// except out of memory, and a cut that it refuses has no list.
 pub fn a_cut_has_one_answer()
-    ensures { (table : Table) (tracks : List TrackState) (counting : Counted) (start : ℕ) (rule : NamerRule)
-        (given : List ReelName) (a b : Result Written ListFault)
-        → IsAnswer table tracks counting start rule given a → IsAnswer table tracks counting start rule given b
+    ensures { (table : Table) (tracks : List TrackState) (counting : Counted) (start : ℕ)
+        (rule : NamerRule) (given : List ReelName) (a b : Result Written ListFault)
+        → IsAnswer table tracks counting start rule given a
+        → IsAnswer table tracks counting start rule given b
         → (a ≡ Err Memory → ⊥) → (b ≡ Err Memory → ⊥) → a ≡ b }
 {}

@@ -1,6 +1,5 @@
 // The lines of an event as text.
 ghost use Rattle.std.specs.Prelude.{◌≡◌, ℕ, ◌+◌, ◌<◌, ◌≤◌, ◌^◌, ◌++◌, Some, IfSome, OnOk};
-ghost use Rattle.edl_events.specs.Channels.{set_of};
 ghost use Rattle.edl_write.specs.Limits.{CanBeWritten};
 ghost use Rattle.edl_write.specs.Lines.{IsWritable, line_times};
 ghost use Rattle.edl_write.specs.ListEvents.{event_of, name_of_side, source_of};
@@ -8,14 +7,13 @@ ghost use Rattle.edl_write.specs.Text.{channel_text, edit_text, event_text, line
 
 use crate::checks::source_of;
 use crate::ordering::ChannelSegment;
-use edl_events::Channel;
 use frame_meaning::{Memory, Side};
 use reel_names::{Name, ReelName, name_among, three_digits};
 use timecode12::{Counting, label_text};
 
 /// A line of an event.
 #[derive(Clone, Copy, Debug)]
-pub struct Line {
+pub struct EventText {
     /// The number of its event.
     pub number: u32,
     pub reel: Name,
@@ -29,7 +27,7 @@ pub struct Line {
     pub len: u32,
 }
 
-/// Puts the lines of an event behind a text, in a list that begins at a frame and has these names.
+/// Adds the lines of an event to a text, in a list that begins at a frame and has these names.
 pub fn put_event(
     out: &mut Vec<u8>,
     counting: &Counting,
@@ -41,14 +39,14 @@ pub fn put_event(
     requires number { number < 1000 }
     requires event { CanBeWritten start event.now }
     // The text does not tell on which line of the list the event stands.
-    ensures { OnOk result ((line : ℕ) → out.new.items
-        ≡ out.old.items ++ event_text counting.now number (event_of start names.now line event.now)) }
+    ensures { OnOk result ((line : ℕ) → out.new.items ≡ out.old.items
+        ++ event_text counting.now number (event_of start names.now line event.now)) }
 {
     let segment = event.segment;
-    let line = Line {
+    let line = EventText {
         number,
         reel: name_of_side(names, segment.side),
-        channels: set_of(event.channel),
+        channels: event.channel.set(),
         dissolve: None,
         source: source_of(segment.side),
         place: start + segment.at,
@@ -63,11 +61,12 @@ pub fn put_event(
     }
 }
 
-// The line of what a dissolve leaves, where it is a cut with this line.
-fn line_of_left(names: &[ReelName], left: Side<u32>, line: Line) -> Line
-    ensures { result ≡ record line { reel = name_of_side names.now left; source = source_of left; len = 0 } }
+// The first line of a dissolve: its outgoing side as a cut of no frames. `line` is that of the event as a cut.
+fn line_of_left(names: &[ReelName], left: Side<u32>, line: EventText) -> EventText
+    ensures { result
+        ≡ record line { reel = name_of_side names.now left; source = source_of left; len = 0 } }
 {
-    Line {
+    EventText {
         reel: name_of_side(names, left),
         source: source_of(left),
         len: 0,
@@ -75,15 +74,17 @@ fn line_of_left(names: &[ReelName], left: Side<u32>, line: Line) -> Line
     }
 }
 
-fn line_of_dissolve(frames: u32, line: Line) -> Line
+// The second line of a dissolve of so many frames.
+fn line_of_dissolve(frames: u32, line: EventText) -> EventText
     ensures { result ≡ record line { dissolve = Some frames } }
 {
-    Line {
+    EventText {
         dissolve: Some(frames),
         ..line
     }
 }
 
+// The name of a side's reel, and black's for a dark side.
 fn name_of_side(names: &[ReelName], side: Side<u32>) -> Name
     ensures { result ≡ name_of_side names.now side }
 {
@@ -96,17 +97,8 @@ fn name_of_side(names: &[ReelName], side: Side<u32>) -> Name
     }
 }
 
-fn set_of(channel: Channel) -> u8
-    ensures { result ≡ set_of channel }
-{
-    match channel {
-        Channel::V => 1,
-        Channel::A => 2,
-        Channel::A2 => 4,
-    }
-}
-
-fn put_line(out: &mut Vec<u8>, counting: &Counting, line: &Line) -> Result<(), Memory>
+// Adds a line of an event: its number, reel, channel, edit and times, in columns.
+fn put_line(out: &mut Vec<u8>, counting: &Counting, line: &EventText) -> Result<(), Memory>
     requires { IsWritable line.now }
     ensures { OnOk result (out.new.items ≡ out.old.items ++ line_text counting.now line.now) }
 {
@@ -121,6 +113,7 @@ fn put_line(out: &mut Vec<u8>, counting: &Counting, line: &Line) -> Result<(), M
     put(out, b"\n")
 }
 
+// A channel as a list writes it.
 fn channel_text(channels: u8) -> &'static [u8]
     ensures { result.now ≡ channel_text channels }
 {
@@ -133,6 +126,7 @@ fn channel_text(channels: u8) -> &'static [u8]
     b"A2"
 }
 
+// Adds the columns of the edit: `C`, or `D` and the frames of the dissolve.
 fn put_edit(out: &mut Vec<u8>, dissolve: Option<u32>) -> Result<(), Memory>
     requires { IfSome dissolve (λ frames. frames < 1000) }
     ensures { OnOk result (out.new.items ≡ out.old.items ++ edit_text dissolve) }
@@ -147,7 +141,8 @@ fn put_edit(out: &mut Vec<u8>, dissolve: Option<u32>) -> Result<(), Memory>
     }
 }
 
-fn put_times(out: &mut Vec<u8>, counting: &Counting, line: &Line) -> Result<(), Memory>
+// Adds source in, source out, record in and record out.
+fn put_times(out: &mut Vec<u8>, counting: &Counting, line: &EventText) -> Result<(), Memory>
     requires source { line.now.source + line.now.len < 2 ^ 32 }
     requires place { line.now.place + line.now.len < 2 ^ 32 }
     ensures { OnOk result (out.new.items ≡ out.old.items
@@ -162,6 +157,7 @@ fn put_times(out: &mut Vec<u8>, counting: &Counting, line: &Line) -> Result<(), 
     put_time(out, counting, line.place + line.len)
 }
 
+// Adds the label of a frame of the day.
 fn put_time(out: &mut Vec<u8>, counting: &Counting, frame: u32) -> Result<(), Memory>
     ensures { OnOk result (out.new.items ≡ out.old.items ++ time_text counting.now frame) }
 {
@@ -171,7 +167,7 @@ fn put_time(out: &mut Vec<u8>, counting: &Counting, frame: u32) -> Result<(), Me
     }
 }
 
-// Puts bytes behind a text, and spaces behind them up to a width.
+// Adds bytes to a text, and spaces after them up to a width.
 fn put_padded(out: &mut Vec<u8>, bytes: &[u8], width: usize) -> Result<(), Memory>
     requires { width ≤ 8 }
     ensures { OnOk result (out.new.items ≡ out.old.items ++ padded width bytes.now) }
@@ -181,7 +177,7 @@ fn put_padded(out: &mut Vec<u8>, bytes: &[u8], width: usize) -> Result<(), Memor
     put(out, &spaces[..width.saturating_sub(bytes.len())])
 }
 
-/// Puts bytes behind a text.
+/// Adds bytes to a text.
 pub fn put(out: &mut Vec<u8>, bytes: &[u8]) -> Result<(), Memory>
     ensures { OnOk result (out.new.items ≡ out.old.items ++ bytes.now) }
 {

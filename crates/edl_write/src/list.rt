@@ -59,6 +59,7 @@ pub fn write_list(
     })
 }
 
+// The text of these events, numbered from 1, after the head of the list.
 fn list_text(
     alloc: Global,
     counting: &Counting,
@@ -68,7 +69,8 @@ fn list_text(
 ) -> Result<Vec<u8>, Memory>
     requires count { length events.now < 1000 }
     requires events { EachCanBeWritten start events.now }
-    ensures { IfOk result (λ text. text.items ≡ list_text counting.now (events_of start names.now events.now)) }
+    ensures { IfOk result (λ text. text.items
+        ≡ list_text counting.now (events_of start names.now events.now)) }
 {
     let mut text = Vec::new(alloc);
     put_head(&mut text, counting)?;
@@ -80,6 +82,7 @@ fn list_text(
     Ok(text)
 }
 
+// Adds the head of a list: its title, and how it counts.
 fn put_head(text: &mut Vec<u8>, counting: &Counting) -> Result<(), Memory>
     ensures { OnOk result (text.new.items ≡ text.old.items ++ head_text counting.now) }
 {
@@ -87,6 +90,7 @@ fn put_head(text: &mut Vec<u8>, counting: &Counting) -> Result<(), Memory>
     put_counting(text, counting.drop_frame())
 }
 
+// Adds the line that says whether the list counts with drop-frame.
 fn put_counting(text: &mut Vec<u8>, drop_frame: bool) -> Result<(), Memory>
     ensures { OnOk result (text.new.items ≡ text.old.items ++ counting_text drop_frame) }
 {

@@ -12,19 +12,20 @@ use frame_meaning::{Memory, Side};
 use reel_names::{Name, NameFault, ReelName, ReelNamer, name_among};
 use std::alloc::Global;
 
-/// The names of the reels of these events, asked of the namer in order of the lines.
+/// The names of the reels of these events, asked of the namer in order of the lines, or `Reel` with the first that it
+/// refuses.
 pub fn names_of(
     alloc: Global,
     reels: &Reels,
     events: &[ChannelSegment],
     namer: &mut dyn ReelNamer,
 ) -> Result<Listed<ReelName>, ListFault>
-    ensures named { IfOk result (λ used.
-        naming (rule namer.old) reels.now (Ok (no_names (given namer.old))) (reels_of_all events.now)
+    ensures named { IfOk result (λ used. naming (rule namer.old) reels.now
+        (Ok (no_names (given namer.old))) (reels_of_all events.now)
         ≡ Ok (names_at (given namer.new) used)) }
     ensures names { IfOk result AreNames }
-    ensures refused { IfErr result (λ fault. IsRefusal fault
-        (naming (rule namer.old) reels.now (Ok (no_names (given namer.old))) (reels_of_all events.now))) }
+    ensures refused { IfErr result (λ fault. IsRefusal fault (naming (rule namer.old) reels.now
+        (Ok (no_names (given namer.old))) (reels_of_all events.now))) }
 {
     let mut used = Listed::new(alloc);
     for event in events {
@@ -36,6 +37,7 @@ pub fn names_of(
     Ok(used)
 }
 
+// Asks for the reels of an event, the outgoing one of a dissolve first.
 fn name_event(
     reels: &Reels,
     event: &ChannelSegment,
@@ -43,18 +45,19 @@ fn name_event(
     used: &mut Listed<ReelName>,
 ) -> Result<(), ListFault>
     requires { AreUsed (given namer.old) used.old }
-    ensures named { OnOk result (
-        naming (rule namer.old) reels.now (Ok (names_at (given namer.old) used.old)) (reels_of event.now)
+    ensures named { OnOk result (naming (rule namer.old) reels.now
+        (Ok (names_at (given namer.old) used.old)) (reels_of event.now)
         ≡ Ok (names_at (given namer.new) used.new)) }
     ensures used { OnOk result (AreUsed (given namer.new) used.new) }
-    ensures refused { IfErr result (λ fault. IsRefusal fault
-        (naming (rule namer.old) reels.now (Ok (names_at (given namer.old) used.old)) (reels_of event.now))) }
+    ensures refused { IfErr result (λ fault. IsRefusal fault (naming (rule namer.old) reels.now
+        (Ok (names_at (given namer.old) used.old)) (reels_of event.now))) }
     ensures rule { rule namer.new ≡ rule namer.old }
 {
     name_left(reels, event.segment.from, namer, used)?;
     name_side(reels, event.segment.side, namer, used)
 }
 
+// Asks for the reel of a dissolve's outgoing side, if there is one.
 fn name_left(
     reels: &Reels,
     from: Option<Side<u32>>,
@@ -62,12 +65,12 @@ fn name_left(
     used: &mut Listed<ReelName>,
 ) -> Result<(), ListFault>
     requires { AreUsed (given namer.old) used.old }
-    ensures named { OnOk result (
-        naming (rule namer.old) reels.now (Ok (names_at (given namer.old) used.old)) (reels_of_left from)
+    ensures named { OnOk result (naming (rule namer.old) reels.now
+        (Ok (names_at (given namer.old) used.old)) (reels_of_left from)
         ≡ Ok (names_at (given namer.new) used.new)) }
     ensures used { OnOk result (AreUsed (given namer.new) used.new) }
-    ensures refused { IfErr result (λ fault. IsRefusal fault
-        (naming (rule namer.old) reels.now (Ok (names_at (given namer.old) used.old)) (reels_of_left from))) }
+    ensures refused { IfErr result (λ fault. IsRefusal fault (naming (rule namer.old) reels.now
+        (Ok (names_at (given namer.old) used.old)) (reels_of_left from))) }
     ensures rule { rule namer.new ≡ rule namer.old }
 {
     match from {
@@ -76,6 +79,7 @@ fn name_left(
     }
 }
 
+// Asks for the reel of a side; a dark one has none.
 fn name_side(
     reels: &Reels,
     side: Side<u32>,
@@ -83,12 +87,12 @@ fn name_side(
     used: &mut Listed<ReelName>,
 ) -> Result<(), ListFault>
     requires { AreUsed (given namer.old) used.old }
-    ensures named { OnOk result (
-        naming (rule namer.old) reels.now (Ok (names_at (given namer.old) used.old)) (reels_of_side side)
+    ensures named { OnOk result (naming (rule namer.old) reels.now
+        (Ok (names_at (given namer.old) used.old)) (reels_of_side side)
         ≡ Ok (names_at (given namer.new) used.new)) }
     ensures used { OnOk result (AreUsed (given namer.new) used.new) }
-    ensures refused { IfErr result (λ fault. IsRefusal fault
-        (naming (rule namer.old) reels.now (Ok (names_at (given namer.old) used.old)) (reels_of_side side))) }
+    ensures refused { IfErr result (λ fault. IsRefusal fault (naming (rule namer.old) reels.now
+        (Ok (names_at (given namer.old) used.old)) (reels_of_side side))) }
     ensures rule { rule namer.new ≡ rule namer.old }
 {
     match side {
@@ -100,6 +104,7 @@ fn name_side(
     }
 }
 
+// Asks for a reel, and notes that its name is used.
 fn name_reel(
     reels: &Reels,
     reel: u32,
@@ -127,11 +132,11 @@ fn name_reel(
 
 // Asks the namer for a reel with its text in the table.
 fn ask(reels: &Reels, reel: u32, namer: &mut dyn ReelNamer) -> Result<Name, NameFault>
-    ensures name { IfOk result (λ name.
-        name_for (rule namer.old) (given namer.old) reel (slice_index_or reels.now reel []) ≡ Some name) }
+    ensures name { IfOk result (λ name. name_for (rule namer.old) (given namer.old) reel
+        (slice_index_or reels.now reel []) ≡ Some name) }
     ensures grows { IfOk result (λ name. given namer.new ≡ with_name (given namer.old) reel name) }
-    ensures no_name { result ≡ Err NoName
-        → name_for (rule namer.old) (given namer.old) reel (slice_index_or reels.now reel []) ≡ None }
+    ensures no_name { result ≡ Err NoName → name_for (rule namer.old) (given namer.old) reel
+        (slice_index_or reels.now reel []) ≡ None }
     ensures names { AreNames (given namer.new) }
     ensures rule { rule namer.new ≡ rule namer.old }
 {

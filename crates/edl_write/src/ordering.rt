@@ -15,7 +15,7 @@ pub struct ChannelSegment {
     pub segment: Segment,
 }
 
-// The events of three channels: by their record in, and those at one record in by channel.
+/// The events of three channels: by their record in, and those at one record in by channel.
 pub fn ordered(
     alloc: Global,
     picture: &[Segment],
@@ -31,6 +31,7 @@ pub fn ordered(
     merged(alloc, first.as_slice(), a2.as_slice())
 }
 
+// The segments of a channel that are not dark, as events.
 fn events_on(
     alloc: Global,
     channel: Channel,
@@ -63,6 +64,7 @@ fn add_shown(
     Ok(())
 }
 
+// Whether a segment shows nothing, and so is no event.
 fn is_dark(segment: &Segment) -> bool
     ensures { result ≡ is_dark segment.now }
 {
@@ -72,7 +74,7 @@ fn is_dark(segment: &Segment) -> bool
     }
 }
 
-// Two lists in order as one.
+// Two lists of events, each in order, as one in order.
 fn merged(
     alloc: Global,
     first: &[ChannelSegment],
@@ -91,7 +93,7 @@ fn merged(
     Ok(all)
 }
 
-// Adds those of the others, from a place on, that come before an event, and gives the place behind them.
+// Adds those of the others, from a place on, that come before an event, and gives the place after them.
 fn add_before(
     all: &mut Vec<ChannelSegment>,
     others: &[ChannelSegment],
@@ -99,8 +101,10 @@ fn add_before(
     event: &ChannelSegment,
 ) -> Result<usize, Memory>
     requires { from ≤ length others.now }
-    ensures added { IfOk result (λ _. all.new.items ≡ all.old.items ++ before event.now (drop from others.now)) }
-    ensures rest { IfOk result (λ done. drop done others.now ≡ behind event.now (drop from others.now)) }
+    ensures added { IfOk result (λ _. all.new.items
+        ≡ all.old.items ++ before event.now (drop from others.now)) }
+    ensures rest { IfOk result (λ done. drop done others.now
+        ≡ behind event.now (drop from others.now)) }
     ensures within { IfOk result (λ done. done ≤ length others.now) }
 {
     let mut done = from;
@@ -111,6 +115,7 @@ fn add_before(
     Ok(done)
 }
 
+// Whether an event comes before another: by its record in, and at one record in by its channel.
 fn comes_before(event: &ChannelSegment, other: &ChannelSegment) -> bool
     ensures { result ≡ comes_before event.now other.now }
 {
@@ -119,7 +124,7 @@ fn comes_before(event: &ChannelSegment, other: &ChannelSegment) -> bool
     at < other_at || (at == other_at && rank(event.channel) < rank(other.channel))
 }
 
-/// The place of a channel at one record in.
+/// The place of a channel among those at one record in: V, then A, then A2.
 pub fn rank(channel: Channel) -> u8
     ensures { result ≡ rank channel }
 {

@@ -9,17 +9,17 @@ use Rattle.otio_json.specs.declared.opening.Opening.{Opening}
 use Rattle.otio_text.specs.Documents.{Writes}
 use Rattle.otio_text.specs.declared.writing.WriteFault.{WriteFault}
 use Rattle.otio_text.specs.declared.writing.WriteFault.TheVariants.{TooLarge}
-use Rattle.otio_again.specs.Meanings.{OpensAs, line_of_cut}
-use Rattle.otio_again.proofs.CutBack.{line_is_read_again}
-use Rattle.otio_again.proofs.SoundOpenings.{openings_are_sound_cuts}
+use Rattle.otio_laws.specs.Meanings.{OpensAs, line_of_cut}
+use Rattle.otio_laws.proofs.CutBack.{line_is_read_again}
+use Rattle.otio_laws.proofs.SoundOpenings.{openings_are_sound_cuts}
 use Rattle.list_import.specs.declared.shots.Shot.{Shot}
 use Rattle.list_import.specs.Imports.{Imports, start_of}
 use Rattle.list_import.specs.ListReels.{shots_of}
 use Rattle.list_import.specs.Refusals.{IsAllowed}
 use Rattle.list_import.specs.ShownLists.{ShowsTheTape}
 use Rattle.list_import.specs.TrackItems.{AreTracksOf}
-use Rattle.command_ends.specs.declared.status.Status.{Status}
-use Rattle.command_ends.specs.Ports.{Change, OutputTold}
+use Rattle.command_files.specs.declared.status.Status.{Status}
+use Rattle.command_files.specs.Ports.{Change, OutputTold}
 use Rattle.list_commands.specs.Imports.{EventsEnd, OpeningEnds, long_line}
 
 -- a text that was not written since it is too long

@@ -6,8 +6,8 @@ use Rattle.composables.specs.declared.media.Layer.{Layer}
 use Rattle.composables.specs.declared.media.Nest.{Nest}
 use Rattle.composables.specs.declared.media.Table.{Table}
 use Rattle.composables.specs.TrackState.{TrackState}
-use Rattle.call_text.specs.Journals.{HasText}
-use Rattle.edit_apply.specs.declared.asks.Call.{Call}
+use Rattle.line_table.specs.Journals.{HasText}
+use Rattle.edit_calls.specs.declared.asks.Call.{Call}
 use Rattle.edit_apply.specs.Apply.{editing, track_count}
 use Rattle.edit_apply.specs.RoomTracks.{IsOpening, IsTrackOf}
 use Rattle.edl_write.specs.Limits.{AreLimited}
@@ -16,7 +16,7 @@ use Rattle.history_points.specs.declared.fault.ReplayFault.{ReplayFault}
 use Rattle.history_points.specs.declared.fault.ReplayFault.TheVariants.{Refused}
 use Rattle.history_points.specs.Reached.{IsReached}
 use Rattle.history_points.specs.Replays.{IsFirstRefused, Replays}
-use Rattle.input_files.proofs.Openings.{sound_opens}
+use Rattle.command_files.proofs.Openings.{sound_opens}
 use Rattle.otio_json.specs.declared.opening.Opening.{Opening}
 use Rattle.otio_json.specs.Soundness.{IsSoundLayer, IsSoundNest, IsSoundOpening}
 use Rattle.room_core.specs.declared.entry.Entry.{Entry}

@@ -4,16 +4,16 @@ use Rattle.composables.specs.declared.media.Table.{Table}
 use Rattle.composables.specs.TrackState.{TrackState}
 use Rattle.timecode12.specs.Numbers.{Counted}
 use Rattle.reel_names.specs.declared.namer.ReelName.{ReelName}
-use Rattle.reel_names.specs.Namers.{NamerRule}
+use Rattle.reel_names.specs.Namers.{AreNames, NamerRule}
 use Rattle.edl_write.specs.declared.fault.ListFault.{ListFault}
 use Rattle.edl_write.specs.declared.fault.ListFault.TheVariants.{Channels, PartialDissolve, DissolveTooLong, Events, PastDay, Reel, Memory}
 use Rattle.edl_write.specs.declared.list.Written.{Written}
 use Rattle.edl_write.specs.Refusals.{IsListOf, IsRefused}
-use Rattle.edl_again.specs.RoundTrips.{RoundTrips}
-use Rattle.command_ends.specs.declared.status.Status.{Status}
-use Rattle.command_ends.specs.declared.status.Status.TheVariants.{Done, NoList, OutOfMemory}
-use Rattle.command_ends.specs.Ports.{Change, OutputTold}
-use Rattle.command_ends.specs.Texts.{PutsWith, refusal_text}
+use Rattle.edl_laws.specs.RoundTrips.{RoundTrips}
+use Rattle.command_files.specs.declared.status.Status.{Status}
+use Rattle.command_files.specs.declared.status.Status.TheVariants.{Done, NoList, OutOfMemory}
+use Rattle.command_files.specs.Ports.{Change, OutputTold}
+use Rattle.command_files.specs.Texts.{PutsWith, refusal_text}
 
 -- a namer, as it is handed in: what it goes by, and the names that it has given
 pub record NamerTold : Type 0 where
@@ -41,10 +41,11 @@ UnlistedEnds Memory output status = (status ≡ OutOfMemory) × output.Untouched
 module _ (table : Table) (tracks : List TrackState) (counting : Counted) (start : ℕ) (namer : NamerTold)
     (output : Change OutputTold) (status : Status) where
   -- Its list is put. Read again at the rate of the counting, the list's tape shows what the cut shows, every frame and
-  -- every weight, by the names that the namer gave.
+  -- every weight, by the names that the namer gave: each fits a list that is written, and no two reels have one.
   pub record PutsList : Type 0 where
     pub list : Written
     pub is_list : IsListOf table tracks counting start namer.rule namer.given list
+    pub names : AreNames list.names
     pub again : RoundTrips list.text counting.rate start list.names table tracks
     pub put : PutsWith Done list.text output.before output.after status
 

@@ -1,23 +1,24 @@
 -- How the document of a list is put on the output: the list is the opening of a room, and what is put is the document of
 -- the room's cut, in a line.
 use Rattle.std.specs.Prelude.{◌≡◌, ℕ, ◌<◌, ◌≤◌, ◌⊎◌, List, length, codes}
-use Rattle.room_files.specs.Files.{FilesTold}
+use Rattle.room_files.specs.Files.{FilesTold, FitsIn}
 use Rattle.timecode12.specs.Numbers.{Counted}
 use Rattle.edl_events.specs.declared.event.Event.{Event}
+use Rattle.edl_read.specs.declared.list.TheConstants.{MAX_LIST}
 use Rattle.otio_json.specs.declared.opening.Opening.{Opening}
-use Rattle.otio_again.specs.Meanings.{OpensAs, line_of_cut}
+use Rattle.otio_laws.specs.Meanings.{OpensAs, line_of_cut}
 use Rattle.list_import.specs.declared.fault.ImportCode.{ImportCode}
 use Rattle.list_import.specs.declared.fault.ImportCode.TheVariants.{I1, I2, I3, I4}
 use Rattle.list_import.specs.Imports.{Imports}
 use Rattle.list_import.specs.Refusals.{IsAllowed, IsRefused}
 use Rattle.list_import.specs.ShownLists.{ShowsTheTape}
-use Rattle.command_ends.specs.declared.status.Status.{Status}
-use Rattle.command_ends.specs.declared.status.Status.TheVariants.{Done, Refused, OutOfMemory}
-use Rattle.command_ends.specs.Ports.{Change, OutputTold}
-use Rattle.command_ends.specs.Texts.{PutsWith, refusal_text}
-use Rattle.input_files.specs.declared.documents.TheConstants.{MAX_DOCUMENT}
-use Rattle.input_files.specs.Unopened.{EndsUnopened, OnlyRead}
-use Rattle.input_files.specs.Lists.{HoldsList, IsListRefused, list_line}
+use Rattle.command_files.specs.declared.status.Status.{Status}
+use Rattle.command_files.specs.declared.status.Status.TheVariants.{Done, Refused, OutOfMemory}
+use Rattle.command_files.specs.Ports.{Change, OutputTold}
+use Rattle.command_files.specs.Texts.{PutsWith, refusal_text}
+use Rattle.command_files.specs.declared.documents.TheConstants.{MAX_DOCUMENT}
+use Rattle.command_files.specs.Unopened.{EndsUnopened, OnlyRead}
+use Rattle.command_files.specs.Lists.{HoldsList, IsListRefused, list_line}
 
 -- ---- why a list makes no document, with the code and the number that are told
 
@@ -94,4 +95,4 @@ module _ (name : List ℕ) (counting : Counted) (files : Change FilesTold) (outp
 
   abbrev pub ImportEnds : Type 0
   ImportEnds = OnlyRead files.before files.after
-      × (OpensList ⊎ EndsUnopened files.before files.after output (IsListRefused counting.rate (files.before.file name)) list_line status)
+      × (OpensList ⊎ EndsUnopened files.before files.after output (IsListRefused counting.rate (files.before.file name)) list_line (FitsIn (files.before.file name) MAX_LIST) status)

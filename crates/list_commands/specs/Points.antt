@@ -3,21 +3,23 @@
 use Rattle.std.specs.Prelude.{◌≡◌, ℕ, ◌<◌, ◌≤◌, ◌⊎◌, List, Some, length, take, codes}
 use Rattle.composables.specs.TrackState.{TrackState}
 use Rattle.timecode12.specs.Numbers.{Counted}
-use Rattle.room_files.specs.Files.{FilesTold}
+use Rattle.room_files.specs.Files.{FilesTold, FitsIn}
 use Rattle.room_core.specs.declared.entry.Entry.{Entry}
 use Rattle.room_core.specs.History.{replay}
 use Rattle.room_core.specs.Whole.{whole}
-use Rattle.edit_apply.specs.declared.asks.Call.{Call}
+use Rattle.edit_calls.specs.declared.asks.Call.{Call}
 use Rattle.edit_apply.specs.Apply.{editing}
 use Rattle.history_points.specs.Replays.{IsFirstRefused}
 use Rattle.otio_json.specs.declared.opening.Opening.{Opening}
-use Rattle.command_ends.specs.declared.status.Status.{Status}
-use Rattle.command_ends.specs.declared.status.Status.TheVariants.{Refused, OutOfMemory}
-use Rattle.command_ends.specs.Ports.{Change, OutputTold}
-use Rattle.command_ends.specs.Texts.{PutsWith, refusal_text}
-use Rattle.input_files.specs.Unopened.{AreQuiet, EndsUnopened, OnlyRead}
-use Rattle.input_files.specs.Documents.{Describes, IsDocumentRefused, document_line}
-use Rattle.input_files.specs.Journals.{HoldsJournal, IsJournalRefused, journal_line}
+use Rattle.command_files.specs.declared.status.Status.{Status}
+use Rattle.command_files.specs.declared.status.Status.TheVariants.{Refused, OutOfMemory}
+use Rattle.command_files.specs.Ports.{Change, OutputTold}
+use Rattle.command_files.specs.Texts.{PutsWith, refusal_text}
+use Rattle.command_files.specs.declared.documents.TheConstants.{MAX_DOCUMENT}
+use Rattle.line_table.specs.declared.journal_reading.TheConstants.{MAX_JOURNAL}
+use Rattle.command_files.specs.Unopened.{AreQuiet, EndsUnopened, OnlyRead}
+use Rattle.command_files.specs.Documents.{Describes, IsDocumentRefused, document_line}
+use Rattle.command_files.specs.Journals.{HoldsJournal, IsJournalRefused, journal_line}
 use Rattle.list_commands.specs.Cuts.{CutEnds, NamerTold}
 
 -- these are the tracks after the first entries of a room's journal
@@ -63,7 +65,7 @@ module _ (o : Opening) (journal : List ℕ) (point : ℕ) (namer : NamerTold)
 
   abbrev pub JournalEnds : Type 0
   JournalEnds = OnlyRead old new
-      × (OpensJournal ⊎ EndsUnopened old new output (IsJournalRefused (old.file journal)) journal_line status)
+      × (OpensJournal ⊎ EndsUnopened old new output (IsJournalRefused (old.file journal)) journal_line (FitsIn (old.file journal) MAX_JOURNAL) status)
 
 -- the document in the file of this name, whose frames are counted so, and the journal of its room
 module _ (document : List ℕ) (counting : Counted) (journal : List ℕ) (point : ℕ) (namer : NamerTold)
@@ -78,4 +80,4 @@ module _ (document : List ℕ) (counting : Counted) (journal : List ℕ) (point 
 
   abbrev pub ListEnds : Type 0
   ListEnds = OnlyRead files.before files.after
-      × (OpensDocument ⊎ EndsUnopened files.before files.after output (IsDocumentRefused counting (files.before.file document)) document_line status)
+      × (OpensDocument ⊎ EndsUnopened files.before files.after output (IsDocumentRefused counting (files.before.file document)) document_line (FitsIn (files.before.file document) MAX_DOCUMENT) status)

@@ -3,12 +3,12 @@ ghost use Rattle.std.specs.Prelude.{◌≡◌, ◌<◌, ◌≤◌, ◌^◌, leng
 ghost use Rattle.flatten.specs.Channels.{AreSound};
 ghost use Rattle.timecode12.specs.Labels.{day_of};
 ghost use Rattle.edl_write.specs.Limits.{AreLimited};
-ghost use Rattle.command_ends.specs.Ports.{change, output_told};
-ghost use Rattle.command_ends.specs.Texts.{PutsWith, refusal_text};
-ghost use Rattle.command_ends.specs.declared.status.Status.TheVariants.{NoList};
+ghost use Rattle.command_files.specs.Ports.{change, output_told};
+ghost use Rattle.command_files.specs.Texts.{PutsWith, refusal_text};
+ghost use Rattle.command_files.specs.declared.status.Status.TheVariants.{NoList};
 ghost use Rattle.list_commands.specs.Cuts.{CutEnds, UnlistedEnds, namer_told};
 
-use command_ends::{Status, end_with, refusal_line};
+use command_files::{Status, end_with, refusal_line};
 use composables::{Table, Track};
 use edl_write::{ListFault, write_list};
 use reel_names::ReelNamer;
@@ -16,10 +16,11 @@ use room_ports::Sink;
 use std::alloc::Global;
 use timecode12::Counting;
 
-// Ends the command of a cut that has no list.
+// Ends the command of a cut that has no list, with the line that says why.
 fn refuse_list<K: Sink>(code: &str, number: u32, output: &mut K) -> Status
     requires { length code.now ≤ 3 }
-    ensures { PutsWith NoList (refusal_text code.now number) (output_told K.taken K.write_faults output.old)
+    ensures { PutsWith NoList (refusal_text code.now number)
+        (output_told K.taken K.write_faults output.old)
         (output_told K.taken K.write_faults output.new) result }
 {
     end_with(
@@ -29,8 +30,10 @@ fn refuse_list<K: Sink>(code: &str, number: u32, output: &mut K) -> Status
     )
 }
 
+// Ends the command of a cut that has no list for this reason, or for which there was no memory.
 fn end_unlisted<K: Sink>(fault: &ListFault, output: &mut K) -> Status
-    ensures { UnlistedEnds fault.now (change (output_told K.taken K.write_faults) output.old output.new) result }
+    ensures { UnlistedEnds fault.now
+        (change (output_told K.taken K.write_faults) output.old output.new) result }
 {
     match fault {
         ListFault::Channels(count) => refuse_list("L1", *count, output),
@@ -57,7 +60,8 @@ pub(crate) fn put_list<K: Sink>(
     requires tracks { AreLimited tracks.now }
     requires few { length tracks.now < 2 ^ 32 }
     requires start { start < length (day_of counting.now) }
-    ensures { CutEnds table.now tracks.now counting.now start (namer_told (rule namer) (given namer))
+    ensures { CutEnds table.now tracks.now counting.now start
+        (namer_told (rule namer) (given namer))
         (change (output_told K.taken K.write_faults) output.old output.new) result }
 {
     let _lawful = counting.drop_frame();

@@ -1,16 +1,15 @@
 // The document of a list, put on the output.
 ghost use Rattle.std.specs.Prelude.{◌≡◌, ◌≤◌, ◌++◌, IfOk, codes, length};
 ghost use Rattle.edl_read.specs.ReadLists.{CanBeRead};
-ghost use Rattle.otio_again.specs.Meanings.{line_of_cut};
+ghost use Rattle.otio_laws.specs.Meanings.{line_of_cut};
 ghost use Rattle.otio_text.specs.Documents.{Writes};
-ghost use Rattle.command_ends.specs.Ports.{change, output_told};
-ghost use Rattle.command_ends.specs.Texts.{PutsWith};
-ghost use Rattle.command_ends.specs.declared.status.Status.TheVariants.{Refused};
+ghost use Rattle.command_files.specs.Ports.{change, output_told};
+ghost use Rattle.command_files.specs.Texts.{PutsWith};
+ghost use Rattle.command_files.specs.declared.status.Status.TheVariants.{Refused};
 ghost use Rattle.list_commands.specs.Imports.{EventsEnd, ImportEnds, OpeningEnds, code_text, import_line};
 
-use command_ends::{Status, end_with, refusal_line};
+use command_files::{Status, end_unopened, end_with, open_list, refusal_line};
 use edl_read::List;
-use input_files::{end_unopened, open_list};
 use list_import::{ImportCode, ImportFault, import_list};
 use otio_json::{Opening, WriteFault, write_timeline};
 use out_of_memory::Memory;
@@ -22,6 +21,7 @@ use timecode12::Counting;
 /// The most bytes of a document that is put, its line feed counted: 32 MiB, as one that is read may have.
 const MOST_BYTES: usize = 33_554_432;
 
+// The text as a line.
 fn with_line_feed(text: Vec<u8>) -> Result<Vec<u8>, Memory>
     ensures { IfOk result (λ line. line.items ≡ text.items ++ codes "\n") }
 {
@@ -30,7 +30,7 @@ fn with_line_feed(text: Vec<u8>) -> Result<Vec<u8>, Memory>
     Ok(text)
 }
 
-// The document of an opening, in a line.
+// The document of an opening, in a line, or that the line would have more than 32 MiB.
 fn document_line(alloc: Global, opening: &Opening) -> Result<Vec<u8>, WriteFault>
     ensures { Writes (line_of_cut opening.now) result }
 {
@@ -48,9 +48,10 @@ fn document_line(alloc: Global, opening: &Opening) -> Result<Vec<u8>, WriteFault
     Ok(line)
 }
 
-// Puts the document of an opening on the output.
+// Puts the document of an opening on the output, or the line that says it is too long.
 fn put_document<K: Sink>(alloc: Global, opening: &Opening, output: &mut K) -> Status
-    ensures { OpeningEnds opening.now (change (output_told K.taken K.write_faults) output.old output.new) result }
+    ensures { OpeningEnds opening.now
+        (change (output_told K.taken K.write_faults) output.old output.new) result }
 {
     match document_line(alloc, opening) {
         Ok(line) => end_with(Status::Done, &line, output),
@@ -61,6 +62,7 @@ fn put_document<K: Sink>(alloc: Global, opening: &Opening, output: &mut K) -> St
     }
 }
 
+// The letters of a code.
 fn code_text(code: ImportCode) -> &'static str
     ensures text { result.now ≡ code_text code }
     ensures short { length result.now ≤ 3 }
@@ -73,9 +75,10 @@ fn code_text(code: ImportCode) -> &'static str
     }
 }
 
-// Ends the command of a list that is no opening.
+// Ends the command of a list that is no opening, with the line that says why.
 fn refuse_import<K: Sink>(code: ImportCode, number: u32, output: &mut K) -> Status
-    ensures { PutsWith Refused (import_line code number) (output_told K.taken K.write_faults output.old)
+    ensures { PutsWith Refused (import_line code number)
+        (output_told K.taken K.write_faults output.old)
         (output_told K.taken K.write_faults output.new) result }
 {
     end_with(
@@ -88,7 +91,8 @@ fn refuse_import<K: Sink>(code: ImportCode, number: u32, output: &mut K) -> Stat
 // Puts the document of a list on the output, or the line that says why it has none.
 fn import_events<K: Sink>(alloc: Global, list: &List, counting: &Counting, output: &mut K) -> Status
     requires { CanBeRead list.now }
-    ensures { EventsEnd list.now counting.now (change (output_told K.taken K.write_faults) output.old output.new) result }
+    ensures { EventsEnd list.now counting.now
+        (change (output_told K.taken K.write_faults) output.old output.new) result }
 {
     match import_list(alloc, list, counting) {
         Ok(opening) => put_document(alloc, &opening, output),

@@ -1,16 +1,15 @@
 // The list of the cut at a point of a journal.
 ghost use Rattle.std.specs.Prelude.{◌≡◌, ◌<◌, ◌≤◌, length};
-ghost use Rattle.call_text.specs.Journals.{HasText};
+ghost use Rattle.line_table.specs.Journals.{HasText};
 ghost use Rattle.otio_json.specs.Soundness.{IsSoundOpening};
-ghost use Rattle.command_ends.specs.Ports.{change, output_told};
+ghost use Rattle.command_files.specs.Ports.{change, output_told};
 ghost use Rattle.list_commands.specs.Cuts.{namer_told};
 ghost use Rattle.list_commands.specs.Points.{JournalEnds, ListEnds, PointEnds};
 
 use crate::cuts::put_list;
-use command_ends::{Status, end_with, refusal_line};
+use command_files::{Status, end_unopened, end_with, open_document, open_journal, refusal_line};
 use edit_apply::{Call, Editor};
 use history_points::{ReplayFault, replay};
-use input_files::{end_unopened, open_document, open_journal};
 use otio_json::Opening;
 use reel_names::ReelNamer;
 use room_core::Entry;
@@ -29,7 +28,7 @@ pub struct CutPlace<'a> {
     pub point: u32,
 }
 
-// Puts the list of the cut after the first entries of a journal.
+// Puts the list of the cut after the first entries of a journal: H5 where it has fewer, H3 where one does not apply.
 fn list_point<K: Sink>(
     alloc: Global,
     opening: Opening,
@@ -72,7 +71,7 @@ fn list_point<K: Sink>(
     }
 }
 
-// The same, where the journal is in a file.
+// Puts the list of the cut after the first entries of the journal in a file.
 fn list_opened<F: Files, K: Sink>(
     alloc: Global,
     files: &mut F,
@@ -103,7 +102,8 @@ pub fn list_cut<F: Files, K: Sink>(
     namer: Box<dyn ReelNamer>,
     output: &mut K,
 ) -> Status
-    ensures { ListEnds place.now.document.now place.now.counting place.now.journal.now place.now.point
+    ensures { ListEnds place.now.document.now place.now.counting
+        place.now.journal.now place.now.point
         (namer_told (rule namer) (given namer)) (change F.told files.old files.new)
         (change (output_told K.taken K.write_faults) output.old output.new) result }
 {

@@ -1,19 +1,19 @@
 // The tape of a list, put on the output.
 ghost use Rattle.std.specs.Prelude.{◌≡◌, IfOk};
-ghost use Rattle.command_ends.specs.Ports.{change, output_told};
+ghost use Rattle.command_files.specs.Ports.{change, output_told};
 ghost use Rattle.edl_read.specs.ReadLists.{CanBeRead};
 ghost use Rattle.edl_read.specs.TapeText.{tape_text};
 ghost use Rattle.list_commands.specs.Tapes.{TapeEnds};
 
-use command_ends::{Status, end_with};
+use command_files::{Status, end_unopened, end_with, open_list};
 use edl_read::{List, Tape};
-use input_files::{end_unopened, open_list};
 use out_of_memory::Memory;
 use room_files::Files;
 use room_ports::Sink;
 use std::alloc::Global;
 use timecode12::SequenceRate;
 
+// The text of the tape that a list makes.
 fn tape_text(alloc: Global, list: &List) -> Result<Vec<u8>, Memory>
     requires { CanBeRead list.now }
     ensures { IfOk result (λ text. text.items ≡ tape_text list.now) }

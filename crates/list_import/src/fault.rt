@@ -11,7 +11,7 @@ pub enum ImportCode {
     I1,
     /// A dissolve from black to black. Told with the line of the event.
     I2,
-    /// The first event begins behind the day of the counting. Told with its record in, a frame of the day.
+    /// The first event begins after the day of the counting. Told with its record in, a frame of the day.
     I3,
     /// A track has more items and gaps than a room's may have. Told with the number of the track.
     I4,
@@ -29,6 +29,7 @@ pub enum ImportFault {
 impl From<Memory> for ImportFault {
     ghost from_gives = { λ _ fault. fault ≡ NoMemory };
 
+    // A call of a lower crate, or a list, found no memory.
     fn from(_: Memory) -> Self {
         ImportFault::Memory
     }

@@ -8,7 +8,7 @@ use crate::{Memory, Shot};
 use composables::ItemView;
 use frame_meaning::{Mark, Side, What};
 
-// The number of the item behind one that shows a side.
+// The number of the item after one that shows a side.
 fn number_past(number: u32, side: Side<What>) -> u32
     requires { number < 4294967295 }
     ensures { result ≡ number_past number side }
@@ -44,8 +44,8 @@ fn cut_of(frames: u32, len: u32) -> u32
     if frames < len { frames } else { frames - 1 }
 }
 
-// The items of a dissolve: the outgoing side up to the cut, and from there the incoming one going on, with the mark of the
-// dissolve's frames before the cut and behind it.
+// The items of a dissolve: the outgoing side up to the cut, and from there the incoming one going on, with the mark of
+// the dissolve's frames before the cut and after it.
 fn dissolve_views(number: u32, left: Side<What>, shot: &Shot) -> [ItemView; 2]
     requires shot { IsSomeShot shot.now }
     requires left { shot.now.from ≡ Some left }
@@ -69,7 +69,7 @@ fn dissolve_views(number: u32, left: Side<What>, shot: &Shot) -> [ItemView; 2]
     ]
 }
 
-/// Puts dark frames behind the items and gaps so far, if there are any.
+/// Adds dark frames after the items and gaps so far, if there are any.
 pub fn push_gap(views: &mut Vec<ItemView>, len: u32) -> Result<(), Memory>
     ensures { OnOk result (views.new.items ≡ views.old.items ++ gap_views len) }
 {
@@ -80,7 +80,7 @@ pub fn push_gap(views: &mut Vec<ItemView>, len: u32) -> Result<(), Memory>
     Ok(())
 }
 
-/// Puts a shot behind the items and gaps so far. Its first item has this number.
+/// Adds a shot after the items and gaps so far. Its first item has this number.
 pub fn push_shot(views: &mut Vec<ItemView>, number: u32, shot: &Shot) -> Result<(), Memory>
     requires shot { IsSomeShot shot.now }
     requires number { number < 4294967294 }
@@ -93,7 +93,7 @@ pub fn push_shot(views: &mut Vec<ItemView>, number: u32, shot: &Shot) -> Result<
     Ok(())
 }
 
-/// The number of the item behind those of a shot.
+/// The number of the item after those of a shot.
 pub fn number_behind(number: u32, shot: &Shot) -> u32
     requires { number < 4294967294 }
     ensures { result ≡ number_behind number shot.now }

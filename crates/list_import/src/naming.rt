@@ -28,7 +28,8 @@ fn text_of(name: &Name) -> &str
 // What a reel shows from a source frame on. Black is dark, and no reel of the table.
 fn enter_side(table: &mut Entries, reel: &Name, source: u32) -> Result<Side<What>, Memory>
     requires { length table.old.reels < 4294967295 }
-    ensures table { OnOk result (table.new ≡ with_reels table.old (with_reel table.old.reels reel.now)) }
+    ensures table { OnOk result (table.new
+        ≡ with_reels table.old (with_reel table.old.reels reel.now)) }
     ensures side { IfOk result (λ side. side ≡ side_in table.new.reels reel.now source) }
 {
     if reel.is_black() {
@@ -44,7 +45,8 @@ fn enter_side(table: &mut Entries, reel: &Name, source: u32) -> Result<Side<What
 // What the outgoing side of a dissolve shows.
 fn enter_from(table: &mut Entries, from: &Option<FromLine>) -> Result<Option<Side<What>>, Memory>
     requires { length table.old.reels < 4294967295 }
-    ensures table { OnOk result (table.new ≡ with_reels table.old (with_from table.old.reels from.now)) }
+    ensures table { OnOk result (table.new
+        ≡ with_reels table.old (with_from table.old.reels from.now)) }
     ensures side { IfOk result (λ side. side ≡ from_in table.new.reels from.now) }
 {
     match from {
@@ -59,7 +61,8 @@ fn enter_from(table: &mut Entries, from: &Option<FromLine>) -> Result<Option<Sid
 // An event as a track shows it. The reel that goes out is entered before the one that comes in.
 fn enter_event(table: &mut Entries, event: &Event) -> Result<Shot, Memory>
     requires { length table.old.reels + 2 < 4294967295 }
-    ensures table { OnOk result (table.new ≡ with_reels table.old (with_event table.old.reels event.now)) }
+    ensures table { OnOk result (table.new
+        ≡ with_reels table.old (with_event table.old.reels event.now)) }
     ensures shot { IfOk result (λ shot. shot ≡ shot_of table.new.reels event.now) }
 {
     let from = enter_from(table, &event.from)?;

@@ -1,4 +1,4 @@
-// What makes no opening: events that have no place, a start behind the day, a track with too many items and gaps.
+// What makes no opening: events that have no place, a start after the day, a track with too many items and gaps.
 ghost use Rattle.std.specs.Prelude.{◌≡◌, ◌<◌, IfErr, IfOk, OnOk, None, length};
 ghost use Rattle.timecode12.specs.Labels.{day_of};
 ghost use Rattle.list_import.specs.Imports.{start_of};

@@ -16,7 +16,8 @@ use step_count::Steps;
 
 // The shots of a channel, in the order of the list.
 fn shots_on(alloc: Global, channel: Channel, shots: &[Shot]) -> Result<Vec<Shot>, Memory>
-    ensures { IfOk result (λ on. on.items ≡ filter (λ shot. is_on channel shot.channels) shots.now) }
+    ensures { IfOk result (λ on. on.items
+        ≡ filter (λ shot. is_on channel shot.channels) shots.now) }
 {
     let mut on = Vec::new(alloc);
     for shot in shots {
@@ -27,7 +28,7 @@ fn shots_on(alloc: Global, channel: Channel, shots: &[Shot]) -> Result<Vec<Shot>
     Ok(on)
 }
 
-// The same in order of their record ins.
+// The shots of a channel in order of their record ins.
 fn ordered_on(
     alloc: Global,
     channel: Channel,
@@ -60,6 +61,7 @@ fn views_of(alloc: Global, start: u32, shots: &[Shot]) -> Result<Vec<ItemView>, 
     Ok(views)
 }
 
+// The track of shots that follow one another, made with a counter of its own.
 fn track_counted<L: Ledger>(
     blank: Blank,
     alloc: Global,

@@ -3,15 +3,15 @@ use Rattle.std.proofs.Common.{◌≡◌, ℕ, zero, suc, ◌+◌, ◌*◌, ◌^�
 use Rattle.std.proofs.lemmas.Bool.Decides.{nat_tests}
 use Rattle.std.proofs.lemmas.List.{map-append, take_all}
 use Rattle.std.proofs.lemmas.List.FromFn.{length-map-range_with_len}
-use Rattle.apart_stations.specs.OwnParts.{AreOfFirst, KeepToOwn, by_station, calls_of}
-use Rattle.apart_stations.proofs.Order.{in_order, same_calls}
+use Rattle.room_core.specs.OwnParts.{AreOfFirst, KeepToOwn, by_station, calls_of}
+use Rattle.room_core.proofs.Order.{in_order, same_calls}
 use Rattle.composables.specs.TrackSets.{tracks_in}
 use Rattle.composables.specs.TrackState.{TrackState}
 use Rattle.edit_apply.specs.Apply.{editing, names_of}
 use Rattle.edit_apply.specs.RoomTracks.{IsOpening}
-use Rattle.edit_apply.specs.declared.asks.Call.{Call}
+use Rattle.edit_calls.specs.declared.asks.Call.{Call}
 use Rattle.history_points.specs.Reached.{IsReached}
-use Rattle.input_files.proofs.Openings.{sound_opens}
+use Rattle.command_files.proofs.Openings.{sound_opens}
 use Rattle.otio_json.specs.Openings.{empty_track, plain_opening}
 use Rattle.otio_json.specs.Soundness.{IsSoundOpening}
 use Rattle.otio_json.specs.declared.opening.Opening.{Opening}

@@ -2,8 +2,8 @@
 use Rattle.std.proofs.Common.{◌≡◌, ◌≢◌, ℕ, zero, suc, ◌+◌, ◌-◌, ◌<◌, Bool, true, false, ◌==◌, cond, List, [], ◌∷◌, ◌++◌, length, map, drop, get_or, refl, sym, ap, ◌∙◌, arith}
 use Rattle.std.proofs.lemmas.List.{append-nil, append_assoc, drop_more}
 use Rattle.std.proofs.lemmas.Bool.Decides.{nat_tests}
-use Rattle.apart_stations.specs.OwnParts.{calls_of}
-use Rattle.edit_apply.specs.declared.asks.Call.{Call}
+use Rattle.room_core.specs.OwnParts.{calls_of}
+use Rattle.edit_calls.specs.declared.asks.Call.{Call}
 use Rattle.room_core.specs.Projection.{of_station}
 use Rattle.room_core.specs.declared.entry.Entry.{Entry}
 use Rattle.made_sessions.specs.Scripts.{next_word, script, script_call, script_from, sent_line, sent_lines}

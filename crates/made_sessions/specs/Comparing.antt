@@ -1,7 +1,7 @@
 -- A journal whose entries are those of the scripts, in whatever order the stations were served.
 use Rattle.std.specs.Prelude.{◌≡◌, ℕ, ◌<◌, List}
-use Rattle.apart_stations.specs.OwnParts.{AreOfFirst, calls_of}
-use Rattle.edit_apply.specs.declared.asks.Call.{Call}
+use Rattle.room_core.specs.OwnParts.{AreOfFirst, calls_of}
+use Rattle.edit_calls.specs.declared.asks.Call.{Call}
 use Rattle.room_core.specs.Projection.{of_station}
 use Rattle.room_core.specs.declared.entry.Entry.{Entry}
 use Rattle.made_sessions.specs.Scripts.{script}

@@ -4,9 +4,9 @@
 use Rattle.std.specs.Prelude.{ℕ, zero, suc, ◌+◌, ◌*◌, ◌/◌, ◌%◌, ◌^◌, ◌==◌, Bool, true, false, List, [], ◌∷◌, ◌++◌, codes}
 use Rattle.std.specs.List.{flat_map}
 use Rattle.frame_meaning.specs.declared.cells.What.TheVariants.{Media}
-use Rattle.edit_apply.specs.declared.asks.Call.{Call}
-use Rattle.edit_apply.specs.declared.asks.Call.TheVariants.{Overwrite, Insert}
-use Rattle.call_text.specs.CallTexts.{call_text_of}
+use Rattle.edit_calls.specs.declared.asks.Call.{Call}
+use Rattle.edit_calls.specs.declared.asks.Call.TheVariants.{Overwrite, Insert}
+use Rattle.line_table.specs.CallTexts.{call_text_of}
 
 -- how many words there are
 abbrev pub words : ℕ

@@ -4,12 +4,12 @@ use Rattle.std.specs.Prelude.{◌≡◌, ℕ, ◌+◌, ◌*◌, ◌⊎◌, List,
 use Rattle.std.specs.List.{flat_map}
 use Rattle.composables.specs.Items.{items_of}
 use Rattle.composables.specs.TrackState.{TrackState}
-use Rattle.command_ends.specs.Ports.{Change, OutputTold}
-use Rattle.command_ends.specs.Texts.{PutsWith}
-use Rattle.command_ends.specs.declared.status.Status.{Status}
-use Rattle.command_ends.specs.declared.status.Status.TheVariants.{Done, OutOfMemory}
+use Rattle.command_files.specs.Ports.{Change, OutputTold}
+use Rattle.command_files.specs.Texts.{PutsWith}
+use Rattle.command_files.specs.declared.status.Status.{Status}
+use Rattle.command_files.specs.declared.status.Status.TheVariants.{Done, OutOfMemory}
 use Rattle.edit_apply.specs.Apply.{editing}
-use Rattle.edit_apply.specs.declared.asks.Call.{Call}
+use Rattle.edit_calls.specs.declared.asks.Call.{Call}
 use Rattle.otio_json.specs.Openings.{plain_opening}
 use Rattle.otio_json.specs.declared.opening.Opening.{Opening}
 use Rattle.room_core.specs.History.{replay}

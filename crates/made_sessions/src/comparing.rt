@@ -1,6 +1,6 @@
 // Whether the entries of a journal are those of the scripts.
 ghost use Rattle.std.specs.Prelude.{◌≡◌, ◌<◌, ◌≤◌, ◌+◌, true, length};
-ghost use Rattle.apart_stations.specs.OwnParts.{AreOfFirst, calls_of};
+ghost use Rattle.room_core.specs.OwnParts.{AreOfFirst, calls_of};
 ghost use Rattle.room_core.specs.Projection.{of_station};
 ghost use Rattle.made_sessions.specs.Scripts.{next_word, script, script_call};
 ghost use Rattle.made_sessions.specs.Comparing.{HaveScripts};
@@ -20,7 +20,7 @@ fn is_same(call: &Call, wanted: &Call) -> bool
     }
 }
 
-// Whether a call is the next one of a script, which goes on behind it.
+// Whether a call is the next one of a script, which goes on after it.
 fn is_next(call: &Call, script: &mut Script) -> bool
     requires station { script.old.station < 32 }
     requires place { script.old.place < 4294967295 }
@@ -39,7 +39,8 @@ fn is_next(call: &Call, script: &mut Script) -> bool
 // Whether the entries of a station are its script.
 fn has_script(entries: &[Entry<Call>], number: u32, count: u32, station: u32) -> bool
     requires { station < 32 }
-    ensures { result ≡ true → calls_of (of_station station entries.now) ≡ script number count station }
+    ensures { result ≡ true
+        → calls_of (of_station station entries.now) ≡ script number count station }
 {
     let mut script = Script::new(number, station);
     let mut left = count;

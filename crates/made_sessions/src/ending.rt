@@ -1,13 +1,13 @@
 // How the command that makes a session ends.
 ghost use Rattle.std.specs.Prelude.{◌≡◌, ◌<◌, ◌≤◌, IfOk, length, ◌*◌};
-ghost use Rattle.command_ends.specs.Ports.{change, output_told};
+ghost use Rattle.command_files.specs.Ports.{change, output_told};
 ghost use Rattle.otio_json.specs.Soundness.{IsSoundOpening};
 ghost use Rattle.made_sessions.specs.Comparing.{HaveScripts};
 ghost use Rattle.made_sessions.specs.Sessions.{IsCome, MakeEnds, made_opening, made_stations};
 
 use crate::comparing::have_scripts;
 use crate::summaries::summary;
-use command_ends::{Status, end_with};
+use command_files::{Status, end_with};
 use composables::{Memory, Track};
 use edit_apply::{Call, Editor};
 use history_points::replay;
@@ -38,7 +38,8 @@ fn put_tracks<K: Sink>(
 ) -> Status
     requires entries { entries ≡ made_stations * count }
     requires come { IsCome made_opening number count tracks.now }
-    ensures { MakeEnds number count (change (output_told K.taken K.write_faults) output.old output.new) result }
+    ensures { MakeEnds number count
+        (change (output_told K.taken K.write_faults) output.old output.new) result }
 {
     match summary(alloc, entries, tracks) {
         Ok(text) => end_with(Status::Done, &text, output),
@@ -57,7 +58,8 @@ fn put_replayed<K: Sink>(
     requires scripts { HaveScripts number count made_stations entries.now }
     requires all { length entries.now ≡ made_stations * count }
     requires most { length entries.now ≤ 100000 }
-    ensures { MakeEnds number count (change (output_told K.taken K.write_faults) output.old output.new) result }
+    ensures { MakeEnds number count
+        (change (output_told K.taken K.write_faults) output.old output.new) result }
 {
     let Opening { table, tracks, .. } = match made_opening(alloc) {
         Ok(opening) => opening,
@@ -80,7 +82,8 @@ pub fn put_summary<K: Sink>(
     output: &mut K,
 ) -> Status
     requires { count ≤ 20000 }
-    ensures { MakeEnds number count (change (output_told K.taken K.write_faults) output.old output.new) result }
+    ensures { MakeEnds number count
+        (change (output_told K.taken K.write_faults) output.old output.new) result }
 {
     if entries.len() == (TRACKS * count) as usize && have_scripts(entries, number, count, TRACKS) {
         put_replayed(alloc, entries, number, count, output)

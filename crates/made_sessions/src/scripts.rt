@@ -12,14 +12,14 @@ use std::alloc::Global;
 /// How many words there are.
 const WORDS: u64 = 2_147_483_648;
 
-// The word after a draw.
+// The word that is drawn after this one.
 fn next_word(word: u32) -> u32
     ensures { result ≡ next_word word }
 {
     ((word as u64 * 1_103_515_245 + 12_345) % WORDS) as u32
 }
 
-// A call at an even place of a script, and at an odd one.
+// The call at an even place of a script, an overwrite, and at an odd one, an insert.
 fn call_with(even: bool, track: u32, at: u32, from: u32, len: u32) -> Call
     requires { track < 32 }
     ensures { result ≡ call_with even track at from len }
@@ -75,7 +75,8 @@ impl Script {
 
     /// The script of a station in the session of a number, before its first call.
     pub(crate) fn new(number: u32, station: u32) -> Script
-        ensures { result ≡ record { station = station; place = 0; word = first_word number station } }
+        ensures { result
+            ≡ record { station = station; place = 0; word = first_word number station } }
     {
         let word = (number as u64 + station as u64) % WORDS;
         Script {

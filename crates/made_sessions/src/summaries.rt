@@ -6,6 +6,7 @@ use composables::{Memory, Track};
 use reply_text::{put, put_number};
 use std::alloc::Global;
 
+// Adds the line of a track: its number, its length in frames, and how many items and gaps it has.
 fn put_track(out: &mut Vec<u8>, track: &Track) -> Result<(), Memory>
     ensures { OnOk result (out.new.items ≡ out.old.items ++ track_line track.now) }
 {

@@ -26,7 +26,7 @@ pub(crate) enum Nesting {
     Levels(u32),
 }
 
-// A gap's own part.
+// The part that a gap is. Without a `source_range` it has no length, which is O14.
 #[tactic(auto, unfolding(crate::specs::Nests::gap_part_read))]
 fn gap(rate: &Rate, json: &Json) -> Result<Part, Fault>
     ensures part { result ≡ gap_part_read (rate_pair rate.now) (tree_of json.now) }
@@ -47,7 +47,8 @@ fn gap(rate: &Rate, json: &Json) -> Result<Part, Fault>
     })
 }
 
-// The first frame of so many that a trimmed item shows, and how many it shows.
+// Of a nest of so many frames, the first frame that an item shows, and how many: its range, or all. A range past the
+// nest is O14.
 fn nest_frames(length: u32, trim: Option<Span>) -> Result<(u32, u32), Fault>
     requires { IfSome trim (λ s. (unsigned_abs s.start ≤ 2147483647) × (s.len ≤ 2147483647)) }
     ensures frames { result ≡ nest_frames length trim }
@@ -65,6 +66,7 @@ fn nest_frames(length: u32, trim: Option<Span>) -> Result<(u32, u32), Fault>
     }
 }
 
+// The most frames that one of the layers shows: the length of their nest.
 fn longest(layers: &[Layer]) -> u32
     ensures { result ≡ longest layers.now }
 {
@@ -75,7 +77,7 @@ fn longest(layers: &[Layer]) -> u32
     most
 }
 
-// How many nests may stand in one another inside a nest.
+// How many nests may stand in one another inside this nest: O12 in an audio track, O13 where it stands too deep.
 fn levels_inside(nesting: Nesting, json: &Json) -> Result<u32, Fault>
     ensures { Reads (λ n. n) result (levels_inside nesting (tree_of json.now)) }
 {
@@ -86,7 +88,8 @@ fn levels_inside(nesting: Nesting, json: &Json) -> Result<u32, Fault>
     }
 }
 
-/// An item of this schema, which stands at `at`.
+/// The part that a child of a track is, by its schema and the place of the schema's text. One that is no item is O3
+/// there.
 #[cycle(nests)]
 fn item(
     alloc: Global,
@@ -124,7 +127,7 @@ fn item(
     }
 }
 
-// A nest that is an item.
+// A nest that is an item: it is entered in the table, and shown through its range.
 #[cycle(nests)]
 #[tactic(auto, unfolding(crate::specs::Nests::nest_item_read))]
 fn nest_item(
@@ -162,7 +165,7 @@ fn nest_item(
     })
 }
 
-// A nest's own part.
+// A nest, with all that stands in it entered in the table before.
 #[cycle(nests)]
 #[tactic(auto, unfolding(crate::specs::Nests::nest_read))]
 fn nest(
@@ -188,7 +191,7 @@ fn nest(
     Ok(Nest { layers, length })
 }
 
-// The layer of a track that is an item.
+// The one layer of a track that is an item: all of that track.
 #[cycle(nests)]
 #[tactic(auto, unfolding(crate::specs::Nests::track_read))]
 fn one_layer(
@@ -211,6 +214,7 @@ fn one_layer(
     Ok(layers)
 }
 
+// A layer that shows all of a track.
 fn whole_layer(track: Track) -> Layer
     ensures { result ≡ whole_layer track }
 {
@@ -342,7 +346,7 @@ pub(crate) fn track(
     track_of(alloc, number, &parts, at)
 }
 
-// The items of a track, one after another.
+// The row of a track's children, read one after another.
 #[cycle(nests)]
 fn row(
     alloc: Global,
@@ -366,7 +370,7 @@ fn row(
     Ok(row)
 }
 
-// An item of a track, or a transition.
+// Adds a child of a track to its row: an item, or a transition, which waits for the item after it.
 #[cycle(nests)]
 #[tactic(auto, unfolding(crate::specs::Nests::child_read))]
 fn child(

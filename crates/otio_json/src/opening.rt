@@ -49,6 +49,7 @@ impl Opening {
     }
 }
 
+// 24 frames a second, without drop-frame.
 fn plain_counting() -> Counting
     ensures { result ≡ record { rate = SequenceRate.F24; drop_frame = false } }
 {
@@ -58,6 +59,7 @@ fn plain_counting() -> Counting
     }
 }
 
+// So many video tracks.
 fn plain_kinds(alloc: Global, tracks: u32) -> Result<Listed<Kind>, Memory>
     ensures { IfOk result (λ kinds. kinds ≡ (plain_table tracks 0).kinds) }
 {
@@ -69,6 +71,7 @@ fn plain_kinds(alloc: Global, tracks: u32) -> Result<Listed<Kind>, Memory>
     Ok(kinds)
 }
 
+// A media entry for each reel, with its first 86,400 frames.
 fn plain_media_list(alloc: Global, reels: u32) -> Result<Listed<Media>, Memory>
     ensures { IfOk result (λ media. media ≡ map plain_media (range_with_len 0 reels)) }
 {
@@ -83,12 +86,14 @@ fn plain_media_list(alloc: Global, reels: u32) -> Result<Listed<Media>, Memory>
     Ok(media)
 }
 
+// The name of a plain reel: `R`, and its number in decimal.
 fn reel_name(alloc: Global, reel: u32) -> Result<String, Memory>
     ensures { IfOk result (λ name. string_bytes name ≡ plain_reel reel) }
 {
     Ok(format!(in alloc; "R{reel}")?)
 }
 
+// So many plain reels, numbered from 0.
 fn plain_reels(alloc: Global, count: u32) -> Result<Reels, Memory>
     requires { count ≤ 999 }
     ensures { IfOk result (λ reels. reels ≡ map plain_reel (range_with_len 0 count)) }

@@ -27,7 +27,7 @@ pub const MAX_TRACKS: u32 = 32;
 /// The most nests that stand in one another.
 pub const MAX_NESTS: u32 = 8;
 
-// The frame of the day at which the sequence starts.
+// The frame of the day at which the sequence starts: 0 where none is told, O11 where it is not in the day.
 #[tactic(auto, unfolding(crate::specs::Timelines::start_read))]
 fn start(counting: &Counting, rate: &Rate, timeline: &Json) -> Result<u32, Fault>
     ensures { result ≡ start_read counting.now (rate_pair rate.now) (tree_of timeline.now) }
@@ -43,7 +43,7 @@ fn start(counting: &Counting, rate: &Rate, timeline: &Json) -> Result<u32, Fault
     Ok(start as u32)
 }
 
-// Refuses a stack or track that is trimmed.
+// Refuses a stack or track that is trimmed, as O16.
 #[tactic(auto, unfolding(crate::specs::Timelines::untrimmed))]
 fn untrimmed(json: &Json) -> Result<(), Fault>
     ensures { Reads (λ _. tt) result (untrimmed (tree_of json.now)) }
@@ -54,6 +54,7 @@ fn untrimmed(json: &Json) -> Result<(), Fault>
     }
 }
 
+// The kind of a track: `Video` or `Audio`, O3 for any other, and O2 where none is told.
 #[tactic(auto, unfolding(crate::specs::Timelines::kind_read))]
 fn kind(json: &Json) -> Result<Kind, Fault>
     ensures { result ≡ kind_read (tree_of json.now) }
@@ -66,6 +67,7 @@ fn kind(json: &Json) -> Result<Kind, Fault>
     }
 }
 
+// Where nests may stand in a track of this kind.
 fn nesting_of(kind: Kind) -> Nesting
     ensures { result ≡ nesting_of kind }
 {
@@ -75,7 +77,7 @@ fn nesting_of(kind: Kind) -> Nesting
     }
 }
 
-// What is looked at first in a track of the sequence.
+// The kind of a track of the sequence, after what is looked at first: its schema, that it is enabled, and not trimmed.
 #[tactic(auto, unfolding(crate::specs::Timelines::head_of_track))]
 fn head_of_track(json: &Json) -> Result<Kind, Fault>
     ensures { result ≡ head_of_track (tree_of json.now) }
@@ -86,7 +88,7 @@ fn head_of_track(json: &Json) -> Result<Kind, Fault>
     kind(json)
 }
 
-// A track more.
+// Adds a track of the sequence, and its kind to the table.
 #[tactic(auto, unfolding(crate::specs::Timelines::next_track))]
 fn add_track(
     alloc: Global,
@@ -157,7 +159,8 @@ fn read_tracks(
     Ok((tracks, table))
 }
 
-// The same, if there is one track and not too many. Their list stands at `at`.
+// The tracks of the sequence and their table, or O10 at `at`, the place of their list, where there are none or too
+// many.
 fn sequence(
     alloc: Global,
     rate: &Rate,
@@ -178,10 +181,12 @@ fn sequence(
     read_tracks(alloc, rate, children)
 }
 
+// The opening that a timeline describes, or the first fault that it has as a timeline.
 #[tactic(auto, unfolding(crate::specs::Timelines::timeline_read))]
 fn timeline(alloc: Global, counting: &Counting, json: &Json) -> Result<Opening, DocFault>
     requires { 2 * tree_size (tree_of json.now) < 2 ^ 31 }
-    ensures read { Gives (λ opening. opening) result (timeline_read counting.now (tree_of json.now)) }
+    ensures read { Gives (λ opening. opening) result
+        (timeline_read counting.now (tree_of json.now)) }
     ensures texts { IfOk result (λ opening. AreTexts opening.table.reels) }
 {
     let rate = counting.rate().rate();
@@ -201,6 +206,7 @@ fn timeline(alloc: Global, counting: &Counting, json: &Json) -> Result<Opening, 
     })
 }
 
+// A fault of JSON as one of the document: its code and place, or out of memory.
 fn doc_fault(fault: JsonFault) -> DocFault
     ensures { result ≡ doc_fault fault }
 {
@@ -214,6 +220,7 @@ fn doc_fault(fault: JsonFault) -> DocFault
     DocFault::Refused { code, at }
 }
 
+// The tree that bytes spell, or the first fault that they have as JSON.
 #[tactic(auto, unfolding(crate::specs::Timelines::tree_read))]
 fn tree(alloc: Global, bytes: &[u8]) -> Result<Json, DocFault>
     ensures tree { Gives tree_of result (tree_read bytes.now) }

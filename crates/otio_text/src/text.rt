@@ -9,8 +9,8 @@ use json_tree::{MOST_BYTES, quote};
 use std::alloc::Global;
 use std::marker::Model;
 
-/// A text of at most 32 MiB. Contracts see it as the text, or as none once it would have more: from then on
-/// nothing is put behind it.
+/// A text of at most 32 MiB. Contracts see it as the text, or as none once it would have more: from then on nothing is
+/// added to it.
 #[derive(Drop)]
 pub(crate) struct DocText {
     alloc: Global,
@@ -31,6 +31,7 @@ impl Model for DocText {
 }
 
 impl DocText {
+    /// An empty text.
     pub(crate) fn new(alloc: Global) -> DocText
         ensures { result ≡ Some [] }
     {
@@ -53,7 +54,7 @@ impl DocText {
         self.alloc
     }
 
-    /// Puts bytes behind it.
+    /// Adds bytes at its end.
     pub(crate) fn put(&mut self, bytes: &[u8]) -> Result<(), Memory>
         ensures { OnOk result (self.new ≡ grown self.old bytes.now) }
     {
@@ -65,7 +66,7 @@ impl DocText {
         Ok(())
     }
 
-    /// Puts a number behind it, in decimal digits.
+    /// Adds a number at its end, in decimal digits.
     pub(crate) fn put_number(&mut self, number: u32) -> Result<(), Memory>
         ensures { OnOk result (self.new ≡ grown self.old (decimal number)) }
     {
@@ -73,7 +74,7 @@ impl DocText {
         self.put(buffer.format(number).as_bytes())
     }
 
-    /// Puts a text in quotes behind it.
+    /// Adds a text in quotes at its end, as JSON spells it.
     pub(crate) fn put_quoted(&mut self, text: &str) -> Result<(), Memory>
         ensures { OnOk result (self.new ≡ grown self.old (quoted text.now)) }
     {

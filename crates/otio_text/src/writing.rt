@@ -22,11 +22,13 @@ pub enum WriteFault {
 impl From<Memory> for WriteFault {
     ghost from_gives = { λ _ e. e ≡ faults.Memory };
 
+    // The text found no memory to grow.
     fn from(_: Memory) -> WriteFault {
         WriteFault::Memory
     }
 }
 
+// A rate as OpenTimelineIO writes it.
 fn rate_bytes(rate: SequenceRate) -> &'static [u8]
     ensures { result.now ≡ rate_text rate }
 {
@@ -39,6 +41,7 @@ fn rate_bytes(rate: SequenceRate) -> &'static [u8]
     }
 }
 
+// So many frames as a `RationalTime`.
 #[tactic(auto, using(crate::proofs::Growing::grown_nothing))]
 fn put_time(out: &mut DocText, rate: SequenceRate, frames: u32) -> Result<(), Memory>
     ensures { OnOk result (out.new ≡ grown out.old (time_text rate frames)) }
@@ -50,6 +53,7 @@ fn put_time(out: &mut DocText, rate: SequenceRate, frames: u32) -> Result<(), Me
     out.put(b".0}")
 }
 
+// The frames from `from` on, `len` of them, as a `TimeRange`.
 #[tactic(auto, using(crate::proofs::Growing::grown_nothing))]
 fn put_range(out: &mut DocText, rate: SequenceRate, from: u32, len: u32) -> Result<(), Memory>
     ensures { OnOk result (out.new ≡ grown out.old (range_text rate from len)) }
@@ -61,6 +65,7 @@ fn put_range(out: &mut DocText, rate: SequenceRate, from: u32, len: u32) -> Resu
     out.put(b"}")
 }
 
+// A gap of so many frames.
 #[tactic(auto, using(crate::proofs::Growing::grown_nothing))]
 fn put_gap(out: &mut DocText, rate: SequenceRate, len: u32) -> Result<(), Memory>
     ensures { OnOk result (out.new ≡ grown out.old (gap_text rate len)) }
@@ -70,6 +75,7 @@ fn put_gap(out: &mut DocText, rate: SequenceRate, len: u32) -> Result<(), Memory
     out.put(b",\"effects\":[],\"markers\":[]}")
 }
 
+// The name of a reel, and no characters for a number that the table does not have.
 fn reel_name(table: &Table, reel: u32) -> &str
     ensures { result.now ≡ reel_name table.now.reels reel }
 {
@@ -79,6 +85,8 @@ fn reel_name(table: &Table, reel: u32) -> &str
     }
 }
 
+// A clip of `len` frames from the source frame `source` on. Its reel is its name and stands in its CMX 3600 metadata,
+// and its media reference has the frames of the media entry.
 #[tactic(auto, using(crate::proofs::Growing::grown_nothing))]
 fn put_clip(
     out: &mut DocText,
@@ -103,6 +111,7 @@ fn put_clip(
     out.put(b"}},\"active_media_reference_key\":\"DEFAULT_MEDIA\"}")
 }
 
+// A dissolve as a transition, with the frames before its cut and after it.
 #[tactic(auto, using(crate::proofs::Growing::grown_nothing))]
 fn put_transition(out: &mut DocText, rate: SequenceRate, mark: Mark) -> Result<(), Memory>
     ensures { OnOk result (out.new ≡ grown out.old (transition_text rate mark)) }
@@ -116,12 +125,14 @@ fn put_transition(out: &mut DocText, rate: SequenceRate, mark: Mark) -> Result<(
     out.put(b"}")
 }
 
+// A media entry of the table by its number.
 fn media_at(table: &Table, number: u32) -> Option<&Media>
     ensures { option_map (λ m. m.now) result ≡ slice_get table.now.media number }
 {
     table.media.as_slice().get(number as usize)
 }
 
+// A nest of the table by its number.
 fn nest_at(table: &Table, number: u32) -> Option<&Nest>
     ensures { option_map (λ n. n.now) result ≡ slice_get table.now.nests number }
 {
@@ -160,6 +171,8 @@ fn put_mark(out: &mut DocText, rate: SequenceRate, mark: Option<Mark>) -> Result
     }
 }
 
+// An item or gap as a child of a track. `levels` is how many nests more may stand in one another; once the text is over
+// its limit nothing more is written.
 #[cycle(put)]
 #[tactic(auto, using(crate::proofs::Growing::grown_nothing))]
 fn put_item(
@@ -200,6 +213,7 @@ fn put_thing(
     }
 }
 
+// A nest as a stack, of which the item shows the frames from `source` on.
 #[cycle(put)]
 #[tactic(auto, using(crate::proofs::Growing::grown_nothing))]
 fn put_nest(
@@ -221,6 +235,7 @@ fn put_nest(
     out.put(b"]}")
 }
 
+// The layers of a nest by its number. None are written where no level is left, or the table has no such nest.
 #[cycle(put)]
 #[tactic(auto, using(crate::proofs::Growing::grown_nothing))]
 fn put_nest_layers(
@@ -241,6 +256,7 @@ fn put_nest_layers(
     }
 }
 
+// Layers with commas between them.
 #[cycle(put)]
 #[tactic(auto, using(crate::proofs::Growing::grown_nothing))]
 fn put_layers(
@@ -261,6 +277,7 @@ fn put_layers(
     }
 }
 
+// Layers after the first, each with a comma before it.
 #[cycle(put)]
 #[tactic(auto, using(crate::proofs::Growing::grown_nothing))]
 fn put_other_layers(
@@ -280,6 +297,7 @@ fn put_other_layers(
     Ok(())
 }
 
+// The range of a layer that is shown: `null` where it is the whole track.
 #[tactic(auto, using(crate::proofs::Growing::grown_nothing))]
 fn put_layer_range(out: &mut DocText, rate: SequenceRate, layer: &Layer) -> Result<(), Memory>
     ensures { OnOk result (out.new ≡ grown out.old (layer_range rate layer.now)) }
@@ -290,6 +308,7 @@ fn put_layer_range(out: &mut DocText, rate: SequenceRate, layer: &Layer) -> Resu
     put_range(out, rate, layer.from, layer.to.saturating_sub(layer.from))
 }
 
+// A layer as a video track.
 #[cycle(put)]
 #[tactic(auto, using(crate::proofs::Growing::grown_nothing))]
 fn put_layer(
@@ -308,6 +327,7 @@ fn put_layer(
     out.put(b"]}")
 }
 
+// The items and gaps of a track with their transitions, in order.
 #[cycle(put)]
 #[tactic(auto, using(crate::proofs::Growing::grown_nothing))]
 fn put_items(
@@ -329,6 +349,7 @@ fn put_items(
     }
 }
 
+// Items after the first, each with the transition at the cut before it.
 #[cycle(put)]
 #[tactic(auto, using(crate::proofs::Growing::grown_nothing))]
 fn put_other_items(
@@ -348,6 +369,7 @@ fn put_other_items(
     Ok(())
 }
 
+// A kind in quotes; a track without one is video.
 fn kind_bytes(kind: Option<Kind>) -> &'static [u8]
     ensures { result.now ≡ kind_text kind }
 {
@@ -377,6 +399,7 @@ fn put_track(
     out.put(b"]}")
 }
 
+// The tracks of the sequence with commas between them.
 #[tactic(auto, using(crate::proofs::Growing::grown_nothing))]
 fn put_tracks(
     out: &mut DocText,
@@ -395,12 +418,14 @@ fn put_tracks(
     }
 }
 
+// The kind of the track at an index, if the table has it.
 fn kind_at(table: &Table, index: usize) -> Option<Kind>
     ensures { result ≡ kind_at table.now index }
 {
     table.kinds.as_slice().get(index).copied()
 }
 
+// Tracks after the first, each with a comma before it.
 #[tactic(auto, using(crate::proofs::Growing::grown_nothing))]
 fn put_other_tracks(
     out: &mut DocText,
@@ -417,6 +442,7 @@ fn put_other_tracks(
     Ok(())
 }
 
+// A cut as a timeline: its start, and a stack of its tracks.
 #[tactic(auto, using(crate::proofs::Growing::grown_nothing))]
 fn put_timeline(
     out: &mut DocText,
@@ -440,7 +466,7 @@ fn put_timeline(
     out.put(b"]}}")
 }
 
-/// The document of a cut, in one line without blanks.
+/// The document of a cut, in one line without blanks, or `TooLarge` where it would have more than 32 MiB.
 pub fn write_timeline(
     alloc: Global,
     table: &Table,

@@ -14,6 +14,7 @@ use std::marker::Brand;
 use std::sync::ledger::{Blank, Ledger};
 use step_count::Steps;
 
+// How many frames the items and gaps have together.
 fn frames_in(parts: &[Part]) -> u64
     requires { frames_in_all parts.now < 2 ^ 63 }
     ensures { result ≡ frames_in_all parts.now }
@@ -25,7 +26,7 @@ fn frames_in(parts: &[Part]) -> u64
     frames
 }
 
-// The item or gap of a track that has this number, if it is an item.
+// What was read as an item or gap of a track; an item gets this number.
 fn view_of(part: &Part, number: u32) -> ItemView
     requires { part.now.len < 2 ^ 32 }
     ensures { result ≡ view_of number part.now }
@@ -39,7 +40,7 @@ fn view_of(part: &Part, number: u32) -> ItemView
     }
 }
 
-// Items are numbered 0, 1, 2, gaps not counted.
+// What was read, as items and gaps of a track. Items are numbered 0, 1, 2, gaps not counted.
 fn views_of(alloc: Global, parts: &[Part]) -> Result<Vec<ItemView>, Memory>
     requires frames { frames_in_all parts.now ≤ MAX_FRAMES }
     requires count { length parts.now ≤ MAX_ITEMS }
@@ -56,6 +57,7 @@ fn views_of(alloc: Global, parts: &[Part]) -> Result<Vec<ItemView>, Memory>
     Ok(views)
 }
 
+// The track of these items and gaps, which are within its limits, made with a counter of its own.
 fn track_counted<L: Ledger>(
     blank: Blank,
     alloc: Global,
@@ -75,7 +77,7 @@ fn track_counted<L: Ledger>(
     Ok(track)
 }
 
-/// The track of these items and gaps, if they are not too many. The fault stands at `at`.
+/// The track of these items and gaps, or O11 at `at` where it would have too many frames, or too many of them.
 #[tactic(auto, unfolding(crate::specs::Building::track_fit))]
 pub fn track_of(alloc: Global, number: u32, parts: &[Part], at: u32) -> Result<Track, DocFault>
     requires sound { AreSoundParts parts.now }

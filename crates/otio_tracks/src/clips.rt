@@ -42,6 +42,7 @@ fn source_frames(span: &Span) -> Option<(u32, u32)>
     frames_within(MOST_SOURCE, span)
 }
 
+// The source frames that a clip's `source_range` asks for, if it has one: first and count; or O11 past the limit.
 #[tactic(auto, unfolding(crate::specs::Clips::source_read))]
 fn source(rate: &Rate, clip: &Json) -> Result<Option<(u32, u32)>, Fault>
     ensures source { result ≡ source_read (rate_pair rate.now) (tree_of clip.now) }
@@ -86,6 +87,8 @@ fn in_media(from: i64, to: i64) -> Option<(u32, u32)>
     None
 }
 
+// The frames [from, to) that a media reference's `available_range` has, made narrower to whole frames of the sequence
+// and to the frames that a media entry may have; `None` where that leaves none.
 #[tactic(auto, unfolding(crate::specs::Clips::available_read))]
 fn available(rate: &Rate, range: &Json) -> Result<Option<(u32, u32)>, Fault>
     ensures frames { result ≡ available_read (rate_pair rate.now) (tree_of range.now) }
@@ -101,7 +104,7 @@ fn available(rate: &Rate, range: &Json) -> Result<Option<(u32, u32)>, Fault>
     media_frames(narrowed(start, duration, rate), range.at)
 }
 
-// The frames of a media entry in a range of whole frames, which stands at `at`.
+// The frames of a media entry in a range of whole frames; where that is too far from 0, it is O4 at `at`.
 fn media_frames(frames: Option<(i64, i64)>, at: u32) -> Result<Option<(u32, u32)>, Fault>
     ensures frames { result ≡ media_if frames at }
     ensures within { IfOk result (λ o. IfSome o (λ f. (f.0 < f.1) × (f.1 ≤ MOST_SOURCE))) }
@@ -126,7 +129,7 @@ fn narrowed(start: RationalTime, duration: RationalTime, rate: &Rate) -> Option<
     }
 }
 
-// The media references of a clip that has several, by their keys.
+// The media references of a clip that has several, as an object of them by their keys.
 #[tactic(auto, unfolding(crate::specs::Clips::keyed_read))]
 fn keyed(clip: &Json) -> Result<Option<&Json>, Fault>
     ensures { Reads (λ o. option_map (λ j. tree_of j.now) o) result
@@ -141,7 +144,7 @@ fn keyed(clip: &Json) -> Result<Option<&Json>, Fault>
     }
 }
 
-// The key of the one that is active.
+// The key of the media reference that is active.
 #[tactic(auto, unfolding(crate::specs::Clips::key_read))]
 fn active_key(clip: &Json) -> Result<&str, Fault>
     ensures { Reads (λ key. key.now) result (key_read (tree_of clip.now)) }
@@ -152,7 +155,7 @@ fn active_key(clip: &Json) -> Result<&str, Fault>
     }
 }
 
-// Of several media references the active one.
+// Of several media references the active one, if there is one by its key.
 #[tactic(auto, unfolding(crate::specs::Clips::active_read))]
 fn active(clip: &Json) -> Result<Option<&Json>, Fault>
     ensures { Reads (λ o. option_map (λ j. tree_of j.now) o) result
@@ -177,7 +180,7 @@ fn reference(references: References, clip: &Json) -> Result<Option<&Json>, Fault
     }
 }
 
-// The frames that a clip's media reference says to be there.
+// The frames that a clip's media reference says to be there, if it says so. It is O3 where it is no object.
 #[tactic(auto, unfolding(crate::specs::Clips::reference_read))]
 fn there(rate: &Rate, references: References, clip: &Json) -> Result<Option<(u32, u32)>, Fault>
     ensures frames { result ≡ reference_read (rate_pair rate.now) references (tree_of clip.now) }
@@ -209,6 +212,7 @@ fn widened(source: (u32, u32), available: (u32, u32)) -> (u32, u32)
     )
 }
 
+// The frames that a clip shows, by what it asks for and what its media reference has; `None` where neither is told.
 fn clip_frames(source: Option<(u32, u32)>, available: Option<(u32, u32)>) -> Option<Frames>
     requires source { IfSome source (λ f. f.0 + f.1 ≤ MOST_SOURCE) }
     requires available { IfSome available (λ f. (f.0 < f.1) × (f.1 ≤ MOST_SOURCE)) }
@@ -243,7 +247,7 @@ fn clip_frames(source: Option<(u32, u32)>, available: Option<(u32, u32)>) -> Opt
     }
 }
 
-// The reel that a clip's metadata name.
+// The reel that a clip's metadata name, as `cmx_3600.reel`.
 fn named_reel(clip: &Json) -> Option<&str>
     ensures { option_map (λ text. text.now) result ≡ named_reel (tree_of clip.now) }
 {
@@ -253,7 +257,7 @@ fn named_reel(clip: &Json) -> Option<&str>
         .text()
 }
 
-/// The name of a clip's reel.
+/// The name of a clip's reel: that of its CMX 3600 metadata, else the clip's own name, else `AX`.
 fn reel(clip: &Json) -> &str
     ensures { result.now ≡ reel_text (tree_of clip.now) }
 {
@@ -275,7 +279,7 @@ fn reel(clip: &Json) -> &str
     }
 }
 
-/// The item of a clip on this reel, which is entered in the table.
+/// The part of a clip on this reel. The reel, and a media entry with these frames, are entered in the table.
 fn enter(table: &mut Entries, reel: &str, frames: Frames) -> Result<Part, Memory>
     requires few { entries table.old + 2 < 2 ^ 32 }
     requires within { 0 < frames.len → (frames.from ≤ frames.source)
@@ -304,7 +308,8 @@ fn enter(table: &mut Entries, reel: &str, frames: Frames) -> Result<Part, Memory
     })
 }
 
-/// A clip's own part, whose media reference stands as `references` says.
+/// The part that a clip is, with its reel and media entry put into the table. Where its media reference stands,
+/// `references` says. It is O14 where no frames are told.
 #[tactic(auto, unfolding(crate::specs::Clips::clip_read))]
 pub fn clip(
     rate: &Rate,

@@ -50,14 +50,14 @@ impl Entries {
         }
     }
 
-    /// A track of this kind more.
+    /// Adds a track of this kind.
     pub fn add_kind(&mut self, kind: Kind) -> Result<(), Memory>
         ensures { OnOk result (self.new ≡ with_kind self.old kind) }
     {
         self.kinds.push(kind)
     }
 
-    /// A nest more, and its number.
+    /// Adds a nest after the others, and gives its number.
     pub fn add_nest(&mut self, nest: Nest) -> Result<u32, Memory>
         requires { length self.old.nests < 4294967295 }
         ensures ok { OnOk result (self.new ≡ with_nest_last self.old nest) }
@@ -96,7 +96,7 @@ impl Entries {
         Ok(number)
     }
 
-    /// The table as it is.
+    /// The table with all that was entered. It takes memory for the list of media entries.
     pub fn finish(self) -> Result<Table, Memory>
         ensures table { IfOk result (λ table. table ≡ self) }
         ensures texts { IfOk result (λ table. AreTexts table.reels) }

@@ -71,6 +71,7 @@ pub enum DocFault {
 impl From<Fault> for DocFault {
     ghost from_gives = { λ f e. e ≡ faults.Refused f.code f.at };
 
+    // The fault that refuses the document.
     fn from(fault: Fault) -> DocFault {
         DocFault::Refused {
             code: fault.code,
@@ -82,6 +83,7 @@ impl From<Fault> for DocFault {
 impl From<Memory> for DocFault {
     ghost from_gives = { λ _ e. e ≡ faults.Memory };
 
+    // A call of a lower crate found no memory.
     fn from(_: Memory) -> DocFault {
         DocFault::Memory
     }
@@ -90,6 +92,7 @@ impl From<Memory> for DocFault {
 impl From<AllocError> for DocFault {
     ghost from_gives = { λ _ e. e ≡ faults.Memory };
 
+    // A list could not be made or could not grow.
     fn from(_: AllocError) -> DocFault {
         DocFault::Memory
     }
@@ -98,6 +101,7 @@ impl From<AllocError> for DocFault {
 impl<T: Drop> From<AllocFailed<T>> for DocFault {
     ghost from_gives = { λ _ e. e ≡ faults.Memory };
 
+    // There was no room for a value, which is dropped.
     fn from(_: AllocFailed<T>) -> DocFault {
         DocFault::Memory
     }

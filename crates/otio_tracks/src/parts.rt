@@ -25,6 +25,7 @@ pub struct Part {
 }
 
 impl Part {
+    /// Whether it shows nothing.
     pub fn is_gap(&self) -> bool
         ensures { result ≡ is_gap self.now }
     {
@@ -34,6 +35,7 @@ impl Part {
         }
     }
 
+    /// Whether it shows a nest, beside which no transition may stand.
     pub fn is_nest(&self) -> bool
         ensures { result ≡ is_nest self.now }
     {
@@ -47,7 +49,8 @@ impl Part {
     }
 }
 
-/// Refuses an item or track that is not enabled.
+/// Refuses an item or track that is not enabled, as O7 at its member `enabled`. A member that is neither true nor false
+/// is O3.
 #[tactic(auto, unfolding(crate::specs::Parts::enabled_read))]
 pub fn enabled(json: &Json) -> Result<(), Fault>
     ensures { Reads (λ _. tt) result (enabled_read (tree_of json.now)) }
@@ -62,12 +65,14 @@ pub fn enabled(json: &Json) -> Result<(), Fault>
     }
 }
 
+// Whether a name begins with these characters.
 fn begins(name: &str, front: &str) -> bool
     ensures { result ≡ begins name.now front.now }
 {
     name.starts_with(front)
 }
 
+// Whether an effect changes the speed, by its schema: `LinearTimeWarp`, `FreezeFrame` or `TimeEffect`.
 fn is_time_effect(json: &Json) -> bool
     ensures { result ≡ is_time_effect (kind_in (tree_of json.now)) }
 {
@@ -84,6 +89,7 @@ fn is_time_effect(json: &Json) -> bool
     }
 }
 
+// Refuses the first of these effects that is a time effect, as O6. Other effects are passed over.
 fn no_time_effect(effects: &[Json]) -> Result<(), Fault>
     ensures { Reads (λ _. tt) result (no_time_effect (map tree_of effects.now)) }
 {
@@ -95,6 +101,7 @@ fn no_time_effect(effects: &[Json]) -> Result<(), Fault>
     Ok(())
 }
 
+// Refuses an item with a time effect.
 #[tactic(auto, unfolding(crate::specs::Parts::effects_read))]
 fn effects(json: &Json) -> Result<(), Fault>
     ensures { Reads (λ _. tt) result (effects_read (tree_of json.now)) }
@@ -105,7 +112,7 @@ fn effects(json: &Json) -> Result<(), Fault>
     }
 }
 
-/// What is looked at first in each item.
+/// Refuses an item that is not enabled or has a time effect, before anything else of it is looked at.
 #[tactic(auto, unfolding(crate::specs::Parts::head_read))]
 pub fn head(json: &Json) -> Result<(), Fault>
     ensures { Reads (λ _. tt) result (head_read (tree_of json.now)) }
@@ -114,7 +121,7 @@ pub fn head(json: &Json) -> Result<(), Fault>
     effects(json)
 }
 
-/// The range that an item is trimmed to, if it is.
+/// The range that an item is trimmed to, its `source_range`, if it has one.
 #[tactic(auto, unfolding(crate::specs::Parts::trim_read))]
 pub fn trim(rate: &Rate, json: &Json) -> Result<Option<Span>, Fault>
     ensures trim { result ≡ trim_read (rate_pair rate.now) (tree_of json.now) }
@@ -127,7 +134,7 @@ pub fn trim(rate: &Rate, json: &Json) -> Result<Option<Span>, Fault>
     }
 }
 
-/// The range, where it lies within the first `most` frames.
+/// The range as its first frame and its count, where it lies within the first `most` frames.
 pub fn frames_within(most: u32, span: &Span) -> Option<(u32, u32)>
     requires near { unsigned_abs span.now.start ≤ 2147483647 }
     requires short { span.now.len ≤ 2147483647 }

@@ -52,7 +52,7 @@ fn longer(last: Option<Part>, frames: u64) -> Option<Part>
     })
 }
 
-// Puts the item kept last behind the others.
+// Adds the item kept last, if there is one, after the others.
 fn push_last(done: &mut Vec<Part>, last: Option<Part>) -> Result<(), Memory>
     ensures ok { OnOk result (done.new.items ≡ all_kept done.old.items last) }
     ensures err { OnErr result (done.new.items ≡ done.old.items) }
@@ -65,6 +65,7 @@ fn push_last(done: &mut Vec<Part>, last: Option<Part>) -> Result<(), Memory>
 }
 
 impl Row {
+    /// A row without items.
     pub fn new(alloc: Global) -> Row
         ensures { result ≡ empty_row }
     {
@@ -76,7 +77,7 @@ impl Row {
         }
     }
 
-    /// A transition waits for the item after it.
+    /// Notes a transition, which waits for the item after it. What is wrong with it is told with that item.
     pub fn wait(&mut self, rate: &Rate, json: &Json)
         ensures { self.new ≡ waits (rate_pair rate.now) self.old (tree_of json.now) }
     {
@@ -97,7 +98,7 @@ impl Row {
         }
     }
 
-    // The dissolve between the row so far and its next item.
+    // The dissolve between the row so far and its next item, if a transition waits there.
     fn dissolve_before(&self, next: &Part) -> Result<Option<Mark>, Fault>
         requires { row_frames self.now < 2 ^ 63 }
         ensures read { result ≡ dissolve_before self.now next.now }
@@ -134,7 +135,7 @@ impl Row {
         Ok(())
     }
 
-    /// The next item of the row.
+    /// Adds the next item of the row, with the dissolve of the transition that waits, or refuses that.
     pub fn add(&mut self, next: &Part) -> Result<(), DocFault>
         requires short { next.now.len < 2 ^ 32 }
         requires sound { IsItemPart next.now }
@@ -147,7 +148,7 @@ impl Row {
         Ok(())
     }
 
-    /// All that was kept, at the end of the list.
+    /// All that was kept, at the end of the list, or O8 where a transition still waits for an item.
     pub fn finish(self) -> Result<Vec<Part>, DocFault>
         ensures read { Gives (λ parts. parts.items) result (row_end self) }
         ensures frames { IfOk result (λ parts. frames_in_all parts.items ≡ row_frames self) }

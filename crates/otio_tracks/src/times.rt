@@ -17,6 +17,7 @@ pub struct Span {
     pub len: u32,
 }
 
+// The number that a value is: J3 where it has too many digits, O3 where it is none.
 fn numeral(json: &Json) -> Result<Numeral, Fault>
     ensures { Reads (λ n. (n.mantissa, n.places)) result (numeral_read (tree_of json.now)) }
 {
@@ -27,6 +28,7 @@ fn numeral(json: &Json) -> Result<Numeral, Fault>
     }
 }
 
+// The rate that a number stands for, or O5 where it stands for none.
 fn rate(json: &Json) -> Result<Rate, Fault>
     ensures { Reads rate_pair result (rate_read (tree_of json.now)) }
 {
@@ -48,7 +50,7 @@ pub(crate) fn moment(json: &Json) -> Result<RationalTime, Fault>
     Ok(RationalTime { value, rate })
 }
 
-/// A moment that is a whole number of frames of the sequence.
+/// A moment that is a whole number of frames of the sequence, or O4.
 #[tactic(auto, unfolding(crate::specs::Times::frame_read))]
 pub fn frame(rate: &Rate, json: &Json) -> Result<i64, Fault>
     ensures frame { result ≡ frame_read (rate_pair rate.now) (tree_of json.now) }
@@ -60,7 +62,7 @@ pub fn frame(rate: &Rate, json: &Json) -> Result<i64, Fault>
     }
 }
 
-/// The frames of a range's `duration`.
+/// The frames of a range's `duration`, which are O14 below 0.
 #[tactic(auto, unfolding(crate::specs::Times::length_read))]
 fn length(rate: &Rate, range: &Json) -> Result<u32, Fault>
     ensures length { result ≡ length_read (rate_pair rate.now) (tree_of range.now) }

@@ -21,7 +21,7 @@ pub struct Waiting {
     pub crowded: bool,
 }
 
-// How far a transition reaches to both sides of its cut.
+// How far a transition reaches to both sides of its cut, or O9 where an offset is below 0.
 #[tactic(auto, unfolding(crate::specs::Transitions::offsets_read))]
 fn offsets(rate: &Rate, json: &Json) -> Result<Mark, Fault>
     ensures { result ≡ offsets_read (rate_pair rate.now) (tree_of json.now) }
@@ -42,7 +42,7 @@ fn offsets(rate: &Rate, json: &Json) -> Result<Mark, Fault>
     })
 }
 
-/// What a transition's members say.
+/// How far a transition reaches to both sides of its cut, where it is a dissolve; any other kind is O3.
 #[tactic(auto, unfolding(crate::specs::Transitions::transition_read))]
 pub(crate) fn transition(rate: &Rate, json: &Json) -> Result<Mark, Fault>
     ensures { result ≡ transition_read (rate_pair rate.now) (tree_of json.now) }
@@ -54,6 +54,7 @@ pub(crate) fn transition(rate: &Rate, json: &Json) -> Result<Mark, Fault>
     offsets(rate, json)
 }
 
+// How many frames of an item the dissolve at its head takes after the cut.
 fn right_reach(mark: Option<Mark>) -> u64
     ensures value { result ≡ right_reach mark }
     ensures short { result < 2 ^ 32 }
@@ -89,7 +90,8 @@ fn reaches_on(part: &Part, frames: u32) -> bool
     }
 }
 
-// Whether a dissolve has room between two items.
+// Whether a dissolve has room between two items: among their own frames, and past the cut in the ranges of their
+// things.
 fn has_room(left: &Part, right: &Part, mark: Mark) -> bool
     requires { left.now.len < 2 ^ 63 }
     ensures { result ≡ has_room left.now right.now mark }
@@ -147,7 +149,8 @@ fn mark_between(
     })
 }
 
-/// The dissolve of a transition between the items before and after it.
+/// The dissolve of a transition between the items before and after it: O8 where one of them is missing, O15 next to a
+/// nest, and O9 where it has no room.
 #[tactic(auto, unfolding(crate::specs::Transitions::dissolve_between))]
 pub(crate) fn dissolve_between(
     last: Option<Part>,

@@ -30,13 +30,14 @@ pub enum Schema {
     Other,
 }
 
-/// A fault at a value.
+/// A fault with this code at the place of a value.
 pub fn fault_at(code: DocCode, json: &Json) -> Fault
     ensures { result ≡ record { code = code; at = place_of (tree_of json.now) } }
 {
     Fault { code, at: json.at }
 }
 
+// Whether a value is `null`, which counts as missing in a member that may be missing.
 fn is_null(json: &Json) -> bool
     ensures { result ≡ is_null (kind_in (tree_of json.now)) }
 {
@@ -46,6 +47,7 @@ fn is_null(json: &Json) -> bool
     }
 }
 
+// Whether a value is an object, which alone has members and a schema.
 fn is_object(json: &Json) -> bool
     ensures { result ≡ is_object (kind_in (tree_of json.now)) }
 {
@@ -68,7 +70,7 @@ pub fn given<'a>(json: &'a Json, name: &str) -> Option<&'a Json>
     Some(member)
 }
 
-/// A member that must be there.
+/// A member that must be there, or O2 at the object.
 pub fn needed<'a>(json: &'a Json, name: &str) -> Result<&'a Json, Fault>
     ensures member { Reads (λ j. tree_of j.now) result (needed name.now (tree_of json.now)) }
     ensures smaller { IfOk result (λ j. tree_size (tree_of j.now) < tree_size (tree_of json.now)) }
@@ -79,7 +81,7 @@ pub fn needed<'a>(json: &'a Json, name: &str) -> Result<&'a Json, Fault>
     }
 }
 
-/// The characters of a text.
+/// The characters of a text, or O3 where the value is no text.
 pub fn text(json: &Json) -> Result<&str, Fault>
     ensures { Reads (λ text. text.now) result (text_read (tree_of json.now)) }
 {
@@ -89,7 +91,7 @@ pub fn text(json: &Json) -> Result<&str, Fault>
     }
 }
 
-/// The values of a list.
+/// The values of a list, or O3 where the value is no list.
 pub fn list(json: &Json) -> Result<&[Json], Fault>
     ensures items { Reads (λ js. map tree_of js.now) result (list_read (tree_of json.now)) }
     ensures smaller { IfOk result (λ js. items_size (map tree_of js.now)
@@ -101,6 +103,7 @@ pub fn list(json: &Json) -> Result<&[Json], Fault>
     }
 }
 
+// What a schema's name stands for, if it is one of those that are read.
 fn schema_named(name: &str) -> Option<Schema>
     ensures { result ≡ schema_named name.now }
 {
@@ -116,7 +119,7 @@ fn schema_named(name: &str) -> Option<Schema>
     }
 }
 
-/// The member that names an object's schema.
+/// The member that names an object's schema: O3 where the value is no object, O2 where it has no such member.
 #[tactic(auto, unfolding(crate::specs::Values::schema_text))]
 fn schema_member(json: &Json) -> Result<&Json, Fault>
     ensures member { Reads (λ j. tree_of j.now) result (schema_text (tree_of json.now)) }
@@ -128,7 +131,7 @@ fn schema_member(json: &Json) -> Result<&Json, Fault>
     needed(json, "OTIO_SCHEMA")
 }
 
-/// The schema of a child, and the place of its text.
+/// The schema of a child, and the place of its text; O1 where it is not read.
 #[tactic(auto, unfolding(crate::specs::Values::schema_read))]
 pub fn schema_of(json: &Json) -> Result<(Schema, u32), Fault>
     ensures schema { result ≡ schema_read (tree_of json.now) }
@@ -141,7 +144,7 @@ pub fn schema_of(json: &Json) -> Result<(Schema, u32), Fault>
     }
 }
 
-/// Refuses an object of another schema than this one.
+/// Refuses an object of another schema than this one: O3 where the schema is known, else O1.
 #[tactic(auto, unfolding(crate::specs::Values::expected))]
 pub fn expect(json: &Json, wanted: &str) -> Result<(), Fault>
     ensures { Reads (λ _. tt) result (expected wanted.now (tree_of json.now)) }
@@ -154,7 +157,7 @@ pub fn expect(json: &Json, wanted: &str) -> Result<(), Fault>
     Err(fault_at(wrong_code(schema_named(name)), member))
 }
 
-// A known schema stands in a wrong place, any other is not read.
+// The code of a schema in a wrong place: a known one is O3, any other O1.
 fn wrong_code(known: Option<Schema>) -> DocCode
     ensures { result ≡ wrong_code known }
 {

@@ -54,6 +54,7 @@ impl ReelNamer for AsIs {
 
     ghost rule = { λ _. as_is };
 
+    // The text itself where it fits and no other reel has it, else `NoName`.
     fn name(&mut self, reel: u32, text: &str) -> Result<Name, NameFault> {
         match self.given.name_of(reel) {
             Some(name) => return Ok(name),

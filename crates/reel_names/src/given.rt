@@ -28,6 +28,7 @@ impl Model for Given {
 }
 
 impl Given {
+    /// No names.
     pub fn new(alloc: Global) -> Given
         ensures { result ≡ [] }
     {
@@ -36,6 +37,7 @@ impl Given {
         }
     }
 
+    /// How many names were given.
     pub fn count(&self) -> usize
         ensures count { result ≡ length self.now }
         ensures names { AreNames self.now }
@@ -43,6 +45,7 @@ impl Given {
         self.names.len()
     }
 
+    /// The name of a reel, if it was given one.
     pub fn name_of(&self, reel: u32) -> Option<Name>
         ensures name { result ≡ name_of self.now reel }
         ensures names { AreNames self.now }
@@ -50,12 +53,14 @@ impl Given {
         name_among(self.names.as_slice(), reel)
     }
 
+    /// Whether a reel has this name.
     pub fn has_name(&self, name: &Name) -> bool
         ensures { result ≡ has_name self.now name.now }
     {
         self.names.iter().any(|given| given.name == *name)
     }
 
+    /// Adds a name of a reel, after the others. Neither may be there. Out of memory, nothing is added.
     pub fn push(&mut self, reel: u32, name: Name) -> Result<(), Memory>
         requires fits { fits name ≡ true }
         requires reel { has_reel self.old reel ≡ false }

@@ -37,6 +37,7 @@ impl PartialEq for Name {
 
     ghost laws = { partial_equiv_from_equiv nat_list_eq_equiv };
 
+    // Names are equal where their bytes are.
     fn eq(&self, other: &Self) -> bool {
         self.as_bytes() == other.as_bytes()
     }
@@ -95,6 +96,7 @@ impl Name {
     }
 }
 
+// Whether these bytes are a reel's name: 1 to 32 of them, all printable.
 fn is_reel_name(bytes: &[u8]) -> bool
     ensures { result ≡ is_reel_name bytes.now }
 {
@@ -108,31 +110,35 @@ fn is_within(bytes: &[u8], most: usize) -> bool
     1 <= bytes.len() && bytes.len() <= most
 }
 
+// Whether all of these bytes are printable.
 fn are_printable(bytes: &[u8]) -> bool
     ensures { result ≡ list_all is_printable bytes.now }
 {
     bytes.iter().all(|byte| is_printable(*byte))
 }
 
+// Whether a byte is printable ASCII and no blank.
 fn is_printable(byte: u8) -> bool
     ensures { result ≡ is_printable byte }
 {
     byte >= 33 && byte <= 126
 }
 
+// Whether all of these bytes may stand in a name that is written.
 fn are_reel_characters(bytes: &[u8]) -> bool
     ensures { result ≡ list_all is_reel_character bytes.now }
 {
     bytes.iter().all(|byte| is_reel_character(*byte))
 }
 
+// Whether a byte is a capital letter, a digit or an underscore.
 fn is_reel_character(byte: u8) -> bool
     ensures { result ≡ is_reel_character byte }
 {
     byte.is_ascii_uppercase() || (byte.is_ascii_digit() || byte == b'_')
 }
 
-// The bytes, and 0 behind them.
+// The bytes, and 0 after them.
 fn filled(bytes: &[u8]) -> [u8; MAX_NAME]
     requires { length bytes.now ≤ 32 }
     ensures { result ≡ filled bytes.now }

@@ -25,6 +25,7 @@ impl From<OutOfMemory> for NameFault {
 
     ghost from_gives = { λ _ fault. fault ≡ Memory };
 
+    // There was no room for one name more.
     fn from(_: OutOfMemory) -> Self {
         NameFault::Memory
     }
@@ -50,7 +51,8 @@ pub trait ReelNamer: Drop {
         // It is the name that the reel has, or else the one that the rule gives it.
         ensures name { IfOk result (λ name.
             name_for (rule self.old) (given self.old) reel text.now ≡ Some name) }
-        ensures grows { IfOk result (λ name. given self.new ≡ with_name (given self.old) reel name) }
+        ensures grows { IfOk result
+            (λ name. given self.new ≡ with_name (given self.old) reel name) }
 
         ensures no_name { (result ≡ Err NoName)
             ↔ (name_for (rule self.old) (given self.old) reel text.now ≡ None) }

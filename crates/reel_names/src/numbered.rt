@@ -47,6 +47,7 @@ impl ReelNamer for Numbered {
 
     ghost rule = { λ _. numbered };
 
+    // `R` and the next number, else `NoName` after 999 names; the text is not looked at.
     fn name(&mut self, reel: u32, _text: &str) -> Result<Name, NameFault> {
         match self.given.name_of(reel) {
             Some(name) => return Ok(name),
@@ -62,6 +63,7 @@ impl ReelNamer for Numbered {
     }
 }
 
+// `R` and a number of three digits.
 fn numbered_name(n: u32) -> Name
     requires { n < 1000 }
     ensures { result ≡ numbered_name n }

@@ -27,6 +27,7 @@ impl From<OutOfMemory> for TableFault {
 
     ghost from_gives = { λ _ fault. fault ≡ Memory };
 
+    // There was no room for one row more.
     fn from(_: OutOfMemory) -> Self {
         TableFault::Memory
     }
@@ -49,6 +50,7 @@ impl Model for Row {
 }
 
 impl Row {
+    // A row with a copy of the text.
     fn of(alloc: Global, text: &str, name: &Name) -> Result<Row, OutOfMemory>
         ensures { IfOk result (λ row. row ≡ record { text = text.now; name = name.now }) }
     {
@@ -58,18 +60,21 @@ impl Row {
         })
     }
 
+    // Whether it is the row of this text.
     fn is_of(&self, text: &str) -> bool
         ensures { result ≡ bytes_eq self.now.text text.now }
     {
         self.text.as_str() == text
     }
 
+    // Whether its name is this one.
     fn has_name(&self, name: &Name) -> bool
         ensures { result ≡ bytes_eq self.now.name name.now }
     {
         self.name == *name
     }
 
+    // Its name.
     fn name(&self) -> Name
         ensures { result ≡ self.now.name }
     {
@@ -96,6 +101,7 @@ impl Model for Table {
 }
 
 impl Table {
+    /// No rows.
     pub fn new(alloc: Global) -> Table
         ensures { result ≡ [] }
     {
@@ -105,19 +111,21 @@ impl Table {
         }
     }
 
+    // Whether a row has this text.
     fn has_text(&self, text: &str) -> bool
         ensures { result ≡ has_text self.now text.now }
     {
         self.rows.iter().any(|row| row.is_of(text))
     }
 
+    // Whether a row has this name.
     fn is_named(&self, name: &Name) -> bool
         ensures { result ≡ is_named self.now name.now }
     {
         self.rows.iter().any(|row| row.has_name(name))
     }
 
-    /// Why it takes no such row, or `None` where it does.
+    /// Why it takes no such row, or `None` where it does: `Unfit` comes before `Again`, and that before `Taken`.
     pub fn fault(&self, text: &str, name: &Name) -> Option<TableFault>
         ensures { result ≡ row_fault self.now (record { text = text.now; name = name.now }) }
     {
@@ -133,10 +141,11 @@ impl Table {
         None
     }
 
-    /// One row more, behind the others.
+    /// Adds a row after the others, which must be one that it takes. Out of memory, nothing is added.
     pub fn push(&mut self, text: &str, name: &Name) -> Result<(), OutOfMemory>
         requires { row_fault self.old (record { text = text.now; name = name.now }) ≡ None }
-        ensures ok { OnOk result (self.new ≡ self.old ++ record { text = text.now; name = name.now } ∷ []) }
+        ensures ok { OnOk result (self.new
+            ≡ self.old ++ record { text = text.now; name = name.now } ∷ []) }
         ensures err { OnErr result (self.new ≡ self.old) }
     {
         let row = Row::of(self.alloc, text, name)?;

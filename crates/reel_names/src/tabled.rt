@@ -39,7 +39,7 @@ impl Tabled {
         }
     }
 
-    /// Adds a row to the table: the name of a text.
+    /// Adds a row to the table: the name of a text. Where the table does not take it, nothing is added.
     pub fn add(&mut self, text: &str, name: &Name) -> Result<(), TableFault>
         ensures ok { OnOk result (self.new ≡ record {
           table = self.old.table ++ record { text = text.now; name = name.now } ∷ [];
@@ -47,12 +47,12 @@ impl Tabled {
         }) }
 
         // The name does not fit a list that is written; else the text is there; else the name is.
-        ensures unfit { (result ≡ Err Unfit)
-            ↔ (row_fault self.old.table (record { text = text.now; name = name.now }) ≡ Some Unfit) }
-        ensures again { (result ≡ Err Again)
-            ↔ (row_fault self.old.table (record { text = text.now; name = name.now }) ≡ Some Again) }
-        ensures taken { (result ≡ Err Taken)
-            ↔ (row_fault self.old.table (record { text = text.now; name = name.now }) ≡ Some Taken) }
+        ensures unfit { (result ≡ Err Unfit) ↔ (row_fault self.old.table
+            (record { text = text.now; name = name.now }) ≡ Some Unfit) }
+        ensures again { (result ≡ Err Again) ↔ (row_fault self.old.table
+            (record { text = text.now; name = name.now }) ≡ Some Again) }
+        ensures taken { (result ≡ Err Taken) ↔ (row_fault self.old.table
+            (record { text = text.now; name = name.now }) ≡ Some Taken) }
         ensures err { OnErr result (self.new ≡ self.old) }
     {
         match self.table.fault(text, name) {
@@ -86,6 +86,7 @@ impl ReelNamer for Tabled {
 
     ghost rule = { λ names. tabled names.table };
 
+    // The name of its text in the table where no other reel has it, else `NoName`.
     fn name(&mut self, reel: u32, text: &str) -> Result<Name, NameFault> {
         match self.given.name_of(reel) {
             Some(name) => return Ok(name),

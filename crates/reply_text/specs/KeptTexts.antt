@@ -2,7 +2,7 @@
 use Rattle.std.specs.Prelude.{ℕ, ◌<◌, ◌≤◌, List, length, vec_len, vec_capacity}
 use Rattle.reply_text.specs.declared.reply.Text.{Text}
 use Rattle.reply_text.specs.declared.reply.Text.TheVariants.{Short, Long}
-use Rattle.reply_text.specs.declared.short_text.TheConstants.{MAX_SHORT}
+use Rattle.protocol_parts.specs.declared.short_text.TheConstants.{MAX_SHORT}
 
 -- its text, without a line feed
 abbrev pub text_of : Text → List ℕ

@@ -7,15 +7,15 @@ use Rattle.composables.specs.declared.refusals.Refusal.{Refusal}
 use Rattle.composables.specs.declared.refusals.Refusal.TheVariants.{NoTrack, NoItem, NoMedia, EmptyRange, MediaEnds, NotAGap, NotACut, DissolveRoom, OffsetsDiffer, AlreadyLinked, LinkOutside, LinkBroken, TooLong, TooManyItems}
 use Rattle.composables.specs.declared.refusals.Which.TheVariants.{Left, Right}
 use Rattle.composables.specs.TrackState.{TrackState}
-use Rattle.edit_apply.specs.declared.asks.Call.{Call}
-use Rattle.edit_apply.specs.declared.asks.Ask.{Ask}
-use Rattle.edit_apply.specs.declared.asks.Seen.{Seen}
-use Rattle.edit_apply.specs.declared.asks.AskRefusal.{AskRefusal}
+use Rattle.edit_calls.specs.declared.asks.Call.{Call}
+use Rattle.edit_calls.specs.declared.asks.Ask.{Ask}
+use Rattle.edit_calls.specs.declared.asks.Seen.{Seen}
+use Rattle.edit_calls.specs.declared.asks.AskRefusal.{AskRefusal}
 use Rattle.edit_apply.specs.declared.editor.Editor.{Editor}
 use Rattle.cut_room.specs.declared.answers.Answer.{Answer}
 use Rattle.cut_room.specs.declared.answers.Answer.TheVariants as answer
-use Rattle.reply_text.specs.declared.line_fault.LineFault.{LineFault}
-use Rattle.reply_text.specs.declared.line_fault.LineFault.TheVariants as line
+use Rattle.protocol_parts.specs.declared.line_fault.LineFault.{LineFault}
+use Rattle.protocol_parts.specs.declared.line_fault.LineFault.TheVariants as line
 
 -- a link: its home track, a dot, and its number there
 abbrev pub link_text : ℕ → ℕ → List ℕ

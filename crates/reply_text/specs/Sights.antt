@@ -10,19 +10,19 @@ use Rattle.frame_meaning.specs.declared.frames.Frame.{Frame}
 use Rattle.frame_meaning.specs.declared.frames.Frame.TheVariants as frame
 use Rattle.frame_meaning.specs.declared.frames.Run.{Run}
 use Rattle.composables.specs.declared.items.ItemView.{ItemView}
-use Rattle.edit_apply.specs.declared.asks.Seen.{Seen}
-use Rattle.edit_apply.specs.declared.asks.Seen.TheVariants.{Runs, Items}
-use Rattle.edit_apply.specs.declared.asks.AskRefusal.{AskRefusal}
-use Rattle.edit_apply.specs.declared.asks.AskRefusal.TheVariants.{NoTrack, Range}
+use Rattle.edit_calls.specs.declared.asks.Seen.{Seen}
+use Rattle.edit_calls.specs.declared.asks.Seen.TheVariants.{Runs, Items}
+use Rattle.edit_calls.specs.declared.asks.AskRefusal.{AskRefusal}
+use Rattle.edit_calls.specs.declared.asks.AskRefusal.TheVariants.{NoTrack, Range}
 use Rattle.composables.specs.TrackState.{TrackState}
 use Rattle.composables.specs.declared.refusals.Done.{Done}
 use Rattle.composables.specs.declared.refusals.Refusal.{Refusal}
-use Rattle.edit_apply.specs.declared.asks.Call.{Call}
-use Rattle.edit_apply.specs.declared.asks.Ask.{Ask}
+use Rattle.edit_calls.specs.declared.asks.Call.{Call}
+use Rattle.edit_calls.specs.declared.asks.Ask.{Ask}
 use Rattle.edit_apply.specs.declared.editor.Editor.{Editor}
 use Rattle.cut_room.specs.declared.answers.Sight.{Sight}
 use Rattle.cut_room.specs.declared.answers.Sight.TheVariants as sight
-use Rattle.reply_text.specs.Things.{what_text}
+use Rattle.protocol_parts.specs.Things.{what_text}
 use Rattle.reply_text.specs.Replies.{link_text}
 
 -- a thing, and a source frame of it

@@ -4,19 +4,14 @@
 //! has at most 128 bytes, and takes no memory. Replies to questions do take memory (`sight_text`).
 #![tactic(auto)]
 
-mod bytes;
 mod cut;
-mod line_fault;
 mod replies;
 mod reply;
-mod short_text;
 mod sights;
 
-pub use bytes::{put, put_number, put_what};
 pub use composables::Memory;
 pub use cut::{CutCall, CutObject, CutPart};
-pub use line_fault::LineFault;
+pub use protocol_parts::{LineFault, MAX_SHORT, MAX_SHORT_LINE, Short, put, put_number, put_what};
 pub use replies::{answer_text, fault_text, point_text};
 pub use reply::Reply;
-pub use short_text::{MAX_SHORT, MAX_SHORT_LINE, Short};
 pub use sights::sight_text;

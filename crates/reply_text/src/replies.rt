@@ -59,6 +59,7 @@ pub fn fault_text(fault: &LineFault) -> Short
     text
 }
 
+// Adds what an edit that was done answers: nothing, an item, a delta or a link.
 fn push_done(text: &mut Short, done: &Done)
     requires { length text.old + 40 ≤ MAX_SHORT }
     ensures text { text.new ≡ text.old ++ done_text done.now }
@@ -72,6 +73,7 @@ fn push_done(text: &mut Short, done: &Done)
     }
 }
 
+// Adds the code of a refusal with its numbers.
 fn push_refusal(text: &mut Short, refusal: &Refusal)
     requires { length text.old + 80 ≤ MAX_SHORT }
     ensures text { text.new ≡ text.old ++ refusal_text refusal.now }
@@ -114,8 +116,8 @@ fn push_refusal(text: &mut Short, refusal: &Refusal)
     }
 }
 
-// A text, and a link.
-fn push_link(text: &mut Short, lead: &[u8], home: u32, number: u32)
+/// Adds a text and a link: its home, a point and its number.
+pub fn push_link(text: &mut Short, lead: &[u8], home: u32, number: u32)
     requires { length text.old + length lead.now + 21 ≤ MAX_SHORT }
     ensures text { text.new ≡ text.old ++ (lead.now ++ link_text home number) }
     ensures length { length text.new ≤ length text.old + length lead.now + 21 }
@@ -124,7 +126,7 @@ fn push_link(text: &mut Short, lead: &[u8], home: u32, number: u32)
     push_number(text, b".", number);
 }
 
-// A text, and two offsets.
+// Adds a text and two offsets, with a space between.
 fn push_offsets(text: &mut Short, lead: &[u8], first: i64, second: i64)
     requires { length text.old + length lead.now + 41 ≤ MAX_SHORT }
     ensures text { text.new ≡ text.old ++ (lead.now ++ offsets_text first second) }
@@ -134,8 +136,8 @@ fn push_offsets(text: &mut Short, lead: &[u8], first: i64, second: i64)
     push_signed(text, b" ", second);
 }
 
-// A text, and a number.
-fn push_number(text: &mut Short, lead: &[u8], number: u32)
+/// Adds a text and a number.
+pub fn push_number(text: &mut Short, lead: &[u8], number: u32)
     requires { length text.old + length lead.now + 10 ≤ MAX_SHORT }
     ensures text { text.new ≡ text.old ++ (lead.now ++ decimal number) }
     ensures length { length text.new ≤ length text.old + length lead.now + 10 }
@@ -144,7 +146,7 @@ fn push_number(text: &mut Short, lead: &[u8], number: u32)
     text.push_number(number);
 }
 
-// A text, and a signed number.
+// Adds a text and a signed number.
 fn push_signed(text: &mut Short, lead: &[u8], number: i64)
     requires { length text.old + length lead.now + 20 ≤ MAX_SHORT }
     ensures text { text.new ≡ text.old ++ (lead.now ++ signed_decimal number) }

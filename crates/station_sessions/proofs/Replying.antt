@@ -1,15 +1,15 @@
 -- What a room did for a session's line, and what the reply to it says.
 use Rattle.std.proofs.Common.{◌≡◌, ℕ, max, ◌+◌, ◌≤◌, inl, inr, List, [], ◌∷◌, ◌++◌, Vec, length, take, Option, Some, None, Result, Ok, Err, IsSome, slice_get, option_map, fold, refl, sym, ap, ◌∙◌, arith, subst}
-use Rattle.std.specs.Prelude.{codes, decimal}
+use Rattle.std.specs.Prelude.{codes, decimal, is_none}
 use Rattle.std.specs.Global.{Global}
 use Rattle.std.proofs.lemmas.List.{append-nil}
 use Rattle.std.proofs.lemmas.List.Sums.{fold-append}
 use Rattle.timecode12.specs.Numbers.{Counted}
 use Rattle.composables.specs.TrackState.{TrackState}
-use Rattle.edit_apply.specs.declared.asks.Call.{Call}
-use Rattle.edit_apply.specs.declared.asks.Ask.{Ask}
-use Rattle.edit_apply.specs.declared.asks.Seen.{Seen}
-use Rattle.edit_apply.specs.declared.asks.AskRefusal.{AskRefusal}
+use Rattle.edit_calls.specs.declared.asks.Call.{Call}
+use Rattle.edit_calls.specs.declared.asks.Ask.{Ask}
+use Rattle.edit_calls.specs.declared.asks.Seen.{Seen}
+use Rattle.edit_calls.specs.declared.asks.AskRefusal.{AskRefusal}
 use Rattle.edit_apply.specs.Apply.{editing}
 use Rattle.edit_apply.specs.See.{ask_part_of, seen_at, seen_if, seen_on}
 use Rattle.edit_journal.specs.Seats.{Begins}
@@ -23,15 +23,15 @@ use Rattle.cut_room.specs.declared.answers.Sight.TheVariants as sight
 use Rattle.edit_journal.specs.declared.log.CopyFault.{CopyFault}
 use Rattle.edit_journal.specs.declared.log.CopyFault.TheVariants as fault
 use Rattle.cut_room.specs.Rooms.{Edited, IsAtPoint, IsCut, Looked, Stays, told}
-use Rattle.call_text.specs.CallTexts.{IsSmall, IsWritten}
-use Rattle.call_text.specs.declared.lines.Line.{Line}
+use Rattle.line_table.specs.CallTexts.{IsSmall, IsWritten}
+use Rattle.line_table.specs.declared.lines.Line.{Line}
 use Rattle.line_words.specs.Lines.{Line as InputLine}
-use Rattle.reply_text.specs.declared.line_fault.LineFault.{LineFault}
+use Rattle.protocol_parts.specs.declared.line_fault.LineFault.{LineFault}
 use Rattle.reply_text.specs.Replies.{EditAnswer, answer_text_of}
 use Rattle.reply_text.specs.Sights.{TrackSight, sight_text_of}
 use Rattle.station_sessions.specs.DocumentReplies.{document_reply, no_point_reply}
 use Rattle.station_sessions.specs.Rooms.{History, AreWritten, document_of, finds_memory, room_of, seen_of, wish_in}
-use Rattle.station_sessions.specs.Session.{Grows, IsCutReply, IsMeant, IsReplyIfMemory, IsSightReply, RepliesTo, RepliesWith, StationState, Step}
+use Rattle.station_sessions.specs.Session.{Grows, HasGrown, IsCutReply, IsMeant, IsReplyIfMemory, IsSightReply, RepliesTo, RepliesWith, StationState, Step}
 use Rattle.station_sessions.specs.SessionInside.{IsSeated, IsSession, TrackPass, TrackRoom, course_at, or_opening, session_at, setting_at, tracks_at}
 use Rattle.station_sessions.specs.Transcript.{Wish, Do, See, Point, Write, Bad}
 use Rattle.station_sessions.proofs.Transcripts.{nothing_behind, own_append}
@@ -78,7 +78,7 @@ grown room counting start line station before after was is front same =
 -- a reply behind what others committed, which commits nothing
 replied : (room : TrackRoom) (before after : TrackPass) (counting : Counted) (start line : ℕ) (wish : Wish Call Ask) (text : List ℕ) → IsSeated room line before
     → Stays (editing room.object.table) room.parts before after
-    → (let s = session_at room (Some after) counting start line in Step (room_of s.setting) before.number s.course s.course text wish (finds_memory wish))
+    → (let s = session_at room (Some after) counting start line in Step (room_of s.setting) before.number s.course s.course text wish (finds_memory room.object.table wish))
     → RepliesWith (session_at room (Some before) counting start line) (session_at room (Some after) counting start (line + 1)) wish text
 replied room before after counting start line wish text seated stays step = record {
   setting = refl;
@@ -95,6 +95,29 @@ replied room before after counting start line wish text seated stays step = reco
 -- nothing happened
 unmoved : (room : TrackRoom) (pass : TrackPass) → Stays (editing room.object.table) room.parts pass pass
 unmoved room pass = record { goes_on = record { number_is = refl; opening_is = refl; front = ([], sym (append-nil pass.entries)); legal = λ h. h }; own = refl }
+
+-- the pass knows what others committed
+pub has_grown : (room : TrackRoom) (before after : TrackPass) (counting : Counted) (start line : ℕ) → IsSeated room line before
+    → Stays (editing room.object.table) room.parts before after
+    → HasGrown (session_at room (Some before) counting start line) (session_at room (Some after) counting start line)
+has_grown room before after counting start line seated stays = record {
+  setting = refl;
+  station = stays.goes_on.number_is;
+  written = λ w. subst AreWritten (sym stays.own) w;
+  line = refl;
+  grows = grown room counting start line before.number before.entries after.entries seated.legal (stays.goes_on.legal seated.legal) stays.goes_on.front stays.own;
+}
+
+pub unmoved_grown : (room : TrackRoom) (pass : Option TrackPass) (counting : Counted) (start line : ℕ) → IsSession room line pass
+    → HasGrown (session_at room pass counting start line) (session_at room pass counting start line)
+unmoved_grown room None counting start line seated = absurd seated
+unmoved_grown room (Some pass) counting start line seated = has_grown room pass pass counting start line seated (unmoved room pass)
+
+pub grown_seated : (room : TrackRoom) (before after : TrackPass) (line : ℕ) → IsSeated room line before → Stays (editing room.object.table) room.parts before after → IsSeated room line after
+grown_seated room before after line seated stays =
+    let last : last_of after.number after.entries ≡ last_of before.number before.entries =
+    ap (λ (n : ℕ). last_of n after.entries) stays.goes_on.number_is ∙ ap (λ (l : History). fold (λ m e. max m e.number) 0 l) stays.own in
+    record { legal = stays.goes_on.legal seated.legal; before = omega (arith, last, seated.before) }
 
 -- the reply to a line that is none of the table
 pub bad_replied : (room : TrackRoom) (pass : Option TrackPass) (counting : Counted) (start line : ℕ) (fault text : List ℕ) → IsSession room line pass → text ≡ fault
@@ -171,7 +194,7 @@ module _ (room : TrackRoom) (before after : TrackPass) (counting : Counted) (sta
           reply_is = is ∙ ap (λ m. answer_text_of (answer.Full m)) e.full;
         },
       ))))
-  edit_replied c answer.Memory text w e is = replied room before after counting start line (Do c) text seated e (inr (refl, record { same = refl; reply_is = is }))
+  edit_replied c answer.Memory text w e is = replied room before after counting start line (Do c) text seated e.0 (inr (ap is_none e.1, record { same = refl; reply_is = is }))
 
   -- after an edit the session can go on
   pub edit_seated : (c : Call) (a : EditAnswer) → Edited (editing room.object.table) room.parts (record { station = before.number; number = line; call = c }) before after a
@@ -185,7 +208,7 @@ module _ (room : TrackRoom) (before after : TrackPass) (counting : Counted) (sta
       record { legal = e.goes_on.legal seated.legal; before = omega (arith, last, seated.before) }
   edit_seated c (answer.Refused n r) e = seated_stays room before after line seated e.at.stays
   edit_seated c (answer.Full n) e = seated_stays room before after line seated e.at.stays
-  edit_seated c answer.Memory e = seated_stays room before after line seated e
+  edit_seated c answer.Memory e = seated_stays room before after line seated e.0
 
   pub point_replied : (n : ℕ) (text : List ℕ) → IsAtPoint (editing room.object.table) room.parts before after n → text ≡ codes "point " ++ decimal n
       → RepliesWith (session_at room (Some before) counting start line) (session_at room (Some after) counting start (line + 1)) Point text
@@ -224,13 +247,13 @@ module _ (room : TrackRoom) (before after : TrackPass) (counting : Counted) (sta
         same = refl;
         reply_is = is ∙ (ap (λ m. sight_text_of (sight.Refused m why)) e.at.point_is ∙ sym (ap (seen_of (length after.entries)) there));
       }))
-  ask_replied q sight.Memory text e is = replied room before after counting start line (See q) text seated e (inr (refl, record { same = refl; reply_is = is }))
+  ask_replied q sight.Memory text e is = replied room before after counting start line (See q) text seated e.0 (inr (refl, record { same = refl; reply_is = is }))
 
   looked_stays : (q : Ask) (s : TrackSight) → Looked (editing room.object.table) room.parts (ask_part_of room.object.table q) (λ t. seen_on t q) before after s
       → Stays (editing room.object.table) room.parts before after
   looked_stays q (sight.Seen n seen) e = e.at.stays
   looked_stays q (sight.Refused n why) e = e.at.stays
-  looked_stays q sight.Memory e = e
+  looked_stays q sight.Memory e = e.0
 
   -- the reply to a question, or to one for whose reply there was no memory
   pub sight_replied : (q : Ask) (s : TrackSight) (reply : List ℕ)

@@ -11,7 +11,7 @@ use Rattle.station_sessions.specs.Outside.{AreSent, TakesThenFront, LastIsCut}
 use Rattle.station_sessions.specs.Transcript.{Bad, Protocol, Wish, reply_line, sent}
 use Rattle.station_sessions.specs.Rooms.{Setting, AreWritten, finds_memory, is_linking, room_of, meaning_of, wish_in}
 use Rattle.room_core.specs.Projection.{of_station}
-use Rattle.station_sessions.specs.Session.{Course, Grows, StationState, past_line, RepliesTo, Step}
+use Rattle.station_sessions.specs.Session.{Course, Grows, HasGrown, StationState, past_line, RepliesTo, Step}
 use Rattle.station_sessions.specs.Served.{Serves, ServesTo, StaysWritten}
 use Rattle.station_sessions.proofs.Serving.{served_grows, served_more}
 
@@ -95,10 +95,24 @@ module _ {S C D R Q X Y : Type 0} (k : Protocol S C D R Q X Y) (station : ℕ) (
 pub serves_none : (s : StationState) (t : Option (List ℕ)) → ServesTo s s [] (AreSent t t)
 serves_none s t = record { setting = refl; station = refl; written = λ w. w; serves = λ o from ls rs last w. ([], last, rw (append-nil, append-nil) w, takes-nothing t) }
 
+-- others have committed more since
+pub serves_grown : (s g : StationState) (t : Option (List ℕ)) → HasGrown s g → ServesTo s g [] (AreSent t t)
+serves_grown s g t h = record {
+  setting = h.setting;
+  station = h.station;
+  written = h.written;
+  serves = λ o from ls rs last w. (
+    [],
+    last,
+    rw (append-nil, append-nil) (served_grows (room_of s.setting) s.station o from s.course g.course ls rs last w h.grows),
+    takes-nothing t,
+  );
+}
+
 pub serves_one : (old new : StationState) (l : InputLine) (reply : List ℕ) (Taken : List (List ℕ) → Type 0) → RepliesTo old new l reply → Taken (reply ∷ []) → ServesTo old new (l ∷ []) Taken
 serves_one old new l reply Taken (inl r) taken =
     let wish = wish_in (meaning_of old.setting l) in
-    let step = wider (room_of old.setting) old.station r.met r.answered reply wish (finds_memory wish) (is_linking l) r.step in
+    let step = wider (room_of old.setting) old.station r.met r.answered reply wish (finds_memory old.setting.table wish) (is_linking l) r.step in
     record {
       setting = r.setting;
       station = r.station;
@@ -107,7 +121,7 @@ serves_one old new l reply Taken (inl r) taken =
     }
 serves_one old new l reply Taken (inr (linking, r)) taken =
     let wish = wish_in (meaning_of old.setting l) in
-    let step = for_memory (room_of old.setting) old.station r.met r.answered reply wish (finds_memory wish) (is_linking l) linking r.step in
+    let step = for_memory (room_of old.setting) old.station r.met r.answered reply wish (finds_memory old.setting.table wish) (is_linking l) linking r.step in
     record {
       setting = r.setting;
       station = r.station;

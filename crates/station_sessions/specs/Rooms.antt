@@ -1,5 +1,5 @@
 -- The protocol of a room of cuts: edits of its tracks, questions to them, and the lines that ask for them.
-use Rattle.std.specs.Prelude.{ℕ, Bool, true, false, ◌||◌, List, [], ◌∷◌, Some, None, Result, Ok, Err}
+use Rattle.std.specs.Prelude.{ℕ, Bool, true, false, ◌||◌, is_none, List, [], ◌∷◌, Some, None, Result, Ok, Err}
 use Rattle.line_words.specs.Lines.{Line as InputLine}
 use Rattle.timecode12.specs.Numbers.{Counted}
 use Rattle.composables.specs.declared.media.Table.{Table}
@@ -7,25 +7,25 @@ use Rattle.composables.specs.declared.refusals.Refusal.{Refusal}
 use Rattle.composables.specs.declared.refusals.Done.{Done}
 use Rattle.composables.specs.TrackState.{TrackState}
 use Rattle.otio_json.specs.declared.opening.Opening.{Opening}
-use Rattle.edit_apply.specs.declared.asks.Call.{Call}
-use Rattle.edit_apply.specs.declared.asks.Ask.{Ask}
-use Rattle.edit_apply.specs.declared.asks.Seen.{Seen}
-use Rattle.edit_apply.specs.declared.asks.AskRefusal.{AskRefusal}
-use Rattle.edit_apply.specs.Apply.{editing}
+use Rattle.edit_calls.specs.declared.asks.Call.{Call}
+use Rattle.edit_calls.specs.declared.asks.Ask.{Ask}
+use Rattle.edit_calls.specs.declared.asks.Seen.{Seen}
+use Rattle.edit_calls.specs.declared.asks.AskRefusal.{AskRefusal}
+use Rattle.edit_apply.specs.Apply.{editing, refuse_names_of}
 use Rattle.edit_apply.specs.See.{seen_in}
 use Rattle.room_core.specs.declared.entry.Entry.{Entry}
-use Rattle.call_text.specs.declared.lines.Line.{Line}
-use Rattle.call_text.specs.declared.lines.Line.TheVariants.{Edit, Ask as AskOf, Point as PointOf, Otio}
-use Rattle.reply_text.specs.declared.line_fault.LineFault.{LineFault}
-use Rattle.reply_text.specs.declared.line_fault.LineFault.TheVariants.{B5}
-use Rattle.call_text.specs.Labels.{place_by}
-use Rattle.call_text.specs.Reading.{are_linking, line_of}
+use Rattle.line_table.specs.declared.lines.Line.{Line}
+use Rattle.line_table.specs.declared.lines.Line.TheVariants.{Edit, Ask as AskOf, Point as PointOf, Otio}
+use Rattle.protocol_parts.specs.declared.line_fault.LineFault.{LineFault}
+use Rattle.protocol_parts.specs.declared.line_fault.LineFault.TheVariants.{B5}
+use Rattle.line_table.specs.Labels.{place_by}
+use Rattle.line_table.specs.Reading.{are_linking, line_of}
 use Rattle.line_words.specs.Blanks.{words_of}
 use Rattle.otio_text.specs.Documents.{timeline_text}
 use Rattle.station_sessions.specs.DocumentReplies.{document_reply, no_point_reply}
 use Rattle.cut_room.specs.declared.answers.Answer.TheVariants as answer
 use Rattle.cut_room.specs.declared.answers.Sight.TheVariants as sight
-use Rattle.call_text.specs.CallTexts.{IsSmall, IsWritten}
+use Rattle.line_table.specs.CallTexts.{IsSmall, IsWritten}
 use Rattle.reply_text.specs.Replies.{answer_text_of, fault_of}
 use Rattle.reply_text.specs.Sights.{sight_text_of}
 use Rattle.room_core.specs.History.{IsLegal, most_entries}
@@ -57,13 +57,13 @@ wish_in (Ok PointOf) = Point
 wish_in (Ok (Otio n)) = Write n
 wish_in (Err fault) = Bad (fault_of fault)
 
--- an edit, a question and a document may find no memory
-abbrev pub finds_memory : Wish Call Ask → Bool
-finds_memory (Do c) = true
-finds_memory (See q) = true
-finds_memory Point = false
-finds_memory (Write n) = true
-finds_memory (Bad text) = false
+-- an edit that is not refused for the tracks that it names, a question and a document may find no memory
+abbrev pub finds_memory : Table → Wish Call Ask → Bool
+finds_memory table (Do c) = is_none (refuse_names_of table c)
+finds_memory table (See q) = true
+finds_memory table Point = false
+finds_memory table (Write n) = true
+finds_memory table (Bad text) = false
 
 -- a line whose first word is `link` may find none either, whatever it asks for
 abbrev pub is_linking : InputLine → Bool
@@ -88,7 +88,7 @@ room_of setting = record {
   apply = whole (editing setting.table);
   see = seen_in setting.table;
   wish = λ station l. wish_in (meaning_of setting l);
-  takes_memory = λ l. finds_memory (wish_in (meaning_of setting l)) || is_linking l;
+  takes_memory = λ l. finds_memory setting.table (wish_in (meaning_of setting l)) || is_linking l;
   answer_text = reply_of;
   full_text = answer_text_of (answer.Full most_entries);
   sight_text = seen_of;

@@ -3,13 +3,13 @@
 use Rattle.std.specs.Prelude.{◌≡◌, ℕ, ◌+◌, ◌<◌, ◌≤◌, ◌⊎◌, Bool, IsTrue, List, [], ◌∷◌, ◌++◌, Vec, Some, Result, Ok, Err, length, take, codes, decimal}
 use Rattle.std.specs.Global.{Global}
 use Rattle.composables.specs.TrackState.{TrackState}
-use Rattle.edit_apply.specs.declared.asks.Call.{Call}
-use Rattle.edit_apply.specs.declared.asks.Ask.{Ask}
+use Rattle.edit_calls.specs.declared.asks.Call.{Call}
+use Rattle.edit_calls.specs.declared.asks.Ask.{Ask}
 use Rattle.room_core.specs.declared.entry.Entry.{Entry}
 use Rattle.reply_text.specs.Sights.{TrackSight, sight_text_of}
-use Rattle.reply_text.specs.declared.line_fault.LineFault.{LineFault}
-use Rattle.reply_text.specs.declared.line_fault.LineFault.TheVariants.{Memory as NoMemory}
-use Rattle.call_text.specs.declared.lines.Line.{Line}
+use Rattle.protocol_parts.specs.declared.line_fault.LineFault.{LineFault}
+use Rattle.protocol_parts.specs.declared.line_fault.LineFault.TheVariants.{Memory as NoMemory}
+use Rattle.line_table.specs.declared.lines.Line.{Line}
 use Rattle.line_words.specs.Lines.{Line as InputLine}
 use Rattle.room_core.specs.History.{answer_in, most_entries, replay, NumbersRise}
 use Rattle.room_core.specs.Projection.{of_station}
@@ -109,9 +109,17 @@ pub record RepliesWith (old new : StationState) (wish : Wish Call Ask) (text : L
   pub met : Course (List TrackState) Call
   pub grows : Grows (room_of old.setting) old.station old.course met
   pub answered : Course (List TrackState) Call
-  pub step : Step (room_of old.setting) old.station met answered text wish (finds_memory wish)
+  pub step : Step (room_of old.setting) old.station met answered text wish (finds_memory old.setting.table wish)
   pub passed : new.course ≡ past_line answered
   pub line : new.course.line ≡ old.course.line + 1
+
+-- Others have committed more, of which the station knows now. It has answered no line.
+pub record HasGrown (old new : StationState) : Type 0 where
+  pub setting : new.setting ≡ old.setting
+  pub station : new.station ≡ old.station
+  pub written : AreWritten (of_station old.station old.course.journal) → AreWritten (of_station old.station new.course.journal)
+  pub line : new.course.line ≡ old.course.line
+  pub grows : Grows (room_of old.setting) old.station old.course new.course
 
 -- what a line says, or that there was no memory to read a line whose first word is `link`
 abbrev pub IsMeant : Setting → InputLine → Result Line LineFault → Type 0

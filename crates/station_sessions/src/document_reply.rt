@@ -1,5 +1,5 @@
 // Replies to a wish for the document of a cut.
-ghost use Rattle.std.specs.Prelude.{◌≡◌, ◌≤◌, ◌++◌, codes, decimal, length, IfOk};
+ghost use Rattle.std.specs.Prelude.{◌≡◌, ◌≤◌, ◌++◌, codes, decimal, length, IfOk, OnOk};
 ghost use Rattle.otio_text.specs.Documents.{timeline_text};
 ghost use Rattle.station_sessions.specs.DocumentReplies.{document_reply, no_point_reply};
 ghost use Rattle.station_sessions.specs.Session.{IsCutReply, IsReplyIfMemory};
@@ -45,7 +45,7 @@ fn document_reply(
         (timeline_text table.now tracks.now counting.now start)) result }
 {
     match write_timeline(alloc, table, tracks, counting, start) {
-        Ok(text) => match long_document(alloc, n, &text) {
+        Ok(text) => match long_document(n, text) {
             Ok(reply) => reply,
             Err(_) => memory_reply(),
         },
@@ -83,15 +83,25 @@ fn refused_at(point: u32, code: &[u8]) -> Short
     text
 }
 
-// `otio`, the point and the document.
-fn long_document(alloc: Global, point: u32, text: &[u8]) -> Result<Reply, Memory>
-    ensures { IfOk result (λ reply. reply ≡ codes "otio " ++ decimal point ++ codes " " ++ text.now) }
+// `otio`, the point and the document, in the memory of the document: its head is written after it and turned to its front.
+fn long_document(point: u32, text: Vec<u8>) -> Result<Reply, Memory>
+    ensures { IfOk result (λ reply. reply ≡ codes "otio " ++ decimal point ++ codes " "
+        ++ text.items) }
 {
-    let mut front = Short::new();
-    front.push(b"otio ");
-    front.push_number(point);
-    front.push(b" ");
-    let mut all = Vec::from_slice(alloc, front.as_bytes())?;
-    all.extend_from_slice(text)?;
+    let mut head = Short::new();
+    head.push(b"otio ");
+    head.push_number(point);
+    head.push(b" ");
+    let mut all = text;
+    put_in_front(&mut all, head.as_bytes())?;
     Reply::long(all)
+}
+
+// Puts these bytes in front of a text.
+fn put_in_front(text: &mut Vec<u8>, head: &[u8]) -> Result<(), Memory>
+    ensures { OnOk result (text.new.items ≡ head.now ++ text.old.items) }
+{
+    text.extend_from_slice(head)?;
+    text.rotate_right(head.len());
+    Ok(())
 }

@@ -48,7 +48,7 @@ const MOST_INPUT: usize = 67_108_864;
 /// The most bytes of one read.
 const MOST_READ: usize = 8_192;
 
-// Answers a line that has ended.
+// Answers a line that has ended. What the room keeps for later is kept once the reply was sent.
 fn answer_line<R: Wait, G: Gate, J: Naming<CutObject, CutPart>, K: Sink>(
     session: &mut Station<'_, R, G, J>,
     end: LineEnd,
@@ -70,7 +70,13 @@ fn answer_line<R: Wait, G: Gate, J: Naming<CutObject, CutPart>, K: Sink>(
     ensures apart { K.as_source output.new ≡ K.as_source output.old }
 {
     let reply = session.answer(end, text);
-    reply.send(output)
+    match reply.send(output) {
+        Ok(()) => {
+            session.keep_cut();
+            Ok(())
+        }
+        Err(failed) => Err(failed),
+    }
 }
 
 // Answers the lines that end within a piece.
@@ -221,6 +227,7 @@ pub fn serve_session<R: Wait, G: Gate, J: Naming<CutObject, CutPart>, L: Line>(
         counting: setting.counting,
         start: setting.start,
         line: line_number,
+        has_more: false,
     };
     let end = serve(&mut station, line);
     Session {

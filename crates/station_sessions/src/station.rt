@@ -11,7 +11,7 @@ use call_text::{
     CutObject, CutPart, Line, LineFault, answer_text, fault_text, point_text, read_line, sight_text,
 };
 use composables::Memory;
-use cut_room::{Answer, Room, Sight};
+use cut_room::{Answer, KEPT_EVERY, Room, Sight};
 use edit_apply::{Ask, Call};
 use edit_journal::{Naming, Pass};
 use line_words::LineEnd;
@@ -32,7 +32,7 @@ pub struct Setting {
 }
 
 /// A station in a room. Contracts see the room's setting, the station's number, what it knows of the journal, and the
-/// number of its next line.
+/// number of its next line. It notes whether its last edit was the last of a stretch of the journal.
 pub(crate) struct Station<'a, R, G, J: Naming<CutObject, CutPart>> {
     pub(crate) rt: &'a R,
     pub(crate) alloc: Global,
@@ -42,6 +42,7 @@ pub(crate) struct Station<'a, R, G, J: Naming<CutObject, CutPart>> {
     pub(crate) counting: Counting,
     pub(crate) start: u32,
     pub(crate) line: u32,
+    pub(crate) has_more: bool,
 }
 
 impl<'a, R, G, J: Naming<CutObject, CutPart>> Model for Station<'a, R, G, J> {
@@ -58,10 +59,10 @@ impl<'a, R, G, J: Naming<CutObject, CutPart>> Model for Station<'a, R, G, J> {
 impl<'a, R: Wait, G: Gate, J: Naming<CutObject, CutPart>> Station<'a, R, G, J> {
     ghost use Rattle.std.specs.Prelude.{◌≡◌, ◌+◌, ◌<◌, ◌≤◌, ◌^◌, ◌++◌, IfOk, codes, length};
     ghost use Rattle.line_words.specs.Told.{line_told};
-    ghost use Rattle.call_text.specs.CallTexts.{IsWritten, NamesWritten};
+    ghost use Rattle.line_table.specs.CallTexts.{IsWritten, NamesWritten};
     ghost use Rattle.reply_text.specs.Replies.{fault_of};
     ghost use Rattle.station_sessions.specs.Rooms.{wish_in};
-    ghost use Rattle.station_sessions.specs.Session.{IsMeant, RepliesTo, RepliesWith};
+    ghost use Rattle.station_sessions.specs.Session.{HasGrown, IsMeant, RepliesTo, RepliesWith};
     ghost use Rattle.station_sessions.specs.Transcript.{Bad, Do, Point, See, Write};
 
     /// The station's pass.
@@ -78,6 +79,7 @@ impl<'a, R: Wait, G: Gate, J: Naming<CutObject, CutPart>> Station<'a, R, G, J> {
             counting: _,
             start: _,
             line: _,
+            has_more: _,
         } = self;
         match pass {
             Some(pass) => pass,
@@ -106,7 +108,22 @@ impl<'a, R: Wait, G: Gate, J: Naming<CutObject, CutPart>> Station<'a, R, G, J> {
         let (pass, answer) = edit_uncounted(rt, self.alloc, room, gate, pass, self.line, call);
         self.pass = Some(pass);
         self.line += 1;
+        self.has_more = ends_a_stretch(&answer);
         Reply::short(answer_text(&answer))
+    }
+
+    /// Has the room keep its cut, where the last line's edit was the last of a stretch. A later wish for a document begins
+    /// there.
+    pub(crate) fn keep_cut(&mut self)
+        ensures { HasGrown self.old self.new }
+    {
+        if !self.has_more {
+            return;
+        }
+        self.has_more = false;
+        let pass = taken(&mut self.pass);
+        let pass = self.room.keep_cut(self.rt, self.alloc, pass);
+        self.pass = Some(pass);
     }
 
     fn reply_to_ask(&mut self, ask: &Ask) -> Reply
@@ -225,6 +242,14 @@ fn edit_uncounted<R: Wait, G: Gate, J: Naming<CutObject, CutPart>>(
         (record { station = pass.number; number = number; call = call }) pass result.0 result.1 }
 {
     edit_counted::<R, G, J, Brand>(Blank::new(1), rt, alloc, room, gate, pass, number, call)
+}
+
+// Whether an edit was the last of so many as the journal gains from one cut that is kept to the next.
+fn ends_a_stretch(answer: &Answer<CutObject>) -> bool {
+    match answer {
+        Answer::Done { point, .. } => point % KEPT_EVERY == KEPT_EVERY - 1,
+        _ => false,
+    }
 }
 
 // The reply to a question, or to one for whose reply there is no memory.

@@ -1,6 +1,6 @@
 use Rattle.std.proofs.Common.{ap, arith, length}
 use Rattle.std.proofs.lemmas.List.{length-map}
-use Rattle.cut_server.proofs.Closing.{only, only_fresh}
+use Rattle.served_rooms.proofs.Closing.{only, only_fresh}
 use Rattle.cut_server.proofs.main_call.only_pass.Goals as goal
 
 pub unreachable-requires : goal.unreachable-requires

@@ -5,8 +5,8 @@ use Rattle.station_sessions.specs.Transcript.{new_room}
 use Rattle.station_sessions.proofs.Knowing.{fresh_base, fresh_legal, fresh_origin}
 use Rattle.cut_server.specs.Runs.{JournalEnds}
 use Rattle.station_sessions.specs.declared.serve.End.TheVariants as end
-use Rattle.cut_server.proofs.Closing.{closed, has_zero}
-use Rattle.cut_server.proofs.Telling.{session_ends, run_ends}
+use Rattle.served_rooms.proofs.Closing.{closed, has_zero}
+use Rattle.cut_server.proofs.Telling.{session_ends, run_ends, text_by}
 use Rattle.cut_server.proofs.main_call.run_session.Goals as goal
 
 pub serve_session-pass-requires-clause-legal : goal.serve_session-pass-requires-clause-legal
@@ -19,6 +19,16 @@ pub close-entries-requires : goal.close-entries-requires
 close-entries-requires g c =
     let are = c.push_reserved.ensures.items ∙ ap (λ ps. ps ++ c.serve_session-pass.result.pass ∷ []) c.only_pass-passes.ensures.none in
     rw (c.requires.stations, are, c.serve_session-pass.ensures.station, c.only_pass-passes.ensures.pass.0) (record { all = has_zero })
+
+pub put_journal-requires-clause-text : goal.put_journal-requires-clause-text
+put_journal-requires-clause-text g c =
+    let o = c.requires.opened.0 in
+    let are = c.push_reserved.ensures.items ∙ ap (λ ps. ps ++ c.serve_session-pass.result.pass ∷ []) c.only_pass-passes.ensures.none in
+    let journal = c.close-entries.ensures in
+    let closes = closed o c.args.room c.args.setting.counting c.args.setting.start c.push_reserved.new.self.items c.serve_session-pass.result.pass c.close-entries.result.items c.requires.opened.1 are
+    (c.serve_session-pass.ensures.station ∙ c.only_pass-passes.ensures.pass.0) journal.legal journal.passes journal.stations in
+    let written = c.serve_session-pass.ensures.written (fresh_origin c.only_pass-passes.result.1 c.only_pass-passes.ensures.pass.1).written in
+    rw c.deref.ensures.value (text_by o c.serve_session-pass.result.pass.entries c.close-entries.result.items closes (rw c.only_pass-passes.ensures.pass.0 at written))
 
 pub returns-in-Ended-clause-ends : goal.returns-in-Ended-clause-ends
 returns-in-Ended-clause-ends g c = λ o is.
@@ -52,8 +62,8 @@ returns-in-WriteFault-clause-ends g c = λ o is.
     let ended = rw (c.only_pass-passes.ensures.pass.0, c.in-WriteFault.is) at (c.serve_session-pass.ensures.ends o new_room is (fresh_origin c.only_pass-passes.result.1 c.only_pass-passes.ensures.pass.1)) in
     inl (session_ends o c.serve_session-pass.result.pass.entries c.close-entries.result.items _ _ end.WriteFault closes ended)
 
-pub returns-clause-ends : goal.returns-clause-ends
-returns-clause-ends g c = λ o is.
+pub returns-in-TooMuchInput-clause-ends : goal.returns-in-TooMuchInput-clause-ends
+returns-in-TooMuchInput-clause-ends g c = λ o is.
     let are = c.push_reserved.ensures.items ∙ ap (λ ps. ps ++ c.serve_session-pass.result.pass ∷ []) c.only_pass-passes.ensures.none in
     let journal = c.close-entries.ensures in
     let closes = closed o c.args.room c.args.setting.counting c.args.setting.start c.push_reserved.new.self.items c.serve_session-pass.result.pass c.close-entries.result.items is are

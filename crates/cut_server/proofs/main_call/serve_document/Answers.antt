@@ -1,8 +1,10 @@
 use Rattle.std.proofs.Common.{inl, inr, refl}
-use Rattle.command_ends.specs.Ports.{change, output_told}
-use Rattle.input_files.specs.Documents.{Describes, IsDocumentRefused, document_line}
-use Rattle.input_files.proofs.Endings.{unopened}
-use Rattle.cut_server.proofs.HallRuns.{hall_ends}
+use Rattle.command_files.specs.Ports.{change, output_told}
+use Rattle.room_files.specs.Files.{FitsIn}
+use Rattle.command_files.specs.declared.documents.TheConstants.{MAX_DOCUMENT}
+use Rattle.command_files.specs.Documents.{Describes, IsDocumentRefused, document_line}
+use Rattle.command_files.proofs.Endings.{unopened}
+use Rattle.served_rooms.proofs.HallRuns.{hall_ends}
 use Rattle.cut_server.proofs.main_call.serve_document.Goals as goal
 
 pub returns-in-Ok : goal.returns-in-Ok
@@ -25,7 +27,7 @@ returns-in-Err g c =
     inr (
       refl,
       c.in-Err.ensures.same,
-      unopened (Describes c.args.counting.now content) (IsDocumentRefused c.args.counting.now content) document_line before after
+      unopened (Describes c.args.counting.now content) (IsDocumentRefused c.args.counting.now content) (FitsIn content MAX_DOCUMENT) document_line before after
           (change (output_told g.K.Sink.taken g.K.Sink.write_faults) c.args.output.now c.end_unopened.new.output) c.in-Err.fault c.end_unopened.result c.in-Err.ensures.opens
           c.in-Err.ensures.counts c.end_unopened.ensures,
     )

@@ -1,5 +1,5 @@
 use Rattle.std.proofs.Common.{inl}
-use Rattle.input_files.proofs.Unchanged.{read_then}
+use Rattle.command_files.proofs.Unchanged.{read_then}
 use Rattle.list_commands.proofs.points.list_cut.Goals as goal
 
 pub returns-in-Ok : goal.returns-in-Ok

@@ -1,5 +1,5 @@
 use Rattle.std.proofs.Common.{inl, inr, refl, length, arith, codes, ◌∙◌}
-use Rattle.input_files.proofs.Openings.{sound_opens}
+use Rattle.command_files.proofs.Openings.{sound_opens}
 use Rattle.list_commands.proofs.Sound.{few_tracks, limited, nests_lie, reached, refused_at}
 use Rattle.list_commands.proofs.points.list_point.Goals as goal
 

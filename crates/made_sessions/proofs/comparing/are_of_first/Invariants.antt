@@ -1,5 +1,5 @@
 use Rattle.std.proofs.Common.{drop}
-use Rattle.apart_stations.specs.OwnParts.{AreOfFirst}
+use Rattle.room_core.specs.OwnParts.{AreOfFirst}
 use Rattle.made_sessions.proofs.comparing.are_of_first.Given as goal
 
 -- where those to come are of the first stations, all are

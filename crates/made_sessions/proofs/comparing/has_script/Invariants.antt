@@ -1,5 +1,5 @@
 use Rattle.std.proofs.Common.{◌≡◌, ◌+◌, drop}
-use Rattle.apart_stations.specs.OwnParts.{calls_of}
+use Rattle.room_core.specs.OwnParts.{calls_of}
 use Rattle.room_core.specs.Projection.{of_station}
 use Rattle.made_sessions.proofs.Scripting.{Goes}
 use Rattle.made_sessions.proofs.comparing.has_script.Given as goal

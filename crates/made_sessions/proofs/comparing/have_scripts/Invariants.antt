@@ -1,5 +1,5 @@
 use Rattle.std.proofs.Common.{◌≡◌, ◌<◌, ℕ}
-use Rattle.apart_stations.specs.OwnParts.{calls_of}
+use Rattle.room_core.specs.OwnParts.{calls_of}
 use Rattle.room_core.specs.Projection.{of_station}
 use Rattle.made_sessions.specs.Scripts.{script}
 use Rattle.made_sessions.proofs.comparing.have_scripts.Given as goal

@@ -1,5 +1,0 @@
-use Rattle.call_text.proofs.LabelPlaces.{place_told, place_named}
-use Rattle.call_text.proofs.laws.labels_name_places.Goals as goal
-
-pub returns : goal.returns
-returns c = λ counting start place word. (place_told counting start place word, place_named counting start place word)

@@ -1,8 +1,0 @@
-use Rattle.std.proofs.Common.{◌≡◌, ◌+◌, ◌≤◌, length}
-use Rattle.composables.specs.TrackSets.{tracks_in}
-use Rattle.call_text.proofs.TrackSets.{tracks_after}
-use Rattle.call_text.proofs.parts.track_count.Given as goal
-
--- the tracks so far, and those to come
-abbrev pub invariant-loop-track : goal.invariant-loop-track
-invariant-loop-track l = (l.count + length (tracks_after l.tracks l.track) ≡ length (tracks_in l.tracks)) × (l.count ≤ l.track)

@@ -1,9 +1,0 @@
-use Rattle.std.proofs.Common.{rules}
-use Rattle.call_text.proofs.RowWords.{four_words}
-use Rattle.call_text.proofs.reading.slip.Goals as goal
-
-pub returns-in_err-item-in-len4-clause-read : goal.returns-in_err-item-in-len4-clause-read
-returns-in_err-item-in-len4-clause-read c = let words = four_words c.args.words.now c.in-len4.len_at_least c.in-len4.len_below in rw words (search rules)
-
-pub returns-in_err-by-in-len4-clause-read : goal.returns-in_err-by-in-len4-clause-read
-returns-in_err-by-in-len4-clause-read c = let words = four_words c.args.words.now c.in-len4.len_at_least c.in-len4.len_below in rw words (search rules)

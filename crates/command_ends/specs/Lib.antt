@@ -1,4 +1,0 @@
--- To be read: public clauses speak of these.
-pub mod Statuses
-pub mod Ports
-pub mod Texts

@@ -1,4 +1,0 @@
-use Rattle.cut_server.proofs.stations.serve_opened.Given as goal
-
-abbrev pub ghosts-serve_blank : goal.ghosts-serve_blank
-ghosts-serve_blank g a = record { table = a.blank.journal.table; opening = a.blank.journal.opening; stations = a.blank.journal.stations }

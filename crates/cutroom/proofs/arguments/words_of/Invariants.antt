@@ -1,6 +1,0 @@
-use Rattle.std.proofs.Common.{◌≡◌, ◌++◌, map, string_bytes}
-use Rattle.std.specs.Vec.Iter.{into_iter_items}
-use Rattle.cutroom.proofs.arguments.words_of.Given as goal
-
-abbrev pub invariant-loop-text : goal.invariant-loop-text
-invariant-loop-text l = l.words ++ map string_bytes (into_iter_items l.text-iterator) ≡ map string_bytes (into_iter_items l.fn.texts)

@@ -1,5 +1,0 @@
-use Rattle.edl_again.proofs.ListsRead.{written_is_read_again}
-use Rattle.edl_again.proofs.laws.a_written_list_is_read_again.Goals as goal
-
-pub returns : goal.returns
-returns c = written_is_read_again

@@ -1,5 +1,0 @@
--- To be read: public clauses speak of these.
-pub mod Unopened
-pub mod Documents
-pub mod Journals
-pub mod Lists

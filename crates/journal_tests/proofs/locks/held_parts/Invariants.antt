@@ -1,4 +1,0 @@
-use Rattle.journal_tests.proofs.locks.held_parts.Given as goal
-
-abbrev pub ghosts-held_in_turn : goal.ghosts-held_in_turn
-ghosts-held_in_turn g a = record { table = a.blank.table; opening = a.blank.opening; stations = a.blank.stations }

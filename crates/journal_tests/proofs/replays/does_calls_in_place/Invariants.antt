@@ -1,4 +1,0 @@
-use Rattle.journal_tests.proofs.replays.does_calls_in_place.Given as goal
-
-abbrev pub ghosts-called : goal.ghosts-called
-ghosts-called g a = record { name = a.blank.name; parts = a.blank.parts }

@@ -1,4 +1,0 @@
-use Rattle.laid_tracks.proofs.laying.linked_track.Given as goal
-
-abbrev pub ghosts-laid : goal.ghosts-laid
-ghosts-laid a = record { name = a.blank.name; parts = a.blank.parts }

@@ -1,0 +1,17 @@
+pub mod CallLengths
+pub mod EntryLengths
+pub mod EntryTexts
+pub mod FaultLaws
+pub mod IntoRoom
+pub mod JournalLaws
+pub mod JournalSteps
+pub mod LabelPlaces
+pub mod LateEntries
+pub mod ListWords
+pub mod Positions
+pub mod ReadParts
+pub mod RowWords
+pub mod TableLaws
+pub mod TrackSets
+pub mod WrittenCalls
+pub mod WrittenParts

@@ -1,5 +1,0 @@
-use Rattle.otio_again.proofs.CutBack.{written_is_read_again}
-use Rattle.otio_again.proofs.laws.a_written_cut_is_read_again.Goals as goal
-
-pub returns : goal.returns
-returns c = written_is_read_again

@@ -1,4 +1,0 @@
-use Rattle.page_tests.proofs.lists.a_list_is_changed_as_a_plain_one.Given as goal
-
-abbrev pub ghosts-changes : goal.ghosts-changes
-ghosts-changes g a = record { name = a.blank.name; parts = a.blank.parts }

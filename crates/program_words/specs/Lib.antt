@@ -1,0 +1,3 @@
+-- To be read: public clauses speak of these.
+pub mod Notices
+pub mod Complaints

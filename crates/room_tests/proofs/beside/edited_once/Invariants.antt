@@ -1,4 +1,0 @@
-use Rattle.room_tests.proofs.beside.edited_once.Given as goal
-
-abbrev pub ghosts-edited : goal.ghosts-edited
-ghosts-edited g a = record { name = a.ledger.name; parts = a.ledger.parts }

@@ -1,4 +1,0 @@
-use Rattle.room_tests.proofs.meeting.edit_once.Given as goal
-
-abbrev pub ghosts-edit_counted : goal.ghosts-edit_counted
-ghosts-edit_counted g a = record { name = a.ledger.name; parts = a.ledger.parts }

@@ -1,0 +1,5 @@
+pub mod HallRuns
+pub mod Sound
+pub mod Closing
+pub mod Seating
+pub mod AllStations

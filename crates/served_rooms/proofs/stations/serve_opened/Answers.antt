@@ -1,0 +1,21 @@
+use Rattle.std.proofs.Common.{ℕ, refl, subst}
+use Rattle.command_files.specs.Unopened.{AreQuiet}
+use Rattle.served_rooms.specs.Halls.{FileEnds, HallEnds}
+use Rattle.command_files.proofs.Openings.{sound_opens}
+use Rattle.served_rooms.proofs.stations.serve_opened.Goals as goal
+
+pub new-requires-clause-opens : goal.new-requires-clause-opens
+new-requires-clause-opens g c = rw c.into_vec.ensures (sound_opens c.args.opening c.requires.sound c.requires.some)
+
+pub serve_blank-requires-clause-opened : goal.serve_blank-requires-clause-opened
+serve_blank-requires-clause-opened g c κs within =
+    (c.args.opening, _, c.in-Ok.ensures.opening, record { opens = sound_opens c.args.opening c.requires.sound c.requires.some; setting = refl; tracks = c.into_vec.ensures })
+
+pub returns : goal.returns
+returns g c =
+    let was = g.F.Files.told c.args.files.now in
+    let now = g.F.Files.told c.serve_blank.new.files in
+    let before = g.H.Hall.told c.args.hall.now in
+    let after = g.H.Hall.told c.serve_blank.new.hall in
+    subst (λ (n : ℕ). HallEnds c.args.opening n c.args.place.now.address.now (FileEnds c.args.place.now.journal.now was now) (AreQuiet was now) before after c.serve_blank.result) c.in-Ok.ensures.stations
+    (c.serve_blank.ensures c.args.opening _ c.in-Ok.ensures.opening (record { opens = sound_opens c.args.opening c.requires.sound c.requires.some; setting = refl; tracks = c.into_vec.ensures }))

@@ -1,0 +1,13 @@
+//! Rooms of many stations: each seated at a hall and served in a thread of its own, its journal kept in a file at the end;
+//! and a generated session, whose stations are served in the same way.
+//!
+//! The main contract is that of [`serve_opened`]: one history explains every reply of every station, the file holds its
+//! journal, and the status says how it ended.
+#![tactic(auto)]
+
+mod made;
+mod seated;
+mod stations;
+
+pub use made::make_session;
+pub use stations::{Venue, serve_opened};

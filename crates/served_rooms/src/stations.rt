@@ -1,0 +1,323 @@
+// A room of several stations, each over its line of a hall, and its journal kept in a file.
+ghost use Rattle.std.specs.Prelude.{◌≡◌, ◌<◌, ◌≤◌, [], ℕ, true, Some, OnOk, length, map, slice_get, vec_capacity};
+ghost use Rattle.line_table.specs.Journals.{HasRoomForText, HasText};
+ghost use Rattle.edit_journal.specs.Turns.{AreFresh};
+ghost use Rattle.otio_json.specs.Soundness.{IsSoundOpening};
+ghost use Rattle.otio_json.specs.declared.opening.Opening.{Opening as OpeningOf};
+ghost use Rattle.room_halls.specs.Stations.{HallTold};
+ghost use Rattle.command_files.specs.Unopened.{AreQuiet};
+ghost use Rattle.served_rooms.specs.Halls.{FileEnds, HallEnds, SessionsEnd, first_fault, line_at, or_next, status_of};
+ghost use Rattle.served_rooms.specs.Seated.{AreSeated, CountsSeats, HasNumber, SeatedState, unseated};
+ghost use Rattle.station_sessions.specs.Served.{IsRoomOf};
+ghost use Rattle.station_sessions.specs.SessionInside.{TrackOpening, opened_with};
+
+use crate::seated::{SeatedStation, serve_all};
+use call_text::{CutCall, CutObject, CutPart, journal_room, journal_text_into};
+use command_files::Status;
+use cut_room::{Room, RoomBlank};
+use edit_apply::Editor;
+use edit_journal::{Naming, Pass};
+use otio_json::Opening;
+use room_core::Entry;
+use room_files::Files;
+use room_halls::{Hall, HallFault};
+use room_ports::Gate;
+use station_sessions::{End, Setting};
+use std::alloc::Global;
+use std::marker::Brand;
+use std::sync::Wait;
+use std::thread::Threads;
+
+// The status that a session's end comes to.
+fn status_of(end: End) -> Status
+    ensures { result ≡ status_of end }
+{
+    match end {
+        End::Ended => Status::Done,
+        End::ReadFault => Status::ReadFault,
+        End::WriteFault => Status::WriteFault,
+        End::TooMuchInput => Status::TooMuchInput,
+    }
+}
+
+// This status, or the next where this one is 0.
+fn or_next(status: Status, next: Status) -> Status
+    ensures { result ≡ or_next status next }
+{
+    match status {
+        Status::Done => next,
+        _ => status,
+    }
+}
+
+// Seats each station with its pass, from the lowest on, over a line of the hall.
+pub(crate) fn seat_all<H: Hall, J: Naming<CutObject, CutPart>>(
+    alloc: Global,
+    hall: &mut H,
+    passes: Vec<Pass<CutObject, J>>,
+    seated: &mut Vec<SeatedStation<H::Line, J>>,
+) -> Result<(), HallFault>
+    requires passes { AreFresh J.opening (length passes.items) passes.items }
+    requires none { seated.old.items ≡ [] }
+    requires room { length passes.items ≤ vec_capacity seated.old }
+
+    ensures seated { AreSeated (H.told hall.old) seated.new.items }
+    ensures all { OnOk result (length seated.new.items ≡ length passes.items) }
+    ensures within { length seated.new.items ≤ length passes.items }
+    ensures held { (k : ℕ) → k < length seated.new.items
+        → ((H.told hall.new).station k).seated ≡ true }
+    ensures free { (k : ℕ) → length seated.new.items ≤ k
+        → (H.told hall.new).station k ≡ (H.told hall.old).station k }
+    ensures counts { CountsSeats result (H.told hall.old).faults (H.told hall.new).faults }
+    ensures opened { (H.told hall.new).opened ≡ (H.told hall.old).opened }
+{
+    for pass in passes {
+        let station = pass.station();
+        match hall.seat_station(alloc, station) {
+            Ok(line) => seated.push_reserved(SeatedStation::new(pass, line)),
+            Err(fault) => return Err(fault),
+        }
+    }
+    Ok(())
+}
+
+// Gives the hall each line back, and keeps the passes: the first status of a session that is not 0.
+fn stand_all_up<H: Hall, J: Naming<CutObject, CutPart>>(
+    hall: &mut H,
+    seated: Vec<SeatedStation<H::Line, J>>,
+    passes: &mut Vec<Pass<CutObject, J>>,
+) -> Status
+    requires numbers { (k : ℕ) (s : SeatedState) → slice_get seated.items k ≡ Some s
+        → HasNumber k s.pass }
+    requires held { (k : ℕ) → k < length seated.items
+        → ((H.told hall.old).station k).seated ≡ true }
+    requires none { passes.old.items ≡ [] }
+    requires room { length seated.items ≤ vec_capacity passes.old }
+
+    ensures lines { (k : ℕ) (s : SeatedState) → slice_get seated.items k ≡ Some s
+        → line_at (H.told hall.new) k ≡ s.line }
+    ensures free { (k : ℕ) → length seated.items ≤ k
+        → (H.told hall.new).station k ≡ (H.told hall.old).station k }
+    ensures passes { map Some passes.new.items ≡ map (λ s. s.pass) seated.items }
+    ensures fault { result ≡ first_fault (map status_of (map (λ s. s.end) seated.items)) }
+    ensures quiet { (H.told hall.new).faults ≡ (H.told hall.old).faults }
+    ensures opened { (H.told hall.new).opened ≡ (H.told hall.old).opened }
+{
+    let mut fault = Status::Done;
+    for seat in seated {
+        let (pass, line, end) = seat.into_parts();
+        hall.stand_up(pass.station(), line);
+        passes.push_reserved(pass);
+        fault = or_next(fault, status_of(end));
+    }
+    fault
+}
+
+// Serves the stations that are seated, gives the hall their lines back and closes the room: the first status of a session
+// that is not 0, and the journal.
+pub(crate) fn serve_seated<
+    R: Threads + Wait + Sync,
+    H: Hall,
+    G: Gate + Sync,
+    J: Naming<CutObject, CutPart> + Send + Sync,
+>(
+    rt: &R,
+    alloc: Global,
+    room: Room<CutObject, J>,
+    mut seated: Vec<SeatedStation<H::Line, J>>,
+    mut passes: Vec<Pass<CutObject, J>>,
+    setting: Setting,
+    hall: &mut H,
+    gate: &G,
+) -> (Status, Vec<Entry<CutCall>>)
+    requires count { length seated.items ≡ room.stations }
+    requires few { room.stations ≤ 16 }
+    requires held { (k : ℕ) → k < length seated.items
+        → ((H.told hall.old).station k).seated ≡ true }
+    requires seated { (before : HallTold) × AreSeated before seated.items }
+    requires none { passes.items ≡ [] }
+    requires room { length seated.items ≤ vec_capacity passes }
+    ensures ends { (o : OpeningOf) (before : HallTold)
+        → IsRoomOf o room setting.counting setting.start
+        → AreSeated before seated.items → before.faults ≡ (H.told hall.old).faults
+        → ((s : ℕ) → room.stations ≤ s → line_at (H.told hall.old) s ≡ line_at before s)
+        → SessionsEnd o room.stations result.1.items before (H.told hall.new) result.0 }
+    ensures text { (o : OpeningOf)
+        → IsRoomOf o room setting.counting setting.start → HasText result.1.items }
+    ensures opened { (H.told hall.new).opened ≡ (H.told hall.old).opened }
+{
+    serve_all(rt, alloc, &room, gate, setting, &mut seated);
+    let status = stand_all_up(hall, seated, &mut passes);
+    let entries = room.close(passes);
+    (status, entries)
+}
+
+// Puts the journal's text into the file of this name, by way of the memory that was taken for it.
+fn keep_journal<F: Files>(
+    mut text: Vec<u8>,
+    entries: &[Entry<CutCall>],
+    name: &str,
+    files: &mut F,
+) -> Status
+    requires text { HasText entries.now }
+    requires room { HasRoomForText text }
+    ensures { FileEnds name.now (F.told files.old) (F.told files.new) entries.now result }
+{
+    journal_text_into(&mut text, entries);
+    match files.write_file(name, &text) {
+        Ok(()) => Status::Done,
+        Err(_) => Status::WriteFault,
+    }
+}
+
+/// Where a room is served: how many stations it has, the address of their hall, and the name of the file in which the
+/// journal is kept.
+#[derive(Clone, Copy)]
+pub struct Venue<'a> {
+    pub stations: u32,
+    pub address: &'a str,
+    pub journal: &'a str,
+}
+
+// Seats the stations of a room that has just been opened, serves them, and keeps the journal. The memory for the
+// journal's text is taken before the hall is opened, so that no day's work is lost because there is none.
+#[tactic(auto, using(crate::proofs::HallRuns::quiet_same))]
+fn serve_room<
+    R: Threads + Wait + Sync,
+    F: Files,
+    H: Hall,
+    G: Gate + Sync,
+    J: Naming<CutObject, CutPart> + Send + Sync,
+>(
+    rt: &R,
+    alloc: Global,
+    room: Room<CutObject, J>,
+    passes: Vec<Pass<CutObject, J>>,
+    setting: Setting,
+    place: &Venue<'_>,
+    files: &mut F,
+    hall: &mut H,
+    gate: &G,
+) -> Status
+    requires passes { AreFresh J.opening room.stations passes.items }
+    requires few { room.stations ≤ 16 }
+    requires opened { (o : OpeningOf) × IsRoomOf o room setting.counting setting.start }
+    ensures { (o : OpeningOf) → IsRoomOf o room setting.counting setting.start
+        → HallEnds o room.stations place.now.address.now
+        (FileEnds place.now.journal.now (F.told files.old) (F.told files.new))
+        (AreQuiet (F.told files.old) (F.told files.new))
+        (H.told hall.old) (H.told hall.new) result }
+{
+    let count = passes.len();
+    let mut seated = match Vec::with_capacity(alloc, count) {
+        Ok(seated) => seated,
+        Err(_) => return Status::OutOfMemory,
+    };
+    let mut back = match Vec::with_capacity(alloc, count) {
+        Ok(back) => back,
+        Err(_) => return Status::OutOfMemory,
+    };
+    let text = match journal_room(alloc) {
+        Ok(text) => text,
+        Err(_) => return Status::OutOfMemory,
+    };
+    match hall.open(place.address) {
+        Ok(()) => {}
+        Err(_) => return Status::NotSeated,
+    }
+    match seat_all(alloc, hall, passes, &mut seated) {
+        Ok(()) => {
+            let (status, entries) = serve_seated(
+                rt, alloc, room, seated, back, setting, hall, gate,
+            );
+            or_next(status, keep_journal(text, &entries, place.journal, files))
+        }
+        Err(fault) => {
+            stand_all_up(hall, seated, &mut back);
+            unseated(fault)
+        }
+    }
+}
+
+// The status where a station was not seated.
+fn unseated(fault: HallFault) -> Status
+    ensures { result ≡ unseated fault }
+{
+    match fault {
+        HallFault::Failed => Status::NotSeated,
+        HallFault::Memory => Status::OutOfMemory,
+    }
+}
+
+// Opens the room of a blank, and serves the stations of a place in it.
+#[tactic(auto, using(crate::proofs::HallRuns::quiet_same))]
+fn serve_blank<
+    R: Threads + Wait + Sync,
+    F: Files,
+    H: Hall,
+    G: Gate + Sync,
+    J: Naming<CutObject, CutPart> + Send + Sync,
+>(
+    rt: &R,
+    alloc: Global,
+    blank: RoomBlank<CutObject>,
+    setting: Setting,
+    place: &Venue<'_>,
+    files: &mut F,
+    hall: &mut H,
+    gate: &G,
+) -> Status
+    requires table { J.table ≡ blank.journal.table }
+    requires opening { J.opening ≡ blank.journal.opening }
+    requires stations { J.stations ≡ blank.journal.stations }
+    requires few { blank.stations ≤ 16 }
+    requires opened { (o : OpeningOf) × (opening : TrackOpening)
+        × (blank.journal.opening ≡ Some opening)
+        × IsRoomOf o (opened_with opening blank.stations) setting.counting setting.start }
+    ensures { (o : OpeningOf) (opening : TrackOpening) → blank.journal.opening ≡ Some opening
+        → IsRoomOf o (opened_with opening blank.stations) setting.counting setting.start
+        → HallEnds o blank.stations place.now.address.now
+        (FileEnds place.now.journal.now (F.told files.old) (F.told files.new))
+        (AreQuiet (F.told files.old) (F.told files.new))
+        (H.told hall.old) (H.told hall.new) result }
+{
+    let (room, passes) = match Room::<CutObject, J>::open(alloc, blank) {
+        Ok(opened) => opened,
+        Err(_) => return Status::OutOfMemory,
+    };
+    serve_room(rt, alloc, room, passes, setting, place, files, hall, gate)
+}
+
+/// Serves the stations of a place, all at once, in a room that begins so, each over its line of the hall, and then puts the
+/// journal's text into the file of the place.
+#[tactic(auto, using(crate::proofs::HallRuns::quiet_same))]
+pub fn serve_opened<R: Threads + Wait + Sync, F: Files, H: Hall, G: Gate + Sync>(
+    rt: &R,
+    alloc: Global,
+    opening: Opening,
+    place: &Venue<'_>,
+    files: &mut F,
+    hall: &mut H,
+    gate: &G,
+) -> Status
+    requires sound { IsSoundOpening opening }
+    requires some { 0 < length opening.tracks }
+    requires stations { (0 < place.now.stations) × (place.now.stations ≤ 16) }
+    ensures { HallEnds opening place.now.stations place.now.address.now
+        (FileEnds place.now.journal.now (F.told files.old) (F.told files.new))
+        (AreQuiet (F.told files.old) (F.told files.new))
+        (H.told hall.old) (H.told hall.new) result }
+{
+    let Opening {
+        table,
+        tracks,
+        counting,
+        start,
+    } = opening;
+    let setting = Setting { counting, start };
+    let blank = match RoomBlank::new(alloc, Editor { table }, tracks.into_vec(), place.stations) {
+        Ok(blank) => blank,
+        Err(_) => return Status::OutOfMemory,
+    };
+    serve_blank::<R, F, H, G, Brand>(rt, alloc, blank, setting, place, files, hall, gate)
+}

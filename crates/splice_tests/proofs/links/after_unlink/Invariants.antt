@@ -1,4 +1,0 @@
-use Rattle.splice_tests.proofs.links.after_unlink.Given as goal
-
-abbrev pub ghosts-undo : goal.ghosts-undo
-ghosts-undo a = record { name = a.blank.name; parts = a.blank.parts }

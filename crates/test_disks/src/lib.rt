@@ -1,0 +1,19 @@
+//! Tests of disks, kept files and receipts: what each call of a disk answers, what a kept file holds after each call
+//! that fails, what each image opens with that a crash may leave, and receipts for counts. There is nothing here to run
+//! besides.
+#![tactic(auto)]
+
+#[cfg(test)]
+mod appends;
+#[cfg(test)]
+mod batches;
+#[cfg(test)]
+mod crashes;
+#[cfg(test)]
+mod disks;
+#[cfg(test)]
+mod openings;
+#[cfg(test)]
+mod receipts;
+#[cfg(test)]
+mod texts;

@@ -1,0 +1,4 @@
+use Rattle.test_rooms.proofs.meeting.edit_once.Given as goal
+
+abbrev pub ghosts-edit_counted : goal.ghosts-edit_counted
+ghosts-edit_counted g a = record { name = a.ledger.name; parts = a.ledger.parts }

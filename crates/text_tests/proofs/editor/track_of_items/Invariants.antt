@@ -1,5 +1,0 @@
-use Rattle.text_tests.proofs.Pushed.{IsRow}
-use Rattle.text_tests.proofs.editor.track_of_items.Given as goal
-
-abbrev pub invariant-loop-number : goal.invariant-loop-number
-invariant-loop-number l = IsRow l.number l.track
