@@ -127,8 +127,8 @@ def explain(data, code, place):
 
 
 def main():
-    if len(sys.argv) < 2:
-        sys.exit("usage: examples/explain.py DOC [REFUSAL]")
+    if len(sys.argv) < 2 or sys.argv[1] == "--help":
+        sys.exit(print(__doc__) if len(sys.argv) > 1 else "usage: examples/explain.py DOC [REFUSAL]")
     line = " ".join(sys.argv[2:]) or sys.stdin.readline()
     refusal = re.fullmatch(r"refused ([JO]\d+) (\d+)", line.strip())
     if refusal is None:

@@ -109,7 +109,7 @@ def table_of(name, rate):
 
 def main():
     if len(sys.argv) != 3:
-        sys.exit("usage: examples/media.py DOC RATE")
+        sys.exit(print(__doc__) if sys.argv[1:] == ["--help"] else "usage: examples/media.py DOC RATE")
     table = table_of(*sys.argv[1:])
     for (reel, first, end), number in table.media.items():
         print(f"@{number} {first} {end} {reel}")

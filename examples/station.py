@@ -204,11 +204,13 @@ class Picture:
         self.put("</g>")
 
     def clipped(self, piece, track, text, below, extra=""):
-        """A text in a piece, behind the dissolve at its head, cut to what has room there."""
+        """As many words of a text as have room in a piece, behind the dissolve at its head."""
         start = piece.start + (piece.mark[1] if piece.mark else 0)
-        room = int((self.x(piece.start + piece.length) - self.x(start) - 6) / 6)
-        if room >= 1:
-            self.label(self.x(start) + 4, self.y(track) + below, text[:room], 11, extra)
+        room = int((self.x(piece.start + piece.length) - self.x(start) - 6) / 6.6)
+        while len(text) > room and " " in text:  # whole words alone: a part of a number would be another number
+            text = text.rpartition(" ")[0].rstrip()
+        if len(text) <= room:
+            self.label(self.x(start) + 4, self.y(track) + below, text, 11, extra)
 
     def dissolve(self, piece, track):
         a, b = piece.mark

@@ -1,7 +1,9 @@
 //! The plain program that `bench/plain/run` measures cutroom against: one station, tracks that are vectors of items, no
-//! proofs, no dissolves, no links, no limits. It answers valid lines as cutroom does, and nothing else of it is meant.
+//! proofs, no dissolves, no limits, and of links only that they are made. It answers valid lines as cutroom does, and
+//! nothing else of it is meant.
 
 mod deltas;
+mod links;
 
 use std::io::{BufRead, Write};
 
@@ -23,6 +25,9 @@ struct Track {
     items: Vec<Item>,
     next: u32,
     len: u32,
+    /// Whether the item with each number has a link.
+    linked: Vec<bool>,
+    next_link: u32,
 }
 
 fn later(side: Side, by: u32) -> Side {
@@ -241,6 +246,11 @@ fn main() {
                 let len = words.get(6).map(|word| number(word));
                 let item = track.fill(number(words[2]), thing(words[3], words[4]), len);
                 format!("ok {point} item {item}\n")
+            }
+            "link" => {
+                let items: Vec<u32> = words[2].split(',').map(number).collect();
+                let (home, made) = links::link(&mut tracks, &tracks_of(words[1]), &items);
+                format!("ok {point} link {home}.{made}\n")
             }
             other => panic!("{other}"),
         };

@@ -86,11 +86,11 @@ def seconds_of(program, before, lines, tracks=1):
     return max(whole - min(run(program, before, tracks)[1] for _ in range(ROUNDS)), 1e-6)
 
 
-def compare(ours, plain, name, lines, before=()):
+def compare(ours, plain, name, lines, before=(), tracks=1):
     before = list(before)
-    if run(ours, [*before, *lines])[0] != run(plain, [*before, *lines])[0]:
+    if run(ours, [*before, *lines], tracks)[0] != run(plain, [*before, *lines], tracks)[0]:
         raise SystemExit(f"bench: {name}: the replies differ")
-    one, other = seconds_of(ours, before, lines), seconds_of(plain, before, lines)
+    one, other = seconds_of(ours, before, lines, tracks), seconds_of(plain, before, lines, tracks)
     print(f"{name:<52}{len(lines):>8}{one:>10.3f}{other:>10.3f}{one / other:>8.1f}", flush=True)
 
 
@@ -176,6 +176,8 @@ def main():
         for name, there_and_back in deltas_in_the_middle(items).items():
             compare(ours, plain, f"{name} in the middle of {items:,} items", there_and_back * 10_000, before)
         compare(ours, plain, f"fill of gaps between {items:,} items", fills_of_gaps(2_000, items), before)
+    tracks, links = linked_pairs(10_000)
+    compare(ours, plain, "link of two of 10,000 items each", links, tracks, tracks=2)
     compare_links(ours, 10_000, 20_000)
     tell_memory(ours)
 

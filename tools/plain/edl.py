@@ -383,6 +383,9 @@ def answer(words):
 
 
 def main():
+    if sys.argv[1:] == ["--help"]:
+        print(__doc__)
+        return 0
     try:
         text, status = answer(sys.argv[1:])
     except OSError:

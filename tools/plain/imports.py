@@ -95,6 +95,9 @@ def import_answer(data, rate_name, drop):
 
 
 def main():
+    if len(sys.argv) != 4:
+        print(__doc__)
+        return 0 if sys.argv[1:] == ["--help"] else 3
     name, rate, drop = sys.argv[1:]
     text, status = import_answer(pathlib.Path(name).read_bytes(), edl.rate_in(rate), drop == "drop")
     sys.stdout.buffer.write(text.encode())

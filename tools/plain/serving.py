@@ -30,19 +30,29 @@ def document(rows):
     return json.dumps({"OTIO_SCHEMA": "Timeline.1", "tracks": {"OTIO_SCHEMA": "Stack.1", "children": tracks}})
 
 
-def port_in(line):
-    """The port that a line of a server names, if it says where the server listens."""
-    return int(line.rsplit(":", 1)[1]) if "listening at" in line else None
+LISTENS = "cutroom: listening at "
+
+
+def port_in(line, host="127.0.0.1"):
+    """The port that a line of a server names, if it says where the server listens. That has to be at this host: a client
+    of the same machine also reaches a server that listens for every network."""
+    if not line.startswith(LISTENS):
+        return None
+    told, port = line.removeprefix(LISTENS).rsplit(":", 1)
+    if told != host:
+        raise AssertionError(f"it listens at {told}, and {host} was asked for")
+    return int(port)
 
 
 class Server:
-    """The program, serving a document to so many stations."""
+    """The program, serving a document to so many stations. Options are those of its process."""
 
-    def __init__(self, program, folder, text, stations, address="127.0.0.1:0"):
+    def __init__(self, program, folder, text, stations, address="127.0.0.1:0", **options):
         self.journal = folder / "journal"
         (folder / "doc.otio").write_text(text)
         words = [program, "serve", folder / "doc.otio", "24", "ndf", str(stations), address, self.journal]
-        self.ran = subprocess.Popen(words, stdout=subprocess.PIPE, stderr=subprocess.PIPE, text=True)
+        options = {"stdout": subprocess.PIPE, "stderr": subprocess.PIPE, "text": True} | options
+        self.ran = subprocess.Popen(words, **options)
         self.told = []
         self.port = None
 
