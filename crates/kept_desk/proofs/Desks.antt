@@ -1,9 +1,9 @@
 -- What a desk's type says holds on from step to step.
-use Rattle.std.proofs.Common.{◌≡◌, ◌≢◌, ℕ, zero, suc, ◌+◌, ◌<◌, ◌≤◌, List, ◌++◌, length, map, take, drop, Option, Some, None, refl, sym, ◌∙◌, ap, subst, arith}
+use Rattle.std.proofs.Common.{◌≡◌, ◌≢◌, ℕ, zero, suc, ◌+◌, ◌<◌, ◌≤◌, List, ◌++◌, length, map, take, drop, Option, Some, None, IsSome, refl, sym, ◌∙◌, ap, subst, arith}
 use Rattle.std.proofs.lemmas.List.{length-map}
 use Rattle.atomic_table.specs.Seated.{TableId}
 use Rattle.room_ports.specs.Counts.{HasRisen, counted}
-use Rattle.room_disks.specs.Crashes.{Course}
+use Rattle.room_disks.specs.Crashes.{AtMost, Course, Told}
 use Rattle.journal_file.specs.Standing.{JournalState, StandsFor}
 use Rattle.append_receipts.specs.States.{Counts}
 use Rattle.room_core.specs.declared.entry.Entry.{Entry}
@@ -47,32 +47,39 @@ told_more table start count more before after counts told same = record {
   cause = λ some. subst (HasRisen start) (sym same) (told.cause some);
 }
 
+-- what the disk tells now it told before
+told_before : (before after : Option Course) → Told (AtMost 4) before after → IsSome after → IsSome before
+told_before (Some c) after calls now = refl
+told_before None (Some c) calls now = absurd calls
+told_before None None calls now = now
+
 -- ---- the steps of a desk
 
 module _ {D O P C R X : Type 0} (meaning : O → Meaning P C R X) (opening : Option (Opening O P))
-    (line_of : Entry C → List ℕ) (course : D → Option Course) (faults : D → ℕ) (table : TableId)
-    (kept : List (Entry C)) (start : ℕ) where
+    (line_of : Entry C → List ℕ) (course : D → Option Course) (faults : D → ℕ) (table : TableId) (number : ℕ)
+    (kept : List (Entry C)) (first : Option Course) (start : ℕ) where
   -- the file has no more records than the history has entries
-  pub within : (d : DeskState D O P C) → IsDesk meaning opening line_of course faults table kept start d
+  pub within : (d : DeskState D O P C) → IsDesk meaning opening line_of course faults table number kept first start d
       → d.file.count ≤ length d.pass.entries
   within d is = front_within line_of d.file.count d.pass.entries is.holds.stands.0
 
   -- what is pending fits into the most records
-  pub fits : (d : DeskState D O P C) (batch : List (List ℕ)) → IsDesk meaning opening line_of course faults table kept start d
+  pub fits : (d : DeskState D O P C) (batch : List (List ℕ)) → IsDesk meaning opening line_of course faults table number kept first start d
       → batch ≡ map line_of (take (length batch) (drop d.file.count d.pass.entries)) → d.file.count + length batch ≤ 100000
   fits d batch is next =
       let most = is.reader.legal.2.within in
       omega (arith, most, rest_within line_of d.file.count (length batch) d.pass.entries batch (within d is) refl next)
 
   -- a new desk
-  pub begun : (file : JournalState D) (pass : Known O P C) (counts : Counts) → IsReader meaning opening pass → Begins pass.entries kept
-      → StandsFor course file (map line_of kept) → file.pending ≡ None → start ≡ faults file.disk → counts ≡ record { table = table; kept = file.count; failed = 0 }
-      → IsDesk meaning opening line_of course faults table kept start (record { file = file; pass = pass; counts = counts })
-  begun file pass counts reader begins stands settled quiet are =
+  pub begun : (file : JournalState D) (pass : Known O P C) (counts : Counts) → IsReader meaning opening pass → number ≡ pass.number → Begins pass.entries kept
+      → StandsFor course file (map line_of kept) → file.pending ≡ None → first ≡ course file.disk → start ≡ faults file.disk → counts ≡ record { table = table; kept = file.count; failed = 0 }
+      → IsDesk meaning opening line_of course faults table number kept first start (record { file = file; pass = pass; counts = counts })
+  begun file pass counts reader is_number begins stands settled same quiet are =
       let count : length kept ≡ file.count = sym (length-map kept line_of) ∙ stands.0 in
       let front : take file.count pass.entries ≡ kept = ap (λ n. take n pass.entries) (sym count) ∙ front_of_begins kept pass.entries begins in
       record {
         reader = reader;
+        number_is = sym is_number;
         holds = record {
           stands = subst (λ l. StandsFor course file (map line_of l)) (sym front) stands;
           pending = subst (ArePending line_of (drop file.count pass.entries)) (sym settled) tt;
@@ -85,12 +92,13 @@ module _ {D O P C R X : Type 0} (meaning : O → Meaning P C R X) (opening : Opt
         };
         begins = begins;
         least = omega (arith, count);
+        was_told = λ now. subst IsSome (sym same) now;
       }
 
   -- the pass has read on
-  pub read_on : (d : DeskState D O P C) (pass : Known O P C) (o : Opening O P) (point : ℕ) → IsDesk meaning opening line_of course faults table kept start d
+  pub read_on : (d : DeskState D O P C) (pass : Known O P C) (o : Opening O P) (point : ℕ) → IsDesk meaning opening line_of course faults table number kept first start d
       → opening ≡ Some o → IsAtPoint (meaning o.0) o.1 d.pass pass point
-      → IsDesk meaning opening line_of course faults table kept start (record d { pass = pass })
+      → IsDesk meaning opening line_of course faults table number kept first start (record d { pass = pass })
   read_on d pass o point is opened at =
       let front = at.stays.goes_on.front in
       let lines = within d is in
@@ -99,6 +107,7 @@ module _ {D O P C R X : Type 0} (meaning : O → Meaning P C R X) (opening : Opt
           own = ap (λ n. of_station n pass.entries) at.stays.goes_on.number_is ∙ (at.stays.own ∙ is.reader.own);
           legal = (o, opened, at.legal);
         };
+        number_is = at.stays.goes_on.number_is ∙ is.number_is;
         holds = record {
           stands = subst (λ l. StandsFor course d.file (map line_of l)) (sym (front_stays d.file.count d.pass.entries pass.entries lines front)) is.holds.stands;
           pending = pending_stays line_of d.file.count d.pass.entries pass.entries d.file.pending lines front is.holds.pending;
@@ -106,20 +115,22 @@ module _ {D O P C R X : Type 0} (meaning : O → Meaning P C R X) (opening : Opt
         told = is.told;
         begins = begins_on kept d.pass.entries pass.entries is.begins front;
         least = is.least;
+        was_told = is.was_told;
       }
 
   -- the lines of the entries after those of the file were put
-  pub put : (d : DeskState D O P C) (file : JournalState D) (batch : List (List ℕ)) (more : ℕ) → IsDesk meaning opening line_of course faults table kept start d
+  pub put : (d : DeskState D O P C) (file : JournalState D) (batch : List (List ℕ)) (more : ℕ) → IsDesk meaning opening line_of course faults table number kept first start d
       → batch ≡ map line_of (take (length batch) (drop d.file.count d.pass.entries))
       → ((lines : List (List ℕ)) → StandsFor course d.file lines → StandsFor course file (lines ++ batch))
-      → file.pending ≡ None → file.count ≡ d.file.count + length batch → faults file.disk ≡ faults d.file.disk → more ≡ length batch
-      → IsDesk meaning opening line_of course faults table kept start (record { file = file; pass = d.pass; counts = record d.counts { kept = d.counts.kept + more } })
-  put d file batch more is next ok settled count quiet added =
+      → file.pending ≡ None → file.count ≡ d.file.count + length batch → faults file.disk ≡ faults d.file.disk → Told (AtMost 4) (course d.file.disk) (course file.disk) → more ≡ length batch
+      → IsDesk meaning opening line_of course faults table number kept first start (record { file = file; pass = d.pass; counts = record d.counts { kept = d.counts.kept + more } })
+  put d file batch more is next ok settled count quiet calls added =
       let lines : map line_of (take file.count d.pass.entries) ≡ map line_of (take d.file.count d.pass.entries) ++ batch =
       ap (λ n. map line_of (take n d.pass.entries)) count ∙ (front_more line_of d.file.count (length batch) d.pass.entries
       ∙ ap (λ l. map line_of (take d.file.count d.pass.entries) ++ l) (sym next)) in
       record {
         reader = is.reader;
+        number_is = is.number_is;
         holds = record {
           stands = subst (StandsFor course file) (sym lines) (ok (map line_of (take d.file.count d.pass.entries)) is.holds.stands);
           pending = subst (ArePending line_of (drop file.count d.pass.entries)) (sym settled) tt;
@@ -128,19 +139,21 @@ module _ {D O P C R X : Type 0} (meaning : O → Meaning P C R X) (opening : Opt
             (told_more table start d.file.count more (faults d.file.disk) (faults file.disk) d.counts is.told quiet);
         begins = is.begins;
         least = omega (arith, is.least, count);
+        was_told = λ now. is.was_told (told_before (course d.file.disk) (course file.disk) calls now);
       }
 
   -- the disk failed, and lines are pending
-  pub failed : (d : DeskState D O P C) (file : JournalState D) (batch : List (List ℕ)) → IsDesk meaning opening line_of course faults table kept start d
+  pub failed : (d : DeskState D O P C) (file : JournalState D) (batch : List (List ℕ)) → IsDesk meaning opening line_of course faults table number kept first start d
       → 0 < length batch → batch ≡ map line_of (take (length batch) (drop d.file.count d.pass.entries))
       → ((lines : List (List ℕ)) → StandsFor course d.file lines → StandsFor course file lines)
-      → file.pending ≡ Some batch → file.count ≡ d.file.count → HasRisen (faults d.file.disk) (faults file.disk)
-      → IsDesk meaning opening line_of course faults table kept start (record { file = file; pass = d.pass; counts = record d.counts { failed = counted d.counts.failed } })
-  failed d file batch is some next err pending count risen =
+      → file.pending ≡ Some batch → file.count ≡ d.file.count → HasRisen (faults d.file.disk) (faults file.disk) → Told (AtMost 4) (course d.file.disk) (course file.disk)
+      → IsDesk meaning opening line_of course faults table number kept first start (record { file = file; pass = d.pass; counts = record d.counts { failed = counted d.counts.failed } })
+  failed d file batch is some next err pending count risen calls =
       let after : ArePending line_of (drop file.count d.pass.entries) (Some batch) =
       (some, next ∙ ap (λ n. map line_of (take (length batch) (drop n d.pass.entries))) (sym count)) in
       record {
         reader = is.reader;
+        number_is = is.number_is;
         holds = record {
           stands = subst (λ n. StandsFor course file (map line_of (take n d.pass.entries))) (sym count) (err (map line_of (take d.file.count d.pass.entries)) is.holds.stands);
           pending = subst (ArePending line_of (drop file.count d.pass.entries)) (sym pending) after;
@@ -149,4 +162,5 @@ module _ {D O P C R X : Type 0} (meaning : O → Meaning P C R X) (opening : Opt
             (told_failed table start d.file.count (faults d.file.disk) (faults file.disk) d.counts is.told risen);
         begins = is.begins;
         least = subst (λ n. length kept ≤ n) (sym count) is.least;
+        was_told = λ now. is.was_told (told_before (course d.file.disk) (course file.disk) calls now);
       }

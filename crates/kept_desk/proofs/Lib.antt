@@ -1,3 +1,3 @@
 mod Desks
 mod Entered
-mod Fronts
+pub mod Fronts

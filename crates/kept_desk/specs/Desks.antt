@@ -1,6 +1,6 @@
 -- What lies behind the lock of a kept file: the file, a pass that reads the room's journal, and the counts that receipts
 -- tell of.
-use Rattle.std.specs.Prelude.{◌≡◌, ◌≢◌, ℕ, ◌<◌, ◌≤◌, List, [], ◌∷◌, ◌++◌, length, map, take, drop, Option, Some, None}
+use Rattle.std.specs.Prelude.{◌≡◌, ◌≢◌, ℕ, ◌<◌, ◌≤◌, List, [], ◌∷◌, ◌++◌, length, map, take, drop, Option, Some, None, IsSome}
 use Rattle.atomic_table.specs.Seated.{TableId}
 use Rattle.room_ports.specs.Counts.{HasRisen}
 use Rattle.room_disks.specs.Crashes.{Course}
@@ -23,6 +23,16 @@ pub record DeskState (D O P C : Type 0) : Type 0 where
 pub record Taking : Type 0 where
   pub before : Counts
   pub after : Counts
+
+-- how many records the file is known to have by who took the lock so last, where it had that many when it was opened
+abbrev pub upto : ℕ → Option Taking → ℕ
+upto kept None = kept
+upto kept (Some taking) = taking.after.kept
+
+-- how many failed appends were counted by then
+abbrev pub failures : Option Taking → ℕ
+failures None = 0
+failures (Some taking) = taking.after.failed
 
 -- the pass that is there
 abbrev pub known_of : {O P C : Type 0} → Option (Known O P C) → Known O P C
@@ -61,13 +71,19 @@ pub record IsTold (table : TableId) (start : ℕ) (count faults : ℕ) (counts :
   pub quiet : counts.failed ≡ 0 → faults ≡ start
   pub cause : counts.failed ≢ 0 → HasRisen start faults
 
+-- where the disk tells how the file stands now, it told that then
+abbrev pub WasTold : Option Course → Option Course → Type 0
+WasTold begun now = IsSome now → IsSome begun
+
 -- What the type of a desk says: all that is known of one that comes out of its lock. The history of its pass begins with
 -- the entries that the file had when it was opened, and the file still has these.
 pub record IsDesk {D O P C R X : Type 0} (meaning : O → Meaning P C R X) (opening : Option (Opening O P))
-    (line_of : Entry C → List ℕ) (course : D → Option Course) (faults : D → ℕ) (table : TableId)
-    (kept : List (Entry C)) (start : ℕ) (desk : DeskState D O P C) : Type 0 where
+    (line_of : Entry C → List ℕ) (course : D → Option Course) (faults : D → ℕ) (table : TableId) (number : ℕ)
+    (kept : List (Entry C)) (begun : Option Course) (start : ℕ) (desk : DeskState D O P C) : Type 0 where
   pub reader : IsReader meaning opening desk.pass
+  pub number_is : desk.pass.number ≡ number
   pub holds : HoldsFront line_of course desk.file desk.pass.entries
   pub told : IsTold table start desk.file.count (faults desk.file.disk) desk.counts
   pub begins : Begins desk.pass.entries kept
   pub least : length kept ≤ desk.file.count
+  pub was_told : WasTold begun (course desk.file.disk)

@@ -4,20 +4,21 @@ ghost use Rattle.room_core.specs.History.{IsLegal};
 ghost use Rattle.room_core.specs.Whole.{whole};
 ghost use Rattle.journal_file.specs.Standing.{StandsFor};
 ghost use Rattle.edit_journal.specs.Seats.{Begins};
-ghost use Rattle.kept_desk.specs.declared.fault.KeepFault.TheVariants as faults;
+ghost use Rattle.room_keepers.specs.declared.fault.KeepFault.TheVariants as faults;
 ghost use Rattle.kept_desk.specs.Desks.{IsDesk, IsReader};
 ghost use Rattle.kept_desk.specs.Faults.{IsCountedFault};
 
 use crate::batches::batch_of;
 use crate::counting::Counting;
 use crate::held_pass::HeldPass;
-use crate::{EntryLines, Filing, KeepFault, Taken};
+use crate::{EntryLines, Filing, Taken};
 use append_receipts::{Clerk, Receipts};
 use cut_room::Room;
 use edit_journal::{Naming, Pass};
 use journal_file::{Batch, JournalFile, MOST_LINES};
 use room_core::{Entry, PartObject};
 use room_disks::Disk;
+use room_keepers::KeepFault;
 use room_ports::Memory;
 use std::alloc::Global;
 use std::marker::{Model, PhantomData};
@@ -47,8 +48,23 @@ impl<D: Disk, O: PartObject, J: Naming<O, O::Part>, K: Filing<O::Call>, T: Entry
 
     ghost view = { λ d. record { file = d.file; pass = d.pass; counts = d.counts } };
 
-    ghost invariant = { λ d. IsDesk O.meaning J.opening T.line_of D.course D.faults K.table K.kept K.faults
+    ghost invariant = { λ d. IsDesk O.meaning J.opening T.line_of D.course D.faults K.table K.reader K.kept K.begun K.faults
         (record { file = d.file; pass = d.pass; counts = d.counts }) };
+}
+
+impl<D: Disk, O: PartObject, J: Naming<O, O::Part>, K: Filing<O::Call>, T: EntryLines<O>> Desk<
+    D,
+    O,
+    J,
+    K,
+    T,
+> {
+    // How many records the file has.
+    pub(crate) fn count(&self) -> u32
+        ensures { result ≡ self.now.file.count }
+    {
+        self.file.count()
+    }
 }
 
 impl<
@@ -67,9 +83,11 @@ impl<
         lines: T,
     ) -> Desk<D, O, J, K, T>
         requires reader { IsReader O.meaning J.opening pass }
+        requires number { K.reader ≡ pass.number }
         requires begins { Begins pass.entries K.kept }
         requires stands { StandsFor D.course file (map T.line_of K.kept) }
         requires settled { file.pending ≡ None }
+        requires begun { K.begun ≡ D.course file.disk }
         requires faults { K.faults ≡ D.faults file.disk }
         requires table { K.table ≡ receipts }
         requires clerk { clerk ≡ record { table = receipts; kept = file.count; failed = 0 } }
@@ -82,13 +100,6 @@ impl<
             lines,
             of: PhantomData,
         }
-    }
-
-    // How many records the file has.
-    fn count(&self) -> u32
-        ensures { result ≡ self.now.file.count }
-    {
-        self.file.count()
     }
 
     // Whether lines are pending.
@@ -181,7 +192,7 @@ impl<
     pub fn close(self) -> (JournalFile<D>, Pass<O, J>)
         ensures file { result.0 ≡ self.file }
         ensures pass { result.1 ≡ self.pass }
-        ensures desk { IsDesk O.meaning J.opening T.line_of D.course D.faults K.table K.kept K.faults self }
+        ensures desk { IsDesk O.meaning J.opening T.line_of D.course D.faults K.table K.reader K.kept K.begun K.faults self }
     {
         let Desk {
             file,
@@ -306,6 +317,7 @@ impl<
         requires room { J.opening ≡ Some (room.now.object, room.now.parts) }
         ensures kept { OnOk result.0 (n ≤ result.1.after.kept) }
         ensures ok { OnOk result.0 (result.1.after.failed ≡ result.1.before.failed) }
+        ensures least { length K.kept ≤ result.1.before.kept }
         ensures rises { result.1.before.kept ≤ result.1.after.kept }
         ensures last { IfSome last (λ t. (t.after.kept ≤ result.1.before.kept)
             × (t.after.failed ≤ result.1.before.failed)) }

@@ -1,12 +1,12 @@
 // A pass that stays at the desk, and is lent to the room to read its journal.
 ghost use Rattle.std.specs.Prelude.{◌≡◌, ◌<◌, IfOk, IfErr, take, drop, length};
 ghost use Rattle.cut_room.specs.Rooms.{IsAtPoint};
-ghost use Rattle.kept_desk.specs.declared.fault.KeepFault.TheVariants as faults;
+ghost use Rattle.room_keepers.specs.declared.fault.KeepFault.TheVariants as faults;
 
-use crate::KeepFault;
 use cut_room::Room;
 use edit_journal::{Naming, Pass};
 use room_core::{Entry, PartObject};
+use room_keepers::KeepFault;
 use std::alloc::Global;
 use std::marker::Model;
 use std::sync::Wait;

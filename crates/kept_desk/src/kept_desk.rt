@@ -1,16 +1,18 @@
 // A desk behind its lock.
-ghost use Rattle.std.specs.Prelude.{◌≡◌, ◌≤◌, Some, IfErr, IfSome, OnOk};
+ghost use Rattle.std.specs.Prelude.{◌≡◌, ◌≤◌, Some, IfErr, IfSome, OnOk, length};
 ghost use Rattle.kept_desk.specs.Faults.{IsCountedFault};
 
-use crate::{Desk, EntryLines, Filing, KeepFault, Taken};
+use crate::turns::Turns;
+use crate::{Desk, EntryLines, Filing, Taken};
 use cut_room::Room;
 use edit_journal::Naming;
 use room_core::PartObject;
 use room_disks::Disk;
+use room_keepers::KeepFault;
 use std::alloc::Global;
 use std::sync::{Mutex, Wait};
 
-/// A desk that many stations share.
+/// A desk that many stations share. One of them appends for all who wait.
 #[derive(Drop)]
 pub struct KeptDesk<
     D: Disk,
@@ -20,6 +22,7 @@ pub struct KeptDesk<
     T: EntryLines<O>,
 > {
     desk: Mutex<Desk<D, O, J, K, T>>,
+    turns: Turns,
 }
 
 impl<D: Disk, O: PartObject, J: Naming<O, O::Part>, K: Filing<O::Call>, T: EntryLines<O>> KeptDesk<
@@ -31,14 +34,16 @@ impl<D: Disk, O: PartObject, J: Naming<O, O::Part>, K: Filing<O::Call>, T: Entry
 > {
     /// Puts a desk behind a lock.
     pub fn new(desk: Desk<D, O, J, K, T>) -> KeptDesk<D, O, J, K, T> {
+        let turns = Turns::new(desk.count());
         KeptDesk {
             desk: Mutex::new(desk),
+            turns,
         }
     }
 
     /// Takes the desk out of its lock.
     pub fn close(self) -> Desk<D, O, J, K, T> {
-        let KeptDesk { desk } = self;
+        let KeptDesk { desk, turns: _ } = self;
         desk.into_inner()
     }
 }
@@ -67,12 +72,38 @@ impl<
         ensures kept { OnOk result.0 (n ≤ result.1.after.kept) }
         ensures ok { OnOk result.0 (result.1.after.failed ≡ result.1.before.failed) }
 
-        // The counts only rise, from one taking to the next too.
+        // The counts only rise, from the start and from one taking to the next too.
+        ensures least { length K.kept ≤ result.1.before.kept }
         ensures rises { result.1.before.kept ≤ result.1.after.kept }
         ensures last { IfSome last (λ t. (t.after.kept ≤ result.1.before.kept)
             × (t.after.failed ≤ result.1.before.failed)) }
 
         // A fault of the disk was counted; that there was no memory was not.
+        ensures fault { IfErr result.0
+            (λ f. IsCountedFault f result.1.before.failed result.1.after.failed) }
+    {
+        let appends = self.turns.come(rt, n);
+        let (kept, taken) = self.keep_now(rt, alloc, room, n, last);
+        self.turns.leave(rt, appends, taken.kept());
+        (kept, taken)
+    }
+
+    // The same out of turn.
+    fn keep_now<R: Wait>(
+        &self,
+        rt: &R,
+        alloc: Global,
+        room: &Room<O, J>,
+        n: u32,
+        last: Option<Taken<O::Call, K>>,
+    ) -> (Result<(), KeepFault>, Taken<O::Call, K>)
+        requires room { J.opening ≡ Some (room.now.object, room.now.parts) }
+        ensures kept { OnOk result.0 (n ≤ result.1.after.kept) }
+        ensures ok { OnOk result.0 (result.1.after.failed ≡ result.1.before.failed) }
+        ensures least { length K.kept ≤ result.1.before.kept }
+        ensures rises { result.1.before.kept ≤ result.1.after.kept }
+        ensures last { IfSome last (λ t. (t.after.kept ≤ result.1.before.kept)
+            × (t.after.failed ≤ result.1.before.failed)) }
         ensures fault { IfErr result.0
             (λ f. IsCountedFault f result.1.before.failed result.1.after.failed) }
     {

@@ -2,8 +2,8 @@
 use crate::opening::{blank_of, new_file};
 use crate::scripts::{Deed, played_once};
 use crate::texts::{has_called, opens_with};
-use kept_desk::KeepFault;
 use room_disks::MemDisk;
+use room_keepers::KeepFault;
 use std::alloc::{AllocError, Global};
 use std::sync::Wait;
 

@@ -60,6 +60,8 @@ pub fn desk_of<D: Disk, J: Naming<Quiet, u32>, K: Filing<u32>>(
     requires reader { IsReader ⟦<Quiet as PartObject>⟧.meaning J.opening pass }
     requires table { K.table ≡ new.receipts }
     requires kept { K.kept ≡ [] }
+    requires number { K.reader ≡ pass.number }
+    requires begun { K.begun ≡ D.course new.file.disk }
     requires faults { K.faults ≡ D.faults new.file.disk }
 {
     let NewFile {

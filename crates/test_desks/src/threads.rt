@@ -1,5 +1,6 @@
 // Two stations, each in a thread of its own, that share a desk.
 ghost use Rattle.std.specs.Prelude.{◌≡◌, [], Some};
+ghost use Rattle.kept_desk.specs.Desks.{IsReader};
 ghost use Rattle.test_desks.specs.NewFiles.{IsNew};
 
 use crate::opening::{NewFile, blank_of, desk_of, new_file, three_of};
@@ -7,8 +8,9 @@ use crate::stations::{Shared, Station, edit, keep, settle};
 use crate::texts::opens_with;
 use crate::watching::Quiet;
 use cut_room::{Room, RoomBlank};
-use edit_journal::Naming;
+use edit_journal::{Naming, Pass};
 use kept_desk::Filing;
+use room_core::PartObject;
 use room_disks::{Disk, SureDisk};
 use std::alloc::Global;
 use std::marker::Brand;
@@ -31,28 +33,34 @@ fn edit_and_keep<D: Disk, J: Naming<Quiet, u32>, K: Filing<u32>, R: Wait>(
     let _ = keep(rt, alloc, room, desk, station, n);
 }
 
-// The disk, after both stations have done so.
-fn both<
+// The disk, after both stations of a new room have done so.
+fn both_by<
     D: Disk + Drop + Send,
     J: Naming<Quiet, u32> + Send + Sync,
     K: Filing<u32> + Send + Sync,
     R: Threads + Wait + Sync,
->(rt: &R, alloc: Global, blank: RoomBlank<Quiet>, new: NewFile<D>) -> Option<D>
-    requires journal { J.table ≡ blank.journal.table }
-    requires opening { J.opening ≡ blank.journal.opening }
-    requires stations { J.stations ≡ blank.journal.stations }
+>(
+    rt: &R,
+    alloc: Global,
+    room: &Room<Quiet, J>,
+    one: Pass<Quiet, J>,
+    two: Pass<Quiet, J>,
+    last: Pass<Quiet, J>,
+    new: NewFile<D>,
+) -> D
+    requires room { J.opening ≡ Some (room.now.object, room.now.parts) }
+    requires reader { IsReader ⟦<Quiet as PartObject>⟧.meaning J.opening last }
     requires new { IsNew D.course new.file new.receipts new.clerk }
-    requires three { blank.stations ≡ 3 }
     requires table { K.table ≡ new.receipts }
+    requires number { K.reader ≡ last.number }
     requires kept { K.kept ≡ [] }
+    requires begun { K.begun ≡ D.course new.file.disk }
     requires faults { K.faults ≡ D.faults new.file.disk }
 {
-    let (room, passes) = Room::<Quiet, J>::open(alloc, blank).ok()?;
-    let (one, two, last) = three_of(&room, passes)?;
     let desk: Shared<D, J, K> = desk_of(new, last);
     let mut one = Station::new(one);
     let mut two = Station::new(two);
-    let (room, lock) = (&room, &desk);
+    let lock = &desk;
     thread::join(
         rt,
         || -> ()
@@ -66,7 +74,25 @@ fn both<
     settle(&mut desk, one);
     settle(&mut desk, two);
     let (file, _) = desk.close();
-    Some(file.close())
+    file.close()
+}
+
+// The same, of a room that is opened.
+fn both<D: Disk + Drop + Send, J: Naming<Quiet, u32> + Send + Sync, R: Threads + Wait + Sync>(
+    rt: &R,
+    alloc: Global,
+    blank: RoomBlank<Quiet>,
+    new: NewFile<D>,
+) -> Option<D>
+    requires journal { J.table ≡ blank.journal.table }
+    requires opening { J.opening ≡ blank.journal.opening }
+    requires stations { J.stations ≡ blank.journal.stations }
+    requires new { IsNew D.course new.file new.receipts new.clerk }
+    requires three { blank.stations ≡ 3 }
+{
+    let (room, passes) = Room::<Quiet, J>::open(alloc, blank).ok()?;
+    let (one, two, last) = three_of(&room, passes)?;
+    Some(both_by::<D, J, Brand, R>(rt, alloc, &room, one, two, last, new))
 }
 
 fn both_once<D: Disk + Drop + Send, R: Threads + Wait + Sync>(
@@ -78,7 +104,7 @@ fn both_once<D: Disk + Drop + Send, R: Threads + Wait + Sync>(
     requires new { IsNew D.course new.file new.receipts new.clerk }
     requires three { blank.stations ≡ 3 }
 {
-    both::<D, Brand, Brand, R>(rt, alloc, blank, new)
+    both::<D, Brand, R>(rt, alloc, blank, new)
 }
 
 #[test]

@@ -49,6 +49,8 @@ pub fn desk_of<D: Disk, J: Naming<Editor, Track>, K: Filing<Call>>(
     requires reader { IsReader ⟦<Editor as PartObject>⟧.meaning J.opening pass }
     requires table { K.table ≡ new.receipts }
     requires kept { K.kept ≡ [] }
+    requires number { K.reader ≡ pass.number }
+    requires begun { K.begun ≡ D.course new.file.disk }
     requires faults { K.faults ≡ D.faults new.file.disk }
 {
     let NewFile {

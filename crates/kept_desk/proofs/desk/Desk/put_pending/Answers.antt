@@ -13,6 +13,6 @@ invariant_of-self g c =
     let count = done.counted p.0 p.1 in
     let more : c.count.result - c.count-before.result ≡ length p.0 = omega (arith, count, c.count.ensures, c.count-before.ensures) in
     rw c.add_kept.ensures
-    (put g.O.PartObject.meaning g.J.Naming.opening g.T.EntryLines.line_of g.D.Disk.course g.D.Disk.faults g.K.Filing.table g.K.Filing.kept g.K.Filing.faults
+    (put g.O.PartObject.meaning g.J.Naming.opening g.T.EntryLines.line_of g.D.Disk.course g.D.Disk.faults g.K.Filing.table g.K.Filing.reader g.K.Filing.kept g.K.Filing.begun g.K.Filing.faults
     (record { file = s.file; pass = s.pass; counts = s.counts }) c.retry.new.self p.0 (c.count.result - c.count-before.result)
-    c.self.invariant next.1 (λ lines stands. done.ok lines p.0 p.1 stands) done.settled count done.quiet more)
+    c.self.invariant next.1 (λ lines stands. done.ok lines p.0 p.1 stands) done.settled count done.quiet c.retry.ensures.calls more)

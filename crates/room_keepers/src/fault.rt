@@ -1,16 +1,16 @@
-// Why a file was not brought up to a point.
+// Why the entries before a point were not kept.
 ghost use Rattle.std.specs.Prelude.{◌≡◌};
-ghost use Rattle.kept_desk.specs.declared.fault.KeepFault.TheVariants as faults;
+ghost use Rattle.room_keepers.specs.declared.fault.KeepFault.TheVariants as faults;
 
 use room_ports::Memory;
 use std::alloc::{AllocError, AllocFailed};
 use std::error::Error;
 use std::fmt;
 
-/// Why a kept file was not brought up to a point. What it has stays, and the next call goes on.
+/// Why the entries before a point were not kept. What is kept stays, and the next call goes on.
 #[derive(Clone, Copy, Debug, PartialEq, Eq)]
 pub enum KeepFault {
-    /// A call on the disk failed, and both the disk and the desk have counted that.
+    /// A call on a disk failed, and was counted.
     Disk,
     /// There was not memory enough.
     Memory,
