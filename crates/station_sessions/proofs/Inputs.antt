@@ -10,12 +10,19 @@ use Rattle.room_ports.proofs.Fronts.{gives-gives}
 use Rattle.line_words.specs.Lines.{Line as InputLine, last_line, lines_of}
 use Rattle.line_words.specs.Pieces.{ended, pending_after}
 use Rattle.line_words.proofs.PieceLaws.{ended-append, pending_after-append, lines_of_lem}
-use Rattle.station_sessions.specs.Outside.{Outside, NoFault, Got, AreSent, LastIsCut, most_input, most_read}
-use Rattle.station_sessions.specs.Serving.{StopsWithin, StopsInPiece, StopsAtEnd, SessionEnds}
-use Rattle.station_sessions.specs.declared.serve.End.TheVariants.{Ended, WriteFault, TooMuchInput}
+use Rattle.room_keepers.specs.Faults.{IsCounted}
+use Rattle.room_keepers.specs.declared.fault.KeepFault.{KeepFault}
+use Rattle.room_keepers.specs.declared.fault.KeepFault.TheVariants.{Disk, Memory}
+use Rattle.station_sessions.specs.Outside.{Outside, NoFault, Got, AreSent, most_input, most_read}
+use Rattle.station_sessions.specs.Serving.{StopsWithin, StopsAt, SessionEnds}
+use Rattle.station_sessions.specs.Stopping.{CountsStop, StopsSo, end_of}
+use Rattle.station_sessions.specs.declared.serve.End.{End}
+use Rattle.station_sessions.specs.declared.serve.End.TheVariants.{Ended, TooMuchInput}
+use Rattle.station_sessions.specs.declared.serve.Stop.{Stop}
+use Rattle.station_sessions.specs.declared.serve.Stop.TheVariants.{Unsent, Unkept}
 use Rattle.station_sessions.specs.Session.{StationState}
-use Rattle.station_sessions.specs.Served.{ServesTo}
-use Rattle.station_sessions.proofs.Serves.{serves_more, serves_cut, serves_lines}
+use Rattle.station_sessions.specs.Served.{BreaksTo, ServesTo}
+use Rattle.station_sessions.proofs.Serves.{serves_more, serves_lines, stops_more, stops_next}
 
 -- what an input gave is what was got of it
 got_some : (old new : Outside) (got : List ℕ) (Holds : List ℕ → List ℕ → Type 0) → Gives old.left new.left got → ((left : List ℕ) → Holds got left) → Got old new Holds
@@ -95,10 +102,76 @@ pub record Chunk (now new : Outside) (chunk : List ℕ) : Type 0 where
   pub gives : Gives now.left new.left chunk
   pub reads : new.reads ≡ now.reads
 
-pub ends_all : (a b c : StationState) (old now new : Outside) (pending : InputLine) (got chunk : List ℕ) (n : ℕ) → SoFar a b old now pending got → Chunk now new chunk
+-- how a session ends, where what keeps its journal may fail so
+abbrev pub EndsSo : (KeepFault → Type 0) → StationState → StationState → Outside → Outside → End → Type 0
+EndsSo may_fail a c old new end = SessionEnds (ServesTo a c) (BreaksTo a c) (λ fault. may_fail fault × IsCounted fault c.failures) old new end
+
+-- it stopped so at a line, after these
+abbrev StoppedSo : (KeepFault → Type 0) → StationState → StationState → Outside → Outside → Stop → List InputLine → InputLine → Type 0
+StoppedSo may_fail a c old new stop before line = StopsSo may_fail a c before line old.taken new.taken stop
+
+-- why it stopped: what keeps its journal failed
+abbrev Fails : (KeepFault → Type 0) → StationState → Stop → Type 0
+Fails may_fail c Unsent = Unit {0}
+Fails may_fail c (Unkept fault) = may_fail fault × IsCounted fault c.failures
+
+fails_so : (may_fail : KeepFault → Type 0) (b c : StationState) (before : List InputLine) (line : InputLine) (t u : Option (List ℕ)) (stop : Stop) → StopsSo may_fail b c before line t u stop → Fails may_fail c stop
+fails_so may_fail b c before line t u Unsent h = tt
+fails_so may_fail b c before line t u (Unkept fault) h = (h.0, h.1)
+
+pub got_map : (old new : Outside) (H K : List ℕ → List ℕ → Type 0) → ((got left : List ℕ) → H got left → K got left) → Got old new H → Got old new K
+got_map old new H K f h = between old.left new.left h where
+  between : (before after : Option (List ℕ)) → IfSome before (λ bytes. IsSomeAnd after (λ left. (got : List ℕ) × (bytes ≡ got ++ left) × H got left))
+      → IfSome before (λ bytes. IsSomeAnd after (λ left. (got : List ℕ) × (bytes ≡ got ++ left) × K got left))
+  between None after k = tt
+  between (Some b) None k = absurd k
+  between (Some b) (Some x) (got, is, k) = (got, is, f got x k)
+
+-- where a session stopped, told in another way
+pub stops_map : (H K : List InputLine → InputLine → Type 0) → ((before : List InputLine) (line : InputLine) → H before line → K before line) → (got left : List ℕ) → StopsAt H got left → StopsAt K got left
+stops_map H K f got left (inl s) =
+    inl (record {
+      answered = s.answered;
+      piece = s.piece;
+      got_is = s.got_is;
+      one_read = s.one_read;
+      within = s.within;
+      before = s.before;
+      line = s.line;
+      stops = s.stops;
+      holds = f _ s.line s.holds;
+    })
+stops_map H K f got left (inr s) =
+    inr (record {
+      none_left = s.none_left;
+      within = s.within;
+      line = s.line;
+      last = s.last;
+      holds = f _ s.line s.holds;
+    })
+
+-- a session that stopped ends so
+ends_stopped : (may_fail : KeepFault → Type 0) (a c : StationState) (old now new : Outside) (stop : Stop) → NoFault old now → new.reads ≡ now.reads → CountsStop stop now.writes new.writes
+    → Fails may_fail c stop → Got old new (StopsAt (StoppedSo may_fail a c old new stop)) → EndsSo may_fail a c old new (end_of stop)
+ends_stopped may_fail a c old now new Unsent quiet reads counts fails got = (
+  (subst (λ (w : ℕ). HasRisen w new.writes) quiet.1 counts, reads ∙ quiet.0),
+  got,
+)
+ends_stopped may_fail a c old now new (Unkept Disk) quiet reads counts fails got = (
+  fails,
+  (reads ∙ quiet.0, counts ∙ quiet.1),
+  got_map old new _ _ (stops_map (StoppedSo may_fail a c old new (Unkept Disk)) _ (λ before line h. h.2)) got,
+)
+ends_stopped may_fail a c old now new (Unkept Memory) quiet reads counts fails got = (
+  fails,
+  (reads ∙ quiet.0, counts ∙ quiet.1),
+  got_map old new _ _ (stops_map (StoppedSo may_fail a c old new (Unkept Memory)) _ (λ before line h. h.2)) got,
+)
+
+pub ends_all : (may_fail : KeepFault → Type 0) (a b c : StationState) (old now new : Outside) (pending : InputLine) (got chunk : List ℕ) (n : ℕ) → SoFar a b old now pending got → Chunk now new chunk
     → n ≡ 0 → IfSome now.left (λ bytes. (n ≡ 0) ↔ (bytes ≡ [])) → new.writes ≡ now.writes → ServesTo b c (last_line pending) (AreSent now.taken new.taken)
-    → SessionEnds (ServesTo a c) old new Ended
-ends_all a b c old now new pending got chunk n s k none_read end quiet g =
+    → EndsSo may_fail a c old new Ended
+ends_all may_fail a b c old now new pending got chunk n s k none_read end quiet g =
     let lines = serves_lines a c _ _ (AreSent old.taken new.taken) (lines_at_end got pending s.waits)
     (serves_more a b c (ended (Some []) got) (last_line pending) old.taken now.taken new.taken s.serves g) in (
       (k.reads ∙ s.quiet.0, quiet ∙ s.quiet.1),
@@ -106,42 +179,41 @@ ends_all a b c old now new pending got chunk n s k none_read end quiet g =
           s.gives k.gives none_read end (λ left none. (none, s.within, lines)),
     )
 
-pub ends_cut : (a b c : StationState) (old now new : Outside) (pending : InputLine) (got chunk : List ℕ) (n : ℕ) → SoFar a b old now pending got → Chunk now new chunk
-    → n ≡ 0 → IfSome now.left (λ bytes. (n ≡ 0) ↔ (bytes ≡ [])) → HasRisen now.writes new.writes
-    → (line : InputLine) × (last_line pending ≡ line ∷ []) × ServesTo b c (line ∷ []) (LastIsCut now.taken new.taken)
-    → SessionEnds (ServesTo a c) old new WriteFault
-ends_cut a b c old now new pending got chunk n s k none_read end risen (line, last, g) = (
-  (subst (λ (w : ℕ). HasRisen w new.writes) s.quiet.1 risen, k.reads ∙ s.quiet.0),
-  got_end old.left now.left new.left got chunk n (λ gave left. StopsInPiece (ServesTo a c) old new gave ⊎ StopsAtEnd (ServesTo a c) old new gave left)
-      s.gives k.gives none_read end
-      (λ left none. inr (record {
-        none_left = none;
-        within = s.within;
-        stopped_at = line;
-        last = ap last_line (sym s.waits) ∙ last;
-        answers = serves_cut a b c (ended (Some []) got) (line ∷ []) old.taken now.taken new.taken s.serves g;
-      })),
-)
+-- it stopped at the last line
+pub ends_stop : (may_fail : KeepFault → Type 0) (a b c : StationState) (old now new : Outside) (pending : InputLine) (got chunk : List ℕ) (n : ℕ) (stop : Stop) → SoFar a b old now pending got → Chunk now new chunk
+    → n ≡ 0 → IfSome now.left (λ bytes. (n ≡ 0) ↔ (bytes ≡ [])) → CountsStop stop now.writes new.writes
+    → (line : InputLine) × (last_line pending ≡ line ∷ []) × StopsSo may_fail b c [] line now.taken new.taken stop
+    → EndsSo may_fail a c old new (end_of stop)
+ends_stop may_fail a b c old now new pending got chunk n stop s k none_read end counts (line, last, g) =
+    ends_stopped may_fail a c old now new stop s.quiet k.reads counts (fails_so may_fail b c [] line now.taken new.taken stop g)
+    (got_end old.left now.left new.left got chunk n (StopsAt (StoppedSo may_fail a c old new stop)) s.gives k.gives none_read end
+    (λ left none. inr (record {
+      none_left = none;
+      within = s.within;
+      line = line;
+      last = ap last_line (sym s.waits) ∙ last;
+      holds = stops_next may_fail a b c (ended (Some []) got) line old.taken now.taken new.taken stop s.serves g;
+    })))
 
-pub piece_cut : (a b c : StationState) (old now new : Outside) (pending : InputLine) (got chunk piece : List ℕ) → SoFar a b old now pending got → Chunk now new chunk
-    → length chunk ≤ most_read → take (most_input - length got) chunk ≡ piece → HasRisen now.writes new.writes
-    → (lines : List InputLine) × StopsWithin pending piece lines × ServesTo b c lines (LastIsCut now.taken new.taken)
-    → SessionEnds (ServesTo a c) old new WriteFault
-piece_cut a b c old now new pending got chunk piece s k small fits risen (lines, stops, g) = (
-  (subst (λ (w : ℕ). HasRisen w new.writes) s.quiet.1 risen, k.reads ∙ s.quiet.0),
-  got_some old new (got ++ chunk) (λ gave left. StopsInPiece (ServesTo a c) old new gave ⊎ StopsAtEnd (ServesTo a c) old new gave left)
-      (gives-gives old.left now.left new.left got chunk s.gives k.gives)
-      (λ left. inl (record {
-        answered = got;
-        piece = chunk;
-        got_is = refl;
-        one_read = small;
-        within = s.within;
-        lines = lines;
-        stops = rw (← s.waits, fits) stops;
-        answers = serves_cut a b c (ended (Some []) got) lines old.taken now.taken new.taken s.serves g;
-      })),
-)
+-- it stopped while a piece was answered
+pub piece_stop : (may_fail : KeepFault → Type 0) (a b c : StationState) (old now new : Outside) (pending : InputLine) (got chunk piece : List ℕ) (stop : Stop) → SoFar a b old now pending got → Chunk now new chunk
+    → length chunk ≤ most_read → take (most_input - length got) chunk ≡ piece → CountsStop stop now.writes new.writes
+    → (before : List InputLine) × (line : InputLine) × StopsWithin pending piece before line × StopsSo may_fail b c before line now.taken new.taken stop
+    → EndsSo may_fail a c old new (end_of stop)
+piece_stop may_fail a b c old now new pending got chunk piece stop s k small fits counts (before, line, stops, g) =
+    ends_stopped may_fail a c old now new stop s.quiet k.reads counts (fails_so may_fail b c before line now.taken new.taken stop g)
+    (got_some old new (got ++ chunk) (StopsAt (StoppedSo may_fail a c old new stop)) (gives-gives old.left now.left new.left got chunk s.gives k.gives)
+    (λ left. inl (record {
+      answered = got;
+      piece = chunk;
+      got_is = refl;
+      one_read = small;
+      within = s.within;
+      before = before;
+      line = line;
+      stops = rw (← s.waits, fits) stops;
+      holds = stops_more may_fail a b c (ended (Some []) got) before line old.taken now.taken new.taken stop s.serves g;
+    })))
 
 -- the lines that ended in what was got and in a piece more
 pub serves_piece : (a b c : StationState) (old now new : Outside) (pending : InputLine) (got piece : List ℕ) → SoFar a b old now pending got
@@ -150,10 +222,10 @@ serves_piece a b c old now new pending got piece s g =
     serves_lines a c _ _ (AreSent old.taken new.taken) (ended_more got piece pending s.waits)
     (serves_more a b c (ended (Some []) got) (ended pending piece) old.taken now.taken new.taken s.serves g)
 
-pub too_much : (a b c : StationState) (old now new : Outside) (pending : InputLine) (got chunk piece rest : List ℕ) → SoFar a b old now pending got → Chunk now new chunk
+pub too_much : (may_fail : KeepFault → Type 0) (a b c : StationState) (old now new : Outside) (pending : InputLine) (got chunk piece rest : List ℕ) → SoFar a b old now pending got → Chunk now new chunk
     → length chunk ≤ most_read → chunk ≡ piece ++ rest → length got + length piece ≡ most_input → length piece < length chunk → new.writes ≡ now.writes
-    → ServesTo b c (ended pending piece) (AreSent now.taken new.taken) → SessionEnds (ServesTo a c) old new TooMuchInput
-too_much a b c old now new pending got chunk piece rest s k small cut full more quiet g =
+    → ServesTo b c (ended pending piece) (AreSent now.taken new.taken) → EndsSo may_fail a c old new TooMuchInput
+too_much may_fail a b c old now new pending got chunk piece rest s k small cut full more quiet g =
     let P : List ℕ → Type 0 = λ bytes. ServesTo a c (ended (Some []) bytes) (AreSent old.taken new.taken) in
     let first : take most_input (got ++ chunk) ≡ got ++ piece = ap (λ t. take most_input (got ++ t)) cut ∙ first_bytes got piece rest most_input full in (
       (k.reads ∙ s.quiet.0, quiet ∙ s.quiet.1),

@@ -1,6 +1,5 @@
 -- A session that begins, and what it answered told by what its station knows.
-use Rattle.std.proofs.Common.{◌≡◌, ℕ, max, ◌+◌, ◌<◌, ◌≤◌, Bool, true, false, cond, eqb, ◌⊎◌, inl, inr, List, [], ◌∷◌, ◌++◌, fold, Option, Some, None, IfSome, refl, sym, ap, arith, subst}
-use Rattle.std.specs.Option.{IsSomeAnd}
+use Rattle.std.proofs.Common.{◌≡◌, ℕ, max, ◌+◌, ◌<◌, ◌≤◌, Bool, true, false, cond, eqb, List, [], ◌∷◌, fold, Some, refl, sym, ap, arith, subst}
 use Rattle.timecode12.specs.Numbers.{Counted}
 use Rattle.line_words.specs.Lines.{Line as InputLine}
 use Rattle.composables.specs.declared.media.Table.{Table}
@@ -14,13 +13,15 @@ use Rattle.room_core.specs.Whole.{whole}
 use Rattle.otio_json.specs.declared.opening.Opening.{Opening}
 use Rattle.station_sessions.specs.declared.serve.End.{End}
 use Rattle.station_sessions.specs.declared.serve.End.TheVariants as end
-use Rattle.station_sessions.specs.Outside.{Outside, Got}
+use Rattle.room_keepers.specs.declared.fault.KeepFault.{KeepFault}
+use Rattle.station_sessions.specs.Outside.{Outside}
 use Rattle.station_sessions.specs.Rooms.{History, Setting, AreWritten, IsLegalIn, room_of}
-use Rattle.station_sessions.specs.Transcript.{Origin, Transcript, most_base, new_room}
+use Rattle.station_sessions.specs.Transcript.{Origin, TranscriptTo, TranscriptBut, most_base, new_room}
 use Rattle.station_sessions.specs.Session.{StationState}
-use Rattle.station_sessions.specs.SessionInside.{IsLegalThere, IsOrigin, TrackPass, TrackRoom, session_at, tracks_at}
-use Rattle.station_sessions.specs.Served.{IsBegun, IsRoomOf, Knows, OwnBefore, Served, Serves, ServesTo}
-use Rattle.station_sessions.specs.Serving.{StopsInPiece, StopsAtEnd, SessionEnds}
+use Rattle.station_sessions.specs.SessionInside.{Holding, IsLegalThere, IsOrigin, TrackPass, TrackRoom, session_at, tracks_at}
+use Rattle.station_sessions.specs.Served.{Breaks, BreaksTo, IsBegun, IsRoomOf, Knows, KnowsBut, OwnBefore, Served, Serves, ServesTo, StaysWritten}
+use Rattle.station_sessions.specs.Serving.{SessionEnds}
+use Rattle.station_sessions.proofs.Inputs.{got_map, stops_map}
 use Rattle.station_sessions.proofs.Replying.{comes}
 use Rattle.station_sessions.proofs.Serving.{served_none, transcript_served}
 
@@ -54,9 +55,9 @@ comes_in o room counting start h tracks is comes =
     subst (λ (x : Table × List TrackState). replay (whole (editing x.0)) x.1 h ≡ Some tracks) (λ i. (table i, is.tracks i)) comes
 
 pub begun_session : (o : Opening) (from : Origin) (room : TrackRoom) (pass : TrackPass) (counting : Counted) (start line : ℕ) → IsRoomOf o room counting start
-    → IsLegalThere room pass.entries → IsOrigin from pass → line ≡ last_of pass.number pass.entries + 1
-    → IsBegun o from pass.number (session_at room (Some pass) counting start line)
-begun_session o from room pass counting start line is legal origin next = record {
+    → (holding : Holding) → IsLegalThere room pass.entries → IsOrigin from pass → from.kept ≤ holding.held → line ≡ last_of pass.number pass.entries + 1
+    → IsBegun o from pass.number (session_at room (Some pass) counting start holding line)
+begun_session o from room pass counting start line is holding legal origin held next = record {
   setting = is.setting;
   station = refl;
   opening = is.tracks;
@@ -65,6 +66,7 @@ begun_session o from room pass counting start line is legal origin next = record
   kept = origin.kept;
   none = origin.none;
   before = own_before pass.number (from.base + 1) 0 pass.entries (omega (arith, origin.base));
+  held = held;
   line = omega (arith, next, origin.base);
   written = origin.written;
 }
@@ -79,65 +81,56 @@ fresh_legal room pass none = rw none (record { within = omega arith; applies = r
 pub fresh_base : (pass : TrackPass) → pass.entries ≡ [] → last_of pass.number pass.entries ≤ most_base
 fresh_base pass none = rw none (omega arith)
 
--- what a session answered its pass tells
-knows_by : (o : Opening) (from : Origin) (station : ℕ) (a b : StationState) (ls : List InputLine) (Taken : List (List ℕ) → Type 0) → IsBegun o from station a → ServesTo a b ls Taken
-    → Knows o from station b.course.journal ls Taken
-knows_by o from station a b ls Taken f g =
-    let serves : Serves (room_of a.setting) station a.course b.course ls Taken = subst (λ (n : ℕ). Serves (room_of a.setting) n a.course b.course ls Taken) f.station g.serves in
-    let texts : AreWritten (of_station station b.course.journal) =
-    subst (λ (n : ℕ). AreWritten (of_station n a.course.journal) → AreWritten (of_station n b.course.journal)) f.station g.written f.written in
-    let begun : Served (room_of a.setting) station o.tracks from a.course [] [] from.kept =
-    served_none (room_of a.setting) station o.tracks from a.course f.opening (subst (λ (s : Setting). replay (room_of s).apply o.tracks a.course.journal ≡ Some a.course.state) (sym f.setting) f.tracks)
-    f.kept f.none f.before f.line f.legal.rise f.legal.within in
-    let t = serves o.tracks from [] [] from.kept begun in (
-      t.0,
-      subst (λ (s : Setting). Transcript (room_of s) o.tracks b.course.journal from station ls t.0 []) f.setting (transcript_served (room_of a.setting) station o.tracks from b.course ls t.0 t.1 t.2),
-      texts,
-      t.3,
-    )
+-- what a session that has begun knows later
+module _ (o : Opening) (from : Origin) (station : ℕ) (a b : StationState) (f : IsBegun o from station a) where
+  begun : Served (room_of a.setting) station o.tracks from a.course [] [] from.kept
+  begun =
+      served_none (room_of a.setting) station o.tracks from a.course f.opening (subst (λ (s : Setting). replay (room_of s).apply o.tracks a.course.journal ≡ Some a.course.state) (sym f.setting) f.tracks)
+      f.kept f.none f.before f.held f.line f.legal.rise f.legal.within
 
-pub got_map : (old new : Outside) (H K : List ℕ → List ℕ → Type 0) → ((got left : List ℕ) → H got left → K got left) → Got old new H → Got old new K
-got_map old new H K f h = between old.left new.left h where
-  between : (before after : Option (List ℕ)) → IfSome before (λ bytes. IsSomeAnd after (λ left. (got : List ℕ) × (bytes ≡ got ++ left) × H got left))
-      → IfSome before (λ bytes. IsSomeAnd after (λ left. (got : List ℕ) × (bytes ≡ got ++ left) × K got left))
-  between None after k = tt
-  between (Some b) None k = absurd k
-  between (Some b) (Some x) (got, is, k) = (got, is, f got x k)
+  still_written : StaysWritten a b → AreWritten (of_station station b.course.journal)
+  still_written written = subst (λ (n : ℕ). AreWritten (of_station n a.course.journal) → AreWritten (of_station n b.course.journal)) f.station written f.written
 
-module _ (T U : List InputLine → (List (List ℕ) → Type 0) → Type 0) (f : (ls : List InputLine) (Taken : List (List ℕ) → Type 0) → T ls Taken → U ls Taken) (old new : Outside) where
-  in_piece : (got : List ℕ) → StopsInPiece T old new got → StopsInPiece U old new got
-  in_piece got s = record {
-    answered = s.answered;
-    piece = s.piece;
-    got_is = s.got_is;
-    one_read = s.one_read;
-    within = s.within;
-    lines = s.lines;
-    stops = s.stops;
-    answers = f _ _ s.answers;
-  }
+  -- what it answered its pass tells
+  knows_by : (ls : List InputLine) (Taken : List (List ℕ) → Type 0) → ServesTo a b ls Taken → Knows o from station b.course.journal b.course.held ls Taken
+  knows_by ls Taken g =
+      let serves : Serves (room_of a.setting) station a.course b.course ls Taken = subst (λ (n : ℕ). Serves (room_of a.setting) n a.course b.course ls Taken) f.station g.serves in
+      let t = serves o.tracks from [] [] from.kept begun in (
+        t.0,
+        t.1,
+        subst (λ (s : Setting). TranscriptTo (room_of s) o.tracks b.course.journal from station ls t.0 t.1 []) f.setting (transcript_served (room_of a.setting) station o.tracks from b.course ls t.0 t.1 t.2),
+        t.2.held,
+        still_written g.written,
+        t.3,
+      )
 
-  at_end : (got left : List ℕ) → StopsAtEnd T old new got left → StopsAtEnd U old new got left
-  at_end got left s = record {
-    none_left = s.none_left;
-    within = s.within;
-    stopped_at = s.stopped_at;
-    last = s.last;
-    answers = f _ _ s.answers;
-  }
+  -- also with one line more, whose reply was not sent
+  knows_but : (ls : List InputLine) (l : InputLine) (Taken : List (List ℕ) → Type 0) → BreaksTo a b ls l Taken → KnowsBut o from station b.course.journal b.course.held ls l Taken
+  knows_but ls l Taken g =
+      let breaks : Breaks (room_of a.setting) station a.course b.course ls l Taken = subst (λ (n : ℕ). Breaks (room_of a.setting) n a.course b.course ls l Taken) f.station g.breaks in
+      let t = breaks o.tracks from [] [] from.kept begun in (
+        t.0,
+        t.1,
+        subst (λ (s : Setting). TranscriptBut (room_of s) o.tracks b.course.journal from station ls t.0 t.1 l) f.setting t.2,
+        t.3,
+        still_written g.written,
+        t.4,
+      )
 
-  stops : (got left : List ℕ) → StopsInPiece T old new got ⊎ StopsAtEnd T old new got left → StopsInPiece U old new got ⊎ StopsAtEnd U old new got left
-  stops got left (inl s) = inl (in_piece got s)
-  stops got left (inr s) = inr (at_end got left s)
-
+module _ (T U : List InputLine → (List (List ℕ) → Type 0) → Type 0) (B C : List InputLine → InputLine → (List (List ℕ) → Type 0) → Type 0) (Unkept : KeepFault → Type 0)
+    (f : (ls : List InputLine) (Taken : List (List ℕ) → Type 0) → T ls Taken → U ls Taken) (g : (ls : List InputLine) (l : InputLine) (Taken : List (List ℕ) → Type 0) → B ls l Taken → C ls l Taken) (old new : Outside) where
   -- what a session did, told in another way
-  pub session_told : (e : End) → SessionEnds T old new e → SessionEnds U old new e
+  pub session_told : (e : End) → SessionEnds T B Unkept old new e → SessionEnds U C Unkept old new e
   session_told end.Ended (quiet, h) = (quiet, got_map old new _ _ (λ got left k. (k.0, k.1, f _ _ k.2)) h)
   session_told end.ReadFault (failed, h) = (failed, got_map old new _ _ (λ got left k. (k.0, f _ _ k.1)) h)
-  session_told end.WriteFault (failed, h) = (failed, got_map old new _ _ stops h)
+  session_told end.WriteFault (failed, h) = (failed, got_map old new _ _ (stops_map _ _ (λ before line k. f _ _ k)) h)
   session_told end.TooMuchInput (quiet, h) = (quiet, got_map old new _ _ (λ got left k. (k.0, k.1, f _ _ k.2)) h)
+  session_told end.DiskFault (fault, quiet, h) = (fault, quiet, got_map old new _ _ (stops_map _ _ (λ before line k. g _ _ _ k)) h)
+  session_told end.KeepMemory (fault, quiet, h) = (fault, quiet, got_map old new _ _ (stops_map _ _ (λ before line k. g _ _ _ k)) h)
 
-pub session_knows : (o : Opening) (from : Origin) (station : ℕ) (a b : StationState) (old new : Outside) (e : End) → IsBegun o from station a → SessionEnds (ServesTo a b) old new e
-    → SessionEnds (Knows o from station b.course.journal) old new e
-session_knows o from station a b old new e f ended =
-    session_told (ServesTo a b) (Knows o from station b.course.journal) (λ ls Taken. knows_by o from station a b ls Taken f) old new e ended
+pub session_knows : (Unkept : KeepFault → Type 0) (o : Opening) (from : Origin) (station : ℕ) (a b : StationState) (old new : Outside) (e : End) → IsBegun o from station a
+    → SessionEnds (ServesTo a b) (BreaksTo a b) Unkept old new e
+    → SessionEnds (Knows o from station b.course.journal b.course.held) (KnowsBut o from station b.course.journal b.course.held) Unkept old new e
+session_knows Unkept o from station a b old new e f ended =
+    session_told (ServesTo a b) (Knows o from station b.course.journal b.course.held) (BreaksTo a b) (KnowsBut o from station b.course.journal b.course.held) Unkept
+    (knows_by o from station a b f) (knows_but o from station a b f) old new e ended

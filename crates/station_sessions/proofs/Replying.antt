@@ -1,5 +1,5 @@
 -- What a room did for a session's line, and what the reply to it says.
-use Rattle.std.proofs.Common.{◌≡◌, ℕ, max, ◌+◌, ◌≤◌, inl, inr, List, [], ◌∷◌, ◌++◌, Vec, length, take, Option, Some, None, Result, Ok, Err, IsSome, slice_get, option_map, fold, refl, sym, ap, ◌∙◌, arith, subst}
+use Rattle.std.proofs.Common.{◌≡◌, ℕ, max, ◌+◌, ◌<◌, ◌≤◌, inl, inr, List, [], ◌∷◌, ◌++◌, Vec, length, take, Option, Some, None, Result, Ok, Err, IsSome, slice_get, option_map, fold, refl, sym, ap, ◌∙◌, arith, subst}
 use Rattle.std.specs.Prelude.{codes, decimal, is_none}
 use Rattle.std.specs.Global.{Global}
 use Rattle.std.proofs.lemmas.List.{append-nil}
@@ -15,7 +15,7 @@ use Rattle.edit_apply.specs.See.{ask_part_of, seen_at, seen_if, seen_on}
 use Rattle.edit_journal.specs.Seats.{Begins}
 use Rattle.edit_journal.specs.Turns.{last_of}
 use Rattle.room_core.specs.declared.entry.Entry.{Entry}
-use Rattle.room_core.specs.History.{IsLegal, after_entry, replay, state_in}
+use Rattle.room_core.specs.History.{IsLegal, after_entry, most_entries, replay, state_in}
 use Rattle.room_core.specs.Projection.{of_station}
 use Rattle.room_core.specs.Whole.{whole}
 use Rattle.cut_room.specs.declared.answers.Answer.TheVariants as answer
@@ -31,8 +31,8 @@ use Rattle.reply_text.specs.Replies.{EditAnswer, answer_text_of}
 use Rattle.reply_text.specs.Sights.{TrackSight, sight_text_of}
 use Rattle.station_sessions.specs.DocumentReplies.{document_reply, no_point_reply}
 use Rattle.station_sessions.specs.Rooms.{History, AreWritten, document_of, finds_memory, room_of, seen_of, wish_in}
-use Rattle.station_sessions.specs.Session.{Grows, HasGrown, IsCutReply, IsMeant, IsReplyIfMemory, IsSightReply, RepliesTo, RepliesWith, StationState, Step}
-use Rattle.station_sessions.specs.SessionInside.{IsSeated, IsSession, TrackPass, TrackRoom, course_at, or_opening, session_at, setting_at, tracks_at}
+use Rattle.station_sessions.specs.Session.{Grows, HasGrown, HasHeld, IsCutReply, IsMeant, IsReplyIfMemory, IsSightReply, IsWithin, RepliesTo, RepliesWith, StationState, Step, answer_tells, sight_tells}
+use Rattle.station_sessions.specs.SessionInside.{Holding, IsSeated, IsSession, TrackPass, TrackRoom, course_at, or_opening, session_at, setting_at, tracks_at}
 use Rattle.station_sessions.specs.Transcript.{Wish, Do, See, Point, Write, Bad}
 use Rattle.station_sessions.proofs.Transcripts.{nothing_behind, own_append}
 
@@ -52,10 +52,10 @@ tracks_are : (room : TrackRoom) (h : History) (tracks : List TrackState) → rep
 tracks_are room h tracks is = ap (or_opening room.parts) is
 
 -- a station that knows more entries than before, none of them its own
-grown : (room : TrackRoom) (counting : Counted) (start line station : ℕ) (before after : History) → IsLegal (whole (editing room.object.table)) room.parts before
+grown : (room : TrackRoom) (counting : Counted) (start held line station : ℕ) (before after : History) → IsLegal (whole (editing room.object.table)) room.parts before
     → IsLegal (whole (editing room.object.table)) room.parts after → Begins after before → of_station station after ≡ of_station station before
-    → Grows (room_of (setting_at room counting start)) station (course_at room before line) (course_at room after line)
-grown room counting start line station before after was is front same =
+    → Grows (room_of (setting_at room counting start)) station (course_at room before held line) (course_at room after held line)
+grown room counting start held line station before after was is front same =
     let apply = whole (editing room.object.table) in
     let rest = front.0 in
     let all : of_station station before ++ of_station station rest ≡ of_station station before =
@@ -72,22 +72,24 @@ grown room counting start line station before after was is front same =
       state = state;
       rise = is.rise;
       within = is.within;
+      held = refl;
       line = refl;
     }
 
 -- a reply behind what others committed, which commits nothing
-replied : (room : TrackRoom) (before after : TrackPass) (counting : Counted) (start line : ℕ) (wish : Wish Call Ask) (text : List ℕ) → IsSeated room line before
-    → Stays (editing room.object.table) room.parts before after
-    → (let s = session_at room (Some after) counting start line in Step (room_of s.setting) before.number s.course s.course text wish (finds_memory room.object.table wish))
-    → RepliesWith (session_at room (Some before) counting start line) (session_at room (Some after) counting start (line + 1)) wish text
-replied room before after counting start line wish text seated stays step = record {
+replied : (room : TrackRoom) (before after : TrackPass) (counting : Counted) (start : ℕ) (holding : Holding) (line : ℕ) (wish : Wish Call Ask) (text : List ℕ) (tells : ℕ) → IsSeated room line before
+    → Stays (editing room.object.table) room.parts before after → tells ≤ most_entries
+    → (let s = session_at room (Some after) counting start holding line in Step (room_of s.setting) before.number s.course s.course text tells wish (finds_memory room.object.table wish))
+    → RepliesWith (session_at room (Some before) counting start holding line) (session_at room (Some after) counting start holding (line + 1)) wish text tells
+replied room before after counting start holding line wish text tells seated stays within step = record {
   setting = refl;
   station = stays.goes_on.number_is;
   written = λ w. subst AreWritten (sym stays.own) w;
-  met = course_at room after.entries line;
-  grows = grown room counting start line before.number before.entries after.entries seated.legal (stays.goes_on.legal seated.legal) stays.goes_on.front stays.own;
-  answered = course_at room after.entries line;
+  met = course_at room after.entries holding.held line;
+  grows = grown room counting start holding.held line before.number before.entries after.entries seated.legal (stays.goes_on.legal seated.legal) stays.goes_on.front stays.own;
+  answered = course_at room after.entries holding.held line;
   step = step;
+  within = within;
   passed = refl;
   line = refl;
 }
@@ -97,21 +99,21 @@ unmoved : (room : TrackRoom) (pass : TrackPass) → Stays (editing room.object.t
 unmoved room pass = record { goes_on = record { number_is = refl; opening_is = refl; front = ([], sym (append-nil pass.entries)); legal = λ h. h }; own = refl }
 
 -- the pass knows what others committed
-pub has_grown : (room : TrackRoom) (before after : TrackPass) (counting : Counted) (start line : ℕ) → IsSeated room line before
+pub has_grown : (room : TrackRoom) (before after : TrackPass) (counting : Counted) (start : ℕ) (holding : Holding) (line : ℕ) → IsSeated room line before
     → Stays (editing room.object.table) room.parts before after
-    → HasGrown (session_at room (Some before) counting start line) (session_at room (Some after) counting start line)
-has_grown room before after counting start line seated stays = record {
+    → HasGrown (session_at room (Some before) counting start holding line) (session_at room (Some after) counting start holding line)
+has_grown room before after counting start holding line seated stays = record {
   setting = refl;
   station = stays.goes_on.number_is;
   written = λ w. subst AreWritten (sym stays.own) w;
   line = refl;
-  grows = grown room counting start line before.number before.entries after.entries seated.legal (stays.goes_on.legal seated.legal) stays.goes_on.front stays.own;
+  grows = grown room counting start holding.held line before.number before.entries after.entries seated.legal (stays.goes_on.legal seated.legal) stays.goes_on.front stays.own;
 }
 
-pub unmoved_grown : (room : TrackRoom) (pass : Option TrackPass) (counting : Counted) (start line : ℕ) → IsSession room line pass
-    → HasGrown (session_at room pass counting start line) (session_at room pass counting start line)
-unmoved_grown room None counting start line seated = absurd seated
-unmoved_grown room (Some pass) counting start line seated = has_grown room pass pass counting start line seated (unmoved room pass)
+pub unmoved_grown : (room : TrackRoom) (pass : Option TrackPass) (counting : Counted) (start : ℕ) (holding : Holding) (line : ℕ) → IsSession room line pass
+    → HasGrown (session_at room pass counting start holding line) (session_at room pass counting start holding line)
+unmoved_grown room None counting start holding line seated = absurd seated
+unmoved_grown room (Some pass) counting start holding line seated = has_grown room pass pass counting start holding line seated (unmoved room pass)
 
 pub grown_seated : (room : TrackRoom) (before after : TrackPass) (line : ℕ) → IsSeated room line before → Stays (editing room.object.table) room.parts before after → IsSeated room line after
 grown_seated room before after line seated stays =
@@ -120,11 +122,11 @@ grown_seated room before after line seated stays =
     record { legal = stays.goes_on.legal seated.legal; before = omega (arith, last, seated.before) }
 
 -- the reply to a line that is none of the table
-pub bad_replied : (room : TrackRoom) (pass : Option TrackPass) (counting : Counted) (start line : ℕ) (fault text : List ℕ) → IsSession room line pass → text ≡ fault
-    → RepliesWith (session_at room pass counting start line) (session_at room pass counting start (line + 1)) (Bad fault) text
-bad_replied room None counting start line fault text seated is = absurd seated
-bad_replied room (Some pass) counting start line fault text seated is =
-    replied room pass pass counting start line (Bad fault) text seated (unmoved room pass) (inl (record { same = refl; reply_is = is }))
+pub bad_replied : (room : TrackRoom) (pass : Option TrackPass) (counting : Counted) (start : ℕ) (holding : Holding) (line : ℕ) (fault text : List ℕ) → IsSession room line pass → text ≡ fault
+    → RepliesWith (session_at room pass counting start holding line) (session_at room pass counting start holding (line + 1)) (Bad fault) text 0
+bad_replied room None counting start holding line fault text seated is = absurd seated
+bad_replied room (Some pass) counting start holding line fault text seated is =
+    replied room pass pass counting start holding line (Bad fault) text 0 seated (unmoved room pass) (omega arith) (inl (record { same = refl; reply_is = is; tells_are = refl }))
 
 -- the session can go on with its pass
 seated_stays : (room : TrackRoom) (before after : TrackPass) (line : ℕ) → IsSeated room line before → Stays (editing room.object.table) room.parts before after → IsSeated room (line + 1) after
@@ -142,13 +144,14 @@ pub same_seated : (room : TrackRoom) (pass : Option TrackPass) (line : ℕ) → 
 same_seated room None line seated = seated
 same_seated room (Some pass) line seated = seated_stays room pass pass line seated (unmoved room pass)
 
-module _ (room : TrackRoom) (before after : TrackPass) (counting : Counted) (start line : ℕ) (seated : IsSeated room line before) where
-  pub edit_replied : (c : Call) (a : EditAnswer) (text : List ℕ) → IsSmall line × IsWritten c
-      → Edited (editing room.object.table) room.parts (record { station = before.number; number = line; call = c }) before after a → text ≡ answer_text_of a
-      → RepliesWith (session_at room (Some before) counting start line) (session_at room (Some after) counting start (line + 1)) (Do c) text
-  edit_replied c (answer.Done n d) text w e is =
+module _ (room : TrackRoom) (before after : TrackPass) (counting : Counted) (start : ℕ) (holding : Holding) (line : ℕ) (seated : IsSeated room line before) where
+  pub edit_replied : (c : Call) (a : EditAnswer) (text : List ℕ) (tells : ℕ) → IsSmall line × IsWritten c
+      → Edited (editing room.object.table) room.parts (record { station = before.number; number = line; call = c }) before after a → text ≡ answer_text_of a → tells ≡ answer_tells a
+      → RepliesWith (session_at room (Some before) counting start holding line) (session_at room (Some after) counting start holding (line + 1)) (Do c) text tells
+  edit_replied c (answer.Done n d) text tells w e is count =
       let apply = whole (editing room.object.table) in
       let entry : Entry Call = record { station = before.number; number = line; call = c } in
+      let next : tells ≡ n + 1 = count in
       let met_is : tracks_at room e.journal ≡ e.parts = tracks_are room e.journal e.parts e.comes in
       let now_is : tracks_at room after.entries ≡ e.now =
       tracks_are room after.entries e.now
@@ -158,9 +161,9 @@ module _ (room : TrackRoom) (before after : TrackPass) (counting : Counted) (sta
         setting = refl;
         station = e.goes_on.number_is;
         written = λ all. subst AreWritten (sym e.own) (written_more (of_station before.number before.entries) entry w all);
-        met = course_at room e.journal line;
-        grows = grown room counting start line before.number before.entries e.journal seated.legal e.legal e.met e.others;
-        answered = course_at room after.entries line;
+        met = course_at room e.journal holding.held line;
+        grows = grown room counting start holding.held line before.number before.entries e.journal seated.legal e.legal e.met e.others;
+        answered = course_at room after.entries holding.held line;
         step = inl (inl (
           d,
           record {
@@ -168,33 +171,49 @@ module _ (room : TrackRoom) (before after : TrackPass) (counting : Counted) (sta
             applies = rw (met_is, now_is) e.applies;
             journal = e.entries_are;
             room = omega (arith, e.point_is, e.room);
+            held = refl;
             line = refl;
             reply_is = is ∙ ap (λ m. answer_text_of (answer.Done m d)) e.point_is;
+            tells_are = omega (arith, next, e.point_is);
           },
         ));
+        within = omega (arith, next, e.room);
         passed = refl;
         line = refl;
       }
-  edit_replied c (answer.Refused n r) text w e is =
-      replied room before after counting start line (Do c) text seated e.at.stays (inl (inr (inl (
+  edit_replied c (answer.Refused n r) text tells w e is count =
+      let same : tells ≡ n = count in
+      replied room before after counting start holding line (Do c) text tells seated e.at.stays (omega (arith, same, e.at.point_is, e.at.legal.within)) (inl (inr (inl (
         r,
         record {
           refused = rw (tracks_are room after.entries e.parts e.comes) e.refused;
           same = refl;
           reply_is = is ∙ ap (λ m. answer_text_of (answer.Refused m r)) e.at.point_is;
+          tells_are = same ∙ e.at.point_is;
         },
       ))))
-  edit_replied c (answer.Full n) text w e is =
-      replied room before after counting start line (Do c) text seated e.at.stays (inl (inr (inr (
+  edit_replied c (answer.Full n) text tells w e is count =
+      let same : tells ≡ n = count in
+      replied room before after counting start holding line (Do c) text tells seated e.at.stays (omega (arith, same, e.full)) (inl (inr (inr (
         e.done,
         record {
           applies = rw (tracks_are room after.entries e.parts e.comes, e.applies) refl;
           full = sym e.at.point_is ∙ e.full;
           same = refl;
           reply_is = is ∙ ap (λ m. answer_text_of (answer.Full m)) e.full;
+          tells_are = same ∙ e.full;
         },
       ))))
-  edit_replied c answer.Memory text w e is = replied room before after counting start line (Do c) text seated e.0 (inr (ap is_none e.1, record { same = refl; reply_is = is }))
+  edit_replied c answer.Memory text tells w e is count =
+      let none : tells ≡ 0 = count in
+      replied room before after counting start holding line (Do c) text tells seated e.0 (omega (arith, none)) (inr (ap is_none e.1, record { same = refl; reply_is = is; tells_are = none }))
+
+  -- an answer's point is one of a journal
+  pub edit_within : (c : Call) (a : EditAnswer) → Edited (editing room.object.table) room.parts (record { station = before.number; number = line; call = c }) before after a → IsWithin a
+  edit_within c (answer.Done n d) e = let below : n < most_entries = e.room in omega (arith, below)
+  edit_within c (answer.Refused n r) e = let within : n ≤ most_entries = omega (arith, e.at.point_is, e.at.legal.within) in within
+  edit_within c (answer.Full n) e = let within : n ≤ most_entries = omega (arith, e.full) in within
+  edit_within c answer.Memory e = let within : 0 ≤ most_entries = omega arith in within
 
   -- after an edit the session can go on
   pub edit_seated : (c : Call) (a : EditAnswer) → Edited (editing room.object.table) room.parts (record { station = before.number; number = line; call = c }) before after a
@@ -211,9 +230,10 @@ module _ (room : TrackRoom) (before after : TrackPass) (counting : Counted) (sta
   edit_seated c answer.Memory e = seated_stays room before after line seated e.0
 
   pub point_replied : (n : ℕ) (text : List ℕ) → IsAtPoint (editing room.object.table) room.parts before after n → text ≡ codes "point " ++ decimal n
-      → RepliesWith (session_at room (Some before) counting start line) (session_at room (Some after) counting start (line + 1)) Point text
+      → RepliesWith (session_at room (Some before) counting start holding line) (session_at room (Some after) counting start holding (line + 1)) Point text n
   point_replied n text e is =
-      replied room before after counting start line Point text seated e.stays (inl (record { same = refl; reply_is = is ∙ ap (λ m. codes "point " ++ decimal m) e.point_is }))
+      replied room before after counting start holding line Point text n seated e.stays (omega (arith, e.point_is, e.legal.within))
+      (inl (record { same = refl; reply_is = is ∙ ap (λ m. codes "point " ++ decimal m) e.point_is; tells_are = e.point_is }))
 
   pub point_seated : (n : ℕ) → IsAtPoint (editing room.object.table) room.parts before after n → IsSeated room (line + 1) after
   point_seated n e = seated_stays room before after line seated e.stays
@@ -231,23 +251,29 @@ seen_told : (asked : Result ℕ AskRefusal) (tracks : List TrackState) (q : Ask)
 seen_told (Ok n) tracks q r h = seen_there (slice_get tracks n) q r h
 seen_told (Err why) tracks q r h = some_same (Err why) r h
 
-module _ (room : TrackRoom) (before after : TrackPass) (counting : Counted) (start line : ℕ) (seated : IsSeated room line before) where
-  ask_replied : (q : Ask) (s : TrackSight) (text : List ℕ)
-      → Looked (editing room.object.table) room.parts (ask_part_of room.object.table q) (λ t. seen_on t q) before after s → text ≡ sight_text_of s
-      → RepliesWith (session_at room (Some before) counting start line) (session_at room (Some after) counting start (line + 1)) (See q) text
-  ask_replied q (sight.Seen n seen) text e is =
+module _ (room : TrackRoom) (before after : TrackPass) (counting : Counted) (start : ℕ) (holding : Holding) (line : ℕ) (seated : IsSeated room line before) where
+  ask_replied : (q : Ask) (s : TrackSight) (text : List ℕ) (tells : ℕ)
+      → Looked (editing room.object.table) room.parts (ask_part_of room.object.table q) (λ t. seen_on t q) before after s → text ≡ sight_text_of s → tells ≡ sight_tells s
+      → RepliesWith (session_at room (Some before) counting start holding line) (session_at room (Some after) counting start holding (line + 1)) (See q) text tells
+  ask_replied q (sight.Seen n seen) text tells e is count =
+      let same : tells ≡ n = count in
       let there = seen_told (ask_part_of room.object.table q) (tracks_at room after.entries) q (Ok seen) (rw (tracks_are room after.entries e.parts e.comes) e.told_is) in
-      replied room before after counting start line (See q) text seated e.at.stays (inl (record {
+      replied room before after counting start holding line (See q) text tells seated e.at.stays (omega (arith, same, e.at.point_is, e.at.legal.within)) (inl (record {
         same = refl;
         reply_is = is ∙ (ap (λ m. sight_text_of (sight.Seen m seen)) e.at.point_is ∙ sym (ap (seen_of (length after.entries)) there));
+        tells_are = same ∙ e.at.point_is;
       }))
-  ask_replied q (sight.Refused n why) text e is =
+  ask_replied q (sight.Refused n why) text tells e is count =
+      let same : tells ≡ n = count in
       let there = seen_told (ask_part_of room.object.table q) (tracks_at room after.entries) q (Err why) (rw (tracks_are room after.entries e.parts e.comes) e.told_is) in
-      replied room before after counting start line (See q) text seated e.at.stays (inl (record {
+      replied room before after counting start holding line (See q) text tells seated e.at.stays (omega (arith, same, e.at.point_is, e.at.legal.within)) (inl (record {
         same = refl;
         reply_is = is ∙ (ap (λ m. sight_text_of (sight.Refused m why)) e.at.point_is ∙ sym (ap (seen_of (length after.entries)) there));
+        tells_are = same ∙ e.at.point_is;
       }))
-  ask_replied q sight.Memory text e is = replied room before after counting start line (See q) text seated e.0 (inr (refl, record { same = refl; reply_is = is }))
+  ask_replied q sight.Memory text tells e is count =
+      let none : tells ≡ 0 = count in
+      replied room before after counting start holding line (See q) text tells seated e.0 (omega (arith, none)) (inr (refl, record { same = refl; reply_is = is; tells_are = none }))
 
   looked_stays : (q : Ask) (s : TrackSight) → Looked (editing room.object.table) room.parts (ask_part_of room.object.table q) (λ t. seen_on t q) before after s
       → Stays (editing room.object.table) room.parts before after
@@ -256,11 +282,12 @@ module _ (room : TrackRoom) (before after : TrackPass) (counting : Counted) (sta
   looked_stays q sight.Memory e = e.0
 
   -- the reply to a question, or to one for whose reply there was no memory
-  pub sight_replied : (q : Ask) (s : TrackSight) (reply : List ℕ)
-      → Looked (editing room.object.table) room.parts (ask_part_of room.object.table q) (λ t. seen_on t q) before after s → IsSightReply s reply
-      → RepliesWith (session_at room (Some before) counting start line) (session_at room (Some after) counting start (line + 1)) (See q) reply
-  sight_replied q s reply e (inl is) = ask_replied q s reply e is
-  sight_replied q s reply e (inr is) = replied room before after counting start line (See q) reply seated (looked_stays q s e) (inr (refl, record { same = refl; reply_is = is }))
+  pub sight_replied : (q : Ask) (s : TrackSight) (reply : List ℕ) (tells : ℕ)
+      → Looked (editing room.object.table) room.parts (ask_part_of room.object.table q) (λ t. seen_on t q) before after s → IsSightReply s reply tells
+      → RepliesWith (session_at room (Some before) counting start holding line) (session_at room (Some after) counting start holding (line + 1)) (See q) reply tells
+  sight_replied q s reply tells e (inl is) = ask_replied q s reply tells e is.0 is.1
+  sight_replied q s reply tells e (inr is) =
+      replied room before after counting start holding line (See q) reply tells seated (looked_stays q s e) (omega (arith, is.1)) (inr (refl, record { same = refl; reply_is = is.0; tells_are = is.1 }))
 
   pub sight_seated : (q : Ask) (s : TrackSight) → Looked (editing room.object.table) room.parts (ask_part_of room.object.table q) (λ t. seen_on t q) before after s → IsSeated room (line + 1) after
   sight_seated q s e = seated_stays room before after line seated (looked_stays q s e)
@@ -271,30 +298,38 @@ module _ (room : TrackRoom) (before after : TrackPass) (counting : Counted) (sta
   cut_stays n (Err fault.Memory) e = e.0
 
   -- the reply with a document, or that there was no memory for it
-  document_replied : (n : ℕ) (tracks : List TrackState) (reply : List ℕ) → Stays (editing room.object.table) room.parts before after → n ≤ length after.entries
+  document_replied : (n : ℕ) (tracks : List TrackState) (reply : List ℕ) (tells : ℕ) → Stays (editing room.object.table) room.parts before after → n ≤ length after.entries
       → replay (whole (editing room.object.table)) room.parts (take n after.entries) ≡ Some tracks
-      → IsReplyIfMemory (document_reply n (document_of (setting_at room counting start) tracks)) reply
-      → RepliesWith (session_at room (Some before) counting start line) (session_at room (Some after) counting start (line + 1)) (Write n) reply
-  document_replied n tracks reply stays within state (inl is) =
-      replied room before after counting start line (Write n) reply seated stays (inl (inl (tracks, record { within = within; state = state; same = refl; reply_is = is })))
-  document_replied n tracks reply stays within state (inr is) =
-      replied room before after counting start line (Write n) reply seated stays (inr (refl, record { same = refl; reply_is = is }))
+      → IsReplyIfMemory (document_reply n (document_of (setting_at room counting start) tracks)) n reply tells
+      → RepliesWith (session_at room (Some before) counting start holding line) (session_at room (Some after) counting start holding (line + 1)) (Write n) reply tells
+  document_replied n tracks reply tells stays within state (inl is) =
+      let small : length after.entries ≤ most_entries = (stays.goes_on.legal seated.legal).within in
+      replied room before after counting start holding line (Write n) reply tells seated stays (omega (arith, is.1, within, small))
+      (inl (inl (tracks, record { within = within; state = state; same = refl; reply_is = is.0; tells_are = is.1 })))
+  document_replied n tracks reply tells stays within state (inr is) =
+      replied room before after counting start holding line (Write n) reply tells seated stays (omega (arith, is.1)) (inr (refl, record { same = refl; reply_is = is.0; tells_are = is.1 }))
 
   -- the reply to a wish for a document
-  pub cut_replied : (n : ℕ) (r : Result (Vec TrackState Global) CopyFault) (reply : List ℕ) → IsCut (editing room.object.table) room.parts n before after r
-      → IsCutReply (setting_at room counting start) n r reply
-      → RepliesWith (session_at room (Some before) counting start line) (session_at room (Some after) counting start (line + 1)) (Write n) reply
-  cut_replied n (Ok tracks) reply e is = document_replied n tracks.items reply e.0 e.1 e.2 is
-  cut_replied n (Err (fault.NoPoint count)) reply e is =
-      replied room before after counting start line (Write n) reply seated e.0.stays
-      (inl (inr (record { past = omega (arith, e.0.point_is, e.1); same = refl; reply_is = is ∙ ap no_point_reply e.0.point_is })))
-  cut_replied n (Err fault.Memory) reply e is = replied room before after counting start line (Write n) reply seated e.0 (inr (refl, record { same = refl; reply_is = is }))
+  pub cut_replied : (n : ℕ) (r : Result (Vec TrackState Global) CopyFault) (reply : List ℕ) (tells : ℕ) → IsCut (editing room.object.table) room.parts n before after r
+      → IsCutReply (setting_at room counting start) n r reply tells
+      → RepliesWith (session_at room (Some before) counting start holding line) (session_at room (Some after) counting start holding (line + 1)) (Write n) reply tells
+  cut_replied n (Ok tracks) reply tells e is = document_replied n tracks.items reply tells e.0 e.1 e.2 is
+  cut_replied n (Err (fault.NoPoint count)) reply tells e is =
+      replied room before after counting start holding line (Write n) reply tells seated e.0.stays (omega (arith, is.1, e.0.point_is, e.0.legal.within))
+      (inl (inr (record { past = omega (arith, e.0.point_is, e.1); same = refl; reply_is = is.0 ∙ ap no_point_reply e.0.point_is; tells_are = is.1 ∙ e.0.point_is })))
+  cut_replied n (Err fault.Memory) reply tells e is =
+      replied room before after counting start holding line (Write n) reply tells seated e.0 (omega (arith, is.1)) (inr (refl, record { same = refl; reply_is = is.0; tells_are = is.1 }))
 
   pub cut_seated : (n : ℕ) (r : Result (Vec TrackState Global) CopyFault) → IsCut (editing room.object.table) room.parts n before after r → IsSeated room (line + 1) after
   cut_seated n r e = seated_stays room before after line seated (cut_stays n r e)
 
 -- the reply to what a line was read as is the reply to the line
-pub told_line : (old new : StationState) (line : InputLine) (r : Result Line LineFault) (reply : List ℕ) → IsMeant old.setting line r → RepliesWith old new (wish_in r) reply
-    → RepliesTo old new line reply
-told_line old new line r reply (inl is) h = inl (subst (λ (x : Result Line LineFault). RepliesWith old new (wish_in x) reply) is h)
-told_line old new line r reply (inr (linking, none)) h = inr (linking, subst (λ (x : Result Line LineFault). RepliesWith old new (wish_in x) reply) none h)
+pub told_line : (old new : StationState) (line : InputLine) (r : Result Line LineFault) (reply : List ℕ) (tells : ℕ) → IsMeant old.setting line r → RepliesWith old new (wish_in r) reply tells
+    → RepliesTo old new line reply tells
+told_line old new line r reply tells (inl is) h = inl (subst (λ (x : Result Line LineFault). RepliesWith old new (wish_in x) reply tells) is h)
+told_line old new line r reply tells (inr (linking, none)) h = inr (linking, subst (λ (x : Result Line LineFault). RepliesWith old new (wish_in x) reply tells) none h)
+
+-- more entries are known to be kept, or a failure was counted
+pub has_held : (room : TrackRoom) (pass : Option TrackPass) (counting : Counted) (start : ℕ) (before after : Holding) (line : ℕ) → before.held ≤ after.held
+    → HasHeld (session_at room pass counting start before line) (session_at room pass counting start after line)
+has_held room pass counting start before after line more = record { setting = refl; station = refl; more = more; course = refl }

@@ -1,5 +1,5 @@
 -- What a session answered, line after line.
-use Rattle.std.proofs.Common.{◌≡◌, ℕ, Bool, true, false, ◌||◌, inl, inr, ◌+◌, List, [], ◌∷◌, ◌++◌, take, Option, Some, None, Result, Ok, Err, refl, sym, ap, ◌∙◌, append_assoc, subst, OnOk, OnErr}
+use Rattle.std.proofs.Common.{◌≡◌, ℕ, Bool, true, false, ◌||◌, inl, inr, ◌+◌, ◌≤◌, List, [], ◌∷◌, ◌++◌, take, Option, Some, None, Result, Ok, Err, refl, sym, ap, ◌∙◌, append_assoc, arith, subst, OnOk, OnErr}
 use Rattle.std.specs.Prelude.{IsTrue, codes}
 use Rattle.std.proofs.lemmas.List.{append-nil}
 use Rattle.room_ports.specs.Bytes.{Takes, TakesFront}
@@ -10,10 +10,17 @@ use Rattle.line_words.specs.declared.line.LineEnd.{LineEnd}
 use Rattle.station_sessions.specs.Outside.{AreSent, TakesThenFront, LastIsCut}
 use Rattle.station_sessions.specs.Transcript.{Bad, Protocol, Wish, reply_line, sent}
 use Rattle.station_sessions.specs.Rooms.{Setting, AreWritten, finds_memory, is_linking, room_of, meaning_of, wish_in}
+use Rattle.room_core.specs.History.{most_entries}
 use Rattle.room_core.specs.Projection.{of_station}
-use Rattle.station_sessions.specs.Session.{Course, Grows, HasGrown, StationState, past_line, RepliesTo, Step}
-use Rattle.station_sessions.specs.Served.{Serves, ServesTo, StaysWritten}
-use Rattle.station_sessions.proofs.Serving.{served_grows, served_more}
+use Rattle.room_keepers.specs.declared.fault.KeepFault.{KeepFault}
+use Rattle.composables.specs.TrackState.{TrackState}
+use Rattle.edit_calls.specs.declared.asks.Call.{Call}
+use Rattle.station_sessions.specs.Session.{Course, Grows, HasGrown, HasHeld, StationState, held_to, past_line, RepliesTo, Step}
+use Rattle.station_sessions.specs.Served.{Breaks, BreaksTo, Serves, ServesTo, StaysWritten}
+use Rattle.station_sessions.specs.Stopping.{StopsSo}
+use Rattle.station_sessions.specs.declared.serve.Stop.{Stop}
+use Rattle.station_sessions.specs.declared.serve.Stop.TheVariants.{Unsent, Unkept}
+use Rattle.station_sessions.proofs.Serving.{broken_replied, replied_more, served_grows, served_replied}
 
 sent-append : (xs ys : List (List ℕ)) → sent (xs ++ ys) ≡ sent xs ++ sent ys
 sent-append [] ys = refl
@@ -68,11 +75,35 @@ module _ {S C D R Q X Y : Type 0} (k : Protocol S C D R Q X Y) (station : ℕ) w
         both first.0 second.0 first.3 second.3,
       )
 
-  one_serves : (old met mid new : Course S C) (l : InputLine) (text : List ℕ) (Taken : List (List ℕ) → Type 0) → Grows k station old met
-      → Step k station met mid text (k.wish station l) (k.takes_memory l) → new ≡ past_line mid → Taken (text ∷ []) → Serves k station old new (l ∷ []) Taken
-  one_serves old met mid new l text Taken grows step next taken o from ls rs last w =
-      let s = served_more k station o from met mid ls rs last l text (served_grows k station o from old met ls rs last w grows) step in
-      (text ∷ [], s.0, rw next s.1, taken)
+  -- these lines, and then others and one more whose reply was not sent
+  then_breaks : (a b c : Course S C) (xs ys : List InputLine) (l : InputLine) (P V W : List (List ℕ) → Type 0) → ((us vs : List (List ℕ)) → P us → V vs → W (us ++ vs))
+      → Serves k station a b xs P → Breaks k station b c ys l V → Breaks k station a c (xs ++ ys) l W
+  then_breaks a b c xs ys l P V W both f g o from ls rs last w =
+      let first = f o from ls rs last w in
+      let second = g o from (ls ++ xs) (rs ++ first.0) first.1 first.2 in (
+        first.0 ++ second.0,
+        second.1,
+        rw (← append_assoc ls xs ys, ← append_assoc rs first.0 second.0) second.2,
+        second.3,
+        both first.0 second.0 first.3 second.4,
+      )
+
+  -- one line, where more entries are kept, and those that its reply tells of
+  one_serves : (old met mid : Course S C) (n : ℕ) (l : InputLine) (text : List ℕ) (tells : ℕ) (Taken : List (List ℕ) → Type 0) → Grows k station old met
+      → Step k station met mid text tells (k.wish station l) (k.takes_memory l) → mid.held ≤ n → tells ≤ n → Taken (text ∷ [])
+      → Serves k station old (held_to n (past_line mid)) (l ∷ []) Taken
+  one_serves old met mid n l text tells Taken grows step more told taken o from ls rs last w =
+      let r = replied_more k station o from met mid ls rs last l text tells (served_grows k station o from old met ls rs last w grows) step in
+      (text ∷ [], r.after, served_replied k station o from (past_line mid) n ls rs last l text tells more told r, taken)
+
+  -- one line whose reply was not sent
+  one_breaks : (old met mid : Course S C) (n : ℕ) (l : InputLine) (text : List ℕ) (tells : ℕ) (Taken : List (List ℕ) → Type 0) → Grows k station old met
+      → Step k station met mid text tells (k.wish station l) (k.takes_memory l) → mid.held ≤ n → Taken []
+      → Breaks k station old (held_to n (past_line mid)) [] l Taken
+  one_breaks old met mid n l text tells Taken grows step more taken o from ls rs last w =
+      let r = replied_more k station o from met mid ls rs last l text tells (served_grows k station o from old met ls rs last w grows) step in
+      let held : last ≤ n = omega (arith, r.held, more) in
+      ([], last, rw (append-nil, append-nil) (broken_replied k station o from (past_line mid) n ls rs last l text tells r), held, taken)
 
 true_before : (a b : Bool) → IsTrue a → IsTrue (a || b)
 true_before true b t = refl
@@ -83,12 +114,12 @@ true_behind true b t = refl
 true_behind false b t = t
 
 -- a step of a line that may find no memory for one more reason
-module _ {S C D R Q X Y : Type 0} (k : Protocol S C D R Q X Y) (station : ℕ) (old new : Course S C) (text : List ℕ) where
-  wider : (wish : Wish C Q) (a b : Bool) → Step k station old new text wish a → Step k station old new text wish (a || b)
+module _ {S C D R Q X Y : Type 0} (k : Protocol S C D R Q X Y) (station : ℕ) (old new : Course S C) (text : List ℕ) (tells : ℕ) where
+  wider : (wish : Wish C Q) (a b : Bool) → Step k station old new text tells wish a → Step k station old new text tells wish (a || b)
   wider wish a b (inl does) = inl does
   wider wish a b (inr (t, says)) = inr (true_before a b t, says)
 
-  for_memory : (wish : Wish C Q) (a b : Bool) → IsTrue b → Step k station old new text (Bad (codes "memory")) false → Step k station old new text wish (a || b)
+  for_memory : (wish : Wish C Q) (a b : Bool) → IsTrue b → Step k station old new text tells (Bad (codes "memory")) false → Step k station old new text tells wish (a || b)
   for_memory wish a b t (inl says) = inr (true_behind a b t, says)
   for_memory wish a b t (inr (never, says)) = absurd cc
 
@@ -109,35 +140,96 @@ serves_grown s g t h = record {
   );
 }
 
-pub serves_one : (old new : StationState) (l : InputLine) (reply : List ℕ) (Taken : List (List ℕ) → Type 0) → RepliesTo old new l reply → Taken (reply ∷ []) → ServesTo old new (l ∷ []) Taken
-serves_one old new l reply Taken (inl r) taken =
+-- the step of a line, however it was read
+record Stepped (old new : StationState) (l : InputLine) (reply : List ℕ) (tells : ℕ) : Type 0 where
+  pub setting : new.setting ≡ old.setting
+  pub station : new.station ≡ old.station
+  pub written : StaysWritten old new
+  pub met : Course (List TrackState) Call
+  pub grows : Grows (room_of old.setting) old.station old.course met
+  pub answered : Course (List TrackState) Call
+  pub step : (let k = room_of old.setting in Step k old.station met answered reply tells (k.wish old.station l) (k.takes_memory l))
+  pub passed : new.course ≡ past_line answered
+
+stepped : (old new : StationState) (l : InputLine) (reply : List ℕ) (tells : ℕ) → RepliesTo old new l reply tells → Stepped old new l reply tells
+stepped old new l reply tells (inl r) =
     let wish = wish_in (meaning_of old.setting l) in
-    let step = wider (room_of old.setting) old.station r.met r.answered reply wish (finds_memory old.setting.table wish) (is_linking l) r.step in
     record {
       setting = r.setting;
       station = r.station;
       written = r.written;
-      serves = one_serves (room_of old.setting) old.station old.course r.met r.answered new.course l reply Taken r.grows step r.passed taken;
+      met = r.met;
+      grows = r.grows;
+      answered = r.answered;
+      step = wider (room_of old.setting) old.station r.met r.answered reply tells wish (finds_memory old.setting.table wish) (is_linking l) r.step;
+      passed = r.passed;
     }
-serves_one old new l reply Taken (inr (linking, r)) taken =
+stepped old new l reply tells (inr (linking, r)) =
     let wish = wish_in (meaning_of old.setting l) in
-    let step = for_memory (room_of old.setting) old.station r.met r.answered reply wish (finds_memory old.setting.table wish) (is_linking l) linking r.step in
     record {
       setting = r.setting;
       station = r.station;
       written = r.written;
-      serves = one_serves (room_of old.setting) old.station old.course r.met r.answered new.course l reply Taken r.grows step r.passed taken;
+      met = r.met;
+      grows = r.grows;
+      answered = r.answered;
+      step = for_memory (room_of old.setting) old.station r.met r.answered reply tells wish (finds_memory old.setting.table wish) (is_linking l) linking r.step;
+      passed = r.passed;
     }
 
--- the station
-pub same_station : (old new : StationState) (l : InputLine) (reply : List ℕ) → RepliesTo old new l reply → new.station ≡ old.station
-same_station old new l reply (inl r) = r.station
-same_station old new l reply (inr (linking, r)) = r.station
+module _ (old mid new : StationState) (l : InputLine) (reply : List ℕ) (tells : ℕ) (to : RepliesTo old mid l reply tells) (h : HasHeld mid new) where
+  -- what was kept since is of the same journal
+  held_course : (s : Stepped old mid l reply tells) → new.course ≡ held_to new.course.held (past_line s.answered)
+  held_course s = h.course ∙ ap (held_to new.course.held) s.passed
+
+  held_more : (s : Stepped old mid l reply tells) → s.answered.held ≤ new.course.held
+  held_more s = omega (arith, ap (λ (c : Course (List TrackState) Call). c.held) s.passed, h.more)
+
+  held_written : (s : Stepped old mid l reply tells) → StaysWritten old new
+  held_written s w = subst (λ (c : Course (List TrackState) Call). AreWritten (of_station old.station c.journal)) (sym h.course) (s.written w)
+
+  -- a line whose reply was sent once what it tells of was kept
+  pub serves_one : (Taken : List (List ℕ) → Type 0) → tells ≤ new.course.held → Taken (reply ∷ []) → ServesTo old new (l ∷ []) Taken
+  serves_one Taken told taken =
+      let s = stepped old mid l reply tells to in
+      let k = room_of old.setting in
+      record {
+        setting = h.setting ∙ s.setting;
+        station = h.station ∙ s.station;
+        written = held_written s;
+        serves = subst (λ (c : Course (List TrackState) Call). Serves k old.station old.course c (l ∷ []) Taken) (sym (held_course s))
+            (one_serves k old.station old.course s.met s.answered new.course.held l reply tells Taken s.grows s.step (held_more s) told taken);
+      }
+
+  -- a line whose reply was not sent
+  pub breaks_one : (t : Option (List ℕ)) → BreaksTo old new [] l (AreSent t t)
+  breaks_one t =
+      let s = stepped old mid l reply tells to in
+      let k = room_of old.setting in
+      record {
+        setting = h.setting ∙ s.setting;
+        station = h.station ∙ s.station;
+        written = held_written s;
+        breaks = subst (λ (c : Course (List TrackState) Call). Breaks k old.station old.course c [] l (AreSent t t)) (sym (held_course s))
+            (one_breaks k old.station old.course s.met s.answered new.course.held l reply tells (AreSent t t) s.grows s.step (held_more s) (takes-nothing t));
+      }
+
+  -- the station
+  pub same_station : new.station ≡ old.station
+  same_station = h.station ∙ (stepped old mid l reply tells to).station
 
 -- the number of the next line
-pub next_number : (old new : StationState) (l : InputLine) (reply : List ℕ) → RepliesTo old new l reply → new.course.line ≡ old.course.line + 1
-next_number old new l reply (inl r) = r.line
-next_number old new l reply (inr (linking, r)) = r.line
+next_line : (old mid : StationState) (l : InputLine) (reply : List ℕ) (tells : ℕ) → RepliesTo old mid l reply tells → mid.course.line ≡ old.course.line + 1
+next_line old mid l reply tells (inl r) = r.line
+next_line old mid l reply tells (inr (linking, r)) = r.line
+
+pub next_number : (old mid new : StationState) (l : InputLine) (reply : List ℕ) (tells : ℕ) → RepliesTo old mid l reply tells → HasHeld mid new → new.course.line ≡ old.course.line + 1
+next_number old mid new l reply tells to h = ap (λ (c : Course (List TrackState) Call). c.line) h.course ∙ next_line old mid l reply tells to
+
+-- a reply tells of no more entries than a journal has
+pub tells_within : (old new : StationState) (l : InputLine) (reply : List ℕ) (tells : ℕ) → RepliesTo old new l reply tells → tells ≤ most_entries
+tells_within old new l reply tells (inl r) = r.within
+tells_within old new l reply tells (inr (linking, r)) = r.within
 
 serves_then : (a b c : StationState) (xs ys : List InputLine) (P V W : List (List ℕ) → Type 0) → ((us vs : List (List ℕ)) → P us → V vs → W (us ++ vs))
     → ServesTo a b xs P → ServesTo b c ys V → ServesTo a c (xs ++ ys) W
@@ -149,9 +241,19 @@ serves_then a b c xs ys P V W both f g = record {
       (subst (λ (x : Setting × ℕ). Serves (room_of x.0) x.1 b.course c.course ys V) (λ i. (f.setting i, f.station i)) g.serves);
 }
 
+breaks_then : (a b c : StationState) (xs ys : List InputLine) (l : InputLine) (P V W : List (List ℕ) → Type 0) → ((us vs : List (List ℕ)) → P us → V vs → W (us ++ vs))
+    → ServesTo a b xs P → BreaksTo b c ys l V → BreaksTo a c (xs ++ ys) l W
+breaks_then a b c xs ys l P V W both f g = record {
+  setting = g.setting ∙ f.setting;
+  station = g.station ∙ f.station;
+  written = λ w. subst (λ (n : ℕ). AreWritten (of_station n b.course.journal) → AreWritten (of_station n c.course.journal)) f.station g.written (f.written w);
+  breaks = then_breaks (room_of a.setting) a.station a.course b.course c.course xs ys l P V W both f.serves
+      (subst (λ (x : Setting × ℕ). Breaks (room_of x.0) x.1 b.course c.course ys l V) (λ i. (f.setting i, f.station i)) g.breaks);
+}
+
 -- what could be written still can, after both
-pub written_then : (a b c : StationState) (xs ys : List InputLine) (P V : List (List ℕ) → Type 0) → ServesTo a b xs P → ServesTo b c ys V → StaysWritten a c
-written_then a b c xs ys P V f g w = subst (λ (n : ℕ). AreWritten (of_station n b.course.journal) → AreWritten (of_station n c.course.journal)) f.station g.written (f.written w)
+pub written_then : (a b c : StationState) (xs : List InputLine) (P : List (List ℕ) → Type 0) → ServesTo a b xs P → StaysWritten b c → StaysWritten a c
+written_then a b c xs P f later w = subst (λ (n : ℕ). AreWritten (of_station n b.course.journal) → AreWritten (of_station n c.course.journal)) f.station later (f.written w)
 
 -- these lines and then those
 pub serves_more : (a b c : StationState) (xs ys : List InputLine) (t u v : Option (List ℕ)) → ServesTo a b xs (AreSent t u) → ServesTo b c ys (AreSent u v) → ServesTo a c (xs ++ ys) (AreSent t v)
@@ -159,6 +261,26 @@ serves_more a b c xs ys t u v f g = serves_then a b c xs ys (AreSent t u) (AreSe
 
 pub serves_cut : (a b c : StationState) (xs ys : List InputLine) (t u v : Option (List ℕ)) → ServesTo a b xs (AreSent t u) → ServesTo b c ys (LastIsCut u v) → ServesTo a c (xs ++ ys) (LastIsCut t v)
 serves_cut a b c xs ys t u v f g = serves_then a b c xs ys (AreSent t u) (LastIsCut u v) (LastIsCut t v) (cut_more t u v) f g
+
+-- where the session stopped at a line later
+pub stops_more : (may_fail : KeepFault → Type 0) (a b c : StationState) (xs ys : List InputLine) (l : InputLine) (t u v : Option (List ℕ)) (stop : Stop)
+    → ServesTo a b xs (AreSent t u) → StopsSo may_fail b c ys l u v stop → StopsSo may_fail a c (xs ++ ys) l t v stop
+stops_more may_fail a b c xs ys l t u v Unsent f g =
+    subst (λ (ls : List InputLine). ServesTo a c ls (LastIsCut t v)) (sym (append_assoc xs ys (l ∷ []))) (serves_cut a b c xs (ys ++ l ∷ []) t u v f g)
+stops_more may_fail a b c xs ys l t u v (Unkept fault) f (may, counted, g) =
+    (may, counted, breaks_then a b c xs ys l (AreSent t u) (AreSent u v) (AreSent t v) (sent_more t u v) f g)
+
+-- at the very next line
+pub stops_next : (may_fail : KeepFault → Type 0) (a b c : StationState) (xs : List InputLine) (l : InputLine) (t u v : Option (List ℕ)) (stop : Stop)
+    → ServesTo a b xs (AreSent t u) → StopsSo may_fail b c [] l u v stop → StopsSo may_fail a c xs l t v stop
+stops_next may_fail a b c xs l t u v stop f g =
+    subst (λ (ls : List InputLine). StopsSo may_fail a c ls l t v stop) (append-nil xs) (stops_more may_fail a b c xs [] l t u v stop f g)
+
+-- what could be written still can
+pub stops_written : (may_fail : KeepFault → Type 0) (a b : StationState) (xs : List InputLine) (l : InputLine) (t u : Option (List ℕ)) (stop : Stop)
+    → StopsSo may_fail a b xs l t u stop → StaysWritten a b
+stops_written may_fail a b xs l t u Unsent g = g.written
+stops_written may_fail a b xs l t u (Unkept fault) (may, counted, g) = g.written
 
 pub serves_lines : (a b : StationState) (xs ys : List InputLine) (Taken : List (List ℕ) → Type 0) → xs ≡ ys → ServesTo a b xs Taken → ServesTo a b ys Taken
 serves_lines a b xs ys Taken e f = subst (λ (ls : List InputLine). ServesTo a b ls Taken) e f

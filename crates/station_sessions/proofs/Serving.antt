@@ -6,8 +6,8 @@ use Rattle.line_words.specs.Lines.{Line as InputLine}
 use Rattle.room_core.specs.declared.entry.Entry.{Entry}
 use Rattle.room_core.specs.History.{most_entries, replay, after_entry, answer_in, state_in, RiseAfter, NumbersRise}
 use Rattle.room_core.specs.Projection.{of_station}
-use Rattle.station_sessions.specs.Transcript.{Wish, Do, See, Point, Write, Bad, Protocol, answer_at, sight_at, BearsNone, IsDone, IsRefused, IsFull, IsMemory, IsSeen, IsPoint, IsDocument, IsPastEnd, IsBad, Origin, Row, Rows, Transcript, points_behind}
-use Rattle.station_sessions.specs.Session.{Course, past_line, Commits, Does, Step, Grows}
+use Rattle.station_sessions.specs.Transcript.{Wish, Do, See, Point, Write, Bad, Protocol, answer_at, sight_at, BearsNone, IsDone, IsRefused, IsFull, IsMemory, IsSeen, IsPoint, IsDocument, IsPastEnd, IsBad, Origin, Row, Rows, TranscriptTo, TranscriptBut, points_behind}
+use Rattle.station_sessions.specs.Session.{Course, past_line, held_to, Commits, Does, Step, Grows}
 use Rattle.station_sessions.specs.Served.{OwnBefore, Served}
 use Rattle.station_sessions.proofs.Transcripts.{OwnFrom, get_last, answer_more, rows_more, one_row_more, points_more, points_others, points_one, no_own, replay_more, state_now}
 
@@ -47,14 +47,15 @@ rise_more (f ∷ fs) e b r = (rise_after f fs e b.0 r.0, rise_more fs e b.1 r.1)
 module _ {S C D R Q X Y : Type 0} (k : Protocol S C D R Q X Y) (station : ℕ) (o : S) (from : Origin) where
   -- before the first line
   pub served_none : (s : Course S C) → s.opening ≡ o → replay k.apply o s.journal ≡ Some s.state → from.kept ≤ length s.journal → of_station station (drop from.kept s.journal) ≡ []
-      → OwnBefore station (from.base + 1) s.journal → s.line ≡ from.base + 1 → NumbersRise s.journal → length s.journal ≤ most_entries
+      → OwnBefore station (from.base + 1) s.journal → from.kept ≤ s.held → s.line ≡ from.base + 1 → NumbersRise s.journal → length s.journal ≤ most_entries
       → Served k station o from s [] [] from.kept
-  served_none s from_is is kept none before first rise within = record {
+  served_none s from_is is kept none before held first rise within = record {
     opening = from_is;
     state = is;
     rows = (refl, (no_own station from.kept 0 (drop from.kept s.journal) none).0);
     kept = kept;
     told = kept;
+    held = held;
     line = omega (arith, first);
     before = before_later station (from.base + 1) (from.base + 1 + 0) s.journal (omega arith) before;
     rise = rise;
@@ -81,6 +82,7 @@ module _ {S C D R Q X Y : Type 0} (k : Protocol S C D R Q X Y) (station : ℕ) (
         rows = rw g.journal rows;
         kept = omega (arith, w.kept, count, length-append h more);
         told = omega (arith, w.told, count, length-append h more);
+        held = omega (arith, w.held, g.held);
         line = g.line ∙ w.line;
         before = rw g.journal (before_others station (from.base + 1 + length ls) h more g.others w.before);
         rise = g.rise;
@@ -93,27 +95,78 @@ module _ {S C D R Q X Y : Type 0} (k : Protocol S C D R Q X Y) (station : ℕ) (
   sight_now : (s : Course S C) (q : Q) → replay k.apply o s.journal ≡ Some s.state → sight_at k o s.journal (length s.journal) q ≡ Some (k.see s.state q)
   sight_now s q state = ap (option_map (λ x. k.see x q)) (state_now k o s.journal ∙ state)
 
+  -- A line that has its reply by the journal: the rows of the lines before it, over the journal as it is now, and its own.
+  -- Of more entries than before it tells only where the reply does.
+  pub record Replied (s : Course S C) (ls : List InputLine) (rs : List (List ℕ)) (last : ℕ) (l : InputLine) (reply : List ℕ) (tells : ℕ) : Type 0 where
+    pub answered : List ℕ
+    pub here : List ℕ
+    pub after : ℕ
+    pub opening : s.opening ≡ o
+    pub state : replay k.apply o s.journal ≡ Some s.state
+    pub rows : Rows k o s.journal station (from.base + 1) from.kept ls rs last answered
+    pub row : Row k o s.journal station (from.base + 1 + length ls) last reply after here l
+    pub points : points_behind from.kept station s.journal ≡ answered ++ here
+    pub kept : from.kept ≤ length s.journal
+    pub told : after ≤ length s.journal
+    pub least : after ≤ max last tells
+    pub held : last ≤ s.held
+    pub line : s.line ≡ from.base + 1 + (length ls + 1)
+    pub before : OwnBefore station (from.base + 1 + (length ls + 1)) s.journal
+    pub rise : NumbersRise s.journal
+    pub within : length s.journal ≤ most_entries
+
+  -- where more entries are kept, and those that the reply tells of, its line is one of those answered
+  pub served_replied : (s : Course S C) (n : ℕ) (ls : List InputLine) (rs : List (List ℕ)) (last : ℕ) (l : InputLine) (reply : List ℕ) (tells : ℕ)
+      → s.held ≤ n → tells ≤ n → (r : Replied s ls rs last l reply tells) → Served k station o from (held_to n s) (ls ++ l ∷ []) (rs ++ reply ∷ []) r.after
+  served_replied s n ls rs last l reply tells more told r =
+      let count : length (ls ++ l ∷ []) ≡ length ls + 1 = length-append ls (l ∷ []) in
+      let rows = one_row_more k o s.journal station (from.base + 1) from.kept ls rs last r.answered l reply r.after r.here r.rows r.row in
+      record {
+        opening = r.opening;
+        state = r.state;
+        rows = rw r.points rows;
+        kept = r.kept;
+        told = r.told;
+        held = omega (arith, r.least, r.held, more, told);
+        line = omega (arith, r.line, count);
+        before = rw count r.before;
+        rise = r.rise;
+        within = r.within;
+      }
+
+  -- where its reply is not sent, the lines before it have theirs
+  pub broken_replied : (s : Course S C) (n : ℕ) (ls : List InputLine) (rs : List (List ℕ)) (last : ℕ) (l : InputLine) (reply : List ℕ) (tells : ℕ)
+      → Replied s ls rs last l reply tells → TranscriptBut k o (held_to n s).journal from station ls rs last l
+  broken_replied s n ls rs last l reply tells r = (r.here, (r.answered, r.rows, r.points), reply, r.after, r.row)
+
   -- a reply that commits nothing
-  served_same : (s : Course S C) (ls : List InputLine) (rs : List (List ℕ)) (last : ℕ) (l : InputLine) (reply : List ℕ) (after : ℕ)
-      → Served k station o from s ls rs last → Row k o s.journal station (from.base + 1 + length ls) last reply after [] l → after ≤ length s.journal
-      → Served k station o from (past_line s) (ls ++ l ∷ []) (rs ++ reply ∷ []) after
-  served_same s ls rs last l reply after w row told = record {
+  replied_same : (s : Course S C) (ls : List InputLine) (rs : List (List ℕ)) (last : ℕ) (l : InputLine) (reply : List ℕ) (tells after : ℕ)
+      → Served k station o from s ls rs last → Row k o s.journal station (from.base + 1 + length ls) last reply after [] l → after ≤ length s.journal → after ≤ max last tells
+      → Replied (past_line s) ls rs last l reply tells
+  replied_same s ls rs last l reply tells after w row told least = record {
+    answered = points_behind from.kept station s.journal;
+    here = [];
+    after = after;
     opening = w.opening;
     state = w.state;
-    rows = rw append-nil at (one_row_more k o s.journal station (from.base + 1) from.kept ls rs last (points_behind from.kept station s.journal) l reply after [] w.rows row);
+    rows = w.rows;
+    row = row;
+    points = sym (append-nil (points_behind from.kept station s.journal));
     kept = w.kept;
     told = told;
-    line = omega (arith, w.line, length-append ls (l ∷ []));
-    before = before_later station (from.base + 1 + length ls) (from.base + 1 + length (ls ++ l ∷ [])) s.journal (omega (arith, length-append ls (l ∷ []))) w.before;
+    least = least;
+    held = w.held;
+    line = omega (arith, w.line);
+    before = before_later station (from.base + 1 + length ls) (from.base + 1 + (length ls + 1)) s.journal (omega arith) w.before;
     rise = w.rise;
     within = w.within;
   }
 
   -- one line more that commits a call
-  served_commit : (old new : Course S C) (ls : List InputLine) (rs : List (List ℕ)) (last : ℕ) (l : InputLine) (reply : List ℕ) (c : C) (d : D)
-      → Served k station o from old ls rs last → k.wish station l ≡ Do c → Commits k station old new reply c d
-      → Served k station o from (past_line new) (ls ++ l ∷ []) (rs ++ reply ∷ []) (length old.journal + 1)
-  served_commit old new ls rs last l reply c d w says m =
+  replied_commit : (old new : Course S C) (ls : List InputLine) (rs : List (List ℕ)) (last : ℕ) (l : InputLine) (reply : List ℕ) (tells : ℕ) (c : C) (d : D)
+      → Served k station o from old ls rs last → k.wish station l ≡ Do c → Commits k station old new reply tells c d
+      → Replied (past_line new) ls rs last l reply tells
+  replied_commit old new ls rs last l reply tells c d w says m =
       let h : List (Entry C) = old.journal in
       let n : ℕ = length h in
       let e : Entry C = record { station = station; number = from.base + 1 + length ls; call = c } in
@@ -134,34 +187,40 @@ module _ {S C D R Q X Y : Type 0} (k : Protocol S C D R Q X Y) (station : ℕ) (
       let row : Row k o (h ++ e ∷ []) station (from.base + 1 + length ls) last reply (n + 1) (n ∷ []) l = inl (rw says (inl (n, d, done))) in
       let own : OwnFrom station (from.base + 1 + length ls) (e ∷ []) = (λ is. omega arith, tt) in
       let older = rows_more k o h (e ∷ []) station (from.base + 1) from.kept ls rs last (points_behind from.kept station h) (omega (arith, counted, m.room)) own w.rows in
-      let rows = one_row_more k o (h ++ e ∷ []) station (from.base + 1) from.kept ls rs last (points_behind from.kept station h) l reply (n + 1) (n ∷ []) older row in
       let points : points_behind from.kept station (h ++ e ∷ []) ≡ points_behind from.kept station h ++ n ∷ [] =
       points_more from.kept station h (e ∷ []) w.kept ∙ ap (λ ps. points_behind from.kept station h ++ ps) (points_one n station e refl) in
+      let later : from.base + 1 + length ls ≤ from.base + 1 + (length ls + 1) = omega arith in
       record {
+        answered = points_behind from.kept station h;
+        here = n ∷ [];
+        after = n + 1;
         opening = m.opening ∙ w.opening;
         state = rw j state;
-        rows = rw (j, points) rows;
+        rows = rw j older;
+        row = rw j row;
+        points = rw j points;
         kept = omega (arith, w.kept, ap length j, counted);
         told = omega (arith, ap length j, counted);
-        line = omega (arith, m.line, w.line, length-append ls (l ∷ []));
-        before = rw j (before_more station (from.base + 1 + length (ls ++ l ∷ [])) h e (omega (arith, length-append ls (l ∷ []))) (before_later station (from.base + 1 + length ls) (from.base + 1 + length (ls ++ l ∷ [])) h (omega (arith, length-append ls (l ∷ []))) w.before));
+        least = omega (arith, m.tells_are);
+        held = omega (arith, m.held, w.held);
+        line = omega (arith, m.line, w.line);
+        before = rw j (before_more station (from.base + 1 + (length ls + 1)) h e (omega arith) (before_later station (from.base + 1 + length ls) (from.base + 1 + (length ls + 1)) h later w.before));
         rise = rw j (rise_more h e w.before w.rise);
         within = omega (arith, ap length j, counted, m.room);
       }
 
   -- one line more that commits nothing
-  served_quiet : (old new : Course S C) (ls : List InputLine) (rs : List (List ℕ)) (last : ℕ) (l : InputLine) (reply : List ℕ) (after : ℕ)
-      → new ≡ old → Served k station o from old ls rs last → Row k o old.journal station (from.base + 1 + length ls) last reply after [] l → after ≤ length old.journal
-      → Served k station o from (past_line new) (ls ++ l ∷ []) (rs ++ reply ∷ []) after
-  served_quiet old new ls rs last l reply after same w row told =
-      subst (λ (s : Course S C). Served k station o from (past_line s) (ls ++ l ∷ []) (rs ++ reply ∷ []) after) (sym same) (served_same old ls rs last l reply after w row told)
+  replied_quiet : (old new : Course S C) (ls : List InputLine) (rs : List (List ℕ)) (last : ℕ) (l : InputLine) (reply : List ℕ) (tells after : ℕ)
+      → new ≡ old → Served k station o from old ls rs last → Row k o old.journal station (from.base + 1 + length ls) last reply after [] l → after ≤ length old.journal → after ≤ max last tells
+      → Replied (past_line new) ls rs last l reply tells
+  replied_quiet old new ls rs last l reply tells after same w row told least =
+      subst (λ (s : Course S C). Replied (past_line s) ls rs last l reply tells) (sym same) (replied_same old ls rs last l reply tells after w row told least)
 
-  served_does : (old new : Course S C) (ls : List InputLine) (rs : List (List ℕ)) (last : ℕ) (l : InputLine) (reply : List ℕ) (wish : Wish C Q)
-      → Served k station o from old ls rs last → k.wish station l ≡ wish → Does k station old new reply wish
-      → (after : ℕ) × Served k station o from (past_line new) (ls ++ l ∷ []) (rs ++ reply ∷ []) after
-  served_does old new ls rs last l reply (Do c) w says (inl (d, m)) =
-      (length old.journal + 1, served_commit old new ls rs last l reply c d w says m)
-  served_does old new ls rs last l reply (Do c) w says (inr (inl (r, m))) =
+  replied_does : (old new : Course S C) (ls : List InputLine) (rs : List (List ℕ)) (last : ℕ) (l : InputLine) (reply : List ℕ) (tells : ℕ) (wish : Wish C Q)
+      → Served k station o from old ls rs last → k.wish station l ≡ wish → Does k station old new reply tells wish
+      → Replied (past_line new) ls rs last l reply tells
+  replied_does old new ls rs last l reply tells (Do c) w says (inl (d, m)) = replied_commit old new ls rs last l reply tells c d w says m
+  replied_does old new ls rs last l reply tells (Do c) w says (inr (inl (r, m))) =
       let n : ℕ = length old.journal in
       let refused : IsRefused k o old.journal station (from.base + 1 + length ls) last reply n [] c n r = record {
         told_of = w.told;
@@ -171,8 +230,8 @@ module _ {S C D R Q X Y : Type 0} (k : Protocol S C D R Q X Y) (station : ℕ) (
         after_is = refl;
         points_are = refl;
       } in
-      (n, served_quiet old new ls rs last l reply n m.same w (inl (rw says (inr (inl (n, r, refused))))) (omega arith))
-  served_does old new ls rs last l reply (Do c) w says (inr (inr (d, m))) =
+      replied_quiet old new ls rs last l reply tells n m.same w (inl (rw says (inr (inl (n, r, refused))))) (omega arith) (omega (arith, m.tells_are))
+  replied_does old new ls rs last l reply tells (Do c) w says (inr (inr (d, m))) =
       let full : IsFull k o old.journal station (from.base + 1 + length ls) last reply most_entries [] c d = record {
         told_of = omega (arith, w.told, m.full);
         full = m.full;
@@ -181,8 +240,8 @@ module _ {S C D R Q X Y : Type 0} (k : Protocol S C D R Q X Y) (station : ℕ) (
         after_is = refl;
         points_are = refl;
       } in
-      (most_entries, served_quiet old new ls rs last l reply most_entries m.same w (inl (rw says (inr (inr (d, full))))) (omega (arith, m.full)))
-  served_does old new ls rs last l reply (See q) w says m =
+      replied_quiet old new ls rs last l reply tells most_entries m.same w (inl (rw says (inr (inr (d, full))))) (omega (arith, m.full)) (omega (arith, m.tells_are))
+  replied_does old new ls rs last l reply tells (See q) w says m =
       let n : ℕ = length old.journal in
       let seen : IsSeen k o old.journal station (from.base + 1 + length ls) last reply n [] q n (k.see old.state q) = record {
         told_of = w.told;
@@ -192,8 +251,8 @@ module _ {S C D R Q X Y : Type 0} (k : Protocol S C D R Q X Y) (station : ℕ) (
         after_is = refl;
         points_are = refl;
       } in
-      (n, served_quiet old new ls rs last l reply n m.same w (inl (rw says (n, k.see old.state q, seen))) (omega arith))
-  served_does old new ls rs last l reply Point w says m =
+      replied_quiet old new ls rs last l reply tells n m.same w (inl (rw says (n, k.see old.state q, seen))) (omega arith) (omega (arith, m.tells_are))
+  replied_does old new ls rs last l reply tells Point w says m =
       let n : ℕ = length old.journal in
       let point : IsPoint k o old.journal station (from.base + 1 + length ls) last reply n [] n = record {
         told_of = w.told;
@@ -202,8 +261,8 @@ module _ {S C D R Q X Y : Type 0} (k : Protocol S C D R Q X Y) (station : ℕ) (
         after_is = refl;
         points_are = refl;
       } in
-      (n, served_quiet old new ls rs last l reply n m.same w (inl (rw says (n, point))) (omega arith))
-  served_does old new ls rs last l reply (Write n) w says (inl (s, m)) =
+      replied_quiet old new ls rs last l reply tells n m.same w (inl (rw says (n, point))) (omega arith) (omega (arith, m.tells_are))
+  replied_does old new ls rs last l reply tells (Write n) w says (inl (s, m)) =
       let told : max last n ≤ length old.journal = omega (arith, w.told, m.within) in
       let document : IsDocument k o old.journal station (from.base + 1 + length ls) last reply (max last n) [] n s = record {
         within = m.within;
@@ -212,8 +271,8 @@ module _ {S C D R Q X Y : Type 0} (k : Protocol S C D R Q X Y) (station : ℕ) (
         after_is = refl;
         points_are = refl;
       } in
-      (max last n, served_quiet old new ls rs last l reply (max last n) m.same w (inl (rw says (inl (s, document)))) told)
-  served_does old new ls rs last l reply (Write n) w says (inr m) =
+      replied_quiet old new ls rs last l reply tells (max last n) m.same w (inl (rw says (inl (s, document)))) told (omega (arith, m.tells_are))
+  replied_does old new ls rs last l reply tells (Write n) w says (inr m) =
       let at : ℕ = length old.journal in
       let past : IsPastEnd k o old.journal station (from.base + 1 + length ls) last reply at [] n at = record {
         told_of = w.told;
@@ -223,28 +282,28 @@ module _ {S C D R Q X Y : Type 0} (k : Protocol S C D R Q X Y) (station : ℕ) (
         after_is = refl;
         points_are = refl;
       } in
-      (at, served_quiet old new ls rs last l reply at m.same w (inl (rw says (inr (at, past)))) (omega arith))
-  served_does old new ls rs last l reply (Bad text) w says m =
+      replied_quiet old new ls rs last l reply tells at m.same w (inl (rw says (inr (at, past)))) (omega arith) (omega (arith, m.tells_are))
+  replied_does old new ls rs last l reply tells (Bad text) w says m =
       let bad : IsBad k o old.journal station (from.base + 1 + length ls) last reply last [] text = record {
         reply_is = m.reply_is;
         after_is = refl;
         points_are = refl;
       } in
-      (last, served_quiet old new ls rs last l reply last m.same w (inl (rw says bad)) w.told)
+      replied_quiet old new ls rs last l reply tells last m.same w (inl (rw says bad)) w.told (omega arith)
 
   -- one line more, whatever it asks for
-  pub served_more : (old new : Course S C) (ls : List InputLine) (rs : List (List ℕ)) (last : ℕ) (l : InputLine) (reply : List ℕ)
-      → Served k station o from old ls rs last → Step k station old new reply (k.wish station l) (k.takes_memory l)
-      → (after : ℕ) × Served k station o from (past_line new) (ls ++ l ∷ []) (rs ++ reply ∷ []) after
-  served_more old new ls rs last l reply w (inl m) = served_does old new ls rs last l reply (k.wish station l) w refl m
-  served_more old new ls rs last l reply w (inr (takes, m)) =
+  pub replied_more : (old new : Course S C) (ls : List InputLine) (rs : List (List ℕ)) (last : ℕ) (l : InputLine) (reply : List ℕ) (tells : ℕ)
+      → Served k station o from old ls rs last → Step k station old new reply tells (k.wish station l) (k.takes_memory l)
+      → Replied (past_line new) ls rs last l reply tells
+  replied_more old new ls rs last l reply tells w (inl m) = replied_does old new ls rs last l reply tells (k.wish station l) w refl m
+  replied_more old new ls rs last l reply tells w (inr (takes, m)) =
       let memory : IsMemory k o old.journal station (from.base + 1 + length ls) last reply last [] = record {
         none = bears_none station (from.base + 1 + length ls) old.journal w.before;
         reply_is = m.reply_is;
         after_is = refl;
         points_are = refl;
       } in
-      (last, served_quiet old new ls rs last l reply last m.same w (inr (takes, memory)) w.told)
+      replied_quiet old new ls rs last l reply tells last m.same w (inr (takes, memory)) w.told (omega arith)
 
-  pub transcript_served : (s : Course S C) (ls : List InputLine) (rs : List (List ℕ)) (last : ℕ) → Served k station o from s ls rs last → Transcript k o s.journal from station ls rs []
-  transcript_served s ls rs last w = (last, points_behind from.kept station s.journal, w.rows, sym (append-nil (points_behind from.kept station s.journal)))
+  pub transcript_served : (s : Course S C) (ls : List InputLine) (rs : List (List ℕ)) (last : ℕ) → Served k station o from s ls rs last → TranscriptTo k o s.journal from station ls rs last []
+  transcript_served s ls rs last w = (points_behind from.kept station s.journal, w.rows, sym (append-nil (points_behind from.kept station s.journal)))

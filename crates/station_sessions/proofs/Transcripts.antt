@@ -10,7 +10,7 @@ use Rattle.room_core.specs.History.{most_entries, replay, after_entry, answer_in
 use Rattle.room_core.specs.Projection.{of_station}
 use Rattle.station_sessions.specs.Longer.{TranscriptsStay}
 use Rattle.station_sessions.specs.Rooms.{room_of, setting_of}
-use Rattle.station_sessions.specs.Transcript.{Wish, Do, See, Point, Write, Bad, Protocol, state_at, answer_at, sight_at, BearsNone, IsFull, Answered, Row, Rows, points_from, points_behind, Origin, Transcript, reply_line, sent}
+use Rattle.station_sessions.specs.Transcript.{Wish, Do, See, Point, Write, Bad, Protocol, state_at, answer_at, sight_at, BearsNone, IsFull, Answered, Row, Rows, points_from, points_behind, Origin, TranscriptTo, TranscriptBut, reply_line, sent}
 
 -- each of these entries that is of the station is of this line or a later one
 abbrev pub OwnFrom : {C : Type 0} → ℕ → ℕ → List (Entry C) → Type 0
@@ -268,16 +268,35 @@ points_others kept station h more none = by (nat_le kept (length h)) refl where
       ∙ (ap (λ ps. points_behind kept station h ++ ps) (no_own station (length h) 0 more none).0 ∙ append-nil (points_behind kept station h))
   by false is = points_past kept station kept h more none (grind (arith, nat_tests, is))
 
-pub transcript_more : {S C D R Q X Y : Type 0} (k : Protocol S C D R Q X Y) (o : S) (h more : List (Entry C)) (from : Origin) (station : ℕ) (lines : List InputLine) (replies : List (List ℕ)) (unanswered : List ℕ)
-    → Transcript k o h from station lines replies unanswered → length (h ++ more) ≤ most_entries → of_station station (h ++ more) ≡ of_station station h
-    → Transcript k o (h ++ more) from station lines replies unanswered
-transcript_more k o h more from station lines replies unanswered (last, answered, rows, is) within same =
-    let none = nothing_behind (of_station station h) (of_station station more) (sym (own_append station h more) ∙ same) in
-    let later = no_own station 0 (from.base + 1 + length lines) more none in
-    (last, answered, rows_more k o h more station (from.base + 1) from.kept lines replies last answered within later.1 rows, points_others from.kept station h more none ∙ is)
+module _ {S C D R Q X Y : Type 0} (k : Protocol S C D R Q X Y) (o : S) (h more : List (Entry C)) (from : Origin) (station : ℕ) (lines : List InputLine) (replies : List (List ℕ)) (told : ℕ)
+    (within : length (h ++ more) ≤ most_entries) (same : of_station station (h ++ more) ≡ of_station station h) where
+  -- what came later is of no line of the station
+  none_more_own : of_station station more ≡ []
+  none_more_own = nothing_behind (of_station station h) (of_station station more) (sym (own_append station h more) ∙ same)
+
+  pub transcript_more : (unanswered : List ℕ) → TranscriptTo k o h from station lines replies told unanswered → TranscriptTo k o (h ++ more) from station lines replies told unanswered
+  transcript_more unanswered (answered, rows, is) = (
+    answered,
+    rows_more k o h more station (from.base + 1) from.kept lines replies told answered within (no_own station 0 (from.base + 1 + length lines) more none_more_own).1 rows,
+    points_others from.kept station h more none_more_own ∙ is,
+  )
+
+  -- also with one line more, whose reply was not sent
+  pub broken_more : (line : InputLine) → TranscriptBut k o h from station lines replies told line → TranscriptBut k o (h ++ more) from station lines replies told line
+  broken_more line (unanswered, to, unsent, after, row) =
+      let number : ℕ = from.base + 1 + length lines in (
+        unanswered,
+        transcript_more unanswered to,
+        unsent,
+        after,
+        row_more k o h more station number told unsent after unanswered line (number + 1) within (omega arith) (no_own station 0 (number + 1) more none_more_own).1 row,
+      )
 
 pub transcripts_stay : TranscriptsStay
-transcripts_stay o h more from station lines replies told legal same = transcript_more (room_of (setting_of o)) o.tracks h more from station lines replies [] told legal.within same
+transcripts_stay o h more from station lines replies told = (
+  (λ legal same to. transcript_more (room_of (setting_of o)) o.tracks h more from station lines replies told legal.within same [] to),
+  (λ line legal same but. broken_more (room_of (setting_of o)) o.tracks h more from station lines replies told legal.within same line but),
+)
 
 -- a reply more
 pub sent_more : (rs : List (List ℕ)) (r : List ℕ) → sent (rs ++ r ∷ []) ≡ sent rs ++ reply_line r

@@ -10,3 +10,4 @@ pub mod Longer
 pub mod Session
 pub mod SessionInside
 pub mod Served
+pub mod Stopping

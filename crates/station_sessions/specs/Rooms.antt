@@ -30,7 +30,7 @@ use Rattle.reply_text.specs.Replies.{answer_text_of, fault_of}
 use Rattle.reply_text.specs.Sights.{sight_text_of}
 use Rattle.room_core.specs.History.{IsLegal, most_entries}
 use Rattle.room_core.specs.Whole.{whole}
-use Rattle.station_sessions.specs.Transcript.{Wish, Do, See, Point, Write, Bad, Protocol, Origin, Transcript}
+use Rattle.station_sessions.specs.Transcript.{Wish, Do, See, Point, Write, Bad, Protocol, Origin, Transcript, TranscriptTo, TranscriptBut}
 
 -- what stays as it is in a room: its table, how its frames are counted, and the frame at which its record starts
 pub record Setting : Type 0 where
@@ -96,9 +96,17 @@ room_of setting = record {
   no_point_text = no_point_reply;
 }
 
--- the transcript of a station of a room, whose entries behind those that were kept are all answered
+-- the transcript of a station of a room, whose entries after those that were kept are all answered
 abbrev pub RoomTranscript : Opening → History → Origin → ℕ → List InputLine → List (List ℕ) → Type 0
 RoomTranscript o h from station lines replies = Transcript (room_of (setting_of o)) o.tracks h from station lines replies []
+
+-- the same, where it was told of so many entries in the end
+abbrev pub RoomTranscriptTo : Opening → History → Origin → ℕ → List InputLine → List (List ℕ) → ℕ → Type 0
+RoomTranscriptTo o h from station lines replies told = TranscriptTo (room_of (setting_of o)) o.tracks h from station lines replies told []
+
+-- the same, and one line more, whose reply was not sent
+abbrev pub RoomTranscriptBut : Opening → History → Origin → ℕ → List InputLine → List (List ℕ) → ℕ → InputLine → Type 0
+RoomTranscriptBut o h from station lines replies told line = TranscriptBut (room_of (setting_of o)) o.tracks h from station lines replies told line
 
 abbrev pub IsLegalIn : Opening → History → Type 0
 IsLegalIn o h = IsLegal (whole (editing o.table)) o.tracks h

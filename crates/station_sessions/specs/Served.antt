@@ -7,9 +7,9 @@ use Rattle.room_core.specs.History.{most_entries, replay, NumbersRise}
 use Rattle.room_core.specs.Projection.{of_station}
 use Rattle.room_core.specs.Whole.{whole}
 use Rattle.edit_apply.specs.Apply.{editing}
-use Rattle.station_sessions.specs.Transcript.{Protocol, Origin, Rows, points_behind}
+use Rattle.station_sessions.specs.Transcript.{Protocol, Origin, Rows, TranscriptBut, points_behind}
 use Rattle.otio_json.specs.declared.opening.Opening.{Opening}
-use Rattle.station_sessions.specs.Rooms.{AreWritten, History, IsLegalIn, RoomTranscript, room_of, setting_of}
+use Rattle.station_sessions.specs.Rooms.{AreWritten, History, IsLegalIn, RoomTranscriptTo, RoomTranscriptBut, room_of, setting_of}
 use Rattle.station_sessions.specs.SessionInside.{TrackRoom, setting_at}
 use Rattle.timecode12.specs.Numbers.{Counted}
 use Rattle.station_sessions.specs.Session.{Course, StationState}
@@ -26,6 +26,7 @@ pub record Served {S C D R Q X Y : Type 0} (k : Protocol S C D R Q X Y) (station
   pub rows : Rows k o s.journal station (from.base + 1) from.kept ls rs last (points_behind from.kept station s.journal)
   pub kept : from.kept ≤ length s.journal
   pub told : last ≤ length s.journal
+  pub held : last ≤ s.held
   pub line : s.line ≡ from.base + 1 + length ls
   pub before : OwnBefore station (from.base + 1 + length ls) s.journal
   pub rise : NumbersRise s.journal
@@ -38,6 +39,13 @@ Serves {S} {C} {D} {R} {Q} {X} {Y} k station old new lines Taken =
     (o : S) (from : Origin) (ls : List InputLine) (rs : List (List ℕ)) (last : ℕ) → Served k station o from old ls rs last
     → (more : List (List ℕ)) × (after : ℕ) × Served k station o from new (ls ++ lines) (rs ++ more) after × Taken more
 
+-- The same, and one line more, whose reply was not sent; it has one by the journal.
+abbrev pub Breaks : {S C D R Q X Y : Type 0} → Protocol S C D R Q X Y → ℕ → Course S C → Course S C → List InputLine → InputLine → (List (List ℕ) → Type 0) → Type 0
+Breaks {S} {C} {D} {R} {Q} {X} {Y} k station old new lines line Taken =
+    (o : S) (from : Origin) (ls : List InputLine) (rs : List (List ℕ)) (last : ℕ) → Served k station o from old ls rs last
+    → (more : List (List ℕ)) × (after : ℕ) × TranscriptBut k o new.journal from station (ls ++ lines) (rs ++ more) after line
+    × (after ≤ new.held) × Taken more
+
 -- a station's session that begins there
 pub record IsBegun (o : Opening) (from : Origin) (number : ℕ) (s : StationState) : Type 0 where
   pub setting : s.setting ≡ setting_of o
@@ -48,6 +56,7 @@ pub record IsBegun (o : Opening) (from : Origin) (number : ℕ) (s : StationStat
   pub kept : from.kept ≤ length s.course.journal
   pub none : of_station number (drop from.kept s.course.journal) ≡ []
   pub before : OwnBefore number (from.base + 1) s.course.journal
+  pub held : from.kept ≤ s.course.held
   pub line : s.course.line ≡ from.base + 1
   pub written : AreWritten (of_station number s.course.journal)
 
@@ -62,6 +71,13 @@ pub record ServesTo (old new : StationState) (lines : List InputLine) (Taken : L
   pub written : AreWritten (of_station old.station old.course.journal) → AreWritten (of_station old.station new.course.journal)
   pub serves : Serves (room_of old.setting) old.station old.course new.course lines Taken
 
+-- a session answered these lines, as a station of its room, and then had no reply sent to one more
+pub record BreaksTo (old new : StationState) (lines : List InputLine) (line : InputLine) (Taken : List (List ℕ) → Type 0) : Type 0 where
+  pub setting : new.setting ≡ old.setting
+  pub station : new.station ≡ old.station
+  pub written : AreWritten (of_station old.station old.course.journal) → AreWritten (of_station old.station new.course.journal)
+  pub breaks : Breaks (room_of old.setting) old.station old.course new.course lines line Taken
+
 -- the room was opened from this opening, with which a history can begin, and its frames are counted and its record starts
 -- so
 pub record IsRoomOf (o : Opening) (room : TrackRoom) (counting : Counted) (start : ℕ) : Type 0 where
@@ -69,7 +85,15 @@ pub record IsRoomOf (o : Opening) (room : TrackRoom) (counting : Counted) (start
   pub setting : setting_at room counting start ≡ setting_of o
   pub tracks : room.parts ≡ o.tracks
 
--- what a station knows tells its replies to these lines, and its own entries can be written
-abbrev pub Knows : Opening → Origin → ℕ → History → List InputLine → (List (List ℕ) → Type 0) → Type 0
-Knows o from station known lines Taken =
-    (replies : List (List ℕ)) × RoomTranscript o known from station lines replies × AreWritten (of_station station known) × Taken replies
+-- What a station knows tells its replies to these lines, which tell of no more entries than are known to be kept, and its
+-- own entries can be written.
+abbrev pub Knows : Opening → Origin → ℕ → History → ℕ → List InputLine → (List (List ℕ) → Type 0) → Type 0
+Knows o from station known held lines Taken =
+    (replies : List (List ℕ)) × (told : ℕ) × RoomTranscriptTo o known from station lines replies told
+    × (told ≤ held) × AreWritten (of_station station known) × Taken replies
+
+-- The same, and one line more, whose reply was not sent.
+abbrev pub KnowsBut : Opening → Origin → ℕ → History → ℕ → List InputLine → InputLine → (List (List ℕ) → Type 0) → Type 0
+KnowsBut o from station known held lines line Taken =
+    (replies : List (List ℕ)) × (told : ℕ) × RoomTranscriptBut o known from station lines replies told line
+    × (told ≤ held) × AreWritten (of_station station known) × Taken replies

@@ -45,19 +45,25 @@ opened_with opening stations = record { object = opening.0; parts = opening.1; s
 abbrev pub tracks_at : TrackRoom → History → List TrackState
 tracks_at room h = or_opening room.parts (replay (whole (editing room.object.table)) room.parts h)
 
--- how far a station has come that knows these entries
-abbrev pub course_at : TrackRoom → History → ℕ → Course (List TrackState) Call
-course_at room h line = record { opening = room.parts; state = tracks_at room h; journal = h; line = line }
+-- how far a station has come that knows these entries, so many of which are kept
+abbrev pub course_at : TrackRoom → History → ℕ → ℕ → Course (List TrackState) Call
+course_at room h held line = record { opening = room.parts; state = tracks_at room h; journal = h; held = held; line = line }
 
 abbrev pub setting_at : TrackRoom → Counted → ℕ → Setting
 setting_at room counting start = record { table = room.object.table; counting = counting; start = start }
 
+-- what a session knows of what keeps its room's journal: how many entries are kept, and how many failures were counted
+pub record Holding : Type 0 where
+  pub held : ℕ
+  pub failures : ℕ
+
 -- a session in a room, with the number of its next line
-abbrev pub session_at : TrackRoom → Option TrackPass → Counted → ℕ → ℕ → StationState
-session_at room pass counting start line = record {
+abbrev pub session_at : TrackRoom → Option TrackPass → Counted → ℕ → Holding → ℕ → StationState
+session_at room pass counting start holding line = record {
   setting = setting_at room counting start;
   station = station_of pass;
-  course = course_at room (known_by pass) line;
+  course = course_at room (known_by pass) holding.held line;
+  failures = holding.failures;
 }
 
 -- a legal history of the room's opening

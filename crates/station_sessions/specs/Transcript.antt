@@ -162,12 +162,24 @@ new_room = record { kept = 0; base = 0 }
 abbrev pub most_base : ℕ
 most_base = 4000000000
 
--- The lines and replies of a station over a history that begins at this state. Behind the entries that were kept the
--- station has those of the calls that were answered `ok`, and then only those at the points that are unanswered.
-abbrev pub Transcript : {S C D R Q X Y : Type 0} → Protocol S C D R Q X Y → S → List (Entry C) → Origin → ℕ → List InputLine → List (List ℕ) → List ℕ → Type 0
-Transcript k o h from station lines replies unanswered =
-    (last : ℕ) × (answered : List ℕ) × Rows k o h station (from.base + 1) from.kept lines replies last answered
+-- The lines and replies of a station over a history that begins at this state, and how many entries it was told of in the
+-- end. After the entries that were kept the station has those of the calls that were answered `ok`, and then only those at
+-- the points that are unanswered.
+abbrev pub TranscriptTo : {S C D R Q X Y : Type 0} → Protocol S C D R Q X Y → S → List (Entry C) → Origin → ℕ → List InputLine → List (List ℕ) → ℕ → List ℕ → Type 0
+TranscriptTo k o h from station lines replies told unanswered =
+    (answered : List ℕ) × Rows k o h station (from.base + 1) from.kept lines replies told answered
     × (points_behind from.kept station h ≡ answered ++ unanswered)
+
+-- the same, of however many it was told
+abbrev pub Transcript : {S C D R Q X Y : Type 0} → Protocol S C D R Q X Y → S → List (Entry C) → Origin → ℕ → List InputLine → List (List ℕ) → List ℕ → Type 0
+Transcript k o h from station lines replies unanswered = (told : ℕ) × TranscriptTo k o h from station lines replies told unanswered
+
+-- The same, and one line more, whose reply was not sent: it has one by the history. Where the line is an edit that was
+-- done, its entry is the one that no reply told of.
+abbrev pub TranscriptBut : {S C D R Q X Y : Type 0} → Protocol S C D R Q X Y → S → List (Entry C) → Origin → ℕ → List InputLine → List (List ℕ) → ℕ → InputLine → Type 0
+TranscriptBut k o h from station lines replies told line =
+    (unanswered : List ℕ) × TranscriptTo k o h from station lines replies told unanswered
+    × (unsent : List ℕ) × (after : ℕ) × Row k o h station (from.base + 1 + length lines) told unsent after unanswered line
 
 -- a reply as it is sent: it ends with a line feed
 abbrev pub reply_line : List ℕ → List ℕ

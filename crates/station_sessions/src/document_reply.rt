@@ -12,7 +12,8 @@ use reply_text::Reply;
 use std::alloc::Global;
 use timecode12::Counting;
 
-/// The reply with the document of this cut, which stands after `n` entries, or why there is none.
+/// The reply with the document of this cut, which stands after `n` entries, or why there is none; and how many entries it
+/// tells of.
 pub(crate) fn cut_reply(
     alloc: Global,
     n: u32,
@@ -20,13 +21,13 @@ pub(crate) fn cut_reply(
     cut: Result<Vec<Track>, CutFault>,
     counting: &Counting,
     start: u32,
-) -> Reply
+) -> (Reply, u32)
     ensures { IsCutReply (record { table = table.now; counting = counting.now; start = start })
-        n cut result }
+        n cut result.0 result.1 }
 {
     match cut {
         Ok(tracks) => document_reply(alloc, n, table, &tracks, counting, start),
-        Err(CutFault::NoPoint(length)) => no_point_reply(length),
+        Err(CutFault::NoPoint(length)) => (no_point_reply(length), length),
         Err(CutFault::Memory) => memory_reply(),
     }
 }
@@ -40,16 +41,16 @@ fn document_reply(
     tracks: &[Track],
     counting: &Counting,
     start: u32,
-) -> Reply
+) -> (Reply, u32)
     ensures { IsReplyIfMemory (document_reply n
-        (timeline_text table.now tracks.now counting.now start)) result }
+        (timeline_text table.now tracks.now counting.now start)) n result.0 result.1 }
 {
     match write_timeline(alloc, table, tracks, counting, start) {
         Ok(text) => match long_document(n, text) {
-            Ok(reply) => reply,
+            Ok(reply) => (reply, n),
             Err(_) => memory_reply(),
         },
-        Err(WriteFault::TooLarge) => Reply::short(refused_at(n, b" V4")),
+        Err(WriteFault::TooLarge) => (Reply::short(refused_at(n, b" V4")), n),
         Err(WriteFault::Memory) => memory_reply(),
     }
 }
@@ -61,13 +62,14 @@ fn no_point_reply(length: u32) -> Reply
     Reply::short(refused_at(length, b" V3"))
 }
 
-/// The reply where there is no memory.
-fn memory_reply() -> Reply
-    ensures { result ≡ codes "memory" }
+/// The reply where there is no memory, which tells of no entry.
+fn memory_reply() -> (Reply, u32)
+    ensures reply { result.0 ≡ codes "memory" }
+    ensures tells { result.1 ≡ 0 }
 {
     let mut text = Short::new();
     text.push(b"memory");
-    Reply::short(text)
+    (Reply::short(text), 0)
 }
 
 // `no`, the point and a code.

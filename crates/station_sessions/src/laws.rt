@@ -5,7 +5,6 @@ ghost use Rattle.station_sessions.specs.Longer.{TranscriptsStay};
 ghost use Rattle.station_sessions.specs.Outside.{most_input, most_read};
 ghost use Rattle.station_sessions.specs.Transcript.{most_base};
 
-#[tactic(auto, using(crate::proofs::Transcripts::transcripts_stay))]
 /// A transcript over a list is one over every legal history that the list begins, and whose entries of this station are
 /// those of the list.
 pub fn transcripts_stay()

@@ -4,7 +4,7 @@ ghost use Rattle.reply_text.specs.Sights.{sight_text_of};
 ghost use Rattle.cut_room.specs.Rooms.{Edited};
 ghost use Rattle.edit_apply.specs.Apply.{editing};
 ghost use Rattle.edit_journal.specs.Turns.{last_of};
-ghost use Rattle.station_sessions.specs.Session.{IsSightReply};
+ghost use Rattle.station_sessions.specs.Session.{IsSightReply, IsWithin, answer_tells, sight_tells};
 
 use crate::document_reply::cut_reply;
 use call_text::{
@@ -16,6 +16,7 @@ use edit_apply::{Ask, Call};
 use edit_journal::{Naming, Pass};
 use line_words::LineEnd;
 use reply_text::Reply;
+use room_keepers::{KeepFault, Keeping};
 use room_ports::Gate;
 use std::alloc::Global;
 use std::marker::{Brand, Model};
@@ -31,58 +32,75 @@ pub struct Setting {
     pub start: u32,
 }
 
-/// A station in a room. Contracts see the room's setting, the station's number, what it knows of the journal, and the
-/// number of its next line. It notes whether its last edit was the last of a stretch of the journal.
-pub(crate) struct Station<'a, R, G, J: Naming<CutObject, CutPart>> {
+/// A station in a room. Contracts see the room's setting, the station's number, what it knows of the journal and of what
+/// keeps it, and the number of its next line. It notes whether its last edit was the last of a stretch of the journal.
+pub(crate) struct Station<'a, R, G, J: Naming<CutObject, CutPart>, P: Keeping<CutObject, J>> {
     pub(crate) rt: &'a R,
     pub(crate) alloc: Global,
     pub(crate) room: &'a Room<CutObject, J>,
     pub(crate) gate: &'a G,
+    pub(crate) keeper: &'a P,
     pub(crate) pass: Option<Pass<CutObject, J>>,
+    pub(crate) taken: Option<P::Taken>,
     pub(crate) counting: Counting,
     pub(crate) start: u32,
     pub(crate) line: u32,
     pub(crate) has_more: bool,
 }
 
-impl<'a, R, G, J: Naming<CutObject, CutPart>> Model for Station<'a, R, G, J> {
+impl<'a, R, G, J: Naming<CutObject, CutPart>, P: Keeping<CutObject, J>> Model
+    for Station<'a, R, G, J, P> {
+    ghost use Rattle.std.specs.Prelude.{◌≡◌, Some};
     ghost use Rattle.station_sessions.specs.Session.{StationState};
     ghost use Rattle.station_sessions.specs.SessionInside.{session_at, IsSession};
 
     ghost Value = { StationState };
 
-    ghost view = { λ s. session_at s.room.now s.pass s.counting s.start s.line };
+    ghost view = { λ s. session_at s.room.now s.pass s.counting s.start
+        (record { held = P.upto s.taken; failures = P.failures s.taken }) s.line };
 
-    ghost invariant = { λ s. IsSession s.room.now s.line s.pass };
+    ghost invariant = { λ s. IsSession s.room.now s.line s.pass
+        × (J.opening ≡ Some (s.room.now.object, s.room.now.parts)) };
 }
 
-impl<'a, R: Wait, G: Gate, J: Naming<CutObject, CutPart>> Station<'a, R, G, J> {
-    ghost use Rattle.std.specs.Prelude.{◌≡◌, ◌+◌, ◌<◌, ◌≤◌, ◌^◌, ◌++◌, IfOk, codes, length};
+impl<'a, R: Wait, G: Gate, J: Naming<CutObject, CutPart>, P: Keeping<CutObject, J>> Station<
+    'a,
+    R,
+    G,
+    J,
+    P,
+> {
+    ghost use Rattle.std.specs.Prelude.{◌≡◌, ◌+◌, ◌<◌, ◌≤◌, ◌^◌, ◌++◌, IfErr, IfOk, OnOk, codes, length};
+    ghost use Rattle.room_keepers.specs.Faults.{IsCounted};
     ghost use Rattle.line_words.specs.Told.{line_told};
     ghost use Rattle.line_table.specs.CallTexts.{IsWritten, NamesWritten};
     ghost use Rattle.reply_text.specs.Replies.{fault_of};
     ghost use Rattle.station_sessions.specs.Rooms.{wish_in};
-    ghost use Rattle.station_sessions.specs.Session.{HasGrown, IsMeant, RepliesTo, RepliesWith};
+    ghost use Rattle.station_sessions.specs.Session.{HasGrown, HasHeld, IsMeant, RepliesTo, RepliesWith};
     ghost use Rattle.station_sessions.specs.Transcript.{Bad, Do, Point, See, Write};
 
-    /// The station's pass.
-    pub(crate) fn into_pass(self) -> Pass<CutObject, J>
-        ensures entries { result.entries ≡ self.entry.course.journal }
-        ensures number { result.number ≡ self.entry.station }
+    /// The station's pass, and what it took when it last asked for entries to be kept.
+    pub(crate) fn into_parts(self) -> (Pass<CutObject, J>, Option<P::Taken>)
+        ensures entries { result.0.entries ≡ self.entry.course.journal }
+        ensures number { result.0.number ≡ self.entry.station }
+        ensures held { P.upto result.1 ≡ self.entry.course.held }
+        ensures failures { P.failures result.1 ≡ self.entry.failures }
     {
         let Station {
             rt: _,
             alloc: _,
             room: _,
             gate: _,
+            keeper: _,
             pass,
+            taken,
             counting: _,
             start: _,
             line: _,
             has_more: _,
         } = self;
         match pass {
-            Some(pass) => pass,
+            Some(pass) => (pass, taken),
             None => unreachable!(),
         }
     }
@@ -98,10 +116,10 @@ impl<'a, R: Wait, G: Gate, J: Naming<CutObject, CutPart>> Station<'a, R, G, J> {
         }
     }
 
-    fn reply_to_edit(&mut self, call: Call) -> Reply
+    fn reply_to_edit(&mut self, call: Call) -> (Reply, u32)
         requires written { IsWritten call }
         requires line { self.old.course.line + 1 < 2 ^ 32 }
-        ensures { RepliesWith self.old self.new (Do call) result }
+        ensures { RepliesWith self.old self.new (Do call) result.0 result.1 }
     {
         let pass = taken(&mut self.pass);
         let (rt, room, gate) = (self.rt, self.room, self.gate);
@@ -109,7 +127,7 @@ impl<'a, R: Wait, G: Gate, J: Naming<CutObject, CutPart>> Station<'a, R, G, J> {
         self.pass = Some(pass);
         self.line += 1;
         self.has_more = ends_a_stretch(&answer);
-        Reply::short(answer_text(&answer))
+        (Reply::short(answer_text(&answer)), told_by_answer(&answer))
     }
 
     /// Has the room keep its cut, where the last line's edit was the last of a stretch. A later wish for a document begins
@@ -126,9 +144,24 @@ impl<'a, R: Wait, G: Gate, J: Naming<CutObject, CutPart>> Station<'a, R, G, J> {
         self.pass = Some(pass);
     }
 
-    fn reply_to_ask(&mut self, ask: &Ask) -> Reply
+    /// Has the entries before a point kept, where they are not known to be. A reply that tells of them waits for that.
+    pub(crate) fn hold(&mut self, n: u32) -> Result<(), KeepFault>
+        requires { n ≤ 100000 }
+        ensures held { OnOk result (n ≤ self.new.course.held) }
+        ensures same { HasHeld self.old self.new }
+        ensures fault { IfErr result
+            (λ fault. P.may_fail fault × IsCounted fault self.new.failures) }
+    {
+        if self.keeper.is_kept(&self.taken, n) {
+            return Ok(());
+        }
+        self.keeper
+            .keep(self.rt, self.alloc, self.room, n, &mut self.taken)
+    }
+
+    fn reply_to_ask(&mut self, ask: &Ask) -> (Reply, u32)
         requires { self.old.course.line + 1 < 2 ^ 32 }
-        ensures { RepliesWith self.old self.new (See ask.now) result }
+        ensures { RepliesWith self.old self.new (See ask.now) result.0 result.1 }
     {
         let pass = taken(&mut self.pass);
         let (pass, sight) = self.room.see(self.rt, self.alloc, pass, ask);
@@ -137,21 +170,21 @@ impl<'a, R: Wait, G: Gate, J: Naming<CutObject, CutPart>> Station<'a, R, G, J> {
         sight_reply(self.alloc, &sight)
     }
 
-    fn reply_to_point(&mut self) -> Reply
+    fn reply_to_point(&mut self) -> (Reply, u32)
         requires { self.old.course.line + 1 < 2 ^ 32 }
-        ensures { RepliesWith self.old self.new Point result }
+        ensures { RepliesWith self.old self.new Point result.0 result.1 }
     {
         let pass = taken(&mut self.pass);
         let (pass, point) = self.room.point(self.rt, pass);
         self.pass = Some(pass);
         self.line += 1;
-        Reply::short(point_text(point))
+        (Reply::short(point_text(point)), point)
     }
 
     // The reply with the document of the cut after `n` entries.
-    fn reply_to_otio(&mut self, n: u32) -> Reply
+    fn reply_to_otio(&mut self, n: u32) -> (Reply, u32)
         requires { self.old.course.line + 1 < 2 ^ 32 }
-        ensures { RepliesWith self.old self.new (Write n) result }
+        ensures { RepliesWith self.old self.new (Write n) result.0 result.1 }
     {
         let pass = taken(&mut self.pass);
         let (pass, cut) = self.room.cut_at(self.rt, self.alloc, pass, n);
@@ -162,28 +195,29 @@ impl<'a, R: Wait, G: Gate, J: Naming<CutObject, CutPart>> Station<'a, R, G, J> {
     }
 
     // The reply to a line that is none of the table.
-    fn reply_to_none(&mut self, fault: &LineFault) -> Reply
+    fn reply_to_none(&mut self, fault: &LineFault) -> (Reply, u32)
         requires { self.old.course.line + 1 < 2 ^ 32 }
-        ensures { RepliesWith self.old self.new (Bad (fault_of fault.now)) result }
+        ensures { RepliesWith self.old self.new (Bad (fault_of fault.now)) result.0 result.1 }
     {
         self.line += 1;
-        Reply::short(fault_text(fault))
+        (Reply::short(fault_text(fault)), 0)
     }
 
-    /// Answers a line, and commits it where it is an edit that applies. The next line has the next number.
-    pub(crate) fn answer(&mut self, end: LineEnd, text: &[u8]) -> Reply
+    /// The reply to a line, and how many entries it tells of; the line is committed where it is an edit that applies. The
+    /// next line has the next number.
+    pub(crate) fn answer(&mut self, end: LineEnd, text: &[u8]) -> (Reply, u32)
         requires { self.old.course.line + 1 < 2 ^ 32 }
-        ensures { RepliesTo self.old self.new (line_told end text.now) result }
+        ensures { RepliesTo self.old self.new (line_told end text.now) result.0 result.1 }
     {
         let read = self.meaning_of(end, text);
         self.reply_to(read)
     }
 
     // The reply to what a line was read as.
-    fn reply_to(&mut self, read: Result<Line, LineFault>) -> Reply
+    fn reply_to(&mut self, read: Result<Line, LineFault>) -> (Reply, u32)
         requires written { IfOk read (λ line. NamesWritten line) }
         requires line { self.old.course.line + 1 < 2 ^ 32 }
-        ensures { RepliesWith self.old self.new (wish_in read) result }
+        ensures { RepliesWith self.old self.new (wish_in read) result.0 result.1 }
     {
         match read {
             Ok(line) => match line {
@@ -244,6 +278,30 @@ fn edit_uncounted<R: Wait, G: Gate, J: Naming<CutObject, CutPart>>(
     edit_counted::<R, G, J, Brand>(Blank::new(1), rt, alloc, room, gate, pass, number, call)
 }
 
+// How many entries the reply to an edit tells of.
+fn told_by_answer(answer: &Answer<CutObject>) -> u32
+    requires { IsWithin answer.now }
+    ensures { result ≡ answer_tells answer.now }
+{
+    match answer {
+        Answer::Done { point, .. } => *point + 1,
+        Answer::Refused { point, .. } => *point,
+        Answer::Full { point } => *point,
+        Answer::Memory => 0,
+    }
+}
+
+// How many entries the reply to a question tells of.
+fn told_by_sight(sight: &Sight<CutObject>) -> u32
+    ensures { result ≡ sight_tells sight.now }
+{
+    match sight {
+        Sight::Seen { point, .. } => *point,
+        Sight::Refused { point, .. } => *point,
+        Sight::Memory => 0,
+    }
+}
+
 // Whether an edit was the last of so many as the journal gains from one cut that is kept to the next.
 fn ends_a_stretch(answer: &Answer<CutObject>) -> bool {
     match answer {
@@ -252,13 +310,13 @@ fn ends_a_stretch(answer: &Answer<CutObject>) -> bool {
     }
 }
 
-// The reply to a question, or to one for whose reply there is no memory.
-fn sight_reply(alloc: Global, sight: &Sight<CutObject>) -> Reply
-    ensures { IsSightReply sight.now result }
+// The reply to a question, or to one for whose reply there is no memory, and how many entries it tells of.
+fn sight_reply(alloc: Global, sight: &Sight<CutObject>) -> (Reply, u32)
+    ensures { IsSightReply sight.now result.0 result.1 }
 {
     match long_sight(alloc, sight) {
-        Ok(reply) => reply,
-        Err(_) => Reply::short(answer_text(&Answer::Memory)),
+        Ok(reply) => (reply, told_by_sight(sight)),
+        Err(_) => (Reply::short(answer_text(&Answer::Memory)), 0),
     }
 }
 

@@ -3,7 +3,7 @@ use Rattle.line_words.specs.Lines.{Line as InputLine}
 use Rattle.line_words.specs.Pieces.{ended, pending_after}
 use Rattle.line_words.specs.Told.{line_told}
 use Rattle.line_words.proofs.PieceLaws.{ended_fed, pending_after_fed}
-use Rattle.station_sessions.proofs.Serves.{serves_none, serves_more, serves_cut, one_told}
+use Rattle.station_sessions.proofs.Serves.{serves_none, serves_more, stops_next, one_told}
 use Rattle.station_sessions.proofs.serve.answer_piece.Goals as goal
 
 pub loop-at-init : goal.loop-at-init
@@ -44,8 +44,8 @@ loop-at-preserved-in-Ok g c =
       apart = c.answer_line.ensures.apart ∙ inv.apart;
     }
 
-pub returns-in-Err-clause-err : goal.returns-in-Err-clause-err
-returns-in-Err-clause-err g c =
+pub returns-in-Err-clause-stop : goal.returns-in-Err-clause-stop
+returns-in-Err-clause-stop g c =
     let inv = c.loop-at.invariant in
     let back = c.split_at.ensures.back in
     let p = c.args.piece.now in
@@ -56,13 +56,11 @@ returns-in-Err-clause-err g c =
     one_told c.feed-fed.result.line c.in-Some.end c.line.result.now c.feed-fed.new.self.last _ c.in-Some.is c.line.ensures (rw back at c.feed-fed.ensures.lines) in
     let pend : q ≡ pending_after c.loop-at.reader.pending (take n (drop c.loop-at.at p)) = rw back at c.feed-fed.ensures.pending in
     let done = inv.served.0 in (
-      done ++ l ∷ [],
-      record {
-        before = done;
-        stopped_at = l;
-        behind = ended q (drop (c.loop-at.at + n) p);
-        lines_are = refl;
-        ended_are = inv.served.1 ∙ ap (λ (zs : List InputLine). done ++ zs) (ended_fed c.loop-at.reader.pending q (l ∷ []) p c.loop-at.at n told pend);
-      },
-      serves_cut c.args.session.now c.loop-at.session c.answer_line.new.session done (l ∷ []) (g.K.Sink.taken c.args.output.now) (g.K.Sink.taken c.loop-at.output) (g.K.Sink.taken c.answer_line.new.output) inv.served.2 c.in-Err.ensures.err,
+      done,
+      l,
+      (
+        ended q (drop (c.loop-at.at + n) p),
+        inv.served.1 ∙ ap (λ (zs : List InputLine). done ++ zs) (ended_fed c.loop-at.reader.pending q (l ∷ []) p c.loop-at.at n told pend),
+      ),
+      stops_next g.P.Keeping.may_fail c.args.session.now c.loop-at.session c.answer_line.new.session done l (g.K.Sink.taken c.args.output.now) (g.K.Sink.taken c.loop-at.output) (g.K.Sink.taken c.answer_line.new.output) c.in-Err.stop inv.served.2 c.in-Err.ensures.stop,
     )

@@ -4,4 +4,4 @@ use Rattle.station_sessions.proofs.station.Station.answer.Goals as goal
 
 pub returns : goal.returns
 returns g c =
-    told_line _ _ (line_told c.args.end c.args.text.now) c.meaning_of-read.result c.reply_to.result c.meaning_of-read.ensures.meant c.reply_to.ensures
+    told_line _ _ (line_told c.args.end c.args.text.now) c.meaning_of-read.result c.reply_to.result.0 c.reply_to.result.1 c.meaning_of-read.ensures.meant c.reply_to.ensures
