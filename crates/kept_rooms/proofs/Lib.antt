@@ -1,2 +1,5 @@
-mod Taking
-mod OneReading
+pub mod Taking
+pub mod OneReading
+pub mod Making
+pub mod Refusing
+pub mod Looking

@@ -23,6 +23,15 @@ front_applies {S} apply s entries rest none some =
     let no : IsSome {T = S} None = subst (λ (o : Option S). IsSome o) there some in
     absurd (grind (arith, no))
 
+is_there : {S : Type 0} (o : Option S) → (o ≡ None → ⊥) → IsSome o
+is_there None h = absurd (h refl)
+is_there (Some s) h = refl
+
+-- a front of entries that apply applies
+pub front_some : {S C D R : Type 0} (apply : S → C → Result (S × D) R) (s : S) (entries rest : List (Entry C))
+    → IsSome (replay apply s (entries ++ rest)) → IsSome (replay apply s entries)
+front_some apply s entries rest some = is_there (replay apply s entries) (λ none. front_applies apply s entries rest none some)
+
 -- two lists with a line in each are split at one place, or one in the other's front
 abbrev Splits : List (List ℕ) → List ℕ → List (List ℕ) → List ℕ → Type 0
 Splits xs x ys y = ((xs ≡ ys) × (x ≡ y))
@@ -111,7 +120,7 @@ module _ {P D R : Type 0} (m : Meaning P Call D R) (opening : List P) (stations 
   line_of records Strayed k = absurd k
   line_of records Memory k = absurd k
 
-  -- two refusals of one line behind the same entries
+  -- two refusals of one line after the same entries
   same_fault : (records : List (List ℕ)) (f g : KeptFault) (h : KeptRefused m opening stations records f) (k : KeptRefused m opening stations records g)
       → (line_of records f h).0 ≡ (line_of records g k).0 → (line_of records f h).1 ≡ (line_of records g k).1 → f ≡ g
   unfolding line_of

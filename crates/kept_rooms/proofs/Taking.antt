@@ -37,7 +37,7 @@ taken_once stations before (l ∷ ls) (e ∷ es) (f ∷ fs) h k =
     let rest = taken_once stations (before ++ e ∷ []) ls es fs h.1 more in
     ap (λ x. x ∷ es) (sym one) ∙ ap (λ r. f ∷ r) rest
 
--- the entry of a record behind those that are taken as these
+-- the entry of a record after those that are taken as these
 pub record IsWithin (stations : ℕ) (first before : List (Entry Call)) (line : List ℕ) (entries : List (Entry Call)) : Type 0 where
   pub entry : Entry Call
   pub rest : List (Entry Call)

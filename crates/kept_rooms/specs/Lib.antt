@@ -2,3 +2,5 @@
 pub mod Records
 pub mod Kept
 pub mod Readings
+pub mod Rooms
+pub mod Making

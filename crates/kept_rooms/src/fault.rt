@@ -3,6 +3,7 @@ ghost use Rattle.std.specs.Prelude.{◌≡◌};
 ghost use Rattle.kept_rooms.specs.declared.fault.KeptFault.TheVariants.{Memory as NoMemory};
 
 use composables::Memory;
+use std::alloc::{AllocError, AllocFailed};
 
 /// What is wrong with a record: the first of these that holds.
 #[derive(Clone, Copy, Debug, PartialEq, Eq)]
@@ -32,7 +33,8 @@ pub enum KeptFault {
     Refused { code: RecordCode, number: u32 },
     /// The entry at this place, from 0, does not apply where it stands.
     NotApplied { place: u32 },
-    /// All that was read applies, and the room did otherwise than the entries say. It is a fault of the room.
+    /// The room did otherwise than the entries say, as where others edit it meanwhile. No clause
+    /// says more of it.
     Strayed,
     /// Out of memory.
     Memory,
@@ -42,6 +44,22 @@ impl From<Memory> for KeptFault {
     ghost from_gives = { λ _ fault. fault ≡ NoMemory };
 
     fn from(_: Memory) -> Self {
+        KeptFault::Memory
+    }
+}
+
+impl From<AllocError> for KeptFault {
+    ghost from_gives = { λ _ fault. fault ≡ NoMemory };
+
+    fn from(_: AllocError) -> Self {
+        KeptFault::Memory
+    }
+}
+
+impl<T: Drop> From<AllocFailed<T>> for KeptFault {
+    ghost from_gives = { λ _ fault. fault ≡ NoMemory };
+
+    fn from(_: AllocFailed<T>) -> Self {
         KeptFault::Memory
     }
 }

@@ -8,7 +8,8 @@ use std::marker::Model;
 /// How many stations there are at most.
 const STATIONS: usize = 16;
 
-/// The greatest number of each station, 0 before its first. To contracts it is the list of these numbers.
+/// The greatest number of each station, 0 before its first. To contracts it is the list of these
+/// numbers.
 #[derive(Drop)]
 pub struct Lasts {
     numbers: [u32; 16],

@@ -7,10 +7,12 @@ use edit_calls::Call;
 use line_table::{Entry, EntryFault, read_entry};
 use std::alloc::Global;
 
-/// The greatest number that an entry may have when a room goes on from it, so that its station has numbers left.
+/// The greatest number that an entry may have when a room goes on from it, so that its station has
+/// numbers left.
 pub const LAST_NUMBER: u32 = 4_000_000_000;
 
-// Why an entry may not come next in a room of so many stations, after those with these last numbers.
+// Why an entry may not come next in a room of so many stations, after those with these last
+// numbers.
 fn out_of_place(entry: &Entry<Call>, stations: u32, lasts: &Lasts) -> Option<RecordCode>
     requires { entry.now.station < 16 }
     ensures { MatchOption result (IsNext stations (last_in lasts.now entry.now.station) entry.now)
@@ -27,8 +29,8 @@ fn out_of_place(entry: &Entry<Call>, stations: u32, lasts: &Lasts) -> Option<Rec
     }
 }
 
-/// The entry whose line a record is, where it may come next in a room of so many stations, after entries with these last
-/// numbers.
+/// The entry whose line a record is, where it may come next in a room of so many stations, after
+/// entries with these last numbers.
 pub fn record_entry(
     alloc: Global,
     line: &[u8],

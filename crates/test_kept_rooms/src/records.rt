@@ -3,7 +3,8 @@
 use kept_rooms::{Lasts, RecordCode, RecordFault, record_entry, records_have_one_reading};
 use std::alloc::Global;
 
-// A line, how many stations the room has, and what it is refused for. Station 0 had the number 5 before.
+// A line, how many stations the room has, and what it is refused for. Station 0 had the number 5
+// before.
 const ROWS: [(&str, u32, Option<RecordCode>); 27] = [
     ("0 6 slice 0 10", 1, None),
     ("0 4000000000 slice 0 10", 1, None),
