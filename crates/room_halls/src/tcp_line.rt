@@ -46,11 +46,11 @@ enum Came {
 }
 
 impl Came {
-    // How a session over the line ended, in words that go on after the station's number. A session whose last read gave
-    // bytes ended at the limit of its input.
+    // How a session over the line ended, in words that go on after the station's number. One whose last read gave bytes
+    // ended before the end of its input: it passed the limit, or its last reply could not be told of a kept journal.
     fn text(self) -> &'static str {
         match self {
-            Came::Bytes => "left after more than 64 MiB",
+            Came::Bytes => "left before its lines were read to their end",
             Came::End => "left, its lines are read to their end",
             Came::ReadFault => "left, a read of its line failed",
             Came::WriteFault => "left, a write to its line failed",

@@ -1,181 +1,61 @@
--- The closed room's journal tells what each of several stations was answered.
-use Rattle.std.proofs.Common.{◌≡◌, ℕ, zero, suc, ◌+◌, ◌<◌, ◌≤◌, inl, inr, Bool, true, false, cond, ◌==◌, List, [], ◌∷◌, ◌++◌, All, length, map, take, drop, slice_get, Option, Some, None, IsSome, option_map, refl, sym, ap, ◌∙◌, arith, subst, ⊎_elim}
-use Rattle.std.proofs.lemmas.Bool.Decides.{nat_tests}
+-- Stations that were served over the lines of a hall, and what is left of them.
+use Rattle.std.proofs.Common.{◌≡◌, ℕ, ◌≤◌, List, [], ◌∷◌, ◌++◌, length, map, take, drop, slice_get, Option, Some, None, IsSome, option_map, refl, sym, ap, ◌∙◌, arith, subst}
 use Rattle.std.proofs.lemmas.List.{length-map, take_at}
 use Rattle.std.proofs.lemmas.Option.{none-some, same_Some, slice_get-map, slice_get_within}
-use Rattle.line_words.specs.Lines.{Line as InputLine}
-use Rattle.composables.specs.TrackState.{TrackState}
-use Rattle.composables.specs.declared.media.Table.{Table}
 use Rattle.timecode12.specs.Numbers.{Counted}
-use Rattle.edit_calls.specs.declared.asks.Call.{Call}
-use Rattle.edit_apply.specs.Apply.{editing}
-use Rattle.edit_apply.specs.RoomTracks.{IsOpening}
-use Rattle.edit_journal.specs.declared.name.Name.TheVariants.{Station}
-use Rattle.edit_journal.specs.Seats.{Agrees, In}
-use Rattle.room_core.specs.declared.entry.Entry.{Entry}
-use Rattle.room_core.specs.History.{IsLegal}
-use Rattle.room_core.specs.Projection.{of_station}
-use Rattle.room_core.specs.Whole.{whole}
-use Rattle.line_table.specs.CallTexts.{IsSmall, IsWritten}
-use Rattle.line_table.specs.Journals.{HasText}
-use Rattle.otio_json.specs.declared.opening.Opening.{Opening}
-use Rattle.station_sessions.specs.declared.serve.End.{End}
-use Rattle.served_rooms.specs.Closed.{Closes}
 use Rattle.room_halls.specs.Stations.{HallTold}
+use Rattle.room_keepers.specs.declared.fault.KeepFault.{KeepFault}
 use Rattle.command_files.specs.declared.status.Status.{Status}
-use Rattle.served_rooms.specs.Halls.{TellsStation, AreServed, first_fault, line_at, status_of}
+use Rattle.station_sessions.specs.declared.serve.End.{End}
 use Rattle.station_sessions.specs.Outside.{Outside}
-use Rattle.station_sessions.specs.Rooms.{History, Setting, AreWritten, RoomTranscript, IsLegalIn, room_of, setting_of}
-use Rattle.served_rooms.specs.Seated.{AreSeated, IsServedIn, PassServed, PassesServed, SeatedState, HasNumber, SameStation}
-use Rattle.station_sessions.specs.Served.{IsRoomOf, Knows}
-use Rattle.station_sessions.specs.Serving.{SessionEnds}
-use Rattle.station_sessions.specs.SessionInside.{TrackPass, TrackRoom}
-use Rattle.station_sessions.specs.Transcript.{new_room}
-use Rattle.served_rooms.specs.Stations.{AreOfStations}
-use Rattle.served_rooms.proofs.Sound.{has_text, stay_sound}
-use Rattle.served_rooms.proofs.Seating.{at_place, some_at}
-use Rattle.station_sessions.proofs.Knowing.{session_told}
-use Rattle.station_sessions.proofs.Transcripts.{transcript_more}
+use Rattle.station_sessions.specs.SessionInside.{Holding, TrackPass, TrackRoom}
+use Rattle.served_rooms.specs.Halls.{first_fault, line_at, status_of}
+use Rattle.served_rooms.specs.Seated.{AreNumbered, AreSeated, CanAllBegin, HasNumber, HasSeated, HaveServed, IsServedIn, LeftState, SeatServed, SeatedState, WasServed, left_of}
+use Rattle.served_rooms.proofs.Seating.{some_at}
 
--- ---- entries that can be written
+-- ---- what is left of a seat
 
-first_of : (b : Bool) (e : Entry Call) (own : History) → b ≡ true → AreWritten (cond b (e ∷ own) own) → IsSmall e.number × IsWritten e.call
-first_of true e own is w = w.0
-first_of false e own is w = absurd (grind (arith, is))
+pub as_many : (left : List LeftState) (seats : List SeatedState) → map Some left ≡ map left_of seats → length left ≡ length seats
+as_many left seats are = sym (length-map left Some) ∙ (ap length are ∙ length-map seats left_of)
 
-rest_of : (b : Bool) (e : Entry Call) (own : History) → AreWritten (cond b (e ∷ own) own) → AreWritten own
-rest_of true e own w = w.1
-rest_of false e own w = w
+pub record IsLeftOf (pass : Option TrackPass) (end : End) (holding : Holding) (l : LeftState) : Type 0 where
+  pub pass_is : pass ≡ Some l.pass
+  pub end_is : end ≡ l.end
+  pub holding_is : holding ≡ l.holding
 
-same : (n : ℕ) → (n == n) ≡ true
-same n = Prim.grind (arith, nat_tests)
+left_by : (pass : Option TrackPass) (end : End) (holding : Holding) (l : LeftState) → option_map (λ (p : TrackPass). record { pass = p; end = end; holding = holding }) pass ≡ Some l
+    → IsLeftOf pass end holding l
+left_by None end holding l is = absurd (none-some l is)
+left_by (Some p) end holding l is =
+    let same = same_Some (record { pass = p; end = end; holding = holding }) l is in
+    record { pass_is = ap (λ (x : LeftState). Some x.pass) same; end_is = ap (λ (x : LeftState). x.end) same; holding_is = ap (λ (x : LeftState). x.holding) same }
 
--- where each station's own entries can be written, all can
-pub all_written : (stations : ℕ) (h : History) → AreOfStations stations h → ((s : ℕ) → s < stations → AreWritten (of_station s h)) → AreWritten h
-all_written stations [] seated all = tt
-all_written stations (e ∷ es) seated all = (
-  first_of (e.station == e.station) e (of_station e.station es) (same e.station) (all e.station seated.0),
-  all_written stations es seated.1 (λ s low. rest_of (e.station == s) e (of_station s es) (all s low)),
-)
+-- what is left at the place of a seat is left of that seat
+left_at : (left : List LeftState) (seats : List SeatedState) (k : ℕ) (t : SeatedState) (l : LeftState) → map Some left ≡ map left_of seats → slice_get seats k ≡ Some t → slice_get left k ≡ Some l
+    → IsLeftOf t.pass t.end t.holding l
+left_at left seats k t l are seat is =
+    let here : option_map Some (slice_get left k) ≡ Some (left_of t) =
+    sym (slice_get-map Some left k) ∙ (ap (λ (x : List (Option LeftState)). slice_get x k) are ∙ (slice_get-map left_of seats k ∙ ap (option_map left_of) seat)) in
+    let there : Some (Some l) ≡ Some (left_of t) = sym (ap (option_map Some) is) ∙ here in
+    left_by t.pass t.end t.holding l (sym (same_Some (Some l) (left_of t) there))
 
--- ---- one station
+one_end : (l : LeftState) (t : SeatedState) → Some l ≡ left_of t → status_of l.end ≡ status_of t.end
+one_end l t is = ap status_of (sym (left_by t.pass t.end t.holding l (sym is)).end_is)
 
-pub tells_station : (o : Opening) (stations s : ℕ) (g h : History) (ls : List InputLine) (Taken : List (List ℕ) → Type 0) → Closes o stations s g h → Knows o new_room s g ls Taken
-    → TellsStation o h s ls Taken
-tells_station o stations s g h ls Taken c k =
-    let there : RoomTranscript o (g ++ c.more) new_room s ls k.0 =
-    transcript_more (room_of (setting_of o)) o.tracks g c.more new_room s ls k.0 [] k.1 (rw (← c.journal) c.legal.within) (ap (λ (l : History). of_station s l) (sym c.journal) ∙ c.own) in
-    (k.0, rw c.journal there, k.3)
+-- how the sessions ended
+ends_left : (left : List LeftState) (seats : List SeatedState) → map Some left ≡ map left_of seats → map (λ (l : LeftState). status_of l.end) left ≡ map status_of (map (λ (t : SeatedState). t.end) seats)
+ends_left [] [] are = refl
+ends_left [] (t ∷ ts) are = let n = ap length are in absurd (omega (arith, n))
+ends_left (l ∷ ls) [] are = let n = ap length are in absurd (omega (arith, n))
+ends_left (l ∷ ls) (t ∷ ts) are = λ i. one_end l t (heads are) i ∷ ends_left ls ts (tails are) i
+  where
+    heads : Some l ∷ map Some ls ≡ left_of t ∷ map left_of ts → Some l ≡ left_of t
+    heads e = cc
 
-pub station_ends : (o : Opening) (stations s : ℕ) (g h : History) (old new : Outside) (e : End) → Closes o stations s g h
-    → SessionEnds (Knows o new_room s g) old new e → SessionEnds (TellsStation o h s) old new e
-station_ends o stations s g h old new e c ended =
-    session_told (Knows o new_room s g) (TellsStation o h s) (λ ls Taken. tells_station o stations s g h ls Taken c) old new e ended
-
--- ---- elements by their places
-
--- an option that was mapped to what it holds
-some_of : {X : Type 0} (a : Option X) (b : Option X) (x : X) → option_map Some a ≡ Some b → b ≡ Some x → a ≡ Some x
-some_of None b x is e = absurd (none-some b is)
-some_of (Some y) b x is e = same_Some (Some y) b is ∙ e
-
--- the pass that was kept of a seat
-pass_there : (passes : List TrackPass) (seats : List SeatedState) (k : ℕ) (t : SeatedState) (p : TrackPass) → map Some passes ≡ map (λ (s : SeatedState). s.pass) seats
-    → slice_get seats k ≡ Some t → slice_get passes k ≡ Some p → Some p ≡ t.pass
-pass_there passes seats k t p are at is =
-    let there : option_map Some (slice_get passes k) ≡ Some t.pass =
-    sym (slice_get-map Some passes k) ∙ (ap (λ (l : List (Option TrackPass)). slice_get l k) are ∙ (slice_get-map (λ (s : SeatedState). s.pass) seats k ∙ ap (option_map (λ (s : SeatedState). s.pass)) at)) in
-    same_Some (Some p) t.pass (sym (ap (option_map Some) is) ∙ there)
-
--- the passes that were kept of these seats
-pub pass_at : (passes : List TrackPass) (seats : List SeatedState) (k : ℕ) (t : SeatedState) (p : TrackPass) → map Some passes ≡ map (λ (s : SeatedState). s.pass) seats
-    → slice_get seats k ≡ Some t → t.pass ≡ Some p → slice_get passes k ≡ Some p
-pass_at passes seats k t p are at is =
-    let there : option_map Some (slice_get passes k) ≡ Some t.pass =
-    sym (slice_get-map Some passes k) ∙ (ap (λ (l : List (Option TrackPass)). slice_get l k) are ∙ (slice_get-map (λ (s : SeatedState). s.pass) seats k ∙ ap (option_map (λ (s : SeatedState). s.pass)) at)) in
-    some_of (slice_get passes k) t.pass p there is
-
-pub as_many : (passes : List TrackPass) (seats : List SeatedState) → map Some passes ≡ map (λ (s : SeatedState). s.pass) seats → length passes ≡ length seats
-as_many passes seats are = sym (length-map passes Some) ∙ (ap length are ∙ length-map seats (λ (s : SeatedState). s.pass))
-
--- the number of a place
-pub in_range : (ps : List TrackPass) (from s : ℕ) → ((k : ℕ) (p : TrackPass) → slice_get ps k ≡ Some p → p.number ≡ from + k) → In s (map (λ (p : TrackPass). p.number) ps) → s < from + length ps
-in_range [] from s numbers i = absurd i
-in_range (p ∷ ps) from s numbers i =
-    ⊎_elim (λ (e : s ≡ p.number). let n = numbers 0 p refl in omega (arith, e, n))
-    (λ (h : In s (map (λ (q : TrackPass). q.number) ps)). let low = in_range ps (from + 1) s (λ k q at. let n = numbers (suc k) q at in omega (arith, n)) h in omega (arith, low)) i
-
-pub has_number : (ps : List TrackPass) (k : ℕ) (p : TrackPass) → slice_get ps k ≡ Some p → In p.number (map (λ (q : TrackPass). q.number) ps)
-has_number [] k p is = absurd (none-some p is)
-has_number (q ∷ ps) zero p is = inl (ap (λ (x : TrackPass). x.number) (sym (same_Some q p is)))
-has_number (q ∷ ps) (suc k) p is = inr (has_number ps k p is)
+    tails : Some l ∷ map Some ls ≡ left_of t ∷ map left_of ts → map Some ls ≡ map left_of ts
+    tails e = cc
 
 -- ---- one seat, before its session and after it
-
-pub record PassKept (o : Opening) (before : TrackPass) (b : Option TrackPass) (old new : Outside) (end : End) : Type 0 where
-  pub after : TrackPass
-  pub after_is : b ≡ Some after
-  pub served : PassServed o before after old new end
-
-pub pass_kept : (o : Opening) (a b : Option TrackPass) (p : TrackPass) (old new : Outside) (end : End) → a ≡ Some p → PassesServed o a b old new end → PassKept o p b old new end
-pass_kept o None b p old new end is served = absurd (none-some p is)
-pass_kept o (Some q) None p old new end is served = absurd served
-pass_kept o (Some q) (Some r) p old new end is served = record { after = r; after_is = refl; served = subst (λ (x : TrackPass). PassServed o x r old new end) (same_Some q p is) served }
-
--- what holds of a station when its room is closed
-pub record IsTold (o : Opening) (stations : ℕ) (h : History) (k : ℕ) (old new : Outside) (end : End) : Type 0 where
-  pub known : History
-  pub closes : Closes o stations k known h
-  pub ends : SessionEnds (Knows o new_room k known) old new end
-  pub written : AreWritten (of_station k known)
-
--- the passes of a closed room and its journal
-pub record IsClosed (o : Opening) (passes : List TrackPass) (h : History) : Type 0 where
-  pub opens : IsOpening o.table o.tracks
-  pub legal : IsLegalIn o h
-  pub agree : All (λ (p : TrackPass). Agrees (editing o.table).names h (Station p.number) p.entries) passes
-  pub stations : All (λ (e : Entry Call). In e.station (map (λ (p : TrackPass). p.number) passes)) h
-
-pub is_closed : (o : Opening) (room : TrackRoom) (counting : Counted) (start : ℕ) (passes : List TrackPass) (h : History) → IsRoomOf o room counting start
-    → IsLegal (whole (editing room.object.table)) room.parts h → All (λ (p : TrackPass). Agrees (editing room.object.table).names h (Station p.number) p.entries) passes
-    → All (λ (e : Entry Call). In e.station (map (λ (p : TrackPass). p.number) passes)) h → IsClosed o passes h
-is_closed o room counting start passes h is legal agree stations =
-    let table = ap (λ (s : Setting). s.table) is.setting in
-    record {
-      opens = is.opens;
-      legal = subst (λ (x : Table × List TrackState). IsLegal (whole (editing x.0)) x.1 h) (λ i. (table i, is.tracks i)) legal;
-      agree = subst (λ (x : Table). All (λ (p : TrackPass). Agrees (editing x).names h (Station p.number) p.entries) passes) table agree;
-      stations = stations;
-    }
-
-pub some_end : (l : List SeatedState) (n : ℕ) (e : End) → slice_get (map (λ (s : SeatedState). s.end) l) n ≡ Some e → (t : SeatedState) × (slice_get l n ≡ Some t) × (t.end ≡ e)
-some_end [] n e at = absurd (none-some e at)
-some_end (x ∷ xs) zero e at = (x, refl, same_Some x.end e at)
-some_end (x ∷ xs) (suc n) e at = some_end xs n e at
-
-pub of_stations : (stations : ℕ) (ns : List ℕ) (h : List (Entry Call)) → ((s : ℕ) → In s ns → s < stations) → All (λ (e : Entry Call). In e.station ns) h → AreOfStations stations h
-of_stations stations ns [] low all = tt
-of_stations stations ns (e ∷ es) low all = (
-  low e.station (at_place (λ (x : Entry Call). In x.station ns) (e ∷ es) 0 e all refl),
-  of_stations stations ns es low (λ k d h. all (suc k) d (omega (arith, h))),
-)
-
--- ---- all stations
-
--- The seats of so many stations, each served over its line, which was as the hall told of it before and is as it tells
--- after, and the passes that were kept of them.
-pub record AllKept (room : TrackRoom) (counting : Counted) (start stations : ℕ) (before after : HallTold) (seats left : List SeatedState) (passes : List TrackPass) : Type 0 where
-  pub count : length seats ≡ stations
-  pub all : length left ≡ length seats
-  pub seated : AreSeated before seats
-  pub served : (k : ℕ) (s t : SeatedState) → slice_get seats k ≡ Some s → slice_get left k ≡ Some t → IsServedIn room counting start s t
-  pub lines : (k : ℕ) (t : SeatedState) → slice_get left k ≡ Some t → line_at after k ≡ t.line
-  pub kept : map Some passes ≡ map (λ (s : SeatedState). s.pass) left
-
-same_number : (a b : Option TrackPass) (p : TrackPass) → a ≡ Some p → SameStation a b → HasNumber p.number b
-same_number None b p is same = absurd (none-some p is)
-same_number (Some q) None p is same = absurd same
-same_number (Some q) (Some r) p is same = same ∙ ap (λ (x : TrackPass). x.number) (same_Some q p is)
 
 pub number_is : (b : Option TrackPass) (p : TrackPass) (n : ℕ) → b ≡ Some p → HasNumber n b → p.number ≡ n
 number_is None p n is has = absurd has
@@ -185,135 +65,99 @@ pub has_pass : (number : ℕ) (a : Option TrackPass) → HasNumber number a → 
 has_pass number None has = absurd has
 has_pass number (Some p) has = refl
 
--- the numbers of the stations when they have been served
-pub numbers_left : (room : TrackRoom) (counting : Counted) (start : ℕ) (before : HallTold) (seats left : List SeatedState) → length left ≡ length seats → AreSeated before seats
-    → ((k : ℕ) (s t : SeatedState) → slice_get seats k ≡ Some s → slice_get left k ≡ Some t → IsServedIn room counting start s t)
-    → (k : ℕ) (t : SeatedState) → slice_get left k ≡ Some t → HasNumber k t.pass
-numbers_left room counting start before seats left all seated served k t at =
-    let n = slice_get_within left k t at in
-    let s = some_at seats k (omega (arith, n, all)) in
-    let m = seated k s.0 s.1 in
-    subst (λ (x : ℕ). HasNumber x t.pass) m.number_is (same_number s.0.pass t.pass m.pass m.pass_is (served k s.0 t s.1 at).0)
+module _ (room : TrackRoom) (counting : Counted) (start holds : ℕ) (may_fail : KeepFault → Type 0) where
+  -- between the passes of a seat
+  seat_served : (a b : Option TrackPass) (p q : TrackPass) (old new : SeatedState) → a ≡ Some p → b ≡ Some q → SeatServed room counting start holds may_fail a b old new
+      → (q.number ≡ p.number) × WasServed room counting start holds may_fail p (record { pass = q; end = new.end; holding = new.holding }) old.line new.line
+  seat_served None b p q old new is now served = absurd (none-some p is)
+  seat_served (Some x) None p q old new is now served = absurd (none-some q now)
+  seat_served (Some x) (Some y) p q old new is now served =
+      subst (λ (z : TrackPass × TrackPass). (z.1.number ≡ z.0.number) × WasServed room counting start holds may_fail z.0 (record { pass = z.1; end = new.end; holding = new.holding }) old.line new.line)
+      (λ i. (same_Some x p is i, same_Some y q now i)) served
 
-module _ (room : TrackRoom) (counting : Counted) (start stations : ℕ) (before after : HallTold) (seats left : List SeatedState) (passes : List TrackPass) (a : AllKept room counting start stations before after seats left passes) where
-  pub numbered : (k : ℕ) (p : TrackPass) → slice_get passes k ≡ Some p → p.number ≡ k
-  numbered k p at =
-      let low : k < length left = let n = slice_get_within passes k p at in omega (arith, n, as_many passes left a.kept) in
-      let t = some_at left k low in
-      let has = numbers_left room counting start before seats left a.all a.seated a.served k t.0 t.1 in
-      number_is t.0.pass p k (there t.0 t.1) has
-    where
-      there : (t : SeatedState) → slice_get left k ≡ Some t → t.pass ≡ Some p
-      there t is = sym (pass_there passes left k t p a.kept is at)
+  same_number : (a b : Option TrackPass) (p : TrackPass) (old new : SeatedState) → a ≡ Some p → SeatServed room counting start holds may_fail a b old new → HasNumber p.number b
+  same_number None b p old new is served = absurd (none-some p is)
+  same_number (Some x) None p old new is served = absurd served
+  same_number (Some x) (Some y) p old new is served = served.0 ∙ ap (λ (z : TrackPass). z.number) (same_Some x p is)
 
-  -- each station is among them
-  pub all_in : (s : ℕ) → s < stations → In s (map (λ (p : TrackPass). p.number) passes)
-  all_in s low =
-      let p = some_at passes s (omega (arith, low, as_many passes left a.kept, a.all, a.count)) in
-      subst (λ (n : ℕ). In n (map (λ (q : TrackPass). q.number) passes)) (numbered s p.0 p.1) (has_number passes s p.0 p.1)
+  -- ---- all stations
 
-  module _ (o : Opening) (h : History) (is : IsRoomOf o room counting start) (closed : IsClosed o passes h) where
-    pass_of : (k : ℕ) (t : SeatedState) → slice_get left k ≡ Some t → (p : TrackPass) × (slice_get passes k ≡ Some p) × (p.number ≡ k)
-        × SessionEnds (Knows o new_room k p.entries) (line_at before k) (line_at after k) t.end × AreWritten (of_station k p.entries)
-    pass_of k t at =
-        let n = slice_get_within left k t at in
+  -- Seats that have these passes, each served over its line, which was as the hall told of it before.
+  pub record SeatsServed (before : HallTold) (passes : List TrackPass) (seats out : List SeatedState) : Type 0 where
+    pub count : length seats ≡ length passes
+    pub all : length out ≡ length seats
+    pub numbered : AreNumbered passes
+    pub seated : AreSeated before passes seats
+    pub served : (k : ℕ) (s t : SeatedState) → slice_get seats k ≡ Some s → slice_get out k ≡ Some t → IsServedIn room counting start holds may_fail s t
+
+  pub seats_served : (before mid : HallTold) (passes : List TrackPass) (items old new : List SeatedState) → old ≡ items → HasSeated before mid passes items → CanAllBegin room passes
+      → length new ≡ length old → ((k : ℕ) (s t : SeatedState) → slice_get old k ≡ Some s → slice_get new k ≡ Some t → IsServedIn room counting start holds may_fail s t)
+      → SeatsServed before passes old new
+  seats_served before mid passes items old new same has begin all served = record {
+    count = ap length same ∙ has.count;
+    all = all;
+    numbered = λ k p at. (begin k p at).0;
+    seated = subst (λ (l : List SeatedState). AreSeated before passes l) (sym same) has.seated;
+    served = served;
+  }
+
+  module _ (before : HallTold) (passes : List TrackPass) (seats out : List SeatedState) (a : SeatsServed before passes seats out) where
+    -- the numbers of the stations when they have been served
+    pub numbers_left : (k : ℕ) (t : SeatedState) → slice_get out k ≡ Some t → HasNumber k t.pass
+    numbers_left k t at =
+        let n = slice_get_within out k t at in
         let s = some_at seats k (omega (arith, n, a.all)) in
         let m = a.seated k s.0 s.1 in
-        let p = pass_kept o s.0.pass t.pass m.pass s.0.line t.line t.end m.pass_is ((a.served k s.0 t s.1 at).1 o is) in (
-          p.after,
-          pass_at passes left k t p.after a.kept at p.after_is,
-          p.served.number ∙ m.number_is,
-          subst (λ (x : ℕ). SessionEnds (Knows o new_room x p.after.entries) (line_at before k) (line_at after k) t.end) m.number_is
-              (subst (λ (l : Outside). SessionEnds (Knows o new_room m.pass.number p.after.entries) l (line_at after k) t.end) m.line
-              (subst (λ (l : Outside). SessionEnds (Knows o new_room m.pass.number p.after.entries) s.0.line l t.end) (sym (a.lines k t at)) p.served.ends)),
-          subst (λ (x : ℕ). AreWritten (of_station x p.after.entries)) m.number_is p.served.written,
-        )
+        subst (λ (x : ℕ). HasNumber x t.pass) (a.numbered k m.pass m.at_place) (same_number s.0.pass t.pass m.pass s.0 t m.pass_is (a.served k s.0 t s.1 at))
 
-    of_seats : AreOfStations stations h
-    of_seats = of_stations stations (map (λ (p : TrackPass). p.number) passes) h
-        (λ s i. let low = in_range passes 0 s (λ k p at. let n = numbered k p at in omega (arith, n)) i in omega (arith, low, as_many passes left a.kept, a.all, a.count)) closed.stations
+    module _ (after : HallTold) (left : List LeftState) (lines : (k : ℕ) (t : SeatedState) → slice_get out k ≡ Some t → line_at after k ≡ t.line) (kept : map Some left ≡ map left_of out) where
+      station_served : (k : ℕ) (p : TrackPass) (l : LeftState) → slice_get passes k ≡ Some p → slice_get left k ≡ Some l
+          → (l.pass.number ≡ k) × WasServed room counting start holds may_fail p l (line_at before k) (line_at after k)
+      station_served k p l first last =
+          let n = slice_get_within left k l last in
+          let t = some_at out k (omega (arith, n, as_many left out kept)) in
+          let s = some_at seats k (omega (arith, n, as_many left out kept, a.all)) in
+          let m = a.seated k s.0 s.1 in
+          let is = left_at left out k t.0 l kept t.1 last in
+          let mine : m.pass ≡ p = same_Some m.pass p (sym m.at_place ∙ first) in
+          let served = seat_served s.0.pass t.0.pass m.pass l.pass s.0 t.0 m.pass_is is.pass_is (a.served k s.0 t.0 s.1 t.1) in (
+            served.0 ∙ a.numbered k m.pass m.at_place,
+            subst (λ (z : TrackPass × LeftState × Outside × Outside). WasServed room counting start holds may_fail z.0 z.1 z.2 z.3)
+                (λ i. (mine i, record { pass = l.pass; end = is.end_is i; holding = is.holding_is i }, m.line i, sym (lines k t.0 t.1) i)) served.1,
+          )
 
-    station_told : (k : ℕ) (t : SeatedState) → slice_get left k ≡ Some t → IsTold o stations h k (line_at before k) (line_at after k) t.end
-    station_told k t at =
-        let p = pass_of k t at in
-        let agrees : Agrees (editing o.table).names h (Station k) p.0.entries =
-        subst (λ (n : ℕ). Agrees (editing o.table).names h (Station n) p.0.entries) p.2 (at_place (λ (q : TrackPass). Agrees (editing o.table).names h (Station q.number) q.entries) passes k p.0 closed.agree p.1) in
-        record {
-          known = p.0.entries;
-          closes = record { opens = closed.opens; legal = closed.legal; seated = of_seats; more = agrees.front.0; journal = agrees.front.1; own = sym agrees.same };
-          ends = p.3;
-          written = p.4;
-        }
+      pub have_served : (status : Status) → ((s : ℕ) → length passes ≤ s → line_at after s ≡ line_at before s) → status ≡ first_fault (map status_of (map (λ (t : SeatedState). t.end) out))
+          → after.faults ≡ before.faults → HaveServed room counting start holds may_fail passes left before after status
+      have_served status others fault quiet = record {
+        count = as_many left out kept ∙ (a.all ∙ a.count);
+        numbers = λ k l at. numbered_at k l at (some_at passes k (let n = slice_get_within left k l at in omega (arith, n, as_many left out kept, a.all, a.count)));
+        each = λ k p l first last. (station_served k p l first last).1;
+        others = others;
+        status_is = fault ∙ ap first_fault (sym (ends_left left out kept));
+        quiet = quiet;
+      }
+        where
+          numbered_at : (k : ℕ) (l : LeftState) → slice_get left k ≡ Some l → (p : TrackPass) × (slice_get passes k ≡ Some p) → l.pass.number ≡ k
+          numbered_at k l at p = (station_served k p.0 l p.1 at).0
 
-    written : AreWritten h
-    written = all_written stations h of_seats (λ s low. one s (some_at left s (omega (arith, low, a.all, a.count))))
-      where
-        one : (s : ℕ) → (t : SeatedState) × (slice_get left s ≡ Some t) → AreWritten (of_station s h)
-        one s t = let told = station_told s t.0 t.1 in subst AreWritten (sym told.closes.own) told.written
+-- ---- seats of a vector that was lent
 
-    pub text : stations ≤ 16 → HasText h
-    text few = has_text o stations h few closed.legal of_seats written
-
-    pub all_served : stations ≤ 16 → ((s : ℕ) → stations ≤ s → line_at after s ≡ line_at before s) → AreServed o stations h before after (map (λ (s : SeatedState). s.end) left)
-    all_served few others = record {
-      journal = record { legal = closed.legal; seated = of_seats; text = text few; sound = stay_sound o h closed.opens closed.legal };
-      count = length-map left (λ (s : SeatedState). s.end) ∙ (a.all ∙ a.count);
-      each = λ s e at. end_at s e (some_end left s e at);
-      others = others;
-    }
-      where
-        end_at : (s : ℕ) (e : End) → (t : SeatedState) × (slice_get left s ≡ Some t) × (t.end ≡ e) → SessionEnds (TellsStation o h s) (line_at before s) (line_at after s) e
-        end_at s e t =
-            let told = station_told s t.0 t.1 in
-            subst (λ (x : End). SessionEnds (TellsStation o h s) (line_at before s) (line_at after s) x) t.2 (station_ends o stations s told.known h (line_at before s) (line_at after s) t.0.end told.closes told.ends)
-
--- what comes back of a vector that was lent
+-- what comes back of it
 back : {X : Type 0} (items new : List X) (n : ℕ) → n ≡ length items → length new ≡ length items → take n (new ++ drop (length new) items) ≡ new
 back items new n count all = take_at new (drop (length new) items) n (all ∙ sym count)
 
-pub numbers_back : (room : TrackRoom) (counting : Counted) (start : ℕ) (before : HallTold) (items old new : List SeatedState) (n : ℕ) → old ≡ items → n ≡ length items → length new ≡ length old
-    → AreSeated before items → ((k : ℕ) (s t : SeatedState) → slice_get old k ≡ Some s → slice_get new k ≡ Some t → IsServedIn room counting start s t)
-    → (k : ℕ) (t : SeatedState) → slice_get (take n (new ++ drop (length new) items)) k ≡ Some t → HasNumber k t.pass
-numbers_back room counting start before items old new n same count all seated served =
-    let there = back items new n count (all ∙ ap length same) in
-    subst (λ (l : List SeatedState). (k : ℕ) (t : SeatedState) → slice_get l k ≡ Some t → HasNumber k t.pass) (sym there)
-    (numbers_left room counting start before old new all (subst (λ (l : List SeatedState). AreSeated before l) (sym same) seated) served)
+module _ (items old new : List SeatedState) (n : ℕ) (same : old ≡ items) (count : n ≡ length items) (all : length new ≡ length old) where
+  -- the seats that come back, of which this holds
+  pub of_back : (P : List SeatedState → Type 0) → P (take n (new ++ drop (length new) items)) → P new
+  of_back P h = subst P (back items new n count (all ∙ ap length same)) h
 
--- The seats of a vector, served and stood up.
-pub all_kept : (room : TrackRoom) (counting : Counted) (start stations : ℕ) (before after : HallTold) (items old new : List SeatedState) (n : ℕ) (passes : List TrackPass) → old ≡ items
-    → length items ≡ stations → n ≡ length items → length new ≡ length old → AreSeated before items
-    → ((k : ℕ) (s t : SeatedState) → slice_get old k ≡ Some s → slice_get new k ≡ Some t → IsServedIn room counting start s t)
-    → ((k : ℕ) (t : SeatedState) → slice_get (take n (new ++ drop (length new) items)) k ≡ Some t → line_at after k ≡ t.line)
-    → map Some passes ≡ map (λ (s : SeatedState). s.pass) (take n (new ++ drop (length new) items))
-    → AllKept room counting start stations before after old new passes
-all_kept room counting start stations before after items old new n passes same many count all seated served lines kept =
-    let there = back items new n count (all ∙ ap length same) in
-    record {
-      count = ap length same ∙ many;
-      all = all;
-      seated = subst (λ (l : List SeatedState). AreSeated before l) (sym same) seated;
-      served = served;
-      lines = subst (λ (l : List SeatedState). (k : ℕ) (t : SeatedState) → slice_get l k ≡ Some t → line_at after k ≡ t.line) there lines;
-      kept = subst (λ (l : List SeatedState). map Some passes ≡ map (λ (s : SeatedState). s.pass) l) there kept;
-    }
+  pub to_back : (P : List SeatedState → Type 0) → P new → P (take n (new ++ drop (length new) items))
+  to_back P h = subst P (sym (back items new n count (all ∙ ap length same))) h
 
-pub held_back : (items old new : List SeatedState) (n k : ℕ) → old ≡ items → n ≡ length items → length new ≡ length old → k < length (take n (new ++ drop (length new) items)) → k < length items
-held_back items old new n k same count all low =
-    let many : length new ≡ length items = all ∙ ap length same in
-    let there : length (take n (new ++ drop (length new) items)) ≡ length new = ap length (back items new n count many) in
-    omega (arith, low, there, many)
+  pub length_back : length (take n (new ++ drop (length new) items)) ≡ length items
+  length_back = ap length (back items new n count (all ∙ ap length same)) ∙ (all ∙ ap length same)
 
-pub free_back : (items old new : List SeatedState) (n stations k : ℕ) → old ≡ items → n ≡ length items → length new ≡ length old → length items ≡ stations → stations ≤ k
-    → length (take n (new ++ drop (length new) items)) ≤ k
-free_back items old new n stations k same count all many high =
-    let fits : length new ≡ length items = all ∙ ap length same in
-    let there : length (take n (new ++ drop (length new) items)) ≡ length new = ap length (back items new n count fits) in
-    omega (arith, high, there, fits, many)
-
-pub fault_back : (items old new : List SeatedState) (n : ℕ) (fault : Status) → old ≡ items → n ≡ length items → length new ≡ length old
-    → fault ≡ first_fault (map status_of (map (λ (s : SeatedState). s.end) (take n (new ++ drop (length new) items)))) → fault ≡ first_fault (map status_of (map (λ (s : SeatedState). s.end) new))
-fault_back items old new n fault same count all first =
-    subst (λ (l : List SeatedState). fault ≡ first_fault (map status_of (map (λ (s : SeatedState). s.end) l))) (back items new n count (all ∙ ap length same)) first
+-- ---- statuses
 
 -- the statuses of the sessions, and of one more
 pub ends_more : (seats : List SeatedState) (s : SeatedState) → map status_of (map (λ (t : SeatedState). t.end) (seats ++ s ∷ [])) ≡ map status_of (map (λ (t : SeatedState). t.end) seats) ++ status_of s.end ∷ []

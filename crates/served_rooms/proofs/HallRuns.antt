@@ -1,14 +1,15 @@
 -- From what came of a document's file, and then of the stations of a hall, to how the program ends.
-use Rattle.std.proofs.Common.{◌≡◌, ℕ, inl, inr, List, refl, ◌∙◌, subst}
+use Rattle.std.proofs.Common.{◌≡◌, ℕ, inl, inr, List, [], refl, ◌∙◌, subst}
 use Rattle.room_files.specs.Files.{Content, FilesTold, Untold, Missing, Bytes, IsUnchanged, OthersUnchanged}
 use Rattle.room_halls.specs.Stations.{HallTold}
+use Rattle.room_keepers.specs.declared.fault.KeepFault.{KeepFault}
 use Rattle.room_ports.specs.Counts.{HasRisen}
 use Rattle.otio_json.specs.declared.opening.Opening.{Opening}
 use Rattle.command_files.specs.declared.status.Status.{Status}
-use Rattle.command_files.specs.declared.status.Status.TheVariants.{Done, WriteFault, NotSeated, OutOfMemory}
+use Rattle.command_files.specs.declared.status.Status.TheVariants.{Done, WriteFault}
 use Rattle.command_files.specs.Unopened.{AreQuiet, OnlyRead}
 use Rattle.command_files.proofs.Unchanged.{unchanged_then}
-use Rattle.served_rooms.specs.Halls.{EndsUnserved, FileEnds, HallEnds, HasServed, IsUnserved}
+use Rattle.served_rooms.specs.Halls.{FileEnds, HallEnds, HasServed, NeverFails}
 use Rattle.station_sessions.specs.Rooms.{History}
 
 unchanged_same : (c : Content) → IsUnchanged c c
@@ -21,29 +22,23 @@ pub quiet_same : (files : FilesTold) → AreQuiet files files
 quiet_same files = (((λ name. unchanged_same (files.file name)), refl), refl)
 
 -- the journal of a room is kept in another way
-module _ (o : Opening) (stations : ℕ) (address : List ℕ) (K L : History → Status → Type 0) (U V : Type 0) (kept : (h : History) (s : Status) → K h s → L h s) (unkept : U → V) (old new : HallTold) where
-  served : (s : Status) → HasServed o stations address K U old new s → HasServed o stations address L V old new s
+module _ (o : Opening) (kept : History) (stations : ℕ) (address : List ℕ) (Fails : KeepFault → Type 0) (K L : History → ℕ → Status → Type 0) (U V : Type 0)
+    (keeps : (h : History) (held : ℕ) (s : Status) → K h held s → L h held s) (unkept : U → V) (old new : HallTold) where
+  served : (s : Status) → HasServed o kept stations address Fails K U old new s → HasServed o kept stations address Fails L V old new s
   served s h = record {
     journal = h.journal;
+    held = h.held;
     of_sessions = h.of_sessions;
     of_keeping = h.of_keeping;
     opened = h.opened;
     sessions = h.sessions;
-    keeps = kept h.journal h.of_keeping h.keeps;
+    keeps = keeps h.journal h.held h.of_keeping h.keeps;
     status_is = h.status_is;
   }
 
-  unserved : IsUnserved o stations address K U old new → IsUnserved o stations address L V old new
-  unserved u = record { opened = u.opened; unheard = u.unheard; unkept = unkept u.unkept }
-
-  unserved_ends : (s : Status) → EndsUnserved o stations address K U old new s → EndsUnserved o stations address L V old new s
-  unserved_ends NotSeated (risen, u) = (risen, unserved u)
-  unserved_ends OutOfMemory (still, u) = (still, unserved u)
-  unserved_ends other h = absurd h
-
-  kept_ends : (s : Status) → HallEnds o stations address K U old new s → HallEnds o stations address L V old new s
+  pub kept_ends : (s : Status) → HallEnds o kept stations address Fails K U old new s → HallEnds o kept stations address Fails L V old new s
   kept_ends s (inl h) = inl (served s h)
-  kept_ends s (inr h) = inr (unserved_ends s h)
+  kept_ends s (inr (u, ends)) = inr (unkept u, ends)
 
 -- the files were read before the stations were served
 module _ (before mid after : FilesTold) (only : OnlyRead before mid) (quiet : mid.reads ≡ before.reads) where
@@ -58,7 +53,9 @@ module _ (before mid after : FilesTold) (only : OnlyRead before mid) (quiet : mi
   file_ends name h WriteFault (o, reads, risen) = (others name o, reads ∙ quiet, subst (λ (n : ℕ). HasRisen n after.writes) only.1 risen)
   file_ends name h other e = absurd e
 
-  pub hall_ends : (o : Opening) (stations : ℕ) (address journal : List ℕ) (old new : HallTold) (s : Status) → HallEnds o stations address (FileEnds journal mid after) (AreQuiet mid after) old new s
-      → HallEnds o stations address (FileEnds journal before after) (AreQuiet before after) old new s
+  pub hall_ends : (o : Opening) (stations : ℕ) (address journal : List ℕ) (old new : HallTold) (s : Status)
+      → HallEnds o [] stations address NeverFails (λ h held status. FileEnds journal mid after h status) (AreQuiet mid after) old new s
+      → HallEnds o [] stations address NeverFails (λ h held status. FileEnds journal before after h status) (AreQuiet before after) old new s
   hall_ends o stations address journal old new s ends =
-      kept_ends o stations address (FileEnds journal mid after) (FileEnds journal before after) (AreQuiet mid after) (AreQuiet before after) (file_ends journal) quiet_then old new s ends
+      kept_ends o [] stations address NeverFails (λ h held status. FileEnds journal mid after h status) (λ h held status. FileEnds journal before after h status) (AreQuiet mid after) (AreQuiet before after)
+      (λ h held status. file_ends journal h status) quiet_then old new s ends

@@ -3,3 +3,4 @@ pub mod Sound
 pub mod Closing
 pub mod Seating
 pub mod AllStations
+pub mod Ending

@@ -1,5 +1,5 @@
 -- Stations that are seated and stand up, one after the other.
-use Rattle.std.proofs.Common.{◌≡◌, ◌≢◌, ℕ, zero, suc, nat_lt, ◌+◌, ◌<◌, ◌≤◌, ◌⊎◌, inl, inr, Bool, true, false, ◌==◌, List, [], ◌∷◌, ◌++◌, All, length, map, slice_get, Option, Some, Result, Ok, Err, refl, sym, ap, ◌∙◌, arith, subst, ⊎_elim}
+use Rattle.std.proofs.Common.{◌≡◌, ◌≢◌, ℕ, zero, suc, nat_lt, ◌+◌, ◌<◌, ◌≤◌, ◌⊎◌, inl, inr, Bool, true, false, ◌==◌, List, [], ◌∷◌, ◌++◌, All, length, map, slice_get, option_map, Option, Some, Result, Ok, Err, refl, sym, ap, ◌∙◌, arith, subst, ⊎_elim}
 use Rattle.std.proofs.lemmas.Bool.Decides.{nat_tests}
 use Rattle.std.proofs.lemmas.Option.{none-some, same_Some, slice_get_within, get_or_from_slice_get}
 use Rattle.room_core.specs.Parts.{numbers}
@@ -9,15 +9,16 @@ use Rattle.room_halls.specs.declared.hall.HallFault.{HallFault}
 use Rattle.room_halls.specs.declared.hall.HallFault.TheVariants.{Failed, Memory}
 use Rattle.command_files.specs.declared.status.Status.{Status}
 use Rattle.command_files.specs.declared.status.Status.TheVariants.{Done}
-use Rattle.served_rooms.specs.Halls.{HallEnds, Unheard, first_fault, line_at, line_of, or_next}
-use Rattle.otio_json.specs.declared.opening.Opening.{Opening}
+use Rattle.served_rooms.specs.Halls.{EndsUnserved, Unheard, first_fault, line_at, line_of, or_next}
+use Rattle.edit_journal.specs.Turns.{AreFresh}
 use Rattle.line_words.specs.Lines.{Line as InputLine}
+use Rattle.room_keepers.specs.declared.fault.KeepFault.{KeepFault}
 use Rattle.station_sessions.specs.declared.serve.End.{End}
 use Rattle.station_sessions.specs.Serving.{SessionEnds}
 use Rattle.station_sessions.specs.Outside.{Outside, outside}
-use Rattle.station_sessions.specs.Rooms.{History}
-use Rattle.served_rooms.specs.Seated.{AreSeated, CountsSeats, HasNumber, IsReady, IsSeated, SeatedState, unseated}
-use Rattle.station_sessions.specs.SessionInside.{TrackOpening, TrackPass}
+use Rattle.served_rooms.specs.Seated.{AreNumbered, AreOrigins, AreSeated, CanAllBegin, CountsSeats, HasNumber, IsReady, IsSeated, LeftState, SeatedState, left_of, unseated}
+use Rattle.station_sessions.specs.SessionInside.{TrackOpening, TrackPass, TrackRoom}
+use Rattle.station_sessions.proofs.Knowing.{fresh_base, fresh_legal, fresh_origin}
 
 pub at_place : {X : Type 0} (P : X → Type 0) (xs : List X) (k : ℕ) (x : X) → All P xs → slice_get xs k ≡ Some x → P x
 at_place P xs k x all is = subst P (get_or_from_slice_get xs k x x is) (all k x (slice_get_within xs k x is))
@@ -54,24 +55,31 @@ number_of (q ∷ ps) from (suc count) (suc k) p are is = number_of ps (from + 1)
     rest_are : q.number ∷ map (λ (x : TrackPass). x.number) ps ≡ from ∷ numbers (from + 1) count → map (λ (x : TrackPass). x.number) ps ≡ numbers (from + 1) count
     rest_are e = Prim.grind (arith, e)
 
--- the pass at a place among those of a room that has just been opened
-pub fresh_at : (count : ℕ) (ps before : List TrackPass) (p : TrackPass) (rest : List TrackPass) → map (λ (q : TrackPass). q.number) ps ≡ numbers 0 count → before ++ p ∷ rest ≡ ps
-    → p.number ≡ length before
-fresh_at count ps before p rest are is = number_of ps 0 count (length before) p are (behind_at ps before p rest is) ∙ omega arith
+-- the passes of a room that has just been opened
+pub fresh_numbered : (count : ℕ) (ps : List TrackPass) → map (λ (q : TrackPass). q.number) ps ≡ numbers 0 count → AreNumbered ps
+fresh_numbered count ps are = λ k p is. number_of ps 0 count k p are is ∙ omega arith
 
 -- a list that goes on
 pub is_within : {X : Type 0} (ps before : List X) (p : X) (rest : List X) → before ++ p ∷ rest ≡ ps → length before < length ps
 is_within ps before p rest is = slice_get_within ps (length before) p (behind_at ps before p rest is)
 
 -- no entry is known to a pass of a room that has just been opened
-pub fresh_none : (opening : Option TrackOpening) (ps before : List TrackPass) (p : TrackPass) (rest : List TrackPass) → All (λ (t : TrackPass). (t.opening ≡ opening) × (t.entries ≡ [])) ps
-    → before ++ p ∷ rest ≡ ps → p.entries ≡ []
-fresh_none opening ps before p rest all is = (at_place (λ (t : TrackPass). (t.opening ≡ opening) × (t.entries ≡ [])) ps (length before) p all (behind_at ps before p rest is)).1
+pub fresh_none : (opening : Option TrackOpening) (count : ℕ) (ps : List TrackPass) → AreFresh opening count ps → (k : ℕ) (p : TrackPass) → slice_get ps k ≡ Some p → p.entries ≡ []
+fresh_none opening count ps fresh k p is = (at_place (λ (t : TrackPass). (t.opening ≡ opening) × (t.entries ≡ [])) ps k p fresh.1 is).1
+
+pub fresh_begin : (opening : Option TrackOpening) (room : TrackRoom) (count : ℕ) (ps : List TrackPass) → AreFresh opening count ps → CanAllBegin room ps
+fresh_begin opening room count ps fresh = λ k p is.
+    let none = fresh_none opening count ps fresh k p is in
+    (fresh_numbered count ps fresh.0 k p is, record { legal = fresh_legal room p none; base = fresh_base p none })
+
+pub fresh_origins : (opening : Option TrackOpening) (count : ℕ) (ps : List TrackPass) → AreFresh opening count ps → AreOrigins [] ps
+fresh_origins opening count ps fresh = λ k p is. (fresh_numbered count ps fresh.0 k p is, fresh_origin p (fresh_none opening count ps fresh k p is))
 
 -- one seat more
-pub seated_more : (hall : HallTold) (seats : List SeatedState) (s : SeatedState) → AreSeated hall seats → IsSeated hall (length seats) s → AreSeated hall (seats ++ s ∷ [])
-seated_more hall seats s are is k t at =
-    ⊎_elim (λ (e : slice_get seats k ≡ Some t). are k t e) (λ (p : (k ≡ length seats) × (s ≡ t)). subst (λ (x : SeatedState). IsSeated hall k x) p.1 (subst (λ (n : ℕ). IsSeated hall n s) (sym p.0) is)) (one_more seats s t k at)
+pub seated_more : (hall : HallTold) (passes : List TrackPass) (seats : List SeatedState) (s : SeatedState) → AreSeated hall passes seats → IsSeated hall passes (length seats) s
+    → AreSeated hall passes (seats ++ s ∷ [])
+seated_more hall passes seats s are is k t at =
+    ⊎_elim (λ (e : slice_get seats k ≡ Some t). are k t e) (λ (p : (k ≡ length seats) × (s ≡ t)). subst (λ (x : SeatedState). IsSeated hall passes k x) p.1 (subst (λ (n : ℕ). IsSeated hall passes n s) (sym p.0) is)) (one_more seats s t k at)
 
 -- what a line tells, by its parts
 pub told_line : (l : LineTold) (left taken : Option (List ℕ)) (reads writes : ℕ) → l ≡ line_told left taken reads writes → outside left reads taken writes ≡ line_of l
@@ -105,11 +113,15 @@ pub map_more : {X Y : Type 0} (f : X → Y) (xs : List X) (x : X) → map f (xs 
 map_more f [] x = refl
 map_more f (y ∷ ys) x = ap (λ l. f y ∷ l) (map_more f ys x)
 
--- the pass of one seat more
-pub passes_more : (passes : List TrackPass) (seats : List SeatedState) (p : TrackPass) (s : SeatedState) → map Some passes ≡ map (λ (t : SeatedState). t.pass) seats → s.pass ≡ Some p
-    → map Some (passes ++ p ∷ []) ≡ map (λ (t : SeatedState). t.pass) (seats ++ s ∷ [])
-passes_more passes seats p s are is =
-    map_more Some passes p ∙ (ap (λ (l : List (Option TrackPass)). l ++ Some p ∷ []) are ∙ (ap (λ (o : Option TrackPass). map (λ (t : SeatedState). t.pass) seats ++ o ∷ []) (sym is) ∙ sym (map_more (λ (t : SeatedState). t.pass) seats s)))
+-- what is left of one seat more
+left_is : (s : SeatedState) (l : LeftState) → s.pass ≡ Some l.pass → l.end ≡ s.end → l.holding ≡ s.holding → left_of s ≡ Some l
+left_is s l pass end holding =
+    ap (option_map (λ (p : TrackPass). record { pass = p; end = s.end; holding = s.holding })) pass ∙ (λ i. Some (record { pass = l.pass; end = sym end i; holding = sym holding i }))
+
+pub left_more : (left : List LeftState) (seats : List SeatedState) (l : LeftState) (s : SeatedState) → map Some left ≡ map left_of seats → s.pass ≡ Some l.pass → l.end ≡ s.end → l.holding ≡ s.holding
+    → map Some (left ++ l ∷ []) ≡ map left_of (seats ++ s ∷ [])
+left_more left seats l s are pass end holding =
+    map_more Some left l ∙ (ap (λ (x : List (Option LeftState)). x ++ Some l ∷ []) are ∙ (ap (λ (o : Option LeftState). map left_of seats ++ o ∷ []) (sym (left_is s l pass end holding)) ∙ sym (map_more left_of seats s)))
 
 -- a line that stands up
 pub line_more : (before after : ℕ → Station) (seats : List SeatedState) (s : SeatedState) → ((k : ℕ) (t : SeatedState) → slice_get seats k ≡ Some t → line_of (before k).line ≡ t.line)
@@ -137,18 +149,20 @@ fault_more (fault ∷ ss) s = refl
 -- ---- a hall and its stations
 
 -- a pass of each seat is that of its place
-pub seated_number : (hall : HallTold) (seats : List SeatedState) → AreSeated hall seats → (k : ℕ) (s : SeatedState) → slice_get seats k ≡ Some s → HasNumber k s.pass
-seated_number hall seats are k s at = let m = are k s at in subst (λ (o : Option TrackPass). HasNumber k o) (sym m.pass_is) m.number_is
+pub seated_number : (hall : HallTold) (passes : List TrackPass) (seats : List SeatedState) → AreNumbered passes → AreSeated hall passes seats
+    → (k : ℕ) (s : SeatedState) → slice_get seats k ≡ Some s → HasNumber k s.pass
+seated_number hall passes seats numbered are k s at = let m = are k s at in subst (λ (o : Option TrackPass). HasNumber k o) (sym m.pass_is) (numbered k m.pass m.at_place)
 
--- and no entry is known to it
-pub seated_ready : (hall : HallTold) (seats : List SeatedState) → AreSeated hall seats → (k : ℕ) (s : SeatedState) → slice_get seats k ≡ Some s → IsReady s.pass
-seated_ready hall seats are k s at = let m = are k s at in subst (λ (o : Option TrackPass). IsReady o) (sym m.pass_is) m.entries
+-- and its session can begin
+pub seated_ready : (room : TrackRoom) (hall : HallTold) (passes : List TrackPass) (seats : List SeatedState) → CanAllBegin room passes → AreSeated hall passes seats
+    → (k : ℕ) (s : SeatedState) → slice_get seats k ≡ Some s → IsReady room s.pass
+seated_ready room hall passes seats begin are k s at = let m = are k s at in subst (λ (o : Option TrackPass). IsReady room o) (sym m.pass_is) (begin k m.pass m.at_place).1
 
 -- as another hall tells that tells the same of each station
-pub seated_as : (first then : HallTold) (seats : List SeatedState) → NoneMoves first.station then.station → AreSeated then seats → AreSeated first seats
-seated_as first then seats same are k s at =
+pub seated_as : (first then : HallTold) (passes : List TrackPass) (seats : List SeatedState) → NoneMoves first.station then.station → AreSeated then passes seats → AreSeated first passes seats
+seated_as first then passes seats same are k s at =
     let m = are k s at in
-    record { pass = m.pass; pass_is = m.pass_is; number_is = m.number_is; entries = m.entries; line = m.line ∙ ap (λ (x : Station). line_of x.line) (same k) }
+    record { pass = m.pass; pass_is = m.pass_is; at_place = m.at_place; line = m.line ∙ ap (λ (x : Station). line_of x.line) (same k) }
 
 -- how many passes a room has
 pub fresh_count : (ps : List TrackPass) (from count : ℕ) → map (λ (q : TrackPass). q.number) ps ≡ numbers from count → count ≡ length ps
@@ -166,10 +180,10 @@ seats_quiet (Err Failed) u before after is counts = absurd (Prim.grind (arith, i
 seats_quiet (Err Memory) u before after is counts = absurd (Prim.grind (arith, is))
 
 -- the lines of the stations that were seated, and of the others, are as they were
-pub unheard : (first opened seated last : HallTold) (seats : List SeatedState) → NoneMoves first.station opened.station → AreSeated opened seats
+pub unheard : (first opened seated last : HallTold) (passes : List TrackPass) (seats : List SeatedState) → NoneMoves first.station opened.station → AreSeated opened passes seats
     → ((k : ℕ) → length seats ≤ k → seated.station k ≡ opened.station k) → ((k : ℕ) (s : SeatedState) → slice_get seats k ≡ Some s → line_at last k ≡ s.line)
     → ((k : ℕ) → length seats ≤ k → last.station k ≡ seated.station k) → Unheard first last
-unheard first opened seated last seats same are free lines left k = at_or (nat_lt k (length seats)) refl
+unheard first opened seated last passes seats same are free lines left k = at_or (nat_lt k (length seats)) refl
   where
     at_or : (b : Bool) → nat_lt k (length seats) ≡ b → line_of (last.station k).line ≡ line_of (first.station k).line
     at_or true e =
@@ -179,18 +193,17 @@ unheard first opened seated last seats same are free lines left k = at_or (nat_l
         let past : length seats ≤ k = Prim.grind (arith, nat_tests, e) in
         ap (λ (x : Station). line_of x.line) (left k past ∙ (free k past ∙ same k))
 
-pub ends_unserved : (o : Opening) (stations : ℕ) (address : List ℕ) (Keeps : History → Status → Type 0) (Unkept : Type 0) (before after : HallTold) (r : Result (Unit {0}) HallFault) (fault : HallFault)
-    (status : Status) (opened seated : ℕ) → r ≡ Err fault → CountsSeats r opened seated → opened ≡ before.faults → after.faults ≡ seated → OpensAt before.opened after.opened address
-    → Unheard before after → Unkept → status ≡ unseated fault → HallEnds o stations address Keeps Unkept before after status
-ends_unserved o stations address Keeps Unkept before after r Failed status opened seated is counts at still opened_at unheard unkept st =
-    subst (λ (s : Status). HallEnds o stations address Keeps Unkept before after s) (sym st)
-    (inr (rw still (rw (← at) (subst (λ x. CountsSeats x opened seated) is counts)), record { opened = inr opened_at; unheard = unheard; unkept = unkept }))
-ends_unserved o stations address Keeps Unkept before after r Memory status opened seated is counts at still opened_at unheard unkept st =
-    subst (λ (s : Status). HallEnds o stations address Keeps Unkept before after s) (sym st)
-    (inr (still ∙ (subst (λ x. CountsSeats x opened seated) is counts ∙ at), record { opened = inr opened_at; unheard = unheard; unkept = unkept }))
+pub ends_unserved : (address : List ℕ) (before after : HallTold) (r : Result (Unit {0}) HallFault) (fault : HallFault) (status : Status) (opened seated : ℕ) → r ≡ Err fault
+    → CountsSeats r opened seated → opened ≡ before.faults → after.faults ≡ seated → OpensAt before.opened after.opened address → Unheard before after → status ≡ unseated fault
+    → EndsUnserved address before after status
+ends_unserved address before after r Failed status opened seated is counts at still opened_at unheard st =
+    subst (λ (s : Status). EndsUnserved address before after s) (sym st) (rw still (rw (← at) (subst (λ x. CountsSeats x opened seated) is counts)), record { opened = inr opened_at; unheard = unheard })
+ends_unserved address before after r Memory status opened seated is counts at still opened_at unheard st =
+    subst (λ (s : Status). EndsUnserved address before after s) (sym st) (still ∙ (subst (λ x. CountsSeats x opened seated) is counts ∙ at), record { opened = inr opened_at; unheard = unheard })
 
 -- a line that has been left tells what it told
-pub still_ends : (K : List InputLine → (List (List ℕ) → Type 0) → Type 0) (old : Outside) (left taken left' taken' : Option (List ℕ)) (reads writes reads' writes' : ℕ) (e : End)
-    → (left' ≡ left) × (reads' ≡ reads) → (taken' ≡ taken) × (writes' ≡ writes) → SessionEnds K old (outside left reads taken writes) e → SessionEnds K old (outside left' reads' taken' writes') e
-still_ends K old left taken left' taken' reads writes reads' writes' e source sink ends =
-    subst (λ (x : Outside). SessionEnds K old x e) (λ i. outside (sym source.0 i) (sym source.1 i) (sym sink.0 i) (sym sink.1 i)) ends
+module _ (K : List InputLine → (List (List ℕ) → Type 0) → Type 0) (B : List InputLine → InputLine → (List (List ℕ) → Type 0) → Type 0) (U : KeepFault → Type 0) (old : Outside) where
+  pub still_ends : (left taken left' taken' : Option (List ℕ)) (reads writes reads' writes' : ℕ) (e : End) → (left' ≡ left) × (reads' ≡ reads) → (taken' ≡ taken) × (writes' ≡ writes)
+      → SessionEnds K B U old (outside left reads taken writes) e → SessionEnds K B U old (outside left' reads' taken' writes') e
+  still_ends left taken left' taken' reads writes reads' writes' e source sink ends =
+      subst (λ (x : Outside). SessionEnds K B U old x e) (λ i. outside (sym source.0 i) (sym source.1 i) (sym sink.0 i) (sym sink.1 i)) ends

@@ -2,7 +2,8 @@
 //! and a generated session, whose stations are served in the same way.
 //!
 //! The main contract is that of [`serve_opened`]: one history explains every reply of every station, the file holds its
-//! journal, and the status says how it ended.
+//! journal, and the status says how it ended. Its middle, [`seat_stations`] and [`serve_seated`], is for any room, and for
+//! whatever keeps its journal while the stations are served.
 #![tactic(auto)]
 
 mod made;
@@ -10,4 +11,5 @@ mod seated;
 mod stations;
 
 pub use made::make_session;
-pub use stations::{Venue, serve_opened};
+pub use seated::Left;
+pub use stations::{SeatedStations, Venue, seat_stations, serve_opened, serve_seated};

@@ -5,7 +5,7 @@ ghost use Rattle.command_files.specs.Ports.{change, output_told};
 ghost use Rattle.edit_journal.specs.Turns.{AreFresh};
 ghost use Rattle.made_sessions.specs.Sessions.{MakeEnds};
 
-use crate::stations::{seat_all, serve_seated};
+use crate::stations::{SeatedStations, seat_all, serve_seated, take_passes};
 use call_text::{CutCall, CutObject, CutPart};
 use command_files::Status;
 use cut_room::{Room, RoomBlank};
@@ -16,6 +16,7 @@ use made_sessions::{TRACKS, made_opening, put_summary, script_text};
 use otio_json::Opening;
 use room_core::Entry;
 use room_halls::{Hall, SureHall, SurePair};
+use room_keepers::KeepsNothing;
 use room_ports::{Gate, Sink, SureSink, SureSource};
 use station_sessions::Setting;
 use std::alloc::Global;
@@ -39,16 +40,22 @@ fn serve_lines<
     hall: &mut H,
     gate: &G,
 ) -> Option<Vec<Entry<CutCall>>>
+    requires room { J.opening ≡ Some (room.object, room.parts) }
     requires passes { AreFresh J.opening room.stations passes.items }
-    requires few { room.stations ≤ 16 }
 {
+    let mut back = match Vec::with_capacity(alloc, passes.len()) {
+        Ok(back) => back,
+        Err(_) => return None,
+    };
     let count = passes.len();
-    let mut seated = Vec::with_capacity(alloc, count).ok()?;
-    let back = Vec::with_capacity(alloc, count).ok()?;
-    match seat_all(alloc, hall, passes, &mut seated) {
+    let mut seats = Vec::with_capacity(alloc, count).ok()?;
+    let left = Vec::with_capacity(alloc, count).ok()?;
+    match seat_all(alloc, hall, passes, &mut seats) {
         Ok(()) => {
-            let (_, entries) = serve_seated(rt, alloc, room, seated, back, setting, hall, gate);
-            Some(entries)
+            let (seats, keeper) = (SeatedStations { seats, left }, &KeepsNothing);
+            let (_, left) = serve_seated(rt, alloc, &room, seats, setting, hall, gate, keeper);
+            take_passes(left, &mut back);
+            Some(room.close(back))
         }
         Err(_) => None,
     }

@@ -1,17 +1,17 @@
 // A room of several stations, each over its line of a hall, and its journal kept in a file.
-ghost use Rattle.std.specs.Prelude.{◌≡◌, ◌<◌, ◌≤◌, [], ℕ, true, Some, OnOk, length, map, slice_get, vec_capacity};
+ghost use Rattle.std.specs.Prelude.{◌≡◌, ◌<◌, ◌≤◌, [], ℕ, List, true, None, Some, IfErr, IfOk, OnOk, length, map, slice_get, vec_capacity};
 ghost use Rattle.line_table.specs.Journals.{HasRoomForText, HasText};
 ghost use Rattle.edit_journal.specs.Turns.{AreFresh};
 ghost use Rattle.otio_json.specs.Soundness.{IsSoundOpening};
 ghost use Rattle.otio_json.specs.declared.opening.Opening.{Opening as OpeningOf};
-ghost use Rattle.room_halls.specs.Stations.{HallTold};
+ghost use Rattle.room_halls.specs.Stations.{HallTold, OpensAt};
 ghost use Rattle.command_files.specs.Unopened.{AreQuiet};
-ghost use Rattle.served_rooms.specs.Halls.{FileEnds, HallEnds, SessionsEnd, first_fault, line_at, or_next, status_of};
-ghost use Rattle.served_rooms.specs.Seated.{AreSeated, CountsSeats, HasNumber, SeatedState, unseated};
+ghost use Rattle.served_rooms.specs.Halls.{EndsUnserved, FileEnds, HallEnds, NeverFails, first_fault, line_at, or_next, status_of};
+ghost use Rattle.served_rooms.specs.Seated.{AreNumbered, AreSeated, CanAllBegin, CountsSeats, HasNumber, HasSeated, HaveServed, SeatedState, left_of, unseated};
 ghost use Rattle.station_sessions.specs.Served.{IsRoomOf};
-ghost use Rattle.station_sessions.specs.SessionInside.{TrackOpening, opened_with};
+ghost use Rattle.station_sessions.specs.SessionInside.{TrackOpening, TrackPass, opened_with};
 
-use crate::seated::{SeatedStation, serve_all};
+use crate::seated::{Left, SeatedStation, serve_all};
 use call_text::{CutCall, CutObject, CutPart, journal_room, journal_text_into};
 use command_files::Status;
 use cut_room::{Room, RoomBlank};
@@ -21,10 +21,11 @@ use otio_json::Opening;
 use room_core::Entry;
 use room_files::Files;
 use room_halls::{Hall, HallFault};
-use room_ports::Gate;
+use room_keepers::{Keeping, KeepsNothing};
+use room_ports::{Gate, Line};
 use station_sessions::{End, Setting};
 use std::alloc::Global;
-use std::marker::Brand;
+use std::marker::{Brand, Model};
 use std::sync::Wait;
 use std::thread::Threads;
 
@@ -37,6 +38,8 @@ fn status_of(end: End) -> Status
         End::ReadFault => Status::ReadFault,
         End::WriteFault => Status::WriteFault,
         End::TooMuchInput => Status::TooMuchInput,
+        End::DiskFault => Status::DiskFault,
+        End::KeepMemory => Status::OutOfMemory,
     }
 }
 
@@ -51,17 +54,17 @@ fn or_next(status: Status, next: Status) -> Status
 }
 
 // Seats each station with its pass, from the lowest on, over a line of the hall.
-pub(crate) fn seat_all<H: Hall, J: Naming<CutObject, CutPart>>(
+pub(crate) fn seat_all<H: Hall, J: Naming<CutObject, CutPart>, P: Keeping<CutObject, J>>(
     alloc: Global,
     hall: &mut H,
     passes: Vec<Pass<CutObject, J>>,
-    seated: &mut Vec<SeatedStation<H::Line, J>>,
+    seated: &mut Vec<SeatedStation<H::Line, J, P>>,
 ) -> Result<(), HallFault>
-    requires passes { AreFresh J.opening (length passes.items) passes.items }
+    requires passes { AreNumbered passes.items }
     requires none { seated.old.items ≡ [] }
     requires room { length passes.items ≤ vec_capacity seated.old }
 
-    ensures seated { AreSeated (H.told hall.old) seated.new.items }
+    ensures seated { AreSeated (H.told hall.old) passes.items seated.new.items }
     ensures all { OnOk result (length seated.new.items ≡ length passes.items) }
     ensures within { length seated.new.items ≤ length passes.items }
     ensures held { (k : ℕ) → k < length seated.new.items
@@ -81,75 +84,146 @@ pub(crate) fn seat_all<H: Hall, J: Naming<CutObject, CutPart>>(
     Ok(())
 }
 
-// Gives the hall each line back, and keeps the passes: the first status of a session that is not 0.
-fn stand_all_up<H: Hall, J: Naming<CutObject, CutPart>>(
+// Gives the hall each line back: the first status of a session that is not 0, and what is left of the stations.
+fn stand_all_up<H: Hall, J: Naming<CutObject, CutPart>, P: Keeping<CutObject, J>>(
     hall: &mut H,
-    seated: Vec<SeatedStation<H::Line, J>>,
-    passes: &mut Vec<Pass<CutObject, J>>,
+    seated: Vec<SeatedStation<H::Line, J, P>>,
+    left: &mut Vec<Left<J, P>>,
 ) -> Status
     requires numbers { (k : ℕ) (s : SeatedState) → slice_get seated.items k ≡ Some s
         → HasNumber k s.pass }
     requires held { (k : ℕ) → k < length seated.items
         → ((H.told hall.old).station k).seated ≡ true }
-    requires none { passes.old.items ≡ [] }
-    requires room { length seated.items ≤ vec_capacity passes.old }
+    requires none { left.old.items ≡ [] }
+    requires room { length seated.items ≤ vec_capacity left.old }
 
     ensures lines { (k : ℕ) (s : SeatedState) → slice_get seated.items k ≡ Some s
         → line_at (H.told hall.new) k ≡ s.line }
     ensures free { (k : ℕ) → length seated.items ≤ k
         → (H.told hall.new).station k ≡ (H.told hall.old).station k }
-    ensures passes { map Some passes.new.items ≡ map (λ s. s.pass) seated.items }
+    ensures left { map Some left.new.items ≡ map left_of seated.items }
     ensures fault { result ≡ first_fault (map status_of (map (λ s. s.end) seated.items)) }
     ensures quiet { (H.told hall.new).faults ≡ (H.told hall.old).faults }
     ensures opened { (H.told hall.new).opened ≡ (H.told hall.old).opened }
 {
     let mut fault = Status::Done;
     for seat in seated {
-        let (pass, line, end) = seat.into_parts();
-        hall.stand_up(pass.station(), line);
-        passes.push_reserved(pass);
-        fault = or_next(fault, status_of(end));
+        let (line, station) = seat.into_parts();
+        hall.stand_up(station.station(), line);
+        fault = or_next(fault, status_of(station.end()));
+        left.push_reserved(station);
     }
     fault
 }
 
-// Serves the stations that are seated, gives the hall their lines back and closes the room: the first status of a session
-// that is not 0, and the journal.
-pub(crate) fn serve_seated<
+/// Stations that are seated with their passes, and the memory for what will be left of them. Contracts see the seats.
+#[derive(Drop)]
+pub struct SeatedStations<L: Line, J: Naming<CutObject, CutPart>, P: Keeping<CutObject, J>> {
+    pub(crate) seats: Vec<SeatedStation<L, J, P>>,
+    pub(crate) left: Vec<Left<J, P>>,
+}
+
+impl<L: Line, J: Naming<CutObject, CutPart>, P: Keeping<CutObject, J>> Model
+    for SeatedStations<L, J, P> {
+    ghost use Rattle.std.specs.Prelude.{◌≡◌, ◌≤◌, [], List, length, vec_capacity};
+    ghost use Rattle.served_rooms.specs.Seated.{SeatedState};
+
+    ghost Value = { List SeatedState };
+
+    ghost view = { λ s. s.seats.items };
+
+    ghost invariant = { λ s. (s.left.items ≡ []) × (length s.seats.items ≤ vec_capacity s.left) };
+}
+
+/// Opens a hall at an address, and seats the stations that have these passes, each over its line. Where a station was not
+/// seated it gives the hall all lines back, and answers the status of that.
+pub fn seat_stations<H: Hall, J: Naming<CutObject, CutPart>, P: Keeping<CutObject, J>>(
+    alloc: Global,
+    passes: Vec<Pass<CutObject, J>>,
+    address: &str,
+    hall: &mut H,
+) -> Result<SeatedStations<H::Line, J, P>, Status>
+    requires { AreNumbered passes.items }
+
+    ensures seated { IfOk result (λ seats. HasSeated (H.told hall.old) (H.told hall.new)
+        passes.items seats) }
+    ensures opened { OnOk result (OpensAt (H.told hall.old).opened (H.told hall.new).opened
+        address.now) }
+    ensures unserved { IfErr result
+        (λ status. EndsUnserved address.now (H.told hall.old) (H.told hall.new) status) }
+{
+    let count = passes.len();
+    let mut seats = match Vec::with_capacity(alloc, count) {
+        Ok(seats) => seats,
+        Err(_) => return Err(Status::OutOfMemory),
+    };
+    let mut left = match Vec::with_capacity(alloc, count) {
+        Ok(left) => left,
+        Err(_) => return Err(Status::OutOfMemory),
+    };
+    match hall.open(address) {
+        Ok(()) => {}
+        Err(_) => return Err(Status::NotSeated),
+    }
+    match seat_all(alloc, hall, passes, &mut seats) {
+        Ok(()) => Ok(SeatedStations { seats, left }),
+        Err(fault) => {
+            stand_all_up(hall, seats, &mut left);
+            Err(unseated(fault))
+        }
+    }
+}
+
+/// Serves the sessions of stations that are seated, all at once, each over its line, and gives the hall their lines back:
+/// the first status of a session that is not 0, and what is left of each station.
+pub fn serve_seated<
     R: Threads + Wait + Sync,
     H: Hall,
     G: Gate + Sync,
     J: Naming<CutObject, CutPart> + Send + Sync,
+    P: Keeping<CutObject, J> + Sync,
 >(
     rt: &R,
     alloc: Global,
-    room: Room<CutObject, J>,
-    mut seated: Vec<SeatedStation<H::Line, J>>,
-    mut passes: Vec<Pass<CutObject, J>>,
+    room: &Room<CutObject, J>,
+    seats: SeatedStations<H::Line, J, P>,
     setting: Setting,
     hall: &mut H,
     gate: &G,
-) -> (Status, Vec<Entry<CutCall>>)
-    requires count { length seated.items ≡ room.stations }
-    requires few { room.stations ≤ 16 }
-    requires held { (k : ℕ) → k < length seated.items
-        → ((H.told hall.old).station k).seated ≡ true }
-    requires seated { (before : HallTold) × AreSeated before seated.items }
-    requires none { passes.items ≡ [] }
-    requires room { length seated.items ≤ vec_capacity passes }
-    ensures ends { (o : OpeningOf) (before : HallTold)
-        → IsRoomOf o room setting.counting setting.start
-        → AreSeated before seated.items → before.faults ≡ (H.told hall.old).faults
-        → ((s : ℕ) → room.stations ≤ s → line_at (H.told hall.old) s ≡ line_at before s)
-        → SessionsEnd o room.stations result.1.items before (H.told hall.new) result.0 }
-    ensures text { (o : OpeningOf)
-        → IsRoomOf o room setting.counting setting.start → HasText result.1.items }
+    keeper: &P,
+) -> (Status, Vec<Left<J, P>>)
+    requires room { J.opening ≡ Some (room.now.object, room.now.parts) }
+    requires seated { (before : HallTold) × (passes : List TrackPass)
+        × HasSeated before (H.told hall.old) passes seats × CanAllBegin room.now passes }
+    ensures served { (before : HallTold) (passes : List TrackPass)
+        → HasSeated before (H.told hall.old) passes seats → CanAllBegin room.now passes
+        → HaveServed room.now setting.counting setting.start (P.upto None) P.may_fail
+        passes result.1.items before (H.told hall.new) result.0 }
+    ensures many { length result.1.items ≡ length seats }
     ensures opened { (H.told hall.new).opened ≡ (H.told hall.old).opened }
 {
-    serve_all(rt, alloc, &room, gate, setting, &mut seated);
-    let status = stand_all_up(hall, seated, &mut passes);
-    let entries = room.close(passes);
-    (status, entries)
+    let SeatedStations {
+        mut seats,
+        mut left,
+    } = seats;
+    serve_all(rt, alloc, room, gate, keeper, setting, &mut seats);
+    let status = stand_all_up(hall, seats, &mut left);
+    (status, left)
+}
+
+// Takes the passes of the stations whose sessions have ended.
+pub(crate) fn take_passes<J: Naming<CutObject, CutPart>, P: Keeping<CutObject, J>>(
+    left: Vec<Left<J, P>>,
+    passes: &mut Vec<Pass<CutObject, J>>,
+)
+    requires none { passes.old.items ≡ [] }
+    requires room { length left.items ≤ vec_capacity passes.old }
+    ensures { passes.new.items ≡ map (λ l. l.pass) left.items }
+{
+    for station in left {
+        let (pass, _) = station.into_parts();
+        passes.push_reserved(pass);
+    }
 }
 
 // Puts the journal's text into the file of this name, by way of the memory that was taken for it.
@@ -179,8 +253,8 @@ pub struct Venue<'a> {
     pub journal: &'a str,
 }
 
-// Seats the stations of a room that has just been opened, serves them, and keeps the journal. The memory for the
-// journal's text is taken before the hall is opened, so that no day's work is lost because there is none.
+// Serves the stations of a room that has just been opened, closes it, and keeps the journal. The memory for the journal's
+// text is taken before the hall is opened, so that no day's work is lost because there is none.
 #[tactic(auto, using(crate::proofs::HallRuns::quiet_same))]
 fn serve_room<
     R: Threads + Wait + Sync,
@@ -199,21 +273,18 @@ fn serve_room<
     hall: &mut H,
     gate: &G,
 ) -> Status
+    requires room { J.opening ≡ Some (room.object, room.parts) }
     requires passes { AreFresh J.opening room.stations passes.items }
     requires few { room.stations ≤ 16 }
     requires opened { (o : OpeningOf) × IsRoomOf o room setting.counting setting.start }
     ensures { (o : OpeningOf) → IsRoomOf o room setting.counting setting.start
-        → HallEnds o room.stations place.now.address.now
-        (FileEnds place.now.journal.now (F.told files.old) (F.told files.new))
+        → HallEnds o [] room.stations place.now.address.now NeverFails
+        (λ h held status. FileEnds place.now.journal.now (F.told files.old) (F.told files.new)
+        h status)
         (AreQuiet (F.told files.old) (F.told files.new))
         (H.told hall.old) (H.told hall.new) result }
 {
-    let count = passes.len();
-    let mut seated = match Vec::with_capacity(alloc, count) {
-        Ok(seated) => seated,
-        Err(_) => return Status::OutOfMemory,
-    };
-    let mut back = match Vec::with_capacity(alloc, count) {
+    let mut back = match Vec::with_capacity(alloc, passes.len()) {
         Ok(back) => back,
         Err(_) => return Status::OutOfMemory,
     };
@@ -221,22 +292,15 @@ fn serve_room<
         Ok(text) => text,
         Err(_) => return Status::OutOfMemory,
     };
-    match hall.open(place.address) {
-        Ok(()) => {}
-        Err(_) => return Status::NotSeated,
-    }
-    match seat_all(alloc, hall, passes, &mut seated) {
-        Ok(()) => {
-            let (status, entries) = serve_seated(
-                rt, alloc, room, seated, back, setting, hall, gate,
-            );
-            or_next(status, keep_journal(text, &entries, place.journal, files))
-        }
-        Err(fault) => {
-            stand_all_up(hall, seated, &mut back);
-            unseated(fault)
-        }
-    }
+    let seats = match seat_stations(alloc, passes, place.address, hall) {
+        Ok(seats) => seats,
+        Err(status) => return status,
+    };
+    let keeper = &KeepsNothing;
+    let (status, left) = serve_seated(rt, alloc, &room, seats, setting, hall, gate, keeper);
+    take_passes(left, &mut back);
+    let entries = room.close(back);
+    or_next(status, keep_journal(text, &entries, place.journal, files))
 }
 
 // The status where a station was not seated.
@@ -276,8 +340,9 @@ fn serve_blank<
         × IsRoomOf o (opened_with opening blank.stations) setting.counting setting.start }
     ensures { (o : OpeningOf) (opening : TrackOpening) → blank.journal.opening ≡ Some opening
         → IsRoomOf o (opened_with opening blank.stations) setting.counting setting.start
-        → HallEnds o blank.stations place.now.address.now
-        (FileEnds place.now.journal.now (F.told files.old) (F.told files.new))
+        → HallEnds o [] blank.stations place.now.address.now NeverFails
+        (λ h held status. FileEnds place.now.journal.now (F.told files.old) (F.told files.new)
+        h status)
         (AreQuiet (F.told files.old) (F.told files.new))
         (H.told hall.old) (H.told hall.new) result }
 {
@@ -303,8 +368,9 @@ pub fn serve_opened<R: Threads + Wait + Sync, F: Files, H: Hall, G: Gate + Sync>
     requires sound { IsSoundOpening opening }
     requires some { 0 < length opening.tracks }
     requires stations { (0 < place.now.stations) × (place.now.stations ≤ 16) }
-    ensures { HallEnds opening place.now.stations place.now.address.now
-        (FileEnds place.now.journal.now (F.told files.old) (F.told files.new))
+    ensures { HallEnds opening [] place.now.stations place.now.address.now NeverFails
+        (λ h held status. FileEnds place.now.journal.now (F.told files.old) (F.told files.new)
+        h status)
         (AreQuiet (F.told files.old) (F.told files.new))
         (H.told hall.old) (H.told hall.new) result }
 {

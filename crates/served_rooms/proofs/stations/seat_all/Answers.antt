@@ -1,9 +1,9 @@
-use Rattle.std.proofs.Common.{ℕ, ◌+◌, ◌++◌, ◌∷◌, [], length, sym, ap, ◌∙◌, append_assoc, arith}
+use Rattle.std.proofs.Common.{◌≡◌, ℕ, ◌+◌, ◌++◌, ◌∷◌, [], Some, length, slice_get, sym, ap, ◌∙◌, append_assoc, arith, subst}
 use Rattle.std.specs.Vec.Iter.{into_iter_items}
 use Rattle.std.proofs.lemmas.List.{length-append, append-nil, nil_from_length}
 use Rattle.room_halls.specs.Stations.{Station}
 use Rattle.served_rooms.specs.Halls.{line_of}
-use Rattle.served_rooms.proofs.Seating.{fresh_at, fresh_none, free_more, held_more, is_within, not_seated, seated_more, told_line}
+use Rattle.served_rooms.proofs.Seating.{behind_at, free_more, held_more, is_within, not_seated, seated_more, told_line}
 use Rattle.served_rooms.proofs.stations.seat_all.Goals as goal
 
 pub push_reserved-requires : goal.push_reserved-requires
@@ -20,17 +20,17 @@ loop-pass-preserved g c =
     let p = c.in-Some.pass in
     let rest = into_iter_items c.next.new.self in
     let so_far = ap (λ ps. all ++ ps) (sym c.in-Some.ensures.steps.0) ∙ i.so_far in
-    let number = c.station-station.ensures.number ∙ (fresh_at (length c.args.passes.items) c.args.passes.items all p rest c.requires.passes.0 so_far ∙ sym i.count) in
+    let there = behind_at c.args.passes.items all p rest so_far in
+    let number = c.station-station.ensures.number ∙ (c.requires.passes (length all) p there ∙ sym i.count) in
     let items = c.push_reserved.ensures.items in
     record {
       so_far = append_assoc all (p ∷ []) rest ∙ so_far;
       count = ap length items ∙ (length-append c.loop-pass.seated.items _ ∙ (ap (λ n. n + 1) i.count ∙ sym (length-append all (p ∷ []))));
       room = c.push_reserved.ensures.capacity ∙ i.room;
-      seated = rw items (seated_more _ c.loop-pass.seated.items _ i.seated (record {
+      seated = rw items (seated_more _ c.args.passes.items c.loop-pass.seated.items _ i.seated (record {
         pass = p;
         pass_is = c.new.ensures.pass;
-        number_is = sym c.station-station.ensures.number ∙ number;
-        entries = fresh_none g.J.Naming.opening c.args.passes.items all p rest c.requires.passes.1 so_far;
+        at_place = subst (λ (n : ℕ). slice_get c.args.passes.items n ≡ Some p) (sym i.count) there;
         line = c.new.ensures.line ∙ (told_line _ _ _ _ _ c.in-Ok.ensures.line ∙ ap (λ (s : Station). line_of s.line) (ap (λ (m : ℕ). (g.H.Hall.told c.loop-pass.hall).station m) number ∙ i.free (length c.loop-pass.seated.items) (omega arith)));
       }));
       held = rw (items, length-append) (held_more _ _ _ i.held (rw number at c.in-Ok.ensures.seated) (rw number at c.in-Ok.ensures.others));

@@ -8,7 +8,7 @@ invariant-loop-pass g l = record {
   so_far : l.yielded ++ into_iter_items l.pass-iterator ≡ l.fn.passes.items;
   count : length l.seated.items ≡ length l.yielded;
   room : vec_capacity l.seated ≡ vec_capacity l.fn.seated;
-  seated : AreSeated (g.H.Hall.told l.fn.hall) l.seated.items;
+  seated : AreSeated (g.H.Hall.told l.fn.hall) l.fn.passes.items l.seated.items;
   held : (k : ℕ) → k < length l.seated.items → ((g.H.Hall.told l.hall).station k).seated ≡ true;
   free : (k : ℕ) → length l.seated.items ≤ k → (g.H.Hall.told l.hall).station k ≡ (g.H.Hall.told l.fn.hall).station k;
   quiet : (g.H.Hall.told l.hall).faults ≡ (g.H.Hall.told l.fn.hall).faults;

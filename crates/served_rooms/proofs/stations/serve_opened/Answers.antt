@@ -1,6 +1,6 @@
-use Rattle.std.proofs.Common.{ℕ, refl, subst}
+use Rattle.std.proofs.Common.{ℕ, [], refl, subst}
 use Rattle.command_files.specs.Unopened.{AreQuiet}
-use Rattle.served_rooms.specs.Halls.{FileEnds, HallEnds}
+use Rattle.served_rooms.specs.Halls.{FileEnds, HallEnds, NeverFails}
 use Rattle.command_files.proofs.Openings.{sound_opens}
 use Rattle.served_rooms.proofs.stations.serve_opened.Goals as goal
 
@@ -17,5 +17,5 @@ returns g c =
     let now = g.F.Files.told c.serve_blank.new.files in
     let before = g.H.Hall.told c.args.hall.now in
     let after = g.H.Hall.told c.serve_blank.new.hall in
-    subst (λ (n : ℕ). HallEnds c.args.opening n c.args.place.now.address.now (FileEnds c.args.place.now.journal.now was now) (AreQuiet was now) before after c.serve_blank.result) c.in-Ok.ensures.stations
+    subst (λ (n : ℕ). HallEnds c.args.opening [] n c.args.place.now.address.now NeverFails (λ h held status. FileEnds c.args.place.now.journal.now was now h status) (AreQuiet was now) before after c.serve_blank.result) c.in-Ok.ensures.stations
     (c.serve_blank.ensures c.args.opening _ c.in-Ok.ensures.opening (record { opens = sound_opens c.args.opening c.requires.sound c.requires.some; setting = refl; tracks = c.into_vec.ensures }))
