@@ -1,5 +1,6 @@
 -- What the program's ports tell, before a call and after it.
 use Rattle.std.specs.Prelude.{◌≡◌, ℕ, List, Option}
+use Rattle.room_disks.specs.Crashes.{Course}
 
 -- what a port told before a call and tells after it, and the fact that it is as it was
 pub record Change (T : Type 0) : Type 1 where
@@ -26,3 +27,13 @@ pub record OutputTold : Type 0 where
 
 abbrev pub output_told : {K : Type 0} → (K → Option (List ℕ)) → (K → ℕ) → K → OutputTold
 output_told taken faults output = record { taken = taken output; faults = faults output }
+
+-- of a disk: how the file of a name stands and how the open one has stood, where that is told, and how often a call has
+-- failed
+pub record DiskTold : Type 0 where
+  pub file : List ℕ → Option Course
+  pub course : Option Course
+  pub faults : ℕ
+
+abbrev pub disk_told : {D : Type 0} → (D → List ℕ → Option Course) → (D → Option Course) → (D → ℕ) → D → DiskTold
+disk_told file course faults disk = record { file = file disk; course = course disk; faults = faults disk }

@@ -23,6 +23,8 @@ pub enum Status {
     TooMuchInput,
     /// 8: the cut has no list.
     NoList,
+    /// 9: a call on the disk failed on which the journal is kept.
+    DiskFault,
 }
 
 impl Status {
@@ -40,6 +42,7 @@ impl Status {
             Status::OutOfMemory => 6,
             Status::TooMuchInput => 7,
             Status::NoList => 8,
+            Status::DiskFault => 9,
         }
     }
 }

@@ -1,11 +1,11 @@
 -- Words that ask for a list whose seventh is `names`: the rows behind it are those of a table.
-use Rattle.std.proofs.Common.{◌≡◌, ℕ, Bool, true, false, ◌&&◌, if◌then◌else◌, List, [], ◌∷◌, drop, Option, Some, None, Result, Ok, Err, slice_get, refl, sym, ap, ◌∙◌, arith}
-use Rattle.std.specs.Prelude.{codes, bytes_eq, is_none}
+use Rattle.std.proofs.Common.{◌≡◌, ℕ, Bool, true, false, ◌&&◌, if◌then◌else◌, List, [], ◌∷◌, drop, Option, Some, None, Result, Ok, Err, slice_get, refl, arith}
+use Rattle.std.specs.Prelude.{codes, bytes_eq, is_none, option_map}
 use Rattle.line_words.specs.declared.numbers.NumberFault.{NumberFault}
 use Rattle.timecode12.specs.Numbers.{Counted}
 use Rattle.timecode12.specs.declared.rate.SequenceRate.{SequenceRate}
 use Rattle.command_words.specs.declared.names.RowFault.{RowFault}
-use Rattle.command_words.specs.Commands.{Asked, asks_for_list, command_of, counted_so, counting_of, imported_so, import_in, is_word, list_in, made_so, make_in, number_within, least_lines, least_stations, least_tracks, most_lines, most_reels, most_stations, most_tracks, plain_asked, played_so, rate_of_word, run_in, serve_in, served_so, tape_in}
+use Rattle.command_words.specs.Commands.{Asked, HallAsked, asks_for_list, command_of, counted_so, counting_of, hall_in, imported_so, import_in, is_word, list_in, made_so, make_in, number_within, least_lines, least_tracks, most_lines, most_reels, most_tracks, plain_asked, played_so, rate_of_word, run_in, serve_hall, serve_in, store_hall, store_in, tape_in}
 use Rattle.command_words.specs.Names.{first_fault}
 use Rattle.line_words.specs.Digits.{number_of}
 
@@ -21,10 +21,13 @@ counted_is_no_list : (document : List ℕ) (counting : Option Counted) → asks_
 counted_is_no_list document None h = not_true h
 counted_is_no_list document (Some counting) h = not_true h
 
-served_is_no_list : (document address journal : List ℕ) (counting : Option Counted) (stations : Option ℕ) → asks_for_list (served_so document address journal counting stations) ≡ true → ⊥
-served_is_no_list document address journal None stations h = not_true h
-served_is_no_list document address journal (Some counting) None h = not_true h
-served_is_no_list document address journal (Some counting) (Some stations) h = not_true h
+served_is_no_list : (hall : Option HallAsked) → asks_for_list (option_map serve_hall hall) ≡ true → ⊥
+served_is_no_list None h = not_true h
+served_is_no_list (Some hall) h = not_true h
+
+stored_is_no_list : (hall : Option HallAsked) → asks_for_list (option_map store_hall hall) ≡ true → ⊥
+stored_is_no_list None h = not_true h
+stored_is_no_list (Some hall) h = not_true h
 
 played_is_no_list : (name : List ℕ) (rate : Option SequenceRate) → asks_for_list (played_so name rate) ≡ true → ⊥
 played_is_no_list name None h = not_true h
@@ -46,16 +49,6 @@ run_is_no_list (a ∷ b ∷ []) h = plain_is_no_list (number_within a least_trac
 run_is_no_list (a ∷ b ∷ c ∷ []) h = counted_is_no_list a (counting_of b c) h
 run_is_no_list (a ∷ b ∷ c ∷ d ∷ ws) h = not_true h
 
-serve_is_no_list : (ws : List (List ℕ)) → asks_for_list (serve_in ws) ≡ true → ⊥
-serve_is_no_list [] h = not_true h
-serve_is_no_list (a ∷ []) h = not_true h
-serve_is_no_list (a ∷ b ∷ []) h = not_true h
-serve_is_no_list (a ∷ b ∷ c ∷ []) h = not_true h
-serve_is_no_list (a ∷ b ∷ c ∷ d ∷ []) h = not_true h
-serve_is_no_list (a ∷ b ∷ c ∷ d ∷ e ∷ []) h = not_true h
-serve_is_no_list (a ∷ b ∷ c ∷ d ∷ e ∷ f ∷ []) h = served_is_no_list a e f (counting_of b c) (number_within d least_stations most_stations) h
-serve_is_no_list (a ∷ b ∷ c ∷ d ∷ e ∷ f ∷ g ∷ ws) h = not_true h
-
 tape_is_no_list : (ws : List (List ℕ)) → asks_for_list (tape_in ws) ≡ true → ⊥
 tape_is_no_list [] h = not_true h
 tape_is_no_list (a ∷ []) h = not_true h
@@ -76,16 +69,17 @@ make_is_no_list (a ∷ b ∷ []) h = made_is_no_list (number_of a) (number_withi
 make_is_no_list (a ∷ b ∷ c ∷ ws) h = not_true h
 
 -- of the commands only `list` asks for a list
-begins_so : (run serve list tape import make : Bool) (ws : List (List ℕ))
-    → asks_for_list (if run then run_in ws else if serve then serve_in ws else if list then list_in ws else if tape then tape_in ws else if import then import_in ws else if make then make_in ws else None) ≡ true
+begins_so : (run serve store list tape import make : Bool) (ws : List (List ℕ))
+    → asks_for_list (if run then run_in ws else if serve then serve_in ws else if store then store_in ws else if list then list_in ws else if tape then tape_in ws else if import then import_in ws else if make then make_in ws else None) ≡ true
     → asks_for_list (list_in ws) ≡ true
-begins_so true serve list tape import make ws h = absurd (run_is_no_list ws h)
-begins_so false true list tape import make ws h = absurd (serve_is_no_list ws h)
-begins_so false false true tape import make ws h = h
-begins_so false false false true import make ws h = absurd (tape_is_no_list ws h)
-begins_so false false false false true make ws h = absurd (import_is_no_list ws h)
-begins_so false false false false false true ws h = absurd (make_is_no_list ws h)
-begins_so false false false false false false ws h = absurd (not_true h)
+begins_so true serve store list tape import make ws h = absurd (run_is_no_list ws h)
+begins_so false true store list tape import make ws h = absurd (served_is_no_list (hall_in ws) h)
+begins_so false false true list tape import make ws h = absurd (stored_is_no_list (hall_in ws) h)
+begins_so false false false true tape import make ws h = h
+begins_so false false false false true import make ws h = absurd (tape_is_no_list ws h)
+begins_so false false false false false true make ws h = absurd (import_is_no_list ws h)
+begins_so false false false false false false true ws h = absurd (make_is_no_list ws h)
+begins_so false false false false false false false ws h = absurd (not_true h)
 
 sound_rows : (is : Bool) (fault : Option (List ℕ × RowFault)) (asked : Option Asked) → asks_for_list (if is && is_none fault then asked else None) ≡ true → fault ≡ None
 sound_rows true None asked h = refl
@@ -107,5 +101,5 @@ pub rows_of_list : (ws : List (List ℕ)) → asks_for_list (command_of ws) ≡ 
 rows_of_list [] h names = absurd (not_true h)
 rows_of_list (first ∷ ws) h names =
     rows_behind ws
-    (begins_so (bytes_eq first (codes "run")) (bytes_eq first (codes "serve")) (bytes_eq first (codes "list")) (bytes_eq first (codes "tape")) (bytes_eq first (codes "import")) (bytes_eq first (codes "make")) ws h)
+    (begins_so (bytes_eq first (codes "run")) (bytes_eq first (codes "serve")) (bytes_eq first (codes "store")) (bytes_eq first (codes "list")) (bytes_eq first (codes "tape")) (bytes_eq first (codes "import")) (bytes_eq first (codes "make")) ws h)
     names

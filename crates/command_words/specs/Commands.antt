@@ -2,13 +2,14 @@
 -- REELS from 0 to 999. `run` DOC RATE DROP asks for one in the room that a document describes: DOC names its file, RATE is
 -- a decimal number that stands for one of the five rates of a sequence, and DROP is `drop`, at 30000/1001 alone, or `ndf`.
 -- `serve` DOC RATE DROP STATIONS ADDRESS JOURNAL asks for STATIONS of them, from 1 to 16, in such a room, over a hall at
--- ADDRESS, and for the journal in the file JOURNAL. `list` DOC RATE DROP JOURNAL POINT asks for the edit decision list of the
--- cut after POINT entries of the journal in the file JOURNAL, whose room the document describes; a last word `numbered` says
--- how its reels are to be named, and so do a word `names` and one or more TEXT=NAME behind it. `tape` LIST RATE asks for the
--- tape of the list in the file LIST. `import` LIST RATE DROP asks for the document of the list in the file LIST.
--- `make` NUMBER COUNT asks for the generated session of the number NUMBER, of which each station sends COUNT lines, from 1
--- to 20,000.
-use Rattle.std.specs.Prelude.{ℕ, ◌≤◌, Bool, true, false, ◌&&◌, ◌||◌, ◌==◌, List, [], ◌∷◌, Option, Some, None, Result, Ok, Err, option_and_then, is_some, is_none, slice_get, slice_index_or, length, nat_le, codes, bytes_eq, if◌then◌else◌}
+-- ADDRESS, and for the journal in the file JOURNAL. `store`, with the same words, asks for the same, but the journal is kept
+-- in the file as it grows, and goes on after what the file holds. `list` DOC RATE DROP JOURNAL POINT asks for the edit
+-- decision list of the cut after POINT entries of the journal in the file JOURNAL, whose room the document describes; a last
+-- word `numbered` says how its reels are to be named, and so do a word `names` and one or more TEXT=NAME after it.
+-- `tape` LIST RATE asks for the tape of the list in the file LIST. `import` LIST RATE DROP asks for the document of the list
+-- in the file LIST. `make` NUMBER COUNT asks for the generated session of the number NUMBER, of which each station sends COUNT
+-- lines, from 1 to 20,000.
+use Rattle.std.specs.Prelude.{ℕ, ◌≤◌, Bool, true, false, ◌&&◌, ◌||◌, ◌==◌, List, [], ◌∷◌, Option, Some, None, Result, Ok, Err, option_and_then, option_map, is_some, is_none, slice_get, slice_index_or, length, nat_le, codes, bytes_eq, if◌then◌else◌}
 use Rattle.line_words.specs.Digits.{number_of}
 use Rattle.line_words.specs.declared.numbers.NumberFault.{NumberFault}
 use Rattle.json_tokens.specs.ReadingNumerals.{numeral_in}
@@ -19,6 +20,7 @@ use Rattle.timecode12.specs.declared.rate.SequenceRate.TheVariants.{F23976, F24,
 use Rattle.command_words.specs.Names.{first_fault}
 use Rattle.command_words.specs.declared.command.Command.{Command}
 use Rattle.command_words.specs.declared.command.Command.TheVariants as command
+use Rattle.command_words.specs.declared.command.HallWords.{HallWords}
 
 -- what the program is asked for: a station in a plain room of so many tracks and reels, or in the room of a document of
 -- this name, whose frames are counted so
@@ -27,6 +29,8 @@ pub data Asked : Type 0 where
   RunDocument : List ℕ → Counted → Asked
   -- so many stations in such a room, over a hall at this address, and the journal in the file of this name
   Serve : List ℕ → Counted → ℕ → List ℕ → List ℕ → Asked
+  -- the same, but the journal is kept in its file as it grows, and goes on after what the file holds
+  Store : List ℕ → Counted → ℕ → List ℕ → List ℕ → Asked
   -- the list of the cut after so many entries of the journal in a file, in the room of a document
   ListCut : List ℕ → Counted → List ℕ → ℕ → Asked
   -- the tape of the list in a file, at a rate
@@ -113,14 +117,29 @@ least_stations = 1
 abbrev pub most_stations : ℕ
 most_stations = 16
 
-abbrev pub served_so : List ℕ → List ℕ → List ℕ → Option Counted → Option ℕ → Option Asked
-served_so document address journal None stations = None
-served_so document address journal (Some counting) None = None
-served_so document address journal (Some counting) (Some stations) = Some (Serve document counting stations address journal)
+-- the document of a room and how its frames are counted, how many stations, their address, and the name of the journal's file
+pub record HallAsked : Type 0 where
+  pub document : List ℕ
+  pub counting : Counted
+  pub stations : ℕ
+  pub address : List ℕ
+  pub journal : List ℕ
 
-abbrev pub serve_room_in : List ℕ → List ℕ → List ℕ → List ℕ → List ℕ → List ℕ → Option Asked
-serve_room_in document rate drop stations address journal =
-    served_so document address journal (counting_of rate drop) (number_within stations least_stations most_stations)
+abbrev pub hall_so : List ℕ → List ℕ → List ℕ → Option Counted → Option ℕ → Option HallAsked
+hall_so document address journal None stations = None
+hall_so document address journal (Some counting) None = None
+hall_so document address journal (Some counting) (Some stations) =
+    Some (record { document = document; counting = counting; stations = stations; address = address; journal = journal })
+
+abbrev pub hall_of_words : List ℕ → List ℕ → List ℕ → List ℕ → List ℕ → List ℕ → Option HallAsked
+hall_of_words document rate drop stations address journal =
+    hall_so document address journal (counting_of rate drop) (number_within stations least_stations most_stations)
+
+abbrev pub serve_hall : HallAsked → Asked
+serve_hall h = Serve h.document h.counting h.stations h.address h.journal
+
+abbrev pub store_hall : HallAsked → Asked
+store_hall h = Store h.document h.counting h.stations h.address h.journal
 
 -- ---- edit decision lists
 
@@ -166,15 +185,22 @@ run_in (tracks ∷ reels ∷ []) = run_plain_in tracks reels
 run_in (document ∷ rate ∷ drop ∷ []) = run_document_in document rate drop
 run_in (a ∷ b ∷ c ∷ d ∷ words) = None
 
+-- the words of a hall, after `serve` or `store`
+abbrev pub hall_in : List (List ℕ) → Option HallAsked
+hall_in [] = None
+hall_in (a ∷ []) = None
+hall_in (a ∷ b ∷ []) = None
+hall_in (a ∷ b ∷ c ∷ []) = None
+hall_in (a ∷ b ∷ c ∷ d ∷ []) = None
+hall_in (a ∷ b ∷ c ∷ d ∷ e ∷ []) = None
+hall_in (document ∷ rate ∷ drop ∷ stations ∷ address ∷ journal ∷ []) = hall_of_words document rate drop stations address journal
+hall_in (a ∷ b ∷ c ∷ d ∷ e ∷ f ∷ g ∷ words) = None
+
 abbrev pub serve_in : List (List ℕ) → Option Asked
-serve_in [] = None
-serve_in (a ∷ []) = None
-serve_in (a ∷ b ∷ []) = None
-serve_in (a ∷ b ∷ c ∷ []) = None
-serve_in (a ∷ b ∷ c ∷ d ∷ []) = None
-serve_in (a ∷ b ∷ c ∷ d ∷ e ∷ []) = None
-serve_in (document ∷ rate ∷ drop ∷ stations ∷ address ∷ journal ∷ []) = serve_room_in document rate drop stations address journal
-serve_in (a ∷ b ∷ c ∷ d ∷ e ∷ f ∷ g ∷ words) = None
+serve_in words = option_map serve_hall (hall_in words)
+
+abbrev pub store_in : List (List ℕ) → Option Asked
+store_in words = option_map store_hall (hall_in words)
 
 abbrev pub list_in : List (List ℕ) → Option Asked
 list_in [] = None
@@ -212,6 +238,7 @@ abbrev pub asked_of : List ℕ → List (List ℕ) → Option Asked
 asked_of first words =
     if bytes_eq first (codes "run") then run_in words else
     if bytes_eq first (codes "serve") then serve_in words else
+    if bytes_eq first (codes "store") then store_in words else
     if bytes_eq first (codes "list") then list_in words else
     if bytes_eq first (codes "tape") then tape_in words else
     if bytes_eq first (codes "import") then import_in words else
@@ -233,9 +260,10 @@ abbrev pub is_over_file : List (List ℕ) → Bool
 is_over_file words =
     (is_word (slice_get words 0) (codes "run") && length words == 4)
     || ((is_word (slice_get words 0) (codes "serve") && length words == 7)
+    || ((is_word (slice_get words 0) (codes "store") && length words == 7)
     || ((is_word (slice_get words 0) (codes "list") && nat_le 6 (length words))
     || ((is_word (slice_get words 0) (codes "tape") && length words == 3)
-    || (is_word (slice_get words 0) (codes "import") && length words == 4))))
+    || (is_word (slice_get words 0) (codes "import") && length words == 4)))))
 
 -- a number, but the rate of no sequence
 abbrev pub is_other_rate : Option (List ℕ) → Bool
@@ -253,6 +281,7 @@ asks_for_list None = false
 asks_for_list (Some (RunPlain tracks reels)) = false
 asks_for_list (Some (RunDocument document counting)) = false
 asks_for_list (Some (Serve document counting stations address journal)) = false
+asks_for_list (Some (Store document counting stations address journal)) = false
 asks_for_list (Some (ListCut document counting journal point)) = true
 asks_for_list (Some (PlayList name rate)) = false
 asks_for_list (Some (Import name counting)) = false
@@ -268,10 +297,14 @@ wants_numbers words = asks_for_list (command_of words) && is_word (slice_get wor
 abbrev pub word_at : ℕ → List (List ℕ) → List ℕ
 word_at k words = slice_index_or words k []
 
+abbrev pub hall_asked : HallWords → HallAsked
+hall_asked h = record { document = h.document.now; counting = h.counting; stations = h.stations; address = h.address.now; journal = h.journal.now }
+
 abbrev pub asked_by : Command → Asked
 asked_by (command.Run tracks reels) = RunPlain tracks reels
 asked_by (command.RunDocument document counting) = RunDocument document.now counting
 asked_by (command.Serve document counting stations address journal) = Serve document.now counting stations address.now journal.now
+asked_by (command.Store document counting stations address journal) = Store document.now counting stations address.now journal.now
 asked_by (command.ListCut document counting journal point) = ListCut document.now counting journal.now point
 asked_by (command.PlayList name rate) = PlayList name.now rate
 asked_by (command.Import name counting) = Import name.now counting
@@ -282,6 +315,7 @@ abbrev pub HasBounds : Command → Type 0
 HasBounds (command.Run tracks reels) = (least_tracks ≤ tracks) × (tracks ≤ most_tracks) × (reels ≤ most_reels)
 HasBounds (command.RunDocument document counting) = Unit {0}
 HasBounds (command.Serve document counting stations address journal) = (least_stations ≤ stations) × (stations ≤ most_stations)
+HasBounds (command.Store document counting stations address journal) = (least_stations ≤ stations) × (stations ≤ most_stations)
 HasBounds (command.ListCut document counting journal point) = Unit {0}
 HasBounds (command.PlayList name rate) = Unit {0}
 HasBounds (command.Import name counting) = Unit {0}

@@ -1,8 +1,8 @@
 // The words of the program's command line.
-ghost use Rattle.std.specs.Prelude.{◌≡◌, ◌<◌, IfSome, Some, drop, is_some, codes, length, option_and_then, option_map, slice_get};
+ghost use Rattle.std.specs.Prelude.{◌≡◌, ◌<◌, ◌≤◌, IfSome, Some, drop, is_some, codes, length, option_and_then, option_map, slice_get};
 ghost use Rattle.json_tokens.specs.ReadingNumerals.{numeral_in};
 ghost use Rattle.ratio_time.specs.Rates.{rate_value};
-ghost use Rattle.command_words.specs.Commands.{command_of, run_in, serve_in, list_in, tape_in, import_in, make_in, run_plain_in, run_document_in, serve_room_in, list_cut_in, make_session_in};
+ghost use Rattle.command_words.specs.Commands.{command_of, run_in, serve_in, store_in, list_in, tape_in, import_in, make_in, run_plain_in, run_document_in, hall_in, hall_asked, hall_of_words, least_stations, most_stations, list_cut_in, make_session_in};
 ghost use Rattle.command_words.specs.Commands.{counting_of, rate_of_word, sequence_of, number_within, asked_by, HasBounds, is_over_file, is_other_rate, asks_for_another_rate, is_word, wants_numbers, word_at};
 
 use crate::names::has_rows;
@@ -55,6 +55,14 @@ pub enum Command<'a> {
         address: &'a str,
         journal: &'a str,
     },
+    /// The same, but the journal is kept in the file of this name as it grows, and goes on after what the file holds.
+    Store {
+        document: &'a str,
+        counting: Counting,
+        stations: u32,
+        address: &'a str,
+        journal: &'a str,
+    },
     /// The list of the cut after so many entries of the journal in a file, in the room of a document.
     ListCut {
         document: &'a str,
@@ -77,6 +85,17 @@ pub enum Command<'a> {
         number: u32,
         count: u32,
     },
+}
+
+// A hall in the room of a document: how that is counted, how many stations, their address, and the name of the journal's
+// file.
+#[derive(Clone, Copy)]
+struct HallWords<'a> {
+    document: &'a str,
+    counting: Counting,
+    stations: u32,
+    address: &'a str,
+    journal: &'a str,
 }
 
 // A number of at least `least` and at most `most`.
@@ -154,14 +173,15 @@ fn hall_of<'a>(
     stations: &str,
     address: &'a str,
     journal: &'a str,
-) -> Option<Command<'a>>
-    ensures command { option_map asked_by result
-        ≡ serve_room_in document.now rate.now drop.now stations.now address.now journal.now }
-    ensures bound { IfSome result HasBounds }
+) -> Option<HallWords<'a>>
+    ensures hall { option_map hall_asked result
+        ≡ hall_of_words document.now rate.now drop.now stations.now address.now journal.now }
+    ensures bound { IfSome result (λ h. (least_stations ≤ h.stations)
+        × (h.stations ≤ most_stations)) }
 {
     let counting = counting(rate, drop)?;
     let stations = number_within(stations, LEAST_STATIONS, MOST_STATIONS)?;
-    Some(Command::Serve {
+    Some(HallWords {
         document,
         counting,
         stations,
@@ -182,10 +202,11 @@ fn run_in(words: &Words) -> Option<Command<'_>>
     }
 }
 
-// What the words after `serve` ask for.
-fn serve_in(words: &Words) -> Option<Command<'_>>
-    ensures command { option_map asked_by result ≡ serve_in (drop 1 words.now) }
-    ensures bound { IfSome result HasBounds }
+// The hall that the words after `serve` or `store` ask for.
+fn hall_in(words: &Words) -> Option<HallWords<'_>>
+    ensures hall { option_map hall_asked result ≡ hall_in (drop 1 words.now) }
+    ensures bound { IfSome result (λ h. (least_stations ≤ h.stations)
+        × (h.stations ≤ most_stations)) }
 {
     if words.count() != 7 {
         return None;
@@ -198,6 +219,40 @@ fn serve_in(words: &Words) -> Option<Command<'_>>
         words.word(5),
         words.word(6),
     )
+}
+
+// What the words after `serve` ask for.
+fn serve_in(words: &Words) -> Option<Command<'_>>
+    ensures command { option_map asked_by result ≡ serve_in (drop 1 words.now) }
+    ensures bound { IfSome result HasBounds }
+{
+    match hall_in(words) {
+        Some(hall) => Some(Command::Serve {
+            document: hall.document,
+            counting: hall.counting,
+            stations: hall.stations,
+            address: hall.address,
+            journal: hall.journal,
+        }),
+        None => None,
+    }
+}
+
+// What the words after `store` ask for.
+fn store_in(words: &Words) -> Option<Command<'_>>
+    ensures command { option_map asked_by result ≡ store_in (drop 1 words.now) }
+    ensures bound { IfSome result HasBounds }
+{
+    match hall_in(words) {
+        Some(hall) => Some(Command::Store {
+            document: hall.document,
+            counting: hall.counting,
+            stations: hall.stations,
+            address: hall.address,
+            journal: hall.journal,
+        }),
+        None => None,
+    }
 }
 
 // The list of a cut, by its document, how that is counted, its journal, and how many entries stand before it.
@@ -335,6 +390,7 @@ pub fn command_in(words: &Words) -> Option<Command<'_>>
     match words.word(0) {
         "run" => run_in(words),
         "serve" => serve_in(words),
+        "store" => store_in(words),
         "list" => list_in(words),
         "tape" => tape_in(words),
         "import" => import_in(words),
@@ -354,6 +410,7 @@ fn is_over_file(words: &Words) -> bool
     match words.word(0) {
         "run" => count == 4,
         "serve" => count == 7,
+        "store" => count == 7,
         "list" => count >= 6,
         "tape" => count == 3,
         "import" => count == 4,

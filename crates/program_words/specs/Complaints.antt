@@ -22,7 +22,8 @@ hindrance_text NoTime = codes "cutroom: CUTROOM_IDLE_SECONDS has to be a number 
 abbrev pub status_text : ℕ → List ℕ
 status_text status =
     if status == 5 then codes "cutroom: the address could not be opened, or a station not seated\n"
-    else (if status == 7 then codes "cutroom: the input, or a line, has more than 64 MiB\n" else [])
+    else (if status == 7 then codes "cutroom: the input, or a line, has more than 64 MiB\n"
+    else (if status == 9 then codes "cutroom: the disk of the journal failed; after a write or a sync that failed check it and reboot before the next start, since the system may call the next sync done\n" else []))
 
 -- the rule that a word breaks which names no reel
 abbrev pub rule_text : RowFault → List ℕ
@@ -36,6 +37,7 @@ abbrev pub usage_for : List ℕ → List ℕ
 usage_for first =
     if bytes_eq first (codes "run") then codes "cutroom: usage: run TRACKS REELS, or run DOC RATE DROP; cutroom --help says more\n" else
     if bytes_eq first (codes "serve") then codes "cutroom: usage: serve DOC RATE DROP STATIONS ADDRESS JOURNAL; cutroom --help says more\n" else
+    if bytes_eq first (codes "store") then codes "cutroom: usage: store DOC RATE DROP STATIONS ADDRESS JOURNAL; cutroom --help says more\n" else
     if bytes_eq first (codes "list") then codes "cutroom: usage: list DOC RATE DROP JOURNAL POINT [numbered | names TEXT=NAME ..]; cutroom --help says more\n" else
     if bytes_eq first (codes "tape") then codes "cutroom: usage: tape LIST RATE; cutroom --help says more\n" else
     if bytes_eq first (codes "import") then codes "cutroom: usage: import LIST RATE DROP; cutroom --help says more\n" else

@@ -76,6 +76,9 @@ fn status_text(status: u8) -> &'static str
     match status {
         5 => "cutroom: the address could not be opened, or a station not seated\n",
         7 => "cutroom: the input, or a line, has more than 64 MiB\n",
+        9 => {
+            "cutroom: the disk of the journal failed; after a write or a sync that failed check it and reboot before the next start, since the system may call the next sync done\n"
+        }
         _ => "",
     }
 }
@@ -122,6 +125,9 @@ fn usage_for(first: &str) -> &'static str
             "cutroom: usage: run TRACKS REELS, or run DOC RATE DROP; cutroom --help says more\n",
         "serve" => {
             "cutroom: usage: serve DOC RATE DROP STATIONS ADDRESS JOURNAL; cutroom --help says more\n"
+        }
+        "store" => {
+            "cutroom: usage: store DOC RATE DROP STATIONS ADDRESS JOURNAL; cutroom --help says more\n"
         }
         "list" => {
             "cutroom: usage: list DOC RATE DROP JOURNAL POINT [numbered | names TEXT=NAME ..]; cutroom --help says more\n"

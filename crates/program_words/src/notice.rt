@@ -15,6 +15,9 @@ run TRACKS REELS   one station on an empty cut: lines from standard input; repli
 run DOC RATE DROP  the same on the cut that a document describes
 serve DOC RATE DROP STATIONS ADDRESS JOURNAL
                    that many stations at once on such a cut, each over a connection to ADDRESS; the journal to the file JOURNAL
+store DOC RATE DROP STATIONS ADDRESS JOURNAL
+                   the same, but an entry is on the disk, in JOURNAL, before any reply tells of it, and the next start goes on
+                   after the entries that JOURNAL holds, which examples/journal_of.py prints; status 9: the disk failed
 list DOC RATE DROP JOURNAL POINT [numbered | names TEXT=NAME ..]
                    the CMX 3600 list of the cut after POINT entries of the journal; numbered: reels are R001, R002 and so on;
                    names: the document's reel TEXT is NAME, which has 1 to 8 characters of A-Z, 0-9 and _

@@ -1,5 +1,5 @@
 // Words of the command line, what they ask for, and what standard error says of those that are refused.
-use command_words::tabled_of;
+use command_words::{Command, command_in, tabled_of};
 use line_words::{Memory, Words};
 use program_words::{HELP, Notice, complaint, words_after_the_name};
 use room_ports::MemSink;
@@ -130,5 +130,81 @@ fn a_table_is_asked_for_by_names(rt: HostRuntime) -> Result<(), Memory> {
         let words = words_in(alloc, texts)?;
         assert_eq!(rt; tabled_of(alloc, &words)?.is_some(), has_table, "{texts:?}");
     }
+    Ok(())
+}
+
+// The stations of a hall that these words ask for whose journal is kept, where its names are these.
+fn stations_stored(words: &Words) -> Option<u32> {
+    match command_in(words) {
+        Some(
+            Command::Store {
+                document,
+                stations,
+                address,
+                journal,
+                ..
+            },
+        ) => {
+            if document == "d" && address == "a" && journal == "j" {
+                Some(stations)
+            } else {
+                None
+            }
+        }
+        _ => None,
+    }
+}
+
+// The words of `store`, and how many stations they ask for.
+#[test]
+fn a_hall_is_asked_for_by_store(rt: HostRuntime) -> Result<(), Memory> {
+    let alloc = rt.alloc();
+    let cases: [(&[&str], Option<u32>); 13] = [
+        (&["store", "d", "24", "ndf", "1", "a", "j"], Some(1)),
+        (&["store", "d", "24", "ndf", "16", "a", "j"], Some(16)),
+        (&["store", "d", "29.97", "drop", "02", "a", "j"], Some(2)),
+        (&["store", "d", "24", "ndf", "0", "a", "j"], None),
+        (&["store", "d", "24", "ndf", "17", "a", "j"], None),
+        (&["store", "d", "24", "ndf", "two", "a", "j"], None),
+        (&["store", "d", "24", "ndf", "2", "a"], None),
+        (&["store", "d", "24", "ndf", "2", "a", "j", "j"], None),
+        (&["store", "d", "50", "ndf", "2", "a", "j"], None),
+        (&["store", "d", "24", "drop", "2", "a", "j"], None),
+        (&["store"], None),
+        (&["Store", "d", "24", "ndf", "2", "a", "j"], None),
+        (&["serve", "d", "24", "ndf", "2", "a", "j"], None),
+    ];
+    for (texts, stations) in cases {
+        let words = words_in(alloc, texts)?;
+        assert!(rt; stations_stored(&words) == stations, "{texts:?}");
+    }
+    Ok(())
+}
+
+// What standard error is told of these words at a status, a line without a word in it.
+#[test]
+fn what_store_is_told(rt: HostRuntime) -> Result<(), Memory> {
+    let alloc = rt.alloc();
+    let usage =
+        "cutroom: usage: store DOC RATE DROP STATIONS ADDRESS JOURNAL; cutroom --help says more\n";
+    let rate = "cutroom: RATE is one of 23.976, 24, 25, 29.97 and 30\n";
+    let disk =
+        "cutroom: the disk of the journal failed; after a write or a sync that failed check it and reboot before the next start, since the system may call the next sync done\n";
+    let cases: [(&[&str], u8, &str); 8] = [
+        (&["store"], 3, usage),
+        (&["store", "d", "24", "ndf", "17", "a", "j"], 3, usage),
+        (&["store", "d", "fast", "ndf", "2", "a", "j"], 3, usage),
+        (&["store", "d", "50", "ndf", "2", "a", "j"], 3, rate),
+        (&["store", "d", "50", "ndf", "2", "a"], 3, usage),
+        (&["store", "d", "24", "ndf", "2", "a", "j"], 8, ""),
+        (&["store", "d", "24", "ndf", "2", "a", "j"], 9, disk),
+        (&["store", "d", "24", "ndf", "2", "a", "j"], 10, ""),
+    ];
+    for (texts, status, text) in cases {
+        let words = words_in(alloc, texts)?;
+        let told = complaint(&words, status);
+        assert!(rt; told.before == text && told.word.is_empty(), "{texts:?}");
+    }
+    assert!(rt; HELP.contains("\nstore DOC RATE DROP STATIONS ADDRESS JOURNAL\n"));
     Ok(())
 }

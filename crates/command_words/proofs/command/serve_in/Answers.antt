@@ -1,8 +1,0 @@
-use Rattle.std.proofs.Common.{◌∙◌, arith}
-use Rattle.command_words.proofs.Asking.{serve_words}
-use Rattle.command_words.proofs.command.serve_in.Goals as goal
-
-pub returns-clause-command : goal.returns-clause-command
-returns-clause-command c =
-    c.hall_of.ensures.command
-    ∙ serve_words c.args.words.now _ _ _ _ _ _ (omega (arith, c.count.ensures, c.if-count-ne7.false)) c.word.ensures c.word-2.ensures c.word-3.ensures c.word-4.ensures c.word-5.ensures c.word-6.ensures
