@@ -9,6 +9,8 @@ use Rattle.line_words.specs.Lines.{Line as InputLine}
 use Rattle.room_core.specs.declared.entry.Entry.{Entry}
 use Rattle.room_core.specs.History.{replay}
 use Rattle.room_core.specs.Whole.{whole}
+use Rattle.room_keepers.specs.declared.fault.KeepFault.{KeepFault}
+use Rattle.room_keepers.specs.declared.fault.KeepFault.TheVariants.{Disk}
 use Rattle.room_files.specs.Files.{Content, Untold, Missing, Bytes, FilesTold, IsWhole, IsLonger, IsUnchanged}
 use Rattle.room_halls.specs.Stations.{HallTold}
 use Rattle.edit_apply.specs.Apply.{editing}
@@ -25,10 +27,10 @@ use Rattle.line_table.specs.JournalFaults.{AreEntriesOf, IsFaulty}
 use Rattle.line_table.specs.declared.journal_reading.TheConstants.{MAX_JOURNAL}
 use Rattle.line_table.proofs.JournalLaws.{no_fault, one_journal}
 use Rattle.cut_room.proofs.Journals.{front_applies}
-use Rattle.command_words.specs.Commands.{Asked, RunPlain, RunDocument, Serve, ListCut, PlayList, Import, Make}
+use Rattle.command_words.specs.Commands.{Asked, RunPlain, RunDocument, Serve, Store, ListCut, PlayList, Import, Make}
 use Rattle.command_files.specs.declared.status.Status.{Status}
-use Rattle.command_files.specs.declared.status.Status.TheVariants.{Done, ReadFault, WriteFault, NotSeated, OutOfMemory, TooMuchInput}
-use Rattle.command_files.specs.Ports.{Change, InputTold, OutputTold}
+use Rattle.command_files.specs.declared.status.Status.TheVariants.{Done, ReadFault, WriteFault, NotSeated, OutOfMemory, TooMuchInput, DiskFault}
+use Rattle.command_files.specs.Ports.{Change, DiskTold, InputTold, OutputTold}
 use Rattle.command_files.specs.Statuses.{number_of}
 use Rattle.command_files.specs.Texts.{PutsWith}
 use Rattle.command_files.specs.Unopened.{EndsUnopened, IsUnread}
@@ -50,9 +52,11 @@ use Rattle.station_sessions.specs.declared.serve.End.TheVariants as end
 use Rattle.station_sessions.specs.Outside.{Outside, most_input, most_read}
 use Rattle.station_sessions.specs.Rooms.{History}
 use Rattle.station_sessions.specs.Serving.{SessionEnds}
-use Rattle.served_rooms.specs.Halls.{EndsUnserved, FileEnds, HallEnds, SessionsEnd, TellsStation, first_fault, line_at, or_next, status_of}
-use Rattle.cut_server.specs.Runs.{both, CommandEnds, DocumentEnds, OpensNoRoom, RunEnds, RunsOver, ServeEnds}
-use Rattle.cut_server.specs.Unhindered.{AreStill, AreWithin, FitOnList, IsStill, IsUnhindered, IsWithin, TellsCut, TellsDocument, TellsImport, TellsList}
+use Rattle.served_rooms.specs.Halls.{EndsUnserved, FileEnds, HallEnds, NeverFails, SessionsEnd, TellsStation, TellsStationBut, first_fault, line_at, or_next, status_of}
+use Rattle.stored_rooms.specs.KeptFiles.{AcceptedAreNotRefused, DiskFails, IsAcceptedFile}
+use Rattle.stored_rooms.specs.Stored.{DiskKeeps, IsUnopened, StoredEnds}
+use Rattle.cut_server.specs.Runs.{both, CommandEnds, DocumentEnds, OpensNoRoom, RunEnds, RunsOver, ServeEnds, StoreEnds}
+use Rattle.cut_server.specs.Unhindered.{AreStill, AreWithin, FitOnList, IsStill, IsUnhindered, IsWithin, NothingFails, TellsCut, TellsDocument, TellsImport, TellsList}
 
 -- it is 0, or 6
 abbrev pub EndsWell : Status → Type 0
@@ -69,12 +73,15 @@ not_past (Some bytes) (Some behind) Answered short past =
     let more : most_input < length past.0 = past.2.0 in
     omega (arith, n, short, more)
 
-session_well : (Answers : List InputLine → (List (List ℕ) → Type 0) → Type 0) (old new : Outside) (e : End) → AreStill old new → IsWithin old.left
-    → SessionEnds Answers old new e → e ≡ end.Ended
-session_well Answers old new end.Ended still short ends = refl
-session_well Answers old new end.ReadFault still short ends = absurd (still.0 ends.0.0)
-session_well Answers old new end.WriteFault still short ends = absurd (still.1 ends.0.0)
-session_well Answers old new end.TooMuchInput still short ends = absurd (not_past old.left new.left _ short ends.1)
+-- where no disk failed
+session_well : (Answers : List InputLine → (List (List ℕ) → Type 0) → Type 0) (Breaks : List InputLine → InputLine → (List (List ℕ) → Type 0) → Type 0) (Unkept : KeepFault → Type 0) (old new : Outside) (e : End)
+    → (Unkept Disk → ⊥) → AreStill old new → IsWithin old.left → SessionEnds Answers Breaks Unkept old new e → EndsWell (status_of e)
+session_well Answers Breaks Unkept old new end.Ended disk still short ends = inl refl
+session_well Answers Breaks Unkept old new end.ReadFault disk still short ends = absurd (still.0 ends.0.0)
+session_well Answers Breaks Unkept old new end.WriteFault disk still short ends = absurd (still.1 ends.0.0)
+session_well Answers Breaks Unkept old new end.TooMuchInput disk still short ends = absurd (not_past old.left new.left _ short ends.1)
+session_well Answers Breaks Unkept old new end.DiskFault disk still short ends = absurd (disk ends.0)
+session_well Answers Breaks Unkept old new end.KeepMemory disk still short ends = inr refl
 
 run_well : (o : Opening) (old new : Outside) (Untouched : Type 0) (s : Status) → AreStill old new → IsWithin old.left → RunEnds o old new Untouched s → EndsWell s
 run_well o old new Untouched Done still short ends = inl refl
@@ -177,33 +184,36 @@ file_well name before after h Done still ends = inl refl
 file_well name before after h WriteFault still ends = absurd (still ends.2)
 file_well name before after h other still ends = absurd ends
 
-all_done : (ends : List End) → ((k : ℕ) (e : End) → slice_get ends k ≡ Some e → e ≡ end.Ended) → first_fault (map status_of ends) ≡ Done
-all_done [] each = refl
-all_done (e ∷ es) each = ap (λ (x : End). or_next (status_of x) (first_fault (map status_of es))) (each 0 e refl) ∙ all_done es (λ k x at. each (suc k) x at)
+next_well : (s next : Status) → EndsWell s → EndsWell next → EndsWell (or_next s next)
+next_well s next (inl done) well = subst (λ (x : Status). EndsWell (or_next x next)) (sym done) well
+next_well s next (inr memory) well = subst (λ (x : Status). EndsWell (or_next x next)) (sym memory) (inr refl)
 
-sessions_well : (o : Opening) (stations : ℕ) (h : History) (before after : HallTold) (s : Status) → ((k : ℕ) → AreStill (line_at before k) (line_at after k))
-    → AreWithin stations before → SessionsEnd o stations h before after s → s ≡ Done
-sessions_well o stations h before after s still short ended = ended.status_is ∙ all_done ended.ends each
+all_well : (ends : List End) → ((k : ℕ) (e : End) → slice_get ends k ≡ Some e → EndsWell (status_of e)) → EndsWell (first_fault (map status_of ends))
+all_well [] each = inl refl
+all_well (e ∷ es) each = next_well (status_of e) (first_fault (map status_of es)) (each 0 e refl) (all_well es (λ k x at. each (suc k) x at))
+
+sessions_well : (o : Opening) (kept : History) (stations : ℕ) (h : History) (held : ℕ) (Fails : KeepFault → Type 0) (before after : HallTold) (s : Status) → (Fails Disk → ⊥)
+    → ((k : ℕ) → AreStill (line_at before k) (line_at after k)) → AreWithin stations before → SessionsEnd o kept stations h held Fails before after s → EndsWell s
+sessions_well o kept stations h held Fails before after s disk still short ended = subst EndsWell (sym ended.status_is) (all_well ended.ends each)
   where
-    each : (k : ℕ) (e : End) → slice_get ended.ends k ≡ Some e → e ≡ end.Ended
+    each : (k : ℕ) (e : End) → slice_get ended.ends k ≡ Some e → EndsWell (status_of e)
     each k e at =
         let low = slice_get_within ended.ends k e at in
-        session_well (TellsStation o h k) (line_at before k) (line_at after k) e (still k) (short k (omega (arith, low, ended.served.count))) (ended.served.each k e at)
+        session_well (TellsStation o kept h held k) (TellsStationBut o kept h held k) Fails (line_at before k) (line_at after k) e disk (still k) (short k (omega (arith, low, ended.served.count)))
+        (ended.served.each k e at)
 
-unserved_well : (o : Opening) (stations : ℕ) (address : List ℕ) (Keeps : History → Status → Type 0) (Unkept : Type 0) (old new : HallTold) (s : Status)
-    → IsStill old.faults new.faults → EndsUnserved o stations address Keeps Unkept old new s → EndsWell s
-unserved_well o stations address Keeps Unkept old new NotSeated still ends = absurd (still ends.0)
-unserved_well o stations address Keeps Unkept old new OutOfMemory still ends = inr refl
-unserved_well o stations address Keeps Unkept old new other still ends = absurd ends
+unserved_well : (address : List ℕ) (old new : HallTold) (s : Status) → IsStill old.faults new.faults → EndsUnserved address old new s → EndsWell s
+unserved_well address old new NotSeated still ends = absurd (still ends.0)
+unserved_well address old new OutOfMemory still ends = inr refl
+unserved_well address old new other still ends = absurd ends
 
-hall_well : (o : Opening) (stations : ℕ) (address : List ℕ) (Keeps : History → Status → Type 0) (Unkept : Type 0) (old new : HallTold) (s : Status)
-    → IsStill old.faults new.faults → ((k : ℕ) → AreStill (line_at old k) (line_at new k)) → AreWithin stations old
-    → ((h : History) (t : Status) → Keeps h t → EndsWell t) → HallEnds o stations address Keeps Unkept old new s → EndsWell s
-hall_well o stations address Keeps Unkept old new s calls still short kept (inl served) =
-    let done = sessions_well o stations served.journal old new served.of_sessions still short served.sessions in
-    let is : s ≡ served.of_keeping = served.status_is ∙ ap (λ (first : Status). or_next first served.of_keeping) done in
-    subst EndsWell (sym is) (kept served.journal served.of_keeping served.keeps)
-hall_well o stations address Keeps Unkept old new s calls still short kept (inr unserved) = unserved_well o stations address Keeps Unkept old new s calls unserved
+hall_well : (o : Opening) (kept : History) (stations : ℕ) (address : List ℕ) (Fails : KeepFault → Type 0) (Keeps : History → ℕ → Status → Type 0) (Unkept : Type 0) (old new : HallTold) (s : Status)
+    → (Fails Disk → ⊥) → IsStill old.faults new.faults → ((k : ℕ) → AreStill (line_at old k) (line_at new k)) → AreWithin stations old
+    → ((h : History) (held : ℕ) (t : Status) → Keeps h held t → EndsWell t) → HallEnds o kept stations address Fails Keeps Unkept old new s → EndsWell s
+hall_well o kept stations address Fails Keeps Unkept old new s disk calls still short keeps (inl served) =
+    let well = sessions_well o kept stations served.journal served.held Fails old new served.of_sessions disk still short served.sessions in
+    subst EndsWell (sym served.status_is) (next_well served.of_sessions served.of_keeping well (keeps served.journal served.held served.of_keeping served.keeps))
+hall_well o kept stations address Fails Keeps Unkept old new s disk calls still short keeps (inr (unkept, unserved)) = unserved_well address old new s calls unserved
 
 -- ---- `list`, `tape` and `import`
 
@@ -295,25 +305,55 @@ make_well number count output s still (inr memory) = inr memory.0
 
 -- ---- a command
 
-module _ (files : Change FilesTold) (input : Change InputTold) (output : Change OutputTold) (hall : Change HallTold) (namer : NamerTold) where
+module _ (files : Change FilesTold) (disk : Change DiskTold) (input : Change InputTold) (output : Change OutputTold) (hall : Change HallTold) (namer : NamerTold) where
   serve_well : (name : List ℕ) (counting : Counted) (stations : ℕ) (address journal : List ℕ) (s : Status)
-      → IsUnhindered files input output hall namer (Some (Serve name counting stations address journal))
+      → IsUnhindered files disk input output hall namer (Some (Serve name counting stations address journal))
       → ServeEnds name counting files output stations address journal hall s → EndsWell s
   serve_well name counting stations address journal s un (inl serves) =
-      hall_well serves.opening stations address (FileEnds journal files.before files.after) _ hall.before hall.after s un.1.calls un.1.lines un.0.1
-      (λ h t keeps. file_well journal files.before files.after h t un.1.writes keeps) serves.ends
+      hall_well serves.opening [] stations address NeverFails (λ h held status. FileEnds journal files.before files.after h status) _ hall.before hall.after s (λ fails. fails) un.1.calls un.1.lines un.0.1
+      (λ h held t keeps. file_well journal files.before files.after h t un.1.writes keeps) serves.ends
   serve_well name counting stations address journal s un (inr none) = no_room_well name counting files output s un.0.0 un.1.reads none.2
 
-  pub ends_well : (asked : Option Asked) (s : Status) → IsUnhindered files input output hall namer asked → CommandEnds files input output hall namer asked s → EndsWell s
-  ends_well None s un ends = absurd un.0
-  ends_well (Some (RunPlain tracks reels)) s un ends = runs_well (plain_opening tracks reels) input output s un.1.streams un.0 ends.2
-  ends_well (Some (RunDocument name counting)) s un ends = document_well name counting files output input s un.0.0 un.1.reads un.1.streams un.0.1 ends.1
-  ends_well (Some (Serve name counting stations address journal)) s un ends = serve_well name counting stations address journal s un ends.1
-  ends_well (Some (ListCut document counting journal point)) s un ends =
-      list_well document counting journal point namer files output s un.0 un.1.reads un.1.streams.1 ends.2
-  ends_well (Some (PlayList name rate)) s un ends = tape_well name rate files output s un.0 un.1.reads un.1.streams.1 ends.2
-  ends_well (Some (Import name counting)) s un ends = import_well name counting files output s un.0 un.1.reads un.1.streams.1 ends.2
-  ends_well (Some (Make number count)) s un ends = make_well number count output s un.1.streams.1 ends.3
+  -- the disk did not fail
+  disk_well : (o : Opening) (stations : ℕ) (address journal : List ℕ) (s : Status) → IsStill disk.before.faults disk.after.faults
+      → IsUnopened o stations address journal output hall disk.before disk.after s → EndsWell s
+  disk_well o stations address journal DiskFault still unopened = absurd (still unopened.0)
+  disk_well o stations address journal OutOfMemory still unopened = inr refl
+  disk_well o stations address journal other still unopened = absurd unopened
+
+  -- a kept file that is accepted is refused for nothing
+  module _ (law : AcceptedAreNotRefused) where
+    stored_well : (o : Opening) (stations : ℕ) (address journal : List ℕ) (s : Status) → IsAcceptedFile o stations journal disk.before disk.after → AreWithin stations hall.before
+        → NothingFails files disk input output hall namer → StoredEnds o stations address journal output hall disk.before disk.after s → EndsWell s
+    stored_well o stations address journal s file short quiet (inl goes) =
+        hall_well o goes.kept stations address (DiskFails disk.before disk.after) (DiskKeeps o stations address journal output hall disk.before disk.after) _ hall.before hall.after s
+        quiet.disks quiet.calls quiet.lines short (λ h held t keeps. inl keeps.0) goes.ends
+    stored_well o stations address journal s file short quiet (inr (none, inl refuses)) = absurd (law o stations journal disk.before disk.after refuses.refusal file refuses.refused)
+    stored_well o stations address journal s file short quiet (inr (none, inr unopened)) = disk_well o stations address journal s quiet.disks unopened
+
+    store_well : (name : List ℕ) (counting : Counted) (stations : ℕ) (address journal : List ℕ) (s : Status)
+        → IsUnhindered files disk input output hall namer (Some (Store name counting stations address journal))
+        → StoreEnds name counting files output stations address journal hall disk s → EndsWell s
+    store_well name counting stations address journal s un (only, inl stores) =
+        let tells = un.0.0 in
+        let same = one_opening counting (files.before.file name) tells.opening tells.told tells.described stores.opening stores.described in
+        stored_well tells.opening stations address journal s tells.file un.0.1 un.1
+        (subst (λ (o : Opening). StoredEnds o stations address journal output hall disk.before disk.after s) same stores.ends)
+    store_well name counting stations address journal s un (only, inr none) =
+        let tells = un.0.0 in
+        no_room_well name counting files output s (tells.told, tells.opening, tells.described) un.1.reads none.2
+
+    pub ends_well : (asked : Option Asked) (s : Status) → IsUnhindered files disk input output hall namer asked → CommandEnds files disk input output hall namer asked s → EndsWell s
+    ends_well None s un ends = absurd un.0
+    ends_well (Some (RunPlain tracks reels)) s un ends = runs_well (plain_opening tracks reels) input output s un.1.streams un.0 ends.3
+    ends_well (Some (RunDocument name counting)) s un ends = document_well name counting files output input s un.0.0 un.1.reads un.1.streams un.0.1 ends.2
+    ends_well (Some (Serve name counting stations address journal)) s un ends = serve_well name counting stations address journal s un ends.2
+    ends_well (Some (Store name counting stations address journal)) s un ends = store_well name counting stations address journal s un ends.1
+    ends_well (Some (ListCut document counting journal point)) s un ends =
+        list_well document counting journal point namer files output s un.0 un.1.reads un.1.streams.1 ends.3
+    ends_well (Some (PlayList name rate)) s un ends = tape_well name rate files output s un.0 un.1.reads un.1.streams.1 ends.3
+    ends_well (Some (Import name counting)) s un ends = import_well name counting files output s un.0 un.1.reads un.1.streams.1 ends.3
+    ends_well (Some (Make number count)) s un ends = make_well number count output s un.1.streams.1 ends.4
 
 -- by its number
 pub numbered_well : (n : ℕ) (s : Status) → n ≡ number_of s → EndsWell s → (n ≡ 0) ⊎ (n ≡ 6)

@@ -1,5 +1,5 @@
 -- From what a session answered to what the program promises.
-use Rattle.std.proofs.Common.{◌≡◌, ℕ, ◌<◌, ◌≤◌, inl, inr, List, [], ◌∷◌, ◌++◌, length, Option, IfSome, refl, sym, ap, ◌∙◌, subst, arith, Bool, true, false, cond, ◌==◌}
+use Rattle.std.proofs.Common.{◌≡◌, ℕ, ◌<◌, ◌≤◌, inr, List, [], ◌∷◌, ◌++◌, length, Option, Some, None, IfSome, refl, sym, ap, ◌∙◌, subst, arith, Bool, true, false, cond, ◌==◌}
 use Rattle.std.specs.Option.{IsSomeAnd}
 use Rattle.room_ports.specs.Counts.{HasRisen}
 use Rattle.room_ports.proofs.Fronts.{takes-takes}
@@ -17,14 +17,17 @@ use Rattle.served_rooms.specs.Stations.{AreOfStations}
 use Rattle.room_core.specs.declared.entry.Entry.{Entry}
 use Rattle.room_core.specs.Projection.{of_station}
 use Rattle.std.proofs.lemmas.Bool.Decides.{nat_tests}
-use Rattle.station_sessions.specs.Rooms.{History, AreWritten, room_of, setting_of, RoomTranscript}
+use Rattle.station_sessions.specs.Rooms.{History, AreWritten, room_of, setting_of, RoomTranscriptTo}
 use Rattle.station_sessions.specs.Transcript.{new_room, sent}
-use Rattle.station_sessions.specs.Served.{Knows}
+use Rattle.station_sessions.specs.Served.{Knows, KnowsBut}
 use Rattle.station_sessions.specs.Serving.{SessionEnds}
-use Rattle.cut_server.specs.Runs.{both, IsTold, TellsOne, Tells, IsWhole, JournalIsCut, JournalEnds, RunEnds, RunsOver}
+use Rattle.served_rooms.specs.Halls.{NeverFails}
+use Rattle.room_keepers.specs.Faults.{IsCounted}
+use Rattle.cut_server.specs.Runs.{both, IsTold, TellsOne, Tells, IsWhole, JournalIsCut, JournalEnds, NoneBreaks, RunEnds, RunsOver}
+use Rattle.served_rooms.proofs.Ending.{unkept_told}
 use Rattle.served_rooms.proofs.Sound.{has_text, stay_sound}
 use Rattle.station_sessions.proofs.Serves.{takes-then_front}
-use Rattle.station_sessions.proofs.Knowing.{got_map, session_told}
+use Rattle.station_sessions.proofs.Knowing.{session_told}
 use Rattle.station_sessions.proofs.Transcripts.{transcript_more}
 
 all_own : {C : Type 0} (b : Bool) (e : Entry C) (es own : List (Entry C)) → (e.station == 0) ≡ b → e.station < 1 → own ≡ es → cond b (e ∷ own) own ≡ e ∷ es
@@ -41,49 +44,71 @@ pub text_by : (o : Opening) (g h : History) → Closes o 1 0 g h → AreWritten 
 text_by o g h c w = has_text o 1 h (omega arith) c.legal c.seated (subst AreWritten (sym c.own ∙ own_all h c.seated) w)
 
 -- and the closed room's journal tells it too
-tells_by : (o : Opening) (g h : History) (ls : List InputLine) (Taken : List (List ℕ) → Type 0) → Closes o 1 0 g h → Knows o new_room 0 g ls Taken
-    → (replies : List (List ℕ)) × IsTold o 1 h 0 ls replies × Taken replies
-tells_by o g h ls Taken c k =
-    let there : RoomTranscript o (g ++ c.more) new_room 0 ls k.0 =
-    transcript_more (room_of (setting_of o)) o.tracks g c.more new_room 0 ls k.0 [] k.1 (rw (← c.journal) c.legal.within) (ap (λ (l : History). of_station 0 l) (sym c.journal) ∙ c.own) in (
-      k.0,
-      record {
-        journal = record {
-          legal = c.legal;
-          seated = c.seated;
-          text = text_by o g h c k.2;
-          sound = stay_sound o h c.opens c.legal;
-        };
-        transcript = rw c.journal there;
-      },
-      k.3,
-    )
+module _ (o : Opening) (held : ℕ) (g h : History) (c : Closes o 1 0 g h) where
+  tells_by : (ls : List InputLine) (Taken : List (List ℕ) → Type 0) → Knows o new_room 0 g held ls Taken → (replies : List (List ℕ)) × IsTold o 1 h 0 ls replies × Taken replies
+  tells_by ls Taken k =
+      let there : RoomTranscriptTo o (g ++ c.more) new_room 0 ls k.0 k.1 =
+      transcript_more (room_of (setting_of o)) o.tracks g c.more new_room 0 ls k.0 k.1 (rw (← c.journal) c.legal.within) (ap (λ (l : History). of_station 0 l) (sym c.journal) ∙ c.own) [] k.2 in (
+        k.0,
+        record {
+          journal = record {
+            legal = c.legal;
+            seated = c.seated;
+            text = text_by o g h c k.4;
+            sound = stay_sound o h c.opens c.legal;
+          };
+          transcript = (k.1, rw c.journal there);
+        },
+        k.5,
+      )
 
-tells : (o : Opening) (g h : History) → Closes o 1 0 g h → (ls : List InputLine) (Taken : List (List ℕ) → Type 0) → Knows o new_room 0 g ls Taken → Tells o ls Taken
-tells o g h c ls Taken k = let s = tells_by o g h ls Taken c k in (h, s.0, s.1, s.2)
+  tells : (ls : List InputLine) (Taken : List (List ℕ) → Type 0) → Knows o new_room 0 g held ls Taken → Tells o ls Taken
+  tells ls Taken k = let s = tells_by ls Taken k in (h, s.0, s.1, s.2)
 
-pub session_ends : (o : Opening) (g h : History) (old new : Outside) (e : End) → Closes o 1 0 g h → SessionEnds (Knows o new_room 0 g) old new e → SessionEnds (Tells o) old new e
-session_ends o g h old new e c ended = session_told (Knows o new_room 0 g) (Tells o) (tells o g h c) old new e ended
+-- what did not fail left no line without a reply
+never_broken : (T : List InputLine → (List (List ℕ) → Type 0) → Type 0) (B : List InputLine → InputLine → (List (List ℕ) → Type 0) → Type 0) (old new : Outside) (e : End)
+    → SessionEnds T B NeverFails old new e → SessionEnds T NoneBreaks NeverFails old new e
+never_broken T B old new end.Ended h = h
+never_broken T B old new end.ReadFault h = h
+never_broken T B old new end.WriteFault h = h
+never_broken T B old new end.TooMuchInput h = h
+never_broken T B old new end.DiskFault h = absurd h.0
+never_broken T B old new end.KeepMemory h = absurd h.0
+
+-- how the session ended, where what keeps its room's journal can't fail
+module _ (o : Opening) (held failures : ℕ) (g h : History) (old new : Outside) (e : End) where
+  pub session_ends : Closes o 1 0 g h → SessionEnds (Knows o new_room 0 g held) (KnowsBut o new_room 0 g held) (λ fault. ⊥ × IsCounted fault failures) old new e
+      → SessionEnds (Tells o) NoneBreaks NeverFails old new e
+  session_ends c ended =
+      never_broken (Tells o) (KnowsBut o new_room 0 g held) old new e
+      (session_told (Knows o new_room 0 g held) (Tells o) (KnowsBut o new_room 0 g held) (KnowsBut o new_room 0 g held) NeverFails (tells o held g h c) (λ ls l Taken k. k) old new e
+      (unkept_told (Knows o new_room 0 g held) (KnowsBut o new_room 0 g held) (λ fault. ⊥ × IsCounted fault failures) NeverFails old new e (λ fault f. f.0) ended))
 
 at_end_then : (old mid new : Outside) (H K : List InputLine → Type 0) → new.left ≡ mid.left → ((ls : List InputLine) → H ls → K ls) → AtEnd old mid H → AtEnd old new K
 at_end_then old mid new H K same f h =
     subst (λ (left : Option (List ℕ)). IfSome old.left (λ bytes. IsSomeAnd left (λ rest. (got : List ℕ) × (bytes ≡ got ++ rest) × ((rest ≡ []) × (length got ≤ 67108864) × K (lines_of got))))) (sym same)
-    (got_map old mid _ _ (λ got left k. (k.0, k.1, f (lines_of got) k.2)) h)
+    (by old.left mid.left h)
+  where
+    by : (before after : Option (List ℕ)) → IfSome before (λ bytes. IsSomeAnd after (λ rest. (got : List ℕ) × (bytes ≡ got ++ rest) × ((rest ≡ []) × (length got ≤ 67108864) × H (lines_of got))))
+        → IfSome before (λ bytes. IsSomeAnd after (λ rest. (got : List ℕ) × (bytes ≡ got ++ rest) × ((rest ≡ []) × (length got ≤ 67108864) × K (lines_of got))))
+    by None after k = tt
+    by (Some b) None k = absurd k
+    by (Some b) (Some x) (got, is, k) = (got, is, (k.0, k.1, f (lines_of got) k.2))
 
 -- a session that ended, and then the journal's text
-pub run_ends : (o : Opening) (g h : History) (old mid new : Outside) (s : Status) → Closes o 1 0 g h → SessionEnds (Knows o new_room 0 g) old mid end.Ended
-    → JournalEnds h mid new s → RunEnds o old new ⊥ s
-run_ends o g h old mid new Done c (quiet, ended) (still, same, takes) = (
-  (still.0 ∙ quiet.0, still.1 ∙ quiet.1),
-  at_end_then old mid new (λ ls. Knows o new_room 0 g ls (AreSent old.taken mid.taken)) (λ ls. TellsOne o ls (IsWhole old.taken new.taken)) same
-      (λ ls k. let s = tells_by o g h ls (AreSent old.taken mid.taken) c k in (h, s.0, s.1, takes-takes old.taken mid.taken new.taken (sent s.0) (journal_text_of h) s.2 takes)) ended,
-)
-run_ends o g h old mid new WriteFault c (quiet, ended) (failed, same, takes) = inr (
-  (subst (λ (w : ℕ). HasRisen w new.writes) quiet.1 failed.0, failed.1 ∙ quiet.0),
-  at_end_then old mid new (λ ls. Knows o new_room 0 g ls (AreSent old.taken mid.taken)) (λ ls. TellsOne o ls (JournalIsCut old.taken new.taken)) same
-      (λ ls k. let s = tells_by o g h ls (AreSent old.taken mid.taken) c k in (h, s.0, s.1, takes-then_front old.taken mid.taken new.taken (sent s.0) (journal_text_of h) s.2 takes)) ended,
-)
-run_ends o g h old mid new other c ended journal = absurd journal
+module _ (o : Opening) (held : ℕ) (g h : History) (old mid new : Outside) where
+  pub run_ends : (s : Status) → Closes o 1 0 g h → SessionEnds (Knows o new_room 0 g held) NoneBreaks NeverFails old mid end.Ended → JournalEnds h mid new s → RunEnds o old new ⊥ s
+  run_ends Done c (quiet, ended) (still, same, takes) = (
+    (still.0 ∙ quiet.0, still.1 ∙ quiet.1),
+    at_end_then old mid new (λ ls. Knows o new_room 0 g held ls (AreSent old.taken mid.taken)) (λ ls. TellsOne o ls (IsWhole old.taken new.taken)) same
+        (λ ls k. let s = tells_by o held g h c ls (AreSent old.taken mid.taken) k in (h, s.0, s.1, takes-takes old.taken mid.taken new.taken (sent s.0) (journal_text_of h) s.2 takes)) ended,
+  )
+  run_ends WriteFault c (quiet, ended) (failed, same, takes) = inr (
+    (subst (λ (w : ℕ). HasRisen w new.writes) quiet.1 failed.0, failed.1 ∙ quiet.0),
+    at_end_then old mid new (λ ls. Knows o new_room 0 g held ls (AreSent old.taken mid.taken)) (λ ls. TellsOne o ls (JournalIsCut old.taken new.taken)) same
+        (λ ls k. let s = tells_by o held g h c ls (AreSent old.taken mid.taken) k in (h, s.0, s.1, takes-then_front old.taken mid.taken new.taken (sent s.0) (journal_text_of h) s.2 takes)) ended,
+  )
+  run_ends other c ended journal = absurd journal
 
 -- a run in which something was begun
 pub run_begun : (o : Opening) (input : Change InputTold) (output : Change OutputTold) (s : Status) → RunEnds o (both input.before output.before) (both input.after output.after) ⊥ s → RunsOver o input output s

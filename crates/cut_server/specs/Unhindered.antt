@@ -15,8 +15,8 @@ use Rattle.edl_write.specs.declared.fault.ListFault.{ListFault}
 use Rattle.edl_write.specs.declared.fault.ListFault.TheVariants.{Memory}
 use Rattle.edl_write.specs.Refusals.{IsRefused}
 use Rattle.otio_json.specs.declared.opening.Opening.{Opening}
-use Rattle.command_words.specs.Commands.{Asked, RunPlain, RunDocument, Serve, ListCut, PlayList, Import, Make}
-use Rattle.command_files.specs.Ports.{Change, InputTold, OutputTold}
+use Rattle.command_words.specs.Commands.{Asked, RunPlain, RunDocument, Serve, Store, ListCut, PlayList, Import, Make}
+use Rattle.command_files.specs.Ports.{Change, DiskTold, InputTold, OutputTold}
 use Rattle.command_files.specs.Documents.{Describes}
 use Rattle.command_files.specs.Journals.{HoldsJournal}
 use Rattle.command_files.specs.Lists.{HoldsList}
@@ -25,6 +25,7 @@ use Rattle.list_commands.specs.Imports.{HasNoDocument}
 use Rattle.list_commands.specs.Points.{IsCutAt}
 use Rattle.station_sessions.specs.Outside.{Outside, most_input}
 use Rattle.served_rooms.specs.Halls.{line_at}
+use Rattle.stored_rooms.specs.KeptFiles.{IsAcceptedFile}
 use Rattle.cut_server.specs.Runs.{both}
 
 -- ---- inputs
@@ -81,15 +82,25 @@ pub record TellsCut (document : List ℕ) (counting : Counted) (journal : List �
   pub cut : IsCutAt opening entries point tracks
   pub fits : FitOnList opening tracks namer
 
+-- The document describes a room, and the kept file is one that goes on in it.
+pub record TellsStore (document : List ℕ) (counting : Counted) (stations : ℕ) (journal : List ℕ) (files : Change FilesTold)
+    (disk : Change DiskTold) : Type 0 where
+  pub opening : Opening
+  pub told : files.before.file document ≢ Untold
+  pub described : Describes counting (files.before.file document) opening
+  pub file : IsAcceptedFile opening stations journal disk.before disk.after
+
 -- ---- a command
 
--- by what its files, its input, its output and its hall told before and tell after, and by the namer that it was handed
-module _ (files : Change FilesTold) (input : Change InputTold) (output : Change OutputTold) (hall : Change HallTold)
+-- by what its files, its disk, its input, its output and its hall told before and tell after, and by the namer that it was
+-- handed
+module _ (files : Change FilesTold) (disk : Change DiskTold) (input : Change InputTold) (output : Change OutputTold) (hall : Change HallTold)
     (namer : NamerTold) where
   -- no count of faults has risen
   pub record NothingFails : Type 0 where
     pub reads : IsStill files.before.reads files.after.reads
     pub writes : IsStill files.before.writes files.after.writes
+    pub disks : IsStill disk.before.faults disk.after.faults
     pub streams : AreStill (both input.before output.before) (both input.after output.after)
     pub calls : IsStill hall.before.faults hall.after.faults
     pub lines : (station : ℕ) → AreStill (line_at hall.before station) (line_at hall.after station)
@@ -102,6 +113,8 @@ module _ (files : Change FilesTold) (input : Change InputTold) (output : Change 
       TellsDocument counting (files.before.file name) × IsWithin input.before.left
   IsAccepted (Some (Serve name counting stations address journal)) =
       TellsDocument counting (files.before.file name) × AreWithin stations hall.before
+  IsAccepted (Some (Store name counting stations address journal)) =
+      TellsStore name counting stations journal files disk × AreWithin stations hall.before
   IsAccepted (Some (ListCut document counting journal point)) =
       TellsCut document counting journal point namer files
   IsAccepted (Some (PlayList name rate)) = TellsList rate (files.before.file name)

@@ -6,9 +6,9 @@ ghost use Rattle.otio_json.specs.Openings.{plain_opening};
 ghost use Rattle.otio_json.specs.Soundness.{IsSoundOpening};
 ghost use Rattle.station_sessions.specs.Outside.{outside};
 ghost use Rattle.otio_json.specs.declared.opening.Opening.{Opening as OpeningOf};
-ghost use Rattle.command_files.specs.Ports.{change, input_told, output_told};
+ghost use Rattle.command_files.specs.Ports.{change, disk_told, input_told, output_told};
 ghost use Rattle.list_commands.specs.Cuts.{namer_told};
-ghost use Rattle.cut_server.specs.Runs.{both, JournalEnds, RunEnds, RunsOver, DocumentEnds, ServeEnds, CommandEnds, EndsWith};
+ghost use Rattle.cut_server.specs.Runs.{both, JournalEnds, RunEnds, RunsOver, DocumentEnds, ServeEnds, StoreEnds, CommandEnds, EndsWith};
 ghost use Rattle.cut_server.specs.Unhindered.{IsUnhindered};
 ghost use Rattle.station_sessions.specs.Served.{IsRoomOf};
 ghost use Rattle.station_sessions.specs.SessionInside.{TrackOpening, opened_with};
@@ -25,8 +25,10 @@ use list_commands::{CutPlace, import_file, list_cut, play_list};
 use otio_json::Opening;
 use reel_names::ReelNamer;
 use room_core::Entry;
+use room_disks::Disk;
 use room_files::Files;
 use room_halls::Hall;
+use room_keepers::KeepsNothing;
 use room_ports::{Gate, Line, Pair, Sink, Source, put};
 use served_rooms::{Venue, make_session, serve_opened};
 use station_sessions::{End, Session, Setting, serve_session};
@@ -34,6 +36,7 @@ use std::alloc::Global;
 use std::marker::Brand;
 use std::sync::Wait;
 use std::thread::Threads;
+use stored_rooms::{accepted_files_are_not_refused, store_opened};
 use timecode12::Counting;
 
 // Puts the journal's text after the replies, by way of the memory that was taken for it.
@@ -66,6 +69,7 @@ fn run_session<R: Wait, G: Gate, J: Naming<CutObject, CutPart>, L: Line>(
     gate: &G,
 ) -> Status
     requires passes { AreFresh J.opening 1 passes.items }
+    requires room { J.opening ≡ Some (room.object, room.parts) }
     requires stations { room.stations ≡ 1 }
     requires opened { (o : OpeningOf) × IsRoomOf o room setting.counting setting.start }
     requires text { HasRoomForText text }
@@ -77,7 +81,12 @@ fn run_session<R: Wait, G: Gate, J: Naming<CutObject, CutPart>, L: Line>(
     ensures lent { L.lent line.new ≡ L.lent line.old }
 {
     let (mut passes, pass) = only_pass(passes);
-    let Session { pass, end } = serve_session(rt, alloc, &room, gate, pass, setting, line);
+    let keeper = &KeepsNothing;
+    let Session {
+        pass,
+        end,
+        taken: _,
+    } = serve_session(rt, alloc, &room, gate, keeper, pass, setting, line);
     passes.push_reserved(pass);
     let entries = room.close(passes);
     match end {
@@ -85,6 +94,8 @@ fn run_session<R: Wait, G: Gate, J: Naming<CutObject, CutPart>, L: Line>(
         End::ReadFault => Status::ReadFault,
         End::WriteFault => Status::WriteFault,
         End::TooMuchInput => Status::TooMuchInput,
+        End::DiskFault => unreachable!(),
+        End::KeepMemory => unreachable!(),
     }
 }
 
@@ -117,6 +128,7 @@ fn run_over<R: Wait, G: Gate, J: Naming<CutObject, CutPart>, S: Source, K: Sink>
     gate: &G,
 ) -> Status
     requires passes { AreFresh J.opening 1 passes.items }
+    requires room { J.opening ≡ Some (room.object, room.parts) }
     requires stations { room.stations ≡ 1 }
     requires opened { (o : OpeningOf) × IsRoomOf o room setting.counting setting.start }
     requires text { HasRoomForText text }
@@ -263,31 +275,79 @@ fn serve_document<R: Threads + Wait + Sync, F: Files, K: Sink, H: Hall, G: Gate 
     }
 }
 
+// Serves the stations of a place in the room of a document, whose journal is kept on a disk as it grows.
+fn store_document<
+    R: Threads + Wait + Sync,
+    F: Files,
+    D: Disk + Send + Drop,
+    K: Sink,
+    H: Hall,
+    G: Gate + Sync,
+>(
+    rt: &R,
+    alloc: Global,
+    name: &str,
+    counting: &Counting,
+    place: &Venue<'_>,
+    files: &mut F,
+    disk: D,
+    output: &mut K,
+    hall: &mut H,
+    gate: &G,
+) -> (Status, D)
+    requires least { least_stations ≤ place.now.stations }
+    requires most { place.now.stations ≤ most_stations }
+    ensures { StoreEnds name.now counting.now (change F.told files.old files.new)
+        (change (output_told K.taken K.write_faults) output.old output.new)
+        place.now.stations place.now.address.now place.now.journal.now
+        (change H.told hall.old hall.new)
+        (change (disk_told D.file D.course D.faults) disk result.1) result.0 }
+{
+    match open_document(alloc, files, name, counting) {
+        Ok(opening) => store_opened(rt, alloc, opening, place, disk, output, hall, gate),
+        Err(fault) => (end_unopened(fault, output), disk),
+    }
+}
+
 // Does what the words ask for.
-fn do_command<R: Threads + Wait + Sync, F: Files, S: Source, K: Sink, H: Hall, G: Gate + Sync>(
+fn do_command<
+    R: Threads + Wait + Sync,
+    F: Files,
+    D: Disk + Send + Drop,
+    S: Source,
+    K: Sink,
+    H: Hall,
+    G: Gate + Sync,
+>(
     rt: &R,
     alloc: Global,
     words: &Words,
     files: &mut F,
+    disk: D,
     input: &mut S,
     output: &mut K,
     hall: &mut H,
     gate: &G,
     namer: Box<dyn ReelNamer>,
-) -> Status
+) -> (Status, D)
     ensures { CommandEnds (change F.told files.old files.new)
+        (change (disk_told D.file D.course D.faults) disk result.1)
         (change (input_told S.left S.read_faults) input.old input.new)
         (change (output_told K.taken K.write_faults) output.old output.new)
         (change H.told hall.old hall.new)
-        (namer_told (rule namer) (given namer)) (command_of words.now) result }
+        (namer_told (rule namer) (given namer)) (command_of words.now) result.0 }
 {
     match &command_in(words) {
         Some(Command::Run { tracks, reels }) => {
-            run_plain(rt, alloc, *tracks, *reels, input, output, gate)
+            (
+                run_plain(rt, alloc, *tracks, *reels, input, output, gate),
+                disk,
+            )
         }
-        Some(Command::RunDocument { document, counting }) => {
-            run_document(rt, alloc, document, counting, files, input, output, gate)
-        }
+        Some(Command::RunDocument { document, counting }) => (
+            run_document(rt, alloc, document, counting, files, input, output, gate),
+            disk,
+        ),
         Some(
             Command::Serve {
                 document,
@@ -302,8 +362,27 @@ fn do_command<R: Threads + Wait + Sync, F: Files, S: Source, K: Sink, H: Hall, G
                 address: *address,
                 journal: *journal,
             };
-            serve_document(
+            let status = serve_document(
                 rt, alloc, document, counting, &place, files, output, hall, gate,
+            );
+            (status, disk)
+        }
+        Some(
+            Command::Store {
+                document,
+                counting,
+                stations,
+                address,
+                journal,
+            },
+        ) => {
+            let place = Venue {
+                stations: *stations,
+                address: *address,
+                journal: *journal,
+            };
+            store_document(
+                rt, alloc, document, counting, &place, files, disk, output, hall, gate,
             )
         }
         Some(
@@ -320,16 +399,21 @@ fn do_command<R: Threads + Wait + Sync, F: Files, S: Source, K: Sink, H: Hall, G
                 journal: *journal,
                 point: *point,
             };
-            list_cut(alloc, files, &place, namer, output)
+            (list_cut(alloc, files, &place, namer, output), disk)
         }
-        Some(Command::PlayList { name, rate }) => play_list(alloc, files, name, *rate, output),
+        Some(Command::PlayList { name, rate }) => {
+            (play_list(alloc, files, name, *rate, output), disk)
+        }
         Some(Command::Import { name, counting }) => {
-            import_file(alloc, files, name, counting, output)
+            (import_file(alloc, files, name, counting, output), disk)
         }
         Some(Command::Make { number, count }) => {
-            make_session(rt, alloc, *number, *count, output, gate)
+            (make_session(rt, alloc, *number, *count, output, gate), disk)
         }
-        None => end_with(Status::NoCommand, b"refused words\n", output),
+        None => (
+            end_with(Status::NoCommand, b"refused words\n", output),
+            disk,
+        ),
     }
 }
 
@@ -345,6 +429,10 @@ fn do_command<R: Threads + Wait + Sync, F: Files, S: Source, K: Sink, H: Hall, G
 /// room, and serves them all at once, each over its line. When all have ended, the journal's text is put into the file
 /// JOURNAL. A station that ends with a fault does not end the others.
 ///
+/// `store DOC RATE DROP STATIONS ADDRESS JOURNAL` serves stations in the same way, and keeps the room's journal in the file
+/// JOURNAL of the disk as it grows: the room goes on from the entries that the file has, and no reply is put before the
+/// file holds all entries that it tells of. Every other command gives the disk back as it is.
+///
 /// `list DOC RATE DROP JOURNAL POINT` puts the CMX 3600 list of the cut after the first POINT entries of the journal in the
 /// file JOURNAL, of at most 64 MiB, whose room the document describes. The namer gives its reels their names; a last word
 /// `numbered` tells the program which namer to hand in. `tape LIST RATE` puts the tape of the list in the file LIST, of at
@@ -357,31 +445,44 @@ fn do_command<R: Threads + Wait + Sync, F: Files, S: Source, K: Sink, H: Hall, G
 /// | 1 | a read of the input, of a line or of a file failed |
 /// | 2 | a write of the output, of a line or of the journal's file failed |
 /// | 3 | the words are no command |
-/// | 4 | the document, the journal or the list is refused, or the list has no document, and a line tells why |
+/// | 4 | the document, the journal, the kept file or the list is refused, or the list has no document, and a line tells why |
 /// | 5 | the hall was not opened, or a station not seated: no session was begun |
 /// | 6 | out of memory: nothing was begun, or there was none for a list |
 /// | 7 | the input, or a line, gave more than 64 MiB |
 /// | 8 | the cut has no list, and a line tells why |
+/// | 9 | a call on the disk failed: nothing was begun, or a session broke off without the reply to its last line |
 ///
 /// Of several stations the status is that of the lowest whose status is not 0, and then that of the journal's file.
-pub fn cut_main<R: Threads + Wait + Sync, F: Files, S: Source, K: Sink, H: Hall, G: Gate + Sync>(
+pub fn cut_main<
+    R: Threads + Wait + Sync,
+    F: Files,
+    D: Disk + Send + Drop,
+    S: Source,
+    K: Sink,
+    H: Hall,
+    G: Gate + Sync,
+>(
     rt: &R,
     alloc: Global,
     words: &Words,
     files: &mut F,
+    disk: D,
     input: &mut S,
     output: &mut K,
     hall: &mut H,
     gate: &G,
     namer: Box<dyn ReelNamer>,
-) -> u8
+) -> (u8, D)
     // The headline: whatever the stations send at once, in whatever pieces, the room's journal is one legal serial history,
     // each committed edit stands in it once, after all its station had been told of, and every reply names its point there
     // and says what the entries before it give. Linked items keep one offset at every point of it. A list that is put, read
     // again, plays as exactly the frames and weights of the cut; the document of a list shows what the list's tape shows, and
-    // opens as that cut. `CommandEnds` says for each command and each status what was read, what was written and which count
-    // of faults rose, by what the files, the input, the output and the hall told before and tell after.
-    ensures ends { EndsWith result (CommandEnds (change F.told files.old files.new)
+    // opens as that cut. What is kept on the disk outlives a stop: whatever a crash leaves, its records are the first entries
+    // of the journal, and nothing that any reply told of is missing. `CommandEnds` says for each command and each status what
+    // was read, what was written and which count of faults rose, by what the files, the disk, the input, the output and the
+    // hall told before and tell after.
+    ensures ends { EndsWith result.0 (CommandEnds (change F.told files.old files.new)
+        (change (disk_told D.file D.course D.faults) disk result.1)
         (change (input_told S.left S.read_faults) input.old input.new)
         (change (output_told K.taken K.write_faults) output.old output.new)
         (change H.told hall.old hall.new)
@@ -389,11 +490,16 @@ pub fn cut_main<R: Threads + Wait + Sync, F: Files, S: Source, K: Sink, H: Hall,
     // Completeness: where the words are a command's, what it reads is accepted, no input has more than 64 MiB and no
     // count of faults rises, the status is 0, or 6 where memory runs out.
     ensures complete { IsUnhindered (change F.told files.old files.new)
+        (change (disk_told D.file D.course D.faults) disk result.1)
         (change (input_told S.left S.read_faults) input.old input.new)
         (change (output_told K.taken K.write_faults) output.old output.new)
         (change H.told hall.old hall.new)
         (namer_told (rule namer) (given namer)) (command_of words.now)
-        → (result ≡ 0) ⊎ (result ≡ 6) }
+        → (result.0 ≡ 0) ⊎ (result.0 ≡ 6) }
 {
-    do_command(rt, alloc, words, files, input, output, hall, gate, namer).number()
+    accepted_files_are_not_refused();
+    let (status, disk) = do_command(
+        rt, alloc, words, files, disk, input, output, hall, gate, namer,
+    );
+    (status.number(), disk)
 }

@@ -8,7 +8,7 @@ use Rattle.reel_names.specs.Namers.{as_is, numbered}
 use Rattle.reel_names.specs.Tables.{TableAndNames, tabled}
 use Rattle.room_files.specs.Files.{FilesTold}
 use Rattle.room_halls.specs.Stations.{HallTold}
-use Rattle.command_files.specs.Ports.{Change, InputTold, OutputTold}
+use Rattle.command_files.specs.Ports.{Change, DiskTold, InputTold, OutputTold}
 use Rattle.list_commands.specs.Cuts.{NamerTold, namer_told}
 use Rattle.cut_server.specs.Runs.{CommandEnds, EndsWith}
 use Rattle.program_words.specs.declared.notice.Notice.{Notice}
@@ -20,12 +20,13 @@ NoticeEnds notice old new status =
     ((status ≡ 0) × (new.faults ≡ old.faults) × Takes old.taken new.taken (text_of notice))
     ⊎ ((status ≡ 2) × HasRisen old.faults new.faults × TakesFront old.taken new.taken (text_of notice))
 
--- by what its files, its input, its output and its hall told before and tell after, and by the namer that it was handed
-module _ (files : Change FilesTold) (input : Change InputTold) (output : Change OutputTold) (hall : Change HallTold) (namer : NamerTold) where
+-- by what its files, its disk, its input, its output and its hall told before and tell after, and by the namer that it was
+-- handed
+module _ (files : Change FilesTold) (disk : Change DiskTold) (input : Change InputTold) (output : Change OutputTold) (hall : Change HallTold) (namer : NamerTold) where
   abbrev pub EndsBy : Option Notice → List (List ℕ) → ℕ → Type 0
   EndsBy (Some notice) words status =
-      files.Untouched × input.Untouched × hall.Untouched × NoticeEnds notice output.before output.after status
-  EndsBy None words status = EndsWith status (CommandEnds files input output hall namer (command_of words))
+      files.Untouched × disk.Untouched × input.Untouched × hall.Untouched × NoticeEnds notice output.before output.after status
+  EndsBy None words status = EndsWith status (CommandEnds files disk input output hall namer (command_of words))
 
   abbrev pub ProgramEnds : List (List ℕ) → ℕ → Type 0
   ProgramEnds words status = EndsBy (notice_of words) words status
@@ -40,8 +41,8 @@ abbrev pub namer_asked : List (List ℕ) → NamerTold
 namer_asked words = namer_by (table_asked words) (wants_numbers words)
 
 -- the same by the namer that the words ask for, or there was no memory for one
-module _ (files : Change FilesTold) (input : Change InputTold) (output : Change OutputTold) (hall : Change HallTold) where
+module _ (files : Change FilesTold) (disk : Change DiskTold) (input : Change InputTold) (output : Change OutputTold) (hall : Change HallTold) where
   abbrev pub WordsEnd : List (List ℕ) → ℕ → Type 0
   WordsEnd words status =
-      ProgramEnds files input output hall (namer_asked words) words status
-      ⊎ ((status ≡ 6) × files.Untouched × input.Untouched × output.Untouched × hall.Untouched)
+      ProgramEnds files disk input output hall (namer_asked words) words status
+      ⊎ ((status ≡ 6) × files.Untouched × disk.Untouched × input.Untouched × output.Untouched × hall.Untouched)

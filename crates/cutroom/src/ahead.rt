@@ -34,8 +34,9 @@ pub fn longest_file() -> u64 {
 }
 
 /// Looks at what a hall needs that these words ask for: a journal that is not the document, which is refused before
-/// either is opened; threads; and a journal that can be written, of which only standard error is told. It answers after
-/// how long a silent station is to be cut off, and nothing where no hall is asked for.
+/// either is opened; threads; and a journal that can be written at the end, of which only standard error is told. A
+/// journal that is kept as it grows is not looked at: nothing is made of it ahead. It answers after how long a silent
+/// station is to be cut off, and nothing where no hall is asked for.
 pub fn look_ahead<'a, R: Env + Files + Threads + Wait + Sync, W: Write + Copy>(
     rt: &R,
     alloc: Global,
@@ -51,18 +52,39 @@ pub fn look_ahead<'a, R: Env + Files + Threads + Wait + Sync, W: Write + Copy>(
                 ..
             },
         ) => {
-            if files.are_one(document, journal) {
-                return Err(Hindrance::OneFile(journal));
-            }
-            let idle = idle_time(rt)?;
-            if !gives_threads(rt, alloc, stations) {
-                return Err(Hindrance::FewThreads);
-            }
+            let idle = look_at_hall(rt, alloc, files, document, stations, journal)?;
             files.look(journal);
             Ok(idle)
         }
+        Some(
+            Command::Store {
+                document,
+                stations,
+                journal,
+                ..
+            },
+        ) => look_at_hall(rt, alloc, files, document, stations, journal),
         _ => Ok(None),
     }
+}
+
+// Looks at the names of a hall's files and at its threads, and answers after how long a silent station is to be cut off.
+fn look_at_hall<'a, R: Env + Files + Threads + Wait + Sync, W: Write + Copy>(
+    rt: &R,
+    alloc: Global,
+    files: &StdFiles<'_, R, W>,
+    document: &str,
+    stations: u32,
+    journal: &'a str,
+) -> Result<Option<Duration>, Hindrance<'a>> {
+    if files.are_one(document, journal) {
+        return Err(Hindrance::OneFile(journal));
+    }
+    let idle = idle_time(rt)?;
+    if !gives_threads(rt, alloc, stations) {
+        return Err(Hindrance::FewThreads);
+    }
+    Ok(idle)
 }
 
 // How long a station may be silent, where the variable says it. It takes no memory.

@@ -2,7 +2,7 @@
 ghost use Rattle.std.specs.Prelude.{◌≡◌, ◌⊎◌, None};
 ghost use Rattle.command_words.specs.Commands.{command_of};
 ghost use Rattle.command_words.specs.NamedLists.{table_asked};
-ghost use Rattle.command_files.specs.Ports.{change, input_told, output_told};
+ghost use Rattle.command_files.specs.Ports.{change, disk_told, input_told, output_told};
 ghost use Rattle.list_commands.specs.Cuts.{namer_told};
 ghost use Rattle.cut_server.specs.Unhindered.{IsUnhindered};
 ghost use Rattle.cutroom.specs.Answers.{ProgramEnds, WordsEnd};
@@ -12,6 +12,7 @@ use cut_server::{cut_main, tabled_of, wants_numbers};
 use line_words::Words;
 use program_words::Notice;
 use reel_names::{AsIs, Numbered, ReelNamer};
+use room_disks::Disk;
 use room_files::Files;
 use room_halls::Hall;
 use room_ports::{OpenGate, Sink, Source};
@@ -23,91 +24,120 @@ use std::thread::Threads;
 pub const OUT_OF_MEMORY: u8 = 6;
 
 /// Answers words with the namer that they ask for, whose names the reels of a list get. Where there is no memory for it, it
-/// answers 6 and does nothing.
-pub fn answer_words<R: Threads + Wait + Sync, F: Files, S: Source, K: Sink, H: Hall>(
+/// answers 6 and does nothing. The disk is given back.
+pub fn answer_words<
+    R: Threads + Wait + Sync,
+    F: Files,
+    D: Disk + Drop + Send,
+    S: Source,
+    K: Sink,
+    H: Hall,
+>(
     rt: &R,
     alloc: Global,
     words: &Words,
     files: &mut F,
+    disk: D,
     input: &mut S,
     output: &mut K,
     hall: &mut H,
-) -> u8
+) -> (u8, D)
     ensures { WordsEnd (change F.told files.old files.new)
+        (change (disk_told D.file D.course D.faults) disk result.1)
         (change (input_told S.left S.read_faults) input.old input.new)
         (change (output_told K.taken K.write_faults) output.old output.new)
-        (change H.told hall.old hall.new) words.now result }
+        (change H.told hall.old hall.new) words.now result.0 }
 {
     let tabled = match tabled_of(alloc, words) {
         Ok(tabled) => tabled,
-        Err(_) => return OUT_OF_MEMORY,
+        Err(_) => return (OUT_OF_MEMORY, disk),
     };
     match tabled {
         Some(tabled) => match Box::new(alloc, tabled) {
-            Ok(namer) => answer(rt, alloc, words, files, input, output, hall, namer),
-            Err(_) => OUT_OF_MEMORY,
+            Ok(namer) => answer(rt, alloc, words, files, disk, input, output, hall, namer),
+            Err(_) => (OUT_OF_MEMORY, disk),
         },
-        None => answer_plain(rt, alloc, words, files, input, output, hall),
+        None => answer_plain(rt, alloc, words, files, disk, input, output, hall),
     }
 }
 
 // Answers words that give no table of names: a list's reels are named by numbers where that is asked for, else as they
 // are.
-fn answer_plain<R: Threads + Wait + Sync, F: Files, S: Source, K: Sink, H: Hall>(
+fn answer_plain<
+    R: Threads + Wait + Sync,
+    F: Files,
+    D: Disk + Drop + Send,
+    S: Source,
+    K: Sink,
+    H: Hall,
+>(
     rt: &R,
     alloc: Global,
     words: &Words,
     files: &mut F,
+    disk: D,
     input: &mut S,
     output: &mut K,
     hall: &mut H,
-) -> u8
+) -> (u8, D)
     requires { table_asked words.now ≡ None }
     ensures { WordsEnd (change F.told files.old files.new)
+        (change (disk_told D.file D.course D.faults) disk result.1)
         (change (input_told S.left S.read_faults) input.old input.new)
         (change (output_told K.taken K.write_faults) output.old output.new)
-        (change H.told hall.old hall.new) words.now result }
+        (change H.told hall.old hall.new) words.now result.0 }
 {
     match wants_numbers(words) {
         true => match Box::new(alloc, Numbered::new(alloc)) {
-            Ok(namer) => answer(rt, alloc, words, files, input, output, hall, namer),
-            Err(_) => OUT_OF_MEMORY,
+            Ok(namer) => answer(rt, alloc, words, files, disk, input, output, hall, namer),
+            Err(_) => (OUT_OF_MEMORY, disk),
         },
         false => match Box::new(alloc, AsIs::new(alloc)) {
-            Ok(namer) => answer(rt, alloc, words, files, input, output, hall, namer),
-            Err(_) => OUT_OF_MEMORY,
+            Ok(namer) => answer(rt, alloc, words, files, disk, input, output, hall, namer),
+            Err(_) => (OUT_OF_MEMORY, disk),
         },
     }
 }
 
 /// Answers `--help` and `--version` by the notice that they ask for, and does what other words ask for. It answers the
-/// status that the program ends with.
-pub fn answer<R: Threads + Wait + Sync, F: Files, S: Source, K: Sink, H: Hall>(
+/// status that the program ends with, and gives the disk back.
+pub fn answer<
+    R: Threads + Wait + Sync,
+    F: Files,
+    D: Disk + Drop + Send,
+    S: Source,
+    K: Sink,
+    H: Hall,
+>(
     rt: &R,
     alloc: Global,
     words: &Words,
     files: &mut F,
+    disk: D,
     input: &mut S,
     output: &mut K,
     hall: &mut H,
     namer: Box<dyn ReelNamer>,
-) -> u8
+) -> (u8, D)
     ensures ends { ProgramEnds (change F.told files.old files.new)
+        (change (disk_told D.file D.course D.faults) disk result.1)
         (change (input_told S.left S.read_faults) input.old input.new)
         (change (output_told K.taken K.write_faults) output.old output.new)
-        (change H.told hall.old hall.new) (namer_told (rule namer) (given namer)) words.now result }
+        (change H.told hall.old hall.new) (namer_told (rule namer) (given namer))
+        words.now result.0 }
     // Completeness, as `cut_main` has it, where no notice is asked for.
     ensures complete { notice_of words.now ≡ None → IsUnhindered (change F.told files.old files.new)
+        (change (disk_told D.file D.course D.faults) disk result.1)
         (change (input_told S.left S.read_faults) input.old input.new)
         (change (output_told K.taken K.write_faults) output.old output.new)
         (change H.told hall.old hall.new)
         (namer_told (rule namer) (given namer)) (command_of words.now)
-        → (result ≡ 0) ⊎ (result ≡ 6) }
+        → (result.0 ≡ 0) ⊎ (result.0 ≡ 6) }
 {
     match Notice::asked_by(words) {
-        Some(notice) => notice.tell(output),
+        Some(notice) => (notice.tell(output), disk),
         None => cut_main(
-            rt, alloc, words, files, input, output, hall, &OpenGate, namer,
+            rt, alloc, words, files, disk, input, output, hall, &OpenGate, namer,
         ),
     }
 }

@@ -1,7 +1,7 @@
-//! The program of the cutting room. It hands its arguments, the files of the system, its standard input, its standard
-//! output and a hall over TCP to `answer`, which has the main contract, and ends with the status. Files, streams and the
-//! hall tell standard error what failed and why; `main` puts a line more there where the status does not say enough. Before
-//! that it sees to its standard streams, and to what a hall needs.
+//! The program of the cutting room. It hands its arguments, the files of the system, a disk of it, its standard input, its
+//! standard output and a hall over TCP to `answer`, which has the main contract, and ends with the status. Files, the disk,
+//! streams and the hall tell standard error what failed and why; `main` puts a line more there where the status does not
+//! say enough. Before that it sees to its standard streams, and to what a hall needs.
 #![tactic(auto)]
 
 mod ahead;
@@ -17,6 +17,7 @@ use answer::{OUT_OF_MEMORY, answer_words};
 use errors::Errors;
 use memory::keep_freed_memory;
 use program_words::{Message, complaint, hindrance_text, program_arguments};
+use room_disks::StdDisk;
 use room_files::{Report, Reported, StdFiles};
 use room_halls::TcpHall;
 use room_ports::{StdSink, StdSource, put};
@@ -47,14 +48,16 @@ fn main(rt: HostRuntime) -> ExitCode {
             return ExitCode::from(NOT_SEATED);
         }
     };
+    let disk = StdDisk::new(alloc, &rt, errors);
     let mut input = StdSource::new(Reported::new(rt.stdin(), "standard input", report));
     let mut output = StdSink::new(Reported::new(rt.stdout(), "standard output", report));
     let mut hall = TcpHall::new(alloc, &rt, errors, idle);
-    let status = answer_words(
+    let (status, _) = answer_words(
         &rt,
         alloc,
         &words,
         &mut files,
+        disk,
         &mut input,
         &mut output,
         &mut hall,

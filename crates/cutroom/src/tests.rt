@@ -3,6 +3,7 @@ use crate::answer::answer;
 use line_words::{Memory, Words};
 use program_words::{HELP, VERSION, complaint};
 use reel_names::AsIs;
+use room_disks::SureDisk;
 use room_files::MemFiles;
 use room_halls::MemHall;
 use room_ports::{MemSink, MemSource};
@@ -21,7 +22,7 @@ fn words_in(alloc: Global, texts: &[&str]) -> Result<Words, Memory> {
     Ok(words)
 }
 
-// The status of an answer to words over this input and this output, with no file and no hall.
+// The status of an answer to words over this input and this output, with no file, an empty disk and no hall.
 fn status_of<R: Threads + Wait + Sync>(
     rt: &R,
     alloc: Global,
@@ -32,9 +33,11 @@ fn status_of<R: Threads + Wait + Sync>(
     let namer = Box::new(alloc, AsIs::new(alloc))?;
     let mut files = MemFiles::new(alloc, Vec::new(alloc));
     let mut hall = MemHall::new(alloc, Vec::new(alloc), Vec::new(alloc));
-    Ok(answer(
-        rt, alloc, words, &mut files, input, output, &mut hall, namer,
-    ))
+    let disk = SureDisk::new(alloc, Vec::new(alloc));
+    let (status, _) = answer(
+        rt, alloc, words, &mut files, disk, input, output, &mut hall, namer,
+    );
+    Ok(status)
 }
 
 // The status of an answer to these words over the line `point`, where these reads and writes fail, and whether this text
@@ -61,7 +64,7 @@ fn answered<R: Threads + Wait + Sync>(
 #[test]
 fn words_are_answered_once(rt: HostRuntime) -> Result<(), Memory> {
     let alloc = rt.alloc();
-    let cases: [(&[&str], &[u32], &[u32], u8, &str, bool); 16] = [
+    let cases: [(&[&str], &[u32], &[u32], u8, &str, bool); 18] = [
         (&["--help"], &[1], &[], 0, HELP, false),
         (&["--version"], &[1], &[], 0, VERSION, false),
         (&["--version"], &[], &[1], 2, "", false),
@@ -91,6 +94,22 @@ fn words_are_answered_once(rt: HostRuntime) -> Result<(), Memory> {
             true,
         ),
         (&["run", "none.otio", "24", "ndf"], &[], &[], 1, "", false),
+        (
+            &["store", "none.otio", "24", "ndf", "17", "a", "j"],
+            &[1],
+            &[],
+            3,
+            "refused words\n",
+            true,
+        ),
+        (
+            &["store", "none.otio", "24", "ndf", "1", "a", "j"],
+            &[1],
+            &[],
+            1,
+            "",
+            false,
+        ),
         (
             &["tape", "none.edl", "50"],
             &[1],

@@ -1,26 +1,8 @@
 // Kept files as texts: what a file of some bytes is opened as, and which calls were made on one over memory.
-use journal_file::{JournalFile, OpenFault, Record};
-use room_disks::{DiskCall, SureDisk, TapeFile};
+use crate::images::opened;
+use journal_file::OpenFault;
+use room_disks::{DiskCall, TapeFile};
 use std::alloc::{AllocError, Global};
-
-// The lines of records, each with `/` after it.
-pub fn lines_of(alloc: Global, records: &[Record]) -> Result<Vec<u8>, AllocError> {
-    let mut text = Vec::new(alloc);
-    for record in records {
-        text.extend_from_slice(record.line())?;
-        text.push(b'/')?;
-    }
-    Ok(text)
-}
-
-// The lines of a file of these bytes, or why it is not opened.
-pub fn opened(alloc: Global, bytes: &[u8]) -> Result<Vec<u8>, OpenFault> {
-    let disk = SureDisk::new(alloc, Vec::from_slice(alloc, bytes)?);
-    match JournalFile::open(alloc, disk) {
-        Ok((_, records)) => Ok(lines_of(alloc, &records)?),
-        Err((fault, _)) => Err(fault),
-    }
-}
 
 // Whether a file of these bytes has these lines, each with `/` after it, or is not opened for this fault.
 pub fn opens_as(alloc: Global, bytes: &[u8], want: Result<&str, OpenFault>) -> bool {

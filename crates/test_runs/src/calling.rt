@@ -2,6 +2,7 @@
 use cut_server::cut_main;
 use line_words::Words;
 use reel_names::{AsIs, ReelNamer};
+use room_disks::{Disk, SureDisk};
 use room_files::MemFiles;
 use room_halls::{Hall, MemHall};
 use room_ports::{Gate, MemSink, MemSource, OpenGate};
@@ -21,24 +22,72 @@ pub fn words_in(alloc: Global, text: &str) -> Result<Words, Fail> {
     Ok(words)
 }
 
-// The status of the program's call over these objects. What its contract says is not told to the tests, which hold what
-// they want against it.
-fn status_of<R: Threads + Wait + Sync, H: Hall, G: Gate + Sync>(
+// The status of the program's call over these objects, and the disk. What its contract says is not told to the tests,
+// which hold what they want against it.
+fn status_of<R: Threads + Wait + Sync, D: Disk + Drop + Send, H: Hall, G: Gate + Sync>(
     rt: &R,
     alloc: Global,
     words: &Words,
     files: &mut MemFiles,
+    disk: D,
     input: &mut MemSource,
     output: &mut MemSink,
     hall: &mut H,
     gate: &G,
     namer: Box<dyn ReelNamer>,
-) -> u8 {
-    cut_main(rt, alloc, words, files, input, output, hall, gate, namer)
+) -> (u8, D) {
+    cut_main(
+        rt, alloc, words, files, disk, input, output, hall, gate, namer,
+    )
 }
 
-/// The status of the program's call with a hall that seats stations, over these files, with nothing on the input, where
-/// reels have their own names.
+/// What came of the program's call: the status, what was put on the output, and the disk.
+#[derive(Drop)]
+pub struct Stored<D> {
+    pub status: u8,
+    pub output: Vec<u8>,
+    pub disk: D,
+}
+
+/// What comes of the program's call with a hall that seats stations, over these files and this disk, with nothing on the
+/// input, where reels have their own names.
+pub fn stored_over<R: Threads + Wait + Sync, D: Disk + Drop + Send, H: Hall, G: Gate + Sync>(
+    rt: &R,
+    alloc: Global,
+    words: &str,
+    files: &mut MemFiles,
+    disk: D,
+    hall: &mut H,
+    gate: &G,
+) -> Result<Stored<D>, Fail> {
+    let words = words_in(alloc, words)?;
+    let mut input = MemSource::new(Vec::new(alloc), Vec::new(alloc));
+    let mut output = MemSink::new(alloc, Vec::new(alloc));
+    let namer = Box::new(alloc, AsIs::new(alloc))?;
+    let (status, disk) = status_of(
+        rt,
+        alloc,
+        &words,
+        files,
+        disk,
+        &mut input,
+        &mut output,
+        hall,
+        gate,
+        namer,
+    );
+    let output = match output.bytes() {
+        Some(bytes) => bytes.to_vec(alloc)?,
+        None => Vec::new(alloc),
+    };
+    Ok(Stored {
+        status,
+        output,
+        disk,
+    })
+}
+
+/// The same status with an empty disk.
 pub fn served_over<R: Threads + Wait + Sync, H: Hall, G: Gate + Sync>(
     rt: &R,
     alloc: Global,
@@ -47,25 +96,17 @@ pub fn served_over<R: Threads + Wait + Sync, H: Hall, G: Gate + Sync>(
     hall: &mut H,
     gate: &G,
 ) -> Result<u8, Fail> {
-    let words = words_in(alloc, words)?;
-    let mut input = MemSource::new(Vec::new(alloc), Vec::new(alloc));
-    let mut output = MemSink::new(alloc, Vec::new(alloc));
-    let namer = Box::new(alloc, AsIs::new(alloc))?;
-    Ok(status_of(
-        rt,
-        alloc,
-        &words,
-        files,
-        &mut input,
-        &mut output,
-        hall,
-        gate,
-        namer,
-    ))
+    let disk = SureDisk::new(alloc, Vec::new(alloc));
+    let Stored {
+        status,
+        output: _,
+        disk: _,
+    } = stored_over(rt, alloc, words, files, disk, hall, gate)?;
+    Ok(status)
 }
 
-/// The status of the program's call over these files and this input and output, with no hall, where nobody waits and
-/// reels have their own names.
+/// The status of the program's call over these files and this input and output, with an empty disk and no hall, where
+/// nobody waits and reels have their own names.
 pub fn run_over<R: Threads + Wait + Sync>(
     rt: &R,
     alloc: Global,
@@ -76,9 +117,11 @@ pub fn run_over<R: Threads + Wait + Sync>(
 ) -> Result<u8, Fail> {
     let mut hall = MemHall::new(alloc, Vec::new(alloc), Vec::new(alloc));
     let namer = Box::new(alloc, AsIs::new(alloc))?;
-    Ok(status_of(
-        rt, alloc, words, files, input, output, &mut hall, &OpenGate, namer,
-    ))
+    let disk = SureDisk::new(alloc, Vec::new(alloc));
+    let (status, _) = status_of(
+        rt, alloc, words, files, disk, input, output, &mut hall, &OpenGate, namer,
+    );
+    Ok(status)
 }
 
 /// The status and the output of a run with the words of a text, with no file, over these pieces of input and where these

@@ -1,0 +1,5 @@
+mod Accepted
+mod Files
+mod KeptPasses
+mod ClosedRooms
+mod Ends
