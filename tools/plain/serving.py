@@ -47,10 +47,13 @@ def port_in(line, host="127.0.0.1"):
 class Server:
     """The program, serving a document to so many stations. Options are those of its process."""
 
+    command = "serve"
+
     def __init__(self, program, folder, text, stations, address="127.0.0.1:0", **options):
         self.journal = folder / "journal"
         (folder / "doc.otio").write_text(text)
-        words = [program, "serve", folder / "doc.otio", "24", "ndf", str(stations), address, self.journal]
+        begun = program if isinstance(program, list) else [program]
+        words = begun + [self.command, folder / "doc.otio", "24", "ndf", str(stations), address, self.journal]
         options = {"stdout": subprocess.PIPE, "stderr": subprocess.PIPE, "text": True} | options
         self.ran = subprocess.Popen(words, **options)
         self.told = []
