@@ -1,6 +1,7 @@
 -- Looking for the item with a number, one after another.
-use Rattle.std.proofs.Common.{◌≡◌, ℕ, zero, suc, ◌+◌, ◌-◌, ◌≤◌, Bool, true, false, cond, List, [], ◌∷◌, ◌++◌, ◌<◌, length, take, drop, slice_get, add-one, Option, Some, None, IsNone, refl, sym, ap, ◌∙◌, ◌↔◌, ◌≢◌, option_map, arith}
-use Rattle.std.proofs.lemmas.List.{drop_all, length-append, length-drop, take-append-le, take_all}
+use Rattle.std.proofs.Common.{◌≡◌, ℕ, zero, suc, ◌+◌, ◌-◌, ◌≤◌, Bool, true, false, cond, List, [], ◌∷◌, ◌++◌, ◌<◌, ◌==◌, length, take, drop, slice_get, add-one, Option, Some, None, IsNone, refl, sym, ap, ◌∙◌, ◌↔◌, ◌≢◌, option_map, arith}
+use Rattle.std.specs.List.{All}
+use Rattle.std.proofs.lemmas.List.{drop_all, drop-drop, length-append, length-drop, length-take-le, take-append-drop, take-append-le, take_all}
 use Rattle.frame_meaning.specs.Cells.{same_number}
 use Rattle.composables.specs.declared.items.ItemView.{ItemView}
 use Rattle.composables.specs.declared.items.Place.{Place}
@@ -160,3 +161,43 @@ none_place (Some p) r e n = cc
 pub none_iff : (o : Option Place) (vs : List ItemView) (i : ℕ) → range_from 0 vs i ≡ option_map (λ (p : Place). (p.from, p.to)) o → IsNone o ↔ Lacks i vs
 none_iff o vs i e =
     (λ none. lacks_of 0 vs i (place_none o (range_from 0 vs i) e none), λ lacks. none_place o (range_from 0 vs i) e (none_of 0 vs i lacks))
+
+-- items and gaps of which none has the number are passed by
+lacks_each : (i : ℕ) (vs : List ItemView) → All (λ (v : ItemView). v.item ≡ Some i → ⊥) vs → Lacks i vs
+lacks_each i [] h = tt
+lacks_each i (v ∷ vs) h = (h 0 v (omega arith), lacks_each i vs (λ k d low. h (suc k) d (omega (arith, low))))
+
+pub range_others : (x : ℕ) (old : List ItemView) (k i : ℕ) → All (λ (v : ItemView). v.item ≡ Some i → ⊥) (take k old)
+    → range_from (x + frames_in (take k old)) (drop k old) i ≡ range_from x old i
+range_others x old k i h =
+    sym (ap (λ (vs : List ItemView). range_from x vs i) (sym (take-append-drop k old))
+    ∙ range_past x (take k old) (drop k old) i (none_of x (take k old) i (lacks_each i (take k old) h)))
+
+-- where those stand that are left: behind so many, at a frame, with the same range of the number
+pub record Stands (xs left : List ItemView) (n from i : ℕ) : Type 0 where
+  pub within : n ≤ length xs
+  pub left_is : left ≡ drop n xs
+  pub from_is : from ≡ frames_in (take n xs)
+  pub range : range_from from left i ≡ range_from 0 xs i
+
+pub stands_past : (xs left new : List ItemView) (n from i k s : ℕ) → Stands xs left n from i → k ≤ length left → new ≡ drop k left → s ≡ frames_in (take k left)
+    → range_from (from + s) new i ≡ range_from from left i → Stands xs new (n + k) (from + s) i
+stands_past xs left new n from i k s st h is frames same =
+    let few : length (take k left) ≡ k = length-take-le k left h in
+    let parts : drop n xs ≡ take k left ++ drop k left = sym st.left_is ∙ sym (take-append-drop k left) in
+    let more : n + length (take k left) ≡ n + k = omega (arith, few) in
+    record {
+      within = omega (arith, few, piece_fits n xs (take k left) (drop k left) st.within parts);
+      left_is = is ∙ (behind_piece n xs (take k left) (drop k left) parts ∙ ap (λ (j : ℕ). drop j xs) more);
+      from_is = omega (arith, st.from_is, frames, frames_whole n xs (take k left) (drop k left) st.within parts, ap (λ (j : ℕ). frames_in (take j xs)) more);
+      range = same ∙ st.range;
+    }
+
+-- fewer are left behind a piece with an item
+filled_piece : (ps : List ItemView) → (length ps == 0) ≡ false → 0 < length ps
+filled_piece [] h = absurd cc
+filled_piece (p ∷ ps) h = omega arith
+
+pub smaller_left : (old new ps rest : List ItemView) (k : ℕ) → new ≡ drop k old → new ≡ ps ++ rest → (length ps == 0) ≡ false → length rest < length old
+smaller_left old new ps rest k left parts some =
+    omega (arith, filled_piece ps some, ap length left, length-drop k old, ap length parts, length-append ps rest)

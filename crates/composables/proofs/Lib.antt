@@ -8,5 +8,6 @@ pub mod Finding
 pub mod MarkStanding
 pub mod Numbered
 pub mod Unlinked
+pub mod PassedLinks
 pub mod Pieces
 pub mod OwnTracks

@@ -1,9 +1,11 @@
 // The items and gaps of a track, read one after another.
-ghost use Rattle.std.specs.Prelude.{◌≡◌, ◌∷◌, [], drop, IfSome, IsNone};
+ghost use Rattle.std.specs.Prelude.{◌≡◌, ◌≤◌, ◌∷◌, [], drop, length, take, IfSome, IsNone};
+ghost use Rattle.composables.specs.Good.{AllUnlinked};
 ghost use Rattle.composables.specs.Items.{items_of};
+ghost use Rattle.composables.specs.Joined.{frames_in};
 
 use crate::{ItemView, Track};
-use item_pages::Reader;
+use item_pages::{Passed, Reader, Wanted};
 use std::marker::Model;
 
 /// Reads the items and gaps of a track in order. Contracts see those that are left.
@@ -38,4 +40,25 @@ impl<'a> ItemReader<'a> {
     {
         self.left.next()
     }
+
+    /// Passes by the pages in front of which no item has a link, and by none of a page that is read in part. It tells
+    /// how many items and gaps it passed by, and how many frames they have.
+    pub fn pass_unlinked(&mut self) -> Passed
+        ensures within { result.count ≤ length self.old }
+        ensures left { self.new ≡ drop result.count self.old }
+        ensures frames { result.places ≡ frames_in (take result.count self.old) }
+        ensures unlinked { AllUnlinked (take result.count self.old) }
+    {
+        pass_bare(&mut self.left)
+    }
+}
+
+// Passes by the pages of a list in front of which no item has a link.
+fn pass_bare(left: &mut Reader<'_, ItemView>) -> Passed
+    ensures within { result.count ≤ length left.old }
+    ensures left { left.new ≡ drop result.count left.old }
+    ensures frames { result.places ≡ frames_in (take result.count left.old) }
+    ensures unlinked { AllUnlinked (take result.count left.old) }
+{
+    left.pass(Wanted::Beyond(0))
 }

@@ -1,10 +1,12 @@
 // Items and gaps, and where they stand.
 ghost use Rattle.std.specs.Prelude.{◌≡◌, ◌<◌};
+ghost use Rattle.item_pages.specs.Wants.{IsWithin};
 ghost use Rattle.composables.specs.Views.{clip_view, first_view, gap_view, later_view};
 ghost use Rattle.composables.specs.TrackFacts.{HasSource};
+ghost use Rattle.composables.specs.TrackSets.{link_bits};
 
 use frame_meaning::{Link, Mark, Side, What};
-use item_pages::Spanned;
+use item_pages::{Number, Spanned};
 
 /// An item or a gap: its number, or none of a gap; what its first frame shows; its length in frames; the dissolve at
 /// the cut before it; and its link.
@@ -70,9 +72,43 @@ impl ItemView {
 impl Spanned for ItemView {
     ghost places = { λ v. v.len };
 
+    ghost numbered = { λ v. v.item };
+
+    ghost set = { λ v. link_bits v.link };
+
     /// Its length in frames.
     fn span(&self) -> u32 {
         self.len
+    }
+
+    /// Its number. A gap has none.
+    fn number(&self) -> Number {
+        match self.item {
+            Some(number) => Number::Is(number),
+            None => Number::Without,
+        }
+    }
+
+    /// The bits of its link: those of its tracks, and one more that tells that there is one.
+    fn bits(&self) -> u64 {
+        known_bits(self.link)
+    }
+}
+
+// The bits that pages keep of a link.
+fn known_bits(link: Option<Link>) -> u64
+    ensures { IsWithin (link_bits link) result }
+{
+    link_bits(link)
+}
+
+// The bits of a link, or none.
+fn link_bits(link: Option<Link>) -> u64
+    ensures { result ≡ link_bits link }
+{
+    match link {
+        Some(link) => u64::from(link.tracks) | 0x1_0000_0000,
+        None => 0,
     }
 }
 

@@ -1,5 +1,5 @@
 // Where items and gaps stand.
-ghost use Rattle.std.specs.Prelude.{◌+◌, ◌-◌, ◌<◌, ◌≤◌, ◌^◌, ◌/◌, ◌≡◌, ◌↔◌, ◌++◌, length, take, drop, slice_get, option_map, None, Some, IfErr, IfOk, IfSome, IsNone};
+ghost use Rattle.std.specs.Prelude.{ℕ, ◌+◌, ◌-◌, ◌<◌, ◌≤◌, ◌^◌, ◌/◌, ◌≡◌, ◌↔◌, ◌++◌, length, take, drop, slice_get, option_map, None, Some, IfErr, IfOk, IfSome, IsNone};
 ghost use Rattle.std.specs.Option.{option_to_list};
 ghost use Rattle.composables.specs.Joined.{frames_in};
 ghost use Rattle.composables.specs.Places.{StandsAt, StandsBehind};
@@ -7,7 +7,7 @@ ghost use Rattle.composables.specs.Ranges.{range_from, HasNumber};
 
 use crate::{ItemView, Place};
 use frame_meaning::same_item;
-use item_pages::Pages;
+use item_pages::{Pages, Passed, Reader, Wanted};
 use std::sync::ledger::Ledger;
 use step_count::Steps;
 
@@ -51,6 +51,9 @@ pub fn find_item<L: Ledger>(
     let mut index = 0;
     let mut from = 0;
     loop {
+        let passed = pass_others(&mut left, item);
+        index += passed.count;
+        from += passed.places;
         let piece = left.next_piece();
         if piece.is_empty() {
             return None;
@@ -61,6 +64,17 @@ pub fn find_item<L: Ledger>(
         }
         index += piece.len() as u32;
     }
+}
+
+// Passes by pages that have no item with this number.
+fn pass_others(left: &mut Reader<'_, ItemView>, item: u32) -> Passed
+    ensures within { result.count ≤ length left.old }
+    ensures left { left.new ≡ drop result.count left.old }
+    ensures frames { result.places ≡ frames_in (take result.count left.old) }
+    ensures range { (x : ℕ) → range_from (x + result.places) left.new item
+        ≡ range_from x left.old item }
+{
+    left.pass(Wanted::Numbered(item))
 }
 
 // The place of the item with this number among these, of which the first has this index and begins at this frame, or

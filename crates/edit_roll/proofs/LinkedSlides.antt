@@ -19,8 +19,8 @@ use Rattle.composables.specs.Items.{items_of}
 use Rattle.composables.specs.Links.{outside_refusal}
 use Rattle.composables.specs.OwnTracks.{among_named, on_own, track_numbered}
 use Rattle.composables.specs.Places.{StandsAt}
-use Rattle.composables.specs.Ranges.{HasNumber, offset_of}
-use Rattle.composables.specs.TrackFacts.{Lacks, ShowsAsItem}
+use Rattle.composables.specs.Ranges.{offset_of}
+use Rattle.composables.specs.TrackFacts.{ShowsAsItem}
 use Rattle.composables.specs.TrackState.{TrackState}
 use Rattle.edit_delta.specs.declared.deltas.Way.{Way}
 use Rattle.edit_delta.specs.Nearest.{nearest}
@@ -32,11 +32,10 @@ use Rattle.edit_roll.proofs.Slides.{shows-there}
 use Rattle.link_groups.specs.ItemLinks.{carried_outside}
 use Rattle.link_groups.specs.LinkedItems.{item_of}
 use Rattle.link_groups.specs.Linking.{or_else, shown_offset}
-use Rattle.link_groups.proofs.Found.{found-none, found-there, has-number}
 
 -- the item is not there
-pub refuse-absent : (table : Table) (ts : List TrackState) (c : Slide) (t : TrackState) → Lacks c.item (items_of t.cells) → links_refuse table ts c t (item_of t c.item) ≡ None
-refuse-absent table ts c t lacks = ap (links_refuse table ts c t) (found-none t c.item lacks)
+pub refuse-absent : (table : Table) (ts : List TrackState) (c : Slide) (t : TrackState) → item_of t c.item ≡ None → links_refuse table ts c t (item_of t c.item) ≡ None
+refuse-absent table ts c t none = ap (links_refuse table ts c t) none
 
 -- the item v that was found at a place
 pub record IsThere (table : Table) (t : TrackState) (item : ℕ) (p : Place) (v : ItemView) : Type 0 where
@@ -45,12 +44,12 @@ pub record IsThere (table : Table) (t : TrackState) (item : ℕ) (p : Place) (v 
   pub number : v.item ≡ Some item
   pub shows : ShowsAsItem v.item v.first v.link
 
-pub is-there : (table : Table) (t : TrackState) (item : ℕ) (p : Place) (v : ItemView) → IsGood table t → StandsAt (items_of t.cells) p → HasNumber (items_of t.cells) p.index item → slice_get (items_of t.cells) p.index ≡ Some v
+pub is-there : (table : Table) (t : TrackState) (item : ℕ) (p : Place) (v : ItemView) → IsGood table t → item_of t item ≡ Some (p.from, v) → StandsAt (items_of t.cells) p → v.item ≡ Some item → slice_get (items_of t.cells) p.index ≡ Some v
     → IsThere table t item p v
-is-there table t item p v good stands number read = record {
-  found = found-there t item p v good.kept stands number read;
+is-there table t item p v good found stands number read = record {
+  found = found;
   spot = spot-at table t p v good stands read;
-  number = has-number (items_of t.cells) p.index item v number read;
+  number = number;
   shows = shows-there (items_of t.cells) p.index v read good.kept.each;
 }
 

@@ -1,11 +1,12 @@
 // Slide: an item moved between its neighbours.
-ghost use Rattle.std.specs.Prelude.{◌≡◌, ◌+◌, ◌*◌, ◌<◌, ◌≤◌, All, Some, length, nat_eq, slice_get, true};
+ghost use Rattle.std.specs.Prelude.{◌≡◌, ◌+◌, ◌*◌, ◌<◌, ◌≤◌, All, IfSome, Some, length, nat_eq, option_map, slice_get, true};
 ghost use Rattle.std.specs.List.{list_any};
 ghost use Rattle.out_of_memory.specs.Answers.{Answers};
 ghost use Rattle.composables.specs.Good.{IsGood};
 ghost use Rattle.composables.specs.Items.{items_of};
 ghost use Rattle.composables.specs.OwnTracks.{numbers_of, track_numbered};
 ghost use Rattle.composables.specs.Places.{IsPlaceOf};
+ghost use Rattle.composables.specs.Ranges.{range_of};
 ghost use Rattle.composables.specs.Roomy.{IsRoomy};
 ghost use Rattle.composables.specs.Sizes.{size_of, sizes_of};
 ghost use Rattle.composables.specs.TrackSets.{tracks_in};
@@ -18,6 +19,7 @@ use crate::linked_slides::links_refuse;
 use crate::neighbours::{Sides, sides_of_item, used_between};
 use composables::{Done, EditFault, ItemView, Place, Refusal, Slide, Table, Track, own_index};
 use edit_delta::{Way, going_on, place_parts, reaching_back};
+use link_groups::{FoundItem, item_on};
 use std::alloc::Global;
 use std::sync::ledger::Ledger;
 use step_count::Steps;
@@ -77,38 +79,81 @@ fn slide_at<L: Ledger>(
         named.old.items named.new.items result }
     ensures good { EachStaysGood table.now named.old.items named.new.items }
     ensures least { steps.old ≤ steps.new }
-    ensures most { steps.new ≤ steps.old + 22 * sizes_of named.old.items }
+    ensures most { steps.new ≤ steps.old + 18 * sizes_of named.old.items }
 {
-    match links_refuse(table, named, &named[index], call, steps) {
+    let track = &named[index];
+    let found = item_on(track, call.item, steps);
+    match links_refuse(table, named, track, found, call, steps) {
         Some(refusal) => Err(EditFault::Refused(refusal)),
-        None => slide_track(alloc, table, &mut named[index], call, steps),
+        None => slide_track(alloc, table, &mut named[index], found, call, steps),
     }
 }
 
-// Slides the item of its own track, whose link allows it, or finds no such item.
+// Slides the item that was looked for on its own track, whose link allows it, or refuses where there is none.
 fn slide_track<L: Ledger>(
     alloc: Global,
     table: &Table,
     track: &mut Track,
+    found: Option<FoundItem>,
     call: &Slide,
     steps: &mut Steps<L>,
 ) -> Result<Done, EditFault>
     requires good { IsGood table.now track.old }
     requires roomy { IsRoomy track.old }
+    requires read { IfSome found (λ f. slice_get (items_of track.old.cells) f.index ≡ Some f.view) }
+    requires place { IfSome found (λ f. IsPlaceOf track.old.cells
+        (record { index = f.index; from = f.from; to = f.to })) }
+    requires range { range_of track.old.cells call.now.item
+        ≡ option_map (λ f. (f.from, f.to)) found }
     ensures answers { Answers (slide_track table.now call.now track.old)
         track.old track.new result }
     ensures good { StaysGood table.now track.old track.new }
     ensures least { steps.old ≤ steps.new }
-    ensures most { steps.new ≤ steps.old + 20 * size_of track.old }
+    ensures most { steps.new ≤ steps.old + 16 * size_of track.old }
 {
-    let Some(found) = track.item_by_id(call.item, steps) else {
-        return Err(EditFault::Refused(Refusal::NoItem));
+    match found {
+        Some(found) => slide_found(alloc, table, track, found, call, steps),
+        None => Err(EditFault::Refused(Refusal::NoItem)),
+    }
+}
+
+// Slides the item that was found, whose link allows it.
+fn slide_found<L: Ledger>(
+    alloc: Global,
+    table: &Table,
+    track: &mut Track,
+    found: FoundItem,
+    call: &Slide,
+    steps: &mut Steps<L>,
+) -> Result<Done, EditFault>
+    requires good { IsGood table.now track.old }
+    requires roomy { IsRoomy track.old }
+    requires read { slice_get (items_of track.old.cells) found.index ≡ Some found.view }
+    requires place { IsPlaceOf track.old.cells
+        (record { index = found.index; from = found.from; to = found.to }) }
+    requires range { range_of track.old.cells call.now.item ≡ Some (found.from, found.to) }
+    ensures answers { Answers (slide_track table.now call.now track.old)
+        track.old track.new result }
+    ensures good { StaysGood table.now track.old track.new }
+    ensures least { steps.old ≤ steps.new }
+    ensures most { steps.new ≤ steps.old + 16 * size_of track.old }
+{
+    let place = Place {
+        index: found.index,
+        from: found.from,
+        to: found.to,
     };
-    let Some(view) = track.item(found.index) else {
-        unreachable!()
-    };
-    match sides_of_item(track, found) {
-        Some(sides) => slide_item(alloc, table, track, found, &view, &sides, call.by, steps),
+    match sides_of_item(track, place) {
+        Some(sides) => slide_item(
+            alloc,
+            table,
+            track,
+            place,
+            &found.view,
+            &sides,
+            call.by,
+            steps,
+        ),
         None => Ok(Done::By(0)),
     }
 }

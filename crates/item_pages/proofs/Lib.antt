@@ -4,3 +4,5 @@ pub mod Setting
 pub mod Filling
 pub mod Joining
 pub mod Placing
+pub mod Marking
+pub mod Fronts

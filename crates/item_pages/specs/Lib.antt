@@ -1,6 +1,8 @@
 -- To be read: public clauses speak of it.
 pub mod Items
+pub mod Wants
 -- Of the code: how a list is kept.
 pub mod Page
+pub mod Summary
 pub mod Packing
 pub mod Spots

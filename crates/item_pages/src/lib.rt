@@ -6,9 +6,11 @@
 
 mod finding;
 mod list;
+mod marks;
 mod packing;
 mod page;
 mod page_list;
+mod passing;
 mod reading;
 mod spans;
 mod spots;
@@ -16,4 +18,4 @@ mod spots;
 pub use list::Pages;
 pub use out_of_memory::Memory;
 pub use reading::Reader;
-pub use spans::{Found, Spanned};
+pub use spans::{Found, Number, Passed, Spanned, Wanted};

@@ -77,7 +77,11 @@ impl<T: Spanned + Copy> Pages<T> {
     pub fn items_from(&self, index: u32) -> Reader<'_, T>
         ensures { result ≡ drop index self.now }
     {
-        let (piece, behind) = behind(self.pages.as_slice(), index);
+        let pages = self.pages.as_slice();
+        if index == 0 {
+            return Reader::of(&[], pages);
+        }
+        let (piece, behind) = behind(pages, index);
         Reader::of(piece, behind)
     }
 

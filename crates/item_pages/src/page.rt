@@ -1,7 +1,8 @@
 // A page: up to 64 items behind a pointer with several owners. No page changes once it is made.
-ghost use Rattle.std.specs.Prelude.{◌≡◌, ◌+◌, ◌<◌, ◌≤◌, ◌^◌, ◌++◌, ◌∷◌, length, sum_by, slice_set, IfOk};
+ghost use Rattle.std.specs.Prelude.{◌≡◌, ◌+◌, ◌<◌, ◌≤◌, ◌^◌, ◌++◌, ◌∷◌, length, sum_by, slice_set, false, All, IfOk};
 
-use crate::Spanned;
+use crate::marks::{Marks, marks_of};
+use crate::{Spanned, Wanted};
 use out_of_memory::Memory;
 use std::alloc::Global;
 use std::marker::Model;
@@ -16,6 +17,7 @@ pub struct Page<T: Spanned + Copy> {
     items: Arc<Vec<T>>,
     count: u32,
     span: u32,
+    marks: Marks,
 }
 
 impl<T: Spanned + Copy> Model for Page<T> {
@@ -28,10 +30,13 @@ impl<T: Spanned + Copy> Model for Page<T> {
 
     ghost use Rattle.item_pages.specs.Page.{IsPage};
 
-    ghost invariant = { λ p. IsPage T.places (arc_value p.items).items p.count p.span };
+    ghost invariant = { λ p. IsPage T.places T.numbered T.set
+        (arc_value p.items).items p.count p.span p.marks };
 }
 
 impl<T: Spanned + Copy> Page<T> {
+    ghost use Rattle.item_pages.specs.Wants.{Unwanted};
+
     /// The page of these items, of which there are 1 to 64.
     pub fn of(alloc: Global, items: Vec<T>) -> Result<Page<T>, Memory>
         requires filled { 0 < length items.items }
@@ -41,8 +46,14 @@ impl<T: Spanned + Copy> Page<T> {
     {
         let count = items.len() as u32;
         let span = span_of(&items);
+        let marks = marks_of(&items);
         let items = Arc::new(alloc, items)?;
-        Ok(Page { items, count, span })
+        Ok(Page {
+            items,
+            count,
+            span,
+            marks,
+        })
     }
 
     /// The page of a copy of these items.
@@ -89,6 +100,7 @@ impl<T: Spanned + Copy> Page<T> {
             items: Arc::try_clone(&self.items)?,
             count: self.count,
             span: self.span,
+            marks: self.marks,
         })
     }
 
@@ -126,6 +138,14 @@ impl<T: Spanned + Copy> Page<T> {
         ensures within { length self.now ≤ 64 }
     {
         self.span
+    }
+
+    /// Whether it may have an item that is wanted. False only where it has none.
+    pub fn may_have(&self, wanted: Wanted) -> bool
+        ensures { result ≡ false
+            → All (λ item. Unwanted wanted (T.numbered item) (T.set item)) self.now }
+    {
+        self.marks.may_have(wanted)
     }
 }
 

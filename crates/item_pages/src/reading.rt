@@ -1,8 +1,9 @@
 // The items of a list, read one after another.
 ghost use Rattle.std.specs.Prelude.{◌≡◌, [], ◌∷◌, IfSome, IsNone};
 
-use crate::Spanned;
 use crate::page::Page;
+use crate::passing::pass;
+use crate::{Passed, Spanned, Wanted};
 use std::marker::Model;
 
 /// Reads the items of a list in order, page by page. Contracts see those that are left.
@@ -19,14 +20,21 @@ impl<'a, T: Spanned + Copy> Model for Reader<'a, T> {
     ghost Value = { List T };
 
     ghost view = { λ r. r.piece.now ++ items_of r.behind.now };
+
+    ghost use Rattle.item_pages.specs.Items.{Fits};
+
+    ghost invariant = { λ r. Fits T.places (r.piece.now ++ items_of r.behind.now) };
 }
 
 impl<'a, T: Spanned + Copy> Reader<'a, T> {
     ghost use Rattle.std.specs.Prelude.{◌++◌};
+    ghost use Rattle.item_pages.specs.Items.{Fits};
     ghost use Rattle.item_pages.specs.Packing.{items_of};
+    ghost use Rattle.item_pages.specs.Wants.{PassedBy};
 
     // A reader of these items of a page, and then of the pages after it.
     pub(crate) fn of(piece: &'a [T], behind: &'a [Page<T>]) -> Reader<'a, T>
+        requires { Fits T.places (piece.now ++ items_of behind.now) }
         ensures { result ≡ piece.now ++ items_of behind.now }
     {
         Reader { piece, behind }
@@ -67,5 +75,21 @@ impl<'a, T: Spanned + Copy> Reader<'a, T> {
         };
         self.piece = rest;
         Some(*first)
+    }
+
+    /// Passes by the pages in front of which no item is wanted. It looks at no item, and passes by none of a page that is
+    /// read in part.
+    pub fn pass(&mut self, wanted: Wanted) -> Passed
+        ensures { PassedBy T.places T.numbered T.set wanted self.old result self.new }
+    {
+        if !self.piece.is_empty() {
+            return Passed {
+                count: 0,
+                places: 0,
+            };
+        }
+        let (passed, behind) = pass(self.behind, wanted);
+        *self = Reader::of(&[], behind);
+        passed
     }
 }

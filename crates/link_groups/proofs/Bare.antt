@@ -33,10 +33,10 @@ bare_marked : (m : Option Mark) (cs : List Cell) → AreBare cs → AreBare (mar
 bare_marked m [] h = tt
 bare_marked m (c ∷ cs) h = h
 
-bare_views : (vs : List ItemView) → AllUnlinked vs → AreBare (cells_of vs)
-bare_views [] u = tt
-bare_views (v ∷ vs) u =
-    bare_append (view_cells v) (cells_of vs) (bare_marked v.mark (span v.item v.first v.link v.len) (bare_span v.item v.first v.link v.len u.0)) (bare_views vs u.1)
+pub bare-views : (vs : List ItemView) → AllUnlinked vs → AreBare (cells_of vs)
+bare-views [] u = tt
+bare-views (v ∷ vs) u =
+    bare_append (view_cells v) (cells_of vs) (bare_marked v.mark (span v.item v.first v.link v.len) (bare_span v.item v.first v.link v.len u.0)) (bare-views vs u.1)
 
 pub bare-take : (n : ℕ) (cs : List Cell) → AreBare cs → AreBare (take n cs)
 bare-take zero cs h = tt
@@ -50,7 +50,7 @@ bare-drop (suc n) (c ∷ cs) h = bare-drop n cs h.1
 
 -- the cells of a track without links
 pub bare-cells : (t : TrackState) → IsKept t → AllUnlinked (items_of t.cells) → AreBare t.cells
-bare-cells t k u = subst AreBare k.whole (bare_views (items_of t.cells) u)
+bare-cells t k u = subst AreBare k.whole (bare-views (items_of t.cells) u)
 
 pub bare-outside : (named : List TrackState) (cs : List Cell) → AreBare cs → least_outside named cs ≡ None
 bare-outside named [] h = refl

@@ -7,6 +7,7 @@ pub mod Named
 pub mod LinkOrder
 pub mod LeastLinks
 pub mod Bare
+pub mod PassedOver
 pub mod Elsewhere
 pub mod SplitKeys
 pub mod Relinking

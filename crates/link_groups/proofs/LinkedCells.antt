@@ -68,8 +68,8 @@ any_none q (c ∷ cs) e = absurd (omega (arith, e))
 
 -- ranges of cells one after another
 
-take_over : (y : ℕ) (cs ds : List Cell) → take y (cs ++ ds) ≡ take y cs ++ take (y - length cs) ds
-take_over y cs ds = ⊎_elim before behind (cases_lt (length cs) y) where
+pub take-over : (y : ℕ) (cs ds : List Cell) → take y (cs ++ ds) ≡ take y cs ++ take (y - length cs) ds
+take-over y cs ds = ⊎_elim before behind (cases_lt (length cs) y) where
   before : length cs < y → take y (cs ++ ds) ≡ take y cs ++ take (y - length cs) ds
   before less =
       let e : y ≡ length cs + (y - length cs) = omega (arith, less) in
@@ -112,7 +112,7 @@ front_more q x i vs v e less some =
     let long : length (cells_of (take i vs)) ≡ frames_in (take i vs) = length-cells_of (take i vs) in
     let part : length (take (x - length (cells_of (take i vs))) (view_cells v)) ≡ min (x - length (cells_of (take i vs))) (length (view_cells v)) = length_take (x - length (cells_of (take i vs))) (view_cells v) in
     ap (λ (cs : List Cell). list_any (has_key q) (take x cs)) (more_cells vs i v e)
-    ∙ (ap (list_any (has_key q)) (take_over x (cells_of (take i vs)) (view_cells v))
+    ∙ (ap (list_any (has_key q)) (take-over x (cells_of (take i vs)) (view_cells v))
     ∙ (list_any-append (has_key q) (take x (cells_of (take i vs))) (take (x - length (cells_of (take i vs))) (view_cells v))
     ∙ ap (λ (b : Bool). list_any (has_key q) (take x (cells_of (take i vs))) || b)
     (any_some q (is_key_of q v.link) (take (x - length (cells_of (take i vs))) (view_cells v))

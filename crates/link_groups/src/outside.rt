@@ -98,7 +98,7 @@ fn least_found<L: Ledger>(
     least_on(named, track, start, y, steps)
 }
 
-// The least such link of one track, where the walk begins at this start.
+// The least such link of one track, where the walk begins at this start. Pages without links are passed by.
 fn least_on<L: Ledger>(
     named: &[Track],
     track: &Track,
@@ -117,17 +117,23 @@ fn least_on<L: Ledger>(
     if !track.has_links() {
         return None;
     }
+    let count = track.count();
     let mut items = ItemReader::at(track, start.index);
     let mut least = None;
     let mut inside = None;
-    let mut to = u64::from(start.from);
-    for index in start.index..track.count() {
-        steps.tick();
+    let mut index = start.index;
+    let mut to = start.from;
+    while index < count {
+        let passed = items.pass_unlinked();
+        index += passed.count;
+        to += passed.places;
         let Some(view) = items.next() else {
-            unreachable!()
+            return least;
         };
-        to += u64::from(view.len);
-        if to > u64::from(y) {
+        steps.tick();
+        index += 1;
+        to += view.len;
+        if to > y {
             least = least_link(least, outside_past(named, view.link, &mut inside));
         }
     }

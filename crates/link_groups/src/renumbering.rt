@@ -106,7 +106,7 @@ fn relink_cells<L: Ledger>(
     relink_items(alloc, track, &old, place, splits, steps)
 }
 
-// Reads the items of the track as it was while it gives some of them new links.
+// Reads the items of the track as it was while it gives some of them new links. Pages without links are passed by.
 fn relink_items<L: Ledger>(
     alloc: Global,
     track: &mut Track,
@@ -124,16 +124,23 @@ fn relink_items<L: Ledger>(
     if !old.has_links() {
         return Ok(());
     }
+    let count = old.count();
     let mut items = ItemReader::at(old, 0);
-    let mut end: u64 = 0;
-    for index in 0..old.count() {
-        steps.tick();
+    let mut index: u32 = 0;
+    let mut end: u32 = 0;
+    while index < count {
+        let passed = items.pass_unlinked();
+        index += passed.count;
+        end += passed.places;
         let Some(view) = items.next() else {
-            unreachable!()
+            return Ok(());
         };
-        end += u64::from(view.len);
-        if end > place {
-            relink_item(alloc, track, index, &view, splits)?;
+        steps.tick();
+        let at = index;
+        index += 1;
+        end += view.len;
+        if u64::from(end) > place {
+            relink_item(alloc, track, at, &view, splits)?;
         }
     }
     Ok(())

@@ -83,7 +83,7 @@ fn marks_before<L: Ledger>(
     Ok(marks)
 }
 
-// Marks the links of items of one track that begin before the record frame `x`.
+// Marks the links of items of one track that begin before the record frame `x`. Pages without links are passed by.
 fn mark_before<L: Ledger>(
     marks: &mut LinkMarks,
     track: &Track,
@@ -99,17 +99,23 @@ fn mark_before<L: Ledger>(
     if !track.has_links() {
         return Ok(());
     }
+    let count = track.count();
     let mut items = ItemReader::at(track, 0);
+    let mut index: u32 = 0;
     let mut at: u32 = 0;
-    for index in 0..track.count() {
+    while index < count {
+        let passed = items.pass_unlinked();
+        index += passed.count;
+        at += passed.places;
         if at >= x {
             return Ok(());
         }
-        steps.tick();
         let Some(view) = items.next() else {
-            unreachable!()
+            return Ok(());
         };
+        steps.tick();
         marks.add(view.link)?;
+        index += 1;
         at += view.len;
     }
     Ok(())
@@ -179,7 +185,8 @@ fn add_found<L: Ledger>(
     add_split(split, before, track, start, y, steps)
 }
 
-// Adds those that items of one track have which end past `y`; the walk begins at this start.
+// Adds those that items of one track have which end past `y`; the walk begins at this start. Pages without links are
+// passed by.
 fn add_split<L: Ledger>(
     split: &mut BTreeSet<(u32, u32)>,
     before: &LinkMarks,
@@ -203,13 +210,19 @@ fn add_split<L: Ledger>(
     if !track.has_links() {
         return Ok(());
     }
+    let count = track.count();
     let mut items = ItemReader::at(track, start.index);
+    let mut index = start.index;
     let mut end = start.from;
-    for index in start.index..track.count() {
-        steps.tick();
+    while index < count {
+        let passed = items.pass_unlinked();
+        index += passed.count;
+        end += passed.places;
         let Some(view) = items.next() else {
-            unreachable!()
+            return Ok(());
         };
+        steps.tick();
+        index += 1;
         end += view.len;
         if end > y {
             add_marked(split, before, view.link)?;

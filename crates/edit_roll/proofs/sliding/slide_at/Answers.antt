@@ -10,8 +10,8 @@ use Rattle.edit_roll.proofs.sliding.slide_at.Goals as goal
 
 pub returns-in-Some-clause-answers : goal.returns-in-Some-clause-answers
 returns-in-Some-clause-answers g c =
-    let own = is-named c.args.call.now.track c.args.call.now.tracks c.args.index c.args.named.now.items c.index.result.now c.requires.named c.requires.found c.requires.within c.index.ensures in
-    let t = c.index.result.now in (
+    let own = is-named c.args.call.now.track c.args.call.now.tracks c.args.index c.args.named.now.items c.index-track.result.now c.requires.named c.requires.found c.requires.within c.index-track.ensures in
+    let t = c.index-track.result.now in (
       refused-means c.args.table.now c.args.call.now c.args.named.now.items t c.in-Some.refusal own.found
           (ap (λ (ts : List TrackState). links_refuse c.args.table.now ts c.args.call.now t (item_of t c.args.call.now.item)) (sym c.deref.ensures.value) ∙ (sym c.links_refuse.ensures.refusal ∙ c.in-Some.is)),
       refl,
@@ -22,8 +22,8 @@ returns-in-Some-clause-good g c = each-self c.args.table.now c.args.named.now.it
 
 pub returns-in-None-clause-answers : goal.returns-in-None-clause-answers
 returns-in-None-clause-answers g c =
-    let own = is-named c.args.call.now.track c.args.call.now.tracks c.args.index c.args.named.now.items c.index.result.now c.requires.named c.requires.found c.requires.within c.index.ensures in
-    let t = c.index.result.now in
+    let own = is-named c.args.call.now.track c.args.call.now.tracks c.args.index c.args.named.now.items c.index-track.result.now c.requires.named c.requires.found c.requires.within c.index-track.ensures in
+    let t = c.index-track.result.now in
     let mine = is-named c.args.call.now.track c.args.call.now.tracks c.args.index c.args.named.now.items c.index_mut.result.now c.requires.named c.requires.found c.requires.within c.index_mut.ensures.value in
     let s : StaysGood c.args.table.now c.index_mut.result.now c.slide_track.new.track = c.slide_track.ensures.good in
     allowed-answers c.args.table.now c.args.call.now c.args.named.now.items _ t c.slide_track.result own.found

@@ -1,4 +1,4 @@
-use Rattle.std.proofs.Common.{◌≡◌, ℕ, ◌+◌, ◌≤◌, ◌&&◌, ◌||◌, drop, length, take}
+use Rattle.std.proofs.Common.{◌≡◌, ℕ, ◌+◌, ◌-◌, ◌≤◌, ◌&&◌, ◌||◌, drop, length, take}
 use Rattle.std.specs.List.{list_any}
 use Rattle.std.specs.BTreeSet.{btree_set_len, contains}
 use Rattle.composables.specs.Items.{cells_of, items_of}
@@ -9,11 +9,14 @@ use Rattle.link_groups.proofs.splits.add_split.Given as goal
 
 abbrev pub invariant-loop-index : goal.invariant-loop-index
 invariant-loop-index g l = record {
-  items : l.items ≡ drop l.index (items_of l.track.cells);
   within : l.index ≤ length (items_of l.track.cells);
+  items : l.items ≡ drop l.index (items_of l.track.cells);
   end : l.end ≡ frames_in (take l.index (items_of l.track.cells));
   links : (q : ℕ × ℕ) → contains key_cmp l.split q ≡ (contains key_cmp l.fn.split q || (is_marked l.before q && list_any (has_key q) (drop l.y (cells_of (take l.index (items_of l.track.cells))))));
   few : btree_set_len l.split ≤ btree_set_len l.fn.split + l.index;
   least : l.fn.steps ≤ l.steps;
   most : l.steps ≤ l.fn.steps + l.index;
 }
+
+abbrev pub decreases-loop-index : goal.decreases-loop-index
+decreases-loop-index g l = length (items_of l.track.cells) - l.index
