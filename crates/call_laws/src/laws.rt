@@ -6,6 +6,7 @@ use composables::{
     Trim, Undissolve, Unlink,
 };
 use edit_calls::Call;
+use take_back::{Deed, Step};
 
 fn equal_overwrites_are_one()
     ensures { (x y : Overwrite) → ⟦<Overwrite as PartialEq>⟧.eq x y ≡ true → x ≡ y }
@@ -86,4 +87,17 @@ pub fn equal_calls_are_one()
     equal_ripples_are_one();
     equal_links_are_one();
     equal_unlinks_are_one();
+}
+
+fn equal_deeds_are_one()
+    ensures { (x y : Deed Call) → ⟦<Deed<Call> as PartialEq>⟧.eq x y ≡ true → x ≡ y }
+{
+    equal_calls_are_one();
+}
+
+/// Steps that compare as equal are one step.
+pub fn equal_steps_are_one()
+    ensures { (x y : Step Call) → ⟦<Step<Call> as PartialEq>⟧.eq x y ≡ true → x ≡ y }
+{
+    equal_deeds_are_one();
 }

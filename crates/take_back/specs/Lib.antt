@@ -2,6 +2,7 @@
 pub mod Parts
 pub mod Steps
 pub mod Left
+pub mod NeverBack
 -- Lemmas with their proofs, which say nothing that a reader needs: the laws of the object cite the last names of
 -- StepLaws and of RoomyLaws, and what such a law cites stands here.
 pub mod Lists

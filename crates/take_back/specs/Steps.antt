@@ -12,6 +12,10 @@ use Rattle.take_back.specs.declared.step.Deed.{Deed}
 use Rattle.take_back.specs.declared.step.Deed.TheVariants.{Do, Back}
 use Rattle.take_back.specs.declared.step.Step.{Step}
 
+-- the same step, asked for by this station
+abbrev pub asked_by : {C : Type 0} → ℕ → Step C → Step C
+asked_by station step = record { by = station; act = step.act }
+
 -- the parts that it names
 abbrev pub names_of : {C : Type 0} → (C → List ℕ) → Deed C → List ℕ
 names_of names (Do c) = names c

@@ -7,27 +7,12 @@ ghost use Rattle.take_back.specs.declared.kept.Kept.{Kept as KeptPart};
 ghost use Rattle.take_back.specs.Parts.{changed, changed_by, nows, IsGoodKept};
 ghost use Rattle.take_back.specs.Steps.{done_by};
 
-use crate::{BackDone, BackRefusal, Former, Kept};
-use room_core::{Fault, Memory, PartObject};
+use crate::{BackDone, BackRefusal, Former, Kept, nows_of};
+use room_core::{Fault, PartObject};
 use std::alloc::Global;
 use std::mem::replace;
 use std::sync::ledger::Ledger;
 use step_count::Steps;
-
-// Equal parts to those that there are now.
-fn copy_nows<O: PartObject>(
-    alloc: Global,
-    object: &O,
-    parts: &[Kept<O::Part>],
-) -> Result<Vec<O::Part>, Memory>
-    ensures { IfOk result (λ copies. copies.items ≡ nows parts.now) }
-{
-    let mut copies = Vec::new(alloc);
-    for part in parts {
-        copies.push(object.copy_part(alloc, &part.now)?)?;
-    }
-    Ok(copies)
-}
 
 // Gives a part what a call left of it, and keeps what it was, with the parts that the call named and its station.
 fn change<P: Drop>(kept: &mut Kept<P>, part: P, names: u32, by: u32)
@@ -72,7 +57,7 @@ pub(crate) fn do_call<O: PartObject, L: Ledger>(
     ensures most { steps.new ≤ steps.old + 32 * sum_by
         (λ (k : KeptPart O.Part). O.size k.now + 64) parts.old.items }
 {
-    let mut left = match copy_nows(alloc, object, parts) {
+    let mut left = match nows_of(alloc, object, parts) {
         Ok(copies) => copies,
         Err(_) => {
             steps.tick();

@@ -16,5 +16,5 @@ mod step;
 
 pub use answers::{BackDone, BackRefusal};
 pub use backed::Backed;
-pub use kept::{Former, Kept};
+pub use kept::{Former, Kept, fresh_parts, nows_of};
 pub use step::{Deed, Step};

@@ -1,4 +1,6 @@
 // What a station asks for.
+ghost use Rattle.std.specs.Prelude.{◌≡◌};
+ghost use Rattle.take_back.specs.Steps.{asked_by};
 
 /// What a station asks for, and which station asks.
 #[derive(Debug, Drop, PartialEq, Eq)]
@@ -17,4 +19,16 @@ pub enum Deed<C> {
     Do(C),
     /// The last call on these parts is to be taken back.
     Back { tracks: u32 },
+}
+
+impl<C> Step<C> {
+    /// The same, asked for by this station.
+    pub fn asked_by(self, station: u32) -> Step<C>
+        ensures { result ≡ asked_by station self }
+    {
+        Step {
+            by: station,
+            act: self.act,
+        }
+    }
 }
