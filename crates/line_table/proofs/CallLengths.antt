@@ -1,4 +1,4 @@
--- How long the text of a call is, and that of an entry.
+-- How long the text of a step is.
 use Rattle.std.proofs.Common.{◌≡◌, ℕ, ◌+◌, ◌<◌, ◌≤◌, ◌^◌, List, [], ◌++◌, length, arith, length-append, codes}
 use Rattle.std.specs.Fmt.{decimal, signed_decimal}
 use Rattle.composables.specs.declared.calls.FillLength.{FillLength}
@@ -6,8 +6,11 @@ use Rattle.composables.specs.declared.calls.FillLength.TheVariants.{Source, Sequ
 use Rattle.edit_calls.specs.declared.asks.Call.{Call}
 use Rattle.edit_calls.specs.declared.asks.Call.TheVariants as call
 use Rattle.protocol_parts.specs.Things.{what_text}
-use Rattle.line_table.specs.CallTexts.{keep_text, linked, numbers_after, tracks_text, length_text, call_text_of, IsSmallLength, IsWritten}
+use Rattle.line_table.specs.CallTexts.{keep_text, linked, linked_by, linked_in, numbers_after, tracks_text, length_text, call_text_of, deed_text_of, step_text_of, IsSmallLength, IsWritten, IsWrittenDeed, IsWrittenStep}
 use Rattle.line_table.specs.Table.{end_word}
+use Rattle.take_back.specs.declared.step.Deed.{Deed}
+use Rattle.take_back.specs.declared.step.Deed.TheVariants.{Do, Back}
+use Rattle.take_back.specs.declared.step.Step.{Step}
 use Rattle.line_table.proofs.TrackSets.{tracks_in_count}
 use Rattle.line_table.proofs.WrittenParts.{length-decimal, length-end, length-keep, length-numbers_after, length-signed, length-tracks_text, length-what_text}
 
@@ -19,7 +22,7 @@ length_length (Source n) h = let digits = length-decimal n h in omega (arith, di
 length_length Sequence h = omega arith
 
 -- the longest is a link of 32 tracks
-pub call_length : (c : Call) → IsWritten c → length (call_text_of c) ≤ 454
+call_length : (c : Call) → IsWritten c → length (call_text_of c) ≤ 454
 call_length (call.Overwrite c) (track, at, what, from, len) =
     omega (
       arith,
@@ -180,7 +183,24 @@ call_length (call.Unlink c) (track, item) =
     length-all : (t i : List ℕ) → length (codes "unlink " ++ t ++ codes " " ++ i) ≡ length t + length i + 8
     length-all t i = simp length-append (omega arith)
 
+pub deed_length : (a : Deed Call) → IsWrittenDeed a → length (deed_text_of a) ≤ 454
+deed_length (Do c) h = call_length c h
+deed_length (Back tracks) h = omega (arith, length-all (tracks_text tracks), length-tracks_text tracks)
+  where
+    length-all : (t : List ℕ) → length (codes "back " ++ t) ≡ length t + 5
+    length-all t = simp length-append (omega arith)
+
+pub step_length : (s : Step Call) → IsWrittenStep s → length (step_text_of s) ≤ 454
+step_length s h = deed_length s.act h
+
 -- how many items a written call links
-pub linked_few : (c : Call) → IsWritten c → linked c ≤ 32
+linked_few : (c : Call) → IsWritten c → linked c ≤ 32
 linked_few (call.Link3 c) (tracks, items, even) = omega (arith, tracks_in_count c.tracks, even)
 linked_few other h = omega arith
+
+linked_by_few : (a : Deed Call) → IsWrittenDeed a → linked_by a ≤ 32
+linked_by_few (Do c) h = linked_few c h
+linked_by_few (Back tracks) h = omega arith
+
+pub linked_in_few : (s : Step Call) → IsWrittenStep s → linked_in s ≤ 32
+linked_in_few s h = linked_by_few s.act h

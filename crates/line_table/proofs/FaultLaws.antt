@@ -7,7 +7,6 @@ use Rattle.std.proofs.lemmas.Slice.Eq.{bytes_eq-Decides}
 use Rattle.line_words.specs.Blanks.{words_of}
 use Rattle.composables.specs.TrackSets.{tracks_in}
 use Rattle.edit_calls.specs.declared.asks.Call.TheVariants as call
-use Rattle.line_table.specs.declared.lines.Line.TheVariants.{Edit}
 use Rattle.line_words.specs.Digits.{number_of, signed_of}
 use Rattle.line_words.specs.declared.numbers.NumberFault.{NumberFault}
 use Rattle.line_words.specs.declared.numbers.NumberFault.TheVariants.{NotANumber, TooLarge}
@@ -19,7 +18,7 @@ use Rattle.protocol_parts.specs.declared.line_fault.LineFault.TheVariants.{B1, B
 use Rattle.line_table.specs.declared.first_words.FirstWord.{FirstWord}
 use Rattle.line_table.specs.declared.first_words.FirstWord.TheVariants as first_word
 use Rattle.line_table.specs.Spelling.{◌>>=◌, number_or_fault, numeral_of, numerals_of, numbers_of, delta_of, end_of, given_of, keep_of, filled_of, track_of, is_comma, set_with, tracks_of, number_or_label, place_of, what_of}
-use Rattle.line_table.specs.Reading.{first_word_of, overwrite_of, insert_of, fill_of, link_of, row_of, row_if, line_of_words, line_of}
+use Rattle.line_table.specs.Reading.{first_word_of, edit, overwrite_of, insert_of, fill_of, link_of, row_of, row_if, line_of_words, line_of}
 use Rattle.line_table.specs.Table.{IsLine, end_word, word_of}
 use Rattle.line_table.specs.Faults.{Part, Tracks, Track, Place, Thing, Number, Numbers, Ending, Delta, Given, rows_of, fill_rows, IsNoNumeral, IsTooLarge, IsNoDelta, IsDeltaTooLarge, IsBadTrack, AreBadTracks, AreBadNumerals, AreUneven, HasDigits, IsBadPart, IsPart, FirstIsBad, AreNoRow, AreBad, IsBad}
 use Rattle.line_table.proofs.ReadParts.{chosen, ok_same, err_ok, numeral_spelled, numeral_read, numerals_spelled, numerals_read, delta_spelled, delta_read, end_spelled, end_read, given_spelled, given_read, too_many, track_spelled, track_read, tracks_spelled, tracks_read, place_spelled, place_read, thing_spelled, thing_read}
@@ -481,7 +480,7 @@ even_error true line = refl
 even_error false line = refl
 
 link_parts : (r : Result ℕ LineFault) (s : Result (List ℕ) LineFault)
-    → error_of (r >>= (λ tracks. s >>= (λ items. if nat_eq (length items) (length (tracks_in tracks)) then Ok (Edit (call.Link3 (record { tracks = tracks; items = items }))) else Err B2)))
+    → error_of (r >>= (λ tracks. s >>= (λ items. if nat_eq (length items) (length (tracks_in tracks)) then Ok (edit (call.Link3 (record { tracks = tracks; items = items }))) else Err B2)))
     ≡ or_later (or_later (error_of r) (or_later (error_of s) None)) (uneven_of r s)
 link_parts (Ok set) (Ok items) = even_error (nat_eq (length items) (length (tracks_in set))) _
 link_parts (Ok set) (Err e) = refl
@@ -603,6 +602,9 @@ row_error place_at first_word.Unlink [] = refl
 row_error place_at first_word.Unlink (a ∷ []) = refl
 row_error place_at first_word.Unlink (a ∷ b ∷ []) = alone _ _ (error_bind (track_of a) _ _ (λ track. error_bind (numeral_of b) _ _ (λ item. refl)))
 row_error place_at first_word.Unlink (a ∷ b ∷ c ∷ words) = refl
+row_error place_at first_word.Back [] = refl
+row_error place_at first_word.Back (a ∷ []) = alone _ _ (error_bind (tracks_of a) _ _ (λ tracks. refl))
+row_error place_at first_word.Back (a ∷ b ∷ words) = refl
 row_error place_at first_word.View [] = refl
 row_error place_at first_word.View (a ∷ []) = refl
 row_error place_at first_word.View (a ∷ b ∷ []) = refl
@@ -616,6 +618,9 @@ row_error place_at first_word.Point (a ∷ words) = refl
 row_error place_at first_word.Otio [] = refl
 row_error place_at first_word.Otio (a ∷ []) = alone _ _ (error_bind (numeral_of a) _ _ (λ point. refl))
 row_error place_at first_word.Otio (a ∷ b ∷ words) = refl
+row_error place_at first_word.News [] = refl
+row_error place_at first_word.News (a ∷ []) = alone _ _ (error_bind (numeral_of a) _ _ (λ place. refl))
+row_error place_at first_word.News (a ∷ b ∷ words) = refl
 
 -- the whole line
 none_named : (first : List ℕ) → first_word_of first ≡ None → (k : FirstWord) → first ≢ word_of k

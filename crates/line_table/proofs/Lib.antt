@@ -1,12 +1,7 @@
 pub mod CallLengths
-pub mod EntryLengths
-pub mod EntryTexts
 pub mod FaultLaws
-pub mod IntoRoom
-pub mod JournalLaws
-pub mod JournalSteps
 pub mod LabelPlaces
-pub mod LateEntries
+pub mod LikelyFirst
 pub mod ListWords
 pub mod Positions
 pub mod ReadParts

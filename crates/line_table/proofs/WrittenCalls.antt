@@ -1,4 +1,4 @@
--- The text of a call is read again as that call.
+-- The text of a step is read again as that step of station 0.
 use Rattle.std.proofs.Common.{◌≡◌, ℕ, ◌<◌, ◌≤◌, Bool, true, false, List, [], ◌∷◌, ◌++◌, Option, Ok, length, inl, refl, ap, ◌∙◌, arith, append_assoc, codes}
 use Rattle.std.specs.Fmt.{decimal, signed_decimal}
 use Rattle.std.proofs.lemmas.List.{append-nil}
@@ -11,10 +11,14 @@ use Rattle.edit_calls.specs.declared.asks.Call.{Call}
 use Rattle.edit_calls.specs.declared.asks.Call.TheVariants as call
 use Rattle.line_table.specs.declared.lines.Line.TheVariants.{Edit}
 use Rattle.protocol_parts.specs.Things.{what_text}
-use Rattle.line_table.specs.CallTexts.{keep_text, numbers_after, tracks_text, length_text, call_text_of, IsSmallLength, IsWritten}
-use Rattle.line_table.specs.Reading.{line_of}
-use Rattle.line_table.specs.Table.{AreCall, AreLength, end_word, keep_words}
-use Rattle.line_table.proofs.CallLengths.{call_length, low}
+use Rattle.line_table.specs.CallTexts.{keep_text, numbers_after, tracks_text, length_text, call_text_of, deed_text_of, step_text_of, IsSmallLength, IsWritten, IsWrittenDeed, IsWrittenStep}
+use Rattle.line_table.specs.Reading.{edit, line_of}
+use Rattle.line_table.specs.Table.{AreCall, AreDeed, AreLength, end_word, keep_words}
+use Rattle.take_back.specs.Steps.{asked_by}
+use Rattle.take_back.specs.declared.step.Deed.{Deed}
+use Rattle.take_back.specs.declared.step.Deed.TheVariants.{Do, Back}
+use Rattle.take_back.specs.declared.step.Step.{Step}
+use Rattle.line_table.proofs.CallLengths.{deed_length, low}
 use Rattle.line_table.proofs.TableLaws.{line_read}
 use Rattle.line_table.proofs.WrittenParts.{IsNumbers-numbers_after, IsWord-numbers_after, some_tracks_in, IsWord-end, IsWord-signed, IsWord-tested, IsWord-decimal, IsWord-what_text, IsThing-what_text, NamesTracks-tracks_text, IsWord-tracks_text}
 
@@ -31,15 +35,20 @@ words_of-spaced : (u : List ℕ) (ws : List (List ℕ)) → IsWord u → AreAllW
 words_of-spaced u [] first h = words_of-last u first
 words_of-spaced u (w ∷ ws) first h = words_of-word u 32 (spaced w ws) first refl ∙ ap (λ words. u ∷ words) (words_of-spaced w ws h.0 h.1)
 
--- a written call of these words is a line
-module _ (place_at : List ℕ → Option ℕ) (c : Call) (u : List ℕ) (ws : List (List ℕ)) where
-  is_read : call_text_of c ≡ spaced u ws → IsWord u → AreAllWords ws → length (call_text_of c) ≤ 1024 → AreCall place_at (u ∷ ws) c → line_of place_at (call_text_of c) ≡ Ok (Edit c)
-  is_read same first words short call =
+-- a written step of these words is a line
+module _ (place_at : List ℕ → Option ℕ) (a : Deed Call) (u : List ℕ) (ws : List (List ℕ)) where
+  is_asked : deed_text_of a ≡ spaced u ws → IsWord u → AreAllWords ws → length (deed_text_of a) ≤ 1024 → AreDeed place_at (u ∷ ws) a
+      → line_of place_at (deed_text_of a) ≡ Ok (Edit (record { by = 0; act = a }))
+  is_asked same first words short deed =
       let split = ap words_of same ∙ words_of-spaced u ws first words in
-      line_read place_at (call_text_of c) (Edit c) (record { short = short; words = rw split call })
+      line_read place_at (deed_text_of a) (Edit (record { by = 0; act = a })) (record { short = short; words = rw split (refl, deed) })
+
+is_read : (place_at : List ℕ → Option ℕ) (c : Call) (u : List ℕ) (ws : List (List ℕ)) → call_text_of c ≡ spaced u ws → IsWord u → AreAllWords ws → length (call_text_of c) ≤ 1024
+    → AreCall place_at (u ∷ ws) c → line_of place_at (call_text_of c) ≡ Ok (edit c)
+is_read place_at c u ws = is_asked place_at (Do c) u ws
 
 short : (c : Call) → IsWritten c → length (call_text_of c) ≤ 1024
-short c h = omega (arith, call_length c h)
+short c h = omega (arith, deed_length (Do c) h)
 
 -- whether dissolves are kept, as a word or none
 are_keep_words : (keep : Bool) → AreAllWords (keep_words keep)
@@ -76,7 +85,7 @@ length_spaced : (l : FillLength) (t a w f : List ℕ)
 length_spaced (Source n) t a w f = simp append_assoc refl
 length_spaced Sequence t a w f = simp append_assoc refl
 
-pub written_call : (place_at : List ℕ → Option ℕ) (c : Call) → IsWritten c → line_of place_at (call_text_of c) ≡ Ok (Edit c)
+written_call : (place_at : List ℕ → Option ℕ) (c : Call) → IsWritten c → line_of place_at (call_text_of c) ≡ Ok (edit c)
 written_call place_at (call.Overwrite c) (track, at, what, from, len) =
     is_read place_at (call.Overwrite c) (codes "overwrite") (decimal c.track ∷ decimal c.at ∷ what_text c.what ∷ decimal c.from ∷ decimal c.len ∷ keep_words c.keep)
     (kept _ (codes "overwrite") (decimal c.track ∷ decimal c.at ∷ what_text c.what ∷ decimal c.from ∷ decimal c.len ∷ []) c.keep
@@ -328,3 +337,16 @@ written_call place_at (call.Unlink c) (track, item) =
   where
     regrouped : (t i : List ℕ) → codes "unlink " ++ t ++ codes " " ++ i ≡ spaced (codes "unlink") (t ∷ i ∷ [])
     regrouped t i = simp append_assoc refl
+
+written_deed : (place_at : List ℕ → Option ℕ) (a : Deed Call) → IsWrittenDeed a → line_of place_at (deed_text_of a) ≡ Ok (Edit (record { by = 0; act = a }))
+written_deed place_at (Do c) h = written_call place_at c h
+written_deed place_at (Back tracks) (some, small) =
+    is_asked place_at (Back tracks) (codes "back") (tracks_text tracks ∷ [])
+    refl
+    (IsWord-tested (codes "back") refl)
+    (IsWord-tracks_text tracks some small, tt)
+    (omega (arith, deed_length (Back tracks) (some, small)))
+    (tracks_text tracks, refl, NamesTracks-tracks_text tracks some small)
+
+pub written_step : (place_at : List ℕ → Option ℕ) (s : Step Call) → IsWrittenStep s → line_of place_at (step_text_of s) ≡ Ok (Edit (asked_by 0 s))
+written_step place_at s h = written_deed place_at s.act h

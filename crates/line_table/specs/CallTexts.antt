@@ -1,5 +1,6 @@
 -- The text of a call: its line with one space between words, lists of tracks ascending, places as
 -- numbers, and numbers without leading zeros. That of a call which keeps dissolves ends with `keep`.
+-- The text of a step is that of its call, or `back` and a list of tracks.
 use Rattle.std.specs.Prelude.{◌≡◌, ℕ, ◌<◌, ◌≤◌, ◌^◌, Bool, true, false, List, [], ◌∷◌, ◌++◌, All, codes, decimal, length, FitsSigned}
 use Rattle.std.specs.Fmt.{signed_decimal}
 use Rattle.std.specs.Int.{w32}
@@ -11,10 +12,13 @@ use Rattle.composables.specs.TrackSets.{tracks_in}
 use Rattle.edit_calls.specs.declared.asks.Call.{Call}
 use Rattle.edit_calls.specs.declared.asks.Call.TheVariants as call
 use Rattle.line_table.specs.declared.lines.Line.{Line}
-use Rattle.line_table.specs.declared.lines.Line.TheVariants.{Edit, Ask, Point, Otio}
+use Rattle.line_table.specs.declared.lines.Line.TheVariants.{Edit, Ask, Point, Otio, News}
 use Rattle.line_table.specs.declared.parts.TheConstants.{LAST_TRACK}
 use Rattle.protocol_parts.specs.Things.{what_text}
 use Rattle.line_table.specs.Table.{end_word}
+use Rattle.take_back.specs.declared.step.Deed.{Deed}
+use Rattle.take_back.specs.declared.step.Deed.TheVariants.{Do, Back}
+use Rattle.take_back.specs.declared.step.Step.{Step}
 
 -- numbers, parted by commas; `lead` stands before the first
 abbrev pub numbers_after : List ℕ → List ℕ → List ℕ
@@ -84,10 +88,26 @@ call_text_of (call.Link3 c) =
     codes "link " ++ tracks_text c.tracks ++ codes " " ++ numbers_after [] c.items
 call_text_of (call.Unlink c) = codes "unlink " ++ decimal c.track ++ codes " " ++ decimal c.item
 
+abbrev pub deed_text_of : Deed Call → List ℕ
+deed_text_of (Do c) = call_text_of c
+deed_text_of (Back tracks) = codes "back " ++ tracks_text tracks
+
+-- the text of a step, which does not tell the station that asks for it
+abbrev pub step_text_of : Step Call → List ℕ
+step_text_of s = deed_text_of s.act
+
 -- how many items a call links
 abbrev pub linked : Call → ℕ
 linked (call.Link3 c) = length c.items
 linked other = 0
+
+abbrev pub linked_by : Deed Call → ℕ
+linked_by (Do c) = linked c
+linked_by (Back tracks) = 0
+
+-- how many items a step links
+abbrev pub linked_in : Step Call → ℕ
+linked_in s = linked_by s.act
 
 -- a number of 32 bits
 abbrev pub IsSmall : ℕ → Type 0
@@ -133,9 +153,18 @@ IsWritten (call.Link3 c) =
     IsSomeTracks c.tracks × All IsSmall c.items × (length c.items ≡ length (tracks_in c.tracks))
 IsWritten (call.Unlink c) = (c.track ≤ LAST_TRACK) × IsSmall c.item
 
--- the line is no edit, or an edit that can be written and read again
+abbrev pub IsWrittenDeed : Deed Call → Type 0
+IsWrittenDeed (Do c) = IsWritten c
+IsWrittenDeed (Back tracks) = IsSomeTracks tracks
+
+-- a step whose text is a line, which is read again as the step but for its station
+abbrev pub IsWrittenStep : Step Call → Type 0
+IsWrittenStep s = IsWrittenDeed s.act
+
+-- the line is no step, or a step that can be written and read again
 abbrev pub NamesWritten : Line → Type 0
-NamesWritten (Edit c) = IsWritten c
+NamesWritten (Edit s) = IsWrittenStep s
 NamesWritten (Ask q) = Unit {0}
 NamesWritten Point = Unit {0}
 NamesWritten (Otio n) = Unit {0}
+NamesWritten (News n) = Unit {0}

@@ -70,10 +70,12 @@ rows_of first_word.Fill words = fill_rows (is_whole words)
 rows_of first_word.Ripple words = (Tracks ∷ Track ∷ Number ∷ Ending ∷ Delta ∷ []) ∷ []
 rows_of first_word.Link words = (Tracks ∷ Numbers ∷ []) ∷ []
 rows_of first_word.Unlink words = (Track ∷ Number ∷ []) ∷ []
+rows_of first_word.Back words = (Tracks ∷ []) ∷ []
 rows_of first_word.View words = (Track ∷ Place ∷ Place ∷ []) ∷ []
 rows_of first_word.Items words = (Track ∷ []) ∷ []
 rows_of first_word.Point words = [] ∷ []
 rows_of first_word.Otio words = (Number ∷ []) ∷ []
+rows_of first_word.News words = (Number ∷ []) ∷ []
 
 -- the word is not one or more decimal digits
 abbrev pub IsNoNumeral : List ℕ → Type 0

@@ -8,12 +8,14 @@ use Rattle.edit_calls.specs.declared.asks.Call.{Call}
 use Rattle.line_table.specs.declared.lines.Line.{Line}
 use Rattle.line_table.specs.declared.lines.Line.TheVariants.{Edit}
 use Rattle.protocol_parts.specs.declared.line_fault.LineFault.{LineFault}
-use Rattle.line_table.specs.CallTexts.{call_text_of, IsWritten}
+use Rattle.line_table.specs.CallTexts.{step_text_of, IsWrittenStep}
 use Rattle.line_table.specs.Faults.{IsBad}
 use Rattle.line_table.specs.Labels.{place_by}
 use Rattle.line_table.specs.Reading.{line_of}
 use Rattle.line_table.specs.Spelling.{Naming}
 use Rattle.line_table.specs.Table.{IsLine}
+use Rattle.take_back.specs.Steps.{asked_by}
+use Rattle.take_back.specs.declared.step.Step.{Step}
 
 -- what is read of a line is spelled there, word by word, and what is spelled there is read
 abbrev pub ReadAsSpelled : Type 0
@@ -59,8 +61,8 @@ LabelsNamePlaces =
     → (place_by c start word ≡ Some place)
     ↔ ((l : Label) × Spells word l × IsLabelOf c (start + place) l)
 
--- the text of a call that a line can name is read again as that call
+-- the text of a step that a line can name is read again as that step of station 0
 abbrev pub WrittenIsRead : Type 0
 WrittenIsRead =
-    (place_at : Naming) (call : Call)
-    → IsWritten call → line_of place_at (call_text_of call) ≡ Ok (Edit call)
+    (place_at : Naming) (step : Step Call)
+    → IsWrittenStep step → line_of place_at (step_text_of step) ≡ Ok (Edit (asked_by 0 step))

@@ -7,19 +7,25 @@ use Rattle.std.specs.Borrow.{Bor}
 use Rattle.line_words.specs.Blanks.{words_of}
 use Rattle.line_words.specs.declared.TheConstants.{MAX_LINE}
 use Rattle.composables.specs.TrackSets.{tracks_in}
+use Rattle.edit_calls.specs.declared.asks.Call.{Call}
 use Rattle.edit_calls.specs.declared.asks.Call.TheVariants as call
 use Rattle.edit_calls.specs.declared.asks.Ask.TheVariants as ask
 use Rattle.line_table.specs.declared.lines.Line.{Line}
-use Rattle.line_table.specs.declared.lines.Line.TheVariants.{Edit, Ask, Point, Otio}
+use Rattle.line_table.specs.declared.lines.Line.TheVariants.{Edit, Ask, Point, Otio, News}
 use Rattle.protocol_parts.specs.declared.line_fault.LineFault.{LineFault}
 use Rattle.protocol_parts.specs.declared.line_fault.LineFault.TheVariants.{B1, B2, B5, Memory}
 use Rattle.line_table.specs.declared.first_words.FirstWord.{FirstWord}
 use Rattle.line_table.specs.declared.first_words.FirstWord.TheVariants as first_word
+use Rattle.take_back.specs.declared.step.Deed.TheVariants.{Do, Back}
 use Rattle.line_table.specs.Spelling.{Naming, ◌>>=◌, numeral_of, delta_of, end_of, at_most_of, keep_of, filled_of, numbers_of, track_of, tracks_of, place_of, what_of}
 
 -- the bytes of words
 abbrev pub texts_of : List (Bor (List ℕ)) → List (List ℕ)
 texts_of words = map (λ w. w.now) words
+
+-- the line that asks for an edit: it does not say for which station
+abbrev pub edit : Call → Line
+edit c = Edit (record { by = 0; act = Do c })
 
 -- overwrite T P WHAT FROM LEN, or with keep behind it
 abbrev pub overwrite_of : Naming → List (List ℕ) → Result Line LineFault
@@ -31,7 +37,7 @@ overwrite_of place_at (track ∷ at ∷ what ∷ from ∷ len ∷ rest) = do
   from ← numeral_of from
   len ← numeral_of len
   keep ← keep_of rest
-  Ok (Edit (call.Overwrite (record {
+  Ok (edit (call.Overwrite (record {
     track = track;
     at = at;
     what = what;
@@ -52,7 +58,7 @@ insert_of place_at (tracks ∷ track ∷ at ∷ what ∷ from ∷ len ∷ rest) 
   from ← numeral_of from
   len ← numeral_of len
   keep ← keep_of rest
-  Ok (Edit (call.Insert (record {
+  Ok (edit (call.Insert (record {
     tracks = tracks;
     track = track;
     at = at;
@@ -70,7 +76,7 @@ remove_of (track ∷ item ∷ rest) = do
   track ← track_of track
   item ← numeral_of item
   keep ← keep_of rest
-  Ok (Edit (call.Remove (record { track = track; item = item; keep = keep })))
+  Ok (edit (call.Remove (record { track = track; item = item; keep = keep })))
 remove_of words = Err B2
 
 -- extract TS T I, or with keep behind it
@@ -81,7 +87,7 @@ extract_of (tracks ∷ track ∷ item ∷ rest) = do
   track ← track_of track
   item ← numeral_of item
   keep ← keep_of rest
-  Ok (Edit (call.Extract (record {
+  Ok (edit (call.Extract (record {
     tracks = tracks;
     track = track;
     item = item;
@@ -96,7 +102,7 @@ slice_of place_at (track ∷ at ∷ rest) = do
   track ← track_of track
   at ← place_of place_at at
   keep ← keep_of rest
-  Ok (Edit (call.Slice (record { track = track; at = at; keep = keep })))
+  Ok (edit (call.Slice (record { track = track; at = at; keep = keep })))
 slice_of place_at words = Err B2
 
 -- dissolve T P A B
@@ -106,7 +112,7 @@ dissolve_of place_at (track ∷ at ∷ a ∷ b ∷ []) = do
   at ← place_of place_at at
   a ← numeral_of a
   b ← numeral_of b
-  Ok (Edit (call.Dissolve (record { track = track; at = at; a = a; b = b })))
+  Ok (edit (call.Dissolve (record { track = track; at = at; a = a; b = b })))
 dissolve_of place_at words = Err B2
 
 -- undissolve T P
@@ -114,7 +120,7 @@ abbrev pub undissolve_of : Naming → List (List ℕ) → Result Line LineFault
 undissolve_of place_at (track ∷ at ∷ []) = do
   track ← track_of track
   at ← place_of place_at at
-  Ok (Edit (call.Undissolve (record { track = track; at = at })))
+  Ok (edit (call.Undissolve (record { track = track; at = at })))
 undissolve_of place_at words = Err B2
 
 -- trim T I END D
@@ -124,7 +130,7 @@ trim_of (track ∷ item ∷ end ∷ by ∷ []) = do
   item ← numeral_of item
   end ← end_of end
   by ← delta_of by
-  Ok (Edit (call.Trim (record { track = track; item = item; end = end; by = by })))
+  Ok (edit (call.Trim (record { track = track; item = item; end = end; by = by })))
 trim_of words = Err B2
 
 -- slip TS T I D
@@ -134,7 +140,7 @@ slip_of (tracks ∷ track ∷ item ∷ by ∷ []) = do
   track ← track_of track
   item ← numeral_of item
   by ← delta_of by
-  Ok (Edit (call.Slip (record { tracks = tracks; track = track; item = item; by = by })))
+  Ok (edit (call.Slip (record { tracks = tracks; track = track; item = item; by = by })))
 slip_of words = Err B2
 
 -- roll T P D
@@ -143,7 +149,7 @@ roll_of place_at (track ∷ at ∷ by ∷ []) = do
   track ← track_of track
   at ← place_of place_at at
   by ← delta_of by
-  Ok (Edit (call.Roll (record { track = track; at = at; by = by })))
+  Ok (edit (call.Roll (record { track = track; at = at; by = by })))
 roll_of place_at words = Err B2
 
 -- slide TS T I D
@@ -153,7 +159,7 @@ slide_of (tracks ∷ track ∷ item ∷ by ∷ []) = do
   track ← track_of track
   item ← numeral_of item
   by ← delta_of by
-  Ok (Edit (call.Slide (record { tracks = tracks; track = track; item = item; by = by })))
+  Ok (edit (call.Slide (record { tracks = tracks; track = track; item = item; by = by })))
 slide_of words = Err B2
 
 -- fill T P WHAT FROM sequence · fill T P WHAT FROM source LEN, or one of these with keep behind it
@@ -165,7 +171,7 @@ fill_of place_at (track ∷ at ∷ what ∷ from ∷ how ∷ rest) = do
   what ← what_of what
   from ← numeral_of from
   filled ← filled_of how rest
-  Ok (Edit (call.Fill (record {
+  Ok (edit (call.Fill (record {
     track = track;
     at = at;
     what = what;
@@ -183,7 +189,7 @@ ripple_of (tracks ∷ track ∷ item ∷ end ∷ by ∷ []) = do
   item ← numeral_of item
   end ← end_of end
   by ← delta_of by
-  Ok (Edit (call.Ripple (record {
+  Ok (edit (call.Ripple (record {
     tracks = tracks;
     track = track;
     item = item;
@@ -198,7 +204,7 @@ link_of (list ∷ numbers ∷ []) = do
   tracks ← tracks_of list
   items ← numbers_of numbers
   if nat_eq (length items) (length (tracks_in tracks))
-      then Ok (Edit (call.Link3 (record { tracks = tracks; items = items })))
+      then Ok (edit (call.Link3 (record { tracks = tracks; items = items })))
       else Err B2
 link_of words = Err B2
 
@@ -207,8 +213,15 @@ abbrev pub unlink_of : List (List ℕ) → Result Line LineFault
 unlink_of (track ∷ item ∷ []) = do
   track ← track_of track
   item ← numeral_of item
-  Ok (Edit (call.Unlink (record { track = track; item = item })))
+  Ok (edit (call.Unlink (record { track = track; item = item })))
 unlink_of words = Err B2
+
+-- back TS
+abbrev pub back_of : List (List ℕ) → Result Line LineFault
+back_of (list ∷ []) = do
+  tracks ← tracks_of list
+  Ok (Edit (record { by = 0; act = Back tracks }))
+back_of words = Err B2
 
 -- view T P P
 abbrev pub view_of : Naming → List (List ℕ) → Result Line LineFault
@@ -238,6 +251,13 @@ otio_of (point ∷ []) = do
   Ok (Otio point)
 otio_of words = Err B2
 
+-- news N
+abbrev pub news_of : List (List ℕ) → Result Line LineFault
+news_of (place ∷ []) = do
+  place ← numeral_of place
+  Ok (News place)
+news_of words = Err B2
+
 -- the first words of the table
 abbrev pub first_word_of : List ℕ → Option FirstWord
 first_word_of word =
@@ -256,10 +276,12 @@ first_word_of word =
     else if bytes_eq word (codes "ripple") then Some first_word.Ripple
     else if bytes_eq word (codes "link") then Some first_word.Link
     else if bytes_eq word (codes "unlink") then Some first_word.Unlink
+    else if bytes_eq word (codes "back") then Some first_word.Back
     else if bytes_eq word (codes "view") then Some first_word.View
     else if bytes_eq word (codes "items") then Some first_word.Items
     else if bytes_eq word (codes "point") then Some first_word.Point
     else if bytes_eq word (codes "otio") then Some first_word.Otio
+    else if bytes_eq word (codes "news") then Some first_word.News
     else None
 
 -- the words after the first, by the row of the first
@@ -279,10 +301,12 @@ row_of place_at first_word.Fill words = fill_of place_at words
 row_of place_at first_word.Ripple words = ripple_of words
 row_of place_at first_word.Link words = link_of words
 row_of place_at first_word.Unlink words = unlink_of words
+row_of place_at first_word.Back words = back_of words
 row_of place_at first_word.View words = view_of place_at words
 row_of place_at first_word.Items words = items_of words
 row_of place_at first_word.Point words = point_of words
 row_of place_at first_word.Otio words = otio_of words
+row_of place_at first_word.News words = news_of words
 
 abbrev pub row_if : Naming → Option FirstWord → List (List ℕ) → Result Line LineFault
 row_if place_at None words = Err B1

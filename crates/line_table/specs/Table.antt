@@ -17,9 +17,11 @@ use Rattle.edit_calls.specs.declared.asks.Call.TheVariants as call
 use Rattle.edit_calls.specs.declared.asks.Ask.TheVariants as ask
 use Rattle.line_table.specs.declared.parts.TheConstants.{LAST_TRACK}
 use Rattle.line_table.specs.declared.lines.Line.{Line}
-use Rattle.line_table.specs.declared.lines.Line.TheVariants.{Edit, Ask, Point, Otio}
+use Rattle.line_table.specs.declared.lines.Line.TheVariants.{Edit, Ask, Point, Otio, News}
 use Rattle.line_table.specs.declared.first_words.FirstWord.{FirstWord}
 use Rattle.line_table.specs.declared.first_words.FirstWord.TheVariants as first_word
+use Rattle.take_back.specs.declared.step.Deed.{Deed}
+use Rattle.take_back.specs.declared.step.Deed.TheVariants.{Do, Back}
 use Rattle.line_table.specs.Spelling.{Naming, is_comma}
 
 -- the word is this number, with leading zeros or without
@@ -94,10 +96,12 @@ word_of first_word.Fill = codes "fill"
 word_of first_word.Ripple = codes "ripple"
 word_of first_word.Link = codes "link"
 word_of first_word.Unlink = codes "unlink"
+word_of first_word.Back = codes "back"
 word_of first_word.View = codes "view"
 word_of first_word.Items = codes "items"
 word_of first_word.Point = codes "point"
 word_of first_word.Otio = codes "otio"
+word_of first_word.News = codes "news"
 
 -- overwrite T P WHAT FROM LEN · insert TS T P WHAT FROM LEN · remove T I · extract TS T I · slice T P
 -- · dissolve T P A B · undissolve T P · trim T I END D · slip TS T I D · roll T P D · slide TS T I D
@@ -163,9 +167,15 @@ AreCall place_at words (call.Unlink c) =
     (track item : List ℕ) × (words ≡ word_of first_word.Unlink ∷ track ∷ item ∷ [])
     × NamesTrack track c.track × IsNumeral item c.item
 
--- a call · view T P P · items T · point · otio N
+-- a call · back TS
+abbrev pub AreDeed : Naming → List (List ℕ) → Deed Call → Type 0
+AreDeed place_at words (Do c) = AreCall place_at words c
+AreDeed place_at words (Back set) =
+    (tracks : List ℕ) × (words ≡ word_of first_word.Back ∷ tracks ∷ []) × NamesTracks tracks set
+
+-- a step, which a line asks for without a station · view T P P · items T · point · otio N · news N
 abbrev pub AreWords : Naming → List (List ℕ) → Line → Type 0
-AreWords place_at words (Edit c) = AreCall place_at words c
+AreWords place_at words (Edit s) = (s.by ≡ 0) × AreDeed place_at words s.act
 AreWords place_at words (Ask (ask.View track a b)) =
     (named from to : List ℕ) × (words ≡ word_of first_word.View ∷ named ∷ from ∷ to ∷ [])
     × NamesTrack named track × IsPlace place_at from a × IsPlace place_at to b
@@ -174,6 +184,8 @@ AreWords place_at words (Ask (ask.Items track)) =
 AreWords place_at words Point = words ≡ word_of first_word.Point ∷ []
 AreWords place_at words (Otio n) =
     (named : List ℕ) × (words ≡ word_of first_word.Otio ∷ named ∷ []) × IsNumeral named n
+AreWords place_at words (News n) =
+    (named : List ℕ) × (words ≡ word_of first_word.News ∷ named ∷ []) × IsNumeral named n
 
 -- the bytes are this line
 pub record IsLine (place_at : Naming) (bytes : List ℕ) (line : Line) : Type 0 where

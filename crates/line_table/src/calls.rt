@@ -1,6 +1,6 @@
 // Calls as text.
 ghost use Rattle.std.specs.Prelude.{◌≡◌, ◌+◌, ◌*◌, ◌≤◌, ◌++◌, [], IfOk, length, vec_len, vec_capacity};
-ghost use Rattle.line_table.specs.CallTexts.{call_text_of, frames_text, linked, numbers_after, numbers_text, tracks_text};
+ghost use Rattle.line_table.specs.CallTexts.{call_text_of, frames_text, linked, linked_in, numbers_after, numbers_text, step_text_of, tracks_text};
 
 use crate::part_texts::{put_end, put_keep, put_length};
 use crate::reserved::{put, put_number, put_signed, put_track, put_what};
@@ -8,31 +8,32 @@ use composables::{Fill, Memory, Ripple, Slide, Slip, Trim, has_track};
 use edit_calls::Call;
 use frame_meaning::What;
 use std::alloc::Global;
+use take_back::{Deed, Step};
 
-/// The text of a call: its line, without its line feed.
-pub fn call_text(alloc: Global, call: &Call) -> Result<Vec<u8>, Memory>
-    ensures { IfOk result (λ text. text.items ≡ call_text_of call.now) }
+/// The text of what a station asks for: its line, without its line feed. Which station asks is not told.
+pub fn call_text(alloc: Global, step: &Step<Call>) -> Result<Vec<u8>, Memory>
+    ensures { IfOk result (λ text. text.items ≡ step_text_of step.now) }
 {
-    let mut out = Vec::with_capacity(alloc, room_for(call)?)?;
-    put_call(&mut out, call);
+    let mut out = Vec::with_capacity(alloc, room_for(step)?)?;
+    put_step(&mut out, step);
     Ok(out)
 }
 
-// How many items a call links.
-fn linked(call: &Call) -> usize
-    ensures { result ≡ linked call.now }
+// How many items a step links.
+fn linked_in(step: &Step<Call>) -> usize
+    ensures { result ≡ linked_in step.now }
 {
-    match call {
-        Call::Link3(edit) => edit.items.as_slice().len(),
+    match &step.act {
+        Deed::Do(Call::Link3(edit)) => edit.items.as_slice().len(),
         _ => 0,
     }
 }
 
-// How many bytes of memory the text of a call needs at most, and that of its entry.
-pub(crate) fn room_for(call: &Call) -> Result<usize, Memory>
-    ensures { IfOk result (λ room. 200 + 11 * linked call.now ≤ room) }
+/// How many bytes of memory the text of a step needs at most, and that of its entry.
+pub fn room_for(step: &Step<Call>) -> Result<usize, Memory>
+    ensures { IfOk result (λ room. 200 + 11 * linked_in step.now ≤ room) }
 {
-    match linked(call).checked_mul(11) {
+    match linked_in(step).checked_mul(11) {
         Some(items) => match items.checked_add(200) {
             Some(room) => Ok(room),
             None => Err(Memory),
@@ -41,8 +42,21 @@ pub(crate) fn room_for(call: &Call) -> Result<usize, Memory>
     }
 }
 
-// Adds the line of a call, within memory that is there.
-pub(crate) fn put_call(out: &mut Vec<u8>, call: &Call)
+/// Adds the line of a step, without its line feed, within memory that is there.
+pub fn put_step(out: &mut Vec<u8>, step: &Step<Call>)
+    requires room { vec_len out.old + 170 ≤ vec_capacity out.old }
+    requires items { vec_len out.old + 102 + 11 * linked_in step.now ≤ vec_capacity out.old }
+    ensures text { out.new.items ≡ out.old.items ++ step_text_of step.now }
+    ensures room { vec_capacity out.old ≤ vec_capacity out.new }
+{
+    match &step.act {
+        Deed::Do(call) => put_call(out, call),
+        Deed::Back { tracks } => put_tracks(out, b"back ", *tracks),
+    }
+}
+
+// Adds the line of an edit, without its line feed.
+fn put_call(out: &mut Vec<u8>, call: &Call)
     requires room { vec_len out.old + 170 ≤ vec_capacity out.old }
     requires items { vec_len out.old + 102 + 11 * linked call.now ≤ vec_capacity out.old }
     ensures text { out.new.items ≡ out.old.items ++ call_text_of call.now }

@@ -3,9 +3,10 @@ ghost use Rattle.std.specs.Prelude.{◌≡◌, IfOk};
 ghost use Rattle.line_words.specs.Blanks.{words_of};
 ghost use Rattle.line_table.specs.CallTexts.{NamesWritten};
 ghost use Rattle.line_table.specs.Labels.{place_by};
-ghost use Rattle.line_table.specs.Reading.{AreRead, IsRead, IsRowRead, overwrite_of, insert_of, remove_of, extract_of, slice_of, dissolve_of, undissolve_of, trim_of, slip_of, roll_of, slide_of, fill_of, ripple_of, link_of, unlink_of, view_of, items_of, point_of, otio_of, texts_of};
+ghost use Rattle.line_table.specs.Reading.{AreRead, IsRead, IsRowRead, overwrite_of, insert_of, remove_of, extract_of, slice_of, dissolve_of, undissolve_of, trim_of, slip_of, roll_of, slide_of, fill_of, ripple_of, link_of, unlink_of, back_of, view_of, items_of, point_of, otio_of, news_of, texts_of};
 ghost use Rattle.line_table.specs.Spelling.{IsOrMemory};
 
+use crate::lines::edit;
 use crate::parts::{
     delta, end, filled, keep, numbers, numeral, place, track, track_count, tracks, what,
 };
@@ -18,6 +19,7 @@ use composables::{
 use edit_calls::{Ask, Call};
 use line_words::MAX_LINE;
 use std::alloc::Global;
+use take_back::{Deed, Step};
 use timecode12::Counting;
 
 /// The line that these bytes are, without its line feed, or the first fault of it. Labels name record frames by the
@@ -39,8 +41,8 @@ pub fn read_line(
     table_line(alloc, line, counting, start)
 }
 
-// The line that these bytes are, of any length.
-pub(crate) fn table_line(
+/// The line that these bytes are, of any length, as `read_line` reads it.
+pub fn table_line(
     alloc: Global,
     line: &[u8],
     counting: &Counting,
@@ -88,10 +90,12 @@ fn row(
         FirstWord::Ripple => ripple(words),
         FirstWord::Link => link(alloc, words),
         FirstWord::Unlink => unlink(words),
+        FirstWord::Back => back(words),
         FirstWord::View => view(words, counting, start),
         FirstWord::Items => items(words),
         FirstWord::Point => point(words),
         FirstWord::Otio => otio(words),
+        FirstWord::News => news(words),
     }
 }
 
@@ -108,7 +112,7 @@ fn overwrite(words: &[&[u8]], counting: &Counting, start: u32) -> Result<Line, L
             let from = numeral(from)?;
             let len = numeral(len)?;
             let keep = keep(rest)?;
-            Ok(Line::Edit(Call::Overwrite(Overwrite {
+            Ok(edit(Call::Overwrite(Overwrite {
                 track,
                 at,
                 what,
@@ -135,7 +139,7 @@ fn insert(words: &[&[u8]], counting: &Counting, start: u32) -> Result<Line, Line
             let from = numeral(from)?;
             let len = numeral(len)?;
             let keep = keep(rest)?;
-            Ok(Line::Edit(Call::Insert(Insert {
+            Ok(edit(Call::Insert(Insert {
                 tracks,
                 track,
                 at,
@@ -159,7 +163,7 @@ fn remove(words: &[&[u8]]) -> Result<Line, LineFault>
             let track = track(track_word)?;
             let item = numeral(item)?;
             let keep = keep(rest)?;
-            Ok(Line::Edit(Call::Remove(Remove { track, item, keep })))
+            Ok(edit(Call::Remove(Remove { track, item, keep })))
         }
         _ => Err(LineFault::B2),
     }
@@ -176,7 +180,7 @@ fn extract(words: &[&[u8]]) -> Result<Line, LineFault>
             let track = track(track_word)?;
             let item = numeral(item)?;
             let keep = keep(rest)?;
-            Ok(Line::Edit(Call::Extract(Extract {
+            Ok(edit(Call::Extract(Extract {
                 tracks,
                 track,
                 item,
@@ -197,7 +201,7 @@ fn slice(words: &[&[u8]], counting: &Counting, start: u32) -> Result<Line, LineF
             let track = track(track_word)?;
             let at = place(at, counting, start)?;
             let keep = keep(rest)?;
-            Ok(Line::Edit(Call::Slice(Slice { track, at, keep })))
+            Ok(edit(Call::Slice(Slice { track, at, keep })))
         }
         _ => Err(LineFault::B2),
     }
@@ -214,7 +218,7 @@ fn dissolve(words: &[&[u8]], counting: &Counting, start: u32) -> Result<Line, Li
             let at = place(at, counting, start)?;
             let a = numeral(before)?;
             let b = numeral(after)?;
-            Ok(Line::Edit(Call::Dissolve(Dissolve { track, at, a, b })))
+            Ok(edit(Call::Dissolve(Dissolve { track, at, a, b })))
         }
         _ => Err(LineFault::B2),
     }
@@ -229,7 +233,7 @@ fn undissolve(words: &[&[u8]], counting: &Counting, start: u32) -> Result<Line, 
         [track_word, at] => {
             let track = track(track_word)?;
             let at = place(at, counting, start)?;
-            Ok(Line::Edit(Call::Undissolve(Undissolve { track, at })))
+            Ok(edit(Call::Undissolve(Undissolve { track, at })))
         }
         _ => Err(LineFault::B2),
     }
@@ -246,7 +250,7 @@ fn trim(words: &[&[u8]]) -> Result<Line, LineFault>
             let item = numeral(item)?;
             let end = end(last)?;
             let by = delta(by)?;
-            Ok(Line::Edit(Call::Trim(Trim {
+            Ok(edit(Call::Trim(Trim {
                 track,
                 item,
                 end,
@@ -268,7 +272,7 @@ fn slip(words: &[&[u8]]) -> Result<Line, LineFault>
             let track = track(track_word)?;
             let item = numeral(item)?;
             let by = delta(by)?;
-            Ok(Line::Edit(Call::Slip(Slip {
+            Ok(edit(Call::Slip(Slip {
                 tracks,
                 track,
                 item,
@@ -289,7 +293,7 @@ fn roll(words: &[&[u8]], counting: &Counting, start: u32) -> Result<Line, LineFa
             let track = track(track_word)?;
             let at = place(at, counting, start)?;
             let by = delta(by)?;
-            Ok(Line::Edit(Call::Roll(Roll { track, at, by })))
+            Ok(edit(Call::Roll(Roll { track, at, by })))
         }
         _ => Err(LineFault::B2),
     }
@@ -306,7 +310,7 @@ fn slide(words: &[&[u8]]) -> Result<Line, LineFault>
             let track = track(track_word)?;
             let item = numeral(item)?;
             let by = delta(by)?;
-            Ok(Line::Edit(Call::Slide(Slide {
+            Ok(edit(Call::Slide(Slide {
                 tracks,
                 track,
                 item,
@@ -329,7 +333,7 @@ fn fill(words: &[&[u8]], counting: &Counting, start: u32) -> Result<Line, LineFa
             let what = what(thing)?;
             let from = numeral(from)?;
             let (length, keep) = filled(how, rest)?;
-            Ok(Line::Edit(Call::Fill(Fill {
+            Ok(edit(Call::Fill(Fill {
                 track,
                 at,
                 what,
@@ -354,7 +358,7 @@ fn ripple(words: &[&[u8]]) -> Result<Line, LineFault>
             let item = numeral(item)?;
             let end = end(last)?;
             let by = delta(by)?;
-            Ok(Line::Edit(Call::Ripple(Ripple {
+            Ok(edit(Call::Ripple(Ripple {
                 tracks,
                 track,
                 item,
@@ -378,7 +382,7 @@ fn link(alloc: Global, words: &[&[u8]]) -> Result<Line, LineFault>
             if items.as_slice().len() != track_count(tracks) {
                 return Err(LineFault::B2);
             }
-            Ok(Line::Edit(Call::Link3(Link3 { tracks, items })))
+            Ok(edit(Call::Link3(Link3 { tracks, items })))
         }
         _ => Err(LineFault::B2),
     }
@@ -393,7 +397,24 @@ fn unlink(words: &[&[u8]]) -> Result<Line, LineFault>
         [track_word, item] => {
             let track = track(track_word)?;
             let item = numeral(item)?;
-            Ok(Line::Edit(Call::Unlink(Unlink { track, item })))
+            Ok(edit(Call::Unlink(Unlink { track, item })))
+        }
+        _ => Err(LineFault::B2),
+    }
+}
+
+// back TS
+fn back(words: &[&[u8]]) -> Result<Line, LineFault>
+    ensures read { result ≡ back_of (texts_of words.now) }
+    ensures written { IfOk result (λ read. NamesWritten read) }
+{
+    match words {
+        [list] => {
+            let tracks = tracks(list)?;
+            Ok(Line::Edit(Step {
+                by: 0,
+                act: Deed::Back { tracks },
+            }))
         }
         _ => Err(LineFault::B2),
     }
@@ -447,6 +468,17 @@ fn otio(words: &[&[u8]]) -> Result<Line, LineFault>
 {
     match words {
         [point] => Ok(Line::Otio(numeral(point)?)),
+        _ => Err(LineFault::B2),
+    }
+}
+
+// news N
+fn news(words: &[&[u8]]) -> Result<Line, LineFault>
+    ensures read { result ≡ news_of (texts_of words.now) }
+    ensures written { IfOk result (λ read. NamesWritten read) }
+{
+    match words {
+        [place] => Ok(Line::News(numeral(place)?)),
         _ => Err(LineFault::B2),
     }
 }

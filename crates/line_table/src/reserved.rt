@@ -6,8 +6,8 @@ ghost use Rattle.protocol_parts.specs.Things.{what_text};
 use frame_meaning::What;
 use itoa::Buffer;
 
-// Adds a text at the end.
-pub(crate) fn put(out: &mut Vec<u8>, text: &[u8])
+/// Adds a text at the end.
+pub fn put(out: &mut Vec<u8>, text: &[u8])
     requires { vec_len out.old + length text.now ≤ vec_capacity out.old }
     ensures text { out.new.items ≡ out.old.items ++ text.now }
     ensures len { vec_len out.new ≡ vec_len out.old + length text.now }
@@ -19,8 +19,8 @@ pub(crate) fn put(out: &mut Vec<u8>, text: &[u8])
     }
 }
 
-// Adds a text and a number, in decimal digits without leading zeros.
-pub(crate) fn put_number(out: &mut Vec<u8>, lead: &[u8], number: u32)
+/// Adds a text and a number, in decimal digits without leading zeros.
+pub fn put_number(out: &mut Vec<u8>, lead: &[u8], number: u32)
     requires { vec_len out.old + length lead.now + 10 ≤ vec_capacity out.old }
     ensures text { out.new.items ≡ out.old.items ++ (lead.now ++ decimal number) }
     ensures len { vec_len out.new ≤ vec_len out.old + length lead.now + 10 }

@@ -35,8 +35,8 @@ impl<'a> LineWords<'a> {
     }
 }
 
-// The first word of a line, and the line after it.
-pub(crate) fn first_word(line: &[u8]) -> Result<(&[u8], &[u8]), LineFault>
+/// The first word of a line, and the line after it, or the fault of a line that has no word.
+pub fn first_word(line: &[u8]) -> Result<(&[u8], &[u8]), LineFault>
     ensures ok { IfOk result (λ r. words_of line.now ≡ r.0.now ∷ words_of r.1.now) }
     ensures err { IfErr result (λ e. (e ≡ LineFault.B2) × (words_of line.now ≡ [])) }
 {

@@ -14,12 +14,8 @@ use Rattle.edit_calls.specs.declared.asks.Seen.{Seen}
 use Rattle.edit_calls.specs.declared.asks.Seen.TheVariants.{Runs, Items}
 use Rattle.edit_calls.specs.declared.asks.AskRefusal.{AskRefusal}
 use Rattle.edit_calls.specs.declared.asks.AskRefusal.TheVariants.{NoTrack, Range}
-use Rattle.composables.specs.TrackState.{TrackState}
-use Rattle.composables.specs.declared.refusals.Done.{Done}
-use Rattle.composables.specs.declared.refusals.Refusal.{Refusal}
-use Rattle.edit_calls.specs.declared.asks.Call.{Call}
 use Rattle.edit_calls.specs.declared.asks.Ask.{Ask}
-use Rattle.edit_apply.specs.declared.editor.Editor.{Editor}
+use Rattle.cut_steps.specs.CutSteps.{CutObject, CutStep, KeptTrack, StepDone, StepRefusal}
 use Rattle.cut_room.specs.declared.answers.Sight.{Sight}
 use Rattle.cut_room.specs.declared.answers.Sight.TheVariants as sight
 use Rattle.protocol_parts.specs.Things.{what_text}
@@ -65,10 +61,14 @@ item_text view =
     mark_text view.mark ++ number_text view.item ++ side_text view.first
     ++ codes " " ++ decimal view.len ++ item_link_text view.link
 
+-- items and gaps, each after a space
+abbrev pub items_text_of : List ItemView → List ℕ
+items_text_of views = flat_map item_text views
+
 -- what was seen at a point
 abbrev pub seen_text : ℕ → Seen → List ℕ
 seen_text point (Runs runs) = codes "seen " ++ decimal point ++ flat_map run_text runs
-seen_text point (Items views) = codes "items " ++ decimal point ++ flat_map item_text views
+seen_text point (Items views) = codes "items " ++ decimal point ++ items_text_of views
 
 -- why a question was refused
 abbrev pub ask_refusal_text : AskRefusal → List ℕ
@@ -77,7 +77,7 @@ ask_refusal_text (Range length) = codes " V2 " ++ decimal length
 
 -- what a question is answered in a room of tracks
 abbrev pub TrackSight : Type 0
-TrackSight = Sight Editor TrackState Call Done Refusal Ask Seen AskRefusal
+TrackSight = Sight CutObject KeptTrack CutStep StepDone StepRefusal Ask Seen AskRefusal
 
 -- the reply to a question
 abbrev pub sight_text_of : TrackSight → List ℕ

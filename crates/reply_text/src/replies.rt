@@ -1,11 +1,12 @@
 // Replies to edits, to `point`, and to lines that are none of the table.
 ghost use Rattle.std.specs.Prelude.{◌≡◌, ◌+◌, ◌≤◌, ◌++◌, length, codes, decimal};
 ghost use Rattle.std.specs.Fmt.{signed_decimal};
-ghost use Rattle.reply_text.specs.Replies.{link_text, offsets_text, done_text, refusal_text, answer_text_of, fault_of};
+ghost use Rattle.reply_text.specs.Replies.{link_text, offsets_text, own_done_text, own_refusal_text, done_text, refusal_text, answer_text_of, fault_of};
 
 use crate::{CutObject, LineFault, MAX_SHORT, Short};
 use composables::{Done, Refusal, Which};
 use cut_room::Answer;
+use cut_steps::{BackDone, BackRefusal};
 
 /// The reply to an edit, without its line feed. It takes no memory.
 pub fn answer_text(answer: &Answer<CutObject>) -> Short
@@ -59,10 +60,22 @@ pub fn fault_text(fault: &LineFault) -> Short
     text
 }
 
-// Adds what an edit that was done answers: nothing, an item, a delta or a link.
-fn push_done(text: &mut Short, done: &Done)
+// Adds what a step that was done answers: what its edit does, or nothing where one was taken back.
+fn push_done(text: &mut Short, done: &BackDone<Done>)
     requires { length text.old + 40 ≤ MAX_SHORT }
     ensures text { text.new ≡ text.old ++ done_text done.now }
+    ensures length { length text.new ≤ length text.old + 40 }
+{
+    match done {
+        BackDone::Own(done) => push_own_done(text, done),
+        BackDone::Plain => {}
+    }
+}
+
+// Adds what an edit that was done answers: nothing, an item, a delta or a link.
+fn push_own_done(text: &mut Short, done: &Done)
+    requires { length text.old + 40 ≤ MAX_SHORT }
+    ensures text { text.new ≡ text.old ++ own_done_text done.now }
     ensures length { length text.new ≤ length text.old + 40 }
 {
     match done {
@@ -73,10 +86,24 @@ fn push_done(text: &mut Short, done: &Done)
     }
 }
 
-// Adds the code of a refusal with its numbers.
-fn push_refusal(text: &mut Short, refusal: &Refusal)
+// Adds the code of a refusal with its numbers: that of an edit, or that of a taking back with its track.
+fn push_refusal(text: &mut Short, refusal: &BackRefusal<Refusal>)
     requires { length text.old + 80 ≤ MAX_SHORT }
     ensures text { text.new ≡ text.old ++ refusal_text refusal.now }
+    ensures length { length text.new ≤ length text.old + 80 }
+{
+    match refusal {
+        BackRefusal::Own(refusal) => push_own_refusal(text, refusal),
+        BackRefusal::NoPart(track) => push_number(text, b" E1 ", *track),
+        BackRefusal::NotYours(track) => push_number(text, b" E16 ", *track),
+        BackRefusal::OtherTracks(track) => push_number(text, b" E17 ", *track),
+    }
+}
+
+// Adds the code of an edit's refusal with its numbers.
+fn push_own_refusal(text: &mut Short, refusal: &Refusal)
+    requires { length text.old + 80 ≤ MAX_SHORT }
+    ensures text { text.new ≡ text.old ++ own_refusal_text refusal.now }
     ensures length { length text.new ≤ length text.old + 80 }
 {
     match refusal {

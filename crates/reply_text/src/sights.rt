@@ -1,11 +1,12 @@
 // Replies to questions.
 ghost use Rattle.std.specs.Prelude.{◌≡◌, ◌+◌, ◌≤◌, ◌++◌, IfOk, OnOk, length};
 ghost use Rattle.std.specs.List.{flat_map};
-ghost use Rattle.reply_text.specs.Sights.{side_text, frame_text, run_text, mark_text, number_text, item_link_text, item_text, picture_text, seen_text, ask_refusal_text, sight_text_of};
+ghost use Rattle.composables.specs.Items.{items_of};
+ghost use Rattle.reply_text.specs.Sights.{side_text, frame_text, run_text, mark_text, number_text, item_link_text, item_text, items_text_of, picture_text, seen_text, ask_refusal_text, sight_text_of};
 
 use crate::replies::{push_link, push_number};
 use crate::{CutObject, MAX_SHORT, Short};
-use composables::{ItemView, Memory};
+use composables::{ItemView, Memory, Track};
 use cut_room::Sight;
 use edit_apply::{AskRefusal, Seen};
 use frame_meaning::{Frame, Link, Mark, Run, Side, What};
@@ -25,6 +26,16 @@ pub fn sight_text(alloc: Global, sight: &Sight<CutObject>) -> Result<Vec<u8>, Me
         }
         Sight::Memory => put(&mut out, b"memory")?,
     }
+    Ok(out)
+}
+
+/// The items and gaps of a track, each after a space, as they stand in the reply to `items` after the point.
+pub fn items_text(alloc: Global, track: &Track) -> Result<Vec<u8>, Memory>
+    ensures { IfOk result (λ text. text.items ≡ items_text_of (items_of track.now.cells)) }
+{
+    let items = track.items(alloc)?;
+    let mut out = Vec::with_capacity(alloc, items.len().saturating_mul(32))?;
+    put_items(&mut out, &items)?;
     Ok(out)
 }
 
@@ -78,7 +89,7 @@ fn put_runs(out: &mut Vec<u8>, runs: &[Run<What>]) -> Result<(), Memory>
 
 // Adds items and gaps, each after a space.
 fn put_items(out: &mut Vec<u8>, items: &[ItemView]) -> Result<(), Memory>
-    ensures { OnOk result (out.new.items ≡ out.old.items ++ flat_map item_text items.now) }
+    ensures { OnOk result (out.new.items ≡ out.old.items ++ items_text_of items.now) }
 {
     for item in items {
         let text = text_of_item(item);

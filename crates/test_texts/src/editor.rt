@@ -12,6 +12,7 @@ use composables::{
 };
 use edit_apply::{Ask, AskRefusal, Call, Editor};
 use frame_meaning::What;
+use reply_text::items_text;
 use room_core::{Fault, PartObject};
 use std::alloc::Global;
 use std::marker::Brand;
@@ -179,6 +180,18 @@ fn track_of_items(alloc: Global, table: &Table, count: u32) -> Result<Track, Mem
         track.push(one_frame(number))?;
     }
     Ok(track)
+}
+
+#[test]
+fn the_items_of_a_track_have_a_text(rt: HostRuntime) -> Result<(), Fail> {
+    let alloc = rt.alloc();
+    let editor = two_tracks(alloc)?;
+    for (count, want) in [(0u32, ""), (1, " 0 @0 0 1"), (2, " 0 @0 0 1 1 @0 0 1")] {
+        let track = track_of_items(alloc, &editor.table, count)?;
+        let text = items_text(alloc, &track)?;
+        assert_eq!(rt; text.as_slice(), want.as_bytes(), "{count}");
+    }
+    Ok(())
 }
 
 // Does a call on track 0 alone, unless its names are refused.

@@ -24,10 +24,11 @@ pub(crate) fn told(
 ) -> Result<Vec<u8>, Memory> {
     let mut said = Vec::new(alloc);
     match read_line(alloc, line, counting, start) {
-        Ok(Line::Edit(call)) => return call_text(alloc, &call),
+        Ok(Line::Edit(step)) => return call_text(alloc, &step),
         Ok(Line::Ask(ask)) => put_ask(&mut said, ask)?,
         Ok(Line::Point) => put(&mut said, b"point")?,
         Ok(Line::Otio(point)) => put_number(&mut said, b"otio ", point)?,
+        Ok(Line::News(place)) => put_number(&mut said, b"news ", place)?,
         Err(fault) => put(&mut said, fault_text(&fault).as_bytes())?,
     }
     Ok(said)

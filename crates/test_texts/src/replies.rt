@@ -2,9 +2,12 @@
 
 use composables::{Done, ItemView, Listed, Refusal, Which};
 use cut_room::{Answer, Sight};
-use edit_apply::{AskRefusal, Editor, Seen};
+use cut_steps::{BackDone, BackRefusal};
+use edit_apply::{AskRefusal, Seen};
 use frame_meaning::{Frame, Link, Mark, Run, Side, What};
-use reply_text::{LineFault, MAX_SHORT, Short, answer_text, fault_text, point_text, sight_text};
+use reply_text::{
+    CutObject, LineFault, MAX_SHORT, Short, answer_text, fault_text, point_text, sight_text,
+};
 use std::test::Fail;
 
 // Faults of lines.
@@ -52,7 +55,10 @@ fn done(row: u32) -> Option<(Done, &'static str)> {
 fn edits_are_replied(rt: HostRuntime) -> Result<(), Fail> {
     for row in 0..5u32 {
         let (done, want) = done(row).ok_or("a row")?;
-        let answer = Answer::Done { point: 7, done };
+        let answer = Answer::Done {
+            point: 7,
+            done: BackDone::Own(done),
+        };
         assert_eq!(rt;
             answer_text(&answer).as_bytes(),
             want.as_bytes(),
@@ -106,7 +112,41 @@ fn refused(row: u32) -> Option<(Refusal, &'static str)> {
 fn refused_edits_are_replied(rt: HostRuntime) -> Result<(), Fail> {
     for row in 0..15u32 {
         let (refusal, want) = refused(row).ok_or("a row")?;
-        let answer = Answer::Refused { point: 10, refusal };
+        let answer = Answer::Refused {
+            point: 10,
+            refusal: BackRefusal::Own(refusal),
+        };
+        assert_eq!(rt;
+            answer_text(&answer).as_bytes(),
+            want.as_bytes(),
+            "row {row}"
+        );
+    }
+    Ok(())
+}
+
+// Takings back, after 10 entries.
+fn taken_back(row: u32) -> Option<(Answer<CutObject>, &'static str)> {
+    let refused = |refusal: BackRefusal<Refusal>| Answer::Refused { point: 10, refusal };
+    match row {
+        0 => Some((
+            Answer::Done {
+                point: 10,
+                done: BackDone::Plain,
+            },
+            "ok 10",
+        )),
+        1 => Some((refused(BackRefusal::NoPart(2)), "no 10 E1 2")),
+        2 => Some((refused(BackRefusal::NotYours(0)), "no 10 E16 0")),
+        3 => Some((refused(BackRefusal::OtherTracks(31)), "no 10 E17 31")),
+        _ => None,
+    }
+}
+
+#[test]
+fn takings_back_are_replied(rt: HostRuntime) -> Result<(), Fail> {
+    for row in 0..4u32 {
+        let (answer, want) = taken_back(row).ok_or("a row")?;
         assert_eq!(rt;
             answer_text(&answer).as_bytes(),
             want.as_bytes(),
@@ -117,55 +157,62 @@ fn refused_edits_are_replied(rt: HostRuntime) -> Result<(), Fail> {
 }
 
 // The longest reply of each form that numbers can make longer: they are as long as they can be.
-fn longest(row: u32) -> Option<(Answer<Editor>, &'static str)> {
+fn longest(row: u32) -> Option<(Answer<CutObject>, &'static str)> {
     let point = 4294967295;
     match row {
         0 => Some((
             Answer::Done {
                 point,
-                done: Done::By(i32::MIN),
+                done: BackDone::Own(Done::By(i32::MIN)),
             },
             "ok 4294967295 by -2147483648",
         )),
         1 => Some((
             Answer::Done {
                 point,
-                done: Done::Linked {
+                done: BackDone::Own(Done::Linked {
                     home: 4294967295,
                     number: 4294967295,
-                },
+                }),
             },
             "ok 4294967295 link 4294967295.4294967295",
         )),
         2 => Some((
             Answer::Refused {
                 point,
-                refusal: Refusal::OffsetsDiffer(i64::MIN, i64::MIN),
+                refusal: BackRefusal::Own(Refusal::OffsetsDiffer(i64::MIN, i64::MIN)),
             },
             "no 4294967295 E9 -9223372036854775808 -9223372036854775808",
         )),
         3 => Some((
             Answer::Refused {
                 point,
-                refusal: Refusal::LinkOutside {
+                refusal: BackRefusal::Own(Refusal::LinkOutside {
                     home: 4294967295,
                     number: 4294967295,
                     track: 4294967295,
-                },
+                }),
             },
             "no 4294967295 E11 4294967295.4294967295 4294967295",
         )),
         4 => Some((
             Answer::Refused {
                 point,
-                refusal: Refusal::LinkBroken {
+                refusal: BackRefusal::Own(Refusal::LinkBroken {
                     home: 4294967295,
                     number: 4294967295,
                     old: i64::MIN,
                     new: i64::MIN,
-                },
+                }),
             },
             "no 4294967295 E12 4294967295.4294967295 -9223372036854775808 -9223372036854775808",
+        )),
+        5 => Some((
+            Answer::Refused {
+                point,
+                refusal: BackRefusal::OtherTracks(4294967295),
+            },
+            "no 4294967295 E17 4294967295",
         )),
         _ => None,
     }
@@ -173,7 +220,7 @@ fn longest(row: u32) -> Option<(Answer<Editor>, &'static str)> {
 
 #[test]
 fn the_longest_replies_to_edits_are_short(rt: HostRuntime) -> Result<(), Fail> {
-    for row in 0..5u32 {
+    for row in 0..6u32 {
         let (answer, want) = longest(row).ok_or("a row")?;
         let text = answer_text(&answer);
         assert_eq!(rt; text.as_bytes(), want.as_bytes(), "row {row}");
@@ -300,7 +347,7 @@ fn items_are_replied(rt: HostRuntime) -> Result<(), Fail> {
 }
 
 // Questions that are refused, after 3 entries, and one for which there is no memory.
-fn unseen(row: u32) -> Option<(Sight<Editor>, &'static str)> {
+fn unseen(row: u32) -> Option<(Sight<CutObject>, &'static str)> {
     match row {
         0 => Some((
             Sight::Refused {

@@ -1,6 +1,6 @@
 // Calls by their fields, and their texts.
 
-use call_text::{Entry, call_text, journal_text};
+use call_text::{Deed, Entry, Step, call_text, journal_text};
 use composables::{
     Dissolve, End, Extract, Fill, FillLength, Insert, Link3, Numbers, Overwrite, Remove, Ripple,
     Roll, Slice, Slide, Slip, Trim, Undissolve, Unlink,
@@ -11,6 +11,14 @@ use std::test::Fail;
 
 // A call, and its text.
 type Written = (Call, &'static str);
+
+// The step that does a call, for a station whose number is in no text.
+fn doing(call: Call) -> Step<Call> {
+    Step {
+        by: 9,
+        act: Deed::Do(call),
+    }
+}
 
 // Calls that put and take.
 fn put_or_taken(row: u32) -> Option<Written> {
@@ -93,7 +101,7 @@ fn put_or_taken(row: u32) -> Option<Written> {
 fn calls_that_put_and_take_have_these_texts(rt: HostRuntime) -> Result<(), Fail> {
     for row in 0..7u32 {
         let (call, want) = put_or_taken(row).ok_or("a row")?;
-        let text = call_text(rt.alloc(), &call)?;
+        let text = call_text(rt.alloc(), &doing(call))?;
         assert_eq!(rt; text.as_slice(), want.as_bytes(), "row {row}");
     }
     Ok(())
@@ -180,7 +188,7 @@ fn kept(row: u32) -> Option<Written> {
 fn calls_that_keep_dissolves_have_these_texts(rt: HostRuntime) -> Result<(), Fail> {
     for row in 0..7u32 {
         let (call, want) = kept(row).ok_or("a row")?;
-        let text = call_text(rt.alloc(), &call)?;
+        let text = call_text(rt.alloc(), &doing(call))?;
         assert_eq!(rt; text.as_slice(), want.as_bytes(), "row {row}");
     }
     Ok(())
@@ -255,7 +263,7 @@ fn moved(row: u32) -> Option<Written> {
 fn calls_that_move_have_these_texts(rt: HostRuntime) -> Result<(), Fail> {
     for row in 0..7u32 {
         let (call, want) = moved(row).ok_or("a row")?;
-        let text = call_text(rt.alloc(), &call)?;
+        let text = call_text(rt.alloc(), &doing(call))?;
         assert_eq!(rt; text.as_slice(), want.as_bytes(), "row {row}");
     }
     Ok(())
@@ -264,10 +272,36 @@ fn calls_that_move_have_these_texts(rt: HostRuntime) -> Result<(), Fail> {
 #[test]
 fn links_have_these_texts(rt: HostRuntime) -> Result<(), Fail> {
     let items = Numbers::from_vec(Vec::from_slice(rt.alloc(), &[7, 0, 4294967295])?);
-    let link = call_text(rt.alloc(), &Call::Link3(Link3 { tracks: 11, items }))?;
+    let link = doing(Call::Link3(Link3 { tracks: 11, items }));
+    let link = call_text(rt.alloc(), &link)?;
     assert_eq!(rt; link.as_slice(), b"link 0,1,3 7,0,4294967295".as_slice());
-    let unlink = call_text(rt.alloc(), &Call::Unlink(Unlink { track: 3, item: 10 }))?;
+    let unlink = doing(Call::Unlink(Unlink { track: 3, item: 10 }));
+    let unlink = call_text(rt.alloc(), &unlink)?;
     assert_eq!(rt; unlink.as_slice(), b"unlink 3 10".as_slice());
+    Ok(())
+}
+
+// Each row is a set of tracks, and the text of the taking back of their last edit.
+const TAKEN_BACK: [(u32, &str); 4] = [
+    (1, "back 0"),
+    (2147483648, "back 31"),
+    (2147483651, "back 0,1,31"),
+    (
+        4294967295,
+        "back 0,1,2,3,4,5,6,7,8,9,10,11,12,13,14,15,16,17,18,19,20,21,22,23,24,25,26,27,28,29,30,31",
+    ),
+];
+
+#[test]
+fn takings_back_have_these_texts(rt: HostRuntime) -> Result<(), Fail> {
+    for (tracks, want) in TAKEN_BACK {
+        let back = Step {
+            by: 9,
+            act: Deed::Back { tracks },
+        };
+        let text = call_text(rt.alloc(), &back)?;
+        assert_eq!(rt; text.as_slice(), want.as_bytes(), "tracks {tracks}");
+    }
     Ok(())
 }
 
@@ -276,11 +310,11 @@ fn an_entry_has_its_station_and_its_number(rt: HostRuntime) -> Result<(), Fail> 
     let entry = Entry {
         station: 15,
         number: 70,
-        call: Call::Slice(Slice {
+        call: doing(Call::Slice(Slice {
             track: 3,
             at: 10,
             keep: true,
-        }),
+        })),
     };
     let text = journal_text(rt.alloc(), &[entry])?;
     assert_eq!(rt;

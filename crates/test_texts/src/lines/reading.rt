@@ -11,6 +11,11 @@ const LINES: &str = "\
 point | point
  \tpoint\t | point
 otio 007 | otio 7
+news 0 | news 0
+news\t 4294967295  | news 4294967295
+back 0 | back 0
+back 00,031 | back 0,31
+back 0,1,2,3,4,5,6,7,8,9,10,11,12,13,14,15,16,17,18,19,20,21,22,23,24,25,26,27,28,29,30,31 | back 0,1,2,3,4,5,6,7,8,9,10,11,12,13,14,15,16,17,18,19,20,21,22,23,24,25,26,27,28,29,30,31
 items 0 | items 0
 items\t 031  | items 31
 view 2 7 5 | view 2 7 5
@@ -123,6 +128,28 @@ slip 0 0 0 -2147483649 | bad B4
 slip 0 0 0 - | bad B3
 otio | bad B2
 otio -1 | bad B3
+news | bad B2
+news 0 0 | bad B2
+news -1 | bad B3
+news 00:00:00:01 | bad B3
+news 4294967296 | bad B4
+New 0 | bad B1
+newt 0 | bad B1
+back | bad B2
+back 0 0 | bad B2
+back 0 keep | bad B2
+back x | bad B3
+back , | bad B3
+back 0, | bad B3
+back @0 | bad B3
+back 32 | bad B4
+back 4294967296 | bad B4
+back 0,0 | bad B6
+back 1,0,x | bad B6
+back 0,x,32 | bad B3
+back 0,32,x | bad B4
+bach 0 | bad B1
+Back 0 | bad B1
 roll 0 0 | bad B2
 roll 0 4294967296 x | bad B4
 slide 0 0 0 1- | bad B3

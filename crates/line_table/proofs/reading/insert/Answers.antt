@@ -1,4 +1,4 @@
-use Rattle.std.proofs.Common.{rules, refl, sym, drop}
+use Rattle.std.proofs.Common.{rules, Ok, ap, sym, drop}
 use Rattle.std.proofs.lemmas.List.{take_rest}
 use Rattle.line_table.proofs.RowWords.{few_words, six_words_up}
 use Rattle.line_table.proofs.reading.insert.Goals as goal
@@ -15,7 +15,7 @@ returns-in_ok-keep-in-len6-up-clause-read c =
     let from = sym c.in_ok-from-in-len6-up.ensures in
     let len = sym c.in_ok-len-in-len6-up.ensures in
     let keep = sym (rw rest at c.in_ok-keep-in-len6-up.ensures) in
-    rw (words, few, tracks, track, at, what, from, len, keep) refl
+    rw (words, few, tracks, track, at, what, from, len, keep) (ap Ok c.edit.ensures)
 
 pub returns-in_err-len-in-len6-up-clause-read : goal.returns-in_err-len-in-len6-up-clause-read
 returns-in_err-len-in-len6-up-clause-read c =
