@@ -5,7 +5,7 @@ ghost use Rattle.command_files.specs.Unopened.{OnlyRead, CountsOpening};
 
 use crate::{InputFault, Refusal, refusal_line};
 use call_text::{JournalCode, JournalFault, MAX_JOURNAL, read_journal};
-use edit_apply::Call;
+use cut_steps::CutCall;
 use reply_text::Short;
 use room_core::Entry;
 use room_files::{FileFault, Files};
@@ -34,7 +34,7 @@ pub fn open_journal<F: Files>(
     alloc: Global,
     files: &mut F,
     name: &str,
-) -> Result<Vec<Entry<Call>>, InputFault<JournalRefusal>>
+) -> Result<Vec<Entry<CutCall>>, InputFault<JournalRefusal>>
     ensures opens { Opens ((F.told files.old).file name.now) result }
     ensures same { OnlyRead (F.told files.old) (F.told files.new) }
     ensures counts { CountsOpening result (F.told files.old).reads (F.told files.new).reads }

@@ -8,19 +8,18 @@ use Rattle.std.proofs.lemmas.Bool.Decides.{nat_tests}
 use Rattle.std.proofs.lemmas.List.Sums.{fold-append}
 use Rattle.line_words.specs.Lines.{is_lf}
 use Rattle.journal_file.specs.Layout.{IsLine}
-use Rattle.edit_calls.specs.declared.asks.Call.{Call}
+use Rattle.cut_steps.specs.CutSteps.{CutStep, stepping}
 use Rattle.room_core.specs.declared.entry.Entry.{Entry}
 use Rattle.room_core.specs.History.{after_entry, replay, state_in}
 use Rattle.room_core.specs.Whole.{whole}
-use Rattle.edit_apply.specs.Apply.{editing}
-use Rattle.line_table.specs.CallTexts.{call_text_of}
-use Rattle.line_table.specs.Journals.{entry_text}
-use Rattle.line_table.proofs.EntryTexts.{is_plain}
+use Rattle.line_table.specs.CallTexts.{step_text_of}
+use Rattle.journal_text.specs.Journals.{entry_text}
+use Rattle.journal_text.proofs.EntryTexts.{is_plain}
 use Rattle.line_table.proofs.WrittenParts.{length-decimal}
 use Rattle.kept_lines.specs.Lines.{EnteredLinesFit}
 use Rattle.kept_lines.specs.Widths.{IsNarrow}
 use Rattle.kept_lines.proofs.Applied.{applied}
-use Rattle.kept_lines.proofs.Texts.{fits, joined, number_plain, IsFit}
+use Rattle.kept_lines.proofs.Texts.{deed_fits, joined, number_plain, DeedFits}
 
 -- ---- an entry of a legal history applies where it stands, for any kind of state
 
@@ -60,18 +59,17 @@ none_ten (byte ∷ text) h =
 length-all : (s n c : List ℕ) → length (s ++ codes " " ++ n ++ codes " " ++ c) ≡ length s + length n + length c + 2
 length-all s n c = simp length-append (omega arith)
 
-entry_plain : (e : Entry Call) → IsNarrow e → is_plain (call_text_of e.call) ≡ true → is_plain (entry_text e) ≡ true
+entry_plain : (e : Entry CutStep) → IsNarrow e → is_plain (step_text_of e.call) ≡ true → is_plain (entry_text e) ≡ true
 entry_plain e w h =
     let station = joined (decimal e.station) (codes " ") (number_plain e.station w.station) refl in
     let number = joined (decimal e.station ++ codes " ") (decimal e.number) station (number_plain e.number w.number) in
-    joined (decimal e.station ++ codes " " ++ decimal e.number ++ codes " ") (call_text_of e.call) (joined (decimal e.station ++ codes " " ++ decimal e.number) (codes " ") number refl) h
+    joined (decimal e.station ++ codes " " ++ decimal e.number ++ codes " ") (step_text_of e.call) (joined (decimal e.station ++ codes " " ++ decimal e.number) (codes " ") number refl) h
 
 pub entered_lines_fit : EnteredLinesFit
 entered_lines_fit table opening before after e legal w =
-    let p = applies (whole (editing table)) opening before after e legal.applies in
-    let told = applied table p.0 e.call p.1 p.2 in
-    let fit : IsFit e.call = fits table e.call w.call_is told.0 told.1 in
-    let all = length-all (decimal e.station) (decimal e.number) (call_text_of e.call) in
+    let p = applies (whole (stepping table)) opening before after e legal.applies in
+    let fit : DeedFits e.call.act = deed_fits table e.call.act w.deed (applied table p.0 e.call p.1 p.2) in
+    let all = length-all (decimal e.station) (decimal e.number) (step_text_of e.call) in
     record {
       some = omega (arith, all);
       most = omega (arith, all, length-decimal e.station w.station, length-decimal e.number w.number, fit.0);

@@ -1,4 +1,4 @@
--- The texts of calls that apply are short, and have no line feed.
+-- The texts of steps that are done are short, and have no line feed.
 use Rattle.std.proofs.Common.{◌≡◌, ℕ, ◌+◌, ◌<◌, ◌≤◌, ◌^◌, Bool, true, false, not, List, [], ◌∷◌, ◌++◌, All, None, length, refl, sym, ◌∙◌, arith, length-append, codes}
 use Rattle.std.specs.Char.{is_ascii_digit}
 use Rattle.std.specs.Fmt.{decimal}
@@ -14,14 +14,16 @@ use Rattle.composables.specs.TrackSets.{tracks_in}
 use Rattle.edit_calls.specs.declared.asks.Call.{Call}
 use Rattle.edit_calls.specs.declared.asks.Call.TheVariants as call
 use Rattle.edit_apply.specs.Apply.{lowest, refuse_names_of}
-use Rattle.line_table.specs.CallTexts.{call_text_of, linked, numbers_after, tracks_text, IsSmall, IsWritten}
-use Rattle.line_table.specs.JournalFaults.{HasNoLineFeed}
-use Rattle.line_table.proofs.CallLengths.{call_length}
-use Rattle.line_table.proofs.EntryTexts.{entry_plain, is_plain}
+use Rattle.line_table.specs.CallTexts.{call_text_of, deed_text_of, linked, numbers_after, step_text_of, tracks_text, IsSmall, IsWritten}
+use Rattle.journal_text.specs.JournalFaults.{HasNoLineFeed}
+use Rattle.take_back.specs.declared.step.Deed.{Deed}
+use Rattle.take_back.specs.declared.step.Deed.TheVariants.{Do, Back}
+use Rattle.line_table.proofs.CallLengths.{deed_length}
+use Rattle.journal_text.proofs.EntryTexts.{entry_plain, is_plain}
 use Rattle.line_table.proofs.WrittenParts.{are_digits, length-numbers_after, length-tracks_text, tracks_small}
-use Rattle.kept_lines.specs.Lines.{AppliedCallsFit}
-use Rattle.kept_lines.specs.Widths.{HasWidths}
-use Rattle.kept_lines.proofs.Applied.{applied}
+use Rattle.kept_lines.specs.Lines.{DoneStepsFit}
+use Rattle.kept_lines.specs.Widths.{DeedHasWidths, HasWidths}
+use Rattle.kept_lines.proofs.Applied.{applied, IsKnown}
 use Rattle.kept_lines.proofs.Naming.{own_of_many, own_track}
 
 -- ---- no line feed among these bytes
@@ -73,10 +75,10 @@ IsFit c = (length (call_text_of c) ≤ 454) × (is_plain (call_text_of c) ≡ tr
 written_plain : (c : Call) → IsWritten c → is_plain (call_text_of c) ≡ true
 written_plain c w =
     back_of (decimal 0 ++ codes " " ++ decimal 0 ++ codes " ") (call_text_of c)
-    (entry_plain (record { station = 0; number = 0; call = c }) (record { station = omega arith; number = omega arith; call = w }))
+    (entry_plain (record { station = 0; number = 0; call = record { by = 0; act = Do c } }) (record { station = omega arith; number = omega arith; by = refl; call = w }))
 
 written_fits : (c : Call) → IsWritten c → IsFit c
-written_fits c w = (call_length c w, written_plain c w)
+written_fits c w = (deed_length (Do c) w, written_plain c w)
 
 -- a link, of which only so much is asked that it has not too many items
 link_plain : (c : Link3) → 0 < c.tracks → IsSmall c.tracks → All IsSmall c.items → is_plain (call_text_of (call.Link3 c)) ≡ true
@@ -118,8 +120,20 @@ fits table (call.Link3 c) (tracks, items) h few =
     (link_length c items few, link_plain c own.0 tracks items)
 fits table (call.Unlink c) item h few = written_fits (call.Unlink c) (own_track table c.track h, item)
 
-pub applied_calls_fit : AppliedCallsFit
-applied_calls_fit table tracks c after done h widths =
-    let p = applied table tracks c (after, done) h in
-    let fit = fits table c widths p.0 p.1 in
-    record { most = fit.0; one = none_feeds (call_text_of c) fit.1 }
+-- ---- steps that are done
+
+abbrev pub DeedFits : Deed Call → Type 0
+DeedFits d = (length (deed_text_of d) ≤ 454) × (is_plain (deed_text_of d) ≡ true)
+
+back_length : (tracks : ℕ) → length (codes "back " ++ tracks_text tracks) ≤ 454
+back_length tracks = omega (arith, length-append (codes "back ") (tracks_text tracks), length-tracks_text tracks)
+
+pub deed_fits : (table : Table) (d : Deed Call) → DeedHasWidths d → IsKnown table d → DeedFits d
+deed_fits table (Do c) widths known = fits table c widths known.0 known.1
+deed_fits table (Back tracks) widths known =
+    (back_length tracks, joined (codes "back ") (tracks_text tracks) refl (numbers_plain [] (tracks_in tracks) refl (tracks_small tracks)))
+
+pub done_steps_fit : DoneStepsFit
+done_steps_fit table tracks s after done h widths =
+    let fit = deed_fits table s.act widths (applied table tracks s (after, done) h) in
+    record { most = fit.0; one = none_feeds (step_text_of s) fit.1 }

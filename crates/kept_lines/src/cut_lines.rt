@@ -2,9 +2,9 @@
 ghost use Rattle.std.specs.Prelude.{◌≡◌, IfOk};
 
 use crate::widths::numbers;
-use edit_apply::{Call, Editor};
+use cut_steps::{CutCall, CutObject};
+use journal_text::entry_text;
 use kept_desk::EntryLines;
-use line_table::entry_text;
 use room_core::{Entry, Memory};
 use std::alloc::Global;
 
@@ -12,16 +12,16 @@ use std::alloc::Global;
 #[derive(Clone, Copy, Debug, PartialEq, Eq)]
 pub struct CutLines;
 
-impl EntryLines<Editor> for CutLines {
-    ghost use Rattle.line_table.specs.Journals.{entry_text};
+impl EntryLines<CutObject> for CutLines {
+    ghost use Rattle.journal_text.specs.Journals.{entry_text};
 
     ghost line_of = { λ e. entry_text e };
 
     fn line(
         &self,
         alloc: Global,
-        _object: &Editor,
-        entry: &Entry<Call>,
+        _object: &CutObject,
+        entry: &Entry<CutCall>,
     ) -> Result<Vec<u8>, Memory> {
         numbers(entry);
         entry_text(alloc, entry)

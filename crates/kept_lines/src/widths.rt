@@ -1,22 +1,33 @@
-// The numbers of a call that is there have 32 bits, as their types say. Nothing is refused here: who reads a number knows
+// The numbers of a step that is there have 32 bits, as their types say. Nothing is refused here: who reads a number knows
 // its range.
 ghost use Rattle.std.specs.Prelude.{All, FitsSigned};
 ghost use Rattle.std.specs.Int.{w32};
 ghost use Rattle.line_table.specs.CallTexts.{IsSmall, IsSmallLength, IsSmallWhat};
-ghost use Rattle.kept_lines.specs.Widths.{HasWidths, IsNarrow};
+ghost use Rattle.kept_lines.specs.Widths.{DeedHasWidths, HasWidths, IsNarrow};
 
 use composables::FillLength;
 use edit_calls::Call;
 use frame_meaning::What;
 use room_core::Entry;
+use take_back::{Deed, Step};
 
 // The numbers of an entry.
-pub(crate) fn numbers(entry: &Entry<Call>)
+pub(crate) fn numbers(entry: &Entry<Step<Call>>)
     ensures { IsNarrow entry.now }
 {
     number(entry.station);
     number(entry.number);
-    numbers_of(&entry.call)
+    deed_numbers(&entry.call.act)
+}
+
+// The numbers of what a station asks for.
+fn deed_numbers(deed: &Deed<Call>)
+    ensures { DeedHasWidths deed.now }
+{
+    match deed {
+        Deed::Do(call) => numbers_of(call),
+        Deed::Back { tracks } => number(*tracks),
+    }
 }
 
 // The numbers of a call.

@@ -2,6 +2,7 @@
 use Rattle.std.proofs.Common.{◌≡◌, ℕ, ◌+◌, ◌⊎◌, inl, inr, List, [], ◌∷◌, ◌++◌, None, Some, Option, Result, IsSome, length, refl, sym, ap, subst, ◌∙◌, arith, append_assoc, fold}
 use Rattle.std.proofs.lemmas.List.Sums.{fold-append}
 use Rattle.edit_calls.specs.declared.asks.Call.{Call}
+use Rattle.take_back.specs.declared.step.Step.{Step}
 use Rattle.room_core.specs.declared.entry.Entry.{Entry}
 use Rattle.room_core.specs.History.{after_entry, replay}
 use Rattle.room_core.specs.Whole.{Meaning, whole}
@@ -55,11 +56,11 @@ splits (l ∷ xs) x a (m ∷ ys) y b same =
     let rest : xs ++ x ∷ a ≡ ys ++ y ∷ b = cc in
     subst (λ (k : List ℕ). Splits (l ∷ xs) x (k ∷ ys) y) here (splits_on l xs x ys y (splits xs x a ys y b rest))
 
-module _ {P D R : Type 0} (m : Meaning P Call D R) (opening : List P) (stations : ℕ) where
-  pub kept_once : (records : List (List ℕ)) (es fs : List (Entry Call)) → AreKept m opening stations records es → AreKept m opening stations records fs → es ≡ fs
+module _ {P D R : Type 0} (m : Meaning P (Step Call) D R) (opening : List P) (stations : ℕ) where
+  pub kept_once : (records : List (List ℕ)) (es fs : List (Entry (Step Call))) → AreKept m opening stations records es → AreKept m opening stations records fs → es ≡ fs
   kept_once records es fs h k = taken_once stations [] records es fs h.taken k.taken
 
-  pub not_both : (records : List (List ℕ)) (es : List (Entry Call)) (fault : KeptFault)
+  pub not_both : (records : List (List ℕ)) (es : List (Entry (Step Call))) (fault : KeptFault)
       → AreKept m opening stations records es → KeptRefused m opening stations records fault → ⊥
   not_both records es (Refused code number) h k =
       let all = subst (λ (r : List (List ℕ)). AreTaken stations [] r es) k.stands.records_are h.taken in
@@ -71,23 +72,23 @@ module _ {P D R : Type 0} (m : Meaning P Call D R) (opening : List P) (stations 
       let one : there.entry ≡ k.entry = text_once there.entry k.entry there.taken.has_line k.taken.has_line (sym there.taken.text ∙ k.taken.text) in
       let are : es ≡ (k.before ++ k.entry ∷ []) ++ there.rest =
       there.entries_are ∙ (ap (λ e. k.before ++ e ∷ there.rest) one ∙ sym (append_assoc k.before (k.entry ∷ []) there.rest)) in
-      let some = subst (λ (l : List (Entry Call)). IsSome (replay (whole m) opening l)) are h.applies in
+      let some = subst (λ (l : List (Entry (Step Call))). IsSome (replay (whole m) opening l)) are h.applies in
       front_applies (whole m) opening (k.before ++ k.entry ∷ []) there.rest k.refused some
   not_both records es Strayed h k = k
   not_both records es Memory h k = k
 
   -- the entries before a refusal, and its line, in records that go on otherwise
-  stands_in : (records front : List (List ℕ)) (before : List (Entry Call)) (line : List ℕ) (others : List (List ℕ)) (s : StandsAfter m opening stations records before line)
+  stands_in : (records front : List (List ℕ)) (before : List (Entry (Step Call))) (line : List ℕ) (others : List (List ℕ)) (s : StandsAfter m opening stations records before line)
       → front ≡ s.lines ++ line ∷ others → StandsAfter m opening stations front before line
   stands_in records front before line others s is =
       record { lines = s.lines; others = others; records_are = is; taken = s.taken; applies = s.applies }
 
-  kept_before : (records : List (List ℕ)) (before : List (Entry Call)) (line : List ℕ) (s : StandsAfter m opening stations records before line)
+  kept_before : (records : List (List ℕ)) (before : List (Entry (Step Call))) (line : List ℕ) (s : StandsAfter m opening stations records before line)
       → AreKept m opening stations s.lines before
   kept_before records before line s = record { taken = s.taken; applies = s.applies }
 
   abbrev LineOf : (records : List (List ℕ)) (fault : KeptFault) → KeptRefused m opening stations records fault → Type 0
-  LineOf records fault k = (before : List (Entry Call)) × (line : List ℕ) × (s : StandsAfter m opening stations records before line)
+  LineOf records fault k = (before : List (Entry (Step Call))) × (line : List ℕ) × (s : StandsAfter m opening stations records before line)
       × ((front others : List (List ℕ)) → front ≡ s.lines ++ line ∷ others → KeptRefused m opening stations front fault)
 
   line_of : (records : List (List ℕ)) (fault : KeptFault) (k : KeptRefused m opening stations records fault) → LineOf records fault k
@@ -125,17 +126,17 @@ module _ {P D R : Type 0} (m : Meaning P Call D R) (opening : List P) (stations 
       → (line_of records f h).0 ≡ (line_of records g k).0 → (line_of records f h).1 ≡ (line_of records g k).1 → f ≡ g
   unfolding line_of
   same_fault records (Refused c i) (Refused d j) h k entries line =
-      let first = subst (λ (b : List (Entry Call)). IsRefusedAfter stations b k.line d) (sym entries) k.refused in
+      let first = subst (λ (b : List (Entry (Step Call))). IsRefusedAfter stations b k.line d) (sym entries) k.refused in
       let there : IsRefusedAfter stations h.before h.line d = subst (λ (l : List ℕ). IsRefusedAfter stations h.before l d) (sym line) first in
       let codes = refused_once stations h.before h.line c d h.refused there in
-      let numbers : i ≡ j = h.number_is ∙ (ap (λ (e : List (Entry Call)). length e + 1) entries ∙ sym k.number_is) in
+      let numbers : i ≡ j = h.number_is ∙ (ap (λ (e : List (Entry (Step Call))). length e + 1) entries ∙ sym k.number_is) in
       ap (λ x. Refused x i) codes ∙ ap (λ n. Refused d n) numbers
   same_fault records (Refused c i) (NotApplied j) h k entries line =
-      let first = subst (λ (b : List (Entry Call)). IsTakenAfter stations b k.line k.entry) (sym entries) k.taken in
+      let first = subst (λ (b : List (Entry (Step Call))). IsTakenAfter stations b k.line k.entry) (sym entries) k.taken in
       let there : IsTakenAfter stations h.before h.line k.entry = subst (λ (l : List ℕ). IsTakenAfter stations h.before l k.entry) (sym line) first in
       absurd (taken_or_refused stations h.before h.line k.entry c there h.refused)
   same_fault records (NotApplied i) (Refused d j) h k entries line =
-      let first = subst (λ (b : List (Entry Call)). IsTakenAfter stations b h.line h.entry) entries h.taken in
+      let first = subst (λ (b : List (Entry (Step Call))). IsTakenAfter stations b h.line h.entry) entries h.taken in
       let there : IsTakenAfter stations k.before k.line h.entry = subst (λ (l : List ℕ). IsTakenAfter stations k.before l h.entry) line first in
       absurd (taken_or_refused stations k.before k.line h.entry d there k.refused)
   same_fault records (NotApplied i) (NotApplied j) h k entries line =

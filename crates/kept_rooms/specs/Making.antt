@@ -1,6 +1,7 @@
 -- The entries of a kept file while they are made again: what a station's pass knows then, and what becomes of a record.
 use Rattle.std.specs.Prelude.{◌≡◌, ℕ, ◌+◌, ◌≤◌, List, [], ◌∷◌, ◌++◌, Option, Some, None, Result, Ok, Err, IsSome, length, slice_get}
 use Rattle.edit_calls.specs.declared.asks.Call.{Call}
+use Rattle.take_back.specs.declared.step.Step.{Step}
 use Rattle.room_core.specs.declared.entry.Entry.{Entry}
 use Rattle.room_core.specs.History.{replay}
 use Rattle.room_core.specs.Projection.{of_station}
@@ -46,13 +47,13 @@ pub record IsMade {O P C : Type 0} (entries : List (Entry C)) (lasts : List ℕ)
   pub each : (station : ℕ) (pass : Known O P C) → slice_get passes station ≡ Some pass → HasOwn entries station pass
 
 -- a record is taken as one entry more
-pub record TakesOne (stations : ℕ) (line : List ℕ) (before after : List (Entry Call)) : Type 0 where
-  pub entry : Entry Call
+pub record TakesOne (stations : ℕ) (line : List ℕ) (before after : List (Entry (Step Call))) : Type 0 where
+  pub entry : Entry (Step Call)
   pub taken : IsTakenAfter stations before line entry
   pub entries_are : after ≡ before ++ entry ∷ []
 
 -- what becomes of a record
-abbrev pub Adds : ℕ → List ℕ → List (Entry Call) → List (Entry Call) → Result (Unit {0}) Stop → Type 0
+abbrev pub Adds : ℕ → List ℕ → List (Entry (Step Call)) → List (Entry (Step Call)) → Result (Unit {0}) Stop → Type 0
 Adds stations line before after (Ok done) = TakesOne stations line before after
 Adds stations line before after (Err (stop.Refused code)) = IsRefusedAfter stations before line code × (after ≡ before)
 Adds stations line before after (Err stop.NotApplied) = TakesOne stations line before after

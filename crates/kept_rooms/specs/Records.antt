@@ -2,10 +2,11 @@
 -- room, and on the greatest number of its station before it, 0 where there is none.
 use Rattle.std.specs.Prelude.{◌≡◌, ℕ, ◌<◌, ◌≤◌, List, Some, get_or, slice_get}
 use Rattle.edit_calls.specs.declared.asks.Call.{Call}
+use Rattle.take_back.specs.declared.step.Step.{Step}
 use Rattle.edit_journal.specs.Turns.{last_of}
 use Rattle.room_core.specs.declared.entry.Entry.{Entry}
-use Rattle.line_table.specs.Journals.{entry_text, HasLine}
-use Rattle.line_table.specs.JournalFaults.{IsNoEntry}
+use Rattle.journal_text.specs.Journals.{entry_text, HasLine}
+use Rattle.journal_text.specs.JournalFaults.{IsNoEntry}
 use Rattle.kept_rooms.specs.declared.fault.RecordCode.{RecordCode}
 use Rattle.kept_rooms.specs.declared.fault.RecordCode.TheVariants.{H1, H4, H6, H7}
 use Rattle.kept_rooms.specs.declared.fault.RecordFault.{RecordFault}
@@ -37,14 +38,14 @@ IsNotNext stations last entry H7 = (last < entry.number) × (entry.station < sta
 -- the stations of a room, and the last number of each
 module _ (stations : ℕ) (last : ℕ → ℕ) (line : List ℕ) where
   -- the line is that of this entry, which may come next
-  pub record IsTakenAs (entry : Entry Call) : Type 0 where
+  pub record IsTakenAs (entry : Entry (Step Call)) : Type 0 where
     pub has_line : HasLine entry
     pub text : line ≡ entry_text entry
     pub next : IsNext stations (last entry.station) entry
 
   -- the line is that of an entry which may not come next
   pub record IsOfNone (code : RecordCode) : Type 0 where
-    pub entry : Entry Call
+    pub entry : Entry (Step Call)
     pub has_line : HasLine entry
     pub text : line ≡ entry_text entry
     pub not_next : IsNotNext stations (last entry.station) entry code

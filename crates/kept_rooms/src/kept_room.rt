@@ -3,6 +3,7 @@ ghost use Rattle.std.specs.Prelude.{◌≡◌, ◌<◌, ◌≤◌, ℕ, [], List
 ghost use Rattle.room_core.specs.declared.entry.Entry.{Entry};
 ghost use Rattle.room_core.specs.Parts.{AreGood, numbers};
 ghost use Rattle.edit_calls.specs.declared.asks.Call.{Call};
+ghost use Rattle.take_back.specs.declared.step.Step.{Step};
 ghost use Rattle.edit_journal.specs.Turns.{AreFresh, Known};
 ghost use Rattle.kept_rooms.specs.Kept.{AreKept, AreTaken, IsKeptFault};
 ghost use Rattle.kept_rooms.specs.Making.{HasOwn, IsLookFault, IsMade, IsOfRecord, IsToldOf, Tells};
@@ -21,12 +22,13 @@ use journal_file::Record;
 use room_core::{Entry, Memory, PartObject};
 use std::alloc::Global;
 use std::sync::Wait;
+use take_back::Step;
 
 /// What a room goes on with from its kept entries: these, the passes of its stations from 0 on, and
 /// the pass of the desk that keeps the file.
 #[derive(Drop)]
-pub struct Remade<O: PartObject<Call = Call>, J: Naming<O, O::Part>> {
-    pub entries: Vec<Entry<Call>>,
+pub struct Remade<O: PartObject<Call = Step<Call>>, J: Naming<O, O::Part>> {
+    pub entries: Vec<Entry<Step<Call>>>,
     pub passes: Vec<Pass<O, J>>,
     pub reader: Pass<O, J>,
 }
@@ -50,11 +52,11 @@ fn told_of_record(stop: Stop, count: u32) -> KeptFault
 
 // What is told where the making of entries stops at a record after these. The entries are done once
 // more on what the room began with, for the first that does not apply.
-fn told_of<O: PartObject<Call = Call>>(
+fn told_of<O: PartObject<Call = Step<Call>>>(
     alloc: Global,
     object: &O,
     opening: &[O::Part],
-    entries: &[Entry<Call>],
+    entries: &[Entry<Step<Call>>],
     stop: Stop,
 ) -> KeptFault
     requires opens { O.opens object.now opening.now }
@@ -73,12 +75,12 @@ fn told_of<O: PartObject<Call = Call>>(
 
 // What is told where the making of entries stops. A pass is lent for the parts that the room began
 // with.
-fn told<R: Wait, O: PartObject<Call = Call> + Drop, J: Naming<O, O::Part>>(
+fn told<R: Wait, O: PartObject<Call = Step<Call>> + Drop, J: Naming<O, O::Part>>(
     rt: &R,
     alloc: Global,
     room: &Room<O, J>,
     reader: Pass<O, J>,
-    entries: &[Entry<Call>],
+    entries: &[Entry<Step<Call>>],
     stop: Stop,
 ) -> KeptFault
     requires opens { O.opens room.now.object room.now.parts }
@@ -98,7 +100,7 @@ fn told<R: Wait, O: PartObject<Call = Call> + Drop, J: Naming<O, O::Part>>(
 }
 
 // Makes all entries again. The pass of the desk is lent where one is refused.
-fn make_all<R: Wait, O: PartObject<Call = Call> + Drop, J: Naming<O, O::Part>>(
+fn make_all<R: Wait, O: PartObject<Call = Step<Call>> + Drop, J: Naming<O, O::Part>>(
     rt: &R,
     alloc: Global,
     room: &Room<O, J>,
@@ -130,12 +132,12 @@ fn make_all<R: Wait, O: PartObject<Call = Call> + Drop, J: Naming<O, O::Part>>(
 }
 
 // Looks whether the room's history begins with these entries.
-fn look<R: Wait, O: PartObject<Call = Call> + Drop, J: Naming<O, O::Part>>(
+fn look<R: Wait, O: PartObject<Call = Step<Call>> + Drop, J: Naming<O, O::Part>>(
     rt: &R,
     alloc: Global,
     room: &Room<O, J>,
     reader: Pass<O, J>,
-    entries: &[Entry<Call>],
+    entries: &[Entry<Step<Call>>],
 ) -> Result<Pass<O, J>, KeptFault>
     requires none { reader.entries ≡ [] }
     requires within { length entries.now ≤ 100000 }
@@ -158,13 +160,13 @@ fn look<R: Wait, O: PartObject<Call = Call> + Drop, J: Naming<O, O::Part>>(
 }
 
 // Looks whether a station is told of that many entries.
-fn look_with<R: Wait, O: PartObject<Call = Call> + Drop, J: Naming<O, O::Part>>(
+fn look_with<R: Wait, O: PartObject<Call = Step<Call>> + Drop, J: Naming<O, O::Part>>(
     rt: &R,
     room: &Room<O, J>,
     pass: Pass<O, J>,
     count: u32,
 ) -> Result<Pass<O, J>, KeptFault>
-    ensures knows { IfOk result (λ after. (entries : List (Entry Call)) (station : ℕ)
+    ensures knows { IfOk result (λ after. (entries : List (Entry (Step Call))) (station : ℕ)
         → length entries ≡ count → HasOwn entries station pass
         → KnowsOwn (O.meaning room.now.object) room.now.parts entries station after) }
     ensures fault { IfErr result (λ fault. IsLookFault fault) }
@@ -177,15 +179,15 @@ fn look_with<R: Wait, O: PartObject<Call = Call> + Drop, J: Naming<O, O::Part>>(
 }
 
 // Looks with the passes of all stations.
-fn look_with_all<R: Wait, O: PartObject<Call = Call> + Drop, J: Naming<O, O::Part>>(
+fn look_with_all<R: Wait, O: PartObject<Call = Step<Call>> + Drop, J: Naming<O, O::Part>>(
     rt: &R,
     alloc: Global,
     room: &Room<O, J>,
     held: Vec<HeldPass<O, J>>,
     count: u32,
 ) -> Result<Vec<Pass<O, J>>, KeptFault>
-    ensures knows { IfOk result (λ passes. (entries : List (Entry Call)) → length entries ≡ count
-        → ((s : ℕ) (p : Known O O.Part Call) → slice_get held.items s ≡ Some p → HasOwn entries s p)
+    ensures knows { IfOk result (λ passes. (entries : List (Entry (Step Call))) → length entries ≡ count
+        → ((s : ℕ) (p : Known O O.Part (Step Call)) → slice_get held.items s ≡ Some p → HasOwn entries s p)
         → EachKnowsOwn (O.meaning room.now.object) room.now.parts entries passes.items) }
     ensures count { IfOk result (λ passes. length passes.items ≡ length held.items) }
     ensures fault { IfErr result (λ fault. IsLookFault fault) }
@@ -201,7 +203,7 @@ fn look_with_all<R: Wait, O: PartObject<Call = Call> + Drop, J: Naming<O, O::Par
 /// Makes the records of a kept file the first entries of a room that has just been opened, one
 /// after another, each by its station, and looks then whether the room has them so. The passes are
 /// those of the stations from 0 on; the reader is that of the desk, which has no entry of its own.
-pub fn make_again<R: Wait, O: PartObject<Call = Call> + Drop, J: Naming<O, O::Part>>(
+pub fn make_again<R: Wait, O: PartObject<Call = Step<Call>> + Drop, J: Naming<O, O::Part>>(
     rt: &R,
     alloc: Global,
     room: &Room<O, J>,

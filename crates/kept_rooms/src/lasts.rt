@@ -1,6 +1,7 @@
 // The greatest number of each station so far.
 ghost use Rattle.std.specs.Prelude.{◌≡◌, ◌<◌, [], slice_set};
 ghost use Rattle.edit_calls.specs.declared.asks.Call.{Call};
+ghost use Rattle.take_back.specs.declared.step.Step.{Step};
 ghost use Rattle.kept_rooms.specs.Records.{AreLasts, last_in};
 
 use std::marker::Model;
@@ -28,7 +29,7 @@ impl Model for Lasts {
 impl Lasts {
     /// Before the first entry.
     pub fn new() -> Lasts
-        ensures { AreLasts {C = Call} [] result }
+        ensures { AreLasts {C = Step Call} [] result }
     {
         Lasts {
             numbers: [0; STATIONS],

@@ -4,8 +4,9 @@ ghost use Rattle.kept_rooms.specs.Records.{IsNext, IsNotNext, IsRefusedFor, IsTa
 
 use crate::{Lasts, RecordCode, RecordFault};
 use edit_calls::Call;
-use line_table::{Entry, EntryFault, read_entry};
+use journal_text::{Entry, EntryFault, read_entry};
 use std::alloc::Global;
+use take_back::Step;
 
 /// The greatest number that an entry may have when a room goes on from it, so that its station has
 /// numbers left.
@@ -13,7 +14,7 @@ pub const LAST_NUMBER: u32 = 4_000_000_000;
 
 // Why an entry may not come next in a room of so many stations, after those with these last
 // numbers.
-fn out_of_place(entry: &Entry<Call>, stations: u32, lasts: &Lasts) -> Option<RecordCode>
+fn out_of_place(entry: &Entry<Step<Call>>, stations: u32, lasts: &Lasts) -> Option<RecordCode>
     requires { entry.now.station < 16 }
     ensures { MatchOption result (IsNext stations (last_in lasts.now entry.now.station) entry.now)
         (λ code. IsNotNext stations (last_in lasts.now entry.now.station) entry.now code) }
@@ -36,7 +37,7 @@ pub fn record_entry(
     line: &[u8],
     stations: u32,
     lasts: &Lasts,
-) -> Result<Entry<Call>, RecordFault>
+) -> Result<Entry<Step<Call>>, RecordFault>
     ensures taken { IfOk result
         (λ entry. IsTakenAs stations (λ s. last_in lasts.now s) line.now entry) }
     ensures refused { IfErr result

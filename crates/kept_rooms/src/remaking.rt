@@ -13,11 +13,12 @@ use edit_journal::{Naming, Pass};
 use room_core::{Entry, Memory, PartObject};
 use std::alloc::Global;
 use std::sync::Wait;
+use take_back::Step;
 
 // The entries so far, the last number of each station, and their passes.
 #[derive(Drop)]
-pub struct Remaking<O: PartObject<Call = Call>, J: Naming<O, O::Part>> {
-    pub entries: Vec<Entry<Call>>,
+pub struct Remaking<O: PartObject<Call = Step<Call>>, J: Naming<O, O::Part>> {
+    pub entries: Vec<Entry<Step<Call>>>,
     pub lasts: Lasts,
     pub passes: Vec<HeldPass<O, J>>,
 }
@@ -37,11 +38,11 @@ fn held<O: PartObject, J: Naming<O, O::Part>>(
 }
 
 // An equal entry.
-fn copy_entry<O: PartObject<Call = Call>>(
+fn copy_entry<O: PartObject<Call = Step<Call>>>(
     alloc: Global,
     object: &O,
-    entry: &Entry<Call>,
-) -> Result<Entry<Call>, Memory>
+    entry: &Entry<Step<Call>>,
+) -> Result<Entry<Step<Call>>, Memory>
     ensures { IfOk result (λ copy. copy ≡ entry.now) }
 {
     Ok(Entry {
@@ -51,7 +52,7 @@ fn copy_entry<O: PartObject<Call = Call>>(
     })
 }
 
-impl<O: PartObject<Call = Call> + Drop, J: Naming<O, O::Part>> Remaking<O, J> {
+impl<O: PartObject<Call = Step<Call>> + Drop, J: Naming<O, O::Part>> Remaking<O, J> {
     // Before the first entry.
     pub fn new(alloc: Global, passes: Vec<Pass<O, J>>) -> Result<Remaking<O, J>, Memory>
         requires { AreFresh J.opening (length passes.items) passes.items }
@@ -99,7 +100,7 @@ impl<O: PartObject<Call = Call> + Drop, J: Naming<O, O::Part>> Remaking<O, J> {
         rt: &R,
         alloc: Global,
         room: &Room<O, J>,
-        entry: Entry<Call>,
+        entry: Entry<Step<Call>>,
     ) -> Result<(), Stop>
         requires made { IsMade self.old.entries.items self.old.lasts self.old.passes.items }
         requires few { length self.old.passes.items ≤ 16 }

@@ -1,14 +1,17 @@
 -- What a sound opening, and what a history of it comes to, give to the list of a cut.
 use Rattle.std.proofs.Common.{◌≡◌, ℕ, zero, suc, ◌+◌, ◌^◌, ◌<◌, ◌≤◌, All, List, [], ◌∷◌, length, Err, refl, arith, subst}
+use Rattle.std.proofs.lemmas.List.{length-map}
 use Rattle.std.proofs.lemmas.List.Elements.{All-head, All-tail}
+use Rattle.cut_steps.specs.CutSteps.{CutStep, KeptTrack, stepping, fresh_tracks}
+use Rattle.cut_steps.proofs.Left.{can_open}
+use Rattle.take_back.specs.Parts.{CanOpen, nows}
+use Rattle.composables.specs.TrackState.{TrackState}
 use Rattle.composables.specs.declared.TheConstants.{MAX_FRAMES}
 use Rattle.composables.specs.declared.media.Layer.{Layer}
 use Rattle.composables.specs.declared.media.Nest.{Nest}
 use Rattle.composables.specs.declared.media.Table.{Table}
-use Rattle.composables.specs.TrackState.{TrackState}
-use Rattle.line_table.specs.Journals.{HasText}
-use Rattle.edit_calls.specs.declared.asks.Call.{Call}
-use Rattle.edit_apply.specs.Apply.{editing, track_count}
+use Rattle.journal_text.specs.Journals.{HasText}
+use Rattle.edit_apply.specs.Apply.{track_count}
 use Rattle.edit_apply.specs.RoomTracks.{IsOpening, IsTrackOf}
 use Rattle.edl_write.specs.Limits.{AreLimited}
 use Rattle.flatten.specs.Channels.{AreSound, EachLiesInTrack}
@@ -59,20 +62,25 @@ few_tracks o ts sound some good =
     let opens = sound_opens o sound some in
     omega (arith, as_many o.table 0 (track_count o.table) ts good, opens.most)
 
+-- as few are kept
+pub few_kept : (o : Opening) (ks : List KeptTrack) → IsSoundOpening o → 0 < length o.tracks → AreGood (IsTrackOf o.table) (numbers 0 (track_count o.table)) (nows ks)
+    → length ks < 2 ^ 32
+few_kept o ks sound some good = omega (arith, length-map ks (λ (k : KeptTrack). k.now), few_tracks o (nows ks) sound some good)
+
 -- an opening is what no entry of it comes to
-pub reached : (o : Opening) (entries : List (Entry Call)) (point : ℕ) → IsSoundOpening o → 0 < length o.tracks → HasText entries → point ≤ length entries
-    → IsReached (editing o.table) (IsOpening o.table) point o.tracks
+pub reached : (o : Opening) (entries : List (Entry CutStep)) (point : ℕ) → IsSoundOpening o → 0 < length o.tracks → HasText entries → point ≤ length entries
+    → IsReached (stepping o.table) (CanOpen (IsOpening o.table)) point (fresh_tracks o.tracks)
 reached o entries point sound some text within = record {
-  opening = o.tracks;
+  opening = fresh_tracks o.tracks;
   entries = [];
-  opens_so = sound_opens o sound some;
+  opens_so = can_open o.table o.tracks (sound_opens o sound some);
   comes = refl;
   room = omega (arith, text.within, within);
 }
 
 -- the first entry that a replay refused
-pub refused_at : (o : Opening) (from : List TrackState) (entries : List (Entry Call)) (point place : ℕ) (fault : ReplayFault) → from ≡ o.tracks → fault ≡ Refused place
-    → Replays (editing o.table) from entries point (Err fault) → IsFirstRefused (editing o.table) o.tracks entries point place
+pub refused_at : (o : Opening) (from : List KeptTrack) (entries : List (Entry CutStep)) (point place : ℕ) (fault : ReplayFault) → from ≡ fresh_tracks o.tracks → fault ≡ Refused place
+    → Replays (stepping o.table) from entries point (Err fault) → IsFirstRefused (stepping o.table) (fresh_tracks o.tracks) entries point place
 refused_at o from entries point place fault e f r =
-    let at_place = subst (λ (x : ReplayFault). Replays (editing o.table) from entries point (Err x)) f r in
-    subst (λ (ps : List TrackState). IsFirstRefused (editing o.table) ps entries point place) e at_place
+    let at_place = subst (λ (x : ReplayFault). Replays (stepping o.table) from entries point (Err x)) f r in
+    subst (λ (ps : List KeptTrack). IsFirstRefused (stepping o.table) ps entries point place) e at_place

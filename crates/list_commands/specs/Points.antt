@@ -1,14 +1,14 @@
 -- The list of the cut at a point of a journal: the document and the journal are read, the entries before the point are
 -- done, and the list of what they come to is put on the output.
 use Rattle.std.specs.Prelude.{◌≡◌, ℕ, ◌<◌, ◌≤◌, ◌⊎◌, List, Some, length, take, codes}
+use Rattle.cut_steps.specs.CutSteps.{CutStep, KeptTrack, stepping, fresh_tracks}
 use Rattle.composables.specs.TrackState.{TrackState}
+use Rattle.take_back.specs.Parts.{nows}
 use Rattle.timecode12.specs.Numbers.{Counted}
 use Rattle.room_files.specs.Files.{FilesTold, FitsIn}
 use Rattle.room_core.specs.declared.entry.Entry.{Entry}
 use Rattle.room_core.specs.History.{replay}
 use Rattle.room_core.specs.Whole.{whole}
-use Rattle.edit_calls.specs.declared.asks.Call.{Call}
-use Rattle.edit_apply.specs.Apply.{editing}
 use Rattle.history_points.specs.Replays.{IsFirstRefused}
 use Rattle.otio_json.specs.declared.opening.Opening.{Opening}
 use Rattle.command_files.specs.declared.status.Status.{Status}
@@ -16,28 +16,30 @@ use Rattle.command_files.specs.declared.status.Status.TheVariants.{Refused, OutO
 use Rattle.command_files.specs.Ports.{Change, OutputTold}
 use Rattle.command_files.specs.Texts.{PutsWith, refusal_text}
 use Rattle.command_files.specs.declared.documents.TheConstants.{MAX_DOCUMENT}
-use Rattle.line_table.specs.declared.journal_reading.TheConstants.{MAX_JOURNAL}
+use Rattle.journal_text.specs.declared.journal_reading.TheConstants.{MAX_JOURNAL}
 use Rattle.command_files.specs.Unopened.{AreQuiet, EndsUnopened, OnlyRead}
 use Rattle.command_files.specs.Documents.{Describes, IsDocumentRefused, document_line}
 use Rattle.command_files.specs.Journals.{HoldsJournal, IsJournalRefused, journal_line}
 use Rattle.list_commands.specs.Cuts.{CutEnds, NamerTold}
 
 -- these are the tracks after the first entries of a room's journal
-pub record IsCutAt (o : Opening) (entries : List (Entry Call)) (point : ℕ) (tracks : List TrackState) : Type 0 where
+pub record IsCutAt (o : Opening) (entries : List (Entry CutStep)) (point : ℕ) (tracks : List TrackState) : Type 0 where
   pub within : point ≤ length entries
-  pub comes : replay (whole (editing o.table)) o.tracks (take point entries) ≡ Some tracks
+  pub kept : List KeptTrack
+  pub comes : replay (whole (stepping o.table)) (fresh_tracks o.tracks) (take point entries) ≡ Some kept
+  pub tracks_are : tracks ≡ nows kept
 
 -- Why a room's journal has no cut at a point, with the code and the number that are told: it has fewer entries, or one of
 -- those before the point does not apply where it stands.
-abbrev pub HasFewer : List (Entry Call) → ℕ → List ℕ → ℕ → Type 0
+abbrev pub HasFewer : List (Entry CutStep) → ℕ → List ℕ → ℕ → Type 0
 HasFewer entries point code number = (length entries < point) × (code ≡ codes "H5") × (number ≡ length entries)
 
-abbrev pub DoesNotApply : Opening → List (Entry Call) → ℕ → List ℕ → ℕ → Type 0
+abbrev pub DoesNotApply : Opening → List (Entry CutStep) → ℕ → List ℕ → ℕ → Type 0
 DoesNotApply o entries point code number =
-    (point ≤ length entries) × IsFirstRefused (editing o.table) o.tracks entries point number × (code ≡ codes "H3")
+    (point ≤ length entries) × IsFirstRefused (stepping o.table) (fresh_tracks o.tracks) entries point number × (code ≡ codes "H3")
 
 -- the journal of a room that is opened so, and the namer that the reels are named by
-module _ (o : Opening) (entries : List (Entry Call)) (point : ℕ) (namer : NamerTold) (output : Change OutputTold) (status : Status) where
+module _ (o : Opening) (entries : List (Entry CutStep)) (point : ℕ) (namer : NamerTold) (output : Change OutputTold) (status : Status) where
   -- it has a cut at the point
   pub record CutsAt : Type 0 where
     pub tracks : List TrackState
@@ -58,7 +60,7 @@ module _ (o : Opening) (entries : List (Entry Call)) (point : ℕ) (namer : Name
 module _ (o : Opening) (journal : List ℕ) (point : ℕ) (namer : NamerTold)
     (old new : FilesTold) (output : Change OutputTold) (status : Status) where
   pub record OpensJournal : Type 0 where
-    pub entries : List (Entry Call)
+    pub entries : List (Entry CutStep)
     pub holds : HoldsJournal (old.file journal) entries
     pub quiet : new.reads ≡ old.reads
     pub ends : PointEnds o entries point namer output status

@@ -1,14 +1,19 @@
 // The list of the cut at a point of a journal.
-ghost use Rattle.std.specs.Prelude.{◌≡◌, ◌<◌, ◌≤◌, length};
-ghost use Rattle.line_table.specs.Journals.{HasText};
+ghost use Rattle.std.specs.Prelude.{◌≡◌, ◌<◌, ◌≤◌, ◌^◌, length};
+ghost use Rattle.flatten.specs.Channels.{AreSound};
+ghost use Rattle.timecode12.specs.Labels.{day_of};
+ghost use Rattle.edl_write.specs.Limits.{AreLimited};
+ghost use Rattle.take_back.specs.Parts.{nows};
+ghost use Rattle.journal_text.specs.Journals.{HasText};
 ghost use Rattle.otio_json.specs.Soundness.{IsSoundOpening};
 ghost use Rattle.command_files.specs.Ports.{change, output_told};
-ghost use Rattle.list_commands.specs.Cuts.{namer_told};
+ghost use Rattle.list_commands.specs.Cuts.{CutEnds, namer_told};
 ghost use Rattle.list_commands.specs.Points.{JournalEnds, ListEnds, PointEnds};
 
 use crate::cuts::put_list;
 use command_files::{Status, end_unopened, end_with, open_document, open_journal, refusal_line};
-use edit_apply::{Call, Editor};
+use cut_steps::{CutCall, CutObject, CutPart, fresh_parts, nows_of};
+use edit_apply::Editor;
 use history_points::{ReplayFault, replay};
 use otio_json::Opening;
 use reel_names::ReelNamer;
@@ -16,6 +21,7 @@ use room_core::Entry;
 use room_files::Files;
 use room_ports::Sink;
 use std::alloc::Global;
+use take_back::Backed;
 use timecode12::Counting;
 
 /// Where a cut is found: the document and the journal of its room, by the names of their files, how its frames are
@@ -28,11 +34,38 @@ pub struct CutPlace<'a> {
     pub point: u32,
 }
 
+// Puts the list of these tracks as they are now.
+fn put_cut<K: Sink>(
+    alloc: Global,
+    object: &CutObject,
+    cut: &[CutPart],
+    counting: &Counting,
+    start: u32,
+    namer: Box<dyn ReelNamer>,
+    output: &mut K,
+) -> Status
+    requires layers { AreSound object.now.object.table.nests }
+    requires tracks { AreLimited (nows cut.now) }
+    requires few { length cut.now < 2 ^ 32 }
+    requires start { start < length (day_of counting.now) }
+    ensures { CutEnds object.now.object.table (nows cut.now) counting.now start
+        (namer_told (rule namer) (given namer))
+        (change (output_told K.taken K.write_faults) output.old output.new) result }
+{
+    match nows_of(alloc, &object.object, cut) {
+        Ok(tracks) => {
+            let table = &object.object.table;
+            put_list(alloc, table, &tracks, counting, start, namer, output)
+        }
+        Err(_) => Status::OutOfMemory,
+    }
+}
+
 // Puts the list of the cut after the first entries of a journal: H5 where it has fewer, H3 where one does not apply.
 fn list_point<K: Sink>(
     alloc: Global,
     opening: Opening,
-    entries: &[Entry<Call>],
+    entries: &[Entry<CutCall>],
     point: u32,
     namer: Box<dyn ReelNamer>,
     output: &mut K,
@@ -57,9 +90,15 @@ fn list_point<K: Sink>(
         counting,
         start,
     } = opening;
-    let editor = Editor { table };
-    match replay(alloc, &editor, tracks.as_slice(), entries, point) {
-        Ok(cut) => put_list(alloc, &editor.table, &cut, &counting, start, namer, output),
+    let parts = match fresh_parts(alloc, tracks.into_vec()) {
+        Ok(parts) => parts,
+        Err(_) => return Status::OutOfMemory,
+    };
+    let object = Backed {
+        object: Editor { table },
+    };
+    match replay(alloc, &object, &parts, entries, point) {
+        Ok(cut) => put_cut(alloc, &object, &cut, &counting, start, namer, output),
         Err(ReplayFault::Refused(place)) => {
             end_with(
                 Status::Refused,

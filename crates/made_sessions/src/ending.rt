@@ -5,10 +5,12 @@ ghost use Rattle.otio_json.specs.Soundness.{IsSoundOpening};
 ghost use Rattle.made_sessions.specs.Comparing.{HaveScripts};
 ghost use Rattle.made_sessions.specs.Sessions.{IsCome, MakeEnds, made_opening, made_stations};
 
+use crate::bare::bare_entries;
 use crate::comparing::have_scripts;
 use crate::summaries::summary;
 use command_files::{Status, end_with};
 use composables::{Memory, Track};
+use cut_steps::CutCall;
 use edit_apply::{Call, Editor};
 use history_points::replay;
 use otio_json::Opening;
@@ -76,7 +78,7 @@ fn put_replayed<K: Sink>(
 /// not the entries of all lines, a line was answered that there is no memory, and nothing is put.
 pub fn put_summary<K: Sink>(
     alloc: Global,
-    entries: &[Entry<Call>],
+    entries: Vec<Entry<CutCall>>,
     number: u32,
     count: u32,
     output: &mut K,
@@ -85,8 +87,12 @@ pub fn put_summary<K: Sink>(
     ensures { MakeEnds number count
         (change (output_told K.taken K.write_faults) output.old output.new) result }
 {
-    if entries.len() == (TRACKS * count) as usize && have_scripts(entries, number, count, TRACKS) {
-        put_replayed(alloc, entries, number, count, output)
+    let entries = match bare_entries(alloc, entries) {
+        Some(entries) => entries,
+        None => return Status::OutOfMemory,
+    };
+    if entries.len() == (TRACKS * count) as usize && have_scripts(&entries, number, count, TRACKS) {
+        put_replayed(alloc, &entries, number, count, output)
     } else {
         Status::OutOfMemory
     }

@@ -5,6 +5,7 @@
 //! does the four scripts one after another, whatever the order was in which the stations of the room were served.
 #![tactic(auto)]
 
+mod bare;
 mod comparing;
 mod ending;
 mod scripts;

@@ -2,7 +2,7 @@
 ghost use Rattle.std.specs.Prelude.{◌≡◌, ◌<◌, ◌≤◌, IfOk, OnOk, ◌++◌};
 ghost use Rattle.made_sessions.specs.Scripts.{drawn, first_word, next_word, script, script_call, call_drawn, call_with, sent_line, sent_lines, words};
 
-use call_text::call_text;
+use call_text::{Deed, Step, call_text};
 use composables::{Insert, Memory, Overwrite};
 use edit_apply::Call;
 use frame_meaning::What;
@@ -108,10 +108,14 @@ impl Script {
 }
 
 // Adds the line of a call.
-fn put_line(alloc: Global, out: &mut Vec<u8>, call: &Call) -> Result<(), Memory>
-    ensures { OnOk result (out.new.items ≡ out.old.items ++ sent_line call.now) }
+fn put_line(alloc: Global, out: &mut Vec<u8>, call: Call) -> Result<(), Memory>
+    ensures { OnOk result (out.new.items ≡ out.old.items ++ sent_line call) }
 {
-    let text = call_text(alloc, call)?;
+    let step = Step {
+        by: 0,
+        act: Deed::Do(call),
+    };
+    let text = call_text(alloc, &step)?;
     put(out, &text)?;
     put(out, b"\n")
 }
@@ -126,7 +130,7 @@ pub fn script_text(alloc: Global, number: u32, count: u32, station: u32) -> Resu
     for line in 0..count {
         let _ = line;
         let call = script.next();
-        put_line(alloc, &mut out, &call)?;
+        put_line(alloc, &mut out, call)?;
     }
     Ok(out)
 }

@@ -1,11 +1,9 @@
 -- A room that closes.
 use Rattle.std.proofs.Common.{◌≡◌, ℕ, ◌<◌, List, [], ◌∷◌, ◌++◌, length, Option, Some, All, map, refl, sym, ap, ◌∙◌, arith, subst, ⊎_elim, inl}
 use Rattle.std.proofs.lemmas.List.Elements.{All-head, All-tail}
+use Rattle.cut_steps.specs.CutSteps.{CutStep, KeptTrack, stepping}
 use Rattle.timecode12.specs.Numbers.{Counted}
-use Rattle.composables.specs.TrackState.{TrackState}
 use Rattle.composables.specs.declared.media.Table.{Table}
-use Rattle.edit_calls.specs.declared.asks.Call.{Call}
-use Rattle.edit_apply.specs.Apply.{editing}
 use Rattle.edit_journal.specs.declared.name.Name.TheVariants.{Station}
 use Rattle.edit_journal.specs.Seats.{Agrees, In}
 use Rattle.edit_journal.specs.Turns.{AreFresh}
@@ -22,24 +20,24 @@ use Rattle.served_rooms.specs.Stations.{AreOfStations}
 one_station : (s : ℕ) → In s (0 ∷ []) → s < 1
 one_station s i = ⊎_elim (λ (e : s ≡ 0). omega (arith, e)) (λ (h : ⊥). absurd h) i
 
-of_one_station : (h : List (Entry Call)) → All (λ e. In e.station (0 ∷ [])) h → AreOfStations 1 h
+of_one_station : (h : List (Entry CutStep)) → All (λ e. In e.station (0 ∷ [])) h → AreOfStations 1 h
 of_one_station [] all = tt
 of_one_station (e ∷ es) all = (one_station e.station (All-head (λ e. In e.station (0 ∷ [])) e es all), of_one_station es (All-tail (λ e. In e.station (0 ∷ [])) e es all))
 
 -- the one pass of a room
 pub closed : (o : Opening) (room : TrackRoom) (counting : Counted) (start : ℕ) (passes : List TrackPass) (p : TrackPass) (h : History) → IsRoomOf o room counting start
-    → passes ≡ p ∷ [] → p.number ≡ 0 → IsLegal (whole (editing room.object.table)) room.parts h
-    → All (λ q. Agrees (editing room.object.table).names h (Station q.number) q.entries) passes → All (λ e. In e.station (map (λ q. q.number) passes)) h
+    → passes ≡ p ∷ [] → p.number ≡ 0 → IsLegal (whole (stepping room.object.object.table)) room.parts h
+    → All (λ q. Agrees (stepping room.object.object.table).names h (Station q.number) q.entries) passes → All (λ e. In e.station (map (λ q. q.number) passes)) h
     → Closes o 1 0 p.entries h
 closed o room counting start passes p h is are first legal agree stations =
     let table = ap (λ (s : Setting). s.table) is.setting in
-    let all = subst (λ (ps : List TrackPass). All (λ q. Agrees (editing room.object.table).names h (Station q.number) q.entries) ps) are agree in
-    let mine : Agrees (editing room.object.table).names h (Station 0) p.entries =
-    subst (λ (n : ℕ). Agrees (editing room.object.table).names h (Station n) p.entries) first (All-head (λ q. Agrees (editing room.object.table).names h (Station q.number) q.entries) p [] all) in
+    let all = subst (λ (ps : List TrackPass). All (λ q. Agrees (stepping room.object.object.table).names h (Station q.number) q.entries) ps) are agree in
+    let mine : Agrees (stepping room.object.object.table).names h (Station 0) p.entries =
+    subst (λ (n : ℕ). Agrees (stepping room.object.object.table).names h (Station n) p.entries) first (All-head (λ q. Agrees (stepping room.object.object.table).names h (Station q.number) q.entries) p [] all) in
     let numbers : map (λ (q : TrackPass). q.number) passes ≡ 0 ∷ [] = ap (map (λ (q : TrackPass). q.number)) are ∙ ap (λ (n : ℕ). n ∷ []) first in
     record {
       opens = is.opens;
-      legal = subst (λ (x : Table × List TrackState). IsLegal (whole (editing x.0)) x.1 h) (λ i. (table i, is.tracks i)) legal;
+      legal = subst (λ (x : Table × List KeptTrack). IsLegal (whole (stepping x.0)) x.1 h) (λ i. (table i, is.tracks i)) legal;
       seated = of_one_station h (subst (λ (ns : List ℕ). All (λ e. In e.station ns) h) numbers stations);
       more = mine.front.0;
       journal = mine.front.1;

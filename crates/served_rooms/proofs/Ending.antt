@@ -4,12 +4,10 @@ use Rattle.std.proofs.lemmas.Bool.Decides.{nat_tests}
 use Rattle.std.proofs.lemmas.List.{append-nil, length-map, map-append}
 use Rattle.std.proofs.lemmas.List.Elements.{All-nil}
 use Rattle.std.proofs.lemmas.Option.{none-some, same_Some, slice_get_within}
+use Rattle.cut_steps.specs.CutSteps.{CutStep, KeptTrack, stepping, fresh_tracks}
 use Rattle.line_words.specs.Lines.{Line as InputLine}
-use Rattle.composables.specs.TrackState.{TrackState}
 use Rattle.composables.specs.declared.media.Table.{Table}
 use Rattle.timecode12.specs.Numbers.{Counted}
-use Rattle.edit_calls.specs.declared.asks.Call.{Call}
-use Rattle.edit_apply.specs.Apply.{editing}
 use Rattle.edit_journal.specs.declared.name.Name.TheVariants.{Station}
 use Rattle.edit_journal.specs.Seats.{Agrees, Begins, In}
 use Rattle.room_core.specs.declared.entry.Entry.{Entry}
@@ -20,8 +18,8 @@ use Rattle.room_halls.specs.Stations.{HallTold}
 use Rattle.room_keepers.specs.Faults.{IsCounted}
 use Rattle.room_keepers.specs.declared.fault.KeepFault.{KeepFault}
 use Rattle.room_keepers.specs.declared.fault.KeepFault.TheVariants.{Disk, Memory}
-use Rattle.line_table.specs.CallTexts.{IsSmall, IsWritten}
-use Rattle.line_table.specs.Journals.{HasText}
+use Rattle.line_table.specs.CallTexts.{IsSmall, IsWrittenStep}
+use Rattle.journal_text.specs.Journals.{HasText}
 use Rattle.otio_json.specs.declared.opening.Opening.{Opening}
 use Rattle.command_files.specs.declared.status.Status.{Status}
 use Rattle.station_sessions.specs.declared.serve.End.{End}
@@ -43,11 +41,11 @@ use Rattle.station_sessions.proofs.Transcripts.{broken_more, transcript_more}
 
 -- ---- entries that can be written
 
-first_of : (b : Bool) (e : Entry Call) (own : History) → b ≡ true → AreWritten (cond b (e ∷ own) own) → IsSmall e.number × IsWritten e.call
+first_of : (b : Bool) (e : Entry CutStep) (own : History) → b ≡ true → AreWritten (cond b (e ∷ own) own) → IsSmall e.number × (e.call.by ≡ e.station) × IsWrittenStep e.call
 first_of true e own is w = w.0
 first_of false e own is w = absurd (grind (arith, is))
 
-rest_of : (b : Bool) (e : Entry Call) (own : History) → AreWritten (cond b (e ∷ own) own) → AreWritten own
+rest_of : (b : Bool) (e : Entry CutStep) (own : History) → AreWritten (cond b (e ∷ own) own) → AreWritten own
 rest_of true e own w = w.1
 rest_of false e own w = w
 
@@ -78,13 +76,13 @@ module _ (o : Opening) (kept : History) (stations s known held : ℕ) (g h : His
   tells_station : (ls : List InputLine) (Taken : List (List ℕ) → Type 0) → Knows o (origin_of kept s) s g known ls Taken → TellsStation o kept h held s ls Taken
   tells_station ls Taken k =
       let there : RoomTranscriptTo o (g ++ c.more) (origin_of kept s) s ls k.0 k.1 =
-      transcript_more (room_of (setting_of o)) o.tracks g c.more (origin_of kept s) s ls k.0 k.1 (rw (← c.journal) c.legal.within) (ap (λ (l : History). of_station s l) (sym c.journal) ∙ c.own) [] k.2 in
+      transcript_more (room_of (setting_of o)) (fresh_tracks o.tracks) g c.more (origin_of kept s) s ls k.0 k.1 (rw (← c.journal) c.legal.within) (ap (λ (l : History). of_station s l) (sym c.journal) ∙ c.own) [] k.2 in
       (k.0, k.1, rw c.journal there, omega (arith, k.3, more), k.5)
 
   tells_but : (ls : List InputLine) (line : InputLine) (Taken : List (List ℕ) → Type 0) → KnowsBut o (origin_of kept s) s g known ls line Taken → TellsStationBut o kept h held s ls line Taken
   tells_but ls line Taken k =
       let there : RoomTranscriptBut o (g ++ c.more) (origin_of kept s) s ls k.0 k.1 line =
-      broken_more (room_of (setting_of o)) o.tracks g c.more (origin_of kept s) s ls k.0 k.1 (rw (← c.journal) c.legal.within) (ap (λ (l : History). of_station s l) (sym c.journal) ∙ c.own) line k.2 in
+      broken_more (room_of (setting_of o)) (fresh_tracks o.tracks) g c.more (origin_of kept s) s ls k.0 k.1 (rw (← c.journal) c.legal.within) (ap (λ (l : History). of_station s l) (sym c.journal) ∙ c.own) line k.2 in
       (k.0, k.1, rw c.journal there, omega (arith, k.3, more), k.5)
 
   station_ends : (V Fails : KeepFault → Type 0) → ((fault : KeepFault) → V fault → Fails fault) → (old new : Outside) (e : End)
@@ -116,15 +114,15 @@ module _ (o : Opening) (kept : History) (room : TrackRoom) (counting : Counted) 
       let from = origins k p.0 p.1 in
       subst (λ (x : ℕ). IsServedOf o kept may_fail x l (line_at before k) (line_at after k)) from.0 (served.each k p.0 l p.1 at o kept is from.1 fits)
 
-  same_table : room.object.table ≡ o.table
+  same_table : room.object.object.table ≡ o.table
   same_table = ap (λ (s : Setting). s.table) is.setting
 
-  legal : IsLegal (whole (editing o.table)) o.tracks h
-  legal = subst (λ (x : Table × List TrackState). IsLegal (whole (editing x.0)) x.1 h) (λ i. (same_table i, is.tracks i)) closed.legal
+  legal : IsLegal (whole (stepping o.table)) (fresh_tracks o.tracks) h
+  legal = subst (λ (x : Table × List KeptTrack). IsLegal (whole (stepping x.0)) x.1 h) (λ i. (same_table i, is.tracks i)) closed.legal
 
   closes_at : (k : ℕ) (l : LeftState) → slice_get left k ≡ Some l → Closes o (length left) k l.pass.entries h
   closes_at k l at =
-      let agrees : Agrees (editing o.table).names h (Station k) l.pass.entries = subst (λ (x : Table). Agrees (editing x).names h (Station k) l.pass.entries) same_table (closed.agree k l at) in
+      let agrees : Agrees (stepping o.table).names h (Station k) l.pass.entries = subst (λ (x : Table). Agrees (stepping x).names h (Station k) l.pass.entries) same_table (closed.agree k l at) in
       record { opens = is.opens; legal = legal; seated = closed.seated; more = agrees.front.0; journal = agrees.front.1; own = sym agrees.same }
 
   written : AreWritten h
@@ -198,11 +196,11 @@ number_in (p ∷ ps) s (inl e) = (p, 0, refl, e)
 number_in (p ∷ ps) s (inr i) = let r = number_in ps s i in (r.0, suc r.1, r.2, r.3)
 
 -- an entry of a station that has none
-has_entry : (h : History) (k : ℕ) (e : Entry Call) → slice_get h k ≡ Some e → of_station e.station h ≡ [] → ⊥
+has_entry : (h : History) (k : ℕ) (e : Entry CutStep) → slice_get h k ≡ Some e → of_station e.station h ≡ [] → ⊥
 has_entry [] k e at none = none-some e at
 has_entry (x ∷ xs) zero e at none =
     let own : of_station x.station (x ∷ xs) ≡ x ∷ of_station x.station xs = ap (λ (b : Bool). cond b (x ∷ of_station x.station xs) (of_station x.station xs)) (same x.station) in
-    let n = ap length (sym own ∙ subst (λ (y : Entry Call). of_station y.station (x ∷ xs) ≡ []) (sym (same_Some x e at)) none) in
+    let n = ap length (sym own ∙ subst (λ (y : Entry CutStep). of_station y.station (x ∷ xs) ≡ []) (sym (same_Some x e at)) none) in
     absurd (omega (arith, n))
 has_entry (x ∷ xs) (suc k) e at none = has_entry xs k e at (rest_none (x.station == e.station) none)
   where
@@ -210,7 +208,7 @@ has_entry (x ∷ xs) (suc k) e at none = has_entry xs k e at (rest_none (x.stati
     rest_none true n = let m = ap length n in absurd (omega (arith, m))
     rest_none false n = n
 
-of_stations : (stations : ℕ) (h : History) → ((k : ℕ) (e : Entry Call) → slice_get h k ≡ Some e → e.station < stations) → AreOfStations stations h
+of_stations : (stations : ℕ) (h : History) → ((k : ℕ) (e : Entry CutStep) → slice_get h k ≡ Some e → e.station < stations) → AreOfStations stations h
 of_stations stations [] low = tt
 of_stations stations (e ∷ es) low = (low 0 e refl, of_stations stations es (λ k d at. low (suc k) d at))
 
@@ -222,26 +220,26 @@ left_place (x ∷ xs) more (suc k) l at = left_place xs more k l at
 -- A room that is closed with the passes that are left of its stations, which are all that have entries, and with those of
 -- readers.
 pub closed_by : (room : TrackRoom) (left : List LeftState) (more passes : List TrackPass) (h : History) → passes ≡ map (λ (l : LeftState). l.pass) left ++ more
-    → ((k : ℕ) (l : LeftState) → slice_get left k ≡ Some l → l.pass.number ≡ k) → All (IsReader (length left) h) more → IsLegal (whole (editing room.object.table)) room.parts h
-    → All (λ (p : TrackPass). Agrees (editing room.object.table).names h (Station p.number) p.entries) passes → All (λ (e : Entry Call). In e.station (map (λ (p : TrackPass). p.number) passes)) h
+    → ((k : ℕ) (l : LeftState) → slice_get left k ≡ Some l → l.pass.number ≡ k) → All (IsReader (length left) h) more → IsLegal (whole (stepping room.object.object.table)) room.parts h
+    → All (λ (p : TrackPass). Agrees (stepping room.object.object.table).names h (Station p.number) p.entries) passes → All (λ (e : Entry CutStep). In e.station (map (λ (p : TrackPass). p.number) passes)) h
     → IsClosedBy room left h
 closed_by room left more passes h are numbers readers is agree stations = record {
   legal = is;
-  agree = λ k l at. subst (λ (n : ℕ). Agrees (editing room.object.table).names h (Station n) l.pass.entries) (numbers k l at)
-      (at_place (λ (p : TrackPass). Agrees (editing room.object.table).names h (Station p.number) p.entries) passes k l.pass agree
+  agree = λ k l at. subst (λ (n : ℕ). Agrees (stepping room.object.object.table).names h (Station n) l.pass.entries) (numbers k l at)
+      (at_place (λ (p : TrackPass). Agrees (stepping room.object.object.table).names h (Station p.number) p.entries) passes k l.pass agree
       (subst (λ (ps : List TrackPass). slice_get ps k ≡ Some l.pass) (sym are) (left_place left more k l at)));
   seated = of_stations (length left) h low;
 }
   where
-    reads : (k : ℕ) (e : Entry Call) → slice_get h k ≡ Some e → (p : TrackPass) × (j : ℕ) × (slice_get more j ≡ Some p) × (e.station ≡ p.number) → ⊥
+    reads : (k : ℕ) (e : Entry CutStep) → slice_get h k ≡ Some e → (p : TrackPass) × (j : ℕ) × (slice_get more j ≡ Some p) × (e.station ≡ p.number) → ⊥
     reads k e at (p, j, there, is) =
         let reader = at_place (IsReader (length left) h) more j p readers there in
         has_entry h k e at (subst (λ (n : ℕ). of_station n h ≡ []) (sym is) reader.none)
 
-    low : (k : ℕ) (e : Entry Call) → slice_get h k ≡ Some e → e.station < length left
+    low : (k : ℕ) (e : Entry CutStep) → slice_get h k ≡ Some e → e.station < length left
     low k e at =
         let mine : In e.station (map (λ (p : TrackPass). p.number) (map (λ (l : LeftState). l.pass) left ++ more)) =
-        subst (λ (ps : List TrackPass). In e.station (map (λ (p : TrackPass). p.number) ps)) are (at_place (λ (x : Entry Call). In x.station (map (λ (p : TrackPass). p.number) passes)) h k e stations at) in
+        subst (λ (ps : List TrackPass). In e.station (map (λ (p : TrackPass). p.number) ps)) are (at_place (λ (x : Entry CutStep). In x.station (map (λ (p : TrackPass). p.number) passes)) h k e stations at) in
         let split = in_append e.station (map (λ (p : TrackPass). p.number) (map (λ (l : LeftState). l.pass) left)) (map (λ (p : TrackPass). p.number) more)
         (subst (λ (ns : List ℕ). In e.station ns) (map-append (λ (p : TrackPass). p.number) (map (λ (l : LeftState). l.pass) left) more) mine) in
         ⊎_elim
@@ -250,8 +248,8 @@ closed_by room left more passes h are numbers readers is agree stations = record
 
 -- or with those of its stations alone
 pub closed_alone : (room : TrackRoom) (left : List LeftState) (passes : List TrackPass) (h : History) → passes ≡ map (λ (l : LeftState). l.pass) left
-    → ((k : ℕ) (l : LeftState) → slice_get left k ≡ Some l → l.pass.number ≡ k) → IsLegal (whole (editing room.object.table)) room.parts h
-    → All (λ (p : TrackPass). Agrees (editing room.object.table).names h (Station p.number) p.entries) passes → All (λ (e : Entry Call). In e.station (map (λ (p : TrackPass). p.number) passes)) h
+    → ((k : ℕ) (l : LeftState) → slice_get left k ≡ Some l → l.pass.number ≡ k) → IsLegal (whole (stepping room.object.object.table)) room.parts h
+    → All (λ (p : TrackPass). Agrees (stepping room.object.object.table).names h (Station p.number) p.entries) passes → All (λ (e : Entry CutStep). In e.station (map (λ (p : TrackPass). p.number) passes)) h
     → IsClosedBy room left h
 closed_alone room left passes h are numbers is agree stations =
     closed_by room left [] passes h (are ∙ sym (append-nil (map (λ (l : LeftState). l.pass) left))) numbers (All-nil (IsReader (length left) h)) is agree stations

@@ -1,6 +1,6 @@
 -- What a closed room's journal is to what a station knew.
 use Rattle.std.specs.Prelude.{◌≡◌, ℕ, List, Some, ◌++◌, length, slice_get}
-use Rattle.edit_apply.specs.Apply.{editing}
+use Rattle.cut_steps.specs.CutSteps.{stepping}
 use Rattle.edit_apply.specs.RoomTracks.{IsOpening}
 use Rattle.edit_journal.specs.Seats.{Agrees}
 use Rattle.edit_journal.specs.declared.name.Name.TheVariants.{Station}
@@ -25,5 +25,5 @@ pub record Closes (o : Opening) (stations station : ℕ) (known h : History) : T
 -- and it has no further entry of that station.
 pub record IsClosedBy (room : TrackRoom) (left : List LeftState) (h : History) : Type 0 where
   pub legal : IsLegalThere room h
-  pub agree : (k : ℕ) (l : LeftState) → slice_get left k ≡ Some l → Agrees (editing room.object.table).names h (Station k) l.pass.entries
+  pub agree : (k : ℕ) (l : LeftState) → slice_get left k ≡ Some l → Agrees (stepping room.object.object.table).names h (Station k) l.pass.entries
   pub seated : AreOfStations (length left) h

@@ -5,7 +5,7 @@ use Rattle.room_files.specs.Files.{FilesTold, IsWhole, OthersUnchanged}
 use Rattle.room_halls.specs.Stations.{HallTold, LineTold, OpensAt}
 use Rattle.room_ports.specs.Counts.{HasRisen}
 use Rattle.otio_json.specs.declared.opening.Opening.{Opening}
-use Rattle.line_table.specs.Journals.{journal_text_of}
+use Rattle.journal_text.specs.Journals.{journal_text_of}
 use Rattle.station_sessions.specs.declared.serve.End.{End}
 use Rattle.station_sessions.specs.declared.serve.End.TheVariants as end
 use Rattle.command_files.specs.declared.status.Status.{Status}

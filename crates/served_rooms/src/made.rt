@@ -9,16 +9,14 @@ use crate::stations::{SeatedStations, seat_all, serve_seated, take_passes};
 use call_text::{CutCall, CutObject, CutPart};
 use command_files::Status;
 use cut_room::{Room, RoomBlank};
-use edit_apply::Editor;
 use edit_journal::{Naming, Pass};
 use line_words::Memory;
 use made_sessions::{TRACKS, made_opening, put_summary, script_text};
-use otio_json::Opening;
 use room_core::Entry;
 use room_halls::{Hall, SureHall, SurePair};
 use room_keepers::KeepsNothing;
 use room_ports::{Gate, Sink, SureSink, SureSource};
-use station_sessions::Setting;
+use station_sessions::{Setting, begin_room};
 use std::alloc::Global;
 use std::marker::Brand;
 use std::sync::Wait;
@@ -93,18 +91,14 @@ fn serve_session_lines<R: Threads + Wait + Sync, H: Hall, G: Gate + Sync>(
     hall: &mut H,
     gate: &G,
 ) -> Option<Vec<Entry<CutCall>>> {
-    let Opening {
-        table,
-        tracks,
-        counting,
-        start,
-    } = match made_opening(alloc) {
+    let opening = match made_opening(alloc) {
         Ok(opening) => opening,
         Err(_) => return None,
     };
-    let setting = Setting { counting, start };
-    match RoomBlank::new(alloc, Editor { table }, tracks.into_vec(), TRACKS) {
-        Ok(blank) => serve_blank_lines::<R, H, G, Brand>(rt, alloc, blank, setting, hall, gate),
+    match begin_room(alloc, opening, TRACKS) {
+        Ok((blank, setting)) => {
+            serve_blank_lines::<R, H, G, Brand>(rt, alloc, blank, setting, hall, gate)
+        }
         Err(_) => None,
     }
 }
@@ -149,7 +143,7 @@ pub fn make_session<R: Threads + Wait + Sync, K: Sink, G: Gate + Sync>(
         Err(_) => return Status::OutOfMemory,
     };
     match serve_session_lines(rt, alloc, &mut hall, gate) {
-        Some(entries) => put_summary(alloc, &entries, number, count, output),
+        Some(entries) => put_summary(alloc, entries, number, count, output),
         None => Status::OutOfMemory,
     }
 }

@@ -1,6 +1,6 @@
 // A room of several stations, each over its line of a hall, and its journal kept in a file.
 ghost use Rattle.std.specs.Prelude.{◌≡◌, ◌<◌, ◌≤◌, [], ℕ, List, true, None, Some, IfErr, IfOk, OnOk, length, map, slice_get, vec_capacity};
-ghost use Rattle.line_table.specs.Journals.{HasRoomForText, HasText};
+ghost use Rattle.journal_text.specs.Journals.{HasRoomForText, HasText};
 ghost use Rattle.edit_journal.specs.Turns.{AreFresh};
 ghost use Rattle.otio_json.specs.Soundness.{IsSoundOpening};
 ghost use Rattle.otio_json.specs.declared.opening.Opening.{Opening as OpeningOf};
@@ -15,7 +15,6 @@ use crate::seated::{Left, SeatedStation, serve_all};
 use call_text::{CutCall, CutObject, CutPart, journal_room, journal_text_into};
 use command_files::Status;
 use cut_room::{Room, RoomBlank};
-use edit_apply::Editor;
 use edit_journal::{Naming, Pass};
 use otio_json::Opening;
 use room_core::Entry;
@@ -23,7 +22,7 @@ use room_files::Files;
 use room_halls::{Hall, HallFault};
 use room_keepers::{Keeping, KeepsNothing};
 use room_ports::{Gate, Line};
-use station_sessions::{End, Setting};
+use station_sessions::{End, Setting, begin_room};
 use std::alloc::Global;
 use std::marker::{Brand, Model};
 use std::sync::Wait;
@@ -374,15 +373,8 @@ pub fn serve_opened<R: Threads + Wait + Sync, F: Files, H: Hall, G: Gate + Sync>
         (AreQuiet (F.told files.old) (F.told files.new))
         (H.told hall.old) (H.told hall.new) result }
 {
-    let Opening {
-        table,
-        tracks,
-        counting,
-        start,
-    } = opening;
-    let setting = Setting { counting, start };
-    let blank = match RoomBlank::new(alloc, Editor { table }, tracks.into_vec(), place.stations) {
-        Ok(blank) => blank,
+    let (blank, setting) = match begin_room(alloc, opening, place.stations) {
+        Ok(begun) => begun,
         Err(_) => return Status::OutOfMemory,
     };
     serve_blank::<R, F, H, G, Brand>(rt, alloc, blank, setting, place, files, hall, gate)

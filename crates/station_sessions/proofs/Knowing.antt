@@ -1,10 +1,9 @@
 -- A session that begins, and what it answered told by what its station knows.
 use Rattle.std.proofs.Common.{◌≡◌, ℕ, max, ◌+◌, ◌<◌, ◌≤◌, Bool, true, false, cond, eqb, List, [], ◌∷◌, fold, Some, refl, sym, ap, arith, subst}
+use Rattle.cut_steps.specs.CutSteps.{KeptTrack, stepping, fresh_tracks}
 use Rattle.timecode12.specs.Numbers.{Counted}
 use Rattle.line_words.specs.Lines.{Line as InputLine}
 use Rattle.composables.specs.declared.media.Table.{Table}
-use Rattle.composables.specs.TrackState.{TrackState}
-use Rattle.edit_apply.specs.Apply.{editing}
 use Rattle.edit_journal.specs.Turns.{last_of}
 use Rattle.room_core.specs.declared.entry.Entry.{Entry}
 use Rattle.room_core.specs.History.{IsLegal, replay}
@@ -45,14 +44,14 @@ own_before station line m (e ∷ es) less = own_by station line m e es (eqb e.st
 -- in a room that was opened from this opening
 legal_in : (o : Opening) (room : TrackRoom) (counting : Counted) (start : ℕ) (h : History) → IsRoomOf o room counting start → IsLegalThere room h → IsLegalIn o h
 legal_in o room counting start h is legal =
-    let table : room.object.table ≡ o.table = ap (λ (s : Setting). s.table) is.setting in
-    subst (λ (x : Table × List TrackState). IsLegal (whole (editing x.0)) x.1 h) (λ i. (table i, is.tracks i)) legal
+    let table : room.object.object.table ≡ o.table = ap (λ (s : Setting). s.table) is.setting in
+    subst (λ (x : Table × List KeptTrack). IsLegal (whole (stepping x.0)) x.1 h) (λ i. (table i, is.tracks i)) legal
 
-comes_in : (o : Opening) (room : TrackRoom) (counting : Counted) (start : ℕ) (h : History) (tracks : List TrackState) → IsRoomOf o room counting start
-    → replay (whole (editing room.object.table)) room.parts h ≡ Some tracks → replay (whole (editing o.table)) o.tracks h ≡ Some tracks
+comes_in : (o : Opening) (room : TrackRoom) (counting : Counted) (start : ℕ) (h : History) (tracks : List KeptTrack) → IsRoomOf o room counting start
+    → replay (whole (stepping room.object.object.table)) room.parts h ≡ Some tracks → replay (whole (stepping o.table)) (fresh_tracks o.tracks) h ≡ Some tracks
 comes_in o room counting start h tracks is comes =
-    let table : room.object.table ≡ o.table = ap (λ (s : Setting). s.table) is.setting in
-    subst (λ (x : Table × List TrackState). replay (whole (editing x.0)) x.1 h ≡ Some tracks) (λ i. (table i, is.tracks i)) comes
+    let table : room.object.object.table ≡ o.table = ap (λ (s : Setting). s.table) is.setting in
+    subst (λ (x : Table × List KeptTrack). replay (whole (stepping x.0)) x.1 h ≡ Some tracks) (λ i. (table i, is.tracks i)) comes
 
 pub begun_session : (o : Opening) (from : Origin) (room : TrackRoom) (pass : TrackPass) (counting : Counted) (start line : ℕ) → IsRoomOf o room counting start
     → (holding : Holding) → IsLegalThere room pass.entries → IsOrigin from pass → from.kept ≤ holding.held → line ≡ last_of pass.number pass.entries + 1
@@ -83,9 +82,9 @@ fresh_base pass none = rw none (omega arith)
 
 -- what a session that has begun knows later
 module _ (o : Opening) (from : Origin) (station : ℕ) (a b : StationState) (f : IsBegun o from station a) where
-  begun : Served (room_of a.setting) station o.tracks from a.course [] [] from.kept
+  begun : Served (room_of a.setting) station (fresh_tracks o.tracks) from a.course [] [] from.kept
   begun =
-      served_none (room_of a.setting) station o.tracks from a.course f.opening (subst (λ (s : Setting). replay (room_of s).apply o.tracks a.course.journal ≡ Some a.course.state) (sym f.setting) f.tracks)
+      served_none (room_of a.setting) station (fresh_tracks o.tracks) from a.course f.opening (subst (λ (s : Setting). replay (room_of s).apply (fresh_tracks o.tracks) a.course.journal ≡ Some a.course.state) (sym f.setting) f.tracks)
       f.kept f.none f.before f.held f.line f.legal.rise f.legal.within
 
   still_written : StaysWritten a b → AreWritten (of_station station b.course.journal)
@@ -95,10 +94,10 @@ module _ (o : Opening) (from : Origin) (station : ℕ) (a b : StationState) (f :
   knows_by : (ls : List InputLine) (Taken : List (List ℕ) → Type 0) → ServesTo a b ls Taken → Knows o from station b.course.journal b.course.held ls Taken
   knows_by ls Taken g =
       let serves : Serves (room_of a.setting) station a.course b.course ls Taken = subst (λ (n : ℕ). Serves (room_of a.setting) n a.course b.course ls Taken) f.station g.serves in
-      let t = serves o.tracks from [] [] from.kept begun in (
+      let t = serves (fresh_tracks o.tracks) from [] [] from.kept begun in (
         t.0,
         t.1,
-        subst (λ (s : Setting). TranscriptTo (room_of s) o.tracks b.course.journal from station ls t.0 t.1 []) f.setting (transcript_served (room_of a.setting) station o.tracks from b.course ls t.0 t.1 t.2),
+        subst (λ (s : Setting). TranscriptTo (room_of s) (fresh_tracks o.tracks) b.course.journal from station ls t.0 t.1 []) f.setting (transcript_served (room_of a.setting) station (fresh_tracks o.tracks) from b.course ls t.0 t.1 t.2),
         t.2.held,
         still_written g.written,
         t.3,
@@ -108,10 +107,10 @@ module _ (o : Opening) (from : Origin) (station : ℕ) (a b : StationState) (f :
   knows_but : (ls : List InputLine) (l : InputLine) (Taken : List (List ℕ) → Type 0) → BreaksTo a b ls l Taken → KnowsBut o from station b.course.journal b.course.held ls l Taken
   knows_but ls l Taken g =
       let breaks : Breaks (room_of a.setting) station a.course b.course ls l Taken = subst (λ (n : ℕ). Breaks (room_of a.setting) n a.course b.course ls l Taken) f.station g.breaks in
-      let t = breaks o.tracks from [] [] from.kept begun in (
+      let t = breaks (fresh_tracks o.tracks) from [] [] from.kept begun in (
         t.0,
         t.1,
-        subst (λ (s : Setting). TranscriptBut (room_of s) o.tracks b.course.journal from station ls t.0 t.1 l) f.setting t.2,
+        subst (λ (s : Setting). TranscriptBut (room_of s) (fresh_tracks o.tracks) b.course.journal from station ls t.0 t.1 l) f.setting t.2,
         t.3,
         still_written g.written,
         t.4,

@@ -2,19 +2,21 @@
 use Rattle.std.proofs.Common.{◌≡◌, ℕ, Bool, true, false, ◌||◌, inl, inr, ◌+◌, ◌≤◌, List, [], ◌∷◌, ◌++◌, take, Option, Some, None, Result, Ok, Err, refl, sym, ap, ◌∙◌, append_assoc, arith, subst, OnOk, OnErr}
 use Rattle.std.specs.Prelude.{IsTrue, codes}
 use Rattle.std.proofs.lemmas.List.{append-nil}
+use Rattle.cut_steps.specs.CutSteps.{CutStep, KeptTrack}
 use Rattle.room_ports.specs.Bytes.{Takes, TakesFront}
 use Rattle.room_ports.proofs.Fronts.{takes-nothing, takes-takes}
 use Rattle.line_words.specs.Lines.{Line as InputLine}
 use Rattle.line_words.specs.Told.{line_told, lines_told}
 use Rattle.line_words.specs.declared.line.LineEnd.{LineEnd}
+use Rattle.line_table.specs.declared.lines.Line.{Line}
+use Rattle.line_table.specs.declared.lines.Line.TheVariants.{Edit, Ask as AskOf, Point as PointOf, Otio, News}
+use Rattle.protocol_parts.specs.declared.line_fault.LineFault.{LineFault}
 use Rattle.station_sessions.specs.Outside.{AreSent, TakesThenFront, LastIsCut}
 use Rattle.station_sessions.specs.Transcript.{Bad, Protocol, Wish, reply_line, sent}
 use Rattle.station_sessions.specs.Rooms.{Setting, AreWritten, finds_memory, is_linking, room_of, meaning_of, wish_in}
 use Rattle.room_core.specs.History.{most_entries}
 use Rattle.room_core.specs.Projection.{of_station}
 use Rattle.room_keepers.specs.declared.fault.KeepFault.{KeepFault}
-use Rattle.composables.specs.TrackState.{TrackState}
-use Rattle.edit_calls.specs.declared.asks.Call.{Call}
 use Rattle.station_sessions.specs.Session.{Course, Grows, HasGrown, HasHeld, StationState, held_to, past_line, RepliesTo, Step}
 use Rattle.station_sessions.specs.Served.{Breaks, BreaksTo, Serves, ServesTo, StaysWritten}
 use Rattle.station_sessions.specs.Stopping.{StopsSo}
@@ -145,15 +147,25 @@ record Stepped (old new : StationState) (l : InputLine) (reply : List ℕ) (tell
   pub setting : new.setting ≡ old.setting
   pub station : new.station ≡ old.station
   pub written : StaysWritten old new
-  pub met : Course (List TrackState) Call
+  pub met : Course (List KeptTrack) CutStep
   pub grows : Grows (room_of old.setting) old.station old.course met
-  pub answered : Course (List TrackState) Call
+  pub answered : Course (List KeptTrack) CutStep
   pub step : (let k = room_of old.setting in Step k old.station met answered reply tells (k.wish old.station l) (k.takes_memory l))
   pub passed : new.course ≡ past_line answered
 
+-- which station asks decides nothing of memory
+memory_of_any : (setting : Setting) (station other : ℕ) (r : Result Line LineFault) → finds_memory setting.table (wish_in station r) ≡ finds_memory setting.table (wish_in other r)
+memory_of_any setting station other (Ok (Edit s)) = refl
+memory_of_any setting station other (Ok (AskOf q)) = refl
+memory_of_any setting station other (Ok PointOf) = refl
+memory_of_any setting station other (Ok (Otio n)) = refl
+memory_of_any setting station other (Ok (News n)) = refl
+memory_of_any setting station other (Err fault) = refl
+
 stepped : (old new : StationState) (l : InputLine) (reply : List ℕ) (tells : ℕ) → RepliesTo old new l reply tells → Stepped old new l reply tells
 stepped old new l reply tells (inl r) =
-    let wish = wish_in (meaning_of old.setting l) in
+    let wish = wish_in old.station (meaning_of old.setting l) in
+    let takes = memory_of_any old.setting old.station 0 (meaning_of old.setting l) in
     record {
       setting = r.setting;
       station = r.station;
@@ -161,11 +173,13 @@ stepped old new l reply tells (inl r) =
       met = r.met;
       grows = r.grows;
       answered = r.answered;
-      step = wider (room_of old.setting) old.station r.met r.answered reply tells wish (finds_memory old.setting.table wish) (is_linking l) r.step;
+      step = subst (λ (b : Bool). Step (room_of old.setting) old.station r.met r.answered reply tells wish (b || is_linking l)) takes
+          (wider (room_of old.setting) old.station r.met r.answered reply tells wish (finds_memory old.setting.table wish) (is_linking l) r.step);
       passed = r.passed;
     }
 stepped old new l reply tells (inr (linking, r)) =
-    let wish = wish_in (meaning_of old.setting l) in
+    let wish = wish_in old.station (meaning_of old.setting l) in
+    let takes = memory_of_any old.setting old.station 0 (meaning_of old.setting l) in
     record {
       setting = r.setting;
       station = r.station;
@@ -173,7 +187,8 @@ stepped old new l reply tells (inr (linking, r)) =
       met = r.met;
       grows = r.grows;
       answered = r.answered;
-      step = for_memory (room_of old.setting) old.station r.met r.answered reply tells wish (finds_memory old.setting.table wish) (is_linking l) linking r.step;
+      step = subst (λ (b : Bool). Step (room_of old.setting) old.station r.met r.answered reply tells wish (b || is_linking l)) takes
+          (for_memory (room_of old.setting) old.station r.met r.answered reply tells wish (finds_memory old.setting.table wish) (is_linking l) linking r.step);
       passed = r.passed;
     }
 
@@ -183,10 +198,10 @@ module _ (old mid new : StationState) (l : InputLine) (reply : List ℕ) (tells 
   held_course s = h.course ∙ ap (held_to new.course.held) s.passed
 
   held_more : (s : Stepped old mid l reply tells) → s.answered.held ≤ new.course.held
-  held_more s = omega (arith, ap (λ (c : Course (List TrackState) Call). c.held) s.passed, h.more)
+  held_more s = omega (arith, ap (λ (c : Course (List KeptTrack) CutStep). c.held) s.passed, h.more)
 
   held_written : (s : Stepped old mid l reply tells) → StaysWritten old new
-  held_written s w = subst (λ (c : Course (List TrackState) Call). AreWritten (of_station old.station c.journal)) (sym h.course) (s.written w)
+  held_written s w = subst (λ (c : Course (List KeptTrack) CutStep). AreWritten (of_station old.station c.journal)) (sym h.course) (s.written w)
 
   -- a line whose reply was sent once what it tells of was kept
   pub serves_one : (Taken : List (List ℕ) → Type 0) → tells ≤ new.course.held → Taken (reply ∷ []) → ServesTo old new (l ∷ []) Taken
@@ -197,7 +212,7 @@ module _ (old mid new : StationState) (l : InputLine) (reply : List ℕ) (tells 
         setting = h.setting ∙ s.setting;
         station = h.station ∙ s.station;
         written = held_written s;
-        serves = subst (λ (c : Course (List TrackState) Call). Serves k old.station old.course c (l ∷ []) Taken) (sym (held_course s))
+        serves = subst (λ (c : Course (List KeptTrack) CutStep). Serves k old.station old.course c (l ∷ []) Taken) (sym (held_course s))
             (one_serves k old.station old.course s.met s.answered new.course.held l reply tells Taken s.grows s.step (held_more s) told taken);
       }
 
@@ -210,7 +225,7 @@ module _ (old mid new : StationState) (l : InputLine) (reply : List ℕ) (tells 
         setting = h.setting ∙ s.setting;
         station = h.station ∙ s.station;
         written = held_written s;
-        breaks = subst (λ (c : Course (List TrackState) Call). Breaks k old.station old.course c [] l (AreSent t t)) (sym (held_course s))
+        breaks = subst (λ (c : Course (List KeptTrack) CutStep). Breaks k old.station old.course c [] l (AreSent t t)) (sym (held_course s))
             (one_breaks k old.station old.course s.met s.answered new.course.held l reply tells (AreSent t t) s.grows s.step (held_more s) (takes-nothing t));
       }
 
@@ -224,7 +239,7 @@ next_line old mid l reply tells (inl r) = r.line
 next_line old mid l reply tells (inr (linking, r)) = r.line
 
 pub next_number : (old mid new : StationState) (l : InputLine) (reply : List ℕ) (tells : ℕ) → RepliesTo old mid l reply tells → HasHeld mid new → new.course.line ≡ old.course.line + 1
-next_number old mid new l reply tells to h = ap (λ (c : Course (List TrackState) Call). c.line) h.course ∙ next_line old mid l reply tells to
+next_number old mid new l reply tells to h = ap (λ (c : Course (List KeptTrack) CutStep). c.line) h.course ∙ next_line old mid l reply tells to
 
 -- a reply tells of no more entries than a journal has
 pub tells_within : (old new : StationState) (l : InputLine) (reply : List ℕ) (tells : ℕ) → RepliesTo old new l reply tells → tells ≤ most_entries

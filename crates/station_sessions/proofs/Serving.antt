@@ -1,12 +1,13 @@
 -- A station that has answered some lines, and what it does for one more.
-use Rattle.std.proofs.Common.{◌≡◌, ℕ, ◌+◌, ◌<◌, ◌≤◌, Bool, inl, inr, List, [], ◌∷◌, ◌++◌, drop, length, max, take, Option, Some, Ok, refl, sym, ap, ◌∙◌, subst, arith, option_map, fold, cond, eqb, true, false}
+use Rattle.std.proofs.Common.{◌≡◌, ℕ, ◌+◌, ◌<◌, ◌≤◌, Bool, inl, inr, List, [], ◌∷◌, ◌++◌, drop, length, max, take, slice_get, Option, Some, Ok, refl, sym, ap, ◌∙◌, subst, arith, option_map, fold, cond, eqb, true, false}
 use Rattle.std.proofs.lemmas.List.{append-nil, length-append}
 use Rattle.std.proofs.lemmas.List.Sums.{fold-append}
+use Rattle.std.proofs.Math.Seq.{take-length}
 use Rattle.line_words.specs.Lines.{Line as InputLine}
 use Rattle.room_core.specs.declared.entry.Entry.{Entry}
 use Rattle.room_core.specs.History.{most_entries, replay, after_entry, answer_in, state_in, RiseAfter, NumbersRise}
 use Rattle.room_core.specs.Projection.{of_station}
-use Rattle.station_sessions.specs.Transcript.{Wish, Do, See, Point, Write, Bad, Protocol, answer_at, sight_at, BearsNone, IsDone, IsRefused, IsFull, IsMemory, IsSeen, IsPoint, IsDocument, IsPastEnd, IsBad, Origin, Row, Rows, TranscriptTo, TranscriptBut, points_behind}
+use Rattle.station_sessions.specs.Transcript.{Wish, Do, See, Point, Write, News, Bad, Protocol, answer_at, sight_at, BearsNone, IsDone, IsRefused, IsFull, IsMemory, IsSeen, IsPoint, IsDocument, IsNews, IsPastEnd, IsBad, Origin, Row, Rows, TranscriptTo, TranscriptBut, points_behind}
 use Rattle.station_sessions.specs.Session.{Course, past_line, held_to, Commits, Does, Step, Grows}
 use Rattle.station_sessions.specs.Served.{OwnBefore, Served}
 use Rattle.station_sessions.proofs.Transcripts.{OwnFrom, get_last, answer_more, rows_more, one_row_more, points_more, points_others, points_one, no_own, replay_more, state_now}
@@ -275,6 +276,28 @@ module _ {S C D R Q X Y : Type 0} (k : Protocol S C D R Q X Y) (station : ℕ) (
   replied_does old new ls rs last l reply tells (Write n) w says (inr m) =
       let at : ℕ = length old.journal in
       let past : IsPastEnd k o old.journal station (from.base + 1 + length ls) last reply at [] n at = record {
+        told_of = w.told;
+        within = omega arith;
+        past = m.past;
+        reply_is = m.reply_is;
+        after_is = refl;
+        points_are = refl;
+      } in
+      replied_quiet old new ls rs last l reply tells at m.same w (inl (rw says (inr (at, past)))) (omega arith) (omega (arith, m.tells_are))
+  replied_does old new ls rs last l reply tells (News place) w says (inl m) =
+      let n : ℕ = length old.journal in
+      let news : IsNews k o old.journal station (from.base + 1 + length ls) last reply n [] place n = record {
+        told_of = w.told;
+        within = omega arith;
+        place_within = m.within;
+        reply_is = m.reply_is ∙ ap (λ (es : List (Entry C)). k.news_text place n (slice_get es place)) (sym (take-length old.journal));
+        after_is = refl;
+        points_are = refl;
+      } in
+      replied_quiet old new ls rs last l reply tells n m.same w (inl (rw says (inl (n, news)))) (omega arith) (omega (arith, m.tells_are))
+  replied_does old new ls rs last l reply tells (News place) w says (inr m) =
+      let at : ℕ = length old.journal in
+      let past : IsPastEnd k o old.journal station (from.base + 1 + length ls) last reply at [] place at = record {
         told_of = w.told;
         within = omega arith;
         past = m.past;

@@ -4,13 +4,14 @@ use Rattle.std.proofs.lemmas.List.{append-nil, drop-append-le, length-append, le
 use Rattle.std.proofs.lemmas.Bool.Decides.{nat_tests}
 use Rattle.std.proofs.lemmas.List.Sums.{fold-append}
 use Rattle.std.proofs.Math.Seq.{take-length}
+use Rattle.cut_steps.specs.CutSteps.{fresh_tracks}
 use Rattle.line_words.specs.Lines.{Line as InputLine}
 use Rattle.room_core.specs.declared.entry.Entry.{Entry}
 use Rattle.room_core.specs.History.{most_entries, replay, after_entry, answer_in}
 use Rattle.room_core.specs.Projection.{of_station}
 use Rattle.station_sessions.specs.Longer.{TranscriptsStay}
 use Rattle.station_sessions.specs.Rooms.{room_of, setting_of}
-use Rattle.station_sessions.specs.Transcript.{Wish, Do, See, Point, Write, Bad, Protocol, state_at, answer_at, sight_at, BearsNone, IsFull, Answered, Row, Rows, points_from, points_behind, Origin, TranscriptTo, TranscriptBut, reply_line, sent}
+use Rattle.station_sessions.specs.Transcript.{Wish, Do, See, Point, Write, News, Bad, Protocol, state_at, answer_at, sight_at, BearsNone, IsFull, Answered, Row, Rows, points_from, points_behind, Origin, TranscriptTo, TranscriptBut, reply_line, sent}
 
 -- each of these entries that is of the station is of this line or a later one
 abbrev pub OwnFrom : {C : Type 0} → ℕ → ℕ → List (Entry C) → Type 0
@@ -122,6 +123,30 @@ module _ {S C D R Q X Y : Type 0} (k : Protocol S C D R Q X Y) (o : S) where
         },
       )
   answered_more h more station line told reply after points (Write n) within (inr (at, w)) =
+      inr (
+        at,
+        record {
+          told_of = w.told_of;
+          within = omega (arith, w.within, length-append h more);
+          past = w.past;
+          reply_is = w.reply_is;
+          after_is = w.after_is;
+          points_are = w.points_are;
+        },
+      )
+  answered_more h more station line told reply after points (News place) within (inl (n, w)) =
+      inl (
+        n,
+        record {
+          told_of = w.told_of;
+          within = omega (arith, w.within, length-append h more);
+          place_within = w.place_within;
+          reply_is = w.reply_is ∙ ap (λ (es : List (Entry C)). k.news_text place n (slice_get es place)) (sym (take-append-le n h more w.within));
+          after_is = w.after_is;
+          points_are = w.points_are;
+        },
+      )
+  answered_more h more station line told reply after points (News place) within (inr (at, w)) =
       inr (
         at,
         record {
@@ -294,8 +319,8 @@ module _ {S C D R Q X Y : Type 0} (k : Protocol S C D R Q X Y) (o : S) (h more :
 
 pub transcripts_stay : TranscriptsStay
 transcripts_stay o h more from station lines replies told = (
-  (λ legal same to. transcript_more (room_of (setting_of o)) o.tracks h more from station lines replies told legal.within same [] to),
-  (λ line legal same but. broken_more (room_of (setting_of o)) o.tracks h more from station lines replies told legal.within same line but),
+  (λ legal same to. transcript_more (room_of (setting_of o)) (fresh_tracks o.tracks) h more from station lines replies told legal.within same [] to),
+  (λ line legal same but. broken_more (room_of (setting_of o)) (fresh_tracks o.tracks) h more from station lines replies told legal.within same line but),
 )
 
 -- a reply more

@@ -1,12 +1,12 @@
 -- A session that has answered some lines: what has held since it began.
 use Rattle.std.specs.Prelude.{◌≡◌, ℕ, ◌+◌, ◌<◌, ◌≤◌, List, [], ◌∷◌, ◌++◌, Some, length, drop}
+use Rattle.cut_steps.specs.CutSteps.{stepping, fresh_tracks}
 use Rattle.line_words.specs.Lines.{Line as InputLine}
 use Rattle.edit_apply.specs.RoomTracks.{IsOpening}
 use Rattle.room_core.specs.declared.entry.Entry.{Entry}
 use Rattle.room_core.specs.History.{most_entries, replay, NumbersRise}
 use Rattle.room_core.specs.Projection.{of_station}
 use Rattle.room_core.specs.Whole.{whole}
-use Rattle.edit_apply.specs.Apply.{editing}
 use Rattle.station_sessions.specs.Transcript.{Protocol, Origin, Rows, TranscriptBut, points_behind}
 use Rattle.otio_json.specs.declared.opening.Opening.{Opening}
 use Rattle.station_sessions.specs.Rooms.{AreWritten, History, IsLegalIn, RoomTranscriptTo, RoomTranscriptBut, room_of, setting_of}
@@ -50,9 +50,9 @@ Breaks {S} {C} {D} {R} {Q} {X} {Y} k station old new lines line Taken =
 pub record IsBegun (o : Opening) (from : Origin) (number : ℕ) (s : StationState) : Type 0 where
   pub setting : s.setting ≡ setting_of o
   pub station : s.station ≡ number
-  pub opening : s.course.opening ≡ o.tracks
+  pub opening : s.course.opening ≡ fresh_tracks o.tracks
   pub legal : IsLegalIn o s.course.journal
-  pub tracks : replay (whole (editing o.table)) o.tracks s.course.journal ≡ Some s.course.state
+  pub tracks : replay (whole (stepping o.table)) (fresh_tracks o.tracks) s.course.journal ≡ Some s.course.state
   pub kept : from.kept ≤ length s.course.journal
   pub none : of_station number (drop from.kept s.course.journal) ≡ []
   pub before : OwnBefore number (from.base + 1) s.course.journal
@@ -83,7 +83,7 @@ pub record BreaksTo (old new : StationState) (lines : List InputLine) (line : In
 pub record IsRoomOf (o : Opening) (room : TrackRoom) (counting : Counted) (start : ℕ) : Type 0 where
   pub opens : IsOpening o.table o.tracks
   pub setting : setting_at room counting start ≡ setting_of o
-  pub tracks : room.parts ≡ o.tracks
+  pub tracks : room.parts ≡ fresh_tracks o.tracks
 
 -- What a station knows tells its replies to these lines, which tell of no more entries than are known to be kept, and its
 -- own entries can be written.

@@ -1,9 +1,8 @@
 -- What a session does for one line: others may have committed more, and then it answers the line, and at most commits one
 -- call.
-use Rattle.std.specs.Prelude.{◌≡◌, ℕ, ◌+◌, ◌<◌, ◌≤◌, ◌⊎◌, Bool, IsTrue, List, [], ◌∷◌, ◌++◌, Vec, Some, Result, Ok, Err, length, take, codes, decimal}
+use Rattle.std.specs.Prelude.{◌≡◌, ℕ, ◌+◌, ◌<◌, ◌≤◌, ◌⊎◌, Bool, IsTrue, List, [], ◌∷◌, ◌++◌, Vec, Some, Result, Ok, Err, length, take, slice_get, codes, decimal}
 use Rattle.std.specs.Global.{Global}
-use Rattle.composables.specs.TrackState.{TrackState}
-use Rattle.edit_calls.specs.declared.asks.Call.{Call}
+use Rattle.cut_steps.specs.CutSteps.{CutStep, KeptTrack}
 use Rattle.edit_calls.specs.declared.asks.Ask.{Ask}
 use Rattle.room_core.specs.declared.entry.Entry.{Entry}
 use Rattle.reply_text.specs.Sights.{TrackSight, sight_text_of}
@@ -13,12 +12,15 @@ use Rattle.line_table.specs.declared.lines.Line.{Line}
 use Rattle.line_words.specs.Lines.{Line as InputLine}
 use Rattle.room_core.specs.History.{answer_in, most_entries, replay, NumbersRise}
 use Rattle.room_core.specs.Projection.{of_station}
-use Rattle.station_sessions.specs.Transcript.{Wish, Do, See, Point, Write, Bad, Protocol}
+use Rattle.station_sessions.specs.Transcript.{Wish, Do, See, Point, Write, News, Bad, Protocol}
 use Rattle.edit_journal.specs.declared.log.CopyFault.{CopyFault}
 use Rattle.edit_journal.specs.declared.log.CopyFault.TheVariants as fault
 use Rattle.cut_room.specs.declared.answers.Answer.TheVariants as answer
+use Rattle.cut_room.specs.declared.answers.Excerpt.{Excerpt}
 use Rattle.cut_room.specs.declared.answers.Sight.TheVariants as sight
 use Rattle.reply_text.specs.Replies.{EditAnswer}
+use Rattle.journal_text.specs.NewsTexts.{news_text_of}
+use Rattle.take_back.specs.Parts.{nows}
 use Rattle.station_sessions.specs.DocumentReplies.{document_reply, no_point_reply}
 use Rattle.station_sessions.specs.Rooms.{Setting, AreWritten, document_of, room_of, finds_memory, is_linking, meaning_of, wish_in}
 
@@ -94,6 +96,13 @@ module _ {S C D R Q X Y : Type 0} (k : Protocol S C D R Q X Y) (station : ℕ) (
     pub reply_is : reply ≡ k.no_point_text (length old.journal)
     pub tells_are : tells ≡ length old.journal
 
+  -- the entry at a place is told, where there is one
+  pub record TellsNews (place : ℕ) : Type 0 where
+    pub within : place ≤ length old.journal
+    pub same : new ≡ old
+    pub reply_is : reply ≡ k.news_text place (length old.journal) (slice_get old.journal place)
+    pub tells_are : tells ≡ length old.journal
+
   -- this text, which tells of so many entries
   pub record Says (text : List ℕ) (count : ℕ) : Type 0 where
     pub same : new ≡ old
@@ -106,6 +115,7 @@ module _ {S C D R Q X Y : Type 0} (k : Protocol S C D R Q X Y) (station : ℕ) (
   Does (See q) = Says (k.sight_text (length old.journal) (k.see old.state q)) (length old.journal)
   Does Point = Says (codes "point " ++ decimal (length old.journal)) (length old.journal)
   Does (Write n) = ((s : S) × Writes n s) ⊎ HasNoPoint n
+  Does (News place) = TellsNews place ⊎ HasNoPoint place
   Does (Bad text) = Says text 0
 
   -- answering a line, before the number of the next line rises
@@ -117,18 +127,18 @@ module _ {S C D R Q X Y : Type 0} (k : Protocol S C D R Q X Y) (station : ℕ) (
 pub record StationState : Type 0 where
   pub setting : Setting
   pub station : ℕ
-  pub course : Course (List TrackState) Call
+  pub course : Course (List KeptTrack) CutStep
   pub failures : ℕ
 
 -- A reply of this text, which tells of so many entries, to what a line asks for, after others have committed what they
 -- have, and then the line is past. The station's own entries can be written.
-pub record RepliesWith (old new : StationState) (wish : Wish Call Ask) (text : List ℕ) (tells : ℕ) : Type 0 where
+pub record RepliesWith (old new : StationState) (wish : Wish CutStep Ask) (text : List ℕ) (tells : ℕ) : Type 0 where
   pub setting : new.setting ≡ old.setting
   pub station : new.station ≡ old.station
   pub written : AreWritten (of_station old.station old.course.journal) → AreWritten (of_station old.station new.course.journal)
-  pub met : Course (List TrackState) Call
+  pub met : Course (List KeptTrack) CutStep
   pub grows : Grows (room_of old.setting) old.station old.course met
-  pub answered : Course (List TrackState) Call
+  pub answered : Course (List KeptTrack) CutStep
   pub step : Step (room_of old.setting) old.station met answered text tells wish (finds_memory old.setting.table wish)
   pub within : tells ≤ most_entries
   pub passed : new.course ≡ past_line answered
@@ -157,7 +167,7 @@ IsMeant setting line result =
 -- the reply to a line; where there was no memory to read it, that reply
 abbrev pub RepliesTo : StationState → StationState → InputLine → List ℕ → ℕ → Type 0
 RepliesTo old new line reply tells =
-    RepliesWith old new (wish_in (meaning_of old.setting line)) reply tells
+    RepliesWith old new (wish_in old.station (meaning_of old.setting line)) reply tells
     ⊎ (IsTrue (is_linking line) × RepliesWith old new (Bad (codes "memory")) reply tells)
 
 -- this reply, which tells of so many entries, or that there was no memory for it
@@ -186,7 +196,14 @@ abbrev pub IsSightReply : TrackSight → List ℕ → ℕ → Type 0
 IsSightReply sight reply tells = IsReplyIfMemory (sight_text_of sight) (sight_tells sight) reply tells
 
 -- the reply to a wish for the document after n entries, where this cut was found
-abbrev pub IsCutReply : Setting → ℕ → Result (Vec TrackState Global) CopyFault → List ℕ → ℕ → Type 0
-IsCutReply setting n (Ok tracks) reply tells = IsReplyIfMemory (document_reply n (document_of setting tracks.items)) n reply tells
+abbrev pub IsCutReply : Setting → ℕ → Result (Vec KeptTrack Global) CopyFault → List ℕ → ℕ → Type 0
+IsCutReply setting n (Ok kept) reply tells = IsReplyIfMemory (document_reply n (document_of setting (nows kept.items))) n reply tells
 IsCutReply setting n (Err (fault.NoPoint count)) reply tells = (reply ≡ no_point_reply count) × (tells ≡ count)
 IsCutReply setting n (Err fault.Memory) reply tells = (reply ≡ codes "memory") × (tells ≡ 0)
+
+-- the reply to a wish for the entry at a place, where these entries were found there
+abbrev pub IsNewsReply : ℕ → Result (Excerpt CutStep) CopyFault → List ℕ → ℕ → Type 0
+IsNewsReply place (Ok found) reply tells =
+    IsReplyIfMemory (news_text_of place found.length (slice_get found.entries.items 0)) found.length reply tells
+IsNewsReply place (Err (fault.NoPoint count)) reply tells = (reply ≡ no_point_reply count) × (tells ≡ count)
+IsNewsReply place (Err fault.Memory) reply tells = (reply ≡ codes "memory") × (tells ≡ 0)

@@ -1,10 +1,7 @@
 -- A station's session as the code keeps it: the room, the station's pass, and the number of its next line.
 use Rattle.std.specs.Prelude.{◌≡◌, ℕ, ◌<◌, ◌≤◌, List, [], Option, Some, None, length, drop}
+use Rattle.cut_steps.specs.CutSteps.{CutObject, CutStep, KeptTrack, stepping}
 use Rattle.timecode12.specs.Numbers.{Counted}
-use Rattle.composables.specs.TrackState.{TrackState}
-use Rattle.edit_calls.specs.declared.asks.Call.{Call}
-use Rattle.edit_apply.specs.declared.editor.Editor.{Editor}
-use Rattle.edit_apply.specs.Apply.{editing}
 use Rattle.cut_room.specs.Opened.{Opened}
 use Rattle.edit_journal.specs.Seats.{Opening as RoomOpening}
 use Rattle.edit_journal.specs.Turns.{Known, last_of}
@@ -17,13 +14,13 @@ use Rattle.station_sessions.specs.Session.{Course, StationState}
 
 -- the opening of a journal of tracks, a room of tracks, and what a station's pass knows
 abbrev pub TrackOpening : Type 0
-TrackOpening = RoomOpening Editor TrackState
+TrackOpening = RoomOpening CutObject KeptTrack
 
 abbrev pub TrackRoom : Type 0
-TrackRoom = Opened Editor TrackState
+TrackRoom = Opened CutObject KeptTrack
 
 abbrev pub TrackPass : Type 0
-TrackPass = Known Editor TrackState Call
+TrackPass = Known CutObject KeptTrack CutStep
 
 abbrev pub known_by : Option TrackPass → History
 known_by None = []
@@ -33,7 +30,7 @@ abbrev pub station_of : Option TrackPass → ℕ
 station_of None = 0
 station_of (Some pass) = pass.number
 
-abbrev pub or_opening : List TrackState → Option (List TrackState) → List TrackState
+abbrev pub or_opening : List KeptTrack → Option (List KeptTrack) → List KeptTrack
 or_opening opening None = opening
 or_opening opening (Some tracks) = tracks
 
@@ -42,15 +39,15 @@ abbrev pub opened_with : TrackOpening → ℕ → TrackRoom
 opened_with opening stations = record { object = opening.0; parts = opening.1; stations = stations }
 
 -- the tracks that these entries come to
-abbrev pub tracks_at : TrackRoom → History → List TrackState
-tracks_at room h = or_opening room.parts (replay (whole (editing room.object.table)) room.parts h)
+abbrev pub tracks_at : TrackRoom → History → List KeptTrack
+tracks_at room h = or_opening room.parts (replay (whole (stepping room.object.object.table)) room.parts h)
 
 -- how far a station has come that knows these entries, so many of which are kept
-abbrev pub course_at : TrackRoom → History → ℕ → ℕ → Course (List TrackState) Call
+abbrev pub course_at : TrackRoom → History → ℕ → ℕ → Course (List KeptTrack) CutStep
 course_at room h held line = record { opening = room.parts; state = tracks_at room h; journal = h; held = held; line = line }
 
 abbrev pub setting_at : TrackRoom → Counted → ℕ → Setting
-setting_at room counting start = record { table = room.object.table; counting = counting; start = start }
+setting_at room counting start = record { table = room.object.object.table; counting = counting; start = start }
 
 -- what a session knows of what keeps its room's journal: how many entries are kept, and how many failures were counted
 pub record Holding : Type 0 where
@@ -68,7 +65,7 @@ session_at room pass counting start holding line = record {
 
 -- a legal history of the room's opening
 abbrev pub IsLegalThere : TrackRoom → History → Type 0
-IsLegalThere room h = IsLegal (whole (editing room.object.table)) room.parts h
+IsLegalThere room h = IsLegal (whole (stepping room.object.object.table)) room.parts h
 
 -- A pass with which a session can begin there: it knows the entries that were kept, its station has none behind them, the
 -- base is the last number of the station, and the station's entries can be written.

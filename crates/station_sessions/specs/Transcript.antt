@@ -5,13 +5,14 @@ use Rattle.line_words.specs.Lines.{Line as InputLine}
 use Rattle.room_core.specs.declared.entry.Entry.{Entry}
 use Rattle.room_core.specs.History.{answer_in, replay, most_entries}
 
--- what a line asks for: a call, a question, the point, the document of a point, or nothing of the protocol, where this
--- is its reply
+-- what a line asks for: a call, a question, the point, the document of a point, the entry at a place, or nothing of the
+-- protocol, where this is its reply
 pub data Wish (C Q : Type 0) : Type 0 where
   Do : C → Wish C Q
   See : Q → Wish C Q
   Point : Wish C Q
   Write : ℕ → Wish C Q
+  News : ℕ → Wish C Q
   Bad : List ℕ → Wish C Q
 
 -- A protocol over states S: what a call does and a question sees, what a line asks for and whether it may find no
@@ -24,8 +25,11 @@ pub record Protocol (S C D R Q X Y : Type 0) : Type 0 where
   pub answer_text : ℕ → Result D R → List ℕ
   pub full_text : List ℕ
   pub sight_text : ℕ → Result X Y → List ℕ
-  -- the reply with the document of a state, which stands after so many entries, and where there are only so many entries
+  -- the reply with the document of a state, which stands after so many entries
   pub document_text : ℕ → S → List ℕ
+  -- the reply with the entry at a place, where there is one, of so many
+  pub news_text : ℕ → ℕ → Option (Entry C) → List ℕ
+  -- the reply where there are only so many entries
   pub no_point_text : ℕ → List ℕ
 
 -- no entry bears this line's number and its station
@@ -97,6 +101,15 @@ module _ {S C D R Q X Y : Type 0} (k : Protocol S C D R Q X Y) (o : S) (h : List
       pub after_is : after ≡ max told n
       pub points_are : points ≡ []
 
+    -- the entry is the one at the place asked for, where so many entries have one there
+    pub record IsNews (place n : ℕ) : Type 0 where
+      pub told_of : told ≤ n
+      pub within : n ≤ length h
+      pub place_within : place ≤ n
+      pub reply_is : reply ≡ k.news_text place n (slice_get (take n h) place)
+      pub after_is : after ≡ n
+      pub points_are : points ≡ []
+
     -- there are fewer entries than were asked for
     pub record IsPastEnd (asked n : ℕ) : Type 0 where
       pub told_of : told ≤ n
@@ -125,6 +138,7 @@ module _ {S C D R Q X Y : Type 0} (k : Protocol S C D R Q X Y) (o : S) (h : List
     Answered (See q) = (n : ℕ) × (s : Result X Y) × IsSeen q n s
     Answered Point = (n : ℕ) × IsPoint n
     Answered (Write n) = ((s : S) × IsDocument n s) ⊎ ((at : ℕ) × IsPastEnd n at)
+    Answered (News place) = ((n : ℕ) × IsNews place n) ⊎ ((at : ℕ) × IsPastEnd place at)
     Answered (Bad text) = IsBad text
 
     abbrev pub Row : InputLine → Type 0

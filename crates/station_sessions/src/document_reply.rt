@@ -4,9 +4,10 @@ ghost use Rattle.otio_text.specs.Documents.{timeline_text};
 ghost use Rattle.station_sessions.specs.DocumentReplies.{document_reply, no_point_reply};
 ghost use Rattle.station_sessions.specs.Session.{IsCutReply, IsReplyIfMemory};
 
-use call_text::Short;
+use call_text::{CutObject, CutPart, Short};
 use composables::{Memory, Table, Track};
 use cut_room::CutFault;
+use cut_steps::nows_of;
 use otio_json::{WriteFault, write_timeline};
 use reply_text::Reply;
 use std::alloc::Global;
@@ -17,16 +18,21 @@ use timecode12::Counting;
 pub(crate) fn cut_reply(
     alloc: Global,
     n: u32,
-    table: &Table,
-    cut: Result<Vec<Track>, CutFault>,
+    object: &CutObject,
+    cut: Result<Vec<CutPart>, CutFault>,
     counting: &Counting,
     start: u32,
 ) -> (Reply, u32)
-    ensures { IsCutReply (record { table = table.now; counting = counting.now; start = start })
+    ensures { IsCutReply (record { table = object.now.object.table; counting = counting.now; start = start })
         n cut result.0 result.1 }
 {
     match cut {
-        Ok(tracks) => document_reply(alloc, n, table, &tracks, counting, start),
+        Ok(parts) => match nows_of(alloc, &object.object, &parts) {
+            Ok(tracks) => {
+                document_reply(alloc, n, &object.object.table, &tracks, counting, start)
+            }
+            Err(_) => memory_reply(),
+        },
         Err(CutFault::NoPoint(length)) => (no_point_reply(length), length),
         Err(CutFault::Memory) => memory_reply(),
     }
@@ -56,14 +62,14 @@ fn document_reply(
 }
 
 /// The reply where there are only so many entries.
-fn no_point_reply(length: u32) -> Reply
+pub(crate) fn no_point_reply(length: u32) -> Reply
     ensures { result ≡ no_point_reply length }
 {
     Reply::short(refused_at(length, b" V3"))
 }
 
 /// The reply where there is no memory, which tells of no entry.
-fn memory_reply() -> (Reply, u32)
+pub(crate) fn memory_reply() -> (Reply, u32)
     ensures reply { result.0 ≡ codes "memory" }
     ensures tells { result.1 ≡ 0 }
 {

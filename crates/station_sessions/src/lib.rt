@@ -6,10 +6,13 @@
 //! there without an entry of the station.
 #![tactic(auto)]
 
+mod beginning;
 mod document_reply;
 pub mod laws;
+mod news_reply;
 mod serve;
 mod station;
 
+pub use beginning::begin_room;
 pub use serve::{End, Session, serve_session};
 pub use station::Setting;

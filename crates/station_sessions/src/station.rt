@@ -1,18 +1,20 @@
 // The session of one station in a room, and the answer to each of its lines.
 ghost use Rattle.std.specs.Prelude.{◌≡◌, ◌<◌, IfOk, IsSome, Some};
+ghost use Rattle.cut_steps.specs.CutSteps.{stepping};
 ghost use Rattle.reply_text.specs.Sights.{sight_text_of};
 ghost use Rattle.cut_room.specs.Rooms.{Edited};
-ghost use Rattle.edit_apply.specs.Apply.{editing};
 ghost use Rattle.edit_journal.specs.Turns.{last_of};
 ghost use Rattle.station_sessions.specs.Session.{IsSightReply, IsWithin, answer_tells, sight_tells};
 
 use crate::document_reply::cut_reply;
+use crate::news_reply::news_reply;
 use call_text::{
-    CutObject, CutPart, Line, LineFault, answer_text, fault_text, point_text, read_line, sight_text,
+    CutCall, CutObject, CutPart, Line, LineFault, answer_text, fault_text, point_text, read_line,
+    sight_text,
 };
 use composables::Memory;
 use cut_room::{Answer, KEPT_EVERY, Room, Sight};
-use edit_apply::{Ask, Call};
+use edit_apply::Ask;
 use edit_journal::{Naming, Pass};
 use line_words::LineEnd;
 use reply_text::Reply;
@@ -73,11 +75,12 @@ impl<'a, R: Wait, G: Gate, J: Naming<CutObject, CutPart>, P: Keeping<CutObject, 
     ghost use Rattle.std.specs.Prelude.{◌≡◌, ◌+◌, ◌<◌, ◌≤◌, ◌^◌, ◌++◌, IfErr, IfOk, OnOk, codes, length};
     ghost use Rattle.room_keepers.specs.Faults.{IsCounted};
     ghost use Rattle.line_words.specs.Told.{line_told};
-    ghost use Rattle.line_table.specs.CallTexts.{IsWritten, NamesWritten};
+    ghost use Rattle.line_table.specs.CallTexts.{IsWrittenStep, NamesWritten};
     ghost use Rattle.reply_text.specs.Replies.{fault_of};
     ghost use Rattle.station_sessions.specs.Rooms.{wish_in};
     ghost use Rattle.station_sessions.specs.Session.{HasGrown, HasHeld, IsMeant, RepliesTo, RepliesWith};
-    ghost use Rattle.station_sessions.specs.Transcript.{Bad, Do, Point, See, Write};
+    ghost use Rattle.station_sessions.specs.Transcript.{Bad, Do, News, Point, See, Write};
+    ghost use Rattle.take_back.specs.Steps.{asked_by};
 
     /// The station's pass, and what it took when it last asked for entries to be kept.
     pub(crate) fn into_parts(self) -> (Pass<CutObject, J>, Option<P::Taken>)
@@ -116,12 +119,15 @@ impl<'a, R: Wait, G: Gate, J: Naming<CutObject, CutPart>, P: Keeping<CutObject, 
         }
     }
 
-    fn reply_to_edit(&mut self, call: Call) -> (Reply, u32)
-        requires written { IsWritten call }
+    // The reply to an edit, or to the taking back of one, which the station itself asks for.
+    fn reply_to_edit(&mut self, step: CutCall) -> (Reply, u32)
+        requires written { IsWrittenStep step }
         requires line { self.old.course.line + 1 < 2 ^ 32 }
-        ensures { RepliesWith self.old self.new (Do call) result.0 result.1 }
+        ensures { RepliesWith self.old self.new (Do (asked_by self.old.station step))
+            result.0 result.1 }
     {
         let pass = taken(&mut self.pass);
+        let call = step.asked_by(pass.station());
         let (rt, room, gate) = (self.rt, self.room, self.gate);
         let (pass, answer) = edit_uncounted(rt, self.alloc, room, gate, pass, self.line, call);
         self.pass = Some(pass);
@@ -190,8 +196,20 @@ impl<'a, R: Wait, G: Gate, J: Naming<CutObject, CutPart>, P: Keeping<CutObject, 
         let (pass, cut) = self.room.cut_at(self.rt, self.alloc, pass, n);
         self.pass = Some(pass);
         self.line += 1;
-        let table = &self.room.object().table;
-        cut_reply(self.alloc, n, table, cut, &self.counting, self.start)
+        let object = self.room.object();
+        cut_reply(self.alloc, n, object, cut, &self.counting, self.start)
+    }
+
+    // The reply with the entry at a place.
+    fn reply_to_news(&mut self, n: u32) -> (Reply, u32)
+        requires { self.old.course.line + 1 < 2 ^ 32 }
+        ensures { RepliesWith self.old self.new (News n) result.0 result.1 }
+    {
+        let pass = taken(&mut self.pass);
+        let (pass, found) = self.room.entries(self.rt, self.alloc, pass, n, 1);
+        self.pass = Some(pass);
+        self.line += 1;
+        news_reply(self.alloc, n, found)
     }
 
     // The reply to a line that is none of the table.
@@ -217,14 +235,15 @@ impl<'a, R: Wait, G: Gate, J: Naming<CutObject, CutPart>, P: Keeping<CutObject, 
     fn reply_to(&mut self, read: Result<Line, LineFault>) -> (Reply, u32)
         requires written { IfOk read (λ line. NamesWritten line) }
         requires line { self.old.course.line + 1 < 2 ^ 32 }
-        ensures { RepliesWith self.old self.new (wish_in read) result.0 result.1 }
+        ensures { RepliesWith self.old self.new (wish_in self.old.station read) result.0 result.1 }
     {
         match read {
             Ok(line) => match line {
-                Line::Edit(call) => self.reply_to_edit(call),
+                Line::Edit(step) => self.reply_to_edit(step),
                 Line::Ask(ask) => self.reply_to_ask(&ask),
                 Line::Point => self.reply_to_point(),
                 Line::Otio(n) => self.reply_to_otio(n),
+                Line::News(n) => self.reply_to_news(n),
             },
             Err(fault) => self.reply_to_none(&fault),
         }
@@ -250,11 +269,11 @@ fn edit_counted<R: Wait, G: Gate, J: Naming<CutObject, CutPart>, L: Ledger>(
     gate: &G,
     pass: Pass<CutObject, J>,
     number: u32,
-    call: Call,
+    call: CutCall,
 ) -> (Pass<CutObject, J>, Answer<CutObject>)
     requires ledger { (ledger.name ≡ L.name) × (ledger.parts ≡ L.parts) × (0 < ledger.parts) }
     requires number { last_of pass.number pass.entries < number }
-    ensures { Edited (editing room.now.object.table) room.now.parts
+    ensures { Edited (stepping room.now.object.object.table) room.now.parts
         (record { station = pass.number; number = number; call = call }) pass result.0 result.1 }
 {
     let mut steps = Steps::<L>::new(ledger);
@@ -269,10 +288,10 @@ fn edit_uncounted<R: Wait, G: Gate, J: Naming<CutObject, CutPart>>(
     gate: &G,
     pass: Pass<CutObject, J>,
     number: u32,
-    call: Call,
+    call: CutCall,
 ) -> (Pass<CutObject, J>, Answer<CutObject>)
     requires { last_of pass.number pass.entries < number }
-    ensures { Edited (editing room.now.object.table) room.now.parts
+    ensures { Edited (stepping room.now.object.object.table) room.now.parts
         (record { station = pass.number; number = number; call = call }) pass result.0 result.1 }
 {
     edit_counted::<R, G, J, Brand>(Blank::new(1), rt, alloc, room, gate, pass, number, call)

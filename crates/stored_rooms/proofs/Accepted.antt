@@ -1,9 +1,6 @@
 -- A kept file that is accepted is refused for nothing.
 use Rattle.std.proofs.Common.{◌≡◌, ℕ, ◌<◌, ◌≤◌, ◌^◌, List, Option, Some, None, IfSome, IsSome, IsSomeAnd, length, ap, subst, arith}
-use Rattle.composables.specs.TrackState.{TrackState}
-use Rattle.composables.specs.declared.refusals.Done.{Done}
-use Rattle.composables.specs.declared.refusals.Refusal.{Refusal}
-use Rattle.edit_apply.specs.Apply.{editing}
+use Rattle.cut_steps.specs.CutSteps.{KeptTrack, StepDone, StepRefusal, stepping, fresh_tracks}
 use Rattle.room_disks.specs.Crashes.{Course}
 use Rattle.journal_file.specs.Layout.{IsDamagedAt, Kept}
 use Rattle.journal_file.specs.Standing.{HasTooMany}
@@ -25,7 +22,7 @@ both_of P Q (Some x) (Some n) p told q = (x.now.reads, p, q)
 
 module _ (damaged : (bytes : List ℕ) (at : ℕ) (lines : List (List ℕ)) → IsDamagedAt bytes at → Kept bytes lines → ⊥)
     (one : (bytes : List ℕ) (lines others : List (List ℕ)) → Kept bytes lines → Kept bytes others → lines ≡ others)
-    (never : AreNotBoth TrackState Done Refusal) where
+    (never : AreNotBoth KeptTrack StepDone StepRefusal) where
   module _ (o : Opening) (stations : ℕ) (name : List ℕ) (before after : DiskTold) (a : IsAcceptedFile o stations name before after) where
     is_other : (Q : List ℕ → Type 0) → IfSome after.course (λ n. IsSomeAnd (before.file name) (λ x. Q x.now.reads))
         → (bytes : List ℕ) × ((length bytes ≤ 2 ^ 27) × Kept bytes a.records) × Q bytes
@@ -42,11 +39,11 @@ module _ (damaged : (bytes : List ℕ) (at : ℕ) (lines : List (List ℕ)) → 
         let same : length t.2.1.1.0 ≡ length a.records = ap length (one t.0 t.2.1.1.0 a.records t.2.1.1.1 t.1.1) in
         absurd (omega (arith, t.2.1.0, same, t.2.1.1.2, a.few))
     not_refused (refused.Record code number) r =
-        never (editing o.table) o.tracks stations a.records a.kept (made.Refused code number) a.are_kept
-        (subst (λ (rs : List (List ℕ)). RefusesRecord (editing o.table) o.tracks stations rs code number) (same_records r.0 r.1) r.2)
+        never (stepping o.table) (fresh_tracks o.tracks) stations a.records a.kept (made.Refused code number) a.are_kept
+        (subst (λ (rs : List (List ℕ)). RefusesRecord (stepping o.table) (fresh_tracks o.tracks) stations rs code number) (same_records r.0 r.1) r.2)
     not_refused (refused.NotApplied place) r =
-        never (editing o.table) o.tracks stations a.records a.kept (made.NotApplied place) a.are_kept
-        (subst (λ (rs : List (List ℕ)). RefusesEntry (editing o.table) o.tracks stations rs place) (same_records r.0 r.1) r.2)
+        never (stepping o.table) (fresh_tracks o.tracks) stations a.records a.kept (made.NotApplied place) a.are_kept
+        (subst (λ (rs : List (List ℕ)). RefusesEntry (stepping o.table) (fresh_tracks o.tracks) stations rs place) (same_records r.0 r.1) r.2)
 
   pub accepted : AcceptedAreNotRefused
   accepted o stations name before after refusal a r = not_refused o stations name before after a refusal r

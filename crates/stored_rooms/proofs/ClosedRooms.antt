@@ -3,11 +3,8 @@ use Rattle.std.proofs.Common.{◌≡◌, ◌≢◌, ℕ, ◌+◌, ◌<◌, ◌�
 use Rattle.std.proofs.lemmas.Bool.Decides.{nat_tests}
 use Rattle.std.proofs.lemmas.List.{map-append}
 use Rattle.std.proofs.lemmas.List.Elements.{All-cons, All-nil}
+use Rattle.cut_steps.specs.CutSteps.{CutObject, CutStep, KeptTrack, stepping}
 use Rattle.atomic_table.specs.Seated.{TableId}
-use Rattle.composables.specs.TrackState.{TrackState}
-use Rattle.edit_apply.specs.Apply.{editing}
-use Rattle.edit_apply.specs.declared.editor.Editor.{Editor}
-use Rattle.edit_calls.specs.declared.asks.Call.{Call}
 use Rattle.edit_journal.specs.Seats.{Agrees, Begins, In, Opening as RoomOpening}
 use Rattle.edit_journal.specs.declared.name.Name.TheVariants.{Station}
 use Rattle.room_core.specs.declared.entry.Entry.{Entry}
@@ -18,7 +15,7 @@ use Rattle.journal_file.specs.Layout.{Kept}
 use Rattle.journal_file.specs.Standing.{HoldsLines}
 use Rattle.kept_desk.specs.Desks.{ArePending, DeskState, IsDesk}
 use Rattle.kept_desk.proofs.Fronts.{front_more, front_stays, front_within, rest_within}
-use Rattle.line_table.specs.Journals.{entry_text}
+use Rattle.journal_text.specs.Journals.{entry_text}
 use Rattle.served_rooms.specs.Seated.{LeftState}
 use Rattle.served_rooms.proofs.Seating.{at_place, behind, one_more}
 use Rattle.served_rooms.proofs.Ending.{IsReader as ReadsOnly, all_in, closed_by}
@@ -97,17 +94,17 @@ module _ (n : ℕ) (known h : History) (goes_on : Begins h known) (within : n �
 not_none : (n m : ℕ) → 0 < n → n ≤ m → m ≢ 0
 not_none n m some most is = absurd (omega (arith, some, most, is))
 
-module _ {D : Type 0} (course : D → Option Course) (faults : D → ℕ) (opening : Option (RoomOpening Editor TrackState)) (table : TableId) (number : ℕ) (kept : History)
-    (begun : Option Course) (start : ℕ) (desk : DeskState D Editor TrackState Call)
-    (is : IsDesk (λ o. editing o.table) opening entry_text course faults table number kept begun start desk)
+module _ {D : Type 0} (course : D → Option Course) (faults : D → ℕ) (opening : Option (RoomOpening CutObject KeptTrack)) (table : TableId) (number : ℕ) (kept : History)
+    (begun : Option Course) (start : ℕ) (desk : DeskState D CutObject KeptTrack CutStep)
+    (is : IsDesk (λ o. stepping o.object.table) opening entry_text course faults table number kept begun start desk)
     (room : TrackRoom) (left : List LeftState) (passes : List TrackPass) (h : History) where
   pub closes_kept : number ≡ length left → ((k : ℕ) (l : LeftState) → slice_get left k ≡ Some l → l.pass.number ≡ k)
       → ((k : ℕ) (l : LeftState) → slice_get left k ≡ Some l → length kept ≤ desk.file.count → l.holding.held ≤ desk.file.count)
       → ((k : ℕ) (l : LeftState) → slice_get left k ≡ Some l → l.holding.failures ≤ desk.counts.failed)
       → passes ≡ map (λ (l : LeftState). l.pass) left ++ desk.pass ∷ []
-      → IsLegal (whole (editing room.object.table)) room.parts h
-      → All (λ (p : TrackPass). Agrees (editing room.object.table).names h (Station p.number) p.entries) passes
-      → All (λ (e : Entry Call). In e.station (map (λ (p : TrackPass). p.number) passes)) h
+      → IsLegal (whole (stepping room.object.object.table)) room.parts h
+      → All (λ (p : TrackPass). Agrees (stepping room.object.object.table).names h (Station p.number) p.entries) passes
+      → All (λ (e : Entry CutStep). In e.station (map (λ (p : TrackPass). p.number) passes)) h
       → ClosesKept course faults kept begun start room left desk.file.disk h desk.file.count
   closes_kept count numbers held failed are legal agree stations =
       record {
@@ -121,10 +118,10 @@ module _ {D : Type 0} (course : D → Option Course) (faults : D → ℕ) (openi
         was_told = is.was_told;
       }
     where
-      mine : Agrees (editing room.object.table).names h (Station desk.pass.number) desk.pass.entries
+      mine : Agrees (stepping room.object.object.table).names h (Station desk.pass.number) desk.pass.entries
       mine =
-          let all = subst (λ (ps : List TrackPass). All (λ (p : TrackPass). Agrees (editing room.object.table).names h (Station p.number) p.entries) ps) are agree in
-          at_place (λ (p : TrackPass). Agrees (editing room.object.table).names h (Station p.number) p.entries) (map (λ (l : LeftState). l.pass) left ++ desk.pass ∷ [])
+          let all = subst (λ (ps : List TrackPass). All (λ (p : TrackPass). Agrees (stepping room.object.object.table).names h (Station p.number) p.entries) ps) are agree in
+          at_place (λ (p : TrackPass). Agrees (stepping room.object.object.table).names h (Station p.number) p.entries) (map (λ (l : LeftState). l.pass) left ++ desk.pass ∷ [])
           (length (map (λ (l : LeftState). l.pass) left)) desk.pass all (behind (map (λ (l : LeftState). l.pass) left) desk.pass [])
 
       readers : All (ReadsOnly (length left) h) (desk.pass ∷ [])

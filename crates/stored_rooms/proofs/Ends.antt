@@ -1,7 +1,6 @@
 -- How serving the stations of a room ends that goes on from its kept file.
 use Rattle.std.proofs.Common.{◌≡◌, ℕ, ◌≤◌, inl, inr, List, Option, Some, length, slice_get, refl, ap, subst, arith}
-use Rattle.edit_apply.specs.Apply.{editing}
-use Rattle.composables.specs.TrackState.{TrackState}
+use Rattle.cut_steps.specs.CutSteps.{KeptTrack, stepping}
 use Rattle.composables.specs.declared.media.Table.{Table}
 use Rattle.room_disks.specs.Crashes.{Course}
 use Rattle.room_halls.specs.Stations.{HallTold, OpensAt}
@@ -73,16 +72,16 @@ module _ {D : Type 0} (file : D → List ℕ → Option Course) (course : D → 
 
 -- the room goes on from its file
 pub goes_on : (o : Opening) (stations : ℕ) (address name : List ℕ) (output : Change OutputTold) (hall : Change HallTold) (before after : DiskTold) (room : TrackRoom) (counting : Counted) (start : ℕ)
-    (kept : History) (records : List (List ℕ)) (status : Status) → IsRoomOf o room counting start → AreKept (editing room.object.table) room.parts stations records kept → output.Untouched
+    (kept : History) (records : List (List ℕ)) (status : Status) → IsRoomOf o room counting start → AreKept (stepping room.object.object.table) room.parts stations records kept → output.Untouched
     → DeskEnds o kept stations address name records before after hall.before hall.after status → StoredEnds o stations address name output hall before after status
 goes_on o stations address name output hall before after room counting start kept records status of are out ends =
-    let table : room.object.table ≡ o.table = ap (λ (s : Setting). s.table) of.setting in
+    let table : room.object.object.table ≡ o.table = ap (λ (s : Setting). s.table) of.setting in
     inl (record {
       kept = kept;
       from = record {
         records = records;
         had = ends.had;
-        are_kept = subst (λ (x : Table × List TrackState). AreKept (editing x.0) x.1 stations records kept) (λ i. (table i, of.tracks i)) are;
+        are_kept = subst (λ (x : Table × List KeptTrack). AreKept (stepping x.0) x.1 stations records kept) (λ i. (table i, of.tracks i)) are;
       };
       unwritten = out;
       ends = ends.ends;

@@ -1,8 +1,7 @@
 -- A kept file that is opened, and why it is refused.
 use Rattle.std.proofs.Common.{◌≡◌, ℕ, ◌<◌, ◌≤◌, ◌⊎◌, inl, inr, ◌^◌, List, Option, Some, None, IfSome, IsSomeAnd, IsSome, length, refl, ◌∙◌, ap, subst, arith}
-use Rattle.edit_apply.specs.Apply.{editing}
+use Rattle.cut_steps.specs.CutSteps.{KeptTrack, stepping}
 use Rattle.composables.specs.declared.media.Table.{Table}
-use Rattle.composables.specs.TrackState.{TrackState}
 use Rattle.room_disks.specs.Crashes.{Course, Since, Stand, Stays, Told, Within}
 use Rattle.room_halls.specs.Stations.{HallTold}
 use Rattle.room_ports.specs.Counts.{HasRisen}
@@ -118,26 +117,26 @@ module _ (o : Opening) (stations : ℕ) (address name : List ℕ) (output : Chan
 
     -- its records are not made entries again
     pub unmade_ends : (room : TrackRoom) (counting : Counted) (start : ℕ) → IsRoomOf o room counting start → (fault : KeptFault) (status : Status)
-        → IsKeptFault (editing room.object.table) room.parts stations records fault → UnmadeEnds fault output status
+        → IsKeptFault (stepping room.object.object.table) room.parts stations records fault → UnmadeEnds fault output status
         → StoredEnds o stations address name output hall before after status
     unmade_ends room counting start of (made.Refused code number) status fault e =
-        let table : room.object.table ≡ o.table = ap (λ (s : Setting). s.table) of.setting in
+        let table : room.object.object.table ≡ o.table = ap (λ (s : Setting). s.table) of.setting in
         inr (
           same,
           inl (record {
             refusal = refused.Record code number;
-            refused = (records, had, subst (λ (x : Table × List TrackState). RefusesRecord (editing x.0) x.1 stations records code number) (λ i. (table i, of.tracks i)) fault);
+            refused = (records, had, subst (λ (x : Table × List KeptTrack). RefusesRecord (stepping x.0) x.1 stations records code number) (λ i. (table i, of.tracks i)) fault);
             stays = stays;
             put = e;
           }),
         )
     unmade_ends room counting start of (made.NotApplied place) status fault e =
-        let table : room.object.table ≡ o.table = ap (λ (s : Setting). s.table) of.setting in
+        let table : room.object.object.table ≡ o.table = ap (λ (s : Setting). s.table) of.setting in
         inr (
           same,
           inl (record {
             refusal = refused.NotApplied place;
-            refused = (records, had, subst (λ (x : Table × List TrackState). RefusesEntry (editing x.0) x.1 stations records place) (λ i. (table i, of.tracks i)) fault);
+            refused = (records, had, subst (λ (x : Table × List KeptTrack). RefusesEntry (stepping x.0) x.1 stations records place) (λ i. (table i, of.tracks i)) fault);
             stays = stays;
             put = e;
           }),

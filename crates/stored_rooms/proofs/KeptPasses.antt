@@ -1,9 +1,6 @@
 -- Passes of stations whose room goes on from the records of a kept file.
 use Rattle.std.proofs.Common.{◌≡◌, ℕ, max, ◌≤◌, Bool, true, false, cond, ◌==◌, List, [], ◌∷◌, ◌++◌, fold, drop, length, map, Option, Some, refl, sym, subst, arith}
-use Rattle.composables.specs.TrackState.{TrackState}
-use Rattle.edit_apply.specs.Apply.{editing}
-use Rattle.edit_apply.specs.declared.editor.Editor.{Editor}
-use Rattle.edit_calls.specs.declared.asks.Call.{Call}
+use Rattle.cut_steps.specs.CutSteps.{CutObject, CutStep, KeptTrack, stepping}
 use Rattle.edit_journal.specs.Seats.{Opening as RoomOpening}
 use Rattle.edit_journal.specs.Turns.{last_of}
 use Rattle.room_core.specs.declared.entry.Entry.{Entry}
@@ -12,7 +9,7 @@ use Rattle.kept_desk.specs.Desks.{IsReader}
 use Rattle.kept_rooms.specs.Kept.{AreTaken}
 use Rattle.kept_rooms.specs.Rooms.{EachKnowsOwn, KnowsAll}
 use Rattle.kept_rooms.specs.declared.records.TheConstants.{LAST_NUMBER}
-use Rattle.line_table.specs.Journals.{HasLine, entry_text}
+use Rattle.journal_text.specs.Journals.{HasLine, entry_text}
 use Rattle.station_sessions.specs.Rooms.{AreWritten, History}
 use Rattle.station_sessions.specs.SessionInside.{TrackPass, TrackRoom}
 use Rattle.served_rooms.specs.Seated.{AreOrigins, CanAllBegin}
@@ -20,7 +17,7 @@ use Rattle.served_rooms.specs.Seated.{AreOrigins, CanAllBegin}
 -- ---- entries that were taken of records
 
 -- the entry has a line, and its station has numbers left
-pub record IsGoodEntry (e : Entry Call) : Type 0 where
+pub record IsGoodEntry (e : Entry CutStep) : Type 0 where
   pub has_line : HasLine e
   pub number : e.number ≤ LAST_NUMBER
 
@@ -41,15 +38,15 @@ taken_texts stations before [] (e ∷ es) t = absurd t
 taken_texts stations before (l ∷ ls) [] t = absurd t
 taken_texts stations before (l ∷ ls) (e ∷ es) t = λ i. t.0.text i ∷ taken_texts stations (before ++ e ∷ []) ls es t.1 i
 
-written_one : (b : Bool) (e : Entry Call) (own : History) → IsGoodEntry e → AreWritten own → AreWritten (cond b (e ∷ own) own)
-written_one true e own good w = ((good.has_line.number, good.has_line.call), w)
+written_one : (b : Bool) (e : Entry CutStep) (own : History) → IsGoodEntry e → AreWritten own → AreWritten (cond b (e ∷ own) own)
+written_one true e own good w = ((good.has_line.number, good.has_line.by, good.has_line.call), w)
 written_one false e own good w = w
 
 written_of : (s : ℕ) (es : History) → AreGoodEntries es → AreWritten (of_station s es)
 written_of s [] good = tt
 written_of s (e ∷ es) good = written_one (e.station == s) e (of_station s es) good.0 (written_of s es good.1)
 
-last_one : (b : Bool) (e : Entry Call) (own : History) (m : ℕ) → m ≤ LAST_NUMBER → e.number ≤ LAST_NUMBER
+last_one : (b : Bool) (e : Entry CutStep) (own : History) (m : ℕ) → m ≤ LAST_NUMBER → e.number ≤ LAST_NUMBER
     → ((k : ℕ) → k ≤ LAST_NUMBER → fold (λ m e. max m e.number) k own ≤ LAST_NUMBER) → fold (λ m e. max m e.number) m (cond b (e ∷ own) own) ≤ LAST_NUMBER
 last_one true e own m low number rest = rest (max m e.number) (omega (arith, low, number))
 last_one false e own m low number rest = rest m low
@@ -60,7 +57,7 @@ last_within s (e ∷ es) good m low = last_one (e.station == s) e (of_station s 
 
 -- ---- the passes
 
-module _ (room : TrackRoom) (kept : History) (good : AreGoodEntries kept) (passes : List TrackPass) (each : EachKnowsOwn (editing room.object.table) room.parts kept passes) where
+module _ (room : TrackRoom) (kept : History) (good : AreGoodEntries kept) (passes : List TrackPass) (each : EachKnowsOwn (stepping room.object.object.table) room.parts kept passes) where
   -- a session can begin with each of them
   pub can_begin : CanAllBegin room passes
   can_begin k p at =
@@ -86,6 +83,6 @@ module _ (room : TrackRoom) (kept : History) (good : AreGoodEntries kept) (passe
       )
 
 -- the pass of the desk
-pub is_reader : (room : TrackRoom) (opening : Option (RoomOpening Editor TrackState)) (kept : History) (p : TrackPass) → opening ≡ Some (room.object, room.parts)
-    → KnowsAll (editing room.object.table) room.parts kept p → IsReader (λ o. editing o.table) opening p
+pub is_reader : (room : TrackRoom) (opening : Option (RoomOpening CutObject KeptTrack)) (kept : History) (p : TrackPass) → opening ≡ Some (room.object, room.parts)
+    → KnowsAll (stepping room.object.object.table) room.parts kept p → IsReader (λ o. stepping o.object.table) opening p
 is_reader room opening kept p is knows = record { own = knows.own; legal = ((room.object, room.parts), is, knows.legal) }

@@ -2,7 +2,7 @@
 -- of it.
 use Rattle.std.specs.Prelude.{◌≡◌, ◌⊎◌, ℕ, ◌≤◌, ◌<◌, ◌^◌, List, length, map, take, IfSome, IsSome, codes}
 use Rattle.std.specs.Option.{IsSomeAnd}
-use Rattle.edit_apply.specs.Apply.{editing}
+use Rattle.cut_steps.specs.CutSteps.{stepping, fresh_tracks}
 use Rattle.room_disks.specs.Crashes.{Course, Told, Within}
 use Rattle.room_ports.specs.Counts.{HasRisen}
 use Rattle.room_keepers.specs.declared.fault.KeepFault.{KeepFault}
@@ -12,7 +12,7 @@ use Rattle.journal_file.specs.Standing.{HasTooMany, KeepsRecords}
 use Rattle.kept_rooms.specs.Kept.{AreKept, RefusesRecord, RefusesEntry}
 use Rattle.kept_rooms.specs.declared.fault.RecordCode.{RecordCode}
 use Rattle.kept_rooms.specs.declared.fault.RecordCode.TheVariants.{H1, H4, H6, H7}
-use Rattle.line_table.specs.Journals.{entry_text}
+use Rattle.journal_text.specs.Journals.{entry_text}
 use Rattle.command_files.specs.Ports.{DiskTold}
 use Rattle.command_files.specs.Texts.{refusal_text}
 use Rattle.otio_json.specs.declared.opening.Opening.{Opening}
@@ -35,7 +35,7 @@ module _ (o : Opening) (stations : ℕ) (name : List ℕ) (before after : DiskTo
   pub record GoesOnFrom (kept : History) : Type 0 where
     pub records : List (List ℕ)
     pub had : HadRecords records
-    pub are_kept : AreKept (editing o.table) o.tracks stations records kept
+    pub are_kept : AreKept (stepping o.table) (fresh_tracks o.tracks) stations records kept
 
   -- The file is refused for this. It has more than 128 MiB, or is damaged at a place, or has more than 100,000 records; else
   -- the first record that fails is no entry that may come next, or one that does not apply.
@@ -44,9 +44,9 @@ module _ (o : Opening) (stations : ℕ) (name : List ℕ) (before after : DiskTo
   IsRefusedFile (Damaged at) = FileTold name before after (λ bytes new. (length bytes ≤ 2 ^ 27) × IsDamagedAt bytes at)
   IsRefusedFile (TooMany count) = FileTold name before after (λ bytes new. (length bytes ≤ 2 ^ 27) × HasTooMany bytes count)
   IsRefusedFile (Record code number) =
-      (records : List (List ℕ)) × HadRecords records × RefusesRecord (editing o.table) o.tracks stations records code number
+      (records : List (List ℕ)) × HadRecords records × RefusesRecord (stepping o.table) (fresh_tracks o.tracks) stations records code number
   IsRefusedFile (NotApplied place) =
-      (records : List (List ℕ)) × HadRecords records × RefusesEntry (editing o.table) o.tracks stations records place
+      (records : List (List ℕ)) × HadRecords records × RefusesEntry (stepping o.table) (fresh_tracks o.tracks) stations records place
 
   -- The disk tells the file, and goes on telling it. It has at most 128 MiB and at most 100,000 records, which are entries
   -- that all apply.
@@ -55,7 +55,7 @@ module _ (o : Opening) (stations : ℕ) (name : List ℕ) (before after : DiskTo
     pub kept : History
     pub had : IsSomeAnd (before.file name) (λ old. (length old.now.reads ≤ 2 ^ 27) × Kept old.now.reads records)
     pub few : length records ≤ 100000
-    pub are_kept : AreKept (editing o.table) o.tracks stations records kept
+    pub are_kept : AreKept (stepping o.table) (fresh_tracks o.tracks) stations records kept
     pub still_told : IsSome after.course
 
 -- such a file is refused for nothing

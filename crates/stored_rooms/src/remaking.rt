@@ -1,7 +1,7 @@
 // A room whose first entries are those of its kept file, and that is served from there on.
 ghost use Rattle.std.specs.Prelude.{◌≡◌, ◌+◌, ◌<◌, ◌≤◌, [], ℕ, List, None, Some, length, map};
+ghost use Rattle.cut_steps.specs.CutSteps.{stepping};
 ghost use Rattle.command_files.specs.Ports.{DiskTold, disk_told};
-ghost use Rattle.edit_apply.specs.Apply.{editing};
 ghost use Rattle.edit_journal.specs.Turns.{AreFresh};
 ghost use Rattle.journal_file.specs.Standing.{StandsFor};
 ghost use Rattle.kept_rooms.specs.Kept.{AreKept};
@@ -79,13 +79,13 @@ fn serve_filed<
     requires room { J.opening ≡ Some (room.object, room.parts) }
     requires stations { room.stations ≡ length remade.passes.items + 1 }
     requires few { length remade.passes.items ≤ 16 }
-    requires entries { (records : List (List ℕ)) × AreKept (editing room.object.table) room.parts
+    requires entries { (records : List (List ℕ)) × AreKept (stepping room.object.object.table) room.parts
         (length remade.passes.items) records remade.entries.items
         × StandsFor D.course counted.file records }
-    requires reader { KnowsAll (editing room.object.table) room.parts remade.entries.items
+    requires reader { KnowsAll (stepping room.object.object.table) room.parts remade.entries.items
         remade.reader }
     requires number { remade.reader.number ≡ length remade.passes.items }
-    requires passes { EachKnowsOwn (editing room.object.table) room.parts remade.entries.items
+    requires passes { EachKnowsOwn (stepping room.object.object.table) room.parts remade.entries.items
         remade.passes.items }
     requires settled { counted.file.pending ≡ None }
     requires clerk { counted.clerk
@@ -138,13 +138,13 @@ pub(crate) fn serve_remade<
     requires room { J.opening ≡ Some (room.object, room.parts) }
     requires stations { room.stations ≡ length remade.passes.items + 1 }
     requires few { length remade.passes.items ≤ 16 }
-    requires entries { (records : List (List ℕ)) × AreKept (editing room.object.table) room.parts
+    requires entries { (records : List (List ℕ)) × AreKept (stepping room.object.object.table) room.parts
         (length remade.passes.items) records remade.entries.items
         × StandsFor D.course file records }
-    requires reader { KnowsAll (editing room.object.table) room.parts remade.entries.items
+    requires reader { KnowsAll (stepping room.object.object.table) room.parts remade.entries.items
         remade.reader }
     requires number { remade.reader.number ≡ length remade.passes.items }
-    requires passes { EachKnowsOwn (editing room.object.table) room.parts remade.entries.items
+    requires passes { EachKnowsOwn (stepping room.object.object.table) room.parts remade.entries.items
         remade.passes.items }
     requires settled { file.pending ≡ None }
     requires most { file.count ≤ 100000 }

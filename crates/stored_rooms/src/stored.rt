@@ -17,7 +17,6 @@ use crate::remaking::{serve_remade, without_reader};
 use call_text::{CutObject, CutPart};
 use command_files::Status;
 use cut_room::{Room, RoomBlank};
-use edit_apply::Editor;
 use edit_journal::{Naming, Pass};
 use kept_rooms::make_again;
 use otio_json::Opening;
@@ -25,7 +24,7 @@ use room_disks::Disk;
 use room_halls::Hall;
 use room_ports::{Gate, Sink};
 use served_rooms::Venue;
-use station_sessions::Setting;
+use station_sessions::{Setting, begin_room};
 use std::alloc::Global;
 use std::marker::Brand;
 use std::sync::Wait;
@@ -148,16 +147,8 @@ fn store_file<R: Threads + Wait + Sync, D: Disk + Send + Drop, K: Sink, H: Hall,
         (change H.told hall.old hall.new) before (disk_told D.file D.course D.faults result.1)
         result.0 }
 {
-    let Opening {
-        table,
-        tracks,
-        counting,
-        start,
-    } = opening;
-    let setting = Setting { counting, start };
-    let (object, tracks) = (Editor { table }, tracks.into_vec());
-    let blank = match RoomBlank::new(alloc, object, tracks, place.stations + 1) {
-        Ok(blank) => blank,
+    let (blank, setting) = match begin_room(alloc, opening, place.stations + 1) {
+        Ok(begun) => begun,
         Err(_) => return (Status::OutOfMemory, opened.file.close()),
     };
     store_blank::<R, D, K, H, G, Brand>(

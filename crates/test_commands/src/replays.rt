@@ -4,19 +4,21 @@ ghost use Rattle.otio_json.specs.Soundness.{IsSoundOpening};
 
 use call_text::read_journal;
 use composables::Track;
-use edit_apply::{Call, Editor};
+use cut_steps::{CutCall, fresh_parts, nows_of};
+use edit_apply::Editor;
 use history_points::{ReplayFault, replay};
 use otio_json::{Opening, read_timeline};
 use room_core::Entry;
 use std::alloc::Global;
 use std::test::Fail;
+use take_back::Backed;
 use timecode12::{Counting, SequenceRate};
 
 // What the first `n` entries come to from this opening, or the first that does not apply.
 fn replayed(
     alloc: Global,
     opening: Opening,
-    entries: &[Entry<Call>],
+    entries: &[Entry<CutCall>],
     n: u32,
 ) -> Result<Vec<Track>, ReplayFault>
     requires sound { IsSoundOpening opening }
@@ -30,12 +32,20 @@ fn replayed(
         counting: _,
         start: _,
     } = opening;
-    let tracks = tracks.into_vec();
-    replay(alloc, &Editor { table }, &tracks, entries, n)
+    let object = Backed {
+        object: Editor { table },
+    };
+    let parts = fresh_parts(alloc, tracks.into_vec())?;
+    let cut = replay(alloc, &object, &parts, entries, n)?;
+    Ok(nows_of(alloc, &object.object, &cut)?)
 }
 
 // The tracks that the first n entries come to, from a plain opening of two tracks and one reel.
-fn plain_replayed(alloc: Global, entries: &[Entry<Call>], n: u32) -> Result<Vec<Track>, ReplayFault>
+fn plain_replayed(
+    alloc: Global,
+    entries: &[Entry<CutCall>],
+    n: u32,
+) -> Result<Vec<Track>, ReplayFault>
     requires within { n ≤ length entries.now }
     requires most { n ≤ 100000 }
 {
@@ -53,7 +63,7 @@ fn plain_replayed(alloc: Global, entries: &[Entry<Call>], n: u32) -> Result<Vec<
 pub(crate) fn replayed_document(
     alloc: Global,
     document: &[u8],
-    entries: &[Entry<Call>],
+    entries: &[Entry<CutCall>],
 ) -> Option<Vec<Track>> {
     let counting = Counting::new(SequenceRate::F24, false)?;
     match read_timeline(alloc, document, &counting) {

@@ -6,7 +6,8 @@ use crate::turns::{Hold, Until};
 use call_text::{read_journal, sight_text};
 use composables::{Listed, Track};
 use cut_room::Sight;
-use edit_apply::{Editor, Seen};
+use cut_steps::CutObject;
+use edit_apply::Seen;
 use room_files::MemFiles;
 use std::alloc::Global;
 use std::sync::Wait;
@@ -215,7 +216,7 @@ fn serial_of(alloc: Global, rows: &[Row<'_>]) -> Result<Serial, Fail> {
 // What `items` is answered of a track after so many entries.
 fn items_text(alloc: Global, track: &Track, point: u32) -> Result<String, Fail> {
     let items = Listed::from_vec(track.items(alloc).ok().ok_or("items")?);
-    let sight: Sight<Editor> = Sight::Seen {
+    let sight: Sight<CutObject> = Sight::Seen {
         point,
         seen: Seen::Items(items),
     };

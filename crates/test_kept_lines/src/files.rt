@@ -4,8 +4,7 @@ ghost use Rattle.kept_desk.specs.Desks.{IsReader};
 ghost use Rattle.test_kept_lines.specs.NewFiles.{IsNew};
 
 use append_receipts::{Clerk, Receipts};
-use composables::Track;
-use edit_apply::{Call, Editor};
+use cut_steps::{CutCall, CutObject, CutPart};
 use edit_journal::{Naming, Pass};
 use journal_file::JournalFile;
 use kept_desk::{Desk, Filing, KeptDesk};
@@ -14,7 +13,7 @@ use room_core::PartObject;
 use room_disks::Disk;
 use std::alloc::Global;
 
-pub type Shared<D, J, K> = KeptDesk<D, Editor, J, K, CutLines>;
+pub type Shared<D, J, K> = KeptDesk<D, CutObject, J, K, CutLines>;
 
 // An open file without records, and its receipts.
 #[derive(Drop)]
@@ -41,12 +40,12 @@ pub fn new_file<D: Disk + Drop>(alloc: Global, disk: D) -> Option<NewFile<D>>
 }
 
 // A desk over such a file, of a room that has no entry yet.
-pub fn desk_of<D: Disk, J: Naming<Editor, Track>, K: Filing<Call>>(
+pub fn desk_of<D: Disk, J: Naming<CutObject, CutPart>, K: Filing<CutCall>>(
     new: NewFile<D>,
-    pass: Pass<Editor, J>,
+    pass: Pass<CutObject, J>,
 ) -> Shared<D, J, K>
     requires new { IsNew D.course new.file new.receipts new.clerk }
-    requires reader { IsReader ⟦<Editor as PartObject>⟧.meaning J.opening pass }
+    requires reader { IsReader ⟦<CutObject as PartObject>⟧.meaning J.opening pass }
     requires table { K.table ≡ new.receipts }
     requires kept { K.kept ≡ [] }
     requires number { K.reader ≡ pass.number }

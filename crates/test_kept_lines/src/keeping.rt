@@ -5,9 +5,8 @@ ghost use Rattle.test_kept_lines.specs.NewFiles.{IsNew};
 
 use crate::files::{NewFile, Shared, desk_of, new_file};
 use crate::rooms::{blank_of, send, three_of};
-use composables::Track;
 use cut_room::{Room, RoomBlank};
-use edit_apply::{Call, Editor};
+use cut_steps::{CutCall, CutObject, CutPart};
 use edit_journal::{Naming, Pass};
 use kept_desk::Filing;
 use room_core::PartObject;
@@ -20,18 +19,18 @@ use std::test::Fail;
 use step_count::Steps;
 
 // The disk, after edits of two stations of a new room were kept.
-fn kept_by<D: Disk + Drop, J: Naming<Editor, Track>, K: Filing<Call>, R: Wait, L: Ledger>(
+fn kept_by<D: Disk + Drop, J: Naming<CutObject, CutPart>, K: Filing<CutCall>, R: Wait, L: Ledger>(
     rt: &R,
     alloc: Global,
-    room: &Room<Editor, J>,
-    one: Pass<Editor, J>,
-    two: Pass<Editor, J>,
-    last: Pass<Editor, J>,
+    room: &Room<CutObject, J>,
+    one: Pass<CutObject, J>,
+    two: Pass<CutObject, J>,
+    last: Pass<CutObject, J>,
     new: NewFile<D>,
     ledger: Blank,
 ) -> Option<D>
     requires room { J.opening ≡ Some (room.now.object, room.now.parts) }
-    requires reader { IsReader ⟦<Editor as PartObject>⟧.meaning J.opening last }
+    requires reader { IsReader ⟦<CutObject as PartObject>⟧.meaning J.opening last }
     requires new { IsNew D.course new.file new.receipts new.clerk }
     requires table { K.table ≡ new.receipts }
     requires number { K.reader ≡ last.number }
@@ -55,10 +54,10 @@ fn kept_by<D: Disk + Drop, J: Naming<Editor, Track>, K: Filing<Call>, R: Wait, L
 }
 
 // The same, of a room that is opened.
-fn kept<D: Disk + Drop, J: Naming<Editor, Track>, R: Wait>(
+fn kept<D: Disk + Drop, J: Naming<CutObject, CutPart>, R: Wait>(
     rt: &R,
     alloc: Global,
-    blank: RoomBlank<Editor>,
+    blank: RoomBlank<CutObject>,
     new: NewFile<D>,
 ) -> Option<D>
     requires journal { J.table ≡ blank.journal.table }
@@ -67,7 +66,7 @@ fn kept<D: Disk + Drop, J: Naming<Editor, Track>, R: Wait>(
     requires new { IsNew D.course new.file new.receipts new.clerk }
     requires three { blank.stations ≡ 3 }
 {
-    let (room, passes) = Room::<Editor, J>::open(alloc, blank).ok()?;
+    let (room, passes) = Room::<CutObject, J>::open(alloc, blank).ok()?;
     let (one, two, last) = three_of(&room, passes)?;
     let ledger = Blank::new(1);
     kept_by::<D, J, Brand, R, Brand>(rt, alloc, &room, one, two, last, new, ledger)
@@ -76,7 +75,7 @@ fn kept<D: Disk + Drop, J: Naming<Editor, Track>, R: Wait>(
 fn kept_once<D: Disk + Drop, R: Wait>(
     rt: &R,
     alloc: Global,
-    blank: RoomBlank<Editor>,
+    blank: RoomBlank<CutObject>,
     new: NewFile<D>,
 ) -> Option<D>
     requires new { IsNew D.course new.file new.receipts new.clerk }

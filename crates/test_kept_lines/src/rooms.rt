@@ -3,8 +3,9 @@ ghost use Rattle.std.specs.Prelude.{◌≡◌, Some, IfOk, IfSome};
 ghost use Rattle.edit_journal.specs.Turns.{AreFresh};
 ghost use Rattle.kept_desk.specs.Desks.{IsReader};
 
-use composables::{Memory, Track};
+use composables::Memory;
 use cut_room::{Room, RoomBlank};
+use cut_steps::{CutObject, CutPart, fresh_parts};
 use edit_apply::Editor;
 use edit_journal::{Naming, Pass};
 use line_table::{Line, read_line};
@@ -15,10 +16,11 @@ use std::alloc::Global;
 use std::sync::Wait;
 use std::sync::ledger::Ledger;
 use step_count::Steps;
+use take_back::Backed;
 use timecode12::{Counting, SequenceRate};
 
 // Two empty tracks and a reel, for two stations and one that stays with the file.
-pub fn blank_of(alloc: Global) -> Result<RoomBlank<Editor>, Memory>
+pub fn blank_of(alloc: Global) -> Result<RoomBlank<CutObject>, Memory>
     ensures { IfOk result (λ b. b.stations ≡ 3) }
 {
     let Opening {
@@ -27,17 +29,21 @@ pub fn blank_of(alloc: Global) -> Result<RoomBlank<Editor>, Memory>
         counting: _,
         start: _,
     } = Opening::plain(alloc, 2, 1)?;
-    RoomBlank::new(alloc, Editor { table }, tracks.into_vec(), 3)
+    let parts = fresh_parts(alloc, tracks.into_vec())?;
+    let object = Backed {
+        object: Editor { table },
+    };
+    RoomBlank::new(alloc, object, parts, 3)
 }
 
 // The passes of three stations, of which the last has read nothing and has no entry.
-pub fn three_of<J: Naming<Editor, Track>>(
-    room: &Room<Editor, J>,
-    passes: Vec<Pass<Editor, J>>,
-) -> Option<(Pass<Editor, J>, Pass<Editor, J>, Pass<Editor, J>)>
+pub fn three_of<J: Naming<CutObject, CutPart>>(
+    room: &Room<CutObject, J>,
+    passes: Vec<Pass<CutObject, J>>,
+) -> Option<(Pass<CutObject, J>, Pass<CutObject, J>, Pass<CutObject, J>)>
     requires fresh { AreFresh J.opening 3 passes.items }
     requires room { J.opening ≡ Some (room.now.object, room.now.parts) }
-    ensures { IfSome result (λ r. IsReader ⟦<Editor as PartObject>⟧.meaning J.opening r.2) }
+    ensures { IfSome result (λ r. IsReader ⟦<CutObject as PartObject>⟧.meaning J.opening r.2) }
 {
     let _ = room;
     let mut passes = passes;
@@ -48,14 +54,14 @@ pub fn three_of<J: Naming<Editor, Track>>(
 }
 
 // Has a station send a line, under the number that follows its last. A line that says no edit changes nothing.
-pub fn send<J: Naming<Editor, Track>, R: Wait, L: Ledger>(
+pub fn send<J: Naming<CutObject, CutPart>, R: Wait, L: Ledger>(
     rt: &R,
     alloc: Global,
-    room: &Room<Editor, J>,
-    pass: Pass<Editor, J>,
+    room: &Room<CutObject, J>,
+    pass: Pass<CutObject, J>,
     line: &str,
     steps: &mut Steps<L>,
-) -> Pass<Editor, J> {
+) -> Pass<CutObject, J> {
     let last = pass.last();
     let Some(number) = last.checked_add(1) else {
         return pass;

@@ -2,6 +2,9 @@
 use Rattle.std.proofs.Common.{◌≡◌, ℕ, ◌<◌, length, sym, subst, arith}
 use Rattle.std.proofs.lemmas.List.FromFn.{length-map-range_with_len}
 use Rattle.command_files.proofs.Openings.{sound_opens}
+use Rattle.cut_steps.proofs.Left.{can_open}
+use Rattle.cut_steps.specs.CutSteps.{fresh_tracks}
+use Rattle.take_back.specs.Parts.{CanOpen}
 use Rattle.edit_apply.specs.RoomTracks.{IsOpening}
 use Rattle.otio_json.specs.Openings.{empty_track, plain_opening}
 use Rattle.otio_json.specs.Soundness.{IsSoundOpening}
@@ -12,5 +15,5 @@ two_tracks o is =
     let some : 0 < length (plain_opening 2 1).tracks = omega (arith, length-map-range_with_len empty_track 0 2) in
     subst (λ (x : Opening). 0 < length x.tracks) (sym is) some
 
-pub two_open : (o : Opening) → o ≡ plain_opening 2 1 → IsSoundOpening o → IsOpening o.table o.tracks
-two_open o is sound = sound_opens o sound (two_tracks o is)
+pub two_open : (o : Opening) → o ≡ plain_opening 2 1 → IsSoundOpening o → CanOpen (IsOpening o.table) (fresh_tracks o.tracks)
+two_open o is sound = can_open o.table o.tracks (sound_opens o sound (two_tracks o is))

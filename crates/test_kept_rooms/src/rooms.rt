@@ -1,14 +1,15 @@
 // Rooms of two tracks that go on from kept files.
 ghost use Rattle.std.specs.Prelude.{◌≡◌, ◌≤◌, [], Some, IfOk, length};
-ghost use Rattle.composables.specs.TrackState.{TrackState};
 ghost use Rattle.edit_apply.specs.RoomTracks.{IsOpening};
-ghost use Rattle.edit_apply.specs.declared.editor.Editor.{Editor as EditorOf};
+ghost use Rattle.cut_steps.specs.CutSteps.{CutObject as CutObjectOf, KeptTrack};
+ghost use Rattle.take_back.specs.Parts.{CanOpen};
 ghost use Rattle.edit_journal.specs.Seats.{Opening as RoomOpening};
 ghost use Rattle.edit_journal.specs.Turns.{AreFresh};
 
 use crate::files::records_of;
-use composables::{Memory, Track};
+use composables::Memory;
 use cut_room::{Room, RoomBlank};
+use cut_steps::{CutObject, CutPart, fresh_parts};
 use edit_apply::Editor;
 use edit_journal::{Naming, Pass};
 use journal_file::Record;
@@ -18,15 +19,16 @@ use std::alloc::Global;
 use std::marker::Brand;
 use std::sync::Wait;
 use std::test::Fail;
+use take_back::Backed;
 
 // What is found of a room that has been made again: how many entries were kept, how many the room has,
 // and the last numbers of its two stations.
 type Found = (usize, u32, [u32; 2]);
 
-fn found<R: Wait, J: Naming<Editor, Track>>(
+fn found<R: Wait, J: Naming<CutObject, CutPart>>(
     rt: &R,
-    room: &Room<Editor, J>,
-    remade: Remade<Editor, J>,
+    room: &Room<CutObject, J>,
+    remade: Remade<CutObject, J>,
 ) -> Found {
     let Remade {
         entries,
@@ -44,9 +46,9 @@ fn found<R: Wait, J: Naming<Editor, Track>>(
 }
 
 // The passes of two stations, and that of the desk.
-fn without_desk<J: Naming<Editor, Track>>(
-    passes: Vec<Pass<Editor, J>>,
-) -> (Vec<Pass<Editor, J>>, Pass<Editor, J>)
+fn without_desk<J: Naming<CutObject, CutPart>>(
+    passes: Vec<Pass<CutObject, J>>,
+) -> (Vec<Pass<CutObject, J>>, Pass<CutObject, J>)
     requires { AreFresh J.opening 3 passes.items }
     ensures stations { AreFresh J.opening (length result.0.items) result.0.items }
     ensures two { length result.0.items ≡ 2 }
@@ -59,31 +61,31 @@ fn without_desk<J: Naming<Editor, Track>>(
     }
 }
 
-fn remade<R: Wait, J: Naming<Editor, Track>>(
+fn remade<R: Wait, J: Naming<CutObject, CutPart>>(
     rt: &R,
     alloc: Global,
-    blank: RoomBlank<Editor>,
+    blank: RoomBlank<CutObject>,
     records: &[Record],
 ) -> Result<Found, KeptFault>
     requires table { J.table ≡ blank.journal.table }
     requires opening { J.opening ≡ blank.journal.opening }
     requires stations { J.stations ≡ blank.journal.stations }
     requires three { blank.stations ≡ 3 }
-    requires opens { (o : RoomOpening EditorOf TrackState) × (blank.journal.opening ≡ Some o)
-        × IsOpening o.0.table o.1 }
+    requires opens { (o : RoomOpening CutObjectOf KeptTrack) × (blank.journal.opening ≡ Some o)
+        × CanOpen (IsOpening o.0.object.table) o.1 }
     requires within { length records.now ≤ 100000 }
 {
-    let (room, passes) = Room::<Editor, J>::open(alloc, blank)?;
+    let (room, passes) = Room::<CutObject, J>::open(alloc, blank)?;
     let (passes, reader) = without_desk(passes);
     let remade = make_again(rt, alloc, &room, passes, reader, records)?;
     Ok(found(rt, &room, remade))
 }
 
 // A room of two tracks without an item, for two stations and the desk.
-fn blank_of(alloc: Global) -> Result<RoomBlank<Editor>, Memory>
+fn blank_of(alloc: Global) -> Result<RoomBlank<CutObject>, Memory>
     ensures three { IfOk result (λ b. b.stations ≡ 3) }
-    ensures opens { IfOk result (λ b. (o : RoomOpening EditorOf TrackState)
-        × (b.journal.opening ≡ Some o) × IsOpening o.0.table o.1) }
+    ensures opens { IfOk result (λ b. (o : RoomOpening CutObjectOf KeptTrack)
+        × (b.journal.opening ≡ Some o) × CanOpen (IsOpening o.0.object.table) o.1) }
 {
     let Opening {
         table,
@@ -91,7 +93,11 @@ fn blank_of(alloc: Global) -> Result<RoomBlank<Editor>, Memory>
         counting: _,
         start: _,
     } = Opening::plain(alloc, 2, 1)?;
-    let blank = RoomBlank::new(alloc, Editor { table }, tracks.into_vec(), 3)?;
+    let parts = fresh_parts(alloc, tracks.into_vec())?;
+    let object = Backed {
+        object: Editor { table },
+    };
+    let blank = RoomBlank::new(alloc, object, parts, 3)?;
     Ok(blank)
 }
 

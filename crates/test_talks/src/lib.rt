@@ -5,6 +5,8 @@
 #[cfg(test)]
 mod answered;
 #[cfg(test)]
+mod backs;
+#[cfg(test)]
 mod links;
 #[cfg(test)]
 mod runs;

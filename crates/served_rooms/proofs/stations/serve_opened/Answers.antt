@@ -1,15 +1,14 @@
-use Rattle.std.proofs.Common.{ℕ, [], refl, subst}
+use Rattle.std.proofs.Common.{ℕ, [], subst}
 use Rattle.command_files.specs.Unopened.{AreQuiet}
 use Rattle.served_rooms.specs.Halls.{FileEnds, HallEnds, NeverFails}
 use Rattle.command_files.proofs.Openings.{sound_opens}
 use Rattle.served_rooms.proofs.stations.serve_opened.Goals as goal
 
-pub new-requires-clause-opens : goal.new-requires-clause-opens
-new-requires-clause-opens g c = rw c.into_vec.ensures (sound_opens c.args.opening c.requires.sound c.requires.some)
+pub begin_room-requires-clause-opens : goal.begin_room-requires-clause-opens
+begin_room-requires-clause-opens g c = sound_opens c.args.opening c.requires.sound c.requires.some
 
 pub serve_blank-requires-clause-opened : goal.serve_blank-requires-clause-opened
-serve_blank-requires-clause-opened g c κs within =
-    (c.args.opening, _, c.in-Ok.ensures.opening, record { opens = sound_opens c.args.opening c.requires.sound c.requires.some; setting = refl; tracks = c.into_vec.ensures })
+serve_blank-requires-clause-opened g c κs within = let room = c.in-Ok.ensures.room in (c.args.opening, room.0, room.1, rw c.in-Ok.ensures.stations room.2)
 
 pub returns : goal.returns
 returns g c =
@@ -17,5 +16,6 @@ returns g c =
     let now = g.F.Files.told c.serve_blank.new.files in
     let before = g.H.Hall.told c.args.hall.now in
     let after = g.H.Hall.told c.serve_blank.new.hall in
+    let room = c.in-Ok.ensures.room in
     subst (λ (n : ℕ). HallEnds c.args.opening [] n c.args.place.now.address.now NeverFails (λ h held status. FileEnds c.args.place.now.journal.now was now h status) (AreQuiet was now) before after c.serve_blank.result) c.in-Ok.ensures.stations
-    (c.serve_blank.ensures c.args.opening _ c.in-Ok.ensures.opening (record { opens = sound_opens c.args.opening c.requires.sound c.requires.some; setting = refl; tracks = c.into_vec.ensures }))
+    (c.serve_blank.ensures c.args.opening room.0 room.1 (rw c.in-Ok.ensures.stations room.2))

@@ -1,6 +1,6 @@
 use Rattle.std.proofs.Common.{ℕ, List, [], length, map, subst, sym, ap, ◌∙◌}
 use Rattle.journal_file.specs.Standing.{JournalState, StandsFor}
-use Rattle.line_table.specs.Journals.{entry_text}
+use Rattle.journal_text.specs.Journals.{entry_text}
 use Rattle.command_files.specs.Ports.{disk_told}
 use Rattle.station_sessions.specs.Rooms.{History}
 use Rattle.served_rooms.specs.Seated.{AreOrigins}

@@ -1,7 +1,8 @@
 use Rattle.std.proofs.Common.{◌≡◌, ℕ, List, length, subst, sym, ap, ◌∙◌, refl, arith}
-use Rattle.composables.specs.TrackState.{TrackState}
+use Rattle.cut_steps.proofs.Left.{can_open}
+use Rattle.cut_steps.specs.CutSteps.{KeptTrack, stepping}
+use Rattle.take_back.specs.Parts.{CanOpen}
 use Rattle.composables.specs.declared.media.Table.{Table}
-use Rattle.edit_apply.specs.Apply.{editing}
 use Rattle.edit_apply.specs.RoomTracks.{IsOpening}
 use Rattle.edit_journal.specs.Turns.{AreFresh}
 use Rattle.kept_rooms.specs.Kept.{AreKept, IsKeptFault}
@@ -24,7 +25,7 @@ pub make_again-requires-clause-opens : goal.make_again-requires-clause-opens
 make_again-requires-clause-opens g c =
     let b = c.requires.begins in
     let table = ap (λ (s : Setting). s.table) b.1.setting in
-    subst (λ (x : Table × List TrackState). IsOpening x.0 x.1) (λ i. (sym table i, sym b.1.tracks i)) b.1.opens
+    subst (λ (x : Table × List KeptTrack). CanOpen (IsOpening x.0) x.1) (λ i. (sym table i, sym b.1.tracks i)) (can_open b.0.table b.0.tracks b.1.opens)
 
 pub make_again-requires-clause-stations : goal.make_again-requires-clause-stations
 make_again-requires-clause-stations g c =
@@ -47,7 +48,7 @@ serve_remade-requires-clause-few g c κs within =
 pub serve_remade-requires-clause-entries : goal.serve_remade-requires-clause-entries
 serve_remade-requires-clause-entries g c κs within = (
   c.args.opened.records.items,
-  subst (λ (x : ℕ × List (List ℕ)). AreKept (editing c.args.room.object.table) c.args.room.parts x.0 x.1 c.in-Ok.remade.entries.items)
+  subst (λ (x : ℕ × List (List ℕ)). AreKept (stepping c.args.room.object.object.table) c.args.room.parts x.0 x.1 c.in-Ok.remade.entries.items)
       (λ i. (sym c.in-Ok.ensures.stations i, c.deref.ensures.value i)) c.in-Ok.ensures.entries,
   c.requires.stands,
 )
@@ -64,8 +65,8 @@ returns-in-Ok g c = λ o name before of is.
     let old = g.H.Hall.told c.args.hall.now in
     let new = g.H.Hall.told c.serve_remade.new.hall in
     let out = c.args.output.now in
-    let are : AreKept (editing c.args.room.object.table) c.args.room.parts place.stations records kept =
-    subst (λ (x : ℕ × List (List ℕ)). AreKept (editing c.args.room.object.table) c.args.room.parts x.0 x.1 kept) (λ i. (all i, c.deref.ensures.value i)) c.in-Ok.ensures.entries in
+    let are : AreKept (stepping c.args.room.object.object.table) c.args.room.parts place.stations records kept =
+    subst (λ (x : ℕ × List (List ℕ)). AreKept (stepping c.args.room.object.object.table) c.args.room.parts x.0 x.1 kept) (λ i. (all i, c.deref.ensures.value i)) c.in-Ok.ensures.entries in
     let ends : DeskEnds o kept place.stations place.address.now name records before after old new c.serve_remade.result.0 =
     subst (λ (k : ℕ). DeskEnds o kept k place.address.now name records before after old new c.serve_remade.result.0) (c.in-Ok.ensures.stations ∙ all)
     (c.serve_remade.ensures o name before records of is) in
@@ -79,8 +80,8 @@ returns-in-Err g c = λ o name before of is.
     let place = c.args.place.now in
     let all : length c.without_reader-passes.result.0.items ≡ place.stations = omega (arith, n, c.without_reader-passes.ensures.count, c.requires.stations) in
     let records = c.args.opened.records.items in
-    let fault : IsKeptFault (editing c.args.room.object.table) c.args.room.parts place.stations records c.in-Err.fault =
-    subst (λ (x : ℕ × List (List ℕ)). IsKeptFault (editing c.args.room.object.table) c.args.room.parts x.0 x.1 c.in-Err.fault) (λ i. (all i, c.deref.ensures.value i)) c.in-Err.ensures.refused in
+    let fault : IsKeptFault (stepping c.args.room.object.object.table) c.args.room.parts place.stations records c.in-Err.fault =
+    subst (λ (x : ℕ × List (List ℕ)). IsKeptFault (stepping c.args.room.object.object.table) c.args.room.parts x.0 x.1 c.in-Err.fault) (λ i. (all i, c.deref.ensures.value i)) c.in-Err.ensures.refused in
     unmade_ends o place.stations place.address.now name (change (output_told g.K.Sink.taken g.K.Sink.write_faults) c.args.output.now c.end_unmade.new.output)
     (change g.H.Hall.told c.args.hall.now c.args.hall.now) before (disk_told D.file D.course D.faults c.close.result) refl D.course D.faults c.args.opened.file records is (ap D.course (sym c.close.ensures))
     c.args.room c.args.setting.counting c.args.setting.start of c.in-Err.fault c.end_unmade.result fault c.end_unmade.ensures

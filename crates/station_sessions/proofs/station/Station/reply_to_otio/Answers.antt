@@ -10,7 +10,7 @@ returns g c =
     let is = c.taken-pass.ensures in
     rw (← c.self.view_is, is)
     (cut_replied s.room.now c.taken-pass.result c.cut_at-pass.result.0 s.counting s.start (record { held = g.P.Keeping.upto s.taken; failures = g.P.Keeping.failures s.taken }) s.line (rw is at c.self.invariant.0) c.args.n c.cut_at-pass.result.1 c.cut_reply.result.0 c.cut_reply.result.1
-    c.cut_at-pass.ensures.cut (rw c.object.ensures at c.cut_reply.ensures))
+    c.cut_at-pass.ensures.cut (rw c.object-object.ensures at c.cut_reply.ensures))
 
 pub invariant_of-self : goal.invariant_of-self
 invariant_of-self g c =
