@@ -7,8 +7,9 @@
 -- decision list of the cut after POINT entries of the journal in the file JOURNAL, whose room the document describes; a last
 -- word `numbered` says how its reels are to be named, and so do a word `names` and one or more TEXT=NAME after it.
 -- `tape` LIST RATE asks for the tape of the list in the file LIST. `import` LIST RATE DROP asks for the document of the list
--- in the file LIST. `make` NUMBER COUNT asks for the generated session of the number NUMBER, of which each station sends COUNT
--- lines, from 1 to 20,000.
+-- in the file LIST. `follow` DOC RATE DROP asks for the cut that replies on input lead to, in the room that the document
+-- describes. `make` NUMBER COUNT asks for the generated session of the number NUMBER, of which each station sends COUNT lines,
+-- from 1 to 20,000.
 use Rattle.std.specs.Prelude.{ℕ, ◌≤◌, Bool, true, false, ◌&&◌, ◌||◌, ◌==◌, List, [], ◌∷◌, Option, Some, None, Result, Ok, Err, option_and_then, option_map, is_some, is_none, slice_get, slice_index_or, length, nat_le, codes, bytes_eq, if◌then◌else◌}
 use Rattle.line_words.specs.Digits.{number_of}
 use Rattle.line_words.specs.declared.numbers.NumberFault.{NumberFault}
@@ -37,6 +38,8 @@ pub data Asked : Type 0 where
   PlayList : List ℕ → SequenceRate → Asked
   -- the document of the list in a file, whose frames are counted so
   Import : List ℕ → Counted → Asked
+  -- the cut that replies on input lead to, in the room of a document
+  Follow : List ℕ → Counted → Asked
   -- the summary of the generated session of a number, in which each station sends so many lines
   Make : ℕ → ℕ → Asked
 
@@ -159,6 +162,12 @@ abbrev pub imported_so : List ℕ → Option Counted → Option Asked
 imported_so name None = None
 imported_so name (Some counting) = Some (Import name counting)
 
+-- ---- a mirror
+
+abbrev pub followed_so : List ℕ → Option Counted → Option Asked
+followed_so document None = None
+followed_so document (Some counting) = Some (Follow document counting)
+
 -- ---- a generated session
 
 -- the least and the most lines that a station of it sends
@@ -227,6 +236,13 @@ import_in (a ∷ b ∷ []) = None
 import_in (name ∷ rate ∷ drop ∷ []) = imported_so name (counting_of rate drop)
 import_in (a ∷ b ∷ c ∷ d ∷ words) = None
 
+abbrev pub follow_in : List (List ℕ) → Option Asked
+follow_in [] = None
+follow_in (a ∷ []) = None
+follow_in (a ∷ b ∷ []) = None
+follow_in (document ∷ rate ∷ drop ∷ []) = followed_so document (counting_of rate drop)
+follow_in (a ∷ b ∷ c ∷ d ∷ words) = None
+
 abbrev pub make_in : List (List ℕ) → Option Asked
 make_in [] = None
 make_in (a ∷ []) = None
@@ -242,6 +258,7 @@ asked_of first words =
     if bytes_eq first (codes "list") then list_in words else
     if bytes_eq first (codes "tape") then tape_in words else
     if bytes_eq first (codes "import") then import_in words else
+    if bytes_eq first (codes "follow") then follow_in words else
     if bytes_eq first (codes "make") then make_in words else None
 
 -- what these words ask for
@@ -263,7 +280,8 @@ is_over_file words =
     || ((is_word (slice_get words 0) (codes "store") && length words == 7)
     || ((is_word (slice_get words 0) (codes "list") && nat_le 6 (length words))
     || ((is_word (slice_get words 0) (codes "tape") && length words == 3)
-    || (is_word (slice_get words 0) (codes "import") && length words == 4)))))
+    || ((is_word (slice_get words 0) (codes "import") && length words == 4)
+    || (is_word (slice_get words 0) (codes "follow") && length words == 4))))))
 
 -- a number, but the rate of no sequence
 abbrev pub is_other_rate : Option (List ℕ) → Bool
@@ -285,6 +303,7 @@ asks_for_list (Some (Store document counting stations address journal)) = false
 asks_for_list (Some (ListCut document counting journal point)) = true
 asks_for_list (Some (PlayList name rate)) = false
 asks_for_list (Some (Import name counting)) = false
+asks_for_list (Some (Follow document counting)) = false
 asks_for_list (Some (Make number count)) = false
 
 -- a list is asked for, and the last word says that its reels are to be numbered
@@ -308,6 +327,7 @@ asked_by (command.Store document counting stations address journal) = Store docu
 asked_by (command.ListCut document counting journal point) = ListCut document.now counting journal.now point
 asked_by (command.PlayList name rate) = PlayList name.now rate
 asked_by (command.Import name counting) = Import name.now counting
+asked_by (command.Follow document counting) = Follow document.now counting
 asked_by (command.Make number count) = Make number count
 
 -- so many tracks and reels as a plain room may have, so many stations as a hall, and so many lines as a generated session
@@ -319,4 +339,5 @@ HasBounds (command.Store document counting stations address journal) = (least_st
 HasBounds (command.ListCut document counting journal point) = Unit {0}
 HasBounds (command.PlayList name rate) = Unit {0}
 HasBounds (command.Import name counting) = Unit {0}
+HasBounds (command.Follow document counting) = Unit {0}
 HasBounds (command.Make number count) = (least_lines ≤ count) × (count ≤ most_lines)

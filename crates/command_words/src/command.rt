@@ -2,7 +2,7 @@
 ghost use Rattle.std.specs.Prelude.{◌≡◌, ◌<◌, ◌≤◌, IfSome, Some, drop, is_some, codes, length, option_and_then, option_map, slice_get};
 ghost use Rattle.json_tokens.specs.ReadingNumerals.{numeral_in};
 ghost use Rattle.ratio_time.specs.Rates.{rate_value};
-ghost use Rattle.command_words.specs.Commands.{command_of, run_in, serve_in, store_in, list_in, tape_in, import_in, make_in, run_plain_in, run_document_in, hall_in, hall_asked, hall_of_words, least_stations, most_stations, list_cut_in, make_session_in};
+ghost use Rattle.command_words.specs.Commands.{command_of, run_in, serve_in, store_in, list_in, tape_in, import_in, follow_in, make_in, run_plain_in, run_document_in, hall_in, hall_asked, hall_of_words, least_stations, most_stations, list_cut_in, make_session_in};
 ghost use Rattle.command_words.specs.Commands.{counting_of, rate_of_word, sequence_of, number_within, asked_by, HasBounds, is_over_file, is_other_rate, asks_for_another_rate, is_word, wants_numbers, word_at};
 
 use crate::names::has_rows;
@@ -78,6 +78,12 @@ pub enum Command<'a> {
     /// The document of the list in the file of this name, whose frames are counted so.
     Import {
         name: &'a str,
+        counting: Counting,
+    },
+    /// The cut that replies on input lead to, in the room that the document of this name describes, whose frames are
+    /// counted so.
+    Follow {
+        document: &'a str,
         counting: Counting,
     },
     /// The summary of the generated session of a number, in which each station sends so many lines.
@@ -354,6 +360,19 @@ fn import_in(words: &Words) -> Option<Command<'_>>
     Some(Command::Import { name, counting })
 }
 
+// What the words after `follow` ask for.
+fn follow_in(words: &Words) -> Option<Command<'_>>
+    ensures command { option_map asked_by result ≡ follow_in (drop 1 words.now) }
+    ensures bound { IfSome result HasBounds }
+{
+    if words.count() != 4 {
+        return None;
+    }
+    let counting = counting(words.word(2), words.word(3))?;
+    let document = words.word(1);
+    Some(Command::Follow { document, counting })
+}
+
 // A generated session, by its number and how many lines each station sends.
 fn session<'a>(number_word: &str, count: &str) -> Option<Command<'a>>
     ensures command { option_map asked_by result ≡ make_session_in number_word.now count.now }
@@ -394,6 +413,7 @@ pub fn command_in(words: &Words) -> Option<Command<'_>>
         "list" => list_in(words),
         "tape" => tape_in(words),
         "import" => import_in(words),
+        "follow" => follow_in(words),
         "make" => make_in(words),
         _ => None,
     }
@@ -414,6 +434,7 @@ fn is_over_file(words: &Words) -> bool
         "list" => count >= 6,
         "tape" => count == 3,
         "import" => count == 4,
+        "follow" => count == 4,
         _ => false,
     }
 }

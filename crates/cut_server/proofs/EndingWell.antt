@@ -3,6 +3,8 @@ use Rattle.std.proofs.Common.{◌≡◌, ◌≢◌, ℕ, suc, ◌+◌, ◌<◌, 
 use Rattle.std.proofs.lemmas.List.{take-take}
 use Rattle.std.proofs.lemmas.Option.{same_Some, slice_get_within}
 use Rattle.composables.specs.TrackState.{TrackState}
+use Rattle.cut_steps.specs.CutSteps.{CutStep, stepping, fresh_tracks}
+use Rattle.take_back.specs.Parts.{nows}
 use Rattle.timecode12.specs.Numbers.{Counted}
 use Rattle.timecode12.specs.declared.rate.SequenceRate.{SequenceRate}
 use Rattle.line_words.specs.Lines.{Line as InputLine}
@@ -13,8 +15,7 @@ use Rattle.room_keepers.specs.declared.fault.KeepFault.{KeepFault}
 use Rattle.room_keepers.specs.declared.fault.KeepFault.TheVariants.{Disk}
 use Rattle.room_files.specs.Files.{Content, Untold, Missing, Bytes, FilesTold, IsWhole, IsLonger, IsUnchanged}
 use Rattle.room_halls.specs.Stations.{HallTold}
-use Rattle.edit_apply.specs.Apply.{editing}
-use Rattle.edit_calls.specs.declared.asks.Call.{Call}
+use Rattle.room_ports.specs.Bytes.{Gives}
 use Rattle.edl_events.specs.declared.event.Event.{Event}
 use Rattle.edl_read.specs.Reading.{list_read}
 use Rattle.edl_read.specs.declared.list.TheConstants.{MAX_LIST}
@@ -23,11 +24,11 @@ use Rattle.edl_write.specs.declared.fault.ListFault.TheVariants.{Memory}
 use Rattle.otio_json.specs.Openings.{plain_opening}
 use Rattle.otio_json.specs.Timelines.{document_read}
 use Rattle.otio_json.specs.declared.opening.Opening.{Opening}
-use Rattle.line_table.specs.JournalFaults.{AreEntriesOf, IsFaulty}
-use Rattle.line_table.specs.declared.journal_reading.TheConstants.{MAX_JOURNAL}
-use Rattle.line_table.proofs.JournalLaws.{no_fault, one_journal}
+use Rattle.journal_text.specs.JournalFaults.{AreEntriesOf, IsFaulty}
+use Rattle.journal_text.specs.declared.journal_reading.TheConstants.{MAX_JOURNAL}
+use Rattle.journal_text.proofs.JournalLaws.{no_fault, one_journal}
 use Rattle.cut_room.proofs.Journals.{front_applies}
-use Rattle.command_words.specs.Commands.{Asked, RunPlain, RunDocument, Serve, Store, ListCut, PlayList, Import, Make}
+use Rattle.command_words.specs.Commands.{Asked, RunPlain, RunDocument, Serve, Store, ListCut, PlayList, Import, Follow, Make}
 use Rattle.command_files.specs.declared.status.Status.{Status}
 use Rattle.command_files.specs.declared.status.Status.TheVariants.{Done, ReadFault, WriteFault, NotSeated, OutOfMemory, TooMuchInput, DiskFault}
 use Rattle.command_files.specs.Ports.{Change, DiskTold, InputTold, OutputTold}
@@ -46,6 +47,10 @@ use Rattle.list_commands.specs.Cuts.{NamerTold, CutEnds, UnlistedEnds}
 use Rattle.list_commands.specs.Imports.{EventsEnd, HasNoDocument, ImportEnds}
 use Rattle.list_commands.specs.Points.{IsCutAt, HasFewer, DoesNotApply, PointEnds, JournalEnds, ListEnds, OpensDocument}
 use Rattle.list_commands.specs.Tapes.{TapeEnds}
+use Rattle.follow_command.specs.Accepted.{AcceptsStream, StreamsAreNotRefused}
+use Rattle.follow_command.specs.Follows.{FollowEnds, MirrorEnds}
+use Rattle.follow_command.specs.Goes.{CutMirror, Goes, first_mirror}
+use Rattle.input_lines.specs.Inputs.{TakenInPart}
 use Rattle.made_sessions.specs.Sessions.{MakeEnds}
 use Rattle.station_sessions.specs.declared.serve.End.{End}
 use Rattle.station_sessions.specs.declared.serve.End.TheVariants as end
@@ -56,7 +61,7 @@ use Rattle.served_rooms.specs.Halls.{EndsUnserved, FileEnds, HallEnds, NeverFail
 use Rattle.stored_rooms.specs.KeptFiles.{AcceptedAreNotRefused, DiskFails, IsAcceptedFile}
 use Rattle.stored_rooms.specs.Stored.{DiskKeeps, IsUnopened, StoredEnds}
 use Rattle.cut_server.specs.Runs.{both, CommandEnds, DocumentEnds, OpensNoRoom, RunEnds, RunsOver, ServeEnds, StoreEnds}
-use Rattle.cut_server.specs.Unhindered.{AreStill, AreWithin, FitOnList, IsStill, IsUnhindered, IsWithin, NothingFails, TellsCut, TellsDocument, TellsImport, TellsList}
+use Rattle.cut_server.specs.Unhindered.{AreStill, AreWithin, FitOnList, IsStill, IsUnhindered, IsWithin, NothingFails, TellsCut, TellsDocument, TellsImport, TellsList, TellsStream}
 
 -- it is 0, or 6
 abbrev pub EndsWell : Status → Type 0
@@ -147,13 +152,13 @@ module _ (counting : Counted) (c : Content) (o : Opening) (told : c ≢ Untold) 
   one_opening p e = same_ok p o (sym e.3 ∙ (ap (document_read counting) (same_bytes c e.0 d.0 told e.1 d.1) ∙ d.3))
 
 -- a journal
-module _ (c : Content) (entries : List (Entry Call)) (told : c ≢ Untold) (h : HoldsJournal c entries) where
+module _ (c : Content) (entries : List (Entry CutStep)) (told : c ≢ Untold) (h : HoldsJournal c entries) where
   no_journal_fault : (r : JournalRefusal) → IsJournalRefused c r → ⊥
   no_journal_fault r (inl large) = not_longer c h.0 MAX_JOURNAL told h.1 h.2 large.0
   no_journal_fault r (inr fault) =
       no_fault h.0 entries r.code r.line h.3 (subst (λ (bytes : List ℕ). IsFaulty bytes r.code r.line) (same_bytes c fault.0 h.0 told fault.1 h.1) fault.3)
 
-  one_history : (others : List (Entry Call)) → HoldsJournal c others → others ≡ entries
+  one_history : (others : List (Entry CutStep)) → HoldsJournal c others → others ≡ entries
   one_history others k = one_journal h.0 others entries (subst (λ (bytes : List ℕ). AreEntriesOf bytes others) (same_bytes c k.0 h.0 told k.1 h.1) k.3) h.3
 
 -- a list
@@ -226,30 +231,31 @@ cut_well o tracks namer output s fits still (inl list) = inl (put_well Done list
 cut_well o tracks namer output s fits still (inr none) = unlisted_well none.fault output s (fits none.fault none.refused) none.ends
 
 -- what has a cut at a point is not refused there
-not_refused : (o : Opening) (entries : List (Entry Call)) (point : ℕ) (tracks : List TrackState) (code : List ℕ) (number : ℕ) → IsCutAt o entries point tracks
+not_refused : (o : Opening) (entries : List (Entry CutStep)) (point : ℕ) (tracks : List TrackState) (code : List ℕ) (number : ℕ) → IsCutAt o entries point tracks
     → HasFewer entries point code number ⊎ DoesNotApply o entries point code number → ⊥
 not_refused o entries point tracks code number cut (inl fewer) = let few = fewer.0 in omega (arith, cut.within, few)
 not_refused o entries point tracks code number cut (inr apart) =
-    let apply = whole (editing o.table) in
+    let apply = whole (stepping o.table) in
     let below = apart.1.within in
     let front = take-take (number + 1) point entries (omega (arith, below)) in
-    front_applies apply o.tracks tracks (take point entries) (number + 1) cut.comes (ap (replay apply o.tracks) front ∙ apart.1.refused)
+    front_applies apply (fresh_tracks o.tracks) cut.kept (take point entries) (number + 1) cut.comes (ap (replay apply (fresh_tracks o.tracks)) front ∙ apart.1.refused)
 
-point_well : (o : Opening) (entries : List (Entry Call)) (point : ℕ) (tracks : List TrackState) (namer : NamerTold) (output : Change OutputTold) (s : Status)
+point_well : (o : Opening) (entries : List (Entry CutStep)) (point : ℕ) (tracks : List TrackState) (namer : NamerTold) (output : Change OutputTold) (s : Status)
     → IsCutAt o entries point tracks → FitOnList o tracks namer → IsStill output.before.faults output.after.faults → PointEnds o entries point namer output s → EndsWell s
 point_well o entries point tracks namer output s cut fits still (inl cuts) =
-    let same = same_Some cuts.tracks tracks (sym cuts.cut.comes ∙ cut.comes) in
+    let kept = same_Some cuts.cut.kept cut.kept (sym cuts.cut.comes ∙ cut.comes) in
+    let same = cuts.cut.tracks_are ∙ (ap nows kept ∙ sym cut.tracks_are) in
     cut_well o tracks namer output s fits still (subst (λ (ts : List TrackState). CutEnds o.table ts o.counting o.start namer output s) same cuts.ends)
 point_well o entries point tracks namer output s cut fits still (inr (inl refused)) =
     absurd (not_refused o entries point tracks refused.code refused.number cut refused.why)
 point_well o entries point tracks namer output s cut fits still (inr (inr memory)) = inr memory.0
 
 journal_well : (o : Opening) (journal : List ℕ) (point : ℕ) (namer : NamerTold) (old new : FilesTold) (output : Change OutputTold) (s : Status)
-    (entries : List (Entry Call)) (tracks : List TrackState) → old.file journal ≢ Untold → HoldsJournal (old.file journal) entries → IsCutAt o entries point tracks
+    (entries : List (Entry CutStep)) (tracks : List TrackState) → old.file journal ≢ Untold → HoldsJournal (old.file journal) entries → IsCutAt o entries point tracks
     → FitOnList o tracks namer → IsStill old.reads new.reads → IsStill output.before.faults output.after.faults → JournalEnds o journal point namer old new output s → EndsWell s
 journal_well o journal point namer old new output s entries tracks told holds cut fits reads still (only, inl opens) =
     let same = one_history (old.file journal) entries told holds opens.entries opens.holds in
-    point_well o entries point tracks namer output s cut fits still (subst (λ (es : List (Entry Call)). PointEnds o es point namer output s) same opens.ends)
+    point_well o entries point tracks namer output s cut fits still (subst (λ (es : List (Entry CutStep)). PointEnds o es point namer output s) same opens.ends)
 journal_well o journal point namer old new output s entries tracks told holds cut fits reads still (only, inr unopened) =
     let content = old.file journal in
     unopened_well (IsJournalRefused content) journal_line old new output s (no_journal_fault content entries told holds) reads unopened
@@ -297,6 +303,44 @@ import_well name counting files output s tells reads still (only, inr unopened) 
     let content = files.before.file name in
     unopened_well (IsListRefused counting.rate content) list_line files.before files.after output s (no_list_fault counting.rate content tells.1 tells.0 tells.2) reads unopened
 
+-- ---- `follow`
+
+-- an input that is not too long has no more
+no_more : (o : Opening) (before after : InputTold) (there : CutMirror) → AcceptsStream o before.left → TakenInPart Goes (first_mirror o) there before.left after.left → ⊥
+no_more o before after there accepted part =
+    beyond before.left after.left accepted.told part.gives
+  where
+    beyond : (left rest : Option (List ℕ)) → left ≡ Some accepted.text → Gives left rest part.got → ⊥
+    beyond None rest told gives = Prim.grind (arith, told)
+    beyond (Some bytes) None told gives = gives
+    beyond (Some bytes) (Some behind) told gives =
+        let same : bytes ≡ accepted.text = same_Some bytes accepted.text told in
+        let n : length accepted.text ≡ length part.got + length behind = ap length (sym same ∙ gives) ∙ length-append part.got behind in
+        let more : most_input < length part.got = part.more in
+        let within : length accepted.text ≤ most_input = accepted.within in
+        omega (arith, n, more, within)
+
+-- no line of a stream that is accepted is refused
+module _ (none : StreamsAreNotRefused) (counting : Counted) (content : Content) (o : Opening) (d : Describes counting content o) where
+  mirror_well : (input : Change InputTold) (output : Change OutputTold) (s : Status) → AcceptsStream o input.before.left
+      → AreStill (both input.before output.before) (both input.after output.after) → MirrorEnds o input output s → EndsWell s
+  mirror_well input output s accepted still (inl writes) = inl (put_well Done _ output.before output.after s still.1 writes.put)
+  mirror_well input output s accepted still (inr (inl refuses)) = absurd (none counting content o refuses.refusal input.before input.after d accepted refuses.first)
+  mirror_well input output s accepted still (inr (inr (inl much))) = absurd (no_more o input.before input.after much.there accepted much.goes)
+  mirror_well input output s accepted still (inr (inr (inr (inl unread)))) = absurd (still.0 unread.1)
+  mirror_well input output s accepted still (inr (inr (inr (inr memory)))) = inr memory.0
+
+follow_well : StreamsAreNotRefused → (document : List ℕ) (counting : Counted) (files : Change FilesTold) (input : Change InputTold) (output : Change OutputTold) (s : Status)
+    → TellsStream document counting files input → IsStill files.before.reads files.after.reads → AreStill (both input.before output.before) (both input.after output.after)
+    → FollowEnds document counting files input output s → EndsWell s
+follow_well none document counting files input output s tells reads still (only, inl opens) =
+    let content = files.before.file document in
+    let same = one_opening counting content tells.opening tells.told tells.described opens.opening opens.described in
+    mirror_well none counting content tells.opening tells.described input output s tells.accepted still
+    (subst (λ (o : Opening). MirrorEnds o input output s) same opens.ends)
+follow_well none document counting files input output s tells reads still (only, inr unopened) =
+    no_room_well document counting files output s (tells.told, tells.opening, tells.described) reads unopened.1
+
 -- ---- `make`
 
 make_well : (number count : ℕ) (output : Change OutputTold) (s : Status) → IsStill output.before.faults output.after.faults → MakeEnds number count output s → EndsWell s
@@ -321,8 +365,8 @@ module _ (files : Change FilesTold) (disk : Change DiskTold) (input : Change Inp
   disk_well o stations address journal OutOfMemory still unopened = inr refl
   disk_well o stations address journal other still unopened = absurd unopened
 
-  -- a kept file that is accepted is refused for nothing
-  module _ (law : AcceptedAreNotRefused) where
+  -- a kept file that is accepted is refused for nothing, and so is a stream
+  module _ (law : AcceptedAreNotRefused) (streams : StreamsAreNotRefused) where
     stored_well : (o : Opening) (stations : ℕ) (address journal : List ℕ) (s : Status) → IsAcceptedFile o stations journal disk.before disk.after → AreWithin stations hall.before
         → NothingFails files disk input output hall namer → StoredEnds o stations address journal output hall disk.before disk.after s → EndsWell s
     stored_well o stations address journal s file short quiet (inl goes) =
@@ -353,6 +397,7 @@ module _ (files : Change FilesTold) (disk : Change DiskTold) (input : Change Inp
         list_well document counting journal point namer files output s un.0 un.1.reads un.1.streams.1 ends.3
     ends_well (Some (PlayList name rate)) s un ends = tape_well name rate files output s un.0 un.1.reads un.1.streams.1 ends.3
     ends_well (Some (Import name counting)) s un ends = import_well name counting files output s un.0 un.1.reads un.1.streams.1 ends.3
+    ends_well (Some (Follow document counting)) s un ends = follow_well streams document counting files input output s un.0 un.1.reads un.1.streams ends.2
     ends_well (Some (Make number count)) s un ends = make_well number count output s un.1.streams.1 ends.4
 
 -- by its number

@@ -1,3 +1,4 @@
 pub mod Openings
 pub mod Telling
 pub mod EndingWell
+pub mod Points

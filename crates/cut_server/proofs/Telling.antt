@@ -1,10 +1,11 @@
 -- From what a session answered to what the program promises.
 use Rattle.std.proofs.Common.{◌≡◌, ℕ, ◌<◌, ◌≤◌, inr, List, [], ◌∷◌, ◌++◌, length, Option, Some, None, IfSome, refl, sym, ap, ◌∙◌, subst, arith, Bool, true, false, cond, ◌==◌}
 use Rattle.std.specs.Option.{IsSomeAnd}
+use Rattle.cut_steps.specs.CutSteps.{fresh_tracks}
 use Rattle.room_ports.specs.Counts.{HasRisen}
 use Rattle.room_ports.proofs.Fronts.{takes-takes}
 use Rattle.line_words.specs.Lines.{Line as InputLine, lines_of}
-use Rattle.line_table.specs.Journals.{journal_text_of, HasText}
+use Rattle.journal_text.specs.Journals.{journal_text_of, HasText}
 use Rattle.station_sessions.specs.declared.serve.End.{End}
 use Rattle.station_sessions.specs.declared.serve.End.TheVariants as end
 use Rattle.command_files.specs.declared.status.Status.{Status}
@@ -48,7 +49,7 @@ module _ (o : Opening) (held : ℕ) (g h : History) (c : Closes o 1 0 g h) where
   tells_by : (ls : List InputLine) (Taken : List (List ℕ) → Type 0) → Knows o new_room 0 g held ls Taken → (replies : List (List ℕ)) × IsTold o 1 h 0 ls replies × Taken replies
   tells_by ls Taken k =
       let there : RoomTranscriptTo o (g ++ c.more) new_room 0 ls k.0 k.1 =
-      transcript_more (room_of (setting_of o)) o.tracks g c.more new_room 0 ls k.0 k.1 (rw (← c.journal) c.legal.within) (ap (λ (l : History). of_station 0 l) (sym c.journal) ∙ c.own) [] k.2 in (
+      transcript_more (room_of (setting_of o)) (fresh_tracks o.tracks) g c.more new_room 0 ls k.0 k.1 (rw (← c.journal) c.legal.within) (ap (λ (l : History). of_station 0 l) (sym c.journal) ∙ c.own) [] k.2 in (
         k.0,
         record {
           journal = record {

@@ -1,3 +1,4 @@
 -- To be read: public clauses speak of these.
 pub mod Runs
+pub mod Points
 pub mod Unhindered

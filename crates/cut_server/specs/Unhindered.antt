@@ -3,19 +3,19 @@
 use Rattle.std.specs.Prelude.{◌≡◌, ◌≢◌, ℕ, ◌<◌, ◌≤◌, List, Option, Some, None, length}
 use Rattle.std.specs.Option.{IsSomeAnd}
 use Rattle.composables.specs.TrackState.{TrackState}
+use Rattle.cut_steps.specs.CutSteps.{CutStep}
 use Rattle.timecode12.specs.Numbers.{Counted}
 use Rattle.timecode12.specs.declared.rate.SequenceRate.{SequenceRate}
 use Rattle.room_core.specs.declared.entry.Entry.{Entry}
 use Rattle.room_files.specs.Files.{Content, Untold, FilesTold}
 use Rattle.room_halls.specs.Stations.{HallTold}
 use Rattle.room_ports.specs.Counts.{HasRisen}
-use Rattle.edit_calls.specs.declared.asks.Call.{Call}
 use Rattle.edl_events.specs.declared.event.Event.{Event}
 use Rattle.edl_write.specs.declared.fault.ListFault.{ListFault}
 use Rattle.edl_write.specs.declared.fault.ListFault.TheVariants.{Memory}
 use Rattle.edl_write.specs.Refusals.{IsRefused}
 use Rattle.otio_json.specs.declared.opening.Opening.{Opening}
-use Rattle.command_words.specs.Commands.{Asked, RunPlain, RunDocument, Serve, Store, ListCut, PlayList, Import, Make}
+use Rattle.command_words.specs.Commands.{Asked, RunPlain, RunDocument, Serve, Store, ListCut, PlayList, Import, Follow, Make}
 use Rattle.command_files.specs.Ports.{Change, DiskTold, InputTold, OutputTold}
 use Rattle.command_files.specs.Documents.{Describes}
 use Rattle.command_files.specs.Journals.{HoldsJournal}
@@ -23,6 +23,7 @@ use Rattle.command_files.specs.Lists.{HoldsList}
 use Rattle.list_commands.specs.Cuts.{NamerTold}
 use Rattle.list_commands.specs.Imports.{HasNoDocument}
 use Rattle.list_commands.specs.Points.{IsCutAt}
+use Rattle.follow_command.specs.Accepted.{AcceptsStream}
 use Rattle.station_sessions.specs.Outside.{Outside, most_input}
 use Rattle.served_rooms.specs.Halls.{line_at}
 use Rattle.stored_rooms.specs.KeptFiles.{IsAcceptedFile}
@@ -75,7 +76,7 @@ pub record TellsCut (document : List ℕ) (counting : Counted) (journal : List �
   pub opening : Opening
   pub told : files.before.file document ≢ Untold
   pub described : Describes counting (files.before.file document) opening
-  pub entries : List (Entry Call)
+  pub entries : List (Entry CutStep)
   pub holds : HoldsJournal (files.before.file journal) entries
   pub still_told : files.after.file journal ≢ Untold
   pub tracks : List TrackState
@@ -89,6 +90,13 @@ pub record TellsStore (document : List ℕ) (counting : Counted) (stations : ℕ
   pub told : files.before.file document ≢ Untold
   pub described : Describes counting (files.before.file document) opening
   pub file : IsAcceptedFile opening stations journal disk.before disk.after
+
+-- The document describes a room, and the input is a stream of replies that comes to a cut of it.
+pub record TellsStream (document : List ℕ) (counting : Counted) (files : Change FilesTold) (input : Change InputTold) : Type 0 where
+  pub opening : Opening
+  pub told : files.before.file document ≢ Untold
+  pub described : Describes counting (files.before.file document) opening
+  pub accepted : AcceptsStream opening input.before.left
 
 -- ---- a command
 
@@ -119,6 +127,7 @@ module _ (files : Change FilesTold) (disk : Change DiskTold) (input : Change Inp
       TellsCut document counting journal point namer files
   IsAccepted (Some (PlayList name rate)) = TellsList rate (files.before.file name)
   IsAccepted (Some (Import name counting)) = TellsImport counting (files.before.file name)
+  IsAccepted (Some (Follow document counting)) = TellsStream document counting files input
   -- it reads nothing
   IsAccepted (Some (Make number count)) = Unit {0}
 

@@ -1,7 +1,7 @@
 // The call that the program makes.
 ghost use Rattle.std.specs.Prelude.{◌≡◌, ◌<◌, ◌≤◌, ◌⊎◌, [], Some, length, vec_capacity};
 ghost use Rattle.command_words.specs.Commands.{command_of, least_tracks, most_tracks, most_reels, least_stations, most_stations};
-ghost use Rattle.line_table.specs.Journals.{HasRoomForText, HasText};
+ghost use Rattle.journal_text.specs.Journals.{HasRoomForText, HasText};
 ghost use Rattle.otio_json.specs.Openings.{plain_opening};
 ghost use Rattle.otio_json.specs.Soundness.{IsSoundOpening};
 ghost use Rattle.station_sessions.specs.Outside.{outside};
@@ -18,8 +18,8 @@ use call_text::{CutCall, CutObject, CutPart, journal_room, journal_text_into};
 use command_files::{Status, end_unopened, end_with, open_document};
 use command_words::{Command, command_in};
 use cut_room::{Room, RoomBlank};
-use edit_apply::Editor;
 use edit_journal::{Naming, Pass};
+use follow_command::{accepted_streams_are_not_refused, follow};
 use line_words::Words;
 use list_commands::{CutPlace, import_file, list_cut, play_list};
 use otio_json::Opening;
@@ -31,7 +31,7 @@ use room_halls::Hall;
 use room_keepers::KeepsNothing;
 use room_ports::{Gate, Line, Pair, Sink, Source, put};
 use served_rooms::{Venue, make_session, serve_opened};
-use station_sessions::{End, Session, Setting, serve_session};
+use station_sessions::{End, Session, Setting, begin_room, serve_session};
 use std::alloc::Global;
 use std::marker::Brand;
 use std::sync::Wait;
@@ -191,15 +191,8 @@ fn run_opened<R: Wait, G: Gate, S: Source, K: Sink>(
         (change (input_told S.left S.read_faults) input.old input.new)
         (change (output_told K.taken K.write_faults) output.old output.new) result }
 {
-    let Opening {
-        table,
-        tracks,
-        counting,
-        start,
-    } = opening;
-    let setting = Setting { counting, start };
-    let blank = match RoomBlank::new(alloc, Editor { table }, tracks.into_vec(), 1) {
-        Ok(blank) => blank,
+    let (blank, setting) = match begin_room(alloc, opening, 1) {
+        Ok(begun) => begun,
         Err(_) => return Status::OutOfMemory,
     };
     run_blank::<R, G, Brand, S, K>(rt, alloc, blank, setting, input, output, gate)
@@ -407,6 +400,12 @@ fn do_command<
         Some(Command::Import { name, counting }) => {
             (import_file(alloc, files, name, counting, output), disk)
         }
+        Some(Command::Follow { document, counting }) => {
+            (
+                follow(alloc, files, document, counting, input, output),
+                disk,
+            )
+        }
         Some(Command::Make { number, count }) => {
             (make_session(rt, alloc, *number, *count, output, gate), disk)
         }
@@ -439,15 +438,18 @@ fn do_command<
 /// most 32 MiB. `import LIST RATE DROP` puts the document of such a list in a line, with its channels V, A and A2 as tracks,
 /// if that has at most 32 MiB; it opens as the same cut.
 ///
+/// `follow DOC RATE DROP` reads what a station was sent in the room of the document, and takes the entries that its lines
+/// `news` tell. At the end of the input it puts how many these are, and each track with its items after them.
+///
 /// | Status | Comes where |
 /// |---|---|
 /// | 0 | each input was read to its end, every line was answered, all was written |
 /// | 1 | a read of the input, of a line or of a file failed |
 /// | 2 | a write of the output, of a line or of the journal's file failed |
 /// | 3 | the words are no command |
-/// | 4 | the document, the journal, the kept file or the list is refused, or the list has no document, and a line tells why |
+/// | 4 | the document, the journal, the kept file, the list or a followed line is refused, or the list has no document, and a line tells why |
 /// | 5 | the hall was not opened, or a station not seated: no session was begun |
-/// | 6 | out of memory: nothing was begun, or there was none for a list |
+/// | 6 | out of memory: nothing was begun, or there was none for a list or a mirror |
 /// | 7 | the input, or a line, gave more than 64 MiB |
 /// | 8 | the cut has no list, and a line tells why |
 /// | 9 | a call on the disk failed: nothing was begun, or a session broke off without the reply to its last line |
@@ -498,6 +500,7 @@ pub fn cut_main<
         → (result.0 ≡ 0) ⊎ (result.0 ≡ 6) }
 {
     accepted_files_are_not_refused();
+    accepted_streams_are_not_refused();
     let (status, disk) = do_command(
         rt, alloc, words, files, disk, input, output, hall, gate, namer,
     );

@@ -41,6 +41,7 @@ usage_for first =
     if bytes_eq first (codes "list") then codes "cutroom: usage: list DOC RATE DROP JOURNAL POINT [numbered | names TEXT=NAME ..]; cutroom --help says more\n" else
     if bytes_eq first (codes "tape") then codes "cutroom: usage: tape LIST RATE; cutroom --help says more\n" else
     if bytes_eq first (codes "import") then codes "cutroom: usage: import LIST RATE DROP; cutroom --help says more\n" else
+    if bytes_eq first (codes "follow") then codes "cutroom: usage: follow DOC RATE DROP; cutroom --help says more\n" else
     if bytes_eq first (codes "make") then codes "cutroom: usage: make NUMBER COUNT; cutroom --help says more\n" else
     codes "cutroom: there is no such command; cutroom --help lists them\n"
 

@@ -134,6 +134,7 @@ fn usage_for(first: &str) -> &'static str
         }
         "tape" => "cutroom: usage: tape LIST RATE; cutroom --help says more\n",
         "import" => "cutroom: usage: import LIST RATE DROP; cutroom --help says more\n",
+        "follow" => "cutroom: usage: follow DOC RATE DROP; cutroom --help says more\n",
         "make" => "cutroom: usage: make NUMBER COUNT; cutroom --help says more\n",
         _ => "cutroom: there is no such command; cutroom --help lists them\n",
     }

@@ -24,6 +24,8 @@ list DOC RATE DROP JOURNAL POINT [numbered | names TEXT=NAME ..]
 tape LIST RATE     what a CMX 3600 list shows: for V, A and A2 each run of frames
 import LIST RATE DROP
                    a CMX 3600 list as an OpenTimelineIO document: V, A and A2 as tracks, to standard output
+follow DOC RATE DROP
+                   a room's cut from replies to news on standard input: the count of their entries, and each track's items
 make NUMBER COUNT  a session of four stations at once, COUNT generated edits each; what it comes to, the same at each run
 --help             this text
 --version          the version

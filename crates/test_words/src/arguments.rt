@@ -208,3 +208,65 @@ fn what_store_is_told(rt: HostRuntime) -> Result<(), Memory> {
     assert!(rt; HELP.contains("\nstore DOC RATE DROP STATIONS ADDRESS JOURNAL\n"));
     Ok(())
 }
+
+// The document that these words follow.
+fn document_followed<'a>(words: &'a Words) -> Option<&'a str> {
+    match command_in(words) {
+        Some(Command::Follow { document, .. }) => Some(document),
+        _ => None,
+    }
+}
+
+// The words of `follow`, and the document that they name.
+#[test]
+fn a_mirror_is_asked_for_by_follow(rt: HostRuntime) -> Result<(), Memory> {
+    let alloc = rt.alloc();
+    let cases: [(&[&str], Option<&str>); 15] = [
+        (&["follow", "d", "24", "ndf"], Some("d")),
+        (&["follow", "d", "29.97", "drop"], Some("d")),
+        (&["follow", "d", "29.97", "ndf"], Some("d")),
+        (&["follow", "", "24.0", "ndf"], Some("")),
+        (&["follow", "d", "24", "drop"], None),
+        (&["follow", "d", "50", "ndf"], None),
+        (&["follow", "d", "fast", "ndf"], None),
+        (&["follow", "d", "24", "NDF"], None),
+        (&["follow", "d", "24"], None),
+        (&["follow", "2", "1"], None),
+        (&["follow", "d", "24", "ndf", "j"], None),
+        (&["follow"], None),
+        (&["Follow", "d", "24", "ndf"], None),
+        (&["run", "d", "24", "ndf"], None),
+        (&["import", "d", "24", "ndf"], None),
+    ];
+    for (texts, followed) in cases {
+        let words = words_in(alloc, texts)?;
+        assert!(rt; document_followed(&words) == followed, "{texts:?}");
+    }
+    Ok(())
+}
+
+// What standard error is told of words of `follow` that are refused.
+#[test]
+fn what_follow_is_told(rt: HostRuntime) -> Result<(), Memory> {
+    let alloc = rt.alloc();
+    let usage = "cutroom: usage: follow DOC RATE DROP; cutroom --help says more\n";
+    let rate = "cutroom: RATE is one of 23.976, 24, 25, 29.97 and 30\n";
+    let none = "cutroom: there is no such command; cutroom --help lists them\n";
+    let cases: [(&[&str], &str); 8] = [
+        (&["follow"], usage),
+        (&["follow", "d", "24"], usage),
+        (&["follow", "d", "24", "ndf", "j"], usage),
+        (&["follow", "d", "24", "drop"], usage),
+        (&["follow", "d", "fast", "ndf"], usage),
+        (&["follow", "d", "50", "ndf"], rate),
+        (&["follow", "d", "50"], usage),
+        (&["Follow", "d", "50", "ndf"], none),
+    ];
+    for (texts, text) in cases {
+        let words = words_in(alloc, texts)?;
+        let told = complaint(&words, 3);
+        assert!(rt; told.before == text && told.word.is_empty(), "{texts:?}");
+    }
+    assert!(rt; HELP.contains("\nfollow DOC RATE DROP\n"));
+    Ok(())
+}

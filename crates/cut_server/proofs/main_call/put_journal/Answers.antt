@@ -1,5 +1,5 @@
 use Rattle.std.proofs.Common.{◌≡◌, ◌∙◌}
-use Rattle.line_table.specs.Journals.{journal_text_of}
+use Rattle.journal_text.specs.Journals.{journal_text_of}
 use Rattle.station_sessions.proofs.Inputs.{source_same}
 use Rattle.cut_server.proofs.main_call.put_journal.Goals as goal
 

@@ -1,0 +1,4 @@
+pub mod Ending
+pub mod FrontLaws
+pub mod StreamLists
+pub mod Accepted

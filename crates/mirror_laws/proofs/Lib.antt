@@ -1,0 +1,5 @@
+pub mod Gaps
+pub mod Lines
+pub mod Others
+pub mod Streams
+pub mod Transcripts

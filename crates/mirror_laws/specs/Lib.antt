@@ -1,0 +1,2 @@
+-- To be read: the replies of a room with a history.
+pub mod Told

@@ -1,0 +1,5 @@
+pub mod PlainDocuments
+pub mod PlainReplies
+pub mod PlainSights
+pub mod PlainSteps
+pub mod PlainTexts
