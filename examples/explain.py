@@ -1,22 +1,26 @@
 #!/usr/bin/env python3
-"""Says in words why a document is refused, and what can be done.
+"""Says in words why a document, a stream, an edit or a question is refused, and what can be done.
 
 usage: examples/explain.py DOC [REFUSAL]
+       examples/explain.py REFUSAL
 
-REFUSAL is the line that the program answers, such as `refused O1 669`; without it the line is read from standard input:
+In the first form REFUSAL is the line that the program answers, such as `refused O1 669`; without it the line is read from standard input:
 
     ./cutroom run DOC 24 ndf < /dev/null | examples/explain.py DOC
 
 It says on which line and column of the document the fault is, what is there and what is around it, from the timeline down,
-each object by its schema and name; then each cause of that code with its cure, from docs/DOCUMENTS.md. It needs nothing but
-Python's standard library."""
+each object by its schema and name; then each cause of that code with its cure, from docs/DOCUMENTS.md. In the second form
+REFUSAL is a reply, such as `no 3 E16 0`, or the line that `follow` answers, such as `refused M2 5`: it says where that code
+comes, with an example, from docs/PROTOCOL.md. It needs nothing but Python's standard library."""
 
 import json
 import pathlib
 import re
 import sys
 
-PAGE = pathlib.Path(__file__).resolve().parent.parent / "docs/DOCUMENTS.md"
+PAGES = pathlib.Path(__file__).resolve().parent.parent / "docs"
+DOCUMENT = re.compile(r"refused ([JO]\d+) (\d+)")
+REPLY = re.compile(r"(?:no \d+ ([EV]\d+)|refused (M\d+))(?: .*)?")
 TOKEN = re.compile(rb'[ \t\r\n]*([{}\[\],:]|"(?:[^"\\]|\\.)*"|[^ \t\r\n{}\[\],:"]+)')
 SHOWN = 60  # bytes of a value, or around a fault of the JSON
 
@@ -101,12 +105,22 @@ def place_in(data, place):
     return f"line {before.count(10) + 1}, column {place - before.rfind(10)}"
 
 
+def rows(page):
+    """The rows of the tables of a page, as their cells."""
+    for line in (PAGES / page).read_text(encoding="utf-8").splitlines():
+        yield [cell.strip(" |") for cell in line.strip("|").split(" | ")]
+
+
 def causes(code):
     """The causes of a code, each with its cure, as the page tells them."""
-    for line in PAGE.read_text(encoding="utf-8").splitlines():
-        cells = [cell.strip() for cell in line.strip("|").split(" | ")]
-        if len(cells) == 5 and cells[0] == code:
-            yield cells[1], cells[4].rstrip(" |")
+    return [(cells[1], cells[4]) for cells in rows("DOCUMENTS.md") if len(cells) == 5 and cells[0] == code]
+
+
+def explain_reply(code):
+    for cells in rows("PROTOCOL.md"):
+        if len(cells) == 3 and re.match(rf"`(no (N|\d+)|refused) {code}\b", cells[0]):
+            print(f"{cells[0]} comes exactly where: {cells[1]}")
+            print(f"For example: {cells[2]}")
 
 
 def explain(data, code, place):
@@ -129,12 +143,18 @@ def explain(data, code, place):
 def main():
     if len(sys.argv) < 2 or sys.argv[1] == "--help":
         sys.exit(print(__doc__) if len(sys.argv) > 1 else "usage: examples/explain.py DOC [REFUSAL]")
-    line = " ".join(sys.argv[2:]) or sys.stdin.readline()
-    refusal = re.fullmatch(r"refused ([JO]\d+) (\d+)", line.strip())
+    reply = REPLY.fullmatch(" ".join(sys.argv[1:]))
+    line = "" if reply else (" ".join(sys.argv[2:]) or sys.stdin.buffer.readline().decode("utf-8", "replace")).strip()
+    reply = reply or REPLY.fullmatch(line)
+    if reply:
+        return explain_reply(reply[1] or reply[2])
+    refusal = DOCUMENT.fullmatch(line)
     if refusal is None:
-        sys.exit(f"explain: no refusal of a document: {line.strip()}")
-    data = pathlib.Path(sys.argv[1]).read_bytes()
-    explain(data, refusal.group(1), int(refusal.group(2)))
+        sys.exit(f"explain: no refusal that is known here: {line}")
+    try:
+        explain(pathlib.Path(sys.argv[1]).read_bytes(), refusal[1], int(refusal[2]))
+    except (OSError, ValueError, LookupError) as fault:
+        sys.exit(f"explain: {sys.argv[1]}: {fault}")
 
 
 if __name__ == "__main__":

@@ -107,10 +107,22 @@ def table_of(name, rate):
         return Table(json.load(file, parse_float=Decimal, parse_int=Decimal), rate)
 
 
+def read(name, rate):
+    """The table of a document; what is none ends the program with a line."""
+    try:
+        return table_of(name, rate)
+    except (OSError, ValueError, ArithmeticError, LookupError, TypeError, AttributeError, RecursionError) as fault:
+        sys.exit(f"{name}: no document that opens at the rate {rate}: {type(fault).__name__} {fault}")
+
+
+def names_of(name, rate):
+    return read(name, rate).names()
+
+
 def main():
     if len(sys.argv) != 3:
         sys.exit(print(__doc__) if sys.argv[1:] == ["--help"] else "usage: examples/media.py DOC RATE")
-    table = table_of(*sys.argv[1:])
+    table = read(*sys.argv[1:])
     for (reel, first, end), number in table.media.items():
         print(f"@{number} {first} {end} {reel}")
     for number, (length, _) in enumerate(table.nests):

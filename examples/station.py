@@ -20,7 +20,7 @@ from dataclasses import dataclass
 from html import escape
 from typing import Optional
 
-from media import table_of
+from media import names_of
 
 
 class Closed(Exception):
@@ -45,16 +45,24 @@ class Line:
         if not reply.endswith(b"\n"):
             raise Closed("no reply")
         words = reply.decode().rstrip("\n").split(" ")
-        if len(words) > 1 and words[1].isdigit() and words[0] != "otio":
-            self.point = int(words[1]) + (words[0] == "ok")
+        self.point = point_of(words, self.point)
         return words
+
+
+def point_of(words, before):
+    """How many entries the journal has, by the words of a reply; those that tell nothing of it leave what was known."""
+    told = {"news": words[2:3], "otio": []}.get(words[0], words[1:2])
+    return int(told[0]) + (words[0] == "ok") if told and told[0].isdigit() else before
 
 
 def station_at(address):
     host, _, port = address.rpartition(":")
     if not host or not port.isdigit():
         sys.exit(f"station: {address} is no HOST:PORT")
-    line = socket.create_connection((host.strip("[]"), int(port)))
+    try:
+        line = socket.create_connection((host.strip("[]"), int(port)))
+    except (OSError, OverflowError, UnicodeError) as fault:
+        sys.exit(f"station: {address}: {fault}")
     line.setsockopt(socket.IPPROTO_TCP, socket.TCP_NODELAY, 1)
 
     def end():
@@ -64,7 +72,10 @@ def station_at(address):
 
 
 def station_of(command):
-    process = subprocess.Popen(command, stdin=subprocess.PIPE, stdout=subprocess.PIPE)
+    try:
+        process = subprocess.Popen(command, stdin=subprocess.PIPE, stdout=subprocess.PIPE)
+    except OSError as fault:
+        sys.exit(f"station: {command[0]}: {fault}")
     return Line(process.stdout, process.stdin, process.stdin.close)
 
 
@@ -113,7 +124,7 @@ def named(word, names):
 
 def shown(words, names):
     """The words of a reply as they are shown: a document's own words stay."""
-    return " ".join(named(word, names) for word in words) if words[0] in ("items", "seen") else " ".join(words)
+    return " ".join(named(word, names) for word in words) if words[0] in ("items", "seen", "news") else " ".join(words)
 
 
 def tracks_of(line):
@@ -268,7 +279,7 @@ def main():
     parser.add_argument("--lines", metavar="FILE")
     parser.add_argument("room", nargs="+", metavar="HOST:PORT or COMMAND")
     words = parser.parse_args()
-    names = table_of(*words.document).names() if words.document else {}
+    names = names_of(*words.document) if words.document else {}
     line = station_at(words.room[0]) if len(words.room) == 1 else station_of(words.room)
     try:
         for text in lines_of(words.lines):

@@ -378,8 +378,7 @@ class Walk:
             tracks.append(cells)
         found = room.Room(kinds, [(low, high) for _, low, high in self.media], self.nests, self.fps, self.drop, start)
         found.reels, found.media_reels, found.layers, found.rate = self.reels, [reel for reel, _, _ in self.media], self.nest_layers, self.rate
-        found.tracks = [room.Track(cells, 1 + max([c.item for c in cells if c.item is not None], default=-1)) for cells in tracks]
-        found.points = [list(found.tracks)]
+        found.open([room.Track(cells, 1 + max([c.item for c in cells if c.item is not None], default=-1)) for cells in tracks])
         return found
 
     def untrimmed(self, value):

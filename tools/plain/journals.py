@@ -25,7 +25,7 @@ def entry(plain, line):
         call = plain.read(spelled[3])
     except room.Bad:
         return None
-    if station > MOST_STATION or number > MOST_NUMBER or call[0] in ("view", "items", "point", "otio"):
+    if station > MOST_STATION or number > MOST_NUMBER or call[0] in room.QUESTIONS:
         return None
     return (station, number, call) if room.call_text(call).encode() == spelled[3] else None
 
@@ -56,10 +56,8 @@ def replay(plain, entries, point):
     """Does the first entries again, up to the point."""
     if point > len(entries):
         raise Fault("H5", len(entries))
-    for at, (_, _, call) in enumerate(entries[:point]):
+    for at, entry in enumerate(entries[:point]):
         try:
-            named, _ = plain.apply(call)
+            plain.enter(*entry, plain.apply(entry[2], entry[0])[0])
         except room.Refused:
             raise Fault("H3", at)
-        for t, track in named.items():
-            plain.tracks[t] = track

@@ -13,7 +13,8 @@ ENOUGH = 3_000
 NAMES = "A B TAPE1 TAPE_2 X99 12345678".split()
 UNFIT = ["", "BL", "a", "shot a", "TAPE-1", "123456789", "é", "A\n"]
 EDITS = "overwrite insert remove extract slice fill trim slip ripple roll slide".split()
-EDITS += "dissolve undissolve link unlink".split()
+EDITS += "dissolve undissolve link unlink back".split()
+STATIONS = 3
 
 
 def length(part):
@@ -142,17 +143,18 @@ class Cut:
         return [document, self.rate, "drop" if self.drop else "ndf", journal, str(self.point)]
 
 
-def edit(r, plain):
-    """A line that asks for an edit, of nests too."""
+def edit(r, plain, station=0):
+    """A line by which a station asks for an edit, of nests too."""
     if plain.nests and r.random() < 0.05:
         number = r.randrange(len(plain.nests))
         return f"overwrite 0 {r.randint(0, 30)} #{number} 0 {max(1, plain.nests[number])}".encode()
-    return compare.line_of(r, plain, EDITS)
+    return compare.line_of(r, plain, EDITS, station)
 
 
 def journal(r, plain, most):
     for _ in range(r.randint(0, most)):
-        plain.answer(edit(r, plain))
+        station = r.randrange(STATIONS)
+        plain.answer(edit(r, plain, station), station=station)
     return plain.journal_text().encode()
 
 

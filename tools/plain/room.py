@@ -17,7 +17,7 @@ class Bad(Exception):
 
 
 class Refused(Exception):
-    """An edit or a question that is refused, with its words: E1 to E14, V1, V2."""
+    """An edit, a taking back or a question that is refused, with its words: E1 to E14, E16, E17, V1 to V3."""
 
 
 @dataclass(frozen=True)
@@ -37,6 +37,15 @@ class Track:
     cells: list = field(default_factory=list)
     next_item: int = 0
     next_link: int = 0
+
+
+@dataclass(frozen=True)
+class Former:
+    """What a track was before the edit that changed it last: the tracks that this edit named, and who sent it."""
+
+    track: Track
+    names: frozenset
+    by: int
 
 
 # ------------------------------------------------------------------------------------------------ what a track consists of
@@ -230,10 +239,14 @@ class Room:
     def __init__(self, kinds, media, nests=(), fps=24, drop=False, start=0):
         self.kinds, self.media, self.nests = list(kinds), list(media), list(nests)
         self.fps, self.drop, self.start = fps, drop, start
-        self.tracks = [Track() for _ in kinds]
+        self.open([Track() for _ in kinds])
+        self.line = 0
+
+    def open(self, tracks):
+        """The room as it begins, with these tracks and an empty journal; nothing can be taken back."""
+        self.tracks, self.former = list(tracks), [None] * len(tracks)
         self.points = [list(self.tracks)]
         self.journal = []
-        self.line = 0
 
     @classmethod
     def plain(cls, tracks, reels):
@@ -273,8 +286,10 @@ class Room:
         least, most = self.bounds(cell.shows)
         return cell.source - before - least, most - cell.source - 1 - after
 
-    def apply(self, call):
-        """The new named tracks and the words of the answer."""
+    def apply(self, call, by=0):
+        """The new named tracks and the words of the answer to a call of a station."""
+        if call[0] == "back":
+            return self.taken_back(call[1], by), ""
         named, words = getattr(self, "do_" + call[0])(*call[1:])
         for t in sorted(named):
             if len(named[t].cells) > MOST_FRAMES:
@@ -283,6 +298,42 @@ class Room:
             if len(named[t].cells) > 1000 and len(pieces(named[t].cells)) > MOST_ITEMS:
                 raise Refused(f"E14 {t}")
         return named, words
+
+    def taken_back(self, tracks, by):
+        """These tracks as they were before the last edit of each, which has to be this station's and of these tracks."""
+        for t in tracks:
+            if t >= len(self.tracks):
+                raise Refused(f"E1 {t}")
+        for t in tracks:
+            if not self.former[t] or self.former[t].by != by:
+                raise Refused(f"E16 {t}")
+        for t in tracks:
+            if self.former[t].names != frozenset(tracks):
+                raise Refused(f"E17 {t}")
+        return {t: self.former[t].track for t in tracks}
+
+    def can_be_taken_back(self, by=0):
+        """The sets of tracks whose last edit was one of all of them and of this station."""
+        sets = {former.names for former in self.former if former and former.by == by}
+        return [tracks for tracks in sorted(map(sorted, sets)) if all(self.former[t] and self.former[t].names == frozenset(tracks) for t in tracks)]
+
+    def state(self):
+        return list(self.tracks), list(self.former)
+
+    def go_to(self, state):
+        self.tracks, self.former = map(list, state)
+
+    def put(self, call, named, by=0):
+        """The room goes on with these tracks, which the call has left."""
+        for t, track in named.items():
+            self.former[t] = None if call[0] == "back" else Former(self.tracks[t], frozenset(named), by)
+            self.tracks[t] = track
+
+    def enter(self, station, number, call, named):
+        """A call that has left these tracks is the next entry of the journal."""
+        self.put(call, named, station)
+        self.journal.append((station, number, call))
+        self.points.append(list(self.tracks))
 
     def do_overwrite(self, t, at, what, start, count, keep):
         named = self.named([t], t)
@@ -542,7 +593,7 @@ class Room:
 
     # ------------------------------------------------------------------------------------------------------------ whole lines
 
-    def answer(self, line, last=False):
+    def answer(self, line, last=False, station=0):
         """The reply to a line, handed in without its line feed; `last` where it had none."""
         self.line += 1
         point = len(self.journal)
@@ -554,16 +605,15 @@ class Room:
                 return f"point {point}"
             if call[0] == "otio":
                 return self.document(call[1], point)
+            if call[0] == "news":
+                return self.news(call[1], point)
             if call[0] in ("view", "items"):
                 word, words = getattr(self, "ask_" + call[0])(*call[1:])
                 return " ".join([word, str(point), *words])
-            named, words = self.apply(call)
+            named, words = self.apply(call, station)
             if point == MOST_ENTRIES:
                 return f"no {point} E15"
-            for t, track in named.items():
-                self.tracks[t] = track
-            self.journal.append((self.line, call))
-            self.points.append(list(self.tracks))
+            self.enter(station, self.line, call, named)
             return f"ok {point}{words}"
         except Bad as bad:
             return f"bad {bad}"
@@ -578,9 +628,15 @@ class Room:
             return f"no {n} V4"
         return f"otio {n} {written}"
 
-    def journal_text(self, station=0):
-        lines = [f"journal {len(self.journal)}"]
-        return "".join(text + "\n" for text in lines + [f"{station} {number} {call_text(call)}" for number, call in self.journal])
+    def news(self, n, point):
+        """The entry at a point, where it is there by now."""
+        if n > point:
+            raise Refused("V3")
+        return f"news {n} {point}" + (f" {entry_text(*self.journal[n])}" if n < point else "")
+
+    def journal_text(self):
+        lines = [f"journal {len(self.journal)}", *(entry_text(*entry) for entry in self.journal)]
+        return "".join(text + "\n" for text in lines)
 
     def read(self, line):
         words = [word for word in line.replace(b"\t", b" ").split(b" ") if word]
@@ -700,11 +756,15 @@ ROWS = {
     b"undissolve": [("track", "place")],
     b"link": [("tracks", "numbers")],
     b"unlink": [("track", "number")],
+    b"back": [("tracks",)],
     b"view": [("track", "place", "place")],
     b"items": [("track",)],
     b"point": [()],
     b"otio": [("number",)],
+    b"news": [("number",)],
 }
+
+QUESTIONS = {"view", "items", "point", "otio", "news"}
 
 
 KEEPING = {word for word, rows in ROWS.items() if rows[-1][-1:] == (KEEP,)}
@@ -722,6 +782,10 @@ def call_text(call):
     if call[0] == "fill":
         words[5:6] = ["sequence"] if call[5] is None else ["source", call[5]]
     return " ".join(text(word) for word in words)
+
+
+def entry_text(station, number, call):
+    return f"{station} {number} {call_text(call)}"
 
 
 import documents  # noqa: E402  (documents stand on the room, and the room writes them)

@@ -87,10 +87,18 @@ def line_of(chance):
         f"extract {track} {track} {chance.randrange(60)}",
         f"remove {track} {chance.randrange(60)}",
         f"view {track} {at} {at + 30}",
+        f"back {track}",
+        f"back {track}",
         f"items {track}",
+        f"news {chance.randrange(60)}",
         "point",
         "?" * chance.randint(1, 40),
     ))
+
+
+def point_in(reply):
+    """How many entries a reply says that there are, by its words: `news` names the place that was asked for first."""
+    return int(reply[2] if reply[0] == "news" else reply[1])
 
 
 class Station:
@@ -142,19 +150,21 @@ class Station:
         """How the line is spelled in the journal."""
         return f"{self.seat} {self.number(at)} {self.sent[at]}"
 
-    def see(self, least, most):
-        """What of its replies does not fit a journal that had so many entries at first and has so many now, and the
-        records that it was told of, by their places."""
-        told, point = {}, least
+    def see(self, least, after):
+        """What of its replies does not fit a journal that had so many entries at first and has these now, and the records
+        that it was told of as its own, by their places."""
+        told, point, most = {}, least, len(after)
         for at, (line, reply) in enumerate(zip(self.sent, self.replies)):
             words = reply.split(" ")
-            if (words[0] == "bad") != line.startswith("?") or words[0] not in ("bad", "ok", "no", "seen", "items", "point"):
+            if (words[0] == "bad") != line.startswith("?") or words[0] not in ("bad", "ok", "no", "seen", "items", "point", "news"):
                 return f"station {self.seat} sent {line} and got {reply}", told
             if words[0] == "bad":
                 continue
-            if not point <= int(words[1]) <= most:
+            if not point <= point_in(words) <= most:
                 return f"station {self.seat} is told of {reply} after the point {point}, and {most} records are there", told
-            point = int(words[1])
+            point = point_in(words)
+            if words[0] == "news" and words[3:] != (after[int(words[1])].split(" ") if int(words[1]) < point else []):
+                return f"station {self.seat} is told {reply}, which is no record there", told
             if words[0] == "ok":
                 told[point] = self.record(at)
                 point += 1
@@ -200,7 +210,7 @@ def sees_itself(file):
         if reply[0] == "bad":
             return None
         records = records_in(file.read_bytes())
-        if len(records) < int(reply[1]):
+        if len(records) < point_in(reply):
             return f"{station.replies[-1]} is told, and the file has {len(records)} records"
         if reply[0] == "ok" and records[int(reply[1]) : int(reply[1]) + 1] != [station.record(at)]:
             return f"{station.replies[-1]} is told of {station.record(at)}, which the file does not have there"
@@ -217,7 +227,7 @@ def see(before, after, stations):
         return f"of {len(before)} records {common(before, after)} are left as they were", 0, 0
     told = {}
     for station in stations:
-        fault, records = station.see(len(before), len(after))
+        fault, records = station.see(len(before), after)
         twice = told.keys() & records.keys()
         if fault or twice:
             return fault or f"record {min(twice)} is told to two stations", 0, 0
