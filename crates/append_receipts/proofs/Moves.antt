@@ -9,7 +9,7 @@ use Rattle.append_receipts.specs.declared.view.Role.{Role}
 use Rattle.append_receipts.specs.declared.view.Role.TheVariants.{Clerk, Receipt, Spent}
 use Rattle.append_receipts.specs.declared.view.View.{View}
 use Rattle.append_receipts.specs.Receipts.{clerk, spent, FitsAs, IsCounted, Counted, with_kept, with_failed, receipt_of}
-use Rattle.append_receipts.specs.Receipts.{with_receipt, IsInOrder}
+use Rattle.append_receipts.specs.Receipts.{with_receipt, with_seen, IsInOrder}
 
 -- what the changed view is at its place
 at_now : (l : List View) (i : ℕ) (a b : View) → get_elem? l i ≡ some a → get_elem? (set l i b) i ≡ some b
@@ -56,6 +56,19 @@ grows_as : (r : Role) (seat kept failed kept' failed' by : ℕ) (v : View) → b
 grows_as Clerk seat kept failed kept' failed' by v apart k f h = absurd (apart h.0)
 grows_as Receipt seat kept failed kept' failed' by v apart k f h = (omega (arith, h.0, k), omega (arith, h.1, f))
 grows_as Spent seat kept failed kept' failed' by v apart k f h = tt
+
+from_receipt : (seat kept failed by : ℕ) (v : View) → v.role ≡ Receipt → FitsAs Receipt seat kept failed by v
+    → FitsAs v.role seat kept failed by v
+from_receipt seat kept failed by v is f = subst (λ (r : Role). FitsAs r seat kept failed by v) (sym is) f
+
+-- nobody has two roles
+not_both : (v : View) → v.role ≡ Receipt → v.role ≡ Clerk → ⊥
+not_both v is not = subst IsNotClerk (sym is ∙ not) tt
+  where
+    IsNotClerk : Role → Type 0
+    IsNotClerk Clerk = ⊥
+    IsNotClerk Receipt = Unit {0}
+    IsNotClerk Spent = Unit {0}
 
 -- the table at the start
 pub begins : (kept : ℕ) → Counted (kept ∷ 0 ∷ []) (clerk kept 0 ∷ [])
@@ -217,4 +230,57 @@ compares slots id v me s h few at fits =
         λ is. let mine = as_clerk h.0 h.1 h.2 id v is (r.each id v at) in
             (omega (arith, mine.1, mine.3), omega (arith, mine.2, mine.4)),
       ),
+    )
+
+-- a split of a receipt
+pub copies : (id : ℕ) (v : View) → v.role ≡ Receipt → Splits {S = Unit {0}} {V = View} (λ s. Counted s.words s.views) id v
+    v (receipt_of v)
+copies id v is s h at =
+    let r = h.3 in
+    let mine = as_receipt h.0 h.1 h.2 id v is (r.each id v at) in
+    let same : set s.views id v ≡ s.views = set_again s.views id v at in (
+      h.0,
+      h.1,
+      h.2,
+      record {
+        words_are = r.words_are;
+        each = λ j u e. ⊎_elim
+            (λ was. r.each j u (subst (λ l. get_elem? l j ≡ some u) same was))
+            (λ (new : receipt_of v ≡ u). subst (λ (x : View). FitsAs x.role h.0 h.1 h.2 j x) new (mine.0, mine.1))
+            (at_snoc (set s.views id v) (receipt_of v) u j e);
+        one = (
+          r.one.0,
+          at_longer (set s.views id v) (receipt_of v ∷ []) h.0 r.one.0
+              (subst (λ l. get_elem? l h.0 ≡ some r.one.0) (sym same) r.one.1),
+          r.one.2,
+        );
+      },
+    )
+
+-- a load by who has a receipt
+pub looks : (slots id : ℕ) (v : View) (me : List (ℕ × Unit {0})) → v.role ≡ Receipt
+    → Allows {S = Unit {0}} {V = View} (λ s. Counted s.words s.views) slots id (v, me) 0 (λ n. n)
+    (λ n after. (after ≡ (with_seen v n, me)) × (v.kept ≤ n))
+looks slots id v me is s h few at fits =
+    let r = h.3 in
+    let mine = as_receipt h.0 h.1 h.2 id v is (r.each id v at) in
+    let w = with_seen v h.1 in
+    let apart : h.0 ≢ id = λ q. not_both v is
+    (subst (λ (u : View). u.role ≡ Clerk) (some-injective _ _ (sym (subst (λ i. get_elem? s.views i ≡ some r.one.0) q r.one.1) ∙ at)) r.one.2) in
+    rw r.words_are (
+      w,
+      keeps,
+      tt,
+      (
+        h.0,
+        h.1,
+        h.2,
+        record {
+          words_are = refl;
+          each = fits_set h.0 h.1 h.2 s.views id w (λ j u _ e. r.each j u e)
+              (from_receipt h.0 h.1 h.2 id w is (omega arith, mine.1));
+          one = (r.one.0, at_other s.views id h.0 w r.one.0 apart r.one.1, r.one.2);
+        },
+      ),
+      (refl, mine.0),
     )

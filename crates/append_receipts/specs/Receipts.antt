@@ -42,9 +42,13 @@ with_kept v = record v { kept = v.kept + 1 }
 abbrev pub with_failed : View → View
 with_failed v = record v { failed = v.failed + 1 }
 
--- the receipt that the clerk gives
+-- the receipt that the clerk gives, and a receipt like another one
 abbrev pub receipt_of : View → View
 receipt_of v = record { role = Receipt; kept = v.kept; failed = v.failed; last_kept = 0; last_failed = 0 }
+
+-- the receipt of who has looked: so many records were counted by then
+abbrev pub with_seen : View → ℕ → View
+with_seen v n = record v { kept = n }
 
 -- the clerk, who remembers the receipt that came back
 abbrev pub with_receipt : View → View → View

@@ -2,30 +2,32 @@
 ghost use Rattle.std.specs.Prelude.{◌≡◌, ◌<◌, ◌≤◌, ◌+◌, IfOk};
 ghost use Rattle.room_ports.specs.Counts.{counted};
 
-use crate::view::{Beginning, Compares, Fails, Gives, Keeps, Law, Takes, View};
+use crate::view::{Beginning, Compares, Copies, Fails, Gives, Keeps, Law, Looks, Takes, View};
 use atomic_table::{Seat, Table};
 use room_ports::Memory;
 use std::alloc::Global;
 use std::marker::Model;
+use std::sync::Arc;
 
 /// The most records that are counted.
 pub const MOST_KEPT: u32 = 100_000;
 
-/// The table of a clerk. To a contract it is the table's name.
+/// The table of a clerk, or a share of it, for who looks at it beside the clerk. To a contract it is the table's name.
 #[derive(Drop)]
 pub struct Receipts {
-    words: Table<(), View, Beginning, Law, Global>,
+    words: Arc<Table<(), View, Beginning, Law, Global>>,
 }
 
 impl Model for Receipts {
     ghost use Rattle.std.specs.Prelude.{◌≡◌};
+    ghost use Rattle.std.specs.Arc.{arc_value};
     ghost use Rattle.atomic_table.specs.Seated.{TableId};
 
     ghost Value = { TableId };
 
-    ghost view = { λ r. r.words.shared.table_id };
+    ghost view = { λ r. (arc_value r.words).shared.table_id };
 
-    ghost invariant = { λ r. r.words.shared.table_id.words ≡ 2 };
+    ghost invariant = { λ r. (arc_value r.words).shared.table_id.words ≡ 2 };
 }
 
 /// The one who counts. Contracts see the table, and how many records and failed appends were counted.
@@ -83,12 +85,22 @@ impl Receipts {
             &[u64::from(kept), 0],
             &beginning,
         )?;
+        let words = Arc::new(alloc, words)?;
         let clerk = Clerk {
             seat,
             kept,
             failed: 0,
         };
         Ok((Receipts { words }, clerk))
+    }
+
+    /// The same table, for who looks at it beside the clerk.
+    pub fn share(&self) -> Result<Receipts, Memory>
+        ensures { IfOk result (λ r. r ≡ self.now) }
+    {
+        Ok(Receipts {
+            words: self.words.clone()?,
+        })
     }
 
     /// Counts one record more.
@@ -126,6 +138,26 @@ impl Receipts {
         Receipt {
             seat: self.words.shared.split_seat::<Gives>(&mut clerk.seat),
         }
+    }
+
+    /// Another receipt with the numbers of this one. Nobody waits for it.
+    pub fn copy(&self, receipt: &mut Receipt) -> Receipt
+        requires { receipt.old.table ≡ self.now }
+        ensures copy { result ≡ receipt.old }
+        ensures same { receipt.new ≡ receipt.old }
+    {
+        Receipt {
+            seat: self.words.shared.split_seat::<Copies>(&mut receipt.seat),
+        }
+    }
+
+    /// Looks how many records the clerk has counted by now, and notes that on a receipt. Nobody waits for it.
+    pub fn look(&self, receipt: &mut Receipt) -> u64
+        requires { receipt.old.table ≡ self.now }
+        ensures kept { receipt.new ≡ record receipt.old { kept = result } }
+        ensures rises { receipt.old.kept ≤ result }
+    {
+        self.words.shared.load::<Looks>(&mut receipt.seat, 0)
     }
 
     /// Takes a receipt back. Its numbers are at most the clerk's.

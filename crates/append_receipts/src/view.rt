@@ -95,3 +95,24 @@ impl Play<(), View> for Compares {
 
     ghost then = { λ s me n after. (after ≡ me) × IsInOrder me.0 };
 }
+
+// A split of a receipt makes another one like it.
+pub struct Copies;
+
+impl Split<View> for Copies {
+    ghost use Rattle.append_receipts.specs.Receipts.{receipt_of};
+
+    ghost left = { λ v. v };
+
+    ghost right = { receipt_of };
+}
+
+// A load notes the records that are counted by then on a receipt, which are no fewer than it had.
+pub struct Looks;
+
+impl Play<(), View> for Looks {
+    ghost use Rattle.std.specs.Prelude.{◌≡◌, ◌≤◌};
+    ghost use Rattle.append_receipts.specs.Receipts.{with_seen};
+
+    ghost then = { λ s me n after. (after ≡ (with_seen me.0 n, me.1)) × (me.0.kept ≤ n) };
+}

@@ -29,6 +29,13 @@ abbrev pub upto : ℕ → Option Taking → ℕ
 upto kept None = kept
 upto kept (Some taking) = taking.after.kept
 
+-- These receipts go on from the last ones: the first has their numbers, and the second tells as many records or more, and
+-- as many failed appends.
+pub record GoesOnFrom (last now : Taking) : Type 0 where
+  pub begins : now.before ≡ last.after
+  pub rises : last.after.kept ≤ now.after.kept
+  pub quiet : now.after.failed ≡ last.after.failed
+
 -- how many failed appends were counted by then
 abbrev pub failures : Option Taking → ℕ
 failures None = 0

@@ -1,5 +1,5 @@
 // The counts that receipts tell of, with the table that they are kept in.
-ghost use Rattle.std.specs.Prelude.{◌≡◌, ◌+◌, ◌≤◌};
+ghost use Rattle.std.specs.Prelude.{◌≡◌, ◌+◌, ◌≤◌, IfSome};
 ghost use Rattle.room_ports.specs.Counts.{counted};
 
 use append_receipts::{Clerk, Receipt, Receipts};
@@ -54,6 +54,13 @@ impl Counting {
         ensures same { self.new ≡ self.old }
     {
         self.receipts.give(&mut self.clerk)
+    }
+
+    // A share of the table; none where there is no memory for it.
+    pub fn share(&self) -> Option<Receipts>
+        ensures { IfSome result (λ table. table ≡ self.now.table) }
+    {
+        self.receipts.share().ok()
     }
 
     // Takes a receipt back, whose numbers are at most the counts.

@@ -165,26 +165,41 @@ impl<
             × (taken.after.failed ≤ self.new.counts.failed) }
         ensures same { self.new ≡ self.old }
     {
+        let _ = self.settle_all(taken);
+    }
+
+    // The same, and gives the share of the table that was with them.
+    fn settle_all(&mut self, taken: Taken<O::Call, K>) -> Option<Receipts>
+        ensures kept { (taken.before.kept ≤ self.new.file.count)
+            × (taken.after.kept ≤ self.new.file.count) }
+        ensures failed { (taken.before.failed ≤ self.new.counts.failed)
+            × (taken.after.failed ≤ self.new.counts.failed) }
+        ensures table { IfSome result (λ table. table ≡ K.table) }
+        ensures same { self.new ≡ self.old }
+    {
         let Taken {
             before,
             after,
             kept: _,
+            table,
             of: _,
         } = taken;
         self.counts.settle(before);
         self.counts.settle(after);
+        table
     }
 
-    // The same, where there are any.
-    fn settle_last(&mut self, last: Option<Taken<O::Call, K>>)
+    // The same, where there are any receipts; else a share is made.
+    fn settle_last(&mut self, last: Option<Taken<O::Call, K>>) -> Option<Receipts>
         ensures kept { IfSome last (λ t. t.after.kept ≤ self.new.counts.kept) }
         ensures failed { IfSome last (λ t. t.after.failed ≤ self.new.counts.failed) }
+        ensures table { IfSome result (λ table. table ≡ K.table) }
         ensures same { self.new ≡ self.old }
     {
         let _ = &self.file;
         match last {
-            Some(taken) => self.settle(taken),
-            None => {}
+            Some(taken) => self.settle_all(taken),
+            None => self.counts.share(),
         }
     }
 
@@ -324,14 +339,15 @@ impl<
         ensures fault { IfErr result.0
             (λ f. IsCountedFault f result.1.before.failed result.1.after.failed) }
     {
-        self.settle_last(last);
+        let table = self.settle_last(last);
         let before = self.counts.give();
         let kept = self.keep_up_to(rt, alloc, room, n);
         let after = self.counts.give();
         let taken = Taken {
             before,
             after,
-            kept: self.file.count(),
+            kept: u64::from(self.file.count()),
+            table,
             of: PhantomData,
         };
         (kept, taken)

@@ -1,5 +1,5 @@
 // A desk as what keeps its room's journal.
-ghost use Rattle.std.specs.Prelude.{◌≡◌, ◌≤◌, Some, IfErr, OnOk, length};
+ghost use Rattle.std.specs.Prelude.{◌≡◌, ◌≤◌, Some, IfErr, IfSome, OnOk, length};
 ghost use Rattle.kept_desk.specs.Desks.{failures, upto};
 ghost use Rattle.room_keepers.specs.Faults.{IsCounted};
 
@@ -30,8 +30,26 @@ impl<
     // Who has not asked yet asks for any point.
     fn is_kept(&self, last: &Option<Taken<O::Call, K>>, n: u32) -> bool {
         match last {
-            Some(taken) => n <= taken.kept(),
+            Some(taken) => u64::from(n) <= taken.kept(),
             None => false,
+        }
+    }
+
+    // Who has not asked yet is told nothing.
+    fn look(&self, taken: &mut Option<Taken<O::Call, K>>) -> Option<u64>
+        ensures stays { upto (length K.kept) taken.old ≤ upto (length K.kept) taken.new }
+        ensures known { IfSome result (λ kept. kept ≡ upto (length K.kept) taken.new) }
+    {
+        match taken.take() {
+            Some(last) => {
+                let now = match last.look() {
+                    Ok(now) | Err(now) => now,
+                };
+                let kept = now.kept();
+                *taken = Some(now);
+                Some(kept)
+            }
+            None => None,
         }
     }
 

@@ -1,5 +1,5 @@
 // A desk behind its lock.
-ghost use Rattle.std.specs.Prelude.{◌≡◌, ◌≤◌, Some, IfErr, IfSome, OnOk, length};
+ghost use Rattle.std.specs.Prelude.{◌≡◌, ◌≤◌, Some, IfErr, IfOk, IfSome, IsSomeAnd, OnOk, length};
 ghost use Rattle.kept_desk.specs.Faults.{IsCountedFault};
 
 use crate::turns::Turns;
@@ -48,6 +48,27 @@ impl<D: Disk, O: PartObject, J: Naming<O, O::Part>, K: Filing<O::Call>, T: Entry
     }
 }
 
+// Receipts that tell that the file has so many records, by a look at the table; else the last ones, which may be newer.
+fn looked<C, K: Filing<C>>(
+    n: u32,
+    last: Option<Taken<C, K>>,
+) -> Result<Taken<C, K>, Option<Taken<C, K>>>
+    ensures kept { IfOk result (λ t. (n ≤ t.after.kept) × (t.after.failed ≡ t.before.failed)
+        × (t.before.kept ≤ t.after.kept) × (length K.kept ≤ t.before.kept)) }
+    ensures last { IfOk result (λ t. IfSome last (λ l. (l.after.kept ≤ t.before.kept)
+        × (l.after.failed ≤ t.before.failed))) }
+    ensures newer { IfErr result (λ newer. IfSome last (λ l. IsSomeAnd newer (λ t.
+        (l.after.kept ≤ t.after.kept) × (l.after.failed ≤ t.after.failed)))) }
+{
+    let Some(last) = last else {
+        return Err(None);
+    };
+    match last.look() {
+        Ok(taken) if u64::from(n) <= taken.kept() => Ok(taken),
+        Ok(taken) | Err(taken) => Err(Some(taken)),
+    }
+}
+
 impl<
     D: Disk,
     O: PartObject + Drop,
@@ -82,10 +103,21 @@ impl<
         ensures fault { IfErr result.0
             (λ f. IsCountedFault f result.1.before.failed result.1.after.failed) }
     {
-        let appends = self.turns.come(rt, n);
-        let (kept, taken) = self.keep_now(rt, alloc, room, n, last);
-        self.turns.leave(rt, appends, taken.kept());
-        (kept, taken)
+        let last = match looked(n, last) {
+            Ok(taken) => return (Ok(()), taken),
+            Err(last) => last,
+        };
+        match self.turns.come(rt, n) {
+            true => {
+                let (kept, taken) = self.keep_now(rt, alloc, room, n, last);
+                self.turns.leave(rt, taken.kept());
+                (kept, taken)
+            }
+            false => match looked(n, last) {
+                Ok(taken) => (Ok(()), taken),
+                Err(last) => self.keep_now(rt, alloc, room, n, last),
+            },
+        }
     }
 
     // The same out of turn.

@@ -1,5 +1,5 @@
 // What keeps the journal of a room.
-ghost use Rattle.std.specs.Prelude.{◌≡◌, ◌≤◌, true, Some, IfErr, OnOk};
+ghost use Rattle.std.specs.Prelude.{◌≡◌, ◌≤◌, true, Some, IfErr, IfSome, OnOk};
 ghost use Rattle.room_keepers.specs.Faults.{IsCounted};
 
 use crate::KeepFault;
@@ -30,6 +30,12 @@ pub trait Keeping<O: PartObject, J: Naming<O, O::Part>> {
     fn is_kept(&self, last: &Option<Self::Taken>, n: u32) -> bool
         requires { n ≤ 100000 }
         ensures { result ≡ true → n ≤ upto last.now };
+
+    /// Looks how many entries are kept by now, which who asked so knows from then on. It waits for nobody, and answers
+    /// `None` where that is not told.
+    fn look(&self, taken: &mut Option<Self::Taken>) -> Option<u64>
+        ensures stays { upto taken.old ≤ upto taken.new }
+        ensures known { IfSome result (λ kept. kept ≡ upto taken.new) };
 
     /// Has the entries before a point kept, which the room has told somebody of. What was taken when it was asked last is
     /// handed in, and what is taken now stands in its place.

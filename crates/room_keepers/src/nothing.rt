@@ -33,6 +33,10 @@ impl<O: PartObject, J: Naming<O, O::Part>> Keeping<O, J> for KeepsNothing {
         true
     }
 
+    fn look(&self, _: &mut Option<Nothing>) -> Option<u64> {
+        None
+    }
+
     fn keep<R: Wait>(
         &self,
         _: &R,

@@ -1,6 +1,6 @@
 -- What a room did for a session's line, and what the reply to it says.
-use Rattle.std.proofs.Common.{◌≡◌, ℕ, max, ◌+◌, ◌<◌, ◌≤◌, inl, inr, List, [], ◌∷◌, ◌++◌, Vec, length, take, drop, zero, suc, Option, Some, None, Result, Ok, Err, IsSome, slice_get, option_map, fold, refl, sym, ap, ◌∙◌, arith, subst}
-use Rattle.std.specs.Prelude.{codes, decimal, is_none, IfOk}
+use Rattle.std.proofs.Common.{◌⊎◌, ⊎_elim, ◌≡◌, ℕ, max, ◌+◌, ◌<◌, ◌≤◌, inl, inr, List, [], ◌∷◌, ◌++◌, Vec, length, take, drop, zero, suc, Option, Some, None, Result, Ok, Err, IsSome, slice_get, option_map, fold, refl, sym, ap, ◌∙◌, arith, subst}
+use Rattle.std.specs.Prelude.{codes, decimal, is_none, IfOk, IfSome, IsSomeAnd}
 use Rattle.std.specs.Global.{Global}
 use Rattle.std.proofs.lemmas.List.{append-nil, length-take}
 use Rattle.std.proofs.lemmas.List.Sums.{fold-append}
@@ -55,10 +55,10 @@ tracks_are : (room : TrackRoom) (h : History) (tracks : List KeptTrack) → repl
 tracks_are room h tracks is = ap (or_opening room.parts) is
 
 -- a station that knows more entries than before, none of them its own
-grown : (room : TrackRoom) (counting : Counted) (start held line station : ℕ) (before after : History) → IsLegal (whole (stepping room.object.object.table)) room.parts before
+grown : (room : TrackRoom) (counting : Counted) (start held later line station : ℕ) (before after : History) → held ≤ later → IsLegal (whole (stepping room.object.object.table)) room.parts before
     → IsLegal (whole (stepping room.object.object.table)) room.parts after → Begins after before → of_station station after ≡ of_station station before
-    → Grows (room_of (setting_at room counting start)) station (course_at room before held line) (course_at room after held line)
-grown room counting start held line station before after was is front same =
+    → Grows (room_of (setting_at room counting start)) station (course_at room before held line) (course_at room after later line)
+grown room counting start held later line station before after more was is front same =
     let apply = whole (stepping room.object.object.table) in
     let rest = front.0 in
     let all : of_station station before ++ of_station station rest ≡ of_station station before =
@@ -75,9 +75,15 @@ grown room counting start held line station before after was is front same =
       state = state;
       rise = is.rise;
       within = is.within;
-      held = refl;
+      held = more;
       line = refl;
     }
+
+-- the point that is told is that of all entries, or that of those which are kept
+pub told_least : (kept : Option ℕ) (held point n : ℕ) → IfSome kept (λ k. k ≡ held) → (point ≡ n) ⊎ IsSomeAnd kept (λ k. k ≡ point) → (point ≡ n) ⊎ (held ≡ point)
+told_least kept held point n is (inl all) = inl all
+told_least None held point n is (inr that) = absurd that
+told_least (Some k) held point n is (inr that) = inr (sym is ∙ that)
 
 -- a reply behind what others committed, which commits nothing
 replied : (room : TrackRoom) (before after : TrackPass) (counting : Counted) (start : ℕ) (holding : Holding) (line : ℕ) (wish : Wish CutStep Ask) (text : List ℕ) (tells : ℕ) → IsSeated room line before
@@ -89,7 +95,7 @@ replied room before after counting start holding line wish text tells seated sta
   station = stays.goes_on.number_is;
   written = λ w. subst AreWritten (sym stays.own) w;
   met = course_at room after.entries holding.held line;
-  grows = grown room counting start holding.held line before.number before.entries after.entries seated.legal (stays.goes_on.legal seated.legal) stays.goes_on.front stays.own;
+  grows = grown room counting start holding.held holding.held line before.number before.entries after.entries (omega arith) seated.legal (stays.goes_on.legal seated.legal) stays.goes_on.front stays.own;
   answered = course_at room after.entries holding.held line;
   step = step;
   within = within;
@@ -110,7 +116,7 @@ has_grown room before after counting start holding line seated stays = record {
   station = stays.goes_on.number_is;
   written = λ w. subst AreWritten (sym stays.own) w;
   line = refl;
-  grows = grown room counting start holding.held line before.number before.entries after.entries seated.legal (stays.goes_on.legal seated.legal) stays.goes_on.front stays.own;
+  grows = grown room counting start holding.held holding.held line before.number before.entries after.entries (omega arith) seated.legal (stays.goes_on.legal seated.legal) stays.goes_on.front stays.own;
 }
 
 pub unmoved_grown : (room : TrackRoom) (pass : Option TrackPass) (counting : Counted) (start : ℕ) (holding : Holding) (line : ℕ) → IsSession room line pass
@@ -165,7 +171,7 @@ module _ (room : TrackRoom) (before after : TrackPass) (counting : Counted) (sta
         station = e.goes_on.number_is;
         written = λ all. subst AreWritten (sym e.own) (written_more (of_station before.number before.entries) entry w all);
         met = course_at room e.journal holding.held line;
-        grows = grown room counting start holding.held line before.number before.entries e.journal seated.legal e.legal e.met e.others;
+        grows = grown room counting start holding.held holding.held line before.number before.entries e.journal (omega arith) seated.legal e.legal e.met e.others;
         answered = course_at room after.entries holding.held line;
         step = inl (inl (
           d,
@@ -240,11 +246,31 @@ module _ (room : TrackRoom) (before after : TrackPass) (counting : Counted) (sta
   edit_seated c (answer.Full n) e = seated_stays room before after line seated e.at.stays
   edit_seated c answer.Memory e = seated_stays room before after line seated e.0
 
-  pub point_replied : (n : ℕ) (text : List ℕ) → IsAtPoint (stepping room.object.object.table) room.parts before after n → text ≡ codes "point " ++ decimal n
-      → RepliesWith (session_at room (Some before) counting start holding line) (session_at room (Some after) counting start holding (line + 1)) Point text n
-  point_replied n text e is =
-      replied room before after counting start holding line Point text n seated e.stays (omega (arith, e.point_is, e.legal.within))
-      (inl (record { same = refl; reply_is = is ∙ ap (λ m. codes "point " ++ decimal m) e.point_is; tells_are = e.point_is }))
+  -- a point that is told, with as many entries or more known to be kept
+  pub point_replied : (later : Holding) (n point : ℕ) (text : List ℕ) → holding.held ≤ later.held → IsAtPoint (stepping room.object.object.table) room.parts before after n → point ≤ n
+      → (point ≡ n) ⊎ (later.held ≡ point) → text ≡ codes "point " ++ decimal point
+      → RepliesWith (session_at room (Some before) counting start holding line) (session_at room (Some after) counting start later (line + 1)) Point text point
+  point_replied later n point text more e below least is = record {
+    setting = refl;
+    station = e.stays.goes_on.number_is;
+    written = λ w. subst AreWritten (sym e.stays.own) w;
+    met = course_at room after.entries later.held line;
+    grows = grown room counting start holding.held later.held line before.number before.entries after.entries more seated.legal (e.stays.goes_on.legal seated.legal) e.stays.goes_on.front e.stays.own;
+    answered = course_at room after.entries later.held line;
+    step = inl (
+      point,
+      record {
+        within = omega (arith, e.point_is, below);
+        least = ⊎_elim (λ (all : point ≡ n). inl (all ∙ e.point_is)) (λ (kept : later.held ≡ point). inr (omega (arith, kept))) least;
+        same = refl;
+        reply_is = is;
+        tells_are = refl;
+      },
+    );
+    within = omega (arith, e.point_is, e.legal.within, below);
+    passed = refl;
+    line = refl;
+  }
 
   pub point_seated : (n : ℕ) → IsAtPoint (stepping room.object.object.table) room.parts before after n → IsSeated room (line + 1) after
   point_seated n e = seated_stays room before after line seated e.stays

@@ -1,5 +1,5 @@
 -- A station that has answered some lines, and what it does for one more.
-use Rattle.std.proofs.Common.{◌≡◌, ℕ, ◌+◌, ◌<◌, ◌≤◌, Bool, inl, inr, List, [], ◌∷◌, ◌++◌, drop, length, max, take, slice_get, Option, Some, Ok, refl, sym, ap, ◌∙◌, subst, arith, option_map, fold, cond, eqb, true, false}
+use Rattle.std.proofs.Common.{⊎_elim, ◌≡◌, ℕ, ◌+◌, ◌<◌, ◌≤◌, Bool, inl, inr, List, [], ◌∷◌, ◌++◌, drop, length, max, take, slice_get, Option, Some, Ok, refl, sym, ap, ◌∙◌, subst, arith, option_map, fold, cond, eqb, true, false}
 use Rattle.std.proofs.lemmas.List.{append-nil, length-append}
 use Rattle.std.proofs.lemmas.List.Sums.{fold-append}
 use Rattle.std.proofs.Math.Seq.{take-length}
@@ -253,16 +253,16 @@ module _ {S C D R Q X Y : Type 0} (k : Protocol S C D R Q X Y) (station : ℕ) (
         points_are = refl;
       } in
       replied_quiet old new ls rs last l reply tells n m.same w (inl (rw says (n, k.see old.state q, seen))) (omega arith) (omega (arith, m.tells_are))
-  replied_does old new ls rs last l reply tells Point w says m =
-      let n : ℕ = length old.journal in
+  replied_does old new ls rs last l reply tells Point w says (n, m) =
+      let told : last ≤ n = ⊎_elim (λ (all : n ≡ length old.journal). omega (arith, w.told, all)) (λ (kept : old.held ≤ n). omega (arith, w.held, kept)) m.least in
       let point : IsPoint k o old.journal station (from.base + 1 + length ls) last reply n [] n = record {
-        told_of = w.told;
-        within = omega arith;
+        told_of = told;
+        within = m.within;
         reply_is = m.reply_is;
         after_is = refl;
         points_are = refl;
       } in
-      replied_quiet old new ls rs last l reply tells n m.same w (inl (rw says (n, point))) (omega arith) (omega (arith, m.tells_are))
+      replied_quiet old new ls rs last l reply tells n m.same w (inl (rw says (n, point))) m.within (omega (arith, m.tells_are))
   replied_does old new ls rs last l reply tells (Write n) w says (inl (s, m)) =
       let told : max last n ≤ length old.journal = omega (arith, w.told, m.within) in
       let document : IsDocument k o old.journal station (from.base + 1 + length ls) last reply (max last n) [] n s = record {

@@ -34,7 +34,7 @@ pub record Course (S C : Type 0) : Type 0 where
   pub line : ℕ
 
 -- Others have committed more: what the station knows begins what it knows then, which has no further entry of its own, and
--- the state is what their entries leave.
+-- the state is what their entries leave. More entries may be known to be kept.
 pub record Grows {S C D R Q X Y : Type 0} (k : Protocol S C D R Q X Y) (station : ℕ) (old new : Course S C) : Type 0 where
   pub more : List (Entry C)
   pub opening : new.opening ≡ old.opening
@@ -43,7 +43,7 @@ pub record Grows {S C D R Q X Y : Type 0} (k : Protocol S C D R Q X Y) (station 
   pub state : replay k.apply old.state more ≡ Some new.state
   pub rise : NumbersRise new.journal
   pub within : length new.journal ≤ most_entries
-  pub held : new.held ≡ old.held
+  pub held : old.held ≤ new.held
   pub line : new.line ≡ old.line
 
 -- the number of the next line rises
@@ -109,11 +109,19 @@ module _ {S C D R Q X Y : Type 0} (k : Protocol S C D R Q X Y) (station : ℕ) (
     pub reply_is : reply ≡ text
     pub tells_are : tells ≡ count
 
+  -- The point that is told is that of all entries, or one that is known to be kept up to.
+  pub record TellsPoint (n : ℕ) : Type 0 where
+    pub within : n ≤ length old.journal
+    pub least : (n ≡ length old.journal) ⊎ (old.held ≤ n)
+    pub same : new ≡ old
+    pub reply_is : reply ≡ codes "point " ++ decimal n
+    pub tells_are : tells ≡ n
+
   -- an answer to what the line asks for
   abbrev pub Does : Wish C Q → Type 0
   Does (Do c) = ((d : D) × Commits c d) ⊎ (((r : R) × Refuses c r) ⊎ ((d : D) × HasNoRoom c d))
   Does (See q) = Says (k.sight_text (length old.journal) (k.see old.state q)) (length old.journal)
-  Does Point = Says (codes "point " ++ decimal (length old.journal)) (length old.journal)
+  Does Point = (n : ℕ) × TellsPoint n
   Does (Write n) = ((s : S) × Writes n s) ⊎ HasNoPoint n
   Does (News place) = TellsNews place ⊎ HasNoPoint place
   Does (Bad text) = Says text 0

@@ -1,5 +1,5 @@
 // The session of one station in a room, and the answer to each of its lines.
-ghost use Rattle.std.specs.Prelude.{◌≡◌, ◌<◌, IfOk, IsSome, Some};
+ghost use Rattle.std.specs.Prelude.{◌≡◌, ◌<◌, ◌≤◌, ◌⊎◌, IfOk, IsSome, IsSomeAnd, Some};
 ghost use Rattle.cut_steps.specs.CutSteps.{stepping};
 ghost use Rattle.reply_text.specs.Sights.{sight_text_of};
 ghost use Rattle.cut_room.specs.Rooms.{Edited};
@@ -63,6 +63,17 @@ impl<'a, R, G, J: Naming<CutObject, CutPart>, P: Keeping<CutObject, J>> Model
 
     ghost invariant = { λ s. IsSession s.room.now s.line s.pass
         × (J.opening ≡ Some (s.room.now.object, s.room.now.parts)) };
+}
+
+// The point that is told where there are so many entries, of which so many are kept.
+fn told_point(entries: u32, kept: Option<u64>) -> u32
+    ensures within { result ≤ entries }
+    ensures kept { (result ≡ entries) ⊎ IsSomeAnd kept (λ k. k ≡ result) }
+{
+    match kept {
+        Some(kept) if kept < u64::from(entries) => kept as u32,
+        _ => entries,
+    }
 }
 
 impl<'a, R: Wait, G: Gate, J: Naming<CutObject, CutPart>, P: Keeping<CutObject, J>> Station<
@@ -176,14 +187,18 @@ impl<'a, R: Wait, G: Gate, J: Naming<CutObject, CutPart>, P: Keeping<CutObject, 
         sight_reply(self.alloc, &sight)
     }
 
+    // The point is how many entries are kept, where that is told: those that come after are promised to nobody yet. So the
+    // reply waits for no disk.
     fn reply_to_point(&mut self) -> (Reply, u32)
         requires { self.old.course.line + 1 < 2 ^ 32 }
         ensures { RepliesWith self.old self.new Point result.0 result.1 }
     {
+        let kept = self.keeper.look(&mut self.taken);
         let pass = taken(&mut self.pass);
-        let (pass, point) = self.room.point(self.rt, pass);
+        let (pass, entries) = self.room.point(self.rt, pass);
         self.pass = Some(pass);
         self.line += 1;
+        let point = told_point(entries, kept);
         (Reply::short(point_text(point)), point)
     }
 

@@ -4,8 +4,8 @@ use Rattle.append_receipts.proofs.receipts.Receipts.kept.Goals as goal
 
 pub store-requires : goal.store-requires
 store-requires c = (
-  ap (λ k. k.table) c.clerk.view_is ∙ (c.requires.table ∙ sym c.self.view_is),
-  omega (arith, c.self.invariant),
+  ap (λ k. k.table) c.clerk.view_is ∙ (c.requires.table ∙ sym c.self.view_is ∙ ap (λ t. t.shared.table_id) (sym c.deref.ensures)),
+  omega (arith, c.self.invariant, ap (λ t. t.shared.table_id.words) c.deref.ensures),
   counts_record _ _ c.clerk.inside.seat.me.0 c.clerk.inside.seat.me.1 c.from.result c.clerk.invariant.1
       (omega (arith, c.from.ensures, c.clerk.invariant.2)),
 )
