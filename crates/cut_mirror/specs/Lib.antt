@@ -1,3 +1,4 @@
 -- To be read: public clauses speak of these.
 pub mod Following
 pub mod Mirrors
+pub mod Walks
