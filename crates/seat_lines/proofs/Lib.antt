@@ -1,0 +1,6 @@
+mod Texts
+mod Fronts
+mod Pieces
+mod Replied
+mod Lined
+mod Plain

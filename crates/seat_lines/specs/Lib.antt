@@ -1,0 +1,5 @@
+-- To be read: public clauses speak of these.
+pub mod Texts
+pub mod Sayings
+pub mod Seats
+pub mod Runs
