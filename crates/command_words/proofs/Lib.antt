@@ -3,3 +3,4 @@ pub mod Asking
 pub mod NameRows
 pub mod LastEqual
 pub mod ListedRows
+pub mod WordsBehind

@@ -2,3 +2,4 @@
 pub mod Commands
 pub mod Names
 pub mod NamedLists
+pub mod WordFaults

@@ -12,25 +12,25 @@ use ratio_time::{Numeral, rate_of};
 use timecode12::{Counting, SequenceRate};
 
 /// The fewest tracks of a plain room.
-const LEAST_TRACKS: u32 = 1;
+pub(crate) const LEAST_TRACKS: u32 = 1;
 
 /// The most tracks of a plain room.
-const MOST_TRACKS: u32 = 32;
+pub(crate) const MOST_TRACKS: u32 = 32;
 
 /// The most reels of a plain room.
-const MOST_REELS: u32 = 999;
+pub(crate) const MOST_REELS: u32 = 999;
 
 /// The fewest stations of a hall.
-const LEAST_STATIONS: u32 = 1;
+pub(crate) const LEAST_STATIONS: u32 = 1;
 
 /// The most stations of a hall.
-const MOST_STATIONS: u32 = 16;
+pub(crate) const MOST_STATIONS: u32 = 16;
 
 /// The fewest lines that a station of a generated session sends.
-const LEAST_LINES: u32 = 1;
+pub(crate) const LEAST_LINES: u32 = 1;
 
 /// The most lines that a station of a generated session sends.
-const MOST_LINES: u32 = 20_000;
+pub(crate) const MOST_LINES: u32 = 20_000;
 
 /// What the program is asked for.
 #[derive(Clone, Copy)]
@@ -105,7 +105,7 @@ struct HallWords<'a> {
 }
 
 // A number of at least `least` and at most `most`.
-fn number_within(word: &str, least: u32, most: u32) -> Option<u32>
+pub(crate) fn number_within(word: &str, least: u32, most: u32) -> Option<u32>
     ensures { result ≡ number_within word.now least most }
 {
     match number(word.as_bytes()) {
@@ -131,7 +131,7 @@ fn sequence_rate(number: &Numeral) -> Option<SequenceRate>
 }
 
 // The rate of a sequence that a word spells.
-fn rate(word: &str) -> Option<SequenceRate>
+pub(crate) fn rate(word: &str) -> Option<SequenceRate>
     ensures { result ≡ rate_of_word word.now }
 {
     match numeral(word.as_bytes()) {
@@ -141,7 +141,7 @@ fn rate(word: &str) -> Option<SequenceRate>
 }
 
 // How frames are counted, by a rate and `drop` or `ndf`; `drop` only at a rate that has it.
-fn counting(rate_word: &str, drop_word: &str) -> Option<Counting>
+pub(crate) fn counting(rate_word: &str, drop_word: &str) -> Option<Counting>
     ensures { result ≡ counting_of rate_word.now drop_word.now }
 {
     let rate = rate(rate_word)?;

@@ -6,7 +6,9 @@
 mod command;
 mod names;
 mod tables;
+mod word_faults;
 
 pub use command::{Command, asks_for_another_rate, command_in, wants_numbers};
 pub use names::RowFault;
 pub use tables::{refused_row, tabled_of};
+pub use word_faults::{Part, WordFault, word_fault};
