@@ -1,1 +1,1 @@
-mod Lone
+pub mod FewWords

@@ -1,17 +1,20 @@
 // What standard error is told.
-ghost use Rattle.std.specs.Prelude.{◌≡◌, option_map, slice_get};
-ghost use Rattle.program_words.specs.Complaints.{complaint_of, hindrance_text, rule_text, status_text, told_by, usage_for, usage_text, words_complaint};
+ghost use Rattle.std.specs.Prelude.{◌≡◌, ◌<◌, length};
+ghost use Rattle.program_words.specs.Complaints.{complaint_of, command_complaint, fault_message, hindrance_text, no_command, notice_complaint, part_text, rule_text, second_complaint, status_text, told_by, unknown_command, words_complaint};
 
-use command_words::{RowFault, asks_for_another_rate, refused_row};
+use crate::commands::{command_named, command_near};
+use crate::notice::NO_WORDS;
+use command_words::{Part, RowFault, WordFault, word_fault};
 use line_words::Words;
 
-/// A line on a fault that neither the status tells nor the object that failed: a text, a word of the command line, and
-/// a text after it. All are empty where those say enough.
+/// Lines on a fault that neither the status tells nor the object that failed: a text, a word of the command line, a text
+/// after it, and how the command is called. All are empty where those say enough.
 #[derive(Clone, Copy)]
 pub struct Message<'a> {
     pub before: &'static str,
     pub word: &'a str,
     pub after: &'static str,
+    pub usage: &'static str,
 }
 
 /// Why a hall is not opened that words ask for.
@@ -34,6 +37,7 @@ pub fn hindrance_text(why: Hindrance<'_>) -> Message<'_>
             before: "cutroom: ",
             word: journal,
             after: " is the document itself: the journal needs a file of its own\n",
+            usage: "",
         },
         Hindrance::FewThreads => plain(
             "cutroom: the system gives fewer threads than there are stations: look at ulimit -u, ulimit -v and TasksMax=\n",
@@ -49,16 +53,12 @@ pub fn complaint(words: &Words, status: u8) -> Message<'_>
     ensures { told_by result ≡ complaint_of words.now status }
 {
     match status {
-        3 => words_complaint(
-            asks_for_another_rate(words),
-            refused_row(words),
-            usage_of(words),
-        ),
+        3 => words_complaint(words),
         _ => plain(status_text(status)),
     }
 }
 
-// A line that is one text, with no word in it.
+// What is one text, with no word in it.
 fn plain<'a>(text: &'static str) -> Message<'a>
     ensures { told_by result ≡ text.now }
 {
@@ -66,6 +66,7 @@ fn plain<'a>(text: &'static str) -> Message<'a>
         before: text,
         word: "",
         after: "",
+        usage: "",
     }
 }
 
@@ -83,60 +84,130 @@ fn status_text(status: u8) -> &'static str
     }
 }
 
-// What is told of words that are refused, by whether their RATE is why, by which word names no reel, and why, and else
-// how their command is called.
-fn words_complaint<'a>(
-    is_other_rate: bool,
-    row: Option<(&'a str, RowFault)>,
-    usage: &'static str,
-) -> Message<'a>
-    ensures { told_by result
-        ≡ words_complaint is_other_rate (option_map (λ x. (x.0.now, x.1)) row.entry) usage.now }
-{
-    if is_other_rate {
-        return plain("cutroom: RATE is one of 23.976, 24, 25, 29.97 and 30\n");
-    }
-    match row {
-        Some((word, fault)) => Message {
-            before: "cutroom: ",
-            word,
-            after: rule_text(fault),
-        },
-        None => plain(usage),
-    }
-}
-
-// How the command is called that these words begin.
-fn usage_of(words: &Words) -> &'static str
-    ensures { result.now ≡ usage_text (slice_get words.now 0) }
+// What is told of words that are refused: the first that can't stand where it stands, or what is missing, and how the
+// command is called.
+fn words_complaint(words: &Words) -> Message<'_>
+    ensures { told_by result ≡ words_complaint words.now }
 {
     if words.count() == 0 {
-        return "cutroom: no command was given; cutroom --help lists them\n";
+        return plain(NO_WORDS);
     }
-    usage_for(words.word(0))
+    match command_named(words.word(0)) {
+        Some(row) => command_complaint(words, row.usage),
+        None => unknown_command(words.word(0)),
+    }
 }
 
-// How the command of this name is called, or that there is none.
-fn usage_for(first: &str) -> &'static str
-    ensures { result.now ≡ usage_for first.now }
+// What is told of a word that begins no command: the usage of the one that is near, or where they are listed.
+fn unknown_command(word: &str) -> Message<'_>
+    ensures { told_by result ≡ unknown_command word.now }
 {
-    match first {
-        "run" =>
-            "cutroom: usage: run TRACKS REELS, or run DOC RATE DROP; cutroom --help says more\n",
-        "serve" => {
-            "cutroom: usage: serve DOC RATE DROP STATIONS ADDRESS JOURNAL; cutroom --help says more\n"
-        }
-        "store" => {
-            "cutroom: usage: store DOC RATE DROP STATIONS ADDRESS JOURNAL; cutroom --help says more\n"
-        }
-        "list" => {
-            "cutroom: usage: list DOC RATE DROP JOURNAL POINT [numbered | names TEXT=NAME ..]; cutroom --help says more\n"
-        }
-        "tape" => "cutroom: usage: tape LIST RATE; cutroom --help says more\n",
-        "import" => "cutroom: usage: import LIST RATE DROP; cutroom --help says more\n",
-        "follow" => "cutroom: usage: follow DOC RATE DROP; cutroom --help says more\n",
-        "make" => "cutroom: usage: make NUMBER COUNT; cutroom --help says more\n",
-        _ => "cutroom: there is no such command; cutroom --help lists them\n",
+    match command_near(word) {
+        Some(row) => no_command(word, row.usage),
+        None => no_command(word, "cutroom: cutroom --help lists the commands\n"),
+    }
+}
+
+// What is told of a word that begins no command, and how another is called.
+fn no_command<'a>(word: &'a str, usage: &'static str) -> Message<'a>
+    ensures { told_by result ≡ no_command word.now usage.now }
+{
+    Message {
+        before: "cutroom: ",
+        word,
+        after: ": there is no such command\n",
+        usage,
+    }
+}
+
+// What is told of the words of a command that is called so.
+fn command_complaint<'a>(words: &'a Words, usage: &'static str) -> Message<'a>
+    requires { 0 < length words.now }
+    ensures { told_by result ≡ command_complaint words.now usage.now }
+{
+    match word_fault(words) {
+        Some((word, fault)) => fault_message(word, fault, usage),
+        None => notice_complaint(words, usage),
+    }
+}
+
+// What is told of a word with this fault, in a command that is called so.
+fn fault_message<'a>(word: &'a str, fault: WordFault, usage: &'static str) -> Message<'a>
+    ensures { told_by result ≡ fault_message word.now fault usage.now }
+{
+    let (before, after) = match fault {
+        WordFault::Missing(part) => ("cutroom: a word is missing", part_text(part)),
+        WordFault::Wrong(part) => ("cutroom: ", part_text(part)),
+        WordFault::Beyond => ("cutroom: ", ": a word too many\n"),
+        WordFault::Row(row) => ("cutroom: ", rule_text(row)),
+    };
+    Message {
+        before,
+        word,
+        after,
+        usage,
+    }
+}
+
+// What is told of words that begin as a notice of the program on itself, and ask for none: their second word is missing or
+// wrong, or there is a third. Of others how they are called.
+fn notice_complaint<'a>(words: &'a Words, usage: &'static str) -> Message<'a>
+    requires { 0 < length words.now }
+    ensures { told_by result ≡ notice_complaint words.now usage.now }
+{
+    match words.word(0) {
+        "explain" => second_complaint(
+            words,
+            ": CODE is a code of a refusal, as O4 or E10, or an exit status, 0 to 9\n",
+            usage,
+        ),
+        "help" => second_complaint(
+            words,
+            ": COMMAND is the first word of a command, as run\n",
+            usage,
+        ),
+        _ => plain(usage),
+    }
+}
+
+// What is told of words of which the second breaks this rule, or is missing, or has one after it.
+fn second_complaint<'a>(words: &'a Words, rule: &'static str, usage: &'static str) -> Message<'a>
+    requires { 0 < length words.now }
+    ensures { told_by result ≡ second_complaint words.now rule.now usage.now }
+{
+    let (before, word, after) = match words.count() {
+        1 => ("cutroom: a word is missing", "", rule),
+        2 => ("cutroom: ", words.word(1), rule),
+        _ => ("cutroom: ", words.word(2), ": a word too many\n"),
+    };
+    Message {
+        before,
+        word,
+        after,
+        usage,
+    }
+}
+
+// What a word has to say.
+fn part_text(part: Part) -> &'static str
+    ensures { result.now ≡ part_text part }
+{
+    match part {
+        Part::Document => ": DOC is the path of an OpenTimelineIO file\n",
+        Part::List => ": LIST is the path of a CMX 3600 list\n",
+        Part::Journal => ": JOURNAL is the path of a journal's file\n",
+        Part::Address => ": ADDRESS is HOST:PORT, as 127.0.0.1:7000\n",
+        Part::Rate => ": RATE is one of 23.976, 24, 25, 29.97 and 30\n",
+        Part::Drop => ": DROP is ndf, or drop where RATE is 29.97\n",
+        Part::Stations => ": STATIONS is a number from 1 to 16\n",
+        Part::Tracks => ": TRACKS is a number from 1 to 32\n",
+        Part::Reels => ": REELS is a number from 0 to 999\n",
+        Part::Point =>
+            ": POINT is how many entries of the journal to do, 0 for the document's own cut\n",
+        Part::Number => ": NUMBER is a number from 0 to 4294967295\n",
+        Part::Count => ": COUNT is a number from 1 to 20000\n",
+        Part::Naming => ": after POINT comes nothing, or numbered, or names TEXT=NAME ..\n",
+        Part::Row => ": after names comes TEXT=NAME, once or more\n",
     }
 }
 

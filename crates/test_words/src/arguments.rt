@@ -1,7 +1,10 @@
 // Words of the command line, what they ask for, and what standard error says of those that are refused.
 use command_words::{Command, command_in, tabled_of};
 use line_words::{Memory, Words};
-use program_words::{HELP, Notice, complaint, words_after_the_name};
+use program_words::{
+    COMMANDS, HELP, NO_WORDS, Notice, VERSION, code_text, command_named, complaint,
+    words_after_the_name,
+};
 use room_ports::MemSink;
 use std::alloc::Global;
 
@@ -16,23 +19,53 @@ fn words_in(alloc: Global, texts: &[&str]) -> Result<Words, Memory> {
     Ok(words)
 }
 
+// The text that words ask for.
+fn text_asked(words: &Words) -> Option<&'static str> {
+    match Notice::asked_by(words) {
+        Some(Notice::Help) => Some(HELP),
+        Some(Notice::Version) => Some(VERSION),
+        Some(Notice::Command(page)) => Some(page),
+        Some(Notice::Code(text)) => Some(text),
+        None => None,
+    }
+}
+
 #[test]
-fn a_lone_word_asks_for_a_notice(rt: HostRuntime) -> Result<(), Memory> {
+fn few_words_ask_for_a_notice(rt: HostRuntime) -> Result<(), Memory> {
     let alloc = rt.alloc();
-    let cases: [(&[&str], Option<Notice>); 9] = [
-        (&["--help"], Some(Notice::Help)),
-        (&["--version"], Some(Notice::Version)),
+    let page = match command_named("run") {
+        Some(row) => Some(row.page),
+        None => None,
+    };
+    let meaning = code_text("O4");
+    assert!(rt; page.is_some() && meaning.is_some());
+    let cases: [(&[&str], Option<&str>); 22] = [
+        (&["--help"], Some(HELP)),
+        (&["-h"], Some(HELP)),
+        (&["help"], Some(HELP)),
+        (&["--version"], Some("cutroom 0.1\n")),
+        (&["-V"], Some("cutroom 0.1\n")),
+        (&["help", "run"], page),
+        (&["--help", "run"], page),
+        (&["-h", "run"], page),
+        (&["run", "--help"], page),
+        (&["run", "-h"], page),
+        (&["explain", "O4"], meaning),
         (&[], None),
         (&[""], None),
         (&["--Help"], None),
         (&["--help "], None),
         (&["--help", "--help"], None),
-        (&["run", "--help"], None),
+        (&["help", "walk"], None),
+        (&["run", "help"], None),
+        (&["explain"], None),
+        (&["explain", "O99"], None),
+        (&["explain", "O4", "O4"], None),
         (&["run", "2", "1"], None),
     ];
-    for (texts, notice) in cases {
+    for (texts, text) in cases {
         let words = words_in(alloc, texts)?;
-        assert!(rt; Notice::asked_by(&words) == notice, "{texts:?}");
+        assert!(rt; text_asked(&words) == text, "{texts:?}");
     }
     Ok(())
 }
@@ -40,7 +73,12 @@ fn a_lone_word_asks_for_a_notice(rt: HostRuntime) -> Result<(), Memory> {
 #[test]
 fn a_notice_is_told_whole_or_is_a_write_fault(rt: HostRuntime) -> Result<(), Memory> {
     let alloc = rt.alloc();
-    for (notice, text) in [(Notice::Help, HELP), (Notice::Version, "cutroom 0.1\n")] {
+    let cases = [
+        (Notice::Help, HELP),
+        (Notice::Version, "cutroom 0.1\n"),
+        (Notice::Code("E2\n"), "E2\n"),
+    ];
+    for (notice, text) in cases {
         let mut sink = MemSink::new(alloc, Vec::new(alloc));
         assert_eq!(rt; notice.tell(&mut sink), 0);
         assert!(rt; sink.bytes() == Some(text.as_bytes()));
@@ -51,6 +89,241 @@ fn a_notice_is_told_whole_or_is_a_write_fault(rt: HostRuntime) -> Result<(), Mem
         assert_eq!(rt; notice.tell(&mut broken), 2);
     }
     Ok(())
+}
+
+// Each command stands in `--help` and in the short usage, its usage line begins with its name, and so does its page.
+#[test]
+fn each_command_is_told_everywhere(rt: HostRuntime) -> Result<(), Memory> {
+    let alloc = rt.alloc();
+    for (name, usage, page) in COMMANDS {
+        let line = format!(in alloc; "\n  {name} ")?;
+        assert!(rt; HELP.contains(line.as_str()), "{name}");
+        let word = format!(in alloc; " {name}")?;
+        assert!(rt; NO_WORDS.contains(word.as_str()), "{name}");
+        let called = format!(in alloc; "cutroom: usage: {name} ")?;
+        assert!(rt; usage.starts_with(called.as_str()), "{name}");
+        let head = format!(in alloc; "cutroom {name}")?;
+        assert!(rt; page.starts_with(head.as_str()), "{name}");
+        assert!(rt; are_narrow(page), "{name}");
+    }
+    assert!(rt; are_narrow(HELP) && are_narrow(NO_WORDS));
+    Ok(())
+}
+
+// Whether no line of a text has more than 80 bytes.
+fn are_narrow(text: &str) -> bool {
+    let mut len = 0u32;
+    for byte in text.as_bytes() {
+        len = if *byte == b'\n' {
+            0
+        } else {
+            len.wrapping_add(1)
+        };
+        if len > 80 {
+            return false;
+        }
+    }
+    true
+}
+
+const DOC: &str = ": DOC is the path of an OpenTimelineIO file\n";
+
+const RATE: &str = ": RATE is one of 23.976, 24, 25, 29.97 and 30\n";
+
+const DROP: &str = ": DROP is ndf, or drop where RATE is 29.97\n";
+
+const TRACKS: &str = ": TRACKS is a number from 1 to 32\n";
+
+const REELS: &str = ": REELS is a number from 0 to 999\n";
+
+const STATIONS: &str = ": STATIONS is a number from 1 to 16\n";
+
+const POINT: &str =
+    ": POINT is how many entries of the journal to do, 0 for the document's own cut\n";
+
+const NUMBER: &str = ": NUMBER is a number from 0 to 4294967295\n";
+
+const COUNT: &str = ": COUNT is a number from 1 to 20000\n";
+
+const NAMING: &str = ": after POINT comes nothing, or numbered, or names TEXT=NAME ..\n";
+
+const ROW: &str = ": after names comes TEXT=NAME, once or more\n";
+
+const MANY: &str = ": a word too many\n";
+
+const NONE: &str = ": there is no such command\n";
+
+const CODE: &str = ": CODE is a code of a refusal, as O4 or E10, or an exit status, 0 to 9\n";
+
+const COMMAND: &str = ": COMMAND is the first word of a command, as run\n";
+
+const JOURNAL: &str = ": JOURNAL is the path of a journal's file\n";
+
+const ADDRESS: &str = ": ADDRESS is HOST:PORT, as 127.0.0.1:7000\n";
+
+const LIST: &str = ": LIST is the path of a CMX 3600 list\n";
+
+// Calls of a newcomer that are refused: the words, the one that is wrong, empty where it is missing, the rule that it breaks,
+// and the command whose usage is told, where one begins so or nearly so.
+const REFUSED: [(&[&str], &str, &str, &str); 60] = [
+    (&["foo"], "foo", NONE, ""),
+    (&["field.otio"], "field.otio", NONE, ""),
+    (&["--version", "run"], "--version", NONE, ""),
+    (&["Run", "2", "1"], "Run", NONE, "run"),
+    (&["lst"], "lst", NONE, "list"),
+    (&["serves"], "serves", NONE, "serve"),
+    (&["sttore"], "sttore", NONE, "store"),
+    (&["-help"], "-help", NONE, "help"),
+    (&["tap"], "tap", NONE, "tape"),
+    (&["run"], "", DOC, "run"),
+    (&["run", "d.otio"], "", RATE, "run"),
+    (&["run", "d.otio", "24"], "", DROP, "run"),
+    (&["run", "d.otio", "23,976", "ndf"], "23,976", RATE, "run"),
+    (&["run", "d.otio", "25fps", "ndf"], "25fps", RATE, "run"),
+    (&["run", "d.otio", "50", "ndf"], "50", RATE, "run"),
+    (&["run", "d.otio", "59.94", "drop"], "59.94", RATE, "run"),
+    (&["run", "d.otio", "24", "drop"], "drop", DROP, "run"),
+    (&["run", "d.otio", "24", "df"], "df", DROP, "run"),
+    (&["run", "d.otio", "24", "NDF"], "NDF", DROP, "run"),
+    (&["run", "d.otio", "24", "ndf", "x"], "x", MANY, "run"),
+    (&["run", "--", "2", "1"], "2", RATE, "run"),
+    (&["run", "33", "1"], "33", TRACKS, "run"),
+    (&["run", "0", "1"], "0", TRACKS, "run"),
+    (&["run", "2", "1000"], "1000", REELS, "run"),
+    (&["run", "2", "one"], "one", REELS, "run"),
+    (&["run", "2"], "", REELS, "run"),
+    (&["serve"], "", DOC, "serve"),
+    (&["serve", "a", "b"], "b", RATE, "serve"),
+    (
+        &["serve", "d", "24", "ndf", "17", "a", "j"],
+        "17",
+        STATIONS,
+        "serve",
+    ),
+    (
+        &["serve", "d", "24", "ndf", "0", "a", "j"],
+        "0",
+        STATIONS,
+        "serve",
+    ),
+    (
+        &["serve", "d", "24", "ndf", "two", "a", "j"],
+        "two",
+        STATIONS,
+        "serve",
+    ),
+    (&["serve", "d", "24", "ndf", "2"], "", ADDRESS, "serve"),
+    (&["serve", "d", "24", "ndf", "2", "a"], "", JOURNAL, "serve"),
+    (
+        &["serve", "d", "24", "ndf", "2", "a", "j", "k"],
+        "k",
+        MANY,
+        "serve",
+    ),
+    (
+        &["store", "d", "24", "ndf", "17", "a", "j"],
+        "17",
+        STATIONS,
+        "store",
+    ),
+    (&["store", "d", "50", "ndf", "2", "a"], "50", RATE, "store"),
+    (&["list", "d", "24", "ndf"], "", JOURNAL, "list"),
+    (&["list", "d", "24", "ndf", "j"], "", POINT, "list"),
+    (
+        &["list", "d", "24", "ndf", "j", "last"],
+        "last",
+        POINT,
+        "list",
+    ),
+    (&["list", "d", "24", "ndf", "j", "-1"], "-1", POINT, "list"),
+    (
+        &["list", "d", "24", "ndf", "j", "4294967296"],
+        "4294967296",
+        POINT,
+        "list",
+    ),
+    (
+        &["list", "d", "24", "ndf", "j", "0", "number"],
+        "number",
+        NAMING,
+        "list",
+    ),
+    (
+        &["list", "d", "24", "ndf", "j", "0", "numbered", "x"],
+        "x",
+        MANY,
+        "list",
+    ),
+    (
+        &["list", "d", "24", "ndf", "j", "0", "names"],
+        "",
+        ROW,
+        "list",
+    ),
+    (
+        &["list", "d", "24", "ndf", "j", "0", "A=B"],
+        "A=B",
+        NAMING,
+        "list",
+    ),
+    (&["tape"], "", LIST, "tape"),
+    (&["tape", "l"], "", RATE, "tape"),
+    (&["tape", "l", "24", "ndf"], "ndf", MANY, "tape"),
+    (&["import", "l", "24"], "", DROP, "import"),
+    (&["follow", "d", "24", "drop"], "drop", DROP, "follow"),
+    (&["make"], "", NUMBER, "make"),
+    (&["make", "1"], "", COUNT, "make"),
+    (&["make", "x", "1"], "x", NUMBER, "make"),
+    (&["make", "1", "0"], "0", COUNT, "make"),
+    (&["make", "1", "20001"], "20001", COUNT, "make"),
+    (&["explain"], "", CODE, "explain"),
+    (&["explain", "O99"], "O99", CODE, "explain"),
+    (&["explain", "O4", "now"], "now", MANY, "explain"),
+    (&["help", "walk"], "walk", COMMAND, "help"),
+    (&["help", "run", "now"], "now", MANY, "help"),
+];
+
+#[test]
+fn a_newcomer_is_told_what_to_do(rt: HostRuntime) -> Result<(), Memory> {
+    let alloc = rt.alloc();
+    for (texts, word, rule, usage) in REFUSED {
+        assert!(rt; is_told(alloc, texts, word, rule, usage)?, "{texts:?}");
+    }
+    let none = words_in(alloc, &[])?;
+    let told = complaint(&none, 3);
+    assert!(rt; told.before == NO_WORDS && told.word.is_empty() && told.usage.is_empty());
+    Ok(())
+}
+
+// Whether these words are refused by this of them, with this rule and the usage of this command.
+fn is_told(
+    alloc: Global,
+    texts: &[&str],
+    word: &str,
+    rule: &str,
+    usage: &str,
+) -> Result<bool, Memory> {
+    let words = words_in(alloc, texts)?;
+    let told = complaint(&words, 3);
+    let before = if word.is_empty() {
+        "cutroom: a word is missing"
+    } else {
+        "cutroom: "
+    };
+    Ok(
+        told.before == before
+            && told.word == word
+            && told.after == rule
+            && told.usage == usage_of(usage),
+    )
+}
+
+// How the command of a name is called, or where commands are listed.
+fn usage_of(name: &str) -> &'static str {
+    match command_named(name) {
+        Some(row) => row.usage,
+        None => "cutroom: cutroom --help lists the commands\n",
+    }
 }
 
 #[test]
@@ -181,31 +454,17 @@ fn a_hall_is_asked_for_by_store(rt: HostRuntime) -> Result<(), Memory> {
     Ok(())
 }
 
-// What standard error is told of these words at a status, a line without a word in it.
+// What standard error is told of a status by itself.
 #[test]
-fn what_store_is_told(rt: HostRuntime) -> Result<(), Memory> {
+fn what_a_status_is_told(rt: HostRuntime) -> Result<(), Memory> {
     let alloc = rt.alloc();
-    let usage =
-        "cutroom: usage: store DOC RATE DROP STATIONS ADDRESS JOURNAL; cutroom --help says more\n";
-    let rate = "cutroom: RATE is one of 23.976, 24, 25, 29.97 and 30\n";
     let disk =
         "cutroom: the disk of the journal failed; after a write or a sync that failed check it and reboot before the next start, since the system may call the next sync done\n";
-    let cases: [(&[&str], u8, &str); 8] = [
-        (&["store"], 3, usage),
-        (&["store", "d", "24", "ndf", "17", "a", "j"], 3, usage),
-        (&["store", "d", "fast", "ndf", "2", "a", "j"], 3, usage),
-        (&["store", "d", "50", "ndf", "2", "a", "j"], 3, rate),
-        (&["store", "d", "50", "ndf", "2", "a"], 3, usage),
-        (&["store", "d", "24", "ndf", "2", "a", "j"], 8, ""),
-        (&["store", "d", "24", "ndf", "2", "a", "j"], 9, disk),
-        (&["store", "d", "24", "ndf", "2", "a", "j"], 10, ""),
-    ];
-    for (texts, status, text) in cases {
-        let words = words_in(alloc, texts)?;
+    let words = words_in(alloc, &["store", "d", "24", "ndf", "2", "a", "j"])?;
+    for (status, text) in [(0, ""), (8, ""), (9, disk), (10, "")] {
         let told = complaint(&words, status);
-        assert!(rt; told.before == text && told.word.is_empty(), "{texts:?}");
+        assert!(rt; told.before == text && told.word.is_empty() && told.usage.is_empty());
     }
-    assert!(rt; HELP.contains("\nstore DOC RATE DROP STATIONS ADDRESS JOURNAL\n"));
     Ok(())
 }
 
@@ -242,31 +501,5 @@ fn a_mirror_is_asked_for_by_follow(rt: HostRuntime) -> Result<(), Memory> {
         let words = words_in(alloc, texts)?;
         assert!(rt; document_followed(&words) == followed, "{texts:?}");
     }
-    Ok(())
-}
-
-// What standard error is told of words of `follow` that are refused.
-#[test]
-fn what_follow_is_told(rt: HostRuntime) -> Result<(), Memory> {
-    let alloc = rt.alloc();
-    let usage = "cutroom: usage: follow DOC RATE DROP; cutroom --help says more\n";
-    let rate = "cutroom: RATE is one of 23.976, 24, 25, 29.97 and 30\n";
-    let none = "cutroom: there is no such command; cutroom --help lists them\n";
-    let cases: [(&[&str], &str); 8] = [
-        (&["follow"], usage),
-        (&["follow", "d", "24"], usage),
-        (&["follow", "d", "24", "ndf", "j"], usage),
-        (&["follow", "d", "24", "drop"], usage),
-        (&["follow", "d", "fast", "ndf"], usage),
-        (&["follow", "d", "50", "ndf"], rate),
-        (&["follow", "d", "50"], usage),
-        (&["Follow", "d", "50", "ndf"], none),
-    ];
-    for (texts, text) in cases {
-        let words = words_in(alloc, texts)?;
-        let told = complaint(&words, 3);
-        assert!(rt; told.before == text && told.word.is_empty(), "{texts:?}");
-    }
-    assert!(rt; HELP.contains("\nfollow DOC RATE DROP\n"));
     Ok(())
 }
