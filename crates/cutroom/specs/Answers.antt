@@ -11,21 +11,20 @@ use Rattle.room_halls.specs.Stations.{HallTold}
 use Rattle.command_files.specs.Ports.{Change, DiskTold, InputTold, OutputTold}
 use Rattle.list_commands.specs.Cuts.{NamerTold, namer_told}
 use Rattle.cut_server.specs.Runs.{CommandEnds, EndsWith}
-use Rattle.program_words.specs.declared.notice.Notice.{Notice}
-use Rattle.program_words.specs.Notices.{notice_of, text_of}
+use Rattle.program_words.specs.Notices.{notice_of}
 
--- the notice was written, or a write failed after a front of it
-abbrev pub NoticeEnds : Notice → OutputTold → OutputTold → ℕ → Type 0
-NoticeEnds notice old new status =
-    ((status ≡ 0) × (new.faults ≡ old.faults) × Takes old.taken new.taken (text_of notice))
-    ⊎ ((status ≡ 2) × HasRisen old.faults new.faults × TakesFront old.taken new.taken (text_of notice))
+-- the text of a notice was written, or a write failed after a front of it
+abbrev pub NoticeEnds : List ℕ → OutputTold → OutputTold → ℕ → Type 0
+NoticeEnds text old new status =
+    ((status ≡ 0) × (new.faults ≡ old.faults) × Takes old.taken new.taken text)
+    ⊎ ((status ≡ 2) × HasRisen old.faults new.faults × TakesFront old.taken new.taken text)
 
 -- by what its files, its disk, its input, its output and its hall told before and tell after, and by the namer that it was
 -- handed
 module _ (files : Change FilesTold) (disk : Change DiskTold) (input : Change InputTold) (output : Change OutputTold) (hall : Change HallTold) (namer : NamerTold) where
-  abbrev pub EndsBy : Option Notice → List (List ℕ) → ℕ → Type 0
-  EndsBy (Some notice) words status =
-      files.Untouched × disk.Untouched × input.Untouched × hall.Untouched × NoticeEnds notice output.before output.after status
+  abbrev pub EndsBy : Option (List ℕ) → List (List ℕ) → ℕ → Type 0
+  EndsBy (Some text) words status =
+      files.Untouched × disk.Untouched × input.Untouched × hall.Untouched × NoticeEnds text output.before output.after status
   EndsBy None words status = EndsWith status (CommandEnds files disk input output hall namer (command_of words))
 
   abbrev pub ProgramEnds : List (List ℕ) → ℕ → Type 0

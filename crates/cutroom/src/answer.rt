@@ -99,8 +99,8 @@ fn answer_plain<
     }
 }
 
-/// Answers `--help` and `--version` by the notice that they ask for, and does what other words ask for. It answers the
-/// status that the program ends with, and gives the disk back.
+/// Answers words that ask for a notice by that, as `--help` and `--version`, and does what other words ask for. It answers
+/// the status that the program ends with, and gives the disk back.
 pub fn answer<
     R: Threads + Wait + Sync,
     F: Files,

@@ -6,6 +6,7 @@
 
 mod ahead;
 mod answer;
+mod cures;
 mod errors;
 mod memory;
 mod start;
@@ -14,20 +15,38 @@ mod tests;
 
 use ahead::{longest_file, look_ahead};
 use answer::{OUT_OF_MEMORY, answer_words};
+use command_words::{Command, command_in};
+use cures::{tell, tell_refusal};
 use errors::Errors;
+use line_words::Words;
 use memory::keep_freed_memory;
-use program_words::{Message, complaint, hindrance_text, program_arguments};
+use program_words::{Heard, Message, complaint, hindrance_text, program_arguments};
 use room_disks::StdDisk;
 use room_files::{Report, Reported, StdFiles};
 use room_halls::TcpHall;
-use room_ports::{StdSink, StdSource, put};
+use room_ports::{StdSink, StdSource};
 use start::fill_closed_streams;
-use std::io::Write;
+use std::io::{IsTerminal, Write};
 use std::process::ExitCode;
 use std::sync::Mutex;
 
 // The status of a hall that was not opened, or in which a station was not seated.
 const NOT_SEATED: u8 = 5;
+
+// The statuses of a command that did all, of a file that is refused, and of a cut that has no list.
+const DONE: u8 = 0;
+
+const REFUSED: u8 = 4;
+
+const NO_LIST: u8 = 8;
+
+// What somebody at a terminal is told before the first line.
+const BY_HAND: &str =
+    "cutroom: send lines, such as items 0; Ctrl-D ends and writes the journal, Ctrl-C loses it\n";
+
+// What is told of a list that shows nothing.
+const NOTHING_SHOWN: &str =
+    "cutroom: the list shows nothing: it has no event, or black alone; its lines have to end with line feeds\n";
 
 // Does what the arguments ask for, and ends with the status.
 fn main(rt: HostRuntime) -> ExitCode {
@@ -44,14 +63,21 @@ fn main(rt: HostRuntime) -> ExitCode {
     let idle = match look_ahead(&rt, alloc, &files, &words) {
         Ok(idle) => idle,
         Err(why) => {
-            tell(errors, hindrance_text(why));
+            tell_message(errors, hindrance_text(why));
             return ExitCode::from(NOT_SEATED);
         }
     };
     let disk = StdDisk::new(alloc, &rt, errors);
     let mut input = StdSource::new(Reported::new(rt.stdin(), "standard input", report));
-    let mut output = StdSink::new(Reported::new(rt.stdout(), "standard output", report));
+    let mut output = Heard::new(StdSink::new(Reported::new(
+        rt.stdout(),
+        "standard output",
+        report,
+    )));
     let mut hall = TcpHall::new(alloc, &rt, errors, idle);
+    if rt.stdin().is_terminal() && reads_lines(&words) {
+        tell(BY_HAND, errors);
+    }
     let (status, _) = answer_words(
         &rt,
         alloc,
@@ -62,14 +88,42 @@ fn main(rt: HostRuntime) -> ExitCode {
         &mut output,
         &mut hall,
     );
-    tell(errors, complaint(&words, status));
+    let line = output.beginning.as_slice();
+    tell_message(errors, complaint(&words, status));
+    match status {
+        REFUSED => tell_refusal(alloc, &mut files, &words, line, errors),
+        NO_LIST => tell_refusal(alloc, &mut files, &words, line, errors),
+        DONE => {
+            if line.is_empty() && shows_a_list(&words) {
+                tell(NOTHING_SHOWN, errors);
+            }
+        }
+        _ => {}
+    }
     ExitCode::from(status)
 }
 
+// Whether words ask for a session over standard input.
+fn reads_lines(words: &Words) -> bool {
+    match command_in(words) {
+        Some(Command::Run { .. }) => true,
+        Some(Command::RunDocument { .. }) => true,
+        _ => false,
+    }
+}
+
+// Whether words ask for what a list shows.
+fn shows_a_list(words: &Words) -> bool {
+    match command_in(words) {
+        Some(Command::PlayList { .. }) => true,
+        _ => false,
+    }
+}
+
 // Writes a message to a stream, or a front of it.
-fn tell<W: Write + Drop>(stream: W, told: Message<'_>) {
-    let mut errors = StdSink::new(stream);
-    let _ = put(&mut errors, told.before.as_bytes());
-    let _ = put(&mut errors, told.word.as_bytes());
-    let _ = put(&mut errors, told.after.as_bytes());
+fn tell_message<W: Write + Drop + Copy>(stream: W, told: Message<'_>) {
+    tell(told.before, stream);
+    tell(told.word, stream);
+    tell(told.after, stream);
+    tell(told.usage, stream);
 }
