@@ -10,22 +10,21 @@ reel or nest. --stream writes each reply that has an entry into FILE, as it came
 reads. It has a seat, and keeps the room open, until it is interrupted (Ctrl-C), or with --once until it has all that is
 there. It needs nothing but Python's standard library."""
 
-import argparse
-import os
 import re
 import socket
 import sys
 import time
 
 from media import names_of
-from station import named
+from shared import Words, Wrong, reason, run, shown
+from station import connected, named
 
 BULK = 1_000  # questions that are sent at once
 MOST_REPLY = 2_048  # bytes, more than any reply to `news` has
 NEWS = re.compile(rb"news ([0-9]+) ([0-9]+)(?: ([0-9]+) [0-9]+ (.+))?")
 
 
-class Ended(Exception):
+class Ended(Wrong):
     """Why nothing more can be followed, in a line."""
 
 
@@ -33,14 +32,7 @@ class Room:
     """A station of the room at an address, which asks for nothing but news."""
 
     def __init__(self, address):
-        host, _, port = address.rpartition(":")
-        if not host or not re.fullmatch("[0-9]{1,5}", port) or int(port) > 65_535:
-            raise Ended(f"{address} is no HOST:PORT")
-        try:
-            self.line = socket.create_connection((host.strip("[]"), int(port)))
-            self.line.setsockopt(socket.IPPROTO_TCP, socket.TCP_NODELAY, 1)
-        except (OSError, UnicodeError) as fault:
-            raise Ended(f"{address}: {fault}") from fault
+        self.line = connected(address)
         self.replies = self.line.makefile("rb")
 
     def ask(self, places):
@@ -49,7 +41,7 @@ class Room:
             self.line.sendall(b"".join(b"news %d\n" % place for place in places))
             return [self.reply() for _ in places]
         except OSError as fault:
-            raise Ended(f"the room has ended the line: {fault}") from fault
+            raise Ended(f"the room has ended the line: {reason(fault)}") from fault
 
     def reply(self):
         reply = self.replies.readline(MOST_REPLY)
@@ -67,12 +59,6 @@ def news_in(reply, place):
     if not found or int(found[1]) != place or (found[4] is not None) != (place < int(found[2])):
         raise Ended(f"no reply to `news {place}`: {shown(reply)}")
     return int(found[2]), found[4] and (int(found[3]), found[4])
-
-
-def shown(data):
-    """A text as it is printed: in one line, and without what would move a terminal's cursor."""
-    text = data.decode("utf-8", "replace") if isinstance(data, bytes) else data
-    return "".join(one if one.isprintable() else "?" for one in text)
 
 
 class Sink:
@@ -125,11 +111,11 @@ def opened(name):
     try:
         return open(name, "wb")
     except (OSError, ValueError) as fault:
-        raise Ended(f"{name}: {fault}") from fault
+        raise Ended(f"{name} can't be written: {reason(fault)}") from fault
 
 
 def main():
-    ask = argparse.ArgumentParser(usage="%(prog)s [--document DOC RATE] [--stream FILE] [--every SECONDS] [--once] HOST:PORT")
+    ask = Words(__doc__)
     ask.add_argument("--document", nargs=2, metavar=("DOC", "RATE"))
     ask.add_argument("--stream", metavar="FILE")
     ask.add_argument("--every", type=seconds, default=0.25, metavar="SECONDS")
@@ -142,14 +128,9 @@ def main():
         sink = Sink(names, words.stream and opened(words.stream))
         follow(room, sink, words.every, words.once)
         room.leave()
-    except Ended as fault:
-        sys.exit(f"follow: {fault}")
-    except KeyboardInterrupt:
-        pass
-    except OSError as fault:  # of the standard output or the stream
-        os.dup2(os.open(os.devnull, os.O_WRONLY), sys.stdout.fileno())
-        sys.exit(f"follow: {fault}")
+    except KeyboardInterrupt:  # how who follows ends it
+        return 0
 
 
 if __name__ == "__main__":
-    main()
+    run("follow", main)

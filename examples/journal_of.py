@@ -28,6 +28,8 @@ b'journal 1\\n0 1 slice 0 5\\n'
 
 import sys
 
+from shared import Wrong, put, read_file, run
+
 HEADER = b"cutroom journal 1\n"
 OPEN, LF = b"+", b"\n"
 
@@ -39,7 +41,7 @@ MOST_RECORDS = 100_000
 MOST_BYTES = 128 * 1024 * 1024
 
 
-class Refused(Exception):
+class Refused(Wrong):
     """Why a file is none that the program goes on from."""
 
 
@@ -75,18 +77,20 @@ def journal_text(lines):
 
 
 def main():
-    if len(sys.argv) != 2 or sys.argv[1] == "--help":
-        sys.exit(print(__doc__.split("\n\n>>>")[0]) if sys.argv[1:] == ["--help"] else "usage: examples/journal_of.py FILE")
+    if sys.argv[1:] == ["--help"]:
+        return print(__doc__.split("\n\n>>>")[0])
+    if len(sys.argv) != 2:
+        raise Wrong("usage: examples/journal_of.py FILE")
+    data = read_file(sys.argv[1], MOST_BYTES + 1)
     try:
-        with open(sys.argv[1], "rb") as file:
-            data = file.read(MOST_BYTES + 1)
         text = journal_text(records_in(data))
-    except (OSError, Refused) as fault:
-        sys.exit(f"{sys.argv[1]}: {fault}")
+    except Refused as fault:
+        raise Wrong(f"{sys.argv[1]}: {fault}") from fault
     if len(data) <= MOST_NEW and not (HEADER + b"-").startswith(data):
         print(f"{sys.argv[1]} has {len(data)} bytes and no header, and counts as new", file=sys.stderr)
-    sys.stdout.buffer.write(text)
+    put(text)
+    return 0
 
 
 if __name__ == "__main__":
-    main()
+    run("journal_of", main)

@@ -26,6 +26,7 @@ import re
 import sys
 
 from journal_of import HEADER, LF, MOST_LINE, MOST_RECORDS, OPEN, Refused, is_line
+from shared import Wrong, put, read_file, run
 
 CLOSED = b"-"
 MOST_BYTES = 64 * 1024 * 1024
@@ -57,15 +58,17 @@ def kept_file(lines):
 
 
 def main():
-    if len(sys.argv) != 2 or sys.argv[1] == "--help":
-        sys.exit(print(__doc__.split("\n\n>>>")[0]) if sys.argv[1:] == ["--help"] else "usage: examples/kept_of.py JOURNAL > FILE")
+    if sys.argv[1:] == ["--help"]:
+        return print(__doc__.split("\n\n>>>")[0])
+    if len(sys.argv) != 2:
+        raise Wrong("usage: examples/kept_of.py JOURNAL > FILE")
     try:
-        with open(sys.argv[1], "rb") as file:
-            kept = kept_file(entries_in(file.read(MOST_BYTES + 1)))
-    except (OSError, Refused) as fault:
-        sys.exit(f"{sys.argv[1]}: {fault}")
-    sys.stdout.buffer.write(kept)
+        kept = kept_file(entries_in(read_file(sys.argv[1], MOST_BYTES + 1)))
+    except Refused as fault:
+        raise Wrong(f"{sys.argv[1]}: {fault}") from fault
+    put(kept)
+    return 0
 
 
 if __name__ == "__main__":
-    main()
+    run("kept_of", main)

@@ -13,6 +13,8 @@ from decimal import Decimal
 from fractions import Fraction
 from math import ceil, floor
 
+from shared import Wrong, run, shown
+
 USUAL = [Fraction(24000, 1001), 24, 25, Fraction(30000, 1001), 30, Fraction(48000, 1001), Fraction(60000, 1001)]
 ALL = (0, 16_777_216)
 
@@ -44,10 +46,13 @@ def reel_of(clip):
 
 
 class Table:
-    """The media, as reel and range, each with its number, and the nests, as length and name, in the order of their numbers."""
+    """The media, as reel and range, each with its number, and the nests, as length and name, in the order of their numbers;
+    the kind of each track, and the frame of the day at which the record starts."""
 
     def __init__(self, document, rate):
         self.rate, self.media, self.nests = rate_of(rate), {}, []
+        self.start = int(self.frames(document["global_start_time"])) if document.get("global_start_time") else 0
+        self.kinds = [track.get("kind") for track in document["tracks"]["children"]]
         for track in document["tracks"]["children"]:
             self.row(track)
 
@@ -108,11 +113,14 @@ def table_of(name, rate):
 
 
 def read(name, rate):
-    """The table of a document; what is none ends the program with a line."""
+    """The table of a document."""
     try:
         return table_of(name, rate)
-    except (OSError, ValueError, ArithmeticError, LookupError, TypeError, AttributeError, RecursionError) as fault:
-        sys.exit(f"{name}: no document that opens at the rate {rate}: {type(fault).__name__} {fault}")
+    except OSError as fault:
+        raise Wrong(f"{name} can't be read: {fault.strerror}") from fault
+    except (ValueError, ArithmeticError, LookupError, TypeError, AttributeError, RecursionError) as fault:
+        how = f"`cutroom run {name} {rate} ndf` says what is wrong with it"
+        raise Wrong(f"{name} is no timeline of OpenTimelineIO, or {rate} is no rate: {how}") from fault
 
 
 def names_of(name, rate):
@@ -120,14 +128,17 @@ def names_of(name, rate):
 
 
 def main():
+    if sys.argv[1:] == ["--help"]:
+        return print(__doc__)
     if len(sys.argv) != 3:
-        sys.exit(print(__doc__) if sys.argv[1:] == ["--help"] else "usage: examples/media.py DOC RATE")
+        raise Wrong("usage: examples/media.py DOC RATE")
     table = read(*sys.argv[1:])
+    names = table.names()
     for (reel, first, end), number in table.media.items():
-        print(f"@{number} {first} {end} {reel}")
+        print(shown(f"@{number} {first} {end} {reel}"))
     for number, (length, _) in enumerate(table.nests):
-        print(f"#{number} {length} {table.names().get(f'#{number}', '')}".rstrip())
+        print(shown(f"#{number} {length} {names.get(f'#{number}', '')}".rstrip()))
 
 
 if __name__ == "__main__":
-    main()
+    run("media", main)

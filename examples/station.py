@@ -1,82 +1,136 @@
 #!/usr/bin/env python3
 """A station of a cutting room: sends lines, shows each reply beside its line, and can draw the tracks.
 
-usage: examples/station.py [--document DOC RATE] [--picture FILE] [--lines FILE] HOST:PORT
-       examples/station.py [--document DOC RATE] [--picture FILE] [--lines FILE] -- COMMAND ..
+usage: examples/station.py [--document DOC RATE [--drop]] [--picture FILE] [--lines FILE] HOST:PORT
+       examples/station.py [--document DOC RATE [--drop]] [--picture FILE] [--lines FILE] -- COMMAND ..
 
 It talks to a room that is served at an address, or to a COMMAND that reads lines and answers them, such as
 `./cutroom run 2 1`. Lines come from the terminal, or from the file of --lines. Each line is sent when the one before it
 has its reply. The point is what the room last told of its journal. --picture draws all tracks at the end, as an SVG
 timeline: items and gaps to scale, dissolves as crossed boxes, linked items joined by lines. --document names the document
-that the room was opened with and its rate: then replies and picture have the name of a reel or nest with each @m and #j.
+that the room was opened with and its rate: then replies and picture have the name of a reel or nest with each @m and #j,
+and the picture has timecode on its ruler, by drop-frame with --drop, and V1, A1 and so on beside the tracks.
 
 It needs nothing but Python's standard library."""
 
-import argparse
+import re
 import socket
 import subprocess
 import sys
+import threading
+from contextlib import nullcontext
 from dataclasses import dataclass
-from html import escape
 from typing import Optional
 
-from media import names_of
+from media import read
+from picture import Picture
+from shared import Words, Wrong, reason, run, shown
+
+REPLIES = "ok no bad memory seen items point otio news".split()
+PATIENCE = 3  # seconds without a reply, after which it says what a room waits for
 
 
-class Closed(Exception):
+class Closed(Wrong):
     """The room has closed the line."""
 
 
 class Line:
     """Two ends of one line: bytes are written to one and whole lines read from the other."""
 
-    def __init__(self, source, sink, end):
-        self.source, self.sink, self.end = source, sink, end
+    def __init__(self, source, sink, end, status=lambda: 0, patience=None):
+        self.source, self.sink, self.end, self.status = source, sink, end, status
+        self.patience = patience or nullcontext()  # until the first reply
         self.point = 0
 
-    def ask(self, line):
-        """The reply to a line, which may not hold a line feed."""
+    def told(self, line):
+        """The reply to a line of bytes, which may not hold a line feed, without its own."""
         try:
-            self.sink.write(line.encode() + b"\n")
+            self.sink.write(line + b"\n")
             self.sink.flush()
-        except OSError as fault:
-            raise Closed(str(fault)) from fault
-        reply = self.source.readline()
+            with self.patience:
+                reply = self.source.readline()
+        except (OSError, ValueError) as fault:
+            raise self.closed(reason(fault)) from fault
         if not reply.endswith(b"\n"):
-            raise Closed("no reply")
-        words = reply.decode().rstrip("\n").split(" ")
+            raise self.closed("no reply came" if not reply else "the reply was cut off")
+        self.patience = nullcontext()
+        return reply[:-1]
+
+    def closed(self, why):
+        return Closed(f"the room has ended the line at point {self.point}: {why}")
+
+    def ask(self, line):
+        """The words of the reply to a line."""
+        reply = self.told(line if isinstance(line, bytes) else line.encode())
+        words = reply.decode("utf-8", "replace").split(" ")
+        if words[0] == "refused":
+            raise Wrong(f"{' '.join(words)}: examples/explain.py FILE {' '.join(words)} says why")
+        if words[0] not in REPLIES:
+            raise Wrong(f"that is no room: it answers {' '.join(words)[:60]}")
         self.point = point_of(words, self.point)
         return words
+
+    def leave(self):
+        """Ends the own half of the line, and answers what still comes: the journal, where a command writes one."""
+        try:
+            self.end()
+            return self.source.read()
+        except (OSError, ValueError) as fault:
+            raise self.closed(reason(fault)) from fault
 
 
 def point_of(words, before):
     """How many entries the journal has, by the words of a reply; those that tell nothing of it leave what was known."""
     told = {"news": words[2:3], "otio": []}.get(words[0], words[1:2])
-    return int(told[0]) + (words[0] == "ok") if told and told[0].isdigit() else before
+    return int(told[0]) + (words[0] == "ok") if told and re.fullmatch("[0-9]{1,9}", told[0]) else before
+
+
+def connected(address):
+    """A connection to HOST:PORT."""
+    host, _, port = address.rpartition(":")
+    if not host or not re.fullmatch("[0-9]{1,5}", port) or int(port) > 65_535:
+        raise Wrong(f"{address} is no HOST:PORT, as 127.0.0.1:7000")
+    try:
+        line = socket.create_connection((host.strip("[]"), int(port)))
+        line.setsockopt(socket.IPPROTO_TCP, socket.TCP_NODELAY, 1)
+        return line
+    except ConnectionRefusedError as fault:
+        raise Wrong(f"{address}: nobody listens there: start `serve` or `store`, or take the port that it tells") from fault
+    except socket.gaierror as fault:
+        raise Wrong(f"{address}: there is no such host: {reason(fault)}") from fault
+    except UnicodeError as fault:
+        raise Wrong(f"{shown(address)[:80]}: that is no host's name") from fault
+    except OSError as fault:
+        raise Wrong(f"{address}: {reason(fault)}") from fault
 
 
 def station_at(address):
-    host, _, port = address.rpartition(":")
-    if not host or not port.isdigit():
-        sys.exit(f"station: {address} is no HOST:PORT")
-    try:
-        line = socket.create_connection((host.strip("[]"), int(port)))
-    except (OSError, OverflowError, UnicodeError) as fault:
-        sys.exit(f"station: {address}: {fault}")
-    line.setsockopt(socket.IPPROTO_TCP, socket.TCP_NODELAY, 1)
-
-    def end():
-        line.shutdown(socket.SHUT_WR)
-
-    return Line(line.makefile("rb"), line.makefile("wb"), end)
+    line = connected(address)
+    end = lambda: line.shutdown(socket.SHUT_WR)  # noqa: E731
+    return Line(line.makefile("rb"), line.makefile("wb"), end, patience=Patience())
 
 
 def station_of(command):
+    """A line to a command, which an interrupt of the terminal reaches too."""
     try:
         process = subprocess.Popen(command, stdin=subprocess.PIPE, stdout=subprocess.PIPE)
-    except OSError as fault:
-        sys.exit(f"station: {command[0]}: {fault}")
-    return Line(process.stdout, process.stdin, process.stdin.close)
+    except (OSError, ValueError) as fault:
+        raise Wrong(f"{command[0]}: {reason(fault)}") from fault
+    return Line(process.stdout, process.stdin, process.stdin.close, process.wait)
+
+
+class Patience:
+    """Says what a room waits for, where its first reply takes long."""
+
+    TEXT = "no reply yet: a room answers once all its stations have connected, and who comes after these gets none"
+
+    def __enter__(self):
+        self.timer = threading.Timer(PATIENCE, lambda: print(self.TEXT, file=sys.stderr))
+        self.timer.daemon = True
+        self.timer.start()
+
+    def __exit__(self, *_):
+        self.timer.cancel()
 
 
 # ---------------------------------------------------------------------------------------------------- what a track consists of
@@ -96,7 +150,7 @@ class Piece:
 
 
 def pieces_of(words):
-    """The words of a reply to `items`, behind the point."""
+    """The words of a reply to `items`, after the point."""
     pieces, start, mark = [], 0, None
     words = list(words)
     while words:
@@ -108,6 +162,8 @@ def pieces_of(words):
             piece = Piece(start, int(words.pop(0)), mark=mark)
         else:
             shows, source, length = words.pop(0), int(words.pop(0)), int(words.pop(0))
+            if not re.fullmatch("[@#][0-9]+", shows):
+                raise ValueError
             piece = Piece(start, length, int(word), shows, source, mark)
             if words[:1] == ["link"]:
                 piece.link = words[1]
@@ -118,11 +174,11 @@ def pieces_of(words):
 
 
 def named(word, names):
-    """A word, with its name behind it where it is an @m or #j that has one."""
+    """A word, with its name after it where it is an @m or #j that has one."""
     return f"{word}({names[word]})" if word in names else word
 
 
-def shown(words, names):
+def in_words(words, names):
     """The words of a reply as they are shown: a document's own words stay."""
     return " ".join(named(word, names) for word in words) if words[0] in ("items", "seen", "news") else " ".join(words)
 
@@ -134,167 +190,63 @@ def tracks_of(line):
         words = line.ask(f"items {len(tracks)}")
         if words[0] != "items":
             break
-        tracks.append(pieces_of(words[2:]))
+        try:
+            tracks.append(pieces_of(words[2:]))
+        except (ValueError, IndexError) as fault:
+            raise Wrong(f"no room answers so: {' '.join(words)[:60]}") from fault
     return tracks
-
-
-# ------------------------------------------------------------------------------------------------------------------- a picture
-
-WIDTH, ROW, GAP, LEFT, TOP = 1200, 46, 14, 60, 56
-COLOURS = ["#8ecae6", "#ffb703", "#a7c957", "#e5989b", "#b8a1e3", "#f4a261", "#90be6d", "#cdb4db"]
-
-
-def step_of(length):
-    """How many frames stand between two marks of the ruler."""
-    step = 1
-    for factor in [2, 5, 10, 24, 48, 120, 240, 720, 1440, 7200, 14400, 43200, 86400, 432000]:
-        if length / step <= 24:
-            break
-        step = factor
-    return step
-
-
-class Picture:
-    """An SVG timeline of tracks, the last on top, as they are seen."""
-
-    def __init__(self, tracks, point, names):
-        self.tracks, self.names = tracks, names
-        self.length = max([p.start + p.length for pieces in tracks for p in pieces], default=0) or 1
-        self.parts = []
-        self.draw(point)
-
-    def x(self, frame):
-        return LEFT + frame * (WIDTH - LEFT - 20) / self.length
-
-    def y(self, track):
-        return TOP + (len(self.tracks) - 1 - track) * (ROW + GAP)
-
-    def put(self, text):
-        self.parts.append(text)
-
-    def rect(self, piece, track, fill, extra=""):
-        x, width = self.x(piece.start), self.x(piece.length) - self.x(0)
-        self.put(f'<rect x="{x:.2f}" y="{self.y(track)}" width="{width:.2f}" height="{ROW}" fill="{fill}" {extra}/>')
-
-    def label(self, x, y, text, size=11, extra=""):
-        self.put(f'<text x="{x:.2f}" y="{y}" font-size="{size}" {extra}>{escape(text)}</text>')
-
-    def draw(self, point):
-        self.label(LEFT, 18, f"point {point}", 13, 'font-weight="bold"')
-        self.ruler()
-        for track, pieces in enumerate(self.tracks):
-            self.label(12, self.y(track) + ROW / 2 + 4, f"{track}", 14, 'font-weight="bold"')
-            for piece in pieces:
-                self.piece(piece, track)
-            for piece in pieces:
-                if piece.mark:
-                    self.dissolve(piece, track)
-        self.links()
-
-    def ruler(self):
-        bottom = TOP + len(self.tracks) * (ROW + GAP)
-        for frame in range(0, self.length + 1, step_of(self.length)):
-            x = self.x(frame)
-            self.put(f'<line x1="{x:.2f}" y1="{TOP - 12}" x2="{x:.2f}" y2="{bottom}" stroke="#ddd"/>')
-            self.label(x + 2, TOP - 16, str(frame), 10, 'fill="#777"')
-
-    def piece(self, piece, track):
-        end = piece.start + piece.length
-        title = f"frames [{piece.start}, {end}), {piece.length} long"
-        self.put(f"<g><title>{escape(title)}</title>")
-        if piece.item is None:
-            self.rect(piece, track, "#f4f4f4", 'stroke="#bbb" stroke-dasharray="3 3"')
-        else:
-            number = int(piece.shows[1:])
-            colour = COLOURS[number % len(COLOURS)]
-            self.rect(piece, track, colour, 'stroke="#333"' + (' stroke-width="2.5"' if piece.shows[0] == "#" else ""))
-            text = f"{piece.item}  {named(piece.shows, self.names)} {piece.source}+{piece.length}"
-            self.clipped(piece, track, text, 17)
-            if piece.link:
-                self.clipped(piece, track, f"link {piece.link}", 34, 'font-style="italic"')
-        self.put("</g>")
-
-    def clipped(self, piece, track, text, below, extra=""):
-        """As many words of a text as have room in a piece, behind the dissolve at its head."""
-        start = piece.start + (piece.mark[1] if piece.mark else 0)
-        room = int((self.x(piece.start + piece.length) - self.x(start) - 6) / 6.6)
-        while len(text) > room and " " in text:  # whole words alone: a part of a number would be another number
-            text = text.rpartition(" ")[0].rstrip()
-        if len(text) <= room:
-            self.label(self.x(start) + 4, self.y(track) + below, text, 11, extra)
-
-    def dissolve(self, piece, track):
-        a, b = piece.mark
-        left, right = self.x(piece.start - a), self.x(piece.start + b)
-        top, bottom = self.y(track), self.y(track) + ROW
-        self.put(f"<g><title>dissolve {a} {b} at {piece.start}</title>")
-        self.put(
-            f'<rect x="{left:.2f}" y="{top}" width="{right - left:.2f}" height="{ROW}" fill="#fff" fill-opacity="0.55" '
-            'stroke="#000"/>'
-        )
-        self.put(f'<path d="M{left:.2f} {bottom} L{right:.2f} {top} M{left:.2f} {top} L{right:.2f} {bottom}" stroke="#000"/>')
-        self.put("</g>")
-
-    def links(self):
-        """Each link as a line through the middles of its items."""
-        found = {}
-        for track, pieces in enumerate(self.tracks):
-            for piece in pieces:
-                if piece.link:
-                    middle = self.x(piece.start + piece.length / 2), self.y(track) + ROW / 2
-                    found.setdefault(piece.link, []).append(middle)
-        for link, middles in found.items():
-            points = " ".join(f"{x:.2f},{y}" for x, y in middles)
-            self.put(f'<g><title>link {link}</title><polyline points="{points}" fill="none" stroke="#c1121f" stroke-width="2"/>')
-            for x, y in middles:
-                self.put(f'<circle cx="{x:.2f}" cy="{y}" r="4" fill="#c1121f"/>')
-            self.put("</g>")
-
-    def text(self):
-        height = TOP + len(self.tracks) * (ROW + GAP) + 10
-        return (
-            f'<svg xmlns="http://www.w3.org/2000/svg" width="{WIDTH}" height="{height}" font-family="sans-serif">\n'
-            '<rect width="100%" height="100%" fill="#fff"/>\n' + "\n".join(self.parts) + "\n</svg>\n"
-        )
 
 
 # ------------------------------------------------------------------------------------------------------------------------ main
 
 
 def lines_of(name):
-    """The lines of a file, or those that are typed."""
-    if name:
-        with open(name, encoding="utf-8") as file:
-            yield from (line.rstrip("\n") for line in file)
-    else:
-        if sys.stdin.isatty():
-            print("lines of edits and questions; an end of input ends the station", file=sys.stderr)
-        yield from (line.rstrip("\n") for line in sys.stdin)
+    """The lines of a file, or those that are typed, as bytes."""
+    try:
+        if name:
+            with open(name, "rb") as file:
+                yield from (line.rstrip(b"\n") for line in file)
+        elif sys.stdin is not None:
+            if sys.stdin.isatty():
+                print("lines of edits and questions; an end of input (Ctrl-D) ends the station", file=sys.stderr)
+            yield from (line.rstrip(b"\n") for line in sys.stdin.buffer)
+    except (OSError, ValueError) as fault:
+        raise Wrong(f"{name or 'the input'} can't be read: {reason(fault)}") from fault
+
+
+def draw(line, name, table, drop):
+    picture = Picture(tracks_of(line), line.point, table, drop).text()
+    try:
+        with open(name, "w", encoding="utf-8") as file:
+            file.write(picture)
+    except (OSError, ValueError) as fault:
+        raise Wrong(f"{name} can't be written: {reason(fault)}") from fault
+
+
+def words_of(asked=None):
+    ask = Words(__doc__)
+    ask.add_argument("--document", nargs=2, metavar=("DOC", "RATE"))
+    ask.add_argument("--drop", action="store_true")
+    ask.add_argument("--picture", metavar="FILE")
+    ask.add_argument("--lines", metavar="FILE")
+    ask.add_argument("room", nargs="+", metavar="HOST:PORT or COMMAND")
+    return ask.parse_args(asked)
 
 
 def main():
-    parser = argparse.ArgumentParser(usage="%(prog)s [--document DOC RATE] [--picture FILE] [--lines FILE] (HOST:PORT | -- COMMAND ..)")
-    parser.add_argument("--document", nargs=2, metavar=("DOC", "RATE"))
-    parser.add_argument("--picture", metavar="FILE")
-    parser.add_argument("--lines", metavar="FILE")
-    parser.add_argument("room", nargs="+", metavar="HOST:PORT or COMMAND")
-    words = parser.parse_args()
-    names = names_of(*words.document) if words.document else {}
+    words = words_of()
+    table = read(*words.document) if words.document else None
+    names = table.names() if table else {}
     line = station_at(words.room[0]) if len(words.room) == 1 else station_of(words.room)
-    try:
-        for text in lines_of(words.lines):
-            print(f"{text:<40}  {shown(line.ask(text), names)}", flush=True)
-        if words.picture:
-            picture = Picture(tracks_of(line), line.point, names).text()
-            with open(words.picture, "w", encoding="utf-8") as file:
-                file.write(picture)
-        line.end()
-        rest = line.source.read().decode()
+    for text in lines_of(words.lines):
+        print(f"{shown(text):<40}  {shown(in_words(line.ask(text), names))}", flush=True)
+    if words.picture:
+        draw(line, words.picture, table, words.drop)
+    for rest in line.leave().split(b"\n"):
         if rest:
-            print(rest, end="")
-    except Closed as fault:
-        sys.exit(f"station: the room has ended the line at point {line.point}: {fault}")
+            print(shown(rest))
+    return line.status()
 
 
 if __name__ == "__main__":
-    main()
+    run("station", main)
