@@ -42,13 +42,20 @@ fn news_of(alloc: Global, count: u32) -> Result<String, Fail> {
     Ok(stream)
 }
 
-/// A stream of so many bytes that has no news in it: lines of letters.
-fn letters(alloc: Global, count: usize) -> Result<String, Fail> {
-    let line = "bad B1\nbad B1\nbad B1\nbad B1\nbad B1\nbad B1\nbad B1\nbad B1\nbad B1\n\n";
+/// Replies of another kind, with an empty line after them.
+const REPLIES: &str = "bad B1\nbad B1\nbad B1\nbad B1\nbad B1\nbad B1\nbad B1\nbad B1\nbad B1\n\n";
+
+/// How many bytes they have.
+const REPLIES_BYTES: usize = 64;
+
+/// A stream of so many bytes that has no news in it.
+fn replies(alloc: Global, count: usize) -> Result<String, Fail> {
     let mut stream = String::new(alloc);
-    while stream.len() < count {
-        let rest = count.saturating_sub(stream.len());
-        stream.push_str(if rest < line.len() { "\n" } else { line })?;
+    for _ in 0..count / REPLIES_BYTES {
+        stream.push_str(REPLIES)?;
+    }
+    for _ in 0..count % REPLIES_BYTES {
+        stream.push_str("\n")?;
     }
     Ok(stream)
 }
@@ -81,9 +88,9 @@ fn one_entry_more_is_refused(rt: HostRuntime) -> Result<(), Fail> {
 #[test]
 fn a_stream_has_64_mebibytes(rt: HostRuntime) -> Result<(), Fail> {
     let alloc = rt.alloc();
-    let most = letters(alloc, MOST_BYTES)?;
+    let most = replies(alloc, MOST_BYTES)?;
     assert!(rt; follows_so(alloc, &most, 8192, &NONE, Status::Done, OPENED)?);
-    let more = letters(alloc, MOST_BYTES.saturating_add(1))?;
+    let more = replies(alloc, MOST_BYTES.saturating_add(1))?;
     assert!(rt; follows_so(alloc, &more, 8192, &NONE, Status::TooMuchInput, "")?);
     Ok(())
 }
