@@ -1,4 +1,3 @@
-pub mod Keys
 pub mod Joining
 pub mod Frames
 pub mod Keeping

@@ -1,5 +1,4 @@
 -- To be read: public clauses speak of these.
-pub mod ReelNames
 pub mod Bounds
 pub mod Items
 pub mod Views

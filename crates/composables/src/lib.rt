@@ -17,7 +17,6 @@ mod media;
 mod named_tracks;
 mod numbers;
 mod places;
-mod reel_table;
 mod refusals;
 mod tracks;
 

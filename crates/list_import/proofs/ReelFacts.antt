@@ -10,7 +10,7 @@ use Rattle.frame_meaning.specs.declared.cells.What.{What}
 use Rattle.frame_meaning.specs.declared.cells.What.TheVariants.{Media as MediaOf}
 use Rattle.frame_meaning.specs.declared.frames.Side.{Side}
 use Rattle.frame_meaning.specs.declared.frames.Side.TheVariants.{Dark, Pic}
-use Rattle.composables.specs.ReelNames.{with_name}
+use Rattle.reel_table.specs.ReelNames.{with_name}
 use Rattle.reel_names.specs.Names.{is_black, is_printable, is_reel_name}
 use Rattle.edl_events.specs.declared.event.Event.{Event}
 use Rattle.edl_events.specs.declared.event.FromLine.{FromLine}

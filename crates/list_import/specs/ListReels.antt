@@ -8,7 +8,7 @@ use Rattle.frame_meaning.specs.declared.frames.Side.TheVariants.{Dark, Pic}
 use Rattle.composables.specs.declared.media.Kind.TheVariants.{Video, Audio}
 use Rattle.composables.specs.declared.media.Media.{Media}
 use Rattle.composables.specs.declared.media.Table.{Table}
-use Rattle.composables.specs.ReelNames.{with_name}
+use Rattle.reel_table.specs.ReelNames.{with_name}
 use Rattle.reel_names.specs.Names.{is_black}
 use Rattle.edl_events.specs.declared.event.Event.{Event}
 use Rattle.edl_events.specs.declared.event.FromLine.{FromLine}

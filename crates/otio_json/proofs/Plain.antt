@@ -8,7 +8,7 @@ use Rattle.std.proofs.lemmas.Slice.Eq.{bytes_eq-Decides}
 use Rattle.line_words.specs.Digits.{number_of}
 use Rattle.line_words.specs.declared.numbers.NumberFault.{NumberFault}
 use Rattle.line_words.proofs.DigitLaws.{number_of-decimal}
-use Rattle.composables.specs.ReelNames.{with_name}
+use Rattle.reel_table.specs.ReelNames.{with_name}
 use Rattle.otio_json.specs.Openings.{plain_reel}
 
 range_push : (a n : ℕ) → range_with_len a (suc n) ≡ range_with_len a n ++ (a + n) ∷ []

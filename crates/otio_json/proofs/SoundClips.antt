@@ -9,7 +9,7 @@ use Rattle.std.proofs.lemmas.List.Quantifiers.{position-Some}
 use Rattle.std.proofs.lemmas.Option.{slice_get-get_or}
 use Rattle.composables.specs.declared.media.Table.{Table}
 use Rattle.composables.specs.declared.media.Media.{Media}
-use Rattle.composables.specs.ReelNames.{with_name}
+use Rattle.reel_table.specs.ReelNames.{with_name}
 use Rattle.json_tree.specs.Tree.{Tree}
 use Rattle.json_tree.specs.Parts.{kind_in, place_of}
 use Rattle.otio_tracks.specs.declared.clips.Frames.{Frames}

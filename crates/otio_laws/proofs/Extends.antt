@@ -15,7 +15,7 @@ use Rattle.composables.specs.declared.media.Table.{Table}
 use Rattle.composables.specs.declared.media.Media.{Media}
 use Rattle.composables.specs.declared.media.Layer.{Layer}
 use Rattle.composables.specs.declared.media.Nest.{Nest}
-use Rattle.composables.specs.ReelNames.{with_name}
+use Rattle.reel_table.specs.ReelNames.{with_name}
 use Rattle.otio_tracks.specs.declared.clips.Frames.{Frames}
 use Rattle.otio_tracks.specs.Clips.{name_at, same_media, number_or, entry_number, unless_there, with_entry, entry_of, entered}
 use Rattle.otio_json.proofs.Growth.{get_left, get_last}

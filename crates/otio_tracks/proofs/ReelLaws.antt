@@ -4,8 +4,8 @@ use Rattle.std.specs.List.{list_any}
 use Rattle.std.specs.Str.{bytes_eq, IsUtf8}
 use Rattle.std.proofs.lemmas.List.Elements.{All-append, All-cons, All-nil}
 use Rattle.std.proofs.lemmas.Slice.Eq.{bytes_eq-Decides}
-use Rattle.composables.specs.ReelNames.{with_name, AreDistinct}
-use Rattle.composables.proofs.Keys.{distinct-with_name}
+use Rattle.reel_table.specs.ReelNames.{with_name, AreDistinct}
+use Rattle.reel_table.proofs.Keys.{distinct-with_name}
 use Rattle.otio_tracks.specs.Clips.{name_at}
 use Rattle.otio_tracks.specs.ReelTexts.{AreTexts}
 

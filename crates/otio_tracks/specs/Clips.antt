@@ -7,7 +7,7 @@ use Rattle.composables.specs.declared.media.Kind.{Kind}
 use Rattle.composables.specs.declared.media.Nest.{Nest}
 use Rattle.composables.specs.declared.media.Table.{Table}
 use Rattle.composables.specs.declared.media.Media.{Media}
-use Rattle.composables.specs.ReelNames.{with_name}
+use Rattle.reel_table.specs.ReelNames.{with_name}
 use Rattle.json_tokens.specs.Reading.{◌>>=◌}
 use Rattle.json_tree.specs.Tree.{Tree}
 use Rattle.json_tree.specs.Parts.{place_of, kind_in, member_in, text_in}

@@ -1,9 +1,9 @@
 // The table of reels.
 ghost use Rattle.std.specs.Prelude.{◌≡◌, ◌<◌, ◌≤◌, [], length, Some, IfOk, OnOk, OnErr, IfSome, IfNone, slice_get};
-ghost use Rattle.composables.specs.ReelNames.{AreDistinct, with_name};
+ghost use Rattle.reel_table.specs.ReelNames.{AreDistinct, with_name};
 
-use crate::Memory;
 use indexmap::IndexSet;
+use out_of_memory::Memory;
 use std::alloc::Global;
 use std::marker::Model;
 
@@ -22,7 +22,7 @@ impl Model for Reels {
 
     ghost view = { λ r. map (λ s. string_bytes s) r.names.keys };
 
-    ghost use Rattle.composables.specs.ReelNames.{AreDistinct};
+    ghost use Rattle.reel_table.specs.ReelNames.{AreDistinct};
 
     ghost invariant = { λ r. (length r.names.keys < 2 ^ 32)
         × AreDistinct (map (λ s. string_bytes s) r.names.keys) };

@@ -1,8 +1,8 @@
 use Rattle.std.proofs.Common.{length, arith, ap, ◌∙◌}
 use Rattle.std.specs.String.{string_bytes}
 use Rattle.std.proofs.lemmas.List.{length-map}
-use Rattle.composables.proofs.Keys.{same_texts}
-use Rattle.composables.proofs.reel_table.Reels.copy.Goals as goal
+use Rattle.reel_table.proofs.Keys.{same_texts}
+use Rattle.reel_table.proofs.reels.Reels.copy.Goals as goal
 
 pub invariant_of-result : goal.invariant_of-result
 invariant_of-result c =

@@ -2,8 +2,8 @@ use Rattle.std.proofs.Common.{length, arith, sym, ap, ◌∙◌}
 use Rattle.std.specs.Option.{is_some}
 use Rattle.std.specs.String.{string_bytes}
 use Rattle.std.specs.Str.{bytes_eq}
-use Rattle.composables.proofs.Keys.{any_map, at_place, stays, grows, grows_by_one, last_number, distinct-with_name}
-use Rattle.composables.proofs.reel_table.Reels.add.Goals as goal
+use Rattle.reel_table.proofs.Keys.{any_map, at_place, stays, grows, grows_by_one, last_number, distinct-with_name}
+use Rattle.reel_table.proofs.reels.Reels.add.Goals as goal
 
 pub returns-in-Some-clause-ok : goal.returns-in-Some-clause-ok
 returns-in-Some-clause-ok c = rw (← c.self.view_is) (sym (stays _ _ (sym (any_map (λ s. string_bytes s) (bytes_eq c.args.name.now) c.self.inside.names.keys) ∙ (sym c.get_index_of.ensures.found ∙ ap is_some c.in-Some.is))))
