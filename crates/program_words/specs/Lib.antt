@@ -2,4 +2,3 @@
 pub mod Notices
 pub mod Complaints
 pub mod CommandTexts
-pub mod CodeTexts

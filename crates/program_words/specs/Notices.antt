@@ -4,7 +4,7 @@ use Rattle.program_words.specs.declared.notice.TheConstants.{HELP, VERSION}
 use Rattle.program_words.specs.declared.notice.Notice.{Notice}
 use Rattle.program_words.specs.declared.notice.Notice.TheVariants as notice
 use Rattle.program_words.specs.CommandTexts.{Row, command_named}
-use Rattle.program_words.specs.CodeTexts.{code_text}
+use Rattle.code_texts.specs.CodeTexts.{code_text}
 
 -- the text of a notice
 abbrev pub text_of : Notice → List ℕ

@@ -1,5 +1,7 @@
 // What was put first on an output, remembered.
-ghost use Rattle.std.specs.Prelude.{◌≡◌, ◌≤◌, ◌+◌, ◌++◌, length};
+ghost use Rattle.std.specs.Prelude.{◌≡◌, ◌≤◌, ◌<◌, ◌+◌, ◌++◌, [], length, take, IfOk, OnOk, OnErr};
+ghost use Rattle.room_ports.specs.Bytes.{Takes, TakesFront};
+ghost use Rattle.room_ports.specs.Counts.{HasRisen};
 
 use room_ports::{Failed, Sink};
 use std::marker::Model;
@@ -27,7 +29,7 @@ impl Model for Beginning {
 impl Beginning {
     /// Of nothing yet.
     pub fn new() -> Self
-        ensures { length result ≡ 0 }
+        ensures { result ≡ [] }
     {
         Beginning {
             bytes: [0; REMEMBERED],
@@ -37,16 +39,17 @@ impl Beginning {
 
     /// The bytes.
     pub fn as_slice(&self) -> &[u8]
-        ensures { result.now ≡ self.now }
+        ensures bytes { result.now ≡ self.now }
+        ensures within { length result.now ≤ 64 }
     {
         &self.bytes[..self.len]
     }
 
     /// Adds what comes next, as far as there is room.
     pub fn add(&mut self, piece: &[u8])
-        ensures { length self.new ≤ 64 }
+        ensures { self.new ≡ take 64 (self.old ++ piece.now) }
     {
-        let room = REMEMBERED - self.len;
+        let room = REMEMBERED - self.as_slice().len();
         if piece.len() <= room {
             self.push(piece);
         } else {
@@ -75,7 +78,8 @@ pub struct Heard<K: Sink + Drop> {
 impl<K: Sink + Drop> Heard<K> {
     /// Over this sink, with nothing remembered.
     pub fn new(inner: K) -> Self
-        ensures { result.inner ≡ inner }
+        ensures inner { result.inner ≡ inner }
+        ensures beginning { result.beginning ≡ [] }
     {
         Heard {
             inner,
@@ -91,8 +95,26 @@ impl<K: Sink + Drop> Sink for Heard<K> {
 
     ghost as_source = { λ h. K.as_source h.inner };
 
-    // What the other sink does; and what it took is remembered.
-    fn write(&mut self, piece: &[u8]) -> Result<usize, Failed> {
+    /// What the other sink does; and what it took is remembered.
+    fn write(&mut self, piece: &[u8]) -> Result<usize, Failed>
+        ensures heard { IfOk result (λ n. self.new.beginning
+            ≡ take 64 (self.old.beginning ++ take n piece.now)) }
+        ensures unheard { OnErr result (self.new.beginning ≡ self.old.beginning) }
+
+        // What every sink promises.
+        ensures within { IfOk result (λ n. n ≤ length piece.now) }
+        ensures some { IfOk result (λ n. 0 < length piece.now → 0 < n) }
+        ensures ok { IfOk result (λ n. Takes (K.taken self.old.inner) (K.taken self.new.inner)
+            (take n piece.now)) }
+        ensures err { OnErr result (TakesFront (K.taken self.old.inner) (K.taken self.new.inner)
+            piece.now) }
+        ensures cause { OnErr result (HasRisen (K.write_faults self.old.inner)
+            (K.write_faults self.new.inner)) }
+        ensures quiet { OnOk result (K.write_faults self.new.inner
+            ≡ K.write_faults self.old.inner) }
+        ensures count { K.write_faults self.old.inner ≤ K.write_faults self.new.inner }
+        ensures apart { K.as_source self.new.inner ≡ K.as_source self.old.inner }
+    {
         let n = self.inner.write(piece)?;
         self.beginning.add(&piece[..n]);
         Ok(n)

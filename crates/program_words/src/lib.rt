@@ -5,14 +5,12 @@
 #![tactic(auto)]
 
 mod arguments;
-mod codes;
 mod commands;
 mod complaints;
 mod heard;
 mod notice;
 
 pub use arguments::{program_arguments, words_after_the_name, words_given};
-pub use codes::code_text;
 pub use commands::{COMMANDS, CommandText, command_named, command_near};
 pub use complaints::{Hindrance, Message, complaint, hindrance_text};
 pub use heard::{Beginning, Heard, REMEMBERED};

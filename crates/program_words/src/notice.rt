@@ -3,10 +3,10 @@ ghost use Rattle.std.specs.Prelude.{◌≡◌, ◌⊎◌, option_map};
 ghost use Rattle.room_ports.specs.Bytes.{Takes, TakesFront};
 ghost use Rattle.room_ports.specs.Counts.{HasRisen};
 ghost use Rattle.program_words.specs.Notices.{lone_notice, notice_of, page_of, pair_notice, text_of, wants_help};
-ghost use Rattle.program_words.specs.CodeTexts.{code_text};
+ghost use Rattle.code_texts.specs.CodeTexts.{code_text};
 
-use crate::codes::code_text;
 use crate::commands::command_named;
+use code_texts::code_text;
 use line_words::Words;
 use room_ports::{Failed, Sink, put};
 

@@ -1,9 +1,9 @@
 // Words of the command line, what they ask for, and what standard error says of those that are refused.
+use code_texts::code_text;
 use command_words::{Command, command_in, tabled_of};
 use line_words::{Memory, Words};
 use program_words::{
-    COMMANDS, HELP, NO_WORDS, Notice, VERSION, code_text, command_named, complaint,
-    words_after_the_name,
+    COMMANDS, HELP, NO_WORDS, Notice, VERSION, command_named, complaint, words_after_the_name,
 };
 use room_ports::MemSink;
 use std::alloc::Global;
@@ -126,196 +126,128 @@ fn are_narrow(text: &str) -> bool {
     true
 }
 
-const DOC: &str = ": DOC is the path of an OpenTimelineIO file\n";
-
-const RATE: &str = ": RATE is one of 23.976, 24, 25, 29.97 and 30\n";
-
-const DROP: &str = ": DROP is ndf, or drop where RATE is 29.97\n";
-
-const TRACKS: &str = ": TRACKS is a number from 1 to 32\n";
-
-const REELS: &str = ": REELS is a number from 0 to 999\n";
-
-const STATIONS: &str = ": STATIONS is a number from 1 to 16\n";
-
-const POINT: &str =
-    ": POINT is how many entries of the journal to do, 0 for the document's own cut\n";
-
-const NUMBER: &str = ": NUMBER is a number from 0 to 4294967295\n";
-
-const COUNT: &str = ": COUNT is a number from 1 to 20000\n";
-
-const NAMING: &str = ": after POINT comes nothing, or numbered, or names TEXT=NAME ..\n";
-
-const ROW: &str = ": after names comes TEXT=NAME, once or more\n";
-
-const MANY: &str = ": a word too many\n";
-
-const NONE: &str = ": there is no such command\n";
-
-const CODE: &str = ": CODE is a code of a refusal, as O4 or E10, or an exit status, 0 to 9\n";
-
-const COMMAND: &str = ": COMMAND is the first word of a command, as run\n";
-
-const JOURNAL: &str = ": JOURNAL is the path of a journal's file\n";
-
-const ADDRESS: &str = ": ADDRESS is HOST:PORT, as 127.0.0.1:7000\n";
-
-const LIST: &str = ": LIST is the path of a CMX 3600 list\n";
-
-// Calls of a newcomer that are refused: the words, the one that is wrong, empty where it is missing, the rule that it breaks,
-// and the command whose usage is told, where one begins so or nearly so.
-const REFUSED: [(&[&str], &str, &str, &str); 60] = [
-    (&["foo"], "foo", NONE, ""),
-    (&["field.otio"], "field.otio", NONE, ""),
-    (&["--version", "run"], "--version", NONE, ""),
-    (&["Run", "2", "1"], "Run", NONE, "run"),
-    (&["lst"], "lst", NONE, "list"),
-    (&["serves"], "serves", NONE, "serve"),
-    (&["sttore"], "sttore", NONE, "store"),
-    (&["-help"], "-help", NONE, "help"),
-    (&["tap"], "tap", NONE, "tape"),
-    (&["run"], "", DOC, "run"),
-    (&["run", "d.otio"], "", RATE, "run"),
-    (&["run", "d.otio", "24"], "", DROP, "run"),
-    (&["run", "d.otio", "23,976", "ndf"], "23,976", RATE, "run"),
-    (&["run", "d.otio", "25fps", "ndf"], "25fps", RATE, "run"),
-    (&["run", "d.otio", "50", "ndf"], "50", RATE, "run"),
-    (&["run", "d.otio", "59.94", "drop"], "59.94", RATE, "run"),
-    (&["run", "d.otio", "24", "drop"], "drop", DROP, "run"),
-    (&["run", "d.otio", "24", "df"], "df", DROP, "run"),
-    (&["run", "d.otio", "24", "NDF"], "NDF", DROP, "run"),
-    (&["run", "d.otio", "24", "ndf", "x"], "x", MANY, "run"),
-    (&["run", "--", "2", "1"], "2", RATE, "run"),
-    (&["run", "33", "1"], "33", TRACKS, "run"),
-    (&["run", "0", "1"], "0", TRACKS, "run"),
-    (&["run", "2", "1000"], "1000", REELS, "run"),
-    (&["run", "2", "one"], "one", REELS, "run"),
-    (&["run", "2"], "", REELS, "run"),
-    (&["serve"], "", DOC, "serve"),
-    (&["serve", "a", "b"], "b", RATE, "serve"),
-    (
-        &["serve", "d", "24", "ndf", "17", "a", "j"],
-        "17",
-        STATIONS,
-        "serve",
-    ),
-    (
-        &["serve", "d", "24", "ndf", "0", "a", "j"],
-        "0",
-        STATIONS,
-        "serve",
-    ),
-    (
-        &["serve", "d", "24", "ndf", "two", "a", "j"],
-        "two",
-        STATIONS,
-        "serve",
-    ),
-    (&["serve", "d", "24", "ndf", "2"], "", ADDRESS, "serve"),
-    (&["serve", "d", "24", "ndf", "2", "a"], "", JOURNAL, "serve"),
-    (
-        &["serve", "d", "24", "ndf", "2", "a", "j", "k"],
-        "k",
-        MANY,
-        "serve",
-    ),
-    (
-        &["store", "d", "24", "ndf", "17", "a", "j"],
-        "17",
-        STATIONS,
-        "store",
-    ),
-    (&["store", "d", "50", "ndf", "2", "a"], "50", RATE, "store"),
-    (&["list", "d", "24", "ndf"], "", JOURNAL, "list"),
-    (&["list", "d", "24", "ndf", "j"], "", POINT, "list"),
-    (
-        &["list", "d", "24", "ndf", "j", "last"],
-        "last",
-        POINT,
-        "list",
-    ),
-    (&["list", "d", "24", "ndf", "j", "-1"], "-1", POINT, "list"),
-    (
-        &["list", "d", "24", "ndf", "j", "4294967296"],
-        "4294967296",
-        POINT,
-        "list",
-    ),
-    (
-        &["list", "d", "24", "ndf", "j", "0", "number"],
-        "number",
-        NAMING,
-        "list",
-    ),
-    (
-        &["list", "d", "24", "ndf", "j", "0", "numbered", "x"],
-        "x",
-        MANY,
-        "list",
-    ),
-    (
-        &["list", "d", "24", "ndf", "j", "0", "names"],
-        "",
-        ROW,
-        "list",
-    ),
-    (
-        &["list", "d", "24", "ndf", "j", "0", "A=B"],
-        "A=B",
-        NAMING,
-        "list",
-    ),
-    (&["tape"], "", LIST, "tape"),
-    (&["tape", "l"], "", RATE, "tape"),
-    (&["tape", "l", "24", "ndf"], "ndf", MANY, "tape"),
-    (&["import", "l", "24"], "", DROP, "import"),
-    (&["follow", "d", "24", "drop"], "drop", DROP, "follow"),
-    (&["make"], "", NUMBER, "make"),
-    (&["make", "1"], "", COUNT, "make"),
-    (&["make", "x", "1"], "x", NUMBER, "make"),
-    (&["make", "1", "0"], "0", COUNT, "make"),
-    (&["make", "1", "20001"], "20001", COUNT, "make"),
-    (&["explain"], "", CODE, "explain"),
-    (&["explain", "O99"], "O99", CODE, "explain"),
-    (&["explain", "O4", "now"], "now", MANY, "explain"),
-    (&["help", "walk"], "walk", COMMAND, "help"),
-    (&["help", "run", "now"], "now", MANY, "help"),
-];
+// Calls of a newcomer that are refused: the words, the one that is wrong, nothing where one is missing, the rule that it
+// breaks, and the command whose usage is told, where one begins so or nearly so. (A table of texts in one text takes a
+// fraction of the check of one of slices.)
+const REFUSED: &str = "\
+foo | foo | there is no such command |
+field.otio | field.otio | there is no such command |
+--version run | --version | there is no such command |
+Run 2 1 | Run | there is no such command | run
+lst | lst | there is no such command | list
+serves | serves | there is no such command | serve
+sttore | sttore | there is no such command | store
+-help | -help | there is no such command | help
+tap | tap | there is no such command | tape
+run |  | DOC is the path of an OpenTimelineIO file | run
+run d.otio |  | RATE is one of 23.976, 24, 25, 29.97 and 30 | run
+run d.otio 24 |  | DROP is ndf, or drop where RATE is 29.97 | run
+run d.otio 23,976 ndf | 23,976 | RATE is one of 23.976, 24, 25, 29.97 and 30 | run
+run d.otio 25fps ndf | 25fps | RATE is one of 23.976, 24, 25, 29.97 and 30 | run
+run d.otio 50 ndf | 50 | RATE is one of 23.976, 24, 25, 29.97 and 30 | run
+run d.otio 59.94 drop | 59.94 | RATE is one of 23.976, 24, 25, 29.97 and 30 | run
+run d.otio 24 drop | drop | DROP is ndf, or drop where RATE is 29.97 | run
+run d.otio 24 df | df | DROP is ndf, or drop where RATE is 29.97 | run
+run d.otio 24 NDF | NDF | DROP is ndf, or drop where RATE is 29.97 | run
+run d.otio 24 ndf x | x | a word too many | run
+run -- 2 1 | 2 | RATE is one of 23.976, 24, 25, 29.97 and 30 | run
+run 33 1 | 33 | TRACKS is a number from 1 to 32 | run
+run 0 1 | 0 | TRACKS is a number from 1 to 32 | run
+run 2 1000 | 1000 | REELS is a number from 0 to 999 | run
+run 2 one | one | REELS is a number from 0 to 999 | run
+run 2 |  | REELS is a number from 0 to 999 | run
+serve |  | DOC is the path of an OpenTimelineIO file | serve
+serve a b | b | RATE is one of 23.976, 24, 25, 29.97 and 30 | serve
+serve d 24 ndf 17 a j | 17 | STATIONS is a number from 1 to 16 | serve
+serve d 24 ndf 0 a j | 0 | STATIONS is a number from 1 to 16 | serve
+serve d 24 ndf two a j | two | STATIONS is a number from 1 to 16 | serve
+serve d 24 ndf 2 |  | ADDRESS is HOST:PORT, as 127.0.0.1:7000 | serve
+serve d 24 ndf 2 a |  | JOURNAL is the path of a journal's file | serve
+serve d 24 ndf 2 a j k | k | a word too many | serve
+store d 24 ndf 17 a j | 17 | STATIONS is a number from 1 to 16 | store
+store d 50 ndf 2 a | 50 | RATE is one of 23.976, 24, 25, 29.97 and 30 | store
+list d 24 ndf |  | JOURNAL is the path of a journal's file | list
+list d 24 ndf j |  | POINT is how many entries of the journal to do, 0 for the document's own cut | list
+list d 24 ndf j last | last | POINT is how many entries of the journal to do, 0 for the document's own cut | list
+list d 24 ndf j -1 | -1 | POINT is how many entries of the journal to do, 0 for the document's own cut | list
+list d 24 ndf j 4294967296 | 4294967296 | POINT is how many entries of the journal to do, 0 for the document's own cut | list
+list d 24 ndf j 0 number | number | after POINT comes nothing, or numbered, or names TEXT=NAME .. | list
+list d 24 ndf j 0 numbered x | x | a word too many | list
+list d 24 ndf j 0 names |  | after names comes TEXT=NAME, once or more | list
+list d 24 ndf j 0 A=B | A=B | after POINT comes nothing, or numbered, or names TEXT=NAME .. | list
+tape |  | LIST is the path of a CMX 3600 list | tape
+tape l |  | RATE is one of 23.976, 24, 25, 29.97 and 30 | tape
+tape l 24 ndf | ndf | a word too many | tape
+import l 24 |  | DROP is ndf, or drop where RATE is 29.97 | import
+follow d 24 drop | drop | DROP is ndf, or drop where RATE is 29.97 | follow
+make |  | NUMBER is a number from 0 to 4294967295 | make
+make 1 |  | COUNT is a number from 1 to 20000 | make
+make x 1 | x | NUMBER is a number from 0 to 4294967295 | make
+make 1 0 | 0 | COUNT is a number from 1 to 20000 | make
+make 1 20001 | 20001 | COUNT is a number from 1 to 20000 | make
+explain |  | CODE is a code of a refusal, as O4 or E10, or an exit status, 0 to 9 | explain
+explain O99 | O99 | CODE is a code of a refusal, as O4 or E10, or an exit status, 0 to 9 | explain
+explain O4 now | now | a word too many | explain
+help walk | walk | COMMAND is the first word of a command, as run | help
+help run now | now | a word too many | help
+";
 
 #[test]
 fn a_newcomer_is_told_what_to_do(rt: HostRuntime) -> Result<(), Memory> {
     let alloc = rt.alloc();
-    for (texts, word, rule, usage) in REFUSED {
-        assert!(rt; is_told(alloc, texts, word, rule, usage)?, "{texts:?}");
+    let mut count = 0usize;
+    for row in REFUSED.lines() {
+        assert!(rt; is_told(alloc, row)?.unwrap_or(false), "{row}");
+        count = count.wrapping_add(1);
     }
+    assert_eq!(rt; count, 60);
     let none = words_in(alloc, &[])?;
     let told = complaint(&none, 3);
     assert!(rt; told.before == NO_WORDS && told.word.is_empty() && told.usage.is_empty());
     Ok(())
 }
 
-// Whether these words are refused by this of them, with this rule and the usage of this command.
-fn is_told(
-    alloc: Global,
-    texts: &[&str],
-    word: &str,
-    rule: &str,
-    usage: &str,
-) -> Result<bool, Memory> {
-    let words = words_in(alloc, texts)?;
+// Whether the words of a row are refused as it says; nothing where it is no row.
+fn is_told(alloc: Global, row: &str) -> Result<Option<bool>, Memory> {
+    let Some((texts, rest)) = row.split_once(" | ") else {
+        return Ok(None);
+    };
+    let Some((word, rest)) = rest.split_once(" | ") else {
+        return Ok(None);
+    };
+    let Some((rule, usage)) = rest.split_once(" |") else {
+        return Ok(None);
+    };
+    let words = words_of(alloc, texts)?;
     let told = complaint(&words, 3);
     let before = if word.is_empty() {
         "cutroom: a word is missing"
     } else {
         "cutroom: "
     };
-    Ok(
+    Ok(Some(
         told.before == before
             && told.word == word
-            && told.after == rule
-            && told.usage == usage_of(usage),
-    )
+            && rule_in(told.after) == rule
+            && told.usage == usage_of(usage.trim()),
+    ))
+}
+
+// A rule as it is told, without the marks before and after it.
+fn rule_in(told: &str) -> &str {
+    let told = told.strip_prefix(": ").unwrap_or("");
+    told.strip_suffix("\n").unwrap_or("")
+}
+
+// The words of a text, with blanks between them.
+fn words_of(alloc: Global, text: &str) -> Result<Words, Memory> {
+    let mut words = Words::new(alloc);
+    for word in text.split(' ') {
+        if words.count() < u32::MAX {
+            words.push(word)?;
+        }
+    }
+    Ok(words)
 }
 
 // How the command of a name is called, or where commands are listed.

@@ -1,0 +1,2 @@
+-- To be read: public clauses speak of it.
+pub mod CodeTexts
