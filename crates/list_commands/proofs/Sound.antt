@@ -6,7 +6,6 @@ use Rattle.cut_steps.specs.CutSteps.{CutStep, KeptTrack, stepping, fresh_tracks}
 use Rattle.cut_steps.proofs.Left.{can_open}
 use Rattle.take_back.specs.Parts.{CanOpen, nows}
 use Rattle.composables.specs.TrackState.{TrackState}
-use Rattle.composables.specs.declared.TheConstants.{MAX_FRAMES}
 use Rattle.composables.specs.declared.media.Layer.{Layer}
 use Rattle.composables.specs.declared.media.Nest.{Nest}
 use Rattle.composables.specs.declared.media.Table.{Table}

@@ -6,10 +6,12 @@
 #![tactic(auto)]
 
 mod cuts;
+mod fades;
 mod imports;
 mod points;
 mod tapes;
 
+pub use fades::{HidingFade, hiding_fades};
 pub use imports::import_file;
 pub use points::{CutPlace, list_cut};
 pub use tapes::play_list;

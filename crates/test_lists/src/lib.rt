@@ -6,6 +6,8 @@
 #[cfg(test)]
 mod calling;
 #[cfg(test)]
+mod fades;
+#[cfg(test)]
 mod forgetful;
 #[cfg(test)]
 mod imports;

@@ -1,4 +1,4 @@
-use Rattle.std.proofs.Common.{inr, refl, length, map, ◌∙◌, arith}
+use Rattle.std.proofs.Common.{inr, refl, ◌∙◌, arith}
 use Rattle.std.proofs.lemmas.List.{length-map}
 use Rattle.cut_steps.specs.CutSteps.{KeptTrack}
 use Rattle.edl_write.specs.declared.fault.ListFault.TheVariants.{Memory}
