@@ -1,0 +1,6 @@
+-- To be read: public clauses speak of these.
+pub mod Addresses
+pub mod Crews
+pub mod Entries
+-- For the steps of the code.
+pub mod Steps
