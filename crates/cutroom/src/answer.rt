@@ -8,10 +8,11 @@ ghost use Rattle.cut_server.specs.Unhindered.{IsUnhindered};
 ghost use Rattle.cutroom.specs.Answers.{ProgramEnds, WordsEnd};
 ghost use Rattle.program_words.specs.Notices.{notice_of};
 
+use crate::numbers::{Told, told_numbers};
 use cut_server::{cut_main, tabled_of, wants_numbers};
 use line_words::Words;
 use program_words::Notice;
-use reel_names::{AsIs, Numbered, ReelNamer};
+use reel_names::{AsIs, ReelNamer};
 use room_disks::Disk;
 use room_files::Files;
 use room_halls::Hall;
@@ -24,7 +25,7 @@ use std::thread::Threads;
 pub const OUT_OF_MEMORY: u8 = 6;
 
 /// Answers words with the namer that they ask for, whose names the reels of a list get. Where there is no memory for it, it
-/// answers 6 and does nothing. The disk is given back.
+/// answers 6 and does nothing. The disk is given back. Which number is which reel is noted where numbers are asked for.
 pub fn answer_words<
     R: Threads + Wait + Sync,
     F: Files,
@@ -41,6 +42,7 @@ pub fn answer_words<
     input: &mut S,
     output: &mut K,
     hall: &mut H,
+    told: &Told,
 ) -> (u8, D)
     ensures { WordsEnd (change F.told files.old files.new)
         (change (disk_told D.file D.course D.faults) disk result.1)
@@ -57,7 +59,7 @@ pub fn answer_words<
             Ok(namer) => answer(rt, alloc, words, files, disk, input, output, hall, namer),
             Err(_) => (OUT_OF_MEMORY, disk),
         },
-        None => answer_plain(rt, alloc, words, files, disk, input, output, hall),
+        None => answer_plain(rt, alloc, words, files, disk, input, output, hall, told),
     }
 }
 
@@ -79,6 +81,7 @@ fn answer_plain<
     input: &mut S,
     output: &mut K,
     hall: &mut H,
+    told: &Told,
 ) -> (u8, D)
     requires { table_asked words.now ≡ None }
     ensures { WordsEnd (change F.told files.old files.new)
@@ -88,9 +91,9 @@ fn answer_plain<
         (change H.told hall.old hall.new) words.now result.0 }
 {
     match wants_numbers(words) {
-        true => match Box::new(alloc, Numbered::new(alloc)) {
-            Ok(namer) => answer(rt, alloc, words, files, disk, input, output, hall, namer),
-            Err(_) => (OUT_OF_MEMORY, disk),
+        true => match told_numbers(alloc, told) {
+            Some(namer) => answer(rt, alloc, words, files, disk, input, output, hall, namer),
+            None => (OUT_OF_MEMORY, disk),
         },
         false => match Box::new(alloc, AsIs::new(alloc)) {
             Ok(namer) => answer(rt, alloc, words, files, disk, input, output, hall, namer),

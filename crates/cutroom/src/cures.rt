@@ -1,8 +1,8 @@
 // What standard error gets of a refusal: where it is, what its code means, and what to do.
+use code_texts::code_text;
 use command_files::open_document;
 use command_words::{Command, command_in};
 use line_words::{Words, number};
-use program_words::code_text;
 use room_files::Files;
 use room_ports::{StdSink, put};
 use std::alloc::Global;

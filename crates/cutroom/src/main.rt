@@ -6,32 +6,36 @@
 
 mod ahead;
 mod answer;
+mod crew;
 mod cures;
 mod errors;
+mod halls;
+mod lists;
 mod memory;
+mod numbers;
 mod start;
 #[cfg(test)]
 mod tests;
 
 use ahead::{longest_file, look_ahead};
-use answer::{OUT_OF_MEMORY, answer_words};
+use answer::OUT_OF_MEMORY;
 use command_words::{Command, command_in};
+use crew::mustered;
 use cures::{tell, tell_refusal};
 use errors::Errors;
+use halls::{NOT_SEATED, answer_over_tcp};
 use line_words::Words;
+use lists::tell_of_list;
 use memory::keep_freed_memory;
+use numbers::nothing_told;
 use program_words::{Heard, Message, complaint, hindrance_text, program_arguments};
 use room_disks::StdDisk;
 use room_files::{Report, Reported, StdFiles};
-use room_halls::TcpHall;
-use room_ports::{StdSink, StdSource};
+use room_ports::{StdSink, StdSource, put};
 use start::fill_closed_streams;
 use std::io::{IsTerminal, Write};
 use std::process::ExitCode;
 use std::sync::Mutex;
-
-// The status of a hall that was not opened, or in which a station was not seated.
-const NOT_SEATED: u8 = 5;
 
 // The statuses of a command that did all, of a file that is refused, and of a cut that has no list.
 const DONE: u8 = 0;
@@ -44,16 +48,15 @@ const NO_LIST: u8 = 8;
 const BY_HAND: &str =
     "cutroom: send lines, such as items 0; Ctrl-D ends and writes the journal, Ctrl-C loses it\n";
 
-// What is told of a list that shows nothing.
-const NOTHING_SHOWN: &str =
-    "cutroom: the list shows nothing: it has no event, or black alone; its lines have to end with line feeds\n";
-
 // Does what the arguments ask for, and ends with the status.
 fn main(rt: HostRuntime) -> ExitCode {
     fill_closed_streams(&rt);
     let alloc = rt.alloc();
     keep_freed_memory(alloc);
     let Ok(words) = program_arguments(&rt, alloc) else {
+        return ExitCode::from(OUT_OF_MEMORY);
+    };
+    let Ok(told) = nothing_told(alloc) else {
         return ExitCode::from(OUT_OF_MEMORY);
     };
     let turn = Mutex::new(());
@@ -67,6 +70,9 @@ fn main(rt: HostRuntime) -> ExitCode {
             return ExitCode::from(NOT_SEATED);
         }
     };
+    let Ok(muster) = mustered(&rt, alloc, &words, errors) else {
+        return ExitCode::from(NOT_SEATED);
+    };
     let disk = StdDisk::new(alloc, &rt, errors);
     let mut input = StdSource::new(Reported::new(rt.stdin(), "standard input", report));
     let mut output = Heard::new(StdSink::new(Reported::new(
@@ -74,11 +80,10 @@ fn main(rt: HostRuntime) -> ExitCode {
         "standard output",
         report,
     )));
-    let mut hall = TcpHall::new(alloc, &rt, errors, idle);
     if rt.stdin().is_terminal() && reads_lines(&words) {
         tell(BY_HAND, errors);
     }
-    let (status, _) = answer_words(
+    let status = answer_over_tcp(
         &rt,
         alloc,
         &words,
@@ -86,17 +91,20 @@ fn main(rt: HostRuntime) -> ExitCode {
         disk,
         &mut input,
         &mut output,
-        &mut hall,
+        errors,
+        idle,
+        muster.as_ref(),
+        &told,
     );
+    let names = told.replace(Vec::new(alloc));
+    let _ = put(&mut StdSink::new(errors), &names);
     let line = output.beginning.as_slice();
     tell_message(errors, complaint(&words, status));
     match status {
         REFUSED => tell_refusal(alloc, &mut files, &words, line, errors),
         NO_LIST => tell_refusal(alloc, &mut files, &words, line, errors),
         DONE => {
-            if line.is_empty() && shows_a_list(&words) {
-                tell(NOTHING_SHOWN, errors);
-            }
+            tell_of_list(&rt, alloc, &mut files, &words, line.is_empty(), errors);
         }
         _ => {}
     }
@@ -108,14 +116,6 @@ fn reads_lines(words: &Words) -> bool {
     match command_in(words) {
         Some(Command::Run { .. }) => true,
         Some(Command::RunDocument { .. }) => true,
-        _ => false,
-    }
-}
-
-// Whether words ask for what a list shows.
-fn shows_a_list(words: &Words) -> bool {
-    match command_in(words) {
-        Some(Command::PlayList { .. }) => true,
         _ => false,
     }
 }
