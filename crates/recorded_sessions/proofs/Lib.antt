@@ -1,0 +1,5 @@
+mod Goings
+mod Passing
+mod Settled
+mod Refusing
+mod Parting
