@@ -1,15 +1,20 @@
 #!/usr/bin/env python3
 """A station of a cutting room: sends lines, shows each reply beside its line, and can draw the tracks.
 
-usage: examples/station.py [--document DOC RATE [--drop]] [--picture FILE] [--lines FILE] HOST:PORT
-       examples/station.py [--document DOC RATE [--drop]] [--picture FILE] [--lines FILE] -- COMMAND ..
+usage: examples/station.py [--document DOC RATE [--drop]] [--picture FILE] [--lines FILE]
+                           [--log NAME | --seat FILE] HOST:PORT
+       examples/station.py [--document DOC RATE [--drop]] [--picture FILE] [--lines FILE]
+                           [--log NAME] -- COMMAND ..
 
 It talks to a room that is served at an address, or to a COMMAND that reads lines and answers them, such as
 `./cutroom run 2 1`. Lines come from the terminal, or from the file of --lines. Each line is sent when the one before it
 has its reply. The point is what the room last told of its journal. --picture draws all tracks at the end, as an SVG
 timeline: items and gaps to scale, dissolves as crossed boxes, linked items joined by lines. --document names the document
 that the room was opened with and its rate: then replies and picture have the name of a reel or nest with each @m and #j,
-and the picture has timecode on its ruler, by drop-frame with --drop, and V1, A1 and so on beside the tracks.
+and the picture has timecode on its ruler, by drop-frame with --drop, and V1, A1 and so on beside the tracks. --log writes
+what is sent into the new file NAME.lines and what comes back into NAME.replies, for an audit of the room. --seat is for a
+room with a crew: the first line of FILE is the station's line NAME KEY of the crew. Where its connection breaks the station
+sits down again, says so, and goes on; `lost` is shown for a reply that a restart of the room has lost.
 
 It needs nothing but Python's standard library."""
 
@@ -24,7 +29,8 @@ from typing import Optional
 
 from media import read
 from picture import Picture
-from shared import Words, Wrong, reason, run, shown
+from seats import LOST, Seat, member_of
+from shared import Words, Wrong, reason, run, shown, write_file
 
 REPLIES = "ok no bad memory seen items point otio news".split()
 PATIENCE = 3  # seconds without a reply, after which it says what a room waits for
@@ -34,8 +40,46 @@ class Closed(Wrong):
     """The room has closed the line."""
 
 
+class Log:
+    """What is sent and what comes back, each in a file of its own from the first byte on."""
+
+    def __init__(self, name):
+        self.lines, self.replies = (self.begun(f"{name}.{what}") for what in ("lines", "replies"))
+
+    @staticmethod
+    def begun(name):
+        write_file(name, b"")
+        return name
+
+    def sent(self, line):
+        self.add(self.lines, line)
+
+    def came(self, reply):
+        self.add(self.replies, reply)
+
+    @staticmethod
+    def add(name, data):
+        try:
+            with open(name, "ab") as file:
+                file.write(data)
+        except OSError as fault:
+            raise Wrong(f"{name} can't be written: {reason(fault)}") from fault
+
+
+class NoLog:
+    """Nothing is written down."""
+
+    def sent(self, line):
+        pass
+
+    def came(self, reply):
+        pass
+
+
 class Line:
     """Two ends of one line: bytes are written to one and whole lines read from the other."""
+
+    log = NoLog()
 
     def __init__(self, source, sink, end, status=lambda: 0, patience=None):
         self.source, self.sink, self.end, self.status = source, sink, end, status
@@ -44,11 +88,13 @@ class Line:
 
     def told(self, line):
         """The reply to a line of bytes, which may not hold a line feed, without its own."""
+        self.log.sent(line + b"\n")
         try:
             self.sink.write(line + b"\n")
             self.sink.flush()
             with self.patience:
                 reply = self.source.readline()
+            self.log.came(reply)
         except (OSError, ValueError) as fault:
             raise self.closed(reason(fault)) from fault
         if not reply.endswith(b"\n"):
@@ -65,7 +111,7 @@ class Line:
         words = reply.decode("utf-8", "replace").split(" ")
         if words[0] == "refused":
             raise Wrong(f"{' '.join(words)}: examples/explain.py FILE {' '.join(words)} says why")
-        if words[0] not in REPLIES:
+        if words[0] not in (*REPLIES, LOST):
             raise Wrong(f"that is no room: it answers {' '.join(words)[:60]}")
         self.point = point_of(words, self.point)
         return words
@@ -108,6 +154,15 @@ def station_at(address):
     line = connected(address)
     end = lambda: line.shutdown(socket.SHUT_WR)  # noqa: E731
     return Line(line.makefile("rb"), line.makefile("wb"), end, patience=Patience())
+
+
+def seated_at(address, seat):
+    """A line to a seat of a room with a crew, by the file that has its name and key."""
+    try:
+        line = Seat(lambda: connected(address), *member_of(seat))
+    except OSError as fault:
+        raise Wrong(f"{address}: {reason(fault)}") from fault
+    return Line(line, line, line.leave)
 
 
 def station_of(command):
@@ -229,15 +284,33 @@ def words_of(asked=None):
     ask.add_argument("--drop", action="store_true")
     ask.add_argument("--picture", metavar="FILE")
     ask.add_argument("--lines", metavar="FILE")
+    ask.add_argument("--log", metavar="NAME")
+    ask.add_argument("--seat", metavar="FILE")
     ask.add_argument("room", nargs="+", metavar="HOST:PORT or COMMAND")
     return ask.parse_args(asked)
+
+
+def line_to(words):
+    """The line to the room that the words name."""
+    if words.seat and words.log:
+        raise Wrong("--log is of a station without a seat: what an earlier connection sent and got is not in it")
+    log = Log(words.log) if words.log else NoLog()
+    line = unlogged_line_to(words)
+    line.log = log
+    return line
+
+
+def unlogged_line_to(words):
+    if len(words.room) > 1:
+        return station_of(words.room)
+    return seated_at(words.room[0], words.seat) if words.seat else station_at(words.room[0])
 
 
 def main():
     words = words_of()
     table = read(*words.document) if words.document else None
     names = table.names() if table else {}
-    line = station_at(words.room[0]) if len(words.room) == 1 else station_of(words.room)
+    line = line_to(words)
     for text in lines_of(words.lines):
         print(f"{shown(text):<40}  {shown(in_words(line.ask(text), names))}", flush=True)
     if words.picture:

@@ -1,11 +1,12 @@
 /* So many stations at once, each over a connection of its own and with lines of its own, and how long they waited.
 
-   usage: stations PORT STATIONS one|poured FOLDER
+   usage: stations PORT STATIONS one|poured FOLDER [CREW]
 
    Station s first sends the lines of FOLDER/before.s, and when every station has its replies to these, all send the lines
    of FOLDER/lines.s: one at a time, each after the reply to the one before, or poured, all as fast as the line takes them.
    It prints how many lines were timed, the seconds until the last station had its last reply, how many replies did not begin
-   with `ok`, and for lines one at a time the median wait, that of the 999th of a thousand, and the longest, in microseconds. */
+   with `ok`, and for lines one at a time the median wait, that of the 999th of a thousand, and the longest, in microseconds.
+   With CREW, a file with a line NAME KEY for each station, station s first sits down as line s says, and leaves at the end. */
 #include <netinet/in.h>
 #include <netinet/tcp.h>
 #include <pthread.h>
@@ -21,7 +22,7 @@ struct station {
     char *before, *lines;
     size_t before_size, lines_size, before_count, count, others;
     double *waits, ended;
-    char kept[1 << 20];
+    char kept[1 << 20], member[128];
     size_t held, at;
 };
 
@@ -113,10 +114,20 @@ static void *pour_before(void *given)
     return NULL;
 }
 
+/* Sits down on the seat that is this station's. */
+static void sit(struct station *s)
+{
+    char line[160];
+    put(s->line, line, snprintf(line, sizeof line, "sit %s 0\n", s->member));
+    reply(s);
+}
+
 static void *work(void *given)
 {
     struct station *s = given;
     pthread_t writer;
+    if (s->member[0])
+        sit(s);
     pthread_create(&writer, NULL, pour_before, s);
     for (size_t i = 0; i < s->before_count; i++)
         reply(s);
@@ -142,7 +153,10 @@ static void *work(void *given)
         }
         s->ended = now();
     }
-    shutdown(s->line, SHUT_WR);
+    if (s->member[0])
+        put(s->line, "/leave\n", 7);
+    else
+        shutdown(s->line, SHUT_WR);
     while (read(s->line, s->kept, sizeof s->kept) > 0) {
     }
     return NULL;
@@ -156,10 +170,11 @@ static int above(const void *a, const void *b)
 
 int main(int count, char **words)
 {
-    if (count != 5) {
-        fprintf(stderr, "usage: stations PORT STATIONS one|poured FOLDER\n");
+    if (count != 5 && count != 6) {
+        fprintf(stderr, "usage: stations PORT STATIONS one|poured FOLDER [CREW]\n");
         return 1;
     }
+    FILE *crew = count == 6 ? fopen(words[5], "r") : NULL;
     int stations = atoi(words[2]), one = 1;
     struct sockaddr_in at = {.sin_family = AF_INET, .sin_addr.s_addr = htonl(INADDR_LOOPBACK), .sin_port = htons(atoi(words[1]))};
     struct station *all = calloc(stations, sizeof *all);
@@ -178,6 +193,8 @@ int main(int count, char **words)
             return 1;
         }
         setsockopt(s->line, IPPROTO_TCP, TCP_NODELAY, &one, sizeof one);
+        if (crew && fgets(s->member, sizeof s->member, crew))
+            s->member[strcspn(s->member, "\n")] = 0;
         lines += s->count;
     }
     for (int i = 0; i < stations; i++)
