@@ -34,7 +34,7 @@ def main():
     names = sys.argv[1:]
     if names == ["--help"]:
         return print(__doc__)
-    if not names:
+    if not names or names[0].startswith("--"):
         raise Wrong("usage: examples/crew.py NAME .. > FILE")
     check(names)
     put("".join(f"{name} {key()}\n" for name in names).encode())

@@ -91,6 +91,7 @@ class Client:
             raise NoSeat(answer.decode())
         self.line, self.seat = line, int(words[1])
         self.go_on(int(words[2]), int(words[3]))
+        self.take(b"")  # replies may have come with the answer
 
     def go_on(self, lines, first):
         """So many lines were taken, and the reply of this number comes first."""
