@@ -5,6 +5,7 @@ The tools share what is here: the groups and crates of crates.txt, what stands o
 import os, re, shutil, sys
 
 TOP = os.path.dirname(os.path.dirname(os.path.abspath(__file__)))
+RT = os.path.join(TOP, 'tools', 'rt')  # the toolchain's command, which reads each crate once a run
 
 
 def all_crates():

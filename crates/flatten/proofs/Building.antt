@@ -99,7 +99,7 @@ track_short [] i t h is e = absurd (omega arith)
 track_short (u ∷ ts) zero t h is e = subst IsShort (sym is) e.0
 track_short (u ∷ ts) (suc i) t h is e = track_short ts i t (omega arith) is e.1
 
-length_render : (cells : List Cell) → length (render cells) ≡ length cells
+pub length_render : (cells : List Cell) → length (render cells) ≡ length cells
 length_render cells = length-map (range_with_len 0 (length cells)) (shown_at cells) ∙ length-range_with_len 0 (length cells)
 
 pub whole_track : (cells : List Cell) (n : ℕ) → n ≡ length cells → cut 0 n (render cells) ≡ render cells
@@ -114,7 +114,7 @@ short_either : (b : Bool) (t : TrackState) (ts : List TrackState) → IsShort t 
 short_either true t ts h e = (h, e)
 short_either false t ts h e = e
 
-kind_short : (kind : Kind) (ks : List Kind) (ts : List TrackState) → EachIsShort ts → EachIsShort (of_kind kind ks ts)
+pub kind_short : (kind : Kind) (ks : List Kind) (ts : List TrackState) → EachIsShort ts → EachIsShort (of_kind kind ks ts)
 kind_short kind [] ts e = tt
 kind_short kind (k ∷ ks) [] e = tt
 kind_short kind (k ∷ ks) (t ∷ ts) e = short_either (same_kind k kind) t (of_kind kind ks ts) e.0 (kind_short kind ks ts e.1)

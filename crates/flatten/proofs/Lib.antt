@@ -12,3 +12,5 @@ pub mod RunsOfReels
 pub mod OneCutting
 pub mod Spots
 pub mod WholeRuns
+pub mod Marking
+pub mod FadePlaces

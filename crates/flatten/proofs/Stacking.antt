@@ -16,7 +16,7 @@ over_both Dark g h = refl
 over_both (Pic w s) g h = refl
 over_both (Mix l r n d) g h = refl
 
-over_at : (upper lower : List (Frame ℕ)) (q : ℕ) → frame_at (laid_over upper lower) q ≡ over (frame_at upper q) (frame_at lower q)
+pub over_at : (upper lower : List (Frame ℕ)) (q : ℕ) → frame_at (laid_over upper lower) q ≡ over (frame_at upper q) (frame_at lower q)
 over_at [] lower q = refl
 over_at (f ∷ upper) [] zero = sym (over_dark f)
 over_at (f ∷ upper) [] (suc q) = over_at upper [] q
@@ -37,7 +37,7 @@ next_at [] (suc s) n = refl
 next_at (f ∷ fs) zero n = refl
 next_at (f ∷ fs) (suc s) n = next_at fs s n
 
-places : (fs : List (Frame ℕ)) (s n : ℕ) → map (frame_at fs) (range_with_len s n) ≡ padded n (drop s fs)
+pub places : (fs : List (Frame ℕ)) (s n : ℕ) → map (frame_at fs) (range_with_len s n) ≡ padded n (drop s fs)
 places fs s zero = refl
 places fs s (suc n) =
     let e : s + 1 ≡ suc s = omega arith in
@@ -54,7 +54,7 @@ first_stacked n channels =
 
 -- all of them
 
-over_length : (upper lower : List (Frame ℕ)) → length (laid_over upper lower) ≡ max (length upper) (length lower)
+pub over_length : (upper lower : List (Frame ℕ)) → length (laid_over upper lower) ≡ max (length upper) (length lower)
 over_length [] lower = omega arith
 over_length (f ∷ upper) [] = omega (arith, over_length upper [])
 over_length (f ∷ upper) (g ∷ lower) = omega (arith, over_length upper lower)

@@ -107,8 +107,8 @@ fn kind_strips(
     Ok(all)
 }
 
-// Whether the track at an index is of a kind, by the table's list of kinds.
-fn is_of_kind(table: &Table, index: usize, kind: Kind) -> bool
+/// Whether the track at an index is of a kind, by the table's list of kinds.
+pub fn is_of_kind(table: &Table, index: usize, kind: Kind) -> bool
     ensures { result ≡ is_of_kind kind (slice_get table.now.kinds index) }
 {
     match table.kinds.as_slice().get(index) {

@@ -41,8 +41,8 @@ fn nest_strip(alloc: Global, media: &[Media], nests: &[Strip], nest: &Nest) -> R
     padded_strip(alloc, stacked.as_slice(), nest.length)
 }
 
-// The first frames of these runs, with dark frames after them where there are fewer.
-fn padded_strip(alloc: Global, runs: &[Run<u32>], length: u32) -> Result<Strip, Memory>
+/// The first frames of these runs, with dark frames after them where there are fewer.
+pub fn padded_strip(alloc: Global, runs: &[Run<u32>], length: u32) -> Result<Strip, Memory>
     requires { AreFit runs.now }
     ensures { IfOk result (λ strip. Show strip (padded length (frames_of runs.now))) }
 {

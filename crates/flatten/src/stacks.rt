@@ -21,8 +21,8 @@ pub fn stack(alloc: Global, channels: &[Listed<Run<u32>>]) -> Result<Listed<Run<
     Ok(all)
 }
 
-// A channel over another: where the upper one is dark, or has ended, the lower one is seen.
-fn lay_over(
+/// A channel over another: where the upper one is dark, or has ended, the lower one is seen.
+pub fn lay_over(
     alloc: Global,
     upper: &[Run<u32>],
     lower: &[Run<u32>],

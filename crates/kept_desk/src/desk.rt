@@ -48,7 +48,8 @@ impl<D: Disk, O: PartObject, J: Naming<O, O::Part>, K: Filing<O::Call>, T: Entry
 
     ghost view = { λ d. record { file = d.file; pass = d.pass; counts = d.counts } };
 
-    ghost invariant = { λ d. IsDesk O.meaning J.opening T.line_of D.course D.faults K.table K.reader K.kept K.begun K.faults
+    ghost invariant = { λ d. IsDesk O.meaning J.opening T.line_of D.course D.faults
+        K.table K.reader K.kept K.begun K.faults
         (record { file = d.file; pass = d.pass; counts = d.counts }) };
 }
 
@@ -207,7 +208,8 @@ impl<
     pub fn close(self) -> (JournalFile<D>, Pass<O, J>)
         ensures file { result.0 ≡ self.file }
         ensures pass { result.1 ≡ self.pass }
-        ensures desk { IsDesk O.meaning J.opening T.line_of D.course D.faults K.table K.reader K.kept K.begun K.faults self }
+        ensures desk { IsDesk O.meaning J.opening T.line_of D.course D.faults
+            K.table K.reader K.kept K.begun K.faults self }
     {
         let Desk {
             file,

@@ -98,7 +98,8 @@ fn serve_filed<
     ensures { (o : OpeningOf) (name : List ℕ) (before : DiskTold) (records : List (List ℕ))
         → IsRoomOf o room setting.counting setting.start
         → IsOpenFile D.course D.faults name before counted.file records
-        → DeskEnds o remade.entries.items (length remade.passes.items) place.now.address.now name records
+        → DeskEnds o remade.entries.items (length remade.passes.items)
+        place.now.address.now name records
         before (disk_told D.file D.course D.faults result.1)
         (H.told hall.old) (H.told hall.new) result.0 }
 {
@@ -151,7 +152,8 @@ pub(crate) fn serve_remade<
     ensures { (o : OpeningOf) (name : List ℕ) (before : DiskTold) (records : List (List ℕ))
         → IsRoomOf o room setting.counting setting.start
         → IsOpenFile D.course D.faults name before file records
-        → DeskEnds o remade.entries.items (length remade.passes.items) place.now.address.now name records
+        → DeskEnds o remade.entries.items (length remade.passes.items)
+        place.now.address.now name records
         before (disk_told D.file D.course D.faults result.1)
         (H.told hall.old) (H.told hall.new) result.0 }
 {

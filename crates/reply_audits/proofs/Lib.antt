@@ -1,0 +1,4 @@
+mod Verdicts
+mod Answering
+pub mod Goings
+mod Standing
