@@ -113,7 +113,7 @@ def told(words):
     document = json.loads(save.of_journal(words[:3], words[3], save.point_in(words[4])))
     start, numbers, drop = frames(document["global_start_time"]), round(float(document["global_start_time"]["rate"])), words[2] == "drop"
     for first, end, name, how, hidden in hidden_in(document):
-        times = " to ".join(label_at(start + frame, numbers, drop) for frame in (first, end))
+        times = " to ".join(label_at(start + frame, numbers, drop).replace(";", ":") for frame in (first, end))
         yield shown(f"{times}: {name} {how} and hides {hidden}")
 
 

@@ -1,10 +1,10 @@
-// What standard error gets of lists with which all is done: one that was read and shows nothing, and fades of one that was
-// written which hide a picture.
+// What standard error gets of lists with which all is done: one that was read and shows nothing, or is counted otherwise than
+// its document, and fades of one that was written which hide a picture.
 use crate::cures::tell;
 use command_files::open_list;
 use command_words::{Command, command_in};
 use line_words::Words;
-use list_commands::{CutPlace, HidingFade, hiding_fades};
+use list_commands::{CutPlace, HidingFades, event_counted_otherwise, hiding_fades};
 use room_files::Files;
 use std::alloc::Global;
 use std::fs;
@@ -22,8 +22,9 @@ const NO_EVENT: &str =
 // How many fades are told, each in a line.
 const MOST_FADES: usize = 20;
 
-/// Tells that a list that was read shows nothing, and which fades of one that was written hide a picture. Whether a list
-/// that was imported has events is read from its file once more, and so are the document and the journal of a cut.
+/// Tells that a list that was read shows nothing, or which event of one that was imported is counted otherwise than its
+/// document, and which fades of one that was written hide a picture. A list that was imported is read from its file once more,
+/// and so are the document and the journal of a cut.
 pub fn tell_of_list<R: System, F: Files, W: Write + Drop + Copy>(
     rt: &R,
     alloc: Global,
@@ -42,8 +43,8 @@ pub fn tell_of_list<R: System, F: Files, W: Write + Drop + Copy>(
             }
         }
         Command::Import { name, counting } => {
-            if is_plain(rt, name) && has_no_event(alloc, files, name, counting.rate()) {
-                tell(NO_EVENT, to);
+            if is_plain(rt, name) {
+                tell_of_import(alloc, files, name, counting, to);
             }
         }
         Command::ListCut {
@@ -57,6 +58,44 @@ pub fn tell_of_list<R: System, F: Files, W: Write + Drop + Copy>(
             }
         }
         _ => {}
+    }
+}
+
+// Tells that a list that was imported has no event, or which of its events is counted otherwise than its document.
+fn tell_of_import<F: Files, W: Write + Drop + Copy>(
+    alloc: Global,
+    files: &mut F,
+    name: &str,
+    counting: &Counting,
+    to: W,
+) {
+    if has_no_event(alloc, files, name, counting.rate()) {
+        tell(NO_EVENT, to);
+    }
+    match event_counted_otherwise(alloc, files, name, counting) {
+        Some(line) => tell_counting(alloc, name, line, counting.drop_frame(), to),
+        None => {}
+    }
+}
+
+// Tells the line of the first event that is counted otherwise than the document, and which DROP keeps its timecode.
+fn tell_counting<W: Write + Drop + Copy>(
+    alloc: Global,
+    name: &str,
+    line: u32,
+    is_drop: bool,
+    to: W,
+) {
+    let (how, given, other) = if is_drop {
+        ("without", "drop", "ndf")
+    } else {
+        ("with", "ndf", "drop")
+    };
+    match format!(in alloc;
+        "cutroom: line {line} of {name} counts {how} drop-frame, and DROP is {given}: its frames are kept, and its timecode changes; import it with {other} to keep both\n"
+    ) {
+        Ok(text) => tell(text.as_str(), to),
+        Err(_) => {}
     }
 }
 
@@ -77,7 +116,7 @@ fn tell_hiding_fades<F: Files, W: Write + Drop + Copy>(
         point,
     };
     match hiding_fades(alloc, files, &place) {
-        Some(fades) => tell_fades(alloc, counting, &fades, to),
+        Some(found) => tell_fades(alloc, counting, &found, to),
         None => {}
     }
 }
@@ -86,11 +125,14 @@ fn tell_hiding_fades<F: Files, W: Write + Drop + Copy>(
 fn tell_fades<W: Write + Drop + Copy>(
     alloc: Global,
     counting: &Counting,
-    fades: &[HidingFade],
+    found: &HidingFades,
     to: W,
 ) {
+    let fades = found.fades.as_slice();
     for fade in fades.iter().take(MOST_FADES) {
-        tell_fade(alloc, counting, fade, to);
+        let from = found.start.saturating_add(fade.from);
+        let end = found.start.saturating_add(fade.to);
+        tell_fade(alloc, counting, from, end, to);
     }
     let more = fades.len().saturating_sub(MOST_FADES);
     if more > 0 {
@@ -101,12 +143,18 @@ fn tell_fades<W: Write + Drop + Copy>(
     }
 }
 
-// Tells a fade by its record times.
-fn tell_fade<W: Write + Drop + Copy>(alloc: Global, counting: &Counting, fade: &HidingFade, to: W) {
-    let Some(from) = label_in(alloc, counting, fade.from) else {
+// Tells a fade over these frames of the day, [first, last), by its record times.
+fn tell_fade<W: Write + Drop + Copy>(
+    alloc: Global,
+    counting: &Counting,
+    first: u32,
+    last: u32,
+    to: W,
+) {
+    let Some(from) = label_in(alloc, counting, first) else {
         return;
     };
-    let Some(end) = label_in(alloc, counting, fade.to) else {
+    let Some(end) = label_in(alloc, counting, last) else {
         return;
     };
     match format!(in alloc;

@@ -3,3 +3,5 @@ pub mod Cuts
 pub mod Points
 pub mod Tapes
 pub mod Imports
+pub mod Fades
+pub mod Countings

@@ -5,13 +5,15 @@
 //! [`import_file`], whose document shows what the list's tape shows, and opens as the same cut.
 #![tactic(auto)]
 
+mod countings;
 mod cuts;
 mod fades;
 mod imports;
 mod points;
 mod tapes;
 
-pub use fades::{HidingFade, hiding_fades};
+pub use countings::event_counted_otherwise;
+pub use fades::{HidingFades, hiding_fades};
 pub use imports::import_file;
 pub use points::{CutPlace, list_cut};
 pub use tapes::play_list;

@@ -6,6 +6,8 @@
 #[cfg(test)]
 mod calling;
 #[cfg(test)]
+mod countings;
+#[cfg(test)]
 mod fades;
 #[cfg(test)]
 mod forgetful;

@@ -7,6 +7,8 @@ mod channels;
 #[cfg(test)]
 mod cutting;
 #[cfg(test)]
+mod fades;
+#[cfg(test)]
 mod limits;
 #[cfg(test)]
 mod marks;
