@@ -18,13 +18,13 @@ use std::marker::Model;
 use std::net::{Net, TcpListener, TcpStream};
 use std::sync::Wait;
 
-// How many stations a room has at most.
-const MOST_STATIONS: usize = 16;
+/// How many stations a room has at most.
+pub const MOST_STATIONS: usize = 16;
 
 /// Who knows the number of each station's last line so far, when a hall is opened.
 pub trait Bases {
-    /// Puts them in, by station. Where there is none 0 stays. It fails where they can't be known.
-    fn put_in(&self, numbers: &mut [u32]) -> Result<(), Failed>;
+    /// These numbers, by station; 0 where there is none. It fails where they can't be known.
+    fn numbers(&self) -> Result<[u32; MOST_STATIONS], Failed>;
 }
 
 /// A hall that listens at an address, with a place for each station, which is handed out at once: a session waits for its
@@ -79,8 +79,7 @@ impl<'a, R, W, B> CrewHall<'a, R, W, B> {
 impl<'a, R: Wait, W, B: Bases> CrewHall<'a, R, W, B> {
     // Has each seat begin where the lines of its station end.
     fn begin_all(&self) -> Result<(), Failed> {
-        let mut bases = [0u32; MOST_STATIONS];
-        self.bases.put_in(&mut bases)?;
+        let bases = self.bases.numbers()?;
         for (place, base) in self.places.iter().zip(bases.iter()) {
             place.begin(self.rt, self.alloc, *base);
         }

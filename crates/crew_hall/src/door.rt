@@ -1,8 +1,8 @@
 // The thread that lets people in.
-use crate::guest::{Guest, Heard, Stage};
 use crate::place::{NotSat, Place};
 use crate::report::Report;
 use crew_words::{Crew, Entry, entry_in};
+use first_lines::{Heard, Newcomer, Stage};
 use libc::net::{POLLIN, POLLOUT, poll};
 use libc::types::pollfd;
 use room_ports::Memory;
@@ -111,7 +111,7 @@ struct Porter<'a, R, W> {
     report: Report<W>,
     idle: Option<Duration>,
     page: Page<'a>,
-    guests: Vec<Guest>,
+    guests: Vec<Newcomer>,
 }
 
 /// Lets people in until the hall has ended. It waits for nobody in particular: a connection that says nothing, or that has a
@@ -213,7 +213,9 @@ impl<R: Wait + Clock, W: Write + Copy> Porter<'_, R, W> {
         if self.guests.len() >= MOST_GUESTS {
             drop(self.guests.remove(0));
         }
-        let _ = self.guests.push(Guest::new(self.alloc, stream, peer, now));
+        let _ = self
+            .guests
+            .push(Newcomer::new(self.alloc, stream, peer, now));
     }
 
     // Sees to the guest at a place, and ends its time where that is over. It answers whether the guest still waits.
@@ -326,7 +328,7 @@ impl<R: Wait + Clock, W: Write + Copy> Porter<'_, R, W> {
     }
 
     // Takes the guest at a place out; none where none is there.
-    fn let_go(&mut self, at: usize) -> Option<Guest> {
+    fn let_go(&mut self, at: usize) -> Option<Newcomer> {
         if at < self.guests.len() {
             Some(self.guests.remove(at))
         } else {

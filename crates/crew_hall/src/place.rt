@@ -1,44 +1,14 @@
 // A seat behind its lock, and the connection that is there.
-use crate::guest::tells;
-use crate::shared::Shared;
+use first_lines::Link;
 use room_ports::Memory;
 use seat_lines::Seat;
 use std::alloc::{AllocError, Global};
 use std::io::Write;
-use std::net::{Shutdown, TcpStream};
-use std::sync::{Arc, Condvar, Mutex, Wait};
-use web_lines::WebStream;
+use std::net::Shutdown;
+use std::sync::{Condvar, Mutex, Wait};
 
 // The most bytes of the answer to who sits down: `seat`, a place and two numbers.
 const LONGEST_ANSWER: usize = 80;
-
-/// A connection, what came over it with its first line, and the WebSocket that it is where it is one. The session of its
-/// station takes the latter two.
-#[derive(Drop)]
-pub(crate) struct Link {
-    pub stream: Arc<TcpStream>,
-    pub ahead: Option<Vec<u8>>,
-    pub web: Option<WebStream<Shared>>,
-}
-
-impl Link {
-    // Writes a line to a connection that does not block, and says whether all of it was taken.
-    fn tells(&mut self, line: &[u8]) -> bool {
-        match &mut self.web {
-            Some(web) => web.write_all(line).is_ok(),
-            None => tells(&self.stream, line),
-        }
-    }
-
-    // Somebody sits over it: from now on it may block.
-    fn is_seated(&self) {
-        match &self.web {
-            Some(web) => web.get_ref().seat(),
-            None => {}
-        }
-        let _ = self.stream.set_nonblocking(false);
-    }
-}
 
 /// What a lock holds: the seat, the connection that is there, how many were there so far, and whether its session is over.
 #[derive(Drop)]

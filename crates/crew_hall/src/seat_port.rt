@@ -1,7 +1,7 @@
 // How a station's line comes to its bytes, and how they go out, over whatever connection is there.
-use crate::place::{Held, Link, Place};
+use crate::place::{Held, Place};
 use crate::report::Report;
-use crate::shared::Shared;
+use first_lines::{Link, Shared};
 use seat_lines::Seat;
 use std::io::{ErrorKind, Read, Write};
 use std::net::{Shutdown, TcpStream};
@@ -11,7 +11,9 @@ use web_lines::WebStream;
 /// The most bytes that are read of a connection at once, and that are written to it.
 pub(crate) const PIECE: usize = 8_192;
 
-/// A station's side of its place, and what came over the connection that is there and was not taken yet.
+/// A station's side of its place: the connection that was there when its lock was last held, what came over it and was not
+/// taken yet, and how many bytes went out over it of which the seat does not know yet. It learns of them when its lock is next
+/// held, so a reply that goes out at once takes the lock once.
 #[derive(Drop)]
 pub(crate) struct SeatPort<'a, R, W> {
     rt: &'a R,
@@ -21,6 +23,8 @@ pub(crate) struct SeatPort<'a, R, W> {
     came: [u8; PIECE],
     at: usize,
     end: usize,
+    out: usize,
+    stream: Option<Arc<TcpStream>>,
     web: Option<WebStream<Shared>>,
     of: u64,
 }
@@ -34,9 +38,21 @@ enum Step {
     // What is to be written goes out first.
     Send,
     // More has to come over the connection.
-    Read(Arc<TcpStream>),
+    Read,
     // Nobody is there.
     Wait,
+}
+
+// What a write to a seat comes to.
+enum Put {
+    // It is kept, and nothing before it waits: it may go out over the connection.
+    Goes,
+    // It is kept.
+    Kept,
+    // There was no memory for it.
+    Lost,
+    // Something waits to be sent before it.
+    Waits,
 }
 
 impl<'a, R: Wait, W: Write + Copy> SeatPort<'a, R, W> {
@@ -50,6 +66,8 @@ impl<'a, R: Wait, W: Write + Copy> SeatPort<'a, R, W> {
             came: [0; PIECE],
             at: 0,
             end: 0,
+            out: 0,
+            stream: None,
             web: None,
             of: 0,
         }
@@ -64,7 +82,7 @@ impl<'a, R: Wait, W: Write + Copy> SeatPort<'a, R, W> {
                 Step::Send => {
                     self.send_on();
                 }
-                Step::Read(stream) => self.read_on(&stream),
+                Step::Read => self.read_on(),
                 Step::Again | Step::Wait => {}
             }
         }
@@ -75,13 +93,16 @@ impl<'a, R: Wait, W: Write + Copy> SeatPort<'a, R, W> {
     pub(crate) fn write(&mut self, piece: &[u8]) -> bool {
         for _ in self.rt.forever() {
             match self.put(piece) {
-                None => self.send_all(),
-                Some(is_kept) => {
-                    if is_kept {
+                Put::Goes => {
+                    self.write_on(piece);
+                    if self.out < piece.len() {
                         self.send_all();
                     }
-                    return is_kept;
+                    return true;
                 }
+                Put::Kept => return true,
+                Put::Lost => return false,
+                Put::Waits => self.send_all(),
             }
         }
         unreachable!()
@@ -106,17 +127,37 @@ impl<'a, R: Wait, W: Write + Copy> SeatPort<'a, R, W> {
         held.link = None;
         held.seat.breaks();
         drop(guard);
+        self.stream = None;
         self.report.station(self.station, "left");
     }
 
-    // Turns to the connection that is there. What came over another is dropped.
+    // Turns to the connection that is there, and has the seat learn what went out over it. What came and went over another
+    // counts no more.
     fn turn_to(&mut self, held: &mut Held) {
-        if self.of != held.links {
+        if self.of == held.links {
+            let sent = self.out.min(held.seat.unsent().len());
+            held.seat.send(sent);
+        } else {
             self.of = held.links;
             self.at = 0;
             self.end = 0;
+            self.stream = None;
             self.web = None;
             self.take_ahead(&mut held.link);
+        }
+        self.out = 0;
+        self.take_stream(&held.link);
+    }
+
+    // Takes a share of the connection, where it has none yet. Where nobody is there it keeps none.
+    fn take_stream(&mut self, link: &Option<Link>) {
+        match link {
+            None => self.stream = None,
+            Some(link) if self.stream.is_none() => match Arc::try_clone(&link.stream) {
+                Ok(stream) => self.stream = Some(stream),
+                Err(_) => {}
+            },
+            Some(_) => {}
         }
     }
 
@@ -125,6 +166,23 @@ impl<'a, R: Wait, W: Write + Copy> SeatPort<'a, R, W> {
         self.turn_to(held);
         let end = self.end.min(PIECE);
         self.at = fed(&mut held.seat, &self.came[..end], self.at);
+    }
+
+    // Has the seat take line after line, as far as there is room for them, and gives how many bytes they are.
+    fn fill(&mut self, held: &mut Held, into: &mut [u8]) -> usize {
+        let mut n = 0;
+        for _ in 0..into.len() {
+            self.feed(held);
+            let more = match into.get_mut(n..) {
+                Some(room) => held.seat.read(room),
+                None => 0,
+            };
+            if more == 0 {
+                break;
+            }
+            n = n.saturating_add(more);
+        }
+        n
     }
 
     // Takes what came with the first line of a connection, and its WebSocket.
@@ -148,8 +206,7 @@ impl<'a, R: Wait, W: Write + Copy> SeatPort<'a, R, W> {
         let place = self.place;
         let mut guard = place.held.lock(self.rt);
         let held = &mut *guard;
-        self.feed(held);
-        let n = held.seat.read(into);
+        let n = self.fill(held, into);
         if n > 0 || into.is_empty() {
             return Step::Given(n);
         }
@@ -159,95 +216,95 @@ impl<'a, R: Wait, W: Write + Copy> SeatPort<'a, R, W> {
         if held.seat.has_left() || (held.seat.is_here() && !held.seat.may_take()) {
             return Step::Given(0);
         }
-        match &held.link {
-            Some(link) => match Arc::try_clone(&link.stream) {
-                Ok(stream) => Step::Read(stream),
-                Err(_) => Step::Again,
-            },
-            None => {
-                drop(place.changed.wait(self.rt, guard));
-                Step::Wait
-            }
+        if held.link.is_none() {
+            drop(place.changed.wait(self.rt, guard));
+            return Step::Wait;
+        }
+        if self.stream.is_some() {
+            Step::Read
+        } else {
+            Step::Again
         }
     }
 
-    // Reads of a connection, without the lock.
-    fn read_on(&mut self, stream: &TcpStream) {
+    // Reads of the connection, without the lock. Where another came meanwhile the next look finds that out.
+    fn read_on(&mut self) {
+        let Some(stream) = self.stream.take() else {
+            return;
+        };
         let answer = match &mut self.web {
             Some(web) => web.read(&mut self.came),
             None => {
-                let mut from = stream;
+                let mut from = &*stream;
                 from.read(&mut self.came)
             }
         };
+        self.stream = Some(stream);
+        match answer {
+            Ok(n) if n > 0 => {
+                self.at = 0;
+                self.end = n;
+            }
+            Ok(_) => self.lose("is away, its connection has ended"),
+            Err(error) => match error.kind() {
+                ErrorKind::Interrupted => {}
+                ErrorKind::WouldBlock => {
+                    self.lose("is away, nothing came over its connection in time");
+                }
+                _ => self.lose("is away, its connection has broken"),
+            },
+        }
+    }
+
+    // Writes bytes to the connection that are the next to go out, without the lock.
+    fn write_on(&mut self, bytes: &[u8]) {
+        let Some(stream) = self.stream.take() else {
+            return;
+        };
+        let answer = match &mut self.web {
+            Some(web) => web.write(bytes),
+            None => {
+                let mut to = &*stream;
+                to.write(bytes)
+            }
+        };
+        self.stream = Some(stream);
+        match answer {
+            Ok(sent) if sent > 0 => self.out = sent,
+            _ => self.lose("is away, a write to its connection failed"),
+        }
+    }
+
+    // The connection is gone, for a reason that is told. Where another has come since, nothing is.
+    fn lose(&mut self, why: &str) {
         let place = self.place;
         let mut guard = place.held.lock(self.rt);
         let held = &mut *guard;
         if self.of != held.links || held.link.is_none() {
             return;
         }
-        let why = match answer {
-            Ok(n) if n > 0 => {
-                self.at = 0;
-                self.end = n;
-                return;
-            }
-            Err(error) if error.kind() == ErrorKind::Interrupted => return,
-            Ok(_) => "is away, its connection has ended",
-            Err(error) if error.kind() == ErrorKind::WouldBlock => {
-                "is away, nothing came over its connection in time"
-            }
-            Err(_) => "is away, its connection has broken",
-        };
         held.breaks();
+        self.stream = None;
         self.web = None;
+        self.out = 0;
         drop(guard);
         self.report.station(self.station, why);
     }
 
-    // Has a piece of what is to be written go out, without the lock, and says whether more may be there.
+    // Has a piece of what is to be written go out, and says whether more may be there.
     fn send_on(&mut self) -> bool {
         let mut piece = [0u8; PIECE];
         let place = self.place;
         let mut guard = place.held.lock(self.rt);
         self.turn_to(&mut guard);
-        let links = guard.links;
         let rest = guard.seat.unsent();
         let n = rest.len().min(PIECE);
         piece[..n].copy_from_slice(&rest[..n]);
-        let stream = match &guard.link {
-            Some(link) if n > 0 => match Arc::try_clone(&link.stream) {
-                Ok(stream) => stream,
-                Err(_) => return true,
-            },
-            _ => return false,
-        };
         drop(guard);
-        let answer = match &mut self.web {
-            Some(web) => web.write(&piece[..n]),
-            None => {
-                let mut to = &*stream;
-                to.write(&piece[..n])
-            }
-        };
-        let mut guard = place.held.lock(self.rt);
-        let held = &mut *guard;
-        if held.links != links || held.link.is_none() {
-            return true;
+        if n == 0 || self.stream.is_none() {
+            return false;
         }
-        match answer {
-            Ok(sent) if sent > 0 => {
-                let sent = sent.min(held.seat.unsent().len());
-                held.seat.send(sent);
-            }
-            _ => {
-                held.breaks();
-                self.web = None;
-                drop(guard);
-                self.report
-                    .station(self.station, "is away, a write to its connection failed");
-            }
-        }
+        self.write_on(&piece[..n]);
         true
     }
 
@@ -260,15 +317,24 @@ impl<'a, R: Wait, W: Write + Copy> SeatPort<'a, R, W> {
         }
     }
 
-    // Puts a piece, once nothing waits to be sent, and says whether there was memory for it; `None` where something waits.
-    fn put(&self, piece: &[u8]) -> Option<bool> {
-        let mut guard = self.place.held.lock(self.rt);
+    // Puts a piece, unless something waits to be sent before it.
+    fn put(&mut self, piece: &[u8]) -> Put {
+        let place = self.place;
+        let mut guard = place.held.lock(self.rt);
         let held = &mut *guard;
+        self.turn_to(held);
         if held.link.is_some() && !held.seat.unsent().is_empty() {
-            return None;
+            return Put::Waits;
         }
         held.seat.make_room(piece.len());
-        Some(held.seat.put(piece).is_ok())
+        if held.seat.put(piece).is_err() {
+            return Put::Lost;
+        }
+        if self.stream.is_some() && !piece.is_empty() {
+            Put::Goes
+        } else {
+            Put::Kept
+        }
     }
 }
 

@@ -2,12 +2,13 @@
 use crate::answer::answer_words;
 use crate::numbers::Told;
 use command_words::{Command, command_in};
-use crew_hall::{Bases, CrewHall, Door, Place, places_of, tend};
+use crew_hall::{Bases, CrewHall, Door, MOST_STATIONS, Place, places_of, tend};
 use crew_words::{Crew, MOST_BYTES, address_in, crew_of};
+use kept_numbers::last_numbers;
 use line_words::Words;
 use room_disks::Disk;
 use room_files::Files;
-use room_page::the_page;
+use room_page::{page_of, page_parts};
 use room_ports::{Failed, Sink, Source};
 use std::alloc::Global;
 use std::fs::File;
@@ -22,10 +23,8 @@ use std::time::Duration;
 // The rights of a file by which others than its owner can read it.
 const READ_BY_OTHERS: u32 = 0o044;
 
-// The most bytes of a kept file, and what stands at its head.
+// The most bytes of a kept file.
 const LONGEST_JOURNAL: u64 = 134_217_728;
-
-const HEADER: &[u8] = b"cutroom journal 1\n";
 
 /// A crew, a place for each station, and the name of the kept file whose numbers its lines go on from.
 #[derive(Drop)]
@@ -130,15 +129,12 @@ struct Kept<'a, R, W> {
 }
 
 impl<R: System<File = File>, W: Write + Copy> Bases for Kept<'_, R, W> {
-    fn put_in(&self, numbers: &mut [u32]) -> Result<(), Failed> {
+    fn numbers(&self) -> Result<[u32; MOST_STATIONS], Failed> {
         let Some(name) = self.name else {
-            return Ok(());
+            return Ok([0; MOST_STATIONS]);
         };
         match text_in(self.system, self.alloc, name, LONGEST_JOURNAL) {
-            Ok((text, _)) => {
-                last_numbers(&text, numbers);
-                Ok(())
-            }
+            Ok((text, _)) => Ok(last_numbers(&text)),
             Err(error) => {
                 match format!(in self.alloc; "cutroom: {name} could not be read: {error}\n") {
                     Ok(line) => {
@@ -150,41 +146,6 @@ impl<R: System<File = File>, W: Write + Copy> Bases for Kept<'_, R, W> {
                 Err(Failed)
             }
         }
-    }
-}
-
-// The number of each station's last entry among the records of a kept file.
-fn last_numbers(text: &[u8], numbers: &mut [u32]) {
-    let Some(records) = text.strip_prefix(HEADER) else {
-        return;
-    };
-    let mut rest = records;
-    for _ in 0..text.len() {
-        match rest {
-            [b'+', after @ ..] => match after.iter().position(|byte| *byte == b'\n') {
-                Some(end) if end < after.len() => {
-                    note_record(&after[..end], numbers);
-                    rest = &after[end + 1..];
-                }
-                _ => return,
-            },
-            _ => return,
-        }
-    }
-}
-
-// Notes the number of a record's line for its station.
-fn note_record(line: &[u8], numbers: &mut [u32]) {
-    let mut words = line.split(|byte| *byte == b' ');
-    let (Some(station), Some(number)) = (words.next(), words.next()) else {
-        return;
-    };
-    let (Ok(station), Ok(number)) = (line_words::number(station), line_words::number(number)) else {
-        return;
-    };
-    match numbers.get_mut(station as usize) {
-        Some(last) => *last = number,
-        None => {}
     }
 }
 
@@ -215,7 +176,8 @@ pub fn answer_with_crew<
     muster: &Muster<'_>,
     told: &Told,
 ) -> Option<u8> {
-    let page = the_page();
+    let parts = page_parts();
+    let page = page_of(&parts);
     let door = Door::new();
     let (door, crew, places) = (&door, &muster.crew, muster.places.as_slice());
     let bases = Kept {

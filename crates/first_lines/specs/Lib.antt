@@ -1,0 +1,2 @@
+-- To be read: public clauses speak of these.
+pub mod FirstLines

@@ -1,0 +1,4 @@
+-- To be read: public clauses speak of it.
+pub mod PageText
+-- Its text.
+pub mod PageParts
