@@ -13,8 +13,8 @@ In the first form FILE is the document, list, journal or kept file, and REFUSAL 
 Of a document it says on which line and column the fault is, what is there and what is around it, from the timeline down,
 each object by its schema and name; of a list or a journal it shows the line. Then it says what such a fault comes from, with
 the cure of each and the commands that do it. A list that is read is looked through for what may be meant otherwise. In the
-second form REFUSAL is a reply, such as `no 3 E16 0` or `bad B3`, or the line that `follow` answers: it says where that code
-comes, with an example.
+second form REFUSAL is a reply, such as `no 3 E16 0` or `bad B3`, or the line that `follow` or `audit` answers: it says where
+that code comes, with an example.
 
 What it says stands in docs/DOCUMENTS.md, LISTS.md, PROTOCOL.md and SERVING.md. It needs nothing but Python's standard
 library."""
@@ -32,7 +32,7 @@ from shared import HERE, Wrong, read_file, run, shown
 
 PAGES = HERE.parent / "docs"
 FILE_REFUSAL = re.compile(r"refused (([JOPIHKL])\d+) (\d+)(?: (\d+))?")
-REPLY = re.compile(r"(?:no \d+ ([EV]\d+)|refused (M\d+)|bad (B\d+))(?: .*)?")
+REPLY = re.compile(r"(?:no \d+ ([EV]\d+)|refused ([AM]\d+)|bad (B\d+))(?: .*)?")
 MOST = 130 << 20  # bytes, more than any file that the program reads
 SHOWN = 60  # characters of a value, or around a fault of the JSON
 HERE_MARK = "\0cutroom looks here"

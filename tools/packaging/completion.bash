@@ -14,6 +14,8 @@ _cutroom() {
     esac
     # a command with several forms has a word for each at one place, as TRACKS|DOC
     read -ra kinds <<<"$kinds"
+    # the words of an audit go on with two files of the next station, or `cut` after those of one
+    [ "${COMP_WORDS[1]}" != audit ] || [ "$at" -lt "${#kinds[@]}" ] || kinds[$at]='LINES|CUT'
     IFS='|' read -ra kinds <<<"${kinds[$at]:-}"
     for kind in "${kinds[@]}"; do
         case $kind in
@@ -21,7 +23,8 @@ _cutroom() {
             DROP) mapfile -t -O "${#COMPREPLY[@]}" COMPREPLY < <(compgen -W 'ndf drop' -- "$cur") ;;
             DOC) _cutroom_files otio ;;
             LIST) _cutroom_files edl ;;
-            JOURNAL) _cutroom_files '*' ;;
+            JOURNAL | LINES | REPLIES) _cutroom_files '*' ;;
+            CUT) mapfile -t -O "${#COMPREPLY[@]}" COMPREPLY < <(compgen -W 'cut' -- "$cur") ;;
         esac
     done
 }

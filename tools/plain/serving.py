@@ -79,3 +79,15 @@ class Server:
         out, err = self.ran.communicate(timeout=timeout)
         self.told.append(err)
         return self.ran.returncode, out, "".join(self.told)
+
+
+def audited(program, folder, files):
+    """What the program's `audit` prints of the room in a folder, and its status. The files are what each station sent and
+    got, and whether its session was cut."""
+    words = [program, "audit", "doc.otio", "24", "ndf", "journal"]
+    for station, (sent, got, cut) in enumerate(files):
+        (folder / f"{station}.lines").write_bytes(sent)
+        (folder / f"{station}.replies").write_bytes(got)
+        words += [f"{station}.lines", f"{station}.replies", *["cut"] * cut]
+    ran = subprocess.run(words, cwd=folder, capture_output=True, text=True)
+    return ran.stdout, ran.returncode

@@ -4,6 +4,7 @@ use Rattle.code_texts.specs.declared.replies.TheConstants.{B_CODES, E_CODES, V_C
 use Rattle.code_texts.specs.declared.documents.TheConstants.{J_CODES, O_CODES}
 use Rattle.code_texts.specs.declared.journals.TheConstants.{H_CODES, K_CODES, M_CODES}
 use Rattle.code_texts.specs.declared.lists.TheConstants.{P_CODES, L_CODES, I_CODES}
+use Rattle.code_texts.specs.declared.audits.TheConstants.{A_CODES}
 use Rattle.code_texts.specs.declared.statuses.TheConstants.{STATUSES}
 
 -- the text of a code, of rows that each have a code and its text
@@ -55,6 +56,10 @@ i_text = text_in (map (λ row. (row.0.now, row.1.now)) I_CODES)
 unfoldable pub m_text : List ℕ → Option (List ℕ)
 m_text = text_in (map (λ row. (row.0.now, row.1.now)) M_CODES)
 
+-- of recorded sessions
+unfoldable pub a_text : List ℕ → Option (List ℕ)
+a_text = text_in (map (λ row. (row.0.now, row.1.now)) A_CODES)
+
 -- of exit statuses
 unfoldable pub status_text_of : List ℕ → Option (List ℕ)
 status_text_of = text_in (map (λ row. (row.0.now, row.1.now)) STATUSES)
@@ -73,6 +78,7 @@ by_letter letter code =
     if letter == 76 then l_text code else
     if letter == 73 then i_text code else
     if letter == 77 then m_text code else
+    if letter == 65 then a_text code else
     status_text_of code
 
 -- what a code means, and what to do

@@ -1,7 +1,8 @@
 // The text of a code, found in the table of its letter: one table of all would be more than the check takes at once.
 ghost use Rattle.std.specs.Prelude.{◌≡◌, map, option_map};
-ghost use Rattle.code_texts.specs.CodeTexts.{code_text, text_in, status_text_of, b_text, e_text, v_text, j_text, o_text, h_text, k_text, p_text, l_text, i_text, m_text};
+ghost use Rattle.code_texts.specs.CodeTexts.{code_text, text_in, status_text_of, b_text, e_text, v_text, j_text, o_text, h_text, k_text, p_text, l_text, i_text, m_text, a_text};
 
+use crate::audits::A_CODES;
 use crate::documents::{J_CODES, O_CODES};
 use crate::journals::{H_CODES, K_CODES, M_CODES};
 use crate::lists::{I_CODES, L_CODES, P_CODES};
@@ -26,6 +27,7 @@ pub fn code_text(code: &str) -> Option<&'static str>
         Some(b'L') => l_text(code),
         Some(b'I') => i_text(code),
         Some(b'M') => m_text(code),
+        Some(b'A') => a_text(code),
         _ => status_text_of(code),
     }
 }
@@ -119,6 +121,13 @@ fn m_text(code: &[u8]) -> Option<&'static str>
     ensures { option_map (λ text. text.now) result ≡ m_text code.now }
 {
     text_in(&M_CODES, code)
+}
+
+// The text of a code of recorded sessions.
+fn a_text(code: &[u8]) -> Option<&'static str>
+    ensures { option_map (λ text. text.now) result ≡ a_text code.now }
+{
+    text_in(&A_CODES, code)
 }
 
 // The text of a code of exit statuses.

@@ -3,6 +3,7 @@
 //! The main contract is that of [`code_text`]: a code has the text of its row, and what has no row has none.
 #![tactic(auto)]
 
+pub mod audits;
 mod codes;
 pub mod documents;
 pub mod journals;

@@ -38,6 +38,7 @@ What to do: see the lines on standard error: they name the word, and how the
 4: a document is refused
 4: of list: the journal is refused
 4: of store: the file JOURNAL is refused
+4: of audit: the journal is refused, or what was recorded
 4: of follow: the stream is refused
 4: of tape and import: the list is refused
 4: of import: the list makes no document
@@ -58,9 +59,9 @@ What to do: see the lines on standard error: the address may be taken, or be
     (
         "6",
         "\
-6: out of memory before the first read; of list, tape, import and follow at any
-  step; of store also where entries were to be kept before a reply, which is not
-  put
+6: out of memory before the first read; of list, tape, import, follow and audit
+  at any step; of store also where entries were to be kept before a reply, which
+  is not put
 What to do: give the process more memory, see ulimit -v; what a reply told of
   was done
 ",
@@ -71,6 +72,8 @@ What to do: give the process more memory, see ulimit -v; what a reply told of
 7: the input gave more than 64 MiB, and no read or write failed
 7: of follow: the input gave more than 64 MiB, none of whose lines that ended in
   the first 64 MiB is refused
+7: of audit: a file of lines has more than 64 MiB, or one of replies has 1 GiB
+  or more
 What to do: send less in one session; the edits that were answered are done
 ",
     ),

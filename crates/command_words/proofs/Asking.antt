@@ -3,7 +3,7 @@ use Rattle.std.proofs.Common.{◌≡◌, ℕ, zero, suc, Bool, true, false, if�
 use Rattle.std.specs.Prelude.{codes, bytes_eq}
 use Rattle.std.proofs.lemmas.Option.{none-some, same_Some}
 use Rattle.std.proofs.lemmas.Slice.Eq.{bytes_eq-Decides}
-use Rattle.command_words.specs.Commands.{Asked, command_of, run_in, serve_in, store_in, list_in, tape_in, import_in, follow_in, make_in, hall_in, hall_of_words, list_cut_in, word_at}
+use Rattle.command_words.specs.Commands.{Asked, command_of, run_in, serve_in, store_in, list_in, tape_in, import_in, follow_in, audit_in, make_in, hall_in, hall_of_words, list_cut_in, word_at}
 
 -- six words behind the first
 six_behind : (ws : List (List ℕ)) (b c d e f g : List ℕ) → length ws ≡ 7 → slice_get ws 1 ≡ Some b → slice_get ws 2 ≡ Some c → slice_get ws 3 ≡ Some d
@@ -56,26 +56,27 @@ at_last (a ∷ b ∷ c ∷ d ∷ e' ∷ f ∷ w ∷ x ∷ ws) last is n g e = ab
 pub other_words : (ws : List (List ℕ)) (last : List ℕ) → length ws ≡ 7 → slice_get ws 6 ≡ Some last → (last ≡ codes "numbered" → ⊥) → None ≡ list_in (drop 1 ws)
 other_words ws last n g e = at_last ws last false n g (unlike last (codes "numbered") e)
 
--- words whose first is none of these eight ask for nothing
-none_at : (run serve store list tape import follow make : Bool) (ws : List (List ℕ)) → run ≡ false → serve ≡ false → store ≡ false → list ≡ false → tape ≡ false → import ≡ false → follow ≡ false → make ≡ false
+-- words whose first is none of these nine ask for nothing
+none_at : (run serve store list tape import follow audit make : Bool) (ws : List (List ℕ)) → run ≡ false → serve ≡ false → store ≡ false → list ≡ false → tape ≡ false → import ≡ false → follow ≡ false → audit ≡ false → make ≡ false
     → ◌≡◌ {A = Option Asked} None
-    (if run then run_in ws else if serve then serve_in ws else if store then store_in ws else if list then list_in ws else if tape then tape_in ws else if import then import_in ws else if follow then follow_in ws else if make then make_in ws else None)
-none_at true serve store list tape import follow make ws r s k l t i f m = absurd (Prim.grind (arith, r))
-none_at false true store list tape import follow make ws r s k l t i f m = absurd (Prim.grind (arith, s))
-none_at false false true list tape import follow make ws r s k l t i f m = absurd (Prim.grind (arith, k))
-none_at false false false true tape import follow make ws r s k l t i f m = absurd (Prim.grind (arith, l))
-none_at false false false false true import follow make ws r s k l t i f m = absurd (Prim.grind (arith, t))
-none_at false false false false false true follow make ws r s k l t i f m = absurd (Prim.grind (arith, i))
-none_at false false false false false false true make ws r s k l t i f m = absurd (Prim.grind (arith, f))
-none_at false false false false false false false true ws r s k l t i f m = absurd (Prim.grind (arith, m))
-none_at false false false false false false false false ws r s k l t i f m = refl
+    (if run then run_in ws else if serve then serve_in ws else if store then store_in ws else if list then list_in ws else if tape then tape_in ws else if import then import_in ws else if follow then follow_in ws else if audit then audit_in ws else if make then make_in ws else None)
+none_at true serve store list tape import follow audit make ws r s k l t i f u m = absurd (Prim.grind (arith, r))
+none_at false true store list tape import follow audit make ws r s k l t i f u m = absurd (Prim.grind (arith, s))
+none_at false false true list tape import follow audit make ws r s k l t i f u m = absurd (Prim.grind (arith, k))
+none_at false false false true tape import follow audit make ws r s k l t i f u m = absurd (Prim.grind (arith, l))
+none_at false false false false true import follow audit make ws r s k l t i f u m = absurd (Prim.grind (arith, t))
+none_at false false false false false true follow audit make ws r s k l t i f u m = absurd (Prim.grind (arith, i))
+none_at false false false false false false true audit make ws r s k l t i f u m = absurd (Prim.grind (arith, f))
+none_at false false false false false false false true make ws r s k l t i f u m = absurd (Prim.grind (arith, u))
+none_at false false false false false false false false true ws r s k l t i f u m = absurd (Prim.grind (arith, m))
+none_at false false false false false false false false false ws r s k l t i f u m = refl
 
 pub none_of_these : (ws : List (List ℕ)) (first : List ℕ) → slice_get ws 0 ≡ Some first → (first ≡ codes "run" → ⊥) → (first ≡ codes "serve" → ⊥) → (first ≡ codes "store" → ⊥)
-    → (first ≡ codes "list" → ⊥) → (first ≡ codes "tape" → ⊥) → (first ≡ codes "import" → ⊥) → (first ≡ codes "follow" → ⊥) → (first ≡ codes "make" → ⊥) → None ≡ command_of ws
-none_of_these [] first is r s k l t i f m = absurd (none-some first is)
-none_of_these (a ∷ ws) first is r s k l t i f m =
+    → (first ≡ codes "list" → ⊥) → (first ≡ codes "tape" → ⊥) → (first ≡ codes "import" → ⊥) → (first ≡ codes "follow" → ⊥) → (first ≡ codes "audit" → ⊥) → (first ≡ codes "make" → ⊥) → None ≡ command_of ws
+none_of_these [] first is r s k l t i f u m = absurd (none-some first is)
+none_of_these (a ∷ ws) first is r s k l t i f u m =
     let same : a ≡ first = same_Some a first is in
-    none_at (bytes_eq a (codes "run")) (bytes_eq a (codes "serve")) (bytes_eq a (codes "store")) (bytes_eq a (codes "list")) (bytes_eq a (codes "tape")) (bytes_eq a (codes "import")) (bytes_eq a (codes "follow")) (bytes_eq a (codes "make")) ws
+    none_at (bytes_eq a (codes "run")) (bytes_eq a (codes "serve")) (bytes_eq a (codes "store")) (bytes_eq a (codes "list")) (bytes_eq a (codes "tape")) (bytes_eq a (codes "import")) (bytes_eq a (codes "follow")) (bytes_eq a (codes "audit")) (bytes_eq a (codes "make")) ws
     (ap (λ (w : List ℕ). bytes_eq w (codes "run")) same ∙ unlike first (codes "run") r)
     (ap (λ (w : List ℕ). bytes_eq w (codes "serve")) same ∙ unlike first (codes "serve") s)
     (ap (λ (w : List ℕ). bytes_eq w (codes "store")) same ∙ unlike first (codes "store") k)
@@ -83,4 +84,5 @@ none_of_these (a ∷ ws) first is r s k l t i f m =
     (ap (λ (w : List ℕ). bytes_eq w (codes "tape")) same ∙ unlike first (codes "tape") t)
     (ap (λ (w : List ℕ). bytes_eq w (codes "import")) same ∙ unlike first (codes "import") i)
     (ap (λ (w : List ℕ). bytes_eq w (codes "follow")) same ∙ unlike first (codes "follow") f)
+    (ap (λ (w : List ℕ). bytes_eq w (codes "audit")) same ∙ unlike first (codes "audit") u)
     (ap (λ (w : List ℕ). bytes_eq w (codes "make")) same ∙ unlike first (codes "make") m)

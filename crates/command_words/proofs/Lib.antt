@@ -4,3 +4,4 @@ pub mod NameRows
 pub mod LastEqual
 pub mod ListedRows
 pub mod WordsBehind
+pub mod RecordWords

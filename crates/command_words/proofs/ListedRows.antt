@@ -5,8 +5,9 @@ use Rattle.line_words.specs.declared.numbers.NumberFault.{NumberFault}
 use Rattle.timecode12.specs.Numbers.{Counted}
 use Rattle.timecode12.specs.declared.rate.SequenceRate.{SequenceRate}
 use Rattle.command_words.specs.declared.names.RowFault.{RowFault}
-use Rattle.command_words.specs.Commands.{Asked, HallAsked, asks_for_list, command_of, counted_so, counting_of, follow_in, followed_so, hall_in, imported_so, import_in, is_word, list_in, made_so, make_in, number_within, least_lines, least_tracks, most_lines, most_reels, most_tracks, plain_asked, played_so, rate_of_word, run_in, serve_hall, serve_in, store_hall, store_in, tape_in}
+use Rattle.command_words.specs.Commands.{Asked, Audit, HallAsked, asks_for_list, audit_in, audited_so, has_records, command_of, counted_so, counting_of, follow_in, followed_so, hall_in, imported_so, import_in, is_word, list_in, made_so, make_in, number_within, least_lines, least_tracks, most_lines, most_reels, most_tracks, plain_asked, played_so, rate_of_word, run_in, serve_hall, serve_in, store_hall, store_in, tape_in}
 use Rattle.command_words.specs.Names.{first_fault}
+use Rattle.command_words.specs.Records.{Named, or_none, records_in}
 use Rattle.line_words.specs.Digits.{number_of}
 
 not_true : false ≡ true → ⊥
@@ -41,6 +42,16 @@ followed_is_no_list : (document : List ℕ) (counting : Option Counted) → asks
 followed_is_no_list document None h = not_true h
 followed_is_no_list document (Some counting) h = not_true h
 
+audit_is_no_list_so : (document journal : List ℕ) (counting : Counted) (records : List Named) (are : Bool)
+    → asks_for_list (if are then Some (Audit document counting journal records) else None) ≡ true → ⊥
+audit_is_no_list_so document journal counting records true h = not_true h
+audit_is_no_list_so document journal counting records false h = not_true h
+
+audited_is_no_list : (document journal : List ℕ) (counting : Option Counted) (records : Option (List Named)) → asks_for_list (audited_so document journal counting records) ≡ true → ⊥
+audited_is_no_list document journal None records h = not_true h
+audited_is_no_list document journal (Some counting) records h =
+    audit_is_no_list_so document journal counting (or_none records) (has_records records) h
+
 made_is_no_list : (number : Result ℕ NumberFault) (count : Option ℕ) → asks_for_list (made_so number count) ≡ true → ⊥
 made_is_no_list (Err fault) count h = not_true h
 made_is_no_list (Ok number) None h = not_true h
@@ -73,6 +84,13 @@ follow_is_no_list (a ∷ b ∷ []) h = not_true h
 follow_is_no_list (a ∷ b ∷ c ∷ []) h = followed_is_no_list a (counting_of b c) h
 follow_is_no_list (a ∷ b ∷ c ∷ d ∷ ws) h = not_true h
 
+audit_is_no_list : (ws : List (List ℕ)) → asks_for_list (audit_in ws) ≡ true → ⊥
+audit_is_no_list [] h = not_true h
+audit_is_no_list (a ∷ []) h = not_true h
+audit_is_no_list (a ∷ b ∷ []) h = not_true h
+audit_is_no_list (a ∷ b ∷ c ∷ []) h = not_true h
+audit_is_no_list (a ∷ b ∷ c ∷ d ∷ ws) h = audited_is_no_list a d (counting_of b c) (records_in ws) h
+
 make_is_no_list : (ws : List (List ℕ)) → asks_for_list (make_in ws) ≡ true → ⊥
 make_is_no_list [] h = not_true h
 make_is_no_list (a ∷ []) h = not_true h
@@ -80,18 +98,19 @@ make_is_no_list (a ∷ b ∷ []) h = made_is_no_list (number_of a) (number_withi
 make_is_no_list (a ∷ b ∷ c ∷ ws) h = not_true h
 
 -- of the commands only `list` asks for a list
-begins_so : (run serve store list tape import follow make : Bool) (ws : List (List ℕ))
-    → asks_for_list (if run then run_in ws else if serve then serve_in ws else if store then store_in ws else if list then list_in ws else if tape then tape_in ws else if import then import_in ws else if follow then follow_in ws else if make then make_in ws else None) ≡ true
+begins_so : (run serve store list tape import follow audit make : Bool) (ws : List (List ℕ))
+    → asks_for_list (if run then run_in ws else if serve then serve_in ws else if store then store_in ws else if list then list_in ws else if tape then tape_in ws else if import then import_in ws else if follow then follow_in ws else if audit then audit_in ws else if make then make_in ws else None) ≡ true
     → asks_for_list (list_in ws) ≡ true
-begins_so true serve store list tape import follow make ws h = absurd (run_is_no_list ws h)
-begins_so false true store list tape import follow make ws h = absurd (served_is_no_list (hall_in ws) h)
-begins_so false false true list tape import follow make ws h = absurd (stored_is_no_list (hall_in ws) h)
-begins_so false false false true tape import follow make ws h = h
-begins_so false false false false true import follow make ws h = absurd (tape_is_no_list ws h)
-begins_so false false false false false true follow make ws h = absurd (import_is_no_list ws h)
-begins_so false false false false false false true make ws h = absurd (follow_is_no_list ws h)
-begins_so false false false false false false false true ws h = absurd (make_is_no_list ws h)
-begins_so false false false false false false false false ws h = absurd (not_true h)
+begins_so true serve store list tape import follow audit make ws h = absurd (run_is_no_list ws h)
+begins_so false true store list tape import follow audit make ws h = absurd (served_is_no_list (hall_in ws) h)
+begins_so false false true list tape import follow audit make ws h = absurd (stored_is_no_list (hall_in ws) h)
+begins_so false false false true tape import follow audit make ws h = h
+begins_so false false false false true import follow audit make ws h = absurd (tape_is_no_list ws h)
+begins_so false false false false false true follow audit make ws h = absurd (import_is_no_list ws h)
+begins_so false false false false false false true audit make ws h = absurd (follow_is_no_list ws h)
+begins_so false false false false false false false true make ws h = absurd (audit_is_no_list ws h)
+begins_so false false false false false false false false true ws h = absurd (make_is_no_list ws h)
+begins_so false false false false false false false false false ws h = absurd (not_true h)
 
 sound_rows : (is : Bool) (fault : Option (List ℕ × RowFault)) (asked : Option Asked) → asks_for_list (if is && is_none fault then asked else None) ≡ true → fault ≡ None
 sound_rows true None asked h = refl
@@ -113,5 +132,5 @@ pub rows_of_list : (ws : List (List ℕ)) → asks_for_list (command_of ws) ≡ 
 rows_of_list [] h names = absurd (not_true h)
 rows_of_list (first ∷ ws) h names =
     rows_behind ws
-    (begins_so (bytes_eq first (codes "run")) (bytes_eq first (codes "serve")) (bytes_eq first (codes "store")) (bytes_eq first (codes "list")) (bytes_eq first (codes "tape")) (bytes_eq first (codes "import")) (bytes_eq first (codes "follow")) (bytes_eq first (codes "make")) ws h)
+    (begins_so (bytes_eq first (codes "run")) (bytes_eq first (codes "serve")) (bytes_eq first (codes "store")) (bytes_eq first (codes "list")) (bytes_eq first (codes "tape")) (bytes_eq first (codes "import")) (bytes_eq first (codes "follow")) (bytes_eq first (codes "audit")) (bytes_eq first (codes "make")) ws h)
     names

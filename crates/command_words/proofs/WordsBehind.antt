@@ -1,8 +1,8 @@
 -- Words one after another, by place, and what they are to say.
-use Rattle.std.proofs.Common.{◌≡◌, ℕ, zero, suc, ◌+◌, ◌<◌, ◌≤◌, Bool, true, false, if◌then◌else◌, List, [], ◌∷◌, length, drop, Option, Some, None, slice_get, slice_index_or, refl, sym, ap, arith, ◌∙◌}
+use Rattle.std.proofs.Common.{◌≡◌, ℕ, zero, suc, ◌+◌, ◌<◌, ◌≤◌, Bool, true, false, if◌then◌else◌, List, [], ◌∷◌, length, drop, Some, None, slice_get, slice_index_or, refl, sym, ap, arith, ◌∙◌}
 use Rattle.std.proofs.lemmas.Option.{none-some, same_Some}
 use Rattle.command_words.specs.Commands.{word_at}
-use Rattle.command_words.specs.WordFaults.{Faulty, says, parts_fault}
+use Rattle.command_words.specs.WordFaults.{says, parts_fault}
 use Rattle.command_words.specs.declared.word_faults.Part.{Part}
 use Rattle.command_words.specs.declared.word_faults.WordFault.TheVariants as fault
 

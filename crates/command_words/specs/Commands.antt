@@ -8,9 +8,11 @@
 -- word `numbered` says how its reels are to be named, and so do a word `names` and one or more TEXT=NAME after it.
 -- `tape` LIST RATE asks for the tape of the list in the file LIST. `import` LIST RATE DROP asks for the document of the list
 -- in the file LIST. `follow` DOC RATE DROP asks for the cut that replies on input lead to, in the room that the document
--- describes. `make` NUMBER COUNT asks for the generated session of the number NUMBER, of which each station sends COUNT lines,
+-- describes. `audit` DOC RATE DROP JOURNAL LINES REPLIES asks whether the journal in the file JOURNAL explains what was
+-- recorded of stations in such a room: LINES has what station 0 sent and REPLIES what it got, `cut` follows where its session
+-- ended by a fault, and so on for up to 16 stations. `make` NUMBER COUNT asks for the generated session of the number NUMBER, of which each station sends COUNT lines,
 -- from 1 to 20,000.
-use Rattle.std.specs.Prelude.{ℕ, ◌≤◌, Bool, true, false, ◌&&◌, ◌||◌, ◌==◌, List, [], ◌∷◌, Option, Some, None, Result, Ok, Err, option_and_then, option_map, is_some, is_none, slice_get, slice_index_or, length, nat_le, codes, bytes_eq, if◌then◌else◌}
+use Rattle.std.specs.Prelude.{ℕ, ◌≤◌, Bool, true, false, ◌&&◌, List, [], ◌∷◌, Option, Some, None, Result, Ok, Err, option_and_then, option_map, is_none, slice_get, slice_index_or, length, nat_le, codes, bytes_eq, if◌then◌else◌}
 use Rattle.line_words.specs.Digits.{number_of}
 use Rattle.line_words.specs.declared.numbers.NumberFault.{NumberFault}
 use Rattle.json_tokens.specs.ReadingNumerals.{numeral_in}
@@ -19,6 +21,7 @@ use Rattle.timecode12.specs.Numbers.{Counted, sequence_rate}
 use Rattle.timecode12.specs.declared.rate.SequenceRate.{SequenceRate}
 use Rattle.timecode12.specs.declared.rate.SequenceRate.TheVariants.{F23976, F24, F25, F2997, F30}
 use Rattle.command_words.specs.Names.{first_fault}
+use Rattle.command_words.specs.Records.{Named, or_none, records_in, records_of}
 use Rattle.command_words.specs.declared.command.Command.{Command}
 use Rattle.command_words.specs.declared.command.Command.TheVariants as command
 use Rattle.command_words.specs.declared.command.HallWords.{HallWords}
@@ -40,6 +43,8 @@ pub data Asked : Type 0 where
   Import : List ℕ → Counted → Asked
   -- the cut that replies on input lead to, in the room of a document
   Follow : List ℕ → Counted → Asked
+  -- whether the journal in a file explains what was recorded of stations, in the room of a document
+  Audit : List ℕ → Counted → List ℕ → List Named → Asked
   -- the summary of the generated session of a number, in which each station sends so many lines
   Make : ℕ → ℕ → Asked
 
@@ -168,6 +173,24 @@ abbrev pub followed_so : List ℕ → Option Counted → Option Asked
 followed_so document None = None
 followed_so document (Some counting) = Some (Follow document counting)
 
+-- ---- recorded sessions
+
+-- so many records as a hall may have stations
+abbrev pub are_few : ℕ → Bool
+are_few count = nat_le least_stations count && nat_le count most_stations
+
+abbrev pub has_records : Option (List Named) → Bool
+has_records None = false
+has_records (Some records) = are_few (length records)
+
+abbrev pub audited_so : List ℕ → List ℕ → Option Counted → Option (List Named) → Option Asked
+audited_so document journal None records = None
+audited_so document journal (Some counting) records =
+    if has_records records then Some (Audit document counting journal (or_none records)) else None
+
+abbrev pub audited_in : List ℕ → List ℕ → List ℕ → List ℕ → List (List ℕ) → Option Asked
+audited_in document rate drop journal records = audited_so document journal (counting_of rate drop) (records_in records)
+
 -- ---- a generated session
 
 -- the least and the most lines that a station of it sends
@@ -243,6 +266,13 @@ follow_in (a ∷ b ∷ []) = None
 follow_in (document ∷ rate ∷ drop ∷ []) = followed_so document (counting_of rate drop)
 follow_in (a ∷ b ∷ c ∷ d ∷ words) = None
 
+abbrev pub audit_in : List (List ℕ) → Option Asked
+audit_in [] = None
+audit_in (a ∷ []) = None
+audit_in (a ∷ b ∷ []) = None
+audit_in (a ∷ b ∷ c ∷ []) = None
+audit_in (document ∷ rate ∷ drop ∷ journal ∷ records) = audited_in document rate drop journal records
+
 abbrev pub make_in : List (List ℕ) → Option Asked
 make_in [] = None
 make_in (a ∷ []) = None
@@ -259,6 +289,7 @@ asked_of first words =
     if bytes_eq first (codes "tape") then tape_in words else
     if bytes_eq first (codes "import") then import_in words else
     if bytes_eq first (codes "follow") then follow_in words else
+    if bytes_eq first (codes "audit") then audit_in words else
     if bytes_eq first (codes "make") then make_in words else None
 
 -- what these words ask for
@@ -266,33 +297,11 @@ abbrev pub command_of : List (List ℕ) → Option Asked
 command_of [] = None
 command_of (first ∷ words) = asked_of first words
 
--- ---- a rate that no sequence has
+-- ---- numbered reels
 
 abbrev pub is_word : Option (List ℕ) → List ℕ → Bool
 is_word None other = false
 is_word (Some word) other = bytes_eq word other
-
--- as many words as a command over a file has that begins so; the third of them is its RATE
-abbrev pub is_over_file : List (List ℕ) → Bool
-is_over_file words =
-    (is_word (slice_get words 0) (codes "run") && length words == 4)
-    || ((is_word (slice_get words 0) (codes "serve") && length words == 7)
-    || ((is_word (slice_get words 0) (codes "store") && length words == 7)
-    || ((is_word (slice_get words 0) (codes "list") && nat_le 6 (length words))
-    || ((is_word (slice_get words 0) (codes "tape") && length words == 3)
-    || ((is_word (slice_get words 0) (codes "import") && length words == 4)
-    || (is_word (slice_get words 0) (codes "follow") && length words == 4))))))
-
--- a number, but the rate of no sequence
-abbrev pub is_other_rate : Option (List ℕ) → Bool
-is_other_rate None = false
-is_other_rate (Some word) = is_some (numeral_in word) && is_none (rate_of_word word)
-
--- a command over a file whose RATE is so
-abbrev pub asks_for_another_rate : List (List ℕ) → Bool
-asks_for_another_rate words = is_over_file words && is_other_rate (slice_get words 2)
-
--- ---- numbered reels
 
 abbrev pub asks_for_list : Option Asked → Bool
 asks_for_list None = false
@@ -304,6 +313,7 @@ asks_for_list (Some (ListCut document counting journal point)) = true
 asks_for_list (Some (PlayList name rate)) = false
 asks_for_list (Some (Import name counting)) = false
 asks_for_list (Some (Follow document counting)) = false
+asks_for_list (Some (Audit document counting journal records)) = false
 asks_for_list (Some (Make number count)) = false
 
 -- a list is asked for, and the last word says that its reels are to be numbered
@@ -328,9 +338,11 @@ asked_by (command.ListCut document counting journal point) = ListCut document.no
 asked_by (command.PlayList name rate) = PlayList name.now rate
 asked_by (command.Import name counting) = Import name.now counting
 asked_by (command.Follow document counting) = Follow document.now counting
+asked_by (command.Audit document counting journal words) = Audit document.now counting journal.now (records_of words.now)
 asked_by (command.Make number count) = Make number count
 
--- so many tracks and reels as a plain room may have, so many stations as a hall, and so many lines as a generated session
+-- so many tracks and reels as a plain room may have, so many stations as a hall, and so many lines as a generated session; an
+-- audit has the words of the records that it names
 abbrev pub HasBounds : Command → Type 0
 HasBounds (command.Run tracks reels) = (least_tracks ≤ tracks) × (tracks ≤ most_tracks) × (reels ≤ most_reels)
 HasBounds (command.RunDocument document counting) = Unit {0}
@@ -340,4 +352,6 @@ HasBounds (command.ListCut document counting journal point) = Unit {0}
 HasBounds (command.PlayList name rate) = Unit {0}
 HasBounds (command.Import name counting) = Unit {0}
 HasBounds (command.Follow document counting) = Unit {0}
+HasBounds (command.Audit document counting journal words) =
+    (5 ≤ length words.now) × (least_stations ≤ length (records_of words.now)) × (length (records_of words.now) ≤ most_stations)
 HasBounds (command.Make number count) = (least_lines ≤ count) × (count ≤ most_lines)

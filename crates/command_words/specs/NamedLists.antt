@@ -1,9 +1,8 @@
 -- Lists whose reels have names from a table that the words give.
 use Rattle.std.specs.Prelude.{ℕ, Bool, ◌&&◌, List, [], Option, Some, None, codes, drop, map, slice_get, if◌then◌else◌}
 use Rattle.reel_names.specs.Tables.{TableAndNames}
-use Rattle.command_words.specs.declared.names.RowFault.{RowFault}
 use Rattle.command_words.specs.Commands.{asks_for_list, command_of, is_word}
-use Rattle.command_words.specs.Names.{first_fault, row_of}
+use Rattle.command_words.specs.Names.{row_of}
 
 -- a list is asked for, and its seventh word says that names of reels follow
 abbrev pub wants_table : List (List ℕ) → Bool
@@ -12,8 +11,3 @@ wants_table words = asks_for_list (command_of words) && is_word (slice_get words
 -- the namer of such a list: a table of the rows that its words give, in order, and no name given
 abbrev pub table_asked : List (List ℕ) → Option TableAndNames
 table_asked words = if wants_table words then Some (record { table = map row_of (drop 7 words); given = [] }) else None
-
--- the first word that can't name a reel, of words that begin as such a list, and why
-abbrev pub refused_row : List (List ℕ) → Option (List ℕ × RowFault)
-refused_row words =
-    if is_word (slice_get words 0) (codes "list") && is_word (slice_get words 6) (codes "names") then first_fault [] (drop 7 words) else None

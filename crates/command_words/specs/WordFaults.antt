@@ -1,6 +1,6 @@
 -- Why words are no command: from left to right the first word that does not say what it has to say there, or that nothing
 -- is to say, or else what no word says any more.
-use Rattle.std.specs.Prelude.{ℕ, ◌+◌, Bool, true, false, ◌&&◌, List, [], ◌∷◌, Option, Some, None, Result, Ok, Err, is_some, length, nat_le, drop, slice_get, codes, bytes_eq, if◌then◌else◌, option_map}
+use Rattle.std.specs.Prelude.{ℕ, zero, suc, Bool, true, false, ◌&&◌, List, [], ◌∷◌, Option, Some, None, Result, Ok, Err, is_some, length, nat_le, drop, slice_get, codes, bytes_eq, if◌then◌else◌, option_map}
 use Rattle.line_words.specs.Digits.{number_of}
 use Rattle.line_words.specs.declared.numbers.NumberFault.{NumberFault}
 use Rattle.command_words.specs.declared.names.RowFault.{RowFault}
@@ -8,9 +8,10 @@ use Rattle.command_words.specs.declared.word_faults.Part.{Part}
 use Rattle.command_words.specs.declared.word_faults.Part.TheVariants as part
 use Rattle.command_words.specs.declared.word_faults.WordFault.{WordFault}
 use Rattle.command_words.specs.declared.word_faults.WordFault.TheVariants as fault
-use Rattle.command_words.specs.declared.word_faults.TheConstants.{PLAIN_PARTS, ROOM_PARTS, HALL_PARTS, CUT_PARTS, TAPE_PARTS, IMPORT_PARTS, MADE_PARTS}
+use Rattle.command_words.specs.declared.word_faults.TheConstants.{PLAIN_PARTS, ROOM_PARTS, HALL_PARTS, CUT_PARTS, TAPE_PARTS, IMPORT_PARTS, AUDIT_PARTS, MADE_PARTS}
 use Rattle.command_words.specs.Commands.{counting_of, number_within, rate_of_word, least_tracks, most_tracks, most_reels, least_stations, most_stations, least_lines, most_lines}
 use Rattle.command_words.specs.Names.{first_fault}
+use Rattle.command_words.specs.Records.{is_cut}
 
 -- a word and what is wrong with it; it is empty where it is missing
 abbrev pub Faulty : Type 0
@@ -36,6 +37,8 @@ says part.Number before word = is_number (number_of word)
 says part.Count before word = is_some (number_within word least_lines most_lines)
 says part.Naming before word = true
 says part.Row before word = true
+says part.Lines before word = true
+says part.Replies before word = true
 
 -- the fault of words that are to say these parts, one each, after a word
 abbrev pub parts_fault : List Part → List ℕ → List (List ℕ) → Option Faulty
@@ -76,6 +79,22 @@ abbrev pub list_fault : List (List ℕ) → Option Faulty
 list_fault [] = None
 list_fault (first ∷ words) = or_else (parts_fault CUT_PARTS.now first words) (naming_fault (drop 5 words))
 
+-- of words that are to name so many more records at most, of two names each, which `cut` follows or not
+abbrev pub more_fault : ℕ → List (List ℕ) → Option Faulty
+more_fault zero words = beyond words
+more_fault (suc n) [] = None
+more_fault (suc n) (lines ∷ []) = Some ([], fault.Missing part.Replies)
+more_fault (suc n) (lines ∷ replies ∷ words) = if is_cut words then more_fault n (drop 1 words) else more_fault n words
+
+-- of words that are to name one record at least, and as many as there may be
+abbrev pub records_fault : List (List ℕ) → Option Faulty
+records_fault [] = Some ([], fault.Missing part.Lines)
+records_fault (word ∷ words) = more_fault most_stations (word ∷ words)
+
+abbrev pub audit_fault : List (List ℕ) → Option Faulty
+audit_fault [] = None
+audit_fault (first ∷ words) = or_else (parts_fault AUDIT_PARTS.now first words) (records_fault (drop 4 words))
+
 -- whether words that begin with `run` mean a plain room: there are at most two after it, of which the first is a number
 abbrev pub is_plain : Option (List ℕ) → Bool
 is_plain None = false
@@ -94,6 +113,7 @@ fault_by first words =
     if bytes_eq first (codes "tape") then whole_fault TAPE_PARTS.now words else
     if bytes_eq first (codes "import") then whole_fault IMPORT_PARTS.now words else
     if bytes_eq first (codes "follow") then whole_fault ROOM_PARTS.now words else
+    if bytes_eq first (codes "audit") then audit_fault words else
     if bytes_eq first (codes "make") then whole_fault MADE_PARTS.now words else None
 
 -- the fault of words

@@ -1,11 +1,12 @@
 // The words of the program's command line.
-ghost use Rattle.std.specs.Prelude.{◌≡◌, ◌<◌, ◌≤◌, IfSome, Some, drop, is_some, codes, length, option_and_then, option_map, slice_get};
-ghost use Rattle.json_tokens.specs.ReadingNumerals.{numeral_in};
+ghost use Rattle.std.specs.Prelude.{◌≡◌, ◌<◌, ◌≤◌, IfSome, drop, codes, length, option_and_then, option_map, slice_get};
 ghost use Rattle.ratio_time.specs.Rates.{rate_value};
-ghost use Rattle.command_words.specs.Commands.{command_of, run_in, serve_in, store_in, list_in, tape_in, import_in, follow_in, make_in, run_plain_in, run_document_in, hall_in, hall_asked, hall_of_words, least_stations, most_stations, list_cut_in, make_session_in};
-ghost use Rattle.command_words.specs.Commands.{counting_of, rate_of_word, sequence_of, number_within, asked_by, HasBounds, is_over_file, is_other_rate, asks_for_another_rate, is_word, wants_numbers, word_at};
+ghost use Rattle.command_words.specs.Commands.{command_of, run_in, serve_in, store_in, list_in, tape_in, import_in, follow_in, audit_in, make_in, run_plain_in, run_document_in, hall_in, hall_asked, hall_of_words, least_stations, most_stations, list_cut_in, audited_in, has_records, make_session_in};
+ghost use Rattle.command_words.specs.Records.{records_in};
+ghost use Rattle.command_words.specs.Commands.{counting_of, rate_of_word, sequence_of, number_within, asked_by, HasBounds, is_word, wants_numbers, word_at};
 
 use crate::names::has_rows;
+use crate::records::record_count;
 use json_tree::numeral;
 use line_words::{Words, number};
 use ratio_time::{Numeral, rate_of};
@@ -85,6 +86,14 @@ pub enum Command<'a> {
     Follow {
         document: &'a str,
         counting: Counting,
+    },
+    /// Whether the journal in a file explains what was recorded of stations, in the room of a document. The words of the
+    /// audit name the files of the records, from the sixth on.
+    Audit {
+        document: &'a str,
+        counting: Counting,
+        journal: &'a str,
+        words: &'a Words,
     },
     /// The summary of the generated session of a number, in which each station sends so many lines.
     Make {
@@ -373,6 +382,49 @@ fn follow_in(words: &Words) -> Option<Command<'_>>
     Some(Command::Follow { document, counting })
 }
 
+// Whether words after the fifth name records, of as many stations as there may be.
+fn has_records(words: &Words) -> bool
+    requires { 5 ≤ length words.now }
+    ensures { result ≡ has_records (records_in (drop 5 words.now)) }
+{
+    match record_count(words) {
+        Some(count) => LEAST_STATIONS <= count && count <= MOST_STATIONS,
+        None => false,
+    }
+}
+
+// An audit, by its document, how that is counted, and its journal, where the words name records.
+fn audit_of<'a>(words: &'a Words) -> Option<Command<'a>>
+    requires { 5 ≤ length words.now }
+    ensures command { option_map asked_by result
+        ≡ audited_in (word_at 1 words.now) (word_at 2 words.now)
+        (word_at 3 words.now) (word_at 4 words.now) (drop 5 words.now) }
+    ensures bound { IfSome result HasBounds }
+{
+    let (rate, drop) = (words.word(2), words.word(3));
+    let counting = counting(rate, drop)?;
+    if !has_records(words) {
+        return None;
+    }
+    Some(Command::Audit {
+        document: words.word(1),
+        counting,
+        journal: words.word(4),
+        words,
+    })
+}
+
+// What the words after `audit` ask for.
+fn audit_in(words: &Words) -> Option<Command<'_>>
+    ensures command { option_map asked_by result ≡ audit_in (drop 1 words.now) }
+    ensures bound { IfSome result HasBounds }
+{
+    if words.count() < 5 {
+        return None;
+    }
+    audit_of(words)
+}
+
 // A generated session, by its number and how many lines each station sends.
 fn session<'a>(number_word: &str, count: &str) -> Option<Command<'a>>
     ensures command { option_map asked_by result ≡ make_session_in number_word.now count.now }
@@ -414,53 +466,10 @@ pub fn command_in(words: &Words) -> Option<Command<'_>>
         "tape" => tape_in(words),
         "import" => import_in(words),
         "follow" => follow_in(words),
+        "audit" => audit_in(words),
         "make" => make_in(words),
         _ => None,
     }
-}
-
-// Whether there are as many words as the command over a file has that the first word begins.
-fn is_over_file(words: &Words) -> bool
-    ensures { result ≡ is_over_file words.now }
-{
-    let count = words.count();
-    if count == 0 {
-        return false;
-    }
-    match words.word(0) {
-        "run" => count == 4,
-        "serve" => count == 7,
-        "store" => count == 7,
-        "list" => count >= 6,
-        "tape" => count == 3,
-        "import" => count == 4,
-        "follow" => count == 4,
-        _ => false,
-    }
-}
-
-// Whether a word is a number, which may be the rate of no sequence.
-fn is_number(word: &str) -> bool
-    ensures { result ≡ is_some (numeral_in word.now) }
-{
-    match numeral(word.as_bytes()) {
-        Some(_) => true,
-        None => false,
-    }
-}
-
-// Whether a word is a number, but the rate of no sequence.
-fn is_other_rate(word: &str) -> bool
-    ensures { result ≡ is_other_rate (Some word.now) }
-{
-    is_number(word) && rate(word).is_none()
-}
-
-/// Whether words that are refused name a file at a RATE which is a number, but none of 23.976, 24, 25, 29.97 and 30.
-pub fn asks_for_another_rate(words: &Words) -> bool
-    ensures { result ≡ asks_for_another_rate words.now }
-{
-    is_over_file(words) && is_other_rate(words.word(2))
 }
 
 // Whether a seventh word is `numbered`.

@@ -5,10 +5,12 @@
 
 mod command;
 mod names;
+mod records;
 mod tables;
 mod word_faults;
 
-pub use command::{Command, asks_for_another_rate, command_in, wants_numbers};
+pub use command::{Command, command_in, wants_numbers};
 pub use names::RowFault;
-pub use tables::{refused_row, tabled_of};
+pub use records::{RecordNames, records_of};
+pub use tables::tabled_of;
 pub use word_faults::{Part, WordFault, word_fault};

@@ -1,11 +1,11 @@
 // The namer of a list whose words give its reels their names.
 ghost use Rattle.std.specs.Prelude.{◌≡◌, ◌≤◌, ◌++◌, ◌∷◌, [], codes, drop, length, map, option_map, slice_get, true, IfOk, None, OnOk};
 ghost use Rattle.command_words.specs.Commands.{is_word};
-ghost use Rattle.command_words.specs.NamedLists.{refused_row, table_asked, wants_table};
+ghost use Rattle.command_words.specs.NamedLists.{table_asked, wants_table};
 ghost use Rattle.command_words.specs.Names.{first_fault, row_of, word_fault};
 
 use crate::command::{Command, command_in};
-use crate::names::{FIRST_ROW, RowFault, first_fault, row_in, says_names};
+use crate::names::{FIRST_ROW, row_in, says_names};
 use line_words::{Memory, Words};
 use reel_names::{Name, TableFault, Tabled};
 use std::alloc::Global;
@@ -19,23 +19,6 @@ pub fn tabled_of(alloc: Global, words: &Words) -> Result<Option<Tabled>, Memory>
         return Ok(None);
     }
     Ok(Some(table_in(alloc, words)?))
-}
-
-/// The first word that can't give a reel its name, of words that are a list with a table but for that, and why.
-pub fn refused_row(words: &Words) -> Option<(&str, RowFault)>
-    ensures { option_map (λ x. (x.0.now, x.1)) result ≡ refused_row words.now }
-{
-    if !begins_a_list(words) || !says_names(words) {
-        return None;
-    }
-    first_fault(words)
-}
-
-// Whether a list is asked for.
-fn begins_a_list(words: &Words) -> bool
-    ensures { result ≡ is_word (slice_get words.now 0) (codes "list") }
-{
-    words.count() > 0 && words.word(0) == "list"
 }
 
 // Whether a list is asked for whose reels have names from a table.

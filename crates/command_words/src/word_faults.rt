@@ -2,13 +2,14 @@
 ghost use Rattle.std.specs.Prelude.{◌≡◌, ◌+◌, ◌≤◌, None, drop, is_some, length, option_map, slice_get, slice_index_or, []};
 ghost use Rattle.line_words.specs.Digits.{number_of};
 ghost use Rattle.command_words.specs.Commands.{word_at};
-ghost use Rattle.command_words.specs.WordFaults.{says, parts_fault, beyond, whole_fault, rows_fault, naming_fault, list_fault, run_parts, fault_of, is_number};
+ghost use Rattle.command_words.specs.WordFaults.{says, parts_fault, beyond, whole_fault, rows_fault, naming_fault, list_fault, records_fault, audit_fault, run_parts, fault_of, is_number};
 
 use crate::command::{
     LEAST_LINES, LEAST_STATIONS, LEAST_TRACKS, MOST_LINES, MOST_REELS, MOST_STATIONS, MOST_TRACKS,
     counting, number_within, rate,
 };
 use crate::names::{RowFault, first_fault};
+use crate::records::{FIRST_RECORD, record_at};
 use line_words::{Words, number};
 
 /// What a word of a command says, by its name in the command's usage.
@@ -42,6 +43,10 @@ pub enum Part {
     Naming,
     /// A reel's name, after `names`.
     Row,
+    /// The name of the file of what a station sent.
+    Lines,
+    /// The name of the file of what a station got.
+    Replies,
 }
 
 /// Why a word can't stand where it stands, or what is missing.
@@ -87,6 +92,9 @@ pub const TAPE_PARTS: &[Part] = &[Part::List, Part::Rate];
 
 /// The words after `import`.
 pub const IMPORT_PARTS: &[Part] = &[Part::List, Part::Rate, Part::Drop];
+
+/// The words after `audit`, up to those that name the files that were recorded.
+pub const AUDIT_PARTS: &[Part] = &[Part::Document, Part::Rate, Part::Drop, Part::Journal];
 
 /// The words after `make`.
 pub const MADE_PARTS: &[Part] = &[Part::Number, Part::Count];
@@ -200,6 +208,39 @@ fn list_fault(words: &Words) -> Option<(&str, WordFault)>
     }
 }
 
+// The fault of words from the sixth on, which are to name records, of one station at least and of as many as there may be.
+fn records_fault(words: &Words) -> Option<(&str, WordFault)>
+    requires { 5 ≤ length words.now }
+    ensures { option_map (λ x. (x.0.now, x.1)) result ≡ records_fault (drop 5 words.now) }
+{
+    if words.count() == FIRST_RECORD {
+        return Some(("", WordFault::Missing(Part::Lines)));
+    }
+    let (mut at, mut left) = (FIRST_RECORD, MOST_STATIONS);
+    while left > 0 {
+        if at == words.count() {
+            return None;
+        }
+        match record_at(words, at) {
+            Some((_, next)) => at = next,
+            None => return Some(("", WordFault::Missing(Part::Replies))),
+        }
+        left -= 1;
+    }
+    beyond(words, at as usize)
+}
+
+// The fault of the words of an audit.
+fn audit_fault(words: &Words) -> Option<(&str, WordFault)>
+    requires { 1 ≤ length words.now }
+    ensures { option_map (λ x. (x.0.now, x.1)) result ≡ audit_fault words.now }
+{
+    match parts_fault(words, AUDIT_PARTS) {
+        Some(fault) => Some(fault),
+        None => records_fault(words),
+    }
+}
+
 // What the words after `run` are to say: a plain room, where there are at most two and the first is a number.
 fn run_parts(words: &Words) -> &'static [Part]
     ensures { result.now ≡ run_parts words.now }
@@ -227,6 +268,7 @@ pub fn word_fault(words: &Words) -> Option<(&str, WordFault)>
         "tape" => whole_fault(words, TAPE_PARTS),
         "import" => whole_fault(words, IMPORT_PARTS),
         "follow" => whole_fault(words, ROOM_PARTS),
+        "audit" => audit_fault(words),
         "make" => whole_fault(words, MADE_PARTS),
         _ => None,
     }

@@ -13,9 +13,10 @@ use Rattle.room_core.specs.History.{replay}
 use Rattle.room_core.specs.Whole.{whole}
 use Rattle.room_keepers.specs.declared.fault.KeepFault.{KeepFault}
 use Rattle.room_keepers.specs.declared.fault.KeepFault.TheVariants.{Disk}
-use Rattle.room_files.specs.Files.{Content, Untold, Missing, Bytes, FilesTold, IsWhole, IsLonger, IsUnchanged}
+use Rattle.room_files.specs.Files.{Content, Untold, Missing, Bytes, FilesTold, IsWhole, IsLonger, NoneChanged}
 use Rattle.room_halls.specs.Stations.{HallTold}
 use Rattle.room_ports.specs.Bytes.{Gives}
+use Rattle.room_ports.specs.Counts.{HasRisen}
 use Rattle.edl_events.specs.declared.event.Event.{Event}
 use Rattle.edl_read.specs.Reading.{list_read}
 use Rattle.edl_read.specs.declared.list.TheConstants.{MAX_LIST}
@@ -28,7 +29,7 @@ use Rattle.journal_text.specs.JournalFaults.{AreEntriesOf, IsFaulty}
 use Rattle.journal_text.specs.declared.journal_reading.TheConstants.{MAX_JOURNAL}
 use Rattle.journal_text.proofs.JournalLaws.{no_fault, one_journal}
 use Rattle.cut_room.proofs.Journals.{front_applies}
-use Rattle.command_words.specs.Commands.{Asked, RunPlain, RunDocument, Serve, Store, ListCut, PlayList, Import, Follow, Make}
+use Rattle.command_words.specs.Commands.{Asked, RunPlain, RunDocument, Serve, Store, ListCut, PlayList, Import, Follow, Audit, Make}
 use Rattle.command_files.specs.declared.status.Status.{Status}
 use Rattle.command_files.specs.declared.status.Status.TheVariants.{Done, ReadFault, WriteFault, NotSeated, OutOfMemory, TooMuchInput, DiskFault}
 use Rattle.command_files.specs.Ports.{Change, DiskTold, InputTold, OutputTold}
@@ -47,6 +48,12 @@ use Rattle.list_commands.specs.Cuts.{NamerTold, CutEnds, UnlistedEnds}
 use Rattle.list_commands.specs.Imports.{EventsEnd, HasNoDocument, ImportEnds}
 use Rattle.list_commands.specs.Points.{IsCutAt, HasFewer, DoesNotApply, PointEnds, JournalEnds, ListEnds, OpensDocument}
 use Rattle.list_commands.specs.Tapes.{TapeEnds}
+use Rattle.audit_command.specs.Audits.{AuditEnds, AuditsWell, LegalSessionsAreNotRefused, RecordsEnd, RefusesRecords}
+use Rattle.audit_command.specs.Audits.{JournalEnds as AuditJournalEnds}
+use Rattle.audit_command.specs.Refused.{RefusesAudit}
+use Rattle.audit_command.specs.Recordings.{Recording}
+use Rattle.command_words.specs.Records.{Named}
+use Rattle.cut_server.proofs.RecordsRead.{none_too_long, same_recordings}
 use Rattle.follow_command.specs.Accepted.{AcceptsStream, StreamsAreNotRefused}
 use Rattle.follow_command.specs.Follows.{FollowEnds, MirrorEnds}
 use Rattle.follow_command.specs.Goes.{CutMirror, Goes, first_mirror}
@@ -60,8 +67,9 @@ use Rattle.station_sessions.specs.Serving.{SessionEnds}
 use Rattle.served_rooms.specs.Halls.{EndsUnserved, FileEnds, HallEnds, NeverFails, SessionsEnd, TellsStation, TellsStationBut, first_fault, line_at, or_next, status_of}
 use Rattle.stored_rooms.specs.KeptFiles.{AcceptedAreNotRefused, DiskFails, IsAcceptedFile}
 use Rattle.stored_rooms.specs.Stored.{DiskKeeps, IsUnopened, StoredEnds}
+use Rattle.cut_server.proofs.ToldFiles.{none_changed_then, not_longer, same_bytes, same_content, stays, told_before}
 use Rattle.cut_server.specs.Runs.{both, CommandEnds, DocumentEnds, OpensNoRoom, RunEnds, RunsOver, ServeEnds, StoreEnds}
-use Rattle.cut_server.specs.Unhindered.{AreStill, AreWithin, FitOnList, IsStill, IsUnhindered, IsWithin, NothingFails, TellsCut, TellsDocument, TellsImport, TellsList, TellsStream}
+use Rattle.cut_server.specs.Unhindered.{AreStill, AreWithin, FitOnList, IsStill, IsUnhindered, IsWithin, NothingFails, TellsCut, TellsDocument, TellsAudit, TellsImport, TellsList, TellsStream}
 
 -- it is 0, or 6
 abbrev pub EndsWell : Status → Type 0
@@ -119,22 +127,7 @@ unopened_well : {R Fits : Type 0} (HasFault : R → Type 0) (line : R → List �
 unopened_well HasFault line old new output s none still (inl refused) = absurd (none refused.refusal refused.refused)
 unopened_well HasFault line old new output s none still (inr unread) = unread_well _ old new output s still unread
 
--- ---- contents of files that are told
-
-same_bytes : (c : Content) (a b : List ℕ) → c ≢ Untold → IsWhole c a → IsWhole c b → a ≡ b
-same_bytes Untold a b told x y = absurd (told refl)
-same_bytes Missing a b told x y = absurd x
-same_bytes (Bytes all) a b told x y = x ∙ sym y
-
-not_longer : (c : Content) (a : List ℕ) (most : ℕ) → c ≢ Untold → IsWhole c a → length a ≤ most → IsLonger c most → ⊥
-not_longer Untold a most told x within longer = absurd (told refl)
-not_longer Missing a most told x within longer = absurd x
-not_longer (Bytes all) a most told x within longer = let n : length a ≡ length all = ap length x in omega (arith, n, within, longer)
-
-same_content : (old new : Content) → IsUnchanged old new → new ≢ Untold → old ≡ new
-same_content old Untold same told = absurd (told refl)
-same_content old Missing same told = same
-same_content old (Bytes all) same told = same
+-- ---- what a file holds that is told
 
 ok_or_err : {A B : Type 0} (a : A) (b : B) → ◌≡◌ {A = Result A B} (Ok a) (Err b) → ⊥
 ok_or_err a b is = Prim.grind (arith, is)
@@ -341,6 +334,55 @@ follow_well none document counting files input output s tells reads still (only,
 follow_well none document counting files input output s tells reads still (only, inr unopened) =
     no_room_well document counting files output s (tells.told, tells.opening, tells.described) reads unopened.1
 
+-- ---- `audit`
+
+module _ (none : LegalSessionsAreNotRefused) (document : List ℕ) (counting : Counted) (journal : List ℕ) (names : List Named) (files : Change FilesTold) (output : Change OutputTold) (s : Status)
+    (tells : TellsAudit document counting journal names files) (reads : IsStill files.before.reads files.after.reads) (still : IsStill output.before.faults output.after.faults) where
+  audited_well : (rs : List Recording) (there : FilesTold) → rs ≡ tells.recordings
+      → AuditsWell tells.opening tells.entries names there files.after output s rs ⊎ RefusesRecords tells.opening tells.entries names there files.after output s rs → EndsWell s
+  audited_well rs there same (inl well) = inl (put_well Done _ output.before output.after s still well.put)
+  audited_well rs there same (inr refuses) =
+      let refused : RefusesAudit tells.opening tells.entries tells.recordings refuses.refusal =
+      subst (λ (qs : List Recording). RefusesAudit tells.opening tells.entries qs refuses.refusal) same refuses.refused in
+      absurd ((none tells.opening tells.entries tells.recordings tells.legal).1 refuses.refusal refused)
+
+  -- once the journal was read the files tell this
+  records_well : (there : FilesTold) → NoneChanged files.before.file there.file → there.reads ≡ files.before.reads
+      → RecordsEnd tells.opening tells.entries names there files.after output s → EndsWell s
+  records_well there first same (only, inl unfit) = absurd ((none tells.opening tells.entries tells.recordings tells.legal).0 unfit.place unfit.unfit)
+  records_well there first same (only, inr (inl opens)) =
+      audited_well opens.recordings there
+      (same_recordings names tells.recordings opens.recordings files there files.after tells.recorded first opens.reads (λ name. stays (files.after.file name)))
+      opens.ends
+  records_well there first same (only, inr (inr (inl unread))) = absurd (reads (subst (λ (n : ℕ). HasRisen n files.after.reads) same unread.2))
+  records_well there first same (only, inr (inr (inr (inl much)))) =
+      absurd (none_too_long names tells.recordings files there files.after tells.recorded first (λ name. stays (files.after.file name)) much.4)
+  records_well there first same (only, inr (inr (inr (inr memory)))) = inr memory.0
+
+  -- once the document was read the files tell this
+  recorded_well : (there : FilesTold) → NoneChanged files.before.file there.file → there.reads ≡ files.before.reads
+      → AuditJournalEnds tells.opening journal names there files.after output s → EndsWell s
+  recorded_well there first same (only, inl opens) =
+      let told = told_before (there.file journal) (files.after.file journal) (only.0 journal) tells.still_told in
+      let held = subst (λ (c : Content). HoldsJournal c tells.entries) (same_content (files.before.file journal) (there.file journal) (first journal) told) tells.holds in
+      let one = one_history (there.file journal) tells.entries told held opens.entries opens.holds in
+      records_well opens.between (none_changed_then files.before.file there.file opens.between.file first opens.quiet.0.0) (opens.quiet.1 ∙ same)
+      (subst (λ (es : History). RecordsEnd tells.opening es names opens.between files.after output s) one opens.ends)
+  recorded_well there first same (only, inr unopened) =
+      let told = told_before (there.file journal) (files.after.file journal) (only.0 journal) tells.still_told in
+      let held = subst (λ (c : Content). HoldsJournal c tells.entries) (same_content (files.before.file journal) (there.file journal) (first journal) told) tells.holds in
+      unopened_well (IsJournalRefused (there.file journal)) journal_line there files.after output s (no_journal_fault (there.file journal) tells.entries told held)
+      (subst (λ (n : ℕ). IsStill n files.after.reads) (sym same) reads) unopened
+
+  audit_well : AuditEnds document counting journal names files output s → EndsWell s
+  audit_well (only, inl opens) =
+      let same = one_opening counting (files.before.file document) tells.opening tells.told tells.described opens.opening opens.described in
+      recorded_well opens.between opens.quiet.0.0 opens.quiet.1 (subst (λ (o : Opening). AuditJournalEnds o journal names opens.between files.after output s) same opens.ends)
+  audit_well (only, inr unopened) =
+      let content = files.before.file document in
+      unopened_well (IsDocumentRefused counting content) document_line files.before files.after output s
+      (no_document_fault counting content tells.opening tells.told tells.described) reads unopened
+
 -- ---- `make`
 
 make_well : (number count : ℕ) (output : Change OutputTold) (s : Status) → IsStill output.before.faults output.after.faults → MakeEnds number count output s → EndsWell s
@@ -366,7 +408,7 @@ module _ (files : Change FilesTold) (disk : Change DiskTold) (input : Change Inp
   disk_well o stations address journal other still unopened = absurd unopened
 
   -- a kept file that is accepted is refused for nothing, and so is a stream
-  module _ (law : AcceptedAreNotRefused) (streams : StreamsAreNotRefused) where
+  module _ (law : AcceptedAreNotRefused) (streams : StreamsAreNotRefused) (sessions : LegalSessionsAreNotRefused) where
     stored_well : (o : Opening) (stations : ℕ) (address journal : List ℕ) (s : Status) → IsAcceptedFile o stations journal disk.before disk.after → AreWithin stations hall.before
         → NothingFails files disk input output hall namer → StoredEnds o stations address journal output hall disk.before disk.after s → EndsWell s
     stored_well o stations address journal s file short quiet (inl goes) =
@@ -398,6 +440,7 @@ module _ (files : Change FilesTold) (disk : Change DiskTold) (input : Change Inp
     ends_well (Some (PlayList name rate)) s un ends = tape_well name rate files output s un.0 un.1.reads un.1.streams.1 ends.3
     ends_well (Some (Import name counting)) s un ends = import_well name counting files output s un.0 un.1.reads un.1.streams.1 ends.3
     ends_well (Some (Follow document counting)) s un ends = follow_well streams document counting files input output s un.0 un.1.reads un.1.streams ends.2
+    ends_well (Some (Audit document counting journal names)) s un ends = audit_well sessions document counting journal names files output s un.0 un.1.reads un.1.streams.1 ends.3
     ends_well (Some (Make number count)) s un ends = make_well number count output s un.1.streams.1 ends.4
 
 -- by its number

@@ -9,7 +9,7 @@ use Rattle.otio_json.specs.Openings.{plain_opening}
 use Rattle.otio_json.specs.declared.opening.Opening.{Opening}
 use Rattle.journal_text.specs.Journals.{journal_text_of}
 use Rattle.timecode12.specs.Numbers.{Counted}
-use Rattle.command_words.specs.Commands.{Asked, RunPlain, RunDocument, Serve, Store, ListCut, PlayList, Import, Follow, Make}
+use Rattle.command_words.specs.Commands.{Asked, RunPlain, RunDocument, Serve, Store, ListCut, PlayList, Import, Follow, Audit, Make}
 use Rattle.command_files.specs.Ports.{Change, DiskTold, InputTold, OutputTold}
 use Rattle.command_files.specs.Texts.{PutsWith}
 use Rattle.command_files.specs.declared.documents.TheConstants.{MAX_DOCUMENT}
@@ -19,6 +19,7 @@ use Rattle.list_commands.specs.Cuts.{NamerTold}
 use Rattle.list_commands.specs.Imports.{ImportEnds}
 use Rattle.list_commands.specs.Points.{ListEnds}
 use Rattle.list_commands.specs.Tapes.{TapeEnds}
+use Rattle.audit_command.specs.Audits.{AuditEnds}
 use Rattle.follow_command.specs.Follows.{FollowEnds}
 use Rattle.made_sessions.specs.Sessions.{MakeEnds}
 use Rattle.station_sessions.specs.declared.serve.End.TheVariants as end
@@ -153,6 +154,8 @@ module _ (files : Change FilesTold) (disk : Change DiskTold) (input : Change Inp
   CommandEnds (Some (Import name counting)) status = disk.Untouched × input.Untouched × hall.Untouched × ImportEnds name counting files output status
   CommandEnds (Some (Follow document counting)) status =
       disk.Untouched × hall.Untouched × FollowEnds document counting files input output status
+  CommandEnds (Some (Audit document counting journal records)) status =
+      disk.Untouched × input.Untouched × hall.Untouched × AuditEnds document counting journal records files output status
   CommandEnds (Some (Make number count)) status =
       files.Untouched × disk.Untouched × input.Untouched × hall.Untouched × MakeEnds number count output status
 

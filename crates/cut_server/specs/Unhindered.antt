@@ -1,6 +1,6 @@
 -- When nothing hinders a command: its words are a command's, what it reads of files is told and accepted, no input has
 -- more than 64 MiB, and no count of faults rises. It then ends with 0, or with 6 where memory ran out.
-use Rattle.std.specs.Prelude.{◌≡◌, ◌≢◌, ℕ, ◌<◌, ◌≤◌, List, Option, Some, None, length}
+use Rattle.std.specs.Prelude.{◌≡◌, ◌≢◌, ℕ, ◌<◌, ◌≤◌, List, [], ◌∷◌, Option, Some, None, length}
 use Rattle.std.specs.Option.{IsSomeAnd}
 use Rattle.composables.specs.TrackState.{TrackState}
 use Rattle.cut_steps.specs.CutSteps.{CutStep}
@@ -15,7 +15,7 @@ use Rattle.edl_write.specs.declared.fault.ListFault.{ListFault}
 use Rattle.edl_write.specs.declared.fault.ListFault.TheVariants.{Memory}
 use Rattle.edl_write.specs.Refusals.{IsRefused}
 use Rattle.otio_json.specs.declared.opening.Opening.{Opening}
-use Rattle.command_words.specs.Commands.{Asked, RunPlain, RunDocument, Serve, Store, ListCut, PlayList, Import, Follow, Make}
+use Rattle.command_words.specs.Commands.{Asked, RunPlain, RunDocument, Serve, Store, ListCut, PlayList, Import, Follow, Audit, Make}
 use Rattle.command_files.specs.Ports.{Change, DiskTold, InputTold, OutputTold}
 use Rattle.command_files.specs.Documents.{Describes}
 use Rattle.command_files.specs.Journals.{HoldsJournal}
@@ -23,6 +23,11 @@ use Rattle.command_files.specs.Lists.{HoldsList}
 use Rattle.list_commands.specs.Cuts.{NamerTold}
 use Rattle.list_commands.specs.Imports.{HasNoDocument}
 use Rattle.list_commands.specs.Points.{IsCutAt}
+use Rattle.audit_command.specs.Explained.{AreLegal}
+use Rattle.audit_command.specs.Reads.{HoldsText}
+use Rattle.audit_command.specs.Recordings.{Recording, recording_of}
+use Rattle.audit_command.specs.declared.record_names.TheConstants.{MAX_LINES, MAX_REPLIES}
+use Rattle.command_words.specs.Records.{Named}
 use Rattle.follow_command.specs.Accepted.{AcceptsStream}
 use Rattle.station_sessions.specs.Outside.{Outside, most_input}
 use Rattle.served_rooms.specs.Halls.{line_at}
@@ -98,6 +103,34 @@ pub record TellsStream (document : List ℕ) (counting : Counted) (files : Chang
   pub described : Describes counting (files.before.file document) opening
   pub accepted : AcceptsStream opening input.before.left
 
+-- Two files hold what was recorded of a station, before the call and after it, and none is too long.
+pub record HoldsRecord (n : Named) (r : Recording) (files : Change FilesTold) : Type 0 where
+  pub sent : List ℕ
+  pub got : List ℕ
+  pub lines : HoldsText (files.before.file n.lines) MAX_LINES sent
+  pub replies : HoldsText (files.before.file n.replies) MAX_REPLIES got
+  pub lines_told : files.after.file n.lines ≢ Untold
+  pub replies_told : files.after.file n.replies ≢ Untold
+  pub recording_is : r ≡ recording_of sent got n.cut
+
+abbrev pub HoldRecords : List Named → List Recording → Change FilesTold → Type 0
+HoldRecords [] [] files = Unit {0}
+HoldRecords [] (r ∷ rs) files = ⊥
+HoldRecords (n ∷ ns) [] files = ⊥
+HoldRecords (n ∷ ns) (r ∷ rs) files = HoldsRecord n r files × HoldRecords ns rs files
+
+-- The document describes a room, the journal is one of it, and explains what was recorded of its stations.
+pub record TellsAudit (document : List ℕ) (counting : Counted) (journal : List ℕ) (names : List Named) (files : Change FilesTold) : Type 0 where
+  pub opening : Opening
+  pub told : files.before.file document ≢ Untold
+  pub described : Describes counting (files.before.file document) opening
+  pub entries : List (Entry CutStep)
+  pub holds : HoldsJournal (files.before.file journal) entries
+  pub still_told : files.after.file journal ≢ Untold
+  pub recordings : List Recording
+  pub recorded : HoldRecords names recordings files
+  pub legal : AreLegal opening entries recordings
+
 -- ---- a command
 
 -- by what its files, its disk, its input, its output and its hall told before and tell after, and by the namer that it was
@@ -128,6 +161,7 @@ module _ (files : Change FilesTold) (disk : Change DiskTold) (input : Change Inp
   IsAccepted (Some (PlayList name rate)) = TellsList rate (files.before.file name)
   IsAccepted (Some (Import name counting)) = TellsImport counting (files.before.file name)
   IsAccepted (Some (Follow document counting)) = TellsStream document counting files input
+  IsAccepted (Some (Audit document counting journal records)) = TellsAudit document counting journal records files
   -- it reads nothing
   IsAccepted (Some (Make number count)) = Unit {0}
 

@@ -9,5 +9,5 @@
 pub mod laws;
 mod main_call;
 
-pub use command_words::{RowFault, asks_for_another_rate, refused_row, tabled_of, wants_numbers};
+pub use command_words::{RowFault, tabled_of, wants_numbers};
 pub use main_call::cut_main;

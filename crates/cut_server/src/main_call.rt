@@ -1,5 +1,7 @@
 // The call that the program makes.
 ghost use Rattle.std.specs.Prelude.{◌≡◌, ◌<◌, ◌≤◌, ◌⊎◌, [], Some, length, vec_capacity};
+ghost use Rattle.audit_command.specs.Audits.{AuditEnds};
+ghost use Rattle.command_words.specs.Records.{records_of};
 ghost use Rattle.command_words.specs.Commands.{command_of, least_tracks, most_tracks, most_reels, least_stations, most_stations};
 ghost use Rattle.journal_text.specs.Journals.{HasRoomForText, HasText};
 ghost use Rattle.otio_json.specs.Openings.{plain_opening};
@@ -14,9 +16,11 @@ ghost use Rattle.station_sessions.specs.Served.{IsRoomOf};
 ghost use Rattle.station_sessions.specs.SessionInside.{TrackOpening, opened_with};
 ghost use Rattle.edit_journal.specs.Turns.{AreFresh};
 
+use audit_command::audit;
+use audit_command::laws::legal_sessions_are_not_refused;
 use call_text::{CutCall, CutObject, CutPart, journal_room, journal_text_into};
 use command_files::{Status, end_unopened, end_with, open_document};
-use command_words::{Command, command_in};
+use command_words::{Command, command_in, records_of};
 use cut_room::{Room, RoomBlank};
 use edit_journal::{Naming, Pass};
 use follow_command::{accepted_streams_are_not_refused, follow};
@@ -302,6 +306,35 @@ fn store_document<
     }
 }
 
+// Audits what was recorded in the files that these words name.
+fn audit_words<F: Files, K: Sink>(
+    alloc: Global,
+    files: &mut F,
+    document: &str,
+    counting: &Counting,
+    journal: &str,
+    words: &Words,
+    output: &mut K,
+) -> Status
+    requires words { 5 ≤ length words.now }
+    requires some { least_stations ≤ length (records_of words.now) }
+    requires few { length (records_of words.now) ≤ most_stations }
+    ensures { AuditEnds document.now counting.now journal.now (records_of words.now)
+        (change F.told files.old files.new)
+        (change (output_told K.taken K.write_faults) output.old output.new) result }
+{
+    let records = records_of(words);
+    audit(
+        alloc,
+        files,
+        document,
+        counting,
+        journal,
+        records.as_slice(),
+        output,
+    )
+}
+
 // Does what the words ask for.
 fn do_command<
     R: Threads + Wait + Sync,
@@ -406,6 +439,17 @@ fn do_command<
                 disk,
             )
         }
+        Some(
+            Command::Audit {
+                document,
+                counting,
+                journal,
+                words,
+            },
+        ) => {
+            let status = audit_words(alloc, files, document, counting, journal, words, output);
+            (status, disk)
+        }
         Some(Command::Make { number, count }) => {
             (make_session(rt, alloc, *number, *count, output, gate), disk)
         }
@@ -441,16 +485,21 @@ fn do_command<
 /// `follow DOC RATE DROP` reads what a station was sent in the room of the document, and takes the entries that its lines
 /// `news` tell. At the end of the input it puts how many these are, and each track with its items after them.
 ///
+/// `audit DOC RATE DROP JOURNAL LINES REPLIES ..` reads the journal of a document's room in the file JOURNAL, and what was
+/// recorded of its stations, each in its turn: what it sent, of at most 64 MiB, in the file LINES, and what it got in the file
+/// REPLIES; `cut` follows where its session was cut short. It puts how many entries and replies are explained, or the first
+/// that is not.
+///
 /// | Status | Comes where |
 /// |---|---|
 /// | 0 | each input was read to its end, every line was answered, all was written |
 /// | 1 | a read of the input, of a line or of a file failed |
 /// | 2 | a write of the output, of a line or of the journal's file failed |
 /// | 3 | the words are no command |
-/// | 4 | the document, the journal, the kept file, the list or a followed line is refused, or the list has no document, and a line tells why |
+/// | 4 | the document, the journal, the kept file, the list, a followed line or what was recorded is refused, or the list has no document, and a line tells why |
 /// | 5 | the hall was not opened, or a station not seated: no session was begun |
-/// | 6 | out of memory: nothing was begun, or there was none for a list or a mirror |
-/// | 7 | the input, or a line, gave more than 64 MiB |
+/// | 6 | out of memory: nothing was begun, or there was none for a list, a mirror or an audit |
+/// | 7 | the input, or a line, gave more than 64 MiB, or a recorded file is too long |
 /// | 8 | the cut has no list, and a line tells why |
 /// | 9 | a call on the disk failed: nothing was begun, or a session broke off without the reply to its last line |
 ///
@@ -501,6 +550,7 @@ pub fn cut_main<
 {
     accepted_files_are_not_refused();
     accepted_streams_are_not_refused();
+    legal_sessions_are_not_refused();
     let (status, disk) = do_command(
         rt, alloc, words, files, disk, input, output, hall, gate, namer,
     );

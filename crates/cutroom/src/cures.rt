@@ -1,7 +1,7 @@
 // What standard error gets of a refusal: where it is, what its code means, and what to do.
 use code_texts::code_text;
 use command_files::open_document;
-use command_words::{Command, command_in};
+use command_words::{Command, command_in, records_of};
 use line_words::{Words, number};
 use room_files::Files;
 use room_ports::{StdSink, put};
@@ -20,8 +20,9 @@ pub fn tell_refusal<F: Files, W: Write + Drop + Copy>(
     to: W,
 ) {
     match refusal_in(line) {
-        Some((code, number)) => {
+        Some((code, number, rest)) => {
             tell_place(alloc, files, words, code, number, to);
+            tell_record(alloc, words, code, number, rest, to);
             match code_text(code) {
                 Some(text) => tell(text, to),
                 None => {}
@@ -31,15 +32,20 @@ pub fn tell_refusal<F: Files, W: Write + Drop + Copy>(
     }
 }
 
-// The code of a refusal and the number after it, of its line.
-fn refusal_in(line: &[u8]) -> Option<(&str, u32)> {
+// The code of a refusal, the number after it, and what stands after that, of its line.
+fn refusal_in(line: &[u8]) -> Option<(&str, u32, &[u8])> {
     let text = str::from_utf8(line).ok()?;
     let (_, told) = text.split_once("refused ")?;
     let (code, rest) = told.split_once(' ')?;
-    let digits = rest.as_bytes();
-    let end = digits.iter().position(|byte| !byte.is_ascii_digit())?;
-    let number = number(digits.get(..end)?).ok()?;
-    Some((code, number))
+    let (number, after) = number_before(rest.as_bytes())?;
+    Some((code, number, after))
+}
+
+// The number that a text begins with, and what stands after it.
+fn number_before(text: &[u8]) -> Option<(u32, &[u8])> {
+    let end = text.iter().position(|byte| !byte.is_ascii_digit())?;
+    let number = number(text.get(..end)?).ok()?;
+    Some((number, text.get(end..)?))
 }
 
 // Where a refusal is, in words, where its number says it: a byte or a line of a file, or a reel.
@@ -110,6 +116,7 @@ fn document_of<'a>(command: &Command<'a>) -> Option<&'a str> {
         Command::Store { document, .. } => Some(*document),
         Command::ListCut { document, .. } => Some(*document),
         Command::Follow { document, .. } => Some(*document),
+        Command::Audit { document, .. } => Some(*document),
         _ => None,
     }
 }
@@ -127,6 +134,7 @@ fn list_of<'a>(command: &Command<'a>) -> Option<&'a str> {
 fn journal_of<'a>(command: &Command<'a>) -> Option<&'a str> {
     match command {
         Command::ListCut { journal, .. } => Some(*journal),
+        Command::Audit { journal, .. } => Some(*journal),
         _ => None,
     }
 }
@@ -166,6 +174,31 @@ fn tell_line<W: Write + Drop + Copy>(alloc: Global, name: &str, line: u32, to: W
     match format!(in alloc; "cutroom: line {line} of {name}\n") {
         Ok(text) => tell(text.as_str(), to),
         Err(_) => {}
+    }
+}
+
+// Tells which line of which file the reply is, where recorded sessions are refused for it: after the code stand its station
+// and its line.
+fn tell_record<W: Write + Drop + Copy>(
+    alloc: Global,
+    words: &Words,
+    code: &str,
+    station: u32,
+    rest: &[u8],
+    to: W,
+) {
+    if !matches!(code, "A1" | "A2" | "A3") {
+        return;
+    }
+    let Some((line, _)) = rest.strip_prefix(b" ").and_then(number_before) else {
+        return;
+    };
+    let Some(Command::Audit { words, .. }) = command_in(words) else {
+        return;
+    };
+    match records_of(words).as_slice().get(station as usize) {
+        Some(record) => tell_line(alloc, record.replies, line, to),
+        None => {}
     }
 }
 

@@ -54,6 +54,8 @@ part_text part.Number = codes ": NUMBER is a number from 0 to 4294967295\n"
 part_text part.Count = codes ": COUNT is a number from 1 to 20000\n"
 part_text part.Naming = codes ": after POINT comes nothing, or numbered, or names TEXT=NAME ..\n"
 part_text part.Row = codes ": after names comes TEXT=NAME, once or more\n"
+part_text part.Lines = codes ": LINES is the path of a file of what a station sent\n"
+part_text part.Replies = codes ": REPLIES is the path of a file of what a station got\n"
 
 -- a word between what is said of it, and how the command is called
 abbrev pub said : List ℕ → List ℕ → List ℕ → List ℕ → List ℕ

@@ -11,7 +11,7 @@ pub struct CommandText {
 }
 
 /// All commands, in the order in which `--help` lists them: name, usage and page of each.
-pub const COMMANDS: [(&str, &str, &str); 10] = [
+pub const COMMANDS: [(&str, &str, &str); 11] = [
     (
         "run",
         "cutroom: usage: run TRACKS REELS, or run DOC RATE DROP; cutroom --help says more\n",
@@ -46,6 +46,11 @@ pub const COMMANDS: [(&str, &str, &str); 10] = [
         "follow",
         "cutroom: usage: follow DOC RATE DROP; cutroom --help says more\n",
         FOLLOW,
+    ),
+    (
+        "audit",
+        "cutroom: usage: audit DOC RATE DROP JOURNAL LINES REPLIES [cut] ..; cutroom --help says more\n",
+        AUDIT,
     ),
     (
         "make",
@@ -151,6 +156,9 @@ Writes the CMX 3600 list of a cut: that of DOC after POINT entries of JOURNAL.
   TEXT=NAME  the reel that DOC calls TEXT is NAME, which has 1 to 8 characters
              of A-Z, 0-9 and _
 
+Where a fade on an upper track hides a picture below it, as editing systems do
+not, standard error says at which record time.
+
 Status 0: the list is written. 1: a file could not be read. 2: the output could
 not be written. 4: DOC or JOURNAL is refused. 6: out of memory. 8: the cut has
 no list.
@@ -215,6 +223,33 @@ memory. 7: the input has more than 64 MiB.
 Example
   echo 'news 0 1 0 2 roll 0 228 6' | cutroom follow examples/kitchen.otio 24 ndf
 More is in docs/PROTOCOL.md.
+";
+
+const AUDIT: &str = "\
+cutroom audit DOC RATE DROP JOURNAL LINES REPLIES [cut] ..
+
+Says whether a journal explains what was recorded of a room: what each station
+sent, and what it got. It writes legal with the counts of entries and replies;
+or refused with a code, a station and the number of its line, or of its entry:
+the first that the journal does not explain.
+
+  DOC      the path of the room's OpenTimelineIO file
+  RATE     its frames a second: 23.976, 24, 25, 29.97 or 30
+  DROP     ndf; or drop, where RATE is 29.97 and drop-frame is counted
+  JOURNAL  the path of the room's journal, as serve leaves it
+  LINES    the path of a file of what station 0 sent
+  REPLIES  the path of a file of what it got
+  cut      its session ended by a fault, and is taken as far as it went
+  ..       the same of station 1, and so on: at most 16 stations
+
+Status 0: all is explained. 1: a file could not be read. 2: the output could not
+be written. 4: DOC or JOURNAL is refused, or what was recorded. 6: out of
+memory. 7: LINES has more than 64 MiB, or REPLIES has 1 GiB or more.
+
+Example: a station writes both files, and both are audited
+  examples/station.py --log ann 127.0.0.1:7000
+  cutroom audit cut.otio 24 ndf day.journal ann.lines ann.replies
+More is in docs/SERVING.md.
 ";
 
 const MAKE: &str = "\

@@ -208,6 +208,8 @@ fn part_text(part: Part) -> &'static str
         Part::Count => ": COUNT is a number from 1 to 20000\n",
         Part::Naming => ": after POINT comes nothing, or numbered, or names TEXT=NAME ..\n",
         Part::Row => ": after names comes TEXT=NAME, once or more\n",
+        Part::Lines => ": LINES is the path of a file of what a station sent\n",
+        Part::Replies => ": REPLIES is the path of a file of what a station got\n",
     }
 }
 

@@ -24,6 +24,7 @@ cutroom keeps the edit of one sequence, changes it on request, and lists it.
   tape LIST RATE                                what such a list shows
   import LIST RATE DROP                         such a list as a document
   follow DOC RATE DROP                          a room again, from its news
+  audit DOC RATE DROP JOURNAL LINES REPLIES ..  whether a journal explains it
   make NUMBER COUNT                             run a generated session
   explain CODE                                  what a code or a status means
   help [COMMAND]                                this text, or a page on COMMAND
@@ -33,6 +34,7 @@ DOC is the path of an OpenTimelineIO file and RATE its frames a second: 23.976,
 24, 25, 29.97 or 30. DROP is ndf, or drop at 29.97. LIST is the path of a CMX
 3600 list. TRACKS is 1 to 32, REELS 0 to 999, STATIONS 1 to 16, COUNT 1 to
 20000. POINT is how many edits of a journal to do: 0 is the cut of DOC itself.
+LINES is the path of a file of what a station sent, REPLIES of what it got.
 
 Exit statuses
   0  done                                5  no station could be seated
@@ -53,7 +55,7 @@ once in SERVING.md.
 /// What is said where no command is given.
 pub const NO_WORDS: &str = "\
 cutroom: usage: cutroom COMMAND, where COMMAND is one of
-cutroom:   run serve store list tape import follow make explain help
+cutroom:   run serve store list tape import follow audit make explain help
 cutroom: cutroom --help says what each does, cutroom help COMMAND more of one
 ";
 

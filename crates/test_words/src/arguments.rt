@@ -1,6 +1,6 @@
 // Words of the command line, what they ask for, and what standard error says of those that are refused.
 use code_texts::code_text;
-use command_words::{Command, command_in, tabled_of};
+use command_words::{Command, RecordNames, command_in, records_of, tabled_of};
 use line_words::{Memory, Words};
 use program_words::{
     COMMANDS, HELP, NO_WORDS, Notice, VERSION, command_named, complaint, words_after_the_name,
@@ -180,6 +180,11 @@ tape l |  | RATE is one of 23.976, 24, 25, 29.97 and 30 | tape
 tape l 24 ndf | ndf | a word too many | tape
 import l 24 |  | DROP is ndf, or drop where RATE is 29.97 | import
 follow d 24 drop | drop | DROP is ndf, or drop where RATE is 29.97 | follow
+audit d 24 ndf j |  | LINES is the path of a file of what a station sent | audit
+audit d 24 ndf j a |  | REPLIES is the path of a file of what a station got | audit
+audit d 24 ndf j a b cut c |  | REPLIES is the path of a file of what a station got | audit
+audit d 24 drop j a b | drop | DROP is ndf, or drop where RATE is 29.97 | audit
+audit d 24 ndf j a b a b a b a b a b a b a b a b a b a b a b a b a b a b a b a b x y | x | a word too many | audit
 make |  | NUMBER is a number from 0 to 4294967295 | make
 make 1 |  | COUNT is a number from 1 to 20000 | make
 make x 1 | x | NUMBER is a number from 0 to 4294967295 | make
@@ -200,7 +205,7 @@ fn a_newcomer_is_told_what_to_do(rt: HostRuntime) -> Result<(), Memory> {
         assert!(rt; is_told(alloc, row)?.unwrap_or(false), "{row}");
         count = count.wrapping_add(1);
     }
-    assert_eq!(rt; count, 60);
+    assert_eq!(rt; count, 65);
     let none = words_in(alloc, &[])?;
     let told = complaint(&none, 3);
     assert!(rt; told.before == NO_WORDS && told.word.is_empty() && told.usage.is_empty());
@@ -434,4 +439,81 @@ fn a_mirror_is_asked_for_by_follow(rt: HostRuntime) -> Result<(), Memory> {
         assert!(rt; document_followed(&words) == followed, "{texts:?}");
     }
     Ok(())
+}
+
+// Words of an audit, and what they name: of each station its two files, and `cut` where its session was cut short.
+const AUDITS: &str = "\
+audit d 24 ndf j a b | a b
+audit d 29.97 drop j a b cut | a b cut
+audit d 24 ndf j a b c d | a b,c d
+audit d 24 ndf j a b cut c d | a b cut,c d
+audit d 24 ndf j a b c d cut | a b,c d cut
+audit d 24 ndf j a a a a | a a,a a
+audit d 24 ndf j a cut cut | a cut cut
+audit d 24 ndf j cut cut cut cut b | cut cut cut,cut b
+audit d 24 ndf j a b a b a b a b a b a b a b a b a b a b a b a b a b a b a b a b | a b,a b,a b,a b,a b,a b,a b,a b,a b,a b,a b,a b,a b,a b,a b,a b
+audit d 24 ndf j a b cut a b cut a b cut a b cut a b cut a b cut a b cut a b cut a b cut a b cut a b cut a b cut a b cut a b cut a b cut a b cut | a b cut,a b cut,a b cut,a b cut,a b cut,a b cut,a b cut,a b cut,a b cut,a b cut,a b cut,a b cut,a b cut,a b cut,a b cut,a b cut
+audit d 24 ndf j a b a b a b a b a b a b a b a b a b a b a b a b a b a b a b a b a b | none
+audit d 24 ndf j a b cut cut | none
+audit d 24 ndf j a b c | none
+audit d 24 ndf j a | none
+audit d 24 ndf j | none
+audit d 24 ndf | none
+audit | none
+audit d 50 ndf j a b | none
+audit d 24 drop j a b | none
+audit d 24 NDF j a b | none
+Audit d 24 ndf j a b | none
+list d 24 ndf j a b | none
+";
+
+// The words of `audit`, and the files that they name.
+#[test]
+fn records_are_asked_for_by_audit(rt: HostRuntime) -> Result<(), Memory> {
+    let alloc = rt.alloc();
+    let mut count = 0usize;
+    for row in AUDITS.lines() {
+        assert!(rt; names_records(alloc, row)?, "{row}");
+        count = count.wrapping_add(1);
+    }
+    assert_eq!(rt; count, 22);
+    Ok(())
+}
+
+// Whether the words of a row name the files that it says, or none where they ask for no audit.
+fn names_records(alloc: Global, row: &str) -> Result<bool, Memory> {
+    let Some((texts, named)) = row.split_once(" | ") else {
+        return Ok(false);
+    };
+    let words = words_of(alloc, texts)?;
+    Ok(match command_in(&words) {
+        Some(Command::Audit { words, .. }) => are_records(records_of(words).as_slice(), named),
+        _ => named == "none",
+    })
+}
+
+// Whether records are those of a text, with commas between them.
+fn are_records(records: &[RecordNames<'_>], named: &str) -> bool {
+    let mut texts = named.split(',');
+    for record in records {
+        match texts.next() {
+            Some(text) if is_record(record, text) => {}
+            _ => return false,
+        }
+    }
+    texts.next().is_none()
+}
+
+// Whether a record is that of a text.
+fn is_record(record: &RecordNames<'_>, text: &str) -> bool {
+    let (names, is_cut) = match text.strip_suffix(" cut") {
+        Some(names) => (names, true),
+        None => (text, false),
+    };
+    match names.split_once(' ') {
+        Some((lines, replies)) => {
+            record.lines == lines && record.replies == replies && record.is_cut == is_cut
+        }
+        None => false,
+    }
 }

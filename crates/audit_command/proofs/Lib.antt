@@ -1,0 +1,11 @@
+mod Bearing
+mod EachRecording
+mod Unfitting
+mod LineCounts
+mod Telling
+mod ReadMore
+mod Transcribed
+mod InTurn
+mod LegalEnds
+mod Stopped
+mod Along
