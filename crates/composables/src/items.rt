@@ -1,9 +1,9 @@
 // Items and gaps, and where they stand.
-ghost use Rattle.std.specs.Prelude.{◌≡◌, ◌<◌};
-ghost use Rattle.item_pages.specs.Wants.{IsWithin};
+ghost use Rattle.std.specs.Prelude.{◌≡◌, ◌<◌, Some};
+ghost use Rattle.item_pages.specs.Wants.{IsWithin, Tells};
 ghost use Rattle.composables.specs.Views.{clip_view, first_view, gap_view, later_view};
 ghost use Rattle.composables.specs.TrackFacts.{HasSource};
-ghost use Rattle.composables.specs.TrackSets.{link_bits};
+ghost use Rattle.composables.specs.TrackSets.{link_bits, link_key};
 
 use frame_meaning::{Link, Mark, Side, What};
 use item_pages::{Number, Spanned};
@@ -76,6 +76,8 @@ impl Spanned for ItemView {
 
     ghost set = { λ v. link_bits v.link };
 
+    ghost keyed = { λ v. link_key v.link };
+
     /// Its length in frames.
     fn span(&self) -> u32 {
         self.len
@@ -93,6 +95,28 @@ impl Spanned for ItemView {
     fn bits(&self) -> u64 {
         known_bits(self.link)
     }
+
+    /// The key of its link, if it has one.
+    fn key(&self) -> Number {
+        known_key(self.link)
+    }
+}
+
+// What pages keep of the key of a link.
+fn known_key(link: Option<Link>) -> Number
+    ensures { Tells (link_key link) result }
+{
+    match link {
+        Some(link) => Number::Is(key_of_link(link)),
+        None => Number::Without,
+    }
+}
+
+/// The key of a link by which pages are passed: links with one home and one number have one key.
+pub fn key_of_link(link: Link) -> u32
+    ensures { link_key (Some link) ≡ Some result }
+{
+    link.home % 32 * 134_217_728 + link.number % 134_217_728
 }
 
 // The bits that pages keep of a link.

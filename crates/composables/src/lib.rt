@@ -26,7 +26,7 @@ pub use calls::{
 };
 pub use facts::holds;
 pub use item_reader::ItemReader;
-pub use items::{ItemView, Place};
+pub use items::{ItemView, Place, key_of_link};
 pub use laws::{
     a_dissolve_may_stand_at_a_cut, a_place_lies_in_one_item, a_track_is_kept, limits_are_these,
 };

@@ -62,9 +62,14 @@ apart [] page rest k h = absurd (omega (arith, h))
 apart (p ∷ []) page rest k h = k.0
 apart (p ∷ q ∷ ps) page rest k h = apart (q ∷ ps) page rest k.1 (omega arith)
 
-packed_rest : {T : Type 0} (next far : List (List T)) → Packed (next ++ far) → Packed far
+pub packed_rest : {T : Type 0} (next far : List (List T)) → Packed (next ++ far) → Packed far
 packed_rest [] far k = k
 packed_rest (p ∷ ps) far k = packed_rest ps far k.1
+
+pub packed_start : {T : Type 0} (next far : List (List T)) → Packed (next ++ far) → Packed next
+packed_start [] far k = tt
+packed_start (p ∷ []) far k = (tt, tt)
+packed_start (p ∷ q ∷ ps) far k = (k.0, packed_start (q ∷ ps) far k.1)
 
 -- others in place of pages before
 pub packed_behind : {T : Type 0} (fresh next far : List (List T)) → Packed fresh → Packed (next ++ far) → Ends next fresh → (0 < length far → 0 < length next)

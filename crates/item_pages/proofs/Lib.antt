@@ -6,3 +6,7 @@ pub mod Joining
 pub mod Placing
 pub mod Marking
 pub mod Fronts
+pub mod Keying
+pub mod Blockwise
+pub mod Onward
+pub mod Recut

@@ -3,11 +3,12 @@ use Rattle.std.specs.Prelude.{◌≡◌, ℕ, ◌+◌, ◌-◌, ◌<◌, ◌≤�
 use Rattle.item_pages.specs.declared.spots.Spot.{Spot}
 use Rattle.item_pages.specs.Packing.{items_of, Packed}
 
--- the page that has the item with this index, and where it stands in it; past the last item the place behind all pages
+-- the page that has the item with this index, and where it stands in it; past the last item the place behind all pages.
+-- So it is with the block that has a page.
 pub record IsSpot {T : Type 0} (pages : List (List T)) (index : ℕ) (spot : Spot) : Type 0 where
-  pub page : spot.page ≤ length pages
-  pub place : index ≡ length (items_of (take spot.page pages)) + spot.within
-  pub within : (none : List T) → spot.page < length pages → spot.within < length (slice_index_or pages spot.page none)
+  pub part : spot.part ≤ length pages
+  pub place : index ≡ length (items_of (take spot.part pages)) + spot.within
+  pub within : (none : List T) → spot.part < length pages → spot.within < length (slice_index_or pages spot.part none)
 
 -- what is around the items from index `from` up to before `to`: pages that stay, the last whole page before, items that share a page with what makes way, and so behind
 pub record Surrounds {T : Type 0} (pages : List (List T)) (from to : ℕ) (kept near : List (List T)) (front back : List T) (next far : List (List T)) : Type 0 where

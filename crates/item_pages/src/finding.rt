@@ -3,13 +3,65 @@ ghost use Rattle.std.specs.Prelude.{◌≡◌, ◌+◌, ◌<◌, ◌≤◌, ◌�
 ghost use Rattle.item_pages.specs.Items.{Fits, HoldsPlace};
 ghost use Rattle.item_pages.specs.Packing.{items_of};
 
+use crate::block::Block;
 use crate::page::Page;
 use crate::{Found, Spanned};
 use std::sync::ledger::Ledger;
 use step_count::Steps;
 
-/// The item of these pages that holds the place `at`. A page that ends there or before is passed in one step.
-pub fn find_in_pages<T: Spanned + Copy, L: Ledger>(
+/// The item of these blocks that holds the place `at`. A block that ends there or before is passed in one step, and so
+/// is a page.
+pub fn find_in_blocks<T: Spanned + Copy, L: Ledger>(
+    blocks: &[Block<T>],
+    at: u32,
+    steps: &mut Steps<L>,
+) -> Option<Found>
+    requires { Fits T.places (items_of (items_of blocks.now)) }
+    ensures found { IfSome result (λ f. HoldsPlace T.places (items_of (items_of blocks.now)) at f) }
+    ensures none { IsNone result ↔ (sum_by T.places (items_of (items_of blocks.now)) ≤ at) }
+    ensures least { steps.old ≤ steps.new }
+    ensures most { steps.new ≤ steps.old + length (items_of blocks.now) + 63 }
+    ensures few { steps.new ≤ steps.old + length (items_of (items_of blocks.now)) + 63 }
+{
+    let mut index = 0;
+    let mut from = 0;
+    for block in blocks {
+        let to = from + block.span();
+        if at < to {
+            let inner = find_in_block(block, at - from, steps);
+            return Some(Found {
+                index: index + inner.index,
+                from: from + inner.from,
+            });
+        }
+        steps.tick();
+        index += block.count();
+        from = to;
+    }
+    None
+}
+
+// The item of a block that holds a place, counted from where the block begins.
+fn find_in_block<T: Spanned + Copy, L: Ledger>(
+    block: &Block<T>,
+    at: u32,
+    steps: &mut Steps<L>,
+) -> Found
+    requires fits { Fits T.places (items_of block.now) }
+    requires at { at < sum_by T.places (items_of block.now) }
+    ensures found { HoldsPlace T.places (items_of block.now) at result }
+    ensures least { steps.old ≤ steps.new }
+    ensures most { steps.new ≤ steps.old + length block.now + 63 }
+    ensures few { steps.new ≤ steps.old + length (items_of block.now) + 63 }
+{
+    match find_in_pages(block.pages(), at, steps) {
+        Some(found) => found,
+        None => unreachable!(),
+    }
+}
+
+// The item of these pages that holds the place `at`. A page that ends there or before is passed in one step.
+fn find_in_pages<T: Spanned + Copy, L: Ledger>(
     pages: &[Page<T>],
     at: u32,
     steps: &mut Steps<L>,

@@ -1,8 +1,10 @@
 // A list in pages, which contracts see as its items.
 ghost use Rattle.std.specs.Prelude.{◌≡◌, ◌+◌, ◌-◌, ◌<◌, ◌≤◌, ◌^◌, ◌/◌, ◌++◌, ◌∷◌, ◌↔◌, [], length, sum_by, slice_get, slice_set, take, drop, IfOk, IfSome, IsNone, OnOk, OnErr};
+ghost use Rattle.item_pages.specs.Packing.{items_of};
 
-use crate::finding::find_in_pages;
-use crate::packing::{pages_between, span_of_pages};
+use crate::blocks::{page_of, pages_behind, span_of_blocks};
+use crate::finding::find_in_blocks;
+use crate::packing::pages_between;
 use crate::page::Page;
 use crate::page_list::PageList;
 use crate::spots::{around, behind, spot_of};
@@ -69,7 +71,7 @@ impl<T: Spanned + Copy> Pages<T> {
     pub fn get(&self, index: u32) -> Option<&T>
         ensures { option_copied result ≡ slice_get self.now index }
     {
-        let (piece, _) = behind(self.pages.as_slice(), index);
+        let (piece, _) = behind(self.pages.blocks(), index);
         piece.first()
     }
 
@@ -77,12 +79,13 @@ impl<T: Spanned + Copy> Pages<T> {
     pub fn items_from(&self, index: u32) -> Reader<'_, T>
         ensures { result ≡ drop index self.now }
     {
-        let pages = self.pages.as_slice();
+        let blocks = self.pages.blocks();
         if index == 0 {
-            return Reader::of(&[], pages);
+            return Reader::of(&[], &[], blocks);
         }
-        let (piece, behind) = behind(pages, index);
-        Reader::of(piece, behind)
+        let (piece, next) = behind(blocks, index);
+        let (pages, rest) = pages_behind(blocks, next);
+        Reader::of(piece, pages, rest)
     }
 
     /// The item that holds the place `at`, or `None` where the list has no such place.
@@ -94,7 +97,8 @@ impl<T: Spanned + Copy> Pages<T> {
         ensures few { steps.new ≤ steps.old + length self.now + 64 }
     {
         steps.tick();
-        find_in_pages(self.pages.as_slice(), at, steps)
+        let blocks = self.pages.blocks();
+        find_in_blocks(blocks, at, steps)
     }
 
     /// Puts an item in place of the one with this index, which spans as many places.
@@ -125,13 +129,13 @@ impl<T: Spanned + Copy> Pages<T> {
         ensures ok { OnOk result (self.new ≡ slice_set self.old index item) }
         ensures err { OnErr result (self.new ≡ self.old) }
     {
-        let pages = self.pages.as_slice();
-        let spot = spot_of(pages, index);
-        let held = &pages[spot.page];
+        let blocks = self.pages.blocks();
+        let spot = spot_of(blocks, index);
+        let held = page_of(blocks, spot.part);
         let span = held.span();
         let page = held.with(alloc, spot.within, item)?;
         let total = self.total - span + page.span();
-        self.pages.set(alloc, spot.page, page)?;
+        self.pages.set(alloc, spot.part, page)?;
         self.total = total;
         Ok(())
     }
@@ -153,8 +157,8 @@ impl<T: Spanned + Copy> Pages<T> {
         ensures { IfOk result (λ all. all.items ≡ self.now) }
     {
         let mut all = Vec::with_capacity(alloc, self.count as usize)?;
-        for page in self.pages.as_slice() {
-            all.extend_from_slice(page.items())?;
+        for block in self.pages.blocks() {
+            push_items(&mut all, block.pages())?;
         }
         Ok(all)
     }
@@ -172,7 +176,7 @@ impl<T: Spanned + Copy> Pages<T> {
     }
 
     /// Puts these in place of the items from index `from` up to before `to`. Pages wholly before or after are kept
-    /// where they are; those after move along where there are more pages or fewer. It counts one step, and none for
+    /// where they are, in the blocks that they are in; the pages of the blocks that it touches are put into new blocks. It counts one step, and none for
     /// pages that are passed or moved, nor for items that are copied into new pages.
     pub fn replace<L: Ledger>(
         &mut self,
@@ -190,17 +194,16 @@ impl<T: Spanned + Copy> Pages<T> {
         ensures most { steps.new ≤ steps.old + length self.old / 32 + 3 }
     {
         steps.tick();
-        let pages = self.pages.as_slice();
-        let parts = around(pages, from, to);
+        let blocks = self.pages.blocks();
+        let parts = around(blocks, from, to);
         let middle = in_one_piece(self.alloc, parts.front, &items, parts.back)?;
         let fresh = pages_between(self.alloc, parts.near, &middle, parts.next)?;
-        let start = parts.kept.len();
-        let end = pages.len() - parts.far.len();
-        let gone = span_of_pages(&pages[start..end]);
-        let come = span_of_pages(&fresh);
-        self.pages.put_between(self.alloc, start, end, fresh)?;
+        let (start, end) = (parts.start, parts.end);
+        self.pages.put_between(self.alloc, start, end, &fresh)?;
+        let changed = self.pages.blocks();
+        let total = span_of_blocks(changed);
         self.count = self.count - (to - from) + items.len() as u32;
-        self.total = self.total - gone + come;
+        self.total = total;
         Ok(())
     }
 
@@ -216,6 +219,16 @@ impl<T: Spanned + Copy> Pages<T> {
         self.total += span;
         Ok(())
     }
+}
+
+// Puts the items of these pages after others.
+fn push_items<T: Spanned + Copy>(all: &mut Vec<T>, pages: &[Page<T>]) -> Result<(), Memory>
+    ensures { OnOk result (all.new.items ≡ all.old.items ++ items_of pages.now) }
+{
+    for page in pages {
+        all.extend_from_slice(page.items())?;
+    }
+    Ok(())
 }
 
 // These items in one piece, one run after another.

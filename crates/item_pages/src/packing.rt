@@ -1,5 +1,5 @@
 // Pages put one after another, so that no two neighbours fit in one.
-ghost use Rattle.std.specs.Prelude.{◌≡◌, ◌+◌, ◌<◌, ◌≤◌, ◌^◌, ◌++◌, ◌∷◌, [], length, take, drop, sum_by, true, false, IfOk, OnOk, OnErr};
+ghost use Rattle.std.specs.Prelude.{◌≡◌, ◌+◌, ◌<◌, ◌≤◌, ◌^◌, ◌++◌, ◌∷◌, [], length, sum_by, true, false, IfOk, OnOk, OnErr};
 ghost use Rattle.item_pages.specs.Items.{Fits};
 ghost use Rattle.item_pages.specs.Packing.{items_of, Packed, Begins, Ends};
 
@@ -105,29 +105,25 @@ pub fn push_page<T: Spanned + Copy>(
     Ok(())
 }
 
-// Whether the items of both fit in one page.
-fn fit_in_one<T: Spanned + Copy>(page: &Page<T>, next: &Page<T>) -> bool
+/// Whether the items of both fit in one page.
+pub fn fit_in_one<T: Spanned + Copy>(page: &Page<T>, next: &Page<T>) -> bool
     ensures yes { result ≡ true → length page.now + length next.now ≤ 64 }
     ensures no { result ≡ false → 64 < length page.now + length next.now }
 {
     (page.count() + next.count()) as usize <= MOST_ITEMS
 }
 
-/// Puts pages in place of those from index `start` up to before `end`.
-pub fn put_between<T: Spanned + Copy>(
-    pages: &mut Vec<Page<T>>,
-    start: usize,
-    end: usize,
-    fresh: Vec<Page<T>>,
-) -> Result<(), Memory>
-    requires order { start ≤ end }
-    requires within { end ≤ length pages.old.items }
-    ensures ok { OnOk result (pages.new.items
-        ≡ take start pages.old.items ++ (fresh.items ++ drop end pages.old.items)) }
-    ensures err { OnErr result (pages.new.items ≡ pages.old.items) }
+/// How many items these pages have. Each page has one at least.
+pub fn count_of_pages<T: Spanned + Copy>(pages: &[Page<T>]) -> u32
+    requires { length (items_of pages.now) < 2 ^ 32 }
+    ensures count { result ≡ length (items_of pages.now) }
+    ensures enough { length pages.now ≤ result }
 {
-    let _gone = pages.splice(start..end, fresh)?;
-    Ok(())
+    let mut count = 0;
+    for page in pages {
+        count += page.count();
+    }
+    count
 }
 
 /// How many places the items of these pages span.

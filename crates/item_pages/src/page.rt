@@ -1,6 +1,7 @@
 // A page: up to 64 items behind a pointer with several owners. No page changes once it is made.
-ghost use Rattle.std.specs.Prelude.{◌≡◌, ◌+◌, ◌<◌, ◌≤◌, ◌^◌, ◌++◌, ◌∷◌, length, sum_by, slice_set, false, All, IfOk};
+ghost use Rattle.std.specs.Prelude.{◌≡◌, ◌+◌, ◌<◌, ◌≤◌, ◌^◌, ◌++◌, ◌∷◌, length, sum_by, slice_set, false, All, IfOk, IfSome};
 
+use crate::held::{Held, row_has};
 use crate::marks::{Marks, marks_of};
 use crate::{Spanned, Wanted};
 use out_of_memory::Memory;
@@ -14,7 +15,7 @@ pub(crate) const MOST_ITEMS: usize = 64;
 /// A page. Contracts see its items.
 #[derive(Drop)]
 pub struct Page<T: Spanned + Copy> {
-    items: Arc<Vec<T>>,
+    held: Arc<Held<T>>,
     count: u32,
     span: u32,
     marks: Marks,
@@ -26,16 +27,18 @@ impl<T: Spanned + Copy> Model for Page<T> {
 
     ghost Value = { List T };
 
-    ghost view = { λ p. (arc_value p.items).items };
+    ghost view = { λ p. arc_value p.held };
 
     ghost use Rattle.item_pages.specs.Page.{IsPage};
 
     ghost invariant = { λ p. IsPage T.places T.numbered T.set
-        (arc_value p.items).items p.count p.span p.marks };
+        (arc_value p.held) p.count p.span p.marks };
 }
 
 impl<T: Spanned + Copy> Page<T> {
+    ghost use Rattle.item_pages.specs.Keys.{HoldsKeys};
     ghost use Rattle.item_pages.specs.Wants.{Unwanted};
+    ghost use Rattle.item_pages.specs.declared.spans.Wanted.TheVariants.{Numbered};
 
     /// The page of these items, of which there are 1 to 64.
     pub fn of(alloc: Global, items: Vec<T>) -> Result<Page<T>, Memory>
@@ -47,9 +50,10 @@ impl<T: Spanned + Copy> Page<T> {
         let count = items.len() as u32;
         let span = span_of(&items);
         let marks = marks_of(&items);
-        let items = Arc::new(alloc, items)?;
+        let held = Held::of(alloc, items)?;
+        let held = Arc::new(alloc, held)?;
         Ok(Page {
-            items,
+            held,
             count,
             span,
             marks,
@@ -97,7 +101,7 @@ impl<T: Spanned + Copy> Page<T> {
         ensures { IfOk result (λ p. p ≡ self.now) }
     {
         Ok(Page {
-            items: Arc::try_clone(&self.items)?,
+            held: Arc::try_clone(&self.held)?,
             count: self.count,
             span: self.span,
             marks: self.marks,
@@ -109,7 +113,7 @@ impl<T: Spanned + Copy> Page<T> {
         ensures items { result.now ≡ self.now }
         ensures within { length result.now ≤ 64 }
     {
-        self.items.as_slice()
+        self.held.as_slice()
     }
 
     /// Its first item, and those after it.
@@ -146,6 +150,24 @@ impl<T: Spanned + Copy> Page<T> {
             → All (λ item. Unwanted wanted (T.numbered item) (T.set item)) self.now }
     {
         self.marks.may_have(wanted)
+    }
+
+    /// The keys of its items, if they are known.
+    pub fn row(&self) -> Option<&[u32]>
+        ensures { IfSome result (λ row. HoldsKeys T.keyed row.now self.now) }
+    {
+        self.held.row()
+    }
+
+    /// Whether it may have an item with this key. False only where it has none.
+    pub fn may_have_key(&self, key: u32) -> bool
+        ensures { result ≡ false
+            → All (λ item. Unwanted (Numbered key) (T.keyed item) (T.set item)) self.now }
+    {
+        match self.held.row() {
+            Some(row) => row_has(row, key),
+            None => true,
+        }
     }
 }
 

@@ -1,43 +1,47 @@
-// The list of pages, behind a pointer that copies of it share. A change is done in place where nobody else has the list,
-// and else on a list of its own, which shares the pages.
-ghost use Rattle.std.specs.Prelude.{◌≡◌, ◌+◌, ◌<◌, ◌≤◌, ◌^◌, ◌++◌, [], length, take, drop, sum_by, slice_set, IfOk, OnOk, OnErr};
+// The list of pages, in blocks behind a pointer that copies of it share. A change is done in place where nobody else has
+// the list, and else on a list of its own, which shares the blocks.
+ghost use Rattle.std.specs.Prelude.{◌≡◌, ◌<◌, ◌≤◌, ◌++◌, [], length, take, drop, slice_set, IfOk, OnOk, OnErr};
+ghost use Rattle.item_pages.specs.Items.{Fits};
 ghost use Rattle.item_pages.specs.Packing.{items_of, Packed};
 
 use crate::Spanned;
-use crate::packing::{push_page, put_between, shared};
+use crate::block::Block;
+use crate::blocks::{push_to_blocks, put_blocks, set_page, shared_blocks};
+use crate::cutting::recut;
 use crate::page::Page;
 use out_of_memory::Memory;
 use std::alloc::Global;
 use std::marker::Model;
 use std::sync::Arc;
 
-// Pages that are there, in memory that copies of the list share.
+// Blocks that are there, in memory that copies of the list share.
 #[derive(Drop)]
 struct Rows<T: Spanned + Copy> {
-    all: Arc<Vec<Page<T>>>,
+    all: Arc<Vec<Block<T>>>,
 }
 
 impl<T: Spanned + Copy> Model for Rows<T> {
     ghost use Rattle.std.specs.Prelude.{List};
     ghost use Rattle.std.specs.Arc.{arc_value};
+    ghost use Rattle.item_pages.specs.Packing.{items_of};
 
     ghost Value = { List (List T) };
 
-    ghost view = { λ r. (arc_value r.all).items };
+    ghost view = { λ r. items_of (arc_value r.all).items };
 }
 
 impl<T: Spanned + Copy> Rows<T> {
-    // The list of these pages.
-    fn of(alloc: Global, all: Vec<Page<T>>) -> Result<Rows<T>, Memory>
-        ensures { IfOk result (λ r. r ≡ all.items) }
+    // The list of the pages of these blocks.
+    fn of(alloc: Global, all: Vec<Block<T>>) -> Result<Rows<T>, Memory>
+        ensures { IfOk result (λ r. r ≡ items_of all.items) }
     {
         let all = Arc::new(alloc, all)?;
         Ok(Rows { all })
     }
 
-    // The pages, in order.
-    fn as_slice(&self) -> &[Page<T>]
-        ensures { result.now ≡ self.now }
+    // The blocks, in order.
+    fn blocks(&self) -> &[Block<T>]
+        ensures { items_of result.now ≡ self.now }
     {
         self.all.as_slice()
     }
@@ -56,38 +60,40 @@ impl<T: Spanned + Copy> Rows<T> {
         alloc: Global,
         start: usize,
         end: usize,
-        fresh: Vec<Page<T>>,
+        fresh: &[Page<T>],
     ) -> Result<(), Memory>
         requires order { start ≤ end }
         requires within { end ≤ length self.old }
+        requires fits { Fits T.places
+            (items_of (take start self.old ++ (fresh.now ++ drop end self.old))) }
         ensures ok { OnOk result (self.new
-            ≡ take start self.old ++ (fresh.items ++ drop end self.old)) }
+            ≡ take start self.old ++ (fresh.now ++ drop end self.old)) }
         ensures err { OnErr result (self.new ≡ self.old) }
     {
+        let cut = recut(alloc, self.all.as_slice(), start, end, fresh)?;
         match Arc::get_mut(&mut self.all) {
-            Some(own) => return put_between(own, start, end, fresh),
+            Some(own) => return put_blocks(own, cut.before, cut.behind, cut.fresh),
             None => {}
         }
-        let all = with_between(alloc, self.as_slice(), start, end, fresh)?;
+        let mut all = shared_blocks(alloc, self.all.as_slice())?;
+        put_blocks(&mut all, cut.before, cut.behind, cut.fresh)?;
         self.all = Arc::new(alloc, all)?;
         Ok(())
     }
 
     // Puts a page in place of the one with this index, in a list of its own where copies share it.
     fn set(&mut self, alloc: Global, index: usize, page: Page<T>) -> Result<(), Memory>
-        requires { index < length self.old }
+        requires within { index < length self.old }
+        requires fits { Fits T.places (items_of (slice_set self.old index page)) }
         ensures ok { OnOk result (self.new ≡ slice_set self.old index page) }
         ensures err { OnErr result (self.new ≡ self.old) }
     {
         match Arc::get_mut(&mut self.all) {
-            Some(own) => {
-                own[index] = page;
-                return Ok(());
-            }
+            Some(own) => return set_page(alloc, own, index, page),
             None => {}
         }
-        let mut all = shared(alloc, self.as_slice())?;
-        all[index] = page;
+        let mut all = shared_blocks(alloc, self.all.as_slice())?;
+        set_page(alloc, &mut all, index, page)?;
         self.all = Arc::new(alloc, all)?;
         Ok(())
     }
@@ -96,17 +102,17 @@ impl<T: Spanned + Copy> Rows<T> {
     // own where copies share it.
     fn push(&mut self, alloc: Global, page: Page<T>) -> Result<(), Memory>
         requires packed { Packed self.old }
-        requires span { sum_by T.places (items_of self.old) + sum_by T.places page < 2 ^ 32 }
+        requires fits { Fits T.places (items_of self.old ++ page) }
         ensures items { OnOk result (items_of self.new ≡ items_of self.old ++ page) }
         ensures packed { OnOk result (Packed self.new) }
         ensures err { OnErr result (self.new ≡ self.old) }
     {
         match Arc::get_mut(&mut self.all) {
-            Some(own) => return push_page(alloc, own, page),
+            Some(own) => return push_to_blocks(alloc, own, page),
             None => {}
         }
-        let mut all = shared(alloc, self.as_slice())?;
-        push_page(alloc, &mut all, page)?;
+        let mut all = shared_blocks(alloc, self.all.as_slice())?;
+        push_to_blocks(alloc, &mut all, page)?;
         self.all = Arc::new(alloc, all)?;
         Ok(())
     }
@@ -134,12 +140,12 @@ impl<T: Spanned + Copy> PageList<T> {
         PageList { rows: None }
     }
 
-    /// The pages, in order.
-    pub fn as_slice(&self) -> &[Page<T>]
-        ensures { result.now ≡ self.now }
+    /// The blocks that have the pages, in order.
+    pub fn blocks(&self) -> &[Block<T>]
+        ensures { items_of result.now ≡ self.now }
     {
         match &self.rows {
-            Some(rows) => rows.as_slice(),
+            Some(rows) => rows.blocks(),
             None => &[],
         }
     }
@@ -157,32 +163,36 @@ impl<T: Spanned + Copy> PageList<T> {
         }
     }
 
-    /// Puts pages in place of those from index `start` up to before `end`.
+    /// Puts pages in place of those from index `start` up to before `end`, shared.
     pub fn put_between(
         &mut self,
         alloc: Global,
         start: usize,
         end: usize,
-        fresh: Vec<Page<T>>,
+        fresh: &[Page<T>],
     ) -> Result<(), Memory>
         requires order { start ≤ end }
         requires within { end ≤ length self.old }
+        requires fits { Fits T.places
+            (items_of (take start self.old ++ (fresh.now ++ drop end self.old))) }
         ensures ok { OnOk result (self.new
-            ≡ take start self.old ++ (fresh.items ++ drop end self.old)) }
+            ≡ take start self.old ++ (fresh.now ++ drop end self.old)) }
         ensures err { OnErr result (self.new ≡ self.old) }
     {
         match &mut self.rows {
             Some(rows) => return rows.put_between(alloc, start, end, fresh),
             None => {}
         }
-        let rows = Rows::of(alloc, fresh)?;
+        let mut rows = Rows::of(alloc, Vec::new(alloc))?;
+        rows.put_between(alloc, start, end, fresh)?;
         self.rows = Some(rows);
         Ok(())
     }
 
     /// Puts a page in place of the one with this index.
     pub fn set(&mut self, alloc: Global, index: usize, page: Page<T>) -> Result<(), Memory>
-        requires { index < length self.old }
+        requires within { index < length self.old }
+        requires fits { Fits T.places (items_of (slice_set self.old index page)) }
         ensures ok { OnOk result (self.new ≡ slice_set self.old index page) }
         ensures err { OnErr result (self.new ≡ self.old) }
     {
@@ -195,7 +205,7 @@ impl<T: Spanned + Copy> PageList<T> {
     /// Puts a page after the others. Where it fits in one with the last of them, the two become one.
     pub fn push(&mut self, alloc: Global, page: Page<T>) -> Result<(), Memory>
         requires packed { Packed self.old }
-        requires span { sum_by T.places (items_of self.old) + sum_by T.places page < 2 ^ 32 }
+        requires fits { Fits T.places (items_of self.old ++ page) }
         ensures items { OnOk result (items_of self.new ≡ items_of self.old ++ page) }
         ensures packed { OnOk result (Packed self.new) }
         ensures err { OnErr result (self.new ≡ self.old) }
@@ -204,28 +214,9 @@ impl<T: Spanned + Copy> PageList<T> {
             Some(rows) => return rows.push(alloc, page),
             None => {}
         }
-        let mut all = Vec::new(alloc);
-        push_page(alloc, &mut all, page)?;
-        let rows = Rows::of(alloc, all)?;
+        let mut rows = Rows::of(alloc, Vec::new(alloc))?;
+        rows.push(alloc, page)?;
         self.rows = Some(rows);
         Ok(())
     }
-}
-
-// These pages in a list of its own, shared, with fresh ones in place of those from index `start` up to before `end`.
-fn with_between<T: Spanned + Copy>(
-    alloc: Global,
-    pages: &[Page<T>],
-    start: usize,
-    end: usize,
-    fresh: Vec<Page<T>>,
-) -> Result<Vec<Page<T>>, Memory>
-    requires order { start ≤ end }
-    requires within { end ≤ length pages.now }
-    ensures { IfOk result (λ all. all.items
-        ≡ take start pages.now ++ (fresh.items ++ drop end pages.now)) }
-{
-    let mut all = shared(alloc, pages)?;
-    put_between(&mut all, start, end, fresh)?;
-    Ok(all)
 }

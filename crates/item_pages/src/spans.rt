@@ -14,6 +14,9 @@ pub trait Spanned {
     /// Its set: bit i of it stands for i.
     ghost set: { Self → ℕ } = { λ _. 0 };
 
+    /// The key that it has, if it has one: a number by which it may be looked for, as others may be too.
+    ghost keyed: { Self → Option ℕ } = { λ _. None };
+
     /// How many places it spans, which 32 bits hold.
     fn span(&self) -> u32
         ensures { result ≡ places self.now };
@@ -30,6 +33,13 @@ pub trait Spanned {
         ensures { IsWithin (set self.now) result }
     {
         u64::MAX
+    }
+
+    /// What pages keep of its key: by default that it may be any.
+    fn key(&self) -> Number
+        ensures { Tells (keyed self.now) result }
+    {
+        Number::Unknown
     }
 }
 

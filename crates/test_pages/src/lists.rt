@@ -170,6 +170,100 @@ fn a_list_is_changed_as_a_plain_one(rt: HostRuntime) -> Result<(), Fail> {
     Ok(())
 }
 
+// Pages of 64 shots stand in blocks of 32 pages: a block that is filled shot by shot has 2,048.
+#[test]
+fn a_list_is_changed_at_the_borders_of_blocks(rt: HostRuntime) -> Result<(), Fail> {
+    for (count, range, more) in [
+        // a block that is full, and one page more; 64 pages, and 65
+        (2048u32, (2048u32, 2048u32), 1u32),
+        (2049, (0, 1), 1),
+        (4096, (4096, 4096), 64),
+        (4160, (0, 0), 65),
+        // before, over and after the border of two blocks
+        (2200, (2047, 2047), 1),
+        (2200, (2048, 2048), 1),
+        (2200, (2047, 2049), 0),
+        (2200, (2048, 2112), 3),
+        (2200, (1984, 2112), 200),
+        // a small block, and none of it
+        (2200, (2100, 2150), 5),
+        (2200, (2048, 2200), 0),
+        // several blocks by none, by few, by many
+        (4160, (64, 4100), 0),
+        (4160, (0, 4160), 1),
+        (4160, (2000, 4160), 2300),
+    ] {
+        let same = changes::<Brand>(&rt, rt.alloc(), Blank::new(1), count, range, more)?;
+        assert!(rt; same, "{count} shots, {more} more");
+    }
+    Ok(())
+}
+
+// Whether a list of three blocks is as a plain one after so many changes at scattered places, and a copy of it from
+// before the last of them as it was.
+fn scattered<L: Ledger>(
+    rt: &impl Abort,
+    alloc: Global,
+    blank: Blank,
+    changes: u32,
+) -> Result<bool, Memory>
+    requires { (blank.name ≡ L.name) × (blank.parts ≡ L.parts) × (0 < blank.parts) }
+{
+    let mut steps = Steps::<L>::new(blank);
+    let mut plain = shots(alloc, 1, 4_160)?;
+    let mut pages = Pages::new(alloc);
+    push_all(rt, &mut pages, &plain)?;
+    let mut before = Pages::new(alloc);
+    let mut old = Vec::new(alloc);
+    let mut seed: u32 = 7;
+    for number in 0..changes {
+        seed = seed.wrapping_mul(1_664_525).wrapping_add(1_013_904_223);
+        let (from, to) = range_in(pages.count(), seed);
+        let new = shots(alloc, number, (seed >> 8) % 80)?;
+        let want = plainly_replaced(alloc, &plain, from, to, &new)?;
+        before = pages.copy(alloc)?;
+        put(rt, &mut pages, from, to, new, &mut steps)?;
+        old = plain;
+        plain = want;
+    }
+    Ok(is_list(alloc, &pages, &plain, &mut steps)? && is_list(alloc, &before, &old, &mut steps)?)
+}
+
+#[test]
+fn a_list_of_blocks_is_changed_at_scattered_places(rt: HostRuntime) -> Result<(), Fail> {
+    assert!(rt; scattered::<Brand>(&rt, rt.alloc(), Blank::new(1), 100)?);
+    Ok(())
+}
+
+#[test]
+fn a_shot_is_changed_in_its_block_alone(rt: HostRuntime) -> Result<(), Fail> {
+    let alloc = rt.alloc();
+    let mut pages = Pages::new(alloc);
+    push_all(&rt, &mut pages, &shots(alloc, 0, 4_160)?)?;
+    let before = pages.copy(alloc)?;
+    for index in [0, 2047, 2048, 4095, 4096, 4159, 2047] {
+        renumber(alloc, &mut pages, index, index + 9000)?;
+    }
+    push_one(&rt, &mut pages, Shot { number: 1, len: 1 })?;
+    for (index, number) in [
+        (0, 9000),
+        (1, 1),
+        (2046, 2046),
+        (2047, 11_047),
+        (2048, 11_048),
+        (4095, 13_095),
+        (4096, 13_096),
+        (4159, 13_159),
+    ] {
+        let now = pages.get(index).map(|shot| shot.number);
+        let then = before.get(index).map(|shot| shot.number);
+        assert_eq!(rt; (now, then), (Some(number), Some(index)), "{index}");
+    }
+    assert_eq!(rt; (pages.count(), before.count()), (4161, 4160));
+    assert_eq!(rt; before.get(4160), None);
+    Ok(())
+}
+
 // Whether lists stay as plain ones over so many changes one after another, each after a copy that stays as it was.
 fn changes_on<L: Ledger>(
     rt: &impl Abort,

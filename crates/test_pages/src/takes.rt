@@ -133,6 +133,32 @@ fn pages_without_a_number_are_passed_by(rt: HostRuntime) -> Result<(), Fail> {
     Ok(())
 }
 
+// 2,200 takes, which stand in two blocks. Each has its index as its number, and take 2,100 has a set.
+#[test]
+fn a_number_is_found_in_the_block_that_has_it(rt: HostRuntime) -> Result<(), Fail> {
+    let mut pages = Pages::new(rt.alloc());
+    for index in 0..2_200u32 {
+        let set = if index == 2_100 { 2 } else { 0 };
+        let take = Take {
+            number: Some(index),
+            set,
+            len: 2,
+        };
+        push_one(&rt, &mut pages, take)?;
+    }
+    for number in [0u32, 63, 1984, 2047, 2048, 2111, 2112, 2199] {
+        assert_eq!(rt; found(&pages, number), (Some(number), 1), "{number}");
+    }
+    assert_eq!(rt; found(&pages, 2_200), (None, 0));
+    let passed = passed_at(&pages, Wanted::Beyond(1));
+    assert_eq!(rt; (passed.count, passed.places), (2048, 4096));
+    let passed = passed_after(&pages, 2_000, Wanted::Beyond(1));
+    assert_eq!(rt; passed.count, 0);
+    let passed = passed_after(&pages, 1_000, Wanted::Beyond(2));
+    assert_eq!(rt; passed.count, 1_176);
+    Ok(())
+}
+
 // What is passed by at the beginning of a list, and after the items of one page from an index on.
 fn passed_at(pages: &Pages<Take>, wanted: Wanted) -> Passed {
     pages.items_from(0).pass(wanted)

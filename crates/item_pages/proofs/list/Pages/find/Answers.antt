@@ -4,4 +4,4 @@ use Rattle.item_pages.proofs.list.Pages.find.Goals as goal
 
 pub returns-clause-most : goal.returns-clause-most
 returns-clause-most g c =
-    rw (← c.self.view_is) (omega (arith, packed_few c.self.inside.pages c.self.invariant.packed, ap length c.as_slice.ensures, c.find_in_pages.ensures.most, c.tick.ensures))
+    rw (← c.self.view_is) (omega (arith, packed_few c.self.inside.pages c.self.invariant.packed, ap length c.blocks-blocks.ensures, c.find_in_blocks.ensures.most, c.tick.ensures))

@@ -5,10 +5,8 @@ use Rattle.item_pages.specs.Packing.{items_of}
 use Rattle.item_pages.proofs.Filling.{list_more}
 use Rattle.item_pages.proofs.list.Pages.push_page.Goals as goal
 
-pub push-requires-clause-span : goal.push-requires-clause-span
-push-requires-clause-span g c =
-    let fits = rw (← c.self.view_is) at c.requires in
-    omega (arith, fits.1, sum_by-append g.T.Spanned.places (items_of c.self.inside.pages) c.args.page)
+pub push-requires-clause-fits : goal.push-requires-clause-fits
+push-requires-clause-fits g c = rw (← c.self.view_is) at c.requires
 
 pub overflow_add-self : goal.overflow_add-self
 overflow_add-self g c =

@@ -2,5 +2,5 @@ use Rattle.std.proofs.Common.{◌≡◌, take}
 use Rattle.item_pages.specs.Packing.{items_of}
 use Rattle.item_pages.proofs.list.Pages.to_vec.Given as goal
 
-abbrev pub invariant-loop-page : goal.invariant-loop-page
-invariant-loop-page g l = l.all.items ≡ items_of (take l.page-index l.page-items)
+abbrev pub invariant-loop-block : goal.invariant-loop-block
+invariant-loop-block g l = l.all.items ≡ items_of (items_of (take l.block-index l.block-items))

@@ -1,4 +1,4 @@
-use Rattle.std.proofs.Common.{◌/◌, ◌%◌, ◌<◌, length, refl, arith}
+use Rattle.std.proofs.Common.{refl, arith}
 use Rattle.item_pages.proofs.Marking.{mark_grows, mark_has}
 use Rattle.item_pages.proofs.marks.Marks.mark.Goals as goal
 
