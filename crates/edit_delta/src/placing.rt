@@ -9,8 +9,8 @@ ghost use Rattle.edit_splice.specs.Splicing.{spliced_track};
 ghost use Rattle.edit_splice.specs.Standing.{StaysGood};
 ghost use Rattle.edit_delta.specs.Parts.{AreParts};
 
-use composables::{Done, EditFault, ItemView, MAX_ITEMS, Refusal, Table, Track};
-use edit_splice::{count_after, splice};
+use composables::{Done, EditFault, ItemView, Table, Track};
+use edit_splice::splice_within;
 use std::alloc::Global;
 use std::sync::ledger::Ledger;
 use step_count::Steps;
@@ -37,9 +37,5 @@ pub fn place_parts<L: Ledger>(
     ensures least { steps.old ≤ steps.new }
     ensures most { steps.new ≤ steps.old + 16 * (length (items_of track.old.cells) + 64) }
 {
-    if count_after(track, x, y, parts, steps) > MAX_ITEMS {
-        return Err(EditFault::Refused(Refusal::TooManyItems(track.number())));
-    }
-    splice(alloc, track, x, y, parts, steps)?;
-    Ok(done)
+    splice_within(alloc, track, x, y, false, parts, done, steps)
 }

@@ -64,7 +64,7 @@ pub fn over_limits<L: Ledger>(
     requires fits { All (λ t. IsShiftOf shift.now t) named.now }
     ensures refusal { result ≡ over_limits (all_moved shift.now named.now) }
     ensures least { steps.old ≤ steps.new }
-    ensures most { steps.new ≤ steps.old + 6 * sizes_of named.now }
+    ensures most { steps.new ≤ steps.old + 3 * sizes_of named.now }
 {
     match first_too_long(named, shift) {
         Some(track) => return Some(Refusal::TooLong(track)),
@@ -154,7 +154,7 @@ fn first_too_many<L: Ledger>(named: &[Track], shift: &Shift, steps: &mut Steps<L
     requires short { All (λ t. length (moved shift.now t).cells ≤ MAX_FRAMES) named.now }
     ensures found { too_many (all_moved shift.now named.now) ≡ option_map TooManyItems result }
     ensures least { steps.old ≤ steps.new }
-    ensures most { steps.new ≤ steps.old + 6 * sizes_of named.now }
+    ensures most { steps.new ≤ steps.old + 3 * sizes_of named.now }
 {
     for track in named {
         if items_after(track, shift, steps) > MAX_ITEMS {
@@ -171,7 +171,7 @@ fn items_after<L: Ledger>(track: &Track, shift: &Shift, steps: &mut Steps<L>) ->
     requires short { length (moved shift.now track.now).cells ≤ MAX_FRAMES }
     ensures count { result ≡ length (items_of (moved shift.now track.now).cells) }
     ensures least { steps.old ≤ steps.new }
-    ensures most { steps.new ≤ steps.old + 6 * size_of track.now }
+    ensures most { steps.new ≤ steps.old + 3 * size_of track.now }
 {
     let length = track.length();
     let views = put_views(track, shift);

@@ -9,3 +9,4 @@ pub mod Reached
 pub mod Ripples
 pub mod RippleTracks
 pub mod RippleShift
+pub mod Others

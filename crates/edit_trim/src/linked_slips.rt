@@ -78,7 +78,7 @@ fn room_among<L: Ledger>(
     room
 }
 
-// The room that suits all that has the link on this track.
+// The room that suits all that has the link on this track. Pages that have not its key are passed by.
 fn room_on<L: Ledger>(table: &Table, track: &Track, link: Link, steps: &mut Steps<L>) -> SlipRoom
     requires good { IsGood table.now track.now }
     ensures room { RoomOn table.now link (items_of track.now.cells) result }
@@ -89,15 +89,20 @@ fn room_on<L: Ledger>(table: &Table, track: &Track, link: Link, steps: &mut Step
         earlier: u32::MAX,
         later: u32::MAX,
     };
+    let count = track.count();
     let mut items = ItemReader::at(track, 0);
-    for index in 0..track.count() {
-        steps.tick();
+    let mut index: u32 = 0;
+    while index < count {
+        let passed = items.pass_others(link);
+        index += passed.count;
         let Some(view) = items.next() else {
-            unreachable!()
+            return room;
         };
+        steps.tick();
         if carries(link, view.link) {
             room = narrower(room, room_to_slip(table, track, index, &view));
         }
+        index += 1;
     }
     room
 }
@@ -150,7 +155,7 @@ fn move_all<L: Ledger>(
 }
 
 // Moves the source frames of all that has the link on this track. It reads the items of the track as it was while it
-// changes some of them.
+// changes some of them. Pages that have not the key of the link are passed by.
 fn move_on<L: Ledger>(
     alloc: Global,
     table: &Table,
@@ -167,15 +172,20 @@ fn move_on<L: Ledger>(
     ensures most { steps.new ≤ steps.old + size_of track.old }
 {
     let old = track.copy(alloc)?;
+    let count = old.count();
     let mut items = ItemReader::at(&old, 0);
-    for index in 0..old.count() {
-        steps.tick();
+    let mut index: u32 = 0;
+    while index < count {
+        let passed = items.pass_others(link);
+        index += passed.count;
         let Some(view) = items.next() else {
-            unreachable!()
+            return Ok(());
         };
+        steps.tick();
         if carries(link, view.link) {
             track.set_source(alloc, index, moved_source(&view, way))?;
         }
+        index += 1;
     }
     Ok(())
 }

@@ -22,3 +22,7 @@ pub mod GoodShifts
 pub mod Meant
 pub mod Marked
 pub mod Unsplit
+pub mod Others
+pub mod Apart
+pub mod KeyRows
+pub mod BothSides

@@ -78,7 +78,7 @@ front-all q x i t kept le =
     ∙ ap (λ (cs : List Cell). list_any (has_key q) (take x cs)) kept.whole
 
 -- the cells of those up to an index, and of so many more
-cells_parts : (i n : ℕ) (vs old : List ItemView) → old ≡ drop i vs → cells_of (take (i + n) vs) ≡ cells_of (take i vs) ++ cells_of (take n old)
+pub cells_parts : (i n : ℕ) (vs old : List ItemView) → old ≡ drop i vs → cells_of (take (i + n) vs) ≡ cells_of (take i vs) ++ cells_of (take n old)
 cells_parts i n vs old is =
     ap cells_of (take_parts i n vs)
     ∙ (cells_of-append (take i vs) (take n (drop i vs)) ∙ ap (λ (ws : List ItemView). cells_of (take i vs) ++ cells_of (take n ws)) (sym is))

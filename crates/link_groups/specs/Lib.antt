@@ -7,6 +7,7 @@ pub mod LinkedShifts
 -- For the steps of the code, for proofs and for tests.
 pub mod Splits
 pub mod Marks
+pub mod Keys
 pub mod Inside
 pub mod Starts
 pub mod FoundItems

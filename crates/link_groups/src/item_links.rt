@@ -78,7 +78,8 @@ pub fn carried_outside<L: Ledger>(
     false
 }
 
-// Whether something on this track has the link, outside that item of the track `own`.
+// Whether something on this track has the link, outside that item of the track `own`. Pages that have not its key are
+// passed by.
 fn carried_on<L: Ledger>(
     track: &Track,
     link: Link,
@@ -94,15 +95,20 @@ fn carried_on<L: Ledger>(
     if !track.has_links() {
         return false;
     }
+    let count = track.count();
     let mut items = ItemReader::at(track, 0);
-    for index in 0..track.count() {
-        steps.tick();
+    let mut index: u32 = 0;
+    while index < count {
+        let passed = items.pass_others(link);
+        index += passed.count;
         let Some(view) = items.next() else {
-            unreachable!()
+            return false;
         };
+        steps.tick();
         if is_elsewhere(link, own, item, track.number(), &view) {
             return true;
         }
+        index += 1;
     }
     false
 }

@@ -7,8 +7,10 @@
 
 mod finding;
 mod item_links;
+mod key_marks;
 mod link_marks;
 mod linking;
+mod meeting;
 mod offsets;
 mod outside;
 mod renumbering;

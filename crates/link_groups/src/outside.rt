@@ -98,7 +98,8 @@ fn least_found<L: Ledger>(
     least_on(named, track, start, y, steps)
 }
 
-// The least such link of one track, where the walk begins at this start. Pages without links are passed by.
+// The least such link of one track, where the walk begins at this start. Pages whose links
+// have no tracks but those of a link before, all named, are passed by.
 fn least_on<L: Ledger>(
     named: &[Track],
     track: &Track,
@@ -124,7 +125,7 @@ fn least_on<L: Ledger>(
     let mut index = start.index;
     let mut to = start.from;
     while index < count {
-        let passed = items.pass_unlinked();
+        let passed = items.pass_inside(inside);
         index += passed.count;
         to += passed.places;
         let Some(view) = items.next() else {

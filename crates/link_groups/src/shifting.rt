@@ -8,7 +8,7 @@ ghost use Rattle.link_groups.specs.Renumbering.{MayBeSplit};
 
 use crate::outside::check_moved;
 use crate::renumbering::relink_all;
-use crate::splits::splits_moved;
+use crate::splits::splits_shifted;
 use composables::{Done, EditFault, Track};
 use edit_splice::{Shift, new_len, over_limits, shift_tracks, shifted};
 use std::alloc::Global;
@@ -49,7 +49,7 @@ pub fn shift_linked<L: Ledger>(
         Some(refusal) => return Err(EditFault::Refused(refusal)),
         None => {}
     }
-    let splits = splits_moved(alloc, named, shift.x, shift.y, steps)?;
+    let splits = splits_shifted(alloc, named, shift.x, shift.y, steps)?;
     let mut moved = shifted(alloc, named, shift, steps)?;
     relink_all(alloc, &mut moved, place, &splits, steps)?;
     *named = moved;

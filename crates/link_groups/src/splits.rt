@@ -5,12 +5,14 @@ ghost use Rattle.std.specs.BTreeSet.{btree_set_len, contains, IsOrdered};
 ghost use Rattle.composables.specs.Items.{items_of};
 ghost use Rattle.composables.specs.Links.{cells_before, cells_from, next_link_at, split_links};
 ghost use Rattle.composables.specs.Sizes.{size_of, sizes_of};
+ghost use Rattle.link_groups.specs.Keys.{NoneShared};
 ghost use Rattle.link_groups.specs.Marks.{is_marked};
 ghost use Rattle.link_groups.specs.Renumbering.{MayBeSplit};
 ghost use Rattle.link_groups.specs.Splits.{AreGiven, AreSplits, HasFew, has_key, is_key_of, key_cmp};
 ghost use Rattle.link_groups.specs.Starts.{IsStart};
 
 use crate::link_marks::LinkMarks;
+use crate::meeting::may_be_split;
 use crate::starts::{Start, first, found};
 use composables::{ItemReader, Memory, Track, a_track_is_kept};
 use frame_meaning::Link;
@@ -62,6 +64,29 @@ pub(crate) fn splits_moved<L: Ledger>(
     let before = marks_before(alloc, named, x, steps)?;
     let split = split_moved(alloc, named, &before, y, steps)?;
     number_splits(alloc, named, &split, steps)
+}
+
+/// The splits of `splits_moved`. Where keys tell that no link can be split, no item is read but those of the pages that
+/// hold `x` and `y`.
+pub(crate) fn splits_shifted<L: Ledger>(
+    alloc: Global,
+    named: &[Track],
+    x: u32,
+    y: u32,
+    steps: &mut Steps<L>,
+) -> Result<Splits, Memory>
+    requires room { MayBeSplit named.now }
+    ensures splits { IfOk result (λ s. AreSplits named.now (split_links x y named.now) s) }
+    ensures few { IfOk result (λ s. HasFew s) }
+    ensures least { steps.old ≤ steps.new }
+    ensures most { steps.new ≤ steps.old + 6 * sizes_of named.now }
+{
+    let may_be = may_be_split(alloc, named, x, y, steps)?;
+    if may_be {
+        return splits_moved(alloc, named, x, y, steps);
+    }
+    let none = BTreeSet::new(alloc);
+    number_splits(alloc, named, &none, steps)
 }
 
 // The links of items that begin before the record frame `x`.

@@ -7,6 +7,8 @@ mod edits;
 #[cfg(test)]
 mod moves;
 #[cfg(test)]
+mod paged_links;
+#[cfg(test)]
 mod plain;
 #[cfg(test)]
 mod three_tracks;

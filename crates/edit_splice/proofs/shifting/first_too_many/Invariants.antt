@@ -8,5 +8,5 @@ abbrev pub invariant-loop-track : goal.invariant-loop-track
 invariant-loop-track g l = record {
   found : too_many (all_moved l.shift l.named) ≡ too_many (all_moved l.shift (drop l.track-index l.named));
   least : l.fn.steps ≤ l.steps;
-  most : l.steps ≤ l.fn.steps + 6 * sum_by size_of (take l.track-index l.named);
+  most : l.steps ≤ l.fn.steps + 3 * sum_by size_of (take l.track-index l.named);
 }

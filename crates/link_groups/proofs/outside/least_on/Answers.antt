@@ -4,9 +4,10 @@ use Rattle.composables.specs.Items.{cells_of, items_of}
 use Rattle.composables.specs.Links.{least_link, least_outside}
 use Rattle.composables.proofs.Pieces.{left-first}
 use Rattle.link_groups.specs.Inside.{AreInside}
+use Rattle.link_groups.proofs.Apart.{least-inside}
 use Rattle.link_groups.proofs.Bare.{bare-cells, bare-drop, bare-outside}
 use Rattle.link_groups.proofs.LeastLinks.{filled-at, frames-more, frames-within, item-met, item-passed, none-before}
-use Rattle.link_groups.proofs.PassedOver.{few-kept, least-all, least-bare, Reads, reads-next, reads-none, reads-on}
+use Rattle.link_groups.proofs.PassedOver.{few-kept, least-all, Reads, reads-next, reads-none, reads-on}
 use Rattle.link_groups.proofs.outside.least_on.Goals as goal
 
 pub loop-index-init : goal.loop-index-init
@@ -29,33 +30,33 @@ pub overflow_add-index : goal.overflow_add-index
 overflow_add-index g c =
     let vs = items_of c.args.track.now.cells in
     let i = c.loop-index.index in
-    let n = c.pass_unlinked-passed.result.count in
+    let n = c.pass_inside-passed.result.count in
     let here : Reads vs c.loop-index.items i c.loop-index.to = record { within = c.loop-index.invariant.within; left_is = c.loop-index.invariant.items; at_is = c.loop-index.invariant.to } in
-    let on = reads-on vs c.loop-index.items c.pass_unlinked-passed.new.self i c.loop-index.to n c.pass_unlinked-passed.result.places
-    here c.pass_unlinked-passed.ensures.within c.pass_unlinked-passed.ensures.left c.pass_unlinked-passed.ensures.frames in
+    let on = reads-on vs c.loop-index.items c.pass_inside-passed.new.self i c.loop-index.to n c.pass_inside-passed.result.places
+    here c.pass_inside-passed.ensures.within c.pass_inside-passed.ensures.left c.pass_inside-passed.ensures.frames in
     omega (arith, on.within, few-kept c.args.track.now c.length.ensures.kept)
 
 pub overflow_add-to : goal.overflow_add-to
 overflow_add-to g c =
     let vs = items_of c.args.track.now.cells in
     let i = c.loop-index.index in
-    let n = c.pass_unlinked-passed.result.count in
+    let n = c.pass_inside-passed.result.count in
     let here : Reads vs c.loop-index.items i c.loop-index.to = record { within = c.loop-index.invariant.within; left_is = c.loop-index.invariant.items; at_is = c.loop-index.invariant.to } in
-    let on = reads-on vs c.loop-index.items c.pass_unlinked-passed.new.self i c.loop-index.to n c.pass_unlinked-passed.result.places
-    here c.pass_unlinked-passed.ensures.within c.pass_unlinked-passed.ensures.left c.pass_unlinked-passed.ensures.frames in
+    let on = reads-on vs c.loop-index.items c.pass_inside-passed.new.self i c.loop-index.to n c.pass_inside-passed.result.places
+    here c.pass_inside-passed.ensures.within c.pass_inside-passed.ensures.left c.pass_inside-passed.ensures.frames in
     omega (arith, on.at_is, frames-within c.args.track.now (i + n) c.length.ensures.kept)
 
 pub returns-in_default-clause-least : goal.returns-in_default-clause-least
 returns-in_default-clause-least g c =
     let vs = items_of c.args.track.now.cells in
     let i = c.loop-index.index in
-    let n = c.pass_unlinked-passed.result.count in
+    let n = c.pass_inside-passed.result.count in
     let here : Reads vs c.loop-index.items i c.loop-index.to = record { within = c.loop-index.invariant.within; left_is = c.loop-index.invariant.items; at_is = c.loop-index.invariant.to } in
-    let on = reads-on vs c.loop-index.items c.pass_unlinked-passed.new.self i c.loop-index.to n c.pass_unlinked-passed.result.places
-    here c.pass_unlinked-passed.ensures.within c.pass_unlinked-passed.ensures.left c.pass_unlinked-passed.ensures.frames in
+    let on = reads-on vs c.loop-index.items c.pass_inside-passed.new.self i c.loop-index.to n c.pass_inside-passed.result.places
+    here c.pass_inside-passed.ensures.within c.pass_inside-passed.ensures.left c.pass_inside-passed.ensures.frames in
     c.loop-index.invariant.least
-    ∙ (least-bare c.args.named.now c.args.y i n vs c.loop-index.items c.loop-index.invariant.items c.pass_unlinked-passed.ensures.unlinked
-    ∙ least-all c.args.named.now c.args.y (i + n) c.args.track.now c.length.ensures.kept (reads-none vs c.pass_unlinked-passed.new.self (i + n) on.left_is (c.in_default.ensures.none refl).0))
+    ∙ (least-inside c.args.named.now c.loop-index.inside c.args.y i n vs c.loop-index.items c.loop-index.invariant.inside c.loop-index.invariant.items c.pass_inside-passed.ensures.inside
+    ∙ least-all c.args.named.now c.args.y (i + n) c.args.track.now c.length.ensures.kept (reads-none vs c.pass_inside-passed.new.self (i + n) on.left_is (c.in_default.ensures.none refl).0))
 
 pub returns-in_default-clause-most : goal.returns-in_default-clause-most
 returns-in_default-clause-most g c = omega (arith, c.loop-index.invariant.most, c.loop-index.invariant.within)
@@ -64,40 +65,40 @@ pub overflow_add-index-in-loop-index : goal.overflow_add-index-in-loop-index
 overflow_add-index-in-loop-index g c =
     let vs = items_of c.args.track.now.cells in
     let i = c.loop-index.index in
-    let n = c.pass_unlinked-passed.result.count in
+    let n = c.pass_inside-passed.result.count in
     let here : Reads vs c.loop-index.items i c.loop-index.to = record { within = c.loop-index.invariant.within; left_is = c.loop-index.invariant.items; at_is = c.loop-index.invariant.to } in
-    let on = reads-on vs c.loop-index.items c.pass_unlinked-passed.new.self i c.loop-index.to n c.pass_unlinked-passed.result.places
-    here c.pass_unlinked-passed.ensures.within c.pass_unlinked-passed.ensures.left c.pass_unlinked-passed.ensures.frames in
+    let on = reads-on vs c.loop-index.items c.pass_inside-passed.new.self i c.loop-index.to n c.pass_inside-passed.result.places
+    here c.pass_inside-passed.ensures.within c.pass_inside-passed.ensures.left c.pass_inside-passed.ensures.frames in
     let v = c.in-Some.view in
-    let read : slice_get vs (i + n) ≡ Some v = left-first vs c.pass_unlinked-passed.new.self c.next.new.self (i + n) v on.left_is c.in-Some.ensures.some in
-    let next = reads-next vs c.pass_unlinked-passed.new.self c.next.new.self (i + n) _ v on c.in-Some.ensures.some in
+    let read : slice_get vs (i + n) ≡ Some v = left-first vs c.pass_inside-passed.new.self c.next.new.self (i + n) v on.left_is c.in-Some.ensures.some in
+    let next = reads-next vs c.pass_inside-passed.new.self c.next.new.self (i + n) _ v on c.in-Some.ensures.some in
     omega (arith, next.within, few-kept c.args.track.now c.length.ensures.kept)
 
 pub overflow_add-to-in-loop-index : goal.overflow_add-to-in-loop-index
 overflow_add-to-in-loop-index g c =
     let vs = items_of c.args.track.now.cells in
     let i = c.loop-index.index in
-    let n = c.pass_unlinked-passed.result.count in
+    let n = c.pass_inside-passed.result.count in
     let here : Reads vs c.loop-index.items i c.loop-index.to = record { within = c.loop-index.invariant.within; left_is = c.loop-index.invariant.items; at_is = c.loop-index.invariant.to } in
-    let on = reads-on vs c.loop-index.items c.pass_unlinked-passed.new.self i c.loop-index.to n c.pass_unlinked-passed.result.places
-    here c.pass_unlinked-passed.ensures.within c.pass_unlinked-passed.ensures.left c.pass_unlinked-passed.ensures.frames in
+    let on = reads-on vs c.loop-index.items c.pass_inside-passed.new.self i c.loop-index.to n c.pass_inside-passed.result.places
+    here c.pass_inside-passed.ensures.within c.pass_inside-passed.ensures.left c.pass_inside-passed.ensures.frames in
     let v = c.in-Some.view in
-    let read : slice_get vs (i + n) ≡ Some v = left-first vs c.pass_unlinked-passed.new.self c.next.new.self (i + n) v on.left_is c.in-Some.ensures.some in
-    let next = reads-next vs c.pass_unlinked-passed.new.self c.next.new.self (i + n) _ v on c.in-Some.ensures.some in
+    let read : slice_get vs (i + n) ≡ Some v = left-first vs c.pass_inside-passed.new.self c.next.new.self (i + n) v on.left_is c.in-Some.ensures.some in
+    let next = reads-next vs c.pass_inside-passed.new.self c.next.new.self (i + n) _ v on c.in-Some.ensures.some in
     omega (arith, next.at_is, frames-within c.args.track.now (i + n + 1) c.length.ensures.kept)
 
 pub loop-index-preserved-then-to-y : goal.loop-index-preserved-then-to-y
 loop-index-preserved-then-to-y g c =
     let vs = items_of c.args.track.now.cells in
     let i = c.loop-index.index in
-    let n = c.pass_unlinked-passed.result.count in
+    let n = c.pass_inside-passed.result.count in
     let here : Reads vs c.loop-index.items i c.loop-index.to = record { within = c.loop-index.invariant.within; left_is = c.loop-index.invariant.items; at_is = c.loop-index.invariant.to } in
-    let on = reads-on vs c.loop-index.items c.pass_unlinked-passed.new.self i c.loop-index.to n c.pass_unlinked-passed.result.places
-    here c.pass_unlinked-passed.ensures.within c.pass_unlinked-passed.ensures.left c.pass_unlinked-passed.ensures.frames in
+    let on = reads-on vs c.loop-index.items c.pass_inside-passed.new.self i c.loop-index.to n c.pass_inside-passed.result.places
+    here c.pass_inside-passed.ensures.within c.pass_inside-passed.ensures.left c.pass_inside-passed.ensures.frames in
     let v = c.in-Some.view in
-    let read : slice_get vs (i + n) ≡ Some v = left-first vs c.pass_unlinked-passed.new.self c.next.new.self (i + n) v on.left_is c.in-Some.ensures.some in
-    let next = reads-next vs c.pass_unlinked-passed.new.self c.next.new.self (i + n) _ v on c.in-Some.ensures.some in
-    let bare = least-bare c.args.named.now c.args.y i n vs c.loop-index.items c.loop-index.invariant.items c.pass_unlinked-passed.ensures.unlinked in
+    let read : slice_get vs (i + n) ≡ Some v = left-first vs c.pass_inside-passed.new.self c.next.new.self (i + n) v on.left_is c.in-Some.ensures.some in
+    let next = reads-next vs c.pass_inside-passed.new.self c.next.new.self (i + n) _ v on c.in-Some.ensures.some in
+    let bare = least-inside c.args.named.now c.loop-index.inside c.args.y i n vs c.loop-index.items c.loop-index.invariant.inside c.loop-index.invariant.items c.pass_inside-passed.ensures.inside in
     record {
       within = next.within;
       items = next.left_is;
@@ -118,14 +119,14 @@ pub loop-index-preserved : goal.loop-index-preserved
 loop-index-preserved g c =
     let vs = items_of c.args.track.now.cells in
     let i = c.loop-index.index in
-    let n = c.pass_unlinked-passed.result.count in
+    let n = c.pass_inside-passed.result.count in
     let here : Reads vs c.loop-index.items i c.loop-index.to = record { within = c.loop-index.invariant.within; left_is = c.loop-index.invariant.items; at_is = c.loop-index.invariant.to } in
-    let on = reads-on vs c.loop-index.items c.pass_unlinked-passed.new.self i c.loop-index.to n c.pass_unlinked-passed.result.places
-    here c.pass_unlinked-passed.ensures.within c.pass_unlinked-passed.ensures.left c.pass_unlinked-passed.ensures.frames in
+    let on = reads-on vs c.loop-index.items c.pass_inside-passed.new.self i c.loop-index.to n c.pass_inside-passed.result.places
+    here c.pass_inside-passed.ensures.within c.pass_inside-passed.ensures.left c.pass_inside-passed.ensures.frames in
     let v = c.in-Some.view in
-    let read : slice_get vs (i + n) ≡ Some v = left-first vs c.pass_unlinked-passed.new.self c.next.new.self (i + n) v on.left_is c.in-Some.ensures.some in
-    let next = reads-next vs c.pass_unlinked-passed.new.self c.next.new.self (i + n) _ v on c.in-Some.ensures.some in
-    let bare = least-bare c.args.named.now c.args.y i n vs c.loop-index.items c.loop-index.invariant.items c.pass_unlinked-passed.ensures.unlinked in
+    let read : slice_get vs (i + n) ≡ Some v = left-first vs c.pass_inside-passed.new.self c.next.new.self (i + n) v on.left_is c.in-Some.ensures.some in
+    let next = reads-next vs c.pass_inside-passed.new.self c.next.new.self (i + n) _ v on c.in-Some.ensures.some in
+    let bare = least-inside c.args.named.now c.loop-index.inside c.args.y i n vs c.loop-index.items c.loop-index.invariant.inside c.loop-index.invariant.items c.pass_inside-passed.ensures.inside in
     record {
       within = next.within;
       items = next.left_is;
@@ -149,11 +150,11 @@ pub loop-index-smaller : goal.loop-index-smaller
 loop-index-smaller g c =
     let vs = items_of c.args.track.now.cells in
     let i = c.loop-index.index in
-    let n = c.pass_unlinked-passed.result.count in
+    let n = c.pass_inside-passed.result.count in
     let here : Reads vs c.loop-index.items i c.loop-index.to = record { within = c.loop-index.invariant.within; left_is = c.loop-index.invariant.items; at_is = c.loop-index.invariant.to } in
-    let on = reads-on vs c.loop-index.items c.pass_unlinked-passed.new.self i c.loop-index.to n c.pass_unlinked-passed.result.places
-    here c.pass_unlinked-passed.ensures.within c.pass_unlinked-passed.ensures.left c.pass_unlinked-passed.ensures.frames in
+    let on = reads-on vs c.loop-index.items c.pass_inside-passed.new.self i c.loop-index.to n c.pass_inside-passed.result.places
+    here c.pass_inside-passed.ensures.within c.pass_inside-passed.ensures.left c.pass_inside-passed.ensures.frames in
     let v = c.in-Some.view in
-    let read : slice_get vs (i + n) ≡ Some v = left-first vs c.pass_unlinked-passed.new.self c.next.new.self (i + n) v on.left_is c.in-Some.ensures.some in
-    let next = reads-next vs c.pass_unlinked-passed.new.self c.next.new.self (i + n) _ v on c.in-Some.ensures.some in
+    let read : slice_get vs (i + n) ≡ Some v = left-first vs c.pass_inside-passed.new.self c.next.new.self (i + n) v on.left_is c.in-Some.ensures.some in
+    let next = reads-next vs c.pass_inside-passed.new.self c.next.new.self (i + n) _ v on c.in-Some.ensures.some in
     omega (arith, next.within, few-kept c.args.track.now c.length.ensures.kept)
