@@ -1,11 +1,10 @@
 -- The first of some parts of a text, and those behind it.
 use Rattle.std.proofs.Common.{◌≡◌, ℕ, zero, suc, ◌+◌, ◌-◌, ◌<◌, ◌≤◌, List, [], ◌∷◌, ◌++◌, length, take, drop, get_or, drop-cons, slice_get, refl, sym, ap, ◌∙◌, arith}
 use Rattle.timecode12.specs.declared.rate.SequenceRate.{SequenceRate}
-use Rattle.composables.specs.declared.items.ItemView.{ItemView}
 use Rattle.composables.specs.declared.media.Table.{Table}
 use Rattle.composables.specs.declared.media.Layer.{Layer}
 use Rattle.composables.specs.TrackState.{TrackState}
-use Rattle.otio_text.specs.Documents.{comma, mark_text, item_in, later_items_in, items_in, layer_in, later_layers_in, layers_in, layers_if, nest_layers, track_text, kind_at, later_tracks, tracks_text}
+use Rattle.otio_text.specs.Documents.{comma, layer_in, later_layers_in, layers_in, layers_if, nest_layers, track_text, kind_at, later_tracks, tracks_text}
 
 split_from : {A : Type 0} (xs : List A) (i : ℕ) (d : A) → i < length xs → drop i xs ≡ get_or xs i d ∷ drop (i + 1) xs
 split_from xs i d h = let e : suc i ≡ i + 1 = omega arith in drop-cons xs i d h ∙ ap (λ k. get_or xs i d ∷ drop k xs) e
@@ -21,15 +20,11 @@ pub all_behind : {A : Type 0} (xs : List A) → take (length xs - 1) (drop 1 xs)
 all_behind [] = take_whole (0 - 1) [] (omega arith)
 all_behind (x ∷ xs) = take_whole (suc (length xs) - 1) xs (omega arith)
 
+pub drop_none : {A : Type 0} (xs : List A) → drop 0 xs ≡ xs
+drop_none [] = refl
+drop_none (x ∷ xs) = refl
+
 module _ (table : Table) (rate : SequenceRate) (body : ℕ → List ℕ) where
-  pub first_items : (xs : List ItemView) (d : ItemView) → 1 ≤ length xs → items_in table rate body xs ≡ item_in table rate body (get_or xs 0 d) ++ later_items_in table rate body (drop 1 xs)
-  first_items [] d h = absurd (omega (arith, h))
-  first_items (x ∷ xs) d h = refl
-
-  pub next_items : (xs : List ItemView) (i : ℕ) (d : ItemView) → i < length xs
-      → later_items_in table rate body (drop i xs) ≡ mark_text rate (get_or xs i d).mark ++ (comma ++ (item_in table rate body (get_or xs i d) ++ later_items_in table rate body (drop (i + 1) xs)))
-  next_items xs i d h = ap (later_items_in table rate body) (split_from xs i d h)
-
   pub first_layers : (xs : List Layer) (l : Layer) → 1 ≤ length xs → l ≡ get_or xs 0 l → layers_in table rate body xs ≡ layer_in table rate body l ++ later_layers_in table rate body (drop 1 xs)
   first_layers [] l h e = absurd (omega (arith, h))
   first_layers (x ∷ xs) l h e = ap (λ y. layer_in table rate body y ++ later_layers_in table rate body xs) (sym e)

@@ -264,6 +264,18 @@ timeline_text table tracks c start =
     ++ (timeline_tracks
     ++ (tracks_text table c.rate tracks ++ timeline_close)))
 
+-- so many bytes, or that these are too many
+abbrev pub Counts : List ℕ → Result ℕ WriteFault → Type 0
+Counts text (Ok n) = (n ≡ length text) × (n ≤ 33554432)
+Counts text (Err TooLarge) = 33554432 < length text
+Counts text (Err Memory) = Unit {0}
+
+-- the text after these bytes, or that it is too long
+abbrev pub WritesAfter : List ℕ → List ℕ → Result (Vec ℕ Global) WriteFault → Type 0
+WritesAfter head text (Ok v) = (length text ≤ 33554432) × (v.items ≡ head ++ text)
+WritesAfter head text (Err TooLarge) = 33554432 < length text
+WritesAfter head text (Err Memory) = Unit {0}
+
 -- the text, or that it is too long
 abbrev pub Writes : List ℕ → Result (Vec ℕ Global) WriteFault → Type 0
 Writes text (Ok v) = (length text ≤ 33554432) × (v.items ≡ text)

@@ -2,12 +2,11 @@
 ghost use Rattle.std.specs.Prelude.{◌≡◌, OnOk, option_map, slice_get};
 ghost use Rattle.otio_text.specs.Texts.{grown};
 ghost use Rattle.otio_text.specs.declared.writing.WriteFault.TheVariants as faults;
-ghost use Rattle.otio_text.specs.Documents.{rate_text, time_text, range_text, gap_text, reel_name, clip_text, clip_if, transition_text, mark_text, thing_text, item_text, later_items, items_text, layer_range, layer_text, later_layers, layers_text, nest_layers, nest_text, kind_text, kind_at, track_text, later_tracks, tracks_text, timeline_text, Writes};
+ghost use Rattle.otio_text.specs.Documents.{rate_text, time_text, range_text, gap_text, reel_name, clip_text, clip_if, transition_text, mark_text, thing_text, item_text, later_items, items_text, layer_range, layer_text, later_layers, layers_text, nest_layers, nest_text, kind_text, kind_at, track_text, later_tracks, tracks_text, timeline_text};
 
 use crate::text::DocText;
-use composables::{ItemView, Kind, Layer, Media, Memory, Nest, Table, Track};
+use composables::{ItemReader, ItemView, Kind, Layer, Media, Memory, Nest, Table, Track};
 use frame_meaning::{Mark, Side, What};
-use std::alloc::Global;
 use timecode12::{Counting, SequenceRate};
 
 /// Why no document was written.
@@ -339,13 +338,16 @@ fn put_items(
 ) -> Result<(), Memory>
     ensures { OnOk result (out.new ≡ grown out.old (items_text table.now rate levels track.now)) }
 {
-    let items = track.items(out.alloc())?;
-    match items.as_slice() {
-        [] => Ok(()),
-        [first, others @ ..] => {
-            put_item(out, table, rate, levels, first)?;
-            put_other_items(out, table, rate, levels, others)
+    if out.is_over() {
+        return Ok(());
+    }
+    let mut items = ItemReader::at(track, 0);
+    match items.next() {
+        Some(first) => {
+            put_item(out, table, rate, levels, &first)?;
+            put_other_items(out, table, rate, levels, &mut items)
         }
+        None => Ok(()),
     }
 }
 
@@ -357,14 +359,14 @@ fn put_other_items(
     table: &Table,
     rate: SequenceRate,
     levels: usize,
-    others: &[ItemView],
+    others: &mut ItemReader<'_>,
 ) -> Result<(), Memory>
-    ensures { OnOk result (out.new ≡ grown out.old (later_items table.now rate levels others.now)) }
+    ensures { OnOk result (out.new ≡ grown out.old (later_items table.now rate levels others.old)) }
 {
-    for view in others {
+    while let Some(view) = others.next() {
         put_mark(out, rate, view.mark)?;
         out.put(b",")?;
-        put_item(out, table, rate, levels, view)?;
+        put_item(out, table, rate, levels, &view)?;
     }
     Ok(())
 }
@@ -444,7 +446,7 @@ fn put_other_tracks(
 
 // A cut as a timeline: its start, and a stack of its tracks.
 #[tactic(auto, using(crate::proofs::Growing::grown_nothing))]
-fn put_timeline(
+pub(crate) fn put_timeline(
     out: &mut DocText,
     table: &Table,
     tracks: &[Track],
@@ -464,22 +466,4 @@ fn put_timeline(
     )?;
     put_tracks(out, table, rate, tracks)?;
     out.put(b"]}}")
-}
-
-/// The document of a cut, in one line without blanks, or `TooLarge` where it would have more than 32 MiB.
-pub fn write_timeline(
-    alloc: Global,
-    table: &Table,
-    tracks: &[Track],
-    counting: &Counting,
-    start: u32,
-) -> Result<Vec<u8>, WriteFault>
-    ensures { Writes (timeline_text table.now tracks.now counting.now start) result }
-{
-    let mut out = DocText::new(alloc);
-    put_timeline(&mut out, table, tracks, counting, start)?;
-    match out.finish() {
-        Some(text) => Ok(text),
-        None => Err(WriteFault::TooLarge),
-    }
 }

@@ -1,14 +1,14 @@
 // Replies to a wish for the document of a cut.
-ghost use Rattle.std.specs.Prelude.{◌≡◌, ◌≤◌, ◌++◌, codes, decimal, length, IfOk, OnOk};
+ghost use Rattle.std.specs.Prelude.{◌≡◌, ◌≤◌, ◌++◌, codes, decimal, length};
 ghost use Rattle.otio_text.specs.Documents.{timeline_text};
 ghost use Rattle.station_sessions.specs.DocumentReplies.{document_reply, no_point_reply};
 ghost use Rattle.station_sessions.specs.Session.{IsCutReply, IsReplyIfMemory};
 
 use call_text::{CutObject, CutPart, Short};
-use composables::{Memory, Table, Track};
+use composables::{Table, Track};
 use cut_room::CutFault;
 use cut_steps::nows_of;
-use otio_json::{WriteFault, write_timeline};
+use otio_json::{WriteFault, write_timeline_after};
 use reply_text::Reply;
 use std::alloc::Global;
 use timecode12::Counting;
@@ -39,7 +39,8 @@ pub(crate) fn cut_reply(
 }
 
 /// The reply with the document of these tracks, which stand after `n` entries, or that it is too long, or that there is
-/// no memory for it.
+/// no memory for it. The document is counted first: one that is too long takes no memory, and the reply with another takes
+/// just what it needs.
 fn document_reply(
     alloc: Global,
     n: u32,
@@ -51,8 +52,9 @@ fn document_reply(
     ensures { IsReplyIfMemory (document_reply n
         (timeline_text table.now tracks.now counting.now start)) n result.0 result.1 }
 {
-    match write_timeline(alloc, table, tracks, counting, start) {
-        Ok(text) => match long_document(n, text) {
+    let head = document_head(n);
+    match write_timeline_after(alloc, head.as_bytes(), table, tracks, counting, start) {
+        Ok(text) => match Reply::long(text) {
             Ok(reply) => (reply, n),
             Err(_) => memory_reply(),
         },
@@ -91,25 +93,13 @@ fn refused_at(point: u32, code: &[u8]) -> Short
     text
 }
 
-// `otio`, the point and the document, in the memory of the document: its head is written after it and turned to its front.
-fn long_document(point: u32, text: Vec<u8>) -> Result<Reply, Memory>
-    ensures { IfOk result (λ reply. reply ≡ codes "otio " ++ decimal point ++ codes " "
-        ++ text.items) }
+// `otio` and the point, as they stand before the document.
+fn document_head(point: u32) -> Short
+    ensures { result ≡ codes "otio " ++ decimal point ++ codes " " }
 {
     let mut head = Short::new();
     head.push(b"otio ");
     head.push_number(point);
     head.push(b" ");
-    let mut all = text;
-    put_in_front(&mut all, head.as_bytes())?;
-    Reply::long(all)
-}
-
-// Puts these bytes in front of a text.
-fn put_in_front(text: &mut Vec<u8>, head: &[u8]) -> Result<(), Memory>
-    ensures { OnOk result (text.new.items ≡ head.now ++ text.old.items) }
-{
-    text.extend_from_slice(head)?;
-    text.rotate_right(head.len());
-    Ok(())
+    head
 }

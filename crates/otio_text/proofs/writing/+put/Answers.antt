@@ -1,15 +1,10 @@
-use Rattle.std.proofs.Common.{◌≡◌, ◌+◌, ◌-◌, None, OnOk, drop, get_or, sym, ap, ◌∙◌, arith, subst}
-use Rattle.frame_meaning.specs.declared.frames.Side.TheVariants.{Dark}
-use Rattle.composables.specs.declared.items.ItemView.{ItemView}
+use Rattle.std.proofs.Common.{◌≡◌, ◌+◌, ◌-◌, ◌∷◌, ◌++◌, OnOk, drop, sym, ap, ◌∙◌, arith, subst}
 use Rattle.composables.specs.Items.{items_of}
 use Rattle.otio_text.specs.Texts.{grown}
 use Rattle.otio_text.specs.Documents.{comma, range_text, nest_open, nest_children, layer_open, layer_range, layer_children, children_close, mark_text, item_text, thing_text, later_items, items_text, items_in, nest_text, nest_layers, layers_if, layer_text, later_layers}
 use Rattle.otio_text.proofs.Growing.{stays, put2, put5, two_more, three_more}
-use Rattle.otio_text.proofs.TextLaws.{all_behind, first_items, next_items, first_layers, next_layers, nest_none, nest_inside}
+use Rattle.otio_text.proofs.TextLaws.{all_behind, drop_none, first_layers, next_layers, nest_none, nest_inside}
 use Rattle.otio_text.proofs.writing.+put.Goals as goal
-
-abbrev dark_view : ItemView
-dark_view = record { item = None; first = Dark; len = 0; mark = None; link = None }
 
 pub put_item-returns-in-Dark : goal.put_item-returns-in-Dark
 unfolding item_text
@@ -27,17 +22,16 @@ pub put_thing-returns-in-Nest : goal.put_thing-returns-in-Nest
 unfolding thing_text nest_text
 put_thing-returns-in-Nest t c = rw c.in-Nest.is c.put_nest.ensures
 
-pub put_items-returns : goal.put_items-returns
+pub put_items-returns-in_ok-put_item-in-Some : goal.put_items-returns-in_ok-put_item-in-Some
 unfolding item_text
-put_items-returns t c =
+put_items-returns-in_ok-put_item-in-Some t c =
     let body = nest_layers c.args.table.now c.args.rate c.args.levels in
-    let xs = c.as_slice.result.now in
-    let same : xs ≡ items_of c.args.track.now.cells = c.as_slice.ensures.value ∙ c.in_ok-items.ensures in
-    let text = ap (items_in c.args.table.now c.args.rate body) (sym same) ∙ first_items c.args.table.now c.args.rate body xs dark_view c.in-len1-up.len_at_least in
+    let split : items_of c.args.track.now.cells ≡ c.in-Some.first ∷ c.next.new.self = sym (drop_none (items_of c.args.track.now.cells)) ∙ (sym c.at-items.ensures ∙ c.in-Some.ensures.some) in
+    let text = ap (items_in c.args.table.now c.args.rate body) split in
     subst (λ text. OnOk c.put_other_items.result (c.put_other_items.new.out ≡ grown c.args.out.now text)) (sym text)
     (put2 c.put_other_items.result c.args.out.now c.put_item.new.out c.put_other_items.new.out
-    (item_text c.args.table.now c.args.rate c.args.levels (get_or xs 0 dark_view)) (later_items c.args.table.now c.args.rate c.args.levels (drop 1 xs))
-    c.in_ok-put_item-in-len1-up.ensures (subst (λ vs. OnOk c.put_other_items.result (c.put_other_items.new.out ≡ grown c.put_item.new.out (later_items c.args.table.now c.args.rate c.args.levels vs))) (all_behind xs) c.put_other_items.ensures))
+    (item_text c.args.table.now c.args.rate c.args.levels c.in-Some.first) (later_items c.args.table.now c.args.rate c.args.levels c.next.new.self)
+    c.in_ok-put_item-in-Some.ensures c.put_other_items.ensures)
 
 pub put_layer-returns : goal.put_layer-returns
 unfolding layer_text
@@ -82,13 +76,11 @@ put_nest_layers-returns-in-None t c =
 pub put_other_items-loop-view-preserved : goal.put_other_items-loop-view-preserved
 unfolding item_text
 put_other_items-loop-view-preserved t c =
-    let body = nest_layers c.args.table.now c.args.rate c.args.levels in
-    let xs = c.args.others.now in
-    let i = c.loop-view.view-index in
+    let after = later_items c.args.table.now c.args.rate c.args.levels c.next.new.self in
     three_more c.loop-view.out c.put_mark.new.out c.put.new.self c.put_item.new.out
-    (mark_text c.args.rate (get_or xs i dark_view).mark) comma (item_text c.args.table.now c.args.rate c.args.levels (get_or xs i dark_view)) (later_items c.args.table.now c.args.rate c.args.levels (drop (i + 1) xs))
+    (mark_text c.args.rate c.in-Some.view.mark) comma (item_text c.args.table.now c.args.rate c.args.levels c.in-Some.view) after
     c.in_ok-put_mark.ensures c.in_ok-put.ensures c.in_ok-put_item.ensures
-    ∙ (ap (grown c.loop-view.out) (sym (next_items c.args.table.now c.args.rate body xs i dark_view c.loop-view-test.true)) ∙ c.loop-view.invariant)
+    ∙ (ap (λ vs. grown c.loop-view.out (later_items c.args.table.now c.args.rate c.args.levels vs)) (sym c.in-Some.ensures.some) ∙ c.loop-view.invariant)
 
 pub put_other_layers-loop-layer-preserved : goal.put_other_layers-loop-layer-preserved
 unfolding layer_text

@@ -1,4 +1,4 @@
-use Rattle.std.proofs.Common.{◌≡◌, ◌+◌, ◌*◌, drop}
+use Rattle.std.proofs.Common.{◌≡◌, ◌+◌, ◌*◌, drop, length}
 use Rattle.otio_text.specs.Texts.{grown}
 use Rattle.otio_text.specs.Documents.{later_items, later_layers}
 use Rattle.otio_text.proofs.writing.+put.Given as goal
@@ -34,4 +34,7 @@ abbrev pub invariant-put_other_layers-loop-layer : goal.invariant-put_other_laye
 invariant-put_other_layers-loop-layer l = grown l.out (later_layers l.table l.rate l.levels (drop l.layer-index l.others)) ≡ grown l.fn.out (later_layers l.table l.rate l.levels l.others)
 
 abbrev pub invariant-put_other_items-loop-view : goal.invariant-put_other_items-loop-view
-invariant-put_other_items-loop-view l = grown l.out (later_items l.table l.rate l.levels (drop l.view-index l.others)) ≡ grown l.fn.out (later_items l.table l.rate l.levels l.others)
+invariant-put_other_items-loop-view l = grown l.out (later_items l.table l.rate l.levels l.others) ≡ grown l.fn.out (later_items l.table l.rate l.levels l.fn.others)
+
+abbrev pub decreases-put_other_items-loop-view : goal.decreases-put_other_items-loop-view
+decreases-put_other_items-loop-view l = length l.others
