@@ -59,6 +59,14 @@ front_more lines (l ∷ ls) some =
     ∙ ap (λ t. t ++ 45 ∷ []) (sym (flat_map-append record_of lines (l ∷ ls))))
     ∙ sym (append_assoc header (records_of (lines ++ l ∷ ls)) (45 ∷ []))
 
+-- the same before what does not count
+pub front_more_before : (lines batch : List (List ℕ)) (rest : List ℕ) → 0 < length batch
+    → front_of lines ++ 43 ∷ (piece_of batch ++ rest) ≡ front_of (lines ++ batch) ++ 45 ∷ rest
+front_more_before lines batch rest some =
+    sym (append_assoc (front_of lines) (43 ∷ piece_of batch) rest)
+    ∙ ap (λ t. t ++ rest) (front_more lines batch some)
+    ∙ append_assoc (front_of (lines ++ batch)) (45 ∷ []) rest
+
 pub length-front_more : (lines batch : List (List ℕ)) → 0 < length batch → length (front_of (lines ++ batch)) ≡ length
     (front_of lines) + length (piece_of batch)
 length-front_more lines batch some =
@@ -78,8 +86,8 @@ pub either_holds : (lines batch : List (List ℕ)) (bytes : List ℕ) → AllByR
     → IsEither lines (piece_of batch) bytes → HoldsLines (Some batch) lines bytes
 either_holds lines batch bytes all is (inl (gate, rest, closed, e)) =
     inl (kept_behind lines gate rest bytes all closed e)
-either_holds lines batch bytes all is (inr e) = inr (kept_behind (lines ++ batch) 45 [] bytes
-    (all_append IsLine lines batch all is.0) open_gate (e ∙ front_more lines batch is.1))
+either_holds lines batch bytes all is (inr (rest, e)) = inr (kept_behind (lines ++ batch) 45 rest bytes
+    (all_append IsLine lines batch all is.0) open_gate (e ∙ front_more_before lines batch rest is.1))
 
 -- ---- a file has one list of records
 

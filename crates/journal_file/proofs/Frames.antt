@@ -1,8 +1,8 @@
 -- The steps of an append on bytes: what stands behind a gate, and the gate itself.
 use Rattle.std.proofs.Common.{◌≡◌, ℕ, ◌+◌, ◌-◌, ◌≤◌, min, List, [], ◌∷◌, ◌++◌, length}
 use Rattle.std.proofs.Common.{get_or, take, drop, replicate, sym, ◌∙◌, ap, arith, append_assoc}
-use Rattle.std.proofs.Common.{length-append, length-drop, take-append-drop}
-use Rattle.std.proofs.lemmas.List.{append-nil, take_at, drop_at, drop_all, drop_more}
+use Rattle.std.proofs.Common.{length-append, take-append-drop}
+use Rattle.std.proofs.lemmas.List.{take_at, drop_at, drop_more}
 use Rattle.room_disks.specs.Crashes.{Torn, written}
 
 none_padded : (at : ℕ) (xs : List ℕ) → at ≤ length xs → replicate {A = ℕ} (at - length xs) 0 ≡ []
@@ -21,9 +21,9 @@ module _ (front : List ℕ) (at : ℕ) (is : at ≡ length front) where
   joined gate rest = sym (append_assoc front (gate ∷ []) rest)
 
   -- a write behind the gate leaves all up to it
-  pub torn_behind : (gate n : ℕ) (rest image : List ℕ) → length rest ≤ n → Torn (at + 1) n (front ++ gate ∷ rest) image
-      → (more : List ℕ) × (length more ≤ n) × (image ≡ front ++ gate ∷ more)
-  torn_behind gate n rest image short torn =
+  pub torn_behind : (gate n : ℕ) (rest image : List ℕ) → Torn (at + 1) n (front ++ gate ∷ rest) image
+      → (more : List ℕ) × (image ≡ front ++ gate ∷ more)
+  torn_behind gate n rest image torn =
       let len : length (front ++ gate ∷ rest) ≡ at + 1 + length rest =
       omega (arith, is, length-append front (gate ∷ rest)) in
       let all : take (at + 1) (front ++ gate ∷ rest) ≡ front ++ gate ∷ [] = ap (take (at + 1)) (joined gate rest)
@@ -31,23 +31,23 @@ module _ (front : List ℕ) (at : ℕ) (is : at ≡ length front) where
       let place : min (at + 1) (length (front ++ gate ∷ rest)) ≡ at + 1 = omega (arith, len) in
       let same : take (at + 1) image ≡ front ++ gate ∷ [] = ap (λ k. take k image) (sym place) ∙ torn.before ∙ all in (
         drop (at + 1) image,
-        omega (arith, length-drop (at + 1) image, torn.no_longer, len, short),
         sym (take-append-drop (at + 1) image) ∙ ap (λ l. l ++ drop (at + 1) image) same
             ∙ sym (joined gate (drop (at + 1) image)),
       )
 
-  pub written_behind : (gate : ℕ) (rest piece : List ℕ) → length rest ≤ length piece
-      → written (at + 1) piece (front ++ gate ∷ rest) ≡ front ++ gate ∷ piece
-  written_behind gate rest piece short =
+  -- what a piece that is put behind the gate leaves behind itself
+  abbrev pub left : ℕ → List ℕ → List ℕ → List ℕ
+  left gate rest piece = drop (at + 1 + length piece) (front ++ gate ∷ rest)
+
+  pub written_behind : (gate : ℕ) (rest piece : List ℕ)
+      → written (at + 1) piece (front ++ gate ∷ rest) ≡ front ++ gate ∷ (piece ++ left gate rest piece)
+  written_behind gate rest piece =
       let len : length (front ++ gate ∷ rest) ≡ at + 1 + length rest =
       omega (arith, is, length-append front (gate ∷ rest)) in
       written_within (at + 1) piece (front ++ gate ∷ rest) (omega (arith, len))
       ∙ ap (λ l. l ++ (piece ++ drop (at + 1 + length piece) (front ++ gate ∷ rest)))
       (ap (take (at + 1)) (joined gate rest) ∙ take_at (front ++ gate ∷ []) rest (at + 1) (one_more gate))
-      ∙ ap (λ l. (front ++ gate ∷ []) ++ (piece ++ l)) (drop_all (at + 1 + length piece) (front ++ gate ∷ rest)
-      (omega (arith, len, short)))
-      ∙ ap (λ l. (front ++ gate ∷ []) ++ l) (append-nil piece)
-      ∙ sym (joined gate piece)
+      ∙ sym (joined gate (piece ++ left gate rest piece))
 
   gate_length : (gate : ℕ) (piece : List ℕ) → length (front ++ gate ∷ piece) ≡ at + 1 + length piece
   gate_length gate piece = omega (arith, is, length-append front (gate ∷ piece))

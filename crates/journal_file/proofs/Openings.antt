@@ -93,8 +93,11 @@ pub stands_new : (bytes new : List ℕ) (o n : Course) → new ≡ front_of [] +
 stands_new bytes new o n form long short was is = (
   45,
   open_gate,
-  only_settled (front_of [] ++ 45 ∷ []) n.now
-      (is ∙ ap settled (ap (λ (s : Stand). written 0 new s.reads) was ∙ (new_file bytes new long short ∙ form))),
+  λ x i. (
+    [],
+    only_settled (front_of [] ++ 45 ∷ []) n.now
+        (is ∙ ap settled (ap (λ (s : Stand). written 0 new s.reads) was ∙ (new_file bytes new long short ∙ form))) x i,
+  ),
 )
 
 pub cut_keeps : (bytes : List ℕ) (lines : List (List ℕ)) (at : ℕ) (c : Course) (image : List ℕ)
@@ -112,9 +115,12 @@ pub stands_cut : (bytes : List ℕ) (lines : List (List ℕ)) (at : ℕ) (o n : 
 stands_cut bytes lines at o n h was is = (
   h.has.gate,
   h.has.closed,
-  only_settled (front_of lines ++ h.has.gate ∷ []) n.now
-      (is ∙ ap settled (ap (λ (s : Stand). take (at + 1) s.reads) was
-      ∙ (ap (take (at + 1)) h.has.parts ∙ cut_behind (front_of lines) at h.place h.has.gate h.has.rest))),
+  λ x i. (
+    [],
+    only_settled (front_of lines ++ h.has.gate ∷ []) n.now
+        (is ∙ ap settled (ap (λ (s : Stand). take (at + 1) s.reads) was
+        ∙ (ap (take (at + 1)) h.has.parts ∙ cut_behind (front_of lines) at h.place h.has.gate h.has.rest))) x i,
+  ),
 )
 
 -- a fault of reading the bytes of a settled file

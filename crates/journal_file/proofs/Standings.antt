@@ -5,16 +5,17 @@ use Rattle.std.specs.Option.{IsSomeAnd}
 use Rattle.std.specs.List.{AllByRecursion}
 use Rattle.std.proofs.lemmas.Bool.{cases_eq}
 use Rattle.std.proofs.lemmas.List.{append_cancel_right}
+use Rattle.std.proofs.lemmas.Option.{none-some}
 use Rattle.journal_file.specs.declared.stage.Stage.{Stage}
 use Rattle.journal_file.specs.declared.stage.Stage.TheVariants.{Settled, Staging, Opening}
 use Rattle.room_disks.specs.Crashes.{Course, Within, Told, Since, AtMost}
-use Rattle.journal_file.specs.Layout.{IsLine, record_of, records_of, front_of}
+use Rattle.journal_file.specs.Layout.{IsLine, Kept, record_of, records_of, front_of}
 use Rattle.journal_file.specs.Standing.{HoldsLines}
 use Rattle.journal_file.specs.Batches.{piece_of}
-use Rattle.journal_file.specs.Stages.{Stands, IsFiled, Fits, IsHeld, pending_of, IsAppended, IsEither}
+use Rattle.journal_file.specs.Stages.{IsClosed, Stands, IsFiled, Fits, IsHeld, pending_of, IsAppended, IsEither}
 use Rattle.journal_file.proofs.Moments.{since_weaker, told_weaker}
 use Rattle.journal_file.proofs.Appends.{Honest}
-use Rattle.journal_file.proofs.Files.{kept_behind, either_holds, same_kept, length-front, length-record, front_more}
+use Rattle.journal_file.proofs.Files.{kept_behind, either_holds, same_kept, length-front, length-record, front_more_before}
 use Rattle.journal_file.proofs.Files.{length-front_more, open_gate}
 use Rattle.journal_file.proofs.Lines.{all_append}
 
@@ -74,7 +75,7 @@ fits_pending Opening count batch some held = held
 restands : (s : Stage) (lines old new : List (List ℕ)) (c : Course) → IfSome (pending_of s old) (λ p. p ≡ new)
     → Stands s lines (piece_of old) c → Stands s lines (piece_of new) c
 restands Settled lines old new c same h = h
-restands Staging lines old new c same h = subst (λ b. Stands Staging lines (piece_of b) c) same h
+restands Staging lines old new c same h = h
 restands Opening lines old new c same h = subst (λ b. Stands Opening lines (piece_of b) c) same h
 
 told_again : (s : Stage) (lines old new : List (List ℕ)) (a : Option Course) → IfSome (pending_of s old) (λ p. p ≡ new)
@@ -111,13 +112,13 @@ gate_room a lines count gate s old batch f is = omega (
 
 holds : (s : Stage) (lines batch : List (List ℕ)) (count : ℕ) (c : Course) → AllByRecursion IsLine lines
     → IsHeld s count batch → Stands s lines (piece_of batch) c → Within (HoldsLines (pending_of s batch) lines) c.now
-holds Settled lines batch count c all held h x i = kept_behind lines h.0 [] x all h.1 (h.2 x i)
-holds Staging lines batch count c all held h x i = let r = h.2 x i in inl (kept_behind lines h.0 r.0 x all h.1 r.2)
+holds Settled lines batch count c all held h x i = let r = h.2 x i in kept_behind lines h.0 r.0 x all h.1 r.1
+holds Staging lines batch count c all held h x i = let r = h.2 x i in inl (kept_behind lines h.0 r.0 x all h.1 r.1)
 holds Opening lines batch count c all held h x i =
     let r = h x i in
     either_holds lines batch x all held.0
-    (⊎_elim (λ (is : r.0 ≡ 43). inr (r.1 ∙ ap (λ g. front_of lines ++ g ∷ piece_of batch) is))
-    (λ not. inl (r.0, piece_of batch, not, r.1)) (cases_eq r.0 43))
+    (⊎_elim (λ (is : r.0 ≡ 43). inr (r.1, r.2 ∙ ap (λ g. front_of lines ++ g ∷ (piece_of batch ++ r.1)) is))
+    (λ not. inl (r.0, piece_of batch ++ r.1, not, r.2)) (cases_eq r.0 43))
 
 known : (x : List ℕ) (batch ls ms : List (List ℕ)) → 0 < length batch → length ms ≡ length ls
     → HoldsLines (Some batch) ls x → HoldsLines (Some batch) ms x → ms ≡ ls
@@ -182,11 +183,45 @@ module _ (a b : Option Course) (lines ms old batch : List (List ℕ)) (count gat
       carried a b lines ms count gate s old (λ ls n. IsSomeAnd a (λ o. Since (HoldsLines (Some batch) ls) o n)) f honest
       calls len w since
 
+  pub stands_unchanged : Told (Since (λ x. Kept x lines)) a b → Told (Since (λ x. Kept x ms)) a b
+  stands_unchanged since =
+      carried a b lines ms count gate s old (λ ls n. IsSomeAnd a (λ o. Since (λ x. Kept x ls) o n)) f honest calls len w
+      since
+
+-- ---- a file that nothing is pending of
+
+pub closed_now : (a : Option Course) (lines : List (List ℕ)) (count gate : ℕ) (s : Stage) (batch : List (List ℕ))
+    → pending_of s batch ≡ None → IsFiled a lines count gate s batch → IfSome a (IsClosed lines)
+closed_now a lines count gate Settled batch none f = f.stands
+closed_now a lines count gate Staging batch none f = absurd (none-some batch (sym none))
+closed_now a lines count gate Opening batch none f = absurd (none-some batch (sym none))
+
+pub still_filed : (a b : Option Course) (lines : List (List ℕ)) (count gate : ℕ) (s : Stage) (batch : List (List ℕ))
+    → pending_of s batch ≡ None → IsFiled a lines count gate s batch → IfSome b (IsClosed lines)
+    → IsFiled b lines count gate s batch
+still_filed a b lines count gate Settled batch none f now = record {
+  are_lines = f.are_lines;
+  counts = f.counts;
+  place = f.place;
+  held = tt;
+  stands = now;
+}
+still_filed a b lines count gate Staging batch none f now = absurd (none-some batch (sym none))
+still_filed a b lines count gate Opening batch none f now = absurd (none-some batch (sym none))
+
+pub gate_short : (a : Option Course) (lines : List (List ℕ)) (count gate : ℕ) (s : Stage) (batch : List (List ℕ))
+    → IsFiled a lines count gate s batch → count ≤ 100000 → gate + 1 < 2 ^ 32
+gate_short a lines count gate s batch f few = omega (arith, f.place, front_short lines f.are_lines, f.counts, few)
+
 -- ---- one append, as told
 
 appended_now : (lines batch : List (List ℕ)) (c : Course) → 0 < length batch → IsAppended lines (piece_of batch) c
     → Stands Settled (lines ++ batch) (piece_of batch) c
-appended_now lines batch c some h = (45, open_gate, λ x i. h x i ∙ front_more lines batch some)
+appended_now lines batch c some h = (
+  45,
+  open_gate,
+  λ x i. let r = h x i in (r.0, r.1 ∙ front_more_before lines batch r.0 some),
+)
 
 -- a settled file of more lines
 stands_appended : (lines batch : List (List ℕ)) (b : Option Course) → 0 < length batch

@@ -15,14 +15,19 @@ abbrev pub held_by : Held → List (List ℕ)
 held_by (Line line) = line ∷ []
 held_by (Lines lines) = lines
 
--- What a crash may leave of the file of these lines, where this piece is written behind the gate. Settled: a closed
--- gate ends it. Staging: something may stand behind the closed gate. Opening: the piece stands behind the gate, which
--- may be open or closed.
+-- a closed gate is behind the lines, whatever a crash leaves; what is behind it does not count
+abbrev pub IsClosed : List (List ℕ) → Course → Type 0
+IsClosed lines c = (gate : ℕ) × (gate ≢ 43)
+    × Within (λ image. (rest : List ℕ) × (image ≡ front_of lines ++ gate ∷ rest)) c.now
+
+-- What a crash may leave of the file of these lines, where this piece is written behind the gate. Settled: the gate is
+-- closed. Staging: so it is, and the piece or a part of it may be behind it. Opening: the piece stands behind the gate,
+-- which may be open or closed. What is behind the piece does not count.
 abbrev pub Stands : Stage → List (List ℕ) → List ℕ → Course → Type 0
-Stands Settled lines piece c = (gate : ℕ) × (gate ≢ 43) × Within (λ image. image ≡ front_of lines ++ gate ∷ []) c.now
-Stands Staging lines piece c = (gate : ℕ) × (gate ≢ 43)
-    × Within (λ image. (rest : List ℕ) × (length rest ≤ length piece) × (image ≡ front_of lines ++ gate ∷ rest)) c.now
-Stands Opening lines piece c = Within (λ image. (gate : ℕ) × (image ≡ front_of lines ++ gate ∷ piece)) c.now
+Stands Settled lines piece c = IsClosed lines c
+Stands Staging lines piece c = IsClosed lines c
+Stands Opening lines piece c =
+    Within (λ image. (gate : ℕ) × (rest : List ℕ) × (image ≡ front_of lines ++ gate ∷ (piece ++ rest))) c.now
 
 -- a file with so many records takes these too
 abbrev pub Fits : ℕ → List (List ℕ) → Type 0
@@ -50,13 +55,14 @@ pub record IsFiled (course : Option Course) (lines : List (List ℕ)) (count gat
 
 -- the piece is behind an open gate, whatever a crash leaves
 abbrev pub IsAppended : List (List ℕ) → List ℕ → Course → Type 0
-IsAppended lines piece c = Within (λ image. image ≡ front_of lines ++ 43 ∷ piece) c.now
+IsAppended lines piece c =
+    Within (λ image. (rest : List ℕ) × (image ≡ front_of lines ++ 43 ∷ (piece ++ rest))) c.now
 
 -- a closed gate is behind the lines, or an open one with the piece
 abbrev pub IsEither : List (List ℕ) → List ℕ → List ℕ → Type 0
 IsEither lines piece bytes =
     ((gate : ℕ) × (rest : List ℕ) × (gate ≢ 43) × (bytes ≡ front_of lines ++ gate ∷ rest))
-    ⊎ (bytes ≡ front_of lines ++ 43 ∷ piece)
+    ⊎ ((rest : List ℕ) × (bytes ≡ front_of lines ++ 43 ∷ (piece ++ rest)))
 
 -- so much was read, and nothing was changed
 pub record HasRead (bytes : List ℕ) (old new : Course) : Type 0 where

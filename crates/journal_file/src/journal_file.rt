@@ -14,6 +14,7 @@ use crate::line::GateLine;
 use crate::opening::opened;
 use crate::pending::put_held;
 use crate::stage::Stage;
+use crate::zeros::{ZEROS, put_zeros};
 use crate::{Batch, OpenFault, Record};
 use room_disks::Disk;
 use room_ports::Failed;
@@ -23,12 +24,17 @@ use std::marker::Model;
 /// The most records of a kept file.
 pub const MOST_RECORDS: u32 = 100_000;
 
+// A file of fewer bytes gets no zeros after its gate.
+const SMALL: u32 = 4096;
+
 /// A kept file on a disk, open for appends.
 #[derive(Drop)]
 pub struct JournalFile<D: Disk> {
     disk: D,
     count: u32,
     gate: u32,
+    // The place of the last of the zeros that were put after a gate; before there were any, that of the gate.
+    end: u32,
     stage: Stage,
     held: Held,
 }
@@ -79,6 +85,7 @@ impl<D: Disk> JournalFile<D> {
                     disk,
                     count: records.len() as u32,
                     gate,
+                    end: gate,
                     stage: Stage::Settled,
                     held: Held::Lines(Batch::new(alloc)),
                 };
@@ -203,6 +210,39 @@ impl<D: Disk> JournalFile<D> {
             &self.held,
         )?;
         Ok(())
+    }
+
+    /// Whether an append of these lines would end past the zeros after the gate, and `make_room` is worth its sync: a small
+    /// file is left as it is.
+    pub fn lacks_room(&self, batch: &Batch) -> bool {
+        let last = u64::from(self.gate) + batch.piece().len() as u64;
+        self.gate >= SMALL && last > u64::from(self.end)
+    }
+
+    /// Puts zeros after the gate, which do not count, so that the appends that come next are written within the file: a
+    /// sync of these need not write its length. Where it fails the file is as good, and no room is lacking for a while.
+    pub fn make_room(&mut self) -> Result<(), Failed>
+        requires settled { self.old.pending ≡ None }
+        requires few { self.old.count ≤ 100000 }
+
+        // Whatever comes of it, every crash leaves the records from before, no more and no fewer.
+        ensures stands { (lines : List (List ℕ)) → StandsFor D.course self.old lines
+            → StandsFor D.course self.new lines }
+        ensures settled { self.new.pending ≡ None }
+        ensures same { self.new.count ≡ self.old.count }
+
+        // So does a crash at any moment of the call.
+        ensures moments { (lines : List (List ℕ)) → StandsFor D.course self.old lines
+            → Told (Since (λ bytes. Kept bytes lines))
+            (D.course self.old.disk) (D.course self.new.disk) }
+        ensures calls { Told (AtMost 2) (D.course self.old.disk) (D.course self.new.disk) }
+
+        ensures cause { OnErr result (HasRisen
+            (D.faults self.old.disk) (D.faults self.new.disk)) }
+        ensures quiet { OnOk result (D.faults self.new.disk ≡ D.faults self.old.disk) }
+    {
+        self.end = self.gate.saturating_add(ZEROS.len() as u32);
+        put_zeros(&mut self.disk, self.gate, ZEROS.as_slice())
     }
 
     /// How many records the file has.

@@ -2,6 +2,7 @@
 //! gives the records of a file, or says where it is damaged. `JournalFile::append` adds one: a crash at any moment
 //! leaves the records from before the call, or these and the new one, and once it has answered `Ok` every crash leaves
 //! the new one. `JournalFile::append_batch` adds many lines at once, all or none, and syncs no more often.
+//! `JournalFile::make_room` puts zeros after the records, which do not count, so that appends lie within the file.
 #![tactic(auto)]
 
 mod batch;
@@ -16,6 +17,7 @@ mod reading;
 mod record;
 mod stage;
 mod syncing;
+mod zeros;
 
 pub use batch::{Batch, MOST_LINES};
 pub use faults::OpenFault;

@@ -48,10 +48,11 @@ told_more table start count more before after counts told same = record {
 }
 
 -- what the disk tells now it told before
-told_before : (before after : Option Course) → Told (AtMost 4) before after → IsSome after → IsSome before
-told_before (Some c) after calls now = refl
-told_before None (Some c) calls now = absurd calls
-told_before None None calls now = now
+told_before : (R : Course → Course → Type 0) (before after : Option Course) → Told R before after → IsSome after
+    → IsSome before
+told_before R (Some c) after calls now = refl
+told_before R None (Some c) calls now = absurd calls
+told_before R None None calls now = now
 
 -- ---- the steps of a desk
 
@@ -139,7 +140,7 @@ module _ {D O P C R X : Type 0} (meaning : O → Meaning P C R X) (opening : Opt
             (told_more table start d.file.count more (faults d.file.disk) (faults file.disk) d.counts is.told quiet);
         begins = is.begins;
         least = omega (arith, is.least, count);
-        was_told = λ now. is.was_told (told_before (course d.file.disk) (course file.disk) calls now);
+        was_told = λ now. is.was_told (told_before (AtMost 4) (course d.file.disk) (course file.disk) calls now);
       }
 
   -- the disk failed, and lines are pending
@@ -162,5 +163,48 @@ module _ {D O P C R X : Type 0} (meaning : O → Meaning P C R X) (opening : Opt
             (told_failed table start d.file.count (faults d.file.disk) (faults file.disk) d.counts is.told risen);
         begins = is.begins;
         least = subst (λ n. length kept ≤ n) (sym count) is.least;
-        was_told = λ now. is.was_told (told_before (course d.file.disk) (course file.disk) calls now);
+        was_told = λ now. is.was_told (told_before (AtMost 4) (course d.file.disk) (course file.disk) calls now);
       }
+
+  -- the file has no more records than a kept file takes
+  pub short : (d : DeskState D O P C) → IsDesk meaning opening line_of course faults table number kept first start d
+      → d.file.count ≤ 100000
+  short d is = let most = is.reader.legal.2.within in omega (arith, most, within d is)
+
+  -- zeros were put after the gate
+  pub roomed : (d : DeskState D O P C) (file : JournalState D) → IsDesk meaning opening line_of course faults table number kept first start d
+      → ((lines : List (List ℕ)) → StandsFor course d.file lines → StandsFor course file lines)
+      → file.pending ≡ None → file.count ≡ d.file.count → faults file.disk ≡ faults d.file.disk → Told (AtMost 2) (course d.file.disk) (course file.disk)
+      → IsDesk meaning opening line_of course faults table number kept first start (record { file = file; pass = d.pass; counts = d.counts })
+  roomed d file is stands settled count quiet calls = record {
+    reader = is.reader;
+    number_is = is.number_is;
+    holds = record {
+      stands = subst (λ n. StandsFor course file (map line_of (take n d.pass.entries))) (sym count) (stands (map line_of (take d.file.count d.pass.entries)) is.holds.stands);
+      pending = subst (ArePending line_of (drop file.count d.pass.entries)) (sym settled) tt;
+    };
+    told = subst (λ n. IsTold table start n (faults file.disk) d.counts) (sym count)
+        (subst (λ n. IsTold table start d.file.count n d.counts) (sym quiet) is.told);
+    begins = is.begins;
+    least = subst (λ n. length kept ≤ n) (sym count) is.least;
+    was_told = λ now. is.was_told (told_before (AtMost 2) (course d.file.disk) (course file.disk) calls now);
+  }
+
+  -- the disk failed there
+  pub not_roomed : (d : DeskState D O P C) (file : JournalState D) → IsDesk meaning opening line_of course faults table number kept first start d
+      → ((lines : List (List ℕ)) → StandsFor course d.file lines → StandsFor course file lines)
+      → file.pending ≡ None → file.count ≡ d.file.count → HasRisen (faults d.file.disk) (faults file.disk) → Told (AtMost 2) (course d.file.disk) (course file.disk)
+      → IsDesk meaning opening line_of course faults table number kept first start (record { file = file; pass = d.pass; counts = record d.counts { failed = counted d.counts.failed } })
+  not_roomed d file is stands settled count risen calls = record {
+    reader = is.reader;
+    number_is = is.number_is;
+    holds = record {
+      stands = subst (λ n. StandsFor course file (map line_of (take n d.pass.entries))) (sym count) (stands (map line_of (take d.file.count d.pass.entries)) is.holds.stands);
+      pending = subst (ArePending line_of (drop file.count d.pass.entries)) (sym settled) tt;
+    };
+    told = subst (λ n. IsTold table start n (faults file.disk) (record d.counts { failed = counted d.counts.failed })) (sym count)
+        (told_failed table start d.file.count (faults d.file.disk) (faults file.disk) d.counts is.told risen);
+    begins = is.begins;
+    least = subst (λ n. length kept ≤ n) (sym count) is.least;
+    was_told = λ now. is.was_told (told_before (AtMost 2) (course d.file.disk) (course file.disk) calls now);
+  }

@@ -133,6 +133,28 @@ impl<
         }
     }
 
+    // Makes room in the file for these lines and for those that come next, where it lacks it.
+    fn make_room(&mut self, batch: &Batch) -> Result<(), KeepFault>
+        requires settled { self.old.file.pending ≡ None }
+        ensures settled { self.new.file.pending ≡ None }
+        ensures same { self.new.file.count ≡ self.old.file.count }
+        ensures pass { self.new.pass ≡ self.old.pass }
+        ensures ok { OnOk result (self.new.counts.failed ≡ self.old.counts.failed) }
+        ensures fault { IfErr result
+            (λ f. IsCountedFault f self.old.counts.failed self.new.counts.failed) }
+    {
+        if !self.file.lacks_room(batch) {
+            return Ok(());
+        }
+        match self.file.make_room() {
+            Ok(()) => Ok(()),
+            Err(_) => {
+                self.counts.add_failed();
+                Err(KeepFault::Disk)
+            }
+        }
+    }
+
     // Appends the lines of the entries after those of the file.
     fn put_batch(&mut self, batch: Batch) -> Result<(), KeepFault>
         requires settled { self.old.file.pending ≡ None }
@@ -298,6 +320,7 @@ impl<
             return self.put_pending();
         }
         let batch = self.next_batch(rt, alloc, room)?;
+        self.make_room(&batch)?;
         self.put_batch(batch)
     }
 

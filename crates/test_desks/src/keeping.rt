@@ -199,7 +199,8 @@ const BATCHES: [(u32, &str); 4] = [
     (0, "s..ws"),
     (1, "s..wswsws"),
     (1_024, "s..wswsws"),
-    (1_025, "s..wswswswsws"),
+    // of 4,114 bytes the file is no small one, and gets zeros before the next append
+    (1_025, "s..wswswswswsws"),
 ];
 
 // Whether a station's edits come into the file by these calls.
@@ -219,6 +220,33 @@ fn are_put_by<R: Wait>(rt: &R, alloc: Global, count: u32, calls: &str) -> Result
 fn at_most_1024_lines_are_put_at_once(rt: HostRuntime) -> Result<(), AllocError> {
     for (count, calls) in BATCHES {
         assert!(rt; are_put_by(&rt, rt.alloc(), count, calls)?, "{count}");
+    }
+    Ok(())
+}
+
+// Edits past a first append, and two takings that are to bring the last of them into the file.
+const PAST_ONE: &[(u32, Deed)] = &[
+    (0, Deed::Edit(1_025)),
+    (0, Deed::Keep(1_024)),
+    (0, Deed::Keep(1_025)),
+    (0, Deed::Keep(1_025)),
+];
+
+#[test]
+fn zeros_that_fail_are_told_and_not_put_again(rt: HostRuntime) -> Result<(), AllocError> {
+    let alloc = rt.alloc();
+    for (failing, calls) in [(10u32, "s..wswswsWwsws"), (11, "s..wswswsw.wsws")] {
+        let Some((answers, disk)) = answered(&rt, alloc, &[failing], PAST_ONE) else {
+            return Ok(());
+        };
+        assert!(rt;
+            answers.as_slice() == [None, None, DISK, None].as_slice(),
+            "{failing}"
+        );
+        let Some(file) = disk.tape() else {
+            return Ok(());
+        };
+        assert!(rt; has_called(alloc, file, calls)?, "{failing}");
     }
     Ok(())
 }

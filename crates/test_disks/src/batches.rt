@@ -7,7 +7,7 @@ use room_disks::{Disk, MemDisk, SureDisk};
 use std::alloc::{AllocError, Global};
 
 // The batch of these lines; `None` where one of them is none, they are too many, or there is no memory.
-fn batch_of(alloc: Global, lines: &[&str]) -> Option<Batch> {
+pub fn batch_of(alloc: Global, lines: &[&str]) -> Option<Batch> {
     let mut batch = Batch::new(alloc);
     for line in lines {
         if !is_pushed(&mut batch, line.as_bytes()) {
@@ -46,7 +46,7 @@ fn append_thrice<D: Disk>(file: &mut JournalFile<D>, batch: Batch) -> Option<u32
 }
 
 // Appends a batch, and goes on with it up to twice, if the file takes it: after how many failures it was done.
-fn append<D: Disk>(file: &mut JournalFile<D>, batch: Batch) -> Option<u32> {
+pub fn append<D: Disk>(file: &mut JournalFile<D>, batch: Batch) -> Option<u32> {
     let count = batch.count();
     if file.pending() || count == 0 || file.count() > MOST_RECORDS - count {
         return None;
@@ -123,7 +123,7 @@ fn a_batch_is_appended_as_one_whatever_fails(rt: HostRuntime) -> Result<(), Allo
 }
 
 // A batch of so many lines, each of 1,024 bytes, as far as it takes them.
-fn long_batch(alloc: Global, lines: u32) -> Result<Batch, AllocError> {
+pub fn long_batch(alloc: Global, lines: u32) -> Result<Batch, AllocError> {
     let line = vec![in alloc; b'x'; 1024]?;
     let mut batch = Batch::new(alloc);
     for _ in 0..lines {

@@ -8,7 +8,7 @@ use std::alloc::{AllocError, Global};
 
 // Whether what a crash leaves after so many calls opens with these lines or with those, however far each write has
 // come, up to so many bytes.
-fn opens_with(
+pub fn opens_with(
     alloc: Global,
     file: &TapeFile,
     calls: usize,

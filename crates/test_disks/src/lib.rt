@@ -18,5 +18,7 @@ mod openings;
 mod receipts;
 #[cfg(test)]
 mod texts;
+#[cfg(test)]
+mod zeros;
 
 pub use images::{Torn, image, opened};

@@ -30,6 +30,11 @@ fn letter(call: &DiskCall) -> u8 {
     }
 }
 
+// A letter for each call that was made on a file over memory, in order.
+pub fn calls_of(alloc: Global, file: &TapeFile) -> Result<Vec<u8>, AllocError> {
+    letters_of(alloc, file.calls())
+}
+
 // A letter for each call, in order.
 fn letters_of(alloc: Global, calls: &[DiskCall]) -> Result<Vec<u8>, AllocError> {
     let mut letters = Vec::new(alloc);
@@ -48,7 +53,7 @@ pub fn has_done(
 ) -> Result<bool, AllocError> {
     match tape {
         Some(file) => {
-            let letters = letters_of(alloc, file.calls())?;
+            let letters = calls_of(alloc, file)?;
             Ok(letters.as_slice() == calls.as_bytes() && file.bytes() == bytes.as_bytes())
         }
         None => Ok(false),
