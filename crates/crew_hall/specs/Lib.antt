@@ -2,3 +2,4 @@
 pub mod Restarts
 -- For the steps of the code, for proofs and for tests.
 pub mod Halls
+pub mod Batches

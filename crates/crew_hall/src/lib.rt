@@ -6,6 +6,7 @@
 //! a request is answered and a message says is of `web_lines`.
 #![tactic(auto)]
 
+mod batch;
 mod crew_hall;
 mod crew_line;
 mod door;

@@ -1,4 +1,5 @@
 // How a station's line comes to its bytes, and how they go out, over whatever connection is there.
+use crate::batch::{Batch, FEW};
 use crate::place::{Held, Place};
 use crate::report::Report;
 use first_lines::{Link, Shared};
@@ -13,7 +14,8 @@ pub(crate) const PIECE: usize = 8_192;
 
 /// A station's side of its place: the connection that was there when its lock was last held, what came over it and was not
 /// taken yet, and how many bytes went out over it of which the seat does not know yet. It learns of them when its lock is next
-/// held, so a reply that goes out at once takes the lock once.
+/// held, so a reply that goes out at once takes the lock once. Short replies to lines that came together go out together, some
+/// at a time.
 #[derive(Drop)]
 pub(crate) struct SeatPort<'a, R, W> {
     rt: &'a R,
@@ -24,6 +26,7 @@ pub(crate) struct SeatPort<'a, R, W> {
     at: usize,
     end: usize,
     out: usize,
+    batch: Batch,
     stream: Option<Arc<TcpStream>>,
     web: Option<WebStream<Shared>>,
     of: u64,
@@ -47,6 +50,8 @@ enum Step {
 enum Put {
     // It is kept, and nothing before it waits: it may go out over the connection.
     Goes,
+    // It is kept, and goes out with the short ones that wait before it.
+    Joins,
     // It is kept.
     Kept,
     // There was no memory for it.
@@ -67,6 +72,7 @@ impl<'a, R: Wait, W: Write + Copy> SeatPort<'a, R, W> {
             at: 0,
             end: 0,
             out: 0,
+            batch: Batch::new(),
             stream: None,
             web: None,
             of: 0,
@@ -98,6 +104,10 @@ impl<'a, R: Wait, W: Write + Copy> SeatPort<'a, R, W> {
                     if self.out < piece.len() {
                         self.send_all();
                     }
+                    return true;
+                }
+                Put::Joins => {
+                    self.send_few();
                     return true;
                 }
                 Put::Kept => return true,
@@ -143,6 +153,7 @@ impl<'a, R: Wait, W: Write + Copy> SeatPort<'a, R, W> {
             self.end = 0;
             self.stream = None;
             self.web = None;
+            self.batch.goes();
             self.take_ahead(&mut held.link);
         }
         self.out = 0;
@@ -181,6 +192,7 @@ impl<'a, R: Wait, W: Write + Copy> SeatPort<'a, R, W> {
                 break;
             }
             n = n.saturating_add(more);
+            self.batch.is_given(into.get(..n).unwrap_or(&[]));
         }
         n
     }
@@ -291,21 +303,36 @@ impl<'a, R: Wait, W: Write + Copy> SeatPort<'a, R, W> {
         self.report.station(self.station, why);
     }
 
-    // Has a piece of what is to be written go out, and says whether more may be there.
-    fn send_on(&mut self) -> bool {
-        let mut piece = [0u8; PIECE];
+    // Has as much of what is to be written go out as there is room for, and says whether more may be there.
+    fn send_by(&mut self, room: &mut [u8]) -> bool {
         let place = self.place;
         let mut guard = place.held.lock(self.rt);
         self.turn_to(&mut guard);
         let rest = guard.seat.unsent();
-        let n = rest.len().min(PIECE);
-        piece[..n].copy_from_slice(&rest[..n]);
+        let n = rest.len().min(room.len());
+        let is_all = n == rest.len();
+        room[..n].copy_from_slice(&rest[..n]);
         drop(guard);
         if n == 0 || self.stream.is_none() {
             return false;
         }
-        self.write_on(&piece[..n]);
-        true
+        self.batch.goes();
+        self.write_on(&room[..n]);
+        !is_all || self.out < n
+    }
+
+    // Has a piece of what is to be written go out, and says whether more may be there.
+    fn send_on(&mut self) -> bool {
+        let mut piece = [0u8; PIECE];
+        self.send_by(&mut piece)
+    }
+
+    // Has the short replies that wait go out.
+    fn send_few(&mut self) {
+        let mut piece = [0u8; FEW];
+        if self.send_by(&mut piece) {
+            self.send_all();
+        }
     }
 
     // Has all that is to be written go out over the connection that is there.
@@ -317,23 +344,29 @@ impl<'a, R: Wait, W: Write + Copy> SeatPort<'a, R, W> {
         }
     }
 
-    // Puts a piece, unless something waits to be sent before it.
+    // Puts a piece, unless something waits to be sent before it that it may not wait with.
     fn put(&mut self, piece: &[u8]) -> Put {
         let place = self.place;
         let mut guard = place.held.lock(self.rt);
         let held = &mut *guard;
         self.turn_to(held);
-        if held.link.is_some() && !held.seat.unsent().is_empty() {
+        let waiting = held.seat.unsent().len();
+        if held.link.is_some() && waiting > 0 && !self.batch.is_joined_by(piece, waiting) {
             return Put::Waits;
         }
         held.seat.make_room(piece.len());
         if held.seat.put(piece).is_err() {
             return Put::Lost;
         }
-        if self.stream.is_some() && !piece.is_empty() {
-            Put::Goes
-        } else {
+        self.batch.is_answered(piece);
+        if self.stream.is_none() || piece.is_empty() {
             Put::Kept
+        } else if self.web.is_none() && self.batch.takes(piece) {
+            Put::Kept
+        } else if waiting > 0 {
+            Put::Joins
+        } else {
+            Put::Goes
         }
     }
 }

@@ -3,14 +3,19 @@ ghost use Rattle.std.specs.Prelude.{◌≡◌};
 ghost use Rattle.web_lines.specs.Responses.{page_bytes};
 ghost use Rattle.room_page.specs.PageText.{page_policy, page_text};
 
-use crate::parts::{
-    part_1, part_2, part_3, part_4, part_5, part_6, part_7, part_8, part_9, part_10, part_11,
-    part_12, part_13, part_14, part_15, part_16, part_17, part_18, part_19,
-};
+use crate::cut::{cut_1, cut_2, cut_3, cut_4};
+use crate::edits::{edits_1, edits_2, edits_3, edits_4};
+use crate::hands::{hands_1, hands_2, hands_3, hands_4};
+use crate::markup::{markup_1, markup_2, markup_3};
+use crate::past::{past_1, past_2};
+use crate::picture::{picture_1, picture_2, picture_3, picture_4};
+use crate::room::{room_1, room_2, room_3, room_4, room_5};
+use crate::seat::{seat_1, seat_2};
+use crate::style::style_1;
 use web_lines::Page;
 
 /// How many parts the text of the page has.
-pub const PARTS: usize = 19;
+pub const PARTS: usize = 29;
 
 const POLICY: &str = "default-src 'none'; \
     script-src 'sha256-lIzSPpeII8AtwCuv88eHGWFJiwIjDwMERdRTxXiiWqM='; \
@@ -26,25 +31,35 @@ pub fn page_parts() -> [&'static str; PARTS]
     ensures { page_bytes result ≡ page_text }
 {
     [
-        part_1(),
-        part_2(),
-        part_3(),
-        part_4(),
-        part_5(),
-        part_6(),
-        part_7(),
-        part_8(),
-        part_9(),
-        part_10(),
-        part_11(),
-        part_12(),
-        part_13(),
-        part_14(),
-        part_15(),
-        part_16(),
-        part_17(),
-        part_18(),
-        part_19(),
+        markup_1(),
+        style_1(),
+        markup_2(),
+        cut_1(),
+        cut_2(),
+        cut_3(),
+        cut_4(),
+        seat_1(),
+        seat_2(),
+        room_1(),
+        room_2(),
+        room_3(),
+        room_4(),
+        room_5(),
+        picture_1(),
+        picture_2(),
+        picture_3(),
+        picture_4(),
+        edits_1(),
+        edits_2(),
+        edits_3(),
+        edits_4(),
+        past_1(),
+        past_2(),
+        hands_1(),
+        hands_2(),
+        hands_3(),
+        hands_4(),
+        markup_3(),
     ]
 }
 
