@@ -9,6 +9,7 @@ use Rattle.edit_journal.specs.declared.name.Name.TheVariants.{Part, Station}
 use Rattle.edit_journal.specs.Seats.{Opening, In, bears}
 use Rattle.edit_journal.specs.Turns.{AtJournal, Known, Open, IsJournal, AllAgree, StandsIn, gathered, given, last_of}
 use Rattle.edit_journal.proofs.Fresh.{without_other, no_part, in_last}
+use Rattle.history_points.proofs.Meeting.{pass_there, told_pass}
 use Rattle.track_locks.specs.Homes.{AreHomes, HeldParts, IsHistory, all_gathered, all_given}
 use Rattle.track_locks.proofs.Stands.{stand_for, gathered_names}
 use Rattle.cut_room.specs.Gathered.{IsGathered}
@@ -39,16 +40,6 @@ given_opening (n ∷ ns) v = given_opening ns (given (Part n) v)
 pub given_station : {O P C : Type 0} (ns : List ℕ) (v : Open O P C) (s : ℕ) → In (Station s) v.names → In (Station s) (all_given ns v).names
 given_station [] v s i = i
 given_station (n ∷ ns) v s i = given_station ns (given (Part n) v) s (without_other (Part n) v.names (Station s) (no_part s n) i)
-
--- the pass is at the journal
-pub pass_there : {O P C : Type 0} (before after : Open O P C) (pass : Known O P C) → after ≡ gathered (Station pass.number) pass.opening pass.entries before
-    → In (Station pass.number) after.names
-pass_there {O} {P} {C} before after pass is = subst (λ (w : Open O P C). In (Station pass.number) w.names) (sym is) (in_last (Station pass.number) before.names)
-
-told_pass : {O P C : Type 0} (before after : Open O P C) (pass : Known O P C) → after ≡ gathered (Station pass.number) pass.opening pass.entries before
-    → In (Station pass.number, (pass.opening, pass.entries)) after.told
-told_pass {O} {P} {C} before after pass is =
-    subst (λ (w : Open O P C). In (Station pass.number, (pass.opening, pass.entries)) w.told) (sym is) (in_last (Station pass.number, (pass.opening, pass.entries)) before.told)
 
 -- by what a look tells, its history begins the journal, with all entries of its station
 pub pass_stands : {O P C D R : Type 0} (meaning : O → Meaning P C D R) (opening : Option (Opening O P)) (before after : Open O P C) (pass : Known O P C)

@@ -11,6 +11,7 @@ use Rattle.room_core.specs.History.{replay, IsLegal, most_entries}
 use Rattle.room_core.specs.Parts.{AreGood, AscendBetween}
 use Rattle.room_core.specs.Projection.{of_part}
 use Rattle.room_core.specs.Whole.{Meaning, put_back, whole}
+use Rattle.room_core.proofs.WholeParts.{get-set_other}
 use Rattle.edit_journal.specs.Seats.{Opening}
 use Rattle.edit_journal.specs.Turns.{Known, last_of}
 use Rattle.track_locks.specs.Homes.{IsVersion, IsHistory, AreHomes, AreGoodAt, StandFor}
@@ -23,13 +24,6 @@ get-set : {A : Type 0} (xs : List A) (n : ℕ) (x : A) → n < length xs → sli
 get-set [] n x lt = absurd (omega (arith, lt))
 get-set (y ∷ xs) zero x lt = refl
 get-set (y ∷ xs) (suc n) x lt = get-set xs n x (omega (arith, lt))
-
-get-set_other : {A : Type 0} (xs : List A) (n k : ℕ) (x : A) → n ≢ k → slice_get (slice_set xs n x) k ≡ slice_get xs k
-get-set_other [] n k x h = refl
-get-set_other (z ∷ xs) zero zero x h = absurd (h refl)
-get-set_other (z ∷ xs) zero (suc k) x h = refl
-get-set_other (z ∷ xs) (suc n) zero x h = refl
-get-set_other (z ∷ xs) (suc n) (suc k) x h = get-set_other xs n k x (λ e. h (ap suc e))
 
 -- a part below those that are put stays
 put_above : {P : Type 0} (now : List P) (least count : ℕ) (ns : List ℕ) (ts : List P) (k : ℕ) → AscendBetween least count ns → k < least

@@ -6,6 +6,7 @@ use Rattle.std.proofs.lemmas.Bool.Decides.{nat_tests}
 use Rattle.room_core.specs.declared.entry.Entry.{Entry}
 use Rattle.room_core.specs.Machine.{is_above}
 use Rattle.room_core.specs.Projection.{of_station}
+use Rattle.room_core.proofs.WholeParts.{get-set_other}
 use Rattle.edit_journal.specs.Turns.{last_of}
 
 above_step : {C : Type 0} (b : Bool) (m n : ℕ) (e : Entry C) (kept : List (Entry C)) (rest : Bool)
@@ -35,13 +36,6 @@ get-set : {A : Type 0} (xs : List A) (n k : ℕ) (x y : A) → slice_get xs n �
 get-set [] n k x y h e = absurd (Prim.grind (arith, h))
 get-set (z ∷ xs) zero k x y h e = subst (λ j. slice_get (slice_set (z ∷ xs) 0 x) j ≡ Some x) e refl
 get-set (z ∷ xs) (suc n) k x y h e = subst (λ j. slice_get (slice_set (z ∷ xs) (suc n) x) j ≡ Some x) e (get-set xs n n x y h refl)
-
-get-set_other : {A : Type 0} (xs : List A) (n k : ℕ) (x : A) → n ≢ k → slice_get (slice_set xs n x) k ≡ slice_get xs k
-get-set_other [] n k x h = refl
-get-set_other (z ∷ xs) zero zero x h = absurd (h refl)
-get-set_other (z ∷ xs) zero (suc k) x h = refl
-get-set_other (z ∷ xs) (suc n) zero x h = refl
-get-set_other (z ∷ xs) (suc n) (suc k) x h = get-set_other xs n k x (λ e. h (ap suc e))
 
 lasts_step : {C : Type 0} (b : Bool) (s : ℕ) (lasts : List ℕ) (entries : List (Entry C)) (e : Entry C) → (e.station == s) ≡ b
     → slice_get lasts e.station ≡ Some (last_of e.station entries) → slice_get lasts s ≡ Some (last_of s entries) → last_of e.station entries < e.number

@@ -13,7 +13,8 @@ pub pass_there : {O P C : Type 0} (before after : Open O P C) (pass : Known O P 
     → In (Station pass.number) after.names
 pass_there {O} {P} {C} before after pass is = subst (λ (w : Open O P C). In (Station pass.number) w.names) (sym is) (in_last (Station pass.number) before.names)
 
-told_pass : {O P C : Type 0} (before after : Open O P C) (pass : Known O P C) → after ≡ gathered (Station pass.number) pass.opening pass.entries before
+-- and its history was told there
+pub told_pass : {O P C : Type 0} (before after : Open O P C) (pass : Known O P C) → after ≡ gathered (Station pass.number) pass.opening pass.entries before
     → In (Station pass.number, (pass.opening, pass.entries)) after.told
 told_pass {O} {P} {C} before after pass is =
     subst (λ (w : Open O P C). In (Station pass.number, (pass.opening, pass.entries)) w.told) (sym is) (in_last (Station pass.number, (pass.opening, pass.entries)) before.told)

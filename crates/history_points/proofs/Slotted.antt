@@ -5,6 +5,7 @@ use Rattle.std.proofs.lemmas.Option.{slice_get-get_or}
 use Rattle.std.proofs.lemmas.List.{drop_more, map-append, map-set}
 use Rattle.room_core.specs.Parts.{AscendBetween}
 use Rattle.room_core.specs.Whole.{picked, put_back}
+use Rattle.room_core.proofs.WholeParts.{get-set_other}
 use Rattle.history_points.specs.Slots.{present, emptied, IsWhole}
 use Rattle.history_points.proofs.Sets.{lower}
 
@@ -29,13 +30,6 @@ part_in : {P : Type 0} (ps : List P) (n : ℕ) (p : P) → slice_get (map Some p
 part_in [] n p e = absurd (Prim.grind (arith, e))
 part_in (q ∷ ps) zero p e = Prim.grind (arith, e)
 part_in (q ∷ ps) (suc n) p e = part_in ps n p e
-
-get-set_other : {X : Type 0} (xs : List X) (n k : ℕ) (x : X) → n ≢ k → slice_get (slice_set xs n x) k ≡ slice_get xs k
-get-set_other [] n k x h = refl
-get-set_other (y ∷ xs) zero zero x h = absurd (h refl)
-get-set_other (y ∷ xs) zero (suc k) x h = refl
-get-set_other (y ∷ xs) (suc n) zero x h = refl
-get-set_other (y ∷ xs) (suc n) (suc k) x h = get-set_other xs n k x (λ e. h (ap suc e))
 
 -- while parts are taken out, in ascending order: the places not reached yet stand
 pub record Taking {P : Type 0} (before : List (Option P)) (names : List ℕ) (i : ℕ) (slots : List (Option P)) (named : List P) : Type 0 where

@@ -211,7 +211,8 @@ written_words place_at s h = elim (chosen (nat_le (length (step_text_of s)) 1024
 entry_parts : (s n c : List ℕ) → s ++ codes " " ++ n ++ codes " " ++ c ≡ s ++ 32 ∷ (n ++ 32 ∷ c)
 entry_parts s n c = simp append_assoc refl
 
-entry_words : (e : Entry (Step Call)) → HasLine e → words_of (entry_text e) ≡ decimal e.station ∷ decimal e.number ∷ words_of (step_text_of e.call)
+-- its words: the station, the number, and those of its step
+pub entry_words : (e : Entry (Step Call)) → HasLine e → words_of (entry_text e) ≡ decimal e.station ∷ decimal e.number ∷ words_of (step_text_of e.call)
 entry_words e h =
     let parts = ap words_of (entry_parts (decimal e.station) (decimal e.number) (step_text_of e.call)) in
     let station = words_of-word (decimal e.station) 32 (decimal e.number ++ 32 ∷ step_text_of e.call) (IsWord-decimal e.station (omega (arith, h.station))) refl in

@@ -14,12 +14,12 @@ use Rattle.room_core.specs.History.{after_entry, replay, state_in}
 use Rattle.room_core.specs.Whole.{whole}
 use Rattle.line_table.specs.CallTexts.{step_text_of}
 use Rattle.journal_text.specs.Journals.{entry_text}
-use Rattle.journal_text.proofs.EntryTexts.{is_plain}
+use Rattle.journal_text.proofs.EntryTexts.{is_plain, number_plain}
 use Rattle.line_table.proofs.WrittenParts.{length-decimal}
 use Rattle.kept_lines.specs.Lines.{EnteredLinesFit}
 use Rattle.kept_lines.specs.Widths.{IsNarrow}
 use Rattle.kept_lines.proofs.Applied.{applied}
-use Rattle.kept_lines.proofs.Texts.{deed_fits, joined, number_plain, DeedFits}
+use Rattle.kept_lines.proofs.Texts.{deed_fits, joined, DeedFits}
 
 -- ---- an entry of a legal history applies where it stands, for any kind of state
 

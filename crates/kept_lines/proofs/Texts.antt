@@ -19,7 +19,7 @@ use Rattle.journal_text.specs.JournalFaults.{HasNoLineFeed}
 use Rattle.take_back.specs.declared.step.Deed.{Deed}
 use Rattle.take_back.specs.declared.step.Deed.TheVariants.{Do, Back}
 use Rattle.line_table.proofs.CallLengths.{deed_length}
-use Rattle.journal_text.proofs.EntryTexts.{entry_plain, is_plain}
+use Rattle.journal_text.proofs.EntryTexts.{entry_plain, is_plain, number_plain}
 use Rattle.line_table.proofs.WrittenParts.{are_digits, length-numbers_after, length-tracks_text, tracks_small}
 use Rattle.kept_lines.specs.Lines.{DoneStepsFit}
 use Rattle.kept_lines.specs.Widths.{DeedHasWidths, HasWidths}
@@ -36,20 +36,6 @@ front_of a b h = (and_parts (is_plain a) (is_plain b) (sym (list_all-append (λ 
 
 back_of : (a b : List ℕ) → is_plain (a ++ b) ≡ true → is_plain b ≡ true
 back_of a b h = (and_parts (is_plain a) (is_plain b) (sym (list_all-append (λ byte. not (is_lf byte)) a b) ∙ h)).1
-
-digit_plain : (byte : ℕ) → is_ascii_digit byte ≡ true → not (is_lf byte) ≡ true
-digit_plain byte h = grind (arith, nat_tests)
-
-digits_plain : (word : List ℕ) → list_all is_ascii_digit word ≡ true → is_plain word ≡ true
-digits_plain [] h = refl
-digits_plain (byte ∷ word) h =
-    let both = and_parts (is_ascii_digit byte) (list_all is_ascii_digit word) h in
-    let here = digit_plain byte both.0 in
-    let more = digits_plain word both.1 in
-    rw (here, more) refl
-
-pub number_plain : (n : ℕ) → n < 2 ^ 32 → is_plain (decimal n) ≡ true
-number_plain n h = digits_plain (decimal n) (are_digits n h)
 
 numbers_plain : (lead ns : List ℕ) → is_plain lead ≡ true → All IsSmall ns → is_plain (numbers_after lead ns) ≡ true
 numbers_plain lead [] h small = refl

@@ -17,19 +17,10 @@ use Rattle.room_core.specs.History.{NumbersRise, RiseAfter}
 use Rattle.room_core.specs.Projection.{of_station}
 use Rattle.edit_journal.specs.Turns.{last_of}
 use Rattle.journal_text.specs.Journals.{entry_text, HasLine}
+use Rattle.journal_text.proofs.EntryTexts.{entry_words}
 use Rattle.kept_rooms.specs.Kept.{AreTaken}
 use Rattle.kept_numbers.specs.Entries.{NumbersOfTaken, NumbersOfWritten}
 use Rattle.kept_numbers.specs.Numbers.{last_or, numbered, numbers_of, own_number}
-
-entry_parts : (s n c : List ℕ) → s ++ codes " " ++ n ++ codes " " ++ c ≡ s ++ 32 ∷ (n ++ 32 ∷ c)
-entry_parts s n c = simp append_assoc refl
-
-entry_words : (e : Entry (Step Call)) → HasLine e → words_of (entry_text e) ≡ decimal e.station ∷ decimal e.number ∷ words_of (step_text_of e.call)
-entry_words e h =
-    let parts = ap words_of (entry_parts (decimal e.station) (decimal e.number) (step_text_of e.call)) in
-    let station = words_of-word (decimal e.station) 32 (decimal e.number ++ 32 ∷ step_text_of e.call) (IsWord-decimal e.station (omega (arith, h.station))) refl in
-    let number = words_of-word (decimal e.number) 32 (step_text_of e.call) (IsWord-decimal e.number h.number) refl in
-    parts ∙ station ∙ ap (λ words. decimal e.station ∷ words) number
 
 -- the line of an entry begins with its station and its number
 entry_numbered : (e : Entry (Step Call)) → HasLine e → numbered (entry_text e) ≡ Some (e.station, e.number)

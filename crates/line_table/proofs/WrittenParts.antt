@@ -52,7 +52,7 @@ not_blank : (b : Bool) → not b ≡ true → b ≡ false
 not_blank true h = cc
 not_blank false h = refl
 
-none_blank : (word : List ℕ) → list_all (λ byte. not (is_blank byte)) word ≡ true → All (λ byte. is_blank byte ≡ false) word
+pub none_blank : (word : List ℕ) → list_all (λ byte. not (is_blank byte)) word ≡ true → All (λ byte. is_blank byte ≡ false) word
 none_blank [] h = All-nil (λ byte. is_blank byte ≡ false)
 none_blank (byte ∷ word) h =
     let both = and_parts (not (is_blank byte)) (list_all (λ byte. not (is_blank byte)) word) h in

@@ -31,11 +31,12 @@ pub filled-all : (cs : List Cell) → AllFilled (items_of cs)
 filled-all [] = tt
 filled-all (c ∷ cs) = filled_with c (items_of cs) (filled-all cs)
 
-abbrev first_of : Option (ℕ × ℕ) → ℕ
+-- the first place of a range, and the one after its last
+abbrev pub first_of : Option (ℕ × ℕ) → ℕ
 first_of None = 0
 first_of (Some r) = r.0
 
-abbrev end_of : Option (ℕ × ℕ) → ℕ
+abbrev pub end_of : Option (ℕ × ℕ) → ℕ
 end_of None = 0
 end_of (Some r) = r.1
 

@@ -45,7 +45,7 @@ use Rattle.link_laws.specs.Rooms.{AreAmong, AreNamed, Ascend, IsRoom, LeavesToge
 use Rattle.link_laws.specs.Together.{Together}
 use Rattle.link_laws.specs.Weights.{runs_in}
 use Rattle.link_laws.proofs.Edits.{KeptOne, among-kept, kept-leaves, room-good}
-use Rattle.link_laws.proofs.FreeRanges.{filled-all, frames-all, item-range, range-item, range-within, ranged}
+use Rattle.link_laws.proofs.FreeRanges.{end_of, filled-all, first_of, frames-all, item-range, range-item, range-within, ranged}
 use Rattle.link_laws.proofs.LinkLists.{Carries, is-same, same-is-link, shows-carries}
 use Rattle.link_laws.proofs.Runs.{count, runs-all, runs-append, runs-one, runs-spliced, view-have}
 use Rattle.link_laws.proofs.Shifting.{SeesRest, left-sees, numbered-sees, rest-all}
@@ -131,14 +131,6 @@ others_lacks i (v ∷ vs) l = others_append i (view_cells v) (cells_of vs) (othe
   by : (b : Bool) → same_number v.item (Some i) ≡ b → same_number v.item (Some i) ≡ false
   by true e = absurd (l.0 (same-is v.item (Some i) e))
   by false e = e
-
-abbrev first_of : Option (ℕ × ℕ) → ℕ
-first_of None = 0
-first_of (Some r) = r.0
-
-abbrev end_of : Option (ℕ × ℕ) → ℕ
-end_of None = 0
-end_of (Some r) = r.1
 
 others_front : (vs : List ItemView) (p i x y : ℕ) → AllFilled vs → range_from p vs i ≡ Some (x, y) → Others i (take (x - p) (cells_of vs))
 others_front [] p i x y g e = absurd cc

@@ -35,7 +35,7 @@ use Rattle.link_laws.specs.Rooms.{AreAmong, AreNamed, AreTracks, IsRoom, LeavesT
 use Rattle.link_laws.specs.Together.{Together}
 use Rattle.link_laws.specs.Weights.{begins, is_link, runs_in}
 use Rattle.link_laws.proofs.Edits.{KeptOne, among-kept, kept-leaves, room-good, used-kept}
-use Rattle.link_laws.proofs.FreeRanges.{filled-all, item-range, range-within}
+use Rattle.link_laws.proofs.FreeRanges.{end_of, filled-all, first_of, item-range, range-within}
 use Rattle.link_laws.proofs.LinkedRuns.{runs-none}
 use Rattle.link_laws.proofs.LinkLists.{Carries, Same, all-named, carries-left, carries-right, carries-shows, is-same, same-is-link, shows-carries}
 use Rattle.link_laws.proofs.Runs.{count, runs-append, runs-cut}
@@ -353,14 +353,6 @@ marked_carries : (mark : Option Mark) (cs : List Cell) (m : Link) → Carries (m
 marked_carries mark [] m h = h
 marked_carries mark (c ∷ cs) m (inl h) = inl h
 marked_carries mark (c ∷ cs) m (inr h) = inr h
-
-abbrev first_of : Option (ℕ × ℕ) → ℕ
-first_of None = 0
-first_of (Some r) = r.0
-
-abbrev end_of : Option (ℕ × ℕ) → ℕ
-end_of None = 0
-end_of (Some r) = r.1
 
 pub mid-link : (vs : List ItemView) (p i x y : ℕ) (m : Link) → AllFilled vs → range_from p vs i ≡ Some (x, y) → Carries (drop (x - p) (take (y - p) (cells_of vs))) m
     → link_found (item_from p vs i) ≡ Some m

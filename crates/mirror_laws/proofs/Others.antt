@@ -13,27 +13,18 @@ use Rattle.follow_command.specs.NewsLines.{leads_news}
 use Rattle.otio_text.specs.Documents.{timeline_text}
 use Rattle.protocol_parts.specs.declared.line_fault.LineFault.{LineFault}
 use Rattle.protocol_parts.specs.declared.line_fault.LineFault.TheVariants as line
+use Rattle.line_table.proofs.WrittenParts.{none_blank}
 use Rattle.reply_text.specs.Replies.{EditAnswer, answer_text_of, done_text, fault_of, refusal_text}
 use Rattle.reply_text.specs.Sights.{TrackSight, ask_refusal_text, item_text, run_text, sight_text_of}
 use Rattle.reply_laws.proofs.PlainDocuments.{document_plain}
-use Rattle.reply_laws.proofs.PlainReplies.{answered, fault}
+use Rattle.reply_laws.proofs.PlainReplies.{answered, document, fault, past_end, too_long}
 use Rattle.reply_laws.proofs.PlainSights.{sighted}
 use Rattle.reply_laws.proofs.PlainTexts.{is_plain, number, split}
 use Rattle.mirror_laws.specs.Told.{IsOtherReply}
 
-not_blank : (b : Bool) → not b ≡ true → b ≡ false
-not_blank true h = cc
-not_blank false h = refl
-
-no_blanks : (word : List ℕ) → list_all (λ byte. not (is_blank byte)) word ≡ true → All (λ byte. is_blank byte ≡ false) word
-no_blanks [] h = All-nil (λ byte. is_blank byte ≡ false)
-no_blanks (byte ∷ word) h =
-    let both = and_parts (not (is_blank byte)) (list_all (λ b. not (is_blank b)) word) h in
-    All-cons (λ byte. is_blank byte ≡ false) byte word (not_blank (is_blank byte) both.0) (no_blanks word both.1)
-
 -- a word of these bytes
 pub is_word : (word : List ℕ) → 0 < length word → list_all (λ byte. not (is_blank byte)) word ≡ true → IsWord word
-is_word word some none = record { filled = some; no_blank = no_blanks word none }
+is_word word some none = record { filled = some; no_blank = none_blank word none }
 
 -- a text that begins with a word and a space
 pub leads_by : (word rest : List ℕ) → 0 < length word → list_all (λ byte. not (is_blank byte)) word ≡ true
@@ -60,15 +51,6 @@ fault_leads line.B4 = refl
 fault_leads line.B5 = refl
 fault_leads line.B6 = refl
 fault_leads line.Memory = refl
-
-document : (n : ℕ) (text : List ℕ) → is_plain text ≡ true → is_plain (codes "otio " ++ decimal n ++ codes " " ++ text) ≡ true
-document n text h = simp (split, number, h) refl
-
-too_long : (n : ℕ) → is_plain (codes "no " ++ decimal n ++ codes " V4") ≡ true
-too_long n = simp (split, number) refl
-
-past_end : (n : ℕ) → is_plain (codes "no " ++ decimal n ++ codes " V3") ≡ true
-past_end n = simp (split, number) refl
 
 point_leads : (n : ℕ) → leads_news (words_of (codes "point " ++ decimal n)) ≡ false
 point_leads n = leads_by (codes "point") (decimal n) (omega arith) refl

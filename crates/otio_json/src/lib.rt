@@ -11,6 +11,6 @@ mod timeline;
 
 pub use laws::{a_track_shows_its_items_one_after_another, limits_are_these};
 pub use opening::Opening;
-pub use otio_text::{WriteFault, write_timeline};
+pub use otio_text::{WriteFault, timeline_length, write_timeline, write_timeline_after};
 pub use otio_tracks::{DocCode, DocFault};
 pub use timeline::{MAX_NESTS, MAX_TRACKS, read_timeline};

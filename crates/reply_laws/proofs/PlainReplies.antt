@@ -62,3 +62,13 @@ fault line.B4 = refl
 fault line.B5 = refl
 fault line.B6 = refl
 fault line.Memory = refl
+
+-- the replies to `otio`
+pub document : (n : ℕ) (text : List ℕ) → is_plain text ≡ true → is_plain (codes "otio " ++ decimal n ++ codes " " ++ text) ≡ true
+document n text h = simp (split, number, h) refl
+
+pub too_long : (n : ℕ) → is_plain (codes "no " ++ decimal n ++ codes " V4") ≡ true
+too_long n = simp (split, number) refl
+
+pub past_end : (n : ℕ) → is_plain (codes "no " ++ decimal n ++ codes " V3") ≡ true
+past_end n = simp (split, number) refl

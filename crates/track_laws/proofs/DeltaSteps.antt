@@ -32,6 +32,7 @@ use Rattle.edit_splice.proofs.Bridging.{for-found}
 use Rattle.edit_splice.proofs.Limits.{within-done}
 use Rattle.track_laws.specs.Goods.{IsBounded, KeepsGood}
 use Rattle.track_laws.proofs.Own.{for-none, own-good, put-good}
+use Rattle.track_laws.proofs.Putting.{end_of, first_of}
 
 -- what a call leaves, if it is done: on one track, and on all that it names
 abbrev pub GoodOne : Table → Result (TrackState × Done) Refusal → Type 0
@@ -112,14 +113,6 @@ pub record StandsFound (vs : List ItemView) (p i x y : ℕ) : Type 0 where
   pub from : x ≡ p + frames_in (take index vs)
   pub to : y ≡ p + frames_in (take (suc index) vs)
   pub number : view.item ≡ Some i
-
-abbrev first_of : Option (ℕ × ℕ) → ℕ
-first_of None = 0
-first_of (Some r) = r.0
-
-abbrev end_of : Option (ℕ × ℕ) → ℕ
-end_of None = 0
-end_of (Some r) = r.1
 
 found_from : (vs : List ItemView) (p i x y : ℕ) → range_from p vs i ≡ Some (x, y) → StandsFound vs p i x y
 found_from [] p i x y e = absurd cc

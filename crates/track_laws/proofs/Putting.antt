@@ -71,15 +71,16 @@ overwrite_good table c t u done bounded g k =
     (stays-placed c.keep table t u (min c.at (length t.cells)) (min (c.at + c.len) (length t.cells)) (gap_views (c.at - length t.cells) ++ new_views (Some (clip_view t.next_item c.what c.from c.len))) (Item t.next_item) (Ok done) g
     (omega arith) (omega arith) (put-clip table t (c.at - length t.cells) t.next_item c.what c.from c.len refl clip) put).good
 
--- the places of a gap
-abbrev first_of : Option (ℕ × ℕ) → ℕ
+-- the first place of a range, and the one after its last
+abbrev pub first_of : Option (ℕ × ℕ) → ℕ
 first_of None = 0
 first_of (Some r) = r.0
 
-abbrev end_of : Option (ℕ × ℕ) → ℕ
+abbrev pub end_of : Option (ℕ × ℕ) → ℕ
 end_of None = 0
 end_of (Some r) = r.1
 
+-- the places of a gap
 gap_within : (vs : List ItemView) (x q g h : ℕ) → AllFilled vs → gap_from x vs q ≡ Some (g, h) → (g < h) × (h ≤ x + frames_in vs)
 gap_within [] x q g h f e = absurd (Prim.grind (arith, e))
 gap_within (v ∷ vs) x q g h f e = by (ltb q v.len) (same_number v.item None) e (gap_within vs (x + v.len) (q - v.len) g h f.1) where

@@ -5,20 +5,11 @@ use Rattle.otio_text.specs.Documents.{timeline_text}
 use Rattle.reply_text.specs.Replies.{answer_text_of, fault_of}
 use Rattle.reply_text.specs.Sights.{sight_text_of}
 use Rattle.reply_laws.proofs.PlainDocuments.{document_plain}
-use Rattle.reply_laws.proofs.PlainReplies.{answered, fault}
+use Rattle.reply_laws.proofs.PlainReplies.{answered, document, fault, past_end, too_long}
 use Rattle.reply_laws.proofs.PlainSights.{sighted}
 use Rattle.reply_laws.proofs.PlainSteps.{told}
 use Rattle.reply_laws.proofs.PlainTexts.{is_plain, no_feeds, number, split}
 use Rattle.reply_laws.proofs.laws.replies_are_one_line.Goals as goal
-
-document : (n : ℕ) (text : List ℕ) → is_plain text ≡ true → is_plain (codes "otio " ++ decimal n ++ codes " " ++ text) ≡ true
-document n text h = simp (split, number, h) refl
-
-too_long : (n : ℕ) → is_plain (codes "no " ++ decimal n ++ codes " V4") ≡ true
-too_long n = simp (split, number) refl
-
-past_end : (n : ℕ) → is_plain (codes "no " ++ decimal n ++ codes " V3") ≡ true
-past_end n = simp (split, number) refl
 
 point : (n : ℕ) → is_plain (codes "point " ++ decimal n) ≡ true
 point n = number n

@@ -1,6 +1,7 @@
 use Rattle.std.proofs.Common.{ap, ◌∙◌}
 use Rattle.edit_journal.specs.declared.name.Name.TheVariants.{Station}
-use Rattle.cut_room.proofs.Gathering.{pass_there, pass_stands}
+use Rattle.history_points.proofs.Meeting.{pass_there}
+use Rattle.cut_room.proofs.Gathering.{pass_stands}
 use Rattle.cut_room.proofs.Replaying.{journal_of, stands_there}
 use Rattle.cut_room.proofs.keeping.Kept.meet.Goals as goal
 

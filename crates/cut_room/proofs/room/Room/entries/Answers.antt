@@ -1,7 +1,8 @@
 use Rattle.std.proofs.Common.{length, take, drop, ap, sym, ◌∙◌, arith, subst}
 use Rattle.edit_journal.specs.Faults.{SaysNoPoint}
 use Rattle.cut_room.proofs.Excerpts.{excerpt_fault}
-use Rattle.cut_room.proofs.Gathering.{pass_there, pass_stands, history_of}
+use Rattle.history_points.proofs.Meeting.{pass_there}
+use Rattle.cut_room.proofs.Gathering.{pass_stands, history_of}
 use Rattle.cut_room.proofs.Passes.{at_point}
 use Rattle.cut_room.proofs.room.Room.entries.Goals as goal
 

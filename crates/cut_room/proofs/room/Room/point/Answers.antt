@@ -1,5 +1,6 @@
 use Rattle.std.proofs.Common.{ap, sym, ◌∙◌}
-use Rattle.cut_room.proofs.Gathering.{pass_there, pass_stands, history_of}
+use Rattle.history_points.proofs.Meeting.{pass_there}
+use Rattle.cut_room.proofs.Gathering.{pass_stands, history_of}
 use Rattle.cut_room.proofs.Passes.{at_point}
 use Rattle.cut_room.proofs.room.Room.point.Goals as goal
 
