@@ -4,7 +4,7 @@ ghost use Rattle.audit_command.specs.RefusalLines.{audit_line, code_text};
 ghost use Rattle.audit_command.specs.declared.refusal.AuditStop.TheVariants.{Memory as NoMemory};
 
 use out_of_memory::Memory;
-use reply_text::Short;
+use protocol_parts::Short;
 use std::alloc::AllocError;
 
 /// What of recorded sessions is not explained.

@@ -1,7 +1,8 @@
 -- A journal out of a file: its entries, or why it is refused.
 use Rattle.std.specs.Prelude.{◌≡◌, ℕ, ◌≤◌, ◌⊎◌, List, Vec, Result, length, codes}
 use Rattle.std.specs.Global.{Global}
-use Rattle.cut_steps.specs.CutSteps.{CutStep}
+use Rattle.take_back.specs.declared.step.Step.{Step}
+use Rattle.edit_calls.specs.declared.asks.Call.{Call}
 use Rattle.room_core.specs.declared.entry.Entry.{Entry}
 use Rattle.room_files.specs.Files.{Content, IsWhole, IsLonger, FitsIn}
 use Rattle.journal_text.specs.declared.journal_fault.JournalCode.{JournalCode}
@@ -16,7 +17,7 @@ use Rattle.command_files.specs.Unopened.{OpensAs}
 -- a file of these contents
 module _ (content : Content) where
   -- its bytes, where they are told, are the text of a journal of these entries
-  abbrev pub HoldsJournal : List (Entry CutStep) → Type 0
+  abbrev pub HoldsJournal : List (Entry (Step Call)) → Type 0
   HoldsJournal entries = (bytes : List ℕ) × IsWhole content bytes × (length bytes ≤ MAX_JOURNAL) × AreEntriesOf bytes entries
 
   -- a file of more than 64 MiB is not read
@@ -31,7 +32,7 @@ module _ (content : Content) where
   IsJournalRefused r = IsTooLarge r ⊎ HasFault r
 
   -- what comes of opening it
-  abbrev pub Opens : Result (Vec (Entry CutStep) Global) (InputFault JournalRefusal) → Type 0
+  abbrev pub Opens : Result (Vec (Entry (Step Call)) Global) (InputFault JournalRefusal) → Type 0
   Opens result = OpensAs (λ entries. HoldsJournal entries.items) IsJournalRefused (FitsIn content MAX_JOURNAL) result
 
 abbrev pub code_text : JournalCode → List ℕ

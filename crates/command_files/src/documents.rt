@@ -6,7 +6,7 @@ ghost use Rattle.command_files.specs.Unopened.{OnlyRead, CountsOpening};
 
 use crate::{InputFault, Refusal, refusal_line};
 use otio_json::{DocCode, DocFault, Opening, read_timeline};
-use reply_text::Short;
+use protocol_parts::Short;
 use room_files::{FileFault, Files};
 use std::alloc::Global;
 use timecode12::Counting;

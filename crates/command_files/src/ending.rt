@@ -4,7 +4,7 @@ ghost use Rattle.command_files.specs.Texts.{PutsWith, refusal_text};
 ghost use Rattle.command_files.specs.Ports.{output_told};
 
 use crate::Status;
-use reply_text::Short;
+use protocol_parts::Short;
 use room_ports::{Sink, put};
 
 /// `refused`, a code of at most three letters and a number, with a line feed.

@@ -4,7 +4,7 @@ ghost use Rattle.command_files.specs.Ports.{change, output_told};
 ghost use Rattle.command_files.specs.Unopened.{FaultEnds};
 
 use crate::{Status, end_with};
-use reply_text::Short;
+use protocol_parts::Short;
 use room_ports::Sink;
 
 /// Why nothing was opened from a file.

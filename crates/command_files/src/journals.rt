@@ -4,9 +4,9 @@ ghost use Rattle.command_files.specs.Journals.{Opens, code_text, journal_line};
 ghost use Rattle.command_files.specs.Unopened.{OnlyRead, CountsOpening};
 
 use crate::{InputFault, Refusal, refusal_line};
-use call_text::{JournalCode, JournalFault, MAX_JOURNAL, read_journal};
-use cut_steps::CutCall;
-use reply_text::Short;
+use edit_calls::Call;
+use journal_text::{JournalCode, JournalFault, MAX_JOURNAL, Step, read_journal};
+use protocol_parts::Short;
 use room_core::Entry;
 use room_files::{FileFault, Files};
 use std::alloc::Global;
@@ -34,7 +34,7 @@ pub fn open_journal<F: Files>(
     alloc: Global,
     files: &mut F,
     name: &str,
-) -> Result<Vec<Entry<CutCall>>, InputFault<JournalRefusal>>
+) -> Result<Vec<Entry<Step<Call>>>, InputFault<JournalRefusal>>
     ensures opens { Opens ((F.told files.old).file name.now) result }
     ensures same { OnlyRead (F.told files.old) (F.told files.new) }
     ensures counts { CountsOpening result (F.told files.old).reads (F.told files.new).reads }

@@ -6,7 +6,7 @@ ghost use Rattle.command_files.specs.Unopened.{OnlyRead, CountsOpening};
 
 use crate::{InputFault, Refusal, refusal_line};
 use edl_read::{LineCode, List, ListReadFault, MAX_LIST, read_list};
-use reply_text::Short;
+use protocol_parts::Short;
 use room_files::{FileFault, Files};
 use std::alloc::Global;
 use timecode12::SequenceRate;

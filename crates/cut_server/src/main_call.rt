@@ -18,12 +18,13 @@ ghost use Rattle.edit_journal.specs.Turns.{AreFresh};
 
 use audit_command::audit;
 use audit_command::laws::legal_sessions_are_not_refused;
-use call_text::{CutCall, CutObject, CutPart, journal_room, journal_text_into};
 use command_files::{Status, end_unopened, end_with, open_document};
 use command_words::{Command, command_in, records_of};
 use cut_room::{Room, RoomBlank};
+use cut_steps::{CutCall, CutObject, CutPart};
 use edit_journal::{Naming, Pass};
 use follow_command::{accepted_streams_are_not_refused, follow};
+use journal_text::{journal_room, journal_text_into};
 use line_words::Words;
 use list_commands::{CutPlace, import_file, list_cut, play_list};
 use otio_json::Opening;

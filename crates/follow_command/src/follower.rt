@@ -10,10 +10,10 @@ ghost use Rattle.follow_command.specs.Refusals.{StopsAtCut, StopsAtLine, StopsAt
 
 use crate::refusal::{Stop, StreamRefusal, refusal_of};
 use call_laws::equal_steps_are_one;
-use call_text::{News, NewsFault, read_news};
 use cut_mirror::Mirror;
 use cut_steps::CutObject;
 use input_lines::{LineEnd, TakesLines};
+use journal_text::{News, NewsFault, read_news};
 use line_table::first_word;
 use std::alloc::Global;
 use std::marker::Model;

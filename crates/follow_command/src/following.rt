@@ -8,10 +8,9 @@ ghost use Rattle.follow_command.specs.Follows.{FollowEnds, MirrorEnds, StopEnds,
 use crate::follower::Follower;
 use crate::mirror_text::mirror_text;
 use crate::refusal::Stop;
-use call_text::CutObject;
 use command_files::{Refusal, Status, end_unopened, end_with, open_document};
 use cut_mirror::Mirror;
-use cut_steps::{cut_object, fresh_parts};
+use cut_steps::{CutObject, cut_object, fresh_parts};
 use input_lines::{InputStop, take_lines};
 use otio_json::Opening;
 use room_files::Files;

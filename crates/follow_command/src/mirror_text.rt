@@ -3,11 +3,12 @@ ghost use Rattle.std.specs.Prelude.{◌≡◌, ◌++◌, decimal, IfOk, OnOk, le
 ghost use Rattle.take_back.specs.Parts.{nows};
 ghost use Rattle.follow_command.specs.MirrorTexts.{mirror_text, point_line, track_line, track_lines};
 
-use call_text::{CutObject, CutPart, items_text};
 use composables::{Memory, Track};
 use cut_mirror::Mirror;
+use cut_steps::{CutObject, CutPart};
 use itoa::Buffer;
 use protocol_parts::{put, put_number};
+use reply_text::items_text;
 use std::alloc::Global;
 
 // Adds the line of the count of entries.

@@ -4,7 +4,7 @@ ghost use Rattle.follow_command.specs.Refusals.{refusal_of, stream_line};
 
 use command_files::{Refusal, refusal_line};
 use cut_mirror::MirrorFault;
-use reply_text::Short;
+use protocol_parts::Short;
 
 /// Why a stream is refused, of the first line of it that has a reason.
 #[derive(Clone, Copy, Debug, PartialEq, Eq)]

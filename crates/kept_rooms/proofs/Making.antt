@@ -9,6 +9,7 @@ use Rattle.edit_journal.proofs.Lasts.{lasts-more}
 use Rattle.room_core.specs.declared.entry.Entry.{Entry}
 use Rattle.room_core.specs.Parts.{numbers}
 use Rattle.room_core.specs.Projection.{of_station}
+use Rattle.room_core.proofs.WholeParts.{get-set_other}
 use Rattle.kept_rooms.specs.Making.{HasOwn, IsMade, IsMadeAt}
 use Rattle.kept_rooms.specs.Records.{AreLasts}
 
@@ -41,13 +42,6 @@ get-set : {A : Type 0} (xs : List A) (n : ℕ) (x y : A) → slice_get xs n ≡ 
 get-set [] n x y h = absurd (grind (arith, h))
 get-set (z ∷ xs) zero x y h = refl
 get-set (z ∷ xs) (suc n) x y h = get-set xs n x y h
-
-get-set_other : {A : Type 0} (xs : List A) (n k : ℕ) (x : A) → n ≢ k → slice_get (slice_set xs n x) k ≡ slice_get xs k
-get-set_other [] n k x h = refl
-get-set_other (z ∷ xs) zero zero x h = absurd (h refl)
-get-set_other (z ∷ xs) zero (suc k) x h = refl
-get-set_other (z ∷ xs) (suc n) zero x h = refl
-get-set_other (z ∷ xs) (suc n) (suc k) x h = get-set_other xs n k x (λ e. h (ap suc e))
 
 module _ {O P C : Type 0} (entries : List (Entry C)) (e : Entry C) (passes : List (Known O P C)) (p q : Known O P C) where
   -- the pass whose station has made the entry

@@ -2,11 +2,11 @@
 ghost use Rattle.std.specs.Prelude.{◌≡◌, ◌<◌, ◌≤◌, IfOk, OnOk, ◌++◌};
 ghost use Rattle.made_sessions.specs.Scripts.{drawn, first_word, next_word, script, script_call, call_drawn, call_with, sent_line, sent_lines, words};
 
-use call_text::{Deed, Step, call_text};
 use composables::{Insert, Memory, Overwrite};
 use edit_apply::Call;
 use frame_meaning::What;
-use reply_text::put;
+use line_table::{Deed, Step, call_text};
+use protocol_parts::put;
 use std::alloc::Global;
 
 /// How many words there are.

@@ -3,7 +3,7 @@ ghost use Rattle.std.specs.Prelude.{◌≡◌, ◌++◌, IfOk, OnOk};
 ghost use Rattle.made_sessions.specs.Sessions.{summary_of, track_line};
 
 use composables::{Memory, Track};
-use reply_text::{put, put_number};
+use protocol_parts::{put, put_number};
 use std::alloc::Global;
 
 // Adds the line of a track: its number, its length in frames, and how many items and gaps it has.

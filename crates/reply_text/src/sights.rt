@@ -8,7 +8,7 @@ use crate::replies::{push_link, push_number};
 use crate::{CutObject, MAX_SHORT, Short};
 use composables::{ItemView, Memory, Track};
 use cut_room::Sight;
-use edit_apply::{AskRefusal, Seen};
+use edit_calls::{AskRefusal, Seen};
 use frame_meaning::{Frame, Link, Mark, Run, Side, What};
 use protocol_parts::{put, put_number};
 use std::alloc::Global;

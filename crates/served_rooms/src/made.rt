@@ -6,9 +6,9 @@ ghost use Rattle.edit_journal.specs.Turns.{AreFresh};
 ghost use Rattle.made_sessions.specs.Sessions.{MakeEnds};
 
 use crate::stations::{SeatedStations, seat_all, serve_seated, take_passes};
-use call_text::{CutCall, CutObject, CutPart};
 use command_files::Status;
 use cut_room::{Room, RoomBlank};
+use cut_steps::{CutCall, CutObject, CutPart};
 use edit_journal::{Naming, Pass};
 use line_words::Memory;
 use made_sessions::{TRACKS, made_opening, put_summary, script_text};

@@ -2,8 +2,8 @@
 ghost use Rattle.std.specs.Prelude.{◌≡◌, ℕ, None, Some, length, slice_get};
 ghost use Rattle.served_rooms.specs.Seated.{IsReady, IsServedIn, SeatedState};
 
-use call_text::{CutObject, CutPart};
 use cut_room::Room;
+use cut_steps::{CutObject, CutPart};
 use edit_journal::{Naming, Pass};
 use room_halls::HallLine;
 use room_keepers::Keeping;

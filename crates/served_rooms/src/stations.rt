@@ -12,10 +12,11 @@ ghost use Rattle.station_sessions.specs.Served.{IsRoomOf};
 ghost use Rattle.station_sessions.specs.SessionInside.{TrackOpening, TrackPass, opened_with};
 
 use crate::seated::{Left, SeatedStation, serve_all};
-use call_text::{CutCall, CutObject, CutPart, journal_room, journal_text_into};
 use command_files::Status;
 use cut_room::{Room, RoomBlank};
+use cut_steps::{CutCall, CutObject, CutPart};
 use edit_journal::{Naming, Pass};
+use journal_text::{journal_room, journal_text_into};
 use otio_json::Opening;
 use room_core::Entry;
 use room_files::Files;

@@ -5,8 +5,8 @@ ghost use Rattle.served_rooms.specs.Seated.{LeftState};
 ghost use Rattle.station_sessions.specs.Rooms.{History};
 ghost use Rattle.stored_rooms.specs.Inside.{ClosesKept};
 
-use call_text::{CutCall, CutObject, CutPart};
 use cut_room::Room;
+use cut_steps::{CutCall, CutObject, CutPart};
 use edit_journal::{Naming, Pass};
 use kept_desk::{Desk, Filing, KeptDesk, Taken};
 use kept_lines::CutLines;

@@ -4,7 +4,7 @@ ghost use Rattle.stored_rooms.specs.KeptFiles.{code_text, kept_line};
 
 use command_files::{Refusal, refusal_line};
 use kept_rooms::RecordCode;
-use reply_text::Short;
+use protocol_parts::Short;
 
 /// Why a kept file is refused, in the order in which it is looked at.
 #[derive(Clone, Copy, Debug, PartialEq, Eq)]

@@ -9,9 +9,9 @@ ghost use Rattle.station_sessions.specs.SessionInside.{TrackPass};
 ghost use Rattle.stored_rooms.specs.Inside.{DeskEnds, IsOpenFile};
 
 use crate::closing::{CutDesk, CutKeeper, close_room};
-use call_text::{CutCall, CutObject, CutPart};
 use command_files::Status;
 use cut_room::Room;
+use cut_steps::{CutCall, CutObject, CutPart};
 use edit_journal::{Naming, Pass};
 use kept_desk::{Filing, KeptDesk};
 use room_disks::Disk;
