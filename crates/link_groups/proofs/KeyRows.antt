@@ -5,7 +5,7 @@ use Rattle.std.proofs.lemmas.Bool.{eqb-true}
 use Rattle.frame_meaning.specs.declared.cells.Link.{Link}
 use Rattle.composables.specs.declared.items.ItemView.{ItemView}
 use Rattle.composables.specs.TrackSets.{link_key}
-use Rattle.link_groups.specs.Keys.{may_be_set, pair_key}
+use Rattle.link_groups.specs.Keys.{has_pair, may_be_set, pair_key}
 use Rattle.link_groups.specs.Splits.{is_key_of}
 
 true_false : true ≡ false → ⊥
@@ -56,10 +56,6 @@ key-of q (Some l) e =
     let home : q.0 ≡ l.home = eqb-true q.0 l.home h.0 in
     let number : q.1 ≡ l.number = eqb-true q.1 l.number h.1 in
     ap (λ (n : ℕ). Some (n % 32 * 2 ^ 27 + l.number % 2 ^ 27)) (sym home) ∙ ap (λ (n : ℕ). Some (q.0 % 32 * 2 ^ 27 + n % 2 ^ 27)) (sym number)
-
--- an item or gap among these has the link with this home and number
-abbrev pub has_pair : ℕ × ℕ → List ItemView → Bool
-has_pair q vs = list_any (λ (v : ItemView). is_key_of q v.link) vs
 
 -- each of these has the key of its link, if it has one, in this row
 abbrev pub HaveKeys : List ℕ → List ItemView → Type 0

@@ -26,3 +26,5 @@ pub mod Others
 pub mod Apart
 pub mod KeyRows
 pub mod BothSides
+pub mod Unmarked
+pub mod KeptLinks

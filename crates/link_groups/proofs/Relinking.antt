@@ -1,5 +1,5 @@
 -- Items of which each gets a link, with the home and the tracks of the one that it had: what stays as it was.
-use Rattle.std.proofs.Common.{◌≡◌, ℕ, zero, suc, ◌+◌, ◌-◌, ◌<◌, ◌≤◌, Bool, true, false, cond, ltb, List, [], ◌∷◌, length, drop, take, Option, Some, None, IfSome, slice_get, refl, sym, ap, ◌∙◌, arith, subst, IsBitSet}
+use Rattle.std.proofs.Common.{◌≡◌, ℕ, zero, suc, ◌+◌, ◌-◌, ◌<◌, ◌≤◌, Bool, true, false, cond, ltb, List, [], ◌∷◌, length, take, Option, Some, None, IfSome, slice_get, refl, sym, ap, ◌∙◌, arith, subst, IsBitSet}
 use Rattle.std.proofs.lemmas.List.{take_all}
 use Rattle.std.proofs.lemmas.Option.{slice_get_within}
 use Rattle.std.specs.BTreeMap.{get}
@@ -15,14 +15,13 @@ use Rattle.frame_meaning.specs.declared.frames.Side.TheVariants.{Dark, Pic}
 use Rattle.composables.specs.declared.items.ItemView.{ItemView}
 use Rattle.composables.specs.declared.media.Table.{Table}
 use Rattle.composables.specs.Changes.{changed_at, changed_track, with_link}
-use Rattle.composables.specs.Good.{AllUnlinked, EachLiesIn, EachLinkOf, IsGood, IsLinkOf, SideLiesIn}
+use Rattle.composables.specs.Good.{EachLiesIn, EachLinkOf, IsGood, IsLinkOf, SideLiesIn}
 use Rattle.composables.specs.Items.{cells_of, items_of}
 use Rattle.composables.specs.Joined.{AllFilled, IsTight, frames_in}
 use Rattle.composables.specs.TrackFacts.{Apart, EachHolds, Holds, IsKept, Lacks, NumbersBelow, ShowsAsItem, first_mark, left_reach, right_reach}
 use Rattle.composables.specs.TrackState.{TrackState}
 use Rattle.composables.proofs.Joining.{items_of-tight, length-cells_of}
 use Rattle.composables.proofs.MarkStanding.{filled_of, tight_of}
-use Rattle.composables.proofs.Pieces.{left-first, left-rest}
 use Rattle.link_groups.specs.declared.splits.Splits.{Splits}
 use Rattle.link_groups.specs.Splits.{key_cmp, key_of, given_link, relinked_cells, relinked_views, with_number}
 
@@ -361,32 +360,3 @@ more-past s place t u i v k e read past =
     (sym (linked-more i (new_links (given_link s) place (items_of t.cells)) (items_of t.cells) v.link (link-passed (given_link s) place (items_of t.cells) i v read past)
     ∙ own-link i (linked_each (first_links s place t i) (items_of t.cells)) v (read-linked i (new_links (given_link s) place (items_of t.cells)) (items_of t.cells) ∙ read)))
     ∙ ap (λ (n : ℕ). linked_track (first_links s place t n) t) next)
-
--- what has no link gets none
-bare_cond : (f : Option Link → Option Link) (b : Bool) (o : Option Link) → f None ≡ None → o ≡ None → cond b (f o) o ≡ o
-bare_cond f true o none e = ap f e ∙ (none ∙ sym e)
-bare_cond f false o none e = refl
-
-more_bare : (s : Splits) (place : ℕ) (t u : TrackState) (i : ℕ) (v : ItemView) → u ≡ linked_track (first_links s place t i) t → slice_get (items_of t.cells) i ≡ Some v
-    → v.link ≡ None → u ≡ linked_track (first_links s place t (i + 1)) t
-more_bare s place t u i v e read none =
-    let vs = items_of t.cells in
-    let ls : List (Option Link) = new_links (given_link s) place (items_of t.cells) in
-    let next : suc i ≡ i + 1 = omega arith in
-    let own : slice_get ls i ≡ Some v.link =
-    link-at (given_link s) place vs i v read ∙ ap (λ (o : Option Link). Some o) (bare_cond (given_link s) (ltb (place - frames_in (take i vs)) v.len) v.link refl none) in
-    e
-    ∙ (ap (λ (ws : List ItemView). record t { cells = cells_of ws })
-    (sym (linked-more i ls vs v.link own ∙ own-link i (linked_each (first_links s place t i) vs) v (read-linked i ls vs ∙ read)))
-    ∙ ap (λ (n : ℕ). linked_track (first_links s place t n) t) next)
-
-pub more-bare : (s : Splits) (place : ℕ) (t u : TrackState) (n i : ℕ) (old : List ItemView) → old ≡ drop i (items_of t.cells) → n ≤ length old → AllUnlinked (take n old)
-    → u ≡ linked_track (first_links s place t i) t → u ≡ linked_track (first_links s place t (i + n)) t
-more-bare s place t u zero i old is few bare e = let same : i ≡ i + 0 = omega arith in e ∙ ap (λ (m : ℕ). linked_track (first_links s place t m) t) same
-more-bare s place t u (suc n) i [] is few bare e = absurd (omega (arith, few))
-more-bare s place t u (suc n) i (v ∷ vs) is few bare e =
-    let read = left-first (items_of t.cells) (v ∷ vs) vs i v is refl in
-    let rest = left-rest (items_of t.cells) (v ∷ vs) vs i v is refl in
-    let on : (i + 1) + n ≡ i + suc n = omega arith in
-    more-bare s place t u n (i + 1) vs rest (omega (arith, few)) bare.1 (more_bare s place t u i v e read bare.0)
-    ∙ ap (λ (m : ℕ). linked_track (first_links s place t m) t) on

@@ -307,8 +307,8 @@ among_below q k (f ∷ fs) a e = by (key_cmp q f) refl e (among_below q k fs a.1
   by Equal g h later = subst (λ (p : ℕ × ℕ). key_cmp p k ≡ Less) (sym (key-exact q f g)) a.0
   by Greater g h later = later h
 
-at_sym : (q k : ℕ × ℕ) → is_at (key_cmp q) k ≡ is_at (key_cmp k) q
-at_sym q k = ap is_eq (key-total.antisymm q k) ∙ reversed (key_cmp k q) where
+pub at-sym : (q k : ℕ × ℕ) → is_at (key_cmp q) k ≡ is_at (key_cmp k) q
+at-sym q k = ap is_eq (key-total.antisymm q k) ∙ reversed (key_cmp k q) where
   reversed : (r : Ordering) → is_eq (ordering_reverse r) ≡ is_eq r
   reversed Less = refl
   reversed Equal = refl
@@ -317,8 +317,8 @@ at_sym q k = ap is_eq (key-total.antisymm q k) ∙ reversed (key_cmp k q) where
 at_self : (k : ℕ × ℕ) → is_at (key_cmp k) k ≡ true
 at_self k = key-at k k ∙ both (eqb k.0 k.0) (eqb k.1 k.1) true true (eqb-refl k.0) (eqb-refl k.1)
 
-at_is : (k q : ℕ × ℕ) → is_at (key_cmp k) q ≡ true → k ≡ q
-at_is k q e = by (key_cmp k q) refl e where
+pub at-is : (k q : ℕ × ℕ) → is_at (key_cmp k) q ≡ true → k ≡ q
+at-is k q e = by (key_cmp k q) refl e where
   by : (r : Ordering) → key_cmp k q ≡ r → is_eq r ≡ true → k ≡ q
   by Less u v = absurd cc
   by Equal u v = key-exact k q u
@@ -335,6 +335,10 @@ or_true : (x y : Bool) → y ≡ true → (x || y) ≡ true
 or_true true y e = refl
 or_true false y e = e
 
+-- a key is that of a link, or is not
+pub at-link : (l : Link) (q : ℕ × ℕ) → is_at (key_cmp (key_of l)) q ≡ is_key_of q (Some l)
+at-link l q = sym (at-sym q (key_of l)) ∙ key-at q (key_of l)
+
 given_self : (tracks : List TrackState) (ks : List (ℕ × ℕ)) (k : ℕ × ℕ) → AllBelow k ks
     → given tracks (ks ++ k ∷ []) k ≡ Some (next_link_at k.0 tracks + at_home k.0 ks)
 given_self tracks ks k a =
@@ -346,7 +350,7 @@ given_self tracks ks k a =
 
 given_other : (tracks : List TrackState) (ks : List (ℕ × ℕ)) (k q : ℕ × ℕ) → AllBelow k ks → is_at (key_cmp k) q ≡ false → given tracks (ks ++ k ∷ []) q ≡ given tracks ks q
 given_other tracks ks k q a e =
-    ap (λ (b : Bool). cond b (Some (next_link_at q.0 tracks + smaller q (ks ++ k ∷ []))) None) (any_more q ks k ∙ ap (λ (y : Bool). list_any (is_at (key_cmp q)) ks || y) (at_sym q k ∙ e))
+    ap (λ (b : Bool). cond b (Some (next_link_at q.0 tracks + smaller q (ks ++ k ∷ []))) None) (any_more q ks k ∙ ap (λ (y : Bool). list_any (is_at (key_cmp q)) ks || y) (at-sym q k ∙ e))
     ∙ (ap (λ (n : ℕ). cond (list_any (is_at (key_cmp q)) ks || false) (Some (next_link_at q.0 tracks + n)) None) (length_more (λ (f : ℕ × ℕ). nat_eq f.0 q.0 && nat_lt f.1 q.1) ks k)
     ∙ by (list_any (is_at (key_cmp q)) ks) refl) where
       by : (x : Bool) → list_any (is_at (key_cmp q)) ks ≡ x
@@ -361,7 +365,7 @@ pub given-more : (tracks : List TrackState) (ks : List (ℕ × ℕ)) (k q : ℕ 
     → given tracks (ks ++ k ∷ []) q ≡ cond (is_at (key_cmp k) q) (Some (next_link_at k.0 tracks + at_home k.0 ks)) (given tracks ks q)
 given-more tracks ks k q a = by (is_at (key_cmp k) q) refl where
   by : (b : Bool) → is_at (key_cmp k) q ≡ b → given tracks (ks ++ k ∷ []) q ≡ cond b (Some (next_link_at k.0 tracks + at_home k.0 ks)) (given tracks ks q)
-  by true e = subst (λ (p : ℕ × ℕ). given tracks (ks ++ k ∷ []) p ≡ Some (next_link_at k.0 tracks + at_home k.0 ks)) (at_is k q e) (given_self tracks ks k a)
+  by true e = subst (λ (p : ℕ × ℕ). given tracks (ks ++ k ∷ []) p ≡ Some (next_link_at k.0 tracks + at_home k.0 ks)) (at-is k q e) (given_self tracks ks k a)
   by false e = given_other tracks ks k q a e
 
 -- what stands before a key in order is below it

@@ -1,11 +1,13 @@
 -- What keys of links are marked, by which it is told whether what stays has a link of what moves.
-use Rattle.std.specs.Prelude.{◌≡◌, ℕ, ◌+◌, ◌*◌, ◌/◌, ◌%◌, ◌^◌, Bool, true, false, ◌&&◌, List, Option, Some, None, slice_get, slice_index_or}
+use Rattle.std.specs.Prelude.{◌≡◌, ℕ, ◌+◌, ◌*◌, ◌/◌, ◌%◌, ◌^◌, Bool, true, List, Option, Some, None, is_some, slice_get, slice_index_or}
+use Rattle.std.specs.BTreeMap.{get}
+use Rattle.std.specs.BTreeSet.{BTreeSet, contains}
 use Rattle.std.specs.List.{list_any}
 use Rattle.frame_meaning.specs.declared.cells.Cell.{Cell}
-use Rattle.composables.specs.Links.{cells_before, cells_from}
-use Rattle.composables.specs.TrackState.{TrackState}
+use Rattle.composables.specs.declared.items.ItemView.{ItemView}
 use Rattle.link_groups.specs.declared.key_marks.KeyMarks.{KeyMarks}
-use Rattle.link_groups.specs.Splits.{has_key}
+use Rattle.link_groups.specs.declared.splits.Splits.{Splits}
+use Rattle.link_groups.specs.Splits.{has_key, is_key_of, key_cmp}
 
 -- the key of a link with this home and number
 abbrev pub pair_key : ℕ × ℕ → ℕ
@@ -31,6 +33,14 @@ may_have m key = may_be m.parts m.row.items key
 abbrev pub Said : KeyMarks → Bool → List Cell → Type 0
 Said m b cells = (q : ℕ × ℕ) → list_any (has_key q) cells ≡ true → may_have m (pair_key q) ≡ b
 
--- no link has cells both before a place and from another on
-abbrev pub NoneShared : ℕ → ℕ → List TrackState → Type 0
-NoneShared x y tracks = (q : ℕ × ℕ) → (list_any (has_key q) (cells_before x tracks) && list_any (has_key q) (cells_from y tracks)) ≡ false
+-- an item or gap among these has the link with this home and number
+abbrev pub has_pair : ℕ × ℕ → List ItemView → Bool
+has_pair q vs = list_any (λ (v : ItemView). is_key_of q v.link) vs
+
+-- each of these links has its key marked
+abbrev pub AreMarked : KeyMarks → BTreeSet (ℕ × ℕ) → Type 0
+AreMarked m links = (q : ℕ × ℕ) → contains key_cmp links q ≡ true → may_have m (pair_key q) ≡ true
+
+-- and so has each link that is split
+abbrev pub HasMarks : Splits → Type 0
+HasMarks s = (q : ℕ × ℕ) → is_some (get key_cmp s.numbers q) ≡ true → may_have s.marks (pair_key q) ≡ true

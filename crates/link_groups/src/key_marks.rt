@@ -2,7 +2,7 @@
 ghost use Rattle.std.specs.Prelude.{◌≡◌, ℕ, nat_eq, false, true};
 ghost use Rattle.std.specs.List.{list_any};
 ghost use Rattle.link_groups.specs.Keys.{key_place, may_be, may_have, pair_key};
-ghost use Rattle.link_groups.specs.Splits.{is_key_of};
+ghost use Rattle.link_groups.specs.Splits.{is_key_of, key_of};
 
 use composables::{Memory, Track, key_of_link};
 use frame_meaning::Link;
@@ -39,6 +39,17 @@ impl KeyMarks {
         Ok(KeyMarks { parts, row })
     }
 
+    /// Each key counts as marked. It takes no memory.
+    pub fn all(alloc: Global) -> KeyMarks
+        ensures { (k : ℕ) → may_have result k ≡ true }
+    {
+        let row = Vec::new(alloc);
+        KeyMarks {
+            parts: [0; KEY_HOMES],
+            row,
+        }
+    }
+
     /// Marks these keys.
     pub fn mark_all(&mut self, keys: &[u32])
         ensures grows { (k : ℕ) → may_have self.old k ≡ true → may_have self.new k ≡ true }
@@ -60,6 +71,21 @@ impl KeyMarks {
         }
     }
 
+    /// Marks the key of the links with this home and number.
+    pub fn mark_pair(&mut self, pair: (u32, u32))
+        ensures grows { (k : ℕ) → may_have self.old k ≡ true → may_have self.new k ≡ true }
+        ensures marked { may_have self.new (pair_key pair) ≡ true }
+    {
+        let (home, number) = pair;
+        let tracks = 0;
+        let link = Link {
+            home,
+            number,
+            tracks,
+        };
+        mark_key(&self.parts, self.row.as_mut_slice(), key_of_link(link))
+    }
+
     /// Whether one of these keys may be marked.
     pub fn may_have_any(&self, keys: &[u32]) -> bool
         ensures { result ≡ list_any (may_have self.now) keys.now }
@@ -67,15 +93,11 @@ impl KeyMarks {
         may_be_any(&self.parts, self.row.as_slice(), keys)
     }
 
-    /// Whether the key of a link may be marked, if there is one. False only where it is not.
-    pub fn may_have_link(&self, link: Option<Link>) -> bool
-        ensures { result ≡ false → (q : ℕ × ℕ) → is_key_of q link ≡ true
-            → may_have self.now (pair_key q) ≡ false }
+    /// Whether the key of a link may be marked.
+    pub fn may_have_link(&self, link: Link) -> bool
+        ensures { result ≡ may_have self.now (pair_key (key_of link)) }
     {
-        match link {
-            Some(link) => may_be(&self.parts, self.row.as_slice(), key_of_link(link)),
-            None => false,
-        }
+        may_be(&self.parts, self.row.as_slice(), key_of_link(link))
     }
 }
 

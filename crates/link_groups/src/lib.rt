@@ -13,10 +13,12 @@ mod linking;
 mod meeting;
 mod offsets;
 mod outside;
+mod passing;
 mod renumbering;
 mod shifting;
 mod splits;
 mod starts;
+mod staying;
 mod unlinking;
 
 pub use finding::{FoundItem, item_on};

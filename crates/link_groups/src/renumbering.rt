@@ -1,17 +1,21 @@
 // New links for the moved items of links that also have items which stay.
-ghost use Rattle.std.specs.Prelude.{◌≡◌, ◌+◌, ◌*◌, ◌<◌, ◌≤◌, ◌^◌, All, IfSome, IsNone, OnErr, OnOk, Some, None, map, slice_get, unwrap_or};
+ghost use Rattle.std.specs.Prelude.{◌≡◌, ◌+◌, ◌*◌, ◌<◌, ◌≤◌, ◌^◌, All, IfSome, IsNone, OnErr, OnOk, Some, None, length, map, slice_get, unwrap_or};
 ghost use Rattle.std.specs.BTreeMap.{get};
 ghost use Rattle.std.specs.Ordering.{nat_cmp};
 ghost use Rattle.composables.specs.Changes.{changed_track, with_link};
 ghost use Rattle.composables.specs.Good.{EachLinkOf};
 ghost use Rattle.composables.specs.Items.{items_of};
 ghost use Rattle.composables.specs.Links.{cells_from, link_outside, links_split};
-ghost use Rattle.composables.specs.Sizes.{size_of, sizes_of};
+ghost use Rattle.composables.specs.Sizes.{look_of, size_of, sizes_of};
 ghost use Rattle.composables.specs.TrackFacts.{IsKept};
+ghost use Rattle.link_groups.specs.Keys.{HasMarks};
 ghost use Rattle.link_groups.specs.Renumbering.{MayBeSplit, IsUncut};
 ghost use Rattle.link_groups.specs.Splits.{given_link, relinked_cells, relinked_track};
+ghost use Rattle.link_groups.specs.Starts.{IsStart};
 
+use crate::passing::pass_unmarked;
 use crate::splits::{Splits, splits_at};
+use crate::starts::{Start, first, found};
 use composables::{ItemReader, ItemView, Memory, Track, a_track_is_kept, copies_of};
 use frame_meaning::Link;
 use std::alloc::Global;
@@ -39,12 +43,36 @@ pub fn renumber<L: Ledger>(
 {
     let splits = splits_at(alloc, named, x, y, steps)?;
     let mut renumbered = copies_of(alloc, named)?;
-    relink_all(alloc, &mut renumbered, u64::from(y), &splits, steps)?;
+    relink_whole(alloc, &mut renumbered, u64::from(y), &splits, steps)?;
     *named = renumbered;
     Ok(())
 }
 
-// Gives the items that end past a place their new links, on each of these tracks, which are copies.
+// Gives the items that end past a place their new links, on each of these tracks, which are copies. Each walk begins at the
+// first item.
+fn relink_whole<L: Ledger>(
+    alloc: Global,
+    named: &mut Vec<Track>,
+    place: u64,
+    splits: &Splits,
+    steps: &mut Steps<L>,
+) -> Result<(), Memory>
+    requires next { All (λ t. t.next_link + unwrap_or (get nat_cmp splits.now.counts t.number) 0
+        < 2 ^ 32) named.old.items }
+    requires marked { HasMarks splits.now }
+    ensures relinked { OnOk result
+        (named.new.items ≡ map (relinked_track splits.now place) named.old.items) }
+    ensures least { steps.old ≤ steps.new }
+    ensures most { steps.new ≤ steps.old + sizes_of named.old.items }
+{
+    for index in 0..named.len() {
+        relink_track(alloc, &mut named[index], first(), place, splits, steps)?;
+    }
+    Ok(())
+}
+
+/// Gives the items that end past a place their new links, on each of these tracks, which are copies. Each walk begins at the
+/// item that holds the place.
 pub(crate) fn relink_all<L: Ledger>(
     alloc: Global,
     named: &mut Vec<Track>,
@@ -54,19 +82,21 @@ pub(crate) fn relink_all<L: Ledger>(
 ) -> Result<(), Memory>
     requires next { All (λ t. t.next_link + unwrap_or (get nat_cmp splits.now.counts t.number) 0
         < 2 ^ 32) named.old.items }
+    requires marked { HasMarks splits.now }
     ensures relinked { OnOk result
         (named.new.items ≡ map (relinked_track splits.now place) named.old.items) }
     ensures least { steps.old ≤ steps.new }
-    ensures most { steps.new ≤ steps.old + sizes_of named.old.items }
+    ensures most { 2 * steps.new ≤ 2 * steps.old + 3 * sizes_of named.old.items }
 {
     for index in 0..named.len() {
-        relink_track(alloc, &mut named[index], place, splits, steps)?;
+        relink_found(alloc, &mut named[index], place, splits, steps)?;
     }
     Ok(())
 }
 
-// Gives the items of one track that end past a place their new links, and the track its next link number.
-fn relink_track<L: Ledger>(
+// Gives the items of one track their new links, and the track its next link number. The walk begins at the item that holds
+// the place.
+fn relink_found<L: Ledger>(
     alloc: Global,
     track: &mut Track,
     place: u64,
@@ -75,11 +105,50 @@ fn relink_track<L: Ledger>(
 ) -> Result<(), Memory>
     requires next { track.old.next_link
         + unwrap_or (get nat_cmp splits.now.counts track.old.number) 0 < 2 ^ 32 }
+    requires marked { HasMarks splits.now }
     ensures relinked { OnOk result (track.new ≡ relinked_track splits.now place track.old) }
     ensures least { steps.old ≤ steps.new }
-    ensures most { steps.new ≤ steps.old + size_of track.old }
+    ensures most { 2 * steps.new ≤ 2 * steps.old + 3 * size_of track.old }
 {
-    relink_cells(alloc, track, place, splits, steps)?;
+    let start = start_at(track, place, splits, steps);
+    relink_track(alloc, track, start, place, splits, steps)
+}
+
+// The start at the item that holds the place, where there are links that are split; else at the first.
+fn start_at<L: Ledger>(track: &Track, place: u64, splits: &Splits, steps: &mut Steps<L>) -> Start
+    ensures start { IsStart place track.now result }
+    ensures least { steps.old ≤ steps.new }
+    ensures most { steps.new ≤ steps.old + look_of track.now }
+{
+    let unsplit = splits.numbers.is_empty();
+    if unsplit {
+        return first();
+    }
+    if u64::from(track.length()) <= place {
+        return first();
+    }
+    found(track, place as u32, steps)
+}
+
+// Gives the items of one track that end past a place their new links, and the track its next link number. The walk begins at
+// this start.
+fn relink_track<L: Ledger>(
+    alloc: Global,
+    track: &mut Track,
+    start: Start,
+    place: u64,
+    splits: &Splits,
+    steps: &mut Steps<L>,
+) -> Result<(), Memory>
+    requires next { track.old.next_link
+        + unwrap_or (get nat_cmp splits.now.counts track.old.number) 0 < 2 ^ 32 }
+    requires start { IsStart place track.old start }
+    requires marked { HasMarks splits.now }
+    ensures relinked { OnOk result (track.new ≡ relinked_track splits.now place track.old) }
+    ensures least { steps.old ≤ steps.new }
+    ensures most { steps.new ≤ steps.old + length (items_of track.old.cells) }
+{
+    relink_cells(alloc, track, start, place, splits, steps)?;
     let count = splits.counts.get(&track.number()).copied().unwrap_or(0);
     track.set_next_link(track.next_link() + count);
     Ok(())
@@ -90,48 +159,55 @@ fn relink_track<L: Ledger>(
 fn relink_cells<L: Ledger>(
     alloc: Global,
     track: &mut Track,
+    start: Start,
     place: u64,
     splits: &Splits,
     steps: &mut Steps<L>,
 ) -> Result<(), Memory>
+    requires start { IsStart place track.old start }
+    requires marked { HasMarks splits.now }
     ensures relinked { OnOk result (track.new ≡ relinked_cells splits.now place track.old) }
     ensures least { steps.old ≤ steps.new }
-    ensures most { steps.new ≤ steps.old + size_of track.old }
+    ensures most { steps.new ≤ steps.old + length (items_of track.old.cells) }
 {
     a_track_is_kept(track);
     if splits.numbers.is_empty() {
         return Ok(());
     }
     let old = track.copy(alloc)?;
-    relink_items(alloc, track, &old, place, splits, steps)
+    relink_items(alloc, track, &old, start, place, splits, steps)
 }
 
-// Reads the items of the track as it was while it gives some of them new links. Pages without links are passed by.
+// Reads the items of the track as it was while it gives some of them new links. Pages without a link that is split are
+// passed by.
 fn relink_items<L: Ledger>(
     alloc: Global,
     track: &mut Track,
     old: &Track,
+    start: Start,
     place: u64,
     splits: &Splits,
     steps: &mut Steps<L>,
 ) -> Result<(), Memory>
-    requires { old.now ≡ track.old }
+    requires same { old.now ≡ track.old }
+    requires start { IsStart place old.now start }
+    requires marked { HasMarks splits.now }
     ensures relinked { OnOk result (track.new ≡ relinked_cells splits.now place old.now) }
     ensures least { steps.old ≤ steps.new }
-    ensures most { steps.new ≤ steps.old + size_of old.now }
+    ensures most { steps.new ≤ steps.old + length (items_of old.now.cells) }
 {
     a_track_is_kept(old);
     if !old.has_links() {
         return Ok(());
     }
     let count = old.count();
-    let mut items = ItemReader::at(old, 0);
-    let mut index: u32 = 0;
-    let mut end: u32 = 0;
+    let mut items = ItemReader::at(old, start.index);
+    let mut index = start.index;
+    let mut end = start.from;
     while index < count {
-        let passed = items.pass_unlinked();
-        index += passed.count;
-        end += passed.places;
+        let past = pass_unmarked(old, &mut items, index, u32::MAX, &splits.marks);
+        index += past.count;
+        end += past.frames;
         let Some(view) = items.next() else {
             return Ok(());
         };

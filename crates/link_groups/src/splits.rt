@@ -5,15 +5,17 @@ ghost use Rattle.std.specs.BTreeSet.{btree_set_len, contains, IsOrdered};
 ghost use Rattle.composables.specs.Items.{items_of};
 ghost use Rattle.composables.specs.Links.{cells_before, cells_from, next_link_at, split_links};
 ghost use Rattle.composables.specs.Sizes.{size_of, sizes_of};
-ghost use Rattle.link_groups.specs.Keys.{NoneShared};
+ghost use Rattle.link_groups.specs.Keys.{AreMarked, HasMarks};
 ghost use Rattle.link_groups.specs.Marks.{is_marked};
 ghost use Rattle.link_groups.specs.Renumbering.{MayBeSplit};
 ghost use Rattle.link_groups.specs.Splits.{AreGiven, AreSplits, HasFew, has_key, is_key_of, key_cmp};
 ghost use Rattle.link_groups.specs.Starts.{IsStart};
 
+use crate::key_marks::KeyMarks;
 use crate::link_marks::LinkMarks;
-use crate::meeting::may_be_split;
-use crate::starts::{Start, first, found};
+use crate::meeting::{keys_before, keys_of, met_from};
+use crate::starts::{Start, first};
+use crate::staying::staying;
 use composables::{ItemReader, Memory, Track, a_track_is_kept};
 use frame_meaning::Link;
 use std::alloc::Global;
@@ -21,11 +23,13 @@ use std::collections::{BTreeMap, BTreeSet};
 use std::sync::ledger::Ledger;
 use step_count::Steps;
 
-/// The new number of each link that is split, by its home and its number, and how many new numbers each home gives.
+/// The new number of each link that is split, by its home and its number, how many new numbers each home gives, and marks
+/// of the keys of these links, by which pages without them are passed by.
 #[derive(Drop)]
 pub struct Splits {
     pub(crate) numbers: BTreeMap<(u32, u32), u32>,
     pub(crate) counts: BTreeMap<u32, u32>,
+    pub(crate) marks: KeyMarks,
 }
 
 // The splits of the links that have items both before the record frame `x` and from `y` on.
@@ -39,35 +43,17 @@ pub(crate) fn splits_at<L: Ledger>(
     requires room { MayBeSplit named.now }
     ensures splits { IfOk result (λ s. AreSplits named.now (split_links x y named.now) s) }
     ensures few { IfOk result (λ s. HasFew s) }
+    ensures marked { IfOk result (λ s. HasMarks s) }
     ensures least { steps.old ≤ steps.new }
     ensures most { steps.new ≤ steps.old + 3 * sizes_of named.now }
 {
     let before = marks_before(alloc, named, x, steps)?;
     let split = split_from(alloc, named, &before, y, steps)?;
-    number_splits(alloc, named, &split, steps)
+    number_splits(alloc, named, &split, KeyMarks::all(alloc), steps)
 }
 
-/// The splits of `splits_at`, where each walk from `y` on begins at the item that holds `y`.
-pub(crate) fn splits_moved<L: Ledger>(
-    alloc: Global,
-    named: &[Track],
-    x: u32,
-    y: u32,
-    steps: &mut Steps<L>,
-) -> Result<Splits, Memory>
-    requires room { MayBeSplit named.now }
-    ensures splits { IfOk result (λ s. AreSplits named.now (split_links x y named.now) s) }
-    ensures few { IfOk result (λ s. HasFew s) }
-    ensures least { steps.old ≤ steps.new }
-    ensures most { 2 * steps.new ≤ 2 * steps.old + 7 * sizes_of named.now }
-{
-    let before = marks_before(alloc, named, x, steps)?;
-    let split = split_moved(alloc, named, &before, y, steps)?;
-    number_splits(alloc, named, &split, steps)
-}
-
-/// The splits of `splits_moved`. Where keys tell that no link can be split, no item is read but those of the pages that
-/// hold `x` and `y`.
+/// The splits of `splits_at`. Keys tell which links may be split, and where: only the pages that may have one of these are
+/// read, and those that hold `x` and `y`.
 pub(crate) fn splits_shifted<L: Ledger>(
     alloc: Global,
     named: &[Track],
@@ -78,15 +64,15 @@ pub(crate) fn splits_shifted<L: Ledger>(
     requires room { MayBeSplit named.now }
     ensures splits { IfOk result (λ s. AreSplits named.now (split_links x y named.now) s) }
     ensures few { IfOk result (λ s. HasFew s) }
+    ensures marked { IfOk result (λ s. HasMarks s) }
     ensures least { steps.old ≤ steps.new }
-    ensures most { steps.new ≤ steps.old + 6 * sizes_of named.now }
+    ensures most { 2 * steps.new ≤ 2 * steps.old + 9 * sizes_of named.now }
 {
-    let may_be = may_be_split(alloc, named, x, y, steps)?;
-    if may_be {
-        return splits_moved(alloc, named, x, y, steps);
-    }
-    let none = BTreeSet::new(alloc);
-    number_splits(alloc, named, &none, steps)
+    let before = keys_before(alloc, named, x, steps)?;
+    let met = met_from(alloc, named, &before, y, steps)?;
+    let marks = keys_of(alloc, named, &met)?;
+    let split = staying(alloc, named, met, &marks, x, steps)?;
+    number_splits(alloc, named, &split, marks, steps)
 }
 
 // The links of items that begin before the record frame `x`.
@@ -168,48 +154,6 @@ fn split_from<L: Ledger>(
     Ok(split)
 }
 
-// The links of `split_from`, where each walk begins at the item that holds `y`.
-fn split_moved<L: Ledger>(
-    alloc: Global,
-    named: &[Track],
-    before: &LinkMarks,
-    y: u32,
-    steps: &mut Steps<L>,
-) -> Result<BTreeSet<(u32, u32)>, Memory>
-    ensures links { IfOk result (λ s. (q : ℕ × ℕ) → contains key_cmp s q
-        ≡ (is_marked before.now q && list_any (has_key q) (cells_from y named.now))) }
-    ensures few { IfOk result (λ s. btree_set_len s
-        ≤ sum_by (λ t. length (items_of t.cells)) named.now) }
-    ensures least { steps.old ≤ steps.new }
-    ensures most { 2 * steps.new ≤ 2 * steps.old + 3 * sizes_of named.now }
-{
-    let mut split = BTreeSet::new(alloc);
-    for track in named {
-        add_found(&mut split, before, track, y, steps)?;
-    }
-    Ok(split)
-}
-
-// Adds those that items of one track have; the walk begins at the item that holds `y`.
-fn add_found<L: Ledger>(
-    split: &mut BTreeSet<(u32, u32)>,
-    before: &LinkMarks,
-    track: &Track,
-    y: u32,
-    steps: &mut Steps<L>,
-) -> Result<(), Memory>
-    ensures links { OnOk result ((q : ℕ × ℕ) → contains key_cmp split.new q
-        ≡ (contains key_cmp split.old q
-        || (is_marked before.now q && list_any (has_key q) (drop y track.now.cells)))) }
-    ensures few { OnOk result (btree_set_len split.new
-        ≤ btree_set_len split.old + length (items_of track.now.cells)) }
-    ensures least { steps.old ≤ steps.new }
-    ensures most { 2 * steps.new ≤ 2 * steps.old + 3 * size_of track.now }
-{
-    let start = found(track, y, steps);
-    add_split(split, before, track, start, y, steps)
-}
-
 // Adds those that items of one track have which end past `y`; the walk begins at this start. Pages without links are
 // passed by.
 fn add_split<L: Ledger>(
@@ -275,17 +219,20 @@ fn add_marked(
     Ok(())
 }
 
-// The numbers that these links get, in order of home and number.
+// The numbers that these links get, in order of home and number. Their keys are marked.
 fn number_splits<L: Ledger>(
     alloc: Global,
     named: &[Track],
     split: &BTreeSet<(u32, u32)>,
+    marks: KeyMarks,
     steps: &mut Steps<L>,
 ) -> Result<Splits, Memory>
     requires next { All (λ t. t.next_link ≤ 2 ^ 31) named.now }
     requires few { btree_set_len split.now < 2 ^ 31 }
+    requires marked { AreMarked marks split.now }
     ensures given { IfOk result (λ s. AreGiven named.now split.now.keys s) }
     ensures few { IfOk result (λ s. HasFew s) }
+    ensures marked { IfOk result (λ s. HasMarks s) }
     ensures ordered { IfOk result (λ _. IsOrdered key_cmp split.now) }
     ensures least { steps.old ≤ steps.new }
     ensures most { steps.new ≤ steps.old + btree_set_len split.now }
@@ -298,7 +245,11 @@ fn number_splits<L: Ledger>(
         numbers.insert(*key, next_link_at(named, key.0) + count)?;
         counts.insert(key.0, count + 1)?;
     }
-    Ok(Splits { numbers, counts })
+    Ok(Splits {
+        numbers,
+        counts,
+        marks,
+    })
 }
 
 // The next link number of the track with this number, or 0.

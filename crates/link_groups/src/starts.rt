@@ -1,8 +1,10 @@
 // Where a walk over a track begins that wants what ends past a record frame.
 ghost use Rattle.std.specs.Prelude.{◌≡◌, ◌+◌, ◌≤◌, ℕ};
+ghost use Rattle.composables.specs.Good.{AllUnlinked};
+ghost use Rattle.composables.specs.Items.{items_of};
 ghost use Rattle.composables.specs.Sizes.{look_of};
 ghost use Rattle.composables.specs.TrackState.{TrackState};
-ghost use Rattle.link_groups.specs.Starts.{IsStart};
+ghost use Rattle.link_groups.specs.Starts.{IsNear, IsStart};
 
 use composables::Track;
 use std::sync::ledger::Ledger;
@@ -26,6 +28,7 @@ pub fn first() -> Start
 /// first.
 pub fn found<L: Ledger>(track: &Track, y: u32, steps: &mut Steps<L>) -> Start
     ensures start { IsStart y track.now result }
+    ensures near { (AllUnlinked (items_of track.now.cells) → ⊥) → IsNear y track.now result }
     ensures least { steps.old ≤ steps.new }
     ensures most { steps.new ≤ steps.old + look_of track.now }
 {

@@ -43,7 +43,7 @@ returns-in_err-moved-clause-answers g c =
 pub relink_all-requires : goal.relink_all-requires
 relink_all-requires g c =
     let moved : c.in_ok-moved.moved.items ≡ all_moved c.args.shift.now c.args.named.now.items = c.in_ok-moved.ensures.moved ∙ ap (all_moved c.args.shift.now) c.deref-4.ensures.value in
-    record { next = next-fits c.args.shift.now c.args.named.now.items c.in_ok-moved.moved.items c.in_ok-splits.splits c.requires.split.next c.in_ok-splits.ensures.few moved }
+    record { next = next-fits c.args.shift.now c.args.named.now.items c.in_ok-moved.moved.items c.in_ok-splits.splits c.requires.split.next c.in_ok-splits.ensures.few moved; marked = c.in_ok-splits.ensures.marked }
 
 pub returns-in_err-relink_all-clause-answers : goal.returns-in_err-relink_all-clause-answers
 returns-in_err-relink_all-clause-answers g c =

@@ -7,6 +7,7 @@ use Rattle.std.proofs.lemmas.Map.Iter.{rest_more}
 use Rattle.composables.specs.Links.{next_link_at}
 use Rattle.link_groups.specs.Splits.{key_cmp}
 use Rattle.link_groups.proofs.SplitKeys.{count-more, few-more, more-split, next-small}
+use Rattle.link_groups.proofs.Unmarked.{marks-given}
 use Rattle.link_groups.proofs.splits.number_splits.Goals as goal
 
 pub overflow_add-next_link_at : goal.overflow_add-next_link_at
@@ -44,3 +45,8 @@ loop-key-preserved g c =
       least = omega (arith, c.loop-key.invariant.least, c.tick.ensures);
       most = omega (arith, c.loop-key.invariant.most, c.tick.ensures, ap length left);
     }
+
+pub returns-clause-marked : goal.returns-clause-marked
+returns-clause-marked g c q e =
+    marks-given c.args.marks c.args.named.now c.args.split.now.keys c.loop-key.key-iterator (λ (p : ℕ × ℕ). get key_cmp c.loop-key.numbers p) (λ (home : ℕ). unwrap_or (get nat_cmp c.loop-key.counts home) 0)
+    c.loop-key.invariant.so_far c.requires.marked q e

@@ -1,12 +1,40 @@
-use Rattle.std.proofs.Common.{ap, ◌∙◌, sym}
-use Rattle.std.specs.BTreeMap.{is_at}
+use Rattle.std.proofs.Common.{Bool, ◌&&◌, ap, sym, ◌∙◌, arith}
+use Rattle.std.specs.BTreeSet.{contains}
 use Rattle.std.specs.List.{list_any}
-use Rattle.link_groups.specs.Splits.{key_cmp}
-use Rattle.link_groups.proofs.SplitKeys.{ok-splits}
+use Rattle.composables.specs.Links.{cells_before, cells_from}
+use Rattle.link_groups.specs.Keys.{may_have, pair_key}
+use Rattle.link_groups.specs.Splits.{has_key, key_cmp}
+use Rattle.link_groups.proofs.SplitKeys.{ok-splits, sum-few, sum-sizes}
+use Rattle.link_groups.proofs.Unmarked.{and-left, both-sides}
 use Rattle.link_groups.proofs.splits.splits_shifted.Goals as goal
+
+pub number_splits-requires-clause-few : goal.number_splits-requires-clause-few
+number_splits-requires-clause-few g c =
+    omega (arith, c.in_ok-split.ensures.few, c.in_ok-met.ensures.few, sum-few c.args.named.now c.requires.room.items, c.requires.room.few)
+
+pub number_splits-requires-clause-marked : goal.number_splits-requires-clause-marked
+number_splits-requires-clause-marked g c q e =
+    c.in_ok-marks.ensures q (and-left (contains key_cmp c.in_ok-met.met q) (list_any (has_key q) (cells_before c.args.x c.args.named.now)) (sym (c.in_ok-split.ensures.links q) ∙ e))
+
+pub returns-clause-most : goal.returns-clause-most
+returns-clause-most g c =
+    omega (
+      arith,
+      c.in_ok-before.ensures.most,
+      c.in_ok-met.ensures.most,
+      c.in_ok-split.ensures.most,
+      c.number_splits.ensures.most,
+      c.in_ok-split.ensures.few,
+      c.in_ok-met.ensures.few,
+      sum-sizes c.args.named.now,
+    )
 
 pub returns-clause-splits : goal.returns-clause-splits
 returns-clause-splits g c =
-    ok-splits c.args.named.now c.args.x c.args.y c.new-none.result c.number_splits.result
-    (λ q. ap (list_any (is_at (key_cmp q))) c.new-none.ensures.empty ∙ sym (c.in_ok-may_be.ensures.none c.if-may_be.false q))
+    ok-splits c.args.named.now c.args.x c.args.y c.in_ok-split.split c.number_splits.result
+    (λ q.
+    c.in_ok-split.ensures.links q
+    ∙ (ap (λ (b : Bool). b && list_any (has_key q) (cells_before c.args.x c.args.named.now)) (c.in_ok-met.ensures.links q)
+    ∙ both-sides (may_have c.in_ok-before.before (pair_key q)) (list_any (has_key q) (cells_from c.args.y c.args.named.now)) (list_any (has_key q) (cells_before c.args.x c.args.named.now))
+    (c.in_ok-before.ensures.marked q)))
     c.number_splits.ensures.given c.number_splits.ensures.ordered
