@@ -1,10 +1,10 @@
 // A call on all parts of an object, done on copies of those that it names.
 ghost use Rattle.std.specs.Prelude.{◌≡◌, ◌≤◌, ◌<◌, None, All, IfOk, false};
-ghost use Rattle.out_of_memory.specs.Answers.{Tells};
 ghost use Rattle.room_core.specs.Calls.{AnswersCall};
 ghost use Rattle.room_core.specs.History.{answer_in};
 ghost use Rattle.room_core.specs.Parts.{AreGood, numbers};
 ghost use Rattle.room_core.specs.Whole.{whole};
+ghost use Rattle.cut_mirror.specs.Foretelling.{Foretells};
 
 use crate::parts::{copy_named, members, put_in};
 use room_core::{Fault, Memory, PartObject};
@@ -87,7 +87,7 @@ fn answer_named<O: PartObject, L: Ledger>(
     requires names { names.now ≡ (O.meaning object.now).names call.now }
     requires good { AreGood (O.good object.now) (numbers 0 (O.count object.now)) parts.now }
     requires roomy { All (O.roomy object.now) parts.now }
-    ensures { Tells (answer_in (whole (O.meaning object.now) parts.now call.now)) result }
+    ensures { Foretells (answer_in (whole (O.meaning object.now) parts.now call.now)) result }
 {
     let mut steps = Steps::<L>::new(blank);
     let mut named = copy_named(alloc, object, parts, names)?;
@@ -104,7 +104,7 @@ pub(crate) fn answer<O: PartObject>(
     requires count { O.count object.now ≤ 32 }
     requires good { AreGood (O.good object.now) (numbers 0 (O.count object.now)) parts.now }
     requires roomy { All (O.roomy object.now) parts.now }
-    ensures { Tells (answer_in (whole (O.meaning object.now) parts.now call.now)) result }
+    ensures { Foretells (answer_in (whole (O.meaning object.now) parts.now call.now)) result }
 {
     match object.refuse_names(call) {
         Some(refusal) => return Err(Fault::Refused(refusal)),

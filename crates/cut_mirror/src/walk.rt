@@ -1,10 +1,10 @@
 // A walk along a history: what its entries come to, point after point.
 ghost use Rattle.std.specs.Prelude.{◌≡◌, ◌<◌, ◌≤◌, ◌+◌, List, Some, IfErr, IfOk, OnErr, OnOk, length};
-ghost use Rattle.out_of_memory.specs.Answers.{Tells};
 ghost use Rattle.room_core.specs.History.{NumbersRise, answer_in, most_entries};
 ghost use Rattle.room_core.specs.Parts.{AreGood, numbers};
 ghost use Rattle.room_core.specs.Whole.{whole};
 ghost use Rattle.cut_mirror.specs.declared.walk.WalkFault.TheVariants.{Memory as NoMemory};
+ghost use Rattle.cut_mirror.specs.Foretelling.{Foretells};
 ghost use Rattle.cut_mirror.specs.Walks.{IsAlong, IsSeen, IsWalk, StopsWalk, seen_by};
 
 use crate::calls::{answer, apply};
@@ -191,7 +191,7 @@ impl<'a, O: PartObject> Walk<'a, O> {
 
     /// What a call would be answered here. Nothing changes.
     pub fn answer(&self, alloc: Global, call: &O::Call) -> Result<O::Done, Fault<O::Refusal>>
-        ensures tells { Tells (answer_in (whole (O.meaning self.now.object) self.now.parts
+        ensures tells { Foretells (answer_in (whole (O.meaning self.now.object) self.now.parts
             call.now)) result }
         ensures walk { IsWalk O.meaning O.opens self.now }
     {

@@ -11,8 +11,8 @@ Answers meant before after (Ok d) = meant ≡ Ok (after, d)
 Answers meant before after (Err (Refused r)) = (meant ≡ Err r) × (after ≡ before)
 Answers meant before after (Err Memory) = IsOk meant × (after ≡ before)
 
--- a question is answered by what it means
+-- A question is answered by what it means. It finds no memory only where it is to be answered, as above.
 abbrev pub Tells : {A R : Type 0} → Result A R → Result A (Fault R) → Type 0
 Tells meant (Ok a) = meant ≡ Ok a
 Tells meant (Err (Refused r)) = meant ≡ Err r
-Tells meant (Err Memory) = Unit {0}
+Tells meant (Err Memory) = IsOk meant
