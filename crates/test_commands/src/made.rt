@@ -10,6 +10,16 @@ track 2 763 2
 track 3 859 2
 ";
 
+// Each station draws from a number of its own, which is that of the words and its own, modulo 2^31. So the last two tracks
+// here are the first two of `make 1 1`.
+const GREATEST: &str = "\
+entries 4
+track 0 942 2
+track 1 39 1
+track 2 852 2
+track 3 948 2
+";
+
 const LONG: &str = "\
 entries 8000
 track 0 26348 1962
@@ -21,7 +31,11 @@ track 3 26891 1984
 #[test]
 fn a_generated_session_has_one_summary(rt: HostRuntime) -> Result<(), Fail> {
     let alloc = rt.alloc();
-    for (words, wanted) in [("make 1 1", FIRST), ("make 7 2000", LONG)] {
+    for (words, wanted) in [
+        ("make 1 1", FIRST),
+        ("make 4294967295 1", GREATEST),
+        ("make 7 2000", LONG),
+    ] {
         for _ in 0..2 {
             let (status, bytes) = ended(&rt, alloc, words, &[], &[], &[])?;
             assert_eq!(rt; status, 0, "{words}");

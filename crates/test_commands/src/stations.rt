@@ -299,6 +299,22 @@ fn a_question_sees_what_others_did(rt: HostRuntime) -> Result<(), Fail> {
     Ok(())
 }
 
+// A question is answered while another station, which sends nothing, is still there.
+#[test]
+fn a_question_is_answered_beside_a_silent_station(rt: HostRuntime) -> Result<(), Fail> {
+    let alloc = rt.alloc();
+    let serving = Serving {
+        held: &[Hold {
+            station: 0,
+            until: Until::Replied(1),
+        }],
+        ..serving_of(&["", "point\n"])
+    };
+    let replies = ["", "point 0\n"];
+    assert!(rt; is_served_so(&rt, alloc, &serving, replies, "journal 0\n")?);
+    Ok(())
+}
+
 const SIXTEEN: [&str; 16] = [
     "slice 0 2\n",
     "slice 1 2\n",
