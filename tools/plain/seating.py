@@ -43,6 +43,12 @@ class Serve(serving.Server):
         with open(f"/proc/{self.ran.pid}/status") as status:
             return next(int(line.split()[1]) for line in status if line.startswith("VmHWM"))
 
+    def processor(self):
+        """The seconds of a processor that it has taken."""
+        with open(f"/proc/{self.ran.pid}/stat") as stat:
+            fields = stat.read().rsplit(")", 1)[1].split()
+        return (int(fields[11]) + int(fields[12])) / os.sysconf("SC_CLK_TCK")
+
 
 class Store(Serve):
     command = "store"

@@ -19,6 +19,14 @@ lines_in-take n xs = omega (arith, lines_in-append (take n xs) (drop n xs), ap l
 
 -- ---- what stands after lines
 
+length_step : (t : Bool) (m n : ℕ) → m ≤ n → cond t (suc m) m ≤ suc n
+length_step true m n h = omega (arith, h)
+length_step false m n h = omega (arith, h)
+
+pub lines_in-length : (xs : List ℕ) → lines_in xs ≤ length xs
+lines_in-length [] = omega arith
+lines_in-length (b ∷ bs) = length_step (is_lf b) _ _ (lines_in-length bs)
+
 pub after_none : (n : ℕ) → after_lines n [] ≡ []
 after_none zero = refl
 after_none (suc n) = refl

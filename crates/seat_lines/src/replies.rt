@@ -8,18 +8,21 @@ use crate::{HALF_KEPT, MOST_KEPT, MOST_WRITTEN, Memory};
 use std::alloc::Global;
 use std::marker::Model;
 
-/// Replies in order, the oldest of which were let go of, and how much of those that are kept has gone out.
+/// Replies in order, the oldest of which were let go of, how many of those that are kept have ended, and how much of them has
+/// gone out.
 #[derive(Drop)]
 pub(crate) struct Replies {
     alloc: Global,
     gone: u64,
     kept: Vec<u8>,
+    ended: u64,
     sent: usize,
 }
 
 impl Model for Replies {
-    ghost use Rattle.std.specs.Prelude.{◌≤◌, ◌+◌, length};
+    ghost use Rattle.std.specs.Prelude.{◌≡◌, ◌≤◌, ◌+◌, length};
     ghost use Rattle.seat_lines.specs.Seats.{RepliesState};
+    ghost use Rattle.seat_lines.specs.Texts.{lines_in};
     ghost use Rattle.seat_lines.specs.declared.TheConstants.{MOST_WRITTEN};
 
     ghost Value = { RepliesState };
@@ -27,7 +30,7 @@ impl Model for Replies {
     ghost view = { λ r. record { gone = r.gone; kept = r.kept.items; sent = r.sent } };
 
     ghost invariant = { λ r. (r.sent ≤ length r.kept.items)
-        × (r.gone + length r.kept.items ≤ MOST_WRITTEN) };
+        × (r.gone + length r.kept.items ≤ MOST_WRITTEN) × (r.ended ≡ lines_in r.kept.items) };
 }
 
 impl Replies {
@@ -39,6 +42,7 @@ impl Replies {
             alloc,
             gone: u64::from(gone),
             kept: Vec::new(alloc),
+            ended: 0,
             sent: 0,
         }
     }
@@ -94,7 +98,8 @@ impl Replies {
         front.lines
     }
 
-    /// Lets go of the oldest replies that end in the first bytes, until so many bytes are gone, and answers how many.
+    /// Lets go of the oldest replies that end in the first bytes, until so many bytes are gone, and answers how many. While a
+    /// long reply alone is kept, which has yet to end, it looks at none of its bytes.
     pub(crate) fn let_go_bytes(&mut self, may: usize, enough: usize) -> u64
         requires { may ≤ length self.old.kept }
         ensures fewer { self.new ≡ fewer_kept result self.old }
@@ -102,6 +107,9 @@ impl Replies {
         ensures all { (enough + length self.new.kept ≤ length self.old.kept)
             ⊎ (result ≡ lines_in (take may self.old.kept)) }
     {
+        if self.ended == 0 {
+            return 0;
+        }
         let front = lines_of_bytes(&self.kept, may, enough);
         self.drop_lines(front);
         front.lines
@@ -113,12 +121,14 @@ impl Replies {
         requires bytes { front.bytes ≡ bytes_of_lines front.lines self.old.kept }
         requires within { front.bytes ≤ length self.old.kept }
         requires fewer { front.lines ≤ front.bytes }
+        requires ended { front.lines ≤ lines_in self.old.kept }
         ensures fewer { self.new ≡ fewer_kept front.lines self.old }
         ensures length { length self.new.kept + front.bytes ≡ length self.old.kept }
     {
         drop_front(&mut self.kept, front.bytes);
         self.sent = self.sent.saturating_sub(front.bytes);
         self.gone += front.lines;
+        self.ended -= front.lines;
         self.give_memory_back();
     }
 
@@ -148,6 +158,7 @@ impl Replies {
             return Err(Memory);
         }
         self.kept.extend_from_slice(bytes)?;
+        self.ended += whole_lines(bytes, u64::MAX).lines;
         Ok(())
     }
 
