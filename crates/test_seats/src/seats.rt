@@ -126,3 +126,25 @@ fn many_replies_are_let_go_of(rt: HostRuntime) -> Result<(), Memory> {
     assert!(rt; seat.unsent().len() <= MOST_KEPT);
     Ok(())
 }
+
+// 32 MiB in pieces of 1 KiB: to look at all that is kept with each of them would take minutes.
+#[test]
+fn a_long_reply_is_put_piece_by_piece(rt: HostRuntime) -> Result<(), Memory> {
+    let alloc = rt.alloc();
+    let mut piece = Vec::with_capacity(alloc, 1_024)?;
+    for _ in 0..1_024u32 {
+        piece.push(b'x')?;
+    }
+    let mut seat = replied(alloc, &[b"one\n"])?;
+    seat.sit(0);
+    for _ in 0..32_768u32 {
+        seat.make_room(piece.len());
+        seat.put(&piece)?;
+        let n = seat.unsent().len();
+        seat.send(n);
+    }
+    seat.put(b"\n")?;
+    assert_eq!(rt; seat.sit(0), 8);
+    assert_eq!(rt; seat.unsent().len(), 33_554_433);
+    Ok(())
+}
